@@ -1,0 +1,2 @@
+//! The engines and the words of the program swcheck.
+#![tactic(auto)]

@@ -1,0 +1,6 @@
+//! The characters that carry packets, and packets.
+#![tactic(auto)]
+
+mod nchar;
+
+pub use nchar::{End, NChar};

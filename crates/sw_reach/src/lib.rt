@@ -1,0 +1,2 @@
+//! The least set of numbers that holds a start and is closed under a step.
+#![tactic(auto)]

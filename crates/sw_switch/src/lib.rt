@@ -1,0 +1,2 @@
+//! The cell of a wormhole routing switch.
+#![tactic(auto)]
