@@ -1,0 +1,2 @@
+//! A network as its file declares it.
+#![tactic(auto)]

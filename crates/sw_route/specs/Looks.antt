@@ -1,0 +1,43 @@
+-- What the leading byte of a packet names at a routing switch (ECSS-E-ST-50-12C, 5.6.8: addressing).
+use Rattle.std.specs.Prelude.{◌≡◌, ℕ, ◌^◌, ◌<◌, ◌≤◌, Bool, false, true, ◌&&◌, nat_lt, nat_le, List, find, Option, Some, None, IsBitSet, if◌then◌else◌}
+use Rattle.sw_topo.specs.declared.place.PlaceEnd.{PlaceEnd}
+use Rattle.sw_topo.specs.Wiring.{out_of}
+use Rattle.sw_route.specs.declared.look.Look.{Look}
+use Rattle.sw_route.specs.declared.look.Route.{Route}
+
+-- a path address names the port of its number, and is deleted
+abbrev pub path_look : ℕ → Look
+path_look byte = record { ports = 2 ^ byte; delete = true }
+
+-- no port
+abbrev pub no_look : Look
+no_look = record { ports = 0; delete = false }
+
+-- the address is one of those that the entry is for
+abbrev pub covers : ℕ → Route → Bool
+covers byte r = nat_le r.first byte && nat_le byte r.last
+
+abbrev pub route_look : Option Route → Look
+route_look None = no_look
+route_look (Some r) = record { ports = r.ports; delete = r.delete }
+
+-- a byte below 32 is a path address; each other is looked up in the table, where 255 and what has no entry names no port
+abbrev pub look_of : List Route → ℕ → Look
+look_of routes byte = if nat_lt byte 32 then path_look byte else route_look (find (covers byte) routes)
+
+-- channel d starts at switch s, at a port that the look names
+pub record NamesOutput (ends : List PlaceEnd) (s : ℕ) (look : Look) (d : ℕ) : Type 0 where
+  pub port : ℕ
+  pub is_port : port < 32
+  pub named : IsBitSet look.ports port
+  pub linked : out_of ends s port ≡ Some d
+
+-- an entry is for some of the logical addresses 32 to 254
+pub record IsRoute (r : Route) : Type 0 where
+  pub first : 32 ≤ r.first
+  pub rising : r.first ≤ r.last
+  pub last : r.last ≤ 254
+
+-- the two are for an address in common
+abbrev pub overlaps : Route → Route → Bool
+overlaps r q = nat_le q.first r.last && nat_le r.first q.last
