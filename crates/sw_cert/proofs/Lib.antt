@@ -1,0 +1,6 @@
+pub mod Numbers
+pub mod Fields
+pub mod Spelled
+pub mod Cuts
+pub mod Runs
+pub mod Writes

@@ -1,0 +1,4 @@
+pub mod Number
+pub mod Grammar
+pub mod Reading
+pub mod Text
