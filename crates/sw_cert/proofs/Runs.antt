@@ -6,12 +6,13 @@ use Rattle.std.specs.List.{AllByRecursion, flat_map}
 use Rattle.std.specs.Fmt.{decimal}
 use Rattle.std.proofs.lemmas.Bool.{cases_Bool, and_parts, eqb-true, false≢true}
 use Rattle.std.proofs.lemmas.List.{nil_from_length}
-use Rattle.sw_cert.specs.declared.Place.{Place}
-use Rattle.sw_cert.specs.declared.Expected.{Expected}
-use Rattle.sw_cert.specs.declared.Expected.TheVariants.{Title, Channels, Numbers, Flows, Places, Nothing}
-use Rattle.sw_cert.specs.Reading.{State, next}
+use Rattle.sw_cert.specs.declared.place.Place.{Place}
+use Rattle.sw_cert.specs.declared.lines.Expected.{Expected}
+use Rattle.sw_cert.specs.declared.lines.Expected.TheVariants.{Title, Channels, Numbers, Flows, Places, Nothing}
+use Rattle.sw_cert.specs.Reading.{State, next, Follows}
 use Rattle.sw_cert.specs.Text.{read_lines, is_ended}
-use Rattle.sw_cert.proofs.Spelled.{GoesOn, IsSound, goes_on_from, lines_to}
+use Rattle.sw_cert.specs.Sound.{IsSound}
+use Rattle.sw_cert.proofs.Spelled.{GoesOn, goes_on_from, lines_to}
 
 no_ok : {A B : Type 0} (b : B) (a : A) → ◌≡◌ {A = Result A B} (Err b) (Ok a) → ⊥
 no_ok b a e = cc
@@ -67,3 +68,17 @@ pub reads : (n : ℕ) (d e : State) (lines : List (List ℕ)) → Runs d lines e
 reads n d e [] r t = rw (ap (λ g. is_ended g.expected) r ∙ t) (ap Ok r)
 reads n d e (x ∷ []) r t = rw r.1 (reads (suc n) r.0 e [] r.2 t)
 reads n d e (x ∷ y ∷ lines) r t = rw r.1 (reads (suc n) r.0 e (y ∷ lines) r.2 t)
+
+-- a line that is wrong ends the reading
+pub wrong_line : (n : ℕ) (d : State) (line : List ℕ) (pieces : List (List ℕ)) (right : Bool) (e : State) → 0 < length pieces → right ≡ false → Follows d line right e → read_lines n d (line ∷ pieces) ≡ Err n
+wrong_line n d line [] right e some k h = absurd (omega arith)
+wrong_line n d line (p ∷ ps) right e some k h = let g : next d line ≡ None = subst (λ b. Follows d line b e) k h in rw g refl
+
+-- and one that is right goes on
+pub right_line : (n : ℕ) (d : State) (line : List ℕ) (pieces : List (List ℕ)) (right : Bool) (e : State) → 0 < length pieces → right ≡ true → Follows d line right e → IsSound d
+    → (read_lines n d (line ∷ pieces) ≡ read_lines (n + 1) e pieces) × IsSound e
+right_line n d line [] right e some k h s = absurd (omega arith)
+right_line n d line (p ∷ ps) right e some k h s =
+    let g : next d line ≡ Some e = subst (λ b. Follows d line b e) k h in
+    let one : suc n ≡ n + 1 = omega arith in
+    (rw g (ap (λ m. read_lines m e (p ∷ ps)) one), (goes_on_from d.expected d.numbers d.flows d.open_block line e s g).sound)

@@ -7,14 +7,15 @@ use Rattle.std.proofs.lemmas.Bool.{cases_Bool, and_parts, eqb-true, false≢true
 use Rattle.std.proofs.lemmas.List.{map-append, length_push, drop_all, take-append-drop}
 use Rattle.std.proofs.lemmas.List.Quantifiers.{position-Some}
 use Rattle.std.proofs.lemmas.Grind.{flat_map-append}
-use Rattle.sw_cert.specs.declared.Place.{Place}
-use Rattle.sw_cert.specs.declared.Expected.{Expected}
-use Rattle.sw_cert.specs.declared.Expected.TheVariants.{Title, Channels, Numbers, Flows, Places, Nothing}
-use Rattle.sw_cert.specs.declared.Said.{Said}
-use Rattle.sw_cert.specs.declared.Said.TheVariants as said
+use Rattle.sw_cert.specs.declared.place.Place.{Place}
+use Rattle.sw_cert.specs.declared.lines.Expected.{Expected}
+use Rattle.sw_cert.specs.declared.lines.Expected.TheVariants.{Title, Channels, Numbers, Flows, Places, Nothing}
+use Rattle.sw_cert.specs.declared.lines.Said.{Said}
+use Rattle.sw_cert.specs.declared.lines.Said.TheVariants as said
 use Rattle.sw_cert.specs.Number.{number_of}
 use Rattle.sw_cert.specs.Grammar.{after_word, field, is_line, if_rising, place_of, place_at, said_by, moved, places, place_line, block, head_lines, flow_lines, Fits, IsBlock, Rises, stands_before}
 use Rattle.sw_cert.specs.Reading.{State, next, with_said, with_place, last_of}
+use Rattle.sw_cert.specs.Sound.{Kept, IsSound}
 use Rattle.sw_cert.proofs.Numbers.{read_spelled}
 use Rattle.sw_cert.proofs.Fields.{begins, field_spelled, after_spelled}
 
@@ -105,22 +106,6 @@ written (Numbers k) ns fs ps = head_lines (length ns + k) ns
 written (Flows k) ns fs ps = head_lines (length ns) ns ++ flow_lines (length fs + k) fs
 written (Places p k) ns fs ps = head_lines (length ns) ns ++ (flow_lines (length fs + suc k) fs ++ open_lines (length ps + suc p) ps)
 written Nothing ns fs ps = head_lines (length ns) ns ++ (flow_lines (length fs) fs ++ codes "end" ∷ [])
-
--- what holds of a state by what is expected
-abbrev pub Kept : Expected → List ℕ → List (List Place) → List Place → Type 0
-Kept Title ns fs ps = (ns ≡ []) × (fs ≡ []) × (ps ≡ [])
-Kept Channels ns fs ps = (ns ≡ []) × (fs ≡ []) × (ps ≡ [])
-Kept (Numbers k) ns fs ps = (length ns + k ≤ 2048) × (fs ≡ []) × (ps ≡ [])
-Kept (Flows k) ns fs ps = (length ns ≤ 2048) × (length fs + k ≤ 8192) × (ps ≡ [])
-Kept (Places p k) ns fs ps = (length ns ≤ 2048) × (length fs + suc k ≤ 8192) × (length ps + suc p ≤ 67584)
-Kept Nothing ns fs ps = (length ns ≤ 2048) × (length fs ≤ 8192) × (ps ≡ [])
-
-pub record IsSound (d : State) : Type 0 where
-  pub kept : Kept d.expected d.numbers d.flows d.open_block
-  pub numbers : AllByRecursion (λ v. v ≤ 65535) d.numbers
-  pub blocks : AllByRecursion IsBlock d.flows
-  pub fits : AllByRecursion Fits d.open_block
-  pub rises : Rises None d.open_block
 
 abbrev pub lines_to : State → List (List ℕ)
 lines_to d = written d.expected d.numbers d.flows d.open_block

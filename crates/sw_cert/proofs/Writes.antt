@@ -8,11 +8,11 @@ use Rattle.std.proofs.lemmas.Bool.{lt-ltb}
 use Rattle.std.proofs.lemmas.Fmt.{decimal_by_steps}
 use Rattle.std.proofs.Math.Seq.{take-append_seam, drop-append-add}
 use Rattle.std.specs.List.{position_or_len}
-use Rattle.sw_cert.specs.declared.Place.{Place}
-use Rattle.sw_cert.specs.declared.Expected.{Expected}
-use Rattle.sw_cert.specs.declared.Expected.TheVariants.{Title, Channels, Numbers, Flows, Places, Nothing}
-use Rattle.sw_cert.specs.declared.Said.{Said}
-use Rattle.sw_cert.specs.declared.Said.TheVariants as said
+use Rattle.sw_cert.specs.declared.place.Place.{Place}
+use Rattle.sw_cert.specs.declared.lines.Expected.{Expected}
+use Rattle.sw_cert.specs.declared.lines.Expected.TheVariants.{Title, Channels, Numbers, Flows, Places, Nothing}
+use Rattle.sw_cert.specs.declared.lines.Said.{Said}
+use Rattle.sw_cert.specs.declared.lines.Said.TheVariants as said
 use Rattle.sw_cert.specs.Number.{number_of}
 use Rattle.sw_cert.specs.Grammar.{field, place_of, place_at, place_line, after_word, block, head_lines, flow_lines, lines_of, HasText, Rises, stands_before, if_rising, places, Fits, IsBlock}
 use Rattle.sw_cert.specs.Reading.{State, next, last_of, with_said, with_place}

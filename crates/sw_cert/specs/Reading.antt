@@ -1,12 +1,12 @@
 -- What the lines so far have said.
 use Rattle.std.specs.Prelude.{◌≡◌, ℕ, zero, Bool, true, false, List, [], ◌∷◌, ◌++◌, length, map, Option, Some, None, option_map, slice_get, ◌-◌, Vec}
 use Rattle.std.specs.declared.alloc.Global.{Global}
-use Rattle.sw_cert.specs.declared.Place.{Place}
-use Rattle.sw_cert.specs.declared.Expected.{Expected}
-use Rattle.sw_cert.specs.declared.Expected.TheVariants.{Places}
-use Rattle.sw_cert.specs.declared.Said.{Said}
-use Rattle.sw_cert.specs.declared.Said.TheVariants as said
-use Rattle.sw_cert.specs.declared.Draft.{Draft}
+use Rattle.sw_cert.specs.declared.place.Place.{Place}
+use Rattle.sw_cert.specs.declared.lines.Expected.{Expected}
+use Rattle.sw_cert.specs.declared.lines.Expected.TheVariants.{Places}
+use Rattle.sw_cert.specs.declared.lines.Said.{Said}
+use Rattle.sw_cert.specs.declared.lines.Said.TheVariants as said
+use Rattle.sw_cert.specs.declared.draft.Draft.{Draft}
 use Rattle.sw_cert.specs.Grammar.{moved, said_by}
 
 -- `open` has the places of the block that is not whole yet

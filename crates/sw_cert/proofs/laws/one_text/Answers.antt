@@ -4,17 +4,18 @@ use Rattle.std.specs.Prelude.{◌==◌, Ok}
 use Rattle.std.specs.List.{slice_split, join_with_byte, flat_map}
 use Rattle.std.proofs.lemmas.Bool.{false≢true}
 use Rattle.std.proofs.lemmas.List.Splits.{join_with_byte-slice_split}
-use Rattle.sw_cert.specs.declared.Place.{Place}
-use Rattle.sw_cert.specs.declared.Expected.{Expected}
-use Rattle.sw_cert.specs.declared.Expected.TheVariants.{Title, Channels, Numbers, Flows, Places, Nothing}
+use Rattle.sw_cert.specs.declared.place.Place.{Place}
+use Rattle.sw_cert.specs.declared.lines.Expected.{Expected}
+use Rattle.sw_cert.specs.declared.lines.Expected.TheVariants.{Title, Channels, Numbers, Flows, Places, Nothing}
 use Rattle.sw_cert.specs.Grammar.{spelling, lines_of, with_lf, HasText}
 use Rattle.sw_cert.specs.Reading.{State}
 use Rattle.sw_cert.specs.Text.{Contents, Says, read_text, read_lines, at_first, is_ended, contents_of}
-use Rattle.sw_cert.proofs.Spelled.{Kept, IsSound, written}
+use Rattle.sw_cert.specs.Sound.{Kept, IsSound}
+use Rattle.sw_cert.proofs.Spelled.{written}
 use Rattle.sw_cert.proofs.Cuts.{join_lines, split_lines, are_lines}
 use Rattle.sw_cert.proofs.Runs.{was_read, reads}
 use Rattle.sw_cert.proofs.Writes.{lines_run}
-use Rattle.sw_cert.proofs.one_text.Goals as goal
+use Rattle.sw_cert.proofs.laws.one_text.Goals as goal
 
 ended_lines : (e : Expected) (ns : List ℕ) (fs : List (List Place)) (ps : List Place) → is_ended e ≡ true → written e ns fs ps ≡ lines_of ns fs
 ended_lines Title ns fs ps h = absurd (false≢true h)
