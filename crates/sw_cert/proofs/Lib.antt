@@ -4,3 +4,4 @@ pub mod Spelled
 pub mod Cuts
 pub mod Runs
 pub mod Writes
+pub mod Written

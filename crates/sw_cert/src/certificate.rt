@@ -1,6 +1,7 @@
 //! Certificates, and their text.
-ghost use Rattle.std.specs.Prelude.{◌≡◌, ◌+◌, ◌≤◌, ◌==◌, ◌<◌, ◌↔◌, ◌&&◌, ◌∷◌, [], true, IfNone, position, length, map, IfSome, IsSome, IfOk, Some, None};
+ghost use Rattle.std.specs.Prelude.{◌≡◌, ◌+◌, ◌≤◌, ◌==◌, ◌<◌, ◌↔◌, ◌&&◌, ◌∷◌, [], true, IfNone, IsTrue, position, length, map, IfSome, IsSome, IfOk, Some, None};
 ghost use Rattle.std.specs.List.{slice_split};
+ghost use Rattle.sw_cert.specs.Grammar.{spelling};
 ghost use Rattle.sw_cert.specs.Reading.{state_of};
 ghost use Rattle.sw_cert.specs.Text.{is_ended, contents_of};
 ghost use Rattle.sw_cert.specs.Sound.{IsSound};
@@ -9,6 +10,7 @@ ghost use Rattle.sw_cert.specs.declared.certificate.CertFault.TheVariants.{Memor
 use crate::draft::Draft;
 use crate::lines::Expected;
 use crate::place::Place;
+use crate::write::spelled;
 use std::alloc::{AllocError, AllocFailed, Global};
 use std::marker::Model;
 
@@ -119,5 +121,14 @@ impl Certificate {
             Some(certificate) => Ok(certificate),
             None => Err(CertFault::Grammar(number)),
         }
+    }
+}
+
+impl Certificate {
+    /// The certificate's text, in its one spelling.
+    pub fn write(&self, alloc: Global) -> Result<Vec<u8>, AllocError>
+        ensures { IfOk result (λ text. text.items ≡ spelling self.now.numbers self.now.places) }
+    {
+        Ok(spelled(alloc, &self.numbers, &self.places)?.into_bytes())
     }
 }

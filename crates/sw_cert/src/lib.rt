@@ -7,6 +7,7 @@ mod laws;
 mod lines;
 mod number;
 mod place;
+mod write;
 
 pub use certificate::{CertFault, Certificate};
 pub use laws::{field_spelling, one_spelling, one_text};
