@@ -12,3 +12,6 @@ pub use look::{Look, Route};
 pub use output::{outputs, outputs_start_at_the_switch};
 pub use routing::Routing;
 pub use table::{RouteError, TableRoutes};
+
+#[cfg(test)]
+mod tests;
