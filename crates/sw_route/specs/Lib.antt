@@ -1,3 +1,4 @@
 pub mod Looks
 pub mod Intervals
+pub mod TableLaws
 pub mod Laws
