@@ -1,6 +1,6 @@
 -- What each network keeps, by its type.
-use Rattle.std.specs.Prelude.{◌≡◌, ℕ, zero, ◌<◌, ◌≤◌, Bool, true, false, List, [], ◌∷◌, length, All, None, IsSome, IfSome, AllPairs, ◌≢◌}
-use Rattle.sw_topo.specs.Checked.{IsWiring, fault_of}
+use Rattle.std.specs.Prelude.{◌≡◌, ℕ, zero, ◌<◌, ◌≤◌, Bool, true, false, List, [], ◌∷◌, length, All, IsSome, IfSome, AllPairs, ◌≢◌}
+use Rattle.sw_topo.specs.Checked.{IsSound}
 use Rattle.sw_route.specs.declared.look.Route.{Route}
 use Rattle.sw_route.specs.Looks.{IsRoute, overlaps}
 use Rattle.sw_rmap.specs.Config.{IsTargetConfig}
@@ -49,8 +49,7 @@ pub record IsFlow (nodes : List NodeEntry) (f : FlowEntry) : Type 0 where
 
 -- nodes and switches are rightly joined, each entry is in its ranges, and no name is given twice
 pub record IsValid (d : Declaration) : Type 0 where
-  pub wiring : IsWiring (length d.nodes) (length d.switches) (wiring_of d).ends
-  pub faultless : fault_of (wiring_of d) ≡ None
+  pub sound : IsSound (wiring_of d)
   pub nodes : All IsNode d.nodes
   pub switches : All IsSwitch d.switches
   pub links : All IsLink d.links

@@ -13,7 +13,7 @@ use std::marker::Model;
 use sw_arb::Arbitration;
 use sw_rmap::TargetConfig;
 use sw_route::Route;
-use sw_topo::{Builder, PlaceEnd, TopoError};
+use sw_topo::{Builder, MAX_NODES, MAX_SWITCHES, PlaceEnd, TopoError};
 
 /// The nodes, switches and links so far; nodes come first, then switches, then links.
 #[derive(Drop)]
@@ -58,7 +58,7 @@ impl NetworkBuilder {
     /// How many nodes there are.
     pub fn node_count(&self) -> u16
         ensures count { result ≡ length self.now.nodes }
-        ensures few { result ≤ 1024 }
+        ensures few { result ≤ MAX_NODES }
     {
         self.nodes.len() as u16
     }
@@ -66,7 +66,7 @@ impl NetworkBuilder {
     /// How many switches there are.
     pub fn switch_count(&self) -> u16
         ensures count { result ≡ length self.now.switches }
-        ensures few { result ≤ 512 }
+        ensures few { result ≤ MAX_SWITCHES }
     {
         self.switches.len() as u16
     }
@@ -93,7 +93,7 @@ impl NetworkBuilder {
         name: &str,
         target: Option<TargetConfig>,
     ) -> Result<(), AllocError>
-        requires few { length self.old.nodes < 1024 }
+        requires few { length self.old.nodes < MAX_NODES }
         requires nodes_first { self.old.switches ≡ [] }
         requires new_name { list_any (bytes_eq name.now) (part_names self.old) ≡ false }
         requires target { IfSome target IsTargetConfig }
@@ -119,7 +119,7 @@ impl NetworkBuilder {
         arbitration: Arbitration,
         routes: Vec<Route>,
     ) -> Result<(), AllocError>
-        requires few { length self.old.switches < 512 }
+        requires few { length self.old.switches < MAX_SWITCHES }
         requires new_name { list_any (bytes_eq name.now) (part_names self.old) ≡ false }
         requires table { IsSwitch (record { name = name.now; arbitration = arbitration; routes = routes.items }) }
         ensures ok { OnOk result (self.new ≡ record self.old { switches = self.old.switches ++ record { name = name.now; arbitration = arbitration; routes = routes.items } ∷ [] }) }
@@ -154,14 +154,14 @@ impl NetworkBuilder {
         ensures ok { OnOk result (self.new ≡ record self.old { links = self.old.links ++ record { a = a; b = b; buffer_a = buffer_a; buffer_b = buffer_b } ∷ [] }) }
         ensures err { OnErr result (self.new ≡ self.old) }
     {
-        self.links.reserve(1)?;
-        self.wiring.link(a, b)?;
         let link = Link {
             a,
             b,
             buffer_a,
             buffer_b,
         };
+        self.links.reserve(1)?;
+        self.wiring.link(link.a, link.b)?;
         self.links.push(link).unwrap();
         Ok(())
     }

@@ -14,7 +14,7 @@ use std::marker::Model;
 use sw_arb::Arbitration;
 use sw_rmap::TargetConfig;
 use sw_route::Route;
-use sw_topo::{Chan, Topology};
+use sw_topo::{Chan, MAX_LINKS, MAX_NODES, MAX_SWITCHES, Topology};
 
 /// How many flows may be declared.
 pub const MAX_FLOWS: u16 = 4096;
@@ -74,7 +74,7 @@ impl Network {
 
     /// Adds a flow of a new name, and its reply flow if it has replies.
     pub fn add_flow(&mut self, alloc: Global, flow: Flow) -> Result<(), AllocError>
-        requires few { length self.old.flows < 4096 }
+        requires few { length self.old.flows < MAX_FLOWS }
         requires new_name { list_any (bytes_eq flow.name) (flow_names self.old.flows) ≡ false }
         requires flow { IsFlow self.old.nodes flow }
         ensures ok { OnOk result (self.new ≡ record self.old { flows = self.old.flows ++ flow ∷ [] }) }
@@ -101,7 +101,7 @@ impl Network {
     /// How many nodes there are.
     pub fn nodes(&self) -> u16
         ensures count { result ≡ length self.now.nodes }
-        ensures few { result ≤ 1024 }
+        ensures few { result ≤ MAX_NODES }
     {
         self.topology.nodes()
     }
@@ -109,7 +109,7 @@ impl Network {
     /// How many switches there are.
     pub fn switches(&self) -> u16
         ensures count { result ≡ length self.now.switches }
-        ensures few { result ≤ 512 }
+        ensures few { result ≤ MAX_SWITCHES }
     {
         self.topology.switches()
     }
@@ -117,9 +117,9 @@ impl Network {
     /// How many links there are.
     pub fn links(&self) -> u16
         ensures count { result ≡ length self.now.links }
-        ensures few { result ≤ 1024 }
+        ensures few { result ≤ MAX_LINKS }
     {
-        self.topology.channels() / 2
+        self.topology.links()
     }
 
     /// How many channels there are: two a link.
@@ -224,7 +224,7 @@ impl Network {
     /// How many flows are declared.
     pub fn declared_flows(&self) -> u16
         ensures count { result ≡ length self.now.flows }
-        ensures few { result ≤ 4096 }
+        ensures few { result ≤ MAX_FLOWS }
     {
         self.flows.len() as u16
     }
