@@ -1,3 +1,4 @@
 pub mod Entries
 pub mod Valid
+pub mod Routings
 pub mod Building
