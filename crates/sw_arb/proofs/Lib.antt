@@ -1,0 +1,2 @@
+mod PassedOver
+mod PickHistory

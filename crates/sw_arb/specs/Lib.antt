@@ -1,0 +1,6 @@
+pub mod PortCounts
+pub mod Arbiters
+pub mod Lowest
+pub mod InTurn
+pub mod LongestAgo
+pub mod Chosen
