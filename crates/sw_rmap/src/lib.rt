@@ -2,5 +2,7 @@
 #![tactic(auto)]
 
 mod config;
+mod checksum;
 
 pub use config::TargetConfig;
+pub use checksum::{crc, crc_of_whole_is_zero};
