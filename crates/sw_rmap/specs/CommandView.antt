@@ -11,7 +11,7 @@ pub record CommandView : Type 0 where
   pub initiator : ℕ
   pub transaction : ℕ
   pub address : ℕ
-  pub length : ℕ
+  pub data_length : ℕ
 
 -- the command is no reply, its reply address has as many bytes as its instruction says, and each number fits its field
 pub record IsCommand (c : CommandView) : Type 0 where
@@ -19,4 +19,18 @@ pub record IsCommand (c : CommandView) : Type 0 where
   pub reply_address : length c.reply_address ≡ reply_address_len c.instruction
   pub transaction : c.transaction < 65536
   pub address : c.address < 1099511627776
-  pub length : c.length < 16777216
+  pub data_length : c.data_length < 16777216
+
+-- the command of these fields
+abbrev pub command : ℕ → ℕ → ℕ → List ℕ → ℕ → ℕ → ℕ → ℕ → CommandView
+command logical instruction key reply_address initiator transaction address data_length =
+    record {
+      logical = logical;
+      instruction = instruction;
+      key = key;
+      reply_address = reply_address;
+      initiator = initiator;
+      transaction = transaction;
+      address = address;
+      data_length = data_length;
+    }

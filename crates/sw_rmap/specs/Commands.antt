@@ -41,7 +41,7 @@ fields_of bytes =
       initiator = slice_index back 0;
       transaction = number_of (take 2 (drop 1 back));
       address = number_of (take 5 (drop 3 back));
-      length = number_of (take 3 (drop 8 back));
+      data_length = number_of (take 3 (drop 8 back));
     }
 
 -- the command that a packet's bytes begin with
@@ -58,7 +58,7 @@ header_of c =
     c.logical ∷ 1 ∷ c.instruction ∷ c.key ∷ c.reply_address
     ++ c.initiator ∷ bytes_high_first 2 c.transaction
     ++ bytes_high_first 5 c.address
-    ++ bytes_high_first 3 c.length
+    ++ bytes_high_first 3 c.data_length
 
 -- the header, and the data of a write, each with its CRC
 unfoldable pub written : CommandView → List ℕ → List ℕ

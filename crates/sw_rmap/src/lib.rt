@@ -1,8 +1,13 @@
 //! RMAP: commands, replies and targets (ECSS-E-ST-50-52C).
 #![tactic(auto)]
 
-mod config;
 mod checksum;
+mod command;
+mod config;
+mod instruction;
+mod status;
 
-pub use config::TargetConfig;
 pub use checksum::{crc, crc_of_whole_is_zero};
+pub use command::Command;
+pub use config::TargetConfig;
+pub use status::Status;
