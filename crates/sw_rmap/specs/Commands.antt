@@ -60,6 +60,10 @@ header_of c =
     ++ bytes_high_first 5 c.address
     ++ bytes_high_first 3 c.data_length
 
+-- how many bytes of data the command comes with
+abbrev pub carried_len : CommandView → ℕ
+carried_len c = if is_write c.instruction then c.data_length else 0
+
 -- the header, and the data of a write, each with its CRC
 unfoldable pub written : CommandView → List ℕ → List ℕ
 written c body = with_crc (header_of c) ++ (if is_write c.instruction then with_crc body else [])

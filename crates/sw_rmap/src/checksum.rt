@@ -36,5 +36,4 @@ pub fn crc(bytes: &[u8]) -> u8
 /// The code of a text followed by its code is 0.
 pub fn crc_of_whole_is_zero()
     ensures { (bytes : List ℕ) → crc_of (with_crc bytes) ≡ 0 }
-{
-}
+{}

@@ -155,6 +155,12 @@ impl Command {
         self.data_length
     }
 
+    pub(crate) fn bits(&self) -> Instruction
+        ensures value { result.0 ≡ self.now.instruction }
+    {
+        self.instruction
+    }
+
     /// Whether the command gets a reply: where it wants one, and says where to.
     pub(crate) fn is_answered(&self) -> bool
         ensures { result ≡ is_answered self.now }

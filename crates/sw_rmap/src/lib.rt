@@ -5,9 +5,12 @@ mod checksum;
 mod command;
 mod config;
 mod instruction;
+mod reply;
 mod status;
+mod writing;
 
 pub use checksum::{crc, crc_of_whole_is_zero};
 pub use command::Command;
 pub use config::TargetConfig;
+pub use reply::reply_to;
 pub use status::Status;
