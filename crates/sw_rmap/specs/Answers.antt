@@ -1,5 +1,5 @@
 -- What a target answers, and what it stores. Which status each case has, their order, and the rule on increment are this project's choice.
-use Rattle.std.specs.Prelude.{ℕ, ◌+◌, ◌-◌, Bool, true, false, not, ◌==◌, ◌&&◌, ◌||◌, nat_lt, List, [], ◌∷◌, ◌++◌, length, take, drop, replicate, slice_index, Option, Some, None, if◌then◌else◌}
+use Rattle.std.specs.Prelude.{ℕ, ◌+◌, ◌-◌, ◌≤◌, Bool, true, false, not, ◌==◌, ◌&&◌, ◌||◌, nat_lt, List, [], ◌∷◌, ◌++◌, length, take, drop, replicate, slice_index, Option, Some, None, if◌then◌else◌}
 use Rattle.sw_char.specs.declared.nchar.End.{End}
 use Rattle.sw_char.specs.declared.nchar.End.TheVariants as ends
 use Rattle.sw_rmap.specs.declared.config.TargetConfig.{TargetConfig}
@@ -23,9 +23,12 @@ is_refused t c =
     || nat_lt c.address t.start
     || nat_lt (t.start + t.size) (c.address + c.data_length)
 
--- how many bytes stand behind the header of a right command: the data of a write and their CRC, and none of a read
+-- how many bytes stand behind the header of a right command: the data of a write and their CRC, and none else
 abbrev pub body_len : CommandView → ℕ
 body_len c = if is_write c.instruction then c.data_length + 1 else 0
+
+abbrev pub is_corrupt : CommandView → List ℕ → Bool
+is_corrupt c body = is_write c.instruction && not (crc_of (take c.data_length body) == slice_index body c.data_length)
 
 -- the cases and their statuses, in order
 abbrev pub cases_of : TargetConfig → CommandView → List ℕ → End → List (Bool × Status)
@@ -37,7 +40,7 @@ cases_of t c body end =
     ∷ (is_error_end end, Eep)
     ∷ (nat_lt (length body) (body_len c), EarlyEop)
     ∷ (nat_lt (body_len c) (length body), TooMuchData)
-    ∷ (is_write c.instruction && not (crc_of (take c.data_length body) == slice_index body c.data_length), InvalidDataCrc)
+    ∷ (is_corrupt c body, InvalidDataCrc)
     ∷ []
 
 -- the status of the first case that is so
@@ -59,6 +62,11 @@ is_success Eep = false
 is_success NotAuthorised = false
 is_success InvalidTarget = false
 
+-- all that the command is about lies in the window
+pub record IsInWindow (t : TargetConfig) (c : CommandView) : Type 0 where
+  pub low : t.start ≤ c.address
+  pub high : c.address + c.data_length ≤ t.start + t.size
+
 -- what a read finds
 abbrev pub found_by : TargetConfig → CommandView → Status → List ℕ → List ℕ
 found_by t c status memory = if is_success status && not (is_write c.instruction) then take c.data_length (drop (c.address - t.start) memory) else []
@@ -77,7 +85,7 @@ answer_to t memory c body end =
     ((if is_answered c then Some (reply_of c status (found_by t c status memory)) else None), memory_after t c status body memory)
 
 -- the reply to a packet, if it gets one, and the memory after it
-abbrev answer_where : TargetConfig → List ℕ → List ℕ → End → Option CommandView → Option (List ℕ) × List ℕ
+abbrev pub answer_where : TargetConfig → List ℕ → List ℕ → End → Option CommandView → Option (List ℕ) × List ℕ
 answer_where t memory bytes end None = (None, memory)
 answer_where t memory bytes end (Some c) = answer_to t memory c (body_of bytes) end
 

@@ -143,14 +143,16 @@ impl Command {
 
     /// The address with its extension: 40 bits.
     pub fn address(&self) -> u64
-        ensures { result ≡ self.now.address }
+        ensures value { result ≡ self.now.address }
+        ensures small { result < 2 ^ 40 }
     {
         self.address
     }
 
     /// The data length: 24 bits.
     pub fn data_length(&self) -> u32
-        ensures { result ≡ self.now.data_length }
+        ensures value { result ≡ self.now.data_length }
+        ensures small { result < 2 ^ 24 }
     {
         self.data_length
     }

@@ -1,4 +1,6 @@
 //! What a target says of a command.
+ghost use Rattle.std.specs.Prelude.{◌≡◌};
+ghost use Rattle.sw_rmap.specs.Answers.{is_success};
 
 /// The status in a reply (ECSS-E-ST-50-52C, 5.6): the number of a variant is its code.
 #[derive(Clone, Copy, Debug, PartialEq, Eq)]
@@ -21,4 +23,12 @@ pub enum Status {
     NotAuthorised = 10,
     /// The target logical address is not the target's.
     InvalidTarget = 12,
+}
+
+impl Status {
+    pub(crate) fn is_success(self) -> bool
+        ensures { result ≡ is_success self }
+    {
+        matches!(self, Status::Success)
+    }
 }
