@@ -1,1 +1,7 @@
 pub mod Config
+pub mod Crc
+pub mod Instruction
+pub mod CommandView
+pub mod Commands
+pub mod Replies
+pub mod Answers

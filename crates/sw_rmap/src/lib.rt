@@ -1,6 +1,18 @@
 //! RMAP: commands, replies and targets (ECSS-E-ST-50-52C).
 #![tactic(auto)]
 
+mod cases;
+mod checksum;
+mod command;
 mod config;
+mod instruction;
+mod reply;
+mod status;
+mod target;
+mod writing;
 
+pub use checksum::{crc, crc_of_whole_is_zero};
+pub use command::Command;
 pub use config::TargetConfig;
+pub use reply::reply_to;
+pub use status::Status;

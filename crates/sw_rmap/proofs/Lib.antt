@@ -1,0 +1,3 @@
+pub mod CrcSteps
+pub mod Reading
+pub mod Answering
