@@ -1,19 +1,19 @@
 -- How many packets stand behind the characters, and at the nodes.
+use Rattle.std.proofs.Common.{Bool, List, [], ap, append_assoc, arith, count_by, map, refl, suc, sym, zero, ℕ, ⊎_elim, ◌++◌, ◌+◌, ◌<◌, ◌∙◌, ◌∷◌, ◌≡◌}
+use Rattle.std.proofs.lemmas.Bool.{cases_eq}
+use Rattle.std.proofs.lemmas.List.{map-append}
+use Rattle.std.proofs.lemmas.List.Sums.{sum_by-append}
+use Rattle.std.specs.Prelude.{if◌then◌else◌}
 use Rattle.sw_char.specs.declared.nchar.End.{End}
 use Rattle.sw_char.specs.declared.nchar.End.TheVariants.{Eop as ByEop}
 use Rattle.sw_char.specs.declared.nchar.NChar.TheVariants.{Data, Eop}
-use Rattle.std.proofs.Common.{◌≡◌, ℕ, zero, suc, ◌+◌, ◌<◌, Bool, List, [], ◌∷◌, ◌++◌, refl, sym, ap, ◌∙◌, ⊎_elim, arith, append_assoc, map}
-use Rattle.std.proofs.lemmas.Bool.{cases_eq}
-use Rattle.std.specs.Prelude.{if◌then◌else◌}
-use Rattle.sw_machine.specs.Network.{Network, Answer, form, marker_of}
-use Rattle.sw_machine.specs.Machine.{put, reply_packet}
-use Rattle.sw_machine.specs.Packets.{Begun}
-use Rattle.sw_machine.proofs.Ghost.{Entry, Ghost, send_ghost, grant_ghost, open_ghost}
+use Rattle.sw_machine.proofs.Ghost.{Entry, Ghost, grant_ghost, open_ghost, send_ghost}
 use Rattle.sw_machine.proofs.Lists.{put_here, put_there}
-use Rattle.std.proofs.Common.{count_by}
-use Rattle.std.proofs.lemmas.List.{map-append}
-use Rattle.std.proofs.lemmas.List.Sums.{sum_by-append}
-use Rattle.sw_machine.specs.Machine.{total}
+use Rattle.sw_machine.specs.Begun.{Begun}
+use Rattle.sw_machine.specs.Network.{Network, PendingReply, form}
+use Rattle.sw_machine.specs.Packets.{marker_of}
+use Rattle.sw_machine.specs.Runs.{total}
+use Rattle.sw_machine.specs.State.{put, reply_packet}
 
 pub total_same : (n : ℕ) (f g : ℕ → ℕ) → ((k : ℕ) → k < n → f k ≡ g k) → total n f ≡ total n g
 total_same zero f g h = refl
@@ -94,7 +94,7 @@ open_balance net g n e es begun ln lc queue is = record {
 }
 
 -- a reply is a packet of its flow
-pub reply_is : (net : Network) (r : Answer) (j : ℕ) (cargo : List ℕ) (end : End) → r.address ≡ (net.flow j).address → r.cargo ≡ cargo → end ≡ ByEop → reply_packet r ≡ form net j 0 cargo end
+pub reply_is : (net : Network) (r : PendingReply) (j : ℕ) (cargo : List ℕ) (end : End) → r.address ≡ (net.flow j).address → r.cargo ≡ cargo → end ≡ ByEop → reply_packet r ≡ form net j 0 cargo end
 reply_is net r j cargo end goes same is =
     ap (λ l. l ++ Eop ∷ []) (map-append Data r.address r.cargo) ∙ append_assoc (map Data r.address) (map Data r.cargo) (Eop ∷ [])
     ∙ ap (λ a. map Data a ++ (map Data r.cargo ++ Eop ∷ [])) goes

@@ -1,26 +1,26 @@
 -- A run of an accepted network is bounded.
-use Rattle.sw_machine.specs.declared.input.Input.{Input}
-use Rattle.sw_machine.specs.declared.input.Input.TheVariants.{Held, Idle, Spilling}
+use Rattle.std.proofs.Common.{Bool, List, [], ap, arith, eq-eqb, false, le-ltb, length, lt-ltb, ltb-true, map, nat_lt, ne_eqb, refl, subst, suc, sym, true, zero, ℕ, ⊎_elim, ◌*◌, ◌++◌, ◌+◌, ◌-◌, ◌<◌, ◌∙◌, ◌∷◌, ◌≡◌, ◌≤◌}
+use Rattle.std.proofs.lemmas.Bool.{cases_Bool, cases_eq}
+use Rattle.std.proofs.lemmas.List.{length_push}
+use Rattle.std.proofs.lemmas.List.Sums.{sum_by-append, sum_by-cons}
+use Rattle.std.specs.Prelude.{if◌then◌else◌}
 use Rattle.sw_char.specs.declared.nchar.NChar.{NChar}
 use Rattle.sw_char.specs.declared.nchar.NChar.TheVariants.{Data, Eep, Eop}
-use Rattle.std.proofs.Common.{◌≡◌, ℕ, zero, suc, ◌+◌, ◌-◌, ◌*◌, ◌<◌, ◌≤◌, Bool, true, false, List, [], ◌∷◌, ◌++◌, length, map, refl, sym, ap, subst, ◌∙◌, ⊎_elim, arith, eq-eqb, ne_eqb}
-use Rattle.std.proofs.lemmas.Bool.{cases_eq}
-use Rattle.std.specs.Prelude.{if◌then◌else◌}
-use Rattle.sw_machine.specs.Network.{Network, IsNetwork, Answer, form}
-use Rattle.sw_machine.specs.Machine.{State, Step, Fct, FctIn, Arrive, Grant, Drop, Forward, Spill, Begin, Emit, Accept, Reply, Leads, put, input_after, after_fct, after_fct_in, after_arrive, after_grant, after_forward, after_begin, after_emit, after_accept, after_reply, reply_packet, empty}
-use Rattle.sw_machine.specs.Packets.{Begun, Begins, RunOf, characters, cost, moves, IsBounded}
-use Rattle.sw_machine.specs.Certificate.{Certificate, IsAccepted}
+use Rattle.sw_machine.proofs.Balance.{reply_is, total_same, total_zero}
+use Rattle.sw_machine.proofs.Credit.{empty_credit, step_numbers}
 use Rattle.sw_machine.proofs.Ghost.{Ghost, Holds, InputIs, Inv}
 use Rattle.sw_machine.proofs.Lists.{put_here, put_there}
-use Rattle.std.proofs.Common.{nat_lt, lt-ltb, le-ltb, ltb-true}
-use Rattle.std.proofs.lemmas.Bool.{cases_Bool}
-use Rattle.std.proofs.lemmas.List.{length_push}
-use Rattle.sw_machine.specs.Machine.{total}
-use Rattle.sw_machine.specs.Numbers.{Credit}
-use Rattle.sw_machine.proofs.Credit.{step_numbers, empty_credit}
-use Rattle.sw_machine.proofs.Balance.{reply_is, total_same, total_zero}
 use Rattle.sw_machine.proofs.Moves.{node_or_switch}
-use Rattle.sw_machine.proofs.Runs.{step_keeps, never_drops, empty_inv, none}
+use Rattle.sw_machine.proofs.Runs.{empty_inv, never_drops, none, step_keeps}
+use Rattle.sw_machine.specs.Begun.{Begins, Begun, IsBounded, RunOf, characters, length_begun, moves}
+use Rattle.sw_machine.specs.Certificate.{Certificate, IsAccepted, number}
+use Rattle.sw_machine.specs.Credit.{HasCredit}
+use Rattle.sw_machine.specs.Network.{IsNetwork, Network, PendingReply, form}
+use Rattle.sw_machine.specs.Runs.{total}
+use Rattle.sw_machine.specs.State.{State, after_accept, after_arrive, after_begin, after_emit, after_fct, after_fct_in, after_forward, after_grant, after_reply, empty, input_after, put, reply_packet}
+use Rattle.sw_machine.specs.Steps.{Accept, Arrive, Begin, Drop, Emit, Fct, FctIn, Forward, Grant, Leads, Reply, Spill, Step, is_begin}
+use Rattle.sw_machine.specs.declared.input.Input.{Input}
+use Rattle.sw_machine.specs.declared.input.Input.TheVariants.{Held, Idle, Spilling}
 
 total_le : (n : ℕ) (f g : ℕ → ℕ) → ((k : ℕ) → k < n → f k ≤ g k) → total n f ≤ total n g
 total_le zero f g h = omega arith
@@ -102,9 +102,16 @@ idle_weight : (r : ℕ) (l : List NChar) → buffer_weight r Idle l ≡ (40 * r 
 unfolding buffer_weight
 idle_weight r l = refl
 
+-- 1 for each step other than a beginning
+abbrev pub cost : Step → ℕ
+cost step = if (if is_begin step then false else true) then 1 else 0
+
+pub moves_cons : (step : Step) (steps : List Step) → moves (step ∷ steps) ≡ cost step + moves steps
+moves_cons step steps = sum_by-cons cost step steps
+
 module _ (net : Network) (cert : Certificate) where
   is_lesser : ℕ → ℕ → ℕ
-  is_lesser c k = if nat_lt (cert.number k) (cert.number c) then 1 else 0
+  is_lesser c k = if nat_lt (number cert k) (number cert c) then 1 else 0
 
   -- how many channels have lesser numbers
   lesser : ℕ → ℕ
@@ -116,22 +123,22 @@ module _ (net : Network) (cert : Certificate) where
 
   is_lesser_one : (c k : ℕ) → is_lesser c k ≤ 1
   unfolding is_lesser
-  is_lesser_one c k = ⊎_elim (λ e. rw e (omega arith)) (λ e. rw e (omega arith)) (cases_Bool (nat_lt (cert.number k) (cert.number c)))
+  is_lesser_one c k = ⊎_elim (λ e. rw e (omega arith)) (λ e. rw e (omega arith)) (cases_Bool (nat_lt (number cert k) (number cert c)))
 
   not_lesser : (c : ℕ) → is_lesser c c ≡ 0
   unfolding is_lesser
-  not_lesser c = rw (le-ltb (cert.number c) (cert.number c) (omega arith)) refl
+  not_lesser c = rw (le-ltb (number cert c) (number cert c) (omega arith)) refl
 
-  is_lesser_at : (c k : ℕ) → cert.number k < cert.number c → is_lesser c k ≡ 1
+  is_lesser_at : (c k : ℕ) → number cert k < number cert c → is_lesser c k ≡ 1
   unfolding is_lesser
-  is_lesser_at c k lt = rw (lt-ltb (cert.number k) (cert.number c) lt) refl
+  is_lesser_at c k lt = rw (lt-ltb (number cert k) (number cert c) lt) refl
 
-  is_lesser_up : (c d k : ℕ) → cert.number c < cert.number d → is_lesser c k ≤ is_lesser d k
+  is_lesser_up : (c d k : ℕ) → number cert c < number cert d → is_lesser c k ≤ is_lesser d k
   unfolding is_lesser
   is_lesser_up c d k lt = ⊎_elim
-      (λ e. let l = ltb-true (cert.number k) (cert.number c) e in rw (e, lt-ltb (cert.number k) (cert.number d) (omega arith)) (omega arith))
+      (λ e. let l = ltb-true (number cert k) (number cert c) e in rw (e, lt-ltb (number cert k) (number cert d) (omega arith)) (omega arith))
       (λ e. rw e (omega arith))
-      (cases_Bool (nat_lt (cert.number k) (cert.number c)))
+      (cases_Bool (nat_lt (number cert k) (number cert c)))
 
   lesser_below : (c : ℕ) → c < net.channels → lesser c < net.channels
   unfolding lesser
@@ -141,7 +148,7 @@ module _ (net : Network) (cert : Certificate) where
       let ones = total_ones net.channels in
       omega arith
 
-  lesser_up : (c d : ℕ) → c < net.channels → cert.number c < cert.number d → lesser c < lesser d
+  lesser_up : (c d : ℕ) → c < net.channels → number cert c < number cert d → lesser c < lesser d
   unfolding lesser
   lesser_up c d lt up =
       let zero = not_lesser c in
@@ -152,7 +159,7 @@ module _ (net : Network) (cert : Certificate) where
   unfolding room
   room_below c lt = omega arith
 
-  room_falls : (c d : ℕ) → c < net.channels → d < net.channels → cert.number c < cert.number d → room d < room c
+  room_falls : (c d : ℕ) → c < net.channels → d < net.channels → number cert c < number cert d → room d < room c
   unfolding room
   room_falls c d lc ld up = let a = lesser_below d ld in let b = lesser_up c d lc up in omega arith
 
@@ -211,7 +218,7 @@ module _ (net : Network) (cert : Certificate) where
       let g = buffer_grant (room c) d h rest b in
       omega arith
 
-  forward_falls : (s : State) (c d : ℕ) (first : NChar) (rest : List NChar) (left : ℕ) → c < net.channels → d < net.channels → cert.number c < cert.number d → s.input c ≡ Held d → s.buffer c ≡ first ∷ rest → measure (after_forward s c d first rest left) + 8 ≤ measure s
+  forward_falls : (s : State) (c d : ℕ) (first : NChar) (rest : List NChar) (left : ℕ) → c < net.channels → d < net.channels → number cert c < number cert d → s.input c ≡ Held d → s.buffer c ≡ first ∷ rest → measure (after_forward s c d first rest left) + 8 ≤ measure s
   forward_falls s c d first rest left lc ld up held front =
       let t = after_forward s c d first rest left in
       let a = buffer_change s c (input_after first (Held d)) rest lc in
@@ -233,9 +240,9 @@ module _ (net : Network) (cert : Certificate) where
       let w : (40 * r + 24) * length (s.wire c ++ first ∷ []) ≡ (40 * r + 24) * (length (s.wire c) + 1) = ap (λ k. (40 * r + 24) * k) (length_push (s.wire c) first) in
       omega arith
 
-  accept_falls : (s : State) (n : ℕ) (first : NChar) (rest : List NChar) → net.into n < net.channels → s.input (net.into n) ≡ Idle → s.buffer (net.into n) ≡ first ∷ rest → measure (after_accept net s n first rest) + 8 ≤ measure s
-  accept_falls s n first rest lt idle front =
-      let t = after_accept net s n first rest in
+  accept_falls : (s : State) (n : ℕ) (bytes : List ℕ) (first : NChar) (rest : List NChar) → net.into n < net.channels → s.input (net.into n) ≡ Idle → s.buffer (net.into n) ≡ first ∷ rest → measure (after_accept net s n bytes first rest) + 8 ≤ measure s
+  accept_falls s n bytes first rest lt idle front =
+      let t = after_accept net s n bytes first rest in
       let c = net.into n in
       let d : of_buffers t + buffer_weight (room c) (s.input c) (s.buffer c) ≡ of_buffers s + buffer_weight (room c) (s.input c) rest = total_at net.channels (λ k l. buffer_weight (room k) (s.input k) l) s.buffer c rest lt in
       let old : buffer_weight (room c) (s.input c) (s.buffer c) ≡ buffer_weight (room c) Idle (first ∷ rest) = ap (λ i. buffer_weight (room c) i (s.buffer c)) idle ∙ ap (buffer_weight (room c) Idle) front in
@@ -262,9 +269,9 @@ module _ (net : Network) (cert : Certificate) where
     node_idle g n ln (Held d) h = absurd (node_or_switch net cert ok acc n h.switch (net.end_of (net.into n)) (ok.into_ends n ln).1 h.ends)
     node_idle g n ln Spilling h = absurd h
 
-    step_falls : (s : State) (g : Ghost) (step : Step) (t : State) (begun : List Begun) → Leads net s step t → Begins net s step begun → Inv net cert s g → Credit net s → measure t + 8 * cost step ≤ measure s + 40 * (net.channels * characters net begun)
+    step_falls : (s : State) (g : Ghost) (step : Step) (t : State) (begun : List Begun) → Leads net s step t → Begins net s step begun → Inv net cert s g → HasCredit net s → measure t + 8 * cost step ≤ measure s + 40 * (net.channels * characters net begun)
     step_falls s g (Fct c) t begun h b inv num = let e = ap measure h.after in let f = fct_falls s c h.in_net h.few in omega arith
-    step_falls s g (FctIn c) t begun h b inv num = let e = ap measure h.after in let f = fct_in_falls s c h.left h.in_net h.under_way in omega arith
+    step_falls s g (FctIn c) t begun h b inv num = let e = ap measure h.after in let f = fct_in_falls s c h.remaining h.in_net h.under_way in omega arith
     step_falls s g (Arrive c) t begun h b inv num =
         let e = ap measure h.after in
         let n = num.at c h.in_net in
@@ -278,7 +285,7 @@ module _ (net : Network) (cert : Certificate) where
     step_falls s g (Forward c) t begun h b inv num =
         let e = ap measure h.after in
         let held : Holds net cert g.rest g.coming c h.d = subst (InputIs net cert g.rest g.coming c) h.held (inv.inputs c h.in_net) in
-        let f = forward_falls s c h.d h.first h.rest h.left h.in_net held.in_net held.rising h.held h.front in
+        let f = forward_falls s c h.d h.first h.rest h.remaining h.in_net held.in_net held.rising h.held h.front in
         omega arith
     step_falls s g (Spill c) t begun h b inv num = absurd (subst (InputIs net cert g.rest g.coming c) h.spilling (inv.inputs c h.in_net))
     step_falls s g (Begin f cargo end) t begun h b inv num =
@@ -286,14 +293,14 @@ module _ (net : Network) (cert : Certificate) where
         let n = (net.flow f).from in
         let lf : f < net.flows = (let a = h.declared.declared in let b = ok.flows_declared in omega arith) in
         let ln = (ok.flow_ends f lf).0 in
-        let a = send_adds s n (form net f 0 cargo end) ln (ok.out_starts n ln).0 h.free in
-        let c : net.channels * characters net begun ≡ net.channels * (length (form net f 0 cargo end) + 0) = ap (λ l. net.channels * characters net l) b in
+        let a = send_adds s n (form net f 0 cargo end) ln (ok.out_starts n ln).0 h.sends_nothing in
+        let c : net.channels * characters net begun ≡ net.channels * (0 + length (form net f 0 cargo end)) = ap (λ l. net.channels * characters net l) b in
         omega arith
-    step_falls s g (Emit n) t begun h b inv num = let e = ap measure h.after in let f = emit_falls s n h.first h.rest h.left h.in_net (ok.out_starts n h.in_net).0 h.sending in omega arith
+    step_falls s g (Emit n) t begun h b inv num = let e = ap measure h.after in let f = emit_falls s n h.first h.rest h.remaining h.in_net (ok.out_starts n h.in_net).0 h.sending in omega arith
     step_falls s g (Accept n) t begun h b inv num =
         let e = ap measure h.after in
         let lc = (ok.into_ends n h.in_net).0 in
-        let f = accept_falls s n h.first h.rest lc (node_idle g n h.in_net (s.input (net.into n)) (inv.inputs (net.into n) lc)) h.front in
+        let f = accept_falls s n h.bytes h.first h.rest lc (node_idle g n h.in_net (s.input (net.into n)) (inv.inputs (net.into n) lc)) h.front in
         omega arith
     step_falls s g (Reply n) t begun h b inv num =
         let e = ap measure h.after in
@@ -301,24 +308,24 @@ module _ (net : Network) (cert : Certificate) where
         let r = b.1 in
         let both : h.reply ∷ h.others ≡ r.reply ∷ r.others = sym h.waits ∙ r.waits in
         let same : h.reply ≡ r.reply = cc in
-        let is : reply_packet h.reply ≡ form net p.flow 0 p.cargo p.end = reply_is net h.reply p.flow p.cargo p.end (ap (λ (a : Answer). a.address) same ∙ r.goes) (ap (λ (a : Answer). a.cargo) same ∙ sym r.cargo) r.end in
-        let a = send_adds s n (reply_packet h.reply) h.in_net (ok.out_starts n h.in_net).0 h.free in
+        let is : reply_packet h.reply ≡ form net p.flow 0 p.cargo p.end = reply_is net h.reply p.flow p.cargo p.end (ap (λ (a : PendingReply). a.address) same ∙ r.goes) (ap (λ (a : PendingReply). a.cargo) same ∙ sym r.cargo) r.end in
+        let a = send_adds s n (reply_packet h.reply) h.in_net (ok.out_starts n h.in_net).0 h.sends_nothing in
         let after : measure (after_reply s n h.reply h.others) ≡ measure (after_begin s n (reply_packet h.reply)) = refl in
         let some = length_push (map Data (h.reply.address ++ h.reply.cargo)) Eop in
-        let c : net.channels * characters net begun ≡ net.channels * (length (form net p.flow 0 p.cargo p.end) + 0) = ap (λ l. net.channels * characters net l) b.2 in
+        let c : net.channels * characters net begun ≡ net.channels * (0 + length (form net p.flow 0 p.cargo p.end)) = ap (λ l. net.channels * characters net l) b.2 in
         let d : net.channels * length (reply_packet h.reply) ≡ net.channels * length (form net p.flow 0 p.cargo p.end) = ap (λ l. net.channels * length l) is in
         omega arith
 
     characters_append : (a b : List Begun) → characters net (a ++ b) ≡ characters net a + characters net b
-    characters_append [] b = omega arith
-    characters_append (x ∷ a) b = let r = characters_append a b in omega arith
+    characters_append a b = sum_by-append (length_begun net) a b
 
-    run_falls : (steps : List Step) (s : State) (g : Ghost) (t : State) (begun : List Begun) → RunOf net s steps begun t → Inv net cert s g → Credit net s → measure t + 8 * moves steps ≤ measure s + 40 * (net.channels * characters net begun)
+    run_falls : (steps : List Step) (s : State) (g : Ghost) (t : State) (begun : List Begun) → RunOf net s steps begun t → Inv net cert s g → HasCredit net s → measure t + 8 * moves steps ≤ measure s + 40 * (net.channels * characters net begun)
     run_falls [] s g t begun r inv num = let e = ap measure r.1 in omega arith
     run_falls (step ∷ steps) s g t begun r inv num =
         let k = step_keeps net cert ok acc s g step r.0 r.1 r.3 r.4 inv in
         let f = step_falls s g step r.0 r.1 r.3 r.4 inv num in
         let l = run_falls steps r.0 k.ghost t r.2 r.6 k.inv (step_numbers net s step r.0 r.3 num) in
+        let m = moves_cons step steps in
         let c : net.channels * characters net begun ≡ net.channels * (characters net r.1 + characters net r.2) = ap (λ l. net.channels * characters net l) r.5 ∙ ap (λ k. net.channels * k) (characters_append r.1 r.2) in
         omega arith
 

@@ -1,15 +1,17 @@
 -- What stands behind the characters: for each channel what its end has yet to pass on of the packet that it
 -- passes, what its start has yet to get of the packet that it gets, and the packets between.
+use Rattle.std.proofs.Common.{List, Some, [], length, slice_index, ℕ, ◌++◌, ◌+◌, ◌<◌, ◌∷◌, ◌≡◌, ◌≢◌, ◌⊎◌}
+use Rattle.std.specs.List.{AllByRecursion}
 use Rattle.sw_char.specs.declared.nchar.End.{End}
-use Rattle.sw_machine.specs.declared.input.Input.{Input}
-use Rattle.sw_machine.specs.declared.input.Input.TheVariants.{Held, Idle, Spilling}
 use Rattle.sw_char.specs.declared.nchar.NChar.{NChar}
 use Rattle.sw_char.specs.declared.nchar.NChar.TheVariants.{Data, Eep, Eop}
-use Rattle.std.proofs.Common.{◌≡◌, ◌≢◌, ◌⊎◌, ℕ, ◌+◌, ◌<◌, List, [], ◌∷◌, ◌++◌, length, slice_index, Some}
-use Rattle.std.specs.List.{AllByRecursion}
-use Rattle.sw_machine.specs.Network.{PlaceEnd, AtNode, AtSwitch, Network, form, left_bytes, AnsweredBy, Answer}
-use Rattle.sw_machine.specs.Machine.{State, put}
-use Rattle.sw_machine.specs.Certificate.{Certificate, IsListed, deleted_after}
+use Rattle.sw_machine.specs.Certificate.{Certificate, IsListed, number}
+use Rattle.sw_machine.specs.Network.{AnsweredBy, AtNode, AtSwitch, Cell, Network, PendingReply, form, left_bytes}
+use Rattle.sw_machine.specs.Owed.{IsAsked}
+use Rattle.sw_machine.specs.Places.{deleted_after}
+use Rattle.sw_machine.specs.State.{State, put}
+use Rattle.sw_machine.specs.declared.input.Input.{Input}
+use Rattle.sw_machine.specs.declared.input.Input.TheVariants.{Held, Idle, Spilling}
 
 -- a packet on a channel: its flow, how many bytes are deleted, its cargo and its marker
 pub record Entry : Type 0 where
@@ -63,7 +65,7 @@ pub record Holds (net : Network) (cert : Certificate) (rest coming : ℕ → Lis
   pub in_net : d < net.channels
   pub same : rest c ≡ coming d
   pub whole : IsWhole (rest c)
-  pub rising : cert.number c < cert.number d
+  pub rising : number cert c < number cert d
   pub switch : ℕ
   pub ends : net.end_of c ≡ AtSwitch switch
   pub starts : net.start_of d ≡ AtSwitch switch
@@ -74,12 +76,12 @@ InputIs net cert rest coming c (Held d) = Holds net cert rest coming c d
 InputIs net cert rest coming c Spilling = ⊥
 
 -- where what comes to d comes from
-abbrev pub Fed : Network → (ℕ → List NChar) → (ℕ → Input) → (ℕ → List NChar) → ℕ → PlaceEnd → Type 0
+abbrev pub Fed : Network → (ℕ → List NChar) → (ℕ → Input) → (ℕ → List NChar) → ℕ → Cell → Type 0
 Fed net to_send input coming d (AtNode n) = coming d ≡ to_send n
 Fed net to_send input coming d (AtSwitch switch) = (coming d ≡ []) ⊎ ((b : ℕ) × (b < net.channels) × (input b ≡ Held d))
 
 -- a reply that waits was given, and goes by the reply flow of a flow that ends here
-pub record Waits (net : Network) (n : ℕ) (r : Answer) : Type 0 where
+pub record Waits (net : Network) (n : ℕ) (r : PendingReply) : Type 0 where
   pub asked : ℕ
   pub flow : ℕ
   pub in_flows : asked < net.flows
@@ -91,10 +93,10 @@ pub record Waits (net : Network) (n : ℕ) (r : Answer) : Type 0 where
   pub end : End
   pub answer : net.answer n memory bytes end ≡ Some r
 
-pub record NodeIs (net : Network) (cert : Certificate) (n : ℕ) (to_send taken rest : List NChar) (owed : ℕ) (pending : List Answer) (came : List Entry) : Type 0 where
+pub record NodeIs (net : Network) (cert : Certificate) (n : ℕ) (to_send taken rest : List NChar) (owed : ℕ) (pending : List PendingReply) (came : List Entry) : Type 0 where
   pub content : taken ++ rest ≡ flat net came
   pub all_came : AllByRecursion (IsEntry net cert (net.into n)) came
-  pub rising : 0 < owed → cert.number (net.into n) < cert.number (net.out n)
+  pub asked : 0 < owed → IsAsked net n
   pub busy : 0 < owed → pending ≡ [] → to_send ≢ []
   pub waits : AllByRecursion (Waits net n) pending
 

@@ -1,16 +1,18 @@
 -- Lists of characters, and what holds at each number.
+use Rattle.std.proofs.Common.{List, [], ap, append-nil, append_assoc, drop, eq-eqb, length, map, ne_eqb, refl, slice_index, subst, sym, true, ℕ, ⊎_elim, ◌++◌, ◌+◌, ◌<◌, ◌∙◌, ◌∷◌, ◌≡◌, ◌≢◌}
+use Rattle.std.proofs.lemmas.Bool.{cases_eq}
+use Rattle.std.proofs.lemmas.List.{drop_more, map-append}
+use Rattle.std.specs.List.{AllByRecursion}
 use Rattle.sw_char.specs.declared.nchar.End.{End}
 use Rattle.sw_char.specs.declared.nchar.End.TheVariants.{Eep as ByEep, Eop as ByEop}
 use Rattle.sw_char.specs.declared.nchar.NChar.{NChar}
 use Rattle.sw_char.specs.declared.nchar.NChar.TheVariants.{Data, Eep, Eop}
-use Rattle.std.proofs.Common.{◌≡◌, ◌≢◌, ℕ, ◌+◌, ◌<◌, true, List, [], ◌∷◌, ◌++◌, length, map, drop, slice_index, refl, sym, ap, subst, ◌∙◌, ⊎_elim, append_assoc, append-nil, eq-eqb, ne_eqb}
-use Rattle.std.specs.List.{AllByRecursion}
-use Rattle.std.proofs.lemmas.Bool.{cases_eq}
-use Rattle.std.proofs.lemmas.List.{drop_more, same_from_push, map-append}
-use Rattle.sw_machine.specs.Network.{marker_of, Network}
-use Rattle.sw_machine.specs.Machine.{put, is_marker, bytes_since}
+use Rattle.sw_machine.proofs.Cuts.{cons_tail, cut_marker, cuts, no_cons}
+use Rattle.sw_machine.proofs.Ghost.{Entry, IsEntry, IsRest, IsWhole, Stream, flat, form_of}
 use Rattle.sw_machine.specs.Certificate.{Certificate}
-use Rattle.sw_machine.proofs.Ghost.{Entry, form_of, flat, IsEntry, IsWhole, IsRest, Stream}
+use Rattle.sw_machine.specs.Network.{Network}
+use Rattle.sw_machine.specs.Packets.{IsCut, Packet, chars, chars_of, is_marker, marker_of}
+use Rattle.sw_machine.specs.State.{put}
 
 -- what holds at c and at each other number
 pub each_at : (P : ℕ → Type 0) (n c : ℕ) → (c < n → P c) → ((k : ℕ) → k < n → (k ≡ c → ⊥) → P k) → (k : ℕ) → k < n → P k
@@ -21,9 +23,6 @@ put_here f c x = rw (eq-eqb c c refl)
 
 pub put_there : {A : Type 0} (f : ℕ → A) (c : ℕ) (x : A) (k : ℕ) → (k ≡ c → ⊥) → put f c x k ≡ f k
 put_there f c x k ne = rw (ne_eqb k c ne)
-
-pub no_cons : {A : Type 0} (x : A) (l : List A) → x ∷ l ≡ [] → ⊥
-no_cons x l e = cc
 
 pub whole_cons : (l : List NChar) → IsWhole l → l ≢ []
 whole_cons [] w e = w
@@ -86,34 +85,8 @@ more_comes net cert c buffer wire coming rest queue e h none valid = record {
   ends = h.ends;
 }
 
-pub cons_tail : {A : Type 0} (x y : A) (a b : List A) → x ∷ a ≡ y ∷ b → a ≡ b
-cons_tail x y a b e = cc
-
 pub drop_byte : (l : List ℕ) (k : ℕ) → k < length l → drop k l ≡ slice_index l k ∷ drop (k + 1) l
 drop_byte l k lt = drop_more l k 0 lt
-
--- a list that ends at m, and a front of it
-pub split_end : (a b l : List NChar) (m : NChar) → (b ≡ [] → ⊥) → l ++ m ∷ [] ≡ a ++ b → (l2 : List NChar) × (l ≡ a ++ l2) × (l2 ++ m ∷ [] ≡ b)
-split_end [] b l m ne e = (l, refl, e)
-split_end (y ∷ a) b [] m ne e = absurd (ne (nothing_after a b (sym (cons_tail m y [] (a ++ b) e))))
-  where
-    nothing_after : (a b : List NChar) → a ++ b ≡ [] → b ≡ []
-    nothing_after [] b e = e
-    nothing_after (x ∷ a) b e = absurd (no_cons x (a ++ b) e)
-split_end (y ∷ a) b (z ∷ l) m ne e =
-    let r = split_end a b l m ne (cons_tail z y (l ++ m ∷ []) (a ++ b) e) in
-    let same : z ≡ y = cc in
-    (r.0, ap (λ k. z ∷ k) r.1 ∙ ap (λ k. k ∷ (a ++ r.0)) same, r.2)
-
-pub bytes_data : (acc bytes : List ℕ) → bytes_since acc (map Data bytes) ≡ acc ++ bytes
-bytes_data acc [] = sym (append-nil acc)
-bytes_data acc (b ∷ bytes) = bytes_data (acc ++ b ∷ []) bytes ∙ append_assoc acc (b ∷ []) bytes
-
-pub bytes_form : (acc bytes : List ℕ) (m : NChar) (l : List NChar) → is_marker m ≡ true → bytes_since acc (map Data bytes ++ m ∷ l) ≡ bytes_since [] l
-bytes_form acc [] (Data b) l h = absurd (cc)
-bytes_form acc [] Eop l h = refl
-bytes_form acc [] Eep l h = refl
-bytes_form acc (b ∷ bytes) m l h = bytes_form (acc ++ b ∷ []) bytes m l h
 
 -- the bytes of a packet on a channel
 abbrev pub bytes_of : Network → Entry → List ℕ
@@ -122,26 +95,27 @@ bytes_of net e = drop e.deleted (net.flow e.flow).address ++ e.cargo
 pub form_is : (net : Network) (e : Entry) → form_of net e ≡ map Data (bytes_of net e) ++ (marker_of e.end) ∷ []
 form_is net e = sym (append_assoc (map Data (drop e.deleted (net.flow e.flow).address)) (map Data e.cargo) ((marker_of e.end) ∷ [])) ∙ ap (λ l. l ++ (marker_of e.end) ∷ []) (sym (map-append Data (drop e.deleted (net.flow e.flow).address) e.cargo))
 
-form_some : (net : Network) (e : Entry) (l : List NChar) → form_of net e ++ l ≡ [] → ⊥
-form_some net e l h = none (drop e.deleted (net.flow e.flow).address) h
-  where
-    after : (c : List ℕ) → (map Data c ++ (marker_of e.end) ∷ []) ++ l ≡ [] → ⊥
-    after [] h = no_cons (marker_of e.end) l h
-    after (x ∷ c) h = no_cons (Data x) ((map Data c ++ (marker_of e.end) ∷ []) ++ l) h
+abbrev pub packet_of : Network → Entry → Packet
+packet_of net e = record { bytes = bytes_of net e; end = e.end }
 
-    none : (a : List ℕ) → (map Data a ++ (map Data e.cargo ++ (marker_of e.end) ∷ [])) ++ l ≡ [] → ⊥
-    none [] h = after e.cargo h
-    none (x ∷ a) h = no_cons (Data x) ((map Data a ++ (map Data e.cargo ++ (marker_of e.end) ∷ [])) ++ l) h
+-- entries one after another are packets one after another
+pub flat_chars : (net : Network) (es : List Entry) → flat net es ≡ chars (map (packet_of net) es)
+flat_chars net [] = refl
+flat_chars net (e ∷ es) = ap (λ l. l ++ flat net es) (form_is net e) ∙ ap (λ l. chars_of (packet_of net e) ++ l) (flat_chars net es)
+
+-- what holds of each element holds of the last
+last_of : {A B : Type 0} (P : A → Type 0) (f : A → B) (es : List A) (ps : List B) (p : B) → AllByRecursion P es → ps ++ p ∷ [] ≡ map f es → (e : A) × P e × (p ≡ f e)
+last_of P f [] [] p all e = absurd (no_cons p [] e)
+last_of P f [] (q ∷ ps) p all e = absurd (no_cons q (ps ++ p ∷ []) e)
+last_of P f (x ∷ []) [] p all e = (x, all.0, cc)
+last_of P f (x ∷ y ∷ es) [] p all e = absurd (no_cons (f y) (map f es) (sym (cons_tail p (f x) [] (map f (y ∷ es)) e)))
+last_of P f (x ∷ es) (q ∷ ps) p all e = last_of P f es ps p all.1 (cons_tail q (f x) (ps ++ p ∷ []) (map f es) e)
 
 -- the packet that a marker completes
-pub completed : (net : Network) (cert : Certificate) (c : ℕ) (es : List Entry) (l : List NChar) (m : NChar) → AllByRecursion (IsEntry net cert c) es → l ++ m ∷ [] ≡ flat net es → (e : Entry) × IsEntry net cert c e × (bytes_since [] l ≡ bytes_of net e)
-completed net cert c [] [] m all h = absurd (no_cons m [] h)
-completed net cert c [] (x ∷ l) m all h = absurd (no_cons x (l ++ m ∷ []) h)
-completed net cert c (e ∷ []) l m all h =
-    let same = same_from_push l (map Data (bytes_of net e)) m (marker_of e.end) (h ∙ append-nil (form_of net e) ∙ form_is net e) in
-    (e, all.0, ap (bytes_since []) same.0 ∙ bytes_data [] (bytes_of net e))
-completed net cert c (e ∷ e2 ∷ es) l m all h =
-    let r = split_end (form_of net e) (flat net (e2 ∷ es)) l m (form_some net e2 (flat net es)) h in
-    let i = completed net cert c (e2 ∷ es) r.0 m all.1 r.2 in
-    let whole : form_of net e ++ r.0 ≡ map Data (bytes_of net e) ++ (marker_of e.end) ∷ r.0 = ap (λ k. k ++ r.0) (form_is net e) ∙ append_assoc (map Data (bytes_of net e)) ((marker_of e.end) ∷ []) r.0 in
-    (i.0, i.1, ap (bytes_since []) (r.1 ∙ whole) ∙ bytes_form [] (bytes_of net e) (marker_of e.end) r.0 (marks e.end) ∙ i.2)
+pub completed : (net : Network) (cert : Certificate) (c : ℕ) (es : List Entry) (l : List NChar) (ps : List Packet) (bytes : List ℕ) (end : End) → IsCut l ps bytes → AllByRecursion (IsEntry net cert c) es → l ++ marker_of end ∷ [] ≡ flat net es → (e : Entry) × IsEntry net cert c e × (bytes ≡ bytes_of net e)
+completed net cert c es l ps bytes end cut all h =
+    let p : Packet = record { bytes = bytes; end = end } in
+    let whole = cut_marker l ps bytes end cut in
+    let same = cuts (ps ++ p ∷ []) (map (packet_of net) es) [] [] (sym whole ∙ h ∙ flat_chars net es ∙ sym (append-nil (chars (map (packet_of net) es)))) in
+    let last = last_of (IsEntry net cert c) (packet_of net) es ps p all same.0 in
+    (last.0, last.1, ap (λ (p : Packet). p.bytes) last.2)

@@ -1,19 +1,24 @@
 -- Each step keeps what stands behind the characters.
+use Rattle.std.proofs.Common.{Bool, Contains, List, None, Option, Some, [], ap, append-nil, append_assoc, arith, drop, eq-eqb, false, inl, inr, length, map, ne_eqb, refl, slice_index, subst, sym, true, ℕ, ⊎_elim, ◌++◌, ◌+◌, ◌-◌, ◌<◌, ◌∙◌, ◌∷◌, ◌≡◌, ◌≢◌}
+use Rattle.std.proofs.lemmas.Bool.{cases_eq}
+use Rattle.std.specs.List.{AllByRecursion}
+use Rattle.std.specs.Prelude.{if◌then◌else◌}
 use Rattle.sw_char.specs.declared.nchar.End.{End}
 use Rattle.sw_char.specs.declared.nchar.End.TheVariants.{Eep as ByEep, Eop as ByEop}
-use Rattle.sw_machine.specs.declared.input.Input.{Input}
-use Rattle.sw_machine.specs.declared.input.Input.TheVariants.{Held, Idle, Spilling}
 use Rattle.sw_char.specs.declared.nchar.NChar.{NChar}
 use Rattle.sw_char.specs.declared.nchar.NChar.TheVariants.{Data, Eep, Eop}
-use Rattle.std.proofs.Common.{◌≡◌, ◌≢◌, ℕ, ◌+◌, ◌-◌, ◌<◌, Bool, true, false, List, [], ◌∷◌, ◌++◌, length, map, drop, slice_index, Option, Some, None, Contains, refl, sym, ap, subst, ◌∙◌, ⊎_elim, inl, inr, arith, append_assoc, append-nil, eq-eqb, ne_eqb}
-use Rattle.std.specs.List.{AllByRecursion}
-use Rattle.std.proofs.lemmas.Bool.{cases_eq}
-use Rattle.std.specs.Prelude.{if◌then◌else◌}
-use Rattle.sw_machine.specs.Network.{marker_of, PlaceEnd, AtNode, AtSwitch, Network, IsNetwork, Answer, left_bytes, AnsweredBy}
-use Rattle.sw_machine.specs.Machine.{State, put, input_after, after_fct, after_fct_in, after_arrive, after_grant, after_forward, after_begin, after_emit, after_accept, after_reply, owed_after, owed_with, pending_with, reply_at, reply_packet, bytes_since}
-use Rattle.sw_machine.specs.Certificate.{Certificate, IsAccepted, NoFault}
-use Rattle.sw_machine.proofs.Ghost.{Entry, form_of, flat, IsEntry, IsWhole, IsRest, Ghost, Stream, Holds, InputIs, Fed, Waits, StreamAt, InputAt, FedAt, NodeAt, Inv, emit_ghost, send_ghost, forward_ghost, grant_ghost, open_ghost, accept_ghost, passed_on, Heads}
-use Rattle.sw_machine.proofs.Lists.{each_at, put_here, put_there, no_cons, whole_cons, rest_of_whole, rest_after, whole_form, flat_push, all_push, more_comes, cons_tail, drop_byte, bytes_of, completed}
+use Rattle.sw_machine.proofs.Cuts.{cons_tail, no_cons}
+use Rattle.sw_machine.proofs.Faults.{at_node, at_switch, follows}
+use Rattle.sw_machine.proofs.Ghost.{Entry, Fed, FedAt, Ghost, Heads, Holds, InputAt, InputIs, Inv, IsEntry, IsRest, IsWhole, NodeAt, Stream, StreamAt, Waits, accept_ghost, emit_ghost, flat, form_of, forward_ghost, grant_ghost, open_ghost, passed_on, send_ghost}
+use Rattle.sw_machine.proofs.Lists.{all_push, bytes_of, completed, drop_byte, each_at, flat_push, more_comes, put_here, put_there, rest_after, rest_of_whole, whole_cons, whole_form}
+use Rattle.sw_machine.proofs.Networks.{reply_goes}
+use Rattle.sw_machine.specs.Certificate.{Certificate, IsAccepted, number}
+use Rattle.sw_machine.specs.Network.{AnsweredBy, AtNode, AtSwitch, Cell, IsNetwork, Network, PendingReply, left_bytes}
+use Rattle.sw_machine.specs.Owed.{IsAsked}
+use Rattle.sw_machine.specs.Packets.{IsCut, Packet, marker_of}
+use Rattle.sw_machine.specs.State.{State, after_accept, after_arrive, after_begin, after_emit, after_fct, after_fct_in, after_forward, after_grant, after_reply, input_after, owed_after, owed_with, pending_with, put, reply_at, reply_packet}
+use Rattle.sw_machine.specs.declared.input.Input.{Input}
+use Rattle.sw_machine.specs.declared.input.Input.TheVariants.{Held, Idle, Spilling}
 
 module _ (net : Network) (cert : Certificate) (ok : IsNetwork net) (acc : IsAccepted net cert) where
   -- only credit and FCTs
@@ -39,7 +44,7 @@ module _ (net : Network) (cert : Certificate) (ok : IsNetwork net) (acc : IsAcce
   }
 
   -- a channel that starts at a node starts at no switch
-  pub node_or_switch : (n w : ℕ) (p : PlaceEnd) → p ≡ AtNode n → p ≡ AtSwitch w → ⊥
+  pub node_or_switch : (n w : ℕ) (p : Cell) → p ≡ AtNode n → p ≡ AtSwitch w → ⊥
   node_or_switch n w p a b = cc
 
   held_not_out : (s : State) (g : Ghost) (n k d : ℕ) → n < net.nodes → Holds net cert g.rest g.coming k d → d ≡ net.out n → ⊥
@@ -57,7 +62,7 @@ module _ (net : Network) (cert : Certificate) (ok : IsNetwork net) (acc : IsAcce
       (λ d e h. sym (put_there g.coming (net.out n) l d (held_not_out s g n k d ln h)))
       (inv.inputs k lt)
 
-  other_fed : (input : ℕ → Input) (to_send more : ℕ → List NChar) (coming coming2 : ℕ → List NChar) (k : ℕ) (p : PlaceEnd) → coming2 k ≡ coming k → ((m : ℕ) → p ≡ AtNode m → to_send m ≡ more m) → Fed net to_send input coming k p → Fed net more input coming2 k p
+  other_fed : (input : ℕ → Input) (to_send more : ℕ → List NChar) (coming coming2 : ℕ → List NChar) (k : ℕ) (p : Cell) → coming2 k ≡ coming k → ((m : ℕ) → p ≡ AtNode m → to_send m ≡ more m) → Fed net to_send input coming k p → Fed net more input coming2 k p
   other_fed input to_send more coming coming2 k (AtNode m) e same f = e ∙ f ∙ same m refl
   other_fed input to_send more coming coming2 k (AtSwitch w) e same f = ⊎_elim (λ none. inl (e ∙ none)) (λ h. inr h) f
 
@@ -70,19 +75,19 @@ module _ (net : Network) (cert : Certificate) (ok : IsNetwork net) (acc : IsAcce
       (λ m at. sym (put_there s.to_send n l m (λ e. ne (sym (ap net.out (sym e) ∙ (ok.starts_at_node k m lt at).1)))))
       (inv.fed k lt))
 
-  -- a target that owes a reply is followed by its other channel
-  waits_rising : (n : ℕ) (r : Answer) → Waits net n r → cert.number (net.into n) < cert.number (net.out n)
-  waits_rising n r w = subst (λ k. cert.number (net.into k) < cert.number (net.out k)) w.at (acc.targets w.asked w.flow w.in_flows w.by)
+  -- a flow that is answered ends where a reply waits
+  waits_asked : (n : ℕ) (r : PendingReply) → Waits net n r → IsAsked net n
+  waits_asked n r w = record { asked = w.asked; in_flows = w.in_flows; to = w.at; reply = w.flow; by = w.by }
 
-  still_busy : (rest : List NChar) (pending : List Answer) (owed : ℕ) → 0 < owed_after rest pending owed → pending ≡ [] → rest ≢ []
+  still_busy : (rest : List NChar) (pending : List PendingReply) (owed : ℕ) → 0 < owed_after rest pending owed → pending ≡ [] → rest ≢ []
   still_busy (x ∷ rest) p a h e none = no_cons x rest none
   still_busy [] [] a h e none = omega arith
   still_busy [] (r ∷ p) a h e none = no_cons r p e
 
-  still_rising : (n : ℕ) (rest : List NChar) (pending : List Answer) (owed : ℕ) → AllByRecursion (Waits net n) pending → (0 < owed → cert.number (net.into n) < cert.number (net.out n)) → 0 < owed_after rest pending owed → cert.number (net.into n) < cert.number (net.out n)
-  still_rising n (x ∷ rest) p owed all old h = old h
-  still_rising n [] [] owed all old h = absurd (omega arith)
-  still_rising n [] (r ∷ p) owed all old h = waits_rising n r all.0
+  still_asked : (n : ℕ) (rest : List NChar) (pending : List PendingReply) (owed : ℕ) → AllByRecursion (Waits net n) pending → (0 < owed → IsAsked net n) → 0 < owed_after rest pending owed → IsAsked net n
+  still_asked n (x ∷ rest) p owed all old h = old h
+  still_asked n [] [] owed all old h = absurd (omega arith)
+  still_asked n [] (r ∷ p) owed all old h = waits_asked n r all.0
 
   pub emit_keeps : (s : State) (g : Ghost) (n : ℕ) (first : NChar) (rest : List NChar) (left : ℕ) → n < net.nodes → s.to_send n ≡ first ∷ rest → Inv net cert s g → Inv net cert (after_emit net s n first rest left) (emit_ghost net g n rest)
   emit_keeps s g n first rest left ln sending inv = record {
@@ -102,7 +107,7 @@ module _ (net : Network) (cert : Certificate) (ok : IsNetwork net) (acc : IsAcce
         (λ lt. let old = inv.nodes n lt in record {
           content = old.content;
           all_came = old.all_came;
-          rising = rw (eq-eqb n n refl) (still_rising n rest (s.pending n) (s.owed n) old.waits old.rising);
+          asked = rw (eq-eqb n n refl) (still_asked n rest (s.pending n) (s.owed n) old.waits old.asked);
           busy = rw (eq-eqb n n refl) (still_busy rest (s.pending n) (s.owed n));
           waits = old.waits;
         })
@@ -126,14 +131,14 @@ module _ (net : Network) (cert : Certificate) (ok : IsNetwork net) (acc : IsAcce
         (λ lt. let old = inv.nodes n lt in record {
           content = old.content;
           all_came = old.all_came;
-          rising = old.rising;
+          asked = old.asked;
           busy = λ a p none. whole_cons (form_of net e) (whole_form net e) (sym (put_here s.to_send n (form_of net e)) ∙ none);
           waits = old.waits;
         })
         (λ k lt ne. rw (ne_eqb k n ne) (inv.nodes k lt));
   }
 
-  pub reply_keeps : (s : State) (g : Ghost) (n : ℕ) (e : Entry) (r : Answer) (others : List Answer) → s.pending n ≡ r ∷ others → reply_packet r ≡ form_of net e → n < net.nodes → s.to_send n ≡ [] → IsEntry net cert (net.out n) e → Inv net cert s g → Inv net cert (after_reply s n r others) (send_ghost net g n e)
+  pub reply_keeps : (s : State) (g : Ghost) (n : ℕ) (e : Entry) (r : PendingReply) (others : List PendingReply) → s.pending n ≡ r ∷ others → reply_packet r ≡ form_of net e → n < net.nodes → s.to_send n ≡ [] → IsEntry net cert (net.out n) e → Inv net cert s g → Inv net cert (after_reply s n r others) (send_ghost net g n e)
   reply_keeps s g n e r others waits is ln free valid inv = rw is (record {
     streams = send_streams s g n e ln free valid inv;
     inputs = sends_inputs s g n (form_of net e) ln inv;
@@ -143,7 +148,7 @@ module _ (net : Network) (cert : Certificate) (ok : IsNetwork net) (acc : IsAcce
         (λ lt. let old = inv.nodes n lt in record {
           content = old.content;
           all_came = old.all_came;
-          rising = old.rising;
+          asked = old.asked;
           busy = λ a p none. whole_cons (form_of net e) (whole_form net e) (sym (put_here s.to_send n (form_of net e)) ∙ none);
           waits = rw (eq-eqb n n refl) ((subst (AllByRecursion (Waits net n)) waits old.waits).1);
         })
@@ -178,7 +183,7 @@ module _ (net : Network) (cert : Certificate) (ok : IsNetwork net) (acc : IsAcce
   forward_fed Eep tail c d w to_send input coming lt whole = inl (put_here coming d tail ∙ whole)
 
   -- what comes to k does not change, and what held it still does
-  same_fed : (to_send : ℕ → List NChar) (input input2 : ℕ → Input) (coming coming2 : ℕ → List NChar) (k : ℕ) (p : PlaceEnd) → coming2 k ≡ coming k → ((b : ℕ) → b < net.channels → input b ≡ Held k → input2 b ≡ Held k) → Fed net to_send input coming k p → Fed net to_send input2 coming2 k p
+  same_fed : (to_send : ℕ → List NChar) (input input2 : ℕ → Input) (coming coming2 : ℕ → List NChar) (k : ℕ) (p : Cell) → coming2 k ≡ coming k → ((b : ℕ) → b < net.channels → input b ≡ Held k → input2 b ≡ Held k) → Fed net to_send input coming k p → Fed net to_send input2 coming2 k p
   same_fed to_send input input2 coming coming2 k (AtNode m) e same f = e ∙ f
   same_fed to_send input input2 coming coming2 k (AtSwitch w) e same f = ⊎_elim (λ none. inl (e ∙ none)) (λ h. inr (h.0, h.1, same h.0 h.1 h.2)) f
 
@@ -189,7 +194,7 @@ module _ (net : Network) (cert : Certificate) (ok : IsNetwork net) (acc : IsAcce
   forward_keeps s g c d first rest left tail lc held front next inv =
       let h : Holds net cert g.rest g.coming c d = subst (InputIs net cert g.rest g.coming c) held (inv.inputs c lc) in
       let up = h.rising in
-      let cd : c ≡ d → ⊥ = λ e. (let same = ap cert.number e in omega arith) in
+      let cd : c ≡ d → ⊥ = λ e. (let same = ap (number cert) e in omega arith) in
       let dc : d ≡ c → ⊥ = λ e. cd (sym e) in
       let whole : IsWhole (first ∷ tail) = subst IsWhole next h.whole in
       record {
@@ -225,7 +230,7 @@ module _ (net : Network) (cert : Certificate) (ok : IsNetwork net) (acc : IsAcce
   heads c switch h more [] at all eq = absurd (no_cons (Data h) more eq)
   heads c switch h more (e ∷ es) at all eq =
       let valid = all.0 in
-      let place = subst (NoFault net e.flow e.deleted) at (acc.faultless e.flow c e.deleted valid.carried.in_flows valid.listed) in
+      let place = at_switch net cert acc e.flow c e.deleted _ valid.carried.in_flows valid.listed at in
       let address = (net.flow e.flow).address in
       let byte = slice_index address e.deleted in
       let front : form_of net e ≡ Data byte ∷ form_of net (record e { deleted = e.deleted + 1 }) = ap (λ l. map Data l ++ (map Data e.cargo ++ marker_of e.end ∷ [])) (drop_byte address e.deleted place.0) in
@@ -259,8 +264,8 @@ module _ (net : Network) (cert : Certificate) (ok : IsNetwork net) (acc : IsAcce
   pub grants_on : (s : State) (g : Ghost) (c d switch h : ℕ) (e : Entry) (es : List Entry) (more : List NChar) → net.end_of c ≡ AtSwitch switch → Contains (net.look switch h) d → Heads net cert c switch h more e es (g.queue c) → d ≡ c → ⊥
   grants_on s g c d switch h e es more at named hd same =
       let named2 : Contains (net.look switch (slice_index (net.flow e.flow).address e.deleted)) d = subst (λ b. Contains (net.look switch b) d) hd.byte named in
-      let up = acc.rising e.flow c e.deleted switch d hd.valid.carried.in_flows hd.valid.listed at named2 in
-      let k = ap cert.number same in
+      let up = acc.rising e.flow c e.deleted d _ hd.valid.carried.in_flows hd.valid.listed (follows net cert acc e.flow c e.deleted switch d hd.valid.carried.in_flows hd.valid.listed at named2) in
+      let k = ap (number cert) same in
       omega arith
 
   pub grant_keeps : (s : State) (g : Ghost) (d c switch h : ℕ) (rest : List NChar) (e : Entry) (es : List Entry) → c < net.channels → net.end_of c ≡ AtSwitch switch → s.input c ≡ Idle → s.buffer c ≡ Data h ∷ rest → Contains (net.look switch h) d → ((b : ℕ) → b < net.channels → s.input b ≢ Held d) → Heads net cert c switch h (rest ++ (s.wire c ++ g.coming c)) e es (g.queue c) → Inv net cert s g → Inv net cert (after_grant s d c (if net.deletes switch h then rest else Data h ∷ rest)) (grant_ghost net g d c (passed_on net switch e) es)
@@ -268,9 +273,9 @@ module _ (net : Network) (cert : Certificate) (ok : IsNetwork net) (acc : IsAcce
       let starts = ok.look_starts switch h d named in
       let named2 : Contains (net.look switch (slice_index (net.flow e.flow).address e.deleted)) d = subst (λ b. Contains (net.look switch b) d) hd.byte named in
       let in_flows = hd.valid.carried.in_flows in
-      let up = acc.rising e.flow c e.deleted switch d in_flows hd.valid.listed at named2 in
-      let cd : c ≡ d → ⊥ = λ e. (let same = ap cert.number e in omega arith) in
-      let valid : IsEntry net cert d (passed_on net switch e) = record { carried = hd.valid.carried; listed = acc.closed e.flow c e.deleted switch d in_flows hd.valid.listed at named2 } in
+      let up = acc.rising e.flow c e.deleted d _ in_flows hd.valid.listed (follows net cert acc e.flow c e.deleted switch d in_flows hd.valid.listed at named2) in
+      let cd : c ≡ d → ⊥ = λ e. (let same = ap (number cert) e in omega arith) in
+      let valid : IsEntry net cert d (passed_on net switch e) = record { carried = hd.valid.carried; listed = acc.closed e.flow c e.deleted d _ in_flows hd.valid.listed (follows net cert acc e.flow c e.deleted switch d in_flows hd.valid.listed at named2) } in
       let whole = whole_form net (passed_on net switch e) in
       let none : g.coming d ≡ [] = ⊎_elim (λ n. n) (λ b. absurd (free b.0 b.1 b.2)) (subst (Fed net s.to_send s.input g.coming d) starts.1 (inv.fed d starts.0)) in
       let e2 = passed_on net switch e in
@@ -345,7 +350,7 @@ module _ (net : Network) (cert : Certificate) (ok : IsNetwork net) (acc : IsAcce
             (λ lt. let now = inv.nodes n ln in rw (eq-eqb c c refl, eq-eqb n n refl) (record {
               content = ap (λ l. l ++ form_of net e) (sym (append-nil (s.taken n)) ∙ ap (λ l. s.taken n ++ l) (sym none) ∙ now.content) ∙ sym (flat_push net (g.came n) e);
               all_came = all_push (IsEntry net cert c) (g.came n) e now.all_came all.0;
-              rising = now.rising;
+              asked = now.asked;
               busy = now.busy;
               waits = now.waits;
             }))
@@ -353,58 +358,58 @@ module _ (net : Network) (cert : Certificate) (ok : IsNetwork net) (acc : IsAcce
       }
 
   -- a reply that is given waits, at a target where a flow with a reply ends
-  replied : (n i : ℕ) (memory bytes : List ℕ) (r : Answer) (m : End) (o : Option (List ℕ)) → i < net.flows → n ≡ (net.flow i).to → net.answer n memory bytes m ≡ Some r → o ≡ Some r.address → AnsweredBy net i o → Waits net n r
+  replied : (n i : ℕ) (memory bytes : List ℕ) (r : PendingReply) (m : End) (o : Option (List ℕ)) → i < net.flows → n ≡ (net.flow i).to → net.answer n memory bytes m ≡ Some r → o ≡ Some r.address → AnsweredBy net i o → Waits net n r
   replied n i memory bytes r m None li to answer goes by = absurd (cc)
   replied n i memory bytes r m (Some address) li to answer goes by =
       let same : address ≡ r.address = cc in
       record { asked = i; flow = by.0; in_flows = li; by = by.1; at = sym to; goes = sym same ∙ sym by.2; memory = memory; bytes = bytes; end = m; answer = answer }
 
-  completes : (n : ℕ) (memory : List ℕ) (r : Answer) (l : List NChar) (end : End) (es : List Entry) → n < net.nodes → AllByRecursion (IsEntry net cert (net.into n)) es → l ++ marker_of end ∷ [] ≡ flat net es → net.answer n memory (bytes_since [] l) end ≡ Some r → Waits net n r
-  completes n memory r l end es ln all content answer =
-      let c = completed net cert (net.into n) es l (marker_of end) all content in
+  completes : (n : ℕ) (memory : List ℕ) (r : PendingReply) (l : List NChar) (ps : List Packet) (bytes : List ℕ) (end : End) (es : List Entry) → n < net.nodes → IsCut l ps bytes → AllByRecursion (IsEntry net cert (net.into n)) es → l ++ marker_of end ∷ [] ≡ flat net es → net.answer n memory bytes end ≡ Some r → Waits net n r
+  completes n memory r l ps bytes end es ln cut all content answer =
+      let c = completed net cert (net.into n) es l ps bytes end cut all content in
       let e = c.0 in
       let i = e.flow in
       let valid = c.1 in
-      let place = subst (NoFault net i e.deleted) (ok.into_ends n ln).1 (acc.faultless i (net.into n) e.deleted valid.carried.in_flows valid.listed) in
+      let place = at_node net cert acc i (net.into n) e.deleted n valid.carried.in_flows valid.listed (ok.into_ends n ln).1 in
       let k : e.deleted ≡ length (net.flow i).address - (net.flow i).left = (let p = place.1 in omega arith) in
       let left : bytes_of net e ≡ left_bytes net i e.cargo = ap (λ k. drop k (net.flow i).address ++ e.cargo) k in
-      let goes = ok.reply_goes n memory (bytes_since [] l) r end answer in
-      replied n i memory (bytes_since [] l) r end (net.reply_to n (bytes_since [] l)) valid.carried.in_flows place.0 answer goes
+      let goes = reply_goes net ok n memory bytes r end ln answer in
+      replied n i memory bytes r end (net.reply_to n bytes) valid.carried.in_flows place.0 answer goes
       (subst (AnsweredBy net i) (ap (λ to. net.reply_to to (left_bytes net i e.cargo)) (sym place.0) ∙ ap (net.reply_to n) (sym left ∙ sym c.2)) valid.carried.answered)
 
-  accept_replies : (n : ℕ) (memory : List ℕ) (r : Answer) (taken : List NChar) (x : NChar) (tail : List NChar) (es : List Entry) → n < net.nodes → IsWhole (x ∷ tail) → AllByRecursion (IsEntry net cert (net.into n)) es → taken ++ x ∷ tail ≡ flat net es → reply_at net n memory taken x ≡ Some r → Waits net n r
-  accept_replies n memory r taken (Data b) tail es ln w all content answer = absurd (cc)
-  accept_replies n memory r taken Eop tail es ln w all content answer = completes n memory r taken ByEop es ln all (ap (λ t. taken ++ Eop ∷ t) (sym w) ∙ content) answer
-  accept_replies n memory r taken Eep tail es ln w all content answer = completes n memory r taken ByEep es ln all (ap (λ t. taken ++ Eep ∷ t) (sym w) ∙ content) answer
+  accept_replies : (n : ℕ) (memory : List ℕ) (r : PendingReply) (taken : List NChar) (ps : List Packet) (bytes : List ℕ) (x : NChar) (tail : List NChar) (es : List Entry) → n < net.nodes → IsCut taken ps bytes → IsWhole (x ∷ tail) → AllByRecursion (IsEntry net cert (net.into n)) es → taken ++ x ∷ tail ≡ flat net es → reply_at net n memory bytes x ≡ Some r → Waits net n r
+  accept_replies n memory r taken ps bytes (Data b) tail es ln cut w all content answer = absurd (cc)
+  accept_replies n memory r taken ps bytes Eop tail es ln cut w all content answer = completes n memory r taken ps bytes ByEop es ln cut all (ap (λ t. taken ++ Eop ∷ t) (sym w) ∙ content) answer
+  accept_replies n memory r taken ps bytes Eep tail es ln cut w all content answer = completes n memory r taken ps bytes ByEep es ln cut all (ap (λ t. taken ++ Eep ∷ t) (sym w) ∙ content) answer
 
-  now_rising : (n owed : ℕ) (o : Option Answer) → ((r : Answer) → o ≡ Some r → Waits net n r) → (0 < owed → cert.number (net.into n) < cert.number (net.out n)) → 0 < owed_with owed o → cert.number (net.into n) < cert.number (net.out n)
-  now_rising n owed None h old a = old a
-  now_rising n owed (Some r) h old a = waits_rising n r (h r refl)
+  now_asked : (n owed : ℕ) (o : Option PendingReply) → ((r : PendingReply) → o ≡ Some r → Waits net n r) → (0 < owed → IsAsked net n) → 0 < owed_with owed o → IsAsked net n
+  now_asked n owed None h old a = old a
+  now_asked n owed (Some r) h old a = waits_asked n r (h r refl)
 
-  now_waits : (n : ℕ) (pending : List Answer) (o : Option Answer) → ((r : Answer) → o ≡ Some r → Waits net n r) → AllByRecursion (Waits net n) pending → AllByRecursion (Waits net n) (pending_with pending o)
+  now_waits : (n : ℕ) (pending : List PendingReply) (o : Option PendingReply) → ((r : PendingReply) → o ≡ Some r → Waits net n r) → AllByRecursion (Waits net n) pending → AllByRecursion (Waits net n) (pending_with pending o)
   now_waits n pending None h all = all
   now_waits n pending (Some r) h all = all_push (Waits net n) pending r all (h r refl)
 
-  no_push : (pending : List Answer) (r : Answer) → pending ++ r ∷ [] ≡ [] → ⊥
+  no_push : (pending : List PendingReply) (r : PendingReply) → pending ++ r ∷ [] ≡ [] → ⊥
   no_push [] r e = no_cons r [] e
   no_push (x ∷ pending) r e = no_cons x (pending ++ r ∷ []) e
 
-  now_busy : (owed : ℕ) (pending : List Answer) (to_send : List NChar) (o : Option Answer) → (0 < owed → pending ≡ [] → to_send ≢ []) → 0 < owed_with owed o → pending_with pending o ≡ [] → to_send ≢ []
+  now_busy : (owed : ℕ) (pending : List PendingReply) (to_send : List NChar) (o : Option PendingReply) → (0 < owed → pending ≡ [] → to_send ≢ []) → 0 < owed_with owed o → pending_with pending o ≡ [] → to_send ≢ []
   now_busy owed pending to_send None old a e = old a e
   now_busy owed pending to_send (Some r) old a e = absurd (no_push pending r e)
 
-  pub accept_keeps : (s : State) (g : Ghost) (n : ℕ) (first : NChar) (rest tail : List NChar) → n < net.nodes → s.buffer (net.into n) ≡ first ∷ rest → g.rest (net.into n) ≡ first ∷ tail → Inv net cert s g → Inv net cert (after_accept net s n first rest) (accept_ghost net g n tail)
-  accept_keeps s g n first rest tail ln front next inv =
+  pub accept_keeps : (s : State) (g : Ghost) (n : ℕ) (ps : List Packet) (bytes : List ℕ) (first : NChar) (rest tail : List NChar) → n < net.nodes → IsCut (s.taken n) ps bytes → s.buffer (net.into n) ≡ first ∷ rest → g.rest (net.into n) ≡ first ∷ tail → Inv net cert s g → Inv net cert (after_accept net s n bytes first rest) (accept_ghost net g n tail)
+  accept_keeps s g n ps bytes first rest tail ln cut front next inv =
       let c = net.into n in
       let lc = (ok.into_ends n ln).0 in
       let old = inv.streams c lc in
       let now = inv.nodes n ln in
       let whole : IsWhole (first ∷ tail) = subst IsRest next old.ends in
       let g2 = accept_ghost net g n tail in
-      let u = after_accept net s n first rest in
-      let r = reply_at net n (s.memory n) (s.taken n) first in
+      let u = after_accept net s n bytes first rest in
+      let r = reply_at net n (s.memory n) bytes first in
       let got : s.taken n ++ first ∷ tail ≡ flat net (g.came n) = ap (λ l. s.taken n ++ l) (sym next) ∙ now.content in
-      let given = λ (r : Answer). λ (e : reply_at net n (s.memory n) (s.taken n) first ≡ Some r). accept_replies n (s.memory n) r (s.taken n) first tail (g.came n) ln whole now.all_came got e in
+      let given = λ (r : PendingReply). λ (e : reply_at net n (s.memory n) bytes first ≡ Some r). accept_replies n (s.memory n) r (s.taken n) ps bytes first tail (g.came n) ln cut whole now.all_came got e in
       record {
         streams = each_at (StreamAt net cert u g2) net.channels c
             (λ lt. rw (eq-eqb c c refl) (record {
@@ -420,7 +425,7 @@ module _ (net : Network) (cert : Certificate) (ok : IsNetwork net) (acc : IsAcce
             (λ lt. rw (eq-eqb c c refl, eq-eqb n n refl) (record {
               content = append_assoc (s.taken n) (first ∷ []) tail ∙ got;
               all_came = now.all_came;
-              rising = now_rising n (s.owed n) r given now.rising;
+              asked = now_asked n (s.owed n) r given now.asked;
               busy = now_busy (s.owed n) (s.pending n) (s.to_send n) r now.busy;
               waits = now_waits n (s.pending n) r given now.waits;
             }))

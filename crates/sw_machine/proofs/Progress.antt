@@ -1,16 +1,22 @@
 -- A state in which something is undelivered goes on.
-use Rattle.sw_machine.specs.declared.input.Input.{Input}
-use Rattle.sw_machine.specs.declared.input.Input.TheVariants.{Held, Idle, Spilling}
+use Rattle.std.proofs.Common.{Contains, List, [], ap, arith, drop, inl, inr, length, map, refl, slice_index, subst, suc, sym, zero, ℕ, ⊎_elim, ◌++◌, ◌+◌, ◌<◌, ◌∙◌, ◌∷◌, ◌≡◌, ◌≢◌, ◌≤◌, ◌⊎◌}
+use Rattle.std.proofs.lemmas.Bool.{cases_eq, cases_lt}
+use Rattle.std.specs.List.{AllByRecursion}
 use Rattle.sw_char.specs.declared.nchar.NChar.{NChar}
 use Rattle.sw_char.specs.declared.nchar.NChar.TheVariants.{Data}
-use Rattle.std.proofs.Common.{◌≡◌, ◌≢◌, ◌⊎◌, ℕ, zero, suc, ◌+◌, ◌<◌, ◌≤◌, List, [], ◌∷◌, ◌++◌, length, map, drop, slice_index, Contains, refl, sym, ap, subst, ◌∙◌, ⊎_elim, inl, inr, arith}
-use Rattle.std.specs.List.{AllByRecursion}
-use Rattle.std.proofs.lemmas.Bool.{cases_eq, cases_lt}
-use Rattle.sw_machine.specs.Network.{marker_of, PlaceEnd, AtNode, AtSwitch, Network, Answer, IsNetwork}
-use Rattle.sw_machine.specs.Machine.{State, Fct, FctIn, Arrive, Grant, Forward, Emit, Accept, Reply, total, undelivered, length_pending, GoesOn}
-use Rattle.sw_machine.specs.Certificate.{Certificate, IsAccepted, NoFault}
-use Rattle.sw_machine.specs.Numbers.{Credit}
-use Rattle.sw_machine.proofs.Ghost.{Entry, form_of, flat, IsEntry, IsWhole, Ghost, Holds, InputIs, Fed, Inv}
+use Rattle.sw_machine.proofs.Cuts.{cut_of, no_cons}
+use Rattle.sw_machine.proofs.Faults.{asked_rises, at_switch, follows}
+use Rattle.sw_machine.proofs.Ghost.{Entry, Fed, Ghost, Holds, InputIs, Inv, IsEntry, IsWhole, flat, form_of}
+use Rattle.sw_machine.proofs.Lists.{whole_cons}
+use Rattle.sw_machine.specs.Certificate.{Certificate, IsAccepted, number}
+use Rattle.sw_machine.specs.Credit.{HasCredit}
+use Rattle.sw_machine.specs.Network.{AtNode, AtSwitch, Cell, IsNetwork, Network, PendingReply}
+use Rattle.sw_machine.specs.Packets.{marker_of}
+use Rattle.sw_machine.specs.Runs.{GoesOn, length_pending, total, undelivered}
+use Rattle.sw_machine.specs.State.{State}
+use Rattle.sw_machine.specs.Steps.{Accept, Arrive, Emit, Fct, FctIn, Forward, Grant, Reply}
+use Rattle.sw_machine.specs.declared.input.Input.{Input}
+use Rattle.sw_machine.specs.declared.input.Input.TheVariants.{Held, Idle, Spilling}
 
 -- whether some input holds d
 pub held_or_free : (n d : ℕ) (input : ℕ → Input) → ((b : ℕ) × (b < n) × (input b ≡ Held d)) ⊎ ((b : ℕ) → b < n → input b ≡ Held d → ⊥)
@@ -39,9 +45,6 @@ unfolding greatest
 below_greatest zero f k lt = absurd (omega arith)
 below_greatest (suc n) f k lt = ⊎_elim (λ e. let same = ap f e in omega arith) (λ ne. let r = below_greatest n f k (omega arith) in omega arith) (cases_eq k n)
 
-no_cons : {A : Type 0} (x : A) (l : List A) → x ∷ l ≡ [] → ⊥
-no_cons x l e = cc
-
 head_contained : (l : List ℕ) → l ≢ [] → (d : ℕ) × Contains l d
 head_contained [] ne = absurd (ne refl)
 head_contained (d ∷ l) ne = (d, (0, omega arith, refl))
@@ -51,31 +54,27 @@ drop_at [] k lt = absurd (omega arith)
 drop_at (x ∷ l) zero lt = (l, refl)
 drop_at (x ∷ l) (suc k) lt = drop_at l k (omega arith)
 
-whole_cons : (l : List NChar) → IsWhole l → l ≢ []
-whole_cons [] w e = w
-whole_cons (x ∷ l) w e = no_cons x l e
-
-module _ (net : Network) (cert : Certificate) (s : State) (g : Ghost) (ok : IsNetwork net) (acc : IsAccepted net cert) (num : Credit net s) (inv : Inv net cert s g) where
+module _ (net : Network) (cert : Certificate) (s : State) (g : Ghost) (ok : IsNetwork net) (acc : IsAccepted net cert) (num : HasCredit net s) (inv : Inv net cert s g) where
   arrive_or : (c : ℕ) → c < net.channels → (w : List NChar) → s.wire c ≡ w → GoesOn net s ⊎ (s.wire c ≡ [])
   arrive_or c lt [] e = inr e
-  arrive_or c lt (x ∷ r) e = inl (record { step = Arrive c; no_begin = λ b. b; possible = (_, record { in_net = lt; first = x; rest = r; on_wire = e; after = refl }) })
+  arrive_or c lt (x ∷ r) e = inl (record { step = Arrive c; no_begin = refl; possible = (_, record { in_net = lt; first = x; rest = r; on_wire = e; after = refl }) })
 
   -- an empty channel has credit, or an FCT moves
   credit_or : (c : ℕ) → c < net.channels → s.buffer c ≡ [] → s.wire c ≡ [] → (f : ℕ) → s.fcts c ≡ f → (k : ℕ) → s.credit c ≡ k → GoesOn net s ⊎ ((left : ℕ) × (s.credit c ≡ suc left))
-  credit_or c lt eb ew (suc f) ef k ek = inl (record { step = FctIn c; no_begin = λ b. b; possible = (_, record { in_net = lt; left = f; under_way = ef; after = refl }) })
+  credit_or c lt eb ew (suc f) ef k ek = inl (record { step = FctIn c; no_begin = refl; possible = (_, record { in_net = lt; remaining = f; under_way = ef; after = refl }) })
   credit_or c lt eb ew zero ef (suc k) ek = inr (k, ek)
   credit_or c lt eb ew zero ef zero ek =
       let lb = ap length eb in
       let lw = ap length ew in
       let room = ok.room c lt in
       let eq = (num.at c lt).equation in
-      inl (record { step = Fct c; no_begin = λ b. b; possible = (_, record { in_net = lt; room = omega arith; few = omega arith; after = refl }) })
+      inl (record { step = Fct c; no_begin = refl; possible = (_, record { in_net = lt; room = omega arith; few = omega arith; after = refl }) })
 
   emit_goes : (n : ℕ) → n < net.nodes → (x : NChar) (r : List NChar) → s.to_send n ≡ x ∷ r → (left : ℕ) → s.credit (net.out n) ≡ suc left → GoesOn net s
-  emit_goes n lt x r e left cr = record { step = Emit n; no_begin = λ b. b; possible = (_, record { in_net = lt; first = x; rest = r; sending = e; left = left; credit = cr; after = refl }) }
+  emit_goes n lt x r e left cr = record { step = Emit n; no_begin = refl; possible = (_, record { in_net = lt; first = x; rest = r; sending = e; remaining = left; credit = cr; after = refl }) }
 
   forward_goes : (b c : ℕ) → b < net.channels → s.input b ≡ Held c → (x : NChar) (r : List NChar) → s.buffer b ≡ x ∷ r → (left : ℕ) → s.credit c ≡ suc left → GoesOn net s
-  forward_goes b c lt held x r e left cr = record { step = Forward b; no_begin = λ z. z; possible = (_, record { in_net = lt; d = c; held = held; first = x; rest = r; front = e; left = left; credit = cr; after = refl }) }
+  forward_goes b c lt held x r e left cr = record { step = Forward b; no_begin = refl; possible = (_, record { in_net = lt; d = c; held = held; first = x; rest = r; front = e; remaining = left; credit = cr; after = refl }) }
 
   holds : (b c : ℕ) → b < net.channels → s.input b ≡ Held c → Holds net cert g.rest g.coming b c
   holds b c lt e = subst (InputIs net cert g.rest g.coming b) e (inv.inputs b lt)
@@ -96,7 +95,7 @@ module _ (net : Network) (cert : Certificate) (s : State) (g : Ghost) (ok : IsNe
       first (x ∷ l) w e = no_cons x (l ++ flat net (g.queue b)) e
 
   -- a channel with nothing in its buffer to which something comes
-  open_goes : (n c : ℕ) → c < net.channels → cert.number c < n → s.buffer c ≡ [] → g.coming c ≢ [] → GoesOn net s
+  open_goes : (n c : ℕ) → c < net.channels → number cert c < n → s.buffer c ≡ [] → g.coming c ≢ [] → GoesOn net s
   open_goes zero c lt ln eb some = absurd (omega arith)
   open_goes (suc n) c lt ln eb some =
       ⊎_elim (λ go. go) (λ ew. ⊎_elim (λ go. go) (λ cr. by_start (net.start_of c) refl (inv.fed c lt) ew cr.0 cr.1 (open_goes n)) (credit_or c lt eb ew (s.fcts c) refl (s.credit c) refl)) (arrive_or c lt (s.wire c) refl)
@@ -105,21 +104,21 @@ module _ (net : Network) (cert : Certificate) (s : State) (g : Ghost) (ok : IsNe
       send m lm out f left cr [] e = absurd (some (f ∙ e))
       send m lm out f left cr (x ∷ r) e = emit_goes m lm x r e left (ap s.credit out ∙ cr)
 
-      pass : (b : ℕ) → b < net.channels → s.input b ≡ Held c → (left : ℕ) → s.credit c ≡ suc left → (l : List NChar) → s.buffer b ≡ l → ((b : ℕ) → b < net.channels → cert.number b < n → s.buffer b ≡ [] → g.coming b ≢ [] → GoesOn net s) → GoesOn net s
+      pass : (b : ℕ) → b < net.channels → s.input b ≡ Held c → (left : ℕ) → s.credit c ≡ suc left → (l : List NChar) → s.buffer b ≡ l → ((b : ℕ) → b < net.channels → number cert b < n → s.buffer b ≡ [] → g.coming b ≢ [] → GoesOn net s) → GoesOn net s
       pass b lb held left cr (x ∷ r) e on = forward_goes b c lb held x r e left cr
       pass b lb held left cr [] e on =
           let h = holds b c lb held in
           ⊎_elim (λ go. go) (λ ew. on b lb (let r = h.rising in omega arith) e (comes_on b c lb h e ew)) (arrive_or b lb (s.wire b) refl)
 
-      by_start : (p : PlaceEnd) → net.start_of c ≡ p → Fed net s.to_send s.input g.coming c p → s.wire c ≡ [] → (left : ℕ) → s.credit c ≡ suc left → ((b : ℕ) → b < net.channels → cert.number b < n → s.buffer b ≡ [] → g.coming b ≢ [] → GoesOn net s) → GoesOn net s
+      by_start : (p : Cell) → net.start_of c ≡ p → Fed net s.to_send s.input g.coming c p → s.wire c ≡ [] → (left : ℕ) → s.credit c ≡ suc left → ((b : ℕ) → b < net.channels → number cert b < n → s.buffer b ≡ [] → g.coming b ≢ [] → GoesOn net s) → GoesOn net s
       by_start (AtNode m) at f ew left cr on = let starts = ok.starts_at_node c m lt at in send m starts.0 starts.1 f left cr (s.to_send m) refl
       by_start (AtSwitch w) at f ew left cr on = ⊎_elim (λ e. absurd (some e)) (λ h. pass h.0 h.1 h.2 left cr (s.buffer h.0) refl on) f
 
   open_now : (c : ℕ) → c < net.channels → s.buffer c ≡ [] → g.coming c ≢ [] → GoesOn net s
-  open_now c lt eb some = open_goes (suc (cert.number c)) c lt (omega arith) eb some
+  open_now c lt eb some = open_goes (suc (number cert c)) c lt (omega arith) eb some
 
   abbrev top : ℕ
-  top = greatest net.channels cert.number
+  top = greatest net.channels (number cert)
 
   -- the front of an input that waits is a byte that names an output, and each that it names has a greater number
   record Header (c switch : ℕ) (x : NChar) : Type 0 where
@@ -127,33 +126,33 @@ module _ (net : Network) (cert : Certificate) (s : State) (g : Ghost) (ok : IsNe
     is : x ≡ Data h
     d : ℕ
     names : Contains (net.look switch h) d
-    rising : cert.number c < cert.number d
+    rising : number cert c < number cert d
 
-  header : (c switch : ℕ) (lt : c < net.channels) → net.end_of c ≡ AtSwitch switch → g.rest c ≡ [] → (x : NChar) (r : List NChar) → s.buffer c ≡ x ∷ r → (q : List Entry) → g.queue c ≡ q → Header c switch x
-  header c switch lt at er x r eb [] eq =
+  front_header : (c switch : ℕ) (lt : c < net.channels) → net.end_of c ≡ AtSwitch switch → g.rest c ≡ [] → (x : NChar) (r : List NChar) → s.buffer c ≡ x ∷ r → (q : List Entry) → g.queue c ≡ q → Header c switch x
+  front_header c switch lt at er x r eb [] eq =
       let content = (inv.streams c lt).content in
       let ef = ap (flat net) eq in
       let all : x ∷ (r ++ (s.wire c ++ g.coming c)) ≡ [] = cc in
       absurd (no_cons x (r ++ (s.wire c ++ g.coming c)) all)
-  header c switch lt at er x r eb (e ∷ es) eq =
+  front_header c switch lt at er x r eb (e ∷ es) eq =
       let content = (inv.streams c lt).content in
       let ef = ap (flat net) eq in
       let valid = (subst (AllByRecursion (IsEntry net cert c)) eq (inv.streams c lt).queued).0 in
-      let place = subst (NoFault net e.flow e.deleted) at (acc.faultless e.flow c e.deleted valid.carried.in_flows valid.listed) in
+      let place = at_switch net cert acc e.flow c e.deleted _ valid.carried.in_flows valid.listed at in
       let byte = slice_index (net.flow e.flow).address e.deleted in
       let tail = drop_at (net.flow e.flow).address e.deleted place.0 in
       let named = head_contained (net.look switch byte) place.1 in
       let front : form_of net e ≡ Data byte ∷ (map Data tail.0 ++ (map Data e.cargo ++ marker_of e.end ∷ [])) = ap (λ l. map Data l ++ (map Data e.cargo ++ marker_of e.end ∷ [])) tail.1 in
       let all : x ∷ (r ++ (s.wire c ++ g.coming c)) ≡ Data byte ∷ ((map Data tail.0 ++ (map Data e.cargo ++ marker_of e.end ∷ [])) ++ flat net es) =
       ap (λ b. b ++ (s.wire c ++ g.coming c)) (sym eb) ∙ content ∙ ap (λ l. l ++ flat net (g.queue c)) er ∙ ef ∙ ap (λ l. l ++ flat net es) front in
-      record { h = byte; is = cc; d = named.0; names = named.1; rising = acc.rising e.flow c e.deleted switch named.0 valid.carried.in_flows valid.listed at named.1 }
+      record { h = byte; is = cc; d = named.0; names = named.1; rising = acc.rising e.flow c e.deleted named.0 _ valid.carried.in_flows valid.listed (follows net cert acc e.flow c e.deleted switch named.0 valid.carried.in_flows valid.listed at named.1) }
 
   -- a channel with a character in its buffer, an input that holds it, or a node that sends or is to reply on it
   data Busy (c : ℕ) : Type 0 where
     Buffered : (x : NChar) (r : List NChar) → s.buffer c ≡ x ∷ r → Busy c
     IsHeld : (b : ℕ) → b < net.channels → s.input b ≡ Held c → Busy c
     Sends : (n : ℕ) → n < net.nodes → net.out n ≡ c → (x : NChar) (r : List NChar) → s.to_send n ≡ x ∷ r → Busy c
-    Replies : (n : ℕ) → n < net.nodes → net.out n ≡ c → (r : Answer) (others : List Answer) → s.pending n ≡ r ∷ others → Busy c
+    Replies : (n : ℕ) → n < net.nodes → net.out n ≡ c → (r : PendingReply) (others : List PendingReply) → s.pending n ≡ r ∷ others → Busy c
 
   -- a busy channel with nothing in its buffer
   empty_goes : (c : ℕ) → c < net.channels → s.buffer c ≡ [] → Busy c → GoesOn net s
@@ -166,7 +165,7 @@ module _ (net : Network) (cert : Certificate) (s : State) (g : Ghost) (ok : IsNe
   empty_goes c lt eb (Replies n ln out r0 others waits) = reply (s.to_send n) refl
     where
       reply : (l : List NChar) → s.to_send n ≡ l → GoesOn net s
-      reply [] e = record { step = Reply n; no_begin = λ b. b; possible = (_, record { in_net = ln; reply = r0; others = others; waits = waits; free = e; after = refl }) }
+      reply [] e = record { step = Reply n; no_begin = refl; possible = (_, record { in_net = ln; reply = r0; others = others; waits = waits; sends_nothing = e; after = refl }) }
       reply (x ∷ r) e =
           let start : net.start_of c ≡ AtNode n = ap net.start_of (sym out) ∙ (ok.out_starts n ln).1 in
           let fed = subst (Fed net s.to_send s.input g.coming c) start (inv.fed c lt) in
@@ -175,49 +174,49 @@ module _ (net : Network) (cert : Certificate) (s : State) (g : Ghost) (ok : IsNe
   owes_or : (n : ℕ) → (0 < s.owed n) ⊎ (s.owed n ≡ 0)
   owes_or n = ⊎_elim (λ lt. inl lt) (λ ge. inr (omega arith)) (cases_lt 0 (s.owed n))
 
-  busy_goes : (m c : ℕ) → c < net.channels → top < cert.number c + m → Busy c → GoesOn net s
-  busy_goes zero c lt above busy = let under = below_greatest net.channels cert.number c lt in absurd (omega arith)
+  busy_goes : (m c : ℕ) → c < net.channels → top < number cert c + m → Busy c → GoesOn net s
+  busy_goes zero c lt above busy = let under = below_greatest net.channels (number cert) c lt in absurd (omega arith)
   busy_goes (suc m) c lt above busy = by_buffer (s.buffer c) refl (busy_goes m)
     where
       On : Type 0
-      On = (d : ℕ) → d < net.channels → top < cert.number d + m → Busy d → GoesOn net s
+      On = (d : ℕ) → d < net.channels → top < number cert d + m → Busy d → GoesOn net s
 
-      waiting : (switch : ℕ) → net.end_of c ≡ AtSwitch switch → (x : NChar) (r : List NChar) → s.buffer c ≡ x ∷ r → s.input c ≡ Idle → Header c switch x → ((d : ℕ) → d < net.channels → top < cert.number d + m → Busy d → GoesOn net s) → GoesOn net s
+      waiting : (switch : ℕ) → net.end_of c ≡ AtSwitch switch → (x : NChar) (r : List NChar) → s.buffer c ≡ x ∷ r → s.input c ≡ Idle → Header c switch x → ((d : ℕ) → d < net.channels → top < number cert d + m → Busy d → GoesOn net s) → GoesOn net s
       waiting switch at x r e idle h on =
           let in_net = (ok.look_starts switch h.h h.d h.names).0 in
           let up = h.rising in
           ⊎_elim
           (λ held. on h.d in_net (omega arith) (IsHeld held.0 held.1 held.2))
-          (λ free. record { step = Grant h.d c; no_begin = λ b. b; possible = (_, record { in_net = lt; switch = switch; at = at; idle = idle; h = h.h; rest = r; front = e ∙ ap (λ y. y ∷ r) h.is; named = h.names; free = free; after = refl }) })
+          (λ free. record { step = Grant h.d c; no_begin = refl; possible = (_, record { in_net = lt; switch = switch; at = at; idle = idle; h = h.h; rest = r; front = e ∙ ap (λ y. y ∷ r) h.is; named = h.names; not_held = free; after = refl }) })
           (held_or_free net.channels h.d s.input)
 
-      by_input : (switch : ℕ) → net.end_of c ≡ AtSwitch switch → (x : NChar) (r : List NChar) → s.buffer c ≡ x ∷ r → (i : Input) → s.input c ≡ i → ((d : ℕ) → d < net.channels → top < cert.number d + m → Busy d → GoesOn net s) → GoesOn net s
+      by_input : (switch : ℕ) → net.end_of c ≡ AtSwitch switch → (x : NChar) (r : List NChar) → s.buffer c ≡ x ∷ r → (i : Input) → s.input c ≡ i → ((d : ℕ) → d < net.channels → top < number cert d + m → Busy d → GoesOn net s) → GoesOn net s
       by_input switch at x r e Idle ei on =
           let idle = subst (InputIs net cert g.rest g.coming c) ei (inv.inputs c lt) in
-          waiting switch at x r e ei (header c switch lt at (idle switch at) x r e (g.queue c) refl) on
+          waiting switch at x r e ei (front_header c switch lt at (idle switch at) x r e (g.queue c) refl) on
       by_input switch at x r e (Held d) ei on = let h = holds c d lt ei in let up = h.rising in on d h.in_net (omega arith) (IsHeld c lt ei)
       by_input switch at x r e Spilling ei on = absurd (subst (InputIs net cert g.rest g.coming c) ei (inv.inputs c lt))
 
-      answers : (n : ℕ) → n < net.nodes → net.into n ≡ c → 0 < s.owed n → (p : List Answer) → s.pending n ≡ p → (l : List NChar) → s.to_send n ≡ l → ((d : ℕ) → d < net.channels → top < cert.number d + m → Busy d → GoesOn net s) → GoesOn net s
+      answers : (n : ℕ) → n < net.nodes → net.into n ≡ c → 0 < s.owed n → (p : List PendingReply) → s.pending n ≡ p → (l : List NChar) → s.to_send n ≡ l → ((d : ℕ) → d < net.channels → top < number cert d + m → Busy d → GoesOn net s) → GoesOn net s
       answers n ln into busied (r0 ∷ others) ep l el on =
-          let up = (inv.nodes n ln).rising busied in
-          let same = ap cert.number into in
+          let up = asked_rises net cert acc n ((inv.nodes n ln).asked busied) in
+          let same = ap (number cert) into in
           on (net.out n) (ok.out_starts n ln).0 (omega arith) (Replies n ln refl r0 others ep)
       answers n ln into busied [] ep [] el on = absurd ((inv.nodes n ln).busy busied ep el)
       answers n ln into busied [] ep (x ∷ r) el on =
-          let up = (inv.nodes n ln).rising busied in
-          let same = ap cert.number into in
+          let up = asked_rises net cert acc n ((inv.nodes n ln).asked busied) in
+          let same = ap (number cert) into in
           on (net.out n) (ok.out_starts n ln).0 (omega arith) (Sends n ln refl x r el)
 
-      takes : (n : ℕ) → n < net.nodes → net.into n ≡ c → (x : NChar) (r : List NChar) → s.buffer c ≡ x ∷ r → (0 < s.owed n) ⊎ (s.owed n ≡ 0) → ((d : ℕ) → d < net.channels → top < cert.number d + m → Busy d → GoesOn net s) → GoesOn net s
-      takes n ln into x r e (inr ea) on = let slot = ok.slot n ln in record { step = Accept n; no_begin = λ b. b; possible = (_, record { in_net = ln; free = omega arith; first = x; rest = r; front = ap s.buffer into ∙ e; after = refl }) }
+      takes : (n : ℕ) → n < net.nodes → net.into n ≡ c → (x : NChar) (r : List NChar) → s.buffer c ≡ x ∷ r → (0 < s.owed n) ⊎ (s.owed n ≡ 0) → ((d : ℕ) → d < net.channels → top < number cert d + m → Busy d → GoesOn net s) → GoesOn net s
+      takes n ln into x r e (inr ea) on = let slot = ok.slot n ln in let k = cut_of (s.taken n) in record { step = Accept n; no_begin = refl; possible = (_, record { in_net = ln; owes_less = omega arith; first = x; rest = r; front = ap s.buffer into ∙ e; packets = k.0; bytes = k.1; cut = k.2; after = refl }) }
       takes n ln into x r e (inl ea) on = answers n ln into ea (s.pending n) refl (s.to_send n) refl on
 
-      by_end : (p : PlaceEnd) → net.end_of c ≡ p → (x : NChar) (r : List NChar) → s.buffer c ≡ x ∷ r → ((d : ℕ) → d < net.channels → top < cert.number d + m → Busy d → GoesOn net s) → GoesOn net s
+      by_end : (p : Cell) → net.end_of c ≡ p → (x : NChar) (r : List NChar) → s.buffer c ≡ x ∷ r → ((d : ℕ) → d < net.channels → top < number cert d + m → Busy d → GoesOn net s) → GoesOn net s
       by_end (AtNode n) at x r e on = let ends = ok.ends_at_node c n lt at in takes n ends.0 ends.1 x r e (owes_or n) on
       by_end (AtSwitch switch) at x r e on = by_input switch at x r e (s.input c) refl on
 
-      by_buffer : (l : List NChar) → s.buffer c ≡ l → ((d : ℕ) → d < net.channels → top < cert.number d + m → Busy d → GoesOn net s) → GoesOn net s
+      by_buffer : (l : List NChar) → s.buffer c ≡ l → ((d : ℕ) → d < net.channels → top < number cert d + m → Busy d → GoesOn net s) → GoesOn net s
       by_buffer [] e on = empty_goes c lt e busy
       by_buffer (x ∷ r) e on = by_end (net.end_of c) refl x r e on
 
@@ -226,10 +225,10 @@ module _ (net : Network) (cert : Certificate) (s : State) (g : Ghost) (ok : IsNe
 
   channel_goes : (c : ℕ) → c < net.channels → (b w : List NChar) → s.buffer c ≡ b → s.wire c ≡ w → 0 < length b + length w → GoesOn net s
   channel_goes c lt (x ∷ r) w eb ew some = goes_now c lt (Buffered x r eb)
-  channel_goes c lt [] (x ∷ r) eb ew some = record { step = Arrive c; no_begin = λ b. b; possible = (_, record { in_net = lt; first = x; rest = r; on_wire = ew; after = refl }) }
+  channel_goes c lt [] (x ∷ r) eb ew some = record { step = Arrive c; no_begin = refl; possible = (_, record { in_net = lt; first = x; rest = r; on_wire = ew; after = refl }) }
   channel_goes c lt [] [] eb ew some = absurd (omega arith)
 
-  node_goes : (n : ℕ) → n < net.nodes → (l : List NChar) → s.to_send n ≡ l → (p : List Answer) → s.pending n ≡ p → 0 < length l + length_pending p → GoesOn net s
+  node_goes : (n : ℕ) → n < net.nodes → (l : List NChar) → s.to_send n ≡ l → (p : List PendingReply) → s.pending n ≡ p → 0 < length l + length_pending p → GoesOn net s
   node_goes n lt (x ∷ r) el p ep some = goes_now (net.out n) (ok.out_starts n lt).0 (Sends n lt refl x r el)
   node_goes n lt [] el (r0 ∷ others) ep some = goes_now (net.out n) (ok.out_starts n lt).0 (Replies n lt refl r0 others ep)
   node_goes n lt [] el [] ep some = absurd (omega arith)

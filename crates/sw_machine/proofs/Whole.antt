@@ -1,77 +1,58 @@
 -- What came out at a node are left forms of packets that were begun.
-use Rattle.sw_char.specs.declared.nchar.End.{End}
-use Rattle.sw_char.specs.declared.nchar.End.TheVariants.{Eep as ByEep, Eop as ByEop}
+use Rattle.std.proofs.Common.{Bool, List, [], ap, append-nil, append_assoc, arith, count_by, drop, eq-eqb, false, filter, length, map, nat_eq, ne_eqb, refl, subst, suc, sym, true, zero, ℕ, ⊎_elim, ◌++◌, ◌+◌, ◌-◌, ◌<◌, ◌∙◌, ◌∷◌, ◌≡◌, ◌≤◌}
+use Rattle.std.proofs.lemmas.Bool.{cases_eq}
+use Rattle.std.specs.List.{AllByRecursion}
+use Rattle.std.specs.Prelude.{if◌then◌else◌, ◌&&◌}
 use Rattle.sw_char.specs.declared.nchar.NChar.{NChar}
 use Rattle.sw_char.specs.declared.nchar.NChar.TheVariants.{Data}
-use Rattle.std.proofs.Common.{◌≡◌, ℕ, zero, suc, ◌+◌, ◌-◌, ◌<◌, ◌≤◌, Bool, true, false, List, [], ◌∷◌, ◌++◌, length, map, drop, refl, sym, ap, subst, ◌∙◌, ⊎_elim, arith, append_assoc, append-nil, eq-eqb, ne_eqb}
-use Rattle.std.specs.List.{AllByRecursion}
-use Rattle.std.proofs.lemmas.Bool.{cases_eq}
-use Rattle.std.specs.Prelude.{if◌then◌else◌}
-use Rattle.sw_machine.specs.Network.{marker_of, PlaceEnd, AtNode, AtSwitch, Network, IsNetwork, left_bytes}
-use Rattle.sw_machine.specs.Machine.{State}
-use Rattle.sw_machine.specs.Packets.{Packet, chars_of, chars, Begun, left_form, sent_to, ComesOutWhole, AllComesOut}
-use Rattle.sw_machine.specs.Certificate.{Certificate, IsAccepted, NoFault}
-use Rattle.sw_machine.proofs.Ghost.{Entry, form_of, flat, IsEntry, Ghost, Holds, InputIs, Fed, Inv}
-use Rattle.sw_machine.proofs.Lists.{no_cons, whole_cons, cons_tail, bytes_of, form_is}
-use Rattle.std.proofs.Common.{count_by, filter, nat_eq}
-use Rattle.sw_machine.specs.Machine.{total, undelivered, length_pending}
-use Rattle.sw_machine.proofs.Balance.{total_same, total_zero, begun_of, among, count_cons}
+use Rattle.sw_machine.proofs.Balance.{among, begun_of, count_cons, total_same, total_zero}
+use Rattle.sw_machine.proofs.Cuts.{cuts, front_of, no_cons, no_packet_in, packet_is, same_front}
+use Rattle.sw_machine.proofs.Faults.{at_node}
+use Rattle.sw_machine.proofs.Ghost.{Entry, Fed, Ghost, Holds, InputIs, Inv, IsEntry, flat}
+use Rattle.sw_machine.proofs.Lists.{bytes_of, flat_chars, form_is, packet_of, whole_cons}
 use Rattle.sw_machine.proofs.Runs.{reached_of}
+use Rattle.sw_machine.specs.Begun.{AllComesOut, Begun, ComesOutWhole, left_form, sent_to}
+use Rattle.sw_machine.specs.Certificate.{Certificate, IsAccepted, number}
+use Rattle.sw_machine.specs.Network.{AtNode, AtSwitch, Cell, IsNetwork, Network, left_bytes}
+use Rattle.sw_machine.specs.Packets.{Packet, chars, chars_of}
+use Rattle.sw_machine.specs.Runs.{length_pending, total, undelivered}
+use Rattle.sw_machine.specs.State.{State}
 
 -- a part is at most the sum
 part_below : (n : ℕ) (f : ℕ → ℕ) (k : ℕ) → k < n → f k ≤ total n f
 part_below zero f k lt = absurd (omega arith)
 part_below (suc n) f k lt = ⊎_elim (λ e. let same = ap f e in omega arith) (λ ne. let r = part_below n f k (omega arith) in omega arith) (cases_eq k n)
 
--- the front packets of two lists of characters
-same_front : (a b : List ℕ) (m n : End) (k l : List NChar) → map Data a ++ marker_of m ∷ k ≡ map Data b ++ marker_of n ∷ l → (a ≡ b) × (m ≡ n) × (k ≡ l)
-same_front [] [] ByEop ByEop k l e = (refl, refl, cc)
-same_front [] [] ByEop ByEep k l e = absurd (cc)
-same_front [] [] ByEep ByEop k l e = absurd (cc)
-same_front [] [] ByEep ByEep k l e = (refl, refl, cc)
-same_front [] (y ∷ b) ByEop n k l e = absurd (cc)
-same_front [] (y ∷ b) ByEep n k l e = absurd (cc)
-same_front (x ∷ a) [] m ByEop k l e = absurd (cc)
-same_front (x ∷ a) [] m ByEep k l e = absurd (cc)
-same_front (x ∷ a) (y ∷ b) m n k l e =
-    let r = same_front a b m n k l (cons_tail (Data x) (Data y) (map Data a ++ marker_of m ∷ k) (map Data b ++ marker_of n ∷ l) e) in
-    let xy : x ≡ y = cc in
-    (ap (λ z. z ∷ a) xy ∙ ap (λ z. y ∷ z) r.0, r.1, r.2)
+-- counting what each element gives
+count_map : {A B : Type 0} (test : B → Bool) (f : A → B) (xs : List A) → count_by test (map f xs) ≡ count_by (λ x. test (f x)) xs
+count_map test f [] = refl
+count_map test f (x ∷ xs) =
+    let r = count_map test f xs in
+    let a = count_cons test (f x) (map f xs) in
+    let b = count_cons (λ x. test (f x)) x xs in
+    omega arith
 
-abbrev packet_of : Network → Entry → Packet
-packet_of net e = record { bytes = bytes_of net e; end = e.end }
-
-nothing_whole : (p : Packet) (l : List NChar) → chars_of p ++ l ≡ [] → ⊥
-nothing_whole p l e = first p.bytes e
-  where
-    first : (a : List ℕ) → (map Data a ++ marker_of p.end ∷ []) ++ l ≡ [] → ⊥
-    first [] e = no_cons (marker_of p.end) l e
-    first (x ∷ a) e = no_cons (Data x) ((map Data a ++ marker_of p.end ∷ []) ++ l) e
-
--- the whole packets of a front are among the packets of the list
-front_counts : (net : Network) (test : Packet → Bool) (ps : List Packet) (l : List NChar) (es : List Entry) → chars ps ++ l ≡ flat net es → count_by test ps ≤ count_by (λ e. test (packet_of net e)) es
-front_counts net test [] l es e = omega arith
-front_counts net test (p ∷ ps) l [] e = absurd (nothing_whole p (chars ps ++ l) (sym (append_assoc (chars_of p) (chars ps) l) ∙ e))
-front_counts net test (p ∷ ps) l (x ∷ es) e =
-    let left : map Data p.bytes ++ marker_of p.end ∷ (chars ps ++ l) ≡ (chars_of p ++ chars ps) ++ l = sym (append_assoc (chars_of p) (chars ps) l ∙ append_assoc (map Data p.bytes) (marker_of p.end ∷ []) (chars ps ++ l)) in
-    let right : form_of net x ++ flat net es ≡ map Data (bytes_of net x) ++ marker_of x.end ∷ flat net es = ap (λ k. k ++ flat net es) (form_is net x) ∙ append_assoc (map Data (bytes_of net x)) (marker_of x.end ∷ []) (flat net es) in
-    let r = same_front p.bytes (bytes_of net x) p.end x.end (chars ps ++ l) (flat net es) (left ∙ e ∙ right) in
-    let h = front_counts net test ps l es r.2 in
-    let same : p ≡ packet_of net x = ap (λ b. record { bytes = b; end = p.end }) r.0 ∙ ap (λ m. record { bytes = bytes_of net x; end = m }) r.1 in
-    let one : count_by test (p ∷ []) ≡ count_by (λ e. test (packet_of net e)) (x ∷ []) = ap (λ q. count_by test (q ∷ [])) same in
+-- the whole packets of a front are the first packets of the list
+front_counts : (test : Packet → Bool) (ps qs : List Packet) (l : List NChar) → chars ps ++ l ≡ chars qs → count_by test ps ≤ count_by test qs
+front_counts test [] qs l e = omega arith
+front_counts test (p ∷ ps) [] l e = absurd (no_packet_in p (chars ps ++ l) (sym (append_assoc (chars_of p) (chars ps) l) ∙ e))
+front_counts test (p ∷ ps) (q ∷ qs) l e =
+    let f = same_front p.bytes q.bytes p.end q.end (chars ps ++ l) (chars qs ++ []) (sym (front_of p ps l) ∙ e ∙ sym (append-nil (chars (q ∷ qs))) ∙ front_of q qs []) in
+    let r = front_counts test ps qs l (f.2 ∙ append-nil (chars qs)) in
+    let one : count_by test (p ∷ []) ≡ count_by test (q ∷ []) = ap (λ q. count_by test (q ∷ [])) (packet_is p q f.0 f.1) in
     let a = count_cons test p ps in
-    let b = count_cons (λ e. test (packet_of net e)) x es in
+    let b = count_cons test q qs in
     omega arith
 
 -- whether a packet goes to n with a left form that passes
-abbrev goes_to : Network → ℕ → (Packet → Bool) → Begun → Bool
-goes_to net n test b = if nat_eq (net.flow b.flow).to n then test (left_form net b) else false
+abbrev pub goes_to : Network → ℕ → (Packet → Bool) → Begun → Bool
+goes_to net n test b = nat_eq (net.flow b.flow).to n && test (left_form net b)
 
-sent_if : (net : Network) (n : ℕ) (test : Packet → Bool) (b : Begun) (begun : List Begun) (t : Bool) → count_by test (map (left_form net) (if t then b ∷ begun else begun)) ≡ (if (if t then test (left_form net b) else false) then 1 else 0) + count_by test (map (left_form net) begun)
+sent_if : (net : Network) (n : ℕ) (test : Packet → Bool) (b : Begun) (begun : List Begun) (t : Bool) → count_by test (map (left_form net) (if t then b ∷ begun else begun)) ≡ (if (t && test (left_form net b)) then 1 else 0) + count_by test (map (left_form net) begun)
 sent_if net n test b begun true = let c = count_cons test (left_form net b) (map (left_form net) begun) in omega arith
 sent_if net n test b begun false = omega arith
 
-count_sent : (net : Network) (n : ℕ) (test : Packet → Bool) (begun : List Begun) → count_by test (sent_to net n begun) ≡ count_by (goes_to net n test) begun
+pub count_sent : (net : Network) (n : ℕ) (test : Packet → Bool) (begun : List Begun) → count_by test (sent_to net n begun) ≡ count_by (goes_to net n test) begun
 count_sent net n test [] = refl
 count_sent net n test (b ∷ begun) =
     let h = count_sent net n test begun in
@@ -79,33 +60,11 @@ count_sent net n test (b ∷ begun) =
     let c = count_cons (goes_to net n test) b begun in
     omega arith
 
--- a list of bytes has no packet
-no_packet : (net : Network) (rest : List ℕ) (x : Entry) (l : List NChar) → map Data rest ≡ form_of net x ++ l → ⊥
-no_packet net rest x l e = none rest (bytes_of net x) x.end (e ∙ ap (λ k. k ++ l) (form_is net x) ∙ append_assoc (map Data (bytes_of net x)) (marker_of x.end ∷ []) l)
-  where
-    none : (a b : List ℕ) (m : End) → map Data a ≡ map Data b ++ marker_of m ∷ l → ⊥
-    none [] [] m e = no_cons (marker_of m) l (sym e)
-    none [] (y ∷ b) m e = no_cons (Data y) (map Data b ++ marker_of m ∷ l) (sym e)
-    none (x ∷ a) [] ByEop e = cc
-    none (x ∷ a) [] ByEep e = cc
-    none (x ∷ a) (y ∷ b) m e = none a b m (cons_tail (Data x) (Data y) (map Data a) (map Data b ++ marker_of m ∷ l) e)
-
 -- the whole packets of a list of packets are these
-whole_counts : (net : Network) (test : Packet → Bool) (ps : List Packet) (rest : List ℕ) (es : List Entry) → chars ps ++ map Data rest ≡ flat net es → count_by test ps ≡ count_by (λ e. test (packet_of net e)) es
-whole_counts net test [] rest [] e = refl
-whole_counts net test [] rest (x ∷ es) e = absurd (no_packet net rest x (flat net es) e)
-whole_counts net test (p ∷ ps) rest [] e = absurd (nothing_whole p (chars ps ++ map Data rest) (sym (append_assoc (chars_of p) (chars ps) (map Data rest)) ∙ e))
-whole_counts net test (p ∷ ps) rest (x ∷ es) e =
-    let l = map Data rest in
-    let left : map Data p.bytes ++ marker_of p.end ∷ (chars ps ++ l) ≡ (chars_of p ++ chars ps) ++ l = sym (append_assoc (chars_of p) (chars ps) l ∙ append_assoc (map Data p.bytes) (marker_of p.end ∷ []) (chars ps ++ l)) in
-    let right : form_of net x ++ flat net es ≡ map Data (bytes_of net x) ++ marker_of x.end ∷ flat net es = ap (λ k. k ++ flat net es) (form_is net x) ∙ append_assoc (map Data (bytes_of net x)) (marker_of x.end ∷ []) (flat net es) in
-    let r = same_front p.bytes (bytes_of net x) p.end x.end (chars ps ++ l) (flat net es) (left ∙ e ∙ right) in
-    let h = whole_counts net test ps rest es r.2 in
-    let same : p ≡ packet_of net x = ap (λ b. record { bytes = b; end = p.end }) r.0 ∙ ap (λ m. record { bytes = bytes_of net x; end = m }) r.1 in
-    let one : count_by test (p ∷ []) ≡ count_by (λ e. test (packet_of net e)) (x ∷ []) = ap (λ q. count_by test (q ∷ [])) same in
-    let a = count_cons test p ps in
-    let b = count_cons (λ e. test (packet_of net e)) x es in
-    omega arith
+whole_counts : (net : Network) (test : Packet → Bool) (ps : List Packet) (bytes : List ℕ) (es : List Entry) → chars ps ++ map Data bytes ≡ flat net es → count_by test ps ≡ count_by (λ e. test (packet_of net e)) es
+whole_counts net test ps bytes es e =
+    let same = cuts ps (map (packet_of net) es) bytes [] (e ∙ flat_chars net es ∙ sym (append-nil (chars (map (packet_of net) es)))) in
+    ap (count_by test) same.0 ∙ count_map test (packet_of net) es
 
 -- a sum with one part
 only_part : (n : ℕ) (f : ℕ → ℕ) (k : ℕ) → k < n → ((j : ℕ) → j < n → (j ≡ k → ⊥) → f j ≡ 0) → total n f ≡ f k
@@ -119,7 +78,7 @@ only_part (suc n) f k lt h = ⊎_elim
     (λ ne. let r = only_part n f k (omega arith) (λ j lj nj. h j (omega arith) nj) in let z = h n (omega arith) (λ e. ne (sym e)) in omega arith)
     (cases_eq k n)
 
-zero_part : (n : ℕ) (f : ℕ → ℕ) (k : ℕ) → k < n → total n f ≡ 0 → f k ≡ 0
+pub zero_part : (n : ℕ) (f : ℕ → ℕ) (k : ℕ) → k < n → total n f ≡ 0 → f k ≡ 0
 zero_part n f k lt z = let p = part_below n f k lt in omega arith
 
 no_length : {A : Type 0} (l : List A) → length l ≡ 0 → l ≡ []
@@ -132,14 +91,14 @@ no_front (x ∷ a) b e = absurd (no_cons x (a ++ b) e)
 
 no_flat : (net : Network) (es : List Entry) → flat net es ≡ [] → es ≡ []
 no_flat net [] e = refl
-no_flat net (x ∷ es) e = absurd (no_packet net [] x (flat net es) (sym e))
+no_flat net (x ∷ es) e = absurd (no_packet_in (packet_of net x) (flat net es) (ap (λ l. l ++ flat net es) (sym (form_is net x)) ∙ e))
 
 module _ (net : Network) (cert : Certificate) (ok : IsNetwork net) (acc : IsAccepted net cert) where
   -- what came to n went to n, with its left form
   is_left : (n : ℕ) (e : Entry) → n < net.nodes → IsEntry net cert (net.into n) e → ((net.flow e.flow).to ≡ n) × (packet_of net e ≡ left_form net (begun_of e))
   is_left n e ln valid =
       let i = e.flow in
-      let place = subst (NoFault net i e.deleted) (ok.into_ends n ln).1 (acc.faultless i (net.into n) e.deleted valid.carried.in_flows valid.listed) in
+      let place = at_node net cert acc i (net.into n) e.deleted n valid.carried.in_flows valid.listed (ok.into_ends n ln).1 in
       let k : e.deleted ≡ length (net.flow i).address - (net.flow i).left = (let p = place.1 in omega arith) in
       let left : bytes_of net e ≡ left_bytes net i e.cargo = ap (λ k. drop k (net.flow i).address ++ e.cargo) k in
       (sym place.0, ap (λ b. record { bytes = b; end = e.end }) left)
@@ -156,12 +115,15 @@ module _ (net : Network) (cert : Certificate) (ok : IsNetwork net) (acc : IsAcce
       omega arith
 
   pub comes_out_whole : ComesOutWhole net
-  comes_out_whole steps begun s r n ln ps rest cut test =
+  comes_out_whole steps begun s r n ln ps out test =
+      let rest = out.0 in
+      let cut = out.1 in
       let k = reached_of net cert ok acc steps s begun r in
       let g = k.0 in
       let node = k.1.nodes n ln in
       let content : chars ps ++ (map Data rest ++ g.rest (net.into n)) ≡ flat net (g.came n) = sym (append_assoc (chars ps) (map Data rest) (g.rest (net.into n))) ∙ ap (λ l. l ++ g.rest (net.into n)) (sym cut) ∙ node.content in
-      let a = front_counts net test ps (map Data rest ++ g.rest (net.into n)) (g.came n) content in
+      let a = front_counts test ps (map (packet_of net) (g.came n)) (map Data rest ++ g.rest (net.into n)) (content ∙ flat_chars net (g.came n)) in
+      let m = count_map test (packet_of net) (g.came n) in
       let b = came_counts n test (g.came n) ln node.all_came in
       let c = part_below net.nodes (λ m. among (goes_to net n test) (g.came m)) n ln in
       let d = k.2 (goes_to net n test) in
@@ -191,11 +153,11 @@ module _ (net : Network) (cert : Certificate) (ok : IsNetwork net) (acc : IsAcce
         no_length (s.to_send n) (omega arith)
 
     -- nothing comes to any channel
-    nothing_comes : (n c : ℕ) → c < net.channels → cert.number c < n → g.coming c ≡ []
+    nothing_comes : (n c : ℕ) → c < net.channels → number cert c < n → g.coming c ≡ []
     nothing_comes zero c lt ln = absurd (omega arith)
     nothing_comes (suc n) c lt ln = by_start (net.start_of c) refl (inv.fed c lt) (nothing_comes n)
       where
-        by_start : (p : PlaceEnd) → net.start_of c ≡ p → Fed net s.to_send s.input g.coming c p → ((b : ℕ) → b < net.channels → cert.number b < n → g.coming b ≡ []) → g.coming c ≡ []
+        by_start : (p : Cell) → net.start_of c ≡ p → Fed net s.to_send s.input g.coming c p → ((b : ℕ) → b < net.channels → number cert b < n → g.coming b ≡ []) → g.coming c ≡ []
         by_start (AtNode m) at f below = f ∙ nothing_to_send m (ok.starts_at_node c m lt at).0
         by_start (AtSwitch w) at f below = ⊎_elim (λ e. e) (λ h.
             let b = h.0 in
@@ -215,14 +177,16 @@ module _ (net : Network) (cert : Certificate) (ok : IsNetwork net) (acc : IsAcce
         let e = empty_channel c lt in
         let e0 = e.0 in
         let e1 = e.1 in
-        let comes = nothing_comes (suc (cert.number c)) c lt (omega arith) in
+        let comes = nothing_comes (suc (number cert c)) c lt (omega arith) in
         let content = (inv.streams c lt).content in
         let all : g.rest c ++ flat net (g.queue c) ≡ [] = cc in
         let front = no_front (g.rest c) (flat net (g.queue c)) all in
         (front, no_flat net (g.queue c) (ap (λ l. l ++ flat net (g.queue c)) (sym front) ∙ all))
 
   pub all_comes_out : AllComesOut net
-  all_comes_out steps begun s r none n ln ps rest cut test =
+  all_comes_out steps begun s r none n ln ps out test =
+      let rest = out.0 in
+      let cut = out.1 in
       let k = reached_of net cert ok acc steps s begun r in
       let g = k.0 in
       let inv = k.1 in

@@ -1,5 +1,0 @@
-use Rattle.sw_machine.proofs.Free.{is_free}
-use Rattle.sw_machine.proofs.laws.accepted_is_free.Goals as goal
-
-pub returns : goal.returns
-returns c = λ net cert ok acc. is_free net cert ok acc
