@@ -6,6 +6,7 @@ use Rattle.std.specs.Prelude.{if◌then◌else◌}
 use Rattle.sw_machine.proofs.Answered.{replies_at_most, replies_exactly}
 use Rattle.sw_machine.proofs.Balance.{count_cons}
 use Rattle.sw_machine.proofs.Bound.{cost, is_bounded, moves_cons}
+use Rattle.sw_machine.proofs.Owed.{owes}
 use Rattle.sw_machine.proofs.Runs.{always_goes_on, empty_inv, none, reached_inv, run_begins}
 use Rattle.sw_machine.proofs.Whole.{all_comes_out, comes_out_whole}
 use Rattle.sw_machine.specs.Begun.{Begun, RunOf, moves}
