@@ -13,6 +13,7 @@ use Rattle.sw_machine.specs.Owed.{IsSendingReply, Owes, Settles, begins_at, last
 use Rattle.sw_machine.specs.Runs.{Run}
 use Rattle.sw_machine.specs.State.{State, after_begin, empty, owed_after, owed_with, pending_with, reply_at, reply_packet}
 use Rattle.sw_machine.specs.Steps.{Accept, Arrive, Begin, Drop, Drops, Emit, Fct, FctIn, Forward, Grant, Leads, Reply, Spill, Step}
+
 module _ (net : Network) (n : ℕ) where
   -- the last beginning at n, a step later
   abbrev next : Option Step → Step → Option Step

@@ -5,6 +5,12 @@ ghost use Rattle.sw_machine.specs.Credit.{CreditIsKept};
 ghost use Rattle.sw_machine.specs.Headline.{AcceptedIsDeadlockFree};
 ghost use Rattle.sw_machine.specs.Owed.{EmitSettles, NodesOweReplies};
 ghost use Rattle.sw_machine.specs.Packets.{CutsAreEqual, EachListIsCut};
+ghost use Rattle.sw_machine.specs.Parts.{
+  LinkEndsAreAtCells,
+  OutputsAreHeldOnce,
+  StepsAreLocal,
+  StepsChangeOneCell,
+};
 ghost use Rattle.sw_machine.specs.Places.{RisingHasNoCycle};
 ghost use Rattle.sw_machine.specs.Steps.{StepsAreDetermined};
 
@@ -30,6 +36,19 @@ pub fn credit_is_kept()
 pub fn nodes_owe_replies()
     ensures owed { NodesOweReplies }
     ensures settled { EmitSettles }
+{}
+
+/// In each reached state of each network an output is held by one input at most, of its own switch.
+pub fn outputs_are_held_once()
+    ensures { OutputsAreHeldOnce }
+{}
+
+/// A step changes the part of one cell, and what lies between the cells; whether it is possible
+/// hangs on these alone. It belongs to a link end of that cell.
+pub fn steps_are_done_at_cells()
+    ensures link_end { LinkEndsAreAtCells }
+    ensures changes { StepsChangeOneCell }
+    ensures local { StepsAreLocal }
 {}
 
 /// Where numbers rise along the dependencies, these have no cycle.
