@@ -1,9 +1,16 @@
 -- The ports of a set, as a walk gives them.
-use Rattle.std.proofs.Common.{◌≡◌, ◌≢◌, ℕ, zero, suc, ◌+◌, ◌-◌, ◌^◌, ◌<◌, ◌≤◌, ◌↔◌, Bool, true, false, cond, List, [], ◌∷◌, refl, sym, ap, ◌∙◌, inl, inr, arith, filter, get_or, zero-add, All}
-use Rattle.std.specs.Prelude.{IsBitSet, bit_and, Contains}
+use Rattle.std.proofs.Common.{◌≡◌, ◌≢◌, ℕ, zero, suc, ◌+◌, ◌-◌, ◌/◌, ◌%◌, ◌^◌, ◌<◌, ◌≤◌, ◌↔◌, Bool, true, false, cond, length, List, [], ◌∷◌, refl, sym, ap, ◌∙◌, inl, inr, arith, filter, get_or, zero-add, All}
+use Rattle.std.specs.Prelude.{IsBitSet, bit_and, Contains, count_by}
+use Rattle.std.specs.Int.{bit_at}
+use Rattle.std.specs.Int.Count.{ones, ones_step}
+use Rattle.std.proofs.lemmas.Nat.{ones-le}
+use Rattle.std.proofs.Math.Nat.{pow-suc}
+use Rattle.std.proofs.lemmas.Nat.Bits.{bit_at-suc, bit_at_lowest, bit_at-lt}
+use Rattle.std.proofs.lemmas.List.Sums.{sum_by-cons, length-filter, count_by-le-length}
+use Rattle.sw_topo.proofs.PortBits.{one_set, set_one}
 use Rattle.std.specs.List.{range_with_len}
 use Rattle.std.specs.List.Sorted.{IsStrictlyIncreasing}
-use Rattle.std.proofs.lemmas.List.Elements.{Contains-append_left, Contains-append_right, Contains-append_cases, Contains-push, Contains-push_cases, Contains-get_or, All-contains, All-filter, filter_passes}
+use Rattle.std.proofs.lemmas.List.Elements.{Contains-append_left, Contains-append_right, Contains-append_cases, Contains-push, Contains-push_cases, Contains-get_or, All-contains, All-filter, filter_passes, filter_agree}
 use Rattle.std.proofs.lemmas.List.FromFn.{length-range_with_len, get_or-range_with_len}
 use Rattle.std.proofs.lemmas.List.Kept.{IsStrictlyIncreasing-filter}
 use Rattle.std.proofs.lemmas.Bool.{cases_Bool, cases_eq, cases_lt, ne_eqb, eq-eqb, false≢true}
@@ -106,3 +113,50 @@ listed n s =
 pub ports_listed : PortsAreListed
 unfolding ports_of
 ports_listed = listed 32
+
+-- ---- how many there are
+
+shifted : (p : ℕ → Bool) (a k : ℕ) → count_by p (range_with_len (a + 1) k) ≡ count_by (λ i. p (i + 1)) (range_with_len a k)
+shifted p a zero = refl
+shifted p a (suc k) = sum_by-cons (λ i. cond (p i) 1 0) (a + 1) (range_with_len (a + 1 + 1) k) ∙ ap (λ n. cond (p (a + 1)) 1 0 + n) (shifted p (a + 1) k) ∙ sym (sum_by-cons (λ i. cond (p (i + 1)) 1 0) a (range_with_len (a + 1) k))
+
+alike_counted : (p q : ℕ → Bool) (xs : List ℕ) → ((i : ℕ) → p i ≡ q i) → count_by p xs ≡ count_by q xs
+alike_counted p q xs same = sym (length-filter p xs) ∙ ap length (filter_agree p q same xs) ∙ length-filter q xs
+
+half_has : (s i : ℕ) → has_port s (i + 1) ≡ has_port (s / 2) i
+half_has s i =
+    let e : i + 1 ≡ suc i = omega arith in
+    let bits : bit_at s (i + 1) ≡ bit_at (s / 2) i = ap (bit_at s) e ∙ bit_at-suc s i in
+    elim (cases_eq (bit_at (s / 2) i) 1) [
+      | inl one ↦ has_set s (i + 1) (one_set s (i + 1) (bits ∙ one)) ∙ sym (has_set (s / 2) i (one_set (s / 2) i one))
+      | inr other ↦ has_not s (i + 1) (λ set. other (sym bits ∙ set_one s (i + 1) set)) ∙ sym (has_not (s / 2) i (λ set. other (set_one (s / 2) i set)))
+    ]
+
+lowest_has : (s : ℕ) → cond (has_port s 0) 1 0 ≡ s % 2
+lowest_has s =
+    elim (cases_eq (bit_at s 0) 1) [
+      | inl one ↦ rw (has_set s 0 (one_set s 0 one)) (sym one ∙ bit_at_lowest s)
+      | inr other ↦ rw (has_not s 0 (λ set. other (set_one s 0 set))) (omega (arith, bit_at_lowest s, bit_at-lt s 0, other))
+    ]
+
+counted_ones : (k s : ℕ) → s < 2 ^ k → count_by (has_port s) (range_with_len 0 k) ≡ ones s
+counted_ones zero s small = omega (arith, ones-le 0 s small)
+counted_ones (suc k) s small =
+    let rest : count_by (has_port s) (range_with_len 1 k) ≡ ones (s / 2) =
+    shifted (has_port s) 0 k ∙ alike_counted (λ i. has_port s (i + 1)) (has_port (s / 2)) (range_with_len 0 k) (half_has s) ∙ counted_ones k (s / 2) (omega (arith, pow-suc 2 k)) in
+    sum_by-cons (λ i. cond (has_port s i) 1 0) 0 (range_with_len 1 k) ∙ omega (arith, rest, lowest_has s, ones_step s)
+
+count_listed : (n s : ℕ) → s < 2 ^ n → length (filter (has_port s) (range_with_len 0 n)) ≡ ones s
+count_listed n s small = length-filter (has_port s) (range_with_len 0 n) ∙ counted_ones n s small
+
+-- a set has as many ports as its number has ones
+pub ports_counted : (s : ℕ) → s < 2 ^ 32 → length (ports_of s) ≡ ones s
+unfolding ports_of
+ports_counted = count_listed 32
+
+few_listed : (n s : ℕ) → length (filter (has_port s) (range_with_len 0 n)) ≤ n
+few_listed n s = omega (arith, length-filter (has_port s) (range_with_len 0 n), count_by-le-length (has_port s) (range_with_len 0 n), length-range_with_len 0 n)
+
+pub ports_few : (s : ℕ) → length (ports_of s) ≤ 32
+unfolding ports_of
+ports_few = few_listed 32

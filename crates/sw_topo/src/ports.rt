@@ -20,11 +20,13 @@ impl Model for Ports {
 }
 
 impl PortSet {
-    ghost use Rattle.std.specs.Prelude.{◌≡◌};
+    ghost use Rattle.std.specs.Prelude.{◌≡◌, ◌≤◌, length};
+    ghost use Rattle.sw_topo.specs.Ports.{ports_of};
 
     /// Its ports, in rising order.
     pub fn ports(self) -> Ports
-        ensures { result ≡ self }
+        ensures all { result ≡ self }
+        ensures few { length (ports_of self) ≤ 32 }
     {
         Ports { rest: self }
     }

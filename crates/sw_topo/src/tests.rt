@@ -29,6 +29,12 @@ fn channels_of_a_star(rt: HostRuntime) -> Result<(), Fail> {
         linked,
         PortSet::single(Port::new(1).unwrap()).with(Port::new(2).unwrap())
     );
+    let mut walked = PortSet::EMPTY;
+    for port in linked.ports() {
+        walked = walked.with(port);
+    }
+    assert_eq!(rt; walked, linked);
+    assert_eq!(rt; linked.ports().count(), 2);
     assert_eq!(rt; linked.next_from(2), Port::new(2));
     assert_eq!(rt; linked.next_from(3), None);
     Ok(())
