@@ -6,6 +6,7 @@ mod fault;
 mod laws;
 mod place;
 mod routes;
+mod spread;
 mod steps;
 
 pub use check::{fault_at, first_fault};
@@ -13,3 +14,4 @@ pub use fault::RouteFault;
 pub use laws::faults_in_words;
 pub use place::Place;
 pub use routes::places;
+pub use spread::all_places;
