@@ -1,2 +1,11 @@
-//! The cell of a wormhole routing switch.
+//! The cell of a wormhole routing switch: its steps, and when each is possible.
 #![tactic(auto)]
+
+mod cell;
+mod conditions;
+mod input;
+mod make;
+mod steps;
+
+pub use cell::SwitchCell;
+pub use input::Input;
