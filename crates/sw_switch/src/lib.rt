@@ -6,6 +6,8 @@ mod conditions;
 mod input;
 mod make;
 mod steps;
+#[cfg(test)]
+mod tests;
 
 pub use cell::SwitchCell;
 pub use input::Input;

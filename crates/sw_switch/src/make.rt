@@ -47,7 +47,7 @@ impl<R: Routing + Drop, A: Arbiter + Drop> SwitchCell<R, A> {
         requires ports { length capacities.now ≡ 32 }
         requires capacities { All IsCapacity capacities.now }
         requires arbiters { vec_len arbiters ≡ 32 }
-        requires arbiter_ports { (port : ℕ) (arbiter : A) → slice_get arbiters.items port ≡ Some arbiter → A.ports arbiter ≡ linked }
+        requires arbiter_ports { All (λ arbiter. A.ports arbiter ≡ linked) arbiters.items }
         ensures { IfOk result (λ cell. cell ≡ new_cell routes linked capacities.now arbiters.items) }
     {
         Ok(SwitchCell {
