@@ -54,9 +54,9 @@ impl<R: Routing, A: Arbiter> SwitchCell<R, A> {
         if asking.is_empty() {
             return None;
         }
-        let input = self.pick(out, asking);
-        self.hold(out, input);
-        Some(input)
+        let picked = self.pick(out, asking);
+        self.hold(out, picked);
+        Some(picked)
     }
 
     /// The front of the input leaves, and an end marker makes the input idle.
@@ -109,7 +109,7 @@ impl<R: Routing, A: Arbiter> SwitchCell<R, A> {
         requires { CanSpill self.old input }
         ensures { self.new ≡ passed self.old input }
     {
-        self.pass_front(input);
+        let _ = self.pass_front(input);
     }
 
     /// An FCT leaves for the channel that ends at the port. `can_issue` has to hold.
