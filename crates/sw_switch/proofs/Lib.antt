@@ -1,1 +1,2 @@
 pub mod Asking
+mod Stays

@@ -1,5 +1,5 @@
 -- The cell of a wormhole routing switch.
-use Rattle.std.specs.Prelude.{All, ◌≡◌, ◌≤◌, ℕ, List, [], length, Option, Some, slice_get, slice_index, replicate, map}
+use Rattle.std.specs.Prelude.{All, ◌≡◌, ◌≤◌, ℕ, List, [], length, Option, slice_get, slice_index, replicate, map}
 use Rattle.std.specs.List.{slice_index_or}
 use Rattle.sw_char.specs.declared.nchar.NChar.{NChar}
 use Rattle.sw_link.specs.Ends.{Received}

@@ -4,6 +4,7 @@
 mod cell;
 mod conditions;
 mod input;
+mod laws;
 mod make;
 mod steps;
 #[cfg(test)]
@@ -11,3 +12,4 @@ mod tests;
 
 pub use cell::SwitchCell;
 pub use input::Input;
+pub use laws::waiting_is_bounded;
