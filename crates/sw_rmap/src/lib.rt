@@ -6,6 +6,7 @@ mod checksum;
 mod command;
 mod config;
 mod instruction;
+pub mod laws;
 mod reply;
 mod status;
 mod target;
