@@ -1,21 +1,20 @@
 -- What follows from the definitions of replies and answers.
-use Rattle.std.proofs.Common.{◌≡◌, ◌≢◌, ℕ, ◌+◌, ◌-◌, ◌≤◌, ◌%◌, ◌/◌, Bool, true, false, not, ◌&&◌, ◌||◌, ltb, eqb, cond, List, [], ◌∷◌, ◌++◌, length, take, drop, Option, Some, None, refl, sym, ap, subst, ◌∙◌, append_assoc, arith, length-append, length-take, length-drop, inl, inr}
+use Rattle.std.proofs.Common.{◌≡◌, ℕ, ◌+◌, ◌-◌, ◌≤◌, Bool, true, false, not, ◌&&◌, ◌||◌, ltb, cond, List, [], ◌∷◌, ◌++◌, length, take, drop, Option, Some, None, refl, sym, ap, ◌∙◌, append_assoc, arith, length-append, length-take, length-drop, inl, inr}
 use Rattle.std.specs.Prelude.{is_some, option_and_then}
 use Rattle.std.specs.List.{AllByRecursion}
-use Rattle.std.proofs.lemmas.Bool.{cases_Bool, both_ways, and_parts, and_right, and_left, eq-eqb, ltb-false, or_parts, cond-true, cond-false, not_from_true}
-use Rattle.std.proofs.lemmas.List.{append_cancel_left, same_from_push}
+use Rattle.std.proofs.lemmas.Bool.{cases_Bool, both_ways, and_from, not_from_false, and_parts, and_right, and_left, eq-eqb, ltb-false, or_parts, cond-true, cond-false, not_from_true}
+use Rattle.std.proofs.lemmas.List.{append_cancel_left, same_from_push, drop_at, take_at}
 use Rattle.std.proofs.lemmas.Option.{cond_some}
 use Rattle.sw_char.specs.declared.nchar.End.{End}
 use Rattle.sw_rmap.specs.declared.config.TargetConfig.{TargetConfig}
 use Rattle.sw_rmap.specs.declared.status.Status.{Status}
 use Rattle.sw_rmap.specs.declared.status.Status.TheVariants.{Success, UnusedCode, InvalidKey, InvalidDataCrc, EarlyEop, TooMuchData, Eep, NotAuthorised, InvalidTarget}
-use Rattle.sw_rmap.specs.Crc.{crc_of, with_crc}
 use Rattle.sw_rmap.specs.Instruction.{packet_type, is_write, increments, is_read_modify_write, of_reply}
 use Rattle.sw_rmap.specs.CommandView.{CommandView}
 use Rattle.sw_rmap.specs.Commands.{instruction_of, is_command, fields_of, read, body_of}
 use Rattle.sw_rmap.specs.Replies.{is_answered, path_of, way_back, reply_to, left_form, reply_of}
-use Rattle.sw_rmap.specs.Answers.{cases_of, first_of, status_of, is_success, is_refused, is_error_end, is_corrupt, body_len, found_by, stored, memory_after, answer_to, answer_where, answer, IsInWindow}
-use Rattle.sw_rmap.specs.Laws.{AnswersByTheWayBack, RepliesGetNoReply, OnlySuccessStores, MemoryKeepsItsLength}
+use Rattle.sw_rmap.specs.Answers.{cases_of, first_of, status_of, is_success, body_len, found_by, stored, memory_after, answer_to, answer_where, answer}
+use Rattle.sw_rmap.specs.Laws.{AnswersByTheWayBack, RepliesGetNoReply, OnlySuccessStores, MemoryKeepsItsLength, WriteThenRead}
 
 pub answer-read : (t : TargetConfig) (memory bytes : List ℕ) (end : End) (c : CommandView) → read bytes ≡ Some c → answer t memory bytes end ≡ answer_to t memory c (body_of bytes) end
 unfolding answer
@@ -181,3 +180,51 @@ length-answered t memory bytes end (Some c) h = length-after t c (body_of bytes)
 pub memory_keeps_its_length : MemoryKeepsItsLength
 unfolding answer
 memory_keeps_its_length t memory bytes end = length-answered t memory bytes end (read bytes)
+
+-- ---- a write and then a read
+
+found-stored : (memory bytes : List ℕ) (at n : ℕ) → at ≤ length memory → length bytes ≡ n → take n (drop at (stored memory at bytes)) ≡ bytes
+found-stored memory bytes at n within len =
+    let others = drop (at + length bytes) memory in
+    ap (λ (x : List ℕ). take n (drop at x)) (append_assoc (take at memory) bytes others)
+    ∙ ap (take n) (drop_at (take at memory) (bytes ++ others) at (omega (arith, length-take at memory)))
+    ∙ take_at bytes others n len
+
+-- a write that succeeds
+after-write : (t : TargetConfig) (memory body : List ℕ) (end : End) (w : CommandView) → is_write w.instruction ≡ true → status_of t w body end ≡ Success
+    → (answer_to t memory w body end).1 ≡ stored memory (w.address - t.start) (take w.data_length body)
+unfolding answer_to
+after-write t memory body end w writes done =
+    cond-true (is_success (status_of t w body end) && is_write w.instruction) _ memory (and_from _ _ (ap is_success done) writes)
+
+-- a read that succeeds
+reply-read : (t : TargetConfig) (memory body : List ℕ) (end : End) (r : CommandView) → is_write r.instruction ≡ false → status_of t r body end ≡ Success → is_answered r ≡ true
+    → (answer_to t memory r body end).0 ≡ Some (reply_of r Success (take r.data_length (drop (r.address - t.start) memory)))
+unfolding answer_to
+reply-read t memory body end r reads done answered =
+    let status = status_of t r body end in
+    let found : found_by t r status memory ≡ take r.data_length (drop (r.address - t.start) memory) =
+    cond-true (is_success status && not (is_write r.instruction)) _ [] (and_from _ _ (ap is_success done) (not_from_false _ reads))
+    in
+    cond-true (is_answered r) (Some (reply_of r status (found_by t r status memory))) None answered
+    ∙ ap (λ (s : Status). Some (reply_of r s (found_by t r status memory))) done
+    ∙ ap (λ (x : List ℕ). Some (reply_of r Success x)) found
+
+pub write_then_read : WriteThenRead
+write_then_read t memory first second first_end second_end w r len w_read writes w_done r_read reads r_done same_address same_length answered =
+    let right_write = right t w (body_of first) first_end (ap is_success w_done) in
+    let low = right_write.low in
+    let high = right_write.high in
+    let body : length (body_of first) ≡ w.data_length + 1 = right_write.whole ∙ cond-true (is_write w.instruction) _ _ writes in
+    let kept = take w.data_length (body_of first) in
+    let data_len : length kept ≡ w.data_length = omega (arith, length-take w.data_length (body_of first)) in
+    let at = w.address - t.start in
+    let within : at ≤ length memory = omega arith in
+    let after : (answer t memory first first_end).1 ≡ stored memory at kept =
+    ap (λ (x : Option (List ℕ) × List ℕ). x.1) (answer-read t memory first first_end w w_read) ∙ after-write t memory (body_of first) first_end w writes w_done
+    in
+    let place : take r.data_length (drop (r.address - t.start) (stored memory at kept)) ≡ kept = rw (same_address, same_length) (found-stored memory kept at w.data_length within data_len) in
+    ap (λ (x : List ℕ). (answer t x second second_end).0) after
+    ∙ ap (λ (x : Option (List ℕ) × List ℕ). x.0) (answer-read t (stored memory at kept) second second_end r r_read)
+    ∙ reply-read t (stored memory at kept) (body_of second) second_end r reads r_done answered
+    ∙ ap (λ (x : List ℕ). Some (reply_of r Success x)) place

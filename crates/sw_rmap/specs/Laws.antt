@@ -1,5 +1,5 @@
 -- What holds of commands, replies and targets.
-use Rattle.std.specs.Prelude.{◌≡◌, ◌≢◌, ℕ, ◌+◌, ◌≤◌, ◌<◌, false, List, [], ◌∷◌, ◌++◌, length, slice_index, Option, Some, None, is_some, if◌then◌else◌}
+use Rattle.std.specs.Prelude.{◌≡◌, ◌≢◌, ℕ, ◌+◌, ◌≤◌, ◌<◌, true, false, List, [], ◌∷◌, ◌++◌, length, take, slice_index, Some, None, is_some, if◌then◌else◌}
 use Rattle.sw_char.specs.declared.nchar.End.{End}
 use Rattle.sw_rmap.specs.declared.config.TargetConfig.{TargetConfig}
 use Rattle.sw_rmap.specs.declared.status.Status.TheVariants.{Success}
@@ -7,7 +7,7 @@ use Rattle.sw_rmap.specs.Crc.{with_crc}
 use Rattle.sw_rmap.specs.Instruction.{is_write, reply_address_len}
 use Rattle.sw_rmap.specs.CommandView.{CommandView, IsCommand}
 use Rattle.sw_rmap.specs.Commands.{instruction_of, header_of, body_of, read, written}
-use Rattle.sw_rmap.specs.Replies.{reply_to}
+use Rattle.sw_rmap.specs.Replies.{is_answered, reply_of, reply_to}
 use Rattle.sw_rmap.specs.Answers.{status_of, answer}
 
 -- a command that was written is read again, and its data stand behind it
@@ -43,3 +43,12 @@ OnlySuccessStores = (t : TargetConfig) (memory bytes : List ℕ) (end : End)
 -- the memory has as many bytes as the window, before and after
 abbrev pub MemoryKeepsItsLength : Type 0
 MemoryKeepsItsLength = (t : TargetConfig) (memory bytes : List ℕ) (end : End) → length memory ≡ t.size → length (answer t memory bytes end).1 ≡ t.size
+
+-- what a write stored is what a read of the same place finds
+abbrev pub WriteThenRead : Type 0
+WriteThenRead = (t : TargetConfig) (memory first second : List ℕ) (first_end second_end : End) (w r : CommandView)
+    → length memory ≡ t.size
+    → read first ≡ Some w → is_write w.instruction ≡ true → status_of t w (body_of first) first_end ≡ Success
+    → read second ≡ Some r → is_write r.instruction ≡ false → status_of t r (body_of second) second_end ≡ Success
+    → r.address ≡ w.address → r.data_length ≡ w.data_length → is_answered r ≡ true
+    → (answer t (answer t memory first first_end).1 second second_end).0 ≡ Some (reply_of r Success (take w.data_length (body_of first)))

@@ -1,5 +1,5 @@
 //! What holds of commands, replies and targets, whatever the code.
-ghost use Rattle.sw_rmap.specs.Laws.{WrittenIsRead, ReadIsWritten, WayBackIsInHeader, AnswersByTheWayBack, RepliesGetNoReply, OnlySuccessStores, MemoryKeepsItsLength};
+ghost use Rattle.sw_rmap.specs.Laws.{WrittenIsRead, ReadIsWritten, WayBackIsInHeader, AnswersByTheWayBack, RepliesGetNoReply, OnlySuccessStores, MemoryKeepsItsLength, WriteThenRead};
 
 /// A command that was written is read again.
 pub fn written_is_read()
@@ -34,4 +34,9 @@ pub fn only_success_stores()
 /// A target's memory keeps its length.
 pub fn memory_keeps_its_length()
     ensures { MemoryKeepsItsLength }
+{}
+
+/// What a write stored is what a read of the same place finds.
+pub fn write_then_read()
+    ensures { WriteThenRead }
 {}

@@ -114,10 +114,9 @@ fn refused_writes(rt: HostRuntime) -> Result<(), Fail> {
 fn commands_as_bytes(rt: HostRuntime) -> Result<(), Fail> {
     let command = Command::read(&WRITE).ok_or("a command")?;
     assert_eq!(rt; command.data_length(), 16);
-    if command.data_length() == 16 && command.instruction() == 0x6C {
-        let bytes = write_command(rt.alloc(), &command, &DATA)?;
-        assert_eq!(rt; bytes.as_slice(), WRITE.as_slice());
-    }
+    assert_eq!(rt; command.instruction(), 0x6C);
+    let bytes = write_command(rt.alloc(), &command, &DATA)?;
+    assert_eq!(rt; bytes.as_slice(), WRITE.as_slice());
     let way = reply_to(rt.alloc(), &WRITE)?.ok_or("a way back")?;
     assert_eq!(rt; way.as_slice(), [0x67].as_slice());
     let way = reply_to(rt.alloc(), &READ)?.ok_or("a way back")?;
