@@ -1,5 +1,5 @@
 -- Where replies go, and what they say (ECSS-E-ST-50-52C, 5.1, 5.3 and 5.4).
-use Rattle.std.specs.Prelude.{ℕ, zero, ◌+◌, Bool, not, ◌==◌, ◌&&◌, List, [], ◌∷◌, ◌++◌, length, Option, Some, None, option_and_then, if◌then◌else◌}
+use Rattle.std.specs.Prelude.{ℕ, Bool, not, ◌==◌, ◌&&◌, List, [], ◌∷◌, ◌++◌, length, Option, Some, None, option_and_then, if◌then◌else◌}
 use Rattle.std.specs.List.{list_all}
 use Rattle.std.specs.Int.{bytes_high_first}
 use Rattle.sw_rmap.specs.declared.status.Status.{Status}

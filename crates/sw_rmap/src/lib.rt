@@ -6,6 +6,7 @@ mod checksum;
 mod command;
 mod config;
 mod instruction;
+pub mod laws;
 mod reply;
 mod status;
 mod target;
@@ -15,4 +16,8 @@ pub use checksum::{crc, crc_of_whole_is_zero};
 pub use command::Command;
 pub use config::TargetConfig;
 pub use reply::reply_to;
-pub use status::Status;
+pub use target::Target;
+pub use writing::write_command;
+
+#[cfg(test)]
+mod tests;

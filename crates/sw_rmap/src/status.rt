@@ -4,7 +4,7 @@ ghost use Rattle.sw_rmap.specs.Answers.{is_success};
 
 /// The status in a reply (ECSS-E-ST-50-52C, 5.6): the number of a variant is its code.
 #[derive(Clone, Copy, Debug, PartialEq, Eq)]
-pub enum Status {
+pub(crate) enum Status {
     /// The command was carried out.
     Success = 0,
     /// The packet type is reserved, or the command code is unused.

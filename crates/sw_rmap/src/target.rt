@@ -127,9 +127,9 @@ fn found<'a>(config: TargetConfig, memory: &'a [u8], command: &Command, status: 
     &memory[at..at + command.data_length() as usize]
 }
 
-fn store(memory: &mut [u8], at: usize, data: &[u8])
-    requires { at + length data.now ≤ length memory.old }
-    ensures { memory.new ≡ stored memory.old at data.now }
+fn store(memory: &mut [u8], at: usize, bytes: &[u8])
+    requires { at + length bytes.now ≤ length memory.old }
+    ensures { memory.new ≡ stored memory.old at bytes.now }
 {
-    memory[at..at + data.len()].copy_from_slice(data);
+    memory[at..at + bytes.len()].copy_from_slice(bytes);
 }
