@@ -1,7 +1,11 @@
 //! Laws of the machine, each over every network, state and run that it names. The functions do
 //! nothing: a call brings the law of its contract.
 
+ghost use Rattle.sw_machine.specs.Certificate.{IsAccepted};
 ghost use Rattle.sw_machine.specs.Credit.{CreditIsKept};
+ghost use Rattle.sw_machine.specs.Network.{IsNetwork};
+ghost use Rattle.sw_machine.specs.Sample.{certificate, sample};
+ghost use Rattle.sw_machine.specs.Witnesses.{IsDiscarded, SendsFcts};
 ghost use Rattle.sw_machine.specs.Headline.{AcceptedIsDeadlockFree};
 ghost use Rattle.sw_machine.specs.Owed.{EmitSettles, NodesOweReplies};
 ghost use Rattle.sw_machine.specs.Packets.{CutsAreEqual, EachListIsCut};
@@ -60,4 +64,18 @@ pub fn rising_has_no_cycle()
 /// sent, no oftener than begun, and each run is bounded by what it begins.
 pub fn accepted_is_deadlock_free()
     ensures { AcceptedIsDeadlockFree }
+{}
+
+/// There are accepted networks, with a group and a target that answers.
+pub fn some_are_accepted()
+    ensures network { IsNetwork sample }
+    ensures accepted { IsAccepted sample certificate }
+{}
+
+/// On an empty channel as many FCTs are sent as there is room for, and seven at most; a packet that
+/// is lost is discarded to its end.
+pub fn steps_are_sharp()
+    ensures seven { SendsFcts 4096 7 }
+    ensures one { SendsFcts 8 1 }
+    ensures discarded { IsDiscarded }
 {}
