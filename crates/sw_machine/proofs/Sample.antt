@@ -11,6 +11,7 @@ use Rattle.sw_machine.specs.Certificate.{IsAccepted, IsListed, number}
 use Rattle.sw_machine.specs.Network.{AtNode, AtSwitch, IsNetwork, IsReplyFlow, PendingReply, Place, left_bytes, reverse_of}
 use Rattle.sw_machine.specs.Places.{Follows, NoFault, deleted_after, header}
 use Rattle.sw_machine.specs.Sample.{Row, answer, cell_at, certificate, ends, flow, look_in, place, reply_to, sample, starts, table}
+
 each_of : (P : ℕ → Type 0) → P 0 → P 1 → P 2 → P 3 → P 4 → P 5 → P 6 → P 7 → (c : ℕ) → c < 8 → P c
 each_of P a b d e f g h i zero lt = a
 each_of P a b d e f g h i (suc zero) lt = b

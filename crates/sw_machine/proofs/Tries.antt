@@ -13,6 +13,7 @@ use Rattle.sw_machine.specs.State.{State, after_accept, after_arrive, after_begi
 use Rattle.sw_machine.specs.Steps.{Accept, Arrive, Begin, Drop, Emit, Fct, FctIn, Forward, Grant, Leads, Reply, Spill, Step}
 use Rattle.sw_machine.specs.declared.input.Input.{Input}
 use Rattle.sw_machine.specs.declared.input.Input.TheVariants.{Held, Idle, Spilling}
+
 pub fits : (b : Bool) (x t : State) → (if b then Some x else None) ≡ Some t → (b ≡ true) × (t ≡ x)
 fits true x t e = (refl, cc)
 fits false x t e = absurd (cc)

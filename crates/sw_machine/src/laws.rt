@@ -5,7 +5,7 @@ ghost use Rattle.sw_machine.specs.Certificate.{IsAccepted};
 ghost use Rattle.sw_machine.specs.Credit.{CreditIsKept};
 ghost use Rattle.sw_machine.specs.Network.{IsNetwork};
 ghost use Rattle.sw_machine.specs.Sample.{certificate, sample};
-ghost use Rattle.sw_machine.specs.Witnesses.{IsDiscarded, SendsFcts};
+ghost use Rattle.sw_machine.specs.Witnesses.{IsAnswered, IsDiscarded, SendsFcts};
 ghost use Rattle.sw_machine.specs.Headline.{AcceptedIsDeadlockFree};
 ghost use Rattle.sw_machine.specs.Owed.{EmitSettles, NodesOweReplies};
 ghost use Rattle.sw_machine.specs.Packets.{CutsAreEqual, EachListIsCut};
@@ -73,9 +73,10 @@ pub fn some_are_accepted()
 {}
 
 /// On an empty channel as many FCTs are sent as there is room for, and seven at most; a packet that
-/// is lost is discarded to its end.
+/// is lost is discarded to its end; two commands are taken, change the memory and are answered.
 pub fn steps_are_sharp()
     ensures seven { SendsFcts 4096 7 }
     ensures one { SendsFcts 8 1 }
     ensures discarded { IsDiscarded }
+    ensures answered { IsAnswered }
 {}
