@@ -7,6 +7,7 @@ ghost use Rattle.sw_machine.specs.Network.{IsNetwork};
 ghost use Rattle.sw_machine.specs.Sample.{certificate, sample};
 ghost use Rattle.sw_machine.specs.Witnesses.{IsAnswered, IsDiscarded, SendsFcts};
 ghost use Rattle.sw_machine.specs.Headline.{AcceptedIsDeadlockFree};
+ghost use Rattle.sw_machine.specs.OneSlot.{OneSlotIsOneReply};
 ghost use Rattle.sw_machine.specs.Owed.{EmitSettles, NodesOweReplies};
 ghost use Rattle.sw_machine.specs.Packets.{CutsAreEqual, EachListIsCut};
 ghost use Rattle.sw_machine.specs.Parts.{
@@ -53,6 +54,12 @@ pub fn steps_are_done_at_cells()
     ensures link_end { LinkEndsAreAtCells }
     ensures changes { StepsChangeOneCell }
     ensures local { StepsAreLocal }
+{}
+
+/// Where each node may owe one reply, the machine is the one with one pending reply a node and a
+/// flag: from each reached state each step leads in both to the same states.
+pub fn one_slot_is_one_reply()
+    ensures { OneSlotIsOneReply }
 {}
 
 /// Where numbers rise along the dependencies, these have no cycle.
