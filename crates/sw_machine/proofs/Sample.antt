@@ -10,7 +10,7 @@ use Rattle.sw_machine.proofs.Networks.{reply_goes}
 use Rattle.sw_machine.specs.Certificate.{IsAccepted, IsListed, number}
 use Rattle.sw_machine.specs.Network.{AtNode, AtSwitch, IsNetwork, IsReplyFlow, PendingReply, Place, left_bytes, reverse_of}
 use Rattle.sw_machine.specs.Places.{Follows, NoFault, deleted_after, header}
-use Rattle.sw_machine.specs.Sample.{Row, answer, cell_at, certificate, ends, flow, look_in, place, reply_to, sample, starts, table}
+use Rattle.sw_machine.specs.Sample.{Row, answer, cell_at, certificate, ends, flow, look_in, misrouted, of_capacity, place, reply_to, sample, starts, table}
 
 each_of : (P : ℕ → Type 0) → P 0 → P 1 → P 2 → P 3 → P 4 → P 5 → P 6 → P 7 → (c : ℕ) → c < 8 → P c
 each_of P a b d e f g h i zero lt = a
@@ -83,10 +83,22 @@ ends_at = each_of (λ c. (n : ℕ) → cell_at ends c ≡ AtNode n → (n < 2) �
     (λ n e. subst (λ n. (n < 2) × (sample.into n ≡ 6)) (node_is 1 n e) (omega arith, refl))
     (λ n e. absurd (no_node 1 n e))
 
-reply_flows : (i j : ℕ) → i < 2 → (flow i).reply ≡ Some j → IsReplyFlow sample i j
-reply_flows zero j lt e = let k : 1 ≡ j = cc in subst (IsReplyFlow sample 0) k (record { in_flows = omega arith; after_declared = omega arith; from = refl; to = refl; left = refl; unanswered = refl })
-reply_flows (suc zero) j lt e = absurd (cc)
-reply_flows (suc (suc i)) j lt e = absurd (cc)
+reversed : (c : ℕ) → c < 8 → (reverse_of c < 8) × (cell_at starts (reverse_of c) ≡ cell_at ends c)
+reversed = each_of (λ c. (reverse_of c < 8) × (cell_at starts (reverse_of c) ≡ cell_at ends c)) (omega arith, refl) (omega arith, refl) (omega arith, refl) (omega arith, refl) (omega arith, refl) (omega arith, refl) (omega arith, refl) (omega arith, refl)
+
+out_starts : (n : ℕ) → n < 2 → (sample.out n < 8) × (cell_at starts (sample.out n) ≡ AtNode n)
+out_starts = both_of (λ n. (sample.out n < 8) × (cell_at starts (sample.out n) ≡ AtNode n)) (omega arith, refl) (omega arith, refl)
+
+into_ends : (n : ℕ) → n < 2 → (sample.into n < 8) × (cell_at ends (sample.into n) ≡ AtNode n)
+into_ends = both_of (λ n. (sample.into n < 8) × (cell_at ends (sample.into n) ≡ AtNode n)) (omega arith, refl) (omega arith, refl)
+
+slot : (n : ℕ) → n < 2 → 0 < sample.slots n
+slot = both_of (λ n. 0 < sample.slots n) (omega arith) (omega arith)
+
+reply_flows : (capacity i j : ℕ) → i < 2 → (flow i).reply ≡ Some j → IsReplyFlow (of_capacity capacity) i j
+reply_flows capacity zero j lt e = let k : 1 ≡ j = cc in subst (IsReplyFlow (of_capacity capacity) 0) k (record { in_flows = omega arith; after_declared = omega arith; from = refl; to = refl; left = refl; unanswered = refl })
+reply_flows capacity (suc zero) j lt e = absurd (cc)
+reply_flows capacity (suc (suc i)) j lt e = absurd (cc)
 
 no_flows : (i : ℕ) → 2 ≤ i → (flow i).reply ≡ None
 no_flows zero le = absurd (omega arith)
@@ -105,22 +117,40 @@ replies_end zero j n memory bytes r end e = let k : 1 ≡ j = cc in subst (λ j.
 replies_end (suc zero) j n memory bytes r end e = absurd (cc)
 replies_end (suc (suc i)) j n memory bytes r end e = absurd (cc)
 
-pub sample_is_network : IsNetwork sample
-sample_is_network = record {
-  room = λ c lt. omega arith;
-  reversed = each_of (λ c. (reverse_of c < 8) × (cell_at starts (reverse_of c) ≡ cell_at ends c)) (omega arith, refl) (omega arith, refl) (omega arith, refl) (omega arith, refl) (omega arith, refl) (omega arith, refl) (omega arith, refl) (omega arith, refl);
+pub of_capacity_is_network : (capacity : ℕ) → 8 ≤ capacity → IsNetwork (of_capacity capacity)
+of_capacity_is_network capacity enough = record {
+  room = λ c lt. enough;
+  reversed = reversed;
   starts_at_node = λ c n lt e. starts_at c lt n e;
   ends_at_node = λ c n lt e. ends_at c lt n e;
-  out_starts = both_of (λ n. (sample.out n < 8) × (cell_at starts (sample.out n) ≡ AtNode n)) (omega arith, refl) (omega arith, refl);
-  into_ends = both_of (λ n. (sample.into n < 8) × (cell_at ends (sample.into n) ≡ AtNode n)) (omega arith, refl) (omega arith, refl);
+  out_starts = out_starts;
+  into_ends = into_ends;
   look_starts = looks;
   flows_declared = omega arith;
   flow_ends = both_of (λ i. ((flow i).from < 2) × ((flow i).to < 2)) (omega arith, omega arith) (omega arith, omega arith);
-  reply_flow = reply_flows;
+  reply_flow = reply_flows capacity;
   no_flow = no_flows;
-  slot = both_of (λ n. 0 < sample.slots n) (omega arith) (omega arith);
+  slot = slot;
   reply_goes = replies_go;
   replies_end = λ i j n memory bytes r end li ln e a g. replies_end i j n memory bytes r end e;
+}
+
+pub misrouted_is_network : IsNetwork misrouted
+misrouted_is_network = record {
+  room = λ c lt. omega arith;
+  reversed = reversed;
+  starts_at_node = λ c n lt e. starts_at c lt n e;
+  ends_at_node = λ c n lt e. ends_at c lt n e;
+  out_starts = out_starts;
+  into_ends = into_ends;
+  look_starts = looks;
+  flows_declared = omega arith;
+  flow_ends = λ i lt. (omega arith, omega arith);
+  reply_flow = λ i j lt e. absurd (cc);
+  no_flow = λ i le. refl;
+  slot = slot;
+  reply_goes = replies_go;
+  replies_end = λ i j n memory bytes r end li ln e a g. absurd (cc);
 }
 
 -- what holds at each listed place

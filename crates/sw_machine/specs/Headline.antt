@@ -41,5 +41,9 @@ pub record IsDeadlockFree (net : Network) (cert : Certificate) : Type 0 where
   pub bounded : IsBounded net
   pub ends_empty : EndsEmpty net
 
+-- what holds of each network with an accepted certificate
+abbrev pub OfAccepted : (Network → Type 0) → Type 0
+OfAccepted P = (net : Network) (cert : Certificate) → IsNetwork net → IsAccepted net cert → P net
+
 abbrev pub AcceptedIsDeadlockFree : Type 0
 AcceptedIsDeadlockFree = (net : Network) (cert : Certificate) → IsNetwork net → IsAccepted net cert → IsDeadlockFree net cert
