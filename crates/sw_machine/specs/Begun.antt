@@ -1,6 +1,6 @@
 -- The packets that a run begins, and those that came out of it.
 use Rattle.std.specs.Option.{option_map_or}
-use Rattle.std.specs.Prelude.{Bool, List, Some, [], count_by, false, filter, if◌then◌else◌, length, map, nat_eq, nat_le, sum_by, true, ℕ, ◌&&◌, ◌*◌, ◌++◌, ◌+◌, ◌<◌, ◌∷◌, ◌≡◌, ◌≤◌}
+use Rattle.std.specs.Prelude.{Bool, List, Some, [], count_by, false, filter, length, map, nat_eq, nat_le, not, sum_by, ℕ, ◌&&◌, ◌*◌, ◌++◌, ◌+◌, ◌<◌, ◌∷◌, ◌≡◌, ◌≤◌}
 use Rattle.sw_char.specs.declared.nchar.End.{End}
 use Rattle.sw_char.specs.declared.nchar.End.TheVariants.{Eop as ByEop}
 use Rattle.sw_machine.specs.Network.{Network, PendingReply, form, left_bytes}
@@ -91,7 +91,7 @@ characters net begun = sum_by (length_begun net) begun
 
 -- how many of the steps are no beginnings
 abbrev pub moves : List Step → ℕ
-moves steps = count_by (λ step. if is_begin step then false else true) steps
+moves steps = count_by (λ step. not (is_begin step)) steps
 
 -- a run makes at most so many steps other than beginnings
 abbrev pub IsBounded : Network → Type 0
