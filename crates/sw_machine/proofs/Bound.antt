@@ -23,7 +23,7 @@ use Rattle.sw_machine.specs.Steps.{Accept, Arrive, Begin, Drop, Emit, Fct, FctIn
 use Rattle.sw_machine.specs.declared.input.Input.{Input}
 use Rattle.sw_machine.specs.declared.input.Input.TheVariants.{Held, Idle, Spilling}
 
-total_le : (n : ℕ) (f g : ℕ → ℕ) → ((k : ℕ) → k < n → f k ≤ g k) → total n f ≤ total n g
+pub total_le : (n : ℕ) (f g : ℕ → ℕ) → ((k : ℕ) → k < n → f k ≤ g k) → total n f ≤ total n g
 total_le zero f g h = omega arith
 total_le (suc n) f g h = let r = total_le n f g (λ k lt. h k (omega arith)) in let e = h n (omega arith) in omega arith
 

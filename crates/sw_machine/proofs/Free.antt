@@ -4,6 +4,8 @@ use Rattle.std.proofs.lemmas.Bool.{cases_lt}
 use Rattle.std.proofs.lemmas.List.Sums.{sum_by-append}
 use Rattle.sw_machine.proofs.Answered.{replies_at_most, replies_exactly}
 use Rattle.sw_machine.proofs.Bound.{is_bounded}
+use Rattle.sw_machine.proofs.Load.{is_bounded_by_load}
+use Rattle.sw_machine.proofs.Owed.{owes}
 use Rattle.sw_machine.proofs.RunLists.{all_moves, cost, run_of, run_of_append}
 use Rattle.sw_machine.proofs.Runs.{always_goes_on, empty_inv, none, reached_inv, run_begins}
 use Rattle.sw_machine.proofs.Whole.{all_comes_out, comes_out_whole}
@@ -62,5 +64,6 @@ module _ (net : Network) (cert : Certificate) (ok : IsNetwork net) (acc : IsAcce
     all_is_answered = λ steps begun s r none n ln test. replies_exactly net ok n ln test steps begun s r none (λ ps out. all_comes_out net cert ok acc steps begun s r none n ln ps out);
     only_asked_owe = λ s r n ln owes. let k = reached_inv net cert ok acc s r in (k.1.nodes n ln).asked owes;
     bounded = is_bounded net cert ok acc;
+    bounded_by_load = is_bounded_by_load net cert ok acc (λ begun steps s r n ln test. replies_at_most net ok n ln test steps begun s r (λ ps out. comes_out_whole net cert ok acc steps begun s r n ln ps out));
     ends_empty = ends;
   }

@@ -6,6 +6,7 @@ use Rattle.std.specs.Option.{option_map}
 use Rattle.std.specs.Prelude.{if◌then◌else◌, slice_get, unwrap_or}
 use Rattle.sw_char.specs.declared.nchar.End.{End}
 use Rattle.sw_machine.proofs.Cuts.{no_cons}
+use Rattle.sw_machine.proofs.Networks.{reply_goes}
 use Rattle.sw_machine.specs.Certificate.{IsAccepted, IsListed, number}
 use Rattle.sw_machine.specs.Network.{AtNode, AtSwitch, IsNetwork, IsReplyFlow, PendingReply, Place, left_bytes, reverse_of}
 use Rattle.sw_machine.specs.Places.{Follows, NoFault, deleted_after, header}
@@ -111,6 +112,16 @@ replies_go (suc zero) memory (a ∷ []) end lt = refl
 replies_go (suc zero) memory (a ∷ b ∷ bytes) end lt = refl
 replies_go (suc (suc n)) memory bytes end lt = absurd (omega arith)
 
+reply_lengths : (n : ℕ) (memory bytes : List ℕ) (r : PendingReply) (end : End) → n < 2 → answer n memory bytes end ≡ Some r → length r.cargo ≤ 1
+reply_lengths zero memory bytes r end lt e = absurd (cc)
+reply_lengths (suc zero) memory [] r end lt e = absurd (cc)
+reply_lengths (suc zero) memory (a ∷ []) r end lt e = absurd (cc)
+reply_lengths (suc zero) memory (a ∷ b ∷ bytes) r end lt e =
+    let is : record { address = 3 ∷ 1 ∷ 67 ∷ []; cargo = b ∷ [] } ≡ r = cc in
+    let l : 1 ≡ length r.cargo = ap (λ (r : PendingReply). length r.cargo) is in
+    omega arith
+reply_lengths (suc (suc n)) memory bytes r end lt e = absurd (omega arith)
+
 replies_end : (i j n : ℕ) (memory bytes : List ℕ) (r : PendingReply) (end : End) → (flow i).reply ≡ Some j → reply_to (flow j).to (left_bytes sample j r.cargo) ≡ None
 replies_end zero j n memory bytes r end e = let k : 1 ≡ j = cc in subst (λ j. reply_to (flow j).to (left_bytes sample j r.cargo) ≡ None) k refl
 replies_end (suc zero) j n memory bytes r end e = absurd (cc)
@@ -131,6 +142,7 @@ of_capacity_is_network capacity enough = record {
   no_flow = no_flows;
   slot = slot;
   reply_goes = replies_go;
+  reply_length = reply_lengths;
   replies_end = λ i j n memory bytes r end li ln e a g. replies_end i j n memory bytes r end e;
 }
 
@@ -149,6 +161,7 @@ misrouted_is_network = record {
   no_flow = λ i le. refl;
   slot = slot;
   reply_goes = replies_go;
+  reply_length = reply_lengths;
   replies_end = λ i j n memory bytes r end li ln e a g. absurd (cc);
 }
 

@@ -68,6 +68,7 @@ of_capacity capacity = record {
   flow = flow;
   reply_to = reply_to;
   answer = answer;
+  longest = λ n. 1;
   slots = λ n. if nat_eq n 0 then 1 else 2;
   memory_after = memory_after;
   memory_at_first = λ n. 0 ∷ [];

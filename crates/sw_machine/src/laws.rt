@@ -13,6 +13,7 @@ ghost use Rattle.sw_machine.specs.Begun.{
   ComesOutWhole,
   EachRunIsCounted,
   IsBounded,
+  IsBoundedByLoad,
   RepliesAreAsked,
 };
 ghost use Rattle.sw_machine.specs.Headline.{
@@ -109,10 +110,13 @@ pub fn accepted_answers_once()
 {}
 
 /// A run of an accepted network makes at most C x (14 + 5N) steps other than beginnings, where C is
-/// the number of channels and N how many characters the packets that it begins have; steps other
-/// than beginnings that can't go on end with nothing undelivered.
+/// the number of channels and N how many characters the packets that it begins have; and at most
+/// B + C x (14 + 5M) steps, where B is how many packets its beginnings begin and M how many
+/// characters these have with their longest replies. Steps other than beginnings that can't go on
+/// end with nothing undelivered.
 pub fn accepted_is_bounded()
     ensures bounded { OfAccepted IsBounded }
+    ensures by_load { OfAccepted IsBoundedByLoad }
     ensures ends { OfAccepted EndsEmpty }
 {}
 
