@@ -69,13 +69,14 @@ cuts (p ∷ ps) (q ∷ qs) a b e =
 pub cuts_are_equal : CutsAreEqual
 cuts_are_equal l ps qs a b p q = cuts ps qs a b (sym p ∙ q)
 
-pub cut_of : EachListIsCut
+-- the same cut, with a byte before it
+abbrev longer_cut : (b : ℕ) (l : List NChar) (ps : List Packet) (bytes : List ℕ) → IsCut l ps bytes → (qs : List Packet) × (more : List ℕ) × IsCut (Data b ∷ l) qs more
+longer_cut b l [] bytes e = ([], b ∷ bytes, ap (λ l. Data b ∷ l) e)
+longer_cut b l (p ∷ ps) bytes e = (record { bytes = b ∷ p.bytes; end = p.end } ∷ ps, bytes, ap (λ l. Data b ∷ l) e)
+
+unfoldable pub cut_of : EachListIsCut
 cut_of [] = ([], [], refl)
-cut_of (Data b ∷ l) = let r = cut_of l in longer r.0 r.1 r.2
-  where
-    longer : (ps : List Packet) (bytes : List ℕ) → IsCut l ps bytes → (qs : List Packet) × (more : List ℕ) × IsCut (Data b ∷ l) qs more
-    longer [] bytes e = ([], b ∷ bytes, ap (λ l. Data b ∷ l) e)
-    longer (p ∷ ps) bytes e = (record { bytes = b ∷ p.bytes; end = p.end } ∷ ps, bytes, ap (λ l. Data b ∷ l) e)
+cut_of (Data b ∷ l) = let r = cut_of l in longer_cut b l r.0 r.1 r.2
 cut_of (Eop ∷ l) = let r = cut_of l in (record { bytes = []; end = ByEop } ∷ r.0, r.1, ap (λ l. Eop ∷ l) r.2)
 cut_of (Eep ∷ l) = let r = cut_of l in (record { bytes = []; end = ByEep } ∷ r.0, r.1, ap (λ l. Eep ∷ l) r.2)
 
