@@ -1,2 +1,6 @@
 //! The engines and the words of the program swcheck.
 #![tactic(auto)]
+
+mod command_line;
+
+pub use command_line::{Call, WordsFault, words};
