@@ -1,0 +1,3 @@
+pub mod Documents
+pub mod Members
+pub mod Walks

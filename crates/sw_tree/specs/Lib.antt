@@ -1,0 +1,5 @@
+pub mod Keys
+pub mod Gives
+pub mod Table
+pub mod Names
+pub mod Document
