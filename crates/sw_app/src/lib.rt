@@ -2,5 +2,7 @@
 #![tactic(auto)]
 
 mod command_line;
+mod fault_texts;
 
 pub use command_line::{Call, WordsFault, words};
+pub use fault_texts::fault_text;
