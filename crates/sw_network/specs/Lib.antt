@@ -1,2 +1,3 @@
 pub mod Entries
 pub mod Valid
+pub mod Building

@@ -1,2 +1,13 @@
-//! A network as its file declares it.
+//! A network as its file declares it: nodes, switches, links and flows, valid by its type.
 #![tactic(auto)]
+
+mod builder;
+mod entries;
+mod flow;
+mod flow_table;
+mod names;
+mod network;
+
+pub use builder::NetworkBuilder;
+pub use flow::{Flow, Reply};
+pub use network::{MAX_FLOWS, Network};

@@ -2,5 +2,9 @@
 #![tactic(auto)]
 
 mod look;
+mod routing;
+mod table;
 
 pub use look::{Look, Route};
+pub use routing::Routing;
+pub use table::{RouteError, TableRoutes};

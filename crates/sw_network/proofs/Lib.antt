@@ -1,0 +1,4 @@
+pub mod Texts
+pub mod Positions
+pub mod Steps
+pub mod Flows
