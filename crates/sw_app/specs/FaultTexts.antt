@@ -1,8 +1,8 @@
 -- How a fault is printed (this project's choice).
 use Rattle.std.specs.Prelude.{ℕ, List, [], ◌∷◌, codes}
 use Rattle.std.specs.Fmt.{decimal}
-use Rattle.sw_topo.specs.declared.fault.Part.{Part}
-use Rattle.sw_topo.specs.declared.fault.Part.TheVariants.{Nodes, Switches, Links}
+use Rattle.sw_topo.specs.declared.fault.Limit.{Limit}
+use Rattle.sw_topo.specs.declared.fault.Limit.TheVariants.{Nodes, Switches, Links}
 use Rattle.sw_topo.specs.declared.fault.TopoFault.{TopoFault}
 use Rattle.sw_topo.specs.declared.fault.TopoFault.TheVariants.{TooMany, PortTaken, NodeLinks, PortUnlinked}
 use Rattle.sw_tree.specs.declared.keys.Section.{Section}
@@ -33,14 +33,14 @@ key_fault_text OutOfRange = codes "F5 OutOfRange"
 key_fault_text DuplicateName = codes "F6 DuplicateName"
 key_fault_text UnknownName = codes "F7 UnknownName"
 
--- the key of the list that is too long
-abbrev pub part_text : Part → List ℕ
-part_text Nodes = codes "node"
-part_text Switches = codes "switch"
-part_text Links = codes "link"
+-- the list that is too long, by its key
+abbrev pub limit_text : Limit → List ℕ
+limit_text Nodes = codes "node"
+limit_text Switches = codes "switch"
+limit_text Links = codes "link"
 
 abbrev pub topology_fault_text : TopoFault → List ℕ
-topology_fault_text (TooMany part) = spaced (codes "E4 TooMany" ∷ part_text part ∷ [])
+topology_fault_text (TooMany limit) = spaced (codes "E4 TooMany" ∷ limit_text limit ∷ [])
 topology_fault_text (PortTaken link) = spaced (codes "E1 PortTaken link" ∷ decimal link ∷ [])
 topology_fault_text (NodeLinks node) = spaced (codes "E2 NodeLinks node" ∷ decimal node ∷ [])
 topology_fault_text (PortUnlinked switch) = spaced (codes "E3 PortUnlinked switch" ∷ decimal switch ∷ [])

@@ -1,3 +1,4 @@
 pub mod CommandLine
 pub mod Lines
 pub mod FaultTexts
+pub mod ChannelTexts

@@ -1,9 +1,9 @@
 //! How a fault is printed.
 ghost use Rattle.std.specs.Prelude.{◌≡◌, IfOk, string_bytes};
-ghost use Rattle.sw_app.specs.FaultTexts.{fault_text, key_fault_text, part_text, topology_fault_text, where_text};
+ghost use Rattle.sw_app.specs.FaultTexts.{fault_text, key_fault_text, limit_text, topology_fault_text, where_text};
 
 use std::alloc::{AllocError, Global};
-use sw_topo::{Part, TopoFault};
+use sw_topo::{Limit, TopoFault};
 use sw_tree::{KeyFault, Section, TextFault};
 
 fn where_text(alloc: Global, section: Section, key: &str) -> Result<String, AllocError>
@@ -34,13 +34,13 @@ fn key_fault_text(fault: KeyFault) -> &'static str
     }
 }
 
-fn part_text(part: Part) -> &'static str
-    ensures { result.now ≡ part_text part }
+fn limit_text(limit: Limit) -> &'static str
+    ensures { result.now ≡ limit_text limit }
 {
-    match part {
-        Part::Nodes => "node",
-        Part::Switches => "switch",
-        Part::Links => "link",
+    match limit {
+        Limit::Nodes => "node",
+        Limit::Switches => "switch",
+        Limit::Links => "link",
     }
 }
 
@@ -48,9 +48,9 @@ fn topology_fault_text(alloc: Global, fault: TopoFault) -> Result<String, AllocE
     ensures { IfOk result (λ s. string_bytes s ≡ topology_fault_text fault) }
 {
     match fault {
-        TopoFault::TooMany(part) => {
-            let part = part_text(part);
-            format!(in alloc; "E4 TooMany {part}")
+        TopoFault::TooMany(limit) => {
+            let limit = limit_text(limit);
+            format!(in alloc; "E4 TooMany {limit}")
         }
         TopoFault::PortTaken(link) => format!(in alloc; "E1 PortTaken link {link}"),
         TopoFault::NodeLinks(node) => format!(in alloc; "E2 NodeLinks node {node}"),

@@ -1,6 +1,7 @@
 //! The engines and the words of the program swcheck.
 #![tactic(auto)]
 
+mod channel_texts;
 mod command_line;
 mod fault_texts;
 
