@@ -2,3 +2,4 @@ pub mod CommandLine
 pub mod Lines
 pub mod FaultTexts
 pub mod ChannelTexts
+pub mod Ends

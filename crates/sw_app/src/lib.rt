@@ -3,7 +3,9 @@
 
 mod channel_texts;
 mod command_line;
+mod ended;
 mod fault_texts;
 
 pub use command_line::{Call, WordsFault, words};
+pub use ended::{Ended, MAX_TEXT};
 pub use fault_texts::fault_text;
