@@ -1,2 +1,10 @@
-//! Flows: the places that they can reach, and the packets that they may carry.
+//! Flows: the places that they reach, and the packets that they may carry.
 #![tactic(auto)]
+
+mod fault;
+mod laws;
+mod place;
+
+pub use fault::RouteFault;
+pub use laws::faults_in_words;
+pub use place::Place;

@@ -57,13 +57,12 @@ neither : (a b : Bool) → (a || b) ≡ false → (a ≡ false) × (b ≡ false)
 neither false b e = (refl, e)
 neither true b e = absurd (false≢true (sym e))
 
-
 unlike : (name other : List ℕ) → bytes_eq name other ≡ false → bytes_eq (name ++ codes "+reply") (other ++ codes "+reply") ≡ false
 unlike name other apart =
     elim (cases_Bool (bytes_eq (name ++ codes "+reply") (other ++ codes "+reply"))) [
       | inl same ↦
-        let e : name ≡ other = append_cancel_right name other (codes "+reply") ((bytes_eq-Decides (name ++ codes "+reply") (other ++ codes "+reply")).0 same) in
-        absurd (false≢true (sym apart ∙ (bytes_eq-Decides name other).1 e))
+          let e : name ≡ other = append_cancel_right name other (codes "+reply") ((bytes_eq-Decides (name ++ codes "+reply") (other ++ codes "+reply")).0 same) in
+          absurd (false≢true (sym apart ∙ (bytes_eq-Decides name other).1 e))
       | inr other_name ↦ other_name
     ]
 

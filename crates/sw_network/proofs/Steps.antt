@@ -33,7 +33,6 @@ stays_in : (n s m t : ℕ) → n ≤ m → s ≤ t → (e : PlaceEnd) → IsIn n
 stays_in n s m t more_n more_s (Node k) lt = omega arith
 stays_in n s m t more_n more_s (Switch k p) in' = (omega arith, in'.1)
 
-
 pub length-link_ends : (links : List LinkEntry) → length (link_ends links) ≡ 2 * length links
 length-link_ends [] = refl
 length-link_ends (l ∷ links) = omega (arith, length-link_ends links)
@@ -47,7 +46,7 @@ module _ (w : Wiring) (names : List (List ℕ)) (d : Declaration) (so_far : IsBu
       → IsBuilder (record w { nodes = w.nodes + 1 }) (names ++ n.name ∷ []) (record d { nodes = d.nodes ++ n ∷ [] })
   node_more n first few ok absent =
       let named : part_names (record d { nodes = d.nodes ++ n ∷ [] }) ≡ part_names d ++ n.name ∷ [] =
-        rw (first, append-nil, append-nil, map_push (λ (x : NodeEntry). x.name)) refl in
+      rw (first, append-nil, append-nil, map_push (λ (x : NodeEntry). x.name)) refl in
       record {
         wired = rw (so_far.wired, length-append) refl;
         named = rw (named, so_far.named) refl;
@@ -55,8 +54,8 @@ module _ (w : Wiring) (names : List (List ℕ)) (d : Declaration) (so_far : IsBu
           few_nodes = rw length-append (omega arith);
           few_switches = so_far.draft.few_switches;
           inside = All-weaker (In d) (In (record d { nodes = d.nodes ++ n ∷ [] }))
-            (λ e. stays_in (length d.nodes) (length d.switches) (length (d.nodes ++ n ∷ [])) (length d.switches) (rw length-append (omega arith)) (omega arith) e)
-            (link_ends d.links) so_far.draft.inside;
+              (λ e. stays_in (length d.nodes) (length d.switches) (length (d.nodes ++ n ∷ [])) (length d.switches) (rw length-append (omega arith)) (omega arith) e)
+              (link_ends d.links) so_far.draft.inside;
           nodes = All-push IsNode d.nodes n so_far.draft.nodes ok;
           switches = so_far.draft.switches;
           links = so_far.draft.links;
@@ -68,7 +67,7 @@ module _ (w : Wiring) (names : List (List ℕ)) (d : Declaration) (so_far : IsBu
       → IsBuilder (record w { switches = w.switches + 1 }) (names ++ s.name ∷ []) (record d { switches = d.switches ++ s ∷ [] })
   switch_more s few ok absent =
       let named : part_names (record d { switches = d.switches ++ s ∷ [] }) ≡ part_names d ++ s.name ∷ [] =
-        rw (map_push (λ (x : SwitchEntry). x.name), append_assoc) refl in
+      rw (map_push (λ (x : SwitchEntry). x.name), append_assoc) refl in
       record {
         wired = rw (so_far.wired, length-append) refl;
         named = rw (named, so_far.named) refl;
@@ -76,8 +75,8 @@ module _ (w : Wiring) (names : List (List ℕ)) (d : Declaration) (so_far : IsBu
           few_nodes = so_far.draft.few_nodes;
           few_switches = rw length-append (omega arith);
           inside = All-weaker (In d) (In (record d { switches = d.switches ++ s ∷ [] }))
-            (λ e. stays_in (length d.nodes) (length d.switches) (length d.nodes) (length (d.switches ++ s ∷ [])) (omega arith) (rw length-append (omega arith)) e)
-            (link_ends d.links) so_far.draft.inside;
+              (λ e. stays_in (length d.nodes) (length d.switches) (length d.nodes) (length (d.switches ++ s ∷ [])) (omega arith) (rw length-append (omega arith)) e)
+              (link_ends d.links) so_far.draft.inside;
           nodes = so_far.draft.nodes;
           switches = All-push IsSwitch d.switches s so_far.draft.switches ok;
           links = so_far.draft.links;
@@ -94,7 +93,7 @@ module _ (w : Wiring) (names : List (List ℕ)) (d : Declaration) (so_far : IsBu
       few_nodes = so_far.draft.few_nodes;
       few_switches = so_far.draft.few_switches;
       inside = rw (link_ends-push d.links l) (All-append (In d) (link_ends d.links) (l.a ∷ l.b ∷ []) so_far.draft.inside
-        (All-cons (In d) l.a (l.b ∷ []) a_in (All-cons (In d) l.b [] b_in (All-nil (In d)))));
+          (All-cons (In d) l.a (l.b ∷ []) a_in (All-cons (In d) l.b [] b_in (All-nil (In d)))));
       nodes = so_far.draft.nodes;
       switches = so_far.draft.switches;
       links = All-push IsLink d.links l so_far.draft.links ok;

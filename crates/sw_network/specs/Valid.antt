@@ -1,18 +1,16 @@
 -- What each network keeps, by its type.
 use Rattle.std.specs.Prelude.{◌≡◌, ℕ, zero, ◌<◌, ◌≤◌, Bool, true, false, List, [], ◌∷◌, length, All, IsSome, IfSome, AllPairs, ◌≢◌}
 use Rattle.sw_topo.specs.Checked.{IsSound}
-use Rattle.sw_route.specs.declared.look.Route.{Route}
-use Rattle.sw_route.specs.Looks.{IsRoute, overlaps}
+use Rattle.sw_route.specs.Looks.{IsTable}
 use Rattle.sw_rmap.specs.Config.{IsTargetConfig}
 use Rattle.sw_network.specs.Entries.{NodeEntry, SwitchEntry, LinkEntry, ReplyEntry, FlowEntry, Declaration, part_names, flow_names, target_of, wiring_of}
 
 abbrev pub IsNode : NodeEntry → Type 0
 IsNode n = IfSome n.target IsTargetConfig
 
--- each entry of the table is for logical addresses, and no two are for one in common
-pub record IsSwitch (s : SwitchEntry) : Type 0 where
-  pub each : All IsRoute s.routes
-  pub apart : AllPairs (λ r q. overlaps r q ≡ false) s.routes
+-- each entry of the routing table is for logical addresses, and no two are for one in common
+abbrev pub IsSwitch : SwitchEntry → Type 0
+IsSwitch s = IsTable s.routes
 
 -- the receive buffers hold 8 to 4096 characters
 pub record IsLink (l : LinkEntry) : Type 0 where

@@ -12,7 +12,7 @@ use std::alloc::{AllocError, Global};
 use std::marker::Model;
 use sw_arb::Arbitration;
 use sw_rmap::TargetConfig;
-use sw_route::Route;
+use sw_route::TableRoutes;
 use sw_topo::{Builder, MAX_NODES, MAX_SWITCHES, PlaceEnd, TopoError};
 
 /// The nodes, switches and links so far; nodes come first, then switches, then links.
@@ -39,7 +39,6 @@ impl Model for NetworkBuilder {
 
 impl NetworkBuilder {
     ghost use Rattle.sw_network.specs.Entries.{Declaration, empty, part_names};
-    ghost use Rattle.sw_network.specs.Valid.{IsSwitch};
     ghost use Rattle.sw_network.specs.Building.{Wires};
 
     /// Nothing.
@@ -117,18 +116,17 @@ impl NetworkBuilder {
         alloc: Global,
         name: &str,
         arbitration: Arbitration,
-        routes: Vec<Route>,
+        table: TableRoutes,
     ) -> Result<(), AllocError>
         requires few { length self.old.switches < MAX_SWITCHES }
         requires new_name { list_any (bytes_eq name.now) (part_names self.old) ≡ false }
-        requires table { IsSwitch (record { name = name.now; arbitration = arbitration; routes = routes.items }) }
-        ensures ok { OnOk result (self.new ≡ record self.old { switches = self.old.switches ++ record { name = name.now; arbitration = arbitration; routes = routes.items } ∷ [] }) }
+        ensures ok { OnOk result (self.new ≡ record self.old { switches = self.old.switches ++ record { name = name.now; arbitration = arbitration; routes = table } ∷ [] }) }
         ensures err { OnErr result (self.new ≡ self.old) }
     {
         let switch = Switch {
             name: String::from_str(alloc, name)?,
             arbitration,
-            routes,
+            table,
         };
         self.switches.reserve(1)?;
         self.names.add(alloc, name)?;
@@ -178,8 +176,6 @@ impl NetworkBuilder {
             links,
         } = self;
         let topology = wiring.finish(alloc)?;
-        Ok(Network::new(
-            alloc, topology, names, nodes, switches, links,
-        ))
+        Ok(Network::new(alloc, topology, names, nodes, switches, links))
     }
 }

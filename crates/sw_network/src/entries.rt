@@ -1,8 +1,8 @@
 //! The entries of a network's nodes, switches and links.
-use sw_route::Route;
 use std::marker::Model;
 use sw_arb::Arbitration;
 use sw_rmap::TargetConfig;
+use sw_route::TableRoutes;
 use sw_topo::PlaceEnd;
 
 /// A node.
@@ -43,7 +43,7 @@ impl Model for Link {
 pub(crate) struct Switch {
     pub(crate) name: String,
     pub(crate) arbitration: Arbitration,
-    pub(crate) routes: Vec<Route>,
+    pub(crate) table: TableRoutes,
 }
 
 impl Model for Switch {
@@ -52,5 +52,5 @@ impl Model for Switch {
 
     ghost Value = { SwitchEntry };
 
-    ghost view = { λ s. record { name = string_bytes s.name; arbitration = s.arbitration; routes = s.routes.items } };
+    ghost view = { λ s. record { name = string_bytes s.name; arbitration = s.arbitration; routes = s.table } };
 }

@@ -13,7 +13,7 @@ use std::alloc::{AllocError, Global};
 use std::marker::Model;
 use sw_arb::Arbitration;
 use sw_rmap::TargetConfig;
-use sw_route::Route;
+use sw_route::{Look, Route, Routing};
 use sw_topo::{Chan, MAX_LINKS, MAX_NODES, MAX_SWITCHES, Topology};
 
 /// How many flows may be declared.
@@ -45,7 +45,8 @@ impl Model for Network {
 }
 
 impl Network {
-    ghost use Rattle.sw_network.specs.Entries.{Declaration, NodeEntry, SwitchEntry, LinkEntry, FlowEntry, target_of, routes_of, wiring_of, capacities, all_flows, flow_names};
+    ghost use Rattle.sw_route.specs.Looks.{IsTable};
+    ghost use Rattle.sw_network.specs.Entries.{Declaration, NodeEntry, SwitchEntry, LinkEntry, FlowEntry, target_of, routes_of, look_at, wiring_of, capacities, all_flows, flow_names};
     ghost use Rattle.sw_network.specs.Valid.{IsValid, IsFlow, IsTarget};
     ghost use Rattle.sw_network.specs.Building.{IsNetwork};
 
@@ -206,10 +207,20 @@ impl Network {
     /// The switch's routing table.
     pub fn routes(&self, switch: u16) -> &[Route]
         requires { switch < length self.now.switches }
-        ensures { result.now ≡ routes_of self.now.switches switch }
+        ensures routes { result.now ≡ routes_of self.now.switches switch }
+        ensures table { IsTable result.now }
     {
         let switch = &self.switches[switch as usize];
-        &switch.routes
+        switch.table.routes()
+    }
+
+    /// What the leading byte of a packet names at the switch.
+    pub fn look(&self, switch: u16, byte: u8) -> Look
+        requires { switch < length self.now.switches }
+        ensures { result ≡ look_at self.now.switches switch byte }
+    {
+        let switch = &self.switches[switch as usize];
+        switch.table.look(byte)
     }
 
     /// How many flows there are, reply flows too.

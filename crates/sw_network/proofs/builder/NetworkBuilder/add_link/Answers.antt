@@ -9,5 +9,5 @@ invariant_of-self-2 c =
     let d : Declaration = record { nodes = c.self.inside.nodes.items; switches = c.self.inside.switches.items; links = c.self.inside.links.items; flows = [] } in
     let links : c.push.new.self.items ≡ c.self.inside.links.items ++ l ∷ [] = cc (c.in_ok-reserve.ensures.items, rw c.unwrap.ensures at c.push.ensures.items) in
     rw (links, c.in_ok-link.ensures.ok)
-      (link_more c.self.inside.wiring c.self.inside.names d c.self.invariant l (rw (← c.self.view_is) at c.requires.a_inside) (rw (← c.self.view_is) at c.requires.b_inside)
-      (record { low_a = c.requires.low_a; high_a = c.requires.high_a; low_b = c.requires.low_b; high_b = c.requires.high_b }))
+    (link_more c.self.inside.wiring c.self.inside.names d c.self.invariant l (rw (← c.self.view_is) at c.requires.a_inside) (rw (← c.self.view_is) at c.requires.b_inside)
+    (record { low_a = c.requires.low_a; high_a = c.requires.high_a; low_b = c.requires.low_b; high_b = c.requires.high_b }))

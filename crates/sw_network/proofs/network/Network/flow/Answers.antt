@@ -7,5 +7,5 @@ pub returns-else-number-declared-clause-valid : goal.returns-else-number-declare
 returns-else-number-declared-clause-valid c =
     let inside = c.self.inside in
     rw (← c.self.view_is)
-      (All-at (IsFlow inside.nodes.items) inside.replies (c.args.number - c.len-declared.result) c.get-else-number-declared.result.now c.get-else-number-declared.ensures
-      (rw c.self.invariant.replied (reply_flows_are_flows inside.nodes.items inside.flows c.self.invariant.valid.flows)))
+    (All-at (IsFlow inside.nodes.items) inside.replies (c.args.number - c.len-declared.result) c.get-else-number-declared.result.now c.get-else-number-declared.ensures
+    (rw c.self.invariant.replied (reply_flows_are_flows inside.nodes.items inside.flows c.self.invariant.valid.flows)))

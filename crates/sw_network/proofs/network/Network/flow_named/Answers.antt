@@ -15,7 +15,7 @@ returns-in_err-number-clause-number c =
     let inside = c.self.inside in
     let d : Declaration = record { nodes = inside.nodes.items; switches = inside.switches.items; links = inside.links.items; flows = inside.flows } in
     rw (← c.self.view_is)
-      (c.from_residual.ensures ∙ sym (found_reply (bytes_eq c.args.name.now) d inside.replies None c.self.invariant.replied (sym c.number_of.ensures.number ∙ c.in_default.is) (sym c.number_of-2.ensures.number ∙ c.in_err-number.was)))
+    (c.from_residual.ensures ∙ sym (found_reply (bytes_eq c.args.name.now) d inside.replies None c.self.invariant.replied (sym c.number_of.ensures.number ∙ c.in_default.is) (sym c.number_of-2.ensures.number ∙ c.in_err-number.was)))
 
 pub overflow_add-result : goal.overflow_add-result
 overflow_add-result c =
@@ -30,5 +30,5 @@ returns-clause-number c =
     let inside = c.self.inside in
     let d : Declaration = record { nodes = inside.nodes.items; switches = inside.switches.items; links = inside.links.items; flows = inside.flows } in
     rw (← c.self.view_is)
-      (ap (λ n. Some (n + c.in_ok-number.number)) c.len.ensures
-      ∙ sym (found_reply (bytes_eq c.args.name.now) d inside.replies (Some c.in_ok-number.number) c.self.invariant.replied (sym c.number_of.ensures.number ∙ c.in_default.is) (sym c.in_ok-number.ensures.number)))
+    (ap (λ n. Some (n + c.in_ok-number.number)) c.len.ensures
+    ∙ sym (found_reply (bytes_eq c.args.name.now) d inside.replies (Some c.in_ok-number.number) c.self.invariant.replied (sym c.number_of.ensures.number ∙ c.in_default.is) (sym c.in_ok-number.ensures.number)))

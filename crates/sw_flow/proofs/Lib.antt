@@ -1,0 +1,5 @@
+pub mod Listed
+pub mod Outputs
+pub mod Faulty
+pub mod Stepping
+pub mod Placed
