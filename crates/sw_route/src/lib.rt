@@ -1,10 +1,14 @@
 //! What the leading byte of a packet names at a routing switch.
 #![tactic(auto)]
 
+mod intervals;
 mod look;
+mod output;
 mod routing;
 mod table;
 
+pub use intervals::{Interval, IntervalRoutes};
 pub use look::{Look, Route};
+pub use output::{outputs, outputs_start_at_the_switch};
 pub use routing::Routing;
 pub use table::{RouteError, TableRoutes};

@@ -3,3 +3,4 @@ pub mod Gives
 pub mod Table
 pub mod Names
 pub mod Document
+pub mod Laws

@@ -4,11 +4,13 @@
 mod document;
 mod fault;
 mod keys;
+mod laws;
 mod names;
 mod table;
 
 pub use document::read_document;
 pub use fault::{FileFault, KeyFault, TextFault};
 pub use keys::{Key, Section, Version};
+pub use laws::least_unknown_key_is_refused;
 pub use names::Name;
 pub use table::Entry;

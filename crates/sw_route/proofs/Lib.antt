@@ -1,0 +1,2 @@
+pub mod Halving
+pub mod IntervalSteps
