@@ -3,3 +3,4 @@ pub mod Lines
 pub mod FaultTexts
 pub mod ChannelTexts
 pub mod Ends
+pub mod RouteTexts

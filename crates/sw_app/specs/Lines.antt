@@ -7,6 +7,8 @@ spaced [] = []
 spaced (word ∷ []) = word
 spaced (word ∷ words) = word ++ (codes " " ++ spaced words)
 
--- a text as a line: LF ends it
-abbrev pub line : List ℕ → List ℕ
-line text = text ++ codes "\n"
+-- a line of words with a space between each two: LF ends it
+abbrev pub line : List (List ℕ) → List ℕ
+line [] = codes "\n"
+line (word ∷ []) = word ++ codes "\n"
+line (word ∷ words) = word ++ (codes " " ++ line words)

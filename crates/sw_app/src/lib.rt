@@ -5,6 +5,7 @@ mod channel_texts;
 mod command_line;
 mod ended;
 mod fault_texts;
+mod route_texts;
 
 pub use command_line::{Call, WordsFault, words};
 pub use ended::{Ended, MAX_TEXT};
