@@ -1,2 +1,3 @@
 mod CommandLines
 mod Lines
+pub mod NamedFlows
