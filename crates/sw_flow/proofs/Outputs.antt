@@ -1,8 +1,9 @@
 -- The channels that a look names at a switch.
-use Rattle.std.proofs.Common.{◌≡◌, ◌≢◌, ◌^◌, ℕ, ◌<◌, Bool, true, false, List, Contains, Option, Some, None, is_some, IsBitSet, bit_and, eqb, refl, sym, ap, ◌∙◌, ◌⊎◌, inl, inr, ◌↔◌, ◌≤◌, arith}
-use Rattle.std.specs.List.{range_with_len, list_any}
+use Rattle.std.proofs.Common.{◌≡◌, ◌≢◌, ◌^◌, ◌+◌, ◌++◌, ◌∷◌, [], ℕ, ◌<◌, map, filter_map, option_to_list, Bool, true, false, List, Contains, Option, Some, None, is_some, IsBitSet, bit_and, eqb, refl, sym, ap, ◌∙◌, ◌⊎◌, inl, inr, ◌↔◌, ◌≤◌, arith}
+use Rattle.std.specs.List.{range_with_len, list_any, cons_option}
 use Rattle.std.proofs.lemmas.Bool.{cases_eq, eq-eqb, ne_eqb}
-use Rattle.std.proofs.lemmas.List.Elements.{Contains-get_or}
+use Rattle.std.proofs.lemmas.List.{append_assoc, map-append}
+use Rattle.std.proofs.lemmas.List.Elements.{Contains-get_or, filter_map-append}
 use Rattle.std.proofs.lemmas.List.Folds.{Any-from_list_any, list_any_none, list_any_at}
 use Rattle.sw_topo.specs.declared.place.PlaceEnd.{PlaceEnd}
 use Rattle.sw_topo.specs.Wiring.{out_of}
@@ -10,7 +11,7 @@ use Rattle.sw_route.specs.declared.look.Look.{Look}
 use Rattle.sw_route.specs.Looks.{NamesOutput}
 use Rattle.sw_flow.specs.Faults.{output_at, has_output}
 use Rattle.sw_flow.specs.Numbers.{outputs, outputs_below}
-use Rattle.sw_flow.proofs.Listed.{Contains-filter_map, Contains-from_filter_map, Contains-range, Contains-from_range}
+use Rattle.sw_flow.proofs.Listed.{Contains-filter_map, Contains-from_filter_map, Contains-range, Contains-from_range, range_more}
 
 module _ (ends : List PlaceEnd) (s : ℕ) (look : Look) where
   pub output_at-named : (p e : ℕ) → IsBitSet look.ports p → out_of ends s p ≡ Some e → output_at ends s look p ≡ Some e
@@ -72,3 +73,23 @@ module _ (ends : List PlaceEnd) (s : ℕ) (look : Look) where
 
   pub has_output-from_names : (e : ℕ) → NamesOutput ends s look e → has_output ends s look ≡ true
   has_output-from_names e n = has_output-from_port n.port n.is_port (ap is_some (output_at-named n.port e n.named n.linked))
+
+  pub outputs_more : (n : ℕ) → outputs_below ends s look (n + 1) ≡ outputs_below ends s look n ++ option_to_list (output_at ends s look n)
+  outputs_more n =
+      ap (filter_map (output_at ends s look)) (range_more n) ∙ filter_map-append (output_at ends s look) (range_with_len 0 n) (n ∷ []) ∙ ap (λ l. outputs_below ends s look n ++ l) (one (output_at ends s look n))
+    where
+      one : (o : Option ℕ) → cons_option o [] ≡ option_to_list o
+      one None = refl
+      one (Some e) = refl
+
+  pub outputs_all : outputs_below ends s look 32 ≡ outputs ends s look
+  unfolding outputs
+  outputs_all = refl
+
+  -- what the port n gives, behind what those below it gave
+  pub pushed_more : (f : ℕ → ℕ) (old before after : List ℕ) (n : ℕ) (o : Option ℕ) → o ≡ output_at ends s look n → before ≡ old ++ map f (outputs_below ends s look n) → after ≡ before ++ map f (option_to_list o) → after ≡ old ++ map f (outputs_below ends s look (n + 1))
+  pushed_more f old before after n o at so push =
+      push ∙ ap (λ (l : List ℕ). l ++ map f (option_to_list o)) so ∙ append_assoc old (map f (outputs_below ends s look n)) (map f (option_to_list o))
+      ∙ ap (λ (l : List ℕ). old ++ l) (sym (map-append f (outputs_below ends s look n) (option_to_list o)))
+      ∙ ap (λ (p : Option ℕ). old ++ map f (outputs_below ends s look n ++ option_to_list p)) at
+      ∙ ap (λ (l : List ℕ). old ++ map f l) (sym (outputs_more n))

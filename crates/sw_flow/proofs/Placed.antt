@@ -5,8 +5,8 @@ use Rattle.std.proofs.lemmas.Nat.{div-mul-add, mod-mul-add, div-add-mod'}
 use Rattle.std.proofs.lemmas.List.{get_or-map, length-map}
 use Rattle.std.proofs.lemmas.List.Kept.{AllPairs-from_increasing}
 use Rattle.std.proofs.Math.Nat.{mul-le-mul_right, mod-lt}
-use Rattle.sw_topo.specs.Wiring.{out}
-use Rattle.sw_network.specs.Entries.{FlowEntry, Declaration}
+use Rattle.sw_topo.specs.Wiring.{Wiring, out}
+use Rattle.sw_network.specs.Entries.{FlowEntry, Declaration, wiring_of}
 use Rattle.sw_reach.specs.Reached.{Reached, IsListing}
 use Rattle.sw_flow.specs.declared.place.Place.{Place}
 use Rattle.sw_flow.specs.Places.{ends_of, IsPlace, IsBefore, IsPlaceList}
@@ -54,3 +54,14 @@ module _ (d : Declaration) (f : FlowEntry) where
           let n : ℕ = p.channel * w + p.deleted in
           let same : place_of f n ≡ p = rw (div-mul-add p.channel w p.deleted r.0, mod-mul-add p.channel w p.deleted r.0) refl in
           subst (Contains (map (place_of f) numbers)) same (Contains-map (place_of f) numbers n ((l.member n).1 r.1))
+
+  -- the list as the code makes it
+  pub placed : (s number from : ℕ) (address numbers : List ℕ) (w : Wiring) (places : List Place) → w ≡ wiring_of d → from ≡ f.from → out w.ends from ≡ Some s → address ≡ f.address → number ≡ s
+      → IsListing (Reached (next_numbers d f) (number * (length address + 1))) numbers
+      → places ≡ map (λ n. record { channel = n / (length address + 1); deleted = n % (length address + 1) }) numbers
+      → IsPlaceList d f places
+  placed s number from address numbers w places wired starts at same is listing made =
+      let start : out (ends_of d) f.from ≡ Some s = ap (λ (v : Wiring). out v.ends f.from) (sym wired) ∙ ap (out w.ends) (sym starts) ∙ at in
+      let found = subst (λ (a : List ℕ). IsListing (Reached (next_numbers d f) (s * (length a + 1))) numbers) same (subst (λ (n : ℕ). IsListing (Reached (next_numbers d f) (n * (length address + 1))) numbers) is listing) in
+      let list : places ≡ map (place_of f) numbers = made ∙ ap (λ (a : List ℕ). map (λ n. record { channel = n / (length a + 1); deleted = n % (length a + 1) }) numbers) same in
+      subst (IsPlaceList d f) (sym list) (place_list s start numbers found)

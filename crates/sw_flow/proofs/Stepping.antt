@@ -1,17 +1,19 @@
 -- The steps of a flow, and those between the numbers of its places.
-use Rattle.std.proofs.Common.{◌≡◌, ℕ, ◌+◌, ◌*◌, ◌/◌, ◌%◌, ◌<◌, ◌≤◌, Bool, true, false, cond, Option, Some, None, List, [], length, map, Contains, ltb, refl, sym, ap, ◌∙◌, subst, ◌⊎◌, inl, inr, arith}
+use Rattle.std.proofs.Common.{◌≡◌, ℕ, ◌+◌, ◌*◌, ◌/◌, ◌%◌, ◌<◌, ◌≤◌, Bool, true, false, cond, Option, Some, None, List, [], length, map, All, Contains, ltb, refl, sym, ap, ◌∙◌, subst, ◌⊎◌, inl, inr, arith}
 use Rattle.std.proofs.lemmas.Bool.{cases_lt, lt-ltb, le-ltb}
-use Rattle.std.proofs.lemmas.Nat.{div-mul-add, mod-mul-add}
+use Rattle.std.proofs.lemmas.Nat.{div-mul-add, mod-mul-add, mul-add-lt}
+use Rattle.std.proofs.lemmas.List.Elements.{Contains-get_or}
+use Rattle.std.proofs.lemmas.List.Quantifiers.{position-Some}
 use Rattle.sw_topo.specs.declared.place.PlaceEnd.{PlaceEnd}
 use Rattle.sw_topo.specs.declared.place.PlaceEnd.TheVariants.{Node, Switch}
-use Rattle.sw_topo.specs.Wiring.{out}
+use Rattle.sw_topo.specs.Wiring.{Wiring, out, is_port}
 use Rattle.sw_route.specs.declared.look.Look.{Look}
-use Rattle.sw_network.specs.Entries.{FlowEntry, Declaration}
+use Rattle.sw_network.specs.Entries.{FlowEntry, Declaration, wiring_of}
 use Rattle.sw_reach.specs.Reached.{Reached}
 use Rattle.sw_reach.specs.Reached.Reached.{begin, step}
 use Rattle.sw_flow.specs.Places.{ends_of, end_of, look_after, deleted_behind, Follows, IsPlace}
 use Rattle.sw_flow.specs.Places.IsPlace.{start, next}
-use Rattle.sw_flow.specs.Numbers.{width, outputs, next_at_switch, next_at_end, next_numbers}
+use Rattle.sw_flow.specs.Numbers.{width, number_bound, outputs, next_at_switch, next_at_end, next_numbers}
 use Rattle.sw_flow.proofs.Listed.{Contains-map, Contains-from_map}
 use Rattle.sw_flow.proofs.Outputs.{outputs_are}
 
@@ -80,3 +82,19 @@ module _ (d : Declaration) (f : FlowEntry) where
   reached_from_place s at c k (next {c = b} {k = j} p h) =
       let before = reached_from_place s at b j p in
       (few_deleted d f b j c k h, step before.1 (led_number b j c k before.0 h))
+
+  next_below : (n x : ℕ) → Contains (next_numbers d f n) x → x < number_bound d f
+  next_below n x h =
+      let l = leads n x h in
+      let e : l.channel < length (ends_of d) = (position-Some (is_port l.follows.switch l.follows.named.port) (ends_of d) l.channel (Node 0) l.follows.named.linked).0 in
+      let few = few_deleted d f _ _ l.channel l.deleted l.follows in
+      let low = mul-add-lt l.channel (width f) l.deleted (length (ends_of d)) e few in
+      subst (λ (y : ℕ). y < number_bound d f) (sym l.number) (omega arith)
+
+  pub all_below : (n : ℕ) → All (λ x. x < number_bound d f) (next_numbers d f n)
+  all_below n = λ k x lt. next_below n _ (Contains-get_or (next_numbers d f n) k x lt)
+
+-- the bound as the code has it
+pub bound_is : (d : Declaration) (f : FlowEntry) (channels : ℕ) (w : Wiring) (address : List ℕ) → channels ≡ length w.ends → w ≡ wiring_of d → address ≡ f.address → channels * (length address + 1) ≡ number_bound d f
+bound_is d f channels w address counted wired same =
+    ap (λ n. n * (length address + 1)) (counted ∙ ap (λ (v : Wiring). length v.ends) wired) ∙ ap (λ (a : List ℕ). length (ends_of d) * (length a + 1)) same

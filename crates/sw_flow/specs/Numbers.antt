@@ -14,8 +14,8 @@ abbrev pub width : FlowEntry → ℕ
 width f = length f.address + 1
 
 -- how many numbers there are
-abbrev pub bound : Declaration → FlowEntry → ℕ
-bound d f = length (ends_of d) * width f
+abbrev pub number_bound : Declaration → FlowEntry → ℕ
+number_bound d f = length (ends_of d) * width f
 
 abbrev pub place_of : FlowEntry → ℕ → Place
 place_of f n = record { channel = n / width f; deleted = n % width f }

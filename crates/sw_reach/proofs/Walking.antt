@@ -67,3 +67,10 @@ module _ (next : ℕ → List ℕ) (start : ℕ) where
       λ r. Contains-permutation numbers sorted n same (complete numbers done w all n r),
     );
   }
+
+  pub reached_below : (bound : ℕ) → start < bound → ((n : ℕ) → n < bound → All (λ m. m < bound) (next n)) → (n : ℕ) → Reached next start n → n < bound
+  reached_below bound first inside n begin = first
+  reached_below bound first inside n (step {n = m} r h) = All-contains (λ k. k < bound) (next m) n (inside m (reached_below bound first inside m r)) h
+
+  pub all_below : (bound : ℕ) → start < bound → ((n : ℕ) → n < bound → All (λ m. m < bound) (next n)) → (numbers : List ℕ) → IsListing (Reached next start) numbers → All (λ n. n < bound) numbers
+  all_below bound first inside numbers l = λ k d lt. reached_below bound first inside _ ((l.member _).0 (Contains-get_or numbers k d lt))

@@ -18,7 +18,8 @@ pub fn reached<S: Steps>(
     requires bound { bound ≡ S.bound steps.now }
     requires start { start < bound }
     requires inside { (n : ℕ) → n < bound → All (λ m. m < bound) (S.next steps.now n) }
-    ensures { IfOk result (λ v. IsListing (Reached (S.next steps.now) start) v.items) }
+    ensures listing { IfOk result (λ v. IsListing (Reached (S.next steps.now) start) v.items) }
+    ensures below { IfOk result (λ v. All (λ n. n < bound) v.items) }
 {
     let mut walk = Walk::new(alloc, bound)?;
     walk.add(start)?;

@@ -1,7 +1,7 @@
 use Rattle.std.proofs.Common.{List, ◌++◌, subst, sym, ap, ◌∙◌, arith}
 use Rattle.std.specs.Prelude.{ℕ}
 use Rattle.sw_reach.specs.Walks.{Found, with_number}
-use Rattle.sw_reach.proofs.Walking.{Walks, walks_first, walks_on, listing}
+use Rattle.sw_reach.proofs.Walking.{Walks, walks_first, walks_on, listing, all_below}
 use Rattle.sw_reach.proofs.least.reached.Goals as goal
 
 pub loop-done-init : goal.loop-done-init
@@ -23,4 +23,11 @@ loop-done-preserved g c =
     }
 
 pub returns : goal.returns
-returns g c = listing (g.S.Steps.next c.args.steps.now) c.args.start _ _ c.loop-done.done c.loop-done.invariant.walks (omega arith) c.into_sorted.ensures.same c.into_sorted.ensures.rising
+returns g c =
+    let next = g.S.Steps.next c.args.steps.now in
+    let start = c.args.start in
+    let found = listing next start _ _ c.loop-done.done c.loop-done.invariant.walks (omega arith) c.into_sorted.ensures.same c.into_sorted.ensures.rising in
+    record {
+      listing = found;
+      below = all_below next start c.args.bound c.requires.start c.requires.inside _ found;
+    }
