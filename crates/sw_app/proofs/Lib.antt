@@ -1,3 +1,5 @@
 mod CommandLines
 mod Lines
 pub mod NamedFlows
+pub mod PlaceChannels
+pub mod FlowAnswers

@@ -4,3 +4,4 @@ pub mod FaultTexts
 pub mod ChannelTexts
 pub mod Ends
 pub mod RouteTexts
+pub mod RouteAnswers

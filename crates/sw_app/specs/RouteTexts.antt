@@ -28,8 +28,10 @@ abbrev pub outcome_status : Option (Place × RouteFault) → ℕ
 outcome_status None = 0
 outcome_status (Some fault) = 1
 
--- the flow's name, its places, and the first place that has a fault
+-- the flow's name, its places, and a fault of one of them, if there is one
+abbrev pub text_of : Declaration → FlowEntry → List Place → Option (Place × RouteFault) → List ℕ
+text_of d f places fault = line (codes "flow" ∷ f.name ∷ []) ++ (flat_map (place_line d) places ++ outcome_line fault)
+
+-- the text with the first place that has a fault
 abbrev pub route_text : Declaration → FlowEntry → List Place → List ℕ
-route_text d f places =
-    line (codes "flow" ∷ f.name ∷ [])
-    ++ (flat_map (place_line d) places ++ outcome_line (first_fault_of d f places))
+route_text d f places = text_of d f places (first_fault_of d f places)

@@ -1,10 +1,12 @@
 //! The engines and the words of the program swcheck.
 #![tactic(auto)]
 
+mod answer;
 mod channel_texts;
 mod command_line;
 mod ended;
 mod fault_texts;
+mod route_answer;
 mod route_texts;
 
 pub use command_line::{Call, WordsFault, words};
