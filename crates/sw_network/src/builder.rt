@@ -123,14 +123,10 @@ impl NetworkBuilder {
         ensures ok { OnOk result (self.new ≡ record self.old { switches = self.old.switches ++ record { name = name.now; arbitration = arbitration; routes = table } ∷ [] }) }
         ensures err { OnErr result (self.new ≡ self.old) }
     {
-        let switch = Switch {
-            name: String::from_str(alloc, name)?,
-            arbitration,
-            table,
-        };
+        let entry = Switch::new(alloc, name, arbitration, table)?;
         self.switches.reserve(1)?;
         self.names.add(alloc, name)?;
-        self.switches.push(switch).unwrap();
+        self.switches.push(entry).unwrap();
         self.wiring.switch();
         Ok(())
     }

@@ -1,0 +1,7 @@
+pub mod Keys
+pub mod Names
+pub mod Nodes
+pub mod Switches
+pub mod Links
+pub mod FlowTables
+pub mod Network
