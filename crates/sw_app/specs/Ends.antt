@@ -29,6 +29,10 @@ IsTold old new text status (Status n) = (n ≡ status) × Appends old new text
 IsTold old new text status ReadFailed = ⊥
 IsTold old new text status WriteFailed = (count : ℕ) × (count < length text) × Appends old new (take count text)
 
+-- that memory was wanted was told
+abbrev pub IsMemoryTold : Option (List ℕ) → Option (List ℕ) → Ended → Type 0
+IsMemoryTold old new ended = IsTold old new (line (codes "fault memory" ∷ [])) 5 ended
+
 -- one of the answers was told, and nothing else
 abbrev pub Tells : Option (List ℕ) → Option (List ℕ) → Answers → Ended → Type 0
 Tells old new P ended = (text : List ℕ) × (status : ℕ) × OrMemory P text status × IsTold old new text status ended
