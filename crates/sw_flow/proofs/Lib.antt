@@ -3,3 +3,4 @@ pub mod Outputs
 pub mod Faulty
 pub mod Stepping
 pub mod Placed
+pub mod Jobs

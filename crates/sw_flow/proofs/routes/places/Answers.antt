@@ -2,7 +2,7 @@ use Rattle.std.proofs.Common.{◌≡◌, ◌<◌, ◌/◌, ◌%◌, ◌+◌, ℕ
 use Rattle.std.proofs.lemmas.Result.{IfOk-weaker}
 use Rattle.sw_network.specs.Entries.{FlowEntry, all_flows}
 use Rattle.sw_flow.specs.declared.place.Place.{Place}
-use Rattle.sw_flow.specs.Places.{IsPlaceList}
+use Rattle.sw_flow.specs.Places.{IsPlacesOf}
 use Rattle.sw_flow.specs.Numbers.{next_numbers}
 use Rattle.sw_flow.proofs.Stepping.{all_below, bound_is}
 use Rattle.sw_flow.proofs.Placed.{placed}
@@ -19,7 +19,11 @@ pub returns : goal.returns
 returns c =
     let d = c.args.network.now in
     let f = c.flow-flow.result.now in
-    rw c.flow-flow.ensures.flow (IfOk-weaker c.places_of.result (λ v. v.items ≡ map (λ n. record { channel = n / (length c.address.result.now + 1); deleted = n % (length c.address.result.now + 1) }) c.deref.result.now) (λ v. IsPlaceList d f v.items)
-    (λ v made. placed d f c.out-start.result c.number.result c.from.result c.address.result.now c.in_ok-numbers.numbers.items c.topology-topology.result.now v.items c.topology-topology.ensures c.from.ensures c.out-start.ensures.channel c.address.ensures c.number.ensures c.in_ok-numbers.ensures.listing
-      (made ∙ ap (map (λ n. record { channel = n / (length c.address.result.now + 1); deleted = n % (length c.address.result.now + 1) })) c.deref.ensures.value))
-    c.places_of.ensures)
+    IfOk-weaker c.places_of.result (λ v. v.items ≡ map (λ n. record { channel = n / (length c.address.result.now + 1); deleted = n % (length c.address.result.now + 1) }) c.deref.result.now) (λ v. IsPlacesOf d c.args.flow v.items)
+    (λ v made. record {
+      flow = f;
+      numbered = c.flow-flow.ensures.flow;
+      list = placed d f c.out-start.result c.number.result c.from.result c.address.result.now c.in_ok-numbers.numbers.items c.topology-topology.result.now v.items c.topology-topology.ensures c.from.ensures c.out-start.ensures.channel c.address.ensures c.number.ensures c.in_ok-numbers.ensures.listing
+        (made ∙ ap (map (λ n. record { channel = n / (length c.address.result.now + 1); deleted = n % (length c.address.result.now + 1) })) c.deref.ensures.value);
+    })
+    c.places_of.ensures
