@@ -7,30 +7,31 @@ use Rattle.sw_network.specs.Entries.{Declaration, FlowEntry, all_flows, flow_nam
 use Rattle.sw_flow.specs.declared.fault.RouteFault.{RouteFault}
 use Rattle.sw_flow.specs.declared.place.Place.{Place}
 use Rattle.sw_flow.specs.Faults.{first_fault_of}
-use Rattle.sw_flow.specs.Places.{IsPlaceList}
+use Rattle.sw_flow.specs.Places.{IsPlaceList, IsPlacesOf}
 use Rattle.sw_app.proofs.NamedFlows.{find_by-none, find_by-some}
 use Rattle.sw_app.specs.Lines.{line}
 use Rattle.sw_app.specs.RouteAnswers.{IsFlowAnswer, IsFoundAnswer, IsNamedAnswer}
 use Rattle.sw_app.specs.RouteTexts.{outcome_status, text_of}
 
--- the text and the status of the flow's list of places, with its first fault
-is_answer : (d : Declaration) (f : FlowEntry) (places list : List Place) (fault : Option (Place × RouteFault)) (text : List ℕ) (status : ℕ)
-    → IsPlaceList d f places → list ≡ places → fault ≡ first_fault_of d f list
-    → text ≡ text_of d f list fault → status ≡ outcome_status fault → IsFlowAnswer d f text status
-is_answer d f places list fault text status are same first text_is status_is =
-    let listed : IsPlaceList d f list = subst (IsPlaceList d f) (sym same) are in
-    (list, listed, (text_is ∙ ap (text_of d f list) first, status_is ∙ ap outcome_status first))
+-- what holds of the flow that is there
+pub at_flow : (o : Option FlowEntry) (f : FlowEntry) (P : FlowEntry → Type 0) → o ≡ Some f → P f → IfSome o P
+at_flow o f P is h = subst (λ (o : Option FlowEntry). IfSome o P) (sym is) h
 
--- the same, where the flow is known by its number
-pub numbered_answer : (d : Declaration) (o : Option FlowEntry) (f : FlowEntry) (places list : List Place) (fault : Option (Place × RouteFault)) (text : List ℕ) (status : ℕ)
-    → o ≡ Some f → IfSome o (λ g. IsPlaceList d g places) → list ≡ places → IfSome o (λ g. fault ≡ first_fault_of d g list)
-    → text ≡ text_of d f list fault → status ≡ outcome_status fault → IfSome o (λ g. IsFlowAnswer d g text status)
-numbered_answer d o f places list fault text status is are same first text_is status_is =
-    let at : IfSome (Some f) (λ g. IsFlowAnswer d g text status) =
-    is_answer d f places list fault text status
-    (subst (λ (o : Option FlowEntry). IfSome o (λ g. IsPlaceList d g places)) is are) same
-    (subst (λ (o : Option FlowEntry). IfSome o (λ g. fault ≡ first_fault_of d g list)) is first) text_is status_is in
-    subst (λ (o : Option FlowEntry). IfSome o (λ g. IsFlowAnswer d g text status)) (sym is) at
+of_flow : (o : Option FlowEntry) (f : FlowEntry) (P : FlowEntry → Type 0) → o ≡ Some f → IfSome o P → P f
+of_flow o f P is h = subst (λ (o : Option FlowEntry). IfSome o P) is h
+
+-- the text and the status of the i-th flow's list of places, with its first fault
+pub numbered_answer : (d : Declaration) (i : ℕ) (places list : List Place) (fault : Option (Place × RouteFault)) (text : List ℕ) (status : ℕ)
+    → IsPlacesOf d i places → list ≡ places → IfSome (slice_get (all_flows d) i) (λ f. fault ≡ first_fault_of d f list)
+    → IfSome (slice_get (all_flows d) i) (λ f. text ≡ text_of d f list fault) → status ≡ outcome_status fault
+    → IfSome (slice_get (all_flows d) i) (λ f. IsFlowAnswer d f text status)
+numbered_answer d i places list fault text status of same first text_is status_is =
+    let f = of.flow in
+    let listed : IsPlaceList d f list = subst (IsPlaceList d f) (sym same) of.list in
+    let first_at : fault ≡ first_fault_of d f list = of_flow _ f (λ f. fault ≡ first_fault_of d f list) of.numbered first in
+    let text_at : text ≡ text_of d f list fault = of_flow _ f (λ f. text ≡ text_of d f list fault) of.numbered text_is in
+    at_flow _ f (λ f. IsFlowAnswer d f text status) of.numbered
+    (list, listed, (text_at ∙ ap (text_of d f list) first_at, status_is ∙ ap outcome_status first_at))
 
 -- an answer for the flow of the number at which a name stands is one for the flow of that name
 pub found_answer : (name : List ℕ) (d : Declaration) (i : ℕ) (text : List ℕ) (status : ℕ) → position (bytes_eq name) (flow_names (all_flows d)) ≡ Some i

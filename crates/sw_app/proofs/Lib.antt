@@ -3,3 +3,4 @@ mod Lines
 pub mod NamedFlows
 pub mod PlaceChannels
 pub mod FlowAnswers
+pub mod Endings
