@@ -1,0 +1,6 @@
+mod CommandLines
+mod Lines
+pub mod NamedFlows
+pub mod PlaceChannels
+pub mod FlowAnswers
+pub mod Endings
