@@ -3,12 +3,16 @@ use Rattle.std.specs.Prelude.{◌≡◌, ◌≢◌, ℕ, ◌+◌, ◌≤◌, ◌
 use Rattle.sw_char.specs.declared.nchar.End.{End}
 use Rattle.sw_rmap.specs.declared.config.TargetConfig.{TargetConfig}
 use Rattle.sw_rmap.specs.declared.status.Status.TheVariants.{Success}
-use Rattle.sw_rmap.specs.Crc.{with_crc}
+use Rattle.sw_rmap.specs.Crc.{crc_of, with_crc}
 use Rattle.sw_rmap.specs.Instruction.{is_write, reply_address_len}
 use Rattle.sw_rmap.specs.CommandView.{CommandView, IsCommand}
 use Rattle.sw_rmap.specs.Commands.{instruction_of, header_of, body_of, read, written}
 use Rattle.sw_rmap.specs.Replies.{is_answered, reply_of, reply_to}
 use Rattle.sw_rmap.specs.Answers.{status_of, answer}
+
+-- the code of a text followed by its code is 0
+abbrev pub CodeOfWholeIsZero : Type 0
+CodeOfWholeIsZero = (bytes : List ℕ) → crc_of (with_crc bytes) ≡ 0
 
 -- a command that was written is read again, and its data stand behind it
 abbrev pub WrittenIsRead : Type 0

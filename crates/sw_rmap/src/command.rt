@@ -150,7 +150,7 @@ impl Command {
     }
 
     /// The data length: 24 bits.
-    pub fn data_length(&self) -> u32
+    pub fn length(&self) -> u32
         ensures value { result ≡ self.now.data_length }
         ensures small { result < 2 ^ 24 }
     {

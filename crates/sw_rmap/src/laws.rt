@@ -1,5 +1,10 @@
 //! What holds of commands, replies and targets, whatever the code.
-ghost use Rattle.sw_rmap.specs.Laws.{WrittenIsRead, ReadIsWritten, WayBackIsInHeader, AnswersByTheWayBack, RepliesGetNoReply, OnlySuccessStores, MemoryKeepsItsLength, WriteThenRead};
+ghost use Rattle.sw_rmap.specs.Laws.{CodeOfWholeIsZero, WrittenIsRead, ReadIsWritten, WayBackIsInHeader, AnswersByTheWayBack, RepliesGetNoReply, OnlySuccessStores, MemoryKeepsItsLength, WriteThenRead};
+
+/// The code of a text followed by its code is 0.
+pub fn code_of_whole_is_zero()
+    ensures { CodeOfWholeIsZero }
+{}
 
 /// A command that was written is read again.
 pub fn written_is_read()

@@ -12,7 +12,7 @@ mod status;
 mod target;
 mod writing;
 
-pub use checksum::{crc, crc_of_whole_is_zero};
+pub use checksum::crc;
 pub use command::Command;
 pub use config::TargetConfig;
 pub use reply::reply_to;

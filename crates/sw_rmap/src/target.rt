@@ -98,7 +98,7 @@ impl Target {
             None
         };
         if status.is_success() && command.bits().is_write() {
-            let data = &body[..command.data_length() as usize];
+            let data = &body[..command.length() as usize];
             store(&mut self.memory, offset(config, command), data);
         }
         Ok(reply)
@@ -124,7 +124,7 @@ fn found<'a>(config: TargetConfig, memory: &'a [u8], command: &Command, status: 
         return &[];
     }
     let at = offset(config, command);
-    &memory[at..at + command.data_length() as usize]
+    &memory[at..at + command.length() as usize]
 }
 
 fn store(memory: &mut [u8], at: usize, bytes: &[u8])

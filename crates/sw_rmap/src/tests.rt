@@ -113,7 +113,7 @@ fn refused_writes(rt: HostRuntime) -> Result<(), Fail> {
 #[test]
 fn commands_as_bytes(rt: HostRuntime) -> Result<(), Fail> {
     let command = Command::read(&WRITE).ok_or("a command")?;
-    assert_eq!(rt; command.data_length(), 16);
+    assert_eq!(rt; command.length(), 16);
     assert_eq!(rt; command.instruction(), 0x6C);
     let bytes = write_command(rt.alloc(), &command, &DATA)?;
     assert_eq!(rt; bytes.as_slice(), WRITE.as_slice());
