@@ -1,5 +1,5 @@
 -- The cell of a wormhole routing switch.
-use Rattle.std.specs.Prelude.{All, ◌≡◌, ◌≤◌, ℕ, List, [], length, Option, slice_get, slice_index, replicate, map}
+use Rattle.std.specs.Prelude.{All, ◌≡◌, ℕ, List, [], length, Option, slice_get, slice_index, replicate, map}
 use Rattle.std.specs.List.{slice_index_or}
 use Rattle.sw_char.specs.declared.nchar.NChar.{NChar}
 use Rattle.sw_link.specs.Ends.{Received}
@@ -22,10 +22,6 @@ pub record IsCell {R A : Type 0} (ports : A → ℕ) (cell : Cell R A) : Type 0 
   pub all_received : length cell.received ≡ 32
   pub all_arbiters : length cell.arbiters ≡ 32
   pub arbiter_ports : All (λ arbiter. ports arbiter ≡ cell.linked) cell.arbiters
-
--- how many N-Chars a receive buffer may hold
-abbrev pub IsCapacity : ℕ → Type 0
-IsCapacity capacity = (8 ≤ capacity) × (capacity ≤ 4096)
 
 abbrev pub new_end : ℕ → Received
 new_end capacity = record { buffer = []; outstanding = 0; capacity = capacity }

@@ -34,7 +34,7 @@ impl<R: Routing, A: Arbiter> Model for SwitchCell<R, A> {
 }
 
 impl<R: Routing, A: Arbiter> SwitchCell<R, A> {
-    ghost use Rattle.sw_switch.specs.Cell.{credit_at, input_at, end_at, front_at};
+    ghost use Rattle.sw_switch.specs.Cell.{IsCell, credit_at, input_at, end_at, front_at};
     ghost use Rattle.sw_switch.specs.Changes.{without_front, with_input, with_credit, with_end};
     ghost use Rattle.sw_switch.specs.Conditions.{is_held};
 
@@ -156,8 +156,10 @@ impl<R: Routing, A: Arbiter> SwitchCell<R, A> {
         self.arbiters[out.number() as usize].pick(asking)
     }
 
-    pub(crate) fn linked(&self) -> PortSet
-        ensures { result ≡ self.now.linked }
+    /// The ports with a link.
+    pub fn linked(&self) -> PortSet
+        ensures value { result ≡ self.now.linked }
+        ensures sound { IsCell A.ports self.now }
     {
         self.linked
     }

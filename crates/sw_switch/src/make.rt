@@ -1,6 +1,7 @@
 //! A new switch.
-ghost use Rattle.std.specs.Prelude.{◌≡◌, ℕ, ◌≤◌, length, replicate, map, All, slice_get, Some, IfOk, vec_len};
-ghost use Rattle.sw_switch.specs.Cell.{new_end, new_cell, IsCapacity};
+ghost use Rattle.std.specs.Prelude.{◌≡◌, ℕ, length, replicate, map, All, slice_get, Some, IfOk, vec_len};
+ghost use Rattle.sw_link.specs.Ends.{IsCapacity};
+ghost use Rattle.sw_switch.specs.Cell.{new_end, new_cell};
 
 use crate::cell::SwitchCell;
 use crate::input::Input;
