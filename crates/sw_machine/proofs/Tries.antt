@@ -1,7 +1,9 @@
 -- A step of the machine, tried: where this answers a state, the step leads there.
-use Rattle.std.proofs.Common.{Bool, Contains, List, None, Option, Some, [], ap, append-nil, append_assoc, arith, eq-eqb, false, length, lt-ltb, ltb-true, map, nat_le, nat_lt, ne_eqb, refl, suc, sym, true, zero, ℕ, ⊎_elim, ◌++◌, ◌+◌, ◌<◌, ◌∙◌, ◌∷◌, ◌≡◌, ◌≢◌}
+use Rattle.std.proofs.Common.{Bool, Contains, List, None, Option, Some, [], ap, append-nil, append_assoc, arith, eq-eqb, false, length, lt-ltb, ltb-true, map, nat_eq, nat_le, nat_lt, ne_eqb, refl, suc, sym, true, zero, ℕ, ⊎_elim, ◌++◌, ◌+◌, ◌<◌, ◌∙◌, ◌∷◌, ◌≡◌, ◌≢◌}
 use Rattle.std.proofs.lemmas.Bool.{cases_eq, le-leb, leb-true}
-use Rattle.std.specs.Prelude.{if◌then◌else◌, not, option_and_then, ◌&&◌}
+use Rattle.std.proofs.lemmas.Slice.Eq.{bytes_eq-Decides}
+use Rattle.std.specs.List.{list_any}
+use Rattle.std.specs.Prelude.{if◌then◌else◌, not, option_and_then, ◌&&◌, ◌||◌}
 use Rattle.sw_char.specs.declared.nchar.End.{End}
 use Rattle.sw_char.specs.declared.nchar.End.TheVariants.{Eep as ByEep, Eop as ByEop}
 use Rattle.sw_char.specs.declared.nchar.NChar.{NChar}
@@ -12,7 +14,7 @@ use Rattle.sw_machine.specs.Packets.{IsCut, Packet, chars, marker_of}
 use Rattle.sw_machine.specs.Runs.{Run}
 use Rattle.sw_machine.specs.State.{State, after_accept, after_arrive, after_begin, after_drop_byte, after_drop_marker, after_emit, after_fct, after_fct_in, after_forward, after_grant, after_reply, after_spill}
 use Rattle.sw_machine.specs.Steps.{Accept, Arrive, Begin, Drop, Drops, Emit, Fct, FctIn, Forward, Grant, Leads, Reply, Spill, Step}
-use Rattle.sw_machine.specs.Tried.{holds, is_answered_by, is_held, names, same_bytes, try_accept, try_arrive, try_begin, try_credit, try_drop, try_drop_byte, try_emit, try_fct_in, try_forward, try_grant, try_reply, try_spill, try_step, try_steps, under_way}
+use Rattle.sw_machine.specs.Tried.{holds, is_answered_by, is_held, try_accept, try_arrive, try_begin, try_credit, try_drop, try_drop_byte, try_emit, try_fct_in, try_forward, try_grant, try_reply, try_spill, try_step, try_steps, under_way}
 use Rattle.sw_machine.specs.declared.input.Input.{Input}
 use Rattle.sw_machine.specs.declared.input.Input.TheVariants.{Held, Idle, Spilling}
 
@@ -28,29 +30,20 @@ none_holds : (n d : ℕ) (input : ℕ → Input) → not (is_held n d input) ≡
 none_holds zero d input e b lt held = omega arith
 none_holds (suc n) d input e b lt held = here (input n) refl e (λ e ne. none_holds n d input e b (omega arith) held)
   where
-    here : (i : Input) → input n ≡ i → not (if holds d i then true else is_held n d input) ≡ true → (not (is_held n d input) ≡ true → (b ≡ n → ⊥) → ⊥) → ⊥
+    here : (i : Input) → input n ≡ i → not (holds d i || is_held n d input) ≡ true → (not (is_held n d input) ≡ true → (b ≡ n → ⊥) → ⊥) → ⊥
     here Idle is e rest = rest e (λ same. let k = ap input same in cc)
     here Spilling is e rest = rest e (λ same. let k = ap input same in cc)
     here (Held x) is e rest = ⊎_elim
-        (λ xd. let no : false ≡ true = sym (ap (λ t. not (if t then true else is_held n d input)) (eq-eqb x d xd)) ∙ e in cc)
-        (λ nd. rest (sym (ap (λ t. not (if t then true else is_held n d input)) (ne_eqb x d nd)) ∙ e) (λ same. let k : Held x ≡ Held d = sym is ∙ ap input (sym same) ∙ held in nd (cc)))
+        (λ xd. let no : false ≡ true = sym (ap (λ t. not (t || is_held n d input)) (eq-eqb x d xd)) ∙ e in cc)
+        (λ nd. rest (sym (ap (λ t. not (t || is_held n d input)) (ne_eqb x d nd)) ∙ e) (λ same. let k : Held x ≡ Held d = sym is ∙ ap input (sym same) ∙ held in nd (cc)))
         (cases_eq x d)
 
-named_in : (l : List ℕ) (d : ℕ) → names l d ≡ true → Contains l d
+named_in : (l : List ℕ) (d : ℕ) → list_any (nat_eq d) l ≡ true → Contains l d
 named_in [] d e = absurd (cc)
 named_in (x ∷ l) d e = ⊎_elim
-    (λ same. (0, omega arith, same))
-    (λ ne. let r = named_in l d (sym (ap (λ t. if t then true else names l d) (ne_eqb x d ne)) ∙ e) in (suc r.0, omega (arith, r.1), r.2))
-    (cases_eq x d)
-
-bytes_are : (l k : List ℕ) → same_bytes l k ≡ true → l ≡ k
-bytes_are [] [] e = refl
-bytes_are [] (y ∷ k) e = absurd (cc)
-bytes_are (x ∷ l) [] e = absurd (cc)
-bytes_are (x ∷ l) (y ∷ k) e = ⊎_elim
-    (λ same. let r = bytes_are l k (sym (ap (λ t. if t then same_bytes l k else false) (eq-eqb x y same)) ∙ e) in ap (λ z. z ∷ l) same ∙ ap (λ l. y ∷ l) r)
-    (λ ne. let no : false ≡ true = sym (ap (λ t. if t then same_bytes l k else false) (ne_eqb x y ne)) ∙ e in absurd (cc))
-    (cases_eq x y)
+    (λ same. (0, omega arith, sym same))
+    (λ ne. let r = named_in l d (sym (ap (λ t. t || list_any (nat_eq d) l) (ne_eqb d x ne)) ∙ e) in (suc r.0, omega (arith, r.1), r.2))
+    (cases_eq d x)
 
 bytes_data : (before bytes : List ℕ) → under_way before (map Data bytes) ≡ before ++ bytes
 bytes_data before [] = sym (append-nil before)
@@ -69,25 +62,19 @@ under_way_chars (p ∷ ps) bytes = ap (under_way []) (front_of p ps (map Data by
 pub under_way_is : (l : List NChar) (ps : List Packet) (bytes : List ℕ) → IsCut l ps bytes → under_way [] l ≡ bytes
 under_way_is l ps bytes cut = ap (under_way []) cut ∙ under_way_chars ps bytes
 
-names_it : (l : List ℕ) (d : ℕ) → Contains l d → names l d ≡ true
+names_it : (l : List ℕ) (d : ℕ) → Contains l d → list_any (nat_eq d) l ≡ true
 names_it [] d (k, lt, e) = absurd (omega arith)
-names_it (x ∷ l) d (zero, lt, e) = rw (eq-eqb x d e) refl
-names_it (x ∷ l) d (suc k, lt, e) = ⊎_elim (λ same. rw (eq-eqb x d same) refl) (λ ne. rw (ne_eqb x d ne) (names_it l d (k, omega arith, e))) (cases_eq x d)
+names_it (x ∷ l) d (zero, lt, e) = rw (eq-eqb d x (sym e)) refl
+names_it (x ∷ l) d (suc k, lt, e) = ⊎_elim (λ same. rw (eq-eqb d x same) refl) (λ ne. rw (ne_eqb d x ne) (names_it l d (k, omega arith, e))) (cases_eq d x)
 
 holds_none : (n d : ℕ) (input : ℕ → Input) → ((b : ℕ) → b < n → input b ≢ Held d) → not (is_held n d input) ≡ true
 holds_none zero d input free = refl
 holds_none (suc n) d input free = here (input n) refl (holds_none n d input (λ b lt. free b (omega arith)))
   where
-    here : (i : Input) → input n ≡ i → not (is_held n d input) ≡ true → not (if holds d i then true else is_held n d input) ≡ true
+    here : (i : Input) → input n ≡ i → not (is_held n d input) ≡ true → not (holds d i || is_held n d input) ≡ true
     here Idle is rest = rest
     here Spilling is rest = rest
     here (Held x) is rest = rw (ne_eqb x d (λ same. free n (omega arith) (is ∙ ap Held same))) rest
-
-same_bytes_are : (l k : List ℕ) → l ≡ k → same_bytes l k ≡ true
-same_bytes_are [] [] e = refl
-same_bytes_are [] (y ∷ k) e = absurd (cc)
-same_bytes_are (x ∷ l) [] e = absurd (cc)
-same_bytes_are (x ∷ l) (y ∷ k) e = let xy : x ≡ y = cc in let lk : l ≡ k = cc in rw (eq-eqb x y xy) (same_bytes_are l k lk)
 
 module _ (net : Network) (s : State) where
   in_net : (c : ℕ) → nat_lt c net.channels ≡ true → c < net.channels
@@ -106,9 +93,9 @@ module _ (net : Network) (s : State) where
 
   grant : (d c : ℕ) (at : Cell) (i : Input) (l : List NChar) (t : State) → net.end_of c ≡ at → s.input c ≡ i → s.buffer c ≡ l → try_grant net s d c at i l ≡ Some t → Leads net s (Grant d c) t
   grant d c (AtSwitch w) Idle (Data h ∷ l) t at is front e =
-      let f = fits (nat_lt c net.channels && (names (net.look w h) d && not (is_held net.channels d s.input))) (after_grant s d c (if net.deletes w h then l else Data h ∷ l)) t e in
-      let a = both (nat_lt c net.channels) (names (net.look w h) d && not (is_held net.channels d s.input)) f.0 in
-      let b = both (names (net.look w h) d) (not (is_held net.channels d s.input)) a.1 in
+      let f = fits (nat_lt c net.channels && (list_any (nat_eq d) (net.look w h) && not (is_held net.channels d s.input))) (after_grant s d c (if net.deletes w h then l else Data h ∷ l)) t e in
+      let a = both (nat_lt c net.channels) (list_any (nat_eq d) (net.look w h) && not (is_held net.channels d s.input)) f.0 in
+      let b = both (list_any (nat_eq d) (net.look w h)) (not (is_held net.channels d s.input)) a.1 in
       record { in_net = in_net c a.0; switch = w; at = at; idle = is; h = h; rest = l; front = front; named = named_in (net.look w h) d b.0; not_held = none_holds net.channels d s.input b.1; after = f.1 }
   grant d c at i l t a is front e = absurd (cc)
 
@@ -136,7 +123,7 @@ module _ (net : Network) (s : State) where
 
   answered_by : (i : ℕ) (j : Option ℕ) (address : Option (List ℕ)) → (net.flow i).reply ≡ j → is_answered_by net s i j address ≡ true → AnsweredBy net i address
   answered_by i j None is e = tt
-  answered_by i (Some j) (Some address) is e = (j, is, bytes_are (net.flow j).address address e)
+  answered_by i (Some j) (Some address) is e = (j, is, (bytes_eq-Decides (net.flow j).address address).0 e)
   answered_by i None (Some address) is e = absurd (cc)
 
   begun : (f : ℕ) (cargo : List ℕ) (end : End) (l : List NChar) (p : List PendingReply) (t : State) → s.to_send (net.flow f).from ≡ l → s.pending (net.flow f).from ≡ p → try_begin net s f cargo end l p ≡ Some t → Leads net s (Begin f cargo end) t
@@ -199,7 +186,7 @@ module _ (net : Network) (s : State) where
   answers i (Some j) (Some address) is a =
       let both : Some j ≡ Some a.0 = sym is ∙ a.1 in
       let same : j ≡ a.0 = cc in
-      same_bytes_are (net.flow j).address address (ap (λ k. (net.flow k).address) same ∙ a.2)
+      (bytes_eq-Decides (net.flow j).address address).1 (ap (λ k. (net.flow k).address) same ∙ a.2)
   answers i None (Some address) is a = let none : None ≡ Some a.0 = sym is ∙ a.1 in absurd (cc)
 
   drops : (c switch : ℕ) (first : NChar) (rest : List NChar) (t : State) → c < net.channels → Drops net s c switch first rest t → try_drop net s c (AtSwitch switch) Idle (first ∷ rest) ≡ Some t

@@ -1,6 +1,8 @@
 -- The machine as a function: the state after a step, if the step is possible.
+use Rattle.std.specs.List.{list_any}
 use Rattle.std.specs.Option.{option_and_then}
-use Rattle.std.specs.Prelude.{Bool, List, None, Option, Some, [], false, if◌then◌else◌, length, nat_eq, nat_le, nat_lt, not, suc, true, zero, ℕ, ◌&&◌, ◌++◌, ◌+◌, ◌↔◌, ◌∷◌, ◌≡◌}
+use Rattle.std.specs.Prelude.{Bool, List, None, Option, Some, [], false, if◌then◌else◌, length, nat_eq, nat_le, nat_lt, not, suc, true, zero, ℕ, ◌&&◌, ◌++◌, ◌+◌, ◌||◌, ◌↔◌, ◌∷◌, ◌≡◌}
+use Rattle.std.specs.Str.{bytes_eq}
 use Rattle.sw_char.specs.declared.nchar.End.{End}
 use Rattle.sw_char.specs.declared.nchar.NChar.{NChar}
 use Rattle.sw_char.specs.declared.nchar.NChar.TheVariants.{Data, Eep, Eop}
@@ -18,19 +20,7 @@ holds d i = false
 -- whether some input below n holds d
 abbrev pub is_held : ℕ → ℕ → (ℕ → Input) → Bool
 is_held zero d input = false
-is_held (suc n) d input = if holds d (input n) then true else is_held n d input
-
--- whether d is in the list
-abbrev pub names : List ℕ → ℕ → Bool
-names [] d = false
-names (x ∷ l) d = if nat_eq x d then true else names l d
-
--- whether the two are the same
-abbrev pub same_bytes : List ℕ → List ℕ → Bool
-same_bytes [] [] = true
-same_bytes [] (y ∷ k) = false
-same_bytes (x ∷ l) [] = false
-same_bytes (x ∷ l) (y ∷ k) = if nat_eq x y then same_bytes l k else false
+is_held (suc n) d input = holds d (input n) || is_held n d input
 
 -- the bytes of the packet under way, read one by one behind these
 abbrev pub under_way : List ℕ → List NChar → List ℕ
@@ -49,7 +39,7 @@ module _ (net : Network) (s : State) where
   try_arrive c (x ∷ l) = if nat_lt c net.channels then Some (after_arrive s c x l) else None
 
   abbrev pub try_grant : ℕ → ℕ → Cell → Input → List NChar → Option State
-  try_grant d c (AtSwitch w) Idle (Data h ∷ l) = if nat_lt c net.channels && (names (net.look w h) d && not (is_held net.channels d s.input)) then Some (after_grant s d c (if net.deletes w h then l else Data h ∷ l)) else None
+  try_grant d c (AtSwitch w) Idle (Data h ∷ l) = if nat_lt c net.channels && (list_any (nat_eq d) (net.look w h) && not (is_held net.channels d s.input)) then Some (after_grant s d c (if net.deletes w h then l else Data h ∷ l)) else None
   try_grant d c at i l = None
 
   abbrev pub try_drop_byte : ℕ → List ℕ → Option State
@@ -76,7 +66,7 @@ module _ (net : Network) (s : State) where
 
   abbrev pub is_answered_by : ℕ → Option ℕ → Option (List ℕ) → Bool
   is_answered_by i j None = true
-  is_answered_by i (Some j) (Some address) = same_bytes (net.flow j).address address
+  is_answered_by i (Some j) (Some address) = bytes_eq (net.flow j).address address
   is_answered_by i None (Some address) = false
 
   abbrev pub try_begin : ℕ → List ℕ → End → List NChar → List PendingReply → Option State
