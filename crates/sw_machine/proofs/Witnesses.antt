@@ -2,7 +2,6 @@
 -- the state after the steps, which all are possible
 use Rattle.std.proofs.Common.{List, [], arith, refl, ◌+◌, ◌∷◌, ◌≡◌, ◌≤◌}
 use Rattle.std.specs.Prelude.{replicate, unwrap_or}
-use Rattle.sw_machine.proofs.Faults.{at_node}
 use Rattle.sw_machine.proofs.Tries.{tried_all}
 use Rattle.sw_machine.specs.Network.{Network}
 use Rattle.sw_machine.specs.Sample.{misrouted, of_capacity, sample}
