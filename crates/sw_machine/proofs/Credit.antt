@@ -5,7 +5,6 @@ use Rattle.std.proofs.lemmas.List.{length_push}
 use Rattle.sw_char.specs.declared.nchar.End.{End}
 use Rattle.sw_char.specs.declared.nchar.NChar.{NChar}
 use Rattle.sw_char.specs.declared.nchar.NChar.TheVariants.{Data, Eep, Eop}
-use Rattle.sw_machine.proofs.Tries.{fits}
 use Rattle.sw_machine.specs.Credit.{HasCredit}
 use Rattle.sw_machine.specs.Network.{IsNetwork, Network}
 use Rattle.sw_machine.specs.Runs.{IsReached, Run}

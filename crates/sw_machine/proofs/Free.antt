@@ -5,7 +5,6 @@ use Rattle.std.proofs.lemmas.List.Sums.{sum_by-append}
 use Rattle.sw_machine.proofs.Answered.{replies_at_most, replies_exactly}
 use Rattle.sw_machine.proofs.Bound.{is_bounded}
 use Rattle.sw_machine.proofs.Load.{is_bounded_by_load}
-use Rattle.sw_machine.proofs.Owed.{owes}
 use Rattle.sw_machine.proofs.RunLists.{all_moves, cost, run_of, run_of_append}
 use Rattle.sw_machine.proofs.Runs.{always_goes_on, empty_inv, none, reached_inv, run_begins}
 use Rattle.sw_machine.proofs.Whole.{all_comes_out, comes_out_whole}

@@ -6,7 +6,6 @@ use Rattle.std.specs.Option.{option_map}
 use Rattle.std.specs.Prelude.{if◌then◌else◌, slice_get, unwrap_or}
 use Rattle.sw_char.specs.declared.nchar.End.{End}
 use Rattle.sw_machine.proofs.Cuts.{no_cons}
-use Rattle.sw_machine.proofs.Networks.{reply_goes}
 use Rattle.sw_machine.specs.Certificate.{IsAccepted, IsListed, number}
 use Rattle.sw_machine.specs.Network.{AtNode, AtSwitch, IsNetwork, IsReplyFlow, PendingReply, Place, left_bytes, reverse_of}
 use Rattle.sw_machine.specs.Places.{Follows, NoFault, deleted_after, header}

@@ -2,18 +2,17 @@
 -- the state after the steps, which all are possible
 use Rattle.std.proofs.Common.{List, [], arith, refl, ◌+◌, ◌∷◌, ◌≡◌, ◌≤◌}
 use Rattle.std.specs.Prelude.{replicate, unwrap_or}
-use Rattle.sw_machine.proofs.Cuts.{cut_of}
-use Rattle.sw_machine.proofs.Faults.{at_node}
-use Rattle.sw_machine.proofs.Tries.{tried_all, try_all}
+use Rattle.sw_machine.proofs.Tries.{tried_all}
 use Rattle.sw_machine.specs.Network.{Network}
 use Rattle.sw_machine.specs.Sample.{misrouted, of_capacity, sample}
 use Rattle.sw_machine.specs.State.{State, empty}
 use Rattle.sw_machine.specs.Steps.{Fct, Step}
+use Rattle.sw_machine.specs.Tried.{try_steps}
 use Rattle.sw_machine.specs.Witnesses.{IsAnswered, IsDiscarded, SendsFcts, commands, discards, replies}
 use Rattle.sw_machine.specs.declared.input.Input.TheVariants.{Idle, Spilling}
 
 abbrev after : Network → State → List Step → State
-after net s steps = unwrap_or (try_all net s steps) s
+after net s steps = unwrap_or (try_steps net s steps) s
 
 pub seven_fcts : SendsFcts 4096 7
 seven_fcts =
@@ -40,7 +39,6 @@ abbrev asked : State
 asked = after sample (empty sample) commands
 
 pub is_answered : IsAnswered
-unfolding cut_of
 is_answered = record {
   mid = asked;
   asked = tried_all sample commands (empty sample) asked refl;

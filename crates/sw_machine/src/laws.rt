@@ -35,6 +35,7 @@ ghost use Rattle.sw_machine.specs.Parts.{
 };
 ghost use Rattle.sw_machine.specs.Places.{RisingHasNoCycle};
 ghost use Rattle.sw_machine.specs.Steps.{StepsAreDetermined};
+ghost use Rattle.sw_machine.specs.Tried.{StepsAreTried};
 
 /// Each list of N-Chars is cut into packets, in one way.
 pub fn packets_are_cut()
@@ -42,9 +43,11 @@ pub fn packets_are_cut()
     ensures one_way { CutsAreEqual }
 {}
 
-/// A state and a step determine the state after.
+/// A state and a step determine the state after, and there is a function that tells it, exactly
+/// where the step is possible.
 pub fn steps_are_determined()
-    ensures { StepsAreDetermined }
+    ensures determined { StepsAreDetermined }
+    ensures tried { StepsAreTried }
 {}
 
 /// In each reached state of each network the credit equation of each channel holds, at most 56

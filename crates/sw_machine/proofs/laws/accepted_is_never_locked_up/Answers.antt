@@ -1,6 +1,5 @@
 use Rattle.sw_machine.proofs.laws.accepted_is_never_locked_up.Goals as goal
 use Rattle.sw_machine.proofs.Free.{is_deadlock_free}
-use Rattle.sw_machine.proofs.Progress.{goes_on}
 
 pub returns : goal.returns
 returns c = record {
