@@ -31,6 +31,21 @@ pub enum WordsFault {
     Memory,
 }
 
+impl WordsFault {
+    ghost use Rattle.sw_app.specs.CommandLine.{words_status};
+
+    /// The status that the program exits with.
+    pub fn status(&self) -> u8
+        ensures { result ≡ words_status self.now }
+    {
+        match self {
+            WordsFault::Help(_) => 0,
+            WordsFault::Refused(_) => 2,
+            WordsFault::Memory => 5,
+        }
+    }
+}
+
 impl From<AllocError> for WordsFault {
     ghost from_gives = { λ _ e. e ≡ Memory };
 
