@@ -40,6 +40,12 @@ IsMatched found call = (name : List ℕ) × (values : List Row) × (found ≡ So
 abbrev pub Gives : List (List ℕ) → Call → Type 0
 Gives words call = (fault_of swcheck_app words ≡ []) × IsMatched (subcommand_of swcheck_app words) call
 
+-- the status that the program exits with
+abbrev pub words_status : WordsFault → ℕ
+words_status (Help text) = 0
+words_status (Refused text) = 2
+words_status Memory = 5
+
 -- how an error of clap's is told: help goes to standard output, and each other text to standard error
 abbrev pub ShowsKind : ErrorKind → WordsFault → Type 0
 ShowsKind kind Memory = Unit {0}

@@ -5,6 +5,12 @@ use Rattle.sw_app.specs.declared.ended.Ended.{Ended}
 use Rattle.sw_app.specs.declared.ended.Ended.TheVariants.{Status, ReadFailed, WriteFailed}
 use Rattle.sw_app.specs.Lines.{line}
 
+-- the status that the program exits with: 6 where a read or a write failed
+abbrev pub exit_status : Ended → ℕ
+exit_status (Status n) = n
+exit_status ReadFailed = 6
+exit_status WriteFailed = 6
+
 -- which texts, each with a status, may answer
 abbrev pub Answers : Type 1
 Answers = List ℕ → ℕ → Type 0

@@ -31,6 +31,21 @@ pub enum WordsFault {
     Memory,
 }
 
+impl WordsFault {
+    ghost use Rattle.sw_app.specs.CommandLine.{words_status};
+
+    /// The status that the program exits with.
+    pub fn status(&self) -> u8
+        ensures { result ≡ words_status self.now }
+    {
+        match self {
+            WordsFault::Help(_) => 0,
+            WordsFault::Refused(_) => 2,
+            WordsFault::Memory => 5,
+        }
+    }
+}
+
 impl From<AllocError> for WordsFault {
     ghost from_gives = { λ _ e. e ≡ Memory };
 
@@ -42,15 +57,24 @@ impl From<AllocError> for WordsFault {
 fn route_command<'a>(alloc: Global) -> Result<Command<'a>, AllocError>
     ensures { IfOk result (λ c. (app_of c ≡ route_app) × ((out-Command c).has_globals ≡ false)) }
 {
-    let file = Arg::new(alloc, "FILE").required(true);
-    let flow = Arg::new(alloc, "FLOW").required(true);
-    Command::new(alloc, "route").arg(file)?.arg(flow)
+    let file = Arg::new(alloc, "FILE")
+        .required(true)
+        .help("A network file");
+    let flow = Arg::new(alloc, "FLOW")
+        .required(true)
+        .help("The name of a flow, or NAME+reply of its replies");
+    let route = Command::new(alloc, "route").about(
+        "Print the places of a flow, and whether packets arrive rightly",
+    );
+    route.arg(file)?.arg(flow)
 }
 
 fn swcheck_command<'a>(alloc: Global) -> Result<Command<'a>, AllocError>
     ensures { IfOk result (λ c. app_of c ≡ swcheck_app) }
 {
-    let top = Command::new(alloc, "swcheck").subcommand_required(true);
+    let top = Command::new(alloc, "swcheck")
+        .about("Checks SpaceWire networks")
+        .subcommand_required(true);
     top.subcommand(route_command(alloc)?)
 }
 

@@ -1,4 +1,5 @@
 //! How an engine ends.
+ghost use Rattle.std.specs.Prelude.{◌≡◌};
 ghost use Rattle.sw_app.specs.Ends.{IsTold};
 
 use std::io::Write;
@@ -16,6 +17,20 @@ pub enum Ended {
     ReadFailed,
     /// A write failed: what was written is a beginning of the text.
     WriteFailed,
+}
+
+impl Ended {
+    ghost use Rattle.sw_app.specs.Ends.{exit_status};
+
+    /// The status that the program exits with.
+    pub fn status(self) -> u8
+        ensures { result ≡ exit_status self }
+    {
+        match self {
+            Ended::Status(status) => status,
+            Ended::ReadFailed | Ended::WriteFailed => 6,
+        }
+    }
 }
 
 /// Writes an answer.
