@@ -4,3 +4,5 @@ pub mod NamedFlows
 pub mod PlaceChannels
 pub mod FlowAnswers
 pub mod Endings
+pub mod OneListing
+pub mod OneAnswer

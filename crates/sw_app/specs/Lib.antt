@@ -5,3 +5,4 @@ pub mod ChannelTexts
 pub mod Ends
 pub mod RouteTexts
 pub mod RouteAnswers
+pub mod Laws

@@ -7,6 +7,7 @@ mod command_line;
 mod ended;
 mod engines;
 mod fault_texts;
+mod laws;
 mod route_answer;
 mod route_texts;
 
@@ -14,3 +15,4 @@ pub use command_line::{Call, WordsFault, words};
 pub use ended::{Ended, MAX_TEXT};
 pub use engines::route;
 pub use fault_texts::fault_text;
+pub use laws::route_has_one_answer;
