@@ -1,4 +1,4 @@
--- The two ends of a channel and their changes (ECSS-E-ST-50-12C, 5.5.4: flow control).
+-- The two ends of a channel and their changes (ECSS-E-ST-50-12C, data link layer: flow control).
 use Rattle.std.specs.Prelude.{ℕ, ◌+◌, ◌-◌, ◌≤◌, Bool, ◌&&◌, nat_le, List, [], ◌∷◌, ◌++◌, length}
 use Rattle.sw_char.specs.declared.nchar.NChar.{NChar}
 

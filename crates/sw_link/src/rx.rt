@@ -7,7 +7,7 @@ use std::marker::Model;
 use sw_char::NChar;
 
 /// The receiving end of a channel: its buffer, and how many N-Chars it has asked for that did
-/// not arrive yet (ECSS-E-ST-50-12C, 5.5.4: flow control).
+/// not arrive yet (ECSS-E-ST-50-12C, data link layer: flow control).
 #[derive(Drop)]
 pub struct RxEnd {
     ring: HeapCircularBuffer<NChar>,

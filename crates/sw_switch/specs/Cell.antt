@@ -15,6 +15,16 @@ pub record Cell (R A : Type 0) : Type 0 where
   pub received : List Received  -- the receiving end of the channel that ends at the port
   pub arbiters : List A  -- the arbiter of the port's output
 
+abbrev pub cell_of : {R A : Type 0} → R → ℕ → List ℕ → List Input → List Received → List A → Cell R A
+cell_of routes linked credits inputs received arbiters = record {
+  routes = routes;
+  linked = linked;
+  credits = credits;
+  inputs = inputs;
+  received = received;
+  arbiters = arbiters;
+}
+
 -- each list has 32 entries, and each arbiter was made with the linked ports
 pub record IsCell {R A : Type 0} (ports : A → ℕ) (cell : Cell R A) : Type 0 where
   pub all_credits : length cell.credits ≡ 32
@@ -27,14 +37,7 @@ abbrev pub new_end : ℕ → Received
 new_end capacity = record { buffer = []; outstanding = 0; capacity = capacity }
 
 abbrev pub new_cell : {R A : Type 0} → R → ℕ → List ℕ → List A → Cell R A
-new_cell routes linked capacities arbiters = record {
-  routes = routes;
-  linked = linked;
-  credits = replicate 32 0;
-  inputs = replicate 32 Idle;
-  received = map new_end capacities;
-  arbiters = arbiters;
-}
+new_cell routes linked capacities arbiters = cell_of routes linked (replicate 32 0) (replicate 32 Idle) (map new_end capacities) arbiters
 
 abbrev pub credit_at : {R A : Type 0} → Cell R A → ℕ → ℕ
 credit_at cell port = slice_index cell.credits port

@@ -1,4 +1,4 @@
--- What each step of a switch changes of its cell (ECSS-E-ST-50-12C, 5.6.8: wormhole routing).
+-- What each step of a switch changes of its cell (ECSS-E-ST-50-12C, network layer: wormhole routing).
 use Rattle.std.specs.Prelude.{◌≡◌, ℕ, Bool, true, false, drop, Option, Some, None, if◌then◌else◌, slice_get, slice_set}
 use Rattle.sw_char.specs.declared.nchar.NChar.{NChar}
 use Rattle.sw_char.specs.declared.nchar.NChar.TheVariants.{Data, Eop, Eep}

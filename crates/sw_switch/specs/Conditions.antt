@@ -1,4 +1,4 @@
--- When a step of a switch is possible (ECSS-E-ST-50-12C, 5.6.8: wormhole routing). `answer` is what a byte names by the routing.
+-- When a step of a switch is possible (ECSS-E-ST-50-12C, network layer: wormhole routing). `answer` is what a byte names by the routing.
 use Rattle.std.specs.Prelude.{◌≡◌, ℕ, ◌<◌, ◌==◌, ◌↔◌, ◌⊎◌, Bool, false, length, Option, Some, None, IsTrue, IsBitSet, bit_and}
 use Rattle.std.specs.List.{list_any}
 use Rattle.sw_char.specs.declared.nchar.NChar.{NChar}

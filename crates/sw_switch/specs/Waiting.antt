@@ -1,10 +1,10 @@
 -- How long an input waits for an output.
-use Rattle.std.specs.Prelude.{◌≡◌, ◌≢◌, ℕ, ◌<◌, ◌≤◌, List, [], ◌∷◌, IsBitSet}
+use Rattle.std.specs.Prelude.{◌≡◌, ◌≢◌, ℕ, ◌<◌, ◌≤◌, List, [], ◌∷◌, length, IsBitSet, count_ones}
 use Rattle.sw_arb.specs.Arbiters.{Pick}
 use Rattle.sw_char.specs.declared.nchar.NChar.{NChar}
 use Rattle.sw_link.specs.Ends.{asked, arrived, granted}
 use Rattle.sw_route.specs.declared.look.Look.{Look}
-use Rattle.sw_switch.specs.Cell.{Cell, credit_at, input_at, end_at, front_at}
+use Rattle.sw_switch.specs.Cell.{Cell, IsCell, credit_at, input_at, end_at, front_at}
 use Rattle.sw_switch.specs.Conditions.{Names, Asks, CanGrant, CanDrop, CanForward, CanSpill, CanIssue}
 use Rattle.sw_switch.specs.Changes.{granted_to, Grants, passed, forwarded, dropped, with_credit, with_end}
 use Rattle.sw_switch.specs.declared.input.Input.TheVariants.{Held}
@@ -35,3 +35,9 @@ pub data Meanwhile {R A : Type 0} (answer : R → ℕ → Look) (policy : A → 
       Meanwhile answer policy out input (granted_to answer old some other) picks later → Meanwhile answer policy out input old picks later
   moved : (old new later : Cell R A) (picks : List Pick) → Moves answer old new →
       Meanwhile answer policy out input new picks later → Meanwhile answer policy out input old picks later
+
+-- While an input waits, the arbiter of the output passes it over fewer times than there are linked ports
+abbrev pub WaitingIsBounded : {R A : Type 0} → (R → ℕ → Look) → (A → ℕ) → (A → ℕ → ℕ → A → Type 0) → Type 0
+WaitingIsBounded {R = R} {A = A} answer ports policy =
+    (cell later : Cell R A) (out input : ℕ) (picks : List Pick) → IsCell ports cell → out < 32 → input < 32 → Waits answer cell out input →
+    Meanwhile answer policy out input cell picks later → length picks < count_ones cell.linked

@@ -24,13 +24,13 @@ pub struct SwitchCell<R: Routing, A: Arbiter> {
 }
 
 impl<R: Routing, A: Arbiter> Model for SwitchCell<R, A> {
-    ghost use Rattle.sw_switch.specs.Cell.{Cell, IsCell};
+    ghost use Rattle.sw_switch.specs.Cell.{Cell, IsCell, cell_of};
 
     ghost Value = { Cell R A };
 
-    ghost view = { λ c. record { routes = c.routes; linked = c.linked; credits = c.credits.items; inputs = c.inputs.items; received = c.received.items; arbiters = c.arbiters.items } };
+    ghost view = { λ c. cell_of c.routes c.linked c.credits.items c.inputs.items c.received.items c.arbiters.items };
 
-    ghost invariant = { λ c. IsCell A.ports (record { routes = c.routes; linked = c.linked; credits = c.credits.items; inputs = c.inputs.items; received = c.received.items; arbiters = c.arbiters.items }) };
+    ghost invariant = { λ c. IsCell A.ports (cell_of c.routes c.linked c.credits.items c.inputs.items c.received.items c.arbiters.items) };
 }
 
 impl<R: Routing, A: Arbiter> SwitchCell<R, A> {
@@ -151,7 +151,9 @@ impl<R: Routing, A: Arbiter> SwitchCell<R, A> {
         requires asks { asking ≢ 0 }
         requires within { IsWithin asking self.old.linked }
         ensures member { IsBitSet asking result }
-        ensures after { (a : A) × (b : A) × (slice_get self.old.arbiters out ≡ Some a) × A.policy a asking result b × (self.new ≡ record self.old { arbiters = slice_set self.old.arbiters out b }) }
+        ensures after { (a : A) × (b : A) × (slice_get self.old.arbiters out ≡ Some a)
+            × A.policy a asking result b
+            × (self.new ≡ record self.old { arbiters = slice_set self.old.arbiters out b }) }
     {
         self.arbiters[out.number() as usize].pick(asking)
     }

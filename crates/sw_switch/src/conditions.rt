@@ -15,7 +15,8 @@ impl<R: Routing, A: Arbiter> SwitchCell<R, A> {
 
     /// The input is idle, and a packet's leading byte at its front names the output.
     fn asks_for(&self, input: Port, out: Port) -> bool
-        ensures { IsTrue result ↔ ((input_at self.now input ≡ Input.Idle) × Names R.answer self.now.routes (front_at self.now input) out) }
+        ensures { IsTrue result ↔ ((input_at self.now input ≡ Input.Idle)
+            × Names R.answer self.now.routes (front_at self.now input) out) }
     {
         match (self.input(input), self.front(input)) {
             (Input::Idle, Some(NChar::Data(byte))) => self.look(byte).ports.contains(out),
