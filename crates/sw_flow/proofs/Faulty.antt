@@ -31,10 +31,13 @@ module _ (d : Declaration) (f : FlowEntry) (k s p : ℕ) where
   routed : k < length f.address → has_output (ends_of d) s (look_after d f s k) ≡ true → IsFault d f k (Some (Switch s p)) None
   routed lt has = record {
     address_ends = ((λ h. cc), (λ w. absurd (omega (arith, w.3))));
-    no_route = ((λ h. cc), (λ w.
-        let same : s ≡ w.0 = let e = w.2 in cc in
-        let out = names-from_has_output (ends_of d) s (look_after d f s k) has in
-        absurd (subst (λ (t : ℕ). (e : ℕ) → ¬ NamesOutput (ends_of d) t (look_after d f t k) e) (sym same) w.4 out.0 out.1)));
+    no_route = (
+      (λ h. cc),
+      (λ w.
+          let same : s ≡ w.0 = let e = w.2 in cc in
+          let out = names-from_has_output (ends_of d) s (look_after d f s k) has in
+          absurd (subst (λ (t : ℕ). (e : ℕ) → ¬ NamesOutput (ends_of d) t (look_after d f t k) e) (sym same) w.4 out.0 out.1)),
+    );
     wrong_node = ((λ h. cc), (λ w. let e = w.1 in cc));
     wrong_left = ((λ h. cc), (λ w. let e = w.0 in cc));
   }

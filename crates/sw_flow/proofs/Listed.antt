@@ -60,6 +60,7 @@ module _ {X Y : Type 0} where
       later : (o : Option Y) → Contains (filter_map h xs) y → Contains (cons_option o (filter_map h xs)) y
       later None k = k
       later (Some w) k = Contains-later w y (filter_map h xs) k
+
       by : (z ≡ x) ⊎ Contains xs x → (Contains xs x → Contains (filter_map h xs) y) → Contains (filter_map h (z ∷ xs)) y
       by (inl same) rest = rw (ap h same ∙ e) (Contains-head y (filter_map h xs))
       by (inr k) rest = later (h z) (rest k)

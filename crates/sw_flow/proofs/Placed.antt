@@ -47,6 +47,7 @@ module _ (d : Declaration) (f : FlowEntry) where
       to p h =
           let m = Contains-from_map (place_of f) numbers p h in
           subst (λ (q : Place). IsPlace d f q.channel q.deleted) m.2 (place_from_reached d f s at m.0 ((l.member m.0).0 m.1))
+
       from : (p : Place) → IsPlace d f p.channel p.deleted → Contains (map (place_of f) numbers) p
       from p h =
           let r = reached_from_place d f s at p.channel p.deleted h in

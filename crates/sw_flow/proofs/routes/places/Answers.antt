@@ -24,6 +24,6 @@ returns c =
       flow = f;
       numbered = c.flow-flow.ensures.flow;
       list = placed d f c.out-start.result c.number.result c.from.result c.address.result.now c.in_ok-numbers.numbers.items c.topology-topology.result.now v.items c.topology-topology.ensures c.from.ensures c.out-start.ensures.channel c.address.ensures c.number.ensures c.in_ok-numbers.ensures.listing
-        (made ∙ ap (map (λ n. record { channel = n / (length c.address.result.now + 1); deleted = n % (length c.address.result.now + 1) })) c.deref.ensures.value);
+          (made ∙ ap (map (λ n. record { channel = n / (length c.address.result.now + 1); deleted = n % (length c.address.result.now + 1) })) c.deref.ensures.value);
     })
     c.places_of.ensures
