@@ -1,5 +1,5 @@
 -- What each fault of a place is.
-use Rattle.std.proofs.Common.{◌≡◌, ◌≢◌, ℕ, ◌-◌, ◌<◌, ◌≤◌, Bool, true, false, Option, Some, None, length, eqb, ltb, refl, sym, ap, ◌∙◌, subst, ◌⊎◌, inl, inr, ◌↔◌, arith}
+use Rattle.std.proofs.Common.{◌≡◌, ◌≢◌, ℕ, ◌-◌, ◌<◌, ◌≤◌, true, false, Option, Some, None, length, refl, sym, ap, ◌∙◌, subst, ◌⊎◌, inl, inr, ◌↔◌, arith}
 use Rattle.std.proofs.lemmas.Bool.{cases_eq, cases_lt, cases_Bool, eq-eqb, ne_eqb, lt-ltb, le-ltb}
 use Rattle.sw_topo.specs.declared.place.PlaceEnd.{PlaceEnd}
 use Rattle.sw_topo.specs.declared.place.PlaceEnd.TheVariants.{Node, Switch}
@@ -8,7 +8,7 @@ use Rattle.sw_network.specs.Entries.{FlowEntry, Declaration}
 use Rattle.sw_flow.specs.declared.fault.RouteFault.{RouteFault}
 use Rattle.sw_flow.specs.declared.fault.RouteFault.TheVariants.{AddressEnds, NoRoute, WrongNode, WrongLeft}
 use Rattle.sw_flow.specs.Places.{ends_of, end_of, look_after, deleted_behind, Follows}
-use Rattle.sw_flow.specs.Faults.{fault_at_switch, fault_at_node, fault_at_end, fault_of, has_output}
+use Rattle.sw_flow.specs.Faults.{fault_at_switch, fault_at_node, fault_at_end, has_output}
 use Rattle.sw_flow.specs.Laws.{FaultsAre, FaultlessGoOn}
 use Rattle.sw_flow.proofs.Outputs.{names-from_has_output, has_output-from_names}
 

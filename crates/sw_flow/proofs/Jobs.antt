@@ -1,5 +1,5 @@
 -- Fallible work in many threads.
-use Rattle.std.proofs.Common.{◌≡◌, ℕ, zero, suc, ◌+◌, ◌<◌, List, [], ◌∷◌, map, length, get_or, Result, Ok, Err, IfOk, MatchResult, Contains, refl, sym, subst, arith}
+use Rattle.std.proofs.Common.{◌≡◌, ℕ, suc, ◌+◌, ◌<◌, List, [], ◌∷◌, map, length, get_or, Result, Ok, Err, IfOk, MatchResult, Contains, sym, subst, arith}
 use Rattle.std.specs.List.{AllZip, range_with_len}
 
 -- what each job gave, where all did

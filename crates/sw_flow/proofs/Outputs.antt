@@ -1,5 +1,5 @@
 -- The channels that a look names at a switch.
-use Rattle.std.proofs.Common.{◌≡◌, ◌≢◌, ◌^◌, ◌+◌, ◌++◌, ◌∷◌, [], ℕ, ◌<◌, map, filter_map, option_to_list, Bool, true, false, List, Contains, Option, Some, None, is_some, IsBitSet, bit_and, eqb, refl, sym, ap, ◌∙◌, ◌⊎◌, inl, inr, ◌↔◌, ◌≤◌, arith}
+use Rattle.std.proofs.Common.{◌≡◌, ◌^◌, ◌+◌, ◌++◌, ◌∷◌, [], ℕ, ◌<◌, map, filter_map, option_to_list, Bool, true, false, List, Contains, Option, Some, None, is_some, IsBitSet, bit_and, refl, sym, ap, ◌∙◌, ◌⊎◌, inl, inr, ◌↔◌, ◌≤◌, arith}
 use Rattle.std.specs.List.{range_with_len, list_any, cons_option}
 use Rattle.std.proofs.lemmas.Bool.{cases_eq, eq-eqb, ne_eqb}
 use Rattle.std.proofs.lemmas.List.{append_assoc, map-append}

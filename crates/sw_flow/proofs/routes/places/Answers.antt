@@ -1,7 +1,5 @@
-use Rattle.std.proofs.Common.{◌≡◌, ◌<◌, ◌/◌, ◌%◌, ◌+◌, ℕ, All, length, map, List, IfOk, IfSome, Vec, Global, Some, slice_get, sym, subst, ap, ◌∙◌}
+use Rattle.std.proofs.Common.{◌≡◌, ◌<◌, ◌/◌, ◌%◌, ◌+◌, ℕ, All, length, map, sym, subst, ap, ◌∙◌}
 use Rattle.std.proofs.lemmas.Result.{IfOk-weaker}
-use Rattle.sw_network.specs.Entries.{FlowEntry, all_flows}
-use Rattle.sw_flow.specs.declared.place.Place.{Place}
 use Rattle.sw_flow.specs.Places.{IsPlacesOf}
 use Rattle.sw_flow.specs.Numbers.{next_numbers}
 use Rattle.sw_flow.proofs.Stepping.{all_below, bound_is}
