@@ -50,9 +50,9 @@ pub record Grants {R A : Type 0} (answer : R → ℕ → Look) (policy : A → �
   pub are_asking : AreAsking answer old out asking
   pub before : A
   pub after : A
-  pub arbiter : slice_get old.arbiters out ≡ Some before
+  pub arbiter : slice_get old.arbiters out ≡ Some (Some before)
   pub picks : policy before asking input after
-  pub changed : new ≡ record (granted_to answer old out input) { arbiters = slice_set old.arbiters out after }
+  pub changed : new ≡ record (granted_to answer old out input) { arbiters = slice_set old.arbiters out (Some after) }
 
 -- the front has passed, and an end marker makes the input idle
 abbrev pub passed : {R A : Type 0} → Cell R A → ℕ → Cell R A
