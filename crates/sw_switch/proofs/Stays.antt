@@ -61,7 +61,7 @@ not_dropped answer routes linked (Some Eop) out has names dropped = names
 not_dropped answer routes linked (Some Eep) out has names dropped = names
 
 -- where the input's state and front stay, it waits on
-waits_after : {R A : Type 0} (answer : R → ℕ → Look) (old : Cell R A) (out input : ℕ) (credits : List ℕ) (inputs : List Input) (received : List Received) (arbiters : List A) →
+waits_after : {R A : Type 0} (answer : R → ℕ → Look) (old : Cell R A) (out input : ℕ) (credits : List ℕ) (inputs : List Input) (received : List Received) (arbiters : List (Option A)) →
     Waits answer old out input → slice_index_or inputs input Idle ≡ input_at old input → slice_get (slice_index_or received input (new_end 0)).buffer 0 ≡ front_at old input →
     Waits answer (record { routes = old.routes; linked = old.linked; credits = credits; inputs = inputs; received = received; arbiters = arbiters }) out input
 waits_after answer old out input credits inputs received arbiters waits same front =
@@ -91,7 +91,7 @@ passed_stays answer cell out input other waits apart =
     (cond_both (is_marker (front_at cell other)) (slice_set cell.inputs other Idle) cell.inputs (λ inputs. slice_index_or inputs input Idle ≡ input_at cell input) (λ _. other_input cell.inputs input other Idle apart) (λ _. refl))
     (other_front cell.received input other _ (new_end 0) apart)
 
-granted_stays : {R A : Type 0} (answer : R → ℕ → Look) (cell : Cell R A) (out input some other : ℕ) (arbiters : List A) → Waits answer cell out input → other ≢ input →
+granted_stays : {R A : Type 0} (answer : R → ℕ → Look) (cell : Cell R A) (out input some other : ℕ) (arbiters : List (Option A)) → Waits answer cell out input → other ≢ input →
     Waits answer (record (granted_to answer cell some other) { arbiters = arbiters }) out input
 granted_stays answer cell out input some other arbiters waits apart =
     waits_after answer cell out input cell.credits _ _ arbiters waits
@@ -152,7 +152,7 @@ pub record PicksOthers {A : Type 0} (ports : A → ℕ) (policy : A → ℕ → 
 
 pub picks_others : {R A : Type 0} (answer : R → ℕ → Look) (ports : A → ℕ) (policy : A → ℕ → ℕ → A → Type 0) →
     ((a b : A) (asking pick : ℕ) → policy a asking pick b → ports b ≡ ports a) →
-    (out input : ℕ) (cell later : Cell R A) (picks : List Pick) (a : A) → Waits answer cell out input → slice_get cell.arbiters out ≡ Some a → ports a ≡ cell.linked →
+    (out input : ℕ) (cell later : Cell R A) (picks : List Pick) (a : A) → Waits answer cell out input → slice_get cell.arbiters out ≡ Some (Some a) → ports a ≡ cell.linked →
     Meanwhile answer policy out input cell picks later → PicksOthers ports policy input a picks
 picks_others answer ports policy keeps out input _ _ _ a waits at same (start cell) = record { b = a; makes = none a; asks = λ k d lt. absurd (omega arith); over = refl }
 picks_others {R = R} {A = A} answer ports policy keeps out input _ _ _ a waits at same (picked old new later other picks grant apart rest) =
@@ -160,8 +160,8 @@ picks_others {R = R} {A = A} answer ports policy keeps out input _ _ _ a waits a
     let policy_a : policy a grant.asking other grant.after = rw is_before at grant.picks in
     let kept : ports grant.after ≡ ports a = keeps a grant.after grant.asking other policy_a in
     let P : Cell R A → Type 0 = λ c. Waits answer c out input in
-    let on = subst P (sym grant.changed) (granted_stays answer old out input out other (slice_set old.arbiters out grant.after) waits apart) in
-    let later_on = picks_others answer ports policy keeps out input new later picks grant.after on (rw grant.changed (slice_get-set_same old.arbiters out a grant.after at)) (kept ∙ same ∙ sym (ap (λ (c : Cell R A). c.linked) grant.changed)) rest in
+    let on = subst P (sym grant.changed) (granted_stays answer old out input out other (slice_set old.arbiters out (Some grant.after)) waits apart) in
+    let later_on = picks_others answer ports policy keeps out input new later picks grant.after on (rw grant.changed (slice_get-set_same old.arbiters out (Some a) (Some grant.after) at)) (kept ∙ same ∙ sym (ap (λ (c : Cell R A). c.linked) grant.changed)) rest in
     let Has : ℕ → ℕ → Type 0 = λ p set. IsBitSet set p in
     record {
       b = later_on.b;
@@ -171,9 +171,9 @@ picks_others {R = R} {A = A} answer ports policy keeps out input _ _ _ a waits a
     }
 picks_others {R = R} {A = A} answer ports policy keeps out input _ _ picks a waits at same (picked_elsewhere old new later elsewhere other _ not_here grant apart rest) =
     let P : Cell R A → Type 0 = λ c. Waits answer c out input in
-    let on = subst P (sym grant.changed) (granted_stays answer old out input elsewhere other (slice_set old.arbiters elsewhere grant.after) waits apart) in
+    let on = subst P (sym grant.changed) (granted_stays answer old out input elsewhere other (slice_set old.arbiters elsewhere (Some grant.after)) waits apart) in
     picks_others answer ports policy keeps out input new later picks a on
-    (rw grant.changed (slice_get-set_other old.arbiters elsewhere out grant.after (λ e. not_here (sym e)) ∙ at))
+    (rw grant.changed (slice_get-set_other old.arbiters elsewhere out (Some grant.after) (λ e. not_here (sym e)) ∙ at))
     (same ∙ sym (ap (λ (c : Cell R A). c.linked) grant.changed))
     rest
 picks_others answer ports policy keeps out input _ _ picks a waits at same (given old later some other _ can apart rest) =

@@ -1,5 +1,5 @@
 -- The cell of a wormhole routing switch.
-use Rattle.std.specs.Prelude.{All, ◌≡◌, ℕ, List, [], length, Option, slice_get, slice_index, replicate, map}
+use Rattle.std.specs.Prelude.{IsBitSet, List, None, Option, Some, [], length, map, replicate, slice_get, slice_index, ℕ, ◌<◌, ◌≡◌}
 use Rattle.std.specs.List.{slice_index_or}
 use Rattle.sw_char.specs.declared.nchar.NChar.{NChar}
 use Rattle.sw_link.specs.Ends.{Received}
@@ -13,9 +13,9 @@ pub record Cell (R A : Type 0) : Type 0 where
   pub credits : List ℕ  -- the credit of the channel that starts at the port
   pub inputs : List Input  -- what the port's input does
   pub received : List Received  -- the receiving end of the channel that ends at the port
-  pub arbiters : List A  -- the arbiter of the port's output
+  pub arbiters : List (Option A)  -- the arbiter of the port's output
 
-abbrev pub cell_of : {R A : Type 0} → R → ℕ → List ℕ → List Input → List Received → List A → Cell R A
+abbrev pub cell_of : {R A : Type 0} → R → ℕ → List ℕ → List Input → List Received → List (Option A) → Cell R A
 cell_of routes linked credits inputs received arbiters = record {
   routes = routes;
   linked = linked;
@@ -25,18 +25,28 @@ cell_of routes linked credits inputs received arbiters = record {
   arbiters = arbiters;
 }
 
--- each list has 32 entries, and each arbiter was made with the linked ports
+-- the port has an arbiter, and that was made with the linked ports
+abbrev pub HasArbiter : {A : Type 0} → (A → ℕ) → ℕ → Option (Option A) → Type 0
+HasArbiter ports linked None = ⊥
+HasArbiter ports linked (Some None) = ⊥
+HasArbiter ports linked (Some (Some arbiter)) = ports arbiter ≡ linked
+
+-- each linked port has
+abbrev pub HaveArbiters : {A : Type 0} → (A → ℕ) → ℕ → List (Option A) → Type 0
+HaveArbiters ports linked arbiters = (port : ℕ) → port < 32 → IsBitSet linked port → HasArbiter ports linked (slice_get arbiters port)
+
+-- each list has 32 entries, and each linked port an arbiter
 pub record IsCell {R A : Type 0} (ports : A → ℕ) (cell : Cell R A) : Type 0 where
   pub all_credits : length cell.credits ≡ 32
   pub all_inputs : length cell.inputs ≡ 32
   pub all_received : length cell.received ≡ 32
   pub all_arbiters : length cell.arbiters ≡ 32
-  pub arbiter_ports : All (λ arbiter. ports arbiter ≡ cell.linked) cell.arbiters
+  pub arbiter_ports : HaveArbiters ports cell.linked cell.arbiters
 
 abbrev pub new_end : ℕ → Received
 new_end capacity = record { buffer = []; outstanding = 0; capacity = capacity }
 
-abbrev pub new_cell : {R A : Type 0} → R → ℕ → List ℕ → List A → Cell R A
+abbrev pub new_cell : {R A : Type 0} → R → ℕ → List ℕ → List (Option A) → Cell R A
 new_cell routes linked capacities arbiters = cell_of routes linked (replicate 32 0) (replicate 32 Idle) (map new_end capacities) arbiters
 
 abbrev pub credit_at : {R A : Type 0} → Cell R A → ℕ → ℕ

@@ -50,9 +50,9 @@ pub record Grants {R A : Type 0} (answer : R → ℕ → Look) (policy : A → �
   pub are_asking : AreAsking answer old out asking
   pub before : A
   pub after : A
-  pub arbiter : slice_get old.arbiters out ≡ Some before
+  pub arbiter : slice_get old.arbiters out ≡ Some (Some before)
   pub picks : policy before asking input after
-  pub changed : new ≡ record (granted_to answer old out input) { arbiters = slice_set old.arbiters out after }
+  pub changed : new ≡ record (granted_to answer old out input) { arbiters = slice_set old.arbiters out (Some after) }
 
 -- the front has passed, and an end marker makes the input idle
 abbrev pub passed : {R A : Type 0} → Cell R A → ℕ → Cell R A
@@ -65,7 +65,7 @@ passed cell input = record cell {
 abbrev pub forwarded : {R A : Type 0} → Cell R A → ℕ → ℕ → Cell R A
 forwarded cell input out = with_credit (passed cell input) out (spent (credit_at cell out))
 
--- an end marker leaves, and before a packet the input begins to spill
+-- an end marker leaves; a packet stays, and the input begins to spill it
 abbrev pub dropped : {R A : Type 0} → Cell R A → ℕ → Cell R A
 dropped cell input = record cell {
   inputs = if is_marker (front_at cell input) then cell.inputs else slice_set cell.inputs input Spilling;

@@ -20,7 +20,7 @@ pub struct SwitchCell<R: Routing, A: Arbiter> {
     pub(crate) credits: Vec<TxEnd>,
     pub(crate) inputs: Vec<Input>,
     pub(crate) received: Vec<RxEnd>,
-    pub(crate) arbiters: Vec<A>,
+    pub(crate) arbiters: Vec<Option<A>>,
 }
 
 impl<R: Routing, A: Arbiter> Model for SwitchCell<R, A> {
@@ -148,14 +148,18 @@ impl<R: Routing, A: Arbiter> SwitchCell<R, A> {
 
     /// The output's arbiter picks one of the inputs that ask.
     pub(crate) fn pick(&mut self, out: Port, asking: PortSet) -> Port
+        requires linked { IsBitSet self.old.linked out }
         requires asks { asking ≢ 0 }
         requires within { IsWithin asking self.old.linked }
         ensures member { IsBitSet asking result }
-        ensures after { (a : A) × (b : A) × (slice_get self.old.arbiters out ≡ Some a)
+        ensures after { (a : A) × (b : A) × (slice_get self.old.arbiters out ≡ Some (Some a))
             × A.policy a asking result b
-            × (self.new ≡ record self.old { arbiters = slice_set self.old.arbiters out b }) }
+            × (self.new ≡ record self.old { arbiters = slice_set self.old.arbiters out (Some b) }) }
     {
-        self.arbiters[out.number() as usize].pick(asking)
+        match &mut self.arbiters[out.number() as usize] {
+            Some(arbiter) => arbiter.pick(asking),
+            None => unreachable!(),
+        }
     }
 
     /// The ports with a link.

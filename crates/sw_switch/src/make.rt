@@ -1,7 +1,7 @@
 //! A new switch.
 ghost use Rattle.std.specs.Prelude.{◌≡◌, ℕ, length, replicate, map, All, slice_get, Some, IfOk, vec_len};
 ghost use Rattle.sw_link.specs.Ends.{IsCapacity};
-ghost use Rattle.sw_switch.specs.Cell.{new_end, new_cell};
+ghost use Rattle.sw_switch.specs.Cell.{HaveArbiters, new_end, new_cell};
 
 use crate::cell::SwitchCell;
 use crate::input::Input;
@@ -37,18 +37,18 @@ fn empty_ends(alloc: Global, capacities: &[usize]) -> Result<Vec<RxEnd>, AllocEr
 
 impl<R: Routing + Drop, A: Arbiter + Drop> SwitchCell<R, A> {
     /// A switch with links at those ports. The capacities, each 8 to 4,096, and the arbiters go by
-    /// port, 0 to 31: at a port without a link they are not used.
+    /// port, 0 to 31. A port without a link needs no arbiter, and its capacity is not used.
     pub fn new(
         alloc: Global,
         routes: R,
         linked: PortSet,
         capacities: &[usize],
-        arbiters: Vec<A>,
+        arbiters: Vec<Option<A>>,
     ) -> Result<SwitchCell<R, A>, AllocError>
         requires ports { length capacities.now ≡ 32 }
         requires capacities { All IsCapacity capacities.now }
         requires arbiters { vec_len arbiters ≡ 32 }
-        requires arbiter_ports { All (λ arbiter. A.ports arbiter ≡ linked) arbiters.items }
+        requires arbiter_ports { HaveArbiters A.ports linked arbiters.items }
         ensures { IfOk result (λ cell. cell ≡ new_cell routes linked capacities.now arbiters.items) }
     {
         Ok(SwitchCell {

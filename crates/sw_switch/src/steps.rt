@@ -51,9 +51,7 @@ impl<R: Routing, A: Arbiter> SwitchCell<R, A> {
         ensures some { IfSome result (Grants R.answer A.policy self.old self.new out) }
     {
         let asking = self.asks(out);
-        if asking.is_empty() {
-            return None;
-        }
+        asking.first()?;
         let picked = self.pick(out, asking);
         self.hold(out, picked);
         Some(picked)

@@ -1,5 +1,6 @@
 //! A switch with two inputs that ask for one output.
-ghost use Rattle.std.specs.Prelude.{◌≡◌, All, IfOk, vec_len};
+ghost use Rattle.std.specs.Prelude.{◌≡◌, IfOk, vec_len};
+ghost use Rattle.sw_switch.specs.Cell.{HaveArbiters};
 
 use super::SwitchCell;
 use std::alloc::{AllocError, Global};
@@ -12,12 +13,12 @@ use sw_topo::{Port, PortSet};
 
 type Cell = SwitchCell<TableRoutes, RoundRobin>;
 
-fn arbiters(alloc: Global, ports: PortSet) -> Result<Vec<RoundRobin>, AllocError>
-    ensures { IfOk result (λ v. (vec_len v ≡ 32) × All (λ arbiter. arbiter.ports ≡ ports) v.items) }
+fn arbiters(alloc: Global, ports: PortSet) -> Result<Vec<Option<RoundRobin>>, AllocError>
+    ensures { IfOk result (λ v. (vec_len v ≡ 32) × HaveArbiters (λ arbiter. arbiter.ports) ports v.items) }
 {
     let mut all = Vec::new(alloc);
     for _ in 0..32usize {
-        all.push(RoundRobin::new(ports))?;
+        all.push(Some(RoundRobin::new(ports)))?;
     }
     Ok(all)
 }
