@@ -10,6 +10,9 @@ use Rattle.sw_plain.specs.declared.state.Plain.{Plain}
 use Rattle.sw_plain.specs.declared.state.Reply.{Reply}
 use Rattle.sw_machine.specs.Network.{Network, Cell, AtNode, AtSwitch, PendingReply}
 use Rattle.sw_machine.specs.Steps.{Step, Leads, IsPossible}
+use Rattle.sw_plain.specs.Names.{names_at}
+use Rattle.std.specs.List.{list_any}
+use Rattle.std.specs.Prelude.{◌&&◌, filter}
 use Rattle.sw_plain.specs.Lists.{Lists, IsKept, state_of}
 
 -- what each row holds
@@ -53,13 +56,13 @@ abbrev pub network_of : Plan → Answering → Network
 network_of p a = record {
   channels = length p.capacity.items;
   start_of = λ c. AtSwitch 0;
-  end_of = λ c. cell_of (slice_index_or p.ends.items c (Switch 0));
+  end_of = λ c. cell_of (slice_index_or p.ends.items c (Node 0));
   capacity = λ c. slice_index p.capacity.items c;
   nodes = length p.out.items;
   out = λ n. slice_index p.out.items n;
   into = λ n. slice_index p.into.items n;
-  look = λ s h. [];
-  deletes = λ s h. true;
+  look = λ s h. map (λ e. e.channel) (filter (names_at s h) p.names.items);
+  deletes = λ s h. list_any (λ e. names_at s h e && e.delete) p.names.items;
   declared_flows = 0;
   flows = 0;
   flow = λ i. record { from = 0; to = 0; address = []; left = 0; reply = None };

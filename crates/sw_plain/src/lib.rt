@@ -7,5 +7,5 @@ mod rows;
 mod state;
 mod switching;
 
-pub use plan::{Cell, Plan};
+pub use plan::{Cell, Name, Plan};
 pub use state::{Plain, Reply};

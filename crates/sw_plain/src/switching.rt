@@ -3,6 +3,8 @@
 ghost use Rattle.std.specs.Prelude.{◌≡◌, IfOk, OnErr};
 ghost use Rattle.sw_machine.specs.State.{input_after};
 ghost use Rattle.sw_machine.specs.Steps.{Forward, Spill};
+ghost use Rattle.std.specs.List.{list_any};
+ghost use Rattle.sw_machine.specs.Tried.{holds};
 ghost use Rattle.sw_plain.specs.View.{IsKeptBy, Steps, lists_of};
 
 use crate::plan::Plan;
@@ -20,6 +22,16 @@ fn after_pass(x: NChar, before: Input) -> Input
         NChar::Data(_) => before,
         NChar::Eop | NChar::Eep => Input::Idle,
     }
+}
+
+/// Whether an input holds channel d.
+fn is_held(inputs: &Vec<Input>, d: u16) -> bool
+    ensures { result ≡ list_any (holds d) inputs.now.items }
+{
+    inputs.iter().any(|i| match i {
+        Input::Held(e) => *e == d,
+        Input::Idle | Input::Spilling => false,
+    })
 }
 
 impl Plain {
