@@ -1,5 +1,6 @@
 //! Rows of characters, one for each channel or node.
 
+ghost use Rattle.std.specs.Prelude.{if◌then◌else◌};
 ghost use Rattle.std.specs.Prelude.{
   ◌≡◌,
   ◌<◌,
@@ -48,4 +49,15 @@ pub fn drop_first(all: &mut Vec<Vec<NChar>>, c: usize)
     ensures { rows all.new ≡ slice_set (rows all.old) c (drop 1 (slice_index_or (rows all.old) c [])) }
 {
     all[c].remove(0);
+}
+
+/// Row c has lost its first character, if it is to.
+pub fn drop_first_if(all: &mut Vec<Vec<NChar>>, c: usize, lost: bool)
+    requires within { c < vec_len all.old }
+    requires some { 0 < length (slice_index_or (rows all.old) c []) }
+    ensures { rows all.new ≡ slice_set (rows all.old) c (if lost then drop 1 (slice_index_or (rows all.old) c []) else slice_index_or (rows all.old) c []) }
+{
+    if lost {
+        drop_first(all, c);
+    }
 }

@@ -2,13 +2,13 @@
 
 ghost use Rattle.std.specs.Prelude.{◌≡◌, IfOk, OnErr};
 ghost use Rattle.sw_machine.specs.State.{input_after};
-ghost use Rattle.sw_machine.specs.Steps.{Forward, Spill};
+ghost use Rattle.sw_machine.specs.Steps.{Drop, Forward, Grant, Spill};
 ghost use Rattle.std.specs.List.{list_any};
 ghost use Rattle.sw_machine.specs.Tried.{holds};
 ghost use Rattle.sw_plain.specs.View.{IsKeptBy, Steps, lists_of};
 
-use crate::plan::Plan;
-use crate::rows::{drop_first, first_of, push_to};
+use crate::plan::{Cell, Plan};
+use crate::rows::{drop_first, drop_first_if, first_of, push_to};
 use crate::state::Plain;
 use std::alloc::AllocError;
 use sw_char::NChar;
@@ -35,6 +35,77 @@ fn is_held(inputs: &Vec<Input>, d: u16) -> bool
 }
 
 impl Plain {
+    /// Input c, which waits with a header that names channel d, is granted d, which no input holds.
+    pub fn grant(&mut self, plan: &Plan, d: u16, c: usize) -> bool
+        requires { IsKeptBy plan.now (lists_of self.old) }
+        ensures kept { IsKeptBy plan.now (lists_of self.new) }
+        ensures made { Steps plan.now (lists_of self.old) (Grant d c) result (lists_of self.new) }
+    {
+        if c >= plan.capacity.len() || c >= plan.ends.len() {
+            return false;
+        }
+        let s = match plan.ends[c] {
+            Cell::Switch(s) => s,
+            Cell::Node(_) => return false,
+        };
+        match self.input[c] {
+            Input::Idle => {}
+            Input::Held(_) | Input::Spilling => return false,
+        }
+        let h = match first_of(&self.buffer, c) {
+            Some(NChar::Data(h)) => h,
+            Some(NChar::Eop) | Some(NChar::Eep) | None => return false,
+        };
+        if !plan.names(s, h, d) {
+            return false;
+        }
+        if is_held(&self.input, d) {
+            return false;
+        }
+        let deletes = plan.deletes(s, h);
+        drop_first_if(&mut self.buffer, c, deletes);
+        self.input[c] = Input::Held(d);
+        true
+    }
+
+    /// Input c waits, and what stands in front of it is lost: a marker, or a byte that names no
+    /// channel, with its packet.
+    pub fn drop_front(&mut self, plan: &Plan, c: usize) -> bool
+        requires { IsKeptBy plan.now (lists_of self.old) }
+        ensures kept { IsKeptBy plan.now (lists_of self.new) }
+        ensures made { Steps plan.now (lists_of self.old) (Drop c) result (lists_of self.new) }
+    {
+        if c >= plan.capacity.len() || c >= plan.ends.len() {
+            return false;
+        }
+        let s = match plan.ends[c] {
+            Cell::Switch(s) => s,
+            Cell::Node(_) => return false,
+        };
+        match self.input[c] {
+            Input::Idle => {}
+            Input::Held(_) | Input::Spilling => return false,
+        }
+        match first_of(&self.buffer, c) {
+            None => false,
+            Some(NChar::Data(h)) => {
+                if plan.names_some(s, h) {
+                    return false;
+                }
+                self.input[c] = Input::Spilling;
+                true
+            }
+            Some(NChar::Eop) => {
+                drop_first(&mut self.buffer, c);
+                true
+            }
+            Some(NChar::Eep) => {
+                drop_first(&mut self.buffer, c);
+                true
+            }
+        }
+    }
+
     /// Input c passes a character on to the channel that it holds.
     pub fn forward(&mut self, plan: &Plan, c: usize) -> Result<bool, AllocError>
         requires { IsKeptBy plan.now (lists_of self.old) }
