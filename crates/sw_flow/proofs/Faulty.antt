@@ -1,5 +1,5 @@
 -- What each fault of a place is.
-use Rattle.std.proofs.Common.{◌≡◌, ◌≢◌, ℕ, ◌-◌, ◌<◌, ◌≤◌, Bool, true, false, Option, Some, None, length, eqb, ltb, refl, sym, ap, ◌∙◌, subst, ◌⊎◌, inl, inr, ◌↔◌, arith}
+use Rattle.std.proofs.Common.{◌≡◌, ◌≢◌, ℕ, ◌-◌, ◌<◌, ◌≤◌, true, false, Option, Some, None, length, refl, sym, ap, ◌∙◌, subst, ◌⊎◌, inl, inr, ◌↔◌, arith}
 use Rattle.std.proofs.lemmas.Bool.{cases_eq, cases_lt, cases_Bool, eq-eqb, ne_eqb, lt-ltb, le-ltb}
 use Rattle.sw_topo.specs.declared.place.PlaceEnd.{PlaceEnd}
 use Rattle.sw_topo.specs.declared.place.PlaceEnd.TheVariants.{Node, Switch}
@@ -8,7 +8,7 @@ use Rattle.sw_network.specs.Entries.{FlowEntry, Declaration}
 use Rattle.sw_flow.specs.declared.fault.RouteFault.{RouteFault}
 use Rattle.sw_flow.specs.declared.fault.RouteFault.TheVariants.{AddressEnds, NoRoute, WrongNode, WrongLeft}
 use Rattle.sw_flow.specs.Places.{ends_of, end_of, look_after, deleted_behind, Follows}
-use Rattle.sw_flow.specs.Faults.{fault_at_switch, fault_at_node, fault_at_end, fault_of, has_output}
+use Rattle.sw_flow.specs.Faults.{fault_at_switch, fault_at_node, fault_at_end, has_output}
 use Rattle.sw_flow.specs.Laws.{FaultsAre, FaultlessGoOn}
 use Rattle.sw_flow.proofs.Outputs.{names-from_has_output, has_output-from_names}
 
@@ -31,10 +31,13 @@ module _ (d : Declaration) (f : FlowEntry) (k s p : ℕ) where
   routed : k < length f.address → has_output (ends_of d) s (look_after d f s k) ≡ true → IsFault d f k (Some (Switch s p)) None
   routed lt has = record {
     address_ends = ((λ h. cc), (λ w. absurd (omega (arith, w.3))));
-    no_route = ((λ h. cc), (λ w.
-        let same : s ≡ w.0 = let e = w.2 in cc in
-        let out = names-from_has_output (ends_of d) s (look_after d f s k) has in
-        absurd (subst (λ (t : ℕ). (e : ℕ) → ¬ NamesOutput (ends_of d) t (look_after d f t k) e) (sym same) w.4 out.0 out.1)));
+    no_route = (
+      (λ h. cc),
+      (λ w.
+          let same : s ≡ w.0 = let e = w.2 in cc in
+          let out = names-from_has_output (ends_of d) s (look_after d f s k) has in
+          absurd (subst (λ (t : ℕ). (e : ℕ) → ¬ NamesOutput (ends_of d) t (look_after d f t k) e) (sym same) w.4 out.0 out.1)),
+    );
     wrong_node = ((λ h. cc), (λ w. let e = w.1 in cc));
     wrong_left = ((λ h. cc), (λ w. let e = w.0 in cc));
   }

@@ -1,5 +1,5 @@
 -- Fallible work in many threads.
-use Rattle.std.proofs.Common.{◌≡◌, ℕ, zero, suc, ◌+◌, ◌<◌, List, [], ◌∷◌, map, length, get_or, Result, Ok, Err, IfOk, MatchResult, Contains, refl, sym, subst, arith}
+use Rattle.std.proofs.Common.{◌≡◌, ℕ, suc, ◌+◌, ◌<◌, List, [], ◌∷◌, map, length, get_or, Result, Ok, Err, IfOk, MatchResult, Contains, sym, subst, arith}
 use Rattle.std.specs.List.{AllZip, range_with_len}
 
 -- what each job gave, where all did
@@ -14,9 +14,10 @@ zip_at : {F X : Type 0} (Q : ℕ → X → Type 0) (P : F → X → Type 0) (fs 
 zip_at Q P [] a [] move h = tt
 zip_at Q P [] a (y ∷ ys) move h = absurd h
 zip_at Q P (f ∷ fs) a [] move h = absurd h
-zip_at {F = F} {X = X} Q P (f ∷ fs) a (y ∷ ys) move h =
-    (move 0 f y (omega arith) (subst (λ (n : ℕ). Q n y) (omega arith) h.0),
-      zip_at Q P fs (a + 1) ys (λ i g x lt q. move (suc i) g x (omega arith) (subst (λ (n : ℕ). Q n x) (omega arith) q)) h.1)
+zip_at {F = F} {X = X} Q P (f ∷ fs) a (y ∷ ys) move h = (
+  move 0 f y (omega arith) (subst (λ (n : ℕ). Q n y) (omega arith) h.0),
+  zip_at Q P fs (a + 1) ys (λ i g x lt q. move (suc i) g x (omega arith) (subst (λ (n : ℕ). Q n x) (omega arith) q)) h.1,
+)
 
 -- the whole is the sequential answer, where it is Ok
 pub spread : {F X E V : Type 0} (items : V → List X) (Q : ℕ → X → Type 0) (P : F → X → Type 0) (fs : List F) (xs : List (Result X E)) (r : Result V E)

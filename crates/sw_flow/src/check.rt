@@ -60,11 +60,7 @@ fn fault_in(network: &Network, flow: &Flow, place: Place) -> Option<RouteFault>
     }
 }
 
-fn first_fault_in(
-    network: &Network,
-    flow: &Flow,
-    places: &[Place],
-) -> Option<(Place, RouteFault)>
+fn first_fault_in(network: &Network, flow: &Flow, places: &[Place]) -> Option<(Place, RouteFault)>
     requires { All (λ p. p.channel < length (ends_of network.now)) places.now }
     ensures { result ≡ first_fault_of network.now flow.now places.now }
 {

@@ -17,3 +17,6 @@ pub use laws::{
 pub use place::Place;
 pub use routes::places;
 pub use spread::all_places;
+
+#[cfg(test)]
+mod tests;

@@ -1,7 +1,5 @@
-use Rattle.std.proofs.Common.{◌≡◌, ◌<◌, ◌/◌, ◌%◌, ◌+◌, ℕ, All, length, map, List, IfOk, IfSome, Vec, Global, Some, slice_get, sym, subst, ap, ◌∙◌}
+use Rattle.std.proofs.Common.{◌≡◌, ◌<◌, ◌/◌, ◌%◌, ◌+◌, ℕ, All, length, map, sym, subst, ap, ◌∙◌}
 use Rattle.std.proofs.lemmas.Result.{IfOk-weaker}
-use Rattle.sw_network.specs.Entries.{FlowEntry, all_flows}
-use Rattle.sw_flow.specs.declared.place.Place.{Place}
 use Rattle.sw_flow.specs.Places.{IsPlacesOf}
 use Rattle.sw_flow.specs.Numbers.{next_numbers}
 use Rattle.sw_flow.proofs.Stepping.{all_below, bound_is}
@@ -24,6 +22,6 @@ returns c =
       flow = f;
       numbered = c.flow-flow.ensures.flow;
       list = placed d f c.out-start.result c.number.result c.from.result c.address.result.now c.in_ok-numbers.numbers.items c.topology-topology.result.now v.items c.topology-topology.ensures c.from.ensures c.out-start.ensures.channel c.address.ensures c.number.ensures c.in_ok-numbers.ensures.listing
-        (made ∙ ap (map (λ n. record { channel = n / (length c.address.result.now + 1); deleted = n % (length c.address.result.now + 1) })) c.deref.ensures.value);
+          (made ∙ ap (map (λ n. record { channel = n / (length c.address.result.now + 1); deleted = n % (length c.address.result.now + 1) })) c.deref.ensures.value);
     })
     c.places_of.ensures
