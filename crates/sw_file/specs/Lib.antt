@@ -5,3 +5,4 @@ pub mod Switches
 pub mod Links
 pub mod FlowTables
 pub mod Network
+pub mod Laws

@@ -4,6 +4,7 @@
 mod document;
 mod flows;
 mod keys;
+pub mod laws;
 mod links;
 mod nodes;
 mod switches;
