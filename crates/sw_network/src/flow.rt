@@ -140,7 +140,7 @@ impl Flow {
             Some(reply) => reply,
             None => return Ok(None),
         };
-        let mut name = String::from_str(alloc, self.name.as_str())?;
+        let mut name = String::from_str(alloc, self.name())?;
         name.push_str("+reply")?;
         let mut address = Vec::from_slice(alloc, reply.path())?;
         address.push(reply.initiator)?;
