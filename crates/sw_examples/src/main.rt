@@ -43,3 +43,6 @@ fn main(rt: HostRuntime) -> io::Result<()> {
     }
     Ok(())
 }
+
+#[cfg(test)]
+mod tests;
