@@ -1,0 +1,6 @@
+pub mod Listed
+pub mod Outputs
+pub mod Faulty
+pub mod Stepping
+pub mod Placed
+pub mod Jobs
