@@ -6,7 +6,7 @@ use Rattle.std.proofs.lemmas.Bool.{cases_lt}
 use Rattle.std.proofs.lemmas.Bool.Decides.{nat_tests}
 use Rattle.std.proofs.lemmas.List.Sorted.{IsPartitionedBy-ltb}
 use Rattle.sw_route.specs.declared.intervals.Interval.{Interval}
-use Rattle.sw_route.specs.Intervals.{IsRising}
+use Rattle.sw_route.specs.Intervals.{IsIntervals}
 
 -- the first that passes stands where those before it fail, and it passes or there is none
 pub find_here : {X : Type 0} (p : X → Bool) (xs : List X) (i : ℕ) → ((k : ℕ) (d : X) → k < i → p (get_or xs k d) ≡ false) → ((d : X) → i < length xs → p (get_or xs i d) ≡ true) → i ≤ length xs → find p xs ≡ slice_get xs i
@@ -16,15 +16,15 @@ find_here p (x ∷ xs) (suc i) before here within =
     rw (before zero x (omega arith)) (find_here p xs i (λ k d lt. before (suc k) d (omega arith)) (λ d lt. here d (omega arith)) (omega arith))
 
 -- intervals that rise do not fall
-rising_kept : (is : List Interval) → IsRising is → IsNonDecreasingBy (λ i. i.last) is
+rising_kept : (is : List Interval) → IsIntervals is → IsNonDecreasingBy (λ i. i.last) is
 rising_kept is rising i j d le lt =
     elim (cases_lt i j) [
-      | inl below ↦ let less = rising i j d below lt in omega arith
+      | inl below ↦ let less = rising.rising i j d below lt in omega arith
       | inr past ↦ let same : i ≡ j = omega arith in rw same (omega arith)
     ]
 
 -- what halving asks
-pub rising_parted : (is : List Interval) (address : ℕ) → IsRising is → IsPartitionedBy (λ i. ltb i.last address) is
+pub rising_parted : (is : List Interval) (address : ℕ) → IsIntervals is → IsPartitionedBy (λ i. ltb i.last address) is
 rising_parted is address rising = IsPartitionedBy-ltb (λ i. i.last) is address (rising_kept is rising)
 
 not_below : (a b : ℕ) → ltb b a ≡ true → leb a b ≡ false

@@ -1,5 +1,6 @@
 -- A routing table as intervals of logical addresses with one answer each.
-use Rattle.std.specs.Prelude.{ℕ, ◌<◌, nat_le, List, find, Option, Some, None, AllPairs}
+use Rattle.std.specs.Prelude.{◌≢◌, ℕ, ◌<◌, nat_le, List, length, map, find, Option, Some, None, AllPairs}
+use Rattle.std.specs.List.{AllAdjacentBelow}
 use Rattle.sw_route.specs.declared.look.Look.{Look}
 use Rattle.sw_route.specs.declared.intervals.Interval.{Interval}
 use Rattle.sw_route.specs.Looks.{no_look, look_by}
@@ -18,6 +19,7 @@ interval_or look intervals address = look_or look (find (λ i. nat_le address i.
 abbrev pub intervals_look : List Interval → ℕ → Look
 intervals_look intervals byte = look_by (interval_or no_look intervals) byte
 
--- the intervals rise
-abbrev pub IsRising : List Interval → Type 0
-IsRising intervals = AllPairs (λ i j. i.last < j.last) intervals
+-- The intervals rise, and neighbours have different looks: there are no more than needed.
+pub record IsIntervals (intervals : List Interval) : Type 0 where
+  pub rising : AllPairs (λ i j. i.last < j.last) intervals
+  pub merged : let looks = map (λ i. i.look) intervals in AllAdjacentBelow (λ look next. look ≢ next) looks (length looks)

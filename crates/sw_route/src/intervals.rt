@@ -1,7 +1,7 @@
 //! A routing table as intervals of logical addresses with one answer each.
 ghost use Rattle.std.specs.Prelude.{◌≡◌, ℕ, ◌<◌, ◌≤◌, nat_le, nat_lt, find, slice_get, IfOk};
 ghost use Rattle.sw_route.specs.Looks.{no_look, look_of};
-ghost use Rattle.sw_route.specs.Intervals.{intervals_look, interval_or, IsRising};
+ghost use Rattle.sw_route.specs.Intervals.{intervals_look, interval_or, IsIntervals};
 
 use crate::look::Look;
 use crate::routing::Routing;
@@ -28,18 +28,18 @@ pub struct IntervalRoutes {
 impl Model for IntervalRoutes {
     ghost use Rattle.std.specs.Prelude.{List};
     ghost use Rattle.sw_route.specs.declared.intervals.Interval.{Interval};
-    ghost use Rattle.sw_route.specs.Intervals.{IsRising};
+    ghost use Rattle.sw_route.specs.Intervals.{IsIntervals};
 
     ghost Value = { List Interval };
 
     ghost view = { λ t. t.intervals.items };
 
-    ghost invariant = { λ t. IsRising t.intervals.items };
+    ghost invariant = { λ t. IsIntervals t.intervals.items };
 }
 
 // Where the first interval that does not end before the address stands.
 fn place_of(intervals: &[Interval], address: u8) -> usize
-    requires { IsRising intervals.now }
+    requires { IsIntervals intervals.now }
     ensures { slice_get intervals.now result ≡ find (λ i. nat_le address i.last) intervals.now }
 {
     intervals.partition_point(
@@ -50,7 +50,7 @@ fn place_of(intervals: &[Interval], address: u8) -> usize
 }
 
 fn interval_look(intervals: &[Interval], address: u8) -> Look
-    requires { IsRising intervals.now }
+    requires { IsIntervals intervals.now }
     ensures { result ≡ interval_or no_look intervals.now address }
 {
     match intervals.get(place_of(intervals, address)) {
@@ -60,9 +60,10 @@ fn interval_look(intervals: &[Interval], address: u8) -> Look
 }
 
 impl IntervalRoutes {
-    /// The intervals of a table, as few as there are: neighbours have different answers.
+    /// The intervals of a table, as few as there can be. They answer every byte as the table.
     pub fn from_table(alloc: Global, table: &TableRoutes) -> Result<IntervalRoutes, AllocError>
-        ensures { IfOk result (λ t. (byte : ℕ) → intervals_look t byte ≡ look_of table.now byte) }
+        ensures intervals { IfOk result IsIntervals }
+        ensures same { IfOk result (λ t. (byte : ℕ) → intervals_look t byte ≡ look_of table.now byte) }
     {
         let mut intervals = Vec::new(alloc);
         let mut look = table.look(32);

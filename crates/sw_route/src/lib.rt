@@ -2,6 +2,7 @@
 #![tactic(auto)]
 
 mod intervals;
+pub mod laws;
 mod look;
 mod output;
 mod routing;
@@ -9,6 +10,9 @@ mod table;
 
 pub use intervals::{Interval, IntervalRoutes};
 pub use look::{Look, Route};
-pub use output::{outputs, outputs_start_at_the_switch};
+pub use output::outputs;
 pub use routing::Routing;
 pub use table::{RouteError, TableRoutes};
+
+#[cfg(test)]
+mod tests;

@@ -1,7 +1,7 @@
 //! The channels that a look names.
 ghost use Rattle.std.specs.Prelude.{◌≡◌, ◌↔◌, ◌<◌, ℕ, Some, IsSome, IsBitSet};
 ghost use Rattle.sw_topo.specs.Wiring.{out_of};
-ghost use Rattle.sw_route.specs.Looks.{NamesOutput, OutputsStartAtTheSwitch};
+ghost use Rattle.sw_route.specs.Looks.{NamesOutput};
 
 use crate::look::Look;
 use sw_topo::{PortSet, Topology};
@@ -14,9 +14,3 @@ pub fn outputs(topology: &Topology, switch: u16, look: Look) -> PortSet
 {
     look.ports.meet(topology.linked(switch))
 }
-
-/// Each channel that a look names starts at the switch, at a port that the look names. This function does nothing: it is the
-/// proof of its clause.
-pub fn outputs_start_at_the_switch()
-    ensures { OutputsStartAtTheSwitch }
-{}

@@ -1,6 +1,6 @@
 use Rattle.sw_topo.specs.Wiring.{Wiring}
 use Rattle.sw_topo.proofs.Ends.{port_starts}
-use Rattle.sw_route.proofs.output.outputs_start_at_the_switch.Goals as goal
+use Rattle.sw_route.proofs.laws.outputs_start_at_the_switch.Goals as goal
 
 pub returns : goal.returns
 returns c = λ ends s look d names.
