@@ -22,7 +22,8 @@ pub const MAX_FLOWS: u16 = 4096;
 
 /// A network: nodes and switches rightly joined by links, and the flows of packets between its nodes.
 ///
-/// Flows are numbered: the declared flows in order, and then their reply flows in the order of their flows.
+/// Nodes, switches, links and flows are numbered from 0, in the order in which they were added. After the declared flows come
+/// their reply flows, in the order of their flows.
 #[derive(Drop)]
 pub struct Network {
     topology: Topology,
@@ -75,7 +76,7 @@ impl Network {
         }
     }
 
-    /// Adds a flow of a new name, and its reply flow if it has replies.
+    /// Adds a declared flow of a new name, and its reply flow if it has replies. After want of memory the network is as it was.
     pub fn add_flow(&mut self, alloc: Global, flow: Flow) -> Result<(), AllocError>
         requires few { length self.old.flows < MAX_FLOWS }
         requires new_name { list_any (bytes_eq flow.name) (flow_names self.old.flows) ≡ false }
@@ -135,7 +136,7 @@ impl Network {
         self.topology.channels()
     }
 
-    /// How many characters the receive buffer at the channel's end holds.
+    /// How many characters the receive buffer where the channel ends holds: 8 to 4,096.
     pub fn capacity(&self, channel: Chan) -> u16
         requires { channel < 2 * length self.now.links }
         ensures capacity { slice_get (capacities self.now.links) channel ≡ Some result }
