@@ -1,2 +1,7 @@
 //! The machine of a network: states, steps and runs, and the laws over them.
 #![tactic(auto)]
+
+mod input;
+mod laws;
+
+pub use input::Input;

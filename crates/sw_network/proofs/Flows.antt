@@ -33,19 +33,21 @@ pub reply_flows-push : (fs : List FlowEntry) (f : FlowEntry) → reply_flows (fs
 reply_flows-push [] f = append-nil (replies_of f f.reply)
 reply_flows-push (g ∷ fs) f = rw (reply_flows-push fs f) (sym (append_assoc (replies_of g g.reply) (reply_flows fs) (replies_of f f.reply)))
 
--- reply flows are flows
-replies_are_flows : (nodes : List NodeEntry) (f : FlowEntry) (r : Option ReplyEntry) → r ≡ f.reply → IsFlow nodes f → All (IsFlow nodes) (replies_of f r)
-replies_are_flows nodes f None same ok = All-nil (IsFlow nodes)
-replies_are_flows nodes f (Some r) same ok =
+-- a reply flow of a flow is a flow
+pub is_reply_flow : (nodes : List NodeEntry) (f : FlowEntry) (r : ReplyEntry) → Some r ≡ f.reply → IsFlow nodes f → IsFlow nodes (reply_flow f r)
+is_reply_flow nodes f r same ok =
     let shape : IsReply nodes f.to r = rw (← same) at ok.reply in
-    All-cons (IsFlow nodes) (reply_flow f r) []
-    (record {
+    record {
       from = ok.to;
       to = ok.from;
       address = rw length-append (omega (arith, shape.path));
       left = rw length-append (omega arith);
       reply = tt;
-    }) (All-nil (IsFlow nodes))
+    }
+
+replies_are_flows : (nodes : List NodeEntry) (f : FlowEntry) (r : Option ReplyEntry) → r ≡ f.reply → IsFlow nodes f → All (IsFlow nodes) (replies_of f r)
+replies_are_flows nodes f None same ok = All-nil (IsFlow nodes)
+replies_are_flows nodes f (Some r) same ok = All-cons (IsFlow nodes) (reply_flow f r) [] (is_reply_flow nodes f r same ok) (All-nil (IsFlow nodes))
 
 pub reply_flows_are_flows : (nodes : List NodeEntry) (fs : List FlowEntry) → All (IsFlow nodes) fs → All (IsFlow nodes) (reply_flows fs)
 reply_flows_are_flows nodes [] all = All-nil (IsFlow nodes)

@@ -15,7 +15,9 @@ use sw_rmap::TargetConfig;
 use sw_route::TableRoutes;
 use sw_topo::{Builder, MAX_NODES, MAX_SWITCHES, PlaceEnd, TopoError};
 
-/// The nodes, switches and links so far; nodes come first, then switches, then links.
+/// The nodes, switches and links of a network so far: nodes come first, then switches.
+///
+/// Nodes and switches share one set of names. After want of memory the builder is as it was.
 #[derive(Drop)]
 pub struct NetworkBuilder {
     wiring: Builder,
@@ -77,7 +79,7 @@ impl NetworkBuilder {
         self.names.contains(name)
     }
 
-    /// The number of the node or switch of that name, where switches are counted on from the nodes.
+    /// The number of the node or switch of that name: nodes count from 0, and switches count on from the nodes.
     pub fn part_named(&self, name: &str) -> Option<usize>
         ensures part { result ≡ position (bytes_eq name.now) (part_names self.now) }
         ensures within { IfSome result (λ i. i < length self.now.nodes + length self.now.switches) }
@@ -123,19 +125,15 @@ impl NetworkBuilder {
         ensures ok { OnOk result (self.new ≡ record self.old { switches = self.old.switches ++ record { name = name.now; arbitration = arbitration; routes = table } ∷ [] }) }
         ensures err { OnErr result (self.new ≡ self.old) }
     {
-        let switch = Switch {
-            name: String::from_str(alloc, name)?,
-            arbitration,
-            table,
-        };
+        let entry = Switch::new(alloc, name, arbitration, table)?;
         self.switches.reserve(1)?;
         self.names.add(alloc, name)?;
-        self.switches.push(switch).unwrap();
+        self.switches.push(entry).unwrap();
         self.wiring.switch();
         Ok(())
     }
 
-    /// Adds a link between two ends, whose receive buffers hold 8 to 4096 characters.
+    /// Adds a link between its end `a` and its end `b`. The receive buffer at each end holds 8 to 4,096 characters.
     pub fn add_link(
         &mut self,
         a: PlaceEnd,
@@ -164,7 +162,7 @@ impl NetworkBuilder {
         Ok(())
     }
 
-    /// The network, still without flows, if its wiring has no fault.
+    /// The network, still without flows, or the first fault of its wiring. The builder is given up either way.
     pub fn wire(self, alloc: Global) -> Result<Network, TopoError>
         ensures { Wires result self }
     {

@@ -22,7 +22,7 @@ impl Model for Reply {
 impl Reply {
     ghost use Rattle.sw_network.specs.Entries.{ReplyEntry};
 
-    /// Replies that go by the path addresses to the initiator logical address.
+    /// Replies that begin with these path addresses, at most 12, and then the initiator logical address, 32 to 254.
     pub fn new(path: Vec<u8>, initiator: u8) -> Reply
         ensures { result ≡ record { path = path.items; initiator = initiator } }
     {
@@ -140,7 +140,7 @@ impl Flow {
             Some(reply) => reply,
             None => return Ok(None),
         };
-        let mut name = String::from_str(alloc, self.name.as_str())?;
+        let mut name = String::from_str(alloc, self.name())?;
         name.push_str("+reply")?;
         let mut address = Vec::from_slice(alloc, reply.path())?;
         address.push(reply.initiator)?;

@@ -1,5 +1,5 @@
 //! A network, valid by its type.
-ghost use Rattle.std.specs.Prelude.{◌≡◌, ℕ, ◌+◌, ◌*◌, ◌<◌, ◌≤◌, ◌++◌, ◌∷◌, [], Some, false, length, map, position, slice_get, option_map, IsTrue, ◌↔◌, IfSome, OnOk, OnErr, Option};
+ghost use Rattle.std.specs.Prelude.{◌≡◌, ℕ, ◌+◌, ◌*◌, ◌<◌, ◌≤◌, ◌++◌, ◌∷◌, [], Some, false, length, map, position, slice_get, option_map, is_some, IfSome, OnOk, OnErr, Option};
 ghost use Rattle.std.specs.List.{list_any};
 ghost use Rattle.std.specs.Str.{bytes_eq};
 ghost use Rattle.sw_topo.specs.Wiring.{Wiring};
@@ -9,11 +9,12 @@ use crate::entries::{Link, Node, Switch};
 use crate::flow::Flow;
 use crate::flow_table::FlowTable;
 use crate::names::NameTable;
+use either::Either;
 use std::alloc::{AllocError, Global};
 use std::marker::Model;
 use sw_arb::Arbitration;
 use sw_rmap::TargetConfig;
-use sw_route::{Look, Route, Routing};
+use sw_route::{IntervalRoutes, Look, Route, TableRoutes};
 use sw_topo::{Chan, MAX_LINKS, MAX_NODES, MAX_SWITCHES, Topology};
 
 /// How many flows may be declared.
@@ -21,7 +22,8 @@ pub const MAX_FLOWS: u16 = 4096;
 
 /// A network: nodes and switches rightly joined by links, and the flows of packets between its nodes.
 ///
-/// Flows are numbered: the declared flows in order, and then their reply flows in the order of their flows.
+/// Nodes, switches, links and flows are numbered from 0, in the order in which they were added. After the declared flows come
+/// their reply flows, in the order of their flows.
 #[derive(Drop)]
 pub struct Network {
     topology: Topology,
@@ -47,7 +49,8 @@ impl Model for Network {
 impl Network {
     ghost use Rattle.sw_route.specs.Looks.{IsTable};
     ghost use Rattle.sw_network.specs.Entries.{Declaration, NodeEntry, SwitchEntry, LinkEntry, FlowEntry, target_of, routes_of, look_at, wiring_of, capacities, all_flows, flow_names};
-    ghost use Rattle.sw_network.specs.Valid.{IsValid, IsFlow, IsTarget};
+    ghost use Rattle.sw_network.specs.Valid.{IsValid, IsFlow};
+    ghost use Rattle.sw_network.specs.Routings.{AnswersAs};
     ghost use Rattle.sw_network.specs.Building.{IsNetwork};
 
     /// A network without flows.
@@ -73,7 +76,7 @@ impl Network {
         }
     }
 
-    /// Adds a flow of a new name, and its reply flow if it has replies.
+    /// Adds a declared flow of a new name, and its reply flow if it has replies. After want of memory the network is as it was.
     pub fn add_flow(&mut self, alloc: Global, flow: Flow) -> Result<(), AllocError>
         requires few { length self.old.flows < MAX_FLOWS }
         requires new_name { list_any (bytes_eq flow.name) (flow_names self.old.flows) ≡ false }
@@ -94,7 +97,8 @@ impl Network {
 
     /// How its parts are joined.
     pub fn topology(&self) -> &Topology
-        ensures { result.now ≡ wiring_of self.now }
+        ensures wiring { result.now ≡ wiring_of self.now }
+        ensures valid { IsValid self.now }
     {
         &self.topology
     }
@@ -126,12 +130,13 @@ impl Network {
     /// How many channels there are: two a link.
     pub fn channels(&self) -> u16
         ensures count { result ≡ 2 * length self.now.links }
+        ensures ends { result ≡ length (wiring_of self.now).ends }
         ensures few { result ≤ 2048 }
     {
         self.topology.channels()
     }
 
-    /// How many characters the receive buffer at the channel's end holds.
+    /// How many characters the receive buffer where the channel ends holds: 8 to 4,096.
     pub fn capacity(&self, channel: Chan) -> u16
         requires { channel < 2 * length self.now.links }
         ensures capacity { slice_get (capacities self.now.links) channel ≡ Some result }
@@ -161,7 +166,7 @@ impl Network {
         ensures { option_map (λ e. e.name) (slice_get self.now.switches switch) ≡ Some result.now }
     {
         let switch = &self.switches[switch as usize];
-        switch.name.as_str()
+        switch.name()
     }
 
     /// The node of that name.
@@ -190,7 +195,7 @@ impl Network {
     /// Is the node an RMAP target?
     pub fn is_target(&self, node: u16) -> bool
         requires { node < length self.now.nodes }
-        ensures { IsTrue result ↔ IsTarget self.now.nodes node }
+        ensures { result ≡ is_some (target_of self.now.nodes node) }
     {
         self.target(node).is_some()
     }
@@ -201,7 +206,7 @@ impl Network {
         ensures { option_map (λ e. e.arbitration) (slice_get self.now.switches switch) ≡ Some result }
     {
         let switch = &self.switches[switch as usize];
-        switch.arbitration
+        switch.arbitration()
     }
 
     /// The switch's routing table.
@@ -211,7 +216,7 @@ impl Network {
         ensures table { IsTable result.now }
     {
         let switch = &self.switches[switch as usize];
-        switch.table.routes()
+        switch.routes()
     }
 
     /// What the leading byte of a packet names at the switch.
@@ -220,7 +225,16 @@ impl Network {
         ensures { result ≡ look_at self.now.switches switch byte }
     {
         let switch = &self.switches[switch as usize];
-        switch.table.look(byte)
+        switch.look(byte)
+    }
+
+    /// The switch's routing table, by its entries where they are few, and by intervals of addresses where they are many.
+    pub fn routing(&self, switch: u16) -> &Either<TableRoutes, IntervalRoutes>
+        requires { switch < length self.now.switches }
+        ensures { AnswersAs (routes_of self.now.switches switch) result.now }
+    {
+        let switch = &self.switches[switch as usize];
+        switch.routing()
     }
 
     /// How many flows there are, reply flows too.

@@ -1,6 +1,7 @@
 -- What the leading byte of a packet names at a routing switch (ECSS-E-ST-50-12C, network layer: packet addressing).
-use Rattle.std.specs.Prelude.{◌≡◌, ℕ, ◌^◌, ◌<◌, ◌≤◌, Bool, false, true, ◌&&◌, nat_lt, nat_le, List, find, Option, Some, None, All, AllPairs, IsBitSet, if◌then◌else◌}
+use Rattle.std.specs.Prelude.{◌≡◌, ℕ, ◌^◌, ◌<◌, ◌≤◌, Bool, false, true, ◌&&◌, nat_lt, nat_le, List, find, Option, Some, None, All, AllPairs, IsBitSet, slice_get, if◌then◌else◌}
 use Rattle.sw_topo.specs.declared.place.PlaceEnd.{PlaceEnd}
+use Rattle.sw_topo.specs.declared.place.PlaceEnd.TheVariants.{Switch}
 use Rattle.sw_topo.specs.Wiring.{out_of}
 use Rattle.sw_route.specs.declared.look.Look.{Look}
 use Rattle.sw_route.specs.declared.look.Route.{Route}
@@ -17,6 +18,10 @@ no_look = record { ports = 0; delete = false }
 -- reserved: it names no port.
 abbrev pub look_by : (ℕ → Look) → ℕ → Look
 look_by logical byte = if nat_lt byte 32 then path_look byte else if nat_lt byte 255 then logical byte else no_look
+
+-- an entry for the addresses from first to last
+abbrev pub entry : ℕ → ℕ → ℕ → Bool → Route
+entry first last ports delete = record { first = first; last = last; ports = ports; delete = delete }
 
 -- the address is one of those that the entry is for
 abbrev pub covers : ℕ → Route → Bool
@@ -38,6 +43,10 @@ pub record NamesOutput (ends : List PlaceEnd) (s : ℕ) (look : Look) (d : ℕ) 
   pub is_port : port < 32
   pub named : IsBitSet look.ports port
   pub linked : out_of ends s port ≡ Some d
+
+-- each channel that a look names starts at the switch, at a port that the look names
+abbrev pub OutputsStartAtTheSwitch : Type 0
+OutputsStartAtTheSwitch = (ends : List PlaceEnd) (s : ℕ) (look : Look) (d : ℕ) → NamesOutput ends s look d → (port : ℕ) × IsBitSet look.ports port × (slice_get ends d ≡ Some (Switch s port))
 
 -- an entry is for some of the logical addresses 32 to 254
 pub record IsRoute (r : Route) : Type 0 where

@@ -1,2 +1,16 @@
 //! One table of a TOML text, read key by key, and the faults of a text with their places.
 #![tactic(auto)]
+
+mod document;
+mod fault;
+mod keys;
+mod laws;
+mod names;
+mod table;
+
+pub use document::read_document;
+pub use fault::{FileFault, KeyFault, TextFault};
+pub use keys::{Key, Section, Version};
+pub use laws::least_unknown_key_is_refused;
+pub use names::Name;
+pub use table::Entry;

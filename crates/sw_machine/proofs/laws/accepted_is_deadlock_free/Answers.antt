@@ -1,0 +1,5 @@
+use Rattle.sw_machine.proofs.laws.accepted_is_deadlock_free.Goals as goal
+use Rattle.sw_machine.proofs.Free.{is_deadlock_free}
+
+pub returns : goal.returns
+returns c = λ net cert ok acc. is_deadlock_free net cert ok acc

@@ -1,0 +1,50 @@
+-- The main theorem: what an accepted certificate shows of its network, over every run.
+use Rattle.std.specs.Prelude.{List, count_by, length, ℕ, ◌*◌, ◌++◌, ◌+◌, ◌<◌, ◌≡◌, ◌≤◌}
+use Rattle.sw_machine.specs.Begun.{AllComesOut, AllIsAnswered, Begun, ComesOutWhole, EachRunIsCounted, IsBounded, IsBoundedByLoad, RepliesAreAsked, RunOf, characters}
+use Rattle.sw_machine.specs.Certificate.{Certificate, IsAccepted, number}
+use Rattle.sw_machine.specs.Network.{IsNetwork, Network}
+use Rattle.sw_machine.specs.Owed.{OnlyAskedOwe}
+use Rattle.sw_machine.specs.Places.{IsCycle, IsRising, IsWellRouted}
+use Rattle.sw_machine.specs.Runs.{GoesOn, IsLockedUp, IsQuiet, IsReached, undelivered}
+use Rattle.sw_machine.specs.State.{State, empty}
+use Rattle.sw_machine.specs.Steps.{Step, is_begin}
+
+-- each reached state that holds an undelivered character has a possible step other than a beginning
+abbrev pub AlwaysGoesOn : Network → Type 0
+AlwaysGoesOn net = (s : State) → IsReached net s → 0 < undelivered net s → GoesOn net s
+
+abbrev pub IsNeverLockedUp : Network → Type 0
+IsNeverLockedUp net = (s : State) → IsReached net s → IsLockedUp net s → ⊥
+
+-- in a quiet reached state nothing is undelivered
+abbrev pub QuietIsEmpty : Network → Type 0
+QuietIsEmpty net = (s : State) → IsReached net s → IsQuiet net s → undelivered net s ≡ 0
+
+-- from a reached state, steps other than beginnings that can't go on end within the bound, with nothing undelivered
+abbrev pub EndsEmpty : Network → Type 0
+EndsEmpty net = (steps : List Step) (begun : List Begun) (s : State) → RunOf net (empty net) steps begun s → (more : List Step) (replies : List Begun) (t : State) → RunOf net s more replies t → count_by is_begin more ≡ 0 → IsQuiet net t → (undelivered net t ≡ 0) × (length more ≤ net.channels * (14 + 5 * characters net (begun ++ replies)))
+
+-- what an accepted certificate shows of its network
+pub record IsDeadlockFree (net : Network) (cert : Certificate) : Type 0 where
+  pub well_routed : (i : ℕ) → i < net.flows → IsWellRouted net i
+  pub rising : IsRising net (number cert)
+  pub no_cycle : (cycle : List ℕ) → IsCycle net cycle → ⊥
+  pub always_goes_on : AlwaysGoesOn net
+  pub never_locked_up : IsNeverLockedUp net
+  pub quiet_is_empty : QuietIsEmpty net
+  pub each_run_is_counted : EachRunIsCounted net
+  pub comes_out_whole : ComesOutWhole net
+  pub all_comes_out : AllComesOut net
+  pub replies_are_asked : RepliesAreAsked net
+  pub all_is_answered : AllIsAnswered net
+  pub only_asked_owe : OnlyAskedOwe net
+  pub bounded : IsBounded net
+  pub bounded_by_load : IsBoundedByLoad net
+  pub ends_empty : EndsEmpty net
+
+-- what holds of each network with an accepted certificate
+abbrev pub OfAccepted : (Network → Type 0) → Type 0
+OfAccepted P = (net : Network) (cert : Certificate) → IsNetwork net → IsAccepted net cert → P net
+
+abbrev pub AcceptedIsDeadlockFree : Type 0
+AcceptedIsDeadlockFree = (net : Network) (cert : Certificate) → IsNetwork net → IsAccepted net cert → IsDeadlockFree net cert

@@ -1,0 +1,11 @@
+//! A plain, slow machine: its state lies in vectors, and each call makes one step of the machine.
+#![tactic(auto)]
+
+mod flow_control;
+mod plan;
+mod rows;
+mod state;
+mod switching;
+
+pub use plan::{Cell, Name, Plan};
+pub use state::{Plain, Reply};
