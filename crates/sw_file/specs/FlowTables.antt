@@ -22,7 +22,7 @@ address_at i ms = do
   address ← numbers_or_none (section.Flow i) Address 255 ms
   if nat_le (length address) 32 then Ok address else Err (fault.Key OutOfRange (section.Flow i) Address)
 
--- where the replies of flow i go; whether they can is looked at when the flow is read
+-- where the replies of flow i go
 unfoldable pub reply_of : ℕ → Members → Result ReplyEntry TextFault
 reply_of i ms = do
   known ← only_known (section.Reply i) reply_keys ms
@@ -30,6 +30,7 @@ reply_of i ms = do
   initiator ← number_at (section.Reply i) Initiator 0 255 ms
   Ok (record { path = path; initiator = initiator })
 
+-- flow i has replies where it has a table `reply`
 unfoldable pub reply_or_none : ℕ → Members → Result (Option ReplyEntry) TextFault
 reply_or_none i ms = table_or_none (section.Flow i) Reply ms >>= inner
   where
@@ -46,7 +47,7 @@ can_reply nodes to None = true
 can_reply nodes to (Some r) =
     nat_le (length r.path) 12 && has_no_leading_zero r.path && nat_le 32 r.initiator && nat_le r.initiator 254 && is_some (target_of nodes to)
 
--- entry i of `flow`, among these nodes and where these names are taken
+-- Entry i of `flow`, among these nodes and where these names are taken. Whether replies can come back is looked at last.
 unfoldable pub flow_of : ℕ → List NodeEntry → List (List ℕ) → Members → Result FlowEntry TextFault
 flow_of i nodes taken ms = do
   known ← only_known (section.Flow i) flow_keys ms

@@ -39,16 +39,19 @@ entries key most over ms = do
   tables ← tables_or_none Document key ms
   if nat_le (length tables) most then Ok tables else Err over
 
+-- the nodes that the document lists
 unfoldable pub with_nodes : Version → Declaration → Members → Result Declaration TextFault
 with_nodes version d ms = do
   tables ← entries Node MAX_NODES (fault.Topology (TooMany Nodes)) ms
   walk (next_node version) d tables
 
+-- the switches that it lists
 unfoldable pub with_switches : Version → Declaration → Members → Result Declaration TextFault
 with_switches version d ms = do
   tables ← entries Switch MAX_SWITCHES (fault.Topology (TooMany Switches)) ms
   walk (next_switch version) d tables
 
+-- the links that it lists
 unfoldable pub with_links : Version → Declaration → Members → Result Declaration TextFault
 with_links version d ms = do
   tables ← entries Link MAX_LINKS (fault.Topology (TooMany Links)) ms
@@ -62,6 +65,7 @@ wired d = unless (fault_of (wiring_of d))
     unless None = Ok d
     unless (Some f) = Err (fault.Topology f)
 
+-- the flows that it lists
 unfoldable pub with_flows : Declaration → Members → Result Declaration TextFault
 with_flows d ms = do
   tables ← entries Flow MAX_FLOWS (fault.Key OutOfRange Document Flow) ms

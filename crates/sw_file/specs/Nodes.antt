@@ -20,7 +20,8 @@ size_at i start ms = do
   size ← number_at (section.Target i) Size 1 65536 ms
   if nat_le (start + size) 1099511627776 then Ok size else Err (fault.Key OutOfRange (section.Target i) Size)
 
--- the target of node i. In version 1 `slots` is an unknown key, so there its default counts: one reply may be owed.
+-- What node i answers by as an RMAP target: its target logical address and its key (ECSS-E-ST-50-52C, the fields of a command), the
+-- window of its memory, and how many replies it may owe. In version 1 `slots` is an unknown key, so there its default counts: one reply may be owed.
 unfoldable pub config_of : Version → ℕ → Members → Result TargetConfig TextFault
 config_of version i ms = do
   known ← only_known (section.Target i) (target_keys version) ms

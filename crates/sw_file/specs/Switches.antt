@@ -37,13 +37,14 @@ arbitration_at i ms = text_or_none (section.Switch i) Arbiter ms >>= named
     named None = Ok RoundRobin
     named (Some name) = ok_or (arbitration_named name) (fault.Key OutOfRange (section.Switch i) Arbiter)
 
--- the set of the 1 to 32 ports that are listed
+-- The set of the 1 to 32 ports that are listed; a routing switch has the ports 0 to 31 (ECSS-E-ST-50-12C, network layer).
 unfoldable pub ports_at : Section → Members → Result ℕ TextFault
 ports_at s ms = do
   ports ← numbers_at s Ports 31 ms
   if nat_le 1 (length ports) && nat_le (length ports) 32 then Ok (port_set ports) else Err (fault.Key OutOfRange s Ports)
 
--- an entry of a routing table. In version 1 `last` is an unknown key, so there its default counts: the entry is for one address.
+-- An entry of a routing table: the logical addresses that it is for, 32 to 254, its ports, and whether the address is deleted there
+-- (ECSS-E-ST-50-12C, network layer: logical and regional addressing). In version 1 `last` is an unknown key, so there its default counts: the entry is for one address.
 unfoldable pub route_of : Version → Section → Members → Result RouteEntry TextFault
 route_of version s ms = do
   known ← only_known s (route_keys version) ms

@@ -4,3 +4,4 @@ pub mod Faulty
 pub mod Stepping
 pub mod Placed
 pub mod Jobs
+pub mod WellRouted

@@ -1,13 +1,14 @@
 -- Laws of places and of their faults.
-use Rattle.std.specs.Prelude.{◌≡◌, ◌≢◌, ℕ, ◌-◌, ◌<◌, ◌≤◌, ◌⊎◌, ◌↔◌, Bool, IsTrue, length, Some, None}
+use Rattle.std.specs.Prelude.{◌≡◌, ◌≢◌, ℕ, ◌-◌, ◌<◌, ◌≤◌, ◌⊎◌, ◌↔◌, Bool, IsTrue, List, length, Some, None}
 use Rattle.sw_topo.specs.declared.place.PlaceEnd.{PlaceEnd}
 use Rattle.sw_topo.specs.declared.place.PlaceEnd.TheVariants.{Node, Switch}
 use Rattle.sw_topo.specs.Wiring.{out}
 use Rattle.sw_route.specs.Looks.{NamesOutput}
 use Rattle.sw_network.specs.Entries.{FlowEntry, Declaration}
 use Rattle.sw_flow.specs.declared.fault.RouteFault.TheVariants.{AddressEnds, NoRoute, WrongNode, WrongLeft}
-use Rattle.sw_flow.specs.Places.{ends_of, end_of, look_after, Follows, IsPlace}
-use Rattle.sw_flow.specs.Faults.{fault_of}
+use Rattle.sw_flow.specs.declared.place.Place.{Place}
+use Rattle.sw_flow.specs.Places.{ends_of, end_of, look_after, Follows, IsPlace, IsPlaceList}
+use Rattle.sw_flow.specs.Faults.{fault_of, first_fault_of, IsWellRouted}
 
 -- a place is on one of the network's channels, and no more address bytes are deleted there than there are
 abbrev pub PlacesAreIn : Type 0
@@ -41,3 +42,7 @@ abbrev pub FaultlessGoOn : Type 0
 FaultlessGoOn =
     (d : Declaration) (f : FlowEntry) (c k : ℕ) (o : PlaceEnd) → end_of d c ≡ Some o → fault_of d f c k ≡ None
     → ((e m : ℕ) × Follows d f c k e m) ⊎ ((o ≡ Node f.to) × (length f.address - k ≡ f.left))
+
+-- a flow is well routed exactly where the list of its places has no faulty one
+abbrev pub WellRoutedByList : Type 0
+WellRoutedByList = (d : Declaration) (f : FlowEntry) (places : List Place) → IsPlaceList d f places → (first_fault_of d f places ≡ None ↔ IsWellRouted d f)

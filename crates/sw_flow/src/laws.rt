@@ -1,5 +1,5 @@
 //! Laws of the definitions. These functions do nothing: each is the proof of its clause.
-ghost use Rattle.sw_flow.specs.Laws.{PlacesAreIn, FollowersArePlaces, PlacesAreLeast, FaultsInWords, FaultlessGoOn};
+ghost use Rattle.sw_flow.specs.Laws.{PlacesAreIn, FollowersArePlaces, PlacesAreLeast, FaultsInWords, FaultlessGoOn, WellRoutedByList};
 
 /// A place is on one of the network's channels, with at most all address bytes deleted.
 pub fn places_are_in()
@@ -24,4 +24,9 @@ pub fn faults_in_words()
 /// A place without a fault is rightly at the flow's end, or some place follows it.
 pub fn faultless_go_on()
     ensures { FaultlessGoOn }
+{}
+
+/// A flow is well routed exactly where the list of its places has no faulty one.
+pub fn well_routed_by_list()
+    ensures { WellRoutedByList }
 {}

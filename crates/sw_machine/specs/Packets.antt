@@ -1,4 +1,4 @@
--- Packets, and how a list of N-Chars is cut into them (ECSS-E-ST-50-12C, 5.3: a packet ends at its EOP or EEP).
+-- Packets, and how a list of N-Chars is cut into them (ECSS-E-ST-50-12C, 5.6: network layer; a packet ends at its EOP or EEP).
 use Rattle.std.specs.Prelude.{Bool, List, [], false, flat_map, map, true, ℕ, ◌++◌, ◌∷◌, ◌≡◌}
 use Rattle.sw_char.specs.declared.nchar.End.{End}
 use Rattle.sw_char.specs.declared.nchar.End.TheVariants.{Eep as ByEep, Eop as ByEop}

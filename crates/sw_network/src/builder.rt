@@ -1,5 +1,5 @@
 //! A network that is being put together.
-ghost use Rattle.std.specs.Prelude.{◌≡◌, ◌+◌, ◌<◌, ◌≤◌, ◌++◌, ◌∷◌, [], false, length, position, IfSome, OnOk, OnErr, Option};
+ghost use Rattle.std.specs.Prelude.{◌≡◌, ◌+◌, ◌<◌, ◌≤◌, ◌++◌, ◌∷◌, [], false, length, position, IfSome, OnOk, OnErr};
 ghost use Rattle.std.specs.List.{list_any};
 ghost use Rattle.std.specs.Str.{bytes_eq};
 ghost use Rattle.sw_topo.specs.Checked.{IsIn};
@@ -40,7 +40,7 @@ impl Model for NetworkBuilder {
 }
 
 impl NetworkBuilder {
-    ghost use Rattle.sw_network.specs.Entries.{Declaration, empty, part_names};
+    ghost use Rattle.sw_network.specs.Entries.{empty, part_names};
     ghost use Rattle.sw_network.specs.Building.{Wires};
 
     /// Nothing.

@@ -1,8 +1,7 @@
 //! A network, valid by its type.
-ghost use Rattle.std.specs.Prelude.{◌≡◌, ℕ, ◌+◌, ◌*◌, ◌<◌, ◌≤◌, ◌++◌, ◌∷◌, [], Some, false, length, map, position, slice_get, option_map, is_some, IfSome, OnOk, OnErr, Option};
+ghost use Rattle.std.specs.Prelude.{◌≡◌, ◌+◌, ◌*◌, ◌<◌, ◌≤◌, ◌++◌, ◌∷◌, [], Some, false, length, map, position, slice_get, option_map, is_some, IfSome, OnOk, OnErr};
 ghost use Rattle.std.specs.List.{list_any};
 ghost use Rattle.std.specs.Str.{bytes_eq};
-ghost use Rattle.sw_topo.specs.Wiring.{Wiring};
 ghost use Rattle.sw_rmap.specs.Config.{IsTargetConfig};
 
 use crate::entries::{Link, Node, Switch};
@@ -48,7 +47,7 @@ impl Model for Network {
 
 impl Network {
     ghost use Rattle.sw_route.specs.Looks.{IsTable};
-    ghost use Rattle.sw_network.specs.Entries.{Declaration, NodeEntry, SwitchEntry, LinkEntry, FlowEntry, target_of, routes_of, look_at, wiring_of, capacities, all_flows, flow_names};
+    ghost use Rattle.sw_network.specs.Entries.{target_of, routes_of, look_at, wiring_of, capacities, all_flows, flow_names};
     ghost use Rattle.sw_network.specs.Valid.{IsValid, IsFlow};
     ghost use Rattle.sw_network.specs.Routings.{AnswersAs};
     ghost use Rattle.sw_network.specs.Building.{IsNetwork};

@@ -1,5 +1,4 @@
 -- The lists that a plain machine's vectors hold, and the network that a plan describes.
-use Rattle.sw_char.specs.declared.nchar.NChar.{NChar}
 use Rattle.sw_char.specs.declared.nchar.End.{End}
 use Rattle.std.specs.Global.{Vec}
 use Rattle.std.specs.Prelude.{◌≡◌, ℕ, Bool, true, false, List, [], length, map, Option, None, slice_index, slice_index_or}

@@ -2,6 +2,7 @@
 #![tactic(auto)]
 
 mod flow_control;
+mod nodes;
 mod plan;
 mod rows;
 mod state;

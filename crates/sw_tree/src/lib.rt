@@ -4,13 +4,12 @@
 mod document;
 mod fault;
 mod keys;
-mod laws;
+pub mod laws;
 mod names;
 mod table;
 
 pub use document::read_document;
 pub use fault::{FileFault, KeyFault, TextFault};
 pub use keys::{Key, Section, Version};
-pub use laws::least_unknown_key_is_refused;
 pub use names::Name;
 pub use table::Entry;

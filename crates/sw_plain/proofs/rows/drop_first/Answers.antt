@@ -1,4 +1,4 @@
-use Rattle.std.proofs.Common.{◌≡◌, ◌<◌, ap, ◌∙◌, rules, length, drop}
+use Rattle.std.proofs.Common.{◌<◌, ap, ◌∙◌, rules, length, drop}
 use Rattle.sw_plain.proofs.RowChanges.{row_is, rows_set}
 use Rattle.sw_plain.proofs.rows.drop_first.Goals as goal
 

@@ -1,4 +1,4 @@
-use Rattle.std.proofs.Common.{◌≡◌, ◌<◌, ◌++◌, ◌∷◌, [], ap, sym, ◌∙◌, rules, length, get_or}
+use Rattle.std.proofs.Common.{◌≡◌, ◌<◌, ◌++◌, ◌∷◌, [], ap, ◌∙◌, rules, length}
 use Rattle.std.proofs.lemmas.List.{set-get_or}
 use Rattle.std.specs.Vec.{with_item}
 use Rattle.sw_plain.proofs.RowChanges.{row_is, rows_set}

@@ -1,6 +1,4 @@
-use Rattle.std.proofs.Common.{List}
-use Rattle.sw_char.specs.declared.nchar.NChar.{NChar}
-use Rattle.std.proofs.Common.{◌≡◌, ◌<◌, ◌++◌, ◌∷◌, [], ℕ, ◌+◌, ◌-◌, suc, length, arith, rules, refl, sym, ap, ◌∙◌, get_or, drop, slice_index_or, slice_set}
+use Rattle.std.proofs.Common.{◌≡◌, ◌<◌, ◌++◌, ◌∷◌, [], ◌-◌, length, arith, rules, ap, get_or, drop, slice_index_or, slice_set}
 use Rattle.sw_plain.proofs.Puts.{front_is, put_of, read_is, set_is_put}
 use Rattle.sw_plain.specs.View.{lists_of, rows}
 use Rattle.sw_plain.specs.Lists.{state_of}

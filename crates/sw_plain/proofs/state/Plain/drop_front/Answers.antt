@@ -1,4 +1,4 @@
-use Rattle.std.proofs.Common.{◌≡◌, ◌<◌, [], ◌∷◌, ℕ, Some, length, map, arith, rules, refl, sym, ap, ◌∙◌, get_or, drop, filter, slice_index_or}
+use Rattle.std.proofs.Common.{◌<◌, [], Some, length, arith, rules, refl, sym, ap, ◌∙◌, drop, slice_index_or}
 use Rattle.sw_char.specs.declared.nchar.NChar.TheVariants.{Data, Eop, Eep}
 use Rattle.sw_machine.specs.declared.input.Input.TheVariants.{Idle, Spilling}
 use Rattle.sw_plain.specs.declared.plan.Cell.TheVariants.{Node}

@@ -1,4 +1,4 @@
-use Rattle.std.proofs.Common.{◌≡◌, ◌<◌, ℕ, ◌+◌, ◌-◌, suc, length, arith, rules, refl, sym, ap, get_or}
+use Rattle.std.proofs.Common.{◌<◌, ◌+◌, ◌-◌, length, arith, rules, refl, ap, get_or}
 use Rattle.sw_plain.proofs.Puts.{read_is, set_is_put}
 use Rattle.sw_plain.specs.View.{lists_of}
 use Rattle.sw_plain.specs.Lists.{state_of}

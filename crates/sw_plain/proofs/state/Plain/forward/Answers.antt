@@ -1,6 +1,5 @@
-use Rattle.std.proofs.Common.{◌≡◌, ◌<◌, ◌-◌, ◌++◌, ◌∷◌, [], ℕ, List, length, arith, rules, refl, sym, ap, ◌∙◌, get_or, drop, slice_index_or, slice_set}
-use Rattle.sw_char.specs.declared.nchar.NChar.{NChar}
-use Rattle.sw_machine.specs.declared.input.Input.TheVariants.{Held, Idle, Spilling}
+use Rattle.std.proofs.Common.{◌≡◌, ◌<◌, ◌-◌, ◌++◌, ◌∷◌, [], length, arith, rules, refl, sym, ap, ◌∙◌, drop, slice_index_or, slice_set}
+use Rattle.sw_machine.specs.declared.input.Input.TheVariants.{Held, Idle}
 use Rattle.sw_machine.specs.State.{input_after}
 use Rattle.sw_plain.proofs.Puts.{front_is, put_of, read_is, set_is_put}
 use Rattle.sw_plain.specs.View.{lists_of, rows}

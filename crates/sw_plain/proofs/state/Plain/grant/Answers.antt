@@ -1,4 +1,4 @@
-use Rattle.std.proofs.Common.{◌≡◌, ◌<◌, [], ◌∷◌, ℕ, Some, length, map, arith, rules, refl, sym, ap, ◌∙◌, get_or, drop, filter, slice_index_or}
+use Rattle.std.proofs.Common.{◌<◌, [], ◌∷◌, Some, length, arith, rules, refl, sym, ap, ◌∙◌, drop, slice_index_or}
 use Rattle.std.specs.Prelude.{if◌then◌else◌, ◌&&◌, slice_set}
 use Rattle.std.specs.List.{list_any}
 use Rattle.sw_plain.specs.Names.{names_at}
