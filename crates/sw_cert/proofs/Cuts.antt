@@ -1,5 +1,5 @@
 -- A text is cut at its LFs.
-use Rattle.std.proofs.Common.{◌≡◌, ◌≢◌, ℕ, ◌+◌, ◌-◌, ◌/◌, ◌%◌, ◌<◌, ◌≤◌, ◌^◌, Bool, true, false, List, [], ◌∷◌, ◌++◌, length, refl, sym, ap, ◌∙◌, inl, inr, arith, append_assoc, append-nil, ne_eqb, not, suc, take, drop, cond, Option, Some, None}
+use Rattle.std.proofs.Common.{◌≡◌, ℕ, ◌+◌, ◌%◌, ◌<◌, ◌≤◌, ◌^◌, Bool, true, false, List, [], ◌∷◌, ◌++◌, length, refl, sym, ap, ◌∙◌, inl, inr, arith, append_assoc, append-nil, ne_eqb, not, suc, take, drop, cond, Some, None}
 use Rattle.std.specs.Prelude.{◌==◌, codes, map, All, position, nat_lt}
 use Rattle.std.specs.List.{list_all, position_or_len, onto_first}
 use Rattle.std.proofs.lemmas.Bool.{and_parts, false≢true, ltb-true, ltb-false, cases_Bool}
@@ -8,7 +8,7 @@ use Rattle.std.specs.Fmt.{decimal}
 use Rattle.std.proofs.lemmas.List.Splits.{slice_split_at, slice_split_first}
 use Rattle.std.proofs.lemmas.List.Elements.{All-nil, All-cons, All-append}
 use Rattle.std.proofs.lemmas.Fmt.{decimal_by_steps}
-use Rattle.sw_cert.specs.declared.place.Place.{Place}
+use Rattle.sw_flow.specs.declared.place.Place.{Place}
 use Rattle.sw_cert.specs.Grammar.{head_lines, flow_lines, lines_of, block, place_line, with_lf, HasText, Fits, IsBlock}
 
 abbrev pub IsBreak : ℕ → Bool
@@ -61,8 +61,8 @@ numbers_are_lines (v ∷ ns) h = (number_after (codes "number ") v refl (omega (
 place_is_line : (p : Place) → Fits p → IsOneLine (place_line p)
 place_is_line p h =
     All-append (λ b. IsBreak b ≡ false) (codes "place ") (decimal p.channel ++ (32 ∷ decimal p.deleted)) (word_line (codes "place ") refl)
-      (All-append (λ b. IsBreak b ≡ false) (decimal p.channel) (32 ∷ decimal p.deleted) (decimal_line p.channel (omega (arith, h.0)))
-        (All-cons (λ b. IsBreak b ≡ false) 32 (decimal p.deleted) refl (decimal_line p.deleted (omega (arith, h.1)))))
+    (All-append (λ b. IsBreak b ≡ false) (decimal p.channel) (32 ∷ decimal p.deleted) (decimal_line p.channel (omega (arith, h.0)))
+    (All-cons (λ b. IsBreak b ≡ false) 32 (decimal p.deleted) refl (decimal_line p.deleted (omega (arith, h.1)))))
 
 places_are_lines : (ps : List Place) → AllByRecursion Fits ps → AllByRecursion IsOneLine (map place_line ps)
 places_are_lines [] h = tt
@@ -80,10 +80,10 @@ are_lines ns fs h =
     let few = h.channels in
     let flows = h.few in
     all_both IsOneLine (head_lines (length ns) ns) (flow_lines (length fs) fs ++ codes "end" ∷ [])
-      (word_line (codes "swcert 1") refl, (number_after (codes "channels ") (length ns) refl (omega arith), numbers_are_lines ns h.numbers_fit))
-      (all_both IsOneLine (flow_lines (length fs) fs) (codes "end" ∷ [])
-        (number_after (codes "flows ") (length fs) refl (omega arith), blocks_are_lines fs h.blocks)
-        (word_line (codes "end") refl, tt))
+    (word_line (codes "swcert 1") refl, (number_after (codes "channels ") (length ns) refl (omega arith), numbers_are_lines ns h.numbers_fit))
+    (all_both IsOneLine (flow_lines (length fs) fs) (codes "end" ∷ [])
+    (number_after (codes "flows ") (length fs) refl (omega arith), blocks_are_lines fs h.blocks)
+    (word_line (codes "end") refl, tt))
 
 some_of : {A : Type 0} (b : Bool) (x y : A) → cond b (Some x) None ≡ Some y → (b ≡ true) × (x ≡ y)
 some_of true x y e = let s : x ≡ y = cc in (refl, s)

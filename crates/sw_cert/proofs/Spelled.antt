@@ -1,21 +1,21 @@
 -- What is read is spelled so: the lines that lead to a state.
-use Rattle.std.proofs.Common.{◌≡◌, ◌≢◌, ℕ, zero, suc, ◌+◌, ◌-◌, ◌<◌, ◌≤◌, ◌^◌, Bool, true, false, ◌&&◌, List, [], ◌∷◌, ◌++◌, length, map, drop, refl, sym, ap, ◌∙◌, subst, inl, inr, arith, Option, Some, None, append_assoc, append-nil, length-append, get_or, drop-cons, zero-add}
+use Rattle.std.proofs.Common.{◌≡◌, ℕ, zero, suc, ◌+◌, ◌-◌, ◌<◌, ◌≤◌, ◌^◌, true, List, [], ◌∷◌, ◌++◌, length, map, drop, refl, sym, ap, ◌∙◌, subst, inl, inr, arith, Option, Some, None, append_assoc, append-nil, get_or, drop-cons, zero-add}
 use Rattle.std.specs.Prelude.{codes, option_and_then, option_map, ◌==◌, take, position, slice_get, if◌then◌else◌}
 use Rattle.std.specs.List.{AllByRecursion, flat_map}
 use Rattle.std.specs.Fmt.{decimal}
-use Rattle.std.proofs.lemmas.Bool.{cases_Bool, and_parts, eqb-true, false≢true}
+use Rattle.std.proofs.lemmas.Bool.{cases_Bool, and_parts, eqb-true}
 use Rattle.std.proofs.lemmas.List.{map-append, length_push, drop_all, take-append-drop}
 use Rattle.std.proofs.lemmas.List.Quantifiers.{position-Some}
 use Rattle.std.proofs.lemmas.Grind.{flat_map-append}
-use Rattle.sw_cert.specs.declared.place.Place.{Place}
+use Rattle.sw_flow.specs.declared.place.Place.{Place}
 use Rattle.sw_cert.specs.declared.lines.Expected.{Expected}
 use Rattle.sw_cert.specs.declared.lines.Expected.TheVariants.{Title, Channels, Numbers, Flows, Places, Nothing}
 use Rattle.sw_cert.specs.declared.lines.Said.{Said}
 use Rattle.sw_cert.specs.declared.lines.Said.TheVariants as said
 use Rattle.sw_cert.specs.Number.{number_of}
-use Rattle.sw_cert.specs.Grammar.{after_word, field, is_line, if_rising, place_of, place_at, said_by, moved, places, place_line, block, head_lines, flow_lines, Fits, IsBlock, Rises, stands_before}
-use Rattle.sw_cert.specs.Reading.{State, next, with_said, with_place, last_of}
-use Rattle.sw_cert.specs.Sound.{Kept, IsSound}
+use Rattle.sw_cert.specs.Grammar.{after_word, field, is_line, if_rising, place_of, place_at, places, place_line, block, head_lines, flow_lines, Fits, IsBlock, Rises, stands_before}
+use Rattle.sw_cert.specs.Reading.{State, next, with_said, last_of}
+use Rattle.sw_cert.specs.Sound.{IsSound}
 use Rattle.sw_cert.proofs.Numbers.{read_spelled}
 use Rattle.sw_cert.proofs.Fields.{begins, field_spelled, after_spelled}
 
@@ -150,14 +150,14 @@ count_goes_on : (k : ℕ) (ns : List ℕ) (fs : List (List Place)) (ps : List Pl
     → IsSound (record { expected = Flows (suc k); numbers = ns; flows = fs; open_block = ps })
     → (n : ℕ) → line ≡ codes "flow " ++ decimal n → n ≤ 67584
     → GoesOn (record { expected = Flows (suc k); numbers = ns; flows = fs; open_block = ps }) line
-        (record (with_said (record { expected = Flows (suc k); numbers = ns; flows = fs; open_block = ps }) (said.PlaceCount n)) { expected = places n (suc k - 1) })
+    (record (with_said (record { expected = Flows (suc k); numbers = ns; flows = fs; open_block = ps }) (said.PlaceCount n)) { expected = places n (suc k - 1) })
 count_goes_on k ns fs ps line h zero l le =
     let few : length (fs ++ [] ∷ []) + (suc k - 1) ≡ length fs + suc k = omega (arith, length_push fs []) in
     record {
       lines =
-        ap (λ m. head_lines (length ns) ns ++ flow_lines m (fs ++ [] ∷ [])) few
-        ∙ ap (λ x. head_lines (length ns) ns ++ ((codes "flows " ++ decimal (length fs + suc k)) ∷ x)) (flat_push fs [] ∙ ap (λ x. flat_map block fs ++ x ∷ []) (sym l))
-        ∙ sym (append_assoc (head_lines (length ns) ns) (flow_lines (length fs + suc k) fs) (line ∷ []));
+          ap (λ m. head_lines (length ns) ns ++ flow_lines m (fs ++ [] ∷ [])) few
+          ∙ ap (λ x. head_lines (length ns) ns ++ ((codes "flows " ++ decimal (length fs + suc k)) ∷ x)) (flat_push fs [] ∙ ap (λ x. flat_map block fs ++ x ∷ []) (sym l))
+          ∙ sym (append_assoc (head_lines (length ns) ns) (flow_lines (length fs + suc k) fs) (line ∷ []));
       sound = record { kept = (h.kept.0, omega arith, h.kept.2); numbers = h.numbers; blocks = all_push IsBlock fs [] h.blocks (omega arith, tt, tt); fits = h.fits; rises = h.rises };
     }
 count_goes_on k ns fs ps line h (suc p) l le =
@@ -166,11 +166,11 @@ count_goes_on k ns fs ps line h (suc p) l le =
     let left : suc (suc k - 1) ≡ suc k = omega arith in
     record {
       lines =
-        ap (λ m. head_lines (length ns) ns ++ (flow_lines (length fs + m) fs ++ open_lines (length ps + suc p) ps)) left
-        ∙ ap (λ m. head_lines (length ns) ns ++ (flow_lines (length fs + suc k) fs ++ open_lines m ps)) size
-        ∙ ap (λ x. head_lines (length ns) ns ++ (flow_lines (length fs + suc k) fs ++ open_lines (suc p) x)) none
-        ∙ ap (λ x. head_lines (length ns) ns ++ (flow_lines (length fs + suc k) fs ++ x ∷ [])) (sym l)
-        ∙ sym (append_assoc (head_lines (length ns) ns) (flow_lines (length fs + suc k) fs) (line ∷ []));
+          ap (λ m. head_lines (length ns) ns ++ (flow_lines (length fs + m) fs ++ open_lines (length ps + suc p) ps)) left
+          ∙ ap (λ m. head_lines (length ns) ns ++ (flow_lines (length fs + suc k) fs ++ open_lines m ps)) size
+          ∙ ap (λ x. head_lines (length ns) ns ++ (flow_lines (length fs + suc k) fs ++ open_lines (suc p) x)) none
+          ∙ ap (λ x. head_lines (length ns) ns ++ (flow_lines (length fs + suc k) fs ++ x ∷ [])) (sym l)
+          ∙ sym (append_assoc (head_lines (length ns) ns) (flow_lines (length fs + suc k) fs) (line ∷ []));
       sound = record { kept = (h.kept.0, omega (arith, h.kept.1), omega arith); numbers = h.numbers; blocks = h.blocks; fits = h.fits; rises = h.rises };
     }
 
@@ -179,15 +179,15 @@ place_goes_on : (p k : ℕ) (ns : List ℕ) (fs : List (List Place)) (ps : List 
     → IsSound (record { expected = Places (suc p) k; numbers = ns; flows = fs; open_block = ps })
     → (q : Place) → line ≡ place_line q → q.channel ≤ 65535 → q.deleted ≤ 32 → stands_before (last_of ps) q ≡ true
     → GoesOn (record { expected = Places (suc p) k; numbers = ns; flows = fs; open_block = ps }) line
-        (record { expected = Places p k; numbers = ns; flows = fs; open_block = ps ++ q ∷ [] })
+    (record { expected = Places p k; numbers = ns; flows = fs; open_block = ps ++ q ∷ [] })
 place_goes_on p k ns fs ps line h q l c d r =
     let size : length (ps ++ q ∷ []) + suc p ≡ length ps + suc (suc p) = omega (arith, length_push ps q) in
     record {
       lines =
-        ap (λ m. head_lines (length ns) ns ++ (flow_lines (length fs + suc k) fs ++ open_lines m (ps ++ q ∷ []))) size
-        ∙ ap (λ x. head_lines (length ns) ns ++ (flow_lines (length fs + suc k) fs ++ ((codes "flow " ++ decimal (length ps + suc (suc p))) ∷ x))) (map_push place_line ps q ∙ ap (λ x. map place_line ps ++ x ∷ []) (sym l))
-        ∙ ap (λ x. head_lines (length ns) ns ++ x) (sym (append_assoc (flow_lines (length fs + suc k) fs) (open_lines (length ps + suc (suc p)) ps) (line ∷ [])))
-        ∙ sym (append_assoc (head_lines (length ns) ns) (flow_lines (length fs + suc k) fs ++ open_lines (length ps + suc (suc p)) ps) (line ∷ []));
+          ap (λ m. head_lines (length ns) ns ++ (flow_lines (length fs + suc k) fs ++ open_lines m (ps ++ q ∷ []))) size
+          ∙ ap (λ x. head_lines (length ns) ns ++ (flow_lines (length fs + suc k) fs ++ ((codes "flow " ++ decimal (length ps + suc (suc p))) ∷ x))) (map_push place_line ps q ∙ ap (λ x. map place_line ps ++ x ∷ []) (sym l))
+          ∙ ap (λ x. head_lines (length ns) ns ++ x) (sym (append_assoc (flow_lines (length fs + suc k) fs) (open_lines (length ps + suc (suc p)) ps) (line ∷ [])))
+          ∙ sym (append_assoc (head_lines (length ns) ns) (flow_lines (length fs + suc k) fs ++ open_lines (length ps + suc (suc p)) ps) (line ∷ []));
       sound = record { kept = (h.kept.0, h.kept.1, omega (arith, h.kept.2)); numbers = h.numbers; blocks = h.blocks; fits = all_push Fits ps q h.fits (c, d); rises = rises_push ps q h.rises r };
     }
 
@@ -196,19 +196,19 @@ last_goes_on : (k : ℕ) (ns : List ℕ) (fs : List (List Place)) (ps : List Pla
     → IsSound (record { expected = Places zero k; numbers = ns; flows = fs; open_block = ps })
     → (q : Place) → line ≡ place_line q → q.channel ≤ 65535 → q.deleted ≤ 32 → stands_before (last_of ps) q ≡ true
     → GoesOn (record { expected = Places zero k; numbers = ns; flows = fs; open_block = ps }) line
-        (record { expected = Flows k; numbers = ns; flows = fs ++ (ps ++ q ∷ []) ∷ []; open_block = [] })
+    (record { expected = Flows k; numbers = ns; flows = fs ++ (ps ++ q ∷ []) ∷ []; open_block = [] })
 last_goes_on k ns fs ps line h q l c d r =
     let size : length (ps ++ q ∷ []) ≡ length ps + suc zero = omega (arith, length_push ps q) in
     let few : length (fs ++ (ps ++ q ∷ []) ∷ []) + k ≡ length fs + suc k = omega (arith, length_push fs (ps ++ q ∷ [])) in
     let opened : block (ps ++ q ∷ []) ≡ open_lines (length ps + suc zero) ps ++ line ∷ [] =
-          ap (λ m. open_lines m (ps ++ q ∷ [])) size
-          ∙ ap (λ x. (codes "flow " ++ decimal (length ps + suc zero)) ∷ x) (map_push place_line ps q ∙ ap (λ x. map place_line ps ++ x ∷ []) (sym l)) in
+    ap (λ m. open_lines m (ps ++ q ∷ [])) size
+    ∙ ap (λ x. (codes "flow " ++ decimal (length ps + suc zero)) ∷ x) (map_push place_line ps q ∙ ap (λ x. map place_line ps ++ x ∷ []) (sym l)) in
     record {
       lines =
-        ap (λ m. head_lines (length ns) ns ++ flow_lines m (fs ++ (ps ++ q ∷ []) ∷ [])) few
-        ∙ ap (λ x. head_lines (length ns) ns ++ ((codes "flows " ++ decimal (length fs + suc k)) ∷ x)) (flat_push fs (ps ++ q ∷ []) ∙ ap (λ x. flat_map block fs ++ x) opened)
-        ∙ ap (λ x. head_lines (length ns) ns ++ x) (sym (append_assoc (flow_lines (length fs + suc k) fs) (open_lines (length ps + suc zero) ps) (line ∷ [])))
-        ∙ sym (append_assoc (head_lines (length ns) ns) (flow_lines (length fs + suc k) fs ++ open_lines (length ps + suc zero) ps) (line ∷ []));
+          ap (λ m. head_lines (length ns) ns ++ flow_lines m (fs ++ (ps ++ q ∷ []) ∷ [])) few
+          ∙ ap (λ x. head_lines (length ns) ns ++ ((codes "flows " ++ decimal (length fs + suc k)) ∷ x)) (flat_push fs (ps ++ q ∷ []) ∙ ap (λ x. flat_map block fs ++ x) opened)
+          ∙ ap (λ x. head_lines (length ns) ns ++ x) (sym (append_assoc (flow_lines (length fs + suc k) fs) (open_lines (length ps + suc zero) ps) (line ∷ [])))
+          ∙ sym (append_assoc (head_lines (length ns) ns) (flow_lines (length fs + suc k) fs ++ open_lines (length ps + suc zero) ps) (line ∷ []));
       sound = record {
         kept = (h.kept.0, omega (arith, h.kept.1), refl);
         numbers = h.numbers;
@@ -225,57 +225,57 @@ pub goes_on_from : (e : Expected) (ns : List ℕ) (fs : List (List Place)) (ps :
     → GoesOn (record { expected = e; numbers = ns; flows = fs; open_block = ps }) line f
 goes_on_from Title ns fs ps line f h e =
     word_case (codes "swcert 1") line said.Begun _ f (GoesOn (record { expected = Title; numbers = ns; flows = fs; open_block = ps }) line) e
-      (λ l. record { lines = ap (λ x. x ∷ []) (sym l); sound = record { kept = h.kept; numbers = h.numbers; blocks = h.blocks; fits = h.fits; rises = h.rises } })
+    (λ l. record { lines = ap (λ x. x ∷ []) (sym l); sound = record { kept = h.kept; numbers = h.numbers; blocks = h.blocks; fits = h.fits; rises = h.rises } })
 goes_on_from Channels ns fs ps line f h e =
     field_case (codes "channels ") line 2048 said.ChannelCount _ f (GoesOn (record { expected = Channels; numbers = ns; flows = fs; open_block = ps }) line) (omega arith) e
-      (λ n l le.
-        let none = h.kept.0 in
-        let same : length ns + n ≡ n = ap (λ xs. length xs + n) none ∙ zero-add n in
-        record {
-          lines =
-            ap (λ m. head_lines m ns) same
-            ∙ ap (λ xs. head_lines n xs) none
-            ∙ ap (λ x. codes "swcert 1" ∷ x ∷ []) (sym l);
-          sound = record { kept = (omega arith, h.kept.1, h.kept.2); numbers = h.numbers; blocks = h.blocks; fits = h.fits; rises = h.rises };
-        })
+    (λ n l le.
+    let none = h.kept.0 in
+    let same : length ns + n ≡ n = ap (λ xs. length xs + n) none ∙ zero-add n in
+    record {
+      lines =
+          ap (λ m. head_lines m ns) same
+          ∙ ap (λ xs. head_lines n xs) none
+          ∙ ap (λ x. codes "swcert 1" ∷ x ∷ []) (sym l);
+      sound = record { kept = (omega arith, h.kept.1, h.kept.2); numbers = h.numbers; blocks = h.blocks; fits = h.fits; rises = h.rises };
+    })
 goes_on_from (Numbers zero) ns fs ps line f h e =
     field_case (codes "flows ") line 8192 said.FlowCount _ f (GoesOn (record { expected = Numbers zero; numbers = ns; flows = fs; open_block = ps }) line) (omega arith) e
-      (λ m l le.
-        let none = h.kept.1 in
-        let same : length fs + m ≡ m = ap (λ xs. length xs + m) none ∙ zero-add m in
-        let all : length ns + zero ≡ length ns = omega arith in
-        record {
-          lines =
-            ap (λ n. head_lines (length ns) ns ++ flow_lines n fs) same
-            ∙ ap (λ xs. head_lines (length ns) ns ++ flow_lines m xs) none
-            ∙ ap (λ x. head_lines (length ns) ns ++ x ∷ []) (sym l)
-            ∙ ap (λ n. head_lines n ns ++ line ∷ []) (sym all);
-          sound = record { kept = (omega (arith, h.kept.0), omega arith, h.kept.2); numbers = h.numbers; blocks = h.blocks; fits = h.fits; rises = h.rises };
-        })
+    (λ m l le.
+    let none = h.kept.1 in
+    let same : length fs + m ≡ m = ap (λ xs. length xs + m) none ∙ zero-add m in
+    let all : length ns + zero ≡ length ns = omega arith in
+    record {
+      lines =
+          ap (λ n. head_lines (length ns) ns ++ flow_lines n fs) same
+          ∙ ap (λ xs. head_lines (length ns) ns ++ flow_lines m xs) none
+          ∙ ap (λ x. head_lines (length ns) ns ++ x ∷ []) (sym l)
+          ∙ ap (λ n. head_lines n ns ++ line ∷ []) (sym all);
+      sound = record { kept = (omega (arith, h.kept.0), omega arith, h.kept.2); numbers = h.numbers; blocks = h.blocks; fits = h.fits; rises = h.rises };
+    })
 goes_on_from (Numbers (suc k)) ns fs ps line f h e =
     field_case (codes "number ") line 65535 said.Number _ f (GoesOn (record { expected = Numbers (suc k); numbers = ns; flows = fs; open_block = ps }) line) (omega arith) e
-      (λ v l le.
-        let same : length (ns ++ v ∷ []) + (suc k - 1) ≡ length ns + suc k = omega (arith, length_push ns v) in
-        record {
-          lines =
-            ap (λ n. head_lines n (ns ++ v ∷ [])) same
-            ∙ ap (λ x. codes "swcert 1" ∷ (codes "channels " ++ decimal (length ns + suc k)) ∷ x) (map_push (λ v. codes "number " ++ decimal v) ns v ∙ ap (λ x. map (λ v. codes "number " ++ decimal v) ns ++ x ∷ []) (sym l));
-          sound = record { kept = (omega (arith, h.kept.0), h.kept.1, h.kept.2); numbers = all_push (λ v. v ≤ 65535) ns v h.numbers le; blocks = h.blocks; fits = h.fits; rises = h.rises };
-        })
+    (λ v l le.
+    let same : length (ns ++ v ∷ []) + (suc k - 1) ≡ length ns + suc k = omega (arith, length_push ns v) in
+    record {
+      lines =
+          ap (λ n. head_lines n (ns ++ v ∷ [])) same
+          ∙ ap (λ x. codes "swcert 1" ∷ (codes "channels " ++ decimal (length ns + suc k)) ∷ x) (map_push (λ v. codes "number " ++ decimal v) ns v ∙ ap (λ x. map (λ v. codes "number " ++ decimal v) ns ++ x ∷ []) (sym l));
+      sound = record { kept = (omega (arith, h.kept.0), h.kept.1, h.kept.2); numbers = all_push (λ v. v ≤ 65535) ns v h.numbers le; blocks = h.blocks; fits = h.fits; rises = h.rises };
+    })
 goes_on_from (Flows zero) ns fs ps line f h e =
     word_case (codes "end") line said.Ended _ f (GoesOn (record { expected = Flows zero; numbers = ns; flows = fs; open_block = ps }) line) e
-      (λ l.
-        let all : length fs + zero ≡ length fs = omega arith in
-        record {
-          lines =
-            ap (λ x. head_lines (length ns) ns ++ (flow_lines (length fs) fs ++ x ∷ [])) (sym l)
-            ∙ sym (append_assoc (head_lines (length ns) ns) (flow_lines (length fs) fs) (line ∷ []))
-            ∙ ap (λ m. (head_lines (length ns) ns ++ flow_lines m fs) ++ line ∷ []) (sym all);
-          sound = record { kept = (h.kept.0, omega (arith, h.kept.1), h.kept.2); numbers = h.numbers; blocks = h.blocks; fits = h.fits; rises = h.rises };
-        })
+    (λ l.
+    let all : length fs + zero ≡ length fs = omega arith in
+    record {
+      lines =
+          ap (λ x. head_lines (length ns) ns ++ (flow_lines (length fs) fs ++ x ∷ [])) (sym l)
+          ∙ sym (append_assoc (head_lines (length ns) ns) (flow_lines (length fs) fs) (line ∷ []))
+          ∙ ap (λ m. (head_lines (length ns) ns ++ flow_lines m fs) ++ line ∷ []) (sym all);
+      sound = record { kept = (h.kept.0, omega (arith, h.kept.1), h.kept.2); numbers = h.numbers; blocks = h.blocks; fits = h.fits; rises = h.rises };
+    })
 goes_on_from (Flows (suc k)) ns fs ps line f h e =
     field_case (codes "flow ") line 67584 said.PlaceCount _ f (GoesOn (record { expected = Flows (suc k); numbers = ns; flows = fs; open_block = ps }) line) (omega arith) e
-      (count_goes_on k ns fs ps line h)
+    (count_goes_on k ns fs ps line h)
 goes_on_from (Places zero k) ns fs ps line f h e =
     place_case (last_of ps) line _ f (GoesOn (record { expected = Places zero k; numbers = ns; flows = fs; open_block = ps }) line) e (last_goes_on k ns fs ps line h)
 goes_on_from (Places (suc p) k) ns fs ps line f h e =

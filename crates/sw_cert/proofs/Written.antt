@@ -1,13 +1,13 @@
 -- The text of a certificate, part by part.
-use Rattle.std.proofs.Common.{◌≡◌, ℕ, List, [], ◌∷◌, ◌++◌, length, map, refl, sym, ap, ◌∙◌, append_assoc, append-nil}
+use Rattle.std.proofs.Common.{◌≡◌, ℕ, List, [], ◌∷◌, ◌++◌, length, map, refl, sym, ap, ◌∙◌, append_assoc}
 use Rattle.std.specs.Prelude.{codes, Vec}
 use Rattle.std.specs.List.{flat_map}
 use Rattle.std.specs.Fmt.{decimal}
 use Rattle.std.specs.declared.alloc.Global.{Global}
 use Rattle.std.proofs.lemmas.Grind.{flat_map-append}
 use Rattle.std.proofs.lemmas.List.Folds.{flat_map-map}
-use Rattle.sw_cert.specs.declared.place.Place.{Place}
-use Rattle.sw_cert.specs.Grammar.{with_lf, place_line, block, head_lines, flow_lines, lines_of, spelling}
+use Rattle.sw_flow.specs.declared.place.Place.{Place}
+use Rattle.sw_cert.specs.Grammar.{with_lf, place_line, block, head_lines, flow_lines, spelling}
 use Rattle.sw_cert.specs.Reading.{items_of}
 
 abbrev pub block_text : Vec Place Global → List ℕ

@@ -1,7 +1,7 @@
 -- What the lines so far have said.
 use Rattle.std.specs.Prelude.{◌≡◌, ℕ, zero, Bool, true, false, List, [], ◌∷◌, ◌++◌, length, map, Option, Some, None, option_map, slice_get, ◌-◌, Vec}
 use Rattle.std.specs.declared.alloc.Global.{Global}
-use Rattle.sw_cert.specs.declared.place.Place.{Place}
+use Rattle.sw_flow.specs.declared.place.Place.{Place}
 use Rattle.sw_cert.specs.declared.lines.Expected.{Expected}
 use Rattle.sw_cert.specs.declared.lines.Expected.TheVariants.{Places}
 use Rattle.sw_cert.specs.declared.lines.Said.{Said}

@@ -1,7 +1,7 @@
 -- What holds of what the lines so far have said.
 use Rattle.std.specs.Prelude.{◌≡◌, ℕ, suc, ◌+◌, ◌≤◌, List, [], length, None}
 use Rattle.std.specs.List.{AllByRecursion}
-use Rattle.sw_cert.specs.declared.place.Place.{Place}
+use Rattle.sw_flow.specs.declared.place.Place.{Place}
 use Rattle.sw_cert.specs.declared.lines.Expected.{Expected}
 use Rattle.sw_cert.specs.declared.lines.Expected.TheVariants.{Title, Channels, Numbers, Flows, Places, Nothing}
 use Rattle.sw_cert.specs.Grammar.{Fits, IsBlock, Rises}
@@ -22,4 +22,3 @@ pub record IsSound (d : State) : Type 0 where
   pub blocks : AllByRecursion IsBlock d.flows
   pub fits : AllByRecursion Fits d.open_block
   pub rises : Rises None d.open_block
-

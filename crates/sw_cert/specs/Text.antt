@@ -1,8 +1,8 @@
 -- The certificate of a text, and the text of a certificate.
-use Rattle.std.specs.Prelude.{◌≡◌, ℕ, suc, Bool, true, false, List, [], ◌∷◌, ◌++◌, Option, Some, None, Result, Ok, Err, if◌then◌else◌, ◌==◌, ◌&&◌, length, ◌↔◌}
+use Rattle.std.specs.Prelude.{◌≡◌, ℕ, suc, Bool, true, false, List, [], ◌∷◌, Result, Ok, Err, if◌then◌else◌, ◌==◌, ◌&&◌, length, ◌↔◌}
 use Rattle.std.specs.Option.{option_map_or}
 use Rattle.std.specs.List.{slice_split}
-use Rattle.sw_cert.specs.declared.place.Place.{Place}
+use Rattle.sw_flow.specs.declared.place.Place.{Place}
 use Rattle.sw_cert.specs.declared.lines.Expected.{Expected}
 use Rattle.sw_cert.specs.declared.lines.Expected.TheVariants.{Title, Nothing}
 use Rattle.sw_cert.specs.declared.certificate.CertFault.{CertFault}

@@ -9,10 +9,10 @@ ghost use Rattle.sw_cert.specs.declared.certificate.CertFault.TheVariants.{Memor
 
 use crate::draft::Draft;
 use crate::lines::Expected;
-use crate::place::Place;
 use crate::write::spelled;
 use std::alloc::{AllocError, AllocFailed, Global};
 use std::marker::Model;
+use sw_flow::Place;
 
 /// Why a certificate is refused.
 #[derive(Debug, Drop)]

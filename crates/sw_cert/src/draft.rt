@@ -3,9 +3,9 @@ ghost use Rattle.std.specs.Prelude.{◌≡◌, OnOk, IfOk};
 ghost use Rattle.sw_cert.specs.Reading.{Follows, last_of, state_of, with_place, with_said};
 
 use crate::lines::{Expected, Said, moved, said_by};
-use crate::place::Place;
 use std::alloc::{AllocError, Global};
 use std::mem;
+use sw_flow::Place;
 
 /// What the lines so far have said.
 #[derive(Drop)]
@@ -53,15 +53,17 @@ impl Draft {
     pub(crate) fn read_line(&mut self, alloc: Global, line: &[u8]) -> Result<bool, AllocError>
         ensures { IfOk result (λ right. Follows (state_of self.old) line.now right (state_of self.new)) }
     {
-        let Some(said) = said_by(self.expected, last_of(&self.block), line) else {
+        let expected = self.expected;
+        let last = last_of(&self.block);
+        let Some(said) = said_by(expected, last, line) else {
             return Ok(false);
         };
+        let next = moved(expected, &said);
         self.add(alloc, said)?;
-        self.expected = moved(self.expected, said);
+        self.expected = next;
         Ok(true)
     }
 }
-
 
 impl Draft {
     ghost use Rattle.sw_cert.specs.Text.{at_first};

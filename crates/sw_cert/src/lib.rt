@@ -6,9 +6,11 @@ mod draft;
 mod laws;
 mod lines;
 mod number;
-mod place;
 mod write;
 
 pub use certificate::{CertFault, Certificate};
 pub use laws::{field_spelling, one_spelling, one_text};
-pub use place::Place;
+pub use sw_flow::Place;
+
+#[cfg(test)]
+mod tests;

@@ -3,7 +3,8 @@ ghost use Rattle.std.specs.Prelude.{◌≡◌, option_copied, position, length, 
 ghost use Rattle.sw_cert.specs.Grammar.{after_word, field, is_line, moved, place_at, place_of, if_rising, places, said_by, stands_before};
 
 use crate::number::number;
-use crate::place::Place;
+use sw_flow::Place;
+use sw_topo::Chan;
 
 /// What the next line has to be.
 #[derive(Clone, Copy, Debug, PartialEq, Eq)]
@@ -48,13 +49,14 @@ fn field(word: &[u8], limit: u32, line: &[u8]) -> Option<u32>
 }
 
 /// Whether the first place stands before the second.
-pub(crate) fn stands_before(last: Option<Place>, place: Place) -> bool
-    ensures { result ≡ stands_before last place }
+pub(crate) fn stands_before(last: Option<Place>, place: &Place) -> bool
+    ensures { result ≡ stands_before last place.now }
 {
     match last {
         None => true,
         Some(p) => {
-            p.channel < place.channel || (p.channel == place.channel && p.deleted < place.deleted)
+            let (before, after) = (p.channel.number(), place.channel.number());
+            before < after || (before == after && p.deleted < place.deleted)
         }
     }
 }
@@ -85,7 +87,7 @@ fn place_at(bytes: &[u8], at: usize) -> Option<Place>
     let channel = number(&bytes[..at], 65535)?;
     let deleted = number(&bytes[at + 1..], 32)?;
     Some(Place {
-        channel: channel as u16,
+        channel: Chan::new(channel as u16),
         deleted: deleted as u8,
     })
 }
@@ -108,7 +110,7 @@ fn place_of(bytes: &[u8]) -> Option<Place>
 fn if_rising(last: Option<Place>, place: Place) -> Option<Said>
     ensures { result ≡ if_rising last place }
 {
-    if stands_before(last, place) {
+    if stands_before(last, &place) {
         Some(Said::Listed(place))
     } else {
         None
@@ -132,18 +134,17 @@ pub(crate) fn said_by(expected: Expected, last: Option<Place>, line: &[u8]) -> O
 }
 
 /// What is expected after a line.
-pub(crate) fn moved(expected: Expected, said: Said) -> Expected
-    ensures { result ≡ moved expected said }
+pub(crate) fn moved(expected: Expected, said: &Said) -> Expected
+    ensures { result ≡ moved expected said.now }
 {
     match (expected, said) {
         (_, Said::Begun) => Expected::Channels,
-        (_, Said::ChannelCount(n)) => Expected::Numbers(n),
+        (_, Said::ChannelCount(n)) => Expected::Numbers(*n),
         (Expected::Numbers(left), Said::Number(_)) => Expected::Numbers(left.saturating_sub(1)),
-        (_, Said::FlowCount(m)) => Expected::Flows(m),
-        (Expected::Flows(left), Said::PlaceCount(p)) => places(p, left.saturating_sub(1)),
+        (_, Said::FlowCount(m)) => Expected::Flows(*m),
+        (Expected::Flows(left), Said::PlaceCount(p)) => places(*p, left.saturating_sub(1)),
         (Expected::Places(p, left), Said::Listed(_)) => places(p, left),
         (_, Said::Ended) => Expected::Nothing,
         _ => expected,
     }
 }
-

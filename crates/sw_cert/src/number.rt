@@ -32,4 +32,3 @@ pub(crate) fn number(bytes: &[u8], limit: u32) -> Option<u32>
     }
     digits(bytes, limit)
 }
-

@@ -5,14 +5,14 @@ ghost use Rattle.std.specs.Fmt.{decimal};
 ghost use Rattle.sw_cert.specs.Grammar.{with_lf, place_line, block, spelling};
 ghost use Rattle.sw_cert.specs.Reading.{items_of};
 
-use crate::place::Place;
 use std::alloc::{AllocError, Global};
 use std::fmt::Write;
+use sw_flow::Place;
 
 fn add_place(text: &mut String, place: Place) -> Result<(), AllocError>
     ensures { OnOk result (string_bytes text.new ≡ string_bytes text.old ++ with_lf (place_line place)) }
 {
-    let channel = place.channel;
+    let channel = place.channel.number();
     let deleted = place.deleted;
     write!(text, "place {channel} {deleted}\n")
 }

@@ -1,15 +1,15 @@
 -- A text says a certificate's contents exactly where it is their one spelling.
-use Rattle.std.proofs.Common.{◌≡◌, ℕ, ◌≤◌, Bool, true, false, List, [], ◌∷◌, ◌++◌, length, refl, sym, ap, ◌∙◌, subst, arith}
+use Rattle.std.proofs.Common.{◌≡◌, ℕ, ◌≤◌, true, List, [], length, refl, sym, ap, ◌∙◌, subst}
 use Rattle.std.specs.Prelude.{◌==◌, Ok}
 use Rattle.std.specs.List.{slice_split, join_with_byte, flat_map}
 use Rattle.std.proofs.lemmas.Bool.{false≢true}
 use Rattle.std.proofs.lemmas.List.Splits.{join_with_byte-slice_split}
-use Rattle.sw_cert.specs.declared.place.Place.{Place}
+use Rattle.sw_flow.specs.declared.place.Place.{Place}
 use Rattle.sw_cert.specs.declared.lines.Expected.{Expected}
 use Rattle.sw_cert.specs.declared.lines.Expected.TheVariants.{Title, Channels, Numbers, Flows, Places, Nothing}
 use Rattle.sw_cert.specs.Grammar.{spelling, lines_of, with_lf, HasText}
 use Rattle.sw_cert.specs.Reading.{State}
-use Rattle.sw_cert.specs.Text.{Contents, Says, read_text, read_lines, at_first, is_ended, contents_of}
+use Rattle.sw_cert.specs.Text.{read_text, read_lines, at_first, is_ended}
 use Rattle.sw_cert.specs.Sound.{Kept, IsSound}
 use Rattle.sw_cert.proofs.Spelled.{written}
 use Rattle.sw_cert.proofs.Cuts.{join_lines, split_lines, are_lines}
@@ -39,15 +39,17 @@ start_sound = record { kept = (refl, refl, refl); numbers = tt; blocks = tt; fit
 spelled : (text : List ℕ) (d : State) → read_text text ≡ Ok d → (text ≡ spelling d.numbers d.flows) × HasText d.numbers d.flows
 spelled text d r =
     let w = was_read 1 at_first (slice_split (λ b. b == 10) text) d start_sound r in
-    let k = ended_kept d.expected d.numbers d.flows d.open_block w.ended w.sound.kept in
-    (sym (join_with_byte-slice_split 10 text) ∙ ap (join_with_byte 10) w.cut ∙ join_lines w.lines
-      ∙ ap (flat_map with_lf) (sym w.written ∙ ended_lines d.expected d.numbers d.flows d.open_block w.ended),
-     record { channels = k.0; numbers_fit = w.sound.numbers; few = k.1; blocks = w.sound.blocks })
+    let k = ended_kept d.expected d.numbers d.flows d.open_block w.ended w.sound.kept in (
+      sym (join_with_byte-slice_split 10 text) ∙ ap (join_with_byte 10) w.cut ∙ join_lines w.lines
+          ∙ ap (flat_map with_lf) (sym w.written ∙ ended_lines d.expected d.numbers d.flows d.open_block w.ended),
+      record { channels = k.0; numbers_fit = w.sound.numbers; few = k.1; blocks = w.sound.blocks },
+    )
 
 said : (ns : List ℕ) (fs : List (List Place)) → HasText ns fs → read_text (spelling ns fs) ≡ Ok (record { expected = Nothing; numbers = ns; flows = fs; open_block = [] })
 said ns fs h = ap (read_lines 1 at_first) (split_lines (lines_of ns fs) (are_lines ns fs h)) ∙ reads 1 at_first (record { expected = Nothing; numbers = ns; flows = fs; open_block = [] }) (lines_of ns fs) (lines_run ns fs h) refl
 
 pub returns : goal.returns
 returns c = λ text k. (
-    (λ says. subst (λ x. (text ≡ spelling x.numbers x.places) × HasText x.numbers x.places) says.2 (spelled text says.0 says.1)),
-    (λ h. (record { expected = Nothing; numbers = k.numbers; flows = k.places; open_block = [] }, ap read_text h.0 ∙ said k.numbers k.places h.1, refl)))
+  (λ says. subst (λ x. (text ≡ spelling x.numbers x.places) × HasText x.numbers x.places) says.2 (spelled text says.0 says.1)),
+  (λ h. (record { expected = Nothing; numbers = k.numbers; flows = k.places; open_block = [] }, ap read_text h.0 ∙ said k.numbers k.places h.1, refl)),
+)

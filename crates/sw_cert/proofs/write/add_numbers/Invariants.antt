@@ -1,8 +1,8 @@
-use Rattle.std.proofs.Common.{◌≡◌, ◌++◌, string_bytes, take, length}
+use Rattle.std.proofs.Common.{◌≡◌, ◌++◌, string_bytes, take}
 use Rattle.std.specs.Prelude.{codes}
 use Rattle.std.specs.List.{flat_map}
 use Rattle.std.specs.Fmt.{decimal}
-use Rattle.sw_cert.specs.Grammar.{with_lf, place_line}
+use Rattle.sw_cert.specs.Grammar.{with_lf}
 use Rattle.sw_cert.proofs.write.add_numbers.Given as goal
 
 abbrev pub invariant-loop-number : goal.invariant-loop-number

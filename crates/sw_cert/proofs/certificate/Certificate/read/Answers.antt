@@ -1,4 +1,4 @@
-use Rattle.std.proofs.Common.{◌≡◌, ◌∙◌, ap, ◌<◌, length, arith}
+use Rattle.std.proofs.Common.{◌∙◌, ap, ◌<◌, length, arith}
 use Rattle.std.specs.Prelude.{◌==◌, ℕ, List}
 use Rattle.std.specs.List.{slice_split}
 use Rattle.std.proofs.lemmas.List.Splits.{length-slice_split}
@@ -16,13 +16,13 @@ returns-then-not-branch c =
     c.loop-line.invariant.same
     ∙ ap (read_lines c.loop-line.number (state_of c.loop-line.draft)) c.in-Some.ensures.cut
     ∙ wrong_line c.loop-line.number (state_of c.loop-line.draft) c.in-Some.line.now (slice_split (λ b. b == 10) c.in-Some.more.now) c.in_ok-read_line.field-0 (state_of c.read_line.new.self)
-        (some_piece c.in-Some.more.now) c.if-not-branch.true c.in_ok-read_line.ensures
+    (some_piece c.in-Some.more.now) c.if-not-branch.true c.in_ok-read_line.ensures
 
 -- src/certificate.rt:111:9
 pub loop-line-preserved : goal.loop-line-preserved
 loop-line-preserved c =
     let r = right_line c.loop-line.number (state_of c.loop-line.draft) c.in-Some.line.now (slice_split (λ b. b == 10) c.in-Some.more.now) c.in_ok-read_line.field-0 (state_of c.read_line.new.self)
-          (some_piece c.in-Some.more.now) c.if-not-branch.false c.in_ok-read_line.ensures c.loop-line.invariant.sound in
+    (some_piece c.in-Some.more.now) c.if-not-branch.false c.in_ok-read_line.ensures c.loop-line.invariant.sound in
     let shorter = c.in-Some.ensures.shorter in
     let few = c.loop-line.invariant.few in
     record {
