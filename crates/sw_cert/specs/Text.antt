@@ -5,8 +5,8 @@ use Rattle.std.specs.List.{slice_split}
 use Rattle.sw_flow.specs.declared.place.Place.{Place}
 use Rattle.sw_cert.specs.declared.lines.Expected.{Expected}
 use Rattle.sw_cert.specs.declared.lines.Expected.TheVariants.{Title, Nothing}
-use Rattle.sw_cert.specs.declared.certificate.CertFault.{CertFault}
-use Rattle.sw_cert.specs.declared.certificate.CertFault.TheVariants as faults
+use Rattle.sw_cert.specs.declared.certificate.CertificateFault.{CertificateFault}
+use Rattle.sw_cert.specs.declared.certificate.CertificateFault.TheVariants as faults
 use Rattle.sw_cert.specs.Grammar.{spelling, HasText}
 use Rattle.sw_cert.specs.Reading.{State, next}
 
@@ -47,7 +47,7 @@ abbrev pub OneSpelling : Type 0
 OneSpelling = (text : List ℕ) (c : Contents) → Says text c ↔ ((text ≡ spelling c.numbers c.places) × HasText c.numbers c.places)
 
 -- What reading a text gave: what the text says, or its first wrong line, unless memory ran out.
-abbrev pub Reads : List ℕ → Result Contents CertFault → Type 0
+abbrev pub Reads : List ℕ → Result Contents CertificateFault → Type 0
 Reads text (Ok c) = Says text c
 Reads text (Err (faults.Grammar line)) = read_text text ≡ Err line
 Reads text (Err faults.Memory) = Unit {0}

@@ -5,7 +5,7 @@ ghost use Rattle.sw_cert.specs.Grammar.{spelling};
 ghost use Rattle.sw_cert.specs.Reading.{state_of};
 ghost use Rattle.sw_cert.specs.Text.{is_ended, contents_of};
 ghost use Rattle.sw_cert.specs.Sound.{IsSound};
-ghost use Rattle.sw_cert.specs.declared.certificate.CertFault.TheVariants.{Memory};
+ghost use Rattle.sw_cert.specs.declared.certificate.CertificateFault.TheVariants.{Memory};
 
 use crate::draft::Draft;
 use crate::lines::Expected;
@@ -16,26 +16,26 @@ use sw_flow::Place;
 
 /// Why a certificate is refused.
 #[derive(Debug, Drop)]
-pub enum CertFault {
+pub enum CertificateFault {
     /// This line, counted from 1, is the first that is not as the grammar asks after the lines before it.
     Grammar(usize),
     /// Want of memory.
     Memory,
 }
 
-impl From<AllocError> for CertFault {
+impl From<AllocError> for CertificateFault {
     ghost from_gives = { λ _ e. e ≡ Memory };
 
-    fn from(_error: AllocError) -> CertFault {
-        CertFault::Memory
+    fn from(_error: AllocError) -> CertificateFault {
+        CertificateFault::Memory
     }
 }
 
-impl<T: Drop> From<AllocFailed<T>> for CertFault {
+impl<T: Drop> From<AllocFailed<T>> for CertificateFault {
     ghost from_gives = { λ _ e. e ≡ Memory };
 
-    fn from(_error: AllocFailed<T>) -> CertFault {
-        CertFault::Memory
+    fn from(_error: AllocFailed<T>) -> CertificateFault {
+        CertificateFault::Memory
     }
 }
 
@@ -104,7 +104,7 @@ impl Certificate {
     ghost use Rattle.sw_cert.specs.Text.{Reads};
 
     /// The certificate of a text.
-    pub fn read(alloc: Global, text: &[u8]) -> Result<Certificate, CertFault>
+    pub fn read(alloc: Global, text: &[u8]) -> Result<Certificate, CertificateFault>
         ensures { Reads text.now result }
     {
         let mut draft = Draft::new(alloc);
@@ -112,14 +112,14 @@ impl Certificate {
         let mut number = 1;
         while let Some((line, more)) = first_line(rest) {
             if !draft.read_line(alloc, line)? {
-                return Err(CertFault::Grammar(number));
+                return Err(CertificateFault::Grammar(number));
             }
             rest = more;
             number += 1;
         }
         match finished(draft, rest) {
             Some(certificate) => Ok(certificate),
-            None => Err(CertFault::Grammar(number)),
+            None => Err(CertificateFault::Grammar(number)),
         }
     }
 }

@@ -8,7 +8,7 @@ mod lines;
 mod number;
 mod write;
 
-pub use certificate::{CertFault, Certificate};
+pub use certificate::{Certificate, CertificateFault};
 pub use laws::{field_spelling, one_spelling, one_text};
 pub use sw_flow::Place;
 

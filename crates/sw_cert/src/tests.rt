@@ -1,4 +1,4 @@
-use crate::{CertFault, Certificate};
+use crate::{Certificate, CertificateFault};
 use std::test::Fail;
 
 const TEXT: &[u8] =
@@ -14,7 +14,7 @@ fn a_text_is_read_and_written_back(rt: HostRuntime) -> Result<(), Fail> {
 
 fn refused_line<R: AllocGlobal>(rt: &R, text: &[u8]) -> Option<usize> {
     match Certificate::read(rt.alloc(), text) {
-        Err(CertFault::Grammar(line)) => Some(line),
+        Err(CertificateFault::Grammar(line)) => Some(line),
         _ => None,
     }
 }
