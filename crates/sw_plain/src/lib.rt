@@ -3,6 +3,7 @@
 
 mod flow_control;
 mod nodes;
+mod opening;
 mod plan;
 mod rows;
 mod state;
