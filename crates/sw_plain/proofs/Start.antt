@@ -1,5 +1,5 @@
 -- Lists of nothing stand for the empty state.
-use Rattle.std.proofs.Common.{◌≡◌, ◌<◌, ◌≤◌, ℕ, List, [], get_or, length, map, refl, sym, ap, ◌∙◌, ⊎_elim, arith, replicate}
+use Rattle.std.proofs.Common.{◌≡◌, ℕ, List, [], get_or, length, map, sym, ap, ◌∙◌, ⊎_elim, arith, replicate}
 use Rattle.std.proofs.Math.Path.{fun_ext}
 use Rattle.std.proofs.lemmas.Bool.{cases_lt}
 use Rattle.std.proofs.lemmas.List.{get_or-replicate, get_or_past, length-replicate, length-map}

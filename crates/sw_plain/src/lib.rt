@@ -11,3 +11,6 @@ mod switching;
 
 pub use plan::{Cell, Name, Plan};
 pub use state::{Plain, Reply};
+
+#[cfg(test)]
+mod tests;

@@ -1,4 +1,4 @@
-use Rattle.std.proofs.Common.{◌≡◌, ◌+◌, ◌*◌, ◌<◌, ◌≤◌, ℕ, [], ap, ◌∙◌, arith, length, rules}
+use Rattle.std.proofs.Common.{◌≡◌, [], ap, ◌∙◌, arith, length, rules}
 use Rattle.sw_machine.specs.declared.input.Input.TheVariants.{Idle}
 use Rattle.sw_machine.specs.State.{empty}
 use Rattle.sw_plain.proofs.Start.{is_nothing, no_replies, nothing_at, replies_sized, sized}
