@@ -1,6 +1,21 @@
 //! Which input of a routing switch is granted an output.
 #![tactic(auto)]
 
+mod arbiter;
 mod arbitration;
+mod count;
+mod fixed;
+mod laws;
+mod least_recent;
+mod policy;
+mod round_robin;
+#[cfg(test)]
+mod tests;
 
+pub use arbiter::{Arbiter, FairArbiter};
 pub use arbitration::Arbitration;
+pub use fixed::Fixed;
+pub use laws::{least_recent_picks_the_longest_ago, passed_over_fewer_times_than_ports};
+pub use least_recent::LeastRecent;
+pub use policy::Policy;
+pub use round_robin::RoundRobin;

@@ -2,5 +2,10 @@
 #![tactic(auto)]
 
 mod nchar;
+mod packet;
 
 pub use nchar::{End, NChar};
+pub use packet::{Packet, cut_is_unique, packets};
+
+#[cfg(test)]
+mod tests;

@@ -1,2 +1,15 @@
-//! The two ends of a channel: credit, flow control characters and the receive buffer.
+//! The two ends of a channel: credit, flow control characters (FCTs) and the receive buffer.
 #![tactic(auto)]
+
+mod laws;
+mod rx;
+#[cfg(test)]
+mod tests;
+mod tx;
+
+pub use laws::{
+    ends_accept_channel_changes, nothing_is_lost, outstanding_has_room,
+    outstanding_is_accounted_for,
+};
+pub use rx::RxEnd;
+pub use tx::TxEnd;

@@ -1,8 +1,11 @@
 -- A network as its file declares it: the entries of its nodes, switches, links and flows, each list in file order.
-use Rattle.std.specs.Prelude.{ℕ, Bool, List, [], ◌∷◌, ◌++◌, map, length, Option, Some, None, codes, slice_get, flat_map}
+use Rattle.std.specs.Prelude.{ℕ, List, [], ◌∷◌, ◌++◌, map, length, Option, Some, None, codes, slice_get, option_and_then}
+use Rattle.std.specs.Option.{option_map_or}
 use Rattle.sw_topo.specs.declared.place.PlaceEnd.{PlaceEnd}
 use Rattle.sw_topo.specs.Wiring.{Wiring}
+use Rattle.sw_route.specs.declared.look.Look.{Look}
 use Rattle.sw_route.specs.declared.look.Route.{Route}
+use Rattle.sw_route.specs.Looks.{look_of}
 use Rattle.sw_arb.specs.declared.arbitration.Arbitration.{Arbitration}
 use Rattle.sw_rmap.specs.declared.config.TargetConfig.{TargetConfig}
 
@@ -56,6 +59,18 @@ part_names d = map (λ n. n.name) d.nodes ++ map (λ s. s.name) d.switches
 
 abbrev pub flow_names : List FlowEntry → List (List ℕ)
 flow_names fs = map (λ f. f.name) fs
+
+-- what node n answers by, if it is an RMAP target
+abbrev pub target_of : List NodeEntry → ℕ → Option TargetConfig
+target_of nodes n = option_and_then (λ e. e.target) (slice_get nodes n)
+
+-- the routing table of switch s
+abbrev pub routes_of : List SwitchEntry → ℕ → List Route
+routes_of switches s = option_map_or (λ e. e.routes) (slice_get switches s) []
+
+-- what a leading byte names at switch s
+abbrev pub look_at : List SwitchEntry → ℕ → ℕ → Look
+look_at switches s byte = look_of (routes_of switches s) byte
 
 -- the two ends of each link, end a before end b
 abbrev pub link_ends : List LinkEntry → List PlaceEnd

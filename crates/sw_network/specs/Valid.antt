@@ -1,18 +1,16 @@
 -- What each network keeps, by its type.
-use Rattle.std.specs.Prelude.{◌≡◌, ℕ, zero, ◌+◌, ◌<◌, ◌≤◌, Bool, true, false, List, [], ◌∷◌, length, All, Option, Some, None, IsSome, IfSome, IsTrue, slice_get, option_and_then, AllPairs, ◌≢◌}
-use Rattle.sw_topo.specs.Checked.{IsWiring, fault_of}
-use Rattle.sw_route.specs.declared.look.Route.{Route}
-use Rattle.sw_route.specs.Looks.{IsRoute, overlaps}
+use Rattle.std.specs.Prelude.{◌≡◌, ℕ, zero, ◌<◌, ◌≤◌, Bool, true, false, List, [], ◌∷◌, length, All, IsSome, IfSome, AllPairs, ◌≢◌}
+use Rattle.sw_topo.specs.Checked.{IsSound}
+use Rattle.sw_route.specs.Looks.{IsTable}
 use Rattle.sw_rmap.specs.Config.{IsTargetConfig}
-use Rattle.sw_network.specs.Entries.{NodeEntry, SwitchEntry, LinkEntry, ReplyEntry, FlowEntry, Declaration, part_names, flow_names, wiring_of}
+use Rattle.sw_network.specs.Entries.{NodeEntry, SwitchEntry, LinkEntry, ReplyEntry, FlowEntry, Declaration, part_names, flow_names, target_of, wiring_of}
 
 abbrev pub IsNode : NodeEntry → Type 0
 IsNode n = IfSome n.target IsTargetConfig
 
--- each entry of the table is for logical addresses, and no two are for one in common
-pub record IsSwitch (s : SwitchEntry) : Type 0 where
-  pub each : All IsRoute s.routes
-  pub apart : AllPairs (λ r q. overlaps r q ≡ false) s.routes
+-- each entry of the routing table is for logical addresses, and no two are for one in common
+abbrev pub IsSwitch : SwitchEntry → Type 0
+IsSwitch s = IsTable s.routes
 
 -- the receive buffers hold 8 to 4096 characters
 pub record IsLink (l : LinkEntry) : Type 0 where
@@ -29,7 +27,7 @@ has_no_leading_zero (b ∷ bytes) = true
 
 -- node n is an RMAP target
 abbrev pub IsTarget : List NodeEntry → ℕ → Type 0
-IsTarget nodes n = IsSome (option_and_then (λ e. e.target) (slice_get nodes n))
+IsTarget nodes n = IsSome (target_of nodes n)
 
 -- a reply goes by at most 12 path addresses, the first not 0, to a logical address (ECSS-E-ST-50-52C, 5.1: reply address field)
 pub record IsReply (nodes : List NodeEntry) (to : ℕ) (r : ReplyEntry) : Type 0 where
@@ -49,8 +47,7 @@ pub record IsFlow (nodes : List NodeEntry) (f : FlowEntry) : Type 0 where
 
 -- nodes and switches are rightly joined, each entry is in its ranges, and no name is given twice
 pub record IsValid (d : Declaration) : Type 0 where
-  pub wiring : IsWiring (length d.nodes) (length d.switches) (wiring_of d).ends
-  pub faultless : fault_of (wiring_of d) ≡ None
+  pub sound : IsSound (wiring_of d)
   pub nodes : All IsNode d.nodes
   pub switches : All IsSwitch d.switches
   pub links : All IsLink d.links

@@ -1,0 +1,2 @@
+pub mod PassedOver
+mod PickHistory

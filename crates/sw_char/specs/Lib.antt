@@ -1,0 +1,2 @@
+pub mod PacketView
+pub mod Packets

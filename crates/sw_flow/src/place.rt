@@ -1,0 +1,11 @@
+//! Places of flows.
+
+use sw_topo::Chan;
+
+/// A place of a flow: its packets go over the channel with that many of their address bytes deleted.
+#[derive(Clone, Copy, Debug, PartialEq, Eq)]
+pub struct Place {
+    pub channel: Chan,
+    /// 0 to the length of the flow's address.
+    pub deleted: u8,
+}

@@ -1,0 +1,2 @@
+mod Accounts
+mod Carried

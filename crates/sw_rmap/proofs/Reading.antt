@@ -1,0 +1,30 @@
+-- What is known of a packet that is read.
+use Rattle.std.proofs.Common.{◌≡◌, ℕ, ◌+◌, ◌≤◌, List, length, Some, drop, refl, ap}
+use Rattle.std.proofs.lemmas.Bool.{and_parts, not-true, ltb-false}
+use Rattle.std.proofs.lemmas.Option.{cond_some}
+use Rattle.sw_rmap.specs.Instruction.{reply_address_len}
+use Rattle.sw_rmap.specs.CommandView.{CommandView}
+use Rattle.sw_rmap.specs.Commands.{instruction_of, is_command, fields_of, read, body_of}
+
+pub record IsRead (bytes : List ℕ) (c : CommandView) : Type 0 where
+  pub long : 16 + reply_address_len (instruction_of bytes) ≤ length bytes
+  pub fields : fields_of bytes ≡ c
+
+pub is_read : (bytes : List ℕ) (c : CommandView) → read bytes ≡ Some c → IsRead bytes c
+unfolding read
+is_read bytes c h =
+    let e = cond_some (is_command bytes) (fields_of bytes) c h in
+    let p = and_parts _ _ e.0 in
+    let q = and_parts _ _ p.0 in
+    let r = and_parts _ _ q.0 in
+    record { long = ltb-false _ _ (not-true _ r.0); fields = e.1 }
+
+pub instruction-read : (bytes : List ℕ) (c : CommandView) → read bytes ≡ Some c → c.instruction ≡ instruction_of bytes
+unfolding fields_of
+instruction-read bytes c h = rw (← (is_read bytes c h).fields) refl
+
+pub read_long : (bytes : List ℕ) (c : CommandView) → read bytes ≡ Some c → 16 + reply_address_len c.instruction ≤ length bytes
+read_long bytes c h = rw (instruction-read bytes c h) (is_read bytes c h).long
+
+pub body-read : (bytes : List ℕ) (c : CommandView) → read bytes ≡ Some c → drop (16 + reply_address_len c.instruction) bytes ≡ body_of bytes
+body-read bytes c h = ap (λ i. drop (16 + reply_address_len i) bytes) (instruction-read bytes c h)

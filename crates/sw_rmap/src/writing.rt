@@ -1,0 +1,51 @@
+//! Commands as bytes.
+ghost use Rattle.std.specs.Prelude.{◌≡◌, ◌++◌, length, IfOk, OnOk};
+ghost use Rattle.sw_rmap.specs.Crc.{with_crc};
+ghost use Rattle.sw_rmap.specs.Commands.{carried_len, header_of, written};
+
+use crate::checksum::crc;
+use crate::command::{Command, PROTOCOL};
+use std::alloc::{AllocError, Global};
+
+/// The bytes of a command: its header with its CRC and, of a write, the data with theirs.
+#[tactic(auto, unfolding(crate::specs::Commands::written))]
+pub fn write_command(alloc: Global, command: &Command, body: &[u8]) -> Result<Vec<u8>, AllocError>
+    requires { length body.now ≡ carried_len command.now }
+    ensures { IfOk result (λ bytes. bytes.items ≡ written command.now body.now) }
+{
+    let mut bytes = Vec::new(alloc);
+    push_header(&mut bytes, command)?;
+    let code = crc(&bytes);
+    bytes.push(code)?;
+    if command.bits().is_write() {
+        push_with_crc(&mut bytes, body)?;
+    }
+    Ok(bytes)
+}
+
+fn push_header(out: &mut Vec<u8>, command: &Command) -> Result<(), AllocError>
+    ensures { OnOk result (out.new.items ≡ out.old.items ++ header_of command.now) }
+{
+    let front = [
+        command.logical(),
+        PROTOCOL,
+        command.instruction(),
+        command.key(),
+    ];
+    out.extend_from_slice(&front)?;
+    out.extend_from_slice(command.reply_address())?;
+    out.push(command.initiator())?;
+    out.extend_from_slice(&command.transaction().to_be_bytes())?;
+    out.extend_from_slice(&command.address().to_be_bytes()[3..])?;
+    out.extend_from_slice(&command.length().to_be_bytes()[1..])?;
+    Ok(())
+}
+
+/// Adds the bytes, and then their code.
+pub(crate) fn push_with_crc(out: &mut Vec<u8>, bytes: &[u8]) -> Result<(), AllocError>
+    ensures { OnOk result (out.new.items ≡ out.old.items ++ with_crc bytes.now) }
+{
+    out.extend_from_slice(bytes)?;
+    out.push(crc(bytes))?;
+    Ok(())
+}

@@ -1,0 +1,165 @@
+//! A routing table as the list of its entries.
+ghost use Rattle.std.specs.Prelude.{◌≡◌, ◌≤◌, ◌↔◌, ◌++◌, ◌∷◌, [], length, find, IsTrue, OnOk, OnErr};
+ghost use Rattle.std.specs.List.{list_any};
+ghost use Rattle.std.specs.Option.{option_copied};
+ghost use Rattle.sw_route.specs.Looks.{covers, entry, overlaps, route_look};
+ghost use Rattle.sw_route.specs.declared.table.RouteError.TheVariants.{Memory};
+
+use crate::look::{Look, Route};
+use crate::routing::Routing;
+use std::alloc::{AllocFailed, Global};
+use std::marker::Model;
+use sw_topo::{Port, PortSet};
+use thiserror::Error;
+
+/// Why an entry is not added.
+#[derive(Debug, Drop, Error)]
+pub enum RouteError {
+    /// The table has an entry for one of the addresses.
+    #[error("the table has an entry for one of the addresses")]
+    Duplicate,
+    /// There is no memory for it.
+    #[error("out of memory")]
+    Memory,
+}
+
+impl<T: Drop> From<AllocFailed<T>> for RouteError {
+    ghost from_gives = { λ _ e. e ≡ Memory };
+
+    fn from(_error: AllocFailed<T>) -> RouteError {
+        RouteError::Memory
+    }
+}
+
+/// A routing table: its entries, in the order in which they were added.
+#[derive(Drop)]
+pub struct TableRoutes {
+    routes: Vec<Route>,
+}
+
+impl Model for TableRoutes {
+    ghost use Rattle.std.specs.Prelude.{List};
+    ghost use Rattle.sw_route.specs.declared.look.Route.{Route};
+    ghost use Rattle.sw_route.specs.Looks.{IsTable};
+
+    ghost Value = { List Route };
+
+    ghost view = { λ t. t.routes.items };
+
+    ghost invariant = { λ t. IsTable t.routes.items };
+}
+
+fn has_overlap(routes: &[Route], route: &Route) -> bool
+    ensures { result ≡ list_any (overlaps route.now) routes.now }
+{
+    routes.iter().any(|r| route.overlaps(r))
+}
+
+fn entry_of(routes: &[Route], address: u8) -> Option<&Route>
+    ensures { option_copied result ≡ find (covers address) routes.now }
+{
+    routes.iter().find(|r| r.covers(address))
+}
+
+fn entry_look(routes: &[Route], address: u8) -> Look
+    ensures { result ≡ route_look (find (covers address) routes.now) }
+{
+    match entry_of(routes, address) {
+        Some(route) => route.look(),
+        None => Look::none(),
+    }
+}
+
+impl TableRoutes {
+    ghost use Rattle.sw_route.specs.Looks.{IsTable};
+
+    /// A table with no entry: each logical address names no port.
+    pub fn new(alloc: Global) -> TableRoutes
+        ensures { result ≡ [] }
+    {
+        TableRoutes {
+            routes: Vec::new(alloc),
+        }
+    }
+
+    /// How many entries it has.
+    pub fn len(&self) -> usize
+        ensures { result ≡ length self.now }
+    {
+        self.routes.len()
+    }
+
+    /// Has it no entry?
+    pub fn is_empty(&self) -> bool
+        ensures { IsTrue result ↔ (self.now ≡ []) }
+    {
+        self.routes.is_empty()
+    }
+
+    /// The entries, in the order in which they were added.
+    pub fn routes(&self) -> &[Route]
+        ensures routes { result.now ≡ self.now }
+        ensures sound { IsTable self.now }
+    {
+        &self.routes
+    }
+
+    /// Adds an entry for one logical address. Where it is refused, the table is as it was.
+    pub fn add(&mut self, address: u8, ports: PortSet, delete: bool) -> Result<(), RouteError>
+        requires low { 32 ≤ address }
+        requires high { address ≤ 254 }
+        ensures ok { OnOk result (self.new ≡ self.old ++ entry address address ports delete ∷ []) }
+        ensures duplicate { (result ≡ Err RouteError.Duplicate) ↔ IsTrue (list_any (covers address) self.old) }
+        ensures err { OnErr result (self.new ≡ self.old) }
+    {
+        self.add_range(address, address, ports, delete)
+    }
+
+    /// Adds an entry for the logical addresses from `first` to `last`. Where it is refused, the table is as it was.
+    pub fn add_range(
+        &mut self,
+        first: u8,
+        last: u8,
+        ports: PortSet,
+        delete: bool,
+    ) -> Result<(), RouteError>
+        requires low { 32 ≤ first }
+        requires rising { first ≤ last }
+        requires high { last ≤ 254 }
+        ensures ok { OnOk result (self.new ≡ self.old ++ entry first last ports delete ∷ []) }
+        ensures duplicate { (result ≡ Err RouteError.Duplicate) ↔ IsTrue (list_any (overlaps (entry first last ports delete)) self.old) }
+        ensures err { OnErr result (self.new ≡ self.old) }
+    {
+        let route = Route {
+            first,
+            last,
+            ports,
+            delete,
+        };
+        if has_overlap(&self.routes, &route) {
+            return Err(RouteError::Duplicate);
+        }
+        self.routes.push(route)?;
+        Ok(())
+    }
+}
+
+impl Routing for TableRoutes {
+    ghost use Rattle.std.specs.Prelude.{refl};
+    ghost use Rattle.sw_route.specs.Looks.{look_of};
+    ghost use Rattle.sw_route.specs.Laws.{table_path};
+
+    ghost answer = { look_of };
+
+    fn look(&self, byte: u8) -> Look {
+        match Port::new(byte) {
+            Some(port) => Look::path(port),
+            None if byte == 255 => Look::none(),
+            None => entry_look(&self.routes, byte),
+        }
+    }
+
+    ghost path = { λ t byte low. table_path t byte low };
+
+    ghost reserved = { λ t. refl };
+}
