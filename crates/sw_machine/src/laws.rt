@@ -26,7 +26,6 @@ ghost use Rattle.sw_machine.specs.Headline.{
 };
 ghost use Rattle.sw_machine.specs.OneSlot.{OneSlotIsOneReply};
 ghost use Rattle.sw_machine.specs.Owed.{EmitSettles, NodesOweReplies, OnlyAskedOwe};
-ghost use Rattle.sw_machine.specs.Packets.{CutsAreEqual, EachListIsCut};
 ghost use Rattle.sw_machine.specs.Parts.{
   LinkEndsAreAtCells,
   OutputsAreHeldOnce,
@@ -36,12 +35,6 @@ ghost use Rattle.sw_machine.specs.Parts.{
 ghost use Rattle.sw_machine.specs.Places.{RisingHasNoCycle};
 ghost use Rattle.sw_machine.specs.Steps.{StepsAreDetermined};
 ghost use Rattle.sw_machine.specs.Tried.{StepsAreTried};
-
-/// Each list of N-Chars is cut into packets, in one way.
-pub fn packets_are_cut()
-    ensures cut { EachListIsCut }
-    ensures one_way { CutsAreEqual }
-{}
 
 /// A state and a step determine the state after, and there is a function that tells it, exactly
 /// where the step is possible.

@@ -1,3 +1,4 @@
 pub mod Puts
 pub mod RowChanges
 pub mod Outputs
+pub mod Start

@@ -3,6 +3,7 @@
 
 mod flow_control;
 mod nodes;
+mod opening;
 mod plan;
 mod rows;
 mod state;
@@ -10,3 +11,6 @@ mod switching;
 
 pub use plan::{Cell, Name, Plan};
 pub use state::{Plain, Reply};
+
+#[cfg(test)]
+mod tests;
