@@ -1,11 +1,9 @@
 -- What clap's matches say of the words.
-use Rattle.std.proofs.Common.{◌≡◌, List, ℕ, [], Option, refl, sym, ap, ◌∙◌, subst, true, inl, inr, ⊎_elim}
-use Rattle.std.specs.Prelude.{IfOk, IfSome, ok_or, Some, None, Ok, Err, Result}
-use Rattle.clap.specs.Words.{App, FailsBy, HasKind, HasMatchesOf, IsAmong, fault_of, is_simple, is_simple_and_free, kind_of, subcommand_of, subcommand_rows_of}
+use Rattle.std.proofs.Common.{◌≡◌, List, ℕ, [], Option, refl, sym, ap, ◌∙◌, subst, true, inl, inr}
+use Rattle.std.specs.Prelude.{IfOk, IfSome, ok_or, Some, None}
+use Rattle.clap.specs.Words.{App, HasKind, HasMatchesOf, fault_of, is_simple, is_simple_and_free, kind_of, subcommand_of, subcommand_rows_of}
 use Rattle.clap.specs.declared.parser.matches.ArgMatches.{ArgMatches}
 use Rattle.clap.specs.declared.error.Error.{Error}
-use Rattle.clap.specs.declared.error.kind.ErrorKind.{ErrorKind}
-use Rattle.clap.specs.declared.error.kind.ErrorKind.TheVariants.{DisplayHelp, DisplayVersion, OutOfMemory}
 use Rattle.sw_app.specs.declared.command_line.Call.{Call}
 use Rattle.sw_app.specs.declared.command_line.WordsFault.{WordsFault}
 use Rattle.sw_app.specs.declared.command_line.WordsFault.TheVariants.{Help, Refused, Memory}

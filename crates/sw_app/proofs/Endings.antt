@@ -1,12 +1,11 @@
 -- What an engine that told a text has done.
-use Rattle.std.proofs.Common.{◌≡◌, ◌∙◌, ℕ, ◌<◌, ◌≤◌, ◌+◌, ◌++◌, List, [], ◌∷◌, Bool, true, false, ap, arith, codes, inl, inr, length, length-append, refl, subst, sym}
-use Rattle.std.specs.Prelude.{IfSome, MatchBool, None, Option, Some, nat_le}
-use Rattle.std.specs.Io.KnownBytes.{Consumes}
+use Rattle.std.proofs.Common.{◌≡◌, ℕ, ◌≤◌, ◌++◌, List, [], ◌∷◌, true, false, ap, arith, codes, inl, inr, length, length-append, refl, subst}
+use Rattle.std.specs.Prelude.{IfSome, None, Option, Some, nat_le}
 use Rattle.std.proofs.lemmas.Bool.Decides.{nat_tests}
 use Rattle.sw_stream.specs.Reading.{Takes}
 use Rattle.sw_app.specs.declared.ended.Ended.{Ended}
 use Rattle.sw_app.specs.declared.ended.Ended.TheVariants.{Status, ReadFailed, WriteFailed}
-use Rattle.sw_app.specs.Ends.{Answers, EndsBy, IfShort, IsMemoryTold, IsTold, OrMemory, Tells}
+use Rattle.sw_app.specs.Ends.{Answers, EndsBy, IfShort, IsMemoryTold, IsTold, OrMemory}
 use Rattle.sw_app.specs.Lines.{line}
 
 -- a text that may be told was told

@@ -1,6 +1,6 @@
 -- The flow of a name, by its number.
-use Rattle.std.proofs.Common.{◌≡◌, ℕ, ◌<◌, ◌≤◌, Bool, true, false, List, map, cond, length, refl, sym, ap, ◌∙◌, arith}
-use Rattle.std.specs.Prelude.{Option, Some, None, find, nat_lt, position, slice_get}
+use Rattle.std.proofs.Common.{◌≡◌, ℕ, ◌≤◌, Bool, true, false, List, map, cond, length, refl, ap, ◌∙◌, arith}
+use Rattle.std.specs.Prelude.{Some, None, find, nat_lt, position, slice_get}
 use Rattle.std.specs.List.{position_or_len}
 use Rattle.std.proofs.lemmas.List.Folds.{find_at}
 use Rattle.std.proofs.lemmas.Option.{slice_get_past}

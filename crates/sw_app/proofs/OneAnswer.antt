@@ -1,6 +1,6 @@
 -- `route` has one answer.
 use Rattle.std.proofs.Common.{◌≡◌, ◌∙◌, ℕ, List, ap, sym, find}
-use Rattle.std.specs.Prelude.{Contains, Err, None, Ok, Option, Result, Some}
+use Rattle.std.specs.Prelude.{Err, None, Ok, Option, Result, Some}
 use Rattle.std.specs.Str.{bytes_eq}
 use Rattle.sw_network.specs.Entries.{Declaration, FlowEntry, all_flows}
 use Rattle.sw_tree.specs.declared.fault.TextFault.{TextFault}

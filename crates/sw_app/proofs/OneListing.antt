@@ -1,7 +1,6 @@
 -- A list in order is determined by its members.
-use Rattle.std.proofs.Common.{◌≡◌, ℕ, zero, suc, ◌<◌, List, [], ◌∷◌, ap, ap₂, arith, inl, inr, length, refl, subst, sym, get_or}
+use Rattle.std.proofs.Common.{◌≡◌, zero, suc, List, [], ◌∷◌, ap₂, arith, inl, inr, refl, subst, sym}
 use Rattle.std.specs.Prelude.{◌⊎◌, ◌↔◌, AllPairs, Contains}
-use Rattle.sw_flow.specs.declared.place.Place.{Place}
 use Rattle.sw_flow.specs.Places.{IsBefore}
 
 contains_head : {X : Type 0} (x : X) (xs : List X) → Contains (x ∷ xs) x

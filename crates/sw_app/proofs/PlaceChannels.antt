@@ -1,8 +1,8 @@
 -- The channels of a flow's places.
-use Rattle.std.proofs.Common.{◌≡◌, ◌∙◌, ℕ, ◌<◌, List, length, get_or, subst, sym}
-use Rattle.std.specs.Prelude.{All, Some, slice_get}
+use Rattle.std.proofs.Common.{◌≡◌, ℕ, ◌<◌, List, length, get_or, subst, sym}
+use Rattle.std.specs.Prelude.{All}
 use Rattle.std.proofs.lemmas.List.Elements.{Contains-get_or}
-use Rattle.sw_network.specs.Entries.{Declaration, FlowEntry, all_flows}
+use Rattle.sw_network.specs.Entries.{Declaration, FlowEntry}
 use Rattle.sw_flow.specs.declared.place.Place.{Place}
 use Rattle.sw_flow.specs.Places.{IsPlaceList, IsPlacesOf, ends_of}
 use Rattle.sw_flow.proofs.Stepping.{places_are_in}

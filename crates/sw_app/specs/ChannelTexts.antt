@@ -1,5 +1,5 @@
 -- How channels are written (this project's choice).
-use Rattle.std.specs.Prelude.{ℕ, List, [], ◌++◌, codes, slice_get, Option}
+use Rattle.std.specs.Prelude.{ℕ, List, [], ◌++◌, codes, slice_get}
 use Rattle.std.specs.Option.{option_map_or}
 use Rattle.std.specs.Fmt.{decimal}
 use Rattle.sw_topo.specs.declared.place.PlaceEnd.{PlaceEnd}

@@ -1,4 +1,4 @@
--- How an engine ends.
+-- How an engine ends (this project's choice).
 use Rattle.std.specs.Prelude.{◌≡◌, ◌⊎◌, ℕ, ◌<◌, List, [], ◌∷◌, Option, IfSome, MatchBool, codes, length, nat_le, take}
 use Rattle.std.specs.Io.KnownBytes.{Appends, Keeps}
 use Rattle.sw_app.specs.declared.ended.Ended.{Ended}
@@ -23,10 +23,14 @@ Says said number text status = (text ≡ said) × (status ≡ number)
 abbrev pub OrMemory : Answers → Answers
 OrMemory P text status = P text status ⊎ Says (line (codes "fault memory" ∷ [])) 5 text status
 
--- of a text that is longer than texts may be only that is told
+-- the most bytes that a text may have: 64 MiB (this project's choice)
+abbrev pub most_bytes : ℕ
+most_bytes = 67108864
+
+-- of a text that is longer only that is told
 abbrev pub IfShort : List ℕ → Answers → Answers
 IfShort input P text status =
-    MatchBool (nat_le (length input) 67108864) (P text status) (Says (line (codes "fault A1 TooLong" ∷ [])) 3 text status)
+    MatchBool (nat_le (length input) most_bytes) (P text status) (Says (line (codes "fault A1 TooLong" ∷ [])) 3 text status)
 
 -- The writer got the text, and the status is its status; or a write failed, and the writer got a beginning of the text that lacks
 -- something.

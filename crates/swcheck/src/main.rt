@@ -3,7 +3,8 @@
 //! It opens the files that its words name, and hands them on to the engines of `sw_app`.
 #![tactic(auto)]
 
-ghost use Rattle.std.specs.Prelude.{◌≡◌};
+ghost use Rattle.std.specs.Prelude.{◌≡◌, ◌⊎◌};
+ghost use Rattle.sw_app.specs.CommandLine.{words_status};
 ghost use Rattle.sw_app.specs.Ends.{exit_status};
 
 use std::process::ExitCode;
@@ -67,7 +68,9 @@ fn finished(rt: &impl Eprint, ended: Ended) -> u8
 }
 
 // Tells why the words give no call.
-fn refused<R: Print + Eprint>(rt: &R, fault: &WordsFault) -> u8 {
+fn refused<R: Print + Eprint>(rt: &R, fault: &WordsFault) -> u8
+    ensures { (result ≡ words_status fault.now) ⊎ (result ≡ exit_status Ended.WriteFailed) }
+{
     let written = match fault {
         WordsFault::Help(text) => print!(rt; "{text}"),
         WordsFault::Refused(text) => {

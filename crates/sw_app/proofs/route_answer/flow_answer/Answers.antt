@@ -1,4 +1,3 @@
-use Rattle.std.proofs.Common.{◌≡◌, List, ℕ, rules}
 use Rattle.sw_app.proofs.FlowAnswers.{at_flow, numbered_answer}
 use Rattle.sw_app.proofs.PlaceChannels.{listed_within}
 use Rattle.sw_app.proofs.route_answer.flow_answer.Goals as goal
