@@ -16,7 +16,7 @@ ends_of d = (wiring_of d).ends
 abbrev pub end_of : Declaration → ℕ → Option PlaceEnd
 end_of d c = slice_get (ends_of d) (partner c)
 
--- what the leading byte names at switch s, where k address bytes are deleted (ECSS-E-ST-50-12C, 5.6.8: addressing)
+-- what the leading byte names at switch s, where k address bytes are deleted (ECSS-E-ST-50-12C, network layer: packet addressing)
 abbrev pub look_after : Declaration → FlowEntry → ℕ → ℕ → Look
 look_after d f s k = look_at d.switches s (slice_index f.address k)
 

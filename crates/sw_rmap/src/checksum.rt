@@ -1,4 +1,4 @@
-//! The cyclic redundancy code of headers and data (ECSS-E-ST-50-52C, 5.2 and annex A).
+//! The cyclic redundancy code of headers and data (ECSS-E-ST-50-52C, annex A).
 ghost use Rattle.std.specs.Prelude.{◌≡◌};
 ghost use Rattle.sw_rmap.specs.Crc.{crc_of};
 
