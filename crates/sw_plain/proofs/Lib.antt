@@ -2,3 +2,4 @@ pub mod Puts
 pub mod RowChanges
 pub mod Outputs
 pub mod Start
+pub mod Silence

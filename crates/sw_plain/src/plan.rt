@@ -2,6 +2,7 @@
 
 ghost use Rattle.std.specs.List.{list_any};
 ghost use Rattle.std.specs.Prelude.{◌≡◌, ◌&&◌, nat_eq};
+ghost use Rattle.std.specs.Prelude.{slice_index};
 ghost use Rattle.sw_plain.specs.Names.{names_at};
 
 /// Where a channel starts or ends.
@@ -65,5 +66,12 @@ impl Plan {
         self.names
             .iter()
             .any(|e| e.switch == s && e.byte == h && e.delete)
+    }
+
+    /// The channel that ends at node n.
+    pub fn into_of(&self, n: usize) -> usize
+        ensures { result ≡ slice_index self.now.into.items n }
+    {
+        if n < self.into.len() { self.into[n] } else { 0 }
     }
 }
