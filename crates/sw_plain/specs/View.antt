@@ -3,6 +3,8 @@ use Rattle.sw_char.specs.declared.nchar.End.{End}
 use Rattle.std.specs.Global.{Vec}
 use Rattle.std.specs.Prelude.{◌≡◌, ℕ, Bool, true, false, List, [], length, map, Option, None, slice_index, slice_index_or}
 use Rattle.sw_plain.specs.declared.plan.Plan.{Plan}
+use Rattle.sw_plain.specs.declared.plan.Flow.{Flow as PlanFlow}
+use Rattle.sw_machine.specs.Network.{Flow}
 use Rattle.sw_plain.specs.declared.plan.Cell.{Cell as PlanCell}
 use Rattle.sw_plain.specs.declared.plan.Cell.TheVariants.{Node, Switch}
 use Rattle.sw_plain.specs.declared.state.Plain.{Plain}
@@ -40,6 +42,13 @@ abbrev pub cell_of : PlanCell → Cell
 cell_of (Node n) = AtNode n
 cell_of (Switch s) = AtSwitch s
 
+-- a plan's flow
+abbrev pub flow_of : PlanFlow → Flow
+flow_of f = record { from = f.from; to = f.to; address = f.address.items; left = f.left; reply = None }
+
+abbrev pub no_flow : Flow
+no_flow = record { from = 0; to = 0; address = []; left = 0; reply = None }
+
 -- how its targets answer
 pub record Answering : Type 0 where
   pub reply_to : ℕ → List ℕ → Option (List ℕ)
@@ -62,9 +71,9 @@ network_of p a = record {
   into = λ n. slice_index p.into.items n;
   look = λ s h. map (λ e. e.channel) (filter (names_at s h) p.names.items);
   deletes = λ s h. list_any (λ e. names_at s h e && e.delete) p.names.items;
-  declared_flows = 0;
-  flows = 0;
-  flow = λ i. record { from = 0; to = 0; address = []; left = 0; reply = None };
+  declared_flows = length p.flows.items;
+  flows = length p.flows.items;
+  flow = λ i. slice_index_or (map flow_of p.flows.items) i no_flow;
   reply_to = a.reply_to;
   answer = a.answer;
   longest = λ n. 0;

@@ -4,12 +4,13 @@
 mod flow_control;
 mod nodes;
 mod opening;
+mod packet;
 mod plan;
 mod rows;
 mod state;
 mod switching;
 
-pub use plan::{Cell, Name, Plan};
+pub use plan::{Cell, Flow, Name, Plan};
 pub use state::{Plain, Reply};
 
 #[cfg(test)]

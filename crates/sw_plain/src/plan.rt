@@ -27,6 +27,19 @@ pub struct Name {
     pub delete: bool,
 }
 
+/// A flow whose packets are not answered.
+#[derive(Drop)]
+pub struct Flow {
+    /// The node where it begins.
+    pub from: usize,
+    /// The node where it ends.
+    pub to: usize,
+    /// The address bytes that its packets begin with.
+    pub address: Vec<u8>,
+    /// How many of these are left at its end.
+    pub left: usize,
+}
+
 /// Channels and nodes by their numbers.
 #[derive(Drop)]
 pub struct Plan {
@@ -36,6 +49,8 @@ pub struct Plan {
     pub ends: Vec<Cell>,
     /// What leading bytes name.
     pub names: Vec<Name>,
+    /// The flows.
+    pub flows: Vec<Flow>,
     /// The channel that starts at a node.
     pub out: Vec<usize>,
     /// The channel that ends at a node.

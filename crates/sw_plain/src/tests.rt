@@ -15,6 +15,7 @@ fn line(alloc: Global, capacity: usize) -> Result<Plan, AllocError>
         capacity: vec![in alloc; capacity, capacity]?,
         ends: vec![in alloc; Cell::Node(1), Cell::Node(0)]?,
         names: Vec::new(alloc),
+        flows: Vec::new(alloc),
         out: vec![in alloc; 0, 1]?,
         into: vec![in alloc; 1, 0]?,
     })
