@@ -5,8 +5,8 @@ use std::rt::Files;
 use std::{fs, io};
 use sw_app::{Ended, route};
 
-/// Files, each with flows of its network.
-static ROUTES: [(&str, &[&str]); 11] = [
+/// Files, each with flows of its network. The last three are of other kinds: the engine tells their first fault.
+static ROUTES: [(&str, &[&str]); 13] = [
     ("line.toml", &["f"]),
     ("star.toml", &["p", "l"]),
     ("region.toml", &["r"]),
@@ -18,6 +18,8 @@ static ROUTES: [(&str, &[&str]); 11] = [
     ("rmap.toml", &["w", "w+reply", "x", "x+reply"]),
     ("rmap2.toml", &["w", "w+reply", "x"]),
     ("turn.load", &["f0"]),
+    ("turn.cert", &["f0"]),
+    ("ring.schedule", &["f0"]),
 ];
 
 fn show_end(rt: &impl Print, ended: Ended) -> io::Result<()> {

@@ -2,10 +2,6 @@ use Rattle.sw_app.proofs.FlowAnswers.{at_flow, numbered_answer}
 use Rattle.sw_app.proofs.PlaceChannels.{listed_within}
 use Rattle.sw_app.proofs.route_answer.flow_answer.Goals as goal
 
-pub first_fault-fault-requires-clause-channels : goal.first_fault-fault-requires-clause-channels
-first_fault-fault-requires-clause-channels c =
-    listed_within c.args.network.now c.args.number _ _ c.in_ok-listed.ensures c.as_slice-places.ensures.value
-
 pub route_text-requires : goal.route_text-requires
 route_text-requires c =
     listed_within c.args.network.now c.args.number _ _ c.in_ok-listed.ensures c.as_slice-places.ensures.value
