@@ -1,7 +1,6 @@
-use Rattle.std.proofs.Common.{◌≡◌, ◌<◌, ◌≤◌, ◌++◌, ◌∷◌, [], ℕ, List, length, map, arith, rules, refl, sym, ap, ◌∙◌, get_or, drop, slice_index_or, slice_set}
-use Rattle.std.specs.Prelude.{◌==◌, vec_len}
+use Rattle.std.proofs.Common.{◌≡◌, ◌<◌, ◌++◌, ◌∷◌, [], length, map, arith, rules, sym, ap, ◌∙◌, get_or, slice_index_or}
+use Rattle.std.specs.Prelude.{vec_len}
 use Rattle.std.proofs.lemmas.List.{get_or-map, length-map}
-use Rattle.sw_char.specs.declared.nchar.NChar.{NChar}
 use Rattle.sw_char.specs.declared.nchar.NChar.TheVariants.{Data}
 use Rattle.sw_char.specs.Packets.{marker_of}
 use Rattle.sw_machine.specs.Network.{Flow, form}
