@@ -33,3 +33,7 @@ owed_is (x ∷ rest) pending false waiting owed some none is = refl
 -- what a test for emptiness tells
 pub tells : (b : Bool) (m : ℕ) → b ≡ (m == 0) → (b ≡ true → m ≡ 0) × (b ≡ false → m ≢ 0)
 tells b m e = (λ yes. grind (arith, nat_tests), λ no. grind (arith, nat_tests))
+
+pub no_length : {A : Type 0} (l : List A) → length l ≡ 0 → l ≡ []
+no_length [] e = refl
+no_length (x ∷ l) e = absurd (omega arith)

@@ -1,11 +1,11 @@
 -- Where no target answers, taking a character changes no memory, and no reply is owed.
-use Rattle.std.proofs.Common.{◌≡◌, ℕ, List, None, refl, sym, ap, ◌∙◌, ⊎_elim, Option}
+use Rattle.std.proofs.Common.{◌≡◌, ℕ, List, None, refl, sym, ap, ◌∙◌, ⊎_elim}
 use Rattle.std.proofs.Math.Path.{fun_ext}
 use Rattle.std.proofs.lemmas.Bool.{cases_eq}
 use Rattle.std.proofs.Common.{eq-eqb, ne_eqb}
 use Rattle.sw_char.specs.declared.nchar.NChar.{NChar}
 use Rattle.sw_char.specs.declared.nchar.NChar.TheVariants.{Data, Eop, Eep}
-use Rattle.sw_machine.specs.Network.{Network, PendingReply}
+use Rattle.sw_machine.specs.Network.{PendingReply}
 use Rattle.sw_machine.specs.State.{memory_at, owed_with, pending_with, put, reply_at}
 use Rattle.sw_plain.specs.View.{network_of, silent}
 use Rattle.sw_plain.specs.declared.plan.Plan.{Plan}

@@ -1,13 +1,16 @@
 //! The steps of a node.
 
+ghost use Rattle.std.specs.Prelude.{All, length, ◌<◌};
 ghost use Rattle.std.specs.Prelude.{◌≡◌, IfOk, OnErr, if◌then◌else◌};
-ghost use Rattle.sw_machine.specs.Steps.{Accept, Emit};
+ghost use Rattle.sw_machine.specs.Steps.{Accept, Begin, Emit};
 ghost use Rattle.sw_plain.specs.View.{IsKeptBy, Makes, Steps, lists_of, network_of, silent};
 
+use crate::packet::packet_of;
 use crate::plan::Plan;
 use crate::rows::{drop_first, first_of, push_to};
 use crate::state::Plain;
-use std::alloc::AllocError;
+use std::alloc::{AllocError, Global};
+use sw_char::End;
 
 /// What a node owes after it sent a character: at a packet's end as many replies as are pending.
 fn owed_after(ended: bool, pending: usize, owed: usize) -> usize
@@ -17,6 +20,35 @@ fn owed_after(ended: bool, pending: usize, owed: usize) -> usize
 }
 
 impl Plain {
+    /// The node where flow f of a network whose targets do not answer begins, begins to send a
+    /// packet.
+    pub fn begin(
+        &mut self,
+        alloc: Global,
+        plan: &Plan,
+        f: usize,
+        cargo: &[u8],
+        end: End,
+    ) -> Result<bool, AllocError>
+        requires kept { IsKeptBy plan.now (lists_of self.old) }
+        requires starts { All (λ flow. flow.from < length plan.now.out.items) plan.now.flows.items }
+        ensures kept { IsKeptBy plan.now (lists_of self.new) }
+        ensures made { IfOk result (λ made. Makes (network_of plan.now silent) (lists_of self.old) (Begin f cargo.now end) made (lists_of self.new)) }
+        ensures refused { OnErr result (lists_of self.new ≡ lists_of self.old) }
+    {
+        if f >= plan.flows.len() || cargo.is_empty() || cargo.len() > 33554432 {
+            return Ok(false);
+        }
+        let flow = &plan.flows[f];
+        let from = flow.from;
+        if !self.to_send[from].is_empty() || !self.pending[from].is_empty() {
+            return Ok(false);
+        }
+        let packet = packet_of(alloc, &flow.address, cargo, end)?;
+        self.to_send[from] = packet;
+        Ok(true)
+    }
+
     /// Node n puts a character on its wire.
     pub fn emit(&mut self, plan: &Plan, n: usize) -> Result<bool, AllocError>
         requires { IsKeptBy plan.now (lists_of self.old) }

@@ -1,5 +1,4 @@
-use Rattle.std.proofs.Common.{◌≡◌, ◌<◌, ◌++◌, ◌∷◌, [], ℕ, List, length, arith, rules, refl, sym, ap, ◌∙◌, get_or, drop, slice_index_or, slice_set}
-use Rattle.sw_char.specs.declared.nchar.NChar.{NChar}
+use Rattle.std.proofs.Common.{◌≡◌, ◌<◌, ◌++◌, ◌∷◌, [], length, arith, rules, sym, ap, ◌∙◌, get_or, drop, slice_index_or, slice_set}
 use Rattle.sw_machine.proofs.Cuts.{cut_of}
 use Rattle.sw_machine.specs.State.{memory_at, owed_with, pending_with, put, reply_at}
 use Rattle.sw_plain.proofs.Puts.{front_is, put_of, read_is}
