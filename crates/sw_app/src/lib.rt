@@ -1,2 +1,18 @@
 //! The engines and the words of the program swcheck.
 #![tactic(auto)]
+
+mod answer;
+mod channel_texts;
+mod command_line;
+mod ended;
+mod engines;
+mod fault_texts;
+mod laws;
+mod route_answer;
+mod route_texts;
+
+pub use command_line::{Call, WordsFault, words};
+pub use ended::{Ended, MAX_TEXT};
+pub use engines::route;
+pub use fault_texts::fault_text;
+pub use laws::route_has_one_answer;

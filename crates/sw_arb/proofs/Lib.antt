@@ -1,2 +1,2 @@
-mod PassedOver
+pub mod PassedOver
 mod PickHistory

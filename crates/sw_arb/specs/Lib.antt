@@ -1,5 +1,6 @@
 pub mod PortCounts
 pub mod Arbiters
+pub mod Ranks
 pub mod Lowest
 pub mod InTurn
 pub mod LongestAgo

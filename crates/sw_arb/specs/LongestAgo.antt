@@ -1,8 +1,9 @@
 -- Least recent: the asking port whose last pick is longest ago.
-use Rattle.std.specs.Prelude.{IsBitSet, count_ones, nat_lt, slice_index, if◌then◌else◌}
+use Rattle.std.specs.Prelude.{IsBitSet, count_ones, slice_index, if◌then◌else◌}
 use Rattle.std.proofs.Common.{◌≡◌, ◌≢◌, ◌⊎◌, ℕ, ◌+◌, ◌-◌, ◌<◌, ◌≤◌, ◌==◌, List, [], ◌∷◌, length, sym, arith}
 use Rattle.std.proofs.lemmas.Bool.{lt-ltb}
 use Rattle.sw_arb.specs.Arbiters.{IsWithin}
+use Rattle.sw_arb.specs.Ranks.{moved_down}
 use Rattle.sw_arb.specs.PortCounts.{ports_below}
 use Rattle.sw_arb.specs.declared.least_recent.LeastRecent.{LeastRecent}
 
@@ -17,7 +18,7 @@ pub record LeastRecentPicks (a : LeastRecent) (asking pick : ℕ) (b : LeastRece
   pub longest : (port : ℕ) → port < 32 → IsBitSet asking port → rank a pick ≤ rank a port
   pub ports : b.ports ≡ a.ports
   pub last : rank b pick ≡ count_ones a.ports - 1
-  pub others : (port : ℕ) → port < 32 → port ≢ pick → rank b port ≡ (if nat_lt (rank a pick) (rank a port) then rank a port - 1 else rank a port)
+  pub others : (port : ℕ) → port < 32 → port ≢ pick → rank b port ≡ moved_down (rank a pick) (rank a port)
 
 pub least_recent_picks_asking : (a b : LeastRecent) (asking pick : ℕ) → LeastRecentPicks a asking pick b → IsBitSet asking pick
 least_recent_picks_asking a b asking pick p = p.asks

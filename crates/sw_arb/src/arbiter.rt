@@ -1,6 +1,6 @@
 //! What an arbiter is.
-ghost use Rattle.std.specs.Prelude.{◌≡◌, ◌≢◌, ◌<◌, ℕ, IsBitSet, count_ones};
-ghost use Rattle.sw_arb.specs.Arbiters.{IsWithin};
+ghost use Rattle.std.specs.Prelude.{◌≡◌, ◌≢◌, ℕ, IsBitSet};
+ghost use Rattle.sw_arb.specs.Arbiters.{IsWithin, AheadIsBelow, AheadFalls};
 
 use sw_topo::{Port, PortSet};
 
@@ -37,7 +37,7 @@ pub trait FairArbiter: Arbiter {
         requires { IsBitSet (Self.ports self.now) port }
         ensures { result ≡ ahead_of self.now port };
 
-    ghost below: { (a : Self) (port : ℕ) → port < 32 → IsBitSet (Self.ports a) port → ahead_of a port < count_ones (Self.ports a) };
+    ghost below: { AheadIsBelow Self.ports ahead_of };
 
-    ghost falls: { (a b : Self) (asking pick port : ℕ) → Self.policy a asking pick b → IsWithin asking (Self.ports a) → port < 32 → IsBitSet asking port → pick ≢ port → ahead_of b port < ahead_of a port };
+    ghost falls: { AheadFalls Self.ports Self.policy ahead_of };
 }

@@ -1,6 +1,5 @@
 //! What holds of lists of picks.
-ghost use Rattle.std.specs.Prelude.{◌<◌, ℕ, List, IsBitSet, count_ones};
-ghost use Rattle.sw_arb.specs.Arbiters.{Pick, MakesPicks, AsksEachTime, passed_over};
+ghost use Rattle.sw_arb.specs.Arbiters.{PassesOverFewerTimesThanPorts};
 ghost use Rattle.sw_arb.specs.LongestAgo.{LongestAgoIsPicked};
 
 use crate::arbiter::FairArbiter;
@@ -8,7 +7,7 @@ use crate::arbiter::FairArbiter;
 /// A port that asks each time is passed over fewer times than the arbiter has ports, before it is
 /// picked.
 pub fn passed_over_fewer_times_than_ports<A: FairArbiter>()
-    ensures { (a b : A) (picks : List Pick) (port : ℕ) → MakesPicks A.ports A.policy a picks b → port < 32 → IsBitSet (A.ports a) port → AsksEachTime port picks → passed_over port picks < count_ones (A.ports a) }
+    ensures { PassesOverFewerTimesThanPorts A.ports A.policy }
 {}
 
 /// `LeastRecent` picks the asking port whose last pick is longest ago, and of those that were not

@@ -1,6 +1,7 @@
 //! The port whose last pick is longest ago.
-ghost use Rattle.std.specs.Prelude.{◌≡◌, ◌≢◌, ◌<◌, ◌≤◌, ◌-◌, ℕ, IsBitSet, count_ones, length, slice_index, nat_lt, if◌then◌else◌};
+ghost use Rattle.std.specs.Prelude.{◌≡◌, ◌≢◌, ◌<◌, ◌≤◌, ℕ, IsBitSet, slice_index};
 ghost use Rattle.sw_arb.specs.PortCounts.{ports_below};
+ghost use Rattle.sw_arb.specs.Ranks.{AreRanks, AreDistinct, moved_down};
 
 use crate::arbiter::{Arbiter, FairArbiter};
 use crate::count::{lowest, ports_below};
@@ -13,8 +14,8 @@ pub struct LeastRecent {
     ports: PortSet,
     /// For each port, how many of the arbiter's ports were last picked before it was.
     ranks: [u8; 32],
-    ghost below: { (port : ℕ) → port < 32 → IsBitSet ports port → slice_index ranks port < count_ones ports },
-    ghost distinct: { (p q : ℕ) → p < 32 → q < 32 → IsBitSet ports p → IsBitSet ports q → slice_index ranks p ≡ slice_index ranks q → p ≡ q },
+    ghost below: { AreRanks ports ranks },
+    ghost distinct: { AreDistinct ports ranks },
 }
 
 impl LeastRecent {
@@ -41,7 +42,8 @@ impl LeastRecent {
         requires { asking ≢ 0 }
         ensures is_port { result < 32 }
         ensures asks { IsBitSet asking result }
-        ensures least { (port : ℕ) → port < 32 → IsBitSet asking port → slice_index self.now.ranks result ≤ slice_index self.now.ranks port }
+        ensures least { (port : ℕ) → port < 32 → IsBitSet asking port →
+            slice_index self.now.ranks result ≤ slice_index self.now.ranks port }
     {
         let mut longest = lowest(asking);
         for number in 0..32 {
@@ -71,7 +73,8 @@ fn rising_ranks(ports: PortSet) -> [u8; 32]
 fn moved_to(ranks: [u8; 32], number: u8, rank: u8) -> [u8; 32]
     requires { number < 32 }
     ensures moved { slice_index result number ≡ rank }
-    ensures others { (port : ℕ) → port < 32 → port ≢ number → slice_index result port ≡ (if nat_lt (slice_index ranks number) (slice_index ranks port) then slice_index ranks port - 1 else slice_index ranks port) }
+    ensures others { (port : ℕ) → port < 32 → port ≢ number →
+        slice_index result port ≡ moved_down (slice_index ranks number) (slice_index ranks port) }
 {
     let left = ranks[number as usize];
     let mut moved = ranks;

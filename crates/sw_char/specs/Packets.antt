@@ -1,4 +1,4 @@
--- How characters form packets (ECSS-E-ST-50-12C, 5.3: a packet is its address, its cargo and an end marker).
+-- How characters form packets (ECSS-E-ST-50-12C, network layer: a packet is its address, its cargo and an end marker).
 use Rattle.std.specs.Prelude.{◌≡◌, ℕ, List, [], ◌∷◌, ◌++◌, map}
 use Rattle.sw_char.specs.declared.nchar.NChar.{NChar}
 use Rattle.sw_char.specs.declared.nchar.NChar.TheVariants.{Data, Eop, Eep}

@@ -1,6 +1,6 @@
 //! N-Chars and end markers.
 
-/// A normal character (N-Char): the characters that carry packets (ECSS-E-ST-50-12C, 5.3).
+/// A normal character (N-Char): the characters that carry packets (ECSS-E-ST-50-12C, data link layer).
 #[derive(Clone, Copy, Debug, PartialEq, Eq)]
 pub enum NChar {
     /// A data character of 8 bits.

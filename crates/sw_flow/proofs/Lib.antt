@@ -3,3 +3,5 @@ pub mod Outputs
 pub mod Faulty
 pub mod Stepping
 pub mod Placed
+pub mod Jobs
+pub mod WellRouted

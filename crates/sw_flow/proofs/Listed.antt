@@ -1,5 +1,5 @@
 -- What lists made by `map` and `filter_map` have, and ranges.
-use Rattle.std.proofs.Common.{◌≡◌, ℕ, zero, suc, ◌+◌, ◌<◌, List, [], ◌∷◌, ◌++◌, length, map, filter_map, Contains, Option, Some, None, refl, sym, ap, ◌∙◌, subst, ◌⊎◌, inl, inr, arith, get_or}
+use Rattle.std.proofs.Common.{◌≡◌, ℕ, zero, suc, ◌+◌, ◌<◌, List, [], ◌∷◌, ◌++◌, map, filter_map, Contains, Option, Some, None, refl, sym, ap, ◌∙◌, subst, ◌⊎◌, inl, inr, arith}
 use Rattle.std.specs.List.{range_with_len, cons_option}
 use Rattle.std.proofs.lemmas.List.{get_or-map, length-map, map-id}
 use Rattle.std.proofs.lemmas.List.FromFn.{length-range_with_len, get_or-range_with_len, map-range_with_len_more}
@@ -60,6 +60,7 @@ module _ {X Y : Type 0} where
       later : (o : Option Y) → Contains (filter_map h xs) y → Contains (cons_option o (filter_map h xs)) y
       later None k = k
       later (Some w) k = Contains-later w y (filter_map h xs) k
+
       by : (z ≡ x) ⊎ Contains xs x → (Contains xs x → Contains (filter_map h xs) y) → Contains (filter_map h (z ∷ xs)) y
       by (inl same) rest = rw (ap h same ∙ e) (Contains-head y (filter_map h xs))
       by (inr k) rest = later (h z) (rest k)

@@ -1,5 +1,5 @@
 -- The channels that a look names at a switch.
-use Rattle.std.proofs.Common.{◌≡◌, ◌≢◌, ◌^◌, ◌+◌, ◌++◌, ◌∷◌, [], ℕ, ◌<◌, map, filter_map, option_to_list, Bool, true, false, List, Contains, Option, Some, None, is_some, IsBitSet, bit_and, eqb, refl, sym, ap, ◌∙◌, ◌⊎◌, inl, inr, ◌↔◌, ◌≤◌, arith}
+use Rattle.std.proofs.Common.{◌≡◌, ◌^◌, ◌+◌, ◌++◌, ◌∷◌, [], ℕ, ◌<◌, map, filter_map, option_to_list, Bool, true, false, List, Contains, Option, Some, None, is_some, IsBitSet, bit_and, refl, sym, ap, ◌∙◌, ◌⊎◌, inl, inr, ◌↔◌, ◌≤◌, arith}
 use Rattle.std.specs.List.{range_with_len, list_any, cons_option}
 use Rattle.std.proofs.lemmas.Bool.{cases_eq, eq-eqb, ne_eqb}
 use Rattle.std.proofs.lemmas.List.{append_assoc, map-append}
@@ -29,9 +29,10 @@ module _ (ends : List PlaceEnd) (s : ℕ) (look : Look) where
 
   pub outputs_are : (e : ℕ) → Contains (outputs ends s look) e ↔ NamesOutput ends s look e
   unfolding outputs
-  outputs_are e =
-      (λ h. let m = Contains-from_filter_map (output_at ends s look) (range_with_len 0 32) e h in names m.0 e (Contains-from_range 32 m.0 m.1) m.2,
-        λ n. Contains-filter_map (output_at ends s look) (range_with_len 0 32) n.port e (Contains-range 32 n.port n.is_port) (output_at-named n.port e n.named n.linked))
+  outputs_are e = (
+    λ h. let m = Contains-from_filter_map (output_at ends s look) (range_with_len 0 32) e h in names m.0 e (Contains-from_range 32 m.0 m.1) m.2,
+    λ n. Contains-filter_map (output_at ends s look) (range_with_len 0 32) n.port e (Contains-range 32 n.port n.is_port) (output_at-named n.port e n.named n.linked),
+  )
 
   some_output : (p : ℕ) → p < 32 → is_some (output_at ends s look p) ≡ true → (e : ℕ) × NamesOutput ends s look e
   some_output p lt h = by (output_at ends s look p) refl h

@@ -1,5 +1,5 @@
 -- The list of a flow's places, from that of their numbers.
-use Rattle.std.proofs.Common.{◌≡◌, ℕ, ◌+◌, ◌*◌, ◌/◌, ◌%◌, ◌<◌, ◌≤◌, Some, List, length, map, get_or, Contains, AllPairs, refl, sym, ap, ◌∙◌, subst, ◌⊎◌, inl, inr, arith}
+use Rattle.std.proofs.Common.{◌≡◌, ℕ, ◌+◌, ◌*◌, ◌/◌, ◌%◌, ◌<◌, ◌≤◌, Some, List, length, map, get_or, Contains, refl, sym, ap, ◌∙◌, subst, ◌⊎◌, inl, inr, arith}
 use Rattle.std.proofs.lemmas.Bool.{cases_lt, cases_eq}
 use Rattle.std.proofs.lemmas.Nat.{div-mul-add, mod-mul-add, div-add-mod'}
 use Rattle.std.proofs.lemmas.List.{get_or-map, length-map}
@@ -47,6 +47,7 @@ module _ (d : Declaration) (f : FlowEntry) where
       to p h =
           let m = Contains-from_map (place_of f) numbers p h in
           subst (λ (q : Place). IsPlace d f q.channel q.deleted) m.2 (place_from_reached d f s at m.0 ((l.member m.0).0 m.1))
+
       from : (p : Place) → IsPlace d f p.channel p.deleted → Contains (map (place_of f) numbers) p
       from p h =
           let r = reached_from_place d f s at p.channel p.deleted h in

@@ -1,12 +1,12 @@
 -- The steps of a flow, and those between the numbers of its places.
-use Rattle.std.proofs.Common.{◌≡◌, ℕ, ◌+◌, ◌*◌, ◌/◌, ◌%◌, ◌<◌, ◌≤◌, Bool, true, false, cond, Option, Some, None, List, [], length, map, All, Contains, ltb, refl, sym, ap, ◌∙◌, subst, ◌⊎◌, inl, inr, arith}
+use Rattle.std.proofs.Common.{◌≡◌, ℕ, ◌+◌, ◌*◌, ◌/◌, ◌%◌, ◌<◌, ◌≤◌, Bool, true, false, cond, Option, Some, None, List, length, position, All, Contains, refl, sym, ap, ◌∙◌, subst, ◌⊎◌, inl, inr, arith}
 use Rattle.std.proofs.lemmas.Bool.{cases_lt, lt-ltb, le-ltb}
 use Rattle.std.proofs.lemmas.Nat.{div-mul-add, mod-mul-add, mul-add-lt}
 use Rattle.std.proofs.lemmas.List.Elements.{Contains-get_or}
 use Rattle.std.proofs.lemmas.List.Quantifiers.{position-Some}
 use Rattle.sw_topo.specs.declared.place.PlaceEnd.{PlaceEnd}
 use Rattle.sw_topo.specs.declared.place.PlaceEnd.TheVariants.{Node, Switch}
-use Rattle.sw_topo.specs.Wiring.{Wiring, out, is_port}
+use Rattle.sw_topo.specs.Wiring.{Wiring, out, is_node, is_port}
 use Rattle.sw_route.specs.declared.look.Look.{Look}
 use Rattle.sw_network.specs.Entries.{FlowEntry, Declaration, wiring_of}
 use Rattle.sw_reach.specs.Reached.{Reached}
@@ -14,6 +14,7 @@ use Rattle.sw_reach.specs.Reached.Reached.{begin, step}
 use Rattle.sw_flow.specs.Places.{ends_of, end_of, look_after, deleted_behind, Follows, IsPlace}
 use Rattle.sw_flow.specs.Places.IsPlace.{start, next}
 use Rattle.sw_flow.specs.Numbers.{width, number_bound, outputs, next_at_switch, next_at_end, next_numbers}
+use Rattle.sw_flow.specs.Laws.{PlacesAreIn, PlacesAreLeast}
 use Rattle.sw_flow.proofs.Listed.{Contains-map, Contains-from_map}
 use Rattle.sw_flow.proofs.Outputs.{outputs_are}
 
@@ -33,6 +34,9 @@ deleted_few look k n lt = by look.delete
 
 pub few_deleted : (d : Declaration) (f : FlowEntry) (c k e m : ℕ) → Follows d f c k e m → m < width f
 few_deleted d f c k e m h = subst (λ (x : ℕ). x < width f) (sym h.deleted) (deleted_few (look_after d f h.switch k) k (length f.address) h.bytes_left)
+
+out_below : (ends : List PlaceEnd) (test : PlaceEnd → Bool) (c : ℕ) → position test ends ≡ Some c → c < length ends
+out_below ends test c at = (position-Some test ends c (Node 0) at).0
 
 module _ (d : Declaration) (f : FlowEntry) where
   at_switch : (c k s p x : ℕ) → end_of d c ≡ Some (Switch s p) → Contains (next_at_switch d f s k) x → Leads d f c k x
@@ -86,13 +90,23 @@ module _ (d : Declaration) (f : FlowEntry) where
   next_below : (n x : ℕ) → Contains (next_numbers d f n) x → x < number_bound d f
   next_below n x h =
       let l = leads n x h in
-      let e : l.channel < length (ends_of d) = (position-Some (is_port l.follows.switch l.follows.named.port) (ends_of d) l.channel (Node 0) l.follows.named.linked).0 in
+      let e : l.channel < length (ends_of d) = out_below (ends_of d) (is_port l.follows.switch l.follows.named.port) l.channel l.follows.named.linked in
       let few = few_deleted d f _ _ l.channel l.deleted l.follows in
       let low = mul-add-lt l.channel (width f) l.deleted (length (ends_of d)) e few in
       subst (λ (y : ℕ). y < number_bound d f) (sym l.number) (omega arith)
 
   pub all_below : (n : ℕ) → All (λ x. x < number_bound d f) (next_numbers d f n)
   all_below n = λ k x lt. next_below n _ (Contains-get_or (next_numbers d f n) k x lt)
+
+pub places_are_in : PlacesAreIn
+places_are_in d f c k (start at) = (out_below (ends_of d) (is_node f.from) c at, omega arith)
+places_are_in d f c k (next {c = b} {k = j} p h) =
+    let few = few_deleted d f b j c k h in
+    (out_below (ends_of d) (is_port h.switch h.named.port) c h.named.linked, omega arith)
+
+pub places_are_least : PlacesAreLeast
+places_are_least d f test first on c k (start at) = first c at
+places_are_least d f test first on c k (next {c = b} {k = j} p h) = on b j c k (places_are_least d f test first on b j p) h
 
 -- the bound as the code has it
 pub bound_is : (d : Declaration) (f : FlowEntry) (channels : ℕ) (w : Wiring) (address : List ℕ) → channels ≡ length w.ends → w ≡ wiring_of d → address ≡ f.address → channels * (length address + 1) ≡ number_bound d f

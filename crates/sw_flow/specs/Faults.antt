@@ -1,12 +1,11 @@
 -- What may be wrong with a place of a flow.
-use Rattle.std.specs.Prelude.{◌≡◌, ◌≢◌, ℕ, ◌-◌, ◌^◌, ◌<◌, ◌≤◌, ◌==◌, Bool, not, nat_lt, bit_and, List, [], ◌∷◌, length, Option, Some, None, is_some, option_map, ◌↔◌, if◌then◌else◌}
+use Rattle.std.specs.Prelude.{◌≡◌, ℕ, ◌-◌, ◌^◌, ◌==◌, Bool, nat_lt, bit_and, List, [], ◌∷◌, length, Option, Some, None, is_some, option_map, if◌then◌else◌}
 use Rattle.std.specs.List.{range_with_len, list_any}
 use Rattle.sw_topo.specs.declared.place.PlaceEnd.{PlaceEnd}
 use Rattle.sw_topo.specs.declared.place.PlaceEnd.TheVariants.{Node, Switch}
 use Rattle.sw_topo.specs.Wiring.{out_of}
 use Rattle.sw_topo.specs.Checked.{first_of}
 use Rattle.sw_route.specs.declared.look.Look.{Look}
-use Rattle.sw_route.specs.Looks.{NamesOutput}
 use Rattle.sw_network.specs.Entries.{FlowEntry, Declaration}
 use Rattle.sw_flow.specs.declared.fault.RouteFault.{RouteFault}
 use Rattle.sw_flow.specs.declared.fault.RouteFault.TheVariants.{AddressEnds, NoRoute, WrongNode, WrongLeft}
@@ -52,11 +51,3 @@ with_fault d f p = option_map (λ fault. (p, fault)) (fault_of d f p.channel p.d
 abbrev pub first_fault_of : Declaration → FlowEntry → List Place → Option (Place × RouteFault)
 first_fault_of d f [] = None
 first_fault_of d f (p ∷ ps) = first_of (with_fault d f p) (first_fault_of d f ps)
-
--- Each fault in words: at a switch with no address byte left; at a switch where the leading byte names no channel; at a node other
--- than the flow's end; at the flow's end with another count of address bytes than is to be left.
-pub record FaultsAre (d : Declaration) (f : FlowEntry) (c k : ℕ) : Type 0 where
-  pub address_ends : fault_of d f c k ≡ Some AddressEnds ↔ ((s p : ℕ) × (end_of d c ≡ Some (Switch s p)) × (length f.address ≤ k))
-  pub no_route : fault_of d f c k ≡ Some NoRoute ↔ ((s p : ℕ) × (end_of d c ≡ Some (Switch s p)) × (k < length f.address) × ((e : ℕ) → ¬ NamesOutput (ends_of d) s (look_after d f s k) e))
-  pub wrong_node : fault_of d f c k ≡ Some WrongNode ↔ ((n : ℕ) × (end_of d c ≡ Some (Node n)) × (n ≢ f.to))
-  pub wrong_left : fault_of d f c k ≡ Some WrongLeft ↔ ((end_of d c ≡ Some (Node f.to)) × (length f.address - k ≢ f.left))

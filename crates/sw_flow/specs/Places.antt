@@ -5,7 +5,7 @@ use Rattle.sw_topo.specs.declared.place.PlaceEnd.TheVariants.{Switch}
 use Rattle.sw_topo.specs.Wiring.{out, partner}
 use Rattle.sw_route.specs.declared.look.Look.{Look}
 use Rattle.sw_route.specs.Looks.{NamesOutput}
-use Rattle.sw_network.specs.Entries.{FlowEntry, Declaration, look_at, wiring_of}
+use Rattle.sw_network.specs.Entries.{FlowEntry, Declaration, look_at, wiring_of, all_flows}
 use Rattle.sw_flow.specs.declared.place.Place.{Place}
 
 -- where each channel starts
@@ -16,7 +16,7 @@ ends_of d = (wiring_of d).ends
 abbrev pub end_of : Declaration → ℕ → Option PlaceEnd
 end_of d c = slice_get (ends_of d) (partner c)
 
--- what the leading byte names at switch s, where k address bytes are deleted (ECSS-E-ST-50-12C, 5.6.8: addressing)
+-- what the leading byte names at switch s, where k address bytes are deleted (ECSS-E-ST-50-12C, network layer: packet addressing)
 abbrev pub look_after : Declaration → FlowEntry → ℕ → ℕ → Look
 look_after d f s k = look_at d.switches s (slice_index f.address k)
 
@@ -48,3 +48,9 @@ IsBefore p q = (p.channel < q.channel) ⊎ ((p.channel ≡ q.channel) × (p.dele
 pub record IsPlaceList (d : Declaration) (f : FlowEntry) (places : List Place) : Type 0 where
   pub in_order : AllPairs IsBefore places
   pub member : (p : Place) → Contains places p ↔ IsPlace d f p.channel p.deleted
+
+-- the list has the places of flow i, reply flows counted on from the declared ones
+pub record IsPlacesOf (d : Declaration) (i : ℕ) (places : List Place) : Type 0 where
+  pub flow : FlowEntry
+  pub numbered : slice_get (all_flows d) i ≡ Some flow
+  pub list : IsPlaceList d flow places

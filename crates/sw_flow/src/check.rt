@@ -1,7 +1,6 @@
 //! What is wrong with places.
-ghost use Rattle.std.specs.Prelude.{◌≡◌, ◌<◌, ◌≤◌, ℕ, All, length, slice_get, Some, option_map, IfSome, Option};
+ghost use Rattle.std.specs.Prelude.{◌≡◌, ◌<◌, length, slice_get, IfSome, Option};
 ghost use Rattle.sw_network.specs.Entries.{all_flows};
-ghost use Rattle.sw_flow.specs.Places.{ends_of};
 ghost use Rattle.sw_flow.specs.Faults.{has_output, fault_of, fault_at_switch, fault_at_node, first_fault_of};
 
 use crate::fault::RouteFault;
@@ -51,21 +50,19 @@ fn fault_at_node(flow: &Flow, node: u16, deleted: u8) -> Option<RouteFault>
 }
 
 fn fault_in(network: &Network, flow: &Flow, place: Place) -> Option<RouteFault>
-    requires { place.channel < length (ends_of network.now) }
     ensures { result ≡ fault_of network.now flow.now place.channel place.deleted }
 {
-    match network.topology().end_of(place.channel) {
+    let topology = network.topology();
+    if place.channel.number() >= topology.channels() {
+        return None;
+    }
+    match topology.end_of(place.channel) {
         PlaceEnd::Node(node) => fault_at_node(flow, node, place.deleted),
         PlaceEnd::Switch(switch, _) => fault_at_switch(network, flow, switch, place.deleted),
     }
 }
 
-fn first_fault_in(
-    network: &Network,
-    flow: &Flow,
-    places: &[Place],
-) -> Option<(Place, RouteFault)>
-    requires { All (λ p. p.channel < length (ends_of network.now)) places.now }
+fn first_fault_in(network: &Network, flow: &Flow, places: &[Place]) -> Option<(Place, RouteFault)>
     ensures { result ≡ first_fault_of network.now flow.now places.now }
 {
     for place in places {
@@ -76,10 +73,9 @@ fn first_fault_in(
     None
 }
 
-/// What is wrong with a place of the flow of that number.
+/// What is wrong with a place of the flow of that number; nothing where the network has no such channel.
 pub fn fault_at(network: &Network, flow: u16, place: Place) -> Option<RouteFault>
-    requires flow { flow < length (all_flows network.now) }
-    requires channel { place.channel < length (ends_of network.now) }
+    requires { flow < length (all_flows network.now) }
     ensures { IfSome (slice_get (all_flows network.now) flow) (λ f. result ≡ fault_of network.now f place.channel place.deleted) }
 {
     fault_in(network, network.flow(flow), place)
@@ -87,8 +83,7 @@ pub fn fault_at(network: &Network, flow: u16, place: Place) -> Option<RouteFault
 
 /// The first of the places that is faulty, with its fault.
 pub fn first_fault(network: &Network, flow: u16, places: &[Place]) -> Option<(Place, RouteFault)>
-    requires flow { flow < length (all_flows network.now) }
-    requires channels { All (λ p. p.channel < length (ends_of network.now)) places.now }
+    requires { flow < length (all_flows network.now) }
     ensures { IfSome (slice_get (all_flows network.now) flow) (λ f. result ≡ first_fault_of network.now f places.now) }
 {
     first_fault_in(network, network.flow(flow), places)

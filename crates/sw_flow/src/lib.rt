@@ -6,10 +6,18 @@ mod fault;
 mod laws;
 mod place;
 mod routes;
+mod spread;
 mod steps;
 
 pub use check::{fault_at, first_fault};
 pub use fault::RouteFault;
-pub use laws::faults_in_words;
+pub use laws::{
+    faultless_go_on, faults_in_words, followers_are_places, places_are_in, places_are_least,
+    well_routed_by_list,
+};
 pub use place::Place;
 pub use routes::places;
+pub use spread::all_places;
+
+#[cfg(test)]
+mod tests;

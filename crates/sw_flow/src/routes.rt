@@ -1,8 +1,7 @@
 //! The places of flows.
-ghost use Rattle.std.specs.Prelude.{◌≡◌, ◌<◌, ◌≤◌, ◌*◌, ◌/◌, ◌%◌, ℕ, All, map, length, slice_get, IfOk, IfSome};
-ghost use Rattle.std.specs.List.{range_with_len};
+ghost use Rattle.std.specs.Prelude.{◌≡◌, ◌<◌, ◌≤◌, ◌*◌, ◌/◌, ◌%◌, ℕ, All, map, length, IfOk};
 ghost use Rattle.sw_network.specs.Entries.{all_flows};
-ghost use Rattle.sw_flow.specs.Places.{IsPlaceList};
+ghost use Rattle.sw_flow.specs.Places.{IsPlacesOf};
 
 use crate::place::Place;
 use crate::steps::{FlowSteps, place_of};
@@ -26,7 +25,7 @@ fn places_of(alloc: Global, numbers: &[usize], width: usize) -> Result<Vec<Place
 /// The places of the flow of that number, each once, in order: by channel, then by the count of deleted address bytes.
 pub fn places(alloc: Global, network: &Network, flow: u16) -> Result<Vec<Place>, AllocError>
     requires { flow < length (all_flows network.now) }
-    ensures { IfOk result (λ v. IfSome (slice_get (all_flows network.now) flow) (λ f. IsPlaceList network.now f v.items)) }
+    ensures { IfOk result (λ v. IsPlacesOf network.now flow v.items) }
 {
     let flow = network.flow(flow);
     let topology = network.topology();

@@ -1,1 +1,2 @@
 mod Accounts
+mod Carried

@@ -1,4 +1,4 @@
--- The two ends of a channel and their changes (ECSS-E-ST-50-12C, 5.5.4: flow control).
+-- The two ends of a channel and their changes (ECSS-E-ST-50-12C, data link layer: flow control).
 use Rattle.std.specs.Prelude.{ℕ, ◌+◌, ◌-◌, ◌≤◌, Bool, ◌&&◌, nat_le, List, [], ◌∷◌, ◌++◌, length}
 use Rattle.sw_char.specs.declared.nchar.NChar.{NChar}
 
@@ -9,12 +9,15 @@ pub record Received : Type 0 where
   pub outstanding : ℕ
   pub capacity : ℕ
 
--- what is outstanding has room and is at most 56 (seven FCTs); the capacity, 8 to 4,096, is this project's choice
+-- how many N-Chars a receive buffer may hold: this project's choice
+abbrev pub IsCapacity : ℕ → Type 0
+IsCapacity capacity = (8 ≤ capacity) × (capacity ≤ 4096)
+
+-- what is outstanding has room and is at most 56 (seven FCTs)
 pub record Fits (buffer : List NChar) (outstanding capacity : ℕ) : Type 0 where
   pub room : length buffer + outstanding ≤ capacity
   pub most : outstanding ≤ 56
-  pub least_capacity : 8 ≤ capacity
-  pub most_capacity : capacity ≤ 4096
+  pub is_capacity : IsCapacity capacity
 
 -- there is room for eight more N-Chars beside those outstanding, and with them at most 56 are outstanding
 abbrev pub may_issue : Received → Bool

@@ -1,5 +1,5 @@
 //! What holds of each channel, whatever its two ends and its wire do.
-ghost use Rattle.sw_link.specs.Channel.{EndsAcceptChannelChanges, OutstandingHasRoom, OutstandingIsAccountedFor};
+ghost use Rattle.sw_link.specs.Channel.{EndsAcceptChannelChanges, NothingIsLost, OutstandingHasRoom, OutstandingIsAccountedFor};
 
 /// Credit, N-Chars on the wire and eight for each FCT under way make up what is outstanding,
 /// which is at most 56.
@@ -16,4 +16,9 @@ pub fn outstanding_has_room()
 /// the call that receives it.
 pub fn ends_accept_channel_changes()
     ensures { EndsAcceptChannelChanges }
+{}
+
+/// What was sent was taken, is in the buffer or is on the wire, in the order in which it was sent.
+pub fn nothing_is_lost()
+    ensures { NothingIsLost }
 {}

@@ -7,6 +7,9 @@ mod rx;
 mod tests;
 mod tx;
 
-pub use laws::{ends_accept_channel_changes, outstanding_has_room, outstanding_is_accounted_for};
+pub use laws::{
+    ends_accept_channel_changes, nothing_is_lost, outstanding_has_room,
+    outstanding_is_accounted_for,
+};
 pub use rx::RxEnd;
 pub use tx::TxEnd;

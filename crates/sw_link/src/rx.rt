@@ -7,7 +7,7 @@ use std::marker::Model;
 use sw_char::NChar;
 
 /// The receiving end of a channel: its buffer, and how many N-Chars it has asked for that did
-/// not arrive yet (ECSS-E-ST-50-12C, 5.5.4: flow control).
+/// not arrive yet (ECSS-E-ST-50-12C, data link layer: flow control).
 #[derive(Drop)]
 pub struct RxEnd {
     ring: HeapCircularBuffer<NChar>,
@@ -25,12 +25,12 @@ impl Model for RxEnd {
 }
 
 impl RxEnd {
-    ghost use Rattle.sw_link.specs.Ends.{asked, arrived, may_issue};
+    ghost use Rattle.sw_link.specs.Ends.{asked, arrived, may_issue, IsCapacity};
 
     /// An end with an empty buffer that asked for nothing yet. Its buffer is made here, and holds
     /// `capacity` N-Chars: 8 to 4,096.
     pub fn new(alloc: Global, capacity: usize) -> Result<RxEnd, AllocError>
-        requires { (8 ≤ capacity) × (capacity ≤ 4096) }
+        requires { IsCapacity capacity }
         ensures { IfOk result (λ e. e ≡ record { buffer = []; outstanding = 0; capacity = capacity }) }
     {
         let ring = HeapCircularBuffer::with_capacity(alloc, capacity)?;

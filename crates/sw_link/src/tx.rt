@@ -4,7 +4,7 @@ ghost use Rattle.std.specs.Prelude.{◌≡◌, ℕ, ◌<◌, ◌≤◌, ◌+◌,
 use std::marker::Model;
 
 /// The transmitting end of a channel, seen as its credit: how many N-Chars it may still send
-/// (ECSS-E-ST-50-12C, 5.5.4: flow control).
+/// (ECSS-E-ST-50-12C, data link layer: flow control).
 #[derive(Debug, Drop)]
 pub struct TxEnd {
     credit: u8,

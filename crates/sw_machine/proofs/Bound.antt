@@ -2,7 +2,7 @@
 use Rattle.std.proofs.Common.{Bool, List, [], ap, arith, eq-eqb, false, le-ltb, length, lt-ltb, ltb-true, map, nat_lt, ne_eqb, refl, subst, suc, sym, true, zero, ℕ, ⊎_elim, ◌*◌, ◌++◌, ◌+◌, ◌-◌, ◌<◌, ◌∙◌, ◌∷◌, ◌≡◌, ◌≤◌}
 use Rattle.std.proofs.lemmas.Bool.{cases_Bool, cases_eq}
 use Rattle.std.proofs.lemmas.List.{length_push}
-use Rattle.std.proofs.lemmas.List.Sums.{sum_by-append, sum_by-cons}
+use Rattle.std.proofs.lemmas.List.Sums.{sum_by-append}
 use Rattle.std.specs.Prelude.{if◌then◌else◌}
 use Rattle.sw_char.specs.declared.nchar.NChar.{NChar}
 use Rattle.sw_char.specs.declared.nchar.NChar.TheVariants.{Data, Eep, Eop}
@@ -11,6 +11,7 @@ use Rattle.sw_machine.proofs.Credit.{empty_credit, step_numbers}
 use Rattle.sw_machine.proofs.Ghost.{Ghost, Holds, InputIs, Inv}
 use Rattle.sw_machine.proofs.Lists.{put_here, put_there}
 use Rattle.sw_machine.proofs.Moves.{node_or_switch}
+use Rattle.sw_machine.proofs.RunLists.{cost, moves_cons}
 use Rattle.sw_machine.proofs.Runs.{empty_inv, never_drops, none, step_keeps}
 use Rattle.sw_machine.specs.Begun.{Begins, Begun, IsBounded, RunOf, characters, length_begun, moves}
 use Rattle.sw_machine.specs.Certificate.{Certificate, IsAccepted, number}
@@ -18,11 +19,11 @@ use Rattle.sw_machine.specs.Credit.{HasCredit}
 use Rattle.sw_machine.specs.Network.{IsNetwork, Network, PendingReply, form}
 use Rattle.sw_machine.specs.Runs.{total}
 use Rattle.sw_machine.specs.State.{State, after_accept, after_arrive, after_begin, after_emit, after_fct, after_fct_in, after_forward, after_grant, after_reply, empty, input_after, put, reply_packet}
-use Rattle.sw_machine.specs.Steps.{Accept, Arrive, Begin, Drop, Emit, Fct, FctIn, Forward, Grant, Leads, Reply, Spill, Step, is_begin}
+use Rattle.sw_machine.specs.Steps.{Accept, Arrive, Begin, Drop, Emit, Fct, FctIn, Forward, Grant, Leads, Reply, Spill, Step}
 use Rattle.sw_machine.specs.declared.input.Input.{Input}
 use Rattle.sw_machine.specs.declared.input.Input.TheVariants.{Held, Idle, Spilling}
 
-total_le : (n : ℕ) (f g : ℕ → ℕ) → ((k : ℕ) → k < n → f k ≤ g k) → total n f ≤ total n g
+pub total_le : (n : ℕ) (f g : ℕ → ℕ) → ((k : ℕ) → k < n → f k ≤ g k) → total n f ≤ total n g
 total_le zero f g h = omega arith
 total_le (suc n) f g h = let r = total_le n f g (λ k lt. h k (omega arith)) in let e = h n (omega arith) in omega arith
 
@@ -101,13 +102,6 @@ buffer_grant r d h l false = let k = held_below r l in omega arith
 idle_weight : (r : ℕ) (l : List NChar) → buffer_weight r Idle l ≡ (40 * r + 14) * length l
 unfolding buffer_weight
 idle_weight r l = refl
-
--- 1 for each step other than a beginning
-abbrev pub cost : Step → ℕ
-cost step = if (if is_begin step then false else true) then 1 else 0
-
-pub moves_cons : (step : Step) (steps : List Step) → moves (step ∷ steps) ≡ cost step + moves steps
-moves_cons step steps = sum_by-cons cost step steps
 
 module _ (net : Network) (cert : Certificate) where
   is_lesser : ℕ → ℕ → ℕ

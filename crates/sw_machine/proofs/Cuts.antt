@@ -1,12 +1,11 @@
 -- Each list of characters is cut into packets in one way.
 use Rattle.std.proofs.Common.{List, [], ap, append-nil, append_assoc, map, refl, sym, ℕ, ◌++◌, ◌∙◌, ◌∷◌, ◌≡◌}
-use Rattle.std.proofs.lemmas.Grind.{flat_map-append}
 use Rattle.std.proofs.lemmas.List.{map-append}
 use Rattle.sw_char.specs.declared.nchar.End.{End}
 use Rattle.sw_char.specs.declared.nchar.End.TheVariants.{Eep as ByEep, Eop as ByEop}
 use Rattle.sw_char.specs.declared.nchar.NChar.{NChar}
 use Rattle.sw_char.specs.declared.nchar.NChar.TheVariants.{Data, Eep, Eop}
-use Rattle.sw_machine.specs.Packets.{CutsAreEqual, EachListIsCut, IsCut, Packet, chars, chars_of, marker_of}
+use Rattle.sw_machine.specs.Packets.{IsCut, Packet, chars, chars_of, marker_of}
 
 pub no_cons : {A : Type 0} (x : A) (l : List A) → x ∷ l ≡ [] → ⊥
 no_cons x l e = cc
@@ -66,16 +65,17 @@ cuts (p ∷ ps) (q ∷ qs) a b e =
     let r = cuts ps qs a b f.2 in
     (ap (λ x. x ∷ ps) (packet_is p q f.0 f.1) ∙ ap (λ x. q ∷ x) r.0, r.1)
 
-pub cuts_are_equal : CutsAreEqual
+pub cuts_are_equal : (l : List NChar) (ps qs : List Packet) (bytes more : List ℕ) → IsCut l ps bytes → IsCut l qs more → (ps ≡ qs) × (bytes ≡ more)
 cuts_are_equal l ps qs a b p q = cuts ps qs a b (sym p ∙ q)
 
-pub cut_of : EachListIsCut
+-- the same cut, with a byte before it
+abbrev longer_cut : (b : ℕ) (l : List NChar) (ps : List Packet) (bytes : List ℕ) → IsCut l ps bytes → (qs : List Packet) × (more : List ℕ) × IsCut (Data b ∷ l) qs more
+longer_cut b l [] bytes e = ([], b ∷ bytes, ap (λ l. Data b ∷ l) e)
+longer_cut b l (p ∷ ps) bytes e = (record { bytes = b ∷ p.bytes; end = p.end } ∷ ps, bytes, ap (λ l. Data b ∷ l) e)
+
+pub cut_of : (l : List NChar) → (ps : List Packet) × (bytes : List ℕ) × IsCut l ps bytes
 cut_of [] = ([], [], refl)
-cut_of (Data b ∷ l) = let r = cut_of l in longer r.0 r.1 r.2
-  where
-    longer : (ps : List Packet) (bytes : List ℕ) → IsCut l ps bytes → (qs : List Packet) × (more : List ℕ) × IsCut (Data b ∷ l) qs more
-    longer [] bytes e = ([], b ∷ bytes, ap (λ l. Data b ∷ l) e)
-    longer (p ∷ ps) bytes e = (record { bytes = b ∷ p.bytes; end = p.end } ∷ ps, bytes, ap (λ l. Data b ∷ l) e)
+cut_of (Data b ∷ l) = let r = cut_of l in longer_cut b l r.0 r.1 r.2
 cut_of (Eop ∷ l) = let r = cut_of l in (record { bytes = []; end = ByEop } ∷ r.0, r.1, ap (λ l. Eop ∷ l) r.2)
 cut_of (Eep ∷ l) = let r = cut_of l in (record { bytes = []; end = ByEep } ∷ r.0, r.1, ap (λ l. Eep ∷ l) r.2)
 
@@ -83,11 +83,16 @@ cut_of (Eep ∷ l) = let r = cut_of l in (record { bytes = []; end = ByEep } ∷
 pub cut_byte : (l : List NChar) (ps : List Packet) (bytes : List ℕ) (b : ℕ) → IsCut l ps bytes → IsCut (l ++ Data b ∷ []) ps (bytes ++ b ∷ [])
 cut_byte l ps bytes b e = ap (λ l. l ++ Data b ∷ []) e ∙ append_assoc (chars ps) (map Data bytes) (Data b ∷ []) ∙ ap (λ l. chars ps ++ l) (sym (map-append Data bytes (b ∷ [])))
 
+-- packets after packets
+chars_append : (ps qs : List Packet) → chars (ps ++ qs) ≡ chars ps ++ chars qs
+chars_append [] qs = refl
+chars_append (p ∷ ps) qs = ap (λ l. chars_of p ++ l) (chars_append ps qs) ∙ sym (append_assoc (chars_of p) (chars ps) (chars qs))
+
 -- a marker more
 pub cut_marker : (l : List NChar) (ps : List Packet) (bytes : List ℕ) (m : End) → IsCut l ps bytes → IsCut (l ++ marker_of m ∷ []) (ps ++ record { bytes = bytes; end = m } ∷ []) []
 cut_marker l ps bytes m e =
     let p : Packet = record { bytes = bytes; end = m } in
     ap (λ l. l ++ marker_of m ∷ []) e ∙ append_assoc (chars ps) (map Data bytes) (marker_of m ∷ [])
     ∙ ap (λ l. chars ps ++ l) (sym (append-nil (chars_of p)))
-    ∙ sym (flat_map-append chars_of ps (p ∷ []))
+    ∙ sym (chars_append ps (p ∷ []))
     ∙ sym (append-nil (chars (ps ++ p ∷ [])))

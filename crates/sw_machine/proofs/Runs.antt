@@ -76,7 +76,7 @@ module _ (net : Network) (cert : Certificate) (ok : IsNetwork net) (acc : IsAcce
       (λ none. whole_cons (form_of net e) (whole_form net e) (sym (put_here g.rest (net.into n) (form_of net e)) ∙ none))
       (open_balance net g n e es begun ln (ok.into_ends n ln).0 eq b)
 
-  waits_at : (s : State) (g : Ghost) (n : ℕ) (r : PendingReply) (others : List PendingReply) → n < net.nodes → s.pending n ≡ r ∷ others → Inv net cert s g → Waits net n r
+  pub waits_at : (s : State) (g : Ghost) (n : ℕ) (r : PendingReply) (others : List PendingReply) → n < net.nodes → s.pending n ≡ r ∷ others → Inv net cert s g → Waits net n r
   waits_at s g n r others ln waits inv = (subst (AllByRecursion (Waits net n)) waits (inv.nodes n ln).waits).0
 
   -- a step begins some packets

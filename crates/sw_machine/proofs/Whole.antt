@@ -19,7 +19,7 @@ use Rattle.sw_machine.specs.Runs.{length_pending, total, undelivered}
 use Rattle.sw_machine.specs.State.{State}
 
 -- a part is at most the sum
-part_below : (n : ℕ) (f : ℕ → ℕ) (k : ℕ) → k < n → f k ≤ total n f
+pub part_below : (n : ℕ) (f : ℕ → ℕ) (k : ℕ) → k < n → f k ≤ total n f
 part_below zero f k lt = absurd (omega arith)
 part_below (suc n) f k lt = ⊎_elim (λ e. let same = ap f e in omega arith) (λ ne. let r = part_below n f k (omega arith) in omega arith) (cases_eq k n)
 

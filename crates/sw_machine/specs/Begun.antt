@@ -1,6 +1,6 @@
 -- The packets that a run begins, and those that came out of it.
 use Rattle.std.specs.Option.{option_map_or}
-use Rattle.std.specs.Prelude.{Bool, List, Some, [], count_by, false, filter, if◌then◌else◌, length, map, nat_eq, nat_le, sum_by, true, ℕ, ◌&&◌, ◌*◌, ◌++◌, ◌+◌, ◌<◌, ◌∷◌, ◌≡◌, ◌≤◌}
+use Rattle.std.specs.Prelude.{Bool, List, Some, [], count_by, false, filter, flat_map, length, map, nat_eq, nat_le, not, sum_by, ℕ, ◌&&◌, ◌*◌, ◌++◌, ◌+◌, ◌<◌, ◌∷◌, ◌≡◌, ◌≤◌}
 use Rattle.sw_char.specs.declared.nchar.End.{End}
 use Rattle.sw_char.specs.declared.nchar.End.TheVariants.{Eop as ByEop}
 use Rattle.sw_machine.specs.Network.{Network, PendingReply, form, left_bytes}
@@ -91,8 +91,24 @@ characters net begun = sum_by (length_begun net) begun
 
 -- how many of the steps are no beginnings
 abbrev pub moves : List Step → ℕ
-moves steps = count_by (λ step. if is_begin step then false else true) steps
+moves steps = count_by (λ step. not (is_begin step)) steps
 
 -- a run makes at most so many steps other than beginnings
 abbrev pub IsBounded : Network → Type 0
 IsBounded net = (steps : List Step) (begun : List Begun) (s : State) → RunOf net (empty net) steps begun s → moves steps ≤ net.channels * (14 + 5 * characters net begun)
+
+-- the packet that a beginning begins
+abbrev pub beginning : Step → List Begun
+beginning (Begin f cargo end) = record { flow = f; cargo = cargo; end = end } ∷ []
+beginning step = []
+
+abbrev pub beginnings : List Step → List Begun
+beginnings steps = flat_map beginning steps
+
+-- a packet's characters, and those of its longest reply, if it is answered
+abbrev pub length_with_reply : Network → Begun → ℕ
+length_with_reply net b = length_begun net b + option_map_or (λ address. length address + (net.longest (net.flow b.flow).to + 1)) (net.reply_to (net.flow b.flow).to (left_bytes net b.flow b.cargo)) 0
+
+-- the packets that its beginnings begin bound a run
+abbrev pub IsBoundedByLoad : Network → Type 0
+IsBoundedByLoad net = (steps : List Step) (s : State) → Run net (empty net) steps s → length steps ≤ length (beginnings steps) + net.channels * (14 + 5 * sum_by (length_with_reply net) (beginnings steps))

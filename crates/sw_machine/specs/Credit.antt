@@ -1,4 +1,4 @@
--- The credit equation of a channel, and its bounds (ECSS-E-ST-50-12C, 5.3: flow control).
+-- The credit equation of a channel, and its bounds (ECSS-E-ST-50-12C, data link layer: flow control).
 use Rattle.std.specs.Prelude.{length, ℕ, ◌*◌, ◌+◌, ◌<◌, ◌≡◌, ◌≤◌}
 use Rattle.sw_machine.specs.Network.{IsNetwork, Network}
 use Rattle.sw_machine.specs.Runs.{IsReached}

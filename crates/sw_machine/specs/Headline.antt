@@ -1,6 +1,6 @@
 -- The main theorem: what an accepted certificate shows of its network, over every run.
 use Rattle.std.specs.Prelude.{List, count_by, length, ℕ, ◌*◌, ◌++◌, ◌+◌, ◌<◌, ◌≡◌, ◌≤◌}
-use Rattle.sw_machine.specs.Begun.{AllComesOut, AllIsAnswered, Begun, ComesOutWhole, EachRunIsCounted, IsBounded, RepliesAreAsked, RunOf, characters}
+use Rattle.sw_machine.specs.Begun.{AllComesOut, AllIsAnswered, Begun, ComesOutWhole, EachRunIsCounted, IsBounded, IsBoundedByLoad, RepliesAreAsked, RunOf, characters}
 use Rattle.sw_machine.specs.Certificate.{Certificate, IsAccepted, number}
 use Rattle.sw_machine.specs.Network.{IsNetwork, Network}
 use Rattle.sw_machine.specs.Owed.{OnlyAskedOwe}
@@ -39,7 +39,12 @@ pub record IsDeadlockFree (net : Network) (cert : Certificate) : Type 0 where
   pub all_is_answered : AllIsAnswered net
   pub only_asked_owe : OnlyAskedOwe net
   pub bounded : IsBounded net
+  pub bounded_by_load : IsBoundedByLoad net
   pub ends_empty : EndsEmpty net
+
+-- what holds of each network with an accepted certificate
+abbrev pub OfAccepted : (Network → Type 0) → Type 0
+OfAccepted P = (net : Network) (cert : Certificate) → IsNetwork net → IsAccepted net cert → P net
 
 abbrev pub AcceptedIsDeadlockFree : Type 0
 AcceptedIsDeadlockFree = (net : Network) (cert : Certificate) → IsNetwork net → IsAccepted net cert → IsDeadlockFree net cert

@@ -45,6 +45,7 @@ pub record Network : Type 0 where
   pub flow : ℕ → Flow
   pub reply_to : ℕ → List ℕ → Option (List ℕ)  -- at a node, the address to which a packet of these bytes is answered
   pub answer : ℕ → List ℕ → List ℕ → End → Option PendingReply  -- at a node with this memory, the reply to a packet
+  pub longest : ℕ → ℕ  -- how many bytes a reply of a node has behind its address, at most
   pub slots : ℕ → ℕ  -- how many replies a node may owe
   pub memory_after : ℕ → List ℕ → List ℕ → End → List ℕ  -- at a node with this memory, the memory after a packet
   pub memory_at_first : ℕ → List ℕ
@@ -98,5 +99,6 @@ pub record IsNetwork (net : Network) : Type 0 where
   pub slot : (n : ℕ) → n < net.nodes → 0 < net.slots n
   -- whether a reply comes, and where it goes, hangs on neither memory nor end marker (ECSS-E-ST-50-52C: reply address field)
   pub reply_goes : (n : ℕ) (memory bytes : List ℕ) (end : End) → n < net.nodes → option_map (λ (r : PendingReply). r.address) (net.answer n memory bytes end) ≡ net.reply_to n bytes
+  pub reply_length : (n : ℕ) (memory bytes : List ℕ) (r : PendingReply) (end : End) → n < net.nodes → net.answer n memory bytes end ≡ Some r → length r.cargo ≤ net.longest n
   -- a reply gets no answer
   pub replies_end : (i j n : ℕ) (memory bytes : List ℕ) (r : PendingReply) (end : End) → i < net.flows → n < net.nodes → (net.flow i).reply ≡ Some j → net.answer n memory bytes end ≡ Some r → r.address ≡ (net.flow j).address → net.reply_to (net.flow j).to (left_bytes net j r.cargo) ≡ None

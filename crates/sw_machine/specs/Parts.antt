@@ -70,7 +70,7 @@ pub record HoldsItsOwn (net : Network) (c d : ℕ) : Type 0 where
   pub ends : net.end_of c ≡ AtSwitch switch
   pub starts : net.start_of d ≡ AtSwitch switch
 
--- wormhole routing (ECSS-E-ST-50-12C, 5.6.8): an output is held by one input at most, of its own switch
+-- wormhole routing (ECSS-E-ST-50-12C, network layer): an output is held by one input at most, of its own switch
 pub record IsWormhole (net : Network) (s : State) : Type 0 where
   pub own : (c d : ℕ) → c < net.channels → s.input c ≡ Held d → HoldsItsOwn net c d
   pub one : (b c d : ℕ) → b < net.channels → c < net.channels → s.input b ≡ Held d → s.input c ≡ Held d → b ≡ c

@@ -10,7 +10,7 @@ use Rattle.sw_machine.specs.declared.input.Input.TheVariants.{Held, Idle, Spilli
 
 -- each channel's and each node's part, by its number
 pub record State : Type 0 where
-  pub credit : ℕ → ℕ  -- how many characters may still be sent on the channel (ECSS-E-ST-50-12C, 5.3: flow control)
+  pub credit : ℕ → ℕ  -- how many characters may still be sent on the channel (ECSS-E-ST-50-12C, data link layer: flow control)
   pub wire : ℕ → List NChar
   pub fcts : ℕ → ℕ  -- how many FCTs for the channel are under way
   pub buffer : ℕ → List NChar

@@ -33,7 +33,7 @@ Drops net s c switch Eep rest t = t ≡ after_drop_marker s c rest
 
 -- in net, the step leads from s to t
 abbrev pub Leads : Network → State → Step → State → Type 0
--- channel c has room for eight more characters, and at most 48 are outstanding (ECSS-E-ST-50-12C, 5.3: flow control)
+-- channel c has room for eight more characters, and at most 48 are outstanding (ECSS-E-ST-50-12C, data link layer: flow control)
 Leads net s (Fct c) t = record {
   in_net : c < net.channels;
   room : s.outstanding c + length (s.buffer c) + 8 ≤ net.capacity c;

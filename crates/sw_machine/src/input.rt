@@ -1,6 +1,6 @@
 //! What a switch does with the packets of one input.
 
-/// The state of a switch's input port (ECSS-E-ST-50-12C, 5.6.8: wormhole routing).
+/// The state of a switch's input port (ECSS-E-ST-50-12C, network layer: wormhole routing).
 #[derive(Clone, Copy, Debug, PartialEq, Eq)]
 pub enum Input {
     /// It waits for a packet's header.

@@ -1,10 +1,31 @@
 //! Laws of the machine, each over every network, state and run that it names. The functions do
 //! nothing: a call brings the law of its contract.
 
+ghost use Rattle.sw_machine.specs.Certificate.{IsAccepted};
 ghost use Rattle.sw_machine.specs.Credit.{CreditIsKept};
-ghost use Rattle.sw_machine.specs.Headline.{AcceptedIsDeadlockFree};
-ghost use Rattle.sw_machine.specs.Owed.{EmitSettles, NodesOweReplies};
-ghost use Rattle.sw_machine.specs.Packets.{CutsAreEqual, EachListIsCut};
+ghost use Rattle.sw_machine.specs.Network.{IsNetwork};
+ghost use Rattle.sw_machine.specs.Sample.{certificate, misrouted, of_capacity, sample};
+ghost use Rattle.sw_machine.specs.Witnesses.{IsAnswered, IsDiscarded, SendsFcts};
+ghost use Rattle.std.specs.Prelude.{◌≤◌, ℕ};
+ghost use Rattle.sw_machine.specs.Begun.{
+  AllComesOut,
+  AllIsAnswered,
+  ComesOutWhole,
+  EachRunIsCounted,
+  IsBounded,
+  IsBoundedByLoad,
+  RepliesAreAsked,
+};
+ghost use Rattle.sw_machine.specs.Headline.{
+  AcceptedIsDeadlockFree,
+  AlwaysGoesOn,
+  EndsEmpty,
+  IsNeverLockedUp,
+  OfAccepted,
+  QuietIsEmpty,
+};
+ghost use Rattle.sw_machine.specs.OneSlot.{OneSlotIsOneReply};
+ghost use Rattle.sw_machine.specs.Owed.{EmitSettles, NodesOweReplies, OnlyAskedOwe};
 ghost use Rattle.sw_machine.specs.Parts.{
   LinkEndsAreAtCells,
   OutputsAreHeldOnce,
@@ -13,16 +34,13 @@ ghost use Rattle.sw_machine.specs.Parts.{
 };
 ghost use Rattle.sw_machine.specs.Places.{RisingHasNoCycle};
 ghost use Rattle.sw_machine.specs.Steps.{StepsAreDetermined};
+ghost use Rattle.sw_machine.specs.Tried.{StepsAreTried};
 
-/// Each list of N-Chars is cut into packets, in one way.
-pub fn packets_are_cut()
-    ensures cut { EachListIsCut }
-    ensures one_way { CutsAreEqual }
-{}
-
-/// A state and a step determine the state after.
+/// A state and a step determine the state after, and there is a function that tells it, exactly
+/// where the step is possible.
 pub fn steps_are_determined()
-    ensures { StepsAreDetermined }
+    ensures determined { StepsAreDetermined }
+    ensures tried { StepsAreTried }
 {}
 
 /// In each reached state of each network the credit equation of each channel holds, at most 56
@@ -51,13 +69,71 @@ pub fn steps_are_done_at_cells()
     ensures local { StepsAreLocal }
 {}
 
+/// Where each node may owe one reply, the machine is the one with one pending reply a node and a
+/// flag: from each reached state each step leads in both to the same states.
+pub fn one_slot_is_one_reply()
+    ensures { OneSlotIsOneReply }
+{}
+
 /// Where numbers rise along the dependencies, these have no cycle.
 pub fn rising_has_no_cycle()
     ensures { RisingHasNoCycle }
 {}
 
-/// No reached state of an accepted network is locked up, packets come out whole where they were
-/// sent, no oftener than begun, and each run is bounded by what it begins.
+/// No reached state of an accepted network is locked up: one that holds an undelivered character has
+/// a possible step other than a beginning, and in a quiet one nothing is undelivered.
+pub fn accepted_is_never_locked_up()
+    ensures goes_on { OfAccepted AlwaysGoesOn }
+    ensures never { OfAccepted IsNeverLockedUp }
+    ensures quiet { OfAccepted QuietIsEmpty }
+{}
+
+/// Over each run of an accepted network the packets that come out at a node are packets begun to it,
+/// unchanged but for deleted address bytes and no oftener than begun; where nothing is undelivered
+/// they came out exactly as often. Each run has begun packets.
+pub fn accepted_comes_out_whole()
+    ensures counted { OfAccepted EachRunIsCounted }
+    ensures whole { OfAccepted ComesOutWhole }
+    ensures all { OfAccepted AllComesOut }
+{}
+
+/// Over each run of an accepted network a node begins at most one reply for each command to it that
+/// is answered, and exactly one where nothing is undelivered; only such a node owes replies.
+pub fn accepted_answers_once()
+    ensures asked { OfAccepted RepliesAreAsked }
+    ensures all { OfAccepted AllIsAnswered }
+    ensures owed { OfAccepted OnlyAskedOwe }
+{}
+
+/// A run of an accepted network makes at most C x (14 + 5N) steps other than beginnings, where C is
+/// the number of channels and N how many characters the packets that it begins have; and at most
+/// B + C x (14 + 5M) steps, where B is how many packets its beginnings begin and M how many
+/// characters these have with their longest replies. Steps other than beginnings that can't go on
+/// end with nothing undelivered.
+pub fn accepted_is_bounded()
+    ensures bounded { OfAccepted IsBounded }
+    ensures by_load { OfAccepted IsBoundedByLoad }
+    ensures ends { OfAccepted EndsEmpty }
+{}
+
+/// All that an accepted certificate shows of its network, over every run.
 pub fn accepted_is_deadlock_free()
     ensures { AcceptedIsDeadlockFree }
+{}
+
+/// There are networks, whatever the size of their buffers, and accepted ones, with a group and a
+/// target that answers.
+pub fn some_are_accepted()
+    ensures network { (capacity : ℕ) → 8 ≤ capacity → IsNetwork (of_capacity capacity) }
+    ensures misrouted { IsNetwork misrouted }
+    ensures accepted { IsAccepted sample certificate }
+{}
+
+/// On an empty channel as many FCTs are sent as there is room for, and seven at most; a packet that
+/// is lost is discarded to its end; two commands are taken, change the memory and are answered.
+pub fn steps_are_sharp()
+    ensures seven { SendsFcts 4096 7 }
+    ensures one { SendsFcts 8 1 }
+    ensures discarded { IsDiscarded }
+    ensures answered { IsAnswered }
 {}

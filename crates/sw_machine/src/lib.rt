@@ -2,6 +2,6 @@
 #![tactic(auto)]
 
 mod input;
-mod laws;
+pub mod laws;
 
 pub use input::Input;

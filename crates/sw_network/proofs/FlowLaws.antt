@@ -1,13 +1,13 @@
 -- The laws of the flows of each network.
-use Rattle.std.proofs.Common.{◌≡◌, ◌≢◌, ℕ, zero, suc, ◌+◌, ◌<◌, ◌≤◌, cond, take, List, [], ◌∷◌, ◌++◌, map, length, is_some, Option, Some, None, codes, refl, sym, ap, ◌∙◌, arith, length-append, zero-add, All, AllPairs}
+use Rattle.std.proofs.Common.{◌≡◌, ◌≢◌, ℕ, zero, suc, ◌+◌, cond, take, List, [], ◌∷◌, ◌++◌, length, is_some, Option, Some, None, codes, refl, sym, ap, ◌∙◌, arith, length-append, zero-add, All, AllPairs}
 use Rattle.std.specs.Prelude.{slice_get}
 use Rattle.std.proofs.lemmas.Option.{same_Some}
 use Rattle.std.proofs.lemmas.List.{append_cancel_right, map-append}
 use Rattle.std.proofs.lemmas.List.Elements.{All-append, All-cons, All-nil, All-head, All-tail}
 use Rattle.std.proofs.lemmas.List.Sums.{sum_by-cons}
 use Rattle.std.proofs.lemmas.List.Kept.{AllPairs-cons}
-use Rattle.sw_network.specs.Entries.{NodeEntry, ReplyEntry, FlowEntry, Declaration, flow_names, reply_flow, replies_of, reply_flows, all_flows}
-use Rattle.sw_network.specs.Valid.{IsReply, IsFlow, IsValid}
+use Rattle.sw_network.specs.Entries.{NodeEntry, ReplyEntry, FlowEntry, flow_names, reply_flow, replies_of, reply_flows}
+use Rattle.sw_network.specs.Valid.{IsReply, IsFlow}
 use Rattle.sw_network.specs.Laws.{replies_before, RepliesFollowInOrder, IsReplyTo, LaterFlowsAreReplies, IsReplyFlow, FlowsAreValid, NamesAreDistinct}
 use Rattle.sw_network.proofs.Flows.{reply_flows_are_flows, is_reply_flow}
 

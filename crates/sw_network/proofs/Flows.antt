@@ -1,5 +1,5 @@
 -- Reply flows: how many there are, what they keep, their names; and the network with one flow more.
-use Rattle.std.proofs.Common.{◌≡◌, ℕ, zero, suc, ◌+◌, ◌*◌, ◌<◌, ◌≤◌, Bool, true, false, ◌||◌, List, [], ◌∷◌, ◌++◌, map, length, Option, Some, None, option_map, codes, refl, sym, subst, ap, ◌∙◌, inl, inr, arith, length-append, append_assoc, All}
+use Rattle.std.proofs.Common.{◌≡◌, ℕ, zero, suc, ◌+◌, ◌*◌, ◌<◌, ◌≤◌, Bool, true, false, ◌||◌, List, [], ◌∷◌, ◌++◌, length, Option, Some, None, option_map, codes, refl, sym, subst, ap, ◌∙◌, inl, inr, arith, length-append, append_assoc, All}
 use Rattle.std.specs.Prelude.{slice_get, position}
 use Rattle.std.specs.List.{list_any}
 use Rattle.std.specs.Str.{bytes_eq}
@@ -11,7 +11,7 @@ use Rattle.std.proofs.lemmas.List.Elements.{All-push, All-append, All-cons, All-
 use Rattle.sw_topo.specs.Wiring.{Wiring}
 use Rattle.sw_topo.specs.Checked.{first_of}
 use Rattle.sw_network.specs.Entries.{NodeEntry, LinkEntry, ReplyEntry, FlowEntry, Declaration, flow_names, reply_flow, replies_of, reply_flows, all_flows, capacities}
-use Rattle.sw_network.specs.Valid.{IsReply, IsFlow, IsValid}
+use Rattle.sw_network.specs.Valid.{IsReply, IsFlow}
 use Rattle.sw_network.specs.Building.{IsNetwork}
 use Rattle.sw_network.proofs.Positions.{position-append}
 use Rattle.sw_network.proofs.Steps.{named_more}

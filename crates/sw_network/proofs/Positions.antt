@@ -1,7 +1,7 @@
 -- The first place that passes, in one list after another.
-use Rattle.std.proofs.Common.{◌≡◌, ℕ, ◌+◌, ◌<◌, ◌≤◌, Bool, true, false, not, cond, eqb, ltb, List, ◌++◌, length, Option, Some, None, option_map, refl, sym, ◌∙◌, ◌⊎◌, inl, inr, arith, length-append, eq-eqb}
+use Rattle.std.proofs.Common.{◌≡◌, ℕ, ◌+◌, ◌<◌, ◌≤◌, Bool, not, cond, eqb, ltb, List, ◌++◌, length, Option, Some, None, option_map, refl, sym, ◌∙◌, ◌⊎◌, inl, inr, arith, length-append, eq-eqb}
 use Rattle.std.specs.Prelude.{position}
-use Rattle.std.specs.List.{position_or_len, prefix_len}
+use Rattle.std.specs.List.{position_or_len}
 use Rattle.std.proofs.lemmas.Bool.{cases_lt, lt-ltb, le-ltb, ne_eqb}
 use Rattle.std.proofs.lemmas.List.Folds.{prefix_len-append}
 use Rattle.std.proofs.lemmas.List.Sums.{prefix_len-le-length}

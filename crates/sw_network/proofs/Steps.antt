@@ -1,5 +1,5 @@
 -- What is being put together, one entry on.
-use Rattle.std.proofs.Common.{◌≡◌, ◌≢◌, ℕ, ◌+◌, ◌*◌, ◌<◌, ◌≤◌, Bool, true, false, List, [], ◌∷◌, ◌++◌, map, length, get_or, refl, sym, ap, ◌∙◌, arith, length-append, append_assoc, All, AllPairs, Decides}
+use Rattle.std.proofs.Common.{◌≡◌, ◌≢◌, ℕ, ◌+◌, ◌*◌, ◌<◌, ◌≤◌, false, List, [], ◌∷◌, ◌++◌, length, get_or, refl, sym, ap, ◌∙◌, arith, length-append, append_assoc, AllPairs}
 use Rattle.std.specs.List.{list_any}
 use Rattle.std.specs.Str.{bytes_eq}
 use Rattle.std.proofs.lemmas.Bool.{false≢true}
@@ -12,9 +12,9 @@ use Rattle.sw_topo.specs.declared.place.PlaceEnd.{PlaceEnd}
 use Rattle.sw_topo.specs.declared.place.PlaceEnd.TheVariants.{Node, Switch}
 use Rattle.sw_topo.specs.Wiring.{Wiring}
 use Rattle.sw_topo.specs.Checked.{IsIn}
-use Rattle.sw_network.specs.Entries.{NodeEntry, SwitchEntry, LinkEntry, Declaration, part_names, link_ends, wiring_of}
+use Rattle.sw_network.specs.Entries.{NodeEntry, SwitchEntry, LinkEntry, Declaration, part_names, link_ends}
 use Rattle.sw_network.specs.Valid.{IsNode, IsSwitch, IsLink}
-use Rattle.sw_network.specs.Building.{IsDraft, IsBuilder}
+use Rattle.sw_network.specs.Building.{IsBuilder}
 
 -- a name that no test finds is apart from each
 pub apart : (names : List (List ℕ)) (name : List ℕ) → list_any (bytes_eq name) names ≡ false → (k : ℕ) (d : List ℕ) → k < length names → get_or names k d ≢ name

@@ -29,7 +29,7 @@ has_no_leading_zero (b ∷ bytes) = true
 abbrev pub IsTarget : List NodeEntry → ℕ → Type 0
 IsTarget nodes n = IsSome (target_of nodes n)
 
--- a reply goes by at most 12 path addresses, the first not 0, to a logical address (ECSS-E-ST-50-52C, 5.1: reply address field)
+-- a reply goes by at most 12 path addresses, the first not 0, to a logical address (ECSS-E-ST-50-52C, the reply address field of a command)
 pub record IsReply (nodes : List NodeEntry) (to : ℕ) (r : ReplyEntry) : Type 0 where
   pub path : length r.path ≤ 12
   pub leading : has_no_leading_zero r.path ≡ true

@@ -1,5 +1,5 @@
 //! A network that is being put together.
-ghost use Rattle.std.specs.Prelude.{◌≡◌, ◌+◌, ◌<◌, ◌≤◌, ◌++◌, ◌∷◌, [], false, length, position, IfSome, OnOk, OnErr, Option};
+ghost use Rattle.std.specs.Prelude.{◌≡◌, ◌+◌, ◌<◌, ◌≤◌, ◌++◌, ◌∷◌, [], false, length, position, IfSome, OnOk, OnErr};
 ghost use Rattle.std.specs.List.{list_any};
 ghost use Rattle.std.specs.Str.{bytes_eq};
 ghost use Rattle.sw_topo.specs.Checked.{IsIn};
@@ -15,7 +15,9 @@ use sw_rmap::TargetConfig;
 use sw_route::TableRoutes;
 use sw_topo::{Builder, MAX_NODES, MAX_SWITCHES, PlaceEnd, TopoError};
 
-/// The nodes, switches and links so far; nodes come first, then switches, then links.
+/// The nodes, switches and links of a network so far: nodes come first, then switches.
+///
+/// Nodes and switches share one set of names. After want of memory the builder is as it was.
 #[derive(Drop)]
 pub struct NetworkBuilder {
     wiring: Builder,
@@ -38,7 +40,7 @@ impl Model for NetworkBuilder {
 }
 
 impl NetworkBuilder {
-    ghost use Rattle.sw_network.specs.Entries.{Declaration, empty, part_names};
+    ghost use Rattle.sw_network.specs.Entries.{empty, part_names};
     ghost use Rattle.sw_network.specs.Building.{Wires};
 
     /// Nothing.
@@ -77,7 +79,7 @@ impl NetworkBuilder {
         self.names.contains(name)
     }
 
-    /// The number of the node or switch of that name, where switches are counted on from the nodes.
+    /// The number of the node or switch of that name: nodes count from 0, and switches count on from the nodes.
     pub fn part_named(&self, name: &str) -> Option<usize>
         ensures part { result ≡ position (bytes_eq name.now) (part_names self.now) }
         ensures within { IfSome result (λ i. i < length self.now.nodes + length self.now.switches) }
@@ -131,7 +133,7 @@ impl NetworkBuilder {
         Ok(())
     }
 
-    /// Adds a link between two ends, whose receive buffers hold 8 to 4096 characters.
+    /// Adds a link between its end `a` and its end `b`. The receive buffer at each end holds 8 to 4,096 characters.
     pub fn add_link(
         &mut self,
         a: PlaceEnd,
@@ -160,7 +162,7 @@ impl NetworkBuilder {
         Ok(())
     }
 
-    /// The network, still without flows, if its wiring has no fault.
+    /// The network, still without flows, or the first fault of its wiring. The builder is given up either way.
     pub fn wire(self, alloc: Global) -> Result<Network, TopoError>
         ensures { Wires result self }
     {

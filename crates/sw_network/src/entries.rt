@@ -68,7 +68,6 @@ impl Model for Switch {
 
 impl Switch {
     ghost use Rattle.sw_route.specs.Looks.{IsTable, look_of};
-    ghost use Rattle.sw_network.specs.Entries.{SwitchEntry};
     ghost use Rattle.sw_network.specs.Valid.{IsSwitch};
     ghost use Rattle.sw_network.specs.Routings.{AnswersAs};
 

@@ -1,5 +1,5 @@
 //! Flows of packets.
-ghost use Rattle.std.specs.Prelude.{◌≡◌, IfOk, Option, option_map};
+ghost use Rattle.std.specs.Prelude.{◌≡◌, IfOk, option_map};
 
 use std::alloc::{AllocError, Global};
 use std::marker::Model;
@@ -20,9 +20,7 @@ impl Model for Reply {
 }
 
 impl Reply {
-    ghost use Rattle.sw_network.specs.Entries.{ReplyEntry};
-
-    /// Replies that go by the path addresses to the initiator logical address.
+    /// Replies that begin with these path addresses, at most 12, and then the initiator logical address, 32 to 254.
     pub fn new(path: Vec<u8>, initiator: u8) -> Reply
         ensures { result ≡ record { path = path.items; initiator = initiator } }
     {
@@ -67,7 +65,7 @@ impl Model for Flow {
 impl Flow {
     ghost use Rattle.std.specs.Prelude.{string_bytes};
     ghost use Rattle.std.specs.Option.{option_to_list};
-    ghost use Rattle.sw_network.specs.Entries.{FlowEntry, replies_of};
+    ghost use Rattle.sw_network.specs.Entries.{replies_of};
 
     /// A flow of this name: `left` of the address bytes are left where its packets end, and replies go as `reply` says.
     pub fn new(
@@ -140,7 +138,7 @@ impl Flow {
             Some(reply) => reply,
             None => return Ok(None),
         };
-        let mut name = String::from_str(alloc, self.name.as_str())?;
+        let mut name = String::from_str(alloc, self.name())?;
         name.push_str("+reply")?;
         let mut address = Vec::from_slice(alloc, reply.path())?;
         address.push(reply.initiator)?;

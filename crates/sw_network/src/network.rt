@@ -1,8 +1,7 @@
 //! A network, valid by its type.
-ghost use Rattle.std.specs.Prelude.{◌≡◌, ℕ, ◌+◌, ◌*◌, ◌<◌, ◌≤◌, ◌++◌, ◌∷◌, [], Some, false, length, map, position, slice_get, option_map, is_some, IfSome, OnOk, OnErr, Option};
+ghost use Rattle.std.specs.Prelude.{◌≡◌, ◌+◌, ◌*◌, ◌<◌, ◌≤◌, ◌++◌, ◌∷◌, [], Some, false, length, map, position, slice_get, option_map, is_some, IfSome, OnOk, OnErr};
 ghost use Rattle.std.specs.List.{list_any};
 ghost use Rattle.std.specs.Str.{bytes_eq};
-ghost use Rattle.sw_topo.specs.Wiring.{Wiring};
 ghost use Rattle.sw_rmap.specs.Config.{IsTargetConfig};
 
 use crate::entries::{Link, Node, Switch};
@@ -22,7 +21,8 @@ pub const MAX_FLOWS: u16 = 4096;
 
 /// A network: nodes and switches rightly joined by links, and the flows of packets between its nodes.
 ///
-/// Flows are numbered: the declared flows in order, and then their reply flows in the order of their flows.
+/// Nodes, switches, links and flows are numbered from 0, in the order in which they were added. After the declared flows come
+/// their reply flows, in the order of their flows.
 #[derive(Drop)]
 pub struct Network {
     topology: Topology,
@@ -47,7 +47,7 @@ impl Model for Network {
 
 impl Network {
     ghost use Rattle.sw_route.specs.Looks.{IsTable};
-    ghost use Rattle.sw_network.specs.Entries.{Declaration, NodeEntry, SwitchEntry, LinkEntry, FlowEntry, target_of, routes_of, look_at, wiring_of, capacities, all_flows, flow_names};
+    ghost use Rattle.sw_network.specs.Entries.{target_of, routes_of, look_at, wiring_of, capacities, all_flows, flow_names};
     ghost use Rattle.sw_network.specs.Valid.{IsValid, IsFlow};
     ghost use Rattle.sw_network.specs.Routings.{AnswersAs};
     ghost use Rattle.sw_network.specs.Building.{IsNetwork};
@@ -75,7 +75,7 @@ impl Network {
         }
     }
 
-    /// Adds a flow of a new name, and its reply flow if it has replies.
+    /// Adds a declared flow of a new name, and its reply flow if it has replies. After want of memory the network is as it was.
     pub fn add_flow(&mut self, alloc: Global, flow: Flow) -> Result<(), AllocError>
         requires few { length self.old.flows < MAX_FLOWS }
         requires new_name { list_any (bytes_eq flow.name) (flow_names self.old.flows) ≡ false }
@@ -135,7 +135,7 @@ impl Network {
         self.topology.channels()
     }
 
-    /// How many characters the receive buffer at the channel's end holds.
+    /// How many characters the receive buffer where the channel ends holds: 8 to 4,096.
     pub fn capacity(&self, channel: Chan) -> u16
         requires { channel < 2 * length self.now.links }
         ensures capacity { slice_get (capacities self.now.links) channel ≡ Some result }

@@ -5,8 +5,10 @@ use std::alloc::AllocError;
 
 /// Steps from numbers below a bound, as a list of the numbers that they lead to.
 pub trait Steps {
+    // The numbers are those below it.
     ghost bound: { Self → ℕ };
 
+    // The numbers that a step from a number leads to.
     ghost next: { Self → ℕ → List ℕ };
 
     /// Adds the numbers that a step from this one leads to, in order; after an `Err` some of them.

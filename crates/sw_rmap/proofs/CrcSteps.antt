@@ -1,11 +1,11 @@
 -- The steps of the code, and what the table says.
-use Rattle.std.proofs.Common.{◌≡◌, ℕ, ◌+◌, ◌<◌, Bool, true, eqb, List, [], ◌∷◌, ◌++◌, length, take, get_or, refl, ap, ◌∙◌}
+use Rattle.std.proofs.Common.{◌≡◌, ℕ, ◌+◌, ◌<◌, true, eqb, List, length, take, get_or, refl, ◌∙◌}
 use Rattle.std.specs.Prelude.{bit_xor}
 use Rattle.std.specs.Int.Bits.{xor_self}
 use Rattle.std.proofs.lemmas.Bool.{agree_below_at, eqb-true}
 use Rattle.std.proofs.lemmas.List.Sums.{fold_more, fold_push}
 use Rattle.sw_rmap.specs.declared.checksum.TheConstants.{EIGHT_SHIFTS}
-use Rattle.sw_rmap.specs.Crc.{shifted, eight_shifts, crc_of, with_crc}
+use Rattle.sw_rmap.specs.Crc.{eight_shifts, crc_of, with_crc}
 
 -- each entry of the table is what eight shifts make of its index
 pub table_at : (x : ℕ) → x < 256 → get_or EIGHT_SHIFTS x 0 ≡ eight_shifts x

@@ -1,3 +1,4 @@
 pub mod CrcSteps
 pub mod Reading
 pub mod Answering
+pub mod Parts

@@ -1,11 +1,10 @@
 -- What is known of a packet that is read.
-use Rattle.std.proofs.Common.{◌≡◌, ℕ, ◌+◌, ◌≤◌, Bool, true, eqb, ltb, not, ◌&&◌, List, length, Option, Some, None, cond, get_or, drop, refl, ap, sym, arith}
+use Rattle.std.proofs.Common.{◌≡◌, ℕ, ◌+◌, ◌≤◌, List, length, Some, drop, refl, ap}
 use Rattle.std.proofs.lemmas.Bool.{and_parts, not-true, ltb-false}
 use Rattle.std.proofs.lemmas.Option.{cond_some}
-use Rattle.sw_rmap.specs.Crc.{crc_of}
-use Rattle.sw_rmap.specs.Instruction.{packet_type, reply_address_len}
+use Rattle.sw_rmap.specs.Instruction.{reply_address_len}
 use Rattle.sw_rmap.specs.CommandView.{CommandView}
-use Rattle.sw_rmap.specs.Commands.{instruction_of, has_right_crc, is_command, fields_of, read, body_of}
+use Rattle.sw_rmap.specs.Commands.{instruction_of, is_command, fields_of, read, body_of}
 
 pub record IsRead (bytes : List ℕ) (c : CommandView) : Type 0 where
   pub long : 16 + reply_address_len (instruction_of bytes) ≤ length bytes

@@ -2,7 +2,7 @@
 use Rattle.std.specs.Prelude.{◌≡◌, ◌≢◌, ◌<◌, ℕ, List, length}
 use Rattle.sw_rmap.specs.Instruction.{packet_type, reply_address_len}
 
--- the fields of a command's header (ECSS-E-ST-50-52C, 5.1), the address with its extension
+-- the fields of a command's header (ECSS-E-ST-50-52C, the fields of a command), the address with its extension
 pub record CommandView : Type 0 where
   pub logical : ℕ
   pub instruction : ℕ

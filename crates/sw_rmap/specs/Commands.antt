@@ -1,4 +1,4 @@
--- Commands as bytes (ECSS-E-ST-50-52C, 5.1, 5.3 and 5.4).
+-- Commands as bytes (ECSS-E-ST-50-52C, the fields of write and read commands and of their replies).
 use Rattle.std.specs.Prelude.{ℕ, ◌+◌, ◌*◌, Bool, not, ◌==◌, ◌&&◌, nat_lt, List, [], ◌∷◌, ◌++◌, length, take, drop, fold, slice_index, Option, Some, None, if◌then◌else◌}
 use Rattle.std.specs.Int.{bytes_high_first}
 use Rattle.sw_rmap.specs.Crc.{crc_of, with_crc}

@@ -1,5 +1,5 @@
 -- Which configurations a target may have.
-use Rattle.std.specs.Prelude.{ℕ, ◌+◌, ◌≤◌}
+use Rattle.std.specs.Prelude.{◌+◌, ◌≤◌}
 use Rattle.sw_rmap.specs.declared.config.TargetConfig.{TargetConfig}
 
 -- logical addresses are 32 to 254; the window has 1 to 65536 of the 2^40 addresses; 1 to 8 replies may be owed

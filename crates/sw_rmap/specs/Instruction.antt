@@ -1,4 +1,4 @@
--- The bits of an instruction (ECSS-E-ST-50-52C, 5.1: instruction field), bit 7 the highest.
+-- The bits of an instruction (ECSS-E-ST-50-52C, the instruction field of a command), bit 7 the highest.
 use Rattle.std.specs.Prelude.{ℕ, ◌/◌, ◌%◌, ◌*◌, Bool, ◌==◌, ◌||◌, ◌&&◌}
 
 -- bits 7 and 6: 1 a command, 0 a reply; 2 and 3 are reserved

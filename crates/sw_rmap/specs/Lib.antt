@@ -5,3 +5,4 @@ pub mod CommandView
 pub mod Commands
 pub mod Replies
 pub mod Answers
+pub mod Laws

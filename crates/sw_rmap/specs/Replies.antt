@@ -1,5 +1,5 @@
--- Where replies go, and what they say (ECSS-E-ST-50-52C, 5.1, 5.3 and 5.4).
-use Rattle.std.specs.Prelude.{ℕ, zero, ◌+◌, Bool, not, ◌==◌, ◌&&◌, List, [], ◌∷◌, ◌++◌, length, Option, Some, None, option_and_then, if◌then◌else◌}
+-- Where replies go, and what they say (ECSS-E-ST-50-52C, the fields of write and read commands and of their replies).
+use Rattle.std.specs.Prelude.{ℕ, Bool, not, ◌==◌, ◌&&◌, List, [], ◌∷◌, ◌++◌, length, Option, Some, None, option_and_then, if◌then◌else◌}
 use Rattle.std.specs.List.{list_all}
 use Rattle.std.specs.Int.{bytes_high_first}
 use Rattle.sw_rmap.specs.declared.status.Status.{Status}
@@ -34,7 +34,7 @@ way_back c = if is_answered c then Some (path_of c ++ c.initiator ∷ []) else N
 unfoldable pub reply_to : List ℕ → Option (List ℕ)
 reply_to bytes = option_and_then way_back (read bytes)
 
--- the code of a status (ECSS-E-ST-50-52C, 5.6)
+-- the code of a status (ECSS-E-ST-50-52C, error and status codes)
 abbrev pub code_of : Status → ℕ
 code_of Success = 0
 code_of UnusedCode = 2

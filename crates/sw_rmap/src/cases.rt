@@ -44,7 +44,7 @@ fn is_refused(config: TargetConfig, command: &Command) -> bool
 {
     let bits = command.bits();
     let address = command.address();
-    let length = command.data_length();
+    let length = command.length();
     bits.is_read_modify_write()
         || length > 1 && !bits.increments()
         || address < config.start
@@ -65,7 +65,7 @@ fn body_len(command: &Command) -> usize
     ensures { result ≡ body_len command.now }
 {
     if command.bits().is_write() {
-        command.data_length() as usize + 1
+        command.length() as usize + 1
     } else {
         0
     }
@@ -79,6 +79,6 @@ fn is_corrupt(command: &Command, body: &[u8]) -> bool
     if !command.bits().is_write() {
         return false;
     }
-    let (data, code) = body.split_at(command.data_length() as usize);
+    let (data, code) = body.split_at(command.length() as usize);
     crc(data) != code[0]
 }

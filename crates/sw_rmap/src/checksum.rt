@@ -1,6 +1,6 @@
-//! The cyclic redundancy code of headers and data (ECSS-E-ST-50-52C, 5.2 and annex A).
-ghost use Rattle.std.specs.Prelude.{◌≡◌, ℕ, List};
-ghost use Rattle.sw_rmap.specs.Crc.{crc_of, with_crc};
+//! The cyclic redundancy code of headers and data (ECSS-E-ST-50-52C, annex A).
+ghost use Rattle.std.specs.Prelude.{◌≡◌};
+ghost use Rattle.sw_rmap.specs.Crc.{crc_of};
 
 /// What eight shifts make of each byte.
 const EIGHT_SHIFTS: [u8; 256] = [
@@ -32,8 +32,3 @@ pub fn crc(bytes: &[u8]) -> u8
     }
     crc
 }
-
-/// The code of a text followed by its code is 0.
-pub fn crc_of_whole_is_zero()
-    ensures { (bytes : List ℕ) → crc_of (with_crc bytes) ≡ 0 }
-{}

@@ -15,7 +15,7 @@ use std::marker::Model;
 pub(crate) const PROTOCOL: u8 = 1;
 
 /// A command's header, which is no reply's and whose fields are in their ranges
-/// (ECSS-E-ST-50-52C, 5.1).
+/// (ECSS-E-ST-50-52C, the fields of a command).
 #[derive(Debug, Drop)]
 pub struct Command {
     logical: u8,
@@ -150,7 +150,7 @@ impl Command {
     }
 
     /// The data length: 24 bits.
-    pub fn data_length(&self) -> u32
+    pub fn length(&self) -> u32
         ensures value { result ≡ self.now.data_length }
         ensures small { result < 2 ^ 24 }
     {

@@ -6,13 +6,18 @@ mod checksum;
 mod command;
 mod config;
 mod instruction;
+pub mod laws;
 mod reply;
 mod status;
 mod target;
 mod writing;
 
-pub use checksum::{crc, crc_of_whole_is_zero};
+pub use checksum::crc;
 pub use command::Command;
 pub use config::TargetConfig;
 pub use reply::reply_to;
-pub use status::Status;
+pub use target::Target;
+pub use writing::write_command;
+
+#[cfg(test)]
+mod tests;

@@ -2,9 +2,9 @@
 ghost use Rattle.std.specs.Prelude.{◌≡◌};
 ghost use Rattle.sw_rmap.specs.Answers.{is_success};
 
-/// The status in a reply (ECSS-E-ST-50-52C, 5.6): the number of a variant is its code.
+/// The status in a reply (ECSS-E-ST-50-52C, error and status codes): the number of a variant is its code.
 #[derive(Clone, Copy, Debug, PartialEq, Eq)]
-pub enum Status {
+pub(crate) enum Status {
     /// The command was carried out.
     Success = 0,
     /// The packet type is reserved, or the command code is unused.

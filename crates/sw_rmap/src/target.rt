@@ -98,7 +98,7 @@ impl Target {
             None
         };
         if status.is_success() && command.bits().is_write() {
-            let data = &body[..command.data_length() as usize];
+            let data = &body[..command.length() as usize];
             store(&mut self.memory, offset(config, command), data);
         }
         Ok(reply)
@@ -124,12 +124,12 @@ fn found<'a>(config: TargetConfig, memory: &'a [u8], command: &Command, status: 
         return &[];
     }
     let at = offset(config, command);
-    &memory[at..at + command.data_length() as usize]
+    &memory[at..at + command.length() as usize]
 }
 
-fn store(memory: &mut [u8], at: usize, data: &[u8])
-    requires { at + length data.now ≤ length memory.old }
-    ensures { memory.new ≡ stored memory.old at data.now }
+fn store(memory: &mut [u8], at: usize, bytes: &[u8])
+    requires { at + length bytes.now ≤ length memory.old }
+    ensures { memory.new ≡ stored memory.old at bytes.now }
 {
-    memory[at..at + data.len()].copy_from_slice(data);
+    memory[at..at + bytes.len()].copy_from_slice(bytes);
 }

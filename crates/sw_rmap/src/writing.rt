@@ -37,7 +37,7 @@ fn push_header(out: &mut Vec<u8>, command: &Command) -> Result<(), AllocError>
     out.push(command.initiator())?;
     out.extend_from_slice(&command.transaction().to_be_bytes())?;
     out.extend_from_slice(&command.address().to_be_bytes()[3..])?;
-    out.extend_from_slice(&command.data_length().to_be_bytes()[1..])?;
+    out.extend_from_slice(&command.length().to_be_bytes()[1..])?;
     Ok(())
 }
 

@@ -19,6 +19,10 @@ no_look = record { ports = 0; delete = false }
 abbrev pub look_by : (ℕ → Look) → ℕ → Look
 look_by logical byte = if nat_lt byte 32 then path_look byte else if nat_lt byte 255 then logical byte else no_look
 
+-- an entry for the addresses from first to last
+abbrev pub entry : ℕ → ℕ → ℕ → Bool → Route
+entry first last ports delete = record { first = first; last = last; ports = ports; delete = delete }
+
 -- the address is one of those that the entry is for
 abbrev pub covers : ℕ → Route → Bool
 covers byte r = nat_le r.first byte && nat_le byte r.last

@@ -2,7 +2,7 @@
 ghost use Rattle.std.specs.Prelude.{◌≡◌, ◌≤◌, ◌↔◌, ◌++◌, ◌∷◌, [], length, find, IsTrue, OnOk, OnErr};
 ghost use Rattle.std.specs.List.{list_any};
 ghost use Rattle.std.specs.Option.{option_copied};
-ghost use Rattle.sw_route.specs.Looks.{covers, overlaps, route_look};
+ghost use Rattle.sw_route.specs.Looks.{covers, entry, overlaps, route_look};
 ghost use Rattle.sw_route.specs.declared.table.RouteError.TheVariants.{Memory};
 
 use crate::look::{Look, Route};
@@ -108,7 +108,7 @@ impl TableRoutes {
     pub fn add(&mut self, address: u8, ports: PortSet, delete: bool) -> Result<(), RouteError>
         requires low { 32 ≤ address }
         requires high { address ≤ 254 }
-        ensures ok { OnOk result (self.new ≡ self.old ++ record { first = address; last = address; ports = ports; delete = delete } ∷ []) }
+        ensures ok { OnOk result (self.new ≡ self.old ++ entry address address ports delete ∷ []) }
         ensures duplicate { (result ≡ Err RouteError.Duplicate) ↔ IsTrue (list_any (covers address) self.old) }
         ensures err { OnErr result (self.new ≡ self.old) }
     {
@@ -126,8 +126,8 @@ impl TableRoutes {
         requires low { 32 ≤ first }
         requires rising { first ≤ last }
         requires high { last ≤ 254 }
-        ensures ok { OnOk result (self.new ≡ self.old ++ record { first = first; last = last; ports = ports; delete = delete } ∷ []) }
-        ensures duplicate { (result ≡ Err RouteError.Duplicate) ↔ IsTrue (list_any (overlaps (record { first = first; last = last; ports = ports; delete = delete })) self.old) }
+        ensures ok { OnOk result (self.new ≡ self.old ++ entry first last ports delete ∷ []) }
+        ensures duplicate { (result ≡ Err RouteError.Duplicate) ↔ IsTrue (list_any (overlaps (entry first last ports delete)) self.old) }
         ensures err { OnErr result (self.new ≡ self.old) }
     {
         let route = Route {

@@ -1,2 +1,15 @@
-//! The cell of a wormhole routing switch.
+//! The cell of a wormhole routing switch: its steps, and when each is possible.
 #![tactic(auto)]
+
+mod cell;
+mod conditions;
+mod input;
+mod laws;
+mod make;
+mod steps;
+#[cfg(test)]
+mod tests;
+
+pub use cell::SwitchCell;
+pub use input::Input;
+pub use laws::waiting_is_bounded;

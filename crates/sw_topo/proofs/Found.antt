@@ -70,3 +70,41 @@ module _ {X : Type 0} (p : X → Bool) where
   place_passes xs x c at =
       let first = position-Some p xs c x at in
       record { element = _; at = slice_get-get_or xs c x first.0; passes = first.1 }
+
+  later : (x : X) (xs : List X) (d : ℕ) → Passes p xs d → Passes p (x ∷ xs) (suc d)
+  later x xs d here = record { element = here.element; at = here.at; passes = here.passes }
+
+  none_counted : (xs : List X) → ((d : ℕ) → Passes p xs d → ⊥) → count_by p xs ≡ 0
+  none_counted [] none = refl
+  none_counted (x ∷ xs) none =
+      elim (cases_Bool (p x)) [
+        | inl here ↦ absurd (none 0 (record { element = x; at = refl; passes = here }))
+        | inr fails ↦ no_more x xs fails ∙ none_counted xs (λ d there. none (suc d) (later x xs d there))
+      ]
+
+  -- what passes in one place alone is counted once
+  pub one_counted : (xs : List X) (c : ℕ) → Passes p xs c → ((d : ℕ) → Passes p xs d → d ≡ c) → count_by p xs ≡ 1
+  one_counted [] c here alone = absurd (let e = here.at in cc)
+  one_counted (x ∷ xs) zero here alone =
+      omega (arith, one_more x xs (head_passes x xs here), none_counted xs (λ d there. let e : suc d ≡ zero = alone (suc d) (later x xs d there) in omega arith))
+  one_counted (x ∷ xs) (suc c) here alone =
+      elim (cases_Bool (p x)) [
+        | inl first ↦ absurd (let e : zero ≡ suc c = alone zero (record { element = x; at = refl; passes = first }) in omega arith)
+        | inr fails ↦ no_more x xs fails ∙ one_counted xs c (rest_passes x xs c here) (λ d there. let e : suc d ≡ suc c = alone (suc d) (later x xs d there) in omega arith)
+      ]
+
+  -- what passes makes `any` true
+  pub place_any : (xs : List X) (d : ℕ) → Passes p xs d → list_any p xs ≡ true
+  place_any [] d here = absurd (let e = here.at in cc)
+  place_any (x ∷ xs) zero here = rw (head_passes x xs here) refl
+  place_any (x ∷ xs) (suc d) here = elim (cases_Bool (p x)) [ inl passes ↦ rw passes refl | inr fails ↦ rw fails (place_any xs d (rest_passes x xs d here)) ]
+
+  -- what is found among the first c stands before c
+  pub before_found : (xs : List X) (c : ℕ) → list_any p (take c xs) ≡ true → (d : ℕ) × (d < c) × Passes p xs d
+  before_found xs zero any = absurd (false≢true any)
+  before_found [] (suc c) any = absurd (false≢true any)
+  before_found (x ∷ xs) (suc c) any =
+      elim (cases_Bool (p x)) [
+        | inl here ↦ (0, omega arith, record { element = x; at = refl; passes = here })
+        | inr fails ↦ let rest = before_found xs c (rw fails at any) in (suc rest.0, omega (arith, rest.1), later x xs rest.0 rest.2)
+      ]

@@ -1,11 +1,12 @@
 -- One port of a set, as one bit of its number.
 use Rattle.std.proofs.Common.{◌≡◌, ◌≢◌, ℕ, zero, suc, ◌-◌, ◌*◌, ◌%◌, ◌^◌, ◌<◌, ◌≤◌, ◌↔◌, ◌⊎◌, inl, inr, refl, sym, ◌∙◌, arith}
-use Rattle.std.specs.Prelude.{IsBitSet, bit_and, bit_or, List, [], ◌∷◌, ◌++◌, fold}
+use Rattle.std.specs.Prelude.{IsBitSet, bit_and, bit_or, List, [], ◌∷◌, ◌++◌, fold, Contains}
 use Rattle.std.specs.Int.{bit_at, bit_not, w32, trailing_zeros}
 use Rattle.std.proofs.lemmas.Bool.{cases_eq, cases_lt}
+use Rattle.std.proofs.lemmas.List.Elements.{Contains-append_left, Contains-append_right, Contains-append_cases, Contains-push, Contains-push_cases}
 use Rattle.std.proofs.lemmas.Nat.{pow_pos}
 use Rattle.std.proofs.lemmas.Nat.Bits.{and_pow, bit_at-lt, bit_at_and, bit_at_or, bit_at-pow_same, bit_at-pow_other, bit_at-trailing_zeros, bit_at_above, bit_at-zero, bit_at_clear_same, bit_at_clear_other, bit_at_mask_inside, bit_at_mask_below, ones_shl, same_from_bits}
-use Rattle.sw_topo.specs.Ports.{port_set, NoneFrom, IsLeastFrom}
+use Rattle.sw_topo.specs.Ports.{port_set, NoneFrom, IsLeastFrom, PortSetHasThePorts}
 
 -- a bit that is set is 1, and one that is 1 is set
 pub set_one : (n k : ℕ) → IsBitSet n k → bit_at n k ≡ 1
@@ -115,3 +116,32 @@ fold_push set (m ∷ ms) n = fold_push (bit_or set (2 ^ m)) ms n
 -- one more port in the list is one more in the set
 pub port_set_push : (numbers : List ℕ) (n : ℕ) → port_set (numbers ++ n ∷ []) ≡ bit_or (port_set numbers) (2 ^ n)
 port_set_push numbers n = fold_push 0 numbers n
+
+fold_members : (set : ℕ) (numbers : List ℕ) (p : ℕ) → IsBitSet (fold (λ s n. bit_or s (2 ^ n)) set numbers) p ↔ (IsBitSet set p ⊎ Contains numbers p)
+fold_members set [] p = (λ here. inl here, λ either. elim either [ inl here ↦ here | inr there ↦ absurd (omega (arith, there.1)) ])
+fold_members set (n ∷ ns) p = (
+  λ here. elim ((fold_members (bit_or set (2 ^ n)) ns p).0 here) [
+    | inl now ↦ elim ((or_members set (2 ^ n) p).0 now) [
+      | inl before ↦ inl before
+      | inr new ↦ inr (rw ((pow_members n p).0 new) (Contains-append_left (n ∷ []) ns n (Contains-push [] n)))
+    ]
+    | inr later ↦ inr (Contains-append_right (n ∷ []) ns p later)
+  ],
+  λ either. (fold_members (bit_or set (2 ^ n)) ns p).1 (elim either [
+    | inl before ↦ inl ((or_members set (2 ^ n) p).1 (inl before))
+    | inr named ↦ elim (Contains-append_cases (n ∷ []) ns p named) [
+      | inl first ↦ elim (Contains-push_cases [] n p first) [
+        | inl none ↦ absurd (omega (arith, none.1))
+        | inr same ↦ inl ((or_members set (2 ^ n) p).1 (inr ((pow_members n p).1 (sym same))))
+      ]
+      | inr later ↦ inr later
+    ]
+  ]),
+)
+
+-- a port is in the set where the list names it
+pub port_set_members : PortSetHasThePorts
+port_set_members numbers p = (
+  λ here. elim ((fold_members 0 numbers p).0 here) [ inl none ↦ absurd (none refl) | inr named ↦ named ],
+  λ named. (fold_members 0 numbers p).1 (inr named),
+)

@@ -1,4 +1,4 @@
-use Rattle.std.proofs.Common.{◌≡◌, ◌<◌, ℕ, sym, ◌∙◌, ap, is_some, arith}
+use Rattle.std.proofs.Common.{sym, ◌∙◌, ap, is_some, arith}
 use Rattle.sw_flow.proofs.Outputs.{has_output-from_port, has_output-none}
 use Rattle.sw_flow.proofs.check.has_output.Goals as goal
 

@@ -1,5 +1,4 @@
 use Rattle.sw_flow.proofs.Faulty.{faults_are}
-use Rattle.sw_flow.proofs.Placed.{place_list}
 use Rattle.sw_flow.proofs.laws.faults_in_words.Goals as goal
 
 pub returns : goal.returns

@@ -1,4 +1,4 @@
-use Rattle.std.proofs.Common.{◌≡◌, ℕ, ◌+◌, ◌*◌, ◌<◌, ◌≤◌, ◌^◌, arith, get_or, Fits, w64}
+use Rattle.std.proofs.Common.{ℕ, ◌+◌, ◌*◌, ◌<◌, ◌≤◌, ◌^◌, arith, get_or}
 use Rattle.std.proofs.Math.Nat.{pow-le-pow_right}
 use Rattle.sw_rmap.proofs.command.number.Goals as goal
 

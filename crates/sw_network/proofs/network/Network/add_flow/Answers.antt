@@ -1,5 +1,4 @@
 use Rattle.std.proofs.Common.{◌≡◌, ◌++◌, [], ◌∷◌, List, sym, ap, ◌∙◌}
-use Rattle.std.specs.Option.{option_to_list}
 use Rattle.sw_network.specs.Entries.{FlowEntry, Declaration, replies_of}
 use Rattle.sw_network.specs.Building.{IsNetwork}
 use Rattle.std.proofs.lemmas.List.{append-nil}

@@ -1,4 +1,4 @@
-use Rattle.std.proofs.Common.{◌≡◌, Some, None, ◌∙◌, sym, ap, ◌+◌, arith}
+use Rattle.std.proofs.Common.{Some, None, ◌∙◌, sym, ap, ◌+◌, arith}
 use Rattle.std.specs.Str.{bytes_eq}
 use Rattle.sw_network.specs.Entries.{Declaration}
 use Rattle.sw_network.proofs.Flows.{found_declared, found_reply, few_replies_in}

@@ -1,0 +1,51 @@
+-- What clap's matches say of the words.
+use Rattle.std.proofs.Common.{◌≡◌, List, ℕ, [], Option, refl, sym, ap, ◌∙◌, subst, true, inl, inr}
+use Rattle.std.specs.Prelude.{IfOk, IfSome, ok_or, Some, None}
+use Rattle.clap.specs.Words.{App, HasKind, HasMatchesOf, fault_of, is_simple, is_simple_and_free, kind_of, subcommand_of, subcommand_rows_of}
+use Rattle.clap.specs.declared.parser.matches.ArgMatches.{ArgMatches}
+use Rattle.clap.specs.declared.error.Error.{Error}
+use Rattle.sw_app.specs.declared.command_line.Call.{Call}
+use Rattle.sw_app.specs.declared.command_line.WordsFault.{WordsFault}
+use Rattle.sw_app.specs.declared.command_line.WordsFault.TheVariants.{Help, Refused, Memory}
+use Rattle.sw_app.specs.CommandLine.{swcheck_app, Gives, IsMatched, Refuses, ShowsKind}
+
+swcheck_simple : is_simple swcheck_app ≡ true
+swcheck_simple = refl
+
+swcheck_free : is_simple_and_free swcheck_app ≡ true
+swcheck_free = refl
+
+-- a call of the matches is one of the words
+pub gives : (app : App) (words : List (List ℕ)) (m : ArgMatches) (call : Call) → app ≡ swcheck_app
+    → HasMatchesOf app words m → (is_simple_and_free app ≡ true → fault_of app words ≡ [])
+    → IsMatched (subcommand_rows_of m) call → Gives words call
+gives app words m call is found free (name, values, met, is_call) =
+    let simple : is_simple app ≡ true = ap is_simple is ∙ swcheck_simple in
+    let same = ap (λ (a : App). subcommand_of a words) (sym is) ∙ sym (found simple).1 in
+    (ap (λ (a : App). fault_of a words) (sym is) ∙ free (ap is_simple_and_free is ∙ swcheck_free), (name, values, same ∙ met, is_call))
+
+among : (app : App) (words : List (List ℕ)) (e : Error) → app ≡ swcheck_app
+    → (is_simple_and_free app ≡ true → HasKind (fault_of app words) e) → HasKind (fault_of swcheck_app words) e
+among app words e is has =
+    subst (λ (a : App). HasKind (fault_of a words) e) is (has (ap is_simple_and_free is ∙ swcheck_free))
+
+-- a call that was matched, or want of memory
+pub gives_or_memory : (words : List (List ℕ)) (P : Call → Type 0) (found : Option Call) → IfSome found P → ((call : Call) → P call → Gives words call)
+    → IfOk (ok_or found Memory) (Gives words)
+gives_or_memory words P None h given = tt
+gives_or_memory words P (Some call) h given = given call h
+
+-- the fault that tells of an error of clap's tells of one that the words have
+pub refuses : (app : App) (words : List (List ℕ)) (e : Error) (f : WordsFault) → app ≡ swcheck_app
+    → (is_simple_and_free app ≡ true → HasKind (fault_of app words) e) → ShowsKind (kind_of e) f → Refuses words f
+refuses app words e Memory is has shows = tt
+refuses app words e (Help text) is has shows =
+    elim (among app words e is has) [
+      | inl memory ↦ absurd (elim shows [ inl help ↦ cc | inr version ↦ cc ])
+      | inr known ↦ (kind_of e, known, shows)
+    ]
+refuses app words e (Refused text) is has shows =
+    elim (among app words e is has) [
+      | inl memory ↦ absurd (shows.0 memory)
+      | inr known ↦ (kind_of e, known, shows)
+    ]

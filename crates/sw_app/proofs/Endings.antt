@@ -1,0 +1,52 @@
+-- What an engine that told a text has done.
+use Rattle.std.proofs.Common.{◌≡◌, ℕ, ◌≤◌, ◌++◌, List, [], ◌∷◌, true, false, ap, arith, codes, inl, inr, length, length-append, refl, subst}
+use Rattle.std.specs.Prelude.{IfSome, None, Option, Some, nat_le}
+use Rattle.std.proofs.lemmas.Bool.Decides.{nat_tests}
+use Rattle.sw_stream.specs.Reading.{Takes}
+use Rattle.sw_app.specs.declared.ended.Ended.{Ended}
+use Rattle.sw_app.specs.declared.ended.Ended.TheVariants.{Status, ReadFailed, WriteFailed}
+use Rattle.sw_app.specs.Ends.{Answers, EndsBy, IfShort, IsMemoryTold, IsTold, OrMemory}
+use Rattle.sw_app.specs.Lines.{line}
+
+-- a text that may be told was told
+told : (P : List ℕ → Answers) (input old new : Option (List ℕ)) (ended : Ended) (text : List ℕ) (status : ℕ)
+    → IfSome input (λ bytes. OrMemory (IfShort bytes (P bytes)) text status) → IsTold old new text status ended → EndsBy P input old new ended
+told P None old new (Status n) text status may is = tt
+told P None old new WriteFailed text status may is = tt
+told P (Some bytes) old new (Status n) text status may is = (text, status, may, is)
+told P (Some bytes) old new WriteFailed text status may is = (text, status, may, is)
+told P input old new ReadFailed text status may is = absurd is
+
+-- that memory was wanted
+pub told_memory : (P : List ℕ → Answers) (input old new : Option (List ℕ)) (ended : Ended) → IsMemoryTold old new ended → EndsBy P input old new ended
+told_memory P input old new ended is = told P input old new ended (line (codes "fault memory" ∷ [])) 5 (may input) is
+  where
+    may : (input : Option (List ℕ)) → IfSome input (λ bytes. OrMemory (IfShort bytes (P bytes)) (line (codes "fault memory" ∷ [])) 5)
+    may None = tt
+    may (Some bytes) = inr (refl, refl)
+
+is_long : (bytes first left : List ℕ) → length first ≡ 67108865 → bytes ≡ first ++ left → nat_le (length bytes) 67108864 ≡ false
+is_long bytes first left count is = grind (arith, nat_tests, length-append first left, ap (length {A = ℕ}) is)
+
+-- that the text is too long
+pub told_long : (P : List ℕ → Answers) (input rest old new : Option (List ℕ)) (ended : Ended) → Takes input rest 67108865
+    → IsTold old new (line (codes "fault A1 TooLong" ∷ [])) 3 ended → EndsBy P input old new ended
+told_long P input rest old new ended takes is = told P input old new ended (line (codes "fault A1 TooLong" ∷ [])) 3 (may input rest takes) is
+  where
+    may : (input rest : Option (List ℕ)) → Takes input rest 67108865 → IfSome input (λ bytes. OrMemory (IfShort bytes (P bytes)) (line (codes "fault A1 TooLong" ∷ [])) 3)
+    may None rest takes = tt
+    may (Some bytes) None takes = absurd takes.2
+    may (Some bytes) (Some left) takes =
+        let long : nat_le (length bytes) 67108864 ≡ false = is_long bytes takes.0 left takes.1 takes.2 in
+        inl (rw long (refl, refl))
+
+-- an answer to the text
+pub told_answer : (P : List ℕ → Answers) (input old new : Option (List ℕ)) (ended : Ended) (read text : List ℕ) (status : ℕ)
+    → IfSome input (λ bytes. read ≡ bytes) → length read ≤ 67108864 → P read text status → IsTold old new text status ended → EndsBy P input old new ended
+told_answer P input old new ended read text status whole within answer is = told P input old new ended text status (may input whole) is
+  where
+    may : (input : Option (List ℕ)) → IfSome input (λ bytes. read ≡ bytes) → IfSome input (λ bytes. OrMemory (IfShort bytes (P bytes)) text status)
+    may None whole = tt
+    may (Some bytes) whole =
+        let short : nat_le (length read) 67108864 ≡ true = grind (arith, nat_tests) in
+        subst (λ (bytes : List ℕ). OrMemory (IfShort bytes (P bytes)) text status) whole (inl (rw short answer))

@@ -1,0 +1,8 @@
+mod CommandLines
+mod Lines
+pub mod NamedFlows
+pub mod PlaceChannels
+pub mod FlowAnswers
+pub mod Endings
+pub mod OneListing
+pub mod OneAnswer

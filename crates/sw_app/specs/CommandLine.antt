@@ -1,0 +1,59 @@
+-- The words that the program takes.
+use Rattle.std.specs.Prelude.{◌≡◌, ◌≢◌, ◌⊎◌, ℕ, List, [], Option, Some, codes, true}
+use Rattle.clap.specs.Words.{App, Row, Rule, IsAmong, fault_of, first_of, new_app, new_rule, subcommand_of, with_rule, with_subcommand}
+use Rattle.clap.specs.declared.error.kind.ErrorKind.{ErrorKind}
+use Rattle.clap.specs.declared.error.kind.ErrorKind.TheVariants.{DisplayHelp, DisplayVersion, OutOfMemory}
+use Rattle.sw_app.specs.declared.command_line.Call.{Call}
+use Rattle.sw_app.specs.declared.command_line.Call.TheVariants.{Route}
+use Rattle.sw_app.specs.declared.command_line.WordsFault.{WordsFault}
+use Rattle.sw_app.specs.declared.command_line.WordsFault.TheVariants.{Help, Refused, Memory}
+
+-- a value that must be given
+abbrev pub required_value : List ℕ → Rule
+required_value name = record (new_rule name) { required = true }
+
+-- `route FILE FLOW`
+abbrev pub route_app : App
+route_app = with_rule (with_rule (new_app (codes "route")) (required_value (codes "FILE"))) (required_value (codes "FLOW"))
+
+-- `swcheck`, which asks for a subcommand
+abbrev pub top_app : App
+top_app = let a = new_app (codes "swcheck") in record a { top = record a.top { subcommand_required = true } }
+
+-- the whole command line: each subcommand stands in a line of its own
+abbrev pub swcheck_app : App
+swcheck_app =
+    with_subcommand top_app
+    route_app.top
+
+-- a subcommand with these values is this call
+abbrev pub IsCallOf : List ℕ → List Row → Call → Type 0
+IsCallOf name values (Route file flow) = (name ≡ codes "route")
+    × (first_of (codes "FILE") values ≡ Some file.now)
+    × (first_of (codes "FLOW") values ≡ Some flow.now)
+
+-- the subcommand that was met, with its values, is this call
+abbrev pub IsMatched : Option (List ℕ × List Row) → Call → Type 0
+IsMatched found call = (name : List ℕ) × (values : List Row) × (found ≡ Some (name, values)) × IsCallOf name values call
+
+-- clap's own matches of the words have no error, and the call's subcommand and values
+abbrev pub Gives : List (List ℕ) → Call → Type 0
+Gives words call = (fault_of swcheck_app words ≡ []) × IsMatched (subcommand_of swcheck_app words) call
+
+-- the status that the program exits with
+abbrev pub words_status : WordsFault → ℕ
+words_status (Help text) = 0
+words_status (Refused text) = 2
+words_status Memory = 5
+
+-- how an error of clap's is told: help goes to standard output, and each other text to standard error
+abbrev pub ShowsKind : ErrorKind → WordsFault → Type 0
+ShowsKind kind Memory = Unit {0}
+ShowsKind kind (Help text) = (kind ≡ DisplayHelp) ⊎ (kind ≡ DisplayVersion)
+ShowsKind kind (Refused text) = (kind ≢ OutOfMemory) × (kind ≢ DisplayHelp) × (kind ≢ DisplayVersion)
+
+-- the fault tells of an error that clap's own matches of the words meet first; want of memory apart
+abbrev pub Refuses : List (List ℕ) → WordsFault → Type 0
+Refuses words Memory = Unit {0}
+Refuses words (Help text) = (kind : ErrorKind) × IsAmong kind (fault_of swcheck_app words) × ShowsKind kind (Help text)
+Refuses words (Refused text) = (kind : ErrorKind) × IsAmong kind (fault_of swcheck_app words) × ShowsKind kind (Refused text)

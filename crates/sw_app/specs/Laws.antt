@@ -1,0 +1,9 @@
+-- Laws of the answers.
+use Rattle.std.specs.Prelude.{◌≡◌, ℕ, List}
+use Rattle.sw_app.specs.RouteAnswers.{IsRouteAnswer}
+
+-- `route` has one answer for each file and name
+abbrev pub RouteHasOneAnswer : Type 0
+RouteHasOneAnswer =
+    (name bytes text other : List ℕ) (status number : ℕ)
+    → IsRouteAnswer name bytes text status → IsRouteAnswer name bytes other number → (text ≡ other) × (status ≡ number)

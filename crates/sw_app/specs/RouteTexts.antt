@@ -1,0 +1,37 @@
+-- The text of `route` (this project's choice).
+use Rattle.std.specs.Prelude.{ℕ, List, [], ◌∷◌, ◌++◌, codes, flat_map, Option, Some, None}
+use Rattle.std.specs.Fmt.{decimal}
+use Rattle.sw_network.specs.Entries.{Declaration, FlowEntry}
+use Rattle.sw_flow.specs.declared.place.Place.{Place}
+use Rattle.sw_flow.specs.declared.fault.RouteFault.{RouteFault}
+use Rattle.sw_flow.specs.declared.fault.RouteFault.TheVariants.{AddressEnds, NoRoute, WrongNode, WrongLeft}
+use Rattle.sw_flow.specs.Faults.{first_fault_of}
+use Rattle.sw_app.specs.Lines.{line}
+use Rattle.sw_app.specs.ChannelTexts.{channel_text}
+
+-- a place: the channel's number, how many address bytes are deleted there, and the channel's ends
+abbrev pub place_line : Declaration → Place → List ℕ
+place_line d p = line (codes "place" ∷ decimal p.channel ∷ decimal p.deleted ∷ channel_text d p.channel ∷ [])
+
+abbrev pub route_fault_text : RouteFault → List ℕ
+route_fault_text AddressEnds = codes "M1 AddressEnds"
+route_fault_text NoRoute = codes "M2 NoRoute"
+route_fault_text WrongNode = codes "M3 WrongNode"
+route_fault_text WrongLeft = codes "M4 WrongLeft"
+
+-- no place has a fault, or a place with its fault
+abbrev pub outcome_line : Option (Place × RouteFault) → List ℕ
+outcome_line None = line (codes "routed" ∷ [])
+outcome_line (Some (p, fault)) = line (codes "misrouted" ∷ decimal p.channel ∷ decimal p.deleted ∷ route_fault_text fault ∷ [])
+
+abbrev pub outcome_status : Option (Place × RouteFault) → ℕ
+outcome_status None = 0
+outcome_status (Some fault) = 1
+
+-- the flow's name, its places, and a fault of one of them, if there is one
+abbrev pub text_of : Declaration → FlowEntry → List Place → Option (Place × RouteFault) → List ℕ
+text_of d f places fault = line (codes "flow" ∷ f.name ∷ []) ++ (flat_map (place_line d) places ++ outcome_line fault)
+
+-- the text with the first place that has a fault
+abbrev pub route_text : Declaration → FlowEntry → List Place → List ℕ
+route_text d f places = text_of d f places (first_fault_of d f places)

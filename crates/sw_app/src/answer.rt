@@ -1,0 +1,28 @@
+//! Answers of an engine.
+ghost use Rattle.std.specs.Prelude.{◌≡◌, ◌∷◌, [], IfOk, string_bytes};
+ghost use Rattle.sw_app.specs.FaultTexts.{fault_text};
+ghost use Rattle.sw_app.specs.Lines.{line};
+
+use crate::fault_texts::fault_text;
+use std::alloc::{AllocError, Global};
+use sw_tree::TextFault;
+
+/// What an engine writes, and the status that says what it is.
+#[derive(Drop)]
+pub(crate) struct Answer {
+    pub(crate) text: String,
+    pub(crate) status: u8,
+}
+
+impl Answer {
+    ghost use Rattle.sw_app.specs.Ends.{Says};
+
+    /// The answer to a text that has a fault.
+    pub(crate) fn of_fault(alloc: Global, fault: &TextFault) -> Result<Answer, AllocError>
+        ensures { IfOk result (λ a. Says (line (fault_text fault.now ∷ [])) 3 (string_bytes a.text) a.status) }
+    {
+        let fault = fault_text(alloc, fault)?;
+        let text = format!(in alloc; "{fault}\n")?;
+        Ok(Answer { text, status: 3 })
+    }
+}

@@ -1,0 +1,133 @@
+//! The words of the command line.
+ghost use Rattle.std.specs.Prelude.{◌≡◌, ℕ, map, option_map, true, false, IfOk, IfErr, IfSome};
+ghost use Rattle.clap.specs.Words.{app_of, first_of, found_of, kind_of, rows_of, subcommand_rows_of};
+ghost use Rattle.clap.specs.declared.builder.Command.TheViews.{out-Command};
+ghost use Rattle.sw_app.specs.declared.command_line.WordsFault.TheVariants.{Memory};
+ghost use Rattle.sw_app.specs.CommandLine.{route_app, swcheck_app, Gives, IsCallOf, IsMatched, Refuses, ShowsKind};
+
+use clap::error::ErrorKind;
+use clap::{Arg, ArgMatches, Command};
+use std::alloc::{AllocError, Global};
+use thiserror::Error;
+
+/// What the words ask for, with the values as they were written.
+#[derive(Clone, Copy, Debug)]
+pub enum Call<'a> {
+    /// The places of a flow of a network file.
+    Route { file: &'a str, flow: &'a str },
+}
+
+/// Why the words give no call, with the text to print.
+#[derive(Debug, Drop, Error)]
+pub enum WordsFault {
+    /// Help was asked for: the text goes to standard output.
+    #[error("{0}")]
+    Help(String),
+    /// The words are refused: the text goes to standard error.
+    #[error("{0}")]
+    Refused(String),
+    /// A growth was refused.
+    #[error("out of memory")]
+    Memory,
+}
+
+impl WordsFault {
+    ghost use Rattle.sw_app.specs.CommandLine.{words_status};
+
+    /// The status that the program exits with.
+    pub fn status(&self) -> u8
+        ensures { result ≡ words_status self.now }
+    {
+        match self {
+            WordsFault::Help(_) => 0,
+            WordsFault::Refused(_) => 2,
+            WordsFault::Memory => 5,
+        }
+    }
+}
+
+impl From<AllocError> for WordsFault {
+    ghost from_gives = { λ _ e. e ≡ Memory };
+
+    fn from(_error: AllocError) -> WordsFault {
+        WordsFault::Memory
+    }
+}
+
+fn route_command<'a>(alloc: Global) -> Result<Command<'a>, AllocError>
+    ensures { IfOk result (λ c. (app_of c ≡ route_app) × ((out-Command c).has_globals ≡ false)) }
+{
+    let file = Arg::new(alloc, "FILE")
+        .required(true)
+        .help("A network file");
+    let flow = Arg::new(alloc, "FLOW")
+        .required(true)
+        .help("The name of a flow, or NAME+reply of its replies");
+    let route = Command::new(alloc, "route").about(
+        "Print the places of a flow, and whether packets arrive rightly",
+    );
+    route.arg(file)?.arg(flow)
+}
+
+fn swcheck_command<'a>(alloc: Global) -> Result<Command<'a>, AllocError>
+    ensures { IfOk result (λ c. app_of c ≡ swcheck_app) }
+{
+    let top = Command::new(alloc, "swcheck")
+        .about("Checks SpaceWire networks")
+        .subcommand_required(true);
+    top.subcommand(route_command(alloc)?)
+}
+
+fn fault_of(alloc: Global, error: &clap::Error) -> WordsFault
+    ensures { ShowsKind (kind_of error.now) result }
+{
+    if error.kind() == ErrorKind::OutOfMemory {
+        return WordsFault::Memory;
+    }
+    let Ok(text) = error.to_string(alloc) else {
+        return WordsFault::Memory;
+    };
+    if error.use_stderr() {
+        WordsFault::Refused(text)
+    } else {
+        WordsFault::Help(text)
+    }
+}
+
+fn value_of<'a>(values: &ArgMatches<'a>, name: &str) -> Option<&'a str>
+    ensures { option_map (λ s. s.now) result ≡ first_of name.now (rows_of (found_of values.now)) }
+{
+    values.get_str(name)
+}
+
+// The call of a subcommand. clap gives each value that the subcommand requires.
+fn call_of<'a>(name: &str, values: &ArgMatches<'a>) -> Option<Call<'a>>
+    ensures { IfSome result (IsCallOf name.now (rows_of (found_of values.now))) }
+{
+    match name {
+        "route" => Some(Call::Route {
+            file: value_of(values, "FILE")?,
+            flow: value_of(values, "FLOW")?,
+        }),
+        _ => None,
+    }
+}
+
+fn matched_call<'a>(matches: &ArgMatches<'a>) -> Option<Call<'a>>
+    ensures { IfSome result (IsMatched (subcommand_rows_of matches.now)) }
+{
+    let (name, values) = matches.subcommand()?;
+    call_of(name, values)
+}
+
+/// The call that the words ask for; they begin with the program's name.
+pub fn words<'a>(alloc: Global, words: &'a [&'a str]) -> Result<Call<'a>, WordsFault>
+    ensures call { IfOk result (Gives (map (λ s. s.now) words.entry.now)) }
+    ensures fault { IfErr result (Refuses (map (λ s. s.now) words.entry.now)) }
+{
+    let command = swcheck_command(alloc)?;
+    match command.try_get_matches_from(words) {
+        Ok(matches) => matched_call(&matches).ok_or(WordsFault::Memory),
+        Err(error) => Err(fault_of(alloc, &error)),
+    }
+}

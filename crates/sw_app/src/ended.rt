@@ -1,0 +1,44 @@
+//! How an engine ends.
+ghost use Rattle.std.specs.Prelude.{◌≡◌};
+ghost use Rattle.sw_app.specs.Ends.{IsTold};
+
+use std::io::Write;
+use sw_stream::write_whole;
+
+/// The most bytes that an input text may have.
+pub const MAX_TEXT: usize = 67_108_864;
+
+/// How an engine ended.
+#[derive(Clone, Copy, Debug, PartialEq, Eq)]
+pub enum Ended {
+    /// The whole text was written; the program is to exit with this status.
+    Status(u8),
+    /// A read failed, and nothing was written.
+    ReadFailed,
+    /// A write failed: what was written is a beginning of the text.
+    WriteFailed,
+}
+
+impl Ended {
+    ghost use Rattle.sw_app.specs.Ends.{exit_status};
+
+    /// The status that the program exits with.
+    pub fn status(self) -> u8
+        ensures { result ≡ exit_status self }
+    {
+        match self {
+            Ended::Status(status) => status,
+            Ended::ReadFailed | Ended::WriteFailed => 6,
+        }
+    }
+}
+
+/// Writes an answer.
+pub(crate) fn tell<W: Write>(writer: &mut W, text: &str, status: u8) -> Ended
+    ensures { IsTold (W.contents writer.old) (W.contents writer.new) text.now status result }
+{
+    match write_whole(writer, text.as_bytes()) {
+        Ok(()) => Ended::Status(status),
+        Err(_) => Ended::WriteFailed,
+    }
+}

@@ -1,0 +1,7 @@
+//! Laws of the definitions. Such a function does nothing: it is the proof of its clause.
+ghost use Rattle.sw_app.specs.Laws.{RouteHasOneAnswer};
+
+/// `route` has one answer for each file and name: its text and its status.
+pub fn route_has_one_answer()
+    ensures { RouteHasOneAnswer }
+{}

@@ -1,0 +1,60 @@
+//! What `route` answers.
+ghost use Rattle.std.specs.Prelude.{◌≡◌, ◌<◌, IfOk, IfSome, length, slice_get, string_bytes};
+ghost use Rattle.sw_network.specs.Entries.{all_flows};
+ghost use Rattle.sw_app.specs.RouteAnswers.{IsFlowAnswer, IsNamedAnswer, IsRouteAnswer};
+ghost use Rattle.sw_app.specs.RouteTexts.{outcome_status};
+
+use crate::answer::Answer;
+use crate::route_texts::route_text;
+use std::alloc::{AllocError, Global};
+use sw_file::read_network;
+use sw_flow::{Place, RouteFault, first_fault, places};
+use sw_network::Network;
+use sw_tree::FileFault;
+
+fn status_of(fault: &Option<(Place, RouteFault)>) -> u8
+    ensures { result ≡ outcome_status fault.now }
+{
+    match fault {
+        None => 0,
+        Some(_) => 1,
+    }
+}
+
+// The answer for a flow.
+fn flow_answer(alloc: Global, network: &Network, number: u16) -> Result<Answer, AllocError>
+    requires { number < length (all_flows network.now) }
+    ensures { IfOk result (λ a. IfSome (slice_get (all_flows network.now) number) (λ f. IsFlowAnswer network.now f (string_bytes a.text) a.status)) }
+{
+    let flow = network.flow(number);
+    let listed = places(alloc, network, number)?;
+    let places = listed.as_slice();
+    let fault = first_fault(network, number, places);
+    let status = status_of(&fault);
+    let text = route_text(alloc, network, flow, places, fault)?;
+    Ok(Answer { text, status })
+}
+
+// The answer for the flow of that name.
+fn named_answer(alloc: Global, network: &Network, name: &str) -> Result<Answer, AllocError>
+    ensures { IfOk result (λ a. IsNamedAnswer name.now network.now (string_bytes a.text) a.status) }
+{
+    match network.flow_named(name) {
+        Some(number) => flow_answer(alloc, network, number),
+        None => {
+            let text = String::from_str(alloc, "fault F7 UnknownName argument\n")?;
+            Ok(Answer { text, status: 3 })
+        }
+    }
+}
+
+/// The answer to the bytes of a network file.
+pub(crate) fn route_answer(alloc: Global, input: &[u8], name: &str) -> Result<Answer, AllocError>
+    ensures { IfOk result (λ a. IsRouteAnswer name.now input.now (string_bytes a.text) a.status) }
+{
+    match read_network(alloc, input) {
+        Ok(network) => named_answer(alloc, &network, name),
+        Err(FileFault::Text(fault)) => Answer::of_fault(alloc, &fault),
+        Err(FileFault::Memory) => Err(AllocError),
+    }
+}

@@ -1,0 +1,79 @@
+//! The text of `route`.
+ghost use Rattle.std.specs.Prelude.{◌≡◌, ◌++◌, ◌<◌, All, IfOk, flat_map, length, string_bytes};
+ghost use Rattle.sw_network.specs.Entries.{wiring_of};
+ghost use Rattle.sw_app.specs.RouteTexts.{outcome_line, place_line, route_fault_text, text_of};
+
+use crate::channel_texts::channel_text;
+use std::alloc::{AllocError, Global};
+use sw_flow::{Place, RouteFault};
+use sw_network::{Flow, Network};
+
+fn place_line(alloc: Global, network: &Network, place: Place) -> Result<String, AllocError>
+    requires { place.channel < length (wiring_of network.now).ends }
+    ensures { IfOk result (λ s. string_bytes s ≡ place_line network.now place) }
+{
+    let text = channel_text(alloc, network, place.channel)?;
+    let channel = place.channel.number();
+    let deleted = place.deleted;
+    format!(in alloc; "place {channel} {deleted} {text}\n")
+}
+
+// A line for each place.
+fn places_text(alloc: Global, network: &Network, places: &[Place]) -> Result<String, AllocError>
+    requires { All (λ p. p.channel < length (wiring_of network.now).ends) places.now }
+    ensures { IfOk result (λ s. string_bytes s ≡ flat_map (place_line network.now) places.now) }
+{
+    let mut text = String::new(alloc);
+    for place in places {
+        text.push_str(place_line(alloc, network, *place)?.as_str())?;
+    }
+    Ok(text)
+}
+
+fn route_fault_text(fault: RouteFault) -> &'static str
+    ensures { result.now ≡ route_fault_text fault }
+{
+    match fault {
+        RouteFault::AddressEnds => "M1 AddressEnds",
+        RouteFault::NoRoute => "M2 NoRoute",
+        RouteFault::WrongNode => "M3 WrongNode",
+        RouteFault::WrongLeft => "M4 WrongLeft",
+    }
+}
+
+fn misrouted_line(alloc: Global, place: Place, fault: RouteFault) -> Result<String, AllocError>
+    ensures { IfOk result (λ s. string_bytes s ≡ outcome_line (Some (place, fault))) }
+{
+    let channel = place.channel.number();
+    let deleted = place.deleted;
+    let name = route_fault_text(fault);
+    format!(in alloc; "misrouted {channel} {deleted} {name}\n")
+}
+
+// The last line: `routed`, or the place with a fault.
+fn outcome_line(alloc: Global, fault: Option<(Place, RouteFault)>) -> Result<String, AllocError>
+    ensures { IfOk result (λ s. string_bytes s ≡ outcome_line fault) }
+{
+    match fault {
+        None => String::from_str(alloc, "routed\n"),
+        Some((place, fault)) => misrouted_line(alloc, place, fault),
+    }
+}
+
+/// The flow's name, a line for each of the places, and the fault, if there is one.
+pub(crate) fn route_text(
+    alloc: Global,
+    network: &Network,
+    flow: &Flow,
+    places: &[Place],
+    fault: Option<(Place, RouteFault)>,
+) -> Result<String, AllocError>
+    requires { All (λ p. p.channel < length (wiring_of network.now).ends) places.now }
+    ensures { IfOk result (λ s. string_bytes s ≡ text_of network.now flow.now places.now fault) }
+{
+    let name = flow.name();
+    let head = format!(in alloc; "flow {name}\n")?;
+    let lines = places_text(alloc, network, places)?;
+    let outcome = outcome_line(alloc, fault)?;
+    format!(in alloc; "{head}{lines}{outcome}")
+}

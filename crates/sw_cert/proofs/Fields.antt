@@ -1,0 +1,41 @@
+-- What the parts of a line are read from.
+use Rattle.std.proofs.Common.{◌≡◌, ℕ, ◌<◌, ◌≤◌, ◌^◌, true, List, [], ◌∷◌, ◌++◌, length, drop, refl, sym, ap, ◌∙◌, inl, inr, Option, Some, None}
+use Rattle.std.specs.Prelude.{nat_eq, option_and_then}
+use Rattle.std.specs.List.{starts_with}
+use Rattle.std.specs.Fmt.{decimal}
+use Rattle.std.proofs.lemmas.Bool.{cases_Bool, and_parts, eqb-true, eq-eqb, false≢true}
+use Rattle.sw_cert.specs.Number.{number_of}
+use Rattle.sw_cert.specs.Grammar.{after_word, field}
+use Rattle.sw_cert.proofs.Numbers.{read_spelled, spelled_read}
+
+no_some : {A : Type 0} (x : A) → ◌≡◌ {A = Option A} None (Some x) → ⊥
+no_some x e = cc
+
+pub begins : (word line : List ℕ) → starts_with nat_eq line word ≡ true → line ≡ word ++ drop (length word) line
+begins [] line e = refl
+begins (w ∷ word) [] e = absurd (false≢true e)
+begins (w ∷ word) (c ∷ line) e = let h = and_parts (nat_eq w c) (starts_with nat_eq line word) e in let s : w ≡ c = eqb-true w c h.0 in ap (λ k. k ∷ line) (sym s) ∙ ap (λ l. w ∷ l) (begins word line h.1)
+
+pub begun : (word rest : List ℕ) → (starts_with nat_eq (word ++ rest) word ≡ true) × (drop (length word) (word ++ rest) ≡ rest)
+begun [] rest = (refl, refl)
+begun (w ∷ word) rest = let r = begun word rest in (rw (eq-eqb w w refl) r.0, r.1)
+
+pub after_spelled : (word line rest : List ℕ) → after_word word line ≡ Some rest → line ≡ word ++ rest
+after_spelled word line rest e = elim (cases_Bool (starts_with nat_eq line word)) [
+  | inl t ↦ let s : Some (drop (length word) line) ≡ Some rest = rw t at e in let k : drop (length word) line ≡ rest = cc in begins word line t ∙ ap (λ l. word ++ l) k
+  | inr f ↦ let bad : None ≡ Some rest = rw f at e in absurd (no_some rest bad)
+]
+
+pub after_read : (word rest : List ℕ) → after_word word (word ++ rest) ≡ Some rest
+after_read word rest = let b = begun word rest in rw b.0 (ap Some b.1)
+
+-- a line with a number is read exactly from its spelling
+pub field_spelled : (word line : List ℕ) (limit n : ℕ) → limit < 2 ^ 24 → field word limit line ≡ Some n → (line ≡ word ++ decimal n) × (n ≤ limit)
+field_spelled word line limit n few e = go (after_word word line) refl e
+  where
+    go : (o : Option (List ℕ)) → after_word word line ≡ o → option_and_then (number_of limit) o ≡ Some n → (line ≡ word ++ decimal n) × (n ≤ limit)
+    go None h e = absurd (no_some n e)
+    go (Some rest) h e = let r = read_spelled limit n rest few e in (after_spelled word line rest h ∙ ap (λ l. word ++ l) r.0, r.1)
+
+pub field_read : (word : List ℕ) (limit n : ℕ) → limit < 2 ^ 24 → n ≤ limit → field word limit (word ++ decimal n) ≡ Some n
+field_read word limit n few le = ap (option_and_then (number_of limit)) (after_read word (decimal n)) ∙ spelled_read limit n few le

@@ -1,0 +1,134 @@
+//! Certificates, and their text.
+ghost use Rattle.std.specs.Prelude.{◌≡◌, ◌+◌, ◌≤◌, ◌==◌, ◌<◌, ◌↔◌, ◌&&◌, ◌∷◌, [], true, IfNone, IsTrue, position, length, map, IfSome, IsSome, IfOk, Some, None};
+ghost use Rattle.std.specs.List.{slice_split};
+ghost use Rattle.sw_cert.specs.Grammar.{spelling};
+ghost use Rattle.sw_cert.specs.Reading.{state_of};
+ghost use Rattle.sw_cert.specs.Text.{is_ended, contents_of};
+ghost use Rattle.sw_cert.specs.Sound.{IsSound};
+ghost use Rattle.sw_cert.specs.declared.certificate.CertificateFault.TheVariants.{Memory};
+
+use crate::draft::Draft;
+use crate::lines::Expected;
+use crate::write::spelled;
+use std::alloc::{AllocError, AllocFailed, Global};
+use std::marker::Model;
+use sw_flow::Place;
+
+/// Why a certificate is refused.
+#[derive(Debug, Drop)]
+pub enum CertificateFault {
+    /// This line, counted from 1, is the first that is not as the grammar asks after the lines before it.
+    Grammar(usize),
+    /// Want of memory.
+    Memory,
+}
+
+impl From<AllocError> for CertificateFault {
+    ghost from_gives = { λ _ e. e ≡ Memory };
+
+    fn from(_error: AllocError) -> CertificateFault {
+        CertificateFault::Memory
+    }
+}
+
+impl<T: Drop> From<AllocFailed<T>> for CertificateFault {
+    ghost from_gives = { λ _ e. e ≡ Memory };
+
+    fn from(_error: AllocFailed<T>) -> CertificateFault {
+        CertificateFault::Memory
+    }
+}
+
+/// A number for each channel, and for each flow the places that its packets may reach.
+#[derive(Drop)]
+pub struct Certificate {
+    numbers: Vec<u16>,
+    places: Vec<Vec<Place>>,
+}
+
+impl Model for Certificate {
+    ghost use Rattle.std.specs.Prelude.{map};
+    ghost use Rattle.sw_cert.specs.Grammar.{HasText};
+    ghost use Rattle.sw_cert.specs.Reading.{items_of};
+    ghost use Rattle.sw_cert.specs.Text.{Contents};
+
+    ghost Value = { Contents };
+
+    ghost view = { λ c. record { numbers = c.numbers.items; places = map items_of c.places.items } };
+
+    ghost invariant = { λ c. HasText c.numbers.items (map items_of c.places.items) };
+}
+
+/// The end of the first line, where its LF stands.
+fn line_end(text: &[u8]) -> Option<usize>
+    ensures exact { result ≡ position (λ b. b == 10) text.now }
+    ensures within { IfSome result (λ at. at < length text.now) }
+{
+    text.iter().position(|b| *b == b'\n')
+}
+
+/// The first line, without its LF, and what stands after it.
+fn first_line<'a>(text: &'a [u8]) -> Option<(&'a [u8], &'a [u8])>
+    ensures cut { IfSome result (λ r. slice_split (λ b. b == 10) text.entry.now ≡ r.0.now ∷ slice_split (λ b. b == 10) r.1.now) }
+    ensures shorter { IfSome result (λ r. length r.1.now < length text.entry.now) }
+    ensures last { IfNone result (slice_split (λ b. b == 10) text.entry.now ≡ text.entry.now ∷ []) }
+{
+    match line_end(text) {
+        None => None,
+        Some(end) => Some((&text[..end], &text[end + 1..])),
+    }
+}
+
+/// The certificate that a draft has become, if nothing more is expected and no rest stands after the last line.
+fn finished(draft: Draft, rest: &[u8]) -> Option<Certificate>
+    requires { IsSound (state_of draft) }
+    ensures ended { IsSome result ↔ (is_ended draft.expected && (length rest.now == 0) ≡ true) }
+    ensures same { IfSome result (λ c. c ≡ contents_of (state_of draft)) }
+{
+    if draft.expected != Expected::Nothing || !rest.is_empty() {
+        return None;
+    }
+    let Draft {
+        expected: _,
+        numbers,
+        flows,
+        block: _,
+    } = draft;
+    Some(Certificate {
+        numbers,
+        places: flows,
+    })
+}
+
+impl Certificate {
+    ghost use Rattle.sw_cert.specs.Text.{Reads};
+
+    /// The certificate of a text.
+    pub fn read(alloc: Global, text: &[u8]) -> Result<Certificate, CertificateFault>
+        ensures { Reads text.now result }
+    {
+        let mut draft = Draft::new(alloc);
+        let mut rest = text;
+        let mut number = 1;
+        while let Some((line, more)) = first_line(rest) {
+            if !draft.read_line(alloc, line)? {
+                return Err(CertificateFault::Grammar(number));
+            }
+            rest = more;
+            number += 1;
+        }
+        match finished(draft, rest) {
+            Some(certificate) => Ok(certificate),
+            None => Err(CertificateFault::Grammar(number)),
+        }
+    }
+}
+
+impl Certificate {
+    /// The certificate's text, in its one spelling.
+    pub fn write(&self, alloc: Global) -> Result<Vec<u8>, AllocError>
+        ensures { IfOk result (λ text. text.items ≡ spelling self.now.numbers self.now.places) }
+    {
+        Ok(spelled(alloc, &self.numbers, &self.places)?.into_bytes())
+    }
+}

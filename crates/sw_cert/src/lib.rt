@@ -1,0 +1,16 @@
+//! Certificates: their text, and what they have to say of a network.
+#![tactic(auto)]
+
+mod certificate;
+mod draft;
+mod laws;
+mod lines;
+mod number;
+mod write;
+
+pub use certificate::{Certificate, CertificateFault};
+pub use laws::{field_spelling, one_spelling, one_text};
+pub use sw_flow::Place;
+
+#[cfg(test)]
+mod tests;

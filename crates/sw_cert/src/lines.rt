@@ -1,0 +1,150 @@
+//! What the lines of a certificate's text say.
+ghost use Rattle.std.specs.Prelude.{◌≡◌, option_copied, position, length, ◌==◌, ◌<◌, ◌≤◌, ◌^◌, IfSome};
+ghost use Rattle.sw_cert.specs.Grammar.{after_word, field, is_line, moved, place_at, place_of, if_rising, places, said_by, stands_before};
+
+use crate::number::number;
+use sw_flow::Place;
+use sw_topo::Chan;
+
+/// What the next line has to be.
+#[derive(Clone, Copy, Debug, PartialEq, Eq)]
+pub enum Expected {
+    Title,
+    Channels,
+    /// This many numbers, then the count of flows.
+    Numbers(u32),
+    /// This many flows, then the end.
+    Flows(u32),
+    /// A place, this many after it, and then this many flows.
+    Places(u32, u32),
+    Nothing,
+}
+
+/// What a line says.
+#[derive(Clone, Copy, Debug, PartialEq, Eq)]
+pub enum Said {
+    Begun,
+    ChannelCount(u32),
+    Number(u16),
+    FlowCount(u32),
+    PlaceCount(u32),
+    Listed(Place),
+    Ended,
+}
+
+/// What follows a word.
+fn after_word<'a>(word: &[u8], line: &'a [u8]) -> Option<&'a [u8]>
+    ensures { option_copied result ≡ after_word word.now line.entry.now }
+{
+    line.strip_prefix(word)
+}
+
+/// The number after a word.
+fn field(word: &[u8], limit: u32, line: &[u8]) -> Option<u32>
+    requires { limit < 2 ^ 24 }
+    ensures exact { result ≡ field word.now limit line.now }
+    ensures within { IfSome result (λ n. n ≤ limit) }
+{
+    number(after_word(word, line)?, limit)
+}
+
+/// Whether the first place stands before the second.
+pub(crate) fn stands_before(last: Option<Place>, place: &Place) -> bool
+    ensures { result ≡ stands_before last place.now }
+{
+    match last {
+        None => true,
+        Some(p) => {
+            let (before, after) = (p.channel.number(), place.channel.number());
+            before < after || (before == after && p.deleted < place.deleted)
+        }
+    }
+}
+
+/// What is expected after a block's count, or a place with this many to come.
+fn places(left: u32, flows: u32) -> Expected
+    ensures { result ≡ places left flows }
+{
+    if left == 0 {
+        Expected::Flows(flows)
+    } else {
+        Expected::Places(left - 1, flows)
+    }
+}
+
+/// Whether the line is this word.
+fn is_line(word: &[u8], line: &[u8]) -> bool
+    ensures { result ≡ is_line word.now line.now }
+{
+    line.starts_with(word) && line.len() == word.len()
+}
+
+/// The place of two numbers with a space between them, at this place.
+fn place_at(bytes: &[u8], at: usize) -> Option<Place>
+    requires { at < length bytes.now }
+    ensures { result ≡ place_at bytes.now at }
+{
+    let channel = number(&bytes[..at], 65535)?;
+    let deleted = number(&bytes[at + 1..], 32)?;
+    Some(Place {
+        channel: Chan::new(channel as u16),
+        deleted: deleted as u8,
+    })
+}
+
+fn space_in(bytes: &[u8]) -> Option<usize>
+    ensures exact { result ≡ position (λ b. b == 32) bytes.now }
+    ensures within { IfSome result (λ at. at < length bytes.now) }
+{
+    bytes.iter().position(|b| *b == b' ')
+}
+
+/// The place of two numbers with a space between them.
+fn place_of(bytes: &[u8]) -> Option<Place>
+    ensures { result ≡ place_of bytes.now }
+{
+    place_at(bytes, space_in(bytes)?)
+}
+
+/// The place, if it stands behind the last.
+fn if_rising(last: Option<Place>, place: Place) -> Option<Said>
+    ensures { result ≡ if_rising last place }
+{
+    if stands_before(last, &place) {
+        Some(Said::Listed(place))
+    } else {
+        None
+    }
+}
+
+/// What a line says where this is expected, after the last place of its block.
+pub(crate) fn said_by(expected: Expected, last: Option<Place>, line: &[u8]) -> Option<Said>
+    ensures { result ≡ said_by expected last line.now }
+{
+    match expected {
+        Expected::Title => is_line(b"swcert 1", line).then_some(Said::Begun),
+        Expected::Channels => Some(Said::ChannelCount(field(b"channels ", 2048, line)?)),
+        Expected::Numbers(0) => Some(Said::FlowCount(field(b"flows ", 8192, line)?)),
+        Expected::Numbers(_) => Some(Said::Number(field(b"number ", 65535, line)? as u16)),
+        Expected::Flows(0) => is_line(b"end", line).then_some(Said::Ended),
+        Expected::Flows(_) => Some(Said::PlaceCount(field(b"flow ", 67584, line)?)),
+        Expected::Places(..) => if_rising(last, place_of(after_word(b"place ", line)?)?),
+        Expected::Nothing => None,
+    }
+}
+
+/// What is expected after a line.
+pub(crate) fn moved(expected: Expected, said: &Said) -> Expected
+    ensures { result ≡ moved expected said.now }
+{
+    match (expected, said) {
+        (_, Said::Begun) => Expected::Channels,
+        (_, Said::ChannelCount(n)) => Expected::Numbers(*n),
+        (Expected::Numbers(left), Said::Number(_)) => Expected::Numbers(left.saturating_sub(1)),
+        (_, Said::FlowCount(m)) => Expected::Flows(*m),
+        (Expected::Flows(left), Said::PlaceCount(p)) => places(*p, left.saturating_sub(1)),
+        (Expected::Places(p, left), Said::Listed(_)) => places(p, left),
+        (_, Said::Ended) => Expected::Nothing,
+        _ => expected,
+    }
+}

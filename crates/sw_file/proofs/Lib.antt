@@ -1,0 +1,4 @@
+pub mod Entries
+pub mod Grown
+pub mod Known
+pub mod Reading

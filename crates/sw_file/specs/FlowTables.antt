@@ -1,0 +1,68 @@
+-- The entries of `flow` (the format of the file is this project's choice).
+use Rattle.std.specs.Prelude.{ℕ, Bool, true, ◌&&◌, nat_le, List, [], ◌∷◌, ◌++◌, map, length, is_some, Option, Some, None, Result, Ok, Err, if◌then◌else◌}
+use Rattle.toml.specs.Data.{Members}
+use Rattle.sw_network.specs.Entries.{NodeEntry, ReplyEntry, FlowEntry, Declaration, flow_names, target_of}
+use Rattle.sw_network.specs.Valid.{has_no_leading_zero}
+use Rattle.sw_tree.specs.declared.keys.Key.TheVariants.{From, To, Address, Left, Reply, Path, Initiator}
+use Rattle.sw_tree.specs.declared.keys.Section.TheVariants as section
+use Rattle.sw_tree.specs.declared.fault.KeyFault.TheVariants.{OutOfRange}
+use Rattle.sw_tree.specs.declared.fault.TextFault.{TextFault}
+use Rattle.sw_tree.specs.declared.fault.TextFault.TheVariants as fault
+use Rattle.sw_tree.specs.Gives.{◌>>=◌}
+use Rattle.sw_tree.specs.Table.{only_known, number_at, number_or, numbers_or_none, table_or_none}
+use Rattle.sw_file.specs.Keys.{flow_keys, reply_keys}
+use Rattle.sw_file.specs.Names.{new_name, place_at}
+
+abbrev pub node_names : List NodeEntry → List (List ℕ)
+node_names nodes = map (λ n. n.name) nodes
+
+-- the address bytes of flow i, at most 32
+unfoldable pub address_at : ℕ → Members → Result (List ℕ) TextFault
+address_at i ms = do
+  address ← numbers_or_none (section.Flow i) Address 255 ms
+  if nat_le (length address) 32 then Ok address else Err (fault.Key OutOfRange (section.Flow i) Address)
+
+-- where the replies of flow i go
+unfoldable pub reply_of : ℕ → Members → Result ReplyEntry TextFault
+reply_of i ms = do
+  known ← only_known (section.Reply i) reply_keys ms
+  path ← numbers_or_none (section.Reply i) Path 255 ms
+  initiator ← number_at (section.Reply i) Initiator 0 255 ms
+  Ok (record { path = path; initiator = initiator })
+
+-- flow i has replies where it has a table `reply`
+unfoldable pub reply_or_none : ℕ → Members → Result (Option ReplyEntry) TextFault
+reply_or_none i ms = table_or_none (section.Flow i) Reply ms >>= inner
+  where
+    inner : Option Members → Result (Option ReplyEntry) TextFault
+    inner None = Ok None
+    inner (Some t) = do
+      reply ← reply_of i t
+      Ok (Some reply)
+
+-- Replies come back from the node `to`: it is a target, at most 12 path addresses, the first not 0, go before a logical address
+-- (ECSS-E-ST-50-52C, the reply address field of a command).
+abbrev pub can_reply : List NodeEntry → ℕ → Option ReplyEntry → Bool
+can_reply nodes to None = true
+can_reply nodes to (Some r) =
+    nat_le (length r.path) 12 && has_no_leading_zero r.path && nat_le 32 r.initiator && nat_le r.initiator 254 && is_some (target_of nodes to)
+
+-- Entry i of `flow`, among these nodes and where these names are taken. Whether replies can come back is looked at last.
+unfoldable pub flow_of : ℕ → List NodeEntry → List (List ℕ) → Members → Result FlowEntry TextFault
+flow_of i nodes taken ms = do
+  known ← only_known (section.Flow i) flow_keys ms
+  name ← new_name (section.Flow i) taken ms
+  from ← place_at (section.Flow i) From (node_names nodes) ms
+  to ← place_at (section.Flow i) To (node_names nodes) ms
+  address ← address_at i ms
+  left ← number_or (section.Flow i) Left 0 (length address) 0 ms
+  reply ← reply_or_none i ms
+  if can_reply nodes to reply
+      then Ok (record { name = name; from = from; to = to; address = address; left = left; reply = reply })
+      else Err (fault.ReplyShape i)
+
+-- one more flow
+unfoldable pub next_flow : ℕ → Declaration → Members → Result Declaration TextFault
+next_flow i d ms = do
+  flow ← flow_of i d.nodes (flow_names d.flows) ms
+  Ok (record d { flows = d.flows ++ flow ∷ [] })

@@ -1,0 +1,74 @@
+-- What reading a network file comes to.
+use Rattle.std.specs.Prelude.{◌≡◌, ℕ, List, [], length, take, slice_get, Some, Result, Ok}
+use Rattle.toml.specs.Data.{Members}
+use Rattle.sw_network.specs.Entries.{Declaration, part_names, flow_names}
+use Rattle.sw_tree.specs.declared.keys.Key.{Key}
+use Rattle.sw_tree.specs.declared.keys.Key.TheVariants.{Node, Switch, Link, Flow, Target, Route, Reply}
+use Rattle.sw_tree.specs.declared.keys.Section.TheVariants as section
+use Rattle.sw_tree.specs.declared.keys.Version.{Version}
+use Rattle.sw_tree.specs.declared.fault.TextFault.{TextFault}
+use Rattle.sw_tree.specs.Table.{tables_or_none, table_or_none}
+use Rattle.sw_tree.specs.Laws.{HasOnly}
+use Rattle.sw_file.specs.Keys.{document_keys, node_keys, target_keys, switch_keys, route_keys, link_keys, flow_keys, reply_keys}
+use Rattle.sw_file.specs.Nodes.{node_of}
+use Rattle.sw_file.specs.Switches.{switch_of}
+use Rattle.sw_file.specs.Links.{link_of}
+use Rattle.sw_file.specs.FlowTables.{flow_of}
+use Rattle.sw_file.specs.Network.{version_of, network_of}
+
+-- the document's list at the key has one table for each entry, and entry i is what table i declares
+pub record Declares {A : Type 0} (key : Key) (ms : Members) (declared : ℕ → Members → Result A TextFault) (entries : List A) : Type 0 where
+  pub tables : List Members
+  pub listed : tables_or_none section.Document key ms ≡ Ok tables
+  pub as_many : length entries ≡ length tables
+  pub each : (i : ℕ) (table : Members) (entry : A) → slice_get tables i ≡ Some table → slice_get entries i ≡ Some entry → declared i table ≡ Ok entry
+
+-- the names that are taken where node i is read, and where switch i is read
+abbrev pub before_node : Declaration → ℕ → List (List ℕ)
+before_node d i = part_names (record d { nodes = take i d.nodes; switches = [] })
+
+abbrev pub before_switch : Declaration → ℕ → List (List ℕ)
+before_switch d i = part_names (record d { switches = take i d.switches })
+
+-- each entry of the declaration is what the table of its number declares
+pub record IsDeclaredBy (ms : Members) (version : Version) (d : Declaration) : Type 0 where
+  pub versioned : version_of ms ≡ Ok version
+  pub nodes : Declares Node ms (λ i. node_of version i (before_node d i)) d.nodes
+  pub switches : Declares Switch ms (λ i. switch_of version i (before_switch d i)) d.switches
+  pub links : Declares Link ms (λ i. link_of version i (length d.nodes) (part_names d)) d.links
+  pub flows : Declares Flow ms (λ i. flow_of i d.nodes (flow_names (take i d.flows))) d.flows
+
+abbrev pub ReadsEachEntry : Type 0
+ReadsEachEntry = (ms : Members) (d : Declaration) → network_of ms ≡ Ok d → (version : Version) × IsDeclaredBy ms version d
+
+-- a table of a node has its keys alone, and so has its target
+pub record IsKnownNode (version : Version) (i : ℕ) (node : Members) : Type 0 where
+  pub keys : HasOnly node_keys node
+  pub target : (target : Members) → table_or_none (section.Node i) Target node ≡ Ok (Some target) → HasOnly (target_keys version) target
+
+-- so has a table of a switch, and each entry of its routing table
+pub record IsKnownSwitch (version : Version) (i : ℕ) (switch : Members) : Type 0 where
+  pub keys : HasOnly switch_keys switch
+  pub routes : (routes : List Members) (j : ℕ) (route : Members) → tables_or_none (section.Switch i) Route switch ≡ Ok routes → slice_get routes j ≡ Some route → HasOnly (route_keys version) route
+
+-- so has a table of a flow, and its reply
+pub record IsKnownFlow (i : ℕ) (flow : Members) : Type 0 where
+  pub keys : HasOnly flow_keys flow
+  pub reply : (reply : Members) → table_or_none (section.Flow i) Reply flow ≡ Ok (Some reply) → HasOnly reply_keys reply
+
+-- each table of the document's list at the key is as P says
+abbrev pub EachTable : Key → Members → (ℕ → Members → Type 0) → Type 0
+EachTable key ms P = (tables : List Members) (i : ℕ) (table : Members) → tables_or_none section.Document key ms ≡ Ok tables → slice_get tables i ≡ Some table → P i table
+
+-- no table of the document has a key that it may not have
+pub record IsKnownDocument (version : Version) (ms : Members) : Type 0 where
+  pub versioned : version_of ms ≡ Ok version
+  pub keys : HasOnly document_keys ms
+  pub nodes : EachTable Node ms (IsKnownNode version)
+  pub switches : EachTable Switch ms (IsKnownSwitch version)
+  pub links : EachTable Link ms (λ i link. HasOnly (link_keys version) link)
+  pub flows : EachTable Flow ms IsKnownFlow
+
+-- an unknown key anywhere in the document refuses the text
+abbrev pub RefusesUnknownKeys : Type 0
+RefusesUnknownKeys = (ms : Members) (d : Declaration) → network_of ms ≡ Ok d → (version : Version) × IsKnownDocument version ms

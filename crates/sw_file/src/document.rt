@@ -1,0 +1,211 @@
+//! The network that a text declares.
+ghost use Rattle.std.specs.Prelude.{◌≡◌, ◌≤◌, [], length, vec_len, map, IfOk, OnOk};
+ghost use Rattle.toml.specs.View.{table_view};
+ghost use Rattle.sw_tree.specs.Gives.{Gives, walk};
+ghost use Rattle.sw_file.specs.Nodes.{next_node};
+ghost use Rattle.sw_file.specs.Switches.{next_switch};
+ghost use Rattle.sw_file.specs.Links.{next_link};
+ghost use Rattle.sw_file.specs.FlowTables.{next_flow};
+ghost use Rattle.sw_file.specs.Network.{version_of, entries, with_nodes, with_switches, with_links, wired, with_flows, network_of, network_text};
+
+use crate::flows::add_flow;
+use crate::keys::document_keys;
+use crate::links::add_link;
+use crate::nodes::add_node;
+use crate::switches::add_switch;
+use std::alloc::Global;
+use std::marker::Model;
+use sw_network::{MAX_FLOWS, Network, NetworkBuilder};
+use sw_topo::{Limit, MAX_LINKS, MAX_NODES, MAX_SWITCHES, TopoError, TopoFault};
+use sw_tree::{Entry, FileFault, Key, KeyFault, Section, TextFault, Version, read_document};
+use toml::Table;
+
+#[tactic(auto, unfolding(crate::specs::Network::version_of))]
+fn version_of(alloc: Global, document: &Entry) -> Result<Version, FileFault>
+    requires { document.now.section ≡ Section.Document }
+    ensures { Gives (λ v. v) result (version_of (table_view document.now.table.now)) }
+{
+    document.only_known(alloc, document_keys())?;
+    let number = document.number(Key::Version, 1, 2)?;
+    Ok(if number == 1 {
+        Version::One
+    } else {
+        Version::Two
+    })
+}
+
+/// The tables of one of the document's lists, if there are not too many of them.
+fn entries<'a>(
+    alloc: Global,
+    document: &Entry<'a>,
+    key: Key,
+    most: u16,
+    over: TextFault,
+) -> Result<Vec<&'a Table>, FileFault>
+    requires { document.now.section ≡ Section.Document }
+    ensures gives { Gives (λ v. map (λ t. table_view t.now) v.items) result (entries key most over (table_view document.now.table.now)) }
+    ensures few { IfOk result (λ v. vec_len v ≤ most) }
+{
+    let tables = document.tables_or_none(alloc, key)?;
+    if tables.len() > most as usize {
+        return Err(FileFault::Text(over));
+    }
+    Ok(tables)
+}
+
+fn walk_nodes(
+    alloc: Global,
+    version: Version,
+    tables: &[&Table],
+    builder: &mut NetworkBuilder,
+) -> Result<(), FileFault>
+    requires few { length tables.now ≤ MAX_NODES }
+    requires none { builder.old.nodes ≡ [] }
+    requires nodes_first { builder.old.switches ≡ [] }
+    ensures gives { Gives (λ _. builder.new) result (walk (next_node version) builder.old (map (λ t. table_view t.now) tables.now)) }
+    ensures switches { OnOk result (builder.new.switches ≡ []) }
+{
+    for (i, table) in tables.iter().enumerate() {
+        add_node(alloc, version, i, table, builder)?;
+    }
+    Ok(())
+}
+
+#[tactic(auto, unfolding(crate::specs::Network::with_nodes))]
+fn read_nodes(
+    alloc: Global,
+    version: Version,
+    document: &Entry,
+    builder: &mut NetworkBuilder,
+) -> Result<(), FileFault>
+    requires document { document.now.section ≡ Section.Document }
+    requires none { builder.old.nodes ≡ [] }
+    requires nodes_first { builder.old.switches ≡ [] }
+    ensures gives { Gives (λ _. builder.new) result (with_nodes version builder.old (table_view document.now.table.now)) }
+    ensures switches { OnOk result (builder.new.switches ≡ []) }
+{
+    let over = TextFault::Topology(TopoFault::TooMany(Limit::Nodes));
+    let tables = entries(alloc, document, Key::Node, MAX_NODES, over)?;
+    walk_nodes(alloc, version, &tables, builder)
+}
+
+fn walk_switches(
+    alloc: Global,
+    version: Version,
+    tables: &[&Table],
+    builder: &mut NetworkBuilder,
+) -> Result<(), FileFault>
+    requires few { length tables.now ≤ MAX_SWITCHES }
+    requires none { builder.old.switches ≡ [] }
+    ensures { Gives (λ _. builder.new) result (walk (next_switch version) builder.old (map (λ t. table_view t.now) tables.now)) }
+{
+    for (i, table) in tables.iter().enumerate() {
+        add_switch(alloc, version, i, table, builder)?;
+    }
+    Ok(())
+}
+
+#[tactic(auto, unfolding(crate::specs::Network::with_switches))]
+fn read_switches(
+    alloc: Global,
+    version: Version,
+    document: &Entry,
+    builder: &mut NetworkBuilder,
+) -> Result<(), FileFault>
+    requires document { document.now.section ≡ Section.Document }
+    requires none { builder.old.switches ≡ [] }
+    ensures { Gives (λ _. builder.new) result (with_switches version builder.old (table_view document.now.table.now)) }
+{
+    let over = TextFault::Topology(TopoFault::TooMany(Limit::Switches));
+    let tables = entries(alloc, document, Key::Switch, MAX_SWITCHES, over)?;
+    walk_switches(alloc, version, &tables, builder)
+}
+
+fn walk_links(
+    alloc: Global,
+    version: Version,
+    tables: &[&Table],
+    builder: &mut NetworkBuilder,
+) -> Result<(), FileFault>
+    ensures { Gives (λ _. builder.new) result (walk (next_link version) builder.old (map (λ t. table_view t.now) tables.now)) }
+{
+    for (i, table) in tables.iter().enumerate() {
+        add_link(alloc, version, i, table, builder)?;
+    }
+    Ok(())
+}
+
+#[tactic(auto, unfolding(crate::specs::Network::with_links))]
+fn read_links(
+    alloc: Global,
+    version: Version,
+    document: &Entry,
+    builder: &mut NetworkBuilder,
+) -> Result<(), FileFault>
+    requires { document.now.section ≡ Section.Document }
+    ensures { Gives (λ _. builder.new) result (with_links version builder.old (table_view document.now.table.now)) }
+{
+    let over = TextFault::Topology(TopoFault::TooMany(Limit::Links));
+    let tables = entries(alloc, document, Key::Link, MAX_LINKS, over)?;
+    walk_links(alloc, version, &tables, builder)
+}
+
+fn wired(alloc: Global, builder: NetworkBuilder) -> Result<Network, FileFault>
+    ensures gives { Gives (λ n. n) result (wired builder) }
+    ensures same { IfOk result (λ n. n ≡ builder) }
+{
+    match builder.wire(alloc) {
+        Ok(network) => Ok(network),
+        Err(TopoError::Fault(fault)) => Err(FileFault::Text(TextFault::Topology(fault))),
+        Err(TopoError::Memory) => Err(FileFault::Memory),
+    }
+}
+
+fn walk_flows(alloc: Global, tables: &[&Table], network: &mut Network) -> Result<(), FileFault>
+    requires few { length tables.now ≤ MAX_FLOWS }
+    requires none { network.old.flows ≡ [] }
+    ensures { Gives (λ _. network.new) result (walk next_flow network.old (map (λ t. table_view t.now) tables.now)) }
+{
+    for (i, table) in tables.iter().enumerate() {
+        add_flow(alloc, i, table, network)?;
+    }
+    Ok(())
+}
+
+#[tactic(auto, unfolding(crate::specs::Network::with_flows))]
+fn read_flows(alloc: Global, document: &Entry, network: &mut Network) -> Result<(), FileFault>
+    requires document { document.now.section ≡ Section.Document }
+    requires none { network.old.flows ≡ [] }
+    ensures { Gives (λ _. network.new) result (with_flows network.old (table_view document.now.table.now)) }
+{
+    let over = TextFault::Key(KeyFault::OutOfRange, Section::Document, Key::Flow);
+    let tables = entries(alloc, document, Key::Flow, MAX_FLOWS, over)?;
+    walk_flows(alloc, &tables, network)
+}
+
+#[tactic(auto, unfolding(crate::specs::Network::network_of))]
+fn network_of(alloc: Global, document: &Entry) -> Result<Network, FileFault>
+    requires { document.now.section ≡ Section.Document }
+    ensures { Gives (λ n. n) result (network_of (table_view document.now.table.now)) }
+{
+    let version = version_of(alloc, document)?;
+    let mut builder = NetworkBuilder::new(alloc);
+    read_nodes(alloc, version, document, &mut builder)?;
+    read_switches(alloc, version, document, &mut builder)?;
+    read_links(alloc, version, document, &mut builder)?;
+    let mut network = wired(alloc, builder)?;
+    read_flows(alloc, document, &mut network)?;
+    Ok(network)
+}
+
+/// Reads a network file of version 1 or 2: the network that it declares, or its first fault.
+pub fn read_network(alloc: Global, bytes: &[u8]) -> Result<Network, FileFault>
+    ensures { Gives (λ n. n) result (network_text bytes.now) }
+{
+    let table = read_document(alloc, bytes)?;
+    let document = Entry {
+        section: Section::Document,
+        table: &table,
+    };
+    network_of(alloc, &document)
+}

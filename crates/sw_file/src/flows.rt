@@ -1,0 +1,139 @@
+//! Entries of `flow`.
+ghost use Rattle.std.specs.Prelude.{◌≡◌, ◌+◌, ◌≤◌, ◌<◌, false, length, vec_len, IfOk, IfSome, IsTrue, OnOk, Option, option_map};
+ghost use Rattle.std.specs.List.{list_any};
+ghost use Rattle.std.specs.Str.{bytes_eq};
+ghost use Rattle.toml.specs.View.{table_view};
+ghost use Rattle.sw_network.specs.Entries.{flow_names};
+ghost use Rattle.sw_network.specs.Valid.{has_no_leading_zero, IsReply};
+ghost use Rattle.sw_tree.specs.Gives.{Gives};
+ghost use Rattle.sw_file.specs.Names.{new_name, place_at};
+ghost use Rattle.sw_file.specs.FlowTables.{node_names, address_at, reply_of, reply_or_none, can_reply, next_flow};
+
+use crate::keys::{flow_keys, reply_keys};
+use std::alloc::Global;
+use std::marker::Model;
+use sw_network::{Flow, MAX_FLOWS, Network, Reply};
+use sw_tree::{Entry, FileFault, Key, KeyFault, Section, TextFault};
+use toml::Table;
+
+/// The name of a flow, which none before it has.
+#[tactic(auto, unfolding(crate::specs::Names::new_name))]
+fn new_flow_name<'a>(entry: &Entry<'a>, network: &Network) -> Result<&'a str, FileFault>
+    ensures gives { Gives (λ s. s.now) result (new_name entry.now.section (flow_names network.now.flows) (table_view entry.now.table.now)) }
+    ensures fresh { IfOk result (λ s. list_any (bytes_eq s.now) (flow_names network.now.flows) ≡ false) }
+{
+    let name = entry.name()?;
+    if network.has_flow_name(name) {
+        return Err(entry.fault(KeyFault::DuplicateName, Key::Name));
+    }
+    Ok(name)
+}
+
+#[tactic(auto, unfolding(crate::specs::Names::place_at))]
+fn node_at(flow: &Entry, key: Key, network: &Network) -> Result<u16, FileFault>
+    ensures gives { Gives (λ n. n) result (place_at flow.now.section key (node_names network.now.nodes) (table_view flow.now.table.now)) }
+    ensures within { IfOk result (λ n. n < length network.now.nodes) }
+{
+    let name = flow.text(key)?;
+    match network.node_named(name) {
+        Some(node) => Ok(node),
+        None => Err(flow.fault(KeyFault::UnknownName, key)),
+    }
+}
+
+#[tactic(auto, unfolding(crate::specs::FlowTables::address_at))]
+fn address_at(alloc: Global, index: usize, flow: &Entry) -> Result<Vec<u8>, FileFault>
+    requires { flow.now.section ≡ Section.Flow index }
+    ensures gives { Gives (λ v. v.items) result (address_at index (table_view flow.now.table.now)) }
+    ensures few { IfOk result (λ v. vec_len v ≤ 32) }
+{
+    let address = flow.numbers_or_none(alloc, Key::Address, 255)?;
+    if address.len() > 32 {
+        return Err(flow.fault(KeyFault::OutOfRange, Key::Address));
+    }
+    Ok(address)
+}
+
+#[tactic(auto, unfolding(crate::specs::FlowTables::reply_of))]
+fn reply_of(alloc: Global, index: usize, table: &Table) -> Result<Reply, FileFault>
+    ensures { Gives (λ r. r) result (reply_of index (table_view table.now)) }
+{
+    let reply = Entry {
+        section: Section::Reply(index),
+        table,
+    };
+    reply.only_known(alloc, reply_keys())?;
+    let path = reply.numbers_or_none(alloc, Key::Path, 255)?;
+    let initiator = reply.number(Key::Initiator, 0, 255)? as u8;
+    Ok(Reply::new(path, initiator))
+}
+
+#[tactic(auto, unfolding(crate::specs::FlowTables::reply_or_none))]
+fn reply_or_none(alloc: Global, index: usize, flow: &Entry) -> Result<Option<Reply>, FileFault>
+    requires { flow.now.section ≡ Section.Flow index }
+    ensures { Gives (λ r. r) result (reply_or_none index (table_view flow.now.table.now)) }
+{
+    match flow.table_or_none(Key::Reply)? {
+        Some(table) => {
+            let reply = reply_of(alloc, index, table)?;
+            Ok(Some(reply))
+        }
+        None => Ok(None),
+    }
+}
+
+fn has_no_leading_zero(bytes: &[u8]) -> bool
+    ensures { result ≡ has_no_leading_zero bytes.now }
+{
+    match bytes {
+        [0, ..] => false,
+        _ => true,
+    }
+}
+
+fn can_reply(network: &Network, to: u16, reply: Option<&Reply>) -> bool
+    requires { to < length network.now.nodes }
+    ensures { result ≡ can_reply network.now.nodes to (option_map (λ r. r.now) reply.entry) }
+{
+    match reply {
+        None => true,
+        Some(reply) => {
+            reply.path().len() <= 12
+                && has_no_leading_zero(reply.path())
+                && 32 <= reply.initiator()
+                && reply.initiator() <= 254
+                && network.is_target(to)
+        }
+    }
+}
+
+/// Adds the flow that the table declares.
+#[tactic(auto, unfolding(crate::specs::FlowTables::flow_of, crate::specs::FlowTables::next_flow))]
+pub(crate) fn add_flow(
+    alloc: Global,
+    index: usize,
+    table: &Table,
+    network: &mut Network,
+) -> Result<(), FileFault>
+    requires { length network.old.flows < MAX_FLOWS }
+    ensures gives { Gives (λ _. network.new) result (next_flow index network.old (table_view table.now)) }
+    ensures one_more { OnOk result (length network.new.flows ≡ length network.old.flows + 1) }
+{
+    let flow = Entry {
+        section: Section::Flow(index),
+        table,
+    };
+    flow.only_known(alloc, flow_keys())?;
+    let name = new_flow_name(&flow, network)?;
+    let from = node_at(&flow, Key::From, network)?;
+    let to = node_at(&flow, Key::To, network)?;
+    let address = address_at(alloc, index, &flow)?;
+    let left = flow.number_or(Key::Left, 0, address.len() as u64, 0)? as u8;
+    let reply = reply_or_none(alloc, index, &flow)?;
+    if !can_reply(network, to, reply.as_ref()) {
+        return Err(FileFault::Text(TextFault::ReplyShape(index)));
+    }
+    let name = String::from_str(alloc, name)?;
+    network.add_flow(alloc, Flow::new(name, from, to, address, left, reply))?;
+    Ok(())
+}

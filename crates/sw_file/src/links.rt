@@ -1,0 +1,76 @@
+//! Entries of `link`.
+ghost use Rattle.std.specs.Prelude.{◌≡◌, ◌+◌, ◌<◌, length, IfOk};
+ghost use Rattle.toml.specs.View.{table_view};
+ghost use Rattle.sw_topo.specs.Checked.{IsIn};
+ghost use Rattle.sw_network.specs.Entries.{part_names};
+ghost use Rattle.sw_tree.specs.Gives.{Gives};
+ghost use Rattle.sw_file.specs.Names.{place_at};
+ghost use Rattle.sw_file.specs.Links.{end_at, next_link};
+
+use crate::keys::link_keys;
+use std::alloc::Global;
+use std::marker::Model;
+use sw_network::NetworkBuilder;
+use sw_topo::{PlaceEnd, Port};
+use sw_tree::{Entry, FileFault, Key, KeyFault, Section, Version};
+use toml::Table;
+
+#[tactic(auto, unfolding(crate::specs::Names::place_at))]
+fn part_at(link: &Entry, key: Key, builder: &NetworkBuilder) -> Result<usize, FileFault>
+    ensures gives { Gives (λ n. n) result (place_at link.now.section key (part_names builder.now) (table_view link.now.table.now)) }
+    ensures within { IfOk result (λ n. n < length builder.now.nodes + length builder.now.switches) }
+{
+    let name = link.text(key)?;
+    match builder.part_named(name) {
+        Some(part) => Ok(part),
+        None => Err(link.fault(KeyFault::UnknownName, key)),
+    }
+}
+
+#[tactic(auto, unfolding(crate::specs::Links::end_at))]
+fn link_end(
+    alloc: Global,
+    link: &Entry,
+    key: Key,
+    port_key: Key,
+    builder: &NetworkBuilder,
+) -> Result<PlaceEnd, FileFault>
+    ensures gives { Gives (λ e. e) result (end_at link.now.section key port_key (length builder.now.nodes) (part_names builder.now) (table_view link.now.table.now)) }
+    ensures inside { IfOk result (IsIn (length builder.now.nodes) (length builder.now.switches)) }
+{
+    let part = part_at(link, key, builder)?;
+    let nodes = builder.node_count() as usize;
+    if part < nodes {
+        link.absent(alloc, port_key)?;
+        return Ok(PlaceEnd::Node(part as u16));
+    }
+    prove!(part < nodes + builder.switch_count() as usize);
+    let number = link.number(port_key, 0, 31)?;
+    let port = Port::new(number as u8).unwrap();
+    Ok(PlaceEnd::Switch((part - nodes) as u16, port))
+}
+
+/// Adds the link that the table declares.
+#[tactic(auto, unfolding(crate::specs::Links::link_of, crate::specs::Links::next_link))]
+pub(crate) fn add_link(
+    alloc: Global,
+    version: Version,
+    index: usize,
+    table: &Table,
+    builder: &mut NetworkBuilder,
+) -> Result<(), FileFault>
+    ensures { Gives (λ _. builder.new) result (next_link version index builder.old (table_view table.now)) }
+{
+    let link = Entry {
+        section: Section::Link(index),
+        table,
+    };
+    link.only_known(alloc, link_keys(version))?;
+    let a = link_end(alloc, &link, Key::A, Key::APort, builder)?;
+    let b = link_end(alloc, &link, Key::B, Key::BPort, builder)?;
+    let buffer = link.number_or(Key::Buffer, 8, 4096, 64)?;
+    let buffer_a = link.number_or(Key::BufferA, 8, 4096, buffer)?;
+    let buffer_b = link.number_or(Key::BufferB, 8, 4096, buffer)?;
+    builder.add_link(a, b, buffer_a as u16, buffer_b as u16)?;
+    Ok(())
+}

@@ -1,0 +1,127 @@
+//! Entries of `node`.
+ghost use Rattle.std.specs.Prelude.{◌≡◌, ◌+◌, ◌<◌, ◌≤◌, [], false, length, IfOk, IfSome, OnOk};
+ghost use Rattle.std.specs.List.{list_any};
+ghost use Rattle.std.specs.Str.{bytes_eq};
+ghost use Rattle.toml.specs.View.{table_view};
+ghost use Rattle.sw_rmap.specs.Config.{IsTargetConfig};
+ghost use Rattle.sw_network.specs.Entries.{part_names};
+ghost use Rattle.sw_tree.specs.Gives.{Gives};
+ghost use Rattle.sw_file.specs.Names.{new_name};
+ghost use Rattle.sw_file.specs.Nodes.{size_at, config_of, target_or_none, next_node};
+
+use crate::keys::{node_keys, target_keys};
+use std::alloc::Global;
+use std::marker::Model;
+use sw_network::NetworkBuilder;
+use sw_rmap::TargetConfig;
+use sw_topo::MAX_NODES;
+use sw_tree::{Entry, FileFault, Key, KeyFault, Section, Version};
+use toml::Table;
+
+/// One more than the greatest address of a target's memory.
+const MEMORY_END: u64 = 1_099_511_627_776;
+
+#[tactic(auto, unfolding(crate::specs::Nodes::size_at))]
+fn window_size(index: usize, target: &Entry, start: u64) -> Result<u32, FileFault>
+    requires section { target.now.section ≡ Section.Target index }
+    requires start { start ≤ 1099511627775 }
+    ensures gives { Gives (λ n. n) result (size_at index start (table_view target.now.table.now)) }
+    ensures within { IfOk result (λ n. (1 ≤ n) × (n ≤ 65536) × (start + n ≤ 1099511627776)) }
+{
+    let size = target.number(Key::Size, 1, 65536)?;
+    if start + size > MEMORY_END {
+        return Err(target.fault(KeyFault::OutOfRange, Key::Size));
+    }
+    Ok(size as u32)
+}
+
+#[tactic(auto, unfolding(crate::specs::Nodes::config_of))]
+fn target_config(
+    alloc: Global,
+    version: Version,
+    index: usize,
+    table: &Table,
+) -> Result<TargetConfig, FileFault>
+    ensures gives { Gives (λ t. t) result (config_of version index (table_view table.now)) }
+    ensures valid { IfOk result IsTargetConfig }
+{
+    let target = Entry {
+        section: Section::Target(index),
+        table,
+    };
+    target.only_known(alloc, target_keys(version))?;
+    let logical = target.number(Key::Logical, 32, 254)? as u8;
+    let key = target.number_or(Key::TargetKey, 0, 255, 0)? as u8;
+    let start = target.number_or(Key::Start, 0, MEMORY_END - 1, 0)?;
+    let size = window_size(index, &target, start)?;
+    let slots = target.number_or(Key::Slots, 1, 8, 1)? as u8;
+    Ok(TargetConfig {
+        logical,
+        key,
+        start,
+        size,
+        slots,
+    })
+}
+
+#[tactic(auto, unfolding(crate::specs::Nodes::target_or_none))]
+fn target_or_none(
+    alloc: Global,
+    version: Version,
+    index: usize,
+    node: &Entry,
+) -> Result<Option<TargetConfig>, FileFault>
+    requires { node.now.section ≡ Section.Node index }
+    ensures gives { Gives (λ t. t) result (target_or_none version index (table_view node.now.table.now)) }
+    ensures valid { IfOk result (λ t. IfSome t IsTargetConfig) }
+{
+    match node.table_or_none(Key::Target)? {
+        Some(table) => {
+            let target = target_config(alloc, version, index, table)?;
+            Ok(Some(target))
+        }
+        None => Ok(None),
+    }
+}
+
+/// The name of a node or switch, which none before it has.
+#[tactic(auto, unfolding(crate::specs::Names::new_name))]
+pub(crate) fn new_part_name<'a>(
+    entry: &Entry<'a>,
+    builder: &NetworkBuilder,
+) -> Result<&'a str, FileFault>
+    ensures gives { Gives (λ s. s.now) result (new_name entry.now.section (part_names builder.now) (table_view entry.now.table.now)) }
+    ensures fresh { IfOk result (λ s. list_any (bytes_eq s.now) (part_names builder.now) ≡ false) }
+{
+    let name = entry.name()?;
+    if builder.has_name(name) {
+        return Err(entry.fault(KeyFault::DuplicateName, Key::Name));
+    }
+    Ok(name)
+}
+
+/// Adds the node that the table declares.
+#[tactic(auto, unfolding(crate::specs::Nodes::node_of, crate::specs::Nodes::next_node))]
+pub(crate) fn add_node(
+    alloc: Global,
+    version: Version,
+    index: usize,
+    table: &Table,
+    builder: &mut NetworkBuilder,
+) -> Result<(), FileFault>
+    requires few { length builder.old.nodes < MAX_NODES }
+    requires nodes_first { builder.old.switches ≡ [] }
+    ensures gives { Gives (λ _. builder.new) result (next_node version index builder.old (table_view table.now)) }
+    ensures one_more { OnOk result (length builder.new.nodes ≡ length builder.old.nodes + 1) }
+    ensures switches { OnOk result (builder.new.switches ≡ builder.old.switches) }
+{
+    let node = Entry {
+        section: Section::Node(index),
+        table,
+    };
+    node.only_known(alloc, node_keys())?;
+    let name = new_part_name(&node, builder)?;
+    let target = target_or_none(alloc, version, index, &node)?;
+    builder.add_node(alloc, name, target)?;
+    Ok(())
+}

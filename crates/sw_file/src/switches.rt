@@ -1,0 +1,166 @@
+//! Entries of `switch`.
+ghost use Rattle.std.specs.Prelude.{◌≡◌, ◌+◌, ◌<◌, ◌≤◌, [], All, length, map, IfOk, OnOk, Option};
+ghost use Rattle.toml.specs.View.{table_view};
+ghost use Rattle.sw_topo.specs.Ports.{port_set};
+ghost use Rattle.sw_route.specs.Looks.{IsRoute};
+ghost use Rattle.sw_tree.specs.Gives.{Gives, walk};
+ghost use Rattle.sw_file.specs.Switches.{arbitration_named, arbitration_at, ports_at, route_of, next_route, routes_at, next_switch};
+
+use crate::keys::{route_keys, switch_keys};
+use crate::nodes::new_part_name;
+use std::alloc::Global;
+use std::marker::Model;
+use sw_arb::Arbitration;
+use sw_network::NetworkBuilder;
+use sw_route::{Route, RouteError, TableRoutes};
+use sw_topo::{MAX_SWITCHES, Port, PortSet};
+use sw_tree::{Entry, FileFault, Key, KeyFault, Section, TextFault, Version};
+use toml::Table;
+
+fn arbitration_named(name: &str) -> Option<Arbitration>
+    ensures { result ≡ arbitration_named name.now }
+{
+    if name == "fixed" {
+        Some(Arbitration::Fixed)
+    } else if name == "round-robin" {
+        Some(Arbitration::RoundRobin)
+    } else if name == "least-recent" {
+        Some(Arbitration::LeastRecent)
+    } else {
+        None
+    }
+}
+
+#[tactic(auto, unfolding(crate::specs::Switches::arbitration_at))]
+fn arbitration_at(index: usize, switch: &Entry) -> Result<Arbitration, FileFault>
+    requires { switch.now.section ≡ Section.Switch index }
+    ensures { Gives (λ a. a) result (arbitration_at index (table_view switch.now.table.now)) }
+{
+    let Some(name) = switch.text_or_none(Key::Arbiter)? else {
+        return Ok(Arbitration::RoundRobin);
+    };
+    match arbitration_named(name) {
+        Some(arbitration) => Ok(arbitration),
+        None => Err(switch.fault(KeyFault::OutOfRange, Key::Arbiter)),
+    }
+}
+
+fn port_set(numbers: &[u8]) -> PortSet
+    requires { All (λ n. n ≤ 31) numbers.now }
+    ensures { result ≡ port_set numbers.now }
+{
+    let mut ports = PortSet::EMPTY;
+    for number in numbers {
+        let port = Port::new(*number).unwrap();
+        ports = ports.with(port);
+    }
+    ports
+}
+
+#[tactic(auto, unfolding(crate::specs::Switches::ports_at))]
+fn ports_at(alloc: Global, route: &Entry) -> Result<PortSet, FileFault>
+    ensures { Gives (λ s. s) result (ports_at route.now.section (table_view route.now.table.now)) }
+{
+    let numbers = route.numbers(alloc, Key::Ports, 31)?;
+    if numbers.is_empty() || numbers.len() > 32 {
+        return Err(route.fault(KeyFault::OutOfRange, Key::Ports));
+    }
+    Ok(port_set(&numbers))
+}
+
+#[tactic(auto, unfolding(crate::specs::Switches::route_of))]
+fn route_of(alloc: Global, version: Version, route: &Entry) -> Result<Route, FileFault>
+    ensures gives { Gives (λ r. r) result (route_of version route.now.section (table_view route.now.table.now)) }
+    ensures valid { IfOk result IsRoute }
+{
+    route.only_known(alloc, route_keys(version))?;
+    let first = route.number(Key::Address, 32, 254)?;
+    let last = route.number_or(Key::Last, first, 254, first)?;
+    let ports = ports_at(alloc, route)?;
+    let delete = route.flag_or_false(Key::Delete)?;
+    Ok(Route {
+        first: first as u8,
+        last: last as u8,
+        ports,
+        delete,
+    })
+}
+
+#[tactic(auto, unfolding(crate::specs::Switches::next_route))]
+fn add_route(
+    alloc: Global,
+    version: Version,
+    switch: usize,
+    index: usize,
+    table: &Table,
+    routes: &mut TableRoutes,
+) -> Result<(), FileFault>
+    ensures { Gives (λ _. routes.new) result (next_route version switch index routes.old (table_view table.now)) }
+{
+    let entry = Entry {
+        section: Section::Route(switch, index),
+        table,
+    };
+    let route = route_of(alloc, version, &entry)?;
+    match routes.add_range(route.first, route.last, route.ports, route.delete) {
+        Ok(()) => Ok(()),
+        Err(RouteError::Duplicate) => {
+            Err(FileFault::Text(TextFault::DuplicateRoute(switch, index)))
+        }
+        Err(RouteError::Memory) => Err(FileFault::Memory),
+    }
+}
+
+fn walk_routes(
+    alloc: Global,
+    version: Version,
+    switch: usize,
+    tables: &[&Table],
+) -> Result<TableRoutes, FileFault>
+    ensures { Gives (λ t. t) result (walk (next_route version switch) [] (map (λ t. table_view t.now) tables.now)) }
+{
+    let mut routes = TableRoutes::new(alloc);
+    for (i, table) in tables.iter().enumerate() {
+        add_route(alloc, version, switch, i, table, &mut routes)?;
+    }
+    Ok(routes)
+}
+
+#[tactic(auto, unfolding(crate::specs::Switches::routes_at))]
+fn routes_at(
+    alloc: Global,
+    version: Version,
+    index: usize,
+    switch: &Entry,
+) -> Result<TableRoutes, FileFault>
+    requires { switch.now.section ≡ Section.Switch index }
+    ensures { Gives (λ t. t) result (routes_at version index (table_view switch.now.table.now)) }
+{
+    let tables = switch.tables_or_none(alloc, Key::Route)?;
+    walk_routes(alloc, version, index, &tables)
+}
+
+/// Adds the switch that the table declares.
+#[tactic(auto, unfolding(crate::specs::Switches::switch_of, crate::specs::Switches::next_switch))]
+pub(crate) fn add_switch(
+    alloc: Global,
+    version: Version,
+    index: usize,
+    table: &Table,
+    builder: &mut NetworkBuilder,
+) -> Result<(), FileFault>
+    requires { length builder.old.switches < MAX_SWITCHES }
+    ensures gives { Gives (λ _. builder.new) result (next_switch version index builder.old (table_view table.now)) }
+    ensures one_more { OnOk result (length builder.new.switches ≡ length builder.old.switches + 1) }
+{
+    let switch = Entry {
+        section: Section::Switch(index),
+        table,
+    };
+    switch.only_known(alloc, switch_keys())?;
+    let name = new_part_name(&switch, builder)?;
+    let arbitration = arbitration_at(index, &switch)?;
+    let routes = routes_at(alloc, version, index, &switch)?;
+    builder.add_switch(alloc, name, arbitration, routes)?;
+    Ok(())
+}

@@ -1,0 +1,9 @@
+use Rattle.sw_machine.proofs.laws.accepted_is_bounded.Goals as goal
+use Rattle.sw_machine.proofs.Free.{is_deadlock_free}
+
+pub returns : goal.returns
+returns c = record {
+  bounded = λ net cert ok acc. (is_deadlock_free net cert ok acc).bounded;
+  by_load = λ net cert ok acc. (is_deadlock_free net cert ok acc).bounded_by_load;
+  ends = λ net cert ok acc. (is_deadlock_free net cert ok acc).ends_empty;
+}

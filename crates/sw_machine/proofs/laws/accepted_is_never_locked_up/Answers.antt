@@ -1,0 +1,9 @@
+use Rattle.sw_machine.proofs.laws.accepted_is_never_locked_up.Goals as goal
+use Rattle.sw_machine.proofs.Free.{is_deadlock_free}
+
+pub returns : goal.returns
+returns c = record {
+  goes_on = λ net cert ok acc. (is_deadlock_free net cert ok acc).always_goes_on;
+  never = λ net cert ok acc. (is_deadlock_free net cert ok acc).never_locked_up;
+  quiet = λ net cert ok acc. (is_deadlock_free net cert ok acc).quiet_is_empty;
+}

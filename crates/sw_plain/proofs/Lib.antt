@@ -1,0 +1,5 @@
+pub mod Puts
+pub mod RowChanges
+pub mod Outputs
+pub mod Start
+pub mod Silence

@@ -1,0 +1,4 @@
+pub mod Cell
+pub mod Conditions
+pub mod Changes
+pub mod Waiting

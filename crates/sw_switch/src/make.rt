@@ -1,0 +1,63 @@
+//! A new switch.
+ghost use Rattle.std.specs.Prelude.{◌≡◌, ℕ, length, replicate, map, All, slice_get, Some, IfOk, vec_len};
+ghost use Rattle.sw_link.specs.Ends.{IsCapacity};
+ghost use Rattle.sw_switch.specs.Cell.{HaveArbiters, new_end, new_cell};
+
+use crate::cell::SwitchCell;
+use crate::input::Input;
+use std::alloc::{AllocError, Global};
+use sw_arb::Arbiter;
+use sw_link::{RxEnd, TxEnd};
+use sw_route::Routing;
+use sw_topo::PortSet;
+
+/// How many ports a switch has.
+const PORTS: usize = 32;
+
+fn no_credits(alloc: Global) -> Result<Vec<TxEnd>, AllocError>
+    ensures { IfOk result (λ ends. ends.items ≡ replicate 32 0) }
+{
+    let mut ends = Vec::new(alloc);
+    for _ in 0..PORTS {
+        ends.push(TxEnd::new())?;
+    }
+    Ok(ends)
+}
+
+fn empty_ends(alloc: Global, capacities: &[usize]) -> Result<Vec<RxEnd>, AllocError>
+    requires { All IsCapacity capacities.now }
+    ensures { IfOk result (λ ends. ends.items ≡ map new_end capacities.now) }
+{
+    let mut ends = Vec::new(alloc);
+    for capacity in capacities {
+        ends.push(RxEnd::new(alloc, *capacity)?)?;
+    }
+    Ok(ends)
+}
+
+impl<R: Routing + Drop, A: Arbiter + Drop> SwitchCell<R, A> {
+    /// A switch with links at those ports. The capacities, each 8 to 4,096, and the arbiters go by
+    /// port, 0 to 31. A port without a link needs no arbiter, and its capacity is not used.
+    pub fn new(
+        alloc: Global,
+        routes: R,
+        linked: PortSet,
+        capacities: &[usize],
+        arbiters: Vec<Option<A>>,
+    ) -> Result<SwitchCell<R, A>, AllocError>
+        requires ports { length capacities.now ≡ 32 }
+        requires capacities { All IsCapacity capacities.now }
+        requires arbiters { vec_len arbiters ≡ 32 }
+        requires arbiter_ports { HaveArbiters A.ports linked arbiters.items }
+        ensures { IfOk result (λ cell. cell ≡ new_cell routes linked capacities.now arbiters.items) }
+    {
+        Ok(SwitchCell {
+            routes,
+            linked,
+            credits: no_credits(alloc)?,
+            inputs: vec![in alloc; Input::Idle; PORTS]?,
+            received: empty_ends(alloc, capacities)?,
+            arbiters,
+        })
+    }
+}

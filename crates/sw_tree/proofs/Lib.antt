@@ -1,0 +1,4 @@
+pub mod Documents
+pub mod Members
+pub mod Walks
+pub mod Unknown

@@ -1,0 +1,92 @@
+//! `swcheck`: a checker of SpaceWire networks.
+//!
+//! It opens the files that its words name, and hands them on to the engines of `sw_app`.
+#![tactic(auto)]
+
+ghost use Rattle.std.specs.Prelude.{◌≡◌, ◌⊎◌};
+ghost use Rattle.sw_app.specs.CommandLine.{words_status};
+ghost use Rattle.sw_app.specs.Ends.{exit_status};
+
+use std::process::ExitCode;
+use std::rt::{Env, Files};
+use std::{env, fs, io};
+use sw_app::{Call, Ended, WordsFault, route, words};
+
+fn main(rt: HostRuntime) -> ExitCode {
+    ExitCode::from(run(&rt))
+}
+
+// Does what the words say that the program was given, and answers its status.
+fn run<R: Env + Files + Print + Eprint + AllocGlobal>(rt: &R) -> u8 {
+    let given = match env::args(rt) {
+        Ok(given) => given,
+        Err(error) if error.kind() == io::ErrorKind::OutOfMemory => return refused(
+            rt,
+            &WordsFault::Memory,
+        ),
+        Err(_) => return not_text(rt),
+    };
+    let Ok(texts) = given.collect::<Vec<String>>(rt.alloc()) else {
+        return refused(rt, &WordsFault::Memory);
+    };
+    run_texts(rt, texts.as_slice())
+}
+
+fn run_texts<R: Files + Print + Eprint + AllocGlobal>(rt: &R, texts: &[String]) -> u8 {
+    let views = texts.iter().map(|text| text.as_str());
+    let Ok(views) = views.collect::<Vec<&str>>(rt.alloc()) else {
+        return refused(rt, &WordsFault::Memory);
+    };
+    match words(rt.alloc(), views.as_slice()) {
+        Ok(call) => finished(rt, run_call(rt, call)),
+        Err(fault) => refused(rt, &fault),
+    }
+}
+
+fn run_call<R: Files + Print + AllocGlobal>(rt: &R, call: Call<'_>) -> Ended {
+    match call {
+        Call::Route { file, flow } => {
+            let Ok(mut reader) = fs::open(rt, file) else {
+                return Ended::ReadFailed;
+            };
+            let mut writer = io::writer(rt);
+            route(rt.alloc(), &mut reader, flow, &mut writer)
+        }
+    }
+}
+
+// Tells of a read or a write that failed.
+fn finished(rt: &impl Eprint, ended: Ended) -> u8
+    ensures { result ≡ exit_status ended }
+{
+    let _ = match ended {
+        Ended::Status(_) => Ok(()),
+        Ended::ReadFailed => eprint!(rt; "swcheck: read failed\n"),
+        Ended::WriteFailed => eprint!(rt; "swcheck: write failed\n"),
+    };
+    ended.status()
+}
+
+// Tells why the words give no call.
+fn refused<R: Print + Eprint>(rt: &R, fault: &WordsFault) -> u8
+    ensures { (result ≡ words_status fault.now) ⊎ (result ≡ exit_status Ended.WriteFailed) }
+{
+    let written = match fault {
+        WordsFault::Help(text) => print!(rt; "{text}"),
+        WordsFault::Refused(text) => {
+            let _ = eprint!(rt; "{text}");
+            Ok(())
+        }
+        WordsFault::Memory => print!(rt; "fault memory\n"),
+    };
+    match written {
+        Ok(()) => fault.status(),
+        Err(_) => finished(rt, Ended::WriteFailed),
+    }
+}
+
+// Tells that a word is no text.
+fn not_text(rt: &impl Eprint) -> u8 {
+    let _ = eprint!(rt; "error: the words are no UTF-8 text\n");
+    2
+}
