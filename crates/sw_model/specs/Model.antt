@@ -52,6 +52,11 @@ abbrev pub memory_at_first : Option TargetConfig → List ℕ
 memory_at_first None = []
 memory_at_first (Some t) = replicate t.size 0
 
+-- how many bytes a reply has behind its address, at most: its header and the data of its whole window
+abbrev pub longest_reply : Option TargetConfig → ℕ
+longest_reply None = 0
+longest_reply (Some t) = 12 + t.size
+
 -- a plain node takes what comes: it never owes a reply
 abbrev pub slots_of : Option TargetConfig → ℕ
 slots_of None = 1
@@ -76,5 +81,6 @@ network_of d = record {
   answer = λ n memory bytes end. answer_of (target_of d.nodes n) memory bytes end;
   slots = λ n. slots_of (target_of d.nodes n);
   memory_after = λ n memory bytes end. memory_after (target_of d.nodes n) memory bytes end;
+  longest = λ n. longest_reply (target_of d.nodes n);
   memory_at_first = λ n. memory_at_first (target_of d.nodes n);
 }
