@@ -1,6 +1,5 @@
 -- The machine's network of a network that a file declares.
-use Rattle.std.specs.Prelude.{ℕ, Bool, ◌+◌, List, [], length, take, drop, replicate, slice_get, slice_index, Option, Some, None, option_map, option_and_then, unwrap_or}
-use Rattle.std.specs.Option.{option_map_or}
+use Rattle.std.specs.Prelude.{ℕ, ◌+◌, List, [], length, drop, replicate, slice_get, slice_index, Option, Some, None, option_map, unwrap_or}
 use Rattle.sw_topo.specs.declared.place.PlaceEnd.{PlaceEnd}
 use Rattle.sw_topo.specs.declared.place.PlaceEnd.TheVariants.{Node, Switch}
 use Rattle.sw_topo.specs.Wiring.{out, partner}
@@ -8,7 +7,8 @@ use Rattle.sw_char.specs.declared.nchar.End.{End}
 use Rattle.sw_rmap.specs.declared.config.TargetConfig.{TargetConfig}
 use Rattle.sw_rmap.specs.Answers.{answer}
 use Rattle.sw_rmap.specs.Replies.{reply_to}
-use Rattle.sw_network.specs.Entries.{NodeEntry, ReplyEntry, FlowEntry, Declaration, target_of, look_at, capacities, reply_flows, all_flows}
+use Rattle.sw_network.specs.Entries.{FlowEntry, Declaration, target_of, look_at, capacities, all_flows}
+use Rattle.sw_network.specs.Laws.{replies_before}
 use Rattle.sw_flow.specs.Places.{ends_of, end_of}
 use Rattle.sw_flow.specs.Numbers.{outputs}
 use Rattle.sw_machine.specs.Network.{Network, Flow, Cell, PendingReply}
@@ -22,7 +22,7 @@ cell_of (Some (Switch s p)) = AtSwitch s
 
 -- the number of the reply flow of declared flow i: behind all declared flows, in the order of their flows
 abbrev pub reply_number : Declaration → ℕ → ℕ
-reply_number d i = length d.flows + length (reply_flows (take i d.flows))
+reply_number d i = length d.flows + replies_before d.flows i
 
 abbrev pub flow_of : ℕ → Option FlowEntry → Flow
 flow_of reply None = record { from = 0; to = 0; address = []; left = 0; reply = None }

@@ -1,0 +1,4 @@
+pub mod Answering
+pub mod Flows
+pub mod Topology
+pub mod Networks
