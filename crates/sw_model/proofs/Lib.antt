@@ -2,3 +2,4 @@ pub mod Answering
 pub mod Flows
 pub mod Topology
 pub mod Networks
+pub mod Steps

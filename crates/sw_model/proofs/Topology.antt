@@ -25,7 +25,7 @@ room (l ∷ ls) zero all lt = (All-head IsLink l ls all).low_b
 room (l ∷ ls) (suc zero) all lt = (All-head IsLink l ls all).low_a
 room (l ∷ ls) (suc (suc c)) all lt = room ls c (All-tail IsLink l ls all) (omega arith)
 
-cell_node : (e : PlaceEnd) (n : ℕ) → cell_of (Some e) ≡ AtNode n → e ≡ Node n
+pub cell_node : (e : PlaceEnd) (n : ℕ) → cell_of (Some e) ≡ AtNode n → e ≡ Node n
 cell_node (Node m) n h = let same : m ≡ n = cc in ap Node same
 cell_node (Switch s p) n h = absurd cc
 

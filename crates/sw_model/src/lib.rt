@@ -3,4 +3,4 @@
 
 mod laws;
 
-pub use laws::declared_networks_are_networks;
+pub use laws::{declared_networks_are_networks, steps_of_flows_agree};
