@@ -1,5 +1,5 @@
 -- The steps, places and faults of a flow, in the machine and by its entry.
-use Rattle.std.proofs.Common.{◌≡◌, ◌≢◌, ℕ, ◌-◌, ◌<◌, List, [], ◌∷◌, length, Option, Some, None, refl, sym, ap, ◌∙◌, subst, arith, Contains}
+use Rattle.std.proofs.Common.{◌≡◌, ◌≢◌, ℕ, ◌-◌, ◌<◌, ◌≤◌, List, [], ◌∷◌, length, Option, Some, None, refl, sym, ap, ◌∙◌, subst, arith, Contains}
 use Rattle.std.specs.Prelude.{slice_index}
 use Rattle.sw_topo.specs.declared.place.PlaceEnd.{PlaceEnd}
 use Rattle.sw_topo.specs.declared.place.PlaceEnd.TheVariants.{Node, Switch}
@@ -103,16 +103,15 @@ module _ (d : Declaration) (i : ℕ) (f : FlowEntry) (here : IsFlowAt d i f) whe
     place_out c k Start = let s = starts in subst (λ (x : ℕ). declared.IsPlace d f x 0) (sym s.2) (start s.1)
     place_out c k (Goes b j e m p h) = next (place_out b j p) (step_out b j e m h)
 
-    -- a place's channel ends somewhere
-    end_there : (c k : ℕ) → declared.IsPlace d f c k → (e : PlaceEnd) × (end_of d c ≡ Some e)
-    end_there c k place = some_at (ends_of d) (partner c) (partner_within (wiring_of d) valid.sound c (places_are_in d f c k place).0)
+    -- a channel that ends at a node
+    end_node : (c n : ℕ) → c < length (ends_of d) → cell_of (end_of d c) ≡ AtNode n → end_of d c ≡ Some (Node n)
+    end_node c n lt h =
+        let e = some_at (ends_of d) (partner c) (partner_within (wiring_of d) valid.sound c lt) in
+        e.1 ∙ ap Some (cell_node e.0 n (rw e.1 at h))
 
-    end_node : (c k n : ℕ) → declared.IsPlace d f c k → cell_of (end_of d c) ≡ AtNode n → end_of d c ≡ Some (Node n)
-    end_node c k n place h = let e = end_there c k place in e.1 ∙ ap Some (cell_node e.0 n (rw e.1 at h))
-
-    fault_in : (c k : ℕ) → declared.IsPlace d f c k → fault_of d f c k ≡ None → machine.NoFault (network_of d) i c k
+    fault_in : (c k : ℕ) → c < length (ends_of d) → fault_of d f c k ≡ None → machine.NoFault (network_of d) i c k
     unfolding network_of
-    fault_in c k place none =
+    fault_in c k lt none =
         let all = faults_are d f c k in
         record {
           address = λ h.
@@ -128,23 +127,22 @@ module _ (d : Declaration) (i : ℕ) (f : FlowEntry) (here : IsFlowAt d i f) whe
               cc;
           node = λ h.
               let other : h.node ≢ f.to = λ same. h.other (same ∙ sym to_is) in
-              let bad = all.wrong_node.1 (h.node, end_node c k h.node place h.at, other) in
+              let bad = all.wrong_node.1 (h.node, end_node c h.node lt h.at, other) in
               cc;
           left = λ h.
               let other : length f.address - k ≢ f.left = λ same. h.other (rw (address_is, left_is) same) in
-              let bad = all.wrong_left.1 (end_node c k f.to place (h.at ∙ ap AtNode to_is), other) in
+              let bad = all.wrong_left.1 (end_node c f.to lt (h.at ∙ ap AtNode to_is), other) in
               cc;
         }
 
-    fault_out : (c k : ℕ) → declared.IsPlace d f c k → machine.NoFault (network_of d) i c k → fault_of d f c k ≡ None
+    fault_out : (c k : ℕ) → k ≤ length f.address → machine.NoFault (network_of d) i c k → fault_of d f c k ≡ None
     unfolding network_of
-    fault_out c k place sound = by (fault_of d f c k) refl
+    fault_out c k few sound = by (fault_of d f c k) refl
       where
         by : (o : Option RouteFault) → fault_of d f c k ≡ o → o ≡ None
         by None is = refl
         by (Some AddressEnds) is =
             let w = (faults_are d f c k).address_ends.0 is in
-            let few = (places_are_in d f c k place).1 in
             let ends : k ≡ length f.address = omega arith in
             absurd (sound.address (record { switch = w.0; at = ap cell_of w.2; ends = to_machine (λ (a : List ℕ). k ≡ length a) ends }))
         by (Some NoRoute) is =
@@ -167,10 +165,10 @@ module _ (d : Declaration) (i : ℕ) (f : FlowEntry) (here : IsFlowAt d i f) whe
     agrees = record {
       step = λ c k e m. (step_out c k e m, step_in c k e m);
       place = λ c k. (place_out c k, place_in c k);
-      fault = λ c k place. (fault_out c k place, fault_in c k place);
+      fault = λ c k lt few. (fault_out c k few, fault_in c k lt);
       well_routed = (
-        λ well c k place. fault_out c k place (well c k (place_in c k place)),
-        λ well c k place. let there = place_out c k place in fault_in c k there (well c k there),
+        λ well c k place. fault_out c k (places_are_in d f c k place).1 (well c k (place_in c k place)),
+        λ well c k place. let there = place_out c k place in fault_in c k (places_are_in d f c k there).0 (well c k there),
       );
     }
 
