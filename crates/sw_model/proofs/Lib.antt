@@ -1,0 +1,5 @@
+pub mod Answering
+pub mod Flows
+pub mod Topology
+pub mod Networks
+pub mod Steps

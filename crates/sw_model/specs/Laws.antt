@@ -1,0 +1,29 @@
+-- What holds of the machine's network of a network that a file declares.
+use Rattle.std.specs.Prelude.{◌≡◌, ◌↔◌, ℕ, ◌<◌, ◌≤◌, length, slice_get, Some, None}
+use Rattle.sw_network.specs.Entries.{FlowEntry, Declaration, all_flows}
+use Rattle.sw_network.specs.Valid.{IsValid}
+use Rattle.sw_flow.specs.Places as declared
+use Rattle.sw_flow.specs.Faults as declared_faults
+use Rattle.sw_machine.specs.Network.{IsNetwork}
+use Rattle.sw_machine.specs.Places as machine
+use Rattle.sw_model.specs.Model.{network_of}
+
+-- each valid network is one of the machine's
+abbrev pub DeclaredNetworksAreNetworks : Type 0
+DeclaredNetworksAreNetworks = (d : Declaration) → IsValid d → IsNetwork (network_of d)
+
+-- flow i of all flows is f
+abbrev pub IsFlowAt : Declaration → ℕ → FlowEntry → Type 0
+IsFlowAt d i f = slice_get (all_flows d) i ≡ Some f
+
+-- what holds of each flow, by its entry and in the machine
+pub record FlowAgrees (d : Declaration) (i : ℕ) (f : FlowEntry) : Type 0 where
+  pub step : (c k e m : ℕ) → machine.Follows (network_of d) i c k e m ↔ declared.Follows d f c k e m
+  pub place : (c k : ℕ) → machine.IsPlace (network_of d) i c k ↔ declared.IsPlace d f c k
+  -- on each channel, with at most all address bytes deleted, as at each place
+  pub fault : (c k : ℕ) → c < length (declared.ends_of d) → k ≤ length f.address → (machine.NoFault (network_of d) i c k ↔ declared_faults.fault_of d f c k ≡ None)
+  pub well_routed : machine.IsWellRouted (network_of d) i ↔ declared_faults.IsWellRouted d f
+
+-- each flow of a valid network, declared or of replies, has the same steps, places and faults in the machine as by its entry
+abbrev pub StepsOfFlowsAgree : Type 0
+StepsOfFlowsAgree = (d : Declaration) → IsValid d → (i : ℕ) (f : FlowEntry) → IsFlowAt d i f → FlowAgrees d i f

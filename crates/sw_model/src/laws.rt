@@ -1,0 +1,12 @@
+//! What holds of the machine's network of a declared network. These functions do nothing: each is the proof of what its clause says.
+ghost use Rattle.sw_model.specs.Laws.{DeclaredNetworksAreNetworks, StepsOfFlowsAgree};
+
+/// Each valid network is one of the machine's.
+pub fn declared_networks_are_networks()
+    ensures { DeclaredNetworksAreNetworks }
+{}
+
+/// Each flow of a valid network has the same steps, places and faults in the machine.
+pub fn steps_of_flows_agree()
+    ensures { StepsOfFlowsAgree }
+{}
