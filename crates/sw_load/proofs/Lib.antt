@@ -1,0 +1,2 @@
+mod Headers
+mod Ends

@@ -1,0 +1,7 @@
+//! Packets that a network's flows declare, and the load file, which lists some to be sent.
+#![tactic(auto)]
+
+mod packets;
+mod way;
+
+pub use packets::in_flow;
