@@ -1,2 +1,3 @@
 mod Headers
 mod Ends
+mod Spelled
