@@ -1,5 +1,7 @@
 -- Which packets a flow declares.
-use Rattle.std.specs.Prelude.{◌≡◌, ℕ, ◌-◌, ◌≤◌, ◌⊎◌, List, [], ◌∷◌, ◌++◌, length, drop, slice_get, Option, Some, None, option_map, is_some, if◌then◌else◌}
+use Rattle.std.specs.Prelude.{◌≡◌, ℕ, Bool, true, false, ◌&&◌, nat_le, ◌-◌, ◌≤◌, ◌⊎◌, List, [], ◌∷◌, ◌++◌, length, drop, slice_get, Option, Some, None, option_map, is_some, if◌then◌else◌}
+use Rattle.std.specs.Option.{option_map_or}
+use Rattle.std.specs.Str.{bytes_eq}
 use Rattle.sw_rmap.specs.Replies.{reply_to}
 use Rattle.sw_network.specs.Entries.{NodeEntry, ReplyEntry, FlowEntry, Declaration, target_of}
 
@@ -31,3 +33,15 @@ pub record IsDeclaredPacket (d : Declaration) (flow : ℕ) (cargo : List ℕ) : 
   pub some : 1 ≤ length cargo
   pub few : length cargo ≤ 33554432
   pub answered : IsAnsweredRightly d.nodes entry cargo
+
+-- the same as a test
+abbrev pub is_right_way : Option (List ℕ) → Option ReplyEntry → Bool
+is_right_way None reply = true
+is_right_way (Some way) None = false
+is_right_way (Some way) (Some r) = bytes_eq way (reply_address r)
+
+abbrev pub is_answered_rightly : List NodeEntry → List ℕ → FlowEntry → Bool
+is_answered_rightly nodes cargo f = is_right_way (reply_from nodes f.to (left_bytes f ++ cargo)) f.reply
+
+abbrev pub is_declared_packet : Declaration → ℕ → List ℕ → Bool
+is_declared_packet d flow cargo = nat_le 1 (length cargo) && nat_le (length cargo) 33554432 && option_map_or (is_answered_rightly d.nodes cargo) (slice_get d.flows flow) false

@@ -3,7 +3,11 @@
 
 mod cargo;
 pub mod laws;
+mod load;
 mod packets;
+mod reading;
 mod way;
 
+pub use load::{Load, LoadPacket, MAX_PACKETS};
 pub use packets::in_flow;
+pub use reading::read_load;
