@@ -1,0 +1,5 @@
+mod Headers
+mod Ends
+mod Spelled
+mod Declared
+mod Named

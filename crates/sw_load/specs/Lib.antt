@@ -1,0 +1,4 @@
+pub mod Packets
+pub mod Cargo
+pub mod Load
+pub mod Laws

@@ -1,0 +1,148 @@
+//! The cargo text of a load file.
+ghost use Rattle.std.specs.Prelude.{◌≡◌, ◌<◌, ◌≤◌, [], IfOk, IfSome, option_map};
+ghost use Rattle.sw_load.specs.Cargo.{without_spaces, hex_value, hex_pair, is_well_begun, count_after, count_of, bytes_after, if_some_and_few, pairs_of, repeated_of, bytes_of, cargo_of};
+
+use std::alloc::{AllocError, Global};
+
+/// A cargo text spells at most this many bytes.
+const MAX_BYTES: usize = 4096;
+
+fn without_spaces(alloc: Global, text: &str) -> Result<Vec<u8>, AllocError>
+    ensures { IfOk result (λ v. v.items ≡ without_spaces text.now) }
+{
+    text.as_bytes()
+        .iter()
+        .copied()
+        .filter(|c| *c != b' ')
+        .collect(alloc)
+}
+
+fn hex_value(c: u8) -> Option<u8>
+    ensures value { result ≡ hex_value c }
+    ensures small { IfSome result (λ v. v < 16) }
+{
+    match c {
+        b'0'..=b'9' => Some(c - b'0'),
+        b'A'..=b'F' => Some(c - b'A' + 10),
+        b'a'..=b'f' => Some(c - b'a' + 10),
+        _ => None,
+    }
+}
+
+/// The byte that two hexadecimal digits write.
+fn hex_pair(high: u8, low: u8) -> Option<u8>
+    ensures { result ≡ hex_pair high low }
+{
+    let high = hex_value(high)?;
+    let low = hex_value(low)?;
+    Some(16 * high + low)
+}
+
+/// The number up to 4,096 that digits write.
+fn digits(bytes: &[u8]) -> Option<u16>
+    ensures value { result ≡ count_after 0 bytes.now }
+    ensures few { IfSome result (λ n. n ≤ 4096) }
+{
+    let mut value: u16 = 0;
+    for c in bytes {
+        if *c < b'0' || *c > b'9' {
+            return None;
+        }
+        value = 10 * value + u16::from(*c - b'0');
+        if value > 4096 {
+            return None;
+        }
+    }
+    Some(value)
+}
+
+fn is_well_begun(digits: &[u8]) -> bool
+    ensures { result ≡ is_well_begun digits.now }
+{
+    match digits {
+        [] => false,
+        [first, ..] => *first != b'0',
+    }
+}
+
+/// How many times a pair stands, by the digits behind `*`.
+fn count_of(text: &[u8]) -> Option<u16>
+    ensures value { result ≡ count_of text.now }
+    ensures few { IfSome result (λ n. n ≤ 4096) }
+{
+    if is_well_begun(text) {
+        digits(text)
+    } else {
+        None
+    }
+}
+
+/// The bytes whose pairs the text is.
+fn pairs(alloc: Global, text: &[u8]) -> Result<Option<Vec<u8>>, AllocError>
+    ensures { IfOk result (λ o. option_map (λ v. v.items) o ≡ bytes_after [] text.now) }
+{
+    let mut bytes = Vec::new(alloc);
+    let mut begun = None;
+    for c in text {
+        let Some(high) = begun else {
+            begun = Some(*c);
+            continue;
+        };
+        let Some(byte) = hex_pair(high, *c) else {
+            return Ok(None);
+        };
+        bytes.push(byte)?;
+        begun = None;
+    }
+    match begun {
+        None => Ok(Some(bytes)),
+        Some(_) => Ok(None),
+    }
+}
+
+fn pairs_of(alloc: Global, text: &[u8]) -> Result<Option<Vec<u8>>, AllocError>
+    ensures { IfOk result (λ o. option_map (λ v. v.items) o ≡ pairs_of text.now) }
+{
+    match pairs(alloc, text)? {
+        Some(bytes) if !bytes.is_empty() && bytes.len() <= MAX_BYTES => Ok(Some(bytes)),
+        _ => Ok(None),
+    }
+}
+
+fn repeated_of(
+    alloc: Global,
+    high: u8,
+    low: u8,
+    digits: &[u8],
+) -> Result<Option<Vec<u8>>, AllocError>
+    ensures { IfOk result (λ o. option_map (λ v. v.items) o ≡ repeated_of high low digits.now) }
+{
+    let Some(byte) = hex_pair(high, low) else {
+        return Ok(None);
+    };
+    let Some(count) = count_of(digits) else {
+        return Ok(None);
+    };
+    let bytes = vec![in alloc; byte; count as usize]?;
+    Ok(Some(bytes))
+}
+
+fn bytes_of(alloc: Global, text: &[u8]) -> Result<Option<Vec<u8>>, AllocError>
+    ensures { IfOk result (λ o. option_map (λ v. v.items) o ≡ bytes_of text.now) }
+{
+    if text.len() >= 3 && text[2] == b'*' {
+        repeated_of(alloc, text[0], text[1], &text[3..])
+    } else {
+        pairs_of(alloc, text)
+    }
+}
+
+/// The bytes that a cargo text spells: hexadecimal pairs in either case, of 1 to 4,096 bytes, or one
+/// pair, `*` and how many times it stands, 1 to 4,096. Spaces count for nothing.
+#[tactic(auto, unfolding(crate::specs::Cargo::cargo_of))]
+pub(crate) fn cargo_of(alloc: Global, text: &str) -> Result<Option<Vec<u8>>, AllocError>
+    ensures { IfOk result (λ o. option_map (λ v. v.items) o ≡ cargo_of text.now) }
+{
+    let text = without_spaces(alloc, text)?;
+    bytes_of(alloc, &text)
+}

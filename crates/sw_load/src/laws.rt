@@ -1,0 +1,13 @@
+//! What holds of the texts of a load, whatever the code.
+ghost use Rattle.sw_load.specs.Cargo.{CargoIsRead};
+ghost use Rattle.sw_load.specs.Laws.{DeclaredPacketsPass};
+
+/// A cargo text is read as bytes exactly where it spells them.
+pub fn cargo_is_read()
+    ensures { CargoIsRead }
+{}
+
+/// The test for declared packets passes for these alone.
+pub fn declared_packets_pass()
+    ensures { DeclaredPacketsPass }
+{}

@@ -1,0 +1,181 @@
+//! The load that a text lists.
+ghost use Rattle.std.specs.Prelude.{◌≡◌, ◌+◌, ◌<◌, ◌≤◌, [], length, map, position, IfOk, IfSome, option_map};
+ghost use Rattle.std.specs.Str.{bytes_eq};
+ghost use Rattle.toml.specs.View.{table_view};
+ghost use Rattle.sw_network.specs.Entries.{flow_names};
+ghost use Rattle.sw_tree.specs.Gives.{Gives, walk};
+ghost use Rattle.sw_load.specs.Packets.{is_declared_packet};
+ghost use Rattle.sw_load.specs.Load.{document_keys, packet_keys, packet_count, flow_at, cargo_at, marker_of, marker_at, count_at, packet_of, next_packet, load_of, load_text};
+
+use crate::cargo::cargo_of;
+use crate::load::{Load, LoadPacket, MAX_PACKETS};
+use crate::packets::in_flow;
+use std::alloc::Global;
+use std::marker::Model;
+use sw_char::End;
+use sw_network::Network;
+use sw_tree::{Entry, FileFault, Key, KeyFault, Section, TextFault, read_document};
+use toml::Table;
+
+/// A load has at most this many entries.
+const MAX_ENTRIES: usize = 4096;
+
+fn document_keys() -> &'static [Key]
+    ensures { result.now ≡ document_keys }
+{
+    &[Key::Packet]
+}
+
+fn packet_keys() -> &'static [Key]
+    ensures { result.now ≡ packet_keys }
+{
+    &[Key::Flow, Key::Cargo, Key::End, Key::Count]
+}
+
+/// The number of the declared flow of that name.
+fn declared_flow(network: &Network, name: &str) -> Option<u16>
+    ensures { result ≡ position (bytes_eq name.now) (flow_names network.now.flows) }
+{
+    let flow = network.flow_named(name)?;
+    if flow < network.declared_flows() {
+        Some(flow)
+    } else {
+        None
+    }
+}
+
+#[tactic(auto, unfolding(crate::specs::Load::flow_at))]
+fn flow_at(index: usize, packet: &Entry, network: &Network) -> Result<u16, FileFault>
+    requires { packet.now.section ≡ Section.Packet index }
+    ensures { Gives (λ n. n) result (flow_at index network.now.flows (table_view packet.now.table.now)) }
+{
+    let name = packet.text(Key::Flow)?;
+    match declared_flow(network, name) {
+        Some(flow) => Ok(flow),
+        None => Err(packet.fault(KeyFault::UnknownName, Key::Flow)),
+    }
+}
+
+#[tactic(auto, unfolding(crate::specs::Load::cargo_at))]
+fn cargo_at(alloc: Global, index: usize, packet: &Entry) -> Result<Vec<u8>, FileFault>
+    requires { packet.now.section ≡ Section.Packet index }
+    ensures { Gives (λ v. v.items) result (cargo_at index (table_view packet.now.table.now)) }
+{
+    let text = packet.text(Key::Cargo)?;
+    match cargo_of(alloc, text)? {
+        Some(bytes) => Ok(bytes),
+        None => Err(packet.fault(KeyFault::OutOfRange, Key::Cargo)),
+    }
+}
+
+fn marker_of(text: Option<&str>) -> Option<End>
+    ensures { result ≡ marker_of (option_map (λ s. s.now) text.entry) }
+{
+    match text {
+        None => Some(End::Eop),
+        Some(text) if text == "EOP" => Some(End::Eop),
+        Some(text) if text == "EEP" => Some(End::Eep),
+        Some(_) => None,
+    }
+}
+
+#[tactic(auto, unfolding(crate::specs::Load::marker_at))]
+fn marker_at(index: usize, packet: &Entry) -> Result<End, FileFault>
+    requires { packet.now.section ≡ Section.Packet index }
+    ensures { Gives (λ e. e) result (marker_at index (table_view packet.now.table.now)) }
+{
+    let text = packet.text_or_none(Key::End)?;
+    match marker_of(text) {
+        Some(end) => Ok(end),
+        None => Err(packet.fault(KeyFault::OutOfRange, Key::End)),
+    }
+}
+
+#[tactic(auto, unfolding(crate::specs::Load::count_at))]
+fn count_at(index: usize, packet: &Entry, before: u32) -> Result<u16, FileFault>
+    requires section { packet.now.section ≡ Section.Packet index }
+    requires few { before ≤ MAX_PACKETS }
+    ensures gives { Gives (λ n. n) result (count_at index before (table_view packet.now.table.now)) }
+    ensures within { IfOk result (λ n. before + n ≤ MAX_PACKETS) }
+{
+    let count = packet.number_or(Key::Count, 1, 1000, 1)? as u16;
+    if before + u32::from(count) > MAX_PACKETS {
+        return Err(packet.fault(KeyFault::OutOfRange, Key::Count));
+    }
+    Ok(count)
+}
+
+#[tactic(auto, using(crate::proofs::Declared::same_test))]
+fn is_declared(network: &Network, flow: u16, cargo: &[u8], end: End) -> bool
+    ensures { result ≡ is_declared_packet network.now flow cargo.now }
+{
+    in_flow(network, flow, cargo, end)
+}
+
+/// Adds the packets that the table lists.
+#[tactic(auto, unfolding(crate::specs::Load::packet_of, crate::specs::Load::next_packet))]
+fn add_packet(
+    alloc: Global,
+    index: usize,
+    table: &Table,
+    network: &Network,
+    load: &mut Load,
+) -> Result<(), FileFault>
+    ensures { Gives (λ _. load.new) result (next_packet network.now index load.old (table_view table.now)) }
+{
+    let packet = Entry {
+        section: Section::Packet(index),
+        table,
+    };
+    packet.only_known(alloc, packet_keys())?;
+    let flow = flow_at(index, &packet, network)?;
+    let cargo = cargo_at(alloc, index, &packet)?;
+    let end = marker_at(index, &packet)?;
+    let count = count_at(index, &packet, load.total())?;
+    if !is_declared(network, flow, &cargo, end) {
+        return Err(FileFault::Text(TextFault::NotInFlow(index)));
+    }
+    load.add(LoadPacket::new(flow, cargo, end, count))?;
+    Ok(())
+}
+
+fn walk_packets(
+    alloc: Global,
+    tables: &[&Table],
+    network: &Network,
+    load: &mut Load,
+) -> Result<(), FileFault>
+    ensures { Gives (λ _. load.new) result (walk (next_packet network.now) load.old (map (λ t. table_view t.now) tables.now)) }
+{
+    for (i, table) in tables.iter().enumerate() {
+        add_packet(alloc, i, table, network, load)?;
+    }
+    Ok(())
+}
+
+#[tactic(auto, unfolding(crate::specs::Load::load_of))]
+fn load_of(alloc: Global, network: &Network, document: &Entry) -> Result<Load, FileFault>
+    requires { document.now.section ≡ Section.Document }
+    ensures { Gives (λ l. l) result (load_of network.now (table_view document.now.table.now)) }
+{
+    document.only_known(alloc, document_keys())?;
+    let tables = document.tables_or_none(alloc, Key::Packet)?;
+    if tables.len() > MAX_ENTRIES {
+        return Err(document.fault(KeyFault::OutOfRange, Key::Packet));
+    }
+    let mut load = Load::new(alloc);
+    walk_packets(alloc, &tables, network, &mut load)?;
+    Ok(load)
+}
+
+/// Reads a load file: the packets that it lists for the network's declared flows, or its first fault.
+pub fn read_load(alloc: Global, network: &Network, bytes: &[u8]) -> Result<Load, FileFault>
+    ensures { Gives (λ l. l) result (load_text network.now bytes.now) }
+{
+    let table = read_document(alloc, bytes)?;
+    let document = Entry {
+        section: Section::Document,
+        table: &table,
+    };
+    load_of(alloc, network, &document)
+}
