@@ -2,4 +2,3 @@ mod Headers
 mod Ends
 mod Spelled
 mod Declared
-mod Named

@@ -1,8 +1,6 @@
 //! The load that a text lists.
-ghost use Rattle.std.specs.Prelude.{◌≡◌, ◌+◌, ◌<◌, ◌≤◌, [], length, map, position, IfOk, IfSome, option_map};
-ghost use Rattle.std.specs.Str.{bytes_eq};
+ghost use Rattle.std.specs.Prelude.{◌≡◌, ◌+◌, ◌≤◌, map, IfOk, option_map};
 ghost use Rattle.toml.specs.View.{table_view};
-ghost use Rattle.sw_network.specs.Entries.{flow_names};
 ghost use Rattle.sw_tree.specs.Gives.{Gives, walk};
 ghost use Rattle.sw_load.specs.Packets.{is_declared_packet};
 ghost use Rattle.sw_load.specs.Load.{document_keys, packet_keys, packet_count, flow_at, cargo_at, marker_of, marker_at, count_at, packet_of, next_packet, load_of, load_text};
@@ -32,25 +30,13 @@ fn packet_keys() -> &'static [Key]
     &[Key::Flow, Key::Cargo, Key::End, Key::Count]
 }
 
-/// The number of the declared flow of that name.
-fn declared_flow(network: &Network, name: &str) -> Option<u16>
-    ensures { result ≡ position (bytes_eq name.now) (flow_names network.now.flows) }
-{
-    let flow = network.flow_named(name)?;
-    if flow < network.declared_flows() {
-        Some(flow)
-    } else {
-        None
-    }
-}
-
 #[tactic(auto, unfolding(crate::specs::Load::flow_at))]
 fn flow_at(index: usize, packet: &Entry, network: &Network) -> Result<u16, FileFault>
     requires { packet.now.section ≡ Section.Packet index }
     ensures { Gives (λ n. n) result (flow_at index network.now.flows (table_view packet.now.table.now)) }
 {
     let name = packet.text(Key::Flow)?;
-    match declared_flow(network, name) {
+    match network.declared_flow_named(name) {
         Some(flow) => Ok(flow),
         None => Err(packet.fault(KeyFault::UnknownName, Key::Flow)),
     }

@@ -1,8 +1,6 @@
 //! Where the reply to a packet goes.
-ghost use Rattle.std.specs.Prelude.{◌≡◌, ◌==◌, ◌≤◌, ◌++◌, ◌∷◌, [], ◌↔◌, IsTrue, length, take, option_and_then, option_map};
-ghost use Rattle.std.specs.List.{list_all};
-ghost use Rattle.sw_rmap.specs.Instruction.{wants_reply};
-ghost use Rattle.sw_rmap.specs.Replies.{is_answered, leads_nowhere, path_of, reply_to, without_leading_zeros};
+ghost use Rattle.std.specs.Prelude.{◌≡◌, ◌≤◌, ◌++◌, ◌∷◌, [], ◌↔◌, IsTrue, length, take, option_map};
+ghost use Rattle.sw_rmap.specs.Replies.{path_of, reply_to};
 ghost use Rattle.sw_load.specs.Packets.{reply_address, IsRightWay};
 
 use arrayvec::ArrayVec;
@@ -16,47 +14,11 @@ const MAX_HEADER: usize = 28;
 /// A flow has at most this many address bytes.
 const MAX_ADDRESS: usize = 32;
 
-fn are_zeros(bytes: &[u8]) -> bool
-    ensures { result ≡ list_all (λ byte. byte == 0) bytes.now }
-{
-    bytes.iter().all(|byte| *byte == 0)
-}
-
-fn leads_nowhere(reply_address: &[u8]) -> bool
-    ensures { result ≡ leads_nowhere reply_address.now }
-{
-    !reply_address.is_empty() && are_zeros(reply_address)
-}
-
-fn without_leading_zeros(bytes: &[u8]) -> &[u8]
-    ensures { result.now ≡ without_leading_zeros bytes.now }
-{
-    let mut rest = bytes;
-    while let [0, after @ ..] = rest {
-        rest = after;
-    }
-    rest
-}
-
-fn wants_reply(command: &Command) -> bool
-    ensures { result ≡ wants_reply command.now.instruction }
-{
-    command.instruction() >> 3 & 1 == 1
-}
-
-/// Whether the command gets a reply.
-fn is_answered(command: &Command) -> bool
-    ensures { result ≡ is_answered command.now }
-{
-    wants_reply(command) && !leads_nowhere(command.reply_address())
-}
-
 /// Whether the reply to the command begins with these address bytes.
 fn goes_by(command: &Command, reply: &Reply) -> bool
     ensures { IsTrue result ↔ (path_of command.now ++ command.now.initiator ∷ [] ≡ reply_address reply.now) }
 {
-    without_leading_zeros(command.reply_address()) == reply.path()
-        && command.initiator() == reply.initiator()
+    command.path() == reply.path() && command.initiator() == reply.initiator()
 }
 
 /// The first bytes of the cargo, as many as a header may have.
@@ -88,7 +50,7 @@ fn is_right_way_of(bytes: &[u8], reply: Option<&Reply>) -> bool
     ensures { IsTrue result ↔ IsRightWay (reply_to bytes.now) (option_map (λ r. r.now) reply.entry) }
 {
     match Command::read(bytes) {
-        Some(command) if is_answered(&command) => match reply {
+        Some(command) if command.is_answered() => match reply {
             Some(reply) => goes_by(&command, reply),
             None => false,
         },

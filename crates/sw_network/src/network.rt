@@ -275,6 +275,15 @@ impl Network {
         }
     }
 
+    /// The number of the declared flow of that name.
+    pub fn declared_flow_named(&self, name: &str) -> Option<u16>
+        ensures number { result ≡ position (bytes_eq name.now) (flow_names self.now.flows) }
+        ensures within { IfSome result (λ i. i < length self.now.flows) }
+    {
+        let number = self.flows.number_of(name)?;
+        Some(number as u16)
+    }
+
     /// The number of the flow of that name; a reply flow's name ends in `+reply`.
     pub fn flow_named(&self, name: &str) -> Option<u16>
         ensures number { result ≡ position (bytes_eq name.now) (flow_names (all_flows self.now)) }

@@ -163,15 +163,16 @@ impl Command {
         self.instruction
     }
 
-    /// Whether the command gets a reply: where it wants one, and says where to.
-    pub(crate) fn is_answered(&self) -> bool
+    /// Whether the command gets a reply: it wants one, and its reply address is not of zeros alone.
+    pub fn is_answered(&self) -> bool
         ensures { result ≡ is_answered self.now }
     {
         self.instruction.wants_reply() && !leads_nowhere(self.reply_address())
     }
 
-    /// The path back.
-    pub(crate) fn path(&self) -> &[u8]
+    /// The path back, which the reply begins with, before the initiator logical address: the reply
+    /// address without its leading zeros.
+    pub fn path(&self) -> &[u8]
         ensures { result.now ≡ path_of self.now }
     {
         without_leading_zeros(self.reply_address())
