@@ -1,0 +1,10 @@
+pub mod Counts
+pub mod Releases
+pub mod Peels
+pub mod Backs
+pub mod Pigeons
+pub mod Cycles
+pub mod Turns
+pub mod Transfers
+pub mod Rings
+pub mod Existence

@@ -1,0 +1,28 @@
+use Rattle.std.proofs.Common.{◌≡◌, sym, ap, ◌∙◌, false, true, get_or, arith}
+use Rattle.std.proofs.lemmas.List.{get_or_default}
+use Rattle.sw_order.specs.Peeling.{is_done}
+use Rattle.sw_order.proofs.Backs.{walk_more, walk_done}
+use Rattle.sw_order.proofs.cycle.walk_back.Goals as goal
+
+pub loop-seen-preserved : goal.loop-seen-preserved
+loop-seen-preserved c =
+    let w = c.loop-seen.invariant in
+    let seen = c.loop-seen.seen.items in
+    let now = c.loop-seen.now in
+    let e = c.from.ensures in
+    let size = w.size in
+    let inn = w.inside in
+    let fresh : is_done seen now ≡ false = ap (λ k. get_or seen k false) (sym e) ∙ get_or_default seen c.from.result false c.index.result.now (omega arith) ∙ sym c.index.ensures ∙ c.loop-seen-test.true in
+    let here = rw c.from-in-loop-seen-2.ensures at c.unwrap-now.ensures in
+    rw (c.from-in-loop-seen.ensures, c.in_ok-push.ensures.items) (walk_more c.args.least.now c.args.done.now c.args.start seen c.loop-seen.path.items now w c.unwrap-now.result fresh c.requires.goes_on here)
+
+pub returns : goal.returns
+returns c =
+    let w = c.loop-seen.invariant in
+    let seen = c.loop-seen.seen.items in
+    let now = c.loop-seen.now in
+    let e = c.from.ensures in
+    let size = w.size in
+    let inn = w.inside in
+    let old : is_done seen now ≡ true = ap (λ k. get_or seen k false) (sym e) ∙ get_or_default seen c.from.result false c.index.result.now (omega arith) ∙ sym c.index.ensures ∙ c.loop-seen-test.false in
+    walk_done c.args.least.now c.args.done.now c.args.start seen c.loop-seen.path.items now w old
