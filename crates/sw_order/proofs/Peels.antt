@@ -1,299 +1,267 @@
--- The peeling, one member on.
-use Rattle.std.proofs.Common.{◌≡◌, ℕ, suc, ◌+◌, ◌<◌, ◌≤◌, ◌⊎◌, Bool, true, false, not, cond, List, [], ◌∷◌, ◌++◌, length, set, get_or, replicate, refl, sym, ap, ◌∙◌, subst, inl, inr, arith, All, get_or-set_same, get_or-set_other, length-set}
-use Rattle.std.specs.Prelude.{Vec, slice_index, ◌==◌, count_by, Result, Ok, Err, OnOk}
+-- A round, and what is peeled after the last.
+use Rattle.std.proofs.Common.{◌≡◌, ℕ, zero, suc, ◌+◌, ◌^◌, ◌<◌, ◌≤◌, ◌⊎◌, Bool, true, false, not, List, [], ◌∷◌, ◌++◌, length, get_or, replicate, refl, sym, ap, ◌∙◌, subst, inl, inr, arith, All, filter, min}
+use Rattle.std.specs.Prelude.{Vec, slice_index, Contains, Option, Some, None}
 use Rattle.std.specs.declared.alloc.Global.{Global}
+use Rattle.std.specs.List.{range_with_len}
 use Rattle.std.proofs.lemmas.Bool.{cases_eq, cases_Bool, false≢true, cases_lt}
-use Rattle.std.proofs.lemmas.List.{get_or-replicate, length_push, get_or_push, get_or_past, get_or_append_left, length-replicate}
-use Rattle.std.proofs.lemmas.List.Elements.{All-get_or}
-use Rattle.std.proofs.lemmas.List.Sums.{sum_by-set, count_by-le-length}
-use Rattle.sw_order.specs.Rows.{row, Leads}
-use Rattle.sw_order.specs.Peeling.{times, flag, total, IsCount, AreReady, Released, is_done, IsPeeled, left, Peeling}
-use Rattle.sw_order.proofs.Counts.{times_push, flag_here, flag_there, row_past, total_same, total_change, total_part, total_some, times_contains, contains_times}
-use Rattle.sw_order.proofs.Releases.{raised_cases}
+use Rattle.std.proofs.lemmas.List.{length-replicate}
+use Rattle.std.proofs.lemmas.List.FromFn.{get_or-range_with_len, length-range_with_len}
+use Rattle.std.proofs.lemmas.List.Elements.{All-contains, All-contains_itself, All-push, Contains-append_left, Contains-append_right, Contains-get_or, Contains-push, Contains-push_cases}
+use Rattle.sw_order.specs.Rounds.{AllDone, AreFree, AreRounds, AreTaken, IsPeeled, is_done}
+use Rattle.sw_order.specs.Rows.{row, IsGraph, Precedes}
+use Rattle.sw_order.specs.Walking.{IsLeastLeft, IsLeastOf, lesser}
+use Rattle.sw_order.proofs.Backs.{none_done}
 
-zero_cases : (x : ℕ) → ((x ≡ 0) × (flag (x == 0) ≡ 1)) ⊎ ((0 < x) × (flag (x == 0) ≡ 0))
-zero_cases x = elim (cases_eq x 0) [ inl e ↦ inl (e, flag_here x 0 e) | inr ne ↦ inr (omega arith, flag_there x 0 ne) ]
+pub not_listed : (d : ℕ) → Contains [] d → ⊥
+not_listed d h = let lt = h.1 in omega arith
 
-flag_at_most : (b : Bool) → flag b ≤ 1
-flag_at_most true = omega arith
-flag_at_most false = omega arith
+pub first_listed : (x : ℕ) (xs : List ℕ) → Contains (x ∷ xs) x
+first_listed x xs = (0, omega arith, refl)
 
-flag_false : (b : Bool) → flag b ≡ 0 → b ≡ false
-flag_false true e = absurd (omega arith)
-flag_false false e = refl
+pub later_listed : (x : ℕ) (xs : List ℕ) (d : ℕ) → Contains xs d → Contains (x ∷ xs) d
+later_listed x xs d h = Contains-append_right (x ∷ []) xs d h
 
-left_done : (g : List (Vec ℕ Global)) (done : List Bool) (c d : ℕ) → is_done done c ≡ true → left g done c d ≡ 0
-left_done g done c d e = rw e refl
+pub listed_cases : (x : ℕ) (xs : List ℕ) (d : ℕ) → Contains (x ∷ xs) d → (x ≡ d) ⊎ Contains xs d
+listed_cases x xs d (zero, lt, e) = inl e
+listed_cases x xs d (suc k, lt, e) = inr (k, omega arith, e)
 
-left_there : (g : List (Vec ℕ Global)) (done : List Bool) (c d : ℕ) → is_done done c ≡ false → left g done c d ≡ times (row g c) d
-left_there g done c d e = rw e refl
+-- a number is in a list or is not
+pub is_listed : (xs : List ℕ) (d : ℕ) → Contains xs d ⊎ (Contains xs d → ⊥)
+is_listed [] d = inr (not_listed d)
+is_listed (x ∷ xs) d = elim (cases_eq x d) [
+  | inl e ↦ inl (0, omega arith, e)
+  | inr ne ↦ elim (is_listed xs d) [
+    | inl h ↦ inl (later_listed x xs d h)
+    | inr never ↦ inr (λ h. elim (listed_cases x xs d h) [ inl e ↦ ne e | inr k ↦ never k ])
+  ]
+]
 
-flag_done : (done : List Bool) (d : ℕ) → is_done done d ≡ true → flag (is_done done d) ≡ 1
-flag_done done d e = rw e refl
-
--- what is set is done, and the others stay
-set_done : (done : List Bool) (c : ℕ) → c < length done → is_done (set done c true) c ≡ true
-set_done done c lt = get_or-set_same done c true false lt
-
-set_other : (done : List Bool) (c d : ℕ) → (d ≡ c → ⊥) → is_done (set done c true) d ≡ is_done done d
-set_other done c d ne = get_or-set_other done c d true false ne
-
-module _ (g : List (Vec ℕ Global)) (w l r : List ℕ) (done : List Bool) (c : ℕ) (p : Peeling g w l (r ++ c ∷ []) done) where
-  pub c_in : c < length g
-  c_in =
-      let len = length_push r c in
-      let at = get_or_push r c 0 (length r) refl in
-      let P : ℕ → Type 0 = λ d. d < length g in
-      subst P at (All-get_or P (r ++ c ∷ []) (length r) 0 (omega arith) p.inside)
-
-  -- nothing waits for c, and it is not done
-  fresh : (slice_index w c ≡ 0) × (is_done done c ≡ false) × (times r c ≡ 0)
-  fresh =
-      let h = p.held c c_in in
-      let t = times_push r c c in
-      let f = flag_here c c refl in
-      elim (zero_cases (slice_index w c)) [
-        | inl z ↦ let z1 = z.1 in (z.0, flag_false (is_done done c) (omega arith), omega arith)
-        | inr z ↦ let z1 = z.1 in absurd (omega arith)
-      ]
-
-  -- nothing is left of what leads to d
-  none_left : (b d : ℕ) → b < length g → d < length g → slice_index w d ≡ 0 → left g done b d ≡ 0
-  none_left b d bl dl z =
-      let t = total_part (length g) (λ c. left g done c d) b bl in
-      let e = p.remain d dl in
-      omega arith
-
-  -- d is done or is c, and c does not lead to it
-  pub calm : (d : ℕ) → d < length g → (is_done done d ≡ true) ⊎ (d ≡ c) → times (row g c) d ≡ 0
-  calm d lt (inl e) =
-      let h = p.held d lt in
-      let f = flag_done done d e in
-      elim (zero_cases (slice_index w d)) [
-        | inl z ↦ sym (left_there g done c d fresh.1) ∙ none_left c d c_in lt z.0
-        | inr z ↦ let z1 = z.1 in absurd (omega arith)
-      ]
-  calm d lt (inr e) = sym (left_there g done c d fresh.1) ∙ none_left c d c_in lt (ap (slice_index w) e ∙ fresh.0)
-
-  pub undone_falls : count_by not (set done c true) + 1 ≡ count_by not done
-  undone_falls =
-      let m = p.marked in
-      let ci = c_in in
-      let h = sum_by-set (λ (b : Bool). flag (not b)) done c true false (omega arith) in
-      let e : flag (not (get_or done c false)) ≡ 1 = rw fresh.1 refl in
-      omega arith
-
-  pub enough : (row_c : List ℕ) → row_c ≡ row g c → (d : ℕ) → d < length w → times row_c d ≤ slice_index w d
-  enough row_c same d lt =
-      let m = p.waits in
-      let t = total_part (length g) (λ b. left g done b d) c c_in in
-      let e = p.remain d (omega arith) in
-      let f = left_there g done c d fresh.1 in
-      let k = ap (λ x. times x d) same in
-      omega arith
-
-  module _ (w2 l2 r2 : List ℕ) (s : Released (row g c) (slice_index l c) (length g) w l r w2 l2 r2) where
-    same_level : (d : ℕ) → d < length g → (is_done done d ≡ true) ⊎ (d ≡ c) → slice_index l2 d ≡ slice_index l d
-    same_level d lt old =
-        let z = calm d lt old in
-        let h = s.higher d lt in
-        elim (raised_cases (slice_index l c) (slice_index l d) (times (row g c) d)) [
-          | inl a ↦ let e = a.1 in omega arith
-          | inr a ↦ let e = a.0 in absurd (omega arith)
-        ]
-
-    done_cases : (d : ℕ) → is_done (set done c true) d ≡ true → (is_done done d ≡ true) ⊎ (d ≡ c)
-    done_cases d e = elim (cases_eq d c) [ inl same ↦ inr same | inr ne ↦ inl (sym (set_other done c d ne) ∙ e) ]
-
-    done_more : (d : ℕ) → is_done done d ≡ true → is_done (set done c true) d ≡ true
-    done_more d e = elim (cases_eq d c) [ inl same ↦ absurd (false≢true (sym fresh.1 ∙ ap (is_done done) (sym same) ∙ e)) | inr ne ↦ set_other done c d ne ∙ e ]
-
-    c_done : is_done (set done c true) c ≡ true
-    c_done = set_done done c (let m = p.marked in let ci = c_in in omega arith)
-
-    remain_more : (d : ℕ) → d < length g → slice_index w2 d ≡ total (length g) (λ b. left g (set done c true) b d)
-    remain_more d lt =
-        let t = total_change (length g) (λ b. left g done b d) (λ b. left g (set done c true) b d) c c_in (λ b bl ne. ap (λ x. cond x 0 (times (row g b) d)) (set_other done c b ne)) in
-        let a = left_there g done c d fresh.1 in
-        let b = left_done g (set done c true) c d c_done in
-        let f = s.fewer d lt in
-        let e = p.remain d lt in
-        omega arith
-
-    held_more : (d : ℕ) → d < length g → times r2 d + flag (is_done (set done c true) d) ≡ flag (slice_index w2 d == 0)
-    held_more d lt =
-        let h = p.held d lt in
-        let t = times_push r c d in
-        let k = s.held d lt in
-        elim (cases_eq d c) [
-          | inl same ↦
-              let f = flag_here c d (sym same) in
-              let a : flag (is_done (set done c true) d) ≡ 1 = ap (λ x. flag (is_done (set done c true) x)) same ∙ flag_done (set done c true) c c_done in
-              let b : flag (is_done done d) ≡ 0 = ap (λ x. flag (is_done done x)) same ∙ rw fresh.1 refl in
-              omega arith
-          | inr ne ↦
-              let f = flag_there c d (λ e. ne (sym e)) in
-              let a = ap flag (set_other done c d ne) in
-              omega arith
-        ]
-
-    low_more : (d : ℕ) → d < length g → slice_index l2 d + count_by not (set done c true) ≤ length g
-    low_more d lt =
-        let u = undone_falls in
-        let here = p.low d lt in
-        let there = p.low c c_in in
-        let h = s.higher d lt in
-        elim (raised_cases (slice_index l c) (slice_index l d) (times (row g c) d)) [
-          | inl a ↦ let e = a.1 in omega arith
-          | inr a ↦ let e = a.1 in omega arith
-        ]
-
-    above_more : (b d : ℕ) → b < length g → d < length g → is_done (set done c true) b ≡ true → 0 < times (row g b) d → slice_index l2 b < slice_index l2 d
-    above_more b d bl dl e some =
-        let h = s.higher d dl in
-        let keeps = same_level b bl (done_cases b e) in
-        elim (done_cases b e) [
-          | inl old ↦
-              let a = p.above b d bl dl old some in
-              elim (raised_cases (slice_index l c) (slice_index l d) (times (row g c) d)) [
-                | inl x ↦ let x1 = x.1 in omega arith
-                | inr x ↦ let x1 = x.1 in omega arith
-              ]
-          | inr same ↦
-              let t = ap (λ x. times (row g x) d) same in
-              let k = ap (slice_index l) same in
-              elim (raised_cases (slice_index l c) (slice_index l d) (times (row g c) d)) [
-                | inl x ↦ let x0 = x.0 in absurd (omega arith)
-                | inr x ↦ let x1 = x.1 in omega arith
-              ]
-        ]
-
-    below_old : (d v : ℕ) → d < length g → slice_index l d ≡ suc v → (b : ℕ) × (b < length g) × (is_done (set done c true) b ≡ true) × (0 < times (row g b) d) × (slice_index l2 b ≡ v)
-    below_old d v lt e =
-        let r = p.below d v lt e in
-        (r.0, r.1, done_more r.0 r.2, r.3, same_level r.0 r.1 (inl r.2) ∙ r.4)
-
-    below_more : (d v : ℕ) → d < length g → slice_index l2 d ≡ suc v → (b : ℕ) × (b < length g) × (is_done (set done c true) b ≡ true) × (0 < times (row g b) d) × (slice_index l2 b ≡ v)
-    below_more d v lt e =
-        let h = s.higher d lt in
-        elim (raised_cases (slice_index l c) (slice_index l d) (times (row g c) d)) [
-          | inl x ↦ below_old d v lt (sym x.1 ∙ sym h ∙ e)
-          | inr x ↦
-              let x1 = x.1 in
-              elim (cases_lt (slice_index l d) (slice_index l c + 1)) [
-                | inl less ↦ let k = same_level c c_in (inr refl) in (c, c_in, c_done, x.0, omega arith)
-                | inr more ↦ below_old d v lt (omega arith)
-              ]
-        ]
-
-    pub peel_more : Peeling g w2 l2 r2 (set done c true)
-    peel_more = record {
-      waits = s.waits ∙ p.waits;
-      numbered = s.numbered ∙ p.numbered;
-      marked = length-set done c true ∙ p.marked;
-      remain = remain_more;
-      held = held_more;
-      inside = s.inside;
-      low = low_more;
-      above = above_more;
-      below = below_more;
-    }
-
--- at first nothing is done
-pub peel_none : (g : List (Vec ℕ Global)) (w r : List ℕ) → IsCount g (length g) w → AreReady w r (length w) → Peeling g w (replicate (length g) 0) r (replicate (length g) false)
-peel_none g w r count ready =
-    let undone : (d : ℕ) → is_done (replicate (length g) false) d ≡ false = never (length g) in
-    let size = count.size in
-    let P : ℕ → Type 0 = λ n. AreReady w r n in
-    let ready2 = subst P size ready in
-    record {
-      waits = count.size;
-      numbered = length-replicate (length g) 0;
-      marked = length-replicate (length g) false;
-      remain = λ d lt. count.each d lt ∙ total_same (length g) (λ c. times (row g c) d) (λ c. left g (replicate (length g) false) c d) (λ c lc. sym (left_there g (replicate (length g) false) c d (undone c)));
-      held = λ d lt. let h = ready2.held d lt in let f : flag (is_done (replicate (length g) false) d) ≡ 0 = rw (undone d) refl in omega arith;
-      inside = ready2.inside;
-      low = λ d lt. let z = zeros (length g) d in let k = count_by-le-length not (replicate (length g) false) in let m = length-replicate (length g) false in omega arith;
-      above = λ c d cl dl e some. absurd (false≢true (sym (undone c) ∙ e));
-      below = λ d v lt e. let z = zeros (length g) d in absurd (omega arith);
-    }
+-- all are done, or one is not
+pub all_or_one : (done : List Bool) (xs : List ℕ) → AllDone done xs ⊎ ((c : ℕ) × Contains xs c × (is_done done c ≡ false))
+all_or_one done [] = inl (λ k d lt. absurd (omega arith))
+all_or_one done (x ∷ xs) = elim (cases_Bool (is_done done x)) [
+  | inl t ↦ elim (all_or_one done xs) [
+    | inl all ↦ inl (both t all)
+    | inr r ↦ inr (r.0, later_listed x xs r.0 r.1, r.2)
+  ]
+  | inr f ↦ inr (x, first_listed x xs, f)
+]
   where
-    never : (n d : ℕ) → is_done (replicate n false) d ≡ false
-    never n d = elim (cases_lt d n) [ inl lt ↦ get_or-replicate n d false false lt | inr le ↦ get_or_past (replicate n false) d false (let m = length-replicate n false in omega arith) ]
+    both : is_done done x ≡ true → AllDone done xs → AllDone done (x ∷ xs)
+    both t all zero d lt = t
+    both t all (suc k) d lt = all k d (omega arith)
 
-    past : (n d : ℕ) → n ≤ d → slice_index (replicate n 0) d ≡ 0
-    past n d le = let xs : List ℕ = replicate n 0 in let m : length xs ≡ n = length-replicate n 0 in get_or_past xs d 0 (omega arith)
+-- the least so far
+pub least_kept : (xs : List ℕ) (done : List Bool) (e : ℕ) (least : Option ℕ) → IsLeastOf xs done least → is_done done e ≡ true → IsLeastOf (xs ++ e ∷ []) done least
+least_kept xs done e None h t = All-push (λ c. is_done done c ≡ true) xs e h t
+least_kept xs done e (Some c) h t = record {
+  listed = Contains-append_left xs (e ∷ []) c h.listed;
+  left = h.left;
+  least = λ d k f. elim (Contains-push_cases xs e d k) [ inl old ↦ h.least d old f | inr same ↦ absurd (false≢true (sym f ∙ ap (is_done done) (sym same) ∙ t)) ];
+}
 
-    zeros : (n d : ℕ) → slice_index (replicate n 0) d ≡ 0
-    zeros n d = elim (cases_lt d n) [ inl lt ↦ get_or-replicate n d 0 0 lt | inr le ↦ past n d le ]
+pub least_more : (xs : List ℕ) (done : List Bool) (e : ℕ) (least : Option ℕ) → IsLeastOf xs done least → is_done done e ≡ false → IsLeastOf (xs ++ e ∷ []) done (Some (lesser least e))
+least_more xs done e None h f = record {
+  listed = Contains-push xs e;
+  left = f;
+  least = λ d k g. elim (Contains-push_cases xs e d k) [ inl old ↦ absurd (false≢true (sym g ∙ All-contains (λ c. is_done done c ≡ true) xs d h old)) | inr same ↦ omega arith ];
+}
+least_more xs done e (Some c) h f = elim (cases_lt e c) [
+  | inl less ↦
+      let s : e ≡ min c e = omega arith in
+      let P : ℕ → Type 0 = IsLeastLeft (xs ++ e ∷ []) done in
+      subst P s (record {
+        listed = Contains-push xs e;
+        left = f;
+        least = λ d k g. elim (Contains-push_cases xs e d k) [ inl old ↦ let le = h.least d old g in omega arith | inr same ↦ omega arith ];
+      })
+  | inr more ↦
+      let s : c ≡ min c e = omega arith in
+      let P : ℕ → Type 0 = IsLeastLeft (xs ++ e ∷ []) done in
+      subst P s (record {
+        listed = Contains-append_left xs (e ∷ []) c h.listed;
+        left = h.left;
+        least = λ d k g. elim (Contains-push_cases xs e d k) [ inl old ↦ h.least d old g | inr same ↦ omega arith ];
+      })
+]
 
--- what holds where nothing is ready any more
-module _ (g : List (Vec ℕ Global)) (w l : List ℕ) (done : List Bool) (p : Peeling g w l [] done) where
-  rises : (c d : ℕ) → d < length g → is_done done d ≡ true → Leads g c d → (c < length g) × (is_done done c ≡ true) × (slice_index l c < slice_index l d)
-  rises c d dl e leads =
-      let some = times_contains (row g c) d leads in
-      let cl : c < length g = elim (cases_lt c (length g)) [ inl lt ↦ lt | inr le ↦ let z = ap (λ x. times x d) (row_past g c le) in absurd (omega arith) ] in
-      let h = p.held d dl in
-      let f = flag_done done d e in
-      let dc : is_done done c ≡ true = elim (zero_cases (slice_index w d)) [
-        | inl z ↦ elim (cases_Bool (is_done done c)) [
-          | inl t ↦ t
-          | inr t ↦ let k = left_there g done c d t in let t2 = total_part (length g) (λ b. left g done b d) c cl in let rem = p.remain d dl in let z0 = z.0 in absurd (omega arith)
+-- what a filter keeps
+kept_cases : (p : ℕ → Bool) (x : ℕ) (xs : List ℕ) → ((p x ≡ true) × (filter p (x ∷ xs) ≡ x ∷ filter p xs)) ⊎ ((p x ≡ false) × (filter p (x ∷ xs) ≡ filter p xs))
+kept_cases p x xs = elim (cases_Bool (p x)) [ inl t ↦ inl (t, rw t refl) | inr f ↦ inr (f, rw f refl) ]
+
+pub kept : (p : ℕ → Bool) (xs : List ℕ) (d : ℕ) → Contains xs d → p d ≡ true → Contains (filter p xs) d
+kept p [] d h t = absurd (not_listed d h)
+kept p (x ∷ xs) d h t =
+    let P : List ℕ → Type 0 = λ l. Contains l d in
+    elim (kept_cases p x xs) [
+      | inl a ↦ elim (listed_cases x xs d h) [ inl e ↦ subst P (sym a.1) (0, omega arith, e) | inr k ↦ subst P (sym a.1) (later_listed x (filter p xs) d (kept p xs d k t)) ]
+      | inr a ↦ elim (listed_cases x xs d h) [ inl e ↦ absurd (false≢true (sym a.0 ∙ ap p e ∙ t)) | inr k ↦ subst P (sym a.1) (kept p xs d k t) ]
+    ]
+
+pub kept_from : (p : ℕ → Bool) (xs : List ℕ) (d : ℕ) → Contains (filter p xs) d → Contains xs d × (p d ≡ true)
+kept_from p [] d h = absurd (not_listed d h)
+kept_from p (x ∷ xs) d h =
+    let P : List ℕ → Type 0 = λ l. Contains l d in
+    elim (kept_cases p x xs) [
+      | inl a ↦ elim (listed_cases x (filter p xs) d (subst P a.1 h)) [ inl e ↦ ((0, omega arith, e), ap p (sym e) ∙ a.0) | inr k ↦ let r = kept_from p xs d k in (later_listed x xs d r.0, r.1) ]
+      | inr a ↦ let r = kept_from p xs d (subst P a.1 h) in (later_listed x xs d r.0, r.1)
+    ]
+
+pub kept_most : (p : ℕ → Bool) (xs : List ℕ) → length (filter p xs) ≤ length xs
+kept_most p [] = omega arith
+kept_most p (x ∷ xs) = let r = kept_most p xs in elim (kept_cases p x xs) [ inl a ↦ let e = ap length a.1 in omega arith | inr a ↦ let e = ap length a.1 in omega arith ]
+
+-- a filter that leaves a member out gives a shorter list
+pub kept_fewer : (p : ℕ → Bool) (xs : List ℕ) (d : ℕ) → Contains xs d → p d ≡ false → length (filter p xs) < length xs
+kept_fewer p [] d h f = absurd (not_listed d h)
+kept_fewer p (x ∷ xs) d h f =
+    elim (kept_cases p x xs) [
+      | inl a ↦ elim (listed_cases x xs d h) [ inl e ↦ absurd (false≢true (sym f ∙ ap p (sym e) ∙ a.0)) | inr k ↦ let r = kept_fewer p xs d k f in let e = ap length a.1 in omega arith ]
+      | inr a ↦ let r = kept_most p xs in let e = ap length a.1 in omega arith
+    ]
+
+undone_kept : (b : Bool) → not b ≡ true → b ≡ false
+undone_kept true e = absurd (false≢true e)
+undone_kept false e = refl
+
+-- before the first round
+pub rounds_none : (g : List (Vec ℕ Global)) → AreRounds g 0 (replicate (length g) 0) (replicate (length g) false) (range_with_len 0 (length g))
+rounds_none g =
+    let n : ℕ = length g in
+    let size = length-range_with_len 0 n in
+    record {
+      numbered = length-replicate n 0;
+      marked = length-replicate n false;
+      low = omega arith;
+      listed = λ d lt e. (d, omega arith, get_or-range_with_len 0 n d d lt ∙ omega arith);
+      undone = λ d h. let lt = h.1 in let at = get_or-range_with_len 0 n h.0 d (omega arith) in let here = h.2 in (omega arith, none_done n d);
+      rising = λ c d e h. absurd (false≢true (sym (none_done n d) ∙ e));
+      reached = λ d v e h. absurd (false≢true (sym (none_done n d) ∙ e));
+      below = λ d e. absurd (false≢true (sym (none_done n d) ∙ e));
+      late = λ d v h e. absurd (omega arith);
+    }
+
+pub left_inside : (g : List (Vec ℕ Global)) (round : ℕ) (levels : List ℕ) (done : List Bool) (left : List ℕ) → AreRounds g round levels done left → All (λ c. c < length g) left
+left_inside g round levels done left r k d lt = (r.undone (get_or left k d) (All-contains_itself left k d lt)).0
+
+pub free_inside : (g : List (Vec ℕ Global)) (round : ℕ) (levels : List ℕ) (done : List Bool) (left free : List ℕ) → AreRounds g round levels done left → AreFree g done left free → All (λ c. c < length done) free
+free_inside g round levels done left free r f k d lt =
+    let c : ℕ = get_or free k d in
+    let inside = (r.undone c ((f c).0 (All-contains_itself free k d lt)).0).0 in
+    let marked = r.marked in
+    omega arith
+
+pub round_fits : (g : List (Vec ℕ Global)) (round : ℕ) (levels : List ℕ) (done : List Bool) (left free : List ℕ) → AreRounds g round levels done left → AreFree g done left free → 0 < length free → length g ≤ 65535 → round + 1 < 2 ^ 16
+round_fits g round levels done left free r f some few =
+    let h = (f (get_or free 0 0)).0 (Contains-get_or free 0 0 some) in
+    let lt = h.0.1 in
+    let low = r.low in
+    omega arith
+
+module _ (g : List (Vec ℕ Global)) (ok : IsGraph g) (round : ℕ) (levels : List ℕ) (done : List Bool) (left free : List ℕ) (r : AreRounds g round levels done left) (f : AreFree g done left free) where
+  free_left : (c : ℕ) → Contains free c → is_done done c ≡ false
+  free_left c h = (r.undone c ((f c).0 h).0).1
+
+  done_not_free : (c : ℕ) → is_done done c ≡ true → Contains free c → ⊥
+  done_not_free c t h = false≢true (sym (free_left c h) ∙ t)
+
+  -- of a member that is left and not free a predecessor is left
+  held_back : (d : ℕ) → Contains left d → (Contains free d → ⊥) → (c : ℕ) × Precedes g c d × (is_done done c ≡ false)
+  held_back d h never = elim (all_or_one done (row g d)) [ inl all ↦ absurd (never ((f d).1 (h, all))) | inr k ↦ k ]
+
+  module _ (levels2 : List ℕ) (done2 : List Bool) (t : AreTaken round free levels levels2 done done2) where
+    same : (c : ℕ) → is_done done c ≡ true → (slice_index levels2 c ≡ slice_index levels c) × (is_done done2 c ≡ true)
+    same c e = let k = t.others c (done_not_free c e) in (k.0, k.1 ∙ e)
+
+    done_cases : (d : ℕ) → is_done done2 d ≡ true → Contains free d ⊎ (is_done done d ≡ true)
+    done_cases d e = elim (is_listed free d) [ inl h ↦ inl h | inr never ↦ inr (sym (t.others d never).1 ∙ e) ]
+
+    free_preceded : (c d : ℕ) → Contains free d → Precedes g c d → is_done done c ≡ true
+    free_preceded c d h k = All-contains (λ c. is_done done c ≡ true) (row g d) c ((f d).0 h).1 k
+
+    rising_more : (c d : ℕ) → is_done done2 d ≡ true → Precedes g c d → (is_done done2 c ≡ true) × (slice_index levels2 c < slice_index levels2 d)
+    rising_more c d e k = elim (done_cases d e) [
+      | inl h ↦
+          let before = free_preceded c d h k in
+          let s = same c before in
+          let low = r.below c before in
+          let here = (t.taken d h).0 in
+          (s.1, (let x = s.0 in omega arith))
+      | inr old ↦
+          let a = r.rising c d old k in
+          let s = same c a.0 in
+          let u = same d old in
+          (s.1, (let x = s.0 in let y = u.0 in let z = a.1 in omega arith))
+    ]
+
+    reached_more : (d v : ℕ) → is_done done2 d ≡ true → slice_index levels2 d ≡ suc v → (c : ℕ) × (is_done done2 c ≡ true) × Precedes g c d × (slice_index levels2 c ≡ v)
+    reached_more d v e lv = elim (done_cases d e) [
+      | inl h ↦
+          let here : round ≡ suc v = sym (t.taken d h).0 ∙ lv in
+          let k = r.late d v ((f d).0 h).0 here in
+          let before = free_preceded k.0 d h k.1 in
+          elim k.2 [
+            | inl undone ↦ absurd (false≢true (sym undone ∙ before))
+            | inr last ↦ let s = same k.0 before in (k.0, s.1, k.1, s.0 ∙ last.1)
+          ]
+      | inr old ↦
+          let k = r.reached d v old (sym (same d old).0 ∙ lv) in
+          let s = same k.0 k.1 in
+          (k.0, s.1, k.2, s.0 ∙ k.3)
+    ]
+
+    below_more : (d : ℕ) → is_done done2 d ≡ true → slice_index levels2 d < round + 1
+    below_more d e = elim (done_cases d e) [
+      | inl h ↦ let here = (t.taken d h).0 in omega arith
+      | inr old ↦ let low = r.below d old in let s = (same d old).0 in omega arith
+    ]
+
+    abbrev stays : ℕ → Bool
+    stays c = not (is_done done2 c)
+
+    undone_before : (d : ℕ) → is_done done2 d ≡ false → (Contains free d → ⊥) × (is_done done d ≡ false)
+    undone_before d e =
+        let never : Contains free d → ⊥ = λ h. false≢true (sym e ∙ (t.taken d h).1) in
+        (never, sym (t.others d never).1 ∙ e)
+
+    left_more : (d : ℕ) → Contains (filter stays left) d → Contains left d × (is_done done2 d ≡ false)
+    left_more d h = let k = kept_from stays left d h in (k.0, undone_kept (is_done done2 d) k.1)
+
+    late_more : (d v : ℕ) → Contains (filter stays left) d → round + 1 ≡ suc v → (c : ℕ) × Precedes g c d × ((is_done done2 c ≡ false) ⊎ ((is_done done2 c ≡ true) × (slice_index levels2 c ≡ v)))
+    late_more d v h e =
+        let now = left_more d h in
+        let k = held_back d now.0 (undone_before d now.1).0 in
+        let here : round ≡ v = omega arith in
+        elim (is_listed free k.0) [
+          | inl taken ↦ let s = t.taken k.0 taken in (k.0, k.1, inr (s.1, s.0 ∙ here))
+          | inr never ↦ (k.0, k.1, inl ((t.others k.0 never).1 ∙ k.2))
         ]
-        | inr z ↦ let z1 = z.1 in absurd (omega arith)
-      ] in
-      (cl, dc, p.above c d cl dl dc some)
 
-  reaches : (d v : ℕ) → d < length g → is_done done d ≡ true → slice_index l d ≡ suc v → (c : ℕ) × (c < length g) × (is_done done c ≡ true) × Leads g c d × (slice_index l c ≡ v)
-  reaches d v dl e lv = let r = p.below d v dl lv in (r.0, r.1, r.2, contains_times (row g r.0) d r.3, r.4)
+    pub left_falls : 0 < length free → length (filter stays left) < length left
+    left_falls some =
+        let c : ℕ = get_or free 0 0 in
+        let h = Contains-get_or free 0 0 some in
+        let gone : stays c ≡ false = ap not (t.taken c h).1 in
+        kept_fewer stays left c ((f c).0 h).0 gone
 
-  tangles : (d : ℕ) → d < length g → is_done done d ≡ false → (c : ℕ) × (c < length g) × (is_done done c ≡ false) × Leads g c d
-  tangles d dl e =
-      let h = p.held d dl in
-      let f : flag (is_done done d) ≡ 0 = rw e refl in
-      elim (zero_cases (slice_index w d)) [
-        | inl z ↦ let z1 = z.1 in absurd (omega arith)
-        | inr z ↦
-            let z0 = z.0 in
-            let rem = p.remain d dl in
-            let r = total_some (length g) (λ b. left g done b d) (omega arith) in
-            let r2 = r.2 in
-            elim (cases_Bool (is_done done r.0)) [
-              | inl t ↦ let k = left_done g done r.0 d t in absurd (omega arith)
-              | inr t ↦ let k = left_there g done r.0 d t in (r.0, r.1, t, contains_times (row g r.0) d (omega arith))
-            ]
-      ]
+    pub rounds_more : 0 < length free → length levels2 ≡ length levels → length done2 ≡ length done → AreRounds g (round + 1) levels2 done2 (filter stays left)
+    rounds_more some size marks = record {
+      numbered = size ∙ r.numbered;
+      marked = marks ∙ r.marked;
+      low = let falls = left_falls some in let low = r.low in omega arith;
+      listed = λ d lt e. let u = undone_before d e in kept stays left d (r.listed d lt u.1) (ap not e);
+      undone = λ d h. let k = left_more d h in ((r.undone d k.0).0, k.1);
+      rising = rising_more;
+      reached = reached_more;
+      below = below_more;
+      late = late_more;
+    }
 
-  pub peel_done : IsPeeled g l done
-  peel_done = record {
-    numbered = p.numbered;
-    marked = p.marked;
-    rising = rises;
-    reached = reaches;
-    tangled = tangles;
+  pub peeled : length free ≡ 0 → IsPeeled g levels done
+  peeled none = record {
+    numbered = r.numbered;
+    marked = r.marked;
+    rising = r.rising;
+    reached = r.reached;
+    tangled = λ d lt e. let k = held_back d (r.listed d lt e) (λ h. let l = h.1 in omega arith) in (k.0, k.2, k.1);
   }
-
--- the front of a list
-pub all_front : (P : ℕ → Type 0) (r : List ℕ) (c : ℕ) → All P (r ++ c ∷ []) → All P r
-all_front P r c h = λ k d lt. let len = length_push r c in let e = get_or_append_left r (c ∷ []) d k lt in subst P e (h k d (omega arith))
-
-pub inside_waiting : (g : List (Vec ℕ Global)) (w l r : List ℕ) (done : List Bool) (c : ℕ) → Peeling g w l (r ++ c ∷ []) done → All (λ d. d < length w) r
-inside_waiting g w l r done c p = let P : ℕ → Type 0 = λ n. All (λ d. d < n) r in subst P (sym p.waits) (all_front (λ d. d < length g) r c p.inside)
-
-pub on_ok_map : {A E : Type 0} {P Q : Type 0} (r : Result A E) → (P → Q) → OnOk r P → OnOk r Q
-on_ok_map (Ok x) f h = f h
-on_ok_map (Err e) f h = tt
-
--- the step as the code makes it
-pub peel_step : {E : Type 0} (g : List (Vec ℕ Global)) (w l r : List ℕ) (done : List Bool) (c at : ℕ) (row_c w2 l2 r2 : List ℕ) (n : ℕ) (result : Result (Unit {0}) E)
-    → Peeling g w l (r ++ c ∷ []) done → at ≡ c → row_c ≡ row g c → n ≡ length g → OnOk result (Released row_c (slice_index l at) n w l r w2 l2 r2) → OnOk result (Peeling g w2 l2 r2 (set done at true))
-peel_step g w l r done c at row_c w2 l2 r2 n result p here same size h =
-    let P : ℕ → Type 0 = λ k. OnOk result (Released row_c (slice_index l k) n w l r w2 l2 r2) in
-    let Q : List ℕ → Type 0 = λ x. OnOk result (Released x (slice_index l c) n w l r w2 l2 r2) in
-    let R : ℕ → Type 0 = λ k. OnOk result (Released (row g c) (slice_index l c) k w l r w2 l2 r2) in
-    let S : ℕ → Type 0 = λ k. OnOk result (Peeling g w2 l2 r2 (set done k true)) in
-    subst S (sym here) (on_ok_map result (λ s. peel_more g w l r done c p w2 l2 r2 s) (subst R size (subst Q same (subst P here h))))
-
-pub no_items : {A : Type 0} (xs : List A) → length xs ≡ 0 → xs ≡ []
-no_items [] e = refl
-no_items (x ∷ xs) e = absurd (omega arith)

@@ -1,8 +1,8 @@
 -- The shown cycle as a list of members, each with a step to the next.
-use Rattle.std.proofs.Common.{◌≡◌, ℕ, ◌<◌, List, [], ◌∷◌, ◌++◌, length, refl, sym, ap, ◌∙◌, subst, arith}
+use Rattle.std.proofs.Common.{◌≡◌, ℕ, ◌<◌, List, [], ◌∷◌, ◌++◌, length, refl, sym, ap, subst, arith}
 use Rattle.std.specs.Prelude.{reverse, slice_index}
 use Rattle.std.proofs.lemmas.List.{reverse-append}
-use Rattle.sw_order.specs.Cycles.{IsLeastPredecessor, IsShownCycle, Walks}
+use Rattle.sw_order.specs.Cycles.{IsLeastPredecessor, Walks}
 use Rattle.sw_order.specs.Laws.{IsChain, IsCycle, ShownIsCycle}
 
 module _ (dep : ℕ → ℕ → Type 0) where

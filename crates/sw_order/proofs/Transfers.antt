@@ -1,12 +1,14 @@
 -- Relations with the same steps.
-use Rattle.std.proofs.Common.{◌≡◌, ℕ, zero, suc, ◌<◌, ◌≤◌, ◌↔◌, List, ◌++◌}
-use Rattle.std.specs.Prelude.{slice_index}
+use Rattle.std.proofs.Common.{ℕ, zero, suc, List, ◌++◌, length, subst}
+use Rattle.std.specs.Prelude.{slice_index, Vec}
+use Rattle.std.specs.declared.alloc.Global.{Global}
 use Rattle.sw_order.specs.declared.answer.Order.{Order}
 use Rattle.sw_order.specs.declared.answer.Order.TheVariants.{Levels, Cycle}
 use Rattle.sw_order.specs.Answers.{Answers}
 use Rattle.sw_order.specs.Cycles.{IsBehindCycle, IsLeast, IsLeastPredecessor, IsShownCycle}
 use Rattle.sw_order.specs.Laws.{AnswersCarryOver}
-use Rattle.sw_order.specs.Levels.{Chain, HasCycle, IsLevel, IsLevels}
+use Rattle.sw_order.specs.Levels.{Chain, HasCycle, IsLevels}
+use Rattle.sw_order.specs.Rows.{IsReversed, Leads, Precedes}
 use Rattle.sw_order.proofs.Backs.{walks_map}
 
 pub chain_map : (P Q : ℕ → ℕ → Type 0) → ((c d : ℕ) → P c d → Q c d) → (n c d : ℕ) → Chain P n c d → Chain Q n c d
@@ -55,3 +57,8 @@ module _ (dep same : ℕ → ℕ → Type 0) (forth : (c d : ℕ) → dep c d �
 
 pub carry_over : (dep same : ℕ → ℕ → Type 0) → AnswersCarryOver dep same
 carry_over dep same f = answers_map dep same (λ c d. (f c d).0) (λ c d. (f c d).1)
+
+pub reversed_answers : (g h : List (Vec ℕ Global)) → IsReversed g h → (answer : Order) → Answers (Precedes h) (length h) answer → Answers (Leads g) (length g) answer
+reversed_answers g h r answer k =
+    let P : ℕ → Type 0 = λ n. Answers (Leads g) n answer in
+    subst P r.size (answers_map (Precedes h) (Leads g) (λ c d. (r.each c d).1) (λ c d. (r.each c d).0) (length h) answer k)

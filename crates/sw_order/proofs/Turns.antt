@@ -8,8 +8,8 @@ use Rattle.std.proofs.lemmas.List.Quantifiers.{position-Some}
 use Rattle.std.proofs.lemmas.Bool.{eqb-true, cases_Bool, lt-ltb}
 use Rattle.std.specs.List.{position_or_len}
 use Rattle.sw_order.specs.Cycles.{IsTurned}
-use Rattle.sw_order.specs.Peeling.{times, flag}
-use Rattle.sw_order.proofs.Counts.{times_cons}
+use Rattle.sw_order.specs.Walking.{times}
+use Rattle.sw_order.proofs.Counts.{flag, times_cons}
 use Rattle.sw_order.specs.Walking.{IsLowest, IsSince}
 
 pub rest_whole : (xs : List ℕ) (k : ℕ) → take (length xs - k) (drop k xs) ≡ drop k xs

@@ -3,5 +3,6 @@ pub mod Cycles
 pub mod Rows
 pub mod Answers
 pub mod Laws
-pub mod Peeling
+pub mod Reversing
+pub mod Rounds
 pub mod Walking

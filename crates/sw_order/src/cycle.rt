@@ -2,15 +2,15 @@
 ghost use Rattle.std.specs.Prelude.{◌≡◌, ℕ, ◌<◌, ◌==◌, ◌≤◌, IfOk, List, MatchOption, false, length, position, true};
 ghost use Rattle.sw_order.specs.Cycles.{IsShownCycle};
 ghost use Rattle.sw_order.specs.Levels.{HasCycle};
-ghost use Rattle.sw_order.specs.Peeling.{IsPeeled, is_done, times};
-ghost use Rattle.sw_order.specs.Rows.{IsGraph, Leads};
-ghost use Rattle.sw_order.specs.Walking.{GoesOn, IsFirstLeft, IsSince, IsWalk};
+ghost use Rattle.sw_order.specs.Rounds.{IsPeeled, is_done};
+ghost use Rattle.sw_order.specs.Rows.{IsGraph, Precedes};
+ghost use Rattle.sw_order.specs.Walking.{GoesOn, IsFirstLeft, IsLeastOf, IsSince, IsWalk, lesser, times};
 
-use crate::predecessors::least_predecessors;
+use crate::marks::is_marked;
 use crate::turn::turned;
 use std::alloc::{AllocError, Global};
 
-/// The first member that is not peeled.
+/// The first member that is not done.
 pub fn first_left(done: &[bool]) -> Option<u16>
     requires { length done.now ≤ 65535 }
     ensures { MatchOption result ((d : ℕ) → d < length done.now → is_done done.now d ≡ true) (IsFirstLeft done.now) }
@@ -21,6 +21,29 @@ pub fn first_left(done: &[bool]) -> Option<u16>
         }
     }
     None
+}
+
+/// The lesser number of what there is and c.
+fn lesser_of(least: Option<u16>, c: u16) -> u16
+    ensures { result ≡ lesser least c }
+{
+    match least {
+        Some(other) => other.min(c),
+        None => c,
+    }
+}
+
+/// The least of the members that is not done.
+fn least_left(members: &[u16], done: &[bool]) -> Option<u16>
+    ensures { IsLeastOf members.now done.now result }
+{
+    let mut least = None;
+    for c in members {
+        if !is_marked(done, *c) {
+            least = Some(lesser_of(least, *c));
+        }
+    }
+    least
 }
 
 /// A walk, and the member of it that comes again.
@@ -34,22 +57,22 @@ struct Walk {
 fn walk_back(
     alloc: Global,
     start: u16,
-    least: &[Option<u16>],
+    predecessors: &[Vec<u16>],
     done: &[bool],
 ) -> Result<Walk, AllocError>
-    requires size { length done.now ≡ length least.now }
-    requires inside { start < length least.now }
+    requires graph { IsGraph predecessors.now }
+    requires inside { start < length predecessors.now }
     requires left { is_done done.now start ≡ false }
-    requires goes_on { GoesOn done.now least.now }
-    ensures { IfOk result (λ w. IsWalk least.now start w.path.items w.again) }
+    requires goes_on { GoesOn predecessors.now done.now }
+    ensures { IfOk result (λ w. IsWalk predecessors.now done.now start w.path.items w.again) }
 {
-    let mut seen = vec![in alloc; false; least.len()]?;
+    let mut seen = vec![in alloc; false; predecessors.len()]?;
     let mut path = Vec::new(alloc);
     let mut now = start;
     while !seen[usize::from(now)] {
         seen[usize::from(now)] = true;
         path.push(now)?;
-        now = least[usize::from(now)].unwrap();
+        now = least_left(&predecessors[usize::from(now)], done).unwrap();
     }
     Ok(Walk { path, again: now })
 }
@@ -70,20 +93,18 @@ fn since(path: &[u16], again: u16) -> &[u16]
     &path[from..]
 }
 
-/// The cycle to show, where the first member that is not peeled is start.
+/// The cycle to show, where the first member that is not done is start.
 pub fn shown_cycle(
     alloc: Global,
-    successors: &[Vec<u16>],
+    predecessors: &[Vec<u16>],
     done: &[bool],
     start: u16,
 ) -> Result<Vec<u16>, AllocError>
-    requires few { length successors.now ≤ 65535 }
-    requires graph { IsGraph successors.now }
-    requires peeled { (levels : List ℕ) × IsPeeled successors.now levels done.now }
+    requires graph { IsGraph predecessors.now }
+    requires peeled { (levels : List ℕ) × IsPeeled predecessors.now levels done.now }
     requires first { IsFirstLeft done.now start }
-    ensures { IfOk result (λ v. HasCycle (Leads successors.now) × IsShownCycle (Leads successors.now) v.items) }
+    ensures { IfOk result (λ v. HasCycle (Precedes predecessors.now) × IsShownCycle (Precedes predecessors.now) v.items) }
 {
-    let least = least_predecessors(alloc, successors, done)?;
-    let walk = walk_back(alloc, start, &least, done)?;
+    let walk = walk_back(alloc, start, predecessors, done)?;
     turned(alloc, since(&walk.path, walk.again))
 }

@@ -1,11 +1,12 @@
 //! The order of a relation.
 ghost use Rattle.std.specs.Prelude.{IfOk, length, ◌≤◌};
 ghost use Rattle.sw_order.specs.Answers.{Answers};
-ghost use Rattle.sw_order.specs.Rows.{IsGraph, Leads};
+ghost use Rattle.sw_order.specs.Rows.{IsGraph, Leads, Precedes};
 
 use crate::answer::Order;
 use crate::cycle::{first_left, shown_cycle};
-use crate::levels::peel;
+use crate::predecessors::predecessors_of;
+use crate::rounds::peel;
 use std::alloc::{AllocError, Global};
 use std::thread::Threads;
 
@@ -17,7 +18,7 @@ use std::thread::Threads;
 /// # Errors
 /// Want of memory.
 pub fn order<R: Threads + Sync>(
-    _rt: &R,
+    rt: &R,
     alloc: Global,
     successors: &[Vec<u16>],
 ) -> Result<Order, AllocError>
@@ -25,10 +26,24 @@ pub fn order<R: Threads + Sync>(
     requires graph { IsGraph successors.now }
     ensures { IfOk result (Answers (Leads successors.now) (length successors.now)) }
 {
-    let peeled = peel(alloc, successors)?;
+    let predecessors = predecessors_of(alloc, successors)?;
+    answer(rt, alloc, &predecessors)
+}
+
+/// The same of a relation that is given by the predecessors of each member.
+fn answer<R: Threads + Sync>(
+    rt: &R,
+    alloc: Global,
+    predecessors: &[Vec<u16>],
+) -> Result<Order, AllocError>
+    requires few { length predecessors.now ≤ 65535 }
+    requires graph { IsGraph predecessors.now }
+    ensures { IfOk result (Answers (Precedes predecessors.now) (length predecessors.now)) }
+{
+    let peeled = peel(rt, alloc, predecessors)?;
     let Some(start) = first_left(&peeled.done) else {
         return Ok(Order::Levels(peeled.levels));
     };
-    let cycle = shown_cycle(alloc, successors, &peeled.done, start)?;
+    let cycle = shown_cycle(alloc, predecessors, &peeled.done, start)?;
     Ok(Order::Cycle(cycle))
 }

@@ -5,8 +5,9 @@ mod answer;
 mod cycle;
 mod entry;
 mod laws;
-mod levels;
+mod marks;
 mod predecessors;
+mod rounds;
 mod turn;
 
 pub use answer::Order;

@@ -1,40 +1,51 @@
-//! The least predecessors of the members that are left.
-ghost use Rattle.std.specs.Prelude.{◌≡◌, ℕ, ◌<◌, ◌≤◌, All, IfOk, length};
-ghost use Rattle.sw_order.specs.Peeling.{times};
-ghost use Rattle.sw_order.specs.Rows.{IsGraph};
-ghost use Rattle.sw_order.specs.Walking.{AreLeast, at, named, or_else};
+//! From the successors of each member to its predecessors.
+ghost use Rattle.std.specs.Prelude.{◌≡◌, ℕ, ◌<◌, ◌≤◌, ◌∷◌, All, IfOk, OnOk, [], length};
+ghost use Rattle.sw_order.specs.Reversing.{AreAdded};
+ghost use Rattle.sw_order.specs.Rows.{IsGraph, IsReversed, row};
 
 use std::alloc::{AllocError, Global};
 
-/// Notes c at the members that its row names, where none is noted before.
-fn note_row(least: &mut [Option<u16>], row: &[u16], c: u16)
-    requires { All (λ d. d < length least.old) row.now }
-    ensures { (d : ℕ) → d < length least.old → at least.new d ≡ or_else (at least.old d) (named (times row.now d) c) }
+/// As many empty rows.
+fn empty_rows(alloc: Global, count: usize) -> Result<Vec<Vec<u16>>, AllocError>
+    ensures size { IfOk result (λ v. length v.items ≡ count) }
+    ensures empty { IfOk result (λ v. (c : ℕ) → row v.items c ≡ []) }
 {
-    for d in row {
-        let slot = usize::from(*d);
-        if least[slot].is_none() {
-            least[slot] = Some(c);
-        }
+    let mut rows = Vec::new(alloc);
+    for _ in 0..count {
+        rows.push(Vec::new(alloc))?;
     }
+    Ok(rows)
 }
 
-/// For each member the least of its predecessors that are left.
-pub fn least_predecessors(
-    alloc: Global,
-    successors: &[Vec<u16>],
-    done: &[bool],
-) -> Result<Vec<Option<u16>>, AllocError>
+/// Adds c to the row of the member d.
+fn add_to(rows: &mut [Vec<u16>], d: u16, c: u16) -> Result<(), AllocError>
+    requires { d < length rows.old }
+    ensures { OnOk result (AreAdded (d ∷ []) c rows.old rows.new) }
+{
+    rows[usize::from(d)].push(c)?;
+    Ok(())
+}
+
+/// Adds c to the row of each of the members.
+fn add_to_each(rows: &mut [Vec<u16>], members: &[u16], c: u16) -> Result<(), AllocError>
+    requires { All (λ d. d < length rows.old) members.now }
+    ensures { OnOk result (AreAdded members.now c rows.old rows.new) }
+{
+    for d in members {
+        add_to(rows, *d, c)?;
+    }
+    Ok(())
+}
+
+/// The predecessors of each member.
+pub fn predecessors_of(alloc: Global, successors: &[Vec<u16>]) -> Result<Vec<Vec<u16>>, AllocError>
     requires few { length successors.now ≤ 65535 }
     requires graph { IsGraph successors.now }
-    requires size { length done.now ≡ length successors.now }
-    ensures { IfOk result (λ v. AreLeast successors.now done.now (length successors.now) v.items) }
+    ensures { IfOk result (λ v. IsReversed successors.now v.items) }
 {
-    let mut least = vec![in alloc; None; successors.len()]?;
-    for (c, list) in successors.iter().enumerate() {
-        if !done[c] {
-            note_row(&mut least, list, c as u16);
-        }
+    let mut predecessors = empty_rows(alloc, successors.len())?;
+    for (c, members) in successors.iter().enumerate() {
+        add_to_each(&mut predecessors, members, c as u16)?;
     }
-    Ok(least)
+    Ok(predecessors)
 }

@@ -1,4 +1,4 @@
-ghost use Rattle.std.specs.Prelude.{◌<◌, ◌^◌, ◌↔◌, All, IsTrue, length};
+ghost use Rattle.std.specs.Prelude.{◌<◌, ◌↔◌, All, IsTrue, length};
 ghost use Rattle.sw_order.specs.Rows.{IsGraph};
 
 use crate::{Order, order};
@@ -31,9 +31,9 @@ fn relation(
 }
 
 fn is_row(row: &Vec<u16>, count: usize) -> bool
-    ensures { IsTrue result ↔ ((length row.now.items < 2 ^ 32) × All (λ d. d < count) row.now.items) }
+    ensures { IsTrue result ↔ All (λ d. d < count) row.now.items }
 {
-    row.len() < 1 << 32 && row.iter().all(|d| usize::from(*d) < count)
+    row.iter().all(|d| usize::from(*d) < count)
 }
 
 fn is_graph(rows: &[Vec<u16>]) -> bool
@@ -112,4 +112,15 @@ fn no_members_have_no_levels(rt: HostRuntime) -> Result<(), Fail> {
 fn of_two_cycles_the_least_predecessors_lead_to_one(rt: HostRuntime) -> Result<(), Fail> {
     let two = [(4, 3), (3, 4), (1, 2), (2, 1), (4, 0), (2, 0)];
     has_cycle(&rt, rt.alloc(), 5, &two, &[1, 2])
+}
+
+#[test]
+fn many_members_are_shared_among_threads(rt: HostRuntime) -> Result<(), Fail> {
+    if let Order::Levels(levels) = ordered(&rt, rt.alloc(), 5000, &[(4999, 0)])? {
+        assert!(rt; levels.len() == 5000);
+        assert!(rt; levels.first() == Some(&1));
+        assert!(rt; levels.last() == Some(&0));
+        return Ok(());
+    }
+    Err(Fail::from("no levels"))
 }

@@ -1,5 +1,5 @@
 use Rattle.std.proofs.Common.{◌≡◌, ℕ, ◌<◌, true}
-use Rattle.sw_order.specs.Peeling.{is_done}
+use Rattle.sw_order.specs.Rounds.{is_done}
 use Rattle.sw_order.proofs.cycle.first_left.Given as goal
 
 abbrev pub invariant-loop-c : goal.invariant-loop-c

@@ -4,7 +4,7 @@ use Rattle.sw_order.proofs.Backs.{Walking}
 use Rattle.sw_order.proofs.cycle.walk_back.Given as goal
 
 abbrev pub invariant-loop-seen : goal.invariant-loop-seen
-invariant-loop-seen l = Walking l.least l.done l.start l.seen.items l.path.items l.now
+invariant-loop-seen l = Walking l.predecessors l.done l.start l.seen.items l.path.items l.now
 
 abbrev pub decreases-loop-seen : goal.decreases-loop-seen
 decreases-loop-seen l = count_by not l.seen.items
