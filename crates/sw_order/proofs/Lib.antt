@@ -1,0 +1,11 @@
+pub mod Counts
+pub mod Listed
+pub mod Backs
+pub mod Pigeons
+pub mod Peels
+pub mod Cycles
+pub mod Turns
+pub mod Transfers
+pub mod Rings
+pub mod Existence
+pub mod Steps
