@@ -42,8 +42,8 @@ impl<T: Drop> From<AllocFailed<T>> for CertificateFault {
 /// A number for each channel, and for each flow the places that its packets may reach.
 #[derive(Drop)]
 pub struct Certificate {
-    numbers: Vec<u16>,
-    places: Vec<Vec<Place>>,
+    pub(crate) numbers: Vec<u16>,
+    pub(crate) places: Vec<Vec<Place>>,
 }
 
 impl Model for Certificate {

@@ -5,6 +5,7 @@ mod certificate;
 mod draft;
 mod laws;
 mod lines;
+mod make;
 mod number;
 mod write;
 

@@ -3,6 +3,7 @@
 
 mod check;
 mod fault;
+mod following;
 mod laws;
 mod place;
 mod routes;
@@ -11,6 +12,7 @@ mod steps;
 
 pub use check::{fault_at, first_fault};
 pub use fault::RouteFault;
+pub use following::follows;
 pub use laws::{
     faultless_go_on, faults_in_words, followers_are_places, places_are_in, places_are_least,
     well_routed_by_list,

@@ -1,0 +1,89 @@
+//! Certificates of given contents.
+ghost use Rattle.std.specs.Prelude.{◌≡◌, ◌≤◌, ◌↔◌, IsTrue, IsSome, IfSome, None, map};
+ghost use Rattle.std.specs.List.{AllByRecursion};
+ghost use Rattle.sw_cert.specs.Grammar.{Fits, HasText, IsBlock, Rises};
+ghost use Rattle.sw_cert.specs.Reading.{items_of};
+
+use crate::certificate::Certificate;
+use crate::lines::stands_before;
+use sw_flow::Place;
+
+/// How many channels a text may number.
+const MAX_CHANNELS: usize = 2048;
+
+/// How many flows a text may have.
+const MAX_FLOWS: usize = 8192;
+
+/// How many places a flow may have in a text.
+const MAX_PLACES: usize = 67584;
+
+/// How many deleted bytes a place may have in a text.
+const MAX_DELETED: u8 = 32;
+
+/// Has no place too many deleted bytes?
+fn fit(places: &[Place]) -> bool
+    ensures { IsTrue result ↔ AllByRecursion Fits places.now }
+{
+    for place in places {
+        // A channel's number has a text, whatever it is: the proof reads its range here.
+        let _channel = place.channel.number();
+        if place.deleted > MAX_DELETED {
+            return false;
+        }
+    }
+    true
+}
+
+/// Does each place stand before the next, by channel and then by deleted bytes?
+fn rise(places: &[Place]) -> bool
+    ensures { IsTrue result ↔ Rises None places.now }
+{
+    let mut last = None;
+    for place in places {
+        if !stands_before(last, place) {
+            return false;
+        }
+        last = Some(*place);
+    }
+    true
+}
+
+fn is_block(places: &[Place]) -> bool
+    ensures { IsTrue result ↔ IsBlock places.now }
+{
+    places.len() <= MAX_PLACES && fit(places) && rise(places)
+}
+
+fn are_blocks(flows: &[Vec<Place>]) -> bool
+    ensures { IsTrue result ↔ AllByRecursion IsBlock (map items_of flows.now) }
+{
+    for places in flows {
+        if !is_block(places) {
+            return false;
+        }
+    }
+    true
+}
+
+/// Do the contents have a text?
+fn have_text(numbers: &[u16], flows: &[Vec<Place>]) -> bool
+    ensures { IsTrue result ↔ HasText numbers.now (map items_of flows.now) }
+{
+    numbers.len() <= MAX_CHANNELS && flows.len() <= MAX_FLOWS && are_blocks(flows)
+}
+
+impl Certificate {
+    /// The certificate with these numbers, by channel, and these places, by flow; none where no text tells them: of more than
+    /// 2,048 numbers, of more than 8,192 flows, of more than 67,584 places of one flow, of places that don't rise strictly by
+    /// channel and then by deleted bytes, or of more than 32 deleted bytes.
+    pub fn new(numbers: Vec<u16>, places: Vec<Vec<Place>>) -> Option<Certificate>
+        ensures made { IsSome result ↔ HasText numbers.items (map items_of places.items) }
+        ensures contents { IfSome result (λ c. c ≡ record { numbers = numbers.items; places = map items_of places.items }) }
+    {
+        if have_text(&numbers, &places) {
+            Some(Certificate { numbers, places })
+        } else {
+            None
+        }
+    }
+}

@@ -1,0 +1,120 @@
+//! The check of a shown cycle.
+ghost use Rattle.std.specs.Prelude.{◌≡◌, ◌<◌, ◌↔◌, IsSome, IsTrue, length, map};
+ghost use Rattle.sw_cycle.specs.Cycles.{cause_of, EndsOn, GoesFromStart, GoesOver, IsAnswered, IsCause, IsFlowCause, IsShown, IsStart, IsTargetCause};
+
+use crate::cycle::{Cause, Cycle};
+use sw_flow::{Place, follows};
+use sw_network::{Flow, Network};
+use sw_topo::Chan;
+
+/// Has the flow a reply, and does it end at the node?
+fn is_answered_at(flow: &Flow, node: u16) -> bool
+    ensures { IsTrue result ↔ (IsSome flow.now.reply × (flow.now.to ≡ node)) }
+{
+    flow.to() == node && flow.reply().is_some()
+}
+
+/// Does a flow with a reply end at the node?
+fn is_answered(network: &Network, node: u16) -> bool
+    ensures { IsTrue result ↔ IsAnswered network.now node }
+{
+    for number in 0..network.flows() {
+        if is_answered_at(network.flow(number), node) {
+            return true;
+        }
+    }
+    false
+}
+
+fn is_target_cause(network: &Network, node: u16, from: Chan, to: Chan) -> bool
+    ensures { IsTrue result ↔ IsTargetCause network.now node from to }
+{
+    let topology = network.topology();
+    if node >= topology.nodes() {
+        return false;
+    }
+    topology.out(node) == to && to.partner() == from && is_answered(network, node)
+}
+
+fn is_start(network: &Network, flow: &Flow, place: Place) -> bool
+    requires { flow.now.from < length network.now.nodes }
+    ensures { IsTrue result ↔ IsStart network.now flow.now place }
+{
+    network.topology().out(flow.from()) == place.channel && place.deleted == 0
+}
+
+/// Does the flow go from the place over these places, by one step to each?
+fn goes_over(network: &Network, flow: &Flow, from: Place, places: &[Place]) -> bool
+    ensures { IsTrue result ↔ GoesOver network.now flow.now from places.now }
+{
+    let mut last = from;
+    for place in places {
+        if !follows(network, flow, last, *place) {
+            return false;
+        }
+        last = *place;
+    }
+    true
+}
+
+fn goes_from_start(network: &Network, flow: &Flow, places: &[Place]) -> bool
+    requires { flow.now.from < length network.now.nodes }
+    ensures { IsTrue result ↔ GoesFromStart network.now flow.now places.now }
+{
+    match places.split_first() {
+        None => false,
+        Some((first, rest)) => {
+            is_start(network, flow, *first) && goes_over(network, flow, *first, rest)
+        }
+    }
+}
+
+/// Are the last two places on these channels?
+fn ends_on(places: &[Place], from: Chan, to: Chan) -> bool
+    ensures { IsTrue result ↔ EndsOn places.now from to }
+{
+    let count = places.len();
+    count >= 2 && places[count - 2].channel == from && places[count - 1].channel == to
+}
+
+fn is_flow_cause(network: &Network, flow: u16, places: &[Place], from: Chan, to: Chan) -> bool
+    ensures { IsTrue result ↔ IsFlowCause network.now flow places.now from to }
+{
+    if flow >= network.flows() {
+        return false;
+    }
+    ends_on(places, from, to) && goes_from_start(network, network.flow(flow), places)
+}
+
+fn is_cause(network: &Network, cause: &Cause, from: Chan, to: Chan) -> bool
+    ensures { IsTrue result ↔ IsCause network.now (cause_of cause.now) from to }
+{
+    match cause {
+        Cause::Target(node) => is_target_cause(network, *node, from, to),
+        Cause::Flow(flow, places) => is_flow_cause(network, *flow, places, from, to),
+    }
+}
+
+fn is_shown(network: &Network, channels: &[Chan], causes: &[Cause]) -> bool
+    ensures { IsTrue result ↔ IsShown network.now (record { channels = channels.now; causes = map cause_of causes.now }) }
+{
+    let count = channels.len();
+    if count == 0 || causes.len() != count {
+        return false;
+    }
+    for (i, cause) in causes.iter().enumerate() {
+        let next = channels[(i + 1) % count];
+        if !is_cause(network, cause, channels[i], next) {
+            return false;
+        }
+    }
+    true
+}
+
+/// Does the cycle have channels, and one cause for each that is true of it and the next? Whatever its numbers say: not where the
+/// network has no such channel, node or flow.
+pub fn check_cycle(network: &Network, cycle: &Cycle) -> bool
+    ensures { IsTrue result ↔ IsShown network.now cycle.now }
+{
+    is_shown(network, &cycle.channels, &cycle.causes)
+}
