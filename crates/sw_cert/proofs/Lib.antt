@@ -5,3 +5,4 @@ pub mod Cuts
 pub mod Runs
 pub mod Writes
 pub mod Written
+pub mod Blocks
