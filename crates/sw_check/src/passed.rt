@@ -1,6 +1,7 @@
 //! Networks with an accepted certificate.
 
 use std::marker::Model;
+use sw_cert::Certificate;
 use sw_network::Network;
 
 /// A network for which some certificate was accepted: whoever holds one has the theorem for the network that it borrows.
@@ -23,9 +24,18 @@ impl<'a> Model for Passed<'a> {
 
 impl<'a> Passed<'a> {
     ghost use Rattle.std.specs.Prelude.{◌≡◌};
-    ghost use Rattle.sw_machine.specs.Certificate.{Certificate, IsAccepted};
+    ghost use Rattle.sw_machine.specs.Certificate as machine;
+    ghost use Rattle.sw_machine.specs.Certificate.{IsAccepted};
     ghost use Rattle.sw_machine.specs.Headline.{IsDeadlockFree};
     ghost use Rattle.sw_model.specs.Model.{network_of};
+    ghost use Rattle.sw_check.specs.Contents.{certificate_of};
+
+    pub(crate) fn new(network: &'a Network, certificate: &Certificate) -> Passed<'a>
+        requires { IsAccepted (network_of network.now) (certificate_of certificate.now) }
+        ensures { result ≡ network.entry.now }
+    {
+        Passed { network }
+    }
 
     /// The network.
     pub fn network(&self) -> &'a Network
@@ -36,7 +46,7 @@ impl<'a> Passed<'a> {
 
     /// The network can't lock up: all that an accepted certificate shows of it, over every run, for some certificate.
     pub fn is_deadlock_free(&self)
-        ensures { (certificate : Certificate) × IsDeadlockFree (network_of self.now) certificate }
+        ensures { (certificate : machine.Certificate) × IsDeadlockFree (network_of self.now) certificate }
     {
         // Names the network, which is valid by its type.
         let _flows = self.network.flows();
