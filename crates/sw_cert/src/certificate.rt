@@ -132,3 +132,33 @@ impl Certificate {
         Ok(spelled(alloc, &self.numbers, &self.places)?.into_bytes())
     }
 }
+
+impl Certificate {
+    ghost use Rattle.std.specs.Prelude.{slice_get};
+    ghost use Rattle.sw_cert.specs.Grammar.{IsBlock};
+
+    /// The numbers of the channels, by channel: at most 2,048.
+    pub fn numbers(&self) -> &[u16]
+        ensures numbers { result.now ≡ self.now.numbers }
+        ensures few { length result.now ≤ 2048 }
+    {
+        &self.numbers
+    }
+
+    /// For how many flows it lists places: at most 8,192.
+    pub fn flows(&self) -> usize
+        ensures count { result ≡ length self.now.places }
+        ensures few { result ≤ 8192 }
+    {
+        self.places.len()
+    }
+
+    /// The places that it lists for the flow of that number, rising by channel and then by deleted bytes.
+    pub fn places(&self, flow: u16) -> &[Place]
+        requires { flow < length self.now.places }
+        ensures places { slice_get self.now.places flow ≡ Some result.now }
+        ensures block { IsBlock result.now }
+    {
+        &self.places[flow as usize]
+    }
+}

@@ -1,0 +1,12 @@
+use Rattle.std.proofs.Common.{sym}
+use Rattle.sw_check.specs.Contents.{certificate_of}
+use Rattle.sw_check.proofs.Headline.{is_deadlock_free}
+use Rattle.sw_check.proofs.Accepted.{not_refused_is_accepted}
+use Rattle.sw_check.proofs.checker.check.Goals as goal
+
+pub new-requires : goal.new-requires
+new-requires c = (not_refused_is_accepted c.args.network.now c.args.certificate.now c.flows-flows.ensures.valid).0 (sym c.in-None.ensures)
+
+pub returns-in-None-clause-deadlock_free : goal.returns-in-None-clause-deadlock_free
+returns-in-None-clause-deadlock_free c =
+    is_deadlock_free c.args.network.now (certificate_of c.args.certificate.now) c.flows-flows.ensures.valid ((not_refused_is_accepted c.args.network.now c.args.certificate.now c.flows-flows.ensures.valid).0 (sym c.in-None.ensures))

@@ -1,0 +1,57 @@
+//! Whether a certificate is one for as many channels and flows as the network has, with places that it can have.
+ghost use Rattle.std.specs.Prelude.{◌≡◌, ◌==◌, length};
+ghost use Rattle.std.specs.List.{list_all};
+ghost use Rattle.sw_network.specs.Entries.{all_flows};
+ghost use Rattle.sw_flow.specs.Places.{ends_of};
+ghost use Rattle.sw_check.specs.Refusals.{is_in_range, are_in_range, is_of_the_network};
+
+use sw_cert::Certificate;
+use sw_flow::Place;
+use sw_network::{Flow, Network};
+
+fn is_in_range(network: &Network, flow: &Flow, place: &Place) -> bool
+    ensures { result ≡ is_in_range network.now flow.now place.now }
+{
+    place.channel.number() < network.channels() && place.deleted as usize <= flow.address().len()
+}
+
+fn are_all_in_range(network: &Network, flow: &Flow, listed: &[Place]) -> bool
+    ensures { result ≡ list_all (is_in_range network.now flow.now) listed.now }
+{
+    listed.iter().all(|place| is_in_range(network, flow, place))
+}
+
+/// Are there as many lists as flows, each of places in range?
+fn are_in_range(network: &Network, certificate: &Certificate) -> bool
+    ensures { result ≡ are_in_range network.now (all_flows network.now) certificate.now.places }
+{
+    let lists = certificate.flows();
+    let flows = network.flows() as usize;
+    if lists != flows {
+        return false;
+    }
+    for number in 0..network.flows() {
+        let entry = network.flow(number);
+        let listed = certificate.places(number);
+        if !are_all_in_range(network, entry, listed) {
+            return false;
+        }
+    }
+    true
+}
+
+fn has_as_many_numbers(network: &Network, certificate: &Certificate) -> bool
+    ensures { result ≡ (length certificate.now.numbers == length (ends_of network.now)) }
+{
+    certificate.numbers().len() == network.channels() as usize
+}
+
+/// Has it as many numbers as the network has channels, and as many lists as flows, each of places that the network can have?
+pub(crate) fn is_of_the_network(network: &Network, certificate: &Certificate) -> bool
+    ensures { result ≡ is_of_the_network network.now certificate.now }
+{
+    if !has_as_many_numbers(network, certificate) {
+        return false;
+    }
+    are_in_range(network, certificate)
+}

@@ -1,0 +1,62 @@
+//! Whether the numbers of a certificate rise at the nodes that answer.
+ghost use Rattle.std.specs.Prelude.{◌≡◌, ◌<◌, length, is_some, IfSome};
+ghost use Rattle.sw_network.specs.Entries.{all_flows};
+ghost use Rattle.sw_check.specs.Least.{least};
+ghost use Rattle.sw_check.specs.Refusals.{answering_nodes, is_falling_at, not_rising_at_targets};
+ghost use Rattle.sw_check.specs.Ends.{falling_end};
+
+use crate::refusal::Refusal;
+use crate::rising::{is_not_above, lesser};
+use sw_network::{Flow, Network};
+
+fn is_falling_at(network: &Network, numbers: &[u16], node: u16) -> bool
+    requires { node < length network.now.nodes }
+    ensures { result ≡ is_falling_at network.now numbers.now node }
+{
+    let topology = network.topology();
+    is_not_above(numbers, topology.into(node), topology.out(node))
+}
+
+fn has_replies(flow: &Flow) -> bool
+    ensures { result ≡ is_some flow.now.reply }
+{
+    flow.reply().is_some()
+}
+
+/// The node where the flow ends, if the flow has replies and the numbers do not rise there.
+fn falling_end(network: &Network, numbers: &[u16], flow: &Flow) -> Option<u16>
+    requires { flow.now.to < length network.now.nodes }
+    ensures end { result ≡ falling_end network.now numbers.now flow.now }
+    ensures within { IfSome result (λ n. n < length network.now.nodes) }
+{
+    if !has_replies(flow) {
+        return None;
+    }
+    if is_falling_at(network, numbers, flow.to()) {
+        Some(flow.to())
+    } else {
+        None
+    }
+}
+
+fn least_falling(network: &Network, numbers: &[u16]) -> Option<u16>
+    ensures least { result ≡ least (is_falling_at network.now numbers.now) (answering_nodes (all_flows network.now)) }
+    ensures within { IfSome result (λ n. n < length network.now.nodes) }
+{
+    let mut found = None;
+    for number in 0..network.flows() {
+        let entry = network.flow(number);
+        let end = falling_end(network, numbers, entry);
+        found = lesser(found, end);
+    }
+    found
+}
+
+/// The refusal for the least node that answers and at which the numbers do not rise.
+pub(crate) fn not_rising_at_targets(network: &Network, numbers: &[u16]) -> Option<Refusal>
+    ensures { result ≡ not_rising_at_targets network.now numbers.now }
+{
+    let node = least_falling(network, numbers)?;
+    let topology = network.topology();
+    Some(Refusal::NotRising(topology.into(node), topology.out(node)))
+}
