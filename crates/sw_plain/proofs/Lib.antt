@@ -2,4 +2,6 @@ pub mod Puts
 pub mod RowChanges
 pub mod Outputs
 pub mod Start
-pub mod Silence
+pub mod Declares
+pub mod Layouts
+pub mod Takes

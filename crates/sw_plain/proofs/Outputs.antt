@@ -1,74 +1,32 @@
 -- What a switch's inputs may do.
-use Rattle.std.proofs.Common.{◌≡◌, ◌≢◌, ◌<◌, ℕ, zero, suc, Bool, true, false, List, [], ◌∷◌, length, map, filter, get_or, nat_eq, Contains, refl, sym, ap, ◌∙◌, subst, ⊎_elim, arith, eq-eqb, ne_eqb}
-use Rattle.std.proofs.lemmas.Bool.{cases_Bool, cases_eq}
+use Rattle.std.proofs.Common.{◌≡◌, ◌≢◌, ◌<◌, ◌⊎◌, ◌↔◌, ℕ, zero, suc, Bool, true, false, List, [], ◌∷◌, Some, IsTrue, inl, inr, length, get_or, nat_eq, Contains, refl, sym, ap, ◌∙◌, subst, ⊎_elim, arith, eq-eqb, ne_eqb}
+use Rattle.std.proofs.lemmas.Bool.{cases_eq, false≢true}
 use Rattle.std.specs.List.{list_any}
-use Rattle.std.specs.Prelude.{◌&&◌, ◌||◌}
+use Rattle.std.specs.Prelude.{◌||◌}
 use Rattle.sw_char.specs.declared.nchar.NChar.{NChar}
 use Rattle.sw_char.specs.declared.nchar.NChar.TheVariants.{Data, Eop, Eep}
 use Rattle.sw_machine.specs.declared.input.Input.{Input}
 use Rattle.sw_machine.specs.declared.input.Input.TheVariants.{Held, Idle, Spilling}
-use Rattle.sw_machine.specs.Network.{AtSwitch, Network}
+use Rattle.sw_machine.specs.Network.{AtNode, AtSwitch, Cell, Network}
 use Rattle.sw_machine.specs.State.{State}
 use Rattle.sw_machine.specs.Steps.{Drop, Drops, Grant, IsPossible}
 use Rattle.sw_machine.specs.Tried.{holds}
-use Rattle.sw_plain.specs.Names.{names_at}
-use Rattle.sw_plain.specs.declared.plan.Name.{Name}
+use Rattle.sw_plain.specs.View.{switch_in}
 
-abbrev outputs : ℕ → ℕ → List Name → List ℕ
-outputs s h xs = map (λ e. e.channel) (filter (names_at s h) xs)
+-- what a test tells
+pub not_true : {b : Bool} {P : Type 0} → b ≡ false → (IsTrue b ↔ P) → P → ⊥
+not_true e same p = false≢true (sym e ∙ same.1 p)
 
-abbrev is_named : ℕ → ℕ → ℕ → List Name → Bool
-is_named s h d xs = list_any (λ e. names_at s h e && nat_eq e.channel d) xs
+none_or_some : (l : List ℕ) → (l ≡ []) ⊎ (l ≢ [])
+none_or_some [] = inl refl
+none_or_some (x ∷ l) = inr (λ e. let bad : x ∷ l ≡ [] = e in cc)
 
-later : {A : Type 0} (y : A) (l : List A) (x : A) → Contains l x → Contains (y ∷ l) x
-later y l x (k, lt, e) = (suc k, omega arith, e)
+pub none_named : {b : Bool} (l : List ℕ) → b ≡ false → (IsTrue b ↔ (l ≢ [])) → l ≡ []
+none_named l e same = ⊎_elim (λ none. none) (λ some. absurd (not_true e same some)) (none_or_some l)
 
-front_or_later : {A : Type 0} (P : Type 0) (y : A) (l : List A) (x : A) → (y ≡ x → P) → (Contains l x → P) → Contains (y ∷ l) x → P
-front_or_later P y l x here there (zero, lt, e) = here e
-front_or_later P y l x here there (suc k, lt, e) = there (k, omega arith, e)
-
-pub named : (s h d : ℕ) (xs : List Name) → is_named s h d xs ≡ true → Contains (outputs s h xs) d
-named s h d [] e = absurd (cc)
-named s h d (x ∷ xs) e = ⊎_elim
-    (λ yes. rw yes (⊎_elim
-    (λ same. (0, omega arith, same))
-    (λ ne. later x.channel (outputs s h xs) d (named s h d xs (sym (ap (λ t. (t && nat_eq x.channel d) || is_named s h d xs) yes ∙ ap (λ t. t || is_named s h d xs) (ne_eqb x.channel d ne)) ∙ e)))
-    (cases_eq x.channel d)))
-    (λ no. rw no (named s h d xs (sym (ap (λ t. (t && nat_eq x.channel d) || is_named s h d xs) no) ∙ e)))
-    (cases_Bool (names_at s h x))
-
-pub not_named : (s h d : ℕ) (xs : List Name) → is_named s h d xs ≡ false → Contains (outputs s h xs) d → ⊥
-not_named s h d [] e c = let lt = c.1 in omega arith
-not_named s h d (x ∷ xs) e c = ⊎_elim
-    (λ yes.
-    let tail : is_named s h d xs ≡ false = rest (nat_eq x.channel d) (is_named s h d xs) (sym (ap (λ t. (t && nat_eq x.channel d) || is_named s h d xs) yes) ∙ e) in
-    front_or_later ⊥ x.channel (outputs s h xs) d
-    (λ same. let is = eq-eqb x.channel d same in let no : true ≡ false = sym (ap (λ t. (t && nat_eq x.channel d) || is_named s h d xs) yes ∙ ap (λ t. t || is_named s h d xs) is) ∙ e in cc)
-    (not_named s h d xs tail)
-    (rw yes at c))
-    (λ no. not_named s h d xs (sym (ap (λ t. (t && nat_eq x.channel d) || is_named s h d xs) no) ∙ e) (rw no at c))
-    (cases_Bool (names_at s h x))
-  where
-    rest : (a b : Bool) → (a || b) ≡ false → b ≡ false
-    rest true b e = absurd (cc)
-    rest false b e = e
-
-pub none_named : (s h : ℕ) (xs : List Name) → list_any (names_at s h) xs ≡ false → outputs s h xs ≡ []
-none_named s h [] e = refl
-none_named s h (x ∷ xs) e = ⊎_elim
-    (λ yes. let no : true ≡ false = sym (ap (λ t. t || list_any (names_at s h) xs) yes) ∙ e in absurd (cc))
-    (λ no. rw no (none_named s h xs (sym (ap (λ t. t || list_any (names_at s h) xs) no) ∙ e)))
-    (cases_Bool (names_at s h x))
-
-pub some_named : (s h : ℕ) (xs : List Name) → list_any (names_at s h) xs ≡ true → outputs s h xs ≢ []
-some_named s h [] e none = absurd (cc)
-some_named s h (x ∷ xs) e none = ⊎_elim
-    (λ yes. no_cons x.channel (outputs s h xs) (rw yes at none))
-    (λ no. some_named s h xs (sym (ap (λ t. t || list_any (names_at s h) xs) no) ∙ e) (rw no at none))
-    (cases_Bool (names_at s h x))
-  where
-    no_cons : (y : ℕ) (l : List ℕ) → y ∷ l ≡ [] → ⊥
-    no_cons y l e = cc
+pub at_switch : (cell : Cell) (s : ℕ) → Some s ≡ switch_in cell → cell ≡ AtSwitch s
+at_switch (AtNode n) s e = absurd cc
+at_switch (AtSwitch v) s e = let same : s ≡ v = cc in ap AtSwitch (sym same)
 
 -- an input that holds d
 pub held_at : (d : ℕ) (inputs : List Input) → list_any (holds d) inputs ≡ true → (b : ℕ) × (b < length inputs) × (get_or inputs b Idle ≡ Held d)

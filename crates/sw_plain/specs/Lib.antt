@@ -1,3 +1,3 @@
-pub mod Names
 pub mod Lists
 pub mod View
+pub mod Targets

@@ -1,27 +1,26 @@
--- The lists that a plain machine's vectors hold, and the network that a plan describes.
-use Rattle.sw_char.specs.declared.nchar.End.{End}
+-- The lists that a plain machine's vectors hold, and the step that a call makes.
 use Rattle.std.specs.Global.{Vec}
-use Rattle.std.specs.Prelude.{◌≡◌, ℕ, Bool, true, false, List, [], length, map, Option, None, slice_index, slice_index_or}
-use Rattle.sw_plain.specs.declared.plan.Plan.{Plan}
-use Rattle.sw_plain.specs.declared.plan.Flow.{Flow as PlanFlow}
-use Rattle.sw_machine.specs.Network.{Flow}
-use Rattle.sw_plain.specs.declared.plan.Cell.{Cell as PlanCell}
-use Rattle.sw_plain.specs.declared.plan.Cell.TheVariants.{Node, Switch}
+use Rattle.std.specs.Prelude.{◌≡◌, ◌<◌, ℕ, Bool, true, false, List, drop, length, map, Option, Some, None, slice_get, vec_capacity, vec_len}
+use Rattle.sw_machine.specs.Network.{Network, Cell, AtNode, AtSwitch, PendingReply}
+use Rattle.sw_machine.specs.Steps as machine
+use Rattle.sw_machine.specs.Steps.{Leads, IsPossible}
 use Rattle.sw_plain.specs.declared.state.Plain.{Plain}
 use Rattle.sw_plain.specs.declared.state.Reply.{Reply}
-use Rattle.sw_machine.specs.Network.{Network, Cell, AtNode, AtSwitch, PendingReply}
-use Rattle.sw_machine.specs.Steps.{Step, Leads, IsPossible}
-use Rattle.sw_plain.specs.Names.{names_at}
-use Rattle.std.specs.List.{list_any}
-use Rattle.std.specs.Prelude.{◌&&◌, filter}
-use Rattle.sw_plain.specs.Lists.{Lists, IsKept, state_of}
+use Rattle.sw_plain.specs.declared.steps.Step.{Step}
+use Rattle.sw_plain.specs.declared.steps.Step.TheVariants as call
+use Rattle.sw_plain.specs.Lists.{Lists, state_of}
 
 -- what each row holds
 abbrev pub rows : {X : Type 0} → Vec (Vec X) → List (List X)
 rows v = map (λ q. q.items) v.items
 
+-- row c has room for one more
+abbrev pub HasRoom : {X : Type 0} → Vec (Vec X) → ℕ → Type 0
+HasRoom {X} v c = (q : Vec X) → slice_get v.items c ≡ Some q → vec_len q < vec_capacity q
+
+-- a reply's bytes begin with its address
 abbrev pub reply_of : Reply → PendingReply
-reply_of r = record { address = r.address.items; cargo = r.cargo.items }
+reply_of r = record { address = r.address.items; cargo = drop (length r.address.items) r.bytes.items }
 
 abbrev pub lists_of : Plain → Lists
 lists_of p = record {
@@ -32,65 +31,32 @@ lists_of p = record {
   buffer = rows p.buffer;
   input = p.input.items;
   to_send = rows p.to_send;
-  pending = map (λ q. map reply_of q.items) p.pending.items;
+  pending = map (map reply_of) (rows p.pending);
   owed = p.owed.items;
   taken = rows p.taken;
-  memory = rows p.memory;
+  targets = p.targets.items;
 }
 
-abbrev pub cell_of : PlanCell → Cell
-cell_of (Node n) = AtNode n
-cell_of (Switch s) = AtSwitch s
+-- the switch that a cell is
+abbrev pub switch_in : Cell → Option ℕ
+switch_in (AtNode n) = None
+switch_in (AtSwitch s) = Some s
 
--- a plan's flow
-abbrev pub flow_of : PlanFlow → Flow
-flow_of f = record { from = f.from; to = f.to; address = f.address.items; left = f.left; reply = None }
-
-abbrev pub no_flow : Flow
-no_flow = record { from = 0; to = 0; address = []; left = 0; reply = None }
-
--- how its targets answer
-pub record Answering : Type 0 where
-  pub reply_to : ℕ → List ℕ → Option (List ℕ)
-  pub answer : ℕ → List ℕ → List ℕ → End → Option PendingReply
-  pub memory_after : ℕ → List ℕ → List ℕ → End → List ℕ
-
--- no target answers
-abbrev pub silent : Answering
-silent = record { reply_to = λ n bytes. None; answer = λ n memory bytes end. None; memory_after = λ n memory bytes end. memory }
-
--- the network of a plan
-abbrev pub network_of : Plan → Answering → Network
-network_of p a = record {
-  channels = length p.capacity.items;
-  start_of = λ c. AtSwitch 0;
-  end_of = λ c. cell_of (slice_index_or p.ends.items c (Node 0));
-  capacity = λ c. slice_index p.capacity.items c;
-  nodes = length p.out.items;
-  out = λ n. slice_index p.out.items n;
-  into = λ n. slice_index p.into.items n;
-  look = λ s h. map (λ e. e.channel) (filter (names_at s h) p.names.items);
-  deletes = λ s h. list_any (λ e. names_at s h e && e.delete) p.names.items;
-  declared_flows = length p.flows.items;
-  flows = length p.flows.items;
-  flow = λ i. slice_index_or (map flow_of p.flows.items) i no_flow;
-  reply_to = a.reply_to;
-  answer = a.answer;
-  longest = λ n. 0;
-  slots = λ n. 1;
-  memory_after = a.memory_after;
-  memory_at_first = λ n. [];
-}
+-- the machine's step
+abbrev pub step_of : Step → machine.Step
+step_of (call.Fct c) = machine.Fct c
+step_of (call.FctIn c) = machine.FctIn c
+step_of (call.Arrive c) = machine.Arrive c
+step_of (call.Grant d c) = machine.Grant d c
+step_of (call.DropFront c) = machine.Drop c
+step_of (call.Forward c) = machine.Forward c
+step_of (call.Spill c) = machine.Spill c
+step_of (call.Begin f cargo end) = machine.Begin f cargo.items end
+step_of (call.Emit n) = machine.Emit n
+step_of (call.Accept n) = machine.Accept n
+step_of (call.Reply n) = machine.Reply n
 
 -- true: the step leads there; false: it is not possible, and nothing changed
-abbrev pub Makes : Network → Lists → Step → Bool → Lists → Type 0
+abbrev pub Makes : Network → Lists → machine.Step → Bool → Lists → Type 0
 Makes net l step true m = Leads net (state_of l) step (state_of m)
 Makes net l step false m = (IsPossible net (state_of l) step → ⊥) × (m ≡ l)
-
--- each channel and each node has its part
-abbrev pub IsKeptBy : Plan → Lists → Type 0
-IsKeptBy p l = IsKept (network_of p silent) l
-
--- the call made the step, whatever the targets answer, or the step is not possible
-abbrev pub Steps : Plan → Lists → Step → Bool → Lists → Type 0
-Steps p l step made m = (a : Answering) → Makes (network_of p a) l step made m

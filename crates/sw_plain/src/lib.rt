@@ -1,17 +1,16 @@
-//! A plain, slow machine: its state lies in vectors, and each call makes one step of the machine.
+//! A plain, slow machine: its state lies in vectors, and each call makes one step of the machine of a network.
 #![tactic(auto)]
 
 mod flow_control;
+mod layout;
 mod nodes;
 mod opening;
 mod packet;
-mod plan;
 mod rows;
 mod state;
+mod steps;
 mod switching;
+mod targets;
 
-pub use plan::{Cell, Flow, Name, Plan};
 pub use state::{Plain, Reply};
-
-#[cfg(test)]
-mod tests;
+pub use steps::Step;

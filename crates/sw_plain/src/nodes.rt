@@ -1,16 +1,19 @@
 //! The steps of a node.
 
-ghost use Rattle.std.specs.Prelude.{All, length, ◌<◌};
-ghost use Rattle.std.specs.Prelude.{◌≡◌, IfOk, OnErr, if◌then◌else◌};
-ghost use Rattle.sw_machine.specs.Steps.{Accept, Begin, Emit};
-ghost use Rattle.sw_plain.specs.View.{IsKeptBy, Makes, Steps, lists_of, network_of, silent};
+ghost use Rattle.std.specs.Prelude.{◌≡◌, IfOk, OnErr, drop, if◌then◌else◌};
+ghost use Rattle.sw_machine.specs.Steps.{Accept, Begin, Emit, Reply};
+ghost use Rattle.sw_model.specs.Model.{network_of};
+ghost use Rattle.sw_plain.specs.Lists.{IsKept};
+ghost use Rattle.sw_plain.specs.View.{Makes, lists_of};
 
+use crate::layout::{address_of, declares, into, nodes, out, slots, start_of};
 use crate::packet::packet_of;
-use crate::plan::Plan;
-use crate::rows::{drop_first, first_of, push_to};
+use crate::rows::{drop_first, first_of, push_to, push_within, reserve_at};
 use crate::state::Plain;
+use crate::targets::{answered, bytes_under_way, owed_with};
 use std::alloc::{AllocError, Global};
 use sw_char::End;
+use sw_network::Network;
 
 /// What a node owes after it sent a character: at a packet's end as many replies as are pending.
 fn owed_after(ended: bool, pending: usize, owed: usize) -> usize
@@ -19,85 +22,130 @@ fn owed_after(ended: bool, pending: usize, owed: usize) -> usize
     if ended { pending } else { owed }
 }
 
+/// The bytes behind the first `count`.
+fn rest(bytes: &[u8], count: usize) -> &[u8]
+    ensures { result.now ≡ drop count bytes.now }
+{
+    if count < bytes.len() {
+        &bytes[count..]
+    } else {
+        &[]
+    }
+}
+
 impl Plain {
-    /// The node where flow f of a network whose targets do not answer begins, begins to send a
-    /// packet.
+    /// The node where declared flow f begins, begins to send a packet of it.
     pub fn begin(
         &mut self,
         alloc: Global,
-        plan: &Plan,
-        f: usize,
+        network: &Network,
+        f: u16,
         cargo: &[u8],
         end: End,
     ) -> Result<bool, AllocError>
-        requires kept { IsKeptBy plan.now (lists_of self.old) }
-        requires starts { All (λ flow. flow.from < length plan.now.out.items) plan.now.flows.items }
-        ensures kept { IsKeptBy plan.now (lists_of self.new) }
-        ensures made { IfOk result (λ made. Makes (network_of plan.now silent) (lists_of self.old) (Begin f cargo.now end) made (lists_of self.new)) }
+        requires { IsKept network.now (lists_of self.old) }
+        ensures kept { IsKept network.now (lists_of self.new) }
+        ensures made { IfOk result (λ made. Makes (network_of network.now) (lists_of self.old) (Begin f cargo.now end) made (lists_of self.new)) }
         ensures refused { OnErr result (lists_of self.new ≡ lists_of self.old) }
     {
-        if f >= plan.flows.len() || cargo.is_empty() || cargo.len() > 33554432 {
+        if !declares(network, f, cargo, end) {
             return Ok(false);
         }
-        let flow = &plan.flows[f];
-        let from = flow.from;
-        if !self.to_send[from].is_empty() || !self.pending[from].is_empty() {
+        let k = start_of(network, f) as usize;
+        if !self.to_send[k].is_empty() {
             return Ok(false);
         }
-        let packet = packet_of(alloc, &flow.address, cargo, end)?;
-        self.to_send[from] = packet;
+        if !self.pending[k].is_empty() {
+            return Ok(false);
+        }
+        let packet = packet_of(alloc, address_of(network, f), cargo, end)?;
+        self.to_send[k] = packet;
         Ok(true)
     }
 
     /// Node n puts a character on its wire.
-    pub fn emit(&mut self, plan: &Plan, n: usize) -> Result<bool, AllocError>
-        requires { IsKeptBy plan.now (lists_of self.old) }
-        ensures kept { IsKeptBy plan.now (lists_of self.new) }
-        ensures made { IfOk result (λ made. Steps plan.now (lists_of self.old) (Emit n) made (lists_of self.new)) }
+    pub fn emit(&mut self, network: &Network, n: u16) -> Result<bool, AllocError>
+        requires { IsKept network.now (lists_of self.old) }
+        ensures kept { IsKept network.now (lists_of self.new) }
+        ensures made { IfOk result (λ made. Makes (network_of network.now) (lists_of self.old) (Emit n) made (lists_of self.new)) }
         ensures refused { OnErr result (lists_of self.new ≡ lists_of self.old) }
     {
-        if n >= plan.out.len() {
+        if n >= nodes(network) {
             return Ok(false);
         }
-        let first = match first_of(&self.to_send, n) {
+        let k = n as usize;
+        let first = match first_of(&self.to_send, k) {
             Some(first) => first,
             None => return Ok(false),
         };
-        let out = plan.out[n];
-        if out >= plan.capacity.len() || self.credit[out] == 0 {
+        let c = out(network, n) as usize;
+        if self.credit[c] == 0 {
             return Ok(false);
         }
-        push_to(&mut self.wire, out, first)?;
-        drop_first(&mut self.to_send, n);
-        let credit = self.credit[out];
-        self.credit[out] = credit - 1;
-        let ended = self.to_send[n].is_empty();
-        let waiting = self.pending[n].len();
-        let owed = self.owed[n];
-        self.owed[n] = owed_after(ended, waiting, owed);
+        push_to(&mut self.wire, c, first)?;
+        drop_first(&mut self.to_send, k);
+        let credit = self.credit[c];
+        self.credit[c] = credit - 1;
+        let ended = self.to_send[k].is_empty();
+        let waiting = self.pending[k].len();
+        let owed = self.owed[k];
+        self.owed[k] = owed_after(ended, waiting, owed);
         Ok(true)
     }
 
-    /// Node n, of a network whose targets do not answer, takes a character.
-    pub fn accept(&mut self, plan: &Plan, n: usize) -> Result<bool, AllocError>
-        requires { IsKeptBy plan.now (lists_of self.old) }
-        ensures kept { IsKeptBy plan.now (lists_of self.new) }
-        ensures made { IfOk result (λ made. Makes (network_of plan.now silent) (lists_of self.old) (Accept n) made (lists_of self.new)) }
+    /// Node n takes a character. At a packet's end a target's memory may change, and a reply may be owed.
+    pub fn accept(&mut self, alloc: Global, network: &Network, n: u16) -> Result<bool, AllocError>
+        requires { IsKept network.now (lists_of self.old) }
+        ensures kept { IsKept network.now (lists_of self.new) }
+        ensures made { IfOk result (λ made. Makes (network_of network.now) (lists_of self.old) (Accept n) made (lists_of self.new)) }
         ensures refused { OnErr result (lists_of self.new ≡ lists_of self.old) }
     {
-        if n >= plan.out.len() || self.owed[n] > 0 {
+        if n >= nodes(network) {
             return Ok(false);
         }
-        let c = plan.into_of(n);
+        let k = n as usize;
+        let owed = self.owed[k];
+        if owed >= slots(network, n) {
+            return Ok(false);
+        }
+        let c = into(network, n) as usize;
         let first = match first_of(&self.buffer, c) {
             Some(first) => first,
             None => return Ok(false),
         };
-        if c >= plan.capacity.len() {
+        reserve_at(&mut self.taken, k)?;
+        reserve_at(&mut self.pending, k)?;
+        let bytes = bytes_under_way(alloc, &self.taken[k])?;
+        let reply = answered(alloc, &mut self.targets[k], &bytes, first)?;
+        self.owed[k] = owed_with(owed, &reply);
+        push_within(&mut self.pending, k, reply);
+        push_within(&mut self.taken, k, Some(first));
+        drop_first(&mut self.buffer, c);
+        Ok(true)
+    }
+
+    /// Node n begins to send the reply that has waited longest.
+    pub fn reply(&mut self, alloc: Global, network: &Network, n: u16) -> Result<bool, AllocError>
+        requires { IsKept network.now (lists_of self.old) }
+        ensures kept { IsKept network.now (lists_of self.new) }
+        ensures made { IfOk result (λ made. Makes (network_of network.now) (lists_of self.old) (Reply n) made (lists_of self.new)) }
+        ensures refused { OnErr result (lists_of self.new ≡ lists_of self.old) }
+    {
+        if n >= nodes(network) {
             return Ok(false);
         }
-        push_to(&mut self.taken, n, first)?;
-        drop_first(&mut self.buffer, c);
+        let k = n as usize;
+        if !self.to_send[k].is_empty() {
+            return Ok(false);
+        }
+        if self.pending[k].is_empty() {
+            return Ok(false);
+        }
+        let reply = &self.pending[k][0];
+        let cargo = rest(&reply.bytes, reply.address.len());
+        let packet = packet_of(alloc, &reply.address, cargo, End::Eop)?;
+        self.to_send[k] = packet;
+        drop_first(&mut self.pending, k);
         Ok(true)
     }
 }

@@ -1,15 +1,20 @@
 //! The plain machine at first.
 
-ghost use Rattle.std.specs.Prelude.{◌≡◌, [], IfOk, replicate};
+ghost use Rattle.std.specs.Prelude.{◌≡◌, ◌<◌, ℕ, [], IfOk, length, map, option_map, replicate, take, slice_index_or, None};
 ghost use Rattle.sw_machine.specs.State.{empty};
 ghost use Rattle.sw_machine.specs.declared.input.Input.TheVariants.{Idle};
-ghost use Rattle.sw_plain.specs.Lists.{state_of};
-ghost use Rattle.sw_plain.specs.View.{IsKeptBy, lists_of, network_of, rows, silent};
+ghost use Rattle.sw_model.specs.Model.{network_of};
+ghost use Rattle.sw_network.specs.Entries.{target_of};
+ghost use Rattle.sw_plain.specs.Lists.{IsKept, state_of};
+ghost use Rattle.sw_plain.specs.Targets.{first_target};
+ghost use Rattle.sw_plain.specs.View.{lists_of, rows};
 
-use crate::plan::Plan;
+use crate::layout::{channels, nodes};
 use crate::state::Plain;
 use std::alloc::{AllocError, Global};
 use sw_machine::Input;
+use sw_network::Network;
+use sw_rmap::Target;
 
 /// Empty rows.
 fn empty_rows<T: Drop>(alloc: Global, count: usize) -> Result<Vec<Vec<T>>, AllocError>
@@ -44,25 +49,47 @@ fn waiting(alloc: Global, count: usize) -> Result<Vec<Input>, AllocError>
     Ok(all)
 }
 
+/// The target that node n is at first, if it is one.
+fn target_at(alloc: Global, network: &Network, n: u16) -> Result<Option<Target>, AllocError>
+    requires { n < length network.now.nodes }
+    ensures { IfOk result (λ t. t ≡ first_target (target_of network.now.nodes n)) }
+{
+    match network.target(n) {
+        Some(config) => Ok(Some(Target::new(alloc, config)?)),
+        None => Ok(None),
+    }
+}
+
+/// The targets that the nodes are at first.
+fn targets(alloc: Global, network: &Network) -> Result<Vec<Option<Target>>, AllocError>
+    ensures { IfOk result (λ all. all.items ≡ map (λ e. first_target e.target) network.now.nodes) }
+{
+    let mut all = Vec::new(alloc);
+    for n in 0..network.nodes() {
+        all.push(target_at(alloc, network, n)?)?;
+    }
+    Ok(all)
+}
+
 impl Plain {
-    /// The state with no credit, no character and nothing held.
-    pub fn new(alloc: Global, plan: &Plan) -> Result<Plain, AllocError>
-        ensures kept { IfOk result (λ m. IsKeptBy plan.now (lists_of m)) }
-        ensures empty { IfOk result (λ m. state_of (lists_of m) ≡ empty (network_of plan.now silent)) }
+    /// The state with no credit, no character and nothing held. A target's memory holds zeros.
+    pub fn new(alloc: Global, network: &Network) -> Result<Plain, AllocError>
+        ensures kept { IfOk result (λ m. IsKept network.now (lists_of m)) }
+        ensures empty { IfOk result (λ m. state_of (lists_of m) ≡ empty (network_of network.now)) }
     {
-        let channels = plan.capacity.len();
-        let nodes = plan.out.len();
-        let credit = zeros(alloc, channels)?;
-        let fcts = zeros(alloc, channels)?;
-        let outstanding = zeros(alloc, channels)?;
-        let wire = empty_rows(alloc, channels)?;
-        let buffer = empty_rows(alloc, channels)?;
-        let input = waiting(alloc, channels)?;
-        let to_send = empty_rows(alloc, nodes)?;
-        let pending = empty_rows(alloc, nodes)?;
-        let owed = zeros(alloc, nodes)?;
-        let taken = empty_rows(alloc, nodes)?;
-        let memory = empty_rows(alloc, nodes)?;
+        let c = channels(network) as usize;
+        let n = nodes(network) as usize;
+        let credit = zeros(alloc, c)?;
+        let fcts = zeros(alloc, c)?;
+        let outstanding = zeros(alloc, c)?;
+        let wire = empty_rows(alloc, c)?;
+        let buffer = empty_rows(alloc, c)?;
+        let input = waiting(alloc, c)?;
+        let to_send = empty_rows(alloc, n)?;
+        let pending = empty_rows(alloc, n)?;
+        let owed = zeros(alloc, n)?;
+        let taken = empty_rows(alloc, n)?;
+        let targets = targets(alloc, network)?;
         Ok(Plain {
             credit,
             fcts,
@@ -74,7 +101,7 @@ impl Plain {
             pending,
             owed,
             taken,
-            memory,
+            targets,
         })
     }
 }

@@ -1,6 +1,6 @@
-//! Rows of characters, one for each channel or node.
+//! Rows of characters or replies, one for each channel or node.
 
-ghost use Rattle.std.specs.Prelude.{if◌then◌else◌};
+ghost use Rattle.std.specs.Prelude.{if◌then◌else◌, option_to_list};
 ghost use Rattle.std.specs.Prelude.{
   ◌≡◌,
   ◌<◌,
@@ -16,7 +16,7 @@ ghost use Rattle.std.specs.Prelude.{
   slice_set,
   vec_len,
 };
-ghost use Rattle.sw_plain.specs.View.{rows};
+ghost use Rattle.sw_plain.specs.View.{HasRoom, rows};
 
 use std::alloc::AllocError;
 use sw_char::NChar;
@@ -42,8 +42,30 @@ pub fn push_to(all: &mut Vec<Vec<NChar>>, c: usize, x: NChar) -> Result<(), Allo
     Ok(())
 }
 
-/// Row c has lost its first character.
-pub fn drop_first(all: &mut Vec<Vec<NChar>>, c: usize)
+/// Row c gets room for one more, or there is want of memory. What the rows hold stays.
+pub fn reserve_at<T>(all: &mut Vec<Vec<T>>, c: usize) -> Result<(), AllocError>
+    requires { c < vec_len all.old }
+    ensures room { OnOk result (HasRoom all.new c) }
+    ensures same { rows all.new ≡ rows all.old }
+{
+    all[c].reserve(1)?;
+    Ok(())
+}
+
+/// Row c has x, if there is one, at its end.
+pub fn push_within<T: Drop>(all: &mut Vec<Vec<T>>, c: usize, x: Option<T>)
+    requires within { c < vec_len all.old }
+    requires room { HasRoom all.old c }
+    ensures { rows all.new ≡ slice_set (rows all.old) c (slice_index_or (rows all.old) c [] ++ option_to_list x) }
+{
+    match x {
+        Some(x) => all[c].push(x).unwrap(),
+        None => {}
+    }
+}
+
+/// Row c has lost its first element.
+pub fn drop_first<T: Drop>(all: &mut Vec<Vec<T>>, c: usize)
     requires within { c < vec_len all.old }
     requires some { 0 < length (slice_index_or (rows all.old) c []) }
     ensures { rows all.new ≡ slice_set (rows all.old) c (drop 1 (slice_index_or (rows all.old) c [])) }

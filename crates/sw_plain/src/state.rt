@@ -2,14 +2,15 @@
 
 use sw_char::NChar;
 use sw_machine::Input;
+use sw_rmap::Target;
 
 /// A reply that a node is to send.
 #[derive(Drop)]
 pub struct Reply {
     /// The address that it goes to.
     pub address: Vec<u8>,
-    /// What follows.
-    pub cargo: Vec<u8>,
+    /// The whole reply, which begins with the address.
+    pub bytes: Vec<u8>,
 }
 
 /// Each channel's and each node's part, by its number.
@@ -35,6 +36,6 @@ pub struct Plain {
     pub owed: Vec<usize>,
     /// What a node has taken.
     pub taken: Vec<Vec<NChar>>,
-    /// A node's memory.
-    pub memory: Vec<Vec<u8>>,
+    /// The target that a node is, with its memory, if it is one.
+    pub targets: Vec<Option<Target>>,
 }

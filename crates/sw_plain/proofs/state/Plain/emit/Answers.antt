@@ -5,6 +5,7 @@ use Rattle.sw_char.specs.declared.nchar.NChar.{NChar}
 use Rattle.sw_machine.specs.State.{owed_after, put}
 use Rattle.sw_plain.proofs.Puts.{front_is, put_of, read_is, set_is_put}
 use Rattle.sw_plain.proofs.RowChanges.{owed_is, replies_are, row_is, tells}
+use Rattle.sw_model.specs.Model.{network_of}
 use Rattle.sw_plain.specs.View.{lists_of, reply_of, rows}
 use Rattle.sw_plain.specs.Lists.{state_of}
 use Rattle.sw_plain.proofs.state.Plain.emit.Goals as goal
@@ -13,12 +14,12 @@ pub returns-clause-made : goal.returns-clause-made
 returns-clause-made c =
     let s = c.args.self.now in
     let k = c.args.n in
-    let p = c.args.plan.now in
+    let net = network_of c.args.network.now in
     let x = c.in-Some.first in
-    let out = c.index-out.result.now in
+    let out = c.out-c.result in
     let row = slice_index_or (rows s.to_send) k [] in
-    let inside : k < length p.out.items = search rules in
-    let inside_out : out < length p.capacity.items = search rules in
+    let inside : k < net.nodes = search rules in
+    let inside_out : out < net.channels = c.out-c.ensures.within in
     let st = c.requires.to_send in
     let lt : k < length (rows s.to_send) = omega arith in
     let sw = c.requires.wire in
@@ -28,9 +29,10 @@ returns-clause-made c =
     let so = c.requires.owed in
     let lo : k < length s.owed.items = omega arith in
     let sp = c.requires.pending in
-    let mp = length-map s.pending.items (λ q. map reply_of q.items) in
+    let mp = length-map s.pending.items (λ q. q.items) in
+    let mq = length-map (rows s.pending) (map reply_of) in
     let lp : k < length s.pending.items = omega arith in
-    let eo = read_is p.out.items k out 0 inside c.index-out.ensures in
+    let eo = c.out-c.ensures.channel in
     let front = front_is row x c.in-Some.ensures in
     let pushed : rows c.push_to.new.all ≡ slice_set (rows s.wire) out (slice_index_or (rows s.wire) out [] ++ x ∷ []) = search rules in
     let credit = read_is s.credit.items out c.index-credit.result.now 0 lc c.index-credit.ensures in
@@ -49,11 +51,11 @@ returns-clause-made c =
     let ended = tells c.is_empty-ended.result (length (drop 1 row)) (c.is_empty-ended.ensures ∙ ap (λ m. m == 0) size) in
     let v = c.index-3.result.now in
     let replies = replies_are s.pending k v lp c.index-3.ensures in
-    let waiting : c.len-waiting.result ≡ length (slice_index_or (map (λ q. map reply_of q.items) s.pending.items) k []) = c.len-waiting.ensures ∙ search rules ∙ sym (length-map v.items reply_of) ∙ ap length replies in
+    let waiting : c.len-waiting.result ≡ length (slice_index_or (map (map reply_of) (rows s.pending)) k []) = c.len-waiting.ensures ∙ search rules ∙ sym (length-map v.items reply_of) ∙ ap length replies in
     let owed = read_is s.owed.items k c.index-owed.result.now 0 lo c.index-owed.ensures in
-    let o = set_is_put s.owed.items k c.owed_after.result (owed_after (drop 1 row) (slice_index_or (map (λ q. map reply_of q.items) s.pending.items) k []) (get_or s.owed.items k 0)) 0 lo
-    (c.owed_after.ensures ∙ owed_is (drop 1 row) (slice_index_or (map (λ q. map reply_of q.items) s.pending.items) k []) c.is_empty-ended.result c.len-waiting.result c.index-owed.result.now ended.0 ended.1 waiting ∙ ap (owed_after (drop 1 row) (slice_index_or (map (λ q. map reply_of q.items) s.pending.items) k [])) owed) in
-    λ a. record {
+    let o = set_is_put s.owed.items k c.owed_after.result (owed_after (drop 1 row) (slice_index_or (map (map reply_of) (rows s.pending)) k []) (get_or s.owed.items k 0)) 0 lo
+    (c.owed_after.ensures ∙ owed_is (drop 1 row) (slice_index_or (map (map reply_of) (rows s.pending)) k []) c.is_empty-ended.result c.len-waiting.result c.index-owed.result.now ended.0 ended.1 waiting ∙ ap (owed_after (drop 1 row) (slice_index_or (map (map reply_of) (rows s.pending)) k [])) owed) in
+    record {
       in_net = inside;
       first = x;
       rest = drop 1 row;

@@ -14,7 +14,7 @@ returns-clause-made c =
     let some = c.if-under_way-eq0.false in
     let p = set_is_put n.credit.items c.args.c (c.index-credit.result.now + 8) (get_or n.credit.items c.args.c 0 + 8) 0 lc (ap (λ k. k + 8) credit) in
     let q = set_is_put n.fcts.items c.args.c (c.index-under_way.result.now - 1) (c.index-under_way.result.now - 1) 0 lf refl in
-    λ a. record {
+    record {
       in_net = search rules;
       remaining = c.index-under_way.result.now - 1;
       under_way = omega arith;

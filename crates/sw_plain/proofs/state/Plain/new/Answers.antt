@@ -1,16 +1,20 @@
-use Rattle.std.proofs.Common.{◌≡◌, [], ap, ◌∙◌, arith, length, rules}
+use Rattle.std.proofs.Common.{◌≡◌, [], ℕ, List, None, ap, ◌∙◌, arith, get_or, length}
+use Rattle.std.proofs.Math.Path.{fun_ext}
 use Rattle.sw_machine.specs.declared.input.Input.TheVariants.{Idle}
 use Rattle.sw_machine.specs.State.{empty}
-use Rattle.sw_plain.proofs.Start.{is_nothing, no_replies, nothing_at, replies_sized, sized}
-use Rattle.sw_plain.specs.View.{network_of, rows, silent}
+use Rattle.sw_model.specs.Model.{network_of}
+use Rattle.sw_plain.specs.Lists.{config_of, memory_of}
+use Rattle.sw_plain.proofs.Start.{first_configs, first_memory, first_sized, is_nothing, no_replies, nothing_at, replies_sized, sized}
+use Rattle.sw_plain.specs.View.{rows}
 use Rattle.sw_plain.proofs.state.Plain.new.Goals as goal
 
 pub returns-clause-kept : goal.returns-clause-kept
 returns-clause-kept c =
-    let ch = c.len-channels.result in
-    let no = c.len-nodes.result in
-    let channels : ch ≡ length c.args.plan.now.capacity.items = search rules in
-    let nodes : no ≡ length c.args.plan.now.out.items = search rules in
+    let d = c.args.network.now in
+    let ch = c.channels-c.result in
+    let no = c.nodes-n.result in
+    let channels : ch ≡ (network_of d).channels = c.channels-c.ensures in
+    let nodes : no ≡ (network_of d).nodes = c.nodes-n.ensures in
     let credit = nothing_at c.in_ok-credit.credit.items ch 0 c.in_ok-credit.ensures in
     let fcts = nothing_at c.in_ok-fcts.fcts.items ch 0 c.in_ok-fcts.ensures in
     let outstanding = nothing_at c.in_ok-outstanding.outstanding.items ch 0 c.in_ok-outstanding.ensures in
@@ -27,7 +31,8 @@ returns-clause-kept c =
       pending = replies_sized c.in_ok-pending.pending no c.in_ok-pending.ensures ∙ nodes;
       owed = sized c.in_ok-owed.owed.items no 0 c.in_ok-owed.ensures ∙ nodes;
       taken = sized (rows c.in_ok-taken.taken) no [] c.in_ok-taken.ensures ∙ nodes;
-      memory = sized (rows c.in_ok-memory.memory) no [] c.in_ok-memory.ensures ∙ nodes;
+      targets = ap length c.in_ok-targets.ensures ∙ first_sized d;
+      configs = λ n. ap (λ l. config_of (get_or l n None)) c.in_ok-targets.ensures ∙ first_configs d.nodes n;
       equation = record {
         at = λ k lt.
             let a = credit k in
@@ -41,8 +46,9 @@ returns-clause-kept c =
 
 pub returns-clause-empty : goal.returns-clause-empty
 returns-clause-empty c =
-    let ch = c.len-channels.result in
-    let no = c.len-nodes.result in
+    let d = c.args.network.now in
+    let ch = c.channels-c.result in
+    let no = c.nodes-n.result in
     let credit = is_nothing c.in_ok-credit.credit.items ch 0 c.in_ok-credit.ensures in
     let fcts = is_nothing c.in_ok-fcts.fcts.items ch 0 c.in_ok-fcts.ensures in
     let outstanding = is_nothing c.in_ok-outstanding.outstanding.items ch 0 c.in_ok-outstanding.ensures in
@@ -53,8 +59,8 @@ returns-clause-empty c =
     let pending = no_replies c.in_ok-pending.pending no c.in_ok-pending.ensures in
     let owed = is_nothing c.in_ok-owed.owed.items no 0 c.in_ok-owed.ensures in
     let taken = is_nothing (rows c.in_ok-taken.taken) no [] c.in_ok-taken.ensures in
-    let memory = is_nothing (rows c.in_ok-memory.memory) no [] c.in_ok-memory.ensures in
-    λ i. record (empty (network_of c.args.plan.now silent)) {
+    let memory : ◌≡◌ {A = ℕ → List ℕ} (λ n. memory_of (get_or c.in_ok-targets.targets.items n None)) (network_of d).memory_at_first = fun_ext (λ n. ap (λ l. memory_of (get_or l n None)) c.in_ok-targets.ensures ∙ first_memory d n) in
+    λ i. record (empty (network_of d)) {
       credit = credit i;
       fcts = fcts i;
       outstanding = outstanding i;
