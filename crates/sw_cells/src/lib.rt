@@ -1,0 +1,4 @@
+//! The machine's steps on the cells of a network and what lies between them.
+#![tactic(auto)]
+
+pub mod node;

@@ -1,0 +1,98 @@
+//! The steps of a node. Each answers whether the step was possible; where it was not, nothing
+//! changed.
+ghost use Rattle.std.specs.Prelude.{◌≡◌, IfOk, OnErr};
+ghost use Rattle.sw_cells.specs.Makes.{HasNodeState, NodeDoes, NodeMakes};
+ghost use Rattle.sw_cells.specs.Parts.{IsNodeFor};
+ghost use Rattle.sw_machine.specs.Steps.{Accept, Arrive, Emit, Fct, FctIn, Reply};
+ghost use Rattle.sw_model.specs.Model.{network_of};
+ghost use Rattle.sw_network.specs.Entries.{Declaration};
+
+use std::alloc::{AllocError, Global};
+use sw_network::Network;
+use sw_node::NodeCell;
+use sw_wires::Wires;
+
+/// The end of the channel that comes to node `n` sends an FCT.
+pub fn fct(network: &Network, n: u16, node: &mut NodeCell, wires: &mut Wires) -> bool
+    requires node { IsNodeFor network.now n node.old }
+    requires reached { HasNodeState (network_of network.now) n node.old wires.old }
+    ensures node { IsNodeFor network.now n node.new }
+    ensures made { NodeMakes (network_of network.now) n node.old wires.old (Fct ((network_of network.now).into n)) result node.new wires.new }
+{
+    if !node.can_issue() {
+        return false;
+    }
+    node.issue();
+    wires.send_fct(network.topology().into(n));
+    true
+}
+
+/// An FCT arrives where the channel starts that goes out from node `n`.
+pub fn fct_in(network: &Network, n: u16, node: &mut NodeCell, wires: &mut Wires) -> bool
+    requires node { IsNodeFor network.now n node.old }
+    requires reached { HasNodeState (network_of network.now) n node.old wires.old }
+    ensures node { IsNodeFor network.now n node.new }
+    ensures made { NodeMakes (network_of network.now) n node.old wires.old (FctIn ((network_of network.now).out n)) result node.new wires.new }
+{
+    let out = network.topology().out(n);
+    if wires.fcts(out) == 0 {
+        return false;
+    }
+    wires.take_fct(out);
+    node.fct_in();
+    true
+}
+
+/// The first character on the wire of the channel that comes to node `n` arrives.
+pub fn arrive(network: &Network, n: u16, node: &mut NodeCell, wires: &mut Wires) -> bool
+    requires node { IsNodeFor network.now n node.old }
+    requires reached { HasNodeState (network_of network.now) n node.old wires.old }
+    ensures node { IsNodeFor network.now n node.new }
+    ensures made { NodeMakes (network_of network.now) n node.old wires.old (Arrive ((network_of network.now).into n)) result node.new wires.new }
+{
+    let into = network.topology().into(n);
+    let Some(character) = wires.first(into) else {
+        return false;
+    };
+    let _ = wires.take(into);
+    node.arrive(character);
+    true
+}
+
+/// Node `n` puts a character on its wire.
+pub fn emit(network: &Network, n: u16, node: &mut NodeCell, wires: &mut Wires) -> bool
+    requires node { IsNodeFor network.now n node.old }
+    requires reached { HasNodeState (network_of network.now) n node.old wires.old }
+    ensures node { IsNodeFor network.now n node.new }
+    ensures made { NodeMakes (network_of network.now) n node.old wires.old (Emit n) result node.new wires.new }
+{
+    if !node.can_emit() {
+        return false;
+    }
+    let character = node.emit();
+    wires.put(network.topology().out(n), character);
+    true
+}
+
+/// Node `n` takes a character. After want of memory it is as it was.
+pub fn accept(alloc: Global, n: u16, node: &mut NodeCell) -> Result<bool, AllocError>
+    ensures made { IfOk result (λ made. (d : Declaration) → IsNodeFor d n node.old → NodeDoes d n node.old (Accept n) made node.new) }
+    ensures err { OnErr result (node.new ≡ node.old) }
+{
+    if !node.can_accept() {
+        return Ok(false);
+    }
+    node.accept(alloc)?;
+    Ok(true)
+}
+
+/// Node `n` begins to send the reply that has waited longest.
+pub fn reply(n: u16, node: &mut NodeCell) -> bool
+    ensures { (d : Declaration) → IsNodeFor d n node.old → NodeDoes d n node.old (Reply n) result node.new }
+{
+    if !node.can_reply() {
+        return false;
+    }
+    node.reply();
+    true
+}

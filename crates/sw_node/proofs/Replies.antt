@@ -1,0 +1,29 @@
+-- Where a reply's address ends.
+use Rattle.std.proofs.Common.{◌≡◌, ℕ, ◌≤◌, List, take, drop, length, Option, Some, None, refl, ap, ◌∙◌, arith, length-append}
+use Rattle.std.proofs.lemmas.List.{take_at}
+use Rattle.sw_char.specs.declared.nchar.End.{End}
+use Rattle.sw_model.specs.Model.{parted, slots_of}
+use Rattle.sw_node.specs.Changes.{with_memory}
+use Rattle.sw_node.specs.Node.{config_of}
+use Rattle.sw_rmap.specs.Answers.{TargetView, answer}
+use Rattle.sw_rmap.specs.Laws.{AnswersByTheWayBack}
+use Rattle.sw_rmap.specs.Replies.{reply_to}
+use Rattle.sw_rmap.specs.declared.config.TargetConfig.{TargetConfig}
+
+module _ (law : AnswersByTheWayBack) (t : TargetConfig) (memory bytes : List ℕ) (end : End) (way reply : List ℕ) where
+  pub address_within : (answer t memory bytes end).0 ≡ Some reply → reply_to bytes ≡ Some way → length way ≤ length reply
+  address_within answered back =
+      let l = (law t memory bytes end).1 reply way answered back in
+      omega (arith, ap (λ (x : List ℕ). length x) l.1, length-append way l.0)
+
+  pub address_is : (answer t memory bytes end).0 ≡ Some reply → reply_to bytes ≡ Some way
+      → Some (record { address = take (length way) reply; cargo = drop (length way) reply }) ≡ parted (reply_to bytes) (answer t memory bytes end).0
+  address_is answered back =
+      let l = (law t memory bytes end).1 reply way answered back in
+      let front : take (length way) reply ≡ way = ap (λ (x : List ℕ). take (length way) x) l.1 ∙ take_at way l.0 (length way) refl in
+      ap (λ (x : List ℕ). Some (record { address = x; cargo = drop (length way) reply })) front ∙ (rw (back, answered) refl)
+
+-- a target keeps its slots
+pub slots_same : (target : Option TargetView) (memory : List ℕ) → slots_of (config_of (with_memory target memory)) ≡ slots_of (config_of target)
+slots_same None memory = refl
+slots_same (Some t) memory = refl

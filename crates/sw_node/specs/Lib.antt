@@ -1,0 +1,3 @@
+pub mod Node
+pub mod Conditions
+pub mod Changes

@@ -1,0 +1,14 @@
+//! The cell of a node: its steps, and when each is possible.
+#![tactic(auto)]
+
+mod came_out;
+mod cell;
+mod conditions;
+mod make;
+mod reply;
+mod sending;
+mod steps;
+#[cfg(test)]
+mod tests;
+
+pub use cell::NodeCell;

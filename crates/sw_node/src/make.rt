@@ -1,0 +1,58 @@
+//! A new node.
+ghost use Rattle.std.specs.Prelude.{◌≡◌, IfOk, IfSome};
+ghost use Rattle.sw_link.specs.Ends.{IsCapacity};
+ghost use Rattle.sw_node.specs.Node.{new_node, target_at_first};
+ghost use Rattle.sw_model.specs.Model.{slots_of};
+ghost use Rattle.sw_rmap.specs.Config.{IsTargetConfig};
+
+use crate::cell::NodeCell;
+use crate::sending::Sending;
+use circular_buffer::HeapCircularBuffer;
+use std::alloc::{AllocError, Global};
+use sw_link::{RxEnd, TxEnd};
+use sw_rmap::{Target, TargetConfig};
+
+fn new_target(alloc: Global, config: Option<TargetConfig>) -> Result<Option<Target>, AllocError>
+    requires { IfSome config IsTargetConfig }
+    ensures { IfOk result (λ target. target ≡ target_at_first config) }
+{
+    match config {
+        Some(config) => Ok(Some(Target::new(alloc, config)?)),
+        None => Ok(None),
+    }
+}
+
+/// How many replies it may owe. A plain node never owes one.
+fn slots(config: Option<TargetConfig>) -> usize
+    ensures { result ≡ slots_of config }
+{
+    match config {
+        Some(config) => config.slots as usize,
+        None => 1,
+    }
+}
+
+impl NodeCell {
+    /// A node whose receive buffer holds `capacity` N-Chars, 8 to 4,096: a plain one, or an RMAP
+    /// target. Its buffer, its memory and the room for the replies that wait are made here.
+    pub fn new(
+        alloc: Global,
+        target: Option<TargetConfig>,
+        capacity: usize,
+    ) -> Result<NodeCell, AllocError>
+        requires target { IfSome target IsTargetConfig }
+        requires capacity { IsCapacity capacity }
+        ensures { IfOk result (λ node. node ≡ new_node target capacity) }
+    {
+        Ok(NodeCell {
+            target: new_target(alloc, target)?,
+            credit: TxEnd::new(),
+            received: RxEnd::new(alloc, capacity)?,
+            sending: Sending::nothing(alloc),
+            pending: HeapCircularBuffer::with_capacity(alloc, slots(target))?,
+            owed: 0,
+            packets: Vec::new(alloc),
+            bytes: Vec::new(alloc),
+        })
+    }
+}

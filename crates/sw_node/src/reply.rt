@@ -1,0 +1,82 @@
+//! A reply that waits to be sent.
+ghost use Rattle.std.specs.Prelude.{◌≡◌, Some, IfOk, OnErr, OnOk};
+ghost use Rattle.sw_machine.specs.State.{reply_packet};
+ghost use Rattle.sw_model.specs.Model.{answer_of, memory_after};
+ghost use Rattle.sw_node.specs.Changes.{with_memory};
+ghost use Rattle.sw_node.specs.Node.{config_of, memory_of};
+
+use crate::sending::Sending;
+use std::alloc::{AllocError, Global};
+use std::marker::Model;
+use sw_char::End;
+use sw_rmap::laws::answers_by_the_way_back;
+use sw_rmap::{Target, reply_to};
+
+/// A reply (ECSS-E-ST-50-52C, reply fields), and how many of its bytes are the address that it
+/// goes to.
+#[derive(Debug, Drop)]
+pub(crate) struct Reply {
+    bytes: Vec<u8>,
+    address: usize,
+}
+
+impl Model for Reply {
+    ghost use Rattle.std.specs.Prelude.{◌≤◌, drop, length, take};
+    ghost use Rattle.sw_machine.specs.Network.{PendingReply};
+
+    ghost Value = { PendingReply };
+
+    ghost view = { λ r. record { address = take r.address r.bytes.items; cargo = drop r.address r.bytes.items } };
+
+    ghost invariant = { λ r. r.address ≤ length r.bytes.items };
+}
+
+impl Reply {
+    /// Its characters, to be sent.
+    pub(crate) fn into_sending(self) -> Sending
+        ensures { result ≡ reply_packet self }
+    {
+        Sending::packet(self.bytes, End::Eop)
+    }
+}
+
+/// Hands the packet to the target, and makes the reply to it if it gets one. After want of memory
+/// nothing is stored.
+fn answer_by(
+    target: &mut Target,
+    alloc: Global,
+    bytes: &[u8],
+    end: End,
+) -> Result<Option<Reply>, AllocError>
+    ensures reply { IfOk result (λ reply. reply ≡ answer_of (Some target.old.config) target.old.memory bytes.now end) }
+    ensures target { OnOk result (target.new ≡ record target.old { memory = memory_after (Some target.old.config) target.old.memory bytes.now end }) }
+    ensures err { OnErr result (target.new ≡ target.old) }
+{
+    answers_by_the_way_back();
+    let way = reply_to(alloc, bytes)?;
+    let reply = target.answer(alloc, bytes, end)?;
+    match (way, reply) {
+        (Some(way), Some(bytes)) => Ok(Some(Reply {
+            bytes,
+            address: way.len(),
+        })),
+        _ => Ok(None),
+    }
+}
+
+/// The same at any node: a plain one answers nothing.
+pub(crate) fn answer(
+    target: &mut Option<Target>,
+    alloc: Global,
+    bytes: &[u8],
+    end: End,
+) -> Result<Option<Reply>, AllocError>
+    ensures reply { IfOk result (λ reply. reply ≡ answer_of (config_of target.old) (memory_of target.old) bytes.now end) }
+    ensures target { OnOk result (target.new ≡ with_memory target.old (memory_after (config_of target.old) (memory_of target.old) bytes.now end)) }
+    ensures err { OnErr result (target.new ≡ target.old) }
+{
+    match target {
+        Some(target) => answer_by(target, alloc, bytes, end),
+        None => Ok(None),
+    }
+}
