@@ -1,0 +1,3 @@
+mod Pairs
+mod Named
+mod Reading
