@@ -1,3 +1,4 @@
 mod Pairs
 mod Named
 mod Reading
+mod Parts

@@ -36,7 +36,7 @@ abbrev pub text_lines : List ℕ → List (List ℕ)
 text_lines text = slice_split (λ b. b == 10) text
 
 -- the steps that a text lists for a network, in order, or the number of its first wrong line, counted from 1
-abbrev pub steps_of_text : Declaration → List ℕ → Result (List Step) ℕ
+unfoldable pub steps_of_text : Declaration → List ℕ → Result (List Step) ℕ
 steps_of_text d text = with_lines d 1 [] (text_lines text)
 
 -- What reading gave: the steps, seen by view, or the wrong line, unless memory ran out.

@@ -3,6 +3,7 @@
 
 mod cargo;
 mod entry;
+pub mod laws;
 mod line;
 mod names;
 mod schedule;
