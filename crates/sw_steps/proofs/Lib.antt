@@ -1,0 +1,4 @@
+mod Pairs
+mod Named
+mod Reading
+mod Parts
