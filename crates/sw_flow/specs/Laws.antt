@@ -1,5 +1,5 @@
 -- Laws of places and of their faults.
-use Rattle.std.specs.Prelude.{◌≡◌, ◌≢◌, ℕ, ◌-◌, ◌<◌, ◌≤◌, ◌⊎◌, ◌↔◌, Bool, IsTrue, List, length, Some, None}
+use Rattle.std.specs.Prelude.{◌≡◌, ◌≢◌, ℕ, ◌-◌, ◌<◌, ◌≤◌, ◌⊎◌, ◌↔◌, Bool, IsTrue, List, length, Contains, Some, None}
 use Rattle.sw_topo.specs.declared.place.PlaceEnd.{PlaceEnd}
 use Rattle.sw_topo.specs.declared.place.PlaceEnd.TheVariants.{Node, Switch}
 use Rattle.sw_topo.specs.Wiring.{out}
@@ -8,6 +8,7 @@ use Rattle.sw_network.specs.Entries.{FlowEntry, Declaration}
 use Rattle.sw_flow.specs.declared.fault.RouteFault.TheVariants.{AddressEnds, NoRoute, WrongNode, WrongLeft}
 use Rattle.sw_flow.specs.declared.place.Place.{Place}
 use Rattle.sw_flow.specs.Places.{ends_of, end_of, look_after, Follows, IsPlace, IsPlaceList}
+use Rattle.sw_flow.specs.Followers.{followers_of}
 use Rattle.sw_flow.specs.Faults.{fault_of, first_fault_of, IsWellRouted}
 
 -- a place is on one of the network's channels, and no more address bytes are deleted there than there are
@@ -17,6 +18,10 @@ PlacesAreIn = (d : Declaration) (f : FlowEntry) (c k : ℕ) → IsPlace d f c k 
 -- what follows a place is a place
 abbrev pub FollowersArePlaces : Type 0
 FollowersArePlaces = (d : Declaration) (f : FlowEntry) (c k e m : ℕ) → IsPlace d f c k → Follows d f c k e m → IsPlace d f e m
+
+-- the list of followers has the places that follow, and no others
+abbrev pub FollowersAreListed : Type 0
+FollowersAreListed = (d : Declaration) (f : FlowEntry) (c k : ℕ) (p : Place) → Contains (followers_of d f c k) p ↔ Follows d f c k p.channel p.deleted
 
 -- every set, given by its test, that holds the flow's start and what follows its members holds all places of the flow
 abbrev pub PlacesAreLeast : Type 0

@@ -49,7 +49,8 @@ fn fault_at_node(flow: &Flow, node: u16, deleted: u8) -> Option<RouteFault>
     }
 }
 
-fn fault_in(network: &Network, flow: &Flow, place: Place) -> Option<RouteFault>
+/// What is wrong with a place of the flow; nothing where the network has no such channel.
+pub fn fault_in(network: &Network, flow: &Flow, place: Place) -> Option<RouteFault>
     ensures { result ≡ fault_of network.now flow.now place.channel place.deleted }
 {
     let topology = network.topology();

@@ -1,9 +1,14 @@
 //! Laws of the definitions. These functions do nothing: each is the proof of its clause.
-ghost use Rattle.sw_flow.specs.Laws.{PlacesAreIn, FollowersArePlaces, PlacesAreLeast, FaultsInWords, FaultlessGoOn, WellRoutedByList};
+ghost use Rattle.sw_flow.specs.Laws.{PlacesAreIn, FollowersAreListed, FollowersArePlaces, PlacesAreLeast, FaultsInWords, FaultlessGoOn, WellRoutedByList};
 
 /// A place is on one of the network's channels, with at most all address bytes deleted.
 pub fn places_are_in()
     ensures { PlacesAreIn }
+{}
+
+/// The list of what follows a place has the places that follow it, and no others.
+pub fn followers_are_listed()
+    ensures { FollowersAreListed }
 {}
 
 /// What follows a place is a place.

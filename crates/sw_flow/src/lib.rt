@@ -8,16 +8,18 @@ mod place;
 mod routes;
 mod spread;
 mod steps;
+mod walk;
 
-pub use check::{fault_at, first_fault};
+pub use check::{fault_at, fault_in, first_fault};
 pub use fault::RouteFault;
 pub use laws::{
-    faultless_go_on, faults_in_words, followers_are_places, places_are_in, places_are_least,
-    well_routed_by_list,
+    faultless_go_on, faults_in_words, followers_are_listed, followers_are_places, places_are_in,
+    places_are_least, well_routed_by_list,
 };
 pub use place::Place;
 pub use routes::places;
 pub use spread::all_places;
+pub use walk::{Followers, followers_in};
 
 #[cfg(test)]
 mod tests;

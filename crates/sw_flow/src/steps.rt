@@ -2,14 +2,14 @@
 ghost use Rattle.std.specs.Prelude.{◌≡◌, ◌<◌, ◌≤◌, ◌+◌, ◌*◌, ◌/◌, ◌%◌, ◌++◌, map, length, OnOk, IfSome, Option};
 ghost use Rattle.sw_flow.specs.Places.{ends_of};
 ghost use Rattle.sw_flow.specs.Faults.{output_at};
-ghost use Rattle.sw_flow.specs.Numbers.{outputs};
 
 use crate::place::Place;
+use crate::walk::{Followers, followers_in};
 use std::alloc::AllocError;
 use sw_network::{Flow, Network};
 use sw_reach::Steps;
 use sw_route::Look;
-use sw_topo::{Chan, PlaceEnd, Port, Topology};
+use sw_topo::{Chan, Port, Topology};
 
 /// A flow of a network.
 #[derive(Drop)]
@@ -48,23 +48,17 @@ pub(crate) fn output_at(topology: &Topology, switch: u16, look: &Look, number: u
     }
 }
 
-fn push_outputs(
-    topology: &Topology,
-    switch: u16,
-    look: &Look,
+/// Adds the numbers of the places, where each channel has `width` places.
+fn push_numbers(
+    followers: Followers<'_>,
     width: usize,
-    deleted: usize,
     to: &mut Vec<usize>,
 ) -> Result<(), AllocError>
-    requires switch { switch < topology.now.switches }
-    requires width { width ≤ 33 }
-    requires deleted { deleted < width }
-    ensures { OnOk result (to.new.items ≡ to.old.items ++ map (λ e. e * width + deleted) (outputs topology.now.ends switch look.now)) }
+    requires { width ≤ 33 }
+    ensures { OnOk result (to.new.items ≡ to.old.items ++ map (λ p. p.channel * width + p.deleted) followers.entry) }
 {
-    for number in 0..32 {
-        if let Some(channel) = output_at(topology, switch, look, number) {
-            to.push(channel.number() as usize * width + deleted)?;
-        }
+    for place in followers {
+        to.push(place.channel.number() as usize * width + place.deleted as usize)?;
     }
     Ok(())
 }
@@ -77,21 +71,8 @@ impl Steps for FlowSteps<'_> {
     ghost next = { λ s n. next_numbers s.network.now s.flow.now n };
 
     fn push_next(&self, number: usize, to: &mut Vec<usize>) -> Result<(), AllocError> {
-        let address = self.flow.address();
-        let width = address.len() + 1;
+        let width = self.flow.address().len() + 1;
         let place = place_of(number, width);
-        let deleted = place.deleted as usize;
-        let Some(byte) = address.get(deleted) else {
-            return Ok(());
-        };
-        let topology = self.network.topology();
-        match topology.end_of(place.channel) {
-            PlaceEnd::Node(_) => Ok(()),
-            PlaceEnd::Switch(switch, _) => {
-                let look = self.network.look(switch, *byte);
-                let behind = if look.delete { deleted + 1 } else { deleted };
-                push_outputs(topology, switch, &look, width, behind, to)
-            }
-        }
+        push_numbers(followers_in(self.network, self.flow, place), width, to)
     }
 }

@@ -1,0 +1,116 @@
+//! The places that follow a place.
+ghost use Rattle.std.specs.Prelude.{◌≡◌, ◌<◌, ◌≤◌, ◌∷◌, [], length, MatchOption};
+ghost use Rattle.sw_topo.specs.Ports.{ports_of};
+ghost use Rattle.sw_flow.specs.Followers.{outputs_of, followers_at_switch, followers_of};
+
+use crate::place::Place;
+use std::marker::Model;
+use sw_network::{Flow, Network};
+use sw_topo::{Chan, PlaceEnd, PortSet, Ports, Topology};
+
+/// The places that follow a place and are still to come, in the order of the ports that lead to them.
+#[derive(Drop)]
+pub struct Followers<'a> {
+    topology: &'a Topology,
+    switch: u16,
+    ports: Ports,
+    deleted: u8,
+}
+
+impl<'a> Model for Followers<'a> {
+    ghost use Rattle.std.specs.Prelude.{◌<◌, List, length};
+    ghost use Rattle.sw_topo.specs.Ports.{ports_of};
+    ghost use Rattle.sw_flow.specs.declared.place.Place.{Place};
+    ghost use Rattle.sw_flow.specs.Followers.{outputs_of, places_on};
+
+    ghost Value = { List Place };
+
+    ghost view = { λ w. places_on w.deleted (outputs_of w.topology.now.ends w.switch w.ports) };
+
+    ghost invariant = { λ w. 0 < length (ports_of w.ports) → w.switch < w.topology.now.switches };
+}
+
+/// The channel that starts at the first of the ports that has a link; these ports come no more.
+fn next_output(topology: &Topology, switch: u16, ports: &mut Ports) -> Option<Chan>
+    requires { 0 < length (ports_of ports.old) → switch < topology.now.switches }
+    ensures first { MatchOption result (outputs_of topology.now.ends switch ports.old ≡ []) (λ c. outputs_of topology.now.ends switch ports.old ≡ c ∷ outputs_of topology.now.ends switch ports.new) }
+    ensures last { MatchOption result (ports_of ports.new ≡ []) (λ c. length (ports_of ports.new) < length (ports_of ports.old)) }
+{
+    while let Some(port) = ports.next() {
+        if let Some(channel) = topology.out_of(switch, port) {
+            return Some(channel);
+        }
+    }
+    None
+}
+
+impl<'a> Iterator for Followers<'a> {
+    ghost use Rattle.std.specs.Iterator.{YieldsFirst, item_count};
+
+    type Item = Place;
+
+    ghost next_gives = { YieldsFirst (λ s. s) };
+
+    ghost remaining = { item_count (λ s. s) };
+
+    fn next(&mut self) -> Option<Place> {
+        let channel = next_output(self.topology, self.switch, &mut self.ports)?;
+        Some(Place {
+            channel,
+            deleted: self.deleted,
+        })
+    }
+}
+
+/// No places.
+fn no_followers(topology: &Topology) -> Followers<'_>
+    ensures { result ≡ [] }
+{
+    Followers {
+        topology,
+        switch: 0,
+        ports: PortSet::EMPTY.ports(),
+        deleted: 0,
+    }
+}
+
+/// The places behind a switch, where packets of the flow arrive with that many address bytes deleted.
+fn followers_at_switch<'a>(
+    network: &'a Network,
+    flow: &Flow,
+    switch: u16,
+    deleted: u8,
+) -> Followers<'a>
+    requires switch { switch < length network.now.switches }
+    requires short { length flow.now.address ≤ 32 }
+    ensures { result ≡ followers_at_switch network.now flow.now switch deleted }
+{
+    let topology = network.topology();
+    let Some(byte) = flow.address().get(deleted as usize) else {
+        return no_followers(topology);
+    };
+    let look = network.look(switch, *byte);
+    Followers {
+        topology,
+        switch,
+        ports: look.ports.ports(),
+        deleted: if look.delete { deleted + 1 } else { deleted },
+    }
+}
+
+/// The places that follow a place of the flow, in the order of the ports that lead to them; none where the network has no such
+/// channel.
+#[tactic(auto, unfolding(crate::specs::Followers::followers_of))]
+pub fn followers_in<'a>(network: &'a Network, flow: &Flow, place: Place) -> Followers<'a>
+    requires { length flow.now.address ≤ 32 }
+    ensures { result ≡ followers_of network.now flow.now place.channel place.deleted }
+{
+    let topology = network.topology();
+    if place.channel.number() >= topology.channels() {
+        return no_followers(topology);
+    }
+    match topology.end_of(place.channel) {
+        PlaceEnd::Node(_) => no_followers(topology),
+        PlaceEnd::Switch(switch, _) => { followers_at_switch(network, flow, switch, place.deleted) }
+    }
+}
