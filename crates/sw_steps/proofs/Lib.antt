@@ -2,3 +2,4 @@ mod Pairs
 mod Named
 mod Reading
 mod Parts
+mod Written
