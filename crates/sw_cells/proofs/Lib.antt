@@ -1,3 +1,5 @@
 pub mod Puts
+pub mod Betweens
 pub mod Network
 pub mod Nodes
+pub mod Switches

@@ -1,12 +1,13 @@
 -- The steps of a node, on its part of the machine's state.
 use mathlib.Core.Logic.{∥∥₁_elim}
 use native.Mathlib.Bridge.{le_prop}
-use Rattle.std.proofs.Common.{◌≡◌, ℕ, Bool, ◌+◌, ◌-◌, ◌<◌, ◌≤◌, List, [], ◌∷◌, ◌++◌, drop, length, length-set, Option, Some, None, IsTrue, refl, ap, ap₂, sym, subst, ◌∙◌, arith, true, false}
+use Rattle.std.proofs.Common.{◌≡◌, ℕ, Bool, ◌+◌, ◌-◌, ◌<◌, ◌≤◌, List, [], ◌∷◌, ◌++◌, drop, length, Option, Some, None, IsTrue, refl, ap, ap₂, sym, subst, ◌∙◌, arith, true, false}
 use Rattle.std.proofs.lemmas.Bool.Decides.{nat_tests}
 use Rattle.std.specs.Prelude.{slice_get}
-use Rattle.sw_cells.proofs.Puts.{front_is, front_of, put_set, reached_more}
+use Rattle.sw_cells.proofs.Betweens.{fcts_put, wires_put}
+use Rattle.sw_cells.proofs.Puts.{front_is, front_of, reached_more}
 use Rattle.sw_cells.specs.Makes.{HasNodeState, NodeMakes}
-use Rattle.sw_cells.specs.Parts.{IsBetweenPart, IsNodePart}
+use Rattle.sw_cells.specs.Parts.{IsNodePart}
 use Rattle.sw_char.specs.declared.nchar.End.{End}
 use Rattle.sw_char.specs.declared.nchar.End.TheVariants.{Eep as ByEep, Eop as ByEop}
 use Rattle.sw_char.specs.declared.nchar.NChar.{NChar}
@@ -16,7 +17,7 @@ use Rattle.sw_machine.proofs.Credit.{reached_numbers}
 use Rattle.sw_machine.proofs.Cuts.{cut_byte, cut_marker}
 use Rattle.sw_machine.proofs.Lists.{put_here}
 use Rattle.sw_machine.specs.Network.{IsNetwork, Network}
-use Rattle.sw_machine.specs.State.{State, after_accept, after_arrive, after_emit, after_fct, after_fct_in, after_reply, owed_after, owed_with, pending_with, put, reply_packet}
+use Rattle.sw_machine.specs.State.{State, after_accept, after_arrive, after_emit, after_fct, after_fct_in, after_reply, owed_after, owed_with, pending_with, reply_packet}
 use Rattle.sw_machine.specs.Steps.{Accept, Arrive, Emit, Fct, FctIn, Leads, Reply, Step}
 use Rattle.sw_model.specs.Model.{answer_of, memory_after}
 use Rattle.sw_node.specs.Changes.{accepted, emitted, first_reply, replied, took, with_credit, with_memory, with_received, without_front}
@@ -76,22 +77,6 @@ module _ (net : Network) (ok : IsNetwork net) (n : ℕ) (in_net : n < net.nodes)
   li : net.into n < net.channels
   li = (ok.into_ends n in_net).0
 
-  wires_put : (s t : State) (c : ℕ) (w v : List NChar) → c < net.channels → w ≡ v → t.wire ≡ put s.wire c w → t.fcts ≡ s.fcts → IsBetweenPart net b s → IsBetweenPart net (with_wire b c v) t
-  wires_put s t c w v lt same wire fcts is = record {
-    all_wires = length-set b.wires c v ∙ is.all_wires;
-    all_fcts = is.all_fcts;
-    wire = λ k lk. ap (λ (f : ℕ → List NChar). f k) wire ∙ put_set net.channels s.wire b.wires [] c w v (let e = is.all_wires in omega arith) is.wire same k lk;
-    fcts = λ k lk. ap (λ (f : ℕ → ℕ). f k) fcts ∙ is.fcts k lk;
-  }
-
-  fcts_put : (s t : State) (c : ℕ) (w v : ℕ) → c < net.channels → w ≡ v → t.wire ≡ s.wire → t.fcts ≡ put s.fcts c w → IsBetweenPart net b s → IsBetweenPart net (with_fcts b c v) t
-  fcts_put s t c w v lt same wire fcts is = record {
-    all_wires = is.all_wires;
-    all_fcts = length-set b.fcts c v ∙ is.all_fcts;
-    wire = λ k lk. ap (λ (f : ℕ → List NChar). f k) wire ∙ is.wire k lk;
-    fcts = λ k lk. ap (λ (f : ℕ → ℕ). f k) fcts ∙ put_set net.channels s.fcts b.fcts 0 c w v (let e = is.all_fcts in omega arith) is.fcts same k lk;
-  }
-
   pub wires_long : HasNodeState net n node b → net.channels ≤ length b.wires
   wires_long has = ∥∥₁_elim has le_prop (λ k. let all = (k.1).between.all_wires in omega arith)
 
@@ -120,7 +105,7 @@ module _ (net : Network) (ok : IsNetwork net) (n : ℕ) (in_net : n < net.nodes)
           taken = p.taken;
           memory = p.memory;
         };
-        between = fcts_put s (after_fct s i) i (s.fcts i + 1) (fcts_at b i + 1) li (ap (λ k. k + 1) (is.between.fcts i li)) refl refl is.between;
+        between = fcts_put net b s (after_fct s i) i (s.fcts i + 1) (fcts_at b i + 1) li (ap (λ k. k + 1) (is.between.fcts i li)) refl refl is.between;
       })
 
   pub fct_not : net.capacity (net.into n) ≡ node.received.capacity → (CanIssue node → ⊥) → NodeMakes net n node b (Fct (net.into n)) false node b
@@ -162,7 +147,7 @@ module _ (net : Network) (ok : IsNetwork net) (n : ℕ) (in_net : n < net.nodes)
           taken = p.taken;
           memory = p.memory;
         };
-        between = fcts_put s (after_fct_in s o (fcts_at b o - 1)) o (fcts_at b o - 1) (fcts_at b o - 1) lo refl refl refl is.between;
+        between = fcts_put net b s (after_fct_in s o (fcts_at b o - 1)) o (fcts_at b o - 1) (fcts_at b o - 1) lo refl refl refl is.between;
       })
 
   pub fct_in_not : fcts_at b (net.out n) ≤ 0 → NodeMakes net n node b (FctIn (net.out n)) false node b
@@ -199,7 +184,7 @@ module _ (net : Network) (ok : IsNetwork net) (n : ℕ) (in_net : n < net.nodes)
           taken = p.taken;
           memory = p.memory;
         };
-        between = wires_put s (after_arrive s i x rest) i rest rest li refl refl refl is.between;
+        between = wires_put net b s (after_arrive s i x rest) i rest rest li refl refl refl is.between;
       })
 
   pub arrive_not : slice_get (wire_at b (net.into n)) 0 ≡ None → NodeMakes net n node b (Arrive (net.into n)) false node b
@@ -238,7 +223,7 @@ module _ (net : Network) (ok : IsNetwork net) (n : ℕ) (in_net : n < net.nodes)
           taken = p.taken;
           memory = p.memory;
         };
-        between = wires_put s (after_emit net s n x rest (node.credit - 1)) o (s.wire o ++ x ∷ []) (wire_at b o ++ x ∷ []) lo (ap (λ (l : List NChar). l ++ x ∷ []) (is.between.wire o lo)) refl refl is.between;
+        between = wires_put net b s (after_emit net s n x rest (node.credit - 1)) o (s.wire o ++ x ∷ []) (wire_at b o ++ x ∷ []) lo (ap (λ (l : List NChar). l ++ x ∷ []) (is.between.wire o lo)) refl refl is.between;
       })
 
   pub emit_not : (CanEmit node → ⊥) → NodeMakes net n node b (Emit n) false node b

@@ -2,3 +2,4 @@
 #![tactic(auto)]
 
 pub mod node;
+pub mod switch;

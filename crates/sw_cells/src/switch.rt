@@ -1,0 +1,106 @@
+//! The steps of a switch. Each answers whether the step was possible; where it was not, nothing
+//! changed.
+ghost use Rattle.std.specs.Prelude.{◌≡◌, Some, slice_get};
+ghost use Rattle.sw_cells.specs.SwitchParts.{HasSwitchState, IsSwitchFor, SwitchMakes};
+ghost use Rattle.sw_flow.specs.Places.{end_of, ends_of};
+ghost use Rattle.sw_machine.specs.Network.{AtSwitch};
+ghost use Rattle.sw_machine.specs.Steps.{Arrive, Fct, FctIn};
+ghost use Rattle.sw_model.specs.Model.{network_of};
+
+use sw_arb::Arbiter;
+use sw_network::Network;
+use sw_route::Routing;
+use sw_switch::SwitchCell;
+use sw_topo::{Chan, PlaceEnd, Port};
+use sw_wires::Wires;
+
+/// The port of switch `w` where the channel ends.
+fn input(network: &Network, w: u16, channel: Chan) -> Port
+    requires { (network_of network.now).end_of channel ≡ AtSwitch w }
+    ensures { end_of network.now channel ≡ Some (PlaceEnd.Switch w result) }
+{
+    match network.topology().end_of(channel) {
+        PlaceEnd::Switch(_, port) => port,
+        PlaceEnd::Node(_) => unreachable!(),
+    }
+}
+
+/// The port of switch `w` where the channel starts.
+fn output(network: &Network, w: u16, channel: Chan) -> Port
+    requires { (network_of network.now).start_of channel ≡ AtSwitch w }
+    ensures { slice_get (ends_of network.now) channel ≡ Some (PlaceEnd.Switch w result) }
+{
+    match network.topology().start_of(channel) {
+        PlaceEnd::Switch(_, port) => port,
+        PlaceEnd::Node(_) => unreachable!(),
+    }
+}
+
+/// The end of the channel, which comes to switch `w`, sends an FCT.
+pub fn fct<R: Routing, A: Arbiter>(
+    network: &Network,
+    w: u16,
+    channel: Chan,
+    cell: &mut SwitchCell<R, A>,
+    wires: &mut Wires,
+) -> bool
+    requires cell { IsSwitchFor R.answer A.ports network.now w cell.old }
+    requires at { (network_of network.now).end_of channel ≡ AtSwitch w }
+    requires reached { HasSwitchState network.now w cell.old wires.old }
+    ensures cell { IsSwitchFor R.answer A.ports network.now w cell.new }
+    ensures made { SwitchMakes network.now w cell.old wires.old (Fct channel) result cell.new wires.new }
+{
+    let port = input(network, w, channel);
+    if !cell.can_issue(port) {
+        return false;
+    }
+    cell.issue(port);
+    wires.send_fct(channel);
+    true
+}
+
+/// An FCT arrives where the channel starts that goes out from switch `w`.
+pub fn fct_in<R: Routing, A: Arbiter>(
+    network: &Network,
+    w: u16,
+    channel: Chan,
+    cell: &mut SwitchCell<R, A>,
+    wires: &mut Wires,
+) -> bool
+    requires cell { IsSwitchFor R.answer A.ports network.now w cell.old }
+    requires at { (network_of network.now).start_of channel ≡ AtSwitch w }
+    requires reached { HasSwitchState network.now w cell.old wires.old }
+    ensures cell { IsSwitchFor R.answer A.ports network.now w cell.new }
+    ensures made { SwitchMakes network.now w cell.old wires.old (FctIn channel) result cell.new wires.new }
+{
+    let port = output(network, w, channel);
+    if wires.fcts(channel) == 0 {
+        return false;
+    }
+    wires.take_fct(channel);
+    cell.fct_in(port);
+    true
+}
+
+/// The first character on the wire of the channel, which comes to switch `w`, arrives.
+pub fn arrive<R: Routing, A: Arbiter>(
+    network: &Network,
+    w: u16,
+    channel: Chan,
+    cell: &mut SwitchCell<R, A>,
+    wires: &mut Wires,
+) -> bool
+    requires cell { IsSwitchFor R.answer A.ports network.now w cell.old }
+    requires at { (network_of network.now).end_of channel ≡ AtSwitch w }
+    requires reached { HasSwitchState network.now w cell.old wires.old }
+    ensures cell { IsSwitchFor R.answer A.ports network.now w cell.new }
+    ensures made { SwitchMakes network.now w cell.old wires.old (Arrive channel) result cell.new wires.new }
+{
+    let port = input(network, w, channel);
+    let Some(character) = wires.first(channel) else {
+        return false;
+    };
+    let _ = wires.take(channel);
+    cell.arrive(port, character);
+    true
+}
