@@ -3,3 +3,4 @@ pub mod Betweens
 pub mod Network
 pub mod Nodes
 pub mod Switches
+pub mod Passing

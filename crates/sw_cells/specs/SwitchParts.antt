@@ -42,15 +42,15 @@ pub record IsSwitchState {R A : Type 0} (d : Declaration) (w : ℕ) (cell : Cell
   pub part : IsSwitchPart d w cell s
   pub between : IsBetweenPart (network_of d) b s
 
--- the switch was made for switch w of a network, and its inputs hold ports with a link
+-- the switch was made for switch w of a network; inputs with a link hold ports with a link, and no others do
 pub record IsSwitchFor {R A : Type 0} (answer : R → ℕ → Look) (arbiter_ports : A → ℕ) (d : Declaration) (w : ℕ) (cell : Cell R A) : Type 0 where
   pub valid : IsValid d
   pub in_net : w < length d.switches
   pub sound : IsCell arbiter_ports cell
   pub linked : (port : ℕ) → port < 32 → IsBitSet cell.linked port ↔ IsSome (out_of (ends_of d) w port)
-  pub routes : (byte : ℕ) → byte < 256 → answer cell.routes byte ≡ look_at d.switches w byte
+  pub routes : (byte : ℕ) → answer cell.routes byte ≡ look_at d.switches w byte
   pub capacity : (c port : ℕ) → end_of d c ≡ Some (Switch w port) → (end_at cell port).capacity ≡ (network_of d).capacity c
-  pub held : (input port : ℕ) → input_at cell input ≡ ports.Held port → IsBitSet cell.linked port
+  pub held : (input port : ℕ) → input_at cell input ≡ ports.Held port → IsBitSet cell.linked input × IsSome (out_of (ends_of d) w port)
 
 -- true: in each reached state whose parts these were the step is possible, and the new parts are those of the state that it leads to;
 -- false: it is possible in none, and nothing changed

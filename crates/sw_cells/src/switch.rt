@@ -4,8 +4,10 @@ ghost use Rattle.std.specs.Prelude.{◌≡◌, Some, slice_get};
 ghost use Rattle.sw_cells.specs.SwitchParts.{HasSwitchState, IsSwitchFor, SwitchMakes};
 ghost use Rattle.sw_flow.specs.Places.{end_of, ends_of};
 ghost use Rattle.sw_machine.specs.Network.{AtSwitch};
-ghost use Rattle.sw_machine.specs.Steps.{Arrive, Fct, FctIn};
+ghost use Rattle.sw_machine.specs.Steps.{Arrive, Fct, FctIn, Forward, Spill};
 ghost use Rattle.sw_model.specs.Model.{network_of};
+
+ghost use Rattle.sw_wires.specs.Between.{Between};
 
 use sw_arb::Arbiter;
 use sw_network::Network;
@@ -102,5 +104,51 @@ pub fn arrive<R: Routing, A: Arbiter>(
     };
     let _ = wires.take(channel);
     cell.arrive(port, character);
+    true
+}
+
+/// The input where the channel ends, at switch `w`, loses a character of a packet that is
+/// discarded.
+pub fn spill<R: Routing, A: Arbiter>(
+    network: &Network,
+    w: u16,
+    channel: Chan,
+    cell: &mut SwitchCell<R, A>,
+) -> bool
+    requires cell { IsSwitchFor R.answer A.ports network.now w cell.old }
+    requires at { (network_of network.now).end_of channel ≡ AtSwitch w }
+    ensures cell { IsSwitchFor R.answer A.ports network.now w cell.new }
+    ensures made { (b : Between) → SwitchMakes network.now w cell.old b (Spill channel) result cell.new b }
+{
+    let port = input(network, w, channel);
+    if !cell.can_spill(port) {
+        return false;
+    }
+    cell.spill(port);
+    true
+}
+
+/// The input where the channel ends, at switch `w`, passes a character on to the output that it
+/// holds.
+pub fn forward<R: Routing, A: Arbiter>(
+    network: &Network,
+    w: u16,
+    channel: Chan,
+    cell: &mut SwitchCell<R, A>,
+    wires: &mut Wires,
+) -> bool
+    requires cell { IsSwitchFor R.answer A.ports network.now w cell.old }
+    requires at { (network_of network.now).end_of channel ≡ AtSwitch w }
+    requires reached { HasSwitchState network.now w cell.old wires.old }
+    ensures cell { IsSwitchFor R.answer A.ports network.now w cell.new }
+    ensures made { SwitchMakes network.now w cell.old wires.old (Forward channel) result cell.new wires.new }
+{
+    let port = input(network, w, channel);
+    if !cell.can_forward(port) {
+        return false;
+    }
+    let (out, character) = cell.forward(port);
+    let next = network.topology().out_of(w, out).unwrap();
+    wires.put(next, character);
     true
 }
