@@ -4,3 +4,4 @@ pub mod Network
 pub mod Nodes
 pub mod Switches
 pub mod Passing
+pub mod Dropping

@@ -17,7 +17,7 @@ use Rattle.sw_machine.proofs.Lists.{put_here, put_there}
 use Rattle.sw_machine.specs.State.{State, after_forward, after_spill, input_after, put}
 use Rattle.sw_machine.specs.Steps.{Forward, Leads, Spill}
 use Rattle.sw_machine.specs.declared.input.Input.{Input}
-use Rattle.sw_machine.specs.declared.input.Input.TheVariants.{Held, Spilling}
+use Rattle.sw_machine.specs.declared.input.Input.TheVariants.{Held, Idle, Spilling}
 use Rattle.sw_model.proofs.Networks.{are_networks}
 use Rattle.sw_model.specs.Model.{network_of}
 use Rattle.sw_network.specs.Entries.{Declaration, wiring_of}
@@ -33,7 +33,7 @@ use Rattle.sw_topo.specs.declared.place.PlaceEnd.{PlaceEnd}
 use Rattle.sw_topo.specs.declared.place.PlaceEnd.TheVariants.{Switch}
 use Rattle.sw_wires.specs.Between.{Between, wire_at, with_wire}
 
-some_first : {A : Type 0} (l : List A) → 0 < length l → (x : A) × (slice_get l 0 ≡ Some x)
+pub some_first : {A : Type 0} (l : List A) → 0 < length l → (x : A) × (slice_get l 0 ≡ Some x)
 some_first [] lt = absurd (omega arith)
 some_first (x ∷ l) lt = (x, refl)
 
@@ -46,6 +46,11 @@ module _ (ends : List PlaceEnd) (w : ℕ) where
   was_spilling ports.Idle e = absurd (cc)
   was_spilling (ports.Held p) e = absurd (cc)
   was_spilling ports.Spilling e = refl
+
+  pub was_idle : (i : PortInput) → input_of ends w i ≡ Idle → i ≡ ports.Idle
+  was_idle ports.Idle e = refl
+  was_idle (ports.Held p) e = absurd (cc)
+  was_idle ports.Spilling e = absurd (cc)
 
   pub was_held : (i : PortInput) (o : ℕ) → input_of ends w i ≡ Held o → (p : ℕ) × (i ≡ ports.Held p) × (unwrap_or (out_of ends w p) 0 ≡ o)
   was_held ports.Idle o e = absurd (cc)
@@ -66,10 +71,10 @@ module _ {R A : Type 0} where
   passed_is cell p Eep front = rw front refl
 
 module _ {R A : Type 0} (answer : R → ℕ → Look) (arbiter_ports : A → ℕ) (d : Declaration) (w : ℕ) (cell : Cell R A) (for : IsSwitchFor answer arbiter_ports d w cell) where
-  input_here : (p : ℕ) (i : PortInput) → p < 32 → input_at (with_input cell p i) p ≡ i
+  pub input_here : (p : ℕ) (i : PortInput) → p < 32 → input_at (with_input cell p i) p ≡ i
   input_here p i lt = get_or-set_same cell.inputs p i ports.Idle (let e = for.sound.all_inputs in omega arith)
 
-  input_other : (p q : ℕ) (i : PortInput) → (q ≡ p → ⊥) → input_at (with_input cell p i) q ≡ input_at cell q
+  pub input_other : (p q : ℕ) (i : PortInput) → (q ≡ p → ⊥) → input_at (with_input cell p i) q ≡ input_at cell q
   input_other p q i ne = get_or-set_other cell.inputs p q i ports.Idle ne
 
   pub kept_input : (p : ℕ) (i : PortInput) → p < 32 → ((port : ℕ) → i ≡ ports.Held port → IsBitSet cell.linked p × IsSome (out_of (ends_of d) w port)) → IsSwitchFor answer arbiter_ports d w (with_input cell p i)
@@ -93,10 +98,10 @@ module _ {R A : Type 0} (answer : R → ℕ → Look) (arbiter_ports : A → ℕ
   }
 
   -- the receiving end without its front
-  abbrev rest_at : ℕ → Received
+  abbrev pub rest_at : ℕ → Received
   rest_at p = record (end_at cell p) { buffer = drop 1 (end_at cell p).buffer }
 
-  kept_front : (p : ℕ) → p < 32 → IsSwitchFor answer arbiter_ports d w (without_front cell p)
+  pub kept_front : (p : ℕ) → p < 32 → IsSwitchFor answer arbiter_ports d w (without_front cell p)
   kept_front p lt = kept_end answer arbiter_ports d w cell for p (rest_at p) lt refl
 
 module _ {R A : Type 0} (answer : R → ℕ → Look) (arbiter_ports : A → ℕ) (d : Declaration) (w : ℕ) (cell : Cell R A) (for : IsSwitchFor answer arbiter_ports d w cell) where

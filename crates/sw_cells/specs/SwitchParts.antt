@@ -47,7 +47,7 @@ pub record IsSwitchFor {R A : Type 0} (answer : R → ℕ → Look) (arbiter_por
   pub valid : IsValid d
   pub in_net : w < length d.switches
   pub sound : IsCell arbiter_ports cell
-  pub linked : (port : ℕ) → port < 32 → IsBitSet cell.linked port ↔ IsSome (out_of (ends_of d) w port)
+  pub linked : (port : ℕ) → IsBitSet cell.linked port ↔ IsSome (out_of (ends_of d) w port)
   pub routes : (byte : ℕ) → answer cell.routes byte ≡ look_at d.switches w byte
   pub capacity : (c port : ℕ) → end_of d c ≡ Some (Switch w port) → (end_at cell port).capacity ≡ (network_of d).capacity c
   pub held : (input port : ℕ) → input_at cell input ≡ ports.Held port → IsBitSet cell.linked input × IsSome (out_of (ends_of d) w port)

@@ -4,7 +4,7 @@ ghost use Rattle.std.specs.Prelude.{◌≡◌, Some, slice_get};
 ghost use Rattle.sw_cells.specs.SwitchParts.{HasSwitchState, IsSwitchFor, SwitchMakes};
 ghost use Rattle.sw_flow.specs.Places.{end_of, ends_of};
 ghost use Rattle.sw_machine.specs.Network.{AtSwitch};
-ghost use Rattle.sw_machine.specs.Steps.{Arrive, Fct, FctIn, Forward, Spill};
+ghost use Rattle.sw_machine.specs.Steps.{Arrive, Drop, Fct, FctIn, Forward, Spill};
 ghost use Rattle.sw_model.specs.Model.{network_of};
 
 ghost use Rattle.sw_wires.specs.Between.{Between};
@@ -150,5 +150,26 @@ pub fn forward<R: Routing, A: Arbiter>(
     let (out, character) = cell.forward(port);
     let next = network.topology().out_of(w, out).unwrap();
     wires.put(next, character);
+    true
+}
+
+/// The input where the channel ends, at switch `w`, drops an end marker that stands before any
+/// packet, or begins to discard a packet that goes nowhere.
+pub fn drop_front<R: Routing, A: Arbiter>(
+    network: &Network,
+    w: u16,
+    channel: Chan,
+    cell: &mut SwitchCell<R, A>,
+) -> bool
+    requires cell { IsSwitchFor R.answer A.ports network.now w cell.old }
+    requires at { (network_of network.now).end_of channel ≡ AtSwitch w }
+    ensures cell { IsSwitchFor R.answer A.ports network.now w cell.new }
+    ensures made { (b : Between) → SwitchMakes network.now w cell.old b (Drop channel) result cell.new b }
+{
+    let port = input(network, w, channel);
+    if !cell.can_drop(port) {
+        return false;
+    }
+    cell.drop_front(port);
     true
 }
