@@ -32,15 +32,15 @@ none_contained : (l : List ℕ) → ((e : ℕ) → Contains l e → ⊥) → l �
 none_contained [] never = refl
 none_contained (x ∷ l) never = absurd (never x (0, omega arith, refl))
 
-some_of : {A : Type 0} (o : Option A) → IsSome o → (x : A) × (o ≡ Some x)
+pub some_of : {A : Type 0} (o : Option A) → IsSome o → (x : A) × (o ≡ Some x)
 some_of None is = absurd (cc)
 some_of (Some x) is = (x, refl)
 
-looks_are : (d : Declaration) (w h : ℕ) → (network_of d).look w h ≡ outputs (ends_of d) w (look_at d.switches w h)
+pub looks_are : (d : Declaration) (w h : ℕ) → (network_of d).look w h ≡ outputs (ends_of d) w (look_at d.switches w h)
 unfolding network_of
 looks_are d w h = refl
 
-switch_is : (v w : ℕ) → AtSwitch v ≡ AtSwitch w → v ≡ w
+pub switch_is : (v w : ℕ) → AtSwitch v ≡ AtSwitch w → v ≡ w
 switch_is v w e = cc
 
 module _ {R A : Type 0} where

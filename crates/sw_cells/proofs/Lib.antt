@@ -5,3 +5,4 @@ pub mod Nodes
 pub mod Switches
 pub mod Passing
 pub mod Dropping
+pub mod Granting

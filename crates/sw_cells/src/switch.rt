@@ -1,10 +1,10 @@
 //! The steps of a switch. Each answers whether the step was possible; where it was not, nothing
 //! changed.
 ghost use Rattle.std.specs.Prelude.{◌≡◌, Some, slice_get};
-ghost use Rattle.sw_cells.specs.SwitchParts.{HasSwitchState, IsSwitchFor, SwitchMakes};
+ghost use Rattle.sw_cells.specs.SwitchParts.{HasSwitchState, IsSwitchFor, SwitchMakes, port_at};
 ghost use Rattle.sw_flow.specs.Places.{end_of, ends_of};
 ghost use Rattle.sw_machine.specs.Network.{AtSwitch};
-ghost use Rattle.sw_machine.specs.Steps.{Arrive, Drop, Fct, FctIn, Forward, Spill};
+ghost use Rattle.sw_machine.specs.Steps.{Arrive, Drop, Fct, FctIn, Forward, Grant, Spill};
 ghost use Rattle.sw_model.specs.Model.{network_of};
 
 ghost use Rattle.sw_wires.specs.Between.{Between};
@@ -171,5 +171,43 @@ pub fn drop_front<R: Routing, A: Arbiter>(
         return false;
     }
     cell.drop_front(port);
+    true
+}
+
+/// The port of switch `w` where the channel starts, if it starts there.
+fn output_port(network: &Network, w: u16, channel: Chan) -> Option<Port>
+    ensures { result ≡ port_at w (slice_get (ends_of network.now) channel) }
+{
+    if channel.number() >= network.channels() {
+        return None;
+    }
+    match network.topology().start_of(channel) {
+        PlaceEnd::Switch(s, port) if s == w => Some(port),
+        PlaceEnd::Switch(_, _) | PlaceEnd::Node(_) => None,
+    }
+}
+
+/// The output where a channel starts is granted to the input where the other ends, at switch `w`.
+/// The output's arbiter is not asked.
+pub fn grant<R: Routing, A: Arbiter>(
+    network: &Network,
+    w: u16,
+    output: Chan,
+    channel: Chan,
+    cell: &mut SwitchCell<R, A>,
+) -> bool
+    requires cell { IsSwitchFor R.answer A.ports network.now w cell.old }
+    requires at { (network_of network.now).end_of channel ≡ AtSwitch w }
+    ensures cell { IsSwitchFor R.answer A.ports network.now w cell.new }
+    ensures made { (b : Between) → SwitchMakes network.now w cell.old b (Grant output channel) result cell.new b }
+{
+    let port = input(network, w, channel);
+    let Some(out) = output_port(network, w, output) else {
+        return false;
+    };
+    if !cell.asks(out).contains(port) {
+        return false;
+    }
+    cell.grant_to(out, port);
     true
 }
