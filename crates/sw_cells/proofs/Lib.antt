@@ -3,3 +3,6 @@ pub mod Betweens
 pub mod Network
 pub mod Nodes
 pub mod Switches
+pub mod Passing
+pub mod Dropping
+pub mod Granting

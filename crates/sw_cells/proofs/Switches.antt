@@ -154,7 +154,7 @@ module _ {R A : Type 0} (answer : R → ℕ → Look) (arbiter_ports : A → ℕ
 
   -- a port where a channel ends has a link
   pub is_linked : (c p : ℕ) → end_of d c ≡ Some (Switch w p) → IsBitSet cell.linked p
-  is_linked c p at = (for.linked p (port_small d for.valid (partner c) w p at)).1 (rw (port_found (wiring_of d) for.valid.sound w p (partner c) at) refl)
+  is_linked c p at = (for.linked p).1 (rw (port_found (wiring_of d) for.valid.sound w p (partner c) at) refl)
 
   -- ---- FCTs
 

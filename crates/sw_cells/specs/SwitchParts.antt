@@ -1,5 +1,5 @@
 -- The part of the machine's state that a switch has, and calls that make steps at a switch.
-use Rattle.std.specs.Prelude.{Bool, IsBitSet, IsSome, List, Some, false, length, slice_get, true, unwrap_or, ℕ, ◌<◌, ◌↔◌, ◌≡◌}
+use Rattle.std.specs.Prelude.{None, Option, if◌then◌else◌, ◌==◌, Bool, IsBitSet, IsSome, List, Some, false, length, slice_get, true, unwrap_or, ℕ, ◌<◌, ◌↔◌, ◌≡◌}
 use Rattle.sw_cells.specs.Parts.{IsBetweenPart}
 use Rattle.sw_flow.specs.Places.{end_of, ends_of}
 use Rattle.sw_machine.specs.Runs.{IsReached}
@@ -16,7 +16,7 @@ use Rattle.sw_switch.specs.declared.input.Input.{Input as PortInput}
 use Rattle.sw_switch.specs.declared.input.Input.TheVariants as ports
 use Rattle.sw_topo.specs.Wiring.{out_of}
 use Rattle.sw_topo.specs.declared.place.PlaceEnd.{PlaceEnd}
-use Rattle.sw_topo.specs.declared.place.PlaceEnd.TheVariants.{Switch}
+use Rattle.sw_topo.specs.declared.place.PlaceEnd.TheVariants.{Node, Switch}
 use Rattle.sw_wires.specs.Between.{Between}
 
 -- an input that holds a port holds the channel that starts there
@@ -24,6 +24,12 @@ abbrev pub input_of : List PlaceEnd → ℕ → PortInput → Input
 input_of ends w ports.Idle = Idle
 input_of ends w (ports.Held port) = Held (unwrap_or (out_of ends w port) 0)
 input_of ends w ports.Spilling = Spilling
+
+-- the port, if the place is one of switch w
+abbrev pub port_at : ℕ → Option PlaceEnd → Option ℕ
+port_at w None = None
+port_at w (Some (Node n)) = None
+port_at w (Some (Switch s port)) = if s == w then Some port else None
 
 -- the port has what the state has of channel c, which ends there
 pub record IsPortPart {R A : Type 0} (d : Declaration) (w : ℕ) (cell : Cell R A) (port c : ℕ) (s : State) : Type 0 where
@@ -42,15 +48,15 @@ pub record IsSwitchState {R A : Type 0} (d : Declaration) (w : ℕ) (cell : Cell
   pub part : IsSwitchPart d w cell s
   pub between : IsBetweenPart (network_of d) b s
 
--- the switch was made for switch w of a network, and its inputs hold ports with a link
+-- the switch was made for switch w of a network; inputs with a link hold ports with a link, and no others do
 pub record IsSwitchFor {R A : Type 0} (answer : R → ℕ → Look) (arbiter_ports : A → ℕ) (d : Declaration) (w : ℕ) (cell : Cell R A) : Type 0 where
   pub valid : IsValid d
   pub in_net : w < length d.switches
   pub sound : IsCell arbiter_ports cell
-  pub linked : (port : ℕ) → port < 32 → IsBitSet cell.linked port ↔ IsSome (out_of (ends_of d) w port)
-  pub routes : (byte : ℕ) → byte < 256 → answer cell.routes byte ≡ look_at d.switches w byte
+  pub linked : (port : ℕ) → IsBitSet cell.linked port ↔ IsSome (out_of (ends_of d) w port)
+  pub routes : (byte : ℕ) → answer cell.routes byte ≡ look_at d.switches w byte
   pub capacity : (c port : ℕ) → end_of d c ≡ Some (Switch w port) → (end_at cell port).capacity ≡ (network_of d).capacity c
-  pub held : (input port : ℕ) → input_at cell input ≡ ports.Held port → IsBitSet cell.linked port
+  pub held : (input port : ℕ) → input_at cell input ≡ ports.Held port → IsBitSet cell.linked input × IsSome (out_of (ends_of d) w port)
 
 -- true: in each reached state whose parts these were the step is possible, and the new parts are those of the state that it leads to;
 -- false: it is possible in none, and nothing changed

@@ -3,3 +3,5 @@
 
 pub mod node;
 pub mod switch;
+#[cfg(test)]
+mod tests;

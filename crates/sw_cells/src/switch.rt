@@ -1,11 +1,13 @@
 //! The steps of a switch. Each answers whether the step was possible; where it was not, nothing
 //! changed.
 ghost use Rattle.std.specs.Prelude.{◌≡◌, Some, slice_get};
-ghost use Rattle.sw_cells.specs.SwitchParts.{HasSwitchState, IsSwitchFor, SwitchMakes};
+ghost use Rattle.sw_cells.specs.SwitchParts.{HasSwitchState, IsSwitchFor, SwitchMakes, port_at};
 ghost use Rattle.sw_flow.specs.Places.{end_of, ends_of};
 ghost use Rattle.sw_machine.specs.Network.{AtSwitch};
-ghost use Rattle.sw_machine.specs.Steps.{Arrive, Fct, FctIn};
+ghost use Rattle.sw_machine.specs.Steps.{Arrive, Drop, Fct, FctIn, Forward, Grant, Spill};
 ghost use Rattle.sw_model.specs.Model.{network_of};
+
+ghost use Rattle.sw_wires.specs.Between.{Between};
 
 use sw_arb::Arbiter;
 use sw_network::Network;
@@ -102,5 +104,110 @@ pub fn arrive<R: Routing, A: Arbiter>(
     };
     let _ = wires.take(channel);
     cell.arrive(port, character);
+    true
+}
+
+/// The input where the channel ends, at switch `w`, loses a character of a packet that is
+/// discarded.
+pub fn spill<R: Routing, A: Arbiter>(
+    network: &Network,
+    w: u16,
+    channel: Chan,
+    cell: &mut SwitchCell<R, A>,
+) -> bool
+    requires cell { IsSwitchFor R.answer A.ports network.now w cell.old }
+    requires at { (network_of network.now).end_of channel ≡ AtSwitch w }
+    ensures cell { IsSwitchFor R.answer A.ports network.now w cell.new }
+    ensures made { (b : Between) → SwitchMakes network.now w cell.old b (Spill channel) result cell.new b }
+{
+    let port = input(network, w, channel);
+    if !cell.can_spill(port) {
+        return false;
+    }
+    cell.spill(port);
+    true
+}
+
+/// The input where the channel ends, at switch `w`, passes a character on to the output that it
+/// holds.
+pub fn forward<R: Routing, A: Arbiter>(
+    network: &Network,
+    w: u16,
+    channel: Chan,
+    cell: &mut SwitchCell<R, A>,
+    wires: &mut Wires,
+) -> bool
+    requires cell { IsSwitchFor R.answer A.ports network.now w cell.old }
+    requires at { (network_of network.now).end_of channel ≡ AtSwitch w }
+    requires reached { HasSwitchState network.now w cell.old wires.old }
+    ensures cell { IsSwitchFor R.answer A.ports network.now w cell.new }
+    ensures made { SwitchMakes network.now w cell.old wires.old (Forward channel) result cell.new wires.new }
+{
+    let port = input(network, w, channel);
+    if !cell.can_forward(port) {
+        return false;
+    }
+    let (out, character) = cell.forward(port);
+    let next = network.topology().out_of(w, out).unwrap();
+    wires.put(next, character);
+    true
+}
+
+/// The input where the channel ends, at switch `w`, drops an end marker that stands before any
+/// packet, or begins to discard a packet that goes nowhere.
+pub fn drop_front<R: Routing, A: Arbiter>(
+    network: &Network,
+    w: u16,
+    channel: Chan,
+    cell: &mut SwitchCell<R, A>,
+) -> bool
+    requires cell { IsSwitchFor R.answer A.ports network.now w cell.old }
+    requires at { (network_of network.now).end_of channel ≡ AtSwitch w }
+    ensures cell { IsSwitchFor R.answer A.ports network.now w cell.new }
+    ensures made { (b : Between) → SwitchMakes network.now w cell.old b (Drop channel) result cell.new b }
+{
+    let port = input(network, w, channel);
+    if !cell.can_drop(port) {
+        return false;
+    }
+    cell.drop_front(port);
+    true
+}
+
+/// The port of switch `w` where the channel starts, if it starts there.
+fn output_port(network: &Network, w: u16, channel: Chan) -> Option<Port>
+    ensures { result ≡ port_at w (slice_get (ends_of network.now) channel) }
+{
+    if channel.number() >= network.channels() {
+        return None;
+    }
+    match network.topology().start_of(channel) {
+        PlaceEnd::Switch(s, port) if s == w => Some(port),
+        PlaceEnd::Switch(_, _) | PlaceEnd::Node(_) => None,
+    }
+}
+
+/// The output where a channel starts is granted to the input where the other ends, at switch `w`.
+/// The output's arbiter is not asked.
+pub fn grant<R: Routing, A: Arbiter>(
+    network: &Network,
+    w: u16,
+    output: Chan,
+    channel: Chan,
+    cell: &mut SwitchCell<R, A>,
+) -> bool
+    requires cell { IsSwitchFor R.answer A.ports network.now w cell.old }
+    requires at { (network_of network.now).end_of channel ≡ AtSwitch w }
+    ensures cell { IsSwitchFor R.answer A.ports network.now w cell.new }
+    ensures made { (b : Between) → SwitchMakes network.now w cell.old b (Grant output channel) result cell.new b }
+{
+    let port = input(network, w, channel);
+    let Some(out) = output_port(network, w, output) else {
+        return false;
+    };
+    if !cell.asks(out).contains(port) {
+        return false;
+    }
+    cell.grant_to(out, port);
     true
 }

@@ -1,3 +1,8 @@
+use Rattle.std.proofs.Common.{subst, sym, refl}
+use Rattle.sw_link.specs.Ends.{arrived}
+use Rattle.sw_switch.specs.Cell.{end_at}
+use Rattle.sw_cells.specs.SwitchParts.{IsSwitchFor}
+use Rattle.sw_topo.specs.Wiring.{partner}
 use Rattle.std.proofs.Common.{arith, sym, ◌∙◌, true}
 use Rattle.sw_cells.proofs.Switches as switches
 use Rattle.sw_machine.specs.Steps.{Arrive}
@@ -26,3 +31,7 @@ returns-clause-made g c =
     c.take.ensures.after
     (switches.arrive_made g.R.Routing.answer g.A.Arbiter.ports c.args.network.now c.args.w c.args.cell.now c.requires.cell c.args.wires.now c.args.channel c.input-port.result c.in-Some.character c.input-port.ensures front)
 
+pub returns-clause-cell : goal.returns-clause-cell
+returns-clause-cell g c =
+    subst (λ k. IsSwitchFor g.R.Routing.answer g.A.Arbiter.ports c.args.network.now c.args.w k) (sym c.arrive.ensures)
+    (switches.kept_end g.R.Routing.answer g.A.Arbiter.ports c.args.network.now c.args.w c.args.cell.now c.requires.cell c.input-port.result (arrived c.in-Some.character (end_at c.args.cell.now c.input-port.result)) (switches.port_small c.args.network.now c.requires.cell.valid (partner c.args.channel) c.args.w c.input-port.result c.input-port.ensures) refl)

@@ -1,3 +1,8 @@
+use Rattle.std.proofs.Common.{subst, sym, refl}
+use Rattle.sw_link.specs.Ends.{asked}
+use Rattle.sw_switch.specs.Cell.{end_at}
+use Rattle.sw_cells.specs.SwitchParts.{IsSwitchFor}
+use Rattle.sw_topo.specs.Wiring.{partner}
 use Rattle.std.proofs.Common.{arith, rules, sym, ◌∙◌, true}
 use Rattle.std.proofs.lemmas.Bool.{false≢true}
 use Rattle.sw_cells.proofs.Switches as switches
@@ -28,3 +33,8 @@ returns-clause-made g c =
     c.issue.ensures
     c.send_fct.ensures
     (switches.fct_made g.R.Routing.answer g.A.Arbiter.ports c.args.network.now c.args.w c.args.cell.now c.requires.cell c.args.wires.now c.args.channel c.input-port.result c.input-port.ensures can)
+
+pub returns-clause-cell : goal.returns-clause-cell
+returns-clause-cell g c =
+    subst (λ k. IsSwitchFor g.R.Routing.answer g.A.Arbiter.ports c.args.network.now c.args.w k) (sym c.issue.ensures)
+    (switches.kept_end g.R.Routing.answer g.A.Arbiter.ports c.args.network.now c.args.w c.args.cell.now c.requires.cell c.input-port.result (asked (end_at c.args.cell.now c.input-port.result)) (switches.port_small c.args.network.now c.requires.cell.valid (partner c.args.channel) c.args.w c.input-port.result c.input-port.ensures) refl)

@@ -1,3 +1,7 @@
+use Rattle.std.proofs.Common.{subst, sym}
+use Rattle.sw_link.specs.Ends.{granted}
+use Rattle.sw_switch.specs.Cell.{credit_at}
+use Rattle.sw_cells.specs.SwitchParts.{IsSwitchFor}
 use Rattle.std.proofs.Common.{◌<◌, arith, true}
 use Rattle.sw_cells.proofs.Switches as switches
 use Rattle.sw_machine.specs.Steps.{FctIn}
@@ -39,3 +43,7 @@ returns-clause-made g c =
     c.take_fct.ensures
     (switches.fct_in_made g.R.Routing.answer g.A.Arbiter.ports c.args.network.now c.args.w c.args.cell.now c.requires.cell c.args.wires.now c.args.channel c.output-port.result c.output-port.ensures some)
 
+pub returns-clause-cell : goal.returns-clause-cell
+returns-clause-cell g c =
+    subst (λ k. IsSwitchFor g.R.Routing.answer g.A.Arbiter.ports c.args.network.now c.args.w k) (sym c.fct_in.ensures)
+    (switches.kept_credit g.R.Routing.answer g.A.Arbiter.ports c.args.network.now c.args.w c.args.cell.now c.requires.cell c.output-port.result (granted (credit_at c.args.cell.now c.output-port.result)))
