@@ -1,3 +1,4 @@
+pub mod Lists
 pub mod Verdicts
 pub mod Findings
 pub mod Laws

@@ -1,6 +1,9 @@
 //! The verdict on a network: misrouted, cyclic, or free of deadlocks.
 #![tactic(auto)]
 
+mod counts;
+mod free;
+mod misrouted;
 mod verdict;
 
 pub use verdict::{Findings, Verdict};

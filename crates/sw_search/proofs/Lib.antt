@@ -1,0 +1,3 @@
+pub mod Zips
+pub mod Blocks
+pub mod Faulty
