@@ -1,17 +1,18 @@
 -- What is found of a network: a flow that is not well routed, else a cycle of dependencies, else a certificate that there is none.
-use Rattle.std.specs.Prelude.{◌≡◌, ℕ, ◌+◌, ◌<◌, All, List, length, slice_get, Some}
+use Rattle.std.specs.Prelude.{◌≡◌, ℕ, ◌<◌, All, List, length, slice_get, Some}
 use Rattle.std.specs.List.{AllZip}
 use Rattle.sw_network.specs.Entries.{FlowEntry, Declaration, all_flows}
 use Rattle.sw_flow.specs.declared.fault.RouteFault.{RouteFault}
 use Rattle.sw_flow.specs.declared.place.Place.{Place}
-use Rattle.sw_flow.specs.Places.{ends_of, Follows, IsPlace, IsPlaceList}
+use Rattle.sw_flow.specs.Places.{ends_of, IsPlaceList}
 use Rattle.sw_flow.specs.Faults.{first_fault_of, IsWellRouted}
 use Rattle.sw_machine.specs.Places.{IsDependency}
 use Rattle.sw_model.specs.Model.{network_of}
 use Rattle.sw_order.specs.Levels.{HasCycle, IsLevels}
 use Rattle.sw_order.specs.Cycles.{IsShownCycle}
-use Rattle.sw_cycle.specs.Cycles.{CauseEntry, ByTarget, ByFlow, CycleEntry, IsCause, round}
+use Rattle.sw_cycle.specs.Cycles.{CycleEntry}
 use Rattle.sw_cert.specs.Text.{Contents}
+use Rattle.sw_search.specs.Causes.{AreChosen}
 use Rattle.sw_search.specs.declared.verdict.Verdict.{Verdict}
 use Rattle.sw_search.specs.declared.verdict.Verdict.TheVariants.{Misrouted, Cyclic, Free}
 
@@ -32,32 +33,11 @@ pub record IsMisrouted (d : Declaration) (i : ℕ) (place : Place) (fault : Rout
   pub listed : IsPlaceList d flow places
   pub first : first_fault_of d flow places ≡ Some (place, fault)
 
--- a flow goes on from channel c to channel e
-pub record GoesOn (d : Declaration) (f : FlowEntry) (c e : ℕ) : Type 0 where
-  pub deleted : ℕ
-  pub more : ℕ
-  pub place : IsPlace d f c deleted
-  pub follows : Follows d f c deleted e more
-
--- no flow of a lesser number goes on from c to e, and for a target no flow at all
-abbrev pub IsFirstCause : Declaration → CauseEntry → ℕ → ℕ → Type 0
-IsFirstCause d (ByTarget t) c e = (j : ℕ) (f : FlowEntry) → slice_get (all_flows d) j ≡ Some f → GoesOn d f c e → ⊥
-IsFirstCause d (ByFlow i places) c e = (j : ℕ) (f : FlowEntry) → j < i → slice_get (all_flows d) j ≡ Some f → GoesOn d f c e → ⊥
-
--- the cause that is shown for a dependency
-abbrev pub IsChosenCause : Declaration → CauseEntry → ℕ → ℕ → Type 0
-IsChosenCause d cause c e = IsCause d cause c e × IsFirstCause d cause c e
-
--- there is one cause for each channel, the one to show for it and the next
-pub record AreChosenCauses (d : Declaration) (channels : List ℕ) (causes : List CauseEntry) : Type 0 where
-  pub one_each : length causes ≡ length channels
-  pub chosen : (i : ℕ) (cause : CauseEntry) → slice_get causes i ≡ Some cause → IsChosenCause d cause (round channels i) (round channels (i + 1))
-
 -- each flow is well routed, and this is the cycle of dependencies to show
 pub record IsCyclic (d : Declaration) (cycle : CycleEntry) : Type 0 where
   pub routed : AllWellRouted d
   pub shown : IsShownCycle (depends d) cycle.channels
-  pub caused : AreChosenCauses d cycle.channels cycle.causes
+  pub caused : AreChosen d cycle.channels cycle.causes
 
 -- each flow is well routed, the dependencies have no cycle, and the certificate has their levels and the places of each flow
 pub record IsFree (d : Declaration) (contents : Contents) : Type 0 where

@@ -4,6 +4,7 @@
 mod counts;
 mod free;
 mod misrouted;
+mod order;
 mod verdict;
 
 pub use verdict::{Findings, Verdict};
