@@ -1,0 +1,3 @@
+pub mod Named
+pub mod Answering
+pub mod Rows

@@ -1,0 +1,9 @@
+//! The dependencies between channels, as rows of successors.
+#![tactic(auto)]
+
+mod answering;
+mod entry;
+mod named;
+mod rows;
+
+pub use entry::dependencies;
