@@ -5,3 +5,7 @@ pub mod Pairs
 pub mod Ordered
 pub mod Counted
 pub mod Levels
+pub mod Rounds
+pub mod Accepted
+pub mod Sorted
+pub mod Cycles

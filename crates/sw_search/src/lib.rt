@@ -2,9 +2,12 @@
 #![tactic(auto)]
 
 mod counts;
+mod cyclic;
 mod free;
+mod laws;
 mod misrouted;
 mod order;
 mod verdict;
 
+pub use laws::{cyclic_is_shown, free_is_accepted};
 pub use verdict::{Findings, Verdict};
