@@ -11,6 +11,7 @@ use Rattle.sw_network.specs.Valid.{IsValid}
 use Rattle.sw_flow.specs.declared.place.Place.{Place}
 use Rattle.sw_flow.specs.Places.{IsPlace}
 use Rattle.sw_flow.specs.Places.IsPlace.{start, next}
+use Rattle.sw_flow.specs.Ways.{GoesFromStart, GoesOver, GoesTo, IsStart}
 use Rattle.sw_machine.specs.Network.{Network}
 use Rattle.sw_machine.specs.Places.{IsChain, IsCycle, IsDependency}
 use Rattle.sw_machine.specs.Places.IsDependency.{ByFlow, ByTarget}
@@ -18,7 +19,7 @@ use Rattle.sw_model.specs.Model.{network_of, reply_number}
 use Rattle.sw_model.proofs.Flows.{flow_at, some_at}
 use Rattle.sw_model.proofs.Steps.{steps_agree}
 use Rattle.sw_cycle.specs.Cycles as cycles
-use Rattle.sw_cycle.specs.Cycles.{CauseEntry, CycleEntry, GoesFromStart, GoesOver, GoesTo, IsCause, IsFlowCause, IsShown, IsStart, IsTargetCause, round}
+use Rattle.sw_cycle.specs.Cycles.{CauseEntry, CycleEntry, IsCause, IsFlowCause, IsShown, IsTargetCause, round}
 use Rattle.sw_cycle.specs.Laws.{CausesShowDependencies, ShownCyclesAreCycles}
 
 replied : (n : ℕ) (o : Option ReplyEntry) → IsSome o → option_map (λ r. n) o ≡ Some n

@@ -3,7 +3,8 @@ use Rattle.std.specs.Prelude.{◌≡◌, ℕ, ◌+◌, ◌%◌, ◌<◌, List, [
 use Rattle.sw_topo.specs.Wiring.{out, partner}
 use Rattle.sw_network.specs.Entries.{FlowEntry, Declaration, all_flows}
 use Rattle.sw_flow.specs.declared.place.Place.{Place}
-use Rattle.sw_flow.specs.Places.{ends_of, Follows}
+use Rattle.sw_flow.specs.Places.{ends_of}
+use Rattle.sw_flow.specs.Ways.{GoesFromStart}
 use Rattle.sw_cycle.specs.declared.cycle.Cause.{Cause}
 use Rattle.sw_cycle.specs.declared.cycle.Cause.TheVariants.{Target, Flow}
 
@@ -36,24 +37,6 @@ pub record IsTargetCause (d : Declaration) (t c e : ℕ) : Type 0 where
   pub answered : IsAnswered d t
   pub leaves : out (ends_of d) t ≡ Some e
   pub enters : c ≡ partner e
-
--- the flow goes from the place p by one step to the place q
-abbrev pub GoesTo : Declaration → FlowEntry → Place → Place → Type 0
-GoesTo d f p q = Follows d f p.channel p.deleted q.channel q.deleted
-
--- from the place p the flow goes over these places, by one step to each
-abbrev pub GoesOver : Declaration → FlowEntry → Place → List Place → Type 0
-GoesOver d f p [] = Unit {0}
-GoesOver d f p (q ∷ qs) = GoesTo d f p q × GoesOver d f q qs
-
--- the place is the flow's start: on the channel of its node, with no byte deleted
-abbrev pub IsStart : Declaration → FlowEntry → Place → Type 0
-IsStart d f p = (out (ends_of d) f.from ≡ Some p.channel) × (p.deleted ≡ 0)
-
--- the flow goes over these places from its start on
-abbrev pub GoesFromStart : Declaration → FlowEntry → List Place → Type 0
-GoesFromStart d f [] = ⊥
-GoesFromStart d f (p ∷ ps) = IsStart d f p × GoesOver d f p ps
 
 -- the last two of the places are on the channels c and e
 pub record EndsOn (places : List Place) (c e : ℕ) : Type 0 where

@@ -1,6 +1,7 @@
 //! The check of a shown cycle.
 ghost use Rattle.std.specs.Prelude.{◌≡◌, ◌<◌, ◌↔◌, IsSome, IsTrue, length, map};
-ghost use Rattle.sw_cycle.specs.Cycles.{cause_of, EndsOn, GoesFromStart, GoesOver, IsAnswered, IsCause, IsFlowCause, IsShown, IsStart, IsTargetCause};
+ghost use Rattle.sw_flow.specs.Ways.{GoesFromStart, GoesOver, IsStart};
+ghost use Rattle.sw_cycle.specs.Cycles.{cause_of, EndsOn, IsAnswered, IsCause, IsFlowCause, IsShown, IsTargetCause};
 
 use crate::cycle::{Cause, Cycle};
 use sw_flow::{Place, follows};

@@ -4,5 +4,6 @@ pub mod Faulty
 pub mod Stepping
 pub mod Walked
 pub mod Placed
+pub mod Going
 pub mod Jobs
 pub mod WellRouted

@@ -19,11 +19,11 @@ use Rattle.sw_flow.proofs.Listed.{Contains-map, Contains-from_map}
 use Rattle.sw_flow.proofs.Outputs.{outputs_are}
 
 -- x is the number of a place that follows the one on channel c with k bytes deleted
-record Leads (d : Declaration) (f : FlowEntry) (c k x : ℕ) : Type 0 where
-  channel : ℕ
-  deleted : ℕ
-  follows : Follows d f c k channel deleted
-  number : x ≡ channel * width f + deleted
+pub record Leads (d : Declaration) (f : FlowEntry) (c k x : ℕ) : Type 0 where
+  pub channel : ℕ
+  pub deleted : ℕ
+  pub follows : Follows d f c k channel deleted
+  pub number : x ≡ channel * width f + deleted
 
 deleted_few : (look : Look) (k n : ℕ) → k < n → deleted_behind look k < n + 1
 deleted_few look k n lt = by look.delete
@@ -58,7 +58,7 @@ module _ (d : Declaration) (f : FlowEntry) where
   at_end c k x (Some (Switch s p)) at h = at_switch c k s p x at h
   at_end c k x (Some (Node n)) at h = absurd (omega (arith, h.1))
 
-  leads : (n x : ℕ) → Contains (next_numbers d f n) x → Leads d f (n / width f) (n % width f) x
+  pub leads : (n x : ℕ) → Contains (next_numbers d f n) x → Leads d f (n / width f) (n % width f) x
   leads n x h = at_end (n / width f) (n % width f) x (end_of d (n / width f)) refl h
 
   led : (c k e m : ℕ) → Follows d f c k e m → Contains (next_at_end d f k (end_of d c)) (e * width f + m)
@@ -87,7 +87,7 @@ module _ (d : Declaration) (f : FlowEntry) where
       let before = reached_from_place s at b j p in
       (few_deleted d f b j c k h, step before.1 (led_number b j c k before.0 h))
 
-  next_below : (n x : ℕ) → Contains (next_numbers d f n) x → x < number_bound d f
+  pub next_below : (n x : ℕ) → Contains (next_numbers d f n) x → x < number_bound d f
   next_below n x h =
       let l = leads n x h in
       let e : l.channel < length (ends_of d) = out_below (ends_of d) (is_port l.follows.switch l.follows.named.port) l.channel l.follows.named.linked in

@@ -1,4 +1,5 @@
 pub mod Places
+pub mod Ways
 pub mod Followers
 pub mod Faults
 pub mod Numbers

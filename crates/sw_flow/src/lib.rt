@@ -10,6 +10,7 @@ mod routes;
 mod spread;
 mod steps;
 mod walk;
+mod ways;
 
 pub use check::{fault_at, fault_in, first_fault};
 pub use fault::RouteFault;
@@ -22,6 +23,7 @@ pub use place::Place;
 pub use routes::places;
 pub use spread::all_places;
 pub use walk::{Followers, followers_in};
+pub use ways::way_to;
 
 #[cfg(test)]
 mod tests;

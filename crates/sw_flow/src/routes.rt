@@ -9,7 +9,12 @@ use std::alloc::{AllocError, Global};
 use sw_network::Network;
 use sw_reach::reached;
 
-fn places_of(alloc: Global, numbers: &[usize], width: usize) -> Result<Vec<Place>, AllocError>
+/// The places of these numbers, where each channel has `width` places.
+pub(crate) fn places_of(
+    alloc: Global,
+    numbers: &[usize],
+    width: usize,
+) -> Result<Vec<Place>, AllocError>
     requires positive { 0 < width }
     requires small { width ≤ 33 }
     requires below { All (λ n. n < 2048 * width) numbers.now }

@@ -52,7 +52,7 @@ module _ (next : ℕ → List ℕ) (start : ℕ) where
   walks_on numbers new after done n w lt at led found =
       subst (λ (l : List ℕ). Walks next start l (done + 1)) (sym (found ∙ ap (with_all numbers) (led ∙ ap next at))) (walks_more numbers done w lt)
 
-  complete : (numbers : List ℕ) (done : ℕ) → Walks next start numbers done → length numbers ≤ done → (n : ℕ) → Reached next start n → Contains numbers n
+  pub complete : (numbers : List ℕ) (done : ℕ) → Walks next start numbers done → length numbers ≤ done → (n : ℕ) → Reached next start n → Contains numbers n
   complete numbers done w all n begin = w.start_in
   complete numbers done w all n (step {n = m} r h) =
       let c = complete numbers done w all m r in

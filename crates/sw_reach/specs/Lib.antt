@@ -1,2 +1,4 @@
 pub mod Reached
 pub mod Walks
+pub mod Ways
+pub mod Parents

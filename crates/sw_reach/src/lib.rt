@@ -4,9 +4,11 @@
 mod least;
 mod steps;
 mod walk;
+mod ways;
 
 pub use least::reached;
 pub use steps::Steps;
+pub use ways::way;
 
 #[cfg(test)]
 mod tests;

@@ -1,5 +1,5 @@
 //! The numbers that a walk has found.
-ghost use Rattle.std.specs.Prelude.{◌≡◌, ◌<◌, ◌≤◌, length, slice_index, All, IfOk, OnOk, OnErr, []};
+ghost use Rattle.std.specs.Prelude.{◌≡◌, ◌<◌, ◌≤◌, length, slice_index, All, Contains, IfOk, IfNone, IfSome, OnOk, OnErr, []};
 ghost use Rattle.std.specs.List.Sorted.{IsPermutation, IsStrictlyIncreasing};
 ghost use Rattle.sw_reach.specs.Walks.{Found, with_number, with_all};
 
@@ -50,6 +50,14 @@ impl Walk {
         ensures below { result < self.now.bound }
     {
         self.numbers[place]
+    }
+
+    /// The place of a number in the list.
+    pub fn place_of(&self, number: usize) -> Option<usize>
+        ensures found { IfSome result (λ place. (place < length self.now.numbers) × (slice_index self.now.numbers place ≡ number)) }
+        ensures none { IfNone result (Contains self.now.numbers number → ⊥) }
+    {
+        self.numbers.iter().position(|n| *n == number)
     }
 
     /// Adds a number, if it is new.

@@ -1,5 +1,5 @@
 use Rattle.std.proofs.Common.{drop}
-use Rattle.sw_cycle.specs.Cycles.{GoesOver}
+use Rattle.sw_flow.specs.Ways.{GoesOver}
 use Rattle.sw_cycle.proofs.check.goes_over.Given as goal
 
 abbrev pub invariant-loop-place : goal.invariant-loop-place

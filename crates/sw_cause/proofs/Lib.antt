@@ -1,0 +1,4 @@
+pub mod Stepped
+pub mod Extended
+pub mod Between
+pub mod Chosen
