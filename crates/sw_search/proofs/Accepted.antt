@@ -1,0 +1,139 @@
+-- The certificate of a free network is accepted.
+use Rattle.std.proofs.Common.{◌≡◌, ℕ, zero, suc, ◌+◌, ◌<◌, ◌≤◌, List, [], ◌∷◌, map, length, Contains, Option, Some, None, option_map, refl, sym, ap, ◌∙◌, subst, arith}
+use Rattle.std.specs.Prelude.{slice_get, slice_index, unwrap_or}
+use Rattle.std.proofs.lemmas.List.{length-map}
+use Rattle.std.proofs.lemmas.List.Elements.{All-contains}
+use Rattle.sw_network.specs.Entries.{FlowEntry, Declaration, all_flows}
+use Rattle.sw_network.specs.Valid.{IsValid}
+use Rattle.sw_flow.specs.declared.place.Place.{Place}
+use Rattle.sw_flow.specs.Places as declared
+use Rattle.sw_flow.specs.Places.{ends_of, IsPlaceList}
+use Rattle.sw_flow.specs.Faults.{IsWellRouted}
+use Rattle.sw_flow.proofs.Listed.{Contains-map, Contains-from_map}
+use Rattle.sw_flow.proofs.Stepping.{places_are_in}
+use Rattle.sw_cert.specs.Text.{Contents}
+use Rattle.sw_machine.specs.Network as machine_network
+use Rattle.sw_machine.specs.Network.{IsNetwork}
+use Rattle.sw_machine.specs.Places as machine
+use Rattle.sw_machine.specs.Places.IsPlace.{Start, Goes}
+use Rattle.sw_machine.specs.Places.IsDependency.{ByFlow, ByTarget}
+use Rattle.sw_machine.specs.Certificate.{IsListed, IsAccepted}
+use Rattle.sw_model.specs.Model.{network_of}
+use Rattle.sw_model.specs.Laws.{FlowAgrees}
+use Rattle.sw_model.proofs.Flows.{flow_at, some_at}
+use Rattle.sw_model.proofs.Networks.{are_networks}
+use Rattle.sw_model.proofs.Steps.{steps_agree}
+use Rattle.sw_check.specs.Contents.{place_of, certificate_of}
+use Rattle.sw_check.proofs.Lists.{Contains-at}
+use Rattle.sw_search.specs.Verdicts.{depends, IsFree}
+use Rattle.sw_search.proofs.Levels.{rises}
+use Rattle.sw_search.proofs.Zips.{zip_here, zip_length}
+
+mapped_at : {X Y : Type 0} (g : X → Y) (xs : List X) (i : ℕ) (x : X) → slice_get xs i ≡ Some x → slice_get (map g xs) i ≡ Some (g x)
+mapped_at g [] i x h = absurd (let bad : None ≡ Some x = h in cc)
+mapped_at g (y ∷ ys) zero x h = let same : y ≡ x = cc in ap (λ z. Some (g z)) same
+mapped_at g (y ∷ ys) (suc i) x h = mapped_at g ys i x h
+
+place_back : (ps : List Place) (c k : ℕ) → Contains (map place_of ps) (record { channel = c; deleted = k }) → Contains ps (record { channel = c; deleted = k })
+place_back ps c k h =
+    let m = Contains-from_map place_of ps (record { channel = c; deleted = k }) h in
+    let channel : m.0.channel ≡ c = ap (λ (p : machine_network.Place). p.channel) m.2 in
+    let deleted : m.0.deleted ≡ k = ap (λ (p : machine_network.Place). p.deleted) m.2 in
+    let same : m.0 ≡ record { channel = c; deleted = k } = λ i. record { channel = channel i; deleted = deleted i } in
+    subst (λ (p : Place). Contains ps p) same m.1
+
+module _ (c : Contents) (i : ℕ) (ps : List Place) (there : slice_get c.places i ≡ Some ps) where
+  lists : unwrap_or (slice_get (map (map place_of) c.places) i) [] ≡ map place_of ps
+  lists = ap (λ (o : Option (List machine_network.Place)). unwrap_or o []) (mapped_at (map place_of) c.places i ps there)
+
+  to_machine : (p : Place) → Contains ps p → IsListed (certificate_of c) i p.channel p.deleted
+  to_machine p m = subst (λ (l : List machine_network.Place). Contains l (place_of p)) (sym lists) (Contains-map place_of ps p m)
+
+  from_machine : (e k : ℕ) → IsListed (certificate_of c) i e k → Contains ps (record { channel = e; deleted = k })
+  from_machine e k h = place_back ps e k (subst (λ (l : List machine_network.Place). Contains l (record { channel = e; deleted = k })) lists h)
+
+-- flow i and the places listed for it
+record IsHere (d : Declaration) (c : Contents) (i : ℕ) : Type 0 where
+  flow : FlowEntry
+  listed : List Place
+  here : slice_get (all_flows d) i ≡ Some flow
+  there : slice_get c.places i ≡ Some listed
+  list : IsPlaceList d flow listed
+
+module _ (d : Declaration) (c : Contents) (valid : IsValid d) (free : IsFree d c) where
+  here_at : (i : ℕ) → i < length (all_flows d) → IsHere d c i
+  here_at i lt =
+      let f = some_at (all_flows d) i lt in
+      let ps = zip_here (IsPlaceList d) (all_flows d) c.places free.places i f.0 f.1 in
+      record { flow = f.0; listed = ps.0; here = f.1; there = ps.1; list = ps.2 }
+
+  module _ (i : ℕ) (lt : i < length (all_flows d)) where
+    a : IsHere d c i
+    a = here_at i lt
+
+    agrees : FlowAgrees d i a.flow
+    agrees = steps_agree d valid i a.flow a.here
+
+    -- the listed places are the flow's places
+    place_of_listed : (e k : ℕ) → IsListed (certificate_of c) i e k → machine.IsPlace (network_of d) i e k
+    place_of_listed e k h = (agrees.place e k).1 ((a.list.member (record { channel = e; deleted = k })).0 (from_machine c i a.listed a.there e k h))
+
+    listed_of_place : (e k : ℕ) → machine.IsPlace (network_of d) i e k → IsListed (certificate_of c) i e k
+    listed_of_place e k p = to_machine c i a.listed a.there (record { channel = e; deleted = k }) ((a.list.member (record { channel = e; deleted = k })).1 ((agrees.place e k).0 p))
+
+    place_in : (e k : ℕ) → machine.IsPlace (network_of d) i e k → (e < length (ends_of d)) × (k ≤ length a.flow.address)
+    place_in e k p = places_are_in d a.flow e k ((agrees.place e k).0 p)
+
+    address_is : (flow_at d i).address ≡ a.flow.address
+    address_is = rw a.here refl
+
+    in_range : (e k : ℕ) → machine.IsPlace (network_of d) i e k → (e < length (ends_of d)) × (k ≤ length (flow_at d i).address)
+    in_range e k p = let both = place_in e k p in (both.0, subst (λ (l : List ℕ). k ≤ length l) (sym address_is) both.1)
+
+    routed : machine.IsWellRouted (network_of d) i
+    routed = agrees.well_routed.1 (All-contains (IsWellRouted d) (all_flows d) a.flow free.routed (Contains-at (all_flows d) i a.flow a.here))
+
+    step_rises : (e k b m : ℕ) → i < (network_of d).flows → machine.IsPlace (network_of d) i e k → machine.Follows (network_of d) i e k b m → slice_index c.numbers e < slice_index c.numbers b
+    step_rises e k b m inside p step =
+        rises (depends d) (length (ends_of d)) c.numbers free.levels e b (place_in e k p).0 (place_in b m (Goes e k b m p step)).0 (ByFlow i e k b m inside p step)
+
+  is : IsNetwork (network_of d)
+  is = are_networks d valid
+
+  flow_count : (network_of d).flows ≡ length (all_flows d)
+  unfolding network_of
+  flow_count = refl
+
+  channel_count : (network_of d).channels ≡ length (ends_of d)
+  unfolding network_of
+  channel_count = refl
+
+  target_rises : (i j : ℕ) → i < (network_of d).flows → ((network_of d).flow i).reply ≡ Some j → slice_index c.numbers ((network_of d).into ((network_of d).flow i).to) < slice_index c.numbers ((network_of d).out ((network_of d).flow i).to)
+  target_rises i j lt has =
+      let to = (is.flow_ends i lt).1 in
+      let out = (is.out_starts ((network_of d).flow i).to to).0 in
+      let into = (is.into_ends ((network_of d).flow i).to to).0 in
+      rises (depends d) (length (ends_of d)) c.numbers free.levels ((network_of d).into ((network_of d).flow i).to) ((network_of d).out ((network_of d).flow i).to) (subst (λ (n : ℕ). (network_of d).into ((network_of d).flow i).to < n) channel_count into)
+      (subst (λ (n : ℕ). (network_of d).out ((network_of d).flow i).to < n) channel_count out) (ByTarget i j lt has)
+
+  inside : (i : ℕ) → i < (network_of d).flows → i < length (all_flows d)
+  inside i lt = subst (λ (n : ℕ). i < n) flow_count lt
+
+  counts : (length c.numbers ≡ (network_of d).channels) × (length (certificate_of c).places ≡ (network_of d).flows)
+  counts = (free.levels.size ∙ sym channel_count, length-map c.places (map place_of) ∙ zip_length (IsPlaceList d) (all_flows d) c.places free.places ∙ sym flow_count)
+
+  in_it : (i e k : ℕ) → i < (network_of d).flows → IsListed (certificate_of c) i e k → (e < (network_of d).channels) × (k ≤ length ((network_of d).flow i).address)
+  unfolding network_of
+  in_it i e k lt h = in_range i lt e k (place_of_listed i lt e k h)
+
+  pub accepted : IsAccepted (network_of d) (certificate_of c)
+  accepted = record {
+    channels = counts.0;
+    flows = counts.1;
+    in_range = in_it;
+    starts = λ i lt. listed_of_place i (inside i lt) ((network_of d).out ((network_of d).flow i).from) 0 Start;
+    faultless = λ i e k lt h. routed i (inside i lt) e k (place_of_listed i (inside i lt) e k h);
+    closed = λ i e k b m lt h step. listed_of_place i (inside i lt) b m (Goes e k b m (place_of_listed i (inside i lt) e k h) step);
+    rising = λ i e k b m lt h step. step_rises i (inside i lt) e k b m lt (place_of_listed i (inside i lt) e k h) step;
+    targets = target_rises;
+  }

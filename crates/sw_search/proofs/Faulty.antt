@@ -1,0 +1,50 @@
+-- The first fault of a flow.
+use Rattle.std.proofs.Common.{◌≡◌, ℕ, zero, suc, ◌+◌, ◌<◌, ◌≤◌, List, [], ◌∷◌, length, get_or, Option, Some, None, Vec, Global, refl, sym, ap, ◌∙◌, subst, inl, inr, ◌⊎◌, arith, All}
+use Rattle.std.specs.Prelude.{slice_get, IfSome}
+use Rattle.std.proofs.lemmas.Bool.{cases_lt}
+use Rattle.std.proofs.lemmas.Option.{get_or_from_slice_get, slice_get_read}
+use Rattle.std.proofs.lemmas.List.Elements.{All-from_get_or}
+use Rattle.sw_network.specs.Entries.{FlowEntry, Declaration, all_flows}
+use Rattle.sw_flow.specs.declared.fault.RouteFault.{RouteFault}
+use Rattle.sw_flow.specs.declared.place.Place.{Place}
+use Rattle.sw_flow.specs.Places.{IsPlaceList}
+use Rattle.sw_flow.specs.Faults.{first_fault_of, IsWellRouted}
+use Rattle.sw_flow.proofs.WellRouted.{well_routed_by_list}
+use Rattle.sw_model.proofs.Flows.{some_at}
+use Rattle.sw_search.specs.Lists.{AreListed, IsFaulty, IsFirstFault, IsRouted}
+use Rattle.sw_search.specs.Verdicts.{AllWellRouted}
+use Rattle.sw_search.proofs.Zips.{zip_here}
+
+abbrev At : Declaration → FlowEntry → Vec Place Global → Type 0
+At d f v = IsPlaceList d f v.items
+
+-- what is found in the list of flow i
+by_answer : (d : Declaration) (i : ℕ) (f : FlowEntry) (places : List Place) → slice_get (all_flows d) i ≡ Some f → IsPlaceList d f places → (o : Option (Place × RouteFault)) → o ≡ first_fault_of d f places → IsFirstFault d i o
+by_answer d i f places here list None is = λ g at.
+    let both : Some f ≡ Some g = sym here ∙ at in
+    let same : f ≡ g = cc in
+    subst (IsWellRouted d) same ((well_routed_by_list d f places list).0 (sym is))
+by_answer d i f places here list (Some found) is = record { flow = f; numbered = here; places = places; listed = list; first = sym is }
+
+pub is_first_fault : (d : Declaration) (lists : List (Vec Place Global)) → AreListed d lists → (i : ℕ) → i < length (all_flows d) → (v : Vec Place Global) → v ≡ get_or lists i v → (places : List Place) → places ≡ v.items
+    → (o : Option (Place × RouteFault)) → IfSome (slice_get (all_flows d) i) (λ f. o ≡ first_fault_of d f places) → IsFirstFault d i o
+is_first_fault d lists listed i lt v at places same o given =
+    let f = some_at (all_flows d) i lt in
+    let w = zip_here (At d) (all_flows d) lists listed i f.0 f.1 in
+    let there : v ≡ w.0 = at ∙ get_or_from_slice_get lists i w.0 v w.1 in
+    let list : IsPlaceList d f.0 places = subst (IsPlaceList d f.0) (sym (same ∙ ap (λ (x : Vec Place Global). x.items) there)) w.2 in
+    let is : o ≡ first_fault_of d f.0 places = rw f.1 at given in
+    by_answer d i f.0 places f.1 list o is
+
+-- one flow more
+pub routed_more : (d : Declaration) (i : ℕ) → ((j : ℕ) → j < i → IsRouted d j) → IsRouted d i → (j : ℕ) → j < i + 1 → IsRouted d j
+routed_more d i before here j lt = elim (cases_lt j i) [
+  | inl less ↦ before j less
+  | inr more ↦ let same : i ≡ j = omega arith in subst (IsRouted d) same here
+]
+
+pub all_routed : (d : Declaration) → ((j : ℕ) → j < length (all_flows d) → IsRouted d j) → AllWellRouted d
+all_routed d each i e lt =
+    let f = some_at (all_flows d) i lt in
+    let at : slice_get (all_flows d) i ≡ Some (get_or (all_flows d) i e) = f.1 ∙ ap Some (sym (get_or_from_slice_get (all_flows d) i f.0 e f.1)) in
+    each i lt (get_or (all_flows d) i e) at

@@ -1,0 +1,59 @@
+-- What verdicts show.
+use Rattle.std.proofs.Common.{◌≡◌, ℕ, zero, suc, ◌+◌, ◌<◌, ◌≤◌, ◌⊎◌, List, [], ◌∷◌, map, length, get_or, Contains, Option, Some, None, option_map, refl, sym, ap, ◌∙◌, subst, inl, inr, arith}
+use Rattle.std.specs.Prelude.{slice_get, slice_index, unwrap_or}
+use Rattle.std.specs.List.{AllZip}
+use Rattle.std.proofs.lemmas.Option.{slice_get_within}
+use Rattle.sw_network.specs.Entries.{FlowEntry, Declaration, all_flows}
+use Rattle.sw_network.specs.Valid.{IsValid}
+use Rattle.sw_flow.specs.declared.place.Place.{Place}
+use Rattle.sw_flow.specs.Places.{ends_of, IsPlaceList}
+use Rattle.sw_machine.specs.Network as machine_network
+use Rattle.sw_machine.specs.Places as machine
+use Rattle.sw_machine.specs.Places.{IsDependency}
+use Rattle.sw_machine.specs.Places.IsDependency.{ByFlow, ByTarget}
+use Rattle.sw_machine.specs.Certificate.{IsListed, IsAccepted}
+use Rattle.sw_model.specs.Model.{network_of}
+use Rattle.sw_model.proofs.Flows.{some_at}
+use Rattle.sw_model.proofs.Steps.{steps_agree}
+use Rattle.sw_order.specs.Levels.{Chain, HasCycle, IsLevel, IsLevels}
+use Rattle.sw_order.specs.Cycles.{IsShownCycle}
+use Rattle.sw_cycle.specs.Cycles.{CauseEntry, CycleEntry, IsShown, round}
+use Rattle.sw_check.specs.Contents.{place_of, certificate_of}
+use Rattle.sw_search.specs.Causes.{AreChosen}
+use Rattle.sw_search.specs.Verdicts.{depends, IsCyclic, IsFree}
+
+-- a shown cycle is a cycle
+pub has_cycle : (dep : ℕ → ℕ → Type 0) (cycle : List ℕ) → IsShownCycle dep cycle → HasCycle dep
+has_cycle dep cycle h = let b = h.begins.member in (b.1, b.0, b.3)
+
+-- levels rise
+pub rises : (dep : ℕ → ℕ → Type 0) (n : ℕ) (levels : List ℕ) → IsLevels dep n levels → (c e : ℕ) → c < n → e < n → dep c e → slice_index levels c < slice_index levels e
+rises dep n levels h c e lc le step =
+    let low = (h.each c lc).reached in
+    let more : Chain dep (suc (slice_index levels c)) low.0 e = (c, low.1, step) in
+    let top = (h.each e le).greatest (suc (slice_index levels c)) low.0 more in
+    omega arith
+
+-- a level is determined
+same_level : (dep : ℕ → ℕ → Type 0) (c v w : ℕ) → IsLevel dep c v → IsLevel dep c w → v ≡ w
+same_level dep c v w h k =
+    let up = k.greatest v h.reached.0 h.reached.1 in
+    let down = h.greatest w k.reached.0 k.reached.1 in
+    omega arith
+
+same_lists : (xs ys : List ℕ) → length xs ≡ length ys → ((i : ℕ) → i < length xs → slice_index xs i ≡ slice_index ys i) → xs ≡ ys
+same_lists [] [] size each = refl
+same_lists [] (y ∷ ys) size each = absurd (omega arith)
+same_lists (x ∷ xs) [] size each = absurd (omega arith)
+same_lists (x ∷ xs) (y ∷ ys) size each =
+    let first : x ≡ y = each 0 (omega arith) in
+    let rest : xs ≡ ys = same_lists xs ys (omega arith) (λ i lt. each (suc i) (omega arith)) in
+    λ i. first i ∷ rest i
+
+pub same_levels : (dep : ℕ → ℕ → Type 0) (n : ℕ) (xs ys : List ℕ) → IsLevels dep n xs → IsLevels dep n ys → xs ≡ ys
+same_levels dep n xs ys h k =
+    same_lists xs ys (h.size ∙ sym k.size) (λ i lt. let size = h.size in let within : i < n = omega arith in same_level dep i (slice_index xs i) (slice_index ys i) (h.each i within) (k.each i within))
+
+-- chosen causes show their cycle
+pub shown_by : (d : Declaration) (cycle : CycleEntry) → 0 < length cycle.channels → AreChosen d cycle.channels cycle.causes → IsShown d cycle
+shown_by d cycle some h = record { some = some; one_each = h.one_each; caused = λ i cause at. (h.chosen i cause at).shows }

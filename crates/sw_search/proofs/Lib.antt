@@ -1,0 +1,11 @@
+pub mod Zips
+pub mod Blocks
+pub mod Faulty
+pub mod Pairs
+pub mod Ordered
+pub mod Counted
+pub mod Levels
+pub mod Rounds
+pub mod Accepted
+pub mod Sorted
+pub mod Cycles

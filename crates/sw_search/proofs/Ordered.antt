@@ -1,0 +1,16 @@
+-- What is answered of rows, as an answer on dependencies.
+use Rattle.std.proofs.Common.{◌≡◌, ℕ, ◌<◌, ◌≤◌, List, length, Result, Ok, Err, Vec, Global, subst}
+use Rattle.std.specs.Prelude.{IfOk}
+use Rattle.std.specs.declared.alloc.AllocError.{AllocError}
+use Rattle.sw_network.specs.Entries.{Declaration}
+use Rattle.sw_flow.specs.Places.{ends_of}
+use Rattle.sw_order.specs.declared.answer.Order.{Order}
+use Rattle.sw_order.specs.Answers.{Answers}
+use Rattle.sw_order.specs.Rows.{Leads}
+use Rattle.sw_order.proofs.Transfers.{carry_over}
+use Rattle.sw_search.specs.Lists.{AreRows}
+use Rattle.sw_search.specs.Verdicts.{depends}
+
+pub carried : (d : Declaration) (rows : List (Vec ℕ Global)) → AreRows d rows → (r : Result Order AllocError) → IfOk r (Answers (Leads rows) (length rows)) → IfOk r (Answers (depends d) (length (ends_of d)))
+carried d rows h (Ok answer) k = subst (λ (n : ℕ). Answers (depends d) n answer) h.size (carry_over (Leads rows) (depends d) h.exact (length rows) answer k)
+carried d rows h (Err e) k = tt

@@ -1,0 +1,5 @@
+pub mod Lists
+pub mod Causes
+pub mod Verdicts
+pub mod Findings
+pub mod Laws

@@ -1,0 +1,13 @@
+//! The verdict on a network: misrouted, cyclic, or free of deadlocks.
+#![tactic(auto)]
+
+mod counts;
+mod cyclic;
+mod free;
+mod laws;
+mod misrouted;
+mod order;
+mod verdict;
+
+pub use laws::{cyclic_is_shown, free_is_accepted};
+pub use verdict::{Findings, Verdict};
