@@ -3,3 +3,4 @@ pub mod Flows
 pub mod Topology
 pub mod Networks
 pub mod Steps
+pub mod Memories

@@ -1,11 +1,14 @@
 -- What holds of the machine's network of a network that a file declares.
 use Rattle.std.specs.Prelude.{◌≡◌, ◌↔◌, ℕ, ◌<◌, ◌≤◌, length, slice_get, Some, None}
-use Rattle.sw_network.specs.Entries.{FlowEntry, Declaration, all_flows}
+use Rattle.sw_rmap.specs.declared.config.TargetConfig.{TargetConfig}
+use Rattle.sw_network.specs.Entries.{FlowEntry, Declaration, all_flows, target_of}
 use Rattle.sw_network.specs.Valid.{IsValid}
 use Rattle.sw_flow.specs.Places as declared
 use Rattle.sw_flow.specs.Faults as declared_faults
 use Rattle.sw_machine.specs.Network.{IsNetwork}
 use Rattle.sw_machine.specs.Places as machine
+use Rattle.sw_machine.specs.Runs.{IsReached}
+use Rattle.sw_machine.specs.State.{State}
 use Rattle.sw_model.specs.Model.{network_of}
 
 -- each valid network is one of the machine's
@@ -27,3 +30,7 @@ pub record FlowAgrees (d : Declaration) (i : ℕ) (f : FlowEntry) : Type 0 where
 -- each flow of a valid network, declared or of replies, has the same steps, places and faults in the machine as by its entry
 abbrev pub StepsOfFlowsAgree : Type 0
 StepsOfFlowsAgree = (d : Declaration) → IsValid d → (i : ℕ) (f : FlowEntry) → IsFlowAt d i f → FlowAgrees d i f
+
+-- in each reached state a target's memory has as many bytes as its window
+abbrev pub MemoriesKeepTheirLength : Type 0
+MemoriesKeepTheirLength = (d : Declaration) (s : State) → IsReached (network_of d) s → (n : ℕ) (t : TargetConfig) → target_of d.nodes n ≡ Some t → length (s.memory n) ≡ t.size

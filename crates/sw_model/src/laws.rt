@@ -1,5 +1,5 @@
 //! What holds of the machine's network of a declared network. These functions do nothing: each is the proof of what its clause says.
-ghost use Rattle.sw_model.specs.Laws.{DeclaredNetworksAreNetworks, StepsOfFlowsAgree};
+ghost use Rattle.sw_model.specs.Laws.{DeclaredNetworksAreNetworks, MemoriesKeepTheirLength, StepsOfFlowsAgree};
 
 /// Each valid network is one of the machine's.
 pub fn declared_networks_are_networks()
@@ -9,4 +9,10 @@ pub fn declared_networks_are_networks()
 /// Each flow of a valid network has the same steps, places and faults in the machine.
 pub fn steps_of_flows_agree()
     ensures { StepsOfFlowsAgree }
+{}
+
+/// In each state that a declared network reaches, each target's memory has as many bytes as its
+/// window: no command, whatever its bytes, makes it longer or shorter.
+pub fn memories_keep_their_length()
+    ensures { MemoriesKeepTheirLength }
 {}

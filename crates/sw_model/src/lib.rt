@@ -3,4 +3,4 @@
 
 mod laws;
 
-pub use laws::{declared_networks_are_networks, steps_of_flows_agree};
+pub use laws::{declared_networks_are_networks, memories_keep_their_length, steps_of_flows_agree};
