@@ -5,7 +5,7 @@ use Rattle.std.proofs.lemmas.Bool.Decides.{nat_tests}
 use Rattle.sw_stream.specs.Reading.{Takes}
 use Rattle.sw_app.specs.declared.ended.Ended.{Ended}
 use Rattle.sw_app.specs.declared.ended.Ended.TheVariants.{Status, ReadFailed, WriteFailed}
-use Rattle.sw_app.specs.Ends.{Answers, EndsBy, IfShort, IsMemoryTold, IsTold, OrMemory}
+use Rattle.sw_app.specs.Ends.{Answers, EndsBy, EndsByTwo, IfShort, IsMemoryTold, IsTold, OrMemory, limited}
 use Rattle.sw_app.specs.Lines.{line}
 
 -- a text that may be told was told
@@ -50,3 +50,39 @@ told_answer P input old new ended read text status whole within answer is = told
     may (Some bytes) whole =
         let short : nat_le (length read) 67108864 ≡ true = grind (arith, nat_tests) in
         subst (λ (bytes : List ℕ). OrMemory (IfShort bytes (P bytes)) text status) whole (inl (rw short answer))
+
+-- a text that may be told of two texts was told
+told_of_two : (P : Option (List ℕ) → Option (List ℕ) → Answers) (first second old new : Option (List ℕ)) (ended : Ended) (text : List ℕ) (status : ℕ)
+    → IfSome first (λ bytes. IfSome second (λ others. OrMemory (P (limited bytes) (limited others)) text status)) → IsTold old new text status ended
+    → EndsByTwo P first second old new ended
+told_of_two P None second old new (Status n) text status may is = tt
+told_of_two P None second old new WriteFailed text status may is = tt
+told_of_two P (Some bytes) None old new (Status n) text status may is = tt
+told_of_two P (Some bytes) None old new WriteFailed text status may is = tt
+told_of_two P (Some bytes) (Some others) old new (Status n) text status may is = (text, status, may, is)
+told_of_two P (Some bytes) (Some others) old new WriteFailed text status may is = (text, status, may, is)
+told_of_two P first second old new ReadFailed text status may is = absurd is
+
+-- that memory was wanted
+pub told_memory_of_two : (P : Option (List ℕ) → Option (List ℕ) → Answers) (first second old new : Option (List ℕ)) (ended : Ended) → IsMemoryTold old new ended
+    → EndsByTwo P first second old new ended
+told_memory_of_two P first second old new ended is = told_of_two P first second old new ended (line (codes "fault memory" ∷ [])) 5 (may first second) is
+  where
+    may : (first second : Option (List ℕ)) → IfSome first (λ bytes. IfSome second (λ others. OrMemory (P (limited bytes) (limited others)) (line (codes "fault memory" ∷ [])) 5))
+    may None second = tt
+    may (Some bytes) None = tt
+    may (Some bytes) (Some others) = inr (refl, refl)
+
+-- an answer to two texts, as they were given
+pub told_answer_of_two : (P : Option (List ℕ) → Option (List ℕ) → Answers) (first second old new : Option (List ℕ)) (ended : Ended) (one other : Option (List ℕ))
+    (text : List ℕ) (status : ℕ) → IfSome first (λ bytes. one ≡ limited bytes) → IfSome second (λ bytes. other ≡ limited bytes)
+    → P one other text status → IsTold old new text status ended → EndsByTwo P first second old new ended
+told_answer_of_two P first second old new ended one other text status is_first is_second answer is =
+    told_of_two P first second old new ended text status (may first second is_first is_second) is
+  where
+    may : (first second : Option (List ℕ)) → IfSome first (λ bytes. one ≡ limited bytes) → IfSome second (λ bytes. other ≡ limited bytes)
+        → IfSome first (λ bytes. IfSome second (λ others. OrMemory (P (limited bytes) (limited others)) text status))
+    may None second is_first is_second = tt
+    may (Some bytes) None is_first is_second = tt
+    may (Some bytes) (Some others) is_first is_second =
+        inl (subst (λ (o : Option (List ℕ)). P o (limited others) text status) is_first (subst (λ (o : Option (List ℕ)). P one o text status) is_second answer))

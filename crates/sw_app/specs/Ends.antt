@@ -1,6 +1,7 @@
 -- How an engine ends (this project's choice).
-use Rattle.std.specs.Prelude.{◌≡◌, ◌⊎◌, ℕ, ◌<◌, List, [], ◌∷◌, Option, IfSome, MatchBool, codes, length, nat_le, take}
-use Rattle.std.specs.Io.KnownBytes.{Appends, Keeps}
+use Rattle.std.specs.Prelude.{◌≡◌, ◌⊎◌, ℕ, ◌+◌, ◌<◌, List, [], ◌∷◌, Option, Some, None, IfSome, MatchBool, codes, if◌then◌else◌, length, nat_le, take}
+use Rattle.std.specs.Io.KnownBytes.{Appends, IsAtEnd, Keeps}
+use Rattle.sw_stream.specs.Reading.{Takes}
 use Rattle.sw_app.specs.declared.ended.Ended.{Ended}
 use Rattle.sw_app.specs.declared.ended.Ended.TheVariants.{Status, ReadFailed, WriteFailed}
 use Rattle.sw_app.specs.Lines.{line}
@@ -32,6 +33,15 @@ abbrev pub IfShort : List ℕ → Answers → Answers
 IfShort input P text status =
     MatchBool (nat_le (length input) most_bytes) (P text status) (Says (line (codes "fault A1 TooLong" ∷ [])) 3 text status)
 
+-- the text, if it is not longer
+abbrev pub limited : List ℕ → Option (List ℕ)
+limited bytes = if nat_le (length bytes) most_bytes then Some bytes else None
+
+-- of a text that is longer, None, only that is told
+abbrev pub IfLimited : Option (List ℕ) → (List ℕ → Answers) → Answers
+IfLimited (Some bytes) P text status = P bytes text status
+IfLimited None P text status = Says (line (codes "fault A1 TooLong" ∷ [])) 3 text status
+
 -- The writer got the text, and the status is its status; or a write failed, and the writer got a beginning of the text that lacks
 -- something.
 abbrev pub IsTold : Option (List ℕ) → Option (List ℕ) → List ℕ → ℕ → Ended → Type 0
@@ -53,3 +63,20 @@ abbrev pub EndsBy : (List ℕ → Answers) → Option (List ℕ) → Option (Lis
 EndsBy P input old new (Status n) = IfSome input (λ bytes. Tells old new (IfShort bytes (P bytes)) (Status n))
 EndsBy P input old new WriteFailed = IfSome input (λ bytes. Tells old new (IfShort bytes (P bytes)) WriteFailed)
 EndsBy P input old new ReadFailed = Keeps old new
+
+-- An engine that reads two texts, both before it looks at either: what it tells is an answer to the two, and where a read failed
+-- nothing is written.
+abbrev pub EndsByTwo : (Option (List ℕ) → Option (List ℕ) → Answers) → Option (List ℕ) → Option (List ℕ) → Option (List ℕ) → Option (List ℕ) → Ended → Type 0
+EndsByTwo P first second old new (Status n) =
+    IfSome first (λ bytes. IfSome second (λ others. Tells old new (P (limited bytes) (limited others)) (Status n)))
+EndsByTwo P first second old new WriteFailed =
+    IfSome first (λ bytes. IfSome second (λ others. Tells old new (P (limited bytes) (limited others)) WriteFailed))
+EndsByTwo P first second old new ReadFailed = Keeps old new
+
+-- a reader was read to its end, or to one byte past the most that a text may have
+abbrev pub IsReadWhole : Option (List ℕ) → Option (List ℕ) → Type 0
+IsReadWhole old new = IsAtEnd new ⊎ Takes old new (most_bytes + 1)
+
+-- the first reader was read whole before anything was taken from the second
+abbrev pub AreReadInOrder : Option (List ℕ) → Option (List ℕ) → Option (List ℕ) → Option (List ℕ) → Type 0
+AreReadInOrder first first_after second second_after = IsReadWhole first first_after ⊎ (second_after ≡ second)

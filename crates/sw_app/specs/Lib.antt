@@ -5,4 +5,7 @@ pub mod ChannelTexts
 pub mod Ends
 pub mod RouteTexts
 pub mod RouteAnswers
+pub mod CheckTexts
+pub mod CheckAnswers
+pub mod Inputs
 pub mod Laws

@@ -1,11 +1,14 @@
 //! Answers of an engine.
-ghost use Rattle.std.specs.Prelude.{◌≡◌, ◌∷◌, [], IfOk, string_bytes};
+ghost use Rattle.std.specs.Prelude.{◌≡◌, ◌∷◌, [], IfOk, codes, string_bytes};
 ghost use Rattle.sw_app.specs.FaultTexts.{fault_text};
 ghost use Rattle.sw_app.specs.Lines.{line};
 
 use crate::fault_texts::fault_text;
 use std::alloc::{AllocError, Global};
 use sw_tree::TextFault;
+
+/// The status that says that a text has a fault.
+const FAULTY: u8 = 3;
 
 /// What an engine writes, and the status that says what it is.
 #[derive(Drop)]
@@ -23,6 +26,20 @@ impl Answer {
     {
         let fault = fault_text(alloc, fault)?;
         let text = format!(in alloc; "{fault}\n")?;
-        Ok(Answer { text, status: 3 })
+        Ok(Answer {
+            text,
+            status: FAULTY,
+        })
+    }
+
+    /// The answer to a text that is too long.
+    pub(crate) fn of_long_text(alloc: Global) -> Result<Answer, AllocError>
+        ensures { IfOk result (λ a. Says (line (codes "fault A1 TooLong" ∷ [])) 3 (string_bytes a.text) a.status) }
+    {
+        let text = String::from_str(alloc, "fault A1 TooLong\n")?;
+        Ok(Answer {
+            text,
+            status: FAULTY,
+        })
     }
 }

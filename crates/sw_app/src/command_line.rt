@@ -3,7 +3,7 @@ ghost use Rattle.std.specs.Prelude.{◌≡◌, ℕ, map, option_map, true, false
 ghost use Rattle.clap.specs.Words.{app_of, first_of, found_of, kind_of, rows_of, subcommand_rows_of};
 ghost use Rattle.clap.specs.declared.builder.Command.TheViews.{out-Command};
 ghost use Rattle.sw_app.specs.declared.command_line.WordsFault.TheVariants.{Memory};
-ghost use Rattle.sw_app.specs.CommandLine.{route_app, swcheck_app, Gives, IsCallOf, IsMatched, Refuses, ShowsKind};
+ghost use Rattle.sw_app.specs.CommandLine.{check_app, route_app, swcheck_app, Gives, IsCallOf, IsMatched, Refuses, ShowsKind};
 
 use clap::error::ErrorKind;
 use clap::{Arg, ArgMatches, Command};
@@ -15,6 +15,8 @@ use thiserror::Error;
 pub enum Call<'a> {
     /// The places of a flow of a network file.
     Route { file: &'a str, flow: &'a str },
+    /// Whether a certificate is accepted for a network file.
+    Check { file: &'a str, certificate: &'a str },
 }
 
 /// Why the words give no call, with the text to print.
@@ -69,13 +71,29 @@ fn route_command<'a>(alloc: Global) -> Result<Command<'a>, AllocError>
     route.arg(file)?.arg(flow)
 }
 
+fn check_command<'a>(alloc: Global) -> Result<Command<'a>, AllocError>
+    ensures { IfOk result (λ c. (app_of c ≡ check_app) × ((out-Command c).has_globals ≡ false)) }
+{
+    let file = Arg::new(alloc, "FILE")
+        .required(true)
+        .help("A network file");
+    let certificate = Arg::new(alloc, "CERT")
+        .required(true)
+        .help("A certificate file");
+    let check = Command::new(alloc, "check").about(
+        "Check a certificate that a network never locks up",
+    );
+    check.arg(file)?.arg(certificate)
+}
+
 fn swcheck_command<'a>(alloc: Global) -> Result<Command<'a>, AllocError>
     ensures { IfOk result (λ c. app_of c ≡ swcheck_app) }
 {
     let top = Command::new(alloc, "swcheck")
         .about("Checks SpaceWire networks")
         .subcommand_required(true);
-    top.subcommand(route_command(alloc)?)
+    top.subcommand(route_command(alloc)?)?
+        .subcommand(check_command(alloc)?)
 }
 
 fn fault_of(alloc: Global, error: &clap::Error) -> WordsFault
@@ -108,6 +126,10 @@ fn call_of<'a>(name: &str, values: &ArgMatches<'a>) -> Option<Call<'a>>
         "route" => Some(Call::Route {
             file: value_of(values, "FILE")?,
             flow: value_of(values, "FLOW")?,
+        }),
+        "check" => Some(Call::Check {
+            file: value_of(values, "FILE")?,
+            certificate: value_of(values, "CERT")?,
         }),
         _ => None,
     }

@@ -1,8 +1,12 @@
 //! The engines: each reads its texts whole, and writes one text.
-ghost use Rattle.sw_app.specs.Ends.{EndsBy, IsMemoryTold};
+ghost use Rattle.std.specs.Prelude.{◌≡◌, IfSome};
+ghost use Rattle.sw_app.specs.CheckAnswers.{AreShownFree, IsCheckAnswer};
+ghost use Rattle.sw_app.specs.Ends.{AreReadInOrder, EndsBy, EndsByTwo, IsMemoryTold};
 ghost use Rattle.sw_app.specs.RouteAnswers.{IsRouteAnswer};
 
+use crate::check_answer::check_answer;
 use crate::ended::{Ended, MAX_TEXT, tell};
+use crate::inputs::{InputError, read_two};
 use crate::route_answer::route_answer;
 use std::alloc::Global;
 use std::io::{Read, Write};
@@ -27,6 +31,29 @@ pub fn route<R: Read, W: Write>(alloc: Global, reader: &mut R, flow: &str, write
         Err(ReadError::Failed) => return Ended::ReadFailed,
     };
     match route_answer(alloc, &input, flow) {
+        Ok(answer) => tell(writer, answer.text.as_str(), answer.status),
+        Err(_) => tell_memory(writer),
+    }
+}
+
+/// Whether the certificate of the second text is accepted for the network of the first: 0 where it is, and then the network never
+/// locks up, over every run; 1 where it is refused.
+pub fn check<N: Read, C: Read, W: Write>(
+    alloc: Global,
+    network: &mut N,
+    certificate: &mut C,
+    writer: &mut W,
+) -> Ended
+    ensures answer { EndsByTwo IsCheckAnswer (N.remaining network.old) (C.remaining certificate.old) (W.contents writer.old) (W.contents writer.new) result }
+    ensures order { AreReadInOrder (N.remaining network.old) (N.remaining network.new) (C.remaining certificate.old) (C.remaining certificate.new) }
+    ensures shown { result ≡ Ended.Status 0 → IfSome (N.remaining network.old) (λ bytes. IfSome (C.remaining certificate.old) (AreShownFree bytes)) }
+{
+    let (first, second) = match read_two(alloc, network, certificate) {
+        Ok(inputs) => inputs,
+        Err(InputError::Failed) => return Ended::ReadFailed,
+        Err(InputError::Memory) => return tell_memory(writer),
+    };
+    match check_answer(alloc, &first, &second) {
         Ok(answer) => tell(writer, answer.text.as_str(), answer.status),
         Err(_) => tell_memory(writer),
     }

@@ -3,16 +3,19 @@
 
 mod answer;
 mod channel_texts;
+mod check_answer;
+mod check_texts;
 mod command_line;
 mod ended;
 mod engines;
 mod fault_texts;
+mod inputs;
 mod laws;
 mod route_answer;
 mod route_texts;
 
 pub use command_line::{Call, WordsFault, words};
 pub use ended::{Ended, MAX_TEXT};
-pub use engines::route;
+pub use engines::{check, route};
 pub use fault_texts::fault_text;
 pub use laws::route_has_one_answer;

@@ -30,7 +30,8 @@ fn places_text(alloc: Global, network: &Network, places: &[Place]) -> Result<Str
     Ok(text)
 }
 
-fn route_fault_text(fault: RouteFault) -> &'static str
+/// The fault's code and name.
+pub(crate) fn route_fault_text(fault: RouteFault) -> &'static str
     ensures { result.now ≡ route_fault_text fault }
 {
     match fault {

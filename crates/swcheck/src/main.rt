@@ -10,7 +10,7 @@ ghost use Rattle.sw_app.specs.Ends.{exit_status};
 use std::process::ExitCode;
 use std::rt::{Env, Files};
 use std::{env, fs, io};
-use sw_app::{Call, Ended, WordsFault, route, words};
+use sw_app::{Call, Ended, WordsFault, check, route, words};
 
 fn main(rt: HostRuntime) -> ExitCode {
     ExitCode::from(run(&rt))
@@ -45,14 +45,28 @@ fn run_texts<R: Files + Print + Eprint + AllocGlobal>(rt: &R, texts: &[String]) 
 
 fn run_call<R: Files + Print + AllocGlobal>(rt: &R, call: Call<'_>) -> Ended {
     match call {
-        Call::Route { file, flow } => {
-            let Ok(mut reader) = fs::open(rt, file) else {
-                return Ended::ReadFailed;
-            };
-            let mut writer = io::writer(rt);
-            route(rt.alloc(), &mut reader, flow, &mut writer)
-        }
+        Call::Route { file, flow } => run_route(rt, file, flow),
+        Call::Check { file, certificate } => run_check(rt, file, certificate),
     }
+}
+
+fn run_route<R: Files + Print + AllocGlobal>(rt: &R, file: &str, flow: &str) -> Ended {
+    let Ok(mut reader) = fs::open(rt, file) else {
+        return Ended::ReadFailed;
+    };
+    let mut writer = io::writer(rt);
+    route(rt.alloc(), &mut reader, flow, &mut writer)
+}
+
+fn run_check<R: Files + Print + AllocGlobal>(rt: &R, file: &str, certificate: &str) -> Ended {
+    let Ok(mut network) = fs::open(rt, file) else {
+        return Ended::ReadFailed;
+    };
+    let Ok(mut certificate) = fs::open(rt, certificate) else {
+        return Ended::ReadFailed;
+    };
+    let mut writer = io::writer(rt);
+    check(rt.alloc(), &mut network, &mut certificate, &mut writer)
 }
 
 // Tells of a read or a write that failed.

@@ -1,0 +1,99 @@
+//! What `check` answers.
+ghost use Rattle.std.specs.Prelude.{◌≡◌, IfOk, IsSomeAnd, string_bytes};
+ghost use Rattle.sw_file.specs.Network.{network_text};
+ghost use Rattle.sw_cert.specs.Text.{read_text};
+ghost use Rattle.sw_machine.specs.Certificate.{IsAccepted};
+ghost use Rattle.sw_machine.specs.Headline.{IsDeadlockFree};
+ghost use Rattle.sw_model.specs.Model.{network_of};
+ghost use Rattle.sw_check.specs.Contents.{certificate_of};
+ghost use Rattle.sw_check.specs.Refusals.{refusal_of};
+ghost use Rattle.sw_app.specs.Ends.{IfLimited};
+ghost use Rattle.sw_app.specs.Inputs.{given};
+ghost use Rattle.sw_app.specs.CheckAnswers.{AreShownFree, IsCertificateAnswer, IsCheckAnswer, IsJudgement, IsNetworkAnswer, IsShownFree};
+
+use crate::answer::Answer;
+use crate::check_texts::{grammar_line, refusal_line};
+use crate::inputs::Input;
+use std::alloc::{AllocError, Global};
+use sw_cert::{Certificate, CertificateFault};
+use sw_check::check;
+use sw_file::read_network;
+use sw_network::Network;
+use sw_tree::FileFault;
+
+// The answer for a certificate.
+fn judgement(
+    alloc: Global,
+    network: &Network,
+    certificate: &Certificate,
+) -> Result<Answer, AllocError>
+    ensures answer { IfOk result (λ a. IsJudgement network.now (refusal_of network.now certificate.now) (string_bytes a.text) a.status) }
+    ensures accepted { IfOk result (λ a. a.status ≡ 0 → IsAccepted (network_of network.now) (certificate_of certificate.now)) }
+    ensures deadlock_free { IfOk result (λ a. a.status ≡ 0 → IsDeadlockFree (network_of network.now) (certificate_of certificate.now)) }
+{
+    // Names the network, which is valid by its type.
+    let _flows = network.flows();
+    match check(network, certificate) {
+        Ok(_) => {
+            let text = String::from_str(alloc, "accepted\n")?;
+            Ok(Answer { text, status: 0 })
+        }
+        Err(refusal) => {
+            let text = refusal_line(alloc, network, refusal)?;
+            Ok(Answer { text, status: 1 })
+        }
+    }
+}
+
+// The answer for the text of a certificate.
+fn certificate_answer(alloc: Global, network: &Network, text: &[u8]) -> Result<Answer, AllocError>
+    ensures answer { IfOk result (λ a. IsCertificateAnswer network.now (read_text text.now) (string_bytes a.text) a.status) }
+    ensures shown { IfOk result (λ a. a.status ≡ 0 → IsShownFree network.now text.now) }
+{
+    match Certificate::read(alloc, text) {
+        Ok(certificate) => judgement(alloc, network, &certificate),
+        Err(CertificateFault::Grammar(number)) => {
+            let text = grammar_line(alloc, number)?;
+            Ok(Answer { text, status: 1 })
+        }
+        Err(CertificateFault::Memory) => Err(AllocError),
+    }
+}
+
+// The answer for a network and the second text.
+fn network_answer(alloc: Global, network: &Network, second: &Input) -> Result<Answer, AllocError>
+    ensures answer { IfOk result (λ a. IfLimited (given second.now) (λ bytes. IsCertificateAnswer network.now (read_text bytes)) (string_bytes a.text) a.status) }
+    ensures shown { IfOk result (λ a. a.status ≡ 0 → IsSomeAnd (given second.now) (IsShownFree network.now)) }
+{
+    match second {
+        Input::Whole(text) => certificate_answer(alloc, network, text),
+        Input::TooLong => Answer::of_long_text(alloc),
+    }
+}
+
+// The answer for the bytes of a network file and the second text.
+fn file_answer(alloc: Global, first: &[u8], second: &Input) -> Result<Answer, AllocError>
+    ensures answer { IfOk result (λ a. IsNetworkAnswer (given second.now) (network_text first.now) (string_bytes a.text) a.status) }
+    ensures shown { IfOk result (λ a. a.status ≡ 0 → IsSomeAnd (given second.now) (AreShownFree first.now)) }
+{
+    match read_network(alloc, first) {
+        Ok(network) => network_answer(alloc, &network, second),
+        Err(FileFault::Text(fault)) => Answer::of_fault(alloc, &fault),
+        Err(FileFault::Memory) => Err(AllocError),
+    }
+}
+
+/// The answer to the bytes of a network file and of a certificate file.
+pub(crate) fn check_answer(
+    alloc: Global,
+    first: &Input,
+    second: &Input,
+) -> Result<Answer, AllocError>
+    ensures answer { IfOk result (λ a. IsCheckAnswer (given first.now) (given second.now) (string_bytes a.text) a.status) }
+    ensures shown { IfOk result (λ a. a.status ≡ 0 → IsSomeAnd (given first.now) (λ bytes. IsSomeAnd (given second.now) (AreShownFree bytes))) }
+{
+    match first {
+        Input::Whole(text) => file_answer(alloc, text, second),
+        Input::TooLong => Answer::of_long_text(alloc),
+    }
+}
