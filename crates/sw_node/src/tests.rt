@@ -17,14 +17,11 @@ fn target(alloc: Global) -> Result<NodeCell, AllocError> {
     NodeCell::new(alloc, Some(config), 64)
 }
 
-fn send(rt: &impl Abort, node: &mut NodeCell) -> usize {
-    let mut sent = 0;
+fn send(rt: &impl Abort, node: &mut NodeCell) {
     for _ in 0..3usize {
         assert!(rt; node.can_emit());
         let _ = node.emit();
-        sent += 1;
     }
-    sent
 }
 
 #[test]
@@ -35,7 +32,7 @@ fn a_packet_is_sent_to_its_end(rt: HostRuntime) -> Result<(), Fail> {
     assert!(rt; !node.can_begin());
     assert_eq!(rt; node.credit(), 0);
     node.fct_in();
-    assert_eq!(rt; send(&rt, &mut node), 3);
+    send(&rt, &mut node);
     assert!(rt; node.can_begin());
     Ok(())
 }
