@@ -3,6 +3,7 @@
 
 ghost use Rattle.sw_machine.specs.Certificate.{IsAccepted};
 ghost use Rattle.sw_machine.specs.Credit.{CreditIsKept};
+ghost use Rattle.sw_machine.specs.Memory.{MemoryIsOfPackets};
 ghost use Rattle.sw_machine.specs.Network.{IsNetwork};
 ghost use Rattle.sw_machine.specs.Sample.{certificate, misrouted, of_capacity, sample};
 ghost use Rattle.sw_machine.specs.Witnesses.{IsAnswered, IsDiscarded, SendsFcts};
@@ -54,6 +55,12 @@ pub fn credit_is_kept()
 pub fn nodes_owe_replies()
     ensures owed { NodesOweReplies }
     ensures settled { EmitSettles }
+{}
+
+/// In each reached state of each network a node's memory is what the packets that came out there made
+/// of it, one after another, whatever their end markers.
+pub fn memory_is_of_packets()
+    ensures { MemoryIsOfPackets }
 {}
 
 /// In each reached state of each network an output is held by one input at most, of its own switch.
