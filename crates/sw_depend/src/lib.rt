@@ -7,3 +7,6 @@ mod named;
 mod rows;
 
 pub use entry::dependencies;
+
+#[cfg(test)]
+mod tests;
