@@ -8,7 +8,7 @@ use Rattle.sw_machine.specs.Sample.{misrouted, of_capacity, sample}
 use Rattle.sw_machine.specs.State.{State, empty}
 use Rattle.sw_machine.specs.Steps.{Fct, Step}
 use Rattle.sw_machine.specs.Tried.{try_steps}
-use Rattle.sw_machine.specs.Witnesses.{IsAnswered, IsDiscarded, SendsFcts, commands, discards, replies}
+use Rattle.sw_machine.specs.Witnesses.{IsAnswered, IsDiscarded, IsDropped, SendsFcts, commands, discards, replies, strays}
 use Rattle.sw_machine.specs.declared.input.Input.TheVariants.{Idle, Spilling}
 
 abbrev after : Network → State → List Step → State
@@ -32,6 +32,14 @@ is_discarded = record {
   delivered = refl;
   nothing = refl;
   no_more = λ p. let idle : Idle ≡ Spilling = (p.1).spilling in cc;
+}
+
+pub is_dropped : IsDropped
+is_dropped = record {
+  s = after misrouted (empty misrouted) strays;
+  run = tried_all misrouted strays (empty misrouted) (after misrouted (empty misrouted) strays) refl;
+  idle = refl;
+  delivered = refl;
 }
 
 -- the small network's state after both commands

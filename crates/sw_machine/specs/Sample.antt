@@ -86,9 +86,9 @@ certificate = record {
   places = (place 0 0 ∷ place 2 0 ∷ place 4 0 ∷ place 6 0 ∷ []) ∷ (place 7 0 ∷ place 5 1 ∷ place 1 2 ∷ []) ∷ [];
 }
 
--- the same network, where the packets of flow 0 begin with an address that names no port
-abbrev pub lost : Flow
-lost = record { from = 0; to = 1; address = 5 ∷ []; left = 0; reply = None }
+-- the same network, where the packets of flow 0 begin with an address that names no port, and the address of flow 1 ends at a switch
+abbrev pub lost : ℕ → Flow
+lost i = record { from = 0; to = 1; address = (if nat_eq i 0 then 5 else 2) ∷ []; left = 0; reply = None }
 
 abbrev pub misrouted : Network
-misrouted = record sample { flows = 1; flow = λ i. lost }
+misrouted = record sample { declared_flows = 2; flows = 2; flow = lost }

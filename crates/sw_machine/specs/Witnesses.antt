@@ -65,3 +65,16 @@ pub record IsDiscarded : Type 0 where
   pub delivered : undelivered misrouted s ≡ 0
   pub nothing : s.taken 1 ≡ []
   pub no_more : IsPossible misrouted s (Spill 0) → ⊥
+
+-- a packet whose bytes lead it astray and are all deleted: its marker comes to a switch alone
+abbrev pub strays : List Step
+strays = fct 0 ++ (fct 2 ++ (fct 3 ++ (Begin 1 (2 ∷ []) ByEop ∷ replicate 3 (Emit 0)
+    ++ (replicate 3 (Arrive 0) ++ (Grant 2 0 ∷ replicate 2 (Forward 0)
+    ++ (replicate 2 (Arrive 2) ++ (Grant 3 2 ∷ Forward 2 ∷ Arrive 3 ∷ Drop 3 ∷ [])))))))
+
+-- that marker is lost, and the input waits again
+pub record IsDropped : Type 0 where
+  pub s : State
+  pub run : Run misrouted (empty misrouted) strays s
+  pub idle : s.input 3 ≡ Idle
+  pub delivered : undelivered misrouted s ≡ 0

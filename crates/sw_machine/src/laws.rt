@@ -6,7 +6,7 @@ ghost use Rattle.sw_machine.specs.Credit.{CreditIsKept};
 ghost use Rattle.sw_machine.specs.Memory.{MemoryIsOfPackets};
 ghost use Rattle.sw_machine.specs.Network.{IsNetwork};
 ghost use Rattle.sw_machine.specs.Sample.{certificate, misrouted, of_capacity, sample};
-ghost use Rattle.sw_machine.specs.Witnesses.{IsAnswered, IsDiscarded, SendsFcts};
+ghost use Rattle.sw_machine.specs.Witnesses.{IsAnswered, IsDiscarded, IsDropped, SendsFcts};
 ghost use Rattle.std.specs.Prelude.{◌≤◌, ℕ};
 ghost use Rattle.sw_machine.specs.Begun.{
   AllComesOut,
@@ -137,10 +137,12 @@ pub fn some_are_accepted()
 {}
 
 /// On an empty channel as many FCTs are sent as there is room for, and seven at most; a packet that
-/// is lost is discarded to its end; two commands are taken, change the memory and are answered.
+/// is lost is discarded to its end, and a marker alone is; two commands are taken, change the memory
+/// and are answered.
 pub fn steps_are_sharp()
     ensures seven { SendsFcts 4096 7 }
     ensures one { SendsFcts 8 1 }
     ensures discarded { IsDiscarded }
+    ensures dropped { IsDropped }
     ensures answered { IsAnswered }
 {}
