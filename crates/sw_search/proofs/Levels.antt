@@ -19,7 +19,7 @@ use Rattle.sw_order.specs.Levels.{Chain, HasCycle, IsLevel, IsLevels}
 use Rattle.sw_order.specs.Cycles.{IsShownCycle}
 use Rattle.sw_cycle.specs.Cycles.{CauseEntry, CycleEntry, IsShown, round}
 use Rattle.sw_check.specs.Contents.{place_of, certificate_of}
-use Rattle.sw_search.specs.Causes.{AreChosen}
+use Rattle.sw_cause.specs.Causes.{AreChosen}
 use Rattle.sw_search.specs.Verdicts.{depends, IsCyclic, IsFree}
 
 -- a shown cycle is a cycle

@@ -9,3 +9,5 @@ pub mod Rounds
 pub mod Accepted
 pub mod Sorted
 pub mod Cycles
+pub mod Determined
+pub mod Entered

@@ -8,7 +8,7 @@ use Rattle.sw_order.specs.Cycles.{IsShownCycle}
 use Rattle.sw_order.specs.Laws.{IsChain, IsCycle}
 use Rattle.sw_order.proofs.Rings.{shown_is_cycle}
 use Rattle.sw_cycle.specs.Cycles.{round}
-use Rattle.sw_search.specs.Causes.{IsRound}
+use Rattle.sw_cause.specs.Causes.{IsRound}
 use Rattle.sw_search.specs.Verdicts.{depends}
 
 round_here : (xs : List ℕ) (i : ℕ) → i < length xs → round xs i ≡ get_or xs i 0

@@ -36,3 +36,9 @@ FreeIsAccepted = (d : Declaration) (contents : Contents) → IsValid d → IsFre
 -- the cycle of a cyclic network is shown by its causes, so that no numbers rise along the dependencies
 abbrev pub CyclicIsShown : Type 0
 CyclicIsShown = (d : Declaration) (cycle : CycleEntry) → IsValid d → IsCyclic d cycle → IsShown d cycle × ((number : ℕ → ℕ) → IsRising (network_of d) number → ⊥)
+
+-- the certificate of a verdict is not refused, and its cycle is shown
+abbrev pub IsChecked : Declaration → Verdict → Type 0
+IsChecked d (Misrouted i p fault) = Unit {0}
+IsChecked d (Cyclic cycle) = IsShown d cycle
+IsChecked d (Free contents) = refusal_of d contents ≡ None

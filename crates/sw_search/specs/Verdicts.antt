@@ -12,7 +12,7 @@ use Rattle.sw_order.specs.Levels.{HasCycle, IsLevels}
 use Rattle.sw_order.specs.Cycles.{IsShownCycle}
 use Rattle.sw_cycle.specs.Cycles.{CycleEntry}
 use Rattle.sw_cert.specs.Text.{Contents}
-use Rattle.sw_search.specs.Causes.{AreChosen}
+use Rattle.sw_cause.specs.Causes.{AreChosen}
 use Rattle.sw_search.specs.declared.verdict.Verdict.{Verdict}
 use Rattle.sw_search.specs.declared.verdict.Verdict.TheVariants.{Misrouted, Cyclic, Free}
 

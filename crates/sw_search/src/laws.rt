@@ -1,8 +1,13 @@
 //! What verdicts show. These functions do nothing: each is the proof of what its clause says.
-ghost use Rattle.sw_search.specs.Laws.{CyclicIsShown, FreeIsAccepted};
+ghost use Rattle.sw_search.specs.Laws.{CyclicIsShown, FreeIsAccepted, VerdictsAreDetermined};
 
 use sw_check::not_refused_is_accepted;
 use sw_cycle::laws::shown_cycles_rule_out_rising;
+
+/// Any two verdicts on a network say the same.
+pub fn verdicts_are_determined()
+    ensures { VerdictsAreDetermined }
+{}
 
 /// The certificate of a free network is accepted for it, and not refused.
 pub fn free_is_accepted()

@@ -3,11 +3,13 @@
 
 mod counts;
 mod cyclic;
+mod entry;
 mod free;
 mod laws;
 mod misrouted;
 mod order;
 mod verdict;
 
-pub use laws::{cyclic_is_shown, free_is_accepted};
+pub use entry::{decide, survey};
+pub use laws::{cyclic_is_shown, free_is_accepted, verdicts_are_determined};
 pub use verdict::{Findings, Verdict};

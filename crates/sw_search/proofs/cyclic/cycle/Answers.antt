@@ -1,0 +1,7 @@
+use Rattle.sw_order.specs.Cycles.{IsShownCycle}
+use Rattle.sw_cause.specs.Causes.{IsRound}
+use Rattle.sw_search.proofs.Rounds.{is_round}
+use Rattle.sw_search.proofs.cyclic.cycle.Goals as goal
+
+pub causes-requires-clause-cycle : goal.causes-requires-clause-cycle
+causes-requires-clause-cycle c = rw (c.deref.ensures.value, c.in_ok-channels.ensures) (is_round c.args.network.now c.args.members.now c.requires.shown)
