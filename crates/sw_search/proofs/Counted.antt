@@ -1,7 +1,7 @@
 -- Counts of places and of dependencies.
-use Rattle.std.proofs.Common.{◌≡◌, ◌≢◌, ℕ, zero, suc, ◌+◌, ◌<◌, ◌≤◌, List, [], ◌∷◌, map, length, get_or, Contains, Vec, Global, refl, sym, ap, ◌∙◌, subst, arith, All}
-use Rattle.std.specs.Prelude.{◌↔◌, AllPairs, sum}
-use Rattle.std.specs.List.{AllByRecursion, AllZip}
+use Rattle.std.proofs.Common.{◌≡◌, ◌≢◌, ℕ, ◌+◌, ◌≤◌, List, [], ◌∷◌, map, length, get_or, Contains, Vec, Global, refl, sym, ap, ◌∙◌, subst, arith, All}
+use Rattle.std.specs.Prelude.{AllPairs, sum}
+use Rattle.std.specs.List.{AllByRecursion}
 use Rattle.std.proofs.lemmas.List.Elements.{All-from_recursion, recursion_from_All}
 use Rattle.sw_network.specs.Entries.{FlowEntry, Declaration, all_flows}
 use Rattle.sw_network.specs.Valid.{IsValid}
@@ -13,7 +13,7 @@ use Rattle.sw_order.specs.Rows.{row}
 use Rattle.sw_search.specs.Findings.{IsDependencyCount, IsPlaceCount}
 use Rattle.sw_search.specs.Lists.{AreListed, AreRows}
 use Rattle.sw_search.proofs.Blocks.{are_blocks}
-use Rattle.sw_search.proofs.Pairs.{IsInRow, count_pairs, few_numbers, listed_pair, once_listed, once_pairs, pair_listed, pairs_from}
+use Rattle.sw_search.proofs.Pairs.{count_pairs, few_numbers, listed_pair, once_listed, once_pairs, pair_listed, pairs_from}
 use Rattle.sw_search.proofs.Zips.{zip_map}
 
 -- ---- places

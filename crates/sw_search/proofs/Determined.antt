@@ -1,5 +1,5 @@
 -- Any two verdicts on a network say the same.
-use Rattle.std.proofs.Common.{◌≡◌, ℕ, ◌+◌, ◌<◌, ◌≤◌, ◌⊎◌, List, length, Option, Some, None, refl, sym, ap, ◌∙◌, subst, inl, inr, arith}
+use Rattle.std.proofs.Common.{◌≡◌, ℕ, length, Option, Some, None, sym, ap, ◌∙◌, subst, inl, inr, arith}
 use Rattle.std.specs.Prelude.{slice_get}
 use Rattle.std.proofs.lemmas.Bool.{cases_lt}
 use Rattle.std.proofs.lemmas.List.Elements.{All-contains}
@@ -9,12 +9,10 @@ use Rattle.sw_flow.specs.declared.place.Place.{Place}
 use Rattle.sw_flow.specs.Places.{ends_of, IsPlaceList}
 use Rattle.sw_flow.specs.Faults.{first_fault_of, IsWellRouted}
 use Rattle.sw_flow.proofs.WellRouted.{well_routed_by_list}
-use Rattle.sw_cycle.specs.Cycles.{CycleEntry}
-use Rattle.sw_cert.specs.Text.{Contents}
 use Rattle.sw_check.proofs.Lists.{Contains-at}
 use Rattle.sw_search.specs.declared.verdict.Verdict.TheVariants.{Misrouted, Cyclic, Free}
 use Rattle.sw_search.specs.Laws.{VerdictsAreDetermined}
-use Rattle.sw_search.specs.Verdicts.{AllWellRouted, depends, IsCyclic, IsFree, IsMisrouted}
+use Rattle.sw_search.specs.Verdicts.{AllWellRouted, depends, IsMisrouted}
 use Rattle.sw_search.proofs.Cycles.{same_cycle}
 use Rattle.sw_search.proofs.Levels.{has_cycle, same_levels}
 use Rattle.sw_search.proofs.Sorted.{same_places}

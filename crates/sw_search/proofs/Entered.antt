@@ -1,7 +1,4 @@
 -- Verdicts of what was found.
-use Rattle.std.proofs.Common.{◌≡◌, ℕ, Result, Ok, Err, refl}
-use Rattle.std.specs.Prelude.{IfOk}
-use Rattle.std.specs.declared.alloc.AllocError.{AllocError}
 use Rattle.sw_network.specs.Entries.{Declaration}
 use Rattle.sw_network.specs.Valid.{IsValid}
 use Rattle.sw_search.specs.declared.verdict.Verdict.{Verdict}

@@ -1,9 +1,8 @@
 -- The first fault of a flow.
-use Rattle.std.proofs.Common.{◌≡◌, ℕ, zero, suc, ◌+◌, ◌<◌, ◌≤◌, List, [], ◌∷◌, length, get_or, Option, Some, None, Vec, Global, refl, sym, ap, ◌∙◌, subst, inl, inr, ◌⊎◌, arith, All}
+use Rattle.std.proofs.Common.{◌≡◌, ℕ, ◌+◌, ◌<◌, List, length, get_or, Option, Some, None, Vec, Global, sym, ap, ◌∙◌, subst, inl, inr, arith}
 use Rattle.std.specs.Prelude.{slice_get, IfSome}
 use Rattle.std.proofs.lemmas.Bool.{cases_lt}
-use Rattle.std.proofs.lemmas.Option.{get_or_from_slice_get, slice_get_read}
-use Rattle.std.proofs.lemmas.List.Elements.{All-from_get_or}
+use Rattle.std.proofs.lemmas.Option.{get_or_from_slice_get}
 use Rattle.sw_network.specs.Entries.{FlowEntry, Declaration, all_flows}
 use Rattle.sw_flow.specs.declared.fault.RouteFault.{RouteFault}
 use Rattle.sw_flow.specs.declared.place.Place.{Place}
@@ -11,7 +10,7 @@ use Rattle.sw_flow.specs.Places.{IsPlaceList}
 use Rattle.sw_flow.specs.Faults.{first_fault_of, IsWellRouted}
 use Rattle.sw_flow.proofs.WellRouted.{well_routed_by_list}
 use Rattle.sw_model.proofs.Flows.{some_at}
-use Rattle.sw_search.specs.Lists.{AreListed, IsFaulty, IsFirstFault, IsRouted}
+use Rattle.sw_search.specs.Lists.{AreListed, IsFirstFault, IsRouted}
 use Rattle.sw_search.specs.Verdicts.{AllWellRouted}
 use Rattle.sw_search.proofs.Zips.{zip_here}
 

@@ -1,26 +1,11 @@
 -- What verdicts show.
-use Rattle.std.proofs.Common.{◌≡◌, ℕ, zero, suc, ◌+◌, ◌<◌, ◌≤◌, ◌⊎◌, List, [], ◌∷◌, map, length, get_or, Contains, Option, Some, None, option_map, refl, sym, ap, ◌∙◌, subst, inl, inr, arith}
-use Rattle.std.specs.Prelude.{slice_get, slice_index, unwrap_or}
-use Rattle.std.specs.List.{AllZip}
-use Rattle.std.proofs.lemmas.Option.{slice_get_within}
-use Rattle.sw_network.specs.Entries.{FlowEntry, Declaration, all_flows}
-use Rattle.sw_network.specs.Valid.{IsValid}
-use Rattle.sw_flow.specs.declared.place.Place.{Place}
-use Rattle.sw_flow.specs.Places.{ends_of, IsPlaceList}
-use Rattle.sw_machine.specs.Network as machine_network
-use Rattle.sw_machine.specs.Places as machine
-use Rattle.sw_machine.specs.Places.{IsDependency}
-use Rattle.sw_machine.specs.Places.IsDependency.{ByFlow, ByTarget}
-use Rattle.sw_machine.specs.Certificate.{IsListed, IsAccepted}
-use Rattle.sw_model.specs.Model.{network_of}
-use Rattle.sw_model.proofs.Flows.{some_at}
-use Rattle.sw_model.proofs.Steps.{steps_agree}
+use Rattle.std.proofs.Common.{◌≡◌, ℕ, suc, ◌<◌, List, [], ◌∷◌, length, refl, sym, ◌∙◌, arith}
+use Rattle.std.specs.Prelude.{slice_index}
+use Rattle.sw_network.specs.Entries.{Declaration}
 use Rattle.sw_order.specs.Levels.{Chain, HasCycle, IsLevel, IsLevels}
 use Rattle.sw_order.specs.Cycles.{IsShownCycle}
-use Rattle.sw_cycle.specs.Cycles.{CauseEntry, CycleEntry, IsShown, round}
-use Rattle.sw_check.specs.Contents.{place_of, certificate_of}
+use Rattle.sw_cycle.specs.Cycles.{CycleEntry, IsShown}
 use Rattle.sw_cause.specs.Causes.{AreChosen}
-use Rattle.sw_search.specs.Verdicts.{depends, IsCyclic, IsFree}
 
 -- a shown cycle is a cycle
 pub has_cycle : (dep : ℕ → ℕ → Type 0) (cycle : List ℕ) → IsShownCycle dep cycle → HasCycle dep

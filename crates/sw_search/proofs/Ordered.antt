@@ -1,5 +1,5 @@
 -- What is answered of rows, as an answer on dependencies.
-use Rattle.std.proofs.Common.{◌≡◌, ℕ, ◌<◌, ◌≤◌, List, length, Result, Ok, Err, Vec, Global, subst}
+use Rattle.std.proofs.Common.{ℕ, List, length, Result, Ok, Err, Vec, Global, subst}
 use Rattle.std.specs.Prelude.{IfOk}
 use Rattle.std.specs.declared.alloc.AllocError.{AllocError}
 use Rattle.sw_network.specs.Entries.{Declaration}

@@ -1,13 +1,13 @@
 -- The pairs that rows list.
-use Rattle.std.proofs.Common.{◌≡◌, ◌≢◌, ℕ, zero, suc, ◌+◌, ◌<◌, ◌≤◌, List, [], ◌∷◌, ◌++◌, map, length, get_or, Contains, Vec, Global, refl, sym, ap, ◌∙◌, subst, inl, inr, ◌⊎◌, arith, All}
-use Rattle.std.specs.Prelude.{AllPairs, ◌↔◌, sum}
+use Rattle.std.proofs.Common.{◌≡◌, ◌≢◌, ℕ, zero, suc, ◌+◌, ◌<◌, ◌≤◌, List, [], ◌∷◌, ◌++◌, map, length, get_or, Contains, Vec, Global, refl, sym, ap, ◌∙◌, subst, inl, inr, arith, All}
+use Rattle.std.specs.Prelude.{AllPairs, sum}
 use Rattle.std.specs.List.{AllByRecursion}
 use Rattle.std.proofs.lemmas.Bool.{cases_lt}
 use Rattle.std.proofs.lemmas.List.{length-append, length-map}
 use Rattle.std.proofs.lemmas.List.Sums.{sum_by-append}
-use Rattle.std.proofs.lemmas.List.Elements.{All-get_or, All-head, All-tail, Contains-append_left, Contains-append_right, Contains-append_cases, Contains-get_or}
-use Rattle.sw_flow.proofs.Listed.{Contains-cases, Contains-from_map, Contains-head, Contains-later, Contains-map}
-use Rattle.sw_order.specs.Rows.{row, IsGraph}
+use Rattle.std.proofs.lemmas.List.Elements.{Contains-append_left, Contains-append_right, Contains-append_cases, Contains-get_or}
+use Rattle.sw_flow.proofs.Listed.{Contains-from_map, Contains-head, Contains-later, Contains-map}
+use Rattle.sw_order.specs.Rows.{row}
 use Rattle.sw_order.proofs.Pigeons.{pigeons}
 
 -- ---- no element twice
@@ -110,7 +110,7 @@ once_listed c [] h = tt
 once_listed c (v ∷ rows) h =
     once_append (map (λ x. (c, x)) v.items) (pairs_from (suc c) rows) (once_map (λ x. (c, x)) (λ x y e. ap (λ (q : ℕ × ℕ). q.1) e) v.items (pairs_once v.items h.0)) (once_listed (suc c) rows h.1)
     (λ p l r.
-      let here = Contains-from_map (λ x. (c, x)) v.items p l in
-      let same : c ≡ p.0 = ap (λ (q : ℕ × ℕ). q.0) here.2 in
-      let later = (pair_listed (suc c) rows p r).first in
-      omega arith)
+    let here = Contains-from_map (λ x. (c, x)) v.items p l in
+    let same : c ≡ p.0 = ap (λ (q : ℕ × ℕ). q.0) here.2 in
+    let later = (pair_listed (suc c) rows p r).first in
+    omega arith)

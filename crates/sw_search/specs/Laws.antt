@@ -2,8 +2,6 @@
 use Rattle.std.specs.Prelude.{◌≡◌, ℕ, None}
 use Rattle.sw_network.specs.Entries.{Declaration}
 use Rattle.sw_network.specs.Valid.{IsValid}
-use Rattle.sw_flow.specs.declared.fault.RouteFault.{RouteFault}
-use Rattle.sw_flow.specs.declared.place.Place.{Place}
 use Rattle.sw_machine.specs.Certificate.{IsAccepted}
 use Rattle.sw_machine.specs.Places.{IsRising}
 use Rattle.sw_model.specs.Model.{network_of}
@@ -13,7 +11,7 @@ use Rattle.sw_check.specs.Contents.{certificate_of}
 use Rattle.sw_check.specs.Refusals.{refusal_of}
 use Rattle.sw_search.specs.declared.verdict.Verdict.{Verdict}
 use Rattle.sw_search.specs.declared.verdict.Verdict.TheVariants.{Misrouted, Cyclic, Free}
-use Rattle.sw_search.specs.Verdicts.{IsMisrouted, IsCyclic, IsFree, IsVerdict}
+use Rattle.sw_search.specs.Verdicts.{IsCyclic, IsFree, IsVerdict}
 
 -- Two verdicts say the same: of one kind, with the same flow, place and fault, with cycles of the same channels, or with the same
 -- certificate. Only the places that show a cause may differ.

@@ -9,11 +9,7 @@ use sw_flow::{Place, RouteFault, first_fault};
 use sw_network::Network;
 
 /// The first of the flow's places that has a fault, with it.
-fn fault_of_flow(
-    network: &Network,
-    flow: u16,
-    places: &[Vec<Place>],
-) -> Option<(Place, RouteFault)>
+fn fault_of_flow(network: &Network, flow: u16, places: &[Vec<Place>]) -> Option<(Place, RouteFault)>
     requires lists { AreListed network.now places.now }
     requires inside { flow < length (all_flows network.now) }
     ensures { IsFirstFault network.now flow result }

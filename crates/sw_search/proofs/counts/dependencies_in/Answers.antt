@@ -1,4 +1,4 @@
-use Rattle.std.proofs.Common.{◌≡◌, ◌≤◌, length, arith}
+use Rattle.std.proofs.Common.{◌≤◌, length, arith}
 use Rattle.sw_flow.specs.Places.{ends_of}
 use Rattle.sw_search.proofs.Counted.{dependencies_counted, short_rows}
 use Rattle.sw_search.proofs.counts.dependencies_in.Goals as goal

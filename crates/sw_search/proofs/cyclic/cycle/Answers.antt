@@ -1,5 +1,3 @@
-use Rattle.sw_order.specs.Cycles.{IsShownCycle}
-use Rattle.sw_cause.specs.Causes.{IsRound}
 use Rattle.sw_search.proofs.Rounds.{is_round}
 use Rattle.sw_search.proofs.cyclic.cycle.Goals as goal
 

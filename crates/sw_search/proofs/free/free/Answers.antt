@@ -1,8 +1,6 @@
-use Rattle.std.proofs.Common.{◌≡◌, ◌≤◌, length, map, arith, sym, ◌∙◌, subst, Vec, Global}
-use Rattle.std.specs.List.{AllZip}
+use Rattle.std.proofs.Common.{◌≤◌, length, arith, sym, subst, Vec, Global}
 use Rattle.sw_network.specs.Entries.{FlowEntry, all_flows}
 use Rattle.sw_cert.specs.Reading.{items_of}
-use Rattle.sw_cert.specs.Text.{Contents}
 use Rattle.sw_flow.specs.declared.place.Place.{Place}
 use Rattle.sw_flow.specs.Places.{ends_of, IsPlaceList}
 use Rattle.sw_search.specs.Verdicts.{IsFree}

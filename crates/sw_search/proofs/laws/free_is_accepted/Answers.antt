@@ -1,5 +1,3 @@
-use Rattle.sw_model.specs.Model.{network_of}
-use Rattle.sw_check.specs.Contents.{certificate_of}
 use Rattle.sw_search.proofs.Accepted.{accepted}
 use Rattle.sw_search.proofs.laws.free_is_accepted.Goals as goal
 

@@ -1,4 +1,3 @@
-use Rattle.std.proofs.Common.{◌≤◌, arith}
 use Rattle.sw_search.proofs.Ordered.{carried}
 use Rattle.sw_search.proofs.order.ordered.Goals as goal
 
