@@ -23,4 +23,3 @@ module _ (net : Network) (b : Between) where
     wire = λ k lk. ap (λ (f : ℕ → List NChar). f k) wire ∙ is.wire k lk;
     fcts = λ k lk. ap (λ (f : ℕ → ℕ). f k) fcts ∙ put_set net.channels s.fcts b.fcts 0 c w v (let e = is.all_fcts in omega arith) is.fcts same k lk;
   }
-

@@ -100,23 +100,26 @@ module _ {R A : Type 0} (answer : R → ℕ → Look) (arbiter_ports : A → ℕ
         let o = is.part.ports c p at in
         let t = after_drop_marker s c rest in
         let r = rest_at answer arbiter_ports d w cell for p in
-        let new = end_here answer arbiter_ports d w cell for p r lp in
-        (t, h, record {
-          reached = reached_more (network_of d) s t (Drop c) is.reached h;
-          part = record {
-            credit = is.part.credit;
-            ports = ports_change d for.valid w cell (without_front cell p) s t c p at
-                (record { buffer = λ k ne. put_there s.buffer c rest k ne; outstanding = λ k ne. refl; input = λ k ne. refl })
-                (record { end = λ q ne. end_other answer arbiter_ports d w cell for p q r ne; input = λ q ne. refl })
-                (record {
-                  buffer = put_here s.buffer c rest ∙ e ∙ sym (ap (λ (x : Received). x.buffer) new);
-                  outstanding = o.outstanding ∙ sym (ap (λ (x : Received). x.outstanding) new);
-                  input = o.input;
-                })
-                is.part.ports;
-          };
-          between = record { all_wires = is.between.all_wires; all_fcts = is.between.all_fcts; wire = is.between.wire; fcts = is.between.fcts };
-        })
+        let new = end_here answer arbiter_ports d w cell for p r lp in (
+          t,
+          h,
+          record {
+            reached = reached_more (network_of d) s t (Drop c) is.reached h;
+            part = record {
+              credit = is.part.credit;
+              ports = ports_change d for.valid w cell (without_front cell p) s t c p at
+                  (record { buffer = λ k ne. put_there s.buffer c rest k ne; outstanding = λ k ne. refl; input = λ k ne. refl })
+                  (record { end = λ q ne. end_other answer arbiter_ports d w cell for p q r ne; input = λ q ne. refl })
+                  (record {
+                    buffer = put_here s.buffer c rest ∙ e ∙ sym (ap (λ (x : Received). x.buffer) new);
+                    outstanding = o.outstanding ∙ sym (ap (λ (x : Received). x.outstanding) new);
+                    input = o.input;
+                  })
+                  is.part.ports;
+            };
+            between = record { all_wires = is.between.all_wires; all_fcts = is.between.all_fcts; wire = is.between.wire; fcts = is.between.fcts };
+          },
+        )
 
     drop_by : (c p : ℕ) (x : NChar) → end_of d c ≡ Some (Switch w p) → input_at cell p ≡ ports.Idle → IsDropped answer cell.routes cell.linked (Some x) → front_at cell p ≡ Some x → SwitchMakes d w cell b (Drop c) true (dropped_by cell p x) b
     drop_by c p (Data byte) at idle none front s is =
@@ -125,19 +128,22 @@ module _ {R A : Type 0} (answer : R → ℕ → Look) (arbiter_ports : A → ℕ
         let o = is.part.ports c p at in
         let t = after_drop_byte s c in
         let h : Leads net s (Drop c) t = record { in_net = within d for.valid c w p at; switch = w; at = ends_at d c w p at; idle = o.input ∙ ap (input_of (ends_of d) w) idle; first = Data byte; rest = drop 1 (end_at cell p).buffer; front = o.buffer ∙ front_is (end_at cell p).buffer (Data byte) front; after = (goes_nowhere byte none, refl) } in
-        let new = input_here answer arbiter_ports d w cell for p ports.Spilling lp in
-        (t, h, record {
-          reached = reached_more net s t (Drop c) is.reached h;
-          part = record {
-            credit = is.part.credit;
-            ports = ports_change d for.valid w cell (with_input cell p ports.Spilling) s t c p at
-                (record { buffer = λ k ne. refl; outstanding = λ k ne. refl; input = λ k ne. put_there s.input c Spilling k ne })
-                (record { end = λ q ne. refl; input = λ q ne. input_other answer arbiter_ports d w cell for p q ports.Spilling ne })
-                (record { buffer = o.buffer; outstanding = o.outstanding; input = put_here s.input c Spilling ∙ sym (ap (input_of (ends_of d) w) new) })
-                is.part.ports;
-          };
-          between = record { all_wires = is.between.all_wires; all_fcts = is.between.all_fcts; wire = is.between.wire; fcts = is.between.fcts };
-        })
+        let new = input_here answer arbiter_ports d w cell for p ports.Spilling lp in (
+          t,
+          h,
+          record {
+            reached = reached_more net s t (Drop c) is.reached h;
+            part = record {
+              credit = is.part.credit;
+              ports = ports_change d for.valid w cell (with_input cell p ports.Spilling) s t c p at
+                  (record { buffer = λ k ne. refl; outstanding = λ k ne. refl; input = λ k ne. put_there s.input c Spilling k ne })
+                  (record { end = λ q ne. refl; input = λ q ne. input_other answer arbiter_ports d w cell for p q ports.Spilling ne })
+                  (record { buffer = o.buffer; outstanding = o.outstanding; input = put_here s.input c Spilling ∙ sym (ap (input_of (ends_of d) w) new) })
+                  is.part.ports;
+            };
+            between = record { all_wires = is.between.all_wires; all_fcts = is.between.all_fcts; wire = is.between.wire; fcts = is.between.fcts };
+          },
+        )
     drop_by c p Eop at idle none front s is =
         let o = is.part.ports c p at in
         let rest = drop 1 (end_at cell p).buffer in
@@ -159,13 +165,16 @@ module _ {R A : Type 0} (answer : R → ℕ → Look) (arbiter_ports : A → ℕ
     is_dropped s c v Eep rest t e drops = tt
 
     pub drop_not : (c p : ℕ) → end_of d c ≡ Some (Switch w p) → (CanDrop answer cell p → ⊥) → SwitchMakes d w cell b (Drop c) false cell b
-    drop_not c p at never =
-        (λ s is q.
-        let h = q.1 in
-        let o = is.part.ports c p at in
-        let same = switch_is h.switch w (sym h.at ∙ ends_at d c w p at) in
-        let front = front_of (end_at cell p).buffer h.first h.rest (sym o.buffer ∙ h.front) in
-        never (record {
-          idle = was_idle (ends_of d) w (input_at cell p) (sym o.input ∙ h.idle);
-          dropped = subst (IsDropped answer cell.routes cell.linked) (sym front) (is_dropped s c h.switch h.first h.rest q.0 same h.after);
-        }), refl, refl)
+    drop_not c p at never = (
+      λ s is q.
+          let h = q.1 in
+          let o = is.part.ports c p at in
+          let same = switch_is h.switch w (sym h.at ∙ ends_at d c w p at) in
+          let front = front_of (end_at cell p).buffer h.first h.rest (sym o.buffer ∙ h.front) in
+          never (record {
+            idle = was_idle (ends_of d) w (input_at cell p) (sym o.input ∙ h.idle);
+            dropped = subst (IsDropped answer cell.routes cell.linked) (sym front) (is_dropped s c h.switch h.first h.rest q.0 same h.after);
+          }),
+      refl,
+      refl,
+    )

@@ -120,45 +120,51 @@ module _ {R A : Type 0} (answer : R → ℕ → Look) (arbiter_ports : A → ℕ
         let t = after_grant s o c rest in
         let r = rest_at answer arbiter_ports d w cell for p in
         let new = end_here answer arbiter_ports d w cell for p r lp in
-        let goes = port_found (wiring_of d) for.valid.sound w out o at_o in
-        (t, leads, record {
-          reached = reached_more (network_of d) s t (Grant o c) is.reached leads;
-          part = record {
-            credit = is.part.credit;
-            ports = ports_change d for.valid w cell (granted_by cell out p true) s t c p at
-                (record { buffer = λ k ne. put_there s.buffer c rest k ne; outstanding = λ k ne. refl; input = λ k ne. put_there s.input c (Held o) k ne })
-                (record { end = λ q ne. end_other answer arbiter_ports d w cell for p q r ne; input = λ q ne. input_other answer arbiter_ports d w cell for p q (ports.Held out) ne })
-                (record {
-                  buffer = put_here s.buffer c rest ∙ sym (ap (λ (x : Received). x.buffer) new);
-                  outstanding = i.outstanding ∙ sym (ap (λ (x : Received). x.outstanding) new);
-                  input = put_here s.input c (Held o) ∙ sym (ap (λ z. Held (unwrap_or z 0)) goes) ∙ sym (ap (input_of (ends_of d) w) (input_here answer arbiter_ports d w cell for p (ports.Held out) lp));
-                })
-                is.part.ports;
-          };
-          between = record { all_wires = is.between.all_wires; all_fcts = is.between.all_fcts; wire = is.between.wire; fcts = is.between.fcts };
-        })
+        let goes = port_found (wiring_of d) for.valid.sound w out o at_o in (
+          t,
+          leads,
+          record {
+            reached = reached_more (network_of d) s t (Grant o c) is.reached leads;
+            part = record {
+              credit = is.part.credit;
+              ports = ports_change d for.valid w cell (granted_by cell out p true) s t c p at
+                  (record { buffer = λ k ne. put_there s.buffer c rest k ne; outstanding = λ k ne. refl; input = λ k ne. put_there s.input c (Held o) k ne })
+                  (record { end = λ q ne. end_other answer arbiter_ports d w cell for p q r ne; input = λ q ne. input_other answer arbiter_ports d w cell for p q (ports.Held out) ne })
+                  (record {
+                    buffer = put_here s.buffer c rest ∙ sym (ap (λ (x : Received). x.buffer) new);
+                    outstanding = i.outstanding ∙ sym (ap (λ (x : Received). x.outstanding) new);
+                    input = put_here s.input c (Held o) ∙ sym (ap (λ z. Held (unwrap_or z 0)) goes) ∙ sym (ap (input_of (ends_of d) w) (input_here answer arbiter_ports d w cell for p (ports.Held out) lp));
+                  })
+                  is.part.ports;
+            };
+            between = record { all_wires = is.between.all_wires; all_fcts = is.between.all_fcts; wire = is.between.wire; fcts = is.between.fcts };
+          },
+        )
     grant_part c p o out h s false at at_o is front leads =
         let lp = port_small d for.valid (partner c) w p at in
         let i = is.part.ports c p at in
         let whole = Data h ∷ drop 1 (end_at cell p).buffer in
         let t = after_grant s o c whole in
-        let goes = port_found (wiring_of d) for.valid.sound w out o at_o in
-        (t, leads, record {
-          reached = reached_more (network_of d) s t (Grant o c) is.reached leads;
-          part = record {
-            credit = is.part.credit;
-            ports = ports_change d for.valid w cell (granted_by cell out p false) s t c p at
-                (record { buffer = λ k ne. put_there s.buffer c whole k ne; outstanding = λ k ne. refl; input = λ k ne. put_there s.input c (Held o) k ne })
-                (record { end = λ q ne. refl; input = λ q ne. input_other answer arbiter_ports d w cell for p q (ports.Held out) ne })
-                (record {
-                  buffer = put_here s.buffer c whole ∙ sym (front_is (end_at cell p).buffer (Data h) front);
-                  outstanding = i.outstanding;
-                  input = put_here s.input c (Held o) ∙ sym (ap (λ z. Held (unwrap_or z 0)) goes) ∙ sym (ap (input_of (ends_of d) w) (input_here answer arbiter_ports d w cell for p (ports.Held out) lp));
-                })
-                is.part.ports;
-          };
-          between = record { all_wires = is.between.all_wires; all_fcts = is.between.all_fcts; wire = is.between.wire; fcts = is.between.fcts };
-        })
+        let goes = port_found (wiring_of d) for.valid.sound w out o at_o in (
+          t,
+          leads,
+          record {
+            reached = reached_more (network_of d) s t (Grant o c) is.reached leads;
+            part = record {
+              credit = is.part.credit;
+              ports = ports_change d for.valid w cell (granted_by cell out p false) s t c p at
+                  (record { buffer = λ k ne. put_there s.buffer c whole k ne; outstanding = λ k ne. refl; input = λ k ne. put_there s.input c (Held o) k ne })
+                  (record { end = λ q ne. refl; input = λ q ne. input_other answer arbiter_ports d w cell for p q (ports.Held out) ne })
+                  (record {
+                    buffer = put_here s.buffer c whole ∙ sym (front_is (end_at cell p).buffer (Data h) front);
+                    outstanding = i.outstanding;
+                    input = put_here s.input c (Held o) ∙ sym (ap (λ z. Held (unwrap_or z 0)) goes) ∙ sym (ap (input_of (ends_of d) w) (input_here answer arbiter_ports d w cell for p (ports.Held out) lp));
+                  })
+                  is.part.ports;
+            };
+            between = record { all_wires = is.between.all_wires; all_fcts = is.between.all_fcts; wire = is.between.wire; fcts = is.between.fcts };
+          },
+        )
 
     pub grant_made : (c p o out : ℕ) → end_of d c ≡ Some (Switch w p) → slice_get (ends_of d) o ≡ Some (Switch w out) → CanGrant answer cell out p → SwitchMakes d w cell b (Grant o c) true (granted_to answer cell out p) b
     grant_made c p o out at at_o can s is =
@@ -187,47 +193,53 @@ module _ {R A : Type 0} (answer : R → ℕ → Look) (arbiter_ports : A → ℕ
         (grant_part c p o out h s v at at_o is byte.1 leads)
 
     pub grant_not : (c p o out : ℕ) → end_of d c ≡ Some (Switch w p) → slice_get (ends_of d) o ≡ Some (Switch w out) → (CanGrant answer cell out p → ⊥) → SwitchMakes d w cell b (Grant o c) false cell b
-    grant_not c p o out at at_o never =
-        (λ s is q.
-        let h = q.1 in
-        let i = is.part.ports c p at in
-        let goes = port_found (wiring_of d) for.valid.sound w out o at_o in
-        let same = switch_is h.switch w (sym h.at ∙ ends_at d c w p at) in
-        let front = front_of (end_at cell p).buffer (Data h.h) h.rest (sym i.buffer ∙ h.front) in
-        let look = look_at d.switches w h.h in
-        let n = (outputs_are (ends_of d) w look o).0 (rw (← looks_are d w h.h) (subst (λ k. Contains ((network_of d).look k h.h) o) same h.named)) in
-        let port = same_port o out n.port at_o (port_starts (wiring_of d) w n.port o n.linked) in
-        let named = subst (λ k. IsBitSet look.ports k) port n.named in
-        let free : is_held cell out ≡ false = ⊎_elim
-            (λ yes.
-            let held = held_at out cell.inputs yes in
-            let there = some_of (out_of (ends_of d) w held.0) ((for.linked held.0).0 (for.held held.0 out held.1).0) in
-            let starts = port_starts (wiring_of d) w held.0 there.0 there.1 in
-            let ends : end_of d (partner there.0) ≡ Some (Switch w held.0) = ap (slice_get (ends_of d)) (partner_back there.0) ∙ starts in
-            let j = is.part.ports (partner there.0) held.0 ends in
-            absurd (h.not_held (partner there.0) (within d for.valid (partner there.0) w held.0 ends) (j.input ∙ ap (input_of (ends_of d) w) held.1 ∙ ap (λ z. Held (unwrap_or z 0)) goes)))
-            (λ none. none)
-            (cases_Bool (is_held cell out)) in
-        never (record {
-          linked = (for.linked out).1 (rw goes refl);
-          free = free;
-          asks = record {
-            linked = is_linked answer arbiter_ports d w cell for c p at;
-            idle = was_idle (ends_of d) w (input_at cell p) (sym i.input ∙ h.idle);
-            names = subst (λ k. Names answer cell.routes k out) (sym front) (subst (λ (l : Look). IsBitSet l.ports out) (sym (for.routes h.h)) named);
-          };
-        }), refl, refl)
+    grant_not c p o out at at_o never = (
+      λ s is q.
+          let h = q.1 in
+          let i = is.part.ports c p at in
+          let goes = port_found (wiring_of d) for.valid.sound w out o at_o in
+          let same = switch_is h.switch w (sym h.at ∙ ends_at d c w p at) in
+          let front = front_of (end_at cell p).buffer (Data h.h) h.rest (sym i.buffer ∙ h.front) in
+          let look = look_at d.switches w h.h in
+          let n = (outputs_are (ends_of d) w look o).0 (rw (← looks_are d w h.h) (subst (λ k. Contains ((network_of d).look k h.h) o) same h.named)) in
+          let port = same_port o out n.port at_o (port_starts (wiring_of d) w n.port o n.linked) in
+          let named = subst (λ k. IsBitSet look.ports k) port n.named in
+          let free : is_held cell out ≡ false = ⊎_elim
+          (λ yes.
+          let held = held_at out cell.inputs yes in
+          let there = some_of (out_of (ends_of d) w held.0) ((for.linked held.0).0 (for.held held.0 out held.1).0) in
+          let starts = port_starts (wiring_of d) w held.0 there.0 there.1 in
+          let ends : end_of d (partner there.0) ≡ Some (Switch w held.0) = ap (slice_get (ends_of d)) (partner_back there.0) ∙ starts in
+          let j = is.part.ports (partner there.0) held.0 ends in
+          absurd (h.not_held (partner there.0) (within d for.valid (partner there.0) w held.0 ends) (j.input ∙ ap (input_of (ends_of d) w) held.1 ∙ ap (λ z. Held (unwrap_or z 0)) goes)))
+          (λ none. none)
+          (cases_Bool (is_held cell out)) in
+          never (record {
+            linked = (for.linked out).1 (rw goes refl);
+            free = free;
+            asks = record {
+              linked = is_linked answer arbiter_ports d w cell for c p at;
+              idle = was_idle (ends_of d) w (input_at cell p) (sym i.input ∙ h.idle);
+              names = subst (λ k. Names answer cell.routes k out) (sym front) (subst (λ (l : Look). IsBitSet l.ports out) (sym (for.routes h.h)) named);
+            };
+          }),
+      refl,
+      refl,
+    )
 
     pub grant_elsewhere : (c p o : ℕ) → end_of d c ≡ Some (Switch w p) → port_at w (slice_get (ends_of d) o) ≡ None → SwitchMakes d w cell b (Grant o c) false cell b
-    grant_elsewhere c p o at none =
-        (λ s is q.
-        let h = q.1 in
-        let same = switch_is h.switch w (sym h.at ∙ ends_at d c w p at) in
-        let look = look_at d.switches w h.h in
-        let n = (outputs_are (ends_of d) w look o).0 (rw (← looks_are d w h.h) (subst (λ k. Contains ((network_of d).look k h.h) o) same h.named)) in
-        let found : port_at w (slice_get (ends_of d) o) ≡ Some n.port = rw (port_starts (wiring_of d) w n.port o n.linked, eq-eqb w w refl) refl in
-        let bad : None ≡ Some n.port = sym none ∙ found in
-        cc, refl, refl)
+    grant_elsewhere c p o at none = (
+      λ s is q.
+          let h = q.1 in
+          let same = switch_is h.switch w (sym h.at ∙ ends_at d c w p at) in
+          let look = look_at d.switches w h.h in
+          let n = (outputs_are (ends_of d) w look o).0 (rw (← looks_are d w h.h) (subst (λ k. Contains ((network_of d).look k h.h) o) same h.named)) in
+          let found : port_at w (slice_get (ends_of d) o) ≡ Some n.port = rw (port_starts (wiring_of d) w n.port o n.linked, eq-eqb w w refl) refl in
+          let bad : None ≡ Some n.port = sym none ∙ found in
+          cc,
+      refl,
+      refl,
+    )
 
 -- a channel that is found at a port starts there
 pub found_at : (w p : ℕ) (o : Option PlaceEnd) → port_at w o ≡ Some p → o ≡ Some (Switch w p)

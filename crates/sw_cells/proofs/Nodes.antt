@@ -92,31 +92,37 @@ module _ (net : Network) (ok : IsNetwork net) (n : ℕ) (in_net : n < net.nodes)
       let room = r.room in
       let e = p.outstanding in
       let l = ap length p.buffer in
-      let h : Leads net s (Fct i) (after_fct s i) = record { in_net = li; room = omega arith; few = omega arith; after = refl } in
-      (after_fct s i, h, record {
-        reached = reached_more net s (after_fct s i) (Fct i) is.reached h;
-        part = record {
-          credit = p.credit;
-          buffer = p.buffer;
-          outstanding = put_here s.outstanding i (s.outstanding i + 8) ∙ ap (λ k. k + 8) e;
-          to_send = p.to_send;
-          pending = p.pending;
-          owed = p.owed;
-          taken = p.taken;
-          memory = p.memory;
-        };
-        between = fcts_put net b s (after_fct s i) i (s.fcts i + 1) (fcts_at b i + 1) li (ap (λ k. k + 1) (is.between.fcts i li)) refl refl is.between;
-      })
+      let h : Leads net s (Fct i) (after_fct s i) = record { in_net = li; room = omega arith; few = omega arith; after = refl } in (
+        after_fct s i,
+        h,
+        record {
+          reached = reached_more net s (after_fct s i) (Fct i) is.reached h;
+          part = record {
+            credit = p.credit;
+            buffer = p.buffer;
+            outstanding = put_here s.outstanding i (s.outstanding i + 8) ∙ ap (λ k. k + 8) e;
+            to_send = p.to_send;
+            pending = p.pending;
+            owed = p.owed;
+            taken = p.taken;
+            memory = p.memory;
+          };
+          between = fcts_put net b s (after_fct s i) i (s.fcts i + 1) (fcts_at b i + 1) li (ap (λ k. k + 1) (is.between.fcts i li)) refl refl is.between;
+        },
+      )
 
   pub fct_not : net.capacity (net.into n) ≡ node.received.capacity → (CanIssue node → ⊥) → NodeMakes net n node b (Fct (net.into n)) false node b
-  fct_not capacity never =
-      (λ s is p.
-      let h = p.1 in
-      let e = is.part.outstanding in
-      let l = ap length is.part.buffer in
-      let room = h.room in
-      let few = h.few in
-      never (record { room = room_issues node.received (record { room = omega arith; few = omega arith }) }), refl, refl)
+  fct_not capacity never = (
+    λ s is p.
+        let h = p.1 in
+        let e = is.part.outstanding in
+        let l = ap length is.part.buffer in
+        let room = h.room in
+        let few = h.few in
+        never (record { room = room_issues node.received (record { room = omega arith; few = omega arith }) }),
+    refl,
+    refl,
+  )
 
   pub fct_few : HasNodeState net n node b → CanIssue node → fcts_at b (net.into n) ≤ 6
   fct_few has can = ∥∥₁_elim has le_prop (λ k.
@@ -134,21 +140,24 @@ module _ (net : Network) (ok : IsNetwork net) (n : ℕ) (in_net : n < net.nodes)
       let o = net.out n in
       let p = is.part in
       let f = is.between.fcts o lo in
-      let h : Leads net s (FctIn o) (after_fct_in s o (fcts_at b o - 1)) = record { in_net = lo; remaining = fcts_at b o - 1; under_way = omega arith; after = refl } in
-      (after_fct_in s o (fcts_at b o - 1), h, record {
-        reached = reached_more net s (after_fct_in s o (fcts_at b o - 1)) (FctIn o) is.reached h;
-        part = record {
-          credit = put_here s.credit o (s.credit o + 8) ∙ ap (λ k. k + 8) p.credit;
-          buffer = p.buffer;
-          outstanding = p.outstanding;
-          to_send = p.to_send;
-          pending = p.pending;
-          owed = p.owed;
-          taken = p.taken;
-          memory = p.memory;
-        };
-        between = fcts_put net b s (after_fct_in s o (fcts_at b o - 1)) o (fcts_at b o - 1) (fcts_at b o - 1) lo refl refl refl is.between;
-      })
+      let h : Leads net s (FctIn o) (after_fct_in s o (fcts_at b o - 1)) = record { in_net = lo; remaining = fcts_at b o - 1; under_way = omega arith; after = refl } in (
+        after_fct_in s o (fcts_at b o - 1),
+        h,
+        record {
+          reached = reached_more net s (after_fct_in s o (fcts_at b o - 1)) (FctIn o) is.reached h;
+          part = record {
+            credit = put_here s.credit o (s.credit o + 8) ∙ ap (λ k. k + 8) p.credit;
+            buffer = p.buffer;
+            outstanding = p.outstanding;
+            to_send = p.to_send;
+            pending = p.pending;
+            owed = p.owed;
+            taken = p.taken;
+            memory = p.memory;
+          };
+          between = fcts_put net b s (after_fct_in s o (fcts_at b o - 1)) o (fcts_at b o - 1) (fcts_at b o - 1) lo refl refl refl is.between;
+        },
+      )
 
   pub fct_in_not : fcts_at b (net.out n) ≤ 0 → NodeMakes net n node b (FctIn (net.out n)) false node b
   fct_in_not none = (λ s is p. let h = p.1 in let u = h.under_way in let f = is.between.fcts (net.out n) lo in omega arith, refl, refl)
@@ -171,21 +180,24 @@ module _ (net : Network) (ok : IsNetwork net) (n : ℕ) (in_net : n < net.nodes)
       let i = net.into n in
       let p = is.part in
       let rest = drop 1 (wire_at b i) in
-      let h : Leads net s (Arrive i) (after_arrive s i x rest) = record { in_net = li; first = x; rest = rest; on_wire = is.between.wire i li ∙ front_is (wire_at b i) x front; after = refl } in
-      (after_arrive s i x rest, h, record {
-        reached = reached_more net s (after_arrive s i x rest) (Arrive i) is.reached h;
-        part = record {
-          credit = p.credit;
-          buffer = put_here s.buffer i (s.buffer i ++ x ∷ []) ∙ ap (λ (l : List NChar). l ++ x ∷ []) p.buffer;
-          outstanding = put_here s.outstanding i (s.outstanding i - 1) ∙ ap (λ k. k - 1) p.outstanding;
-          to_send = p.to_send;
-          pending = p.pending;
-          owed = p.owed;
-          taken = p.taken;
-          memory = p.memory;
-        };
-        between = wires_put net b s (after_arrive s i x rest) i rest rest li refl refl refl is.between;
-      })
+      let h : Leads net s (Arrive i) (after_arrive s i x rest) = record { in_net = li; first = x; rest = rest; on_wire = is.between.wire i li ∙ front_is (wire_at b i) x front; after = refl } in (
+        after_arrive s i x rest,
+        h,
+        record {
+          reached = reached_more net s (after_arrive s i x rest) (Arrive i) is.reached h;
+          part = record {
+            credit = p.credit;
+            buffer = put_here s.buffer i (s.buffer i ++ x ∷ []) ∙ ap (λ (l : List NChar). l ++ x ∷ []) p.buffer;
+            outstanding = put_here s.outstanding i (s.outstanding i - 1) ∙ ap (λ k. k - 1) p.outstanding;
+            to_send = p.to_send;
+            pending = p.pending;
+            owed = p.owed;
+            taken = p.taken;
+            memory = p.memory;
+          };
+          between = wires_put net b s (after_arrive s i x rest) i rest rest li refl refl refl is.between;
+        },
+      )
 
   pub arrive_not : slice_get (wire_at b (net.into n)) 0 ≡ None → NodeMakes net n node b (Arrive (net.into n)) false node b
   arrive_not none = (λ s is p. let h = p.1 in let f = front_of (wire_at b (net.into n)) h.first h.rest (sym (is.between.wire (net.into n) li) ∙ h.on_wire) in cc, refl, refl)
@@ -210,29 +222,35 @@ module _ (net : Network) (ok : IsNetwork net) (n : ℕ) (in_net : n < net.nodes)
       let some = can.has_credit in
       let e = p.credit in
       let h : Leads net s (Emit n) (after_emit net s n x rest (node.credit - 1)) =
-          record { in_net = in_net; first = x; rest = rest; sending = p.to_send ∙ front_is node.to_send x front; remaining = node.credit - 1; credit = omega arith; after = refl } in
-      (after_emit net s n x rest (node.credit - 1), h, record {
-        reached = reached_more net s (after_emit net s n x rest (node.credit - 1)) (Emit n) is.reached h;
-        part = record {
-          credit = put_here s.credit o (node.credit - 1);
-          buffer = p.buffer;
-          outstanding = p.outstanding;
-          to_send = put_here s.to_send n rest;
-          pending = p.pending;
-          owed = put_here s.owed n (owed_after rest (s.pending n) (s.owed n)) ∙ ap₂ (owed_after rest) p.pending p.owed;
-          taken = p.taken;
-          memory = p.memory;
-        };
-        between = wires_put net b s (after_emit net s n x rest (node.credit - 1)) o (s.wire o ++ x ∷ []) (wire_at b o ++ x ∷ []) lo (ap (λ (l : List NChar). l ++ x ∷ []) (is.between.wire o lo)) refl refl is.between;
-      })
+      record { in_net = in_net; first = x; rest = rest; sending = p.to_send ∙ front_is node.to_send x front; remaining = node.credit - 1; credit = omega arith; after = refl } in (
+        after_emit net s n x rest (node.credit - 1),
+        h,
+        record {
+          reached = reached_more net s (after_emit net s n x rest (node.credit - 1)) (Emit n) is.reached h;
+          part = record {
+            credit = put_here s.credit o (node.credit - 1);
+            buffer = p.buffer;
+            outstanding = p.outstanding;
+            to_send = put_here s.to_send n rest;
+            pending = p.pending;
+            owed = put_here s.owed n (owed_after rest (s.pending n) (s.owed n)) ∙ ap₂ (owed_after rest) p.pending p.owed;
+            taken = p.taken;
+            memory = p.memory;
+          };
+          between = wires_put net b s (after_emit net s n x rest (node.credit - 1)) o (s.wire o ++ x ∷ []) (wire_at b o ++ x ∷ []) lo (ap (λ (l : List NChar). l ++ x ∷ []) (is.between.wire o lo)) refl refl is.between;
+        },
+      )
 
   pub emit_not : (CanEmit node → ⊥) → NodeMakes net n node b (Emit n) false node b
-  emit_not never =
-      (λ s is p.
-      let h = p.1 in
-      let l = ap length (sym is.part.to_send ∙ h.sending) in
-      let e = sym is.part.credit ∙ h.credit in
-      never (record { sending = omega arith; has_credit = omega arith }), refl, refl)
+  emit_not never = (
+    λ s is p.
+        let h = p.1 in
+        let l = ap length (sym is.part.to_send ∙ h.sending) in
+        let e = sym is.part.credit ∙ h.credit in
+        never (record { sending = omega arith; has_credit = omega arith }),
+    refl,
+    refl,
+  )
 
   pub emit_room : HasNodeState net n node b → CanEmit node → length (wire_at b (net.out n)) < 56
   emit_room has can = ∥∥₁_elim has le_prop (λ k.
@@ -245,7 +263,6 @@ module _ (net : Network) (ok : IsNetwork net) (n : ℕ) (in_net : n < net.nodes)
       let w = ap length (is.between.wire (net.out n) lo) in
       omega arith)
 
-
 -- a part that only one cell changes
 module _ (net : Network) (n : ℕ) (in_net : n < net.nodes) (node : Node) (b : Between) where
   -- ---- replies
@@ -255,28 +272,34 @@ module _ (net : Network) (n : ℕ) (in_net : n < net.nodes) (node : Node) (b : B
       let p = is.part in
       let r = some_first node.pending can.waits in
       let others = drop 1 node.pending in
-      let h : Leads net s (Reply n) (after_reply s n r.0 others) = record { in_net = in_net; reply = r.0; others = others; waits = p.pending ∙ r.1; sends_nothing = p.to_send ∙ can.sends_nothing; after = refl } in
-      (after_reply s n r.0 others, h, record {
-        reached = reached_more net s (after_reply s n r.0 others) (Reply n) is.reached h;
-        part = record {
-          credit = p.credit;
-          buffer = p.buffer;
-          outstanding = p.outstanding;
-          to_send = put_here s.to_send n (reply_packet r.0) ∙ sym (ap first_reply r.1);
-          pending = put_here s.pending n others;
-          owed = p.owed;
-          taken = p.taken;
-          memory = p.memory;
-        };
-        between = record { all_wires = is.between.all_wires; all_fcts = is.between.all_fcts; wire = is.between.wire; fcts = is.between.fcts };
-      })
+      let h : Leads net s (Reply n) (after_reply s n r.0 others) = record { in_net = in_net; reply = r.0; others = others; waits = p.pending ∙ r.1; sends_nothing = p.to_send ∙ can.sends_nothing; after = refl } in (
+        after_reply s n r.0 others,
+        h,
+        record {
+          reached = reached_more net s (after_reply s n r.0 others) (Reply n) is.reached h;
+          part = record {
+            credit = p.credit;
+            buffer = p.buffer;
+            outstanding = p.outstanding;
+            to_send = put_here s.to_send n (reply_packet r.0) ∙ sym (ap first_reply r.1);
+            pending = put_here s.pending n others;
+            owed = p.owed;
+            taken = p.taken;
+            memory = p.memory;
+          };
+          between = record { all_wires = is.between.all_wires; all_fcts = is.between.all_fcts; wire = is.between.wire; fcts = is.between.fcts };
+        },
+      )
 
   pub reply_not : (CanReply node → ⊥) → NodeMakes net n node b (Reply n) false node b
-  reply_not never =
-      (λ s is p.
-      let h = p.1 in
-      let l = ap length (sym is.part.pending ∙ h.waits) in
-      never (record { waits = omega arith; sends_nothing = sym is.part.to_send ∙ h.sends_nothing }), refl, refl)
+  reply_not never = (
+    λ s is p.
+        let h = p.1 in
+        let l = ap length (sym is.part.pending ∙ h.waits) in
+        never (record { waits = omega arith; sends_nothing = sym is.part.to_send ∙ h.sends_nothing }),
+    refl,
+    refl,
+  )
 
   -- ---- taking
 
@@ -324,12 +347,15 @@ module _ (net : Network) (n : ℕ) (in_net : n < net.nodes) (node : Node) (b : B
       let less = can.owes_less in
       let f = same.slots_are in
       let h : Leads net s (Accept n) (after_accept net s n node.bytes x rest) =
-          record { in_net = in_net; owes_less = omega arith; first = x; rest = rest; front = p.buffer ∙ front_is node.received.buffer x front; packets = node.packets; bytes = node.bytes; cut = p.taken; after = refl } in
-      (after_accept net s n node.bytes x rest, h, record {
-        reached = reached_more net s (after_accept net s n node.bytes x rest) (Accept n) is.reached h;
-        part = took_part same s x p;
-        between = record { all_wires = is.between.all_wires; all_fcts = is.between.all_fcts; wire = is.between.wire; fcts = is.between.fcts };
-      })
+      record { in_net = in_net; owes_less = omega arith; first = x; rest = rest; front = p.buffer ∙ front_is node.received.buffer x front; packets = node.packets; bytes = node.bytes; cut = p.taken; after = refl } in (
+        after_accept net s n node.bytes x rest,
+        h,
+        record {
+          reached = reached_more net s (after_accept net s n node.bytes x rest) (Accept n) is.reached h;
+          part = took_part same s x p;
+          between = record { all_wires = is.between.all_wires; all_fcts = is.between.all_fcts; wire = is.between.wire; fcts = is.between.fcts };
+        },
+      )
 
   pub accept_made : AnswersAs net n node → CanAccept node → NodeMakes net n node b (Accept n) true (accepted node) b
   accept_made same can =
@@ -338,14 +364,17 @@ module _ (net : Network) (n : ℕ) (in_net : n < net.nodes) (node : Node) (b : B
       subst (λ (o : Option NChar). NodeMakes net n node b (Accept n) true (without_front (took node o)) b) (sym front) (took_made same first.0 can front)
 
   pub accept_not : AnswersAs net n node → (CanAccept node → ⊥) → NodeMakes net n node b (Accept n) false node b
-  accept_not same never =
-      (λ s is p.
-      let h = p.1 in
-      let l = ap length (sym is.part.buffer ∙ h.front) in
-      let less = h.owes_less in
-      let e = is.part.owed in
-      let f = same.slots_are in
-      never (record { owes_less = omega arith; not_empty = omega arith }), refl, refl)
+  accept_not same never = (
+    λ s is p.
+        let h = p.1 in
+        let l = ap length (sym is.part.buffer ∙ h.front) in
+        let less = h.owes_less in
+        let e = is.part.owed in
+        let f = same.slots_are in
+        never (record { owes_less = omega arith; not_empty = omega arith }),
+    refl,
+    refl,
+  )
 
 -- the same of values that are known to be equal
 pub made_as : (net : Network) (n : ℕ) (node : Node) (b : Between) (step : Step) (made : Bool) (x y : Node) (v w : Between) → y ≡ x → w ≡ v → NodeMakes net n node b step made x v → NodeMakes net n node b step made y w

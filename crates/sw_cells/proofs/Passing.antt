@@ -64,7 +64,6 @@ module _ {R A : Type 0} where
   passed_by cell p Eop = with_input (without_front cell p) p ports.Idle
   passed_by cell p Eep = with_input (without_front cell p) p ports.Idle
 
-
   pub passed_is : (cell : Cell R A) (p : ℕ) (x : NChar) → front_at cell p ≡ Some x → passed cell p ≡ passed_by cell p x
   passed_is cell p (Data byte) front = rw front refl
   passed_is cell p Eop front = rw front refl
@@ -105,7 +104,6 @@ module _ {R A : Type 0} (answer : R → ℕ → Look) (arbiter_ports : A → ℕ
   kept_front p lt = kept_end answer arbiter_ports d w cell for p (rest_at p) lt refl
 
 module _ {R A : Type 0} (answer : R → ℕ → Look) (arbiter_ports : A → ℕ) (d : Declaration) (w : ℕ) (cell : Cell R A) (for : IsSwitchFor answer arbiter_ports d w cell) where
-
   pub kept_passed : (p : ℕ) (x : NChar) → p < 32 → IsSwitchFor answer arbiter_ports d w (passed_by cell p x)
   kept_passed p (Data byte) lt = kept_front answer arbiter_ports d w cell for p lt
   kept_passed p Eop lt = kept_input answer arbiter_ports d w (without_front cell p) (kept_front answer arbiter_ports d w cell for p lt) p ports.Idle lt (λ port e. absurd (cc))
@@ -178,15 +176,18 @@ module _ {R A : Type 0} (answer : R → ℕ → Look) (arbiter_ports : A → ℕ
         let rest = drop 1 (end_at cell p).buffer in
         let t = after_spill s c x rest in
         let spilling : s.input c ≡ Spilling = o.input ∙ ap (input_of (ends_of d) w) can.spilling in
-        let h : Leads net s (Spill c) t = record { in_net = within d for.valid c w p at; spilling = spilling; first = x; rest = rest; front = o.buffer ∙ front_is (end_at cell p).buffer x front; after = refl } in
-        (t, h, record {
-          reached = reached_more net s t (Spill c) is.reached h;
-          part = record {
-            credit = λ k q at_k. is.part.credit k q at_k ∙ sym (credits_same p x q);
-            ports = ports_change d for.valid w cell (passed_by cell p x) s t c p at (same_but s t c rest (input_after x Spilling) refl refl refl) (but_passed p x lp) (port_passed s t c p x Spilling at o spilling refl refl refl) is.part.ports;
-          };
-          between = record { all_wires = is.between.all_wires; all_fcts = is.between.all_fcts; wire = is.between.wire; fcts = is.between.fcts };
-        })
+        let h : Leads net s (Spill c) t = record { in_net = within d for.valid c w p at; spilling = spilling; first = x; rest = rest; front = o.buffer ∙ front_is (end_at cell p).buffer x front; after = refl } in (
+          t,
+          h,
+          record {
+            reached = reached_more net s t (Spill c) is.reached h;
+            part = record {
+              credit = λ k q at_k. is.part.credit k q at_k ∙ sym (credits_same p x q);
+              ports = ports_change d for.valid w cell (passed_by cell p x) s t c p at (same_but s t c rest (input_after x Spilling) refl refl refl) (but_passed p x lp) (port_passed s t c p x Spilling at o spilling refl refl refl) is.part.ports;
+            };
+            between = record { all_wires = is.between.all_wires; all_fcts = is.between.all_fcts; wire = is.between.wire; fcts = is.between.fcts };
+          },
+        )
 
     pub spill_made : (c p : ℕ) → end_of d c ≡ Some (Switch w p) → CanSpill cell p → SwitchMakes d w cell b (Spill c) true (passed cell p) b
     spill_made c p at can =
@@ -194,12 +195,15 @@ module _ {R A : Type 0} (answer : R → ℕ → Look) (arbiter_ports : A → ℕ
         subst (λ (k : Cell R A). SwitchMakes d w cell b (Spill c) true k b) (sym (passed_is cell p first.0 first.1)) (spill_by c p first.0 at can first.1)
 
     pub spill_not : (c p : ℕ) → end_of d c ≡ Some (Switch w p) → (CanSpill cell p → ⊥) → SwitchMakes d w cell b (Spill c) false cell b
-    spill_not c p at never =
-        (λ s is q.
-        let h = q.1 in
-        let o = is.part.ports c p at in
-        let l = ap length (sym o.buffer ∙ h.front) in
-        never (record { spilling = was_spilling (ends_of d) w (input_at cell p) (sym o.input ∙ h.spilling); not_empty = omega arith }), refl, refl)
+    spill_not c p at never = (
+      λ s is q.
+          let h = q.1 in
+          let o = is.part.ports c p at in
+          let l = ap length (sym o.buffer ∙ h.front) in
+          never (record { spilling = was_spilling (ends_of d) w (input_at cell p) (sym o.input ∙ h.spilling); not_empty = omega arith }),
+      refl,
+      refl,
+    )
 
     -- ---- forwarding
 
@@ -219,16 +223,19 @@ module _ {R A : Type 0} (answer : R → ℕ → Look) (arbiter_ports : A → ℕ
         let h : Leads net s (Forward c) t = record { in_net = within d for.valid c w p at; d = o; held = held; first = x; rest = rest; front = i.buffer ∙ front_is (end_at cell p).buffer x front; remaining = remaining; credit = omega arith; after = refl } in
         let but = but_passed p x lp in
         let here = port_passed s t c p x (Held o) at i held refl refl refl in
-        let after = with_credit (passed_by cell p x) out (spent (credit_at cell out)) in
-        (t, h, record {
-          reached = reached_more net s t (Forward c) is.reached h;
-          part = record {
-            credit = λ k q at_k. credit_put answer arbiter_ports d w cell for s o out remaining (spent (credit_at cell out)) starts refl is.part.credit k q at_k ∙ sym (credit_passed p x out (spent (credit_at cell out)) q);
-            ports = ports_change d for.valid w cell after s t c p at (same_but s t c rest (input_after x (Held o)) refl refl refl) (record { end = but.end; input = but.input })
-                (record { buffer = here.buffer; outstanding = here.outstanding; input = here.input }) is.part.ports;
-          };
-          between = wires_put net b s t o (s.wire o ++ x ∷ []) (wire_at b o ++ x ∷ []) lo (ap (λ (l : List NChar). l ++ x ∷ []) (is.between.wire o lo)) refl refl is.between;
-        })
+        let after = with_credit (passed_by cell p x) out (spent (credit_at cell out)) in (
+          t,
+          h,
+          record {
+            reached = reached_more net s t (Forward c) is.reached h;
+            part = record {
+              credit = λ k q at_k. credit_put answer arbiter_ports d w cell for s o out remaining (spent (credit_at cell out)) starts refl is.part.credit k q at_k ∙ sym (credit_passed p x out (spent (credit_at cell out)) q);
+              ports = ports_change d for.valid w cell after s t c p at (same_but s t c rest (input_after x (Held o)) refl refl refl) (record { end = but.end; input = but.input })
+                  (record { buffer = here.buffer; outstanding = here.outstanding; input = here.input }) is.part.ports;
+            };
+            between = wires_put net b s t o (s.wire o ++ x ∷ []) (wire_at b o ++ x ∷ []) lo (ap (λ (l : List NChar). l ++ x ∷ []) (is.between.wire o lo)) refl refl is.between;
+          },
+        )
 
     pub forward_made : (c p o out : ℕ) (x : NChar) → end_of d c ≡ Some (Switch w p) → input_at cell p ≡ ports.Held out → out_of (ends_of d) w out ≡ Some o → CanForward cell p → front_at cell p ≡ Some x
         → SwitchMakes d w cell b (Forward c) true (forwarded cell p out) (with_wire b o (wire_at b o ++ x ∷ []))
@@ -250,15 +257,18 @@ module _ {R A : Type 0} (answer : R → ℕ → Look) (arbiter_ports : A → ℕ
         omega arith)
 
     pub forward_not : (c p : ℕ) → end_of d c ≡ Some (Switch w p) → (CanForward cell p → ⊥) → SwitchMakes d w cell b (Forward c) false cell b
-    forward_not c p at never =
-        (λ s is q.
-        let h = q.1 in
-        let i = is.part.ports c p at in
-        let was = was_held (ends_of d) w (input_at cell p) h.d (sym i.input ∙ h.held) in
-        let out = some_of (out_of (ends_of d) w was.0) (for.held p was.0 was.1).1 in
-        let same : out.0 ≡ h.d = sym (ap (λ z. unwrap_or z 0) out.1) ∙ was.2 in
-        let starts = port_starts (wiring_of d) w was.0 out.0 out.1 in
-        let e = sym (is.part.credit out.0 was.0 starts) ∙ ap s.credit same ∙ h.credit in
-        let some : 0 < credit_at cell was.0 = omega arith in
-        let l = ap length (sym i.buffer ∙ h.front) in
-        never (record { has_credit = subst (HasCredit cell) (sym was.1) some; not_empty = omega arith }), refl, refl)
+    forward_not c p at never = (
+      λ s is q.
+          let h = q.1 in
+          let i = is.part.ports c p at in
+          let was = was_held (ends_of d) w (input_at cell p) h.d (sym i.input ∙ h.held) in
+          let out = some_of (out_of (ends_of d) w was.0) (for.held p was.0 was.1).1 in
+          let same : out.0 ≡ h.d = sym (ap (λ z. unwrap_or z 0) out.1) ∙ was.2 in
+          let starts = port_starts (wiring_of d) w was.0 out.0 out.1 in
+          let e = sym (is.part.credit out.0 was.0 starts) ∙ ap s.credit same ∙ h.credit in
+          let some : 0 < credit_at cell was.0 = omega arith in
+          let l = ap length (sym i.buffer ∙ h.front) in
+          never (record { has_credit = subst (HasCredit cell) (sym was.1) some; not_empty = omega arith }),
+      refl,
+      refl,
+    )

@@ -176,35 +176,41 @@ module _ {R A : Type 0} (answer : R → ℕ → Look) (arbiter_ports : A → ℕ
         let l = ap length o.buffer in
         let cap = for.capacity c p at in
         let new = end_here p (asked (end_at cell p)) lp in
-        let h : Leads net s (Fct c) (after_fct s c) = record { in_net = lc; room = omega arith; few = omega arith; after = refl } in
-        (after_fct s c, h, record {
-          reached = reached_more net s (after_fct s c) (Fct c) is.reached h;
-          part = record {
-            credit = is.part.credit;
-            ports = ports_change d for.valid w cell (with_end cell p (asked (end_at cell p))) s (after_fct s c) c p at
-                (record { buffer = λ k ne. refl; outstanding = λ k ne. put_there s.outstanding c (s.outstanding c + 8) k ne; input = λ k ne. refl })
-                (record { end = λ q ne. end_other p q (asked (end_at cell p)) ne; input = λ q ne. refl })
-                (record {
-                  buffer = o.buffer ∙ sym (ap (λ (x : Received). x.buffer) new);
-                  outstanding = put_here s.outstanding c (s.outstanding c + 8) ∙ ap (λ k. k + 8) e ∙ sym (ap (λ (x : Received). x.outstanding) new);
-                  input = o.input;
-                })
-                is.part.ports;
-          };
-          between = fcts_put net b s (after_fct s c) c (s.fcts c + 1) (fcts_at b c + 1) lc (ap (λ k. k + 1) (is.between.fcts c lc)) refl refl is.between;
-        })
+        let h : Leads net s (Fct c) (after_fct s c) = record { in_net = lc; room = omega arith; few = omega arith; after = refl } in (
+          after_fct s c,
+          h,
+          record {
+            reached = reached_more net s (after_fct s c) (Fct c) is.reached h;
+            part = record {
+              credit = is.part.credit;
+              ports = ports_change d for.valid w cell (with_end cell p (asked (end_at cell p))) s (after_fct s c) c p at
+                  (record { buffer = λ k ne. refl; outstanding = λ k ne. put_there s.outstanding c (s.outstanding c + 8) k ne; input = λ k ne. refl })
+                  (record { end = λ q ne. end_other p q (asked (end_at cell p)) ne; input = λ q ne. refl })
+                  (record {
+                    buffer = o.buffer ∙ sym (ap (λ (x : Received). x.buffer) new);
+                    outstanding = put_here s.outstanding c (s.outstanding c + 8) ∙ ap (λ k. k + 8) e ∙ sym (ap (λ (x : Received). x.outstanding) new);
+                    input = o.input;
+                  })
+                  is.part.ports;
+            };
+            between = fcts_put net b s (after_fct s c) c (s.fcts c + 1) (fcts_at b c + 1) lc (ap (λ k. k + 1) (is.between.fcts c lc)) refl refl is.between;
+          },
+        )
 
     pub fct_not : (c p : ℕ) → end_of d c ≡ Some (Switch w p) → (CanIssue cell p → ⊥) → SwitchMakes d w cell b (Fct c) false cell b
-    fct_not c p at never =
-        (λ s is q.
-        let h = q.1 in
-        let o = is.part.ports c p at in
-        let e = o.outstanding in
-        let l = ap length o.buffer in
-        let cap = for.capacity c p at in
-        let room = h.room in
-        let few = h.few in
-        never (record { linked = is_linked c p at; room = room_issues (end_at cell p) (record { room = omega arith; few = omega arith }) }), refl, refl)
+    fct_not c p at never = (
+      λ s is q.
+          let h = q.1 in
+          let o = is.part.ports c p at in
+          let e = o.outstanding in
+          let l = ap length o.buffer in
+          let cap = for.capacity c p at in
+          let room = h.room in
+          let few = h.few in
+          never (record { linked = is_linked c p at; room = room_issues (end_at cell p) (record { room = omega arith; few = omega arith }) }),
+      refl,
+      refl,
+    )
 
     pub fct_few : (c p : ℕ) → end_of d c ≡ Some (Switch w p) → HasSwitchState d w cell b → CanIssue cell p → fcts_at b c ≤ 6
     fct_few c p at has can = ∥∥₁_elim has le_prop (λ k.
@@ -225,15 +231,18 @@ module _ {R A : Type 0} (answer : R → ℕ → Look) (arbiter_ports : A → ℕ
         let lo = starts_within d o w p at in
         let f = is.between.fcts o lo in
         let t = after_fct_in s o (fcts_at b o - 1) in
-        let h : Leads net s (FctIn o) t = record { in_net = lo; remaining = fcts_at b o - 1; under_way = omega arith; after = refl } in
-        (t, h, record {
-          reached = reached_more net s t (FctIn o) is.reached h;
-          part = record {
-            credit = credit_put s o p (s.credit o + 8) (granted (credit_at cell p)) at (ap (λ k. k + 8) (is.part.credit o p at)) is.part.credit;
-            ports = λ k q at_k. let i = is.part.ports k q at_k in record { buffer = i.buffer; outstanding = i.outstanding; input = i.input };
-          };
-          between = fcts_put net b s t o (fcts_at b o - 1) (fcts_at b o - 1) lo refl refl refl is.between;
-        })
+        let h : Leads net s (FctIn o) t = record { in_net = lo; remaining = fcts_at b o - 1; under_way = omega arith; after = refl } in (
+          t,
+          h,
+          record {
+            reached = reached_more net s t (FctIn o) is.reached h;
+            part = record {
+              credit = credit_put s o p (s.credit o + 8) (granted (credit_at cell p)) at (ap (λ k. k + 8) (is.part.credit o p at)) is.part.credit;
+              ports = λ k q at_k. let i = is.part.ports k q at_k in record { buffer = i.buffer; outstanding = i.outstanding; input = i.input };
+            };
+            between = fcts_put net b s t o (fcts_at b o - 1) (fcts_at b o - 1) lo refl refl refl is.between;
+          },
+        )
 
     pub fct_in_not : (o p : ℕ) → slice_get (ends_of d) o ≡ Some (Switch w p) → fcts_at b o ≤ 0 → SwitchMakes d w cell b (FctIn o) false cell b
     fct_in_not o p at none = (λ s is q. let h = q.1 in let u = h.under_way in let f = is.between.fcts o (starts_within d o w p at) in omega arith, refl, refl)
@@ -261,23 +270,26 @@ module _ {R A : Type 0} (answer : R → ℕ → Look) (arbiter_ports : A → ℕ
         let rest = drop 1 (wire_at b c) in
         let t = after_arrive s c x rest in
         let new = end_here p (arrived x (end_at cell p)) lp in
-        let h : Leads net s (Arrive c) t = record { in_net = lc; first = x; rest = rest; on_wire = is.between.wire c lc ∙ front_is (wire_at b c) x front; after = refl } in
-        (t, h, record {
-          reached = reached_more net s t (Arrive c) is.reached h;
-          part = record {
-            credit = is.part.credit;
-            ports = ports_change d for.valid w cell (with_end cell p (arrived x (end_at cell p))) s t c p at
-                (record { buffer = λ k ne. put_there s.buffer c (s.buffer c ++ x ∷ []) k ne; outstanding = λ k ne. put_there s.outstanding c (s.outstanding c - 1) k ne; input = λ k ne. refl })
-                (record { end = λ q ne. end_other p q (arrived x (end_at cell p)) ne; input = λ q ne. refl })
-                (record {
-                  buffer = put_here s.buffer c (s.buffer c ++ x ∷ []) ∙ ap (λ (l : List NChar). l ++ x ∷ []) o.buffer ∙ sym (ap (λ (r : Received). r.buffer) new);
-                  outstanding = put_here s.outstanding c (s.outstanding c - 1) ∙ ap (λ k. k - 1) o.outstanding ∙ sym (ap (λ (r : Received). r.outstanding) new);
-                  input = o.input;
-                })
-                is.part.ports;
-          };
-          between = wires_put net b s t c rest rest lc refl refl refl is.between;
-        })
+        let h : Leads net s (Arrive c) t = record { in_net = lc; first = x; rest = rest; on_wire = is.between.wire c lc ∙ front_is (wire_at b c) x front; after = refl } in (
+          t,
+          h,
+          record {
+            reached = reached_more net s t (Arrive c) is.reached h;
+            part = record {
+              credit = is.part.credit;
+              ports = ports_change d for.valid w cell (with_end cell p (arrived x (end_at cell p))) s t c p at
+                  (record { buffer = λ k ne. put_there s.buffer c (s.buffer c ++ x ∷ []) k ne; outstanding = λ k ne. put_there s.outstanding c (s.outstanding c - 1) k ne; input = λ k ne. refl })
+                  (record { end = λ q ne. end_other p q (arrived x (end_at cell p)) ne; input = λ q ne. refl })
+                  (record {
+                    buffer = put_here s.buffer c (s.buffer c ++ x ∷ []) ∙ ap (λ (l : List NChar). l ++ x ∷ []) o.buffer ∙ sym (ap (λ (r : Received). r.buffer) new);
+                    outstanding = put_here s.outstanding c (s.outstanding c - 1) ∙ ap (λ k. k - 1) o.outstanding ∙ sym (ap (λ (r : Received). r.outstanding) new);
+                    input = o.input;
+                  })
+                  is.part.ports;
+            };
+            between = wires_put net b s t c rest rest lc refl refl refl is.between;
+          },
+        )
 
     pub arrive_not : (c p : ℕ) → end_of d c ≡ Some (Switch w p) → slice_get (wire_at b c) 0 ≡ None → SwitchMakes d w cell b (Arrive c) false cell b
     arrive_not c p at none = (λ s is q. let h = q.1 in let f = front_of (wire_at b c) h.first h.rest (sym (is.between.wire c (within d for.valid c w p at)) ∙ h.on_wire) in cc, refl, refl)

@@ -11,12 +11,7 @@ use std::alloc::{AllocError, Global};
 use std::mem;
 use sw_char::{End, NChar, Packet};
 
-fn packet(
-    alloc: Global,
-    address: &[u8],
-    cargo: &[u8],
-    end: End,
-) -> Result<Sending, AllocError>
+fn packet(alloc: Global, address: &[u8], cargo: &[u8], end: End) -> Result<Sending, AllocError>
     ensures { IfOk result (λ s. s ≡ map Data address.now ++ packet_chars cargo.now end) }
 {
     let mut bytes = Vec::from_slice(alloc, address)?;

@@ -62,4 +62,3 @@ returns-clause-made c =
     c.arrive.ensures
     (c.take.ensures.after ∙ ap (λ k. with_wire b k (drop 1 (wire_at b k))) (sym o))
     (nodes.arrive_made (network_of d) ok c.args.n inside node b c.in-Some.character front)
-

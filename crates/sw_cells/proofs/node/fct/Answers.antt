@@ -51,4 +51,3 @@ returns-clause-made c =
     c.issue.ensures
     (c.send_fct.ensures ∙ ap (λ k. with_fcts b k (fcts_at b k + 1)) (sym o))
     (nodes.fct_made (network_of d) ok c.args.n inside node b (sym for.capacity) yes)
-

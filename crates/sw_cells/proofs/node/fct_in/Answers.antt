@@ -75,4 +75,3 @@ returns-clause-made c =
     c.fct_in.ensures
     (c.take_fct.ensures ∙ ap (λ k. with_fcts b k (fcts_at b k - 1)) (sym o))
     (nodes.fct_in_made (network_of d) ok c.args.n inside node b some)
-
