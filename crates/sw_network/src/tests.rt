@@ -1,8 +1,10 @@
 //! A network made by hand, and what it tells.
+ghost use Rattle.std.specs.Prelude.{◌≡◌, [], IfSome};
+ghost use Rattle.sw_rmap.specs.Config.{IsTargetConfig};
+
 use crate::{Flow, Network, NetworkBuilder, Reply};
-use std::alloc::Global;
+use std::alloc::{AllocError, Global};
 use std::process::Abort;
-use std::test::Fail;
 use sw_arb::Arbitration;
 use sw_rmap::TargetConfig;
 use sw_route::TableRoutes;
@@ -16,85 +18,142 @@ const MEMORY: TargetConfig = TargetConfig {
     slots: 1,
 };
 
-/// The nodes I and T, T a target, at the ports 1 and 2 of the switch S.
-fn star(rt: &impl Abort, alloc: Global) -> Result<Network, Fail> {
-    let mut builder = NetworkBuilder::new(alloc);
-    assert!(rt; !builder.has_name("I"));
-    builder.add_node(alloc, "I", None)?;
-    assert!(rt; !builder.has_name("T"));
-    builder.add_node(alloc, "T", Some(MEMORY))?;
+fn add_node(
+    rt: &impl Abort,
+    alloc: Global,
+    builder: &mut NetworkBuilder,
+    name: &str,
+    target: Option<TargetConfig>,
+) -> Result<(), AllocError>
+    requires nodes_first { builder.old.switches ≡ [] }
+    requires target { IfSome target IsTargetConfig }
+    ensures { builder.new.switches ≡ [] }
+{
+    assert!(rt; builder.node_count() < 1024);
+    assert!(rt; !builder.has_name(name));
+    builder.add_node(alloc, name, target)
+}
+
+fn port(rt: &impl Abort, number: u8) -> Port {
+    Port::new(number).expect(rt, "port")
+}
+
+// The switch S, at which the logical address 254 names the port 2.
+fn add_switch(
+    rt: &impl Abort,
+    alloc: Global,
+    builder: &mut NetworkBuilder,
+) -> Result<(), AllocError> {
     let mut table = TableRoutes::new(alloc);
-    let second = Port::new(2).ok_or("port")?;
-    table.add(254, PortSet::single(second), false)?;
+    table
+        .add(254, PortSet::single(port(rt, 2)), false)
+        .expect(rt, "route");
+    assert!(rt; builder.switch_count() < 512);
     assert!(rt; !builder.has_name("S"));
-    builder.add_switch(alloc, "S", Arbitration::RoundRobin, table)?;
-    let first = Port::new(1).ok_or("port")?;
-    builder.add_link(PlaceEnd::Node(0), PlaceEnd::Switch(0, first), 8, 64)?;
-    builder.add_link(PlaceEnd::Node(1), PlaceEnd::Switch(0, second), 16, 4096)?;
-    Ok(builder.wire(alloc)?)
+    builder.add_switch(alloc, "S", Arbitration::RoundRobin, table)
+}
+
+// Nodes 0 and 1 at the ports 1 and 2 of the first switch.
+fn add_links(rt: &impl Abort, builder: &mut NetworkBuilder) -> Result<(), AllocError> {
+    let first = PlaceEnd::Switch(0, port(rt, 1));
+    let second = PlaceEnd::Switch(0, port(rt, 2));
+    assert!(rt; builder.node_count() > 1);
+    assert!(rt; builder.switch_count() > 0);
+    builder.add_link(PlaceEnd::Node(0), first, 8, 64)?;
+    builder.add_link(PlaceEnd::Node(1), second, 16, 4096)
+}
+
+// The nodes I and T, T a target, at the ports 1 and 2 of the switch S. What is owned is not dropped where a call fails: the
+// test ends there. So there is less to prove.
+fn star(rt: &impl Abort, alloc: Global) -> Network {
+    let mut builder = NetworkBuilder::new(alloc);
+    add_node(rt, alloc, &mut builder, "I", None).expect(rt, "node");
+    add_node(rt, alloc, &mut builder, "T", Some(MEMORY)).expect(rt, "node");
+    add_switch(rt, alloc, &mut builder).expect(rt, "switch");
+    add_links(rt, &mut builder).expect(rt, "links");
+    builder.wire(alloc).expect(rt, "network")
+}
+
+fn check_parts(rt: &impl Abort, network: &Network) {
+    assert!(rt; network.nodes() == 2);
+    assert!(rt; network.node_name(1) == "T");
+    assert!(rt; network.target(1) == Some(MEMORY));
+    assert!(rt; network.node_named("T") == Some(1));
+    assert!(rt; network.node_named("S").is_none());
 }
 
 #[test]
-fn tells_its_parts(rt: HostRuntime) -> Result<(), Fail> {
-    let network = star(&rt, rt.alloc())?;
-    assert_eq!(rt; network.nodes(), 2);
-    assert_eq!(rt; network.node_name(1), "T");
-    assert_eq!(rt; network.target(1), Some(MEMORY));
-    assert_eq!(rt; network.node_named("T"), Some(1));
-    assert_eq!(rt; network.node_named("S"), None);
-    Ok(())
+fn tells_its_parts(rt: HostRuntime) {
+    let network = star(&rt, rt.alloc());
+    check_parts(&rt, &network);
+}
+
+fn check_buffers(rt: &impl Abort, network: &Network) {
+    assert!(rt; network.links() == 2);
+    assert!(rt; network.capacity(Chan::new(0)) == 64);
+    assert!(rt; network.capacity(Chan::new(1)) == 8);
 }
 
 #[test]
-fn tells_its_buffers(rt: HostRuntime) -> Result<(), Fail> {
-    let network = star(&rt, rt.alloc())?;
-    assert_eq!(rt; network.links(), 2);
-    assert_eq!(rt; network.capacity(Chan::new(0)), 64);
-    assert_eq!(rt; network.capacity(Chan::new(1)), 8);
-    Ok(())
+fn tells_its_buffers(rt: HostRuntime) {
+    let network = star(&rt, rt.alloc());
+    check_buffers(&rt, &network);
 }
 
-/// The same, with a flow of commands that are answered by way of port 1.
-fn answered(rt: &impl Abort, alloc: Global) -> Result<Network, Fail> {
-    let mut network = star(rt, alloc)?;
-    let reply = Reply::new(vec![in alloc; 1]?, 103);
-    let name = String::from_str(alloc, "w")?;
-    let flow = Flow::new(name, 0, 1, vec![in alloc; 254]?, 1, Some(reply));
+// Commands from node 0 to node 1 that are answered by way of port 1.
+fn add_commands(rt: &impl Abort, alloc: Global, network: &mut Network) -> Result<(), AllocError> {
     assert!(rt; network.nodes() == 2 && network.is_target(1));
     assert!(rt; network.declared_flows() == 0 && !network.has_flow_name("w"));
-    network.add_flow(alloc, flow)?;
-    Ok(network)
+    let name = String::from_str(alloc, "w").expect(rt, "name");
+    let address = Vec::from_slice(alloc, &[254]).expect(rt, "address");
+    let path = Vec::from_slice(alloc, &[1]).expect(rt, "path");
+    let reply = Reply::new(path, 103);
+    network.add_flow(alloc, Flow::new(name, 0, 1, address, 1, Some(reply)))
+}
+
+fn answered(rt: &impl Abort, alloc: Global) -> Network {
+    let mut network = star(rt, alloc);
+    add_commands(rt, alloc, &mut network).expect(rt, "flow");
+    network
+}
+
+fn check_numbers(rt: &impl Abort, network: &Network) {
+    assert!(rt; network.declared_flows() == 1);
+    assert!(rt; network.flow_named("w+reply") == Some(1));
 }
 
 #[test]
-fn numbers_reply_flows_after_the_declared(rt: HostRuntime) -> Result<(), Fail> {
-    let network = answered(&rt, rt.alloc())?;
-    assert_eq!(rt; network.declared_flows(), 1);
-    assert_eq!(rt; network.flow_named("w+reply"), Some(1));
-    Ok(())
+fn numbers_reply_flows_after_the_declared(rt: HostRuntime) {
+    let network = answered(&rt, rt.alloc());
+    check_numbers(&rt, &network);
 }
 
-#[test]
-fn sends_replies_back(rt: HostRuntime) -> Result<(), Fail> {
-    let network = answered(&rt, rt.alloc())?;
-    assert_eq!(rt; network.flows(), 2);
+fn check_reply_flow(rt: &impl Abort, network: &Network) {
+    assert!(rt; network.flows() == 2);
     let back = network.flow(1);
-    assert_eq!(rt; back.name(), "w+reply");
-    assert_eq!(rt; (back.from(), back.to()), (1, 0));
-    assert_eq!(rt; back.address(), [1, 103].as_slice());
-    Ok(())
+    assert!(rt; back.name() == "w+reply");
+    assert!(rt; back.from() == 1);
+    assert!(rt; back.to() == 0);
+    assert!(rt; back.address() == [1, 103].as_slice());
 }
 
 #[test]
-fn refuses_a_node_without_a_link(rt: HostRuntime) -> Result<(), Fail> {
-    let alloc = rt.alloc();
+fn sends_replies_back(rt: HostRuntime) {
+    let network = answered(&rt, rt.alloc());
+    check_reply_flow(&rt, &network);
+}
+
+// The fault of a network of one node alone.
+fn fault_without_links(rt: &impl Abort, alloc: Global) -> Option<TopoFault> {
     let mut builder = NetworkBuilder::new(alloc);
-    assert!(rt; !builder.has_name("A"));
-    builder.add_node(alloc, "A", None)?;
-    let fault = match builder.wire(alloc) {
+    add_node(rt, alloc, &mut builder, "A", None).expect(rt, "node");
+    match builder.wire(alloc) {
         Err(TopoError::Fault(fault)) => Some(fault),
         _ => None,
-    };
-    assert_eq!(rt; fault, Some(TopoFault::NodeLinks(0)));
-    Ok(())
+    }
+}
+
+#[test]
+fn refuses_a_node_without_a_link(rt: HostRuntime) {
+    assert!(rt; fault_without_links(&rt, rt.alloc()) == Some(TopoFault::NodeLinks(0)));
 }
