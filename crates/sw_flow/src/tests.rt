@@ -2,16 +2,16 @@ ghost use Rattle.std.specs.Prelude.{◌≡◌, ◌↔◌, [], length, IsTrue};
 ghost use Rattle.sw_topo.specs.Checked.{IsIn};
 
 use crate::{Place, all_places, places};
-use std::alloc::Global;
+use std::alloc::{AllocError, Global};
 use std::process::Abort;
-use std::test::{Fail, *};
+use std::thread::Threads;
 use sw_arb::Arbitration;
 use sw_network::{Flow, Network, NetworkBuilder};
 use sw_route::TableRoutes;
 use sw_topo::{Chan, PlaceEnd, Port, PortSet};
 
-fn port(number: u8) -> Result<Port, Fail> {
-    Ok(Port::new(number).ok_or("port")?)
+fn port(rt: &impl Abort, number: u8) -> Port {
+    Port::new(number).expect(rt, "port")
 }
 
 fn add_node(
@@ -19,14 +19,13 @@ fn add_node(
     alloc: Global,
     builder: &mut NetworkBuilder,
     name: &str,
-) -> Result<(), Fail>
+) -> Result<(), AllocError>
     requires { builder.old.switches ≡ [] }
     ensures { builder.new.switches ≡ [] }
 {
     assert!(rt; builder.node_count() < 1024);
     assert!(rt; !builder.has_name(name));
-    builder.add_node(alloc, name, None)?;
-    Ok(())
+    builder.add_node(alloc, name, None)
 }
 
 // A switch at which the logical address 40 names the ports.
@@ -36,13 +35,12 @@ fn add_switch(
     builder: &mut NetworkBuilder,
     name: &str,
     ports: PortSet,
-) -> Result<(), Fail> {
+) -> Result<(), AllocError> {
     let mut table = TableRoutes::new(alloc);
-    table.add(40, ports, false)?;
+    table.add(40, ports, false).expect(rt, "route");
     assert!(rt; builder.switch_count() < 512);
     assert!(rt; !builder.has_name(name));
-    builder.add_switch(alloc, name, Arbitration::Fixed, table)?;
-    Ok(())
+    builder.add_switch(alloc, name, Arbitration::Fixed, table)
 }
 
 fn is_inside(builder: &NetworkBuilder, end: &PlaceEnd) -> bool
@@ -59,11 +57,10 @@ fn add_link(
     builder: &mut NetworkBuilder,
     a: PlaceEnd,
     b: PlaceEnd,
-) -> Result<(), Fail> {
+) -> Result<(), AllocError> {
     assert!(rt; is_inside(builder, &a));
     assert!(rt; is_inside(builder, &b));
-    builder.add_link(a, b, 8, 8)?;
-    Ok(())
+    builder.add_link(a, b, 8, 8)
 }
 
 // A flow from node 0 to node 1 with no address byte left.
@@ -73,29 +70,14 @@ fn add_flow(
     network: &mut Network,
     name: &str,
     address: &[u8],
-) -> Result<(), Fail> {
+) -> Result<(), AllocError> {
     assert!(rt; network.nodes() > 1);
     assert!(rt; network.declared_flows() < 4096);
     assert!(rt; !network.has_flow_name(name));
     assert!(rt; address.len() < 33);
-    let name = String::from_str(alloc, name)?;
-    let address = Vec::from_slice(alloc, address)?;
-    network.add_flow(alloc, Flow::new(name, 0, 1, address, 0, None))?;
-    Ok(())
-}
-
-// Has the flow of that number these places?
-fn reaches(
-    rt: &impl Abort,
-    alloc: Global,
-    network: &Network,
-    flow: u16,
-    wanted: &[Place],
-) -> Result<(), Fail> {
-    assert!(rt; flow < network.flows());
-    let found = places(alloc, network, flow)?;
-    assert!(rt; found.as_slice() == wanted);
-    Ok(())
+    let name = String::from_str(alloc, name).expect(rt, "name");
+    let address = Vec::from_slice(alloc, address).expect(rt, "address");
+    network.add_flow(alloc, Flow::new(name, 0, 1, address, 0, None))
 }
 
 fn at(channel: u16, deleted: u8) -> Place {
@@ -107,52 +89,63 @@ fn at(channel: u16, deleted: u8) -> Place {
 
 // Node A is at port 1 of switch S, whose ports 2 and 3 have links to the ports 1 and 2 of switch T, at whose port 4 is node B.
 // The address 40 names the ports 2 and 3 at S, and the port 4 at T.
-fn add_parts(rt: &impl Abort, alloc: Global, builder: &mut NetworkBuilder) -> Result<(), Fail>
+fn add_parts(rt: &impl Abort, alloc: Global, builder: &mut NetworkBuilder) -> Result<(), AllocError>
     requires { builder.old.switches ≡ [] }
 {
     add_node(rt, alloc, builder, "A")?;
     add_node(rt, alloc, builder, "B")?;
-    let group = PortSet::single(port(2)?).with(port(3)?);
+    let group = PortSet::single(port(rt, 2)).with(port(rt, 3));
     add_switch(rt, alloc, builder, "S", group)?;
-    add_switch(rt, alloc, builder, "T", PortSet::single(port(4)?))
+    add_switch(rt, alloc, builder, "T", PortSet::single(port(rt, 4)))
 }
 
-fn add_links(rt: &impl Abort, builder: &mut NetworkBuilder) -> Result<(), Fail> {
-    let near = PlaceEnd::Switch(0, port(1)?);
+fn add_links(rt: &impl Abort, builder: &mut NetworkBuilder) -> Result<(), AllocError> {
+    let near = PlaceEnd::Switch(0, port(rt, 1));
     add_link(rt, builder, PlaceEnd::Node(0), near)?;
-    let from = PlaceEnd::Switch(0, port(2)?);
-    let to = PlaceEnd::Switch(1, port(1)?);
+    let from = PlaceEnd::Switch(0, port(rt, 2));
+    let to = PlaceEnd::Switch(1, port(rt, 1));
     add_link(rt, builder, from, to)?;
-    let from = PlaceEnd::Switch(0, port(3)?);
-    let to = PlaceEnd::Switch(1, port(2)?);
+    let from = PlaceEnd::Switch(0, port(rt, 3));
+    let to = PlaceEnd::Switch(1, port(rt, 2));
     add_link(rt, builder, from, to)?;
-    let far = PlaceEnd::Switch(1, port(4)?);
+    let far = PlaceEnd::Switch(1, port(rt, 4));
     add_link(rt, builder, far, PlaceEnd::Node(1))
 }
 
-fn two_ways(rt: &impl Abort, alloc: Global) -> Result<Network, Fail> {
+// With a flow of that name by these address bytes. What is owned is not dropped where a call fails: the test ends there. So
+// there is less to prove.
+fn two_ways(rt: &impl Abort, alloc: Global, name: &str, address: &[u8]) -> Network {
     let mut builder = NetworkBuilder::new(alloc);
-    add_parts(rt, alloc, &mut builder)?;
-    add_links(rt, &mut builder)?;
-    Ok(builder.wire(alloc)?)
+    add_parts(rt, alloc, &mut builder).expect(rt, "parts");
+    add_links(rt, &mut builder).expect(rt, "links");
+    let mut network = builder.wire(alloc).expect(rt, "network");
+    add_flow(rt, alloc, &mut network, name, address).expect(rt, "flow");
+    network
+}
+
+// Has flow 0 these places?
+fn reaches(rt: &impl Abort, alloc: Global, network: &Network, wanted: &[Place]) {
+    assert!(rt; network.flows() > 0);
+    let found = places(alloc, network, 0).expect(rt, "places");
+    assert!(rt; found.as_slice() == wanted);
 }
 
 #[test]
-fn goes_every_way_of_a_group(rt: HostRuntime) -> Result<(), Fail> {
-    let alloc = rt.alloc();
-    let mut network = two_ways(&rt, alloc)?;
-    add_flow(&rt, alloc, &mut network, "group", &[40])?;
+fn goes_every_way_of_a_group(rt: HostRuntime) {
+    let network = two_ways(&rt, rt.alloc(), "group", &[40]);
     let wanted = [at(0, 0), at(2, 0), at(4, 0), at(6, 0)];
-    reaches(&rt, alloc, &network, 0, &wanted)
+    reaches(&rt, rt.alloc(), &network, &wanted);
+}
+
+// Of one flow alone, all places are those of one flow.
+fn has_one_flow<R: Abort + Threads + Sync>(rt: &R, alloc: Global, network: &Network) {
+    let all = all_places(rt, alloc, network).expect(rt, "all places");
+    assert!(rt; all.len() == 1);
 }
 
 #[test]
-fn deletes_path_addresses(rt: HostRuntime) -> Result<(), Fail> {
-    let alloc = rt.alloc();
-    let mut network = two_ways(&rt, alloc)?;
-    add_flow(&rt, alloc, &mut network, "path", &[3, 4])?;
-    reaches(&rt, alloc, &network, 0, &[at(0, 0), at(4, 1), at(6, 2)])?;
-    let all = all_places(&rt, alloc, &network)?;
-    assert!(rt; all.len() == 1);
-    Ok(())
+fn deletes_path_addresses(rt: HostRuntime) {
+    let network = two_ways(&rt, rt.alloc(), "path", &[3, 4]);
+    reaches(&rt, rt.alloc(), &network, &[at(0, 0), at(4, 1), at(6, 2)]);
+    has_one_flow(&rt, rt.alloc(), &network);
 }
