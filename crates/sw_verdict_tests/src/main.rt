@@ -15,7 +15,7 @@ use sw_file::read_network;
 use sw_stream::read_whole;
 
 /// Files with a network each.
-static FILES: [&str; 14] = [
+static FILES: [&str; 18] = [
     "empty.toml",
     "line.toml",
     "star.toml",
@@ -24,11 +24,15 @@ static FILES: [&str; 14] = [
     "turn.toml",
     "rmap.toml",
     "rmap2.toml",
+    "target.toml",
     "ring.toml",
     "loop.toml",
+    "loops.toml",
     "duel.toml",
     "answers.toml",
     "bad.toml",
+    "second.toml",
+    "back.toml",
     "lost.toml",
 ];
 
