@@ -6,3 +6,4 @@ pub mod Switches
 pub mod Passing
 pub mod Dropping
 pub mod Granting
+pub mod Picking

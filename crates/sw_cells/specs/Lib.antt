@@ -1,3 +1,4 @@
 pub mod Parts
 pub mod Makes
 pub mod SwitchParts
+pub mod Picks

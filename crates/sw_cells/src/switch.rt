@@ -1,6 +1,7 @@
 //! The steps of a switch. Each answers whether the step was possible; where it was not, nothing
 //! changed.
-ghost use Rattle.std.specs.Prelude.{◌≡◌, Some, slice_get};
+ghost use Rattle.std.specs.Prelude.{◌≡◌, IfNone, IfSome, Some, slice_get};
+ghost use Rattle.sw_cells.specs.Picks.{CannotGrant, GrantsPick};
 ghost use Rattle.sw_cells.specs.SwitchParts.{HasSwitchState, IsSwitchFor, SwitchMakes, port_at};
 ghost use Rattle.sw_flow.specs.Places.{end_of, ends_of};
 ghost use Rattle.sw_machine.specs.Network.{AtSwitch};
@@ -209,4 +210,26 @@ pub fn grant<R: Routing, A: Arbiter>(
     }
     cell.grant_to(out, port);
     true
+}
+
+/// The output where the channel starts, at switch `w`, is granted to the input that its arbiter
+/// picks among those that ask. Answers the channel that ends at that input, and `None` if no input
+/// asks or the output is held: then nothing changed.
+pub fn arbitrate<R: Routing, A: Arbiter>(
+    network: &Network,
+    w: u16,
+    channel: Chan,
+    cell: &mut SwitchCell<R, A>,
+) -> Option<Chan>
+    requires cell { IsSwitchFor R.answer A.ports network.now w cell.old }
+    requires at { (network_of network.now).start_of channel ≡ AtSwitch w }
+    ensures cell { IsSwitchFor R.answer A.ports network.now w cell.new }
+    ensures none { IfNone result (CannotGrant network.now w cell.old channel) }
+    ensures kept { IfNone result (cell.new ≡ cell.old) }
+    ensures some { IfSome result (GrantsPick R.answer A.policy network.now w cell.old cell.new channel) }
+{
+    let out = output(network, w, channel);
+    let picked = cell.grant(out)?;
+    let back = network.topology().out_of(w, picked).unwrap();
+    Some(back.partner())
 }
