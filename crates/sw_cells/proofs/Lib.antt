@@ -7,3 +7,6 @@ pub mod Passing
 pub mod Dropping
 pub mod Granting
 pub mod Picking
+pub mod Telling
+pub mod LinkEnds
+pub mod Enabling

@@ -2,3 +2,4 @@ pub mod Parts
 pub mod Makes
 pub mod SwitchParts
 pub mod Picks
+pub mod Possible

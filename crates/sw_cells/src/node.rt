@@ -3,11 +3,14 @@
 ghost use Rattle.std.specs.Prelude.{◌≡◌, ◌<◌, IfNone, IfOk, IfSome, OnErr, length};
 ghost use Rattle.sw_cells.specs.Makes.{HasNodeState, IsDeclaredAt, NodeDoes, NodeMakes};
 ghost use Rattle.sw_cells.specs.Parts.{IsNodeFor};
+ghost use Rattle.sw_cells.specs.Possible.{NodeEnabled, NodeTells, step_at_node};
 ghost use Rattle.sw_load.specs.Packets.{IsDeclaredPacket};
 ghost use Rattle.sw_machine.specs.Steps.{Accept, Arrive, Begin, Emit, Fct, FctIn, Reply};
 ghost use Rattle.sw_model.specs.Model.{network_of};
 ghost use Rattle.sw_network.specs.Entries.{Declaration};
+ghost use Rattle.sw_wires.specs.Between.{Between};
 
+use crate::between::{character_comes, fct_comes};
 use std::alloc::{AllocError, Global};
 use sw_char::End;
 use sw_load::in_flow;
@@ -144,4 +147,74 @@ pub fn begin(
     }
     node.begin(alloc, address_of(network, flow), cargo, end)?;
     Ok(true)
+}
+
+/// Whether `begin` would begin the packet.
+pub fn can_begin(
+    network: &Network,
+    n: u16,
+    flow: u16,
+    cargo: &[u8],
+    end: End,
+    node: &NodeCell,
+) -> bool
+    requires node { IsNodeFor network.now n node.now }
+    requires declared { IsDeclaredAt network.now n flow cargo.now }
+    ensures { (b : Between) → NodeTells (network_of network.now) n node.now b (Begin flow cargo.now end) result }
+{
+    node.can_begin()
+}
+
+/// A step at a node, other than to begin a packet.
+#[derive(Clone, Copy, Debug, PartialEq, Eq)]
+pub enum NodeStep {
+    /// The end of the channel that comes to the node sends an FCT.
+    Fct,
+    /// An FCT arrives where the channel starts that goes out from it.
+    FctIn,
+    /// The first character on the wire of the channel that comes to it arrives.
+    Arrive,
+    /// It puts a character on its wire.
+    Emit,
+    /// It takes a character.
+    Accept,
+    /// It begins to send the reply that has waited longest.
+    Reply,
+}
+
+/// Whether that step of node `n` is possible.
+pub fn is_possible(
+    network: &Network,
+    n: u16,
+    step: NodeStep,
+    node: &NodeCell,
+    wires: &Wires,
+) -> bool
+    requires node { IsNodeFor network.now n node.now }
+    requires reached { HasNodeState (network_of network.now) n node.now wires.now }
+    ensures { NodeTells (network_of network.now) n node.now wires.now (step_at_node (network_of network.now) n step) result }
+{
+    match step {
+        NodeStep::Fct => node.can_issue(),
+        NodeStep::FctIn => fct_comes(wires, network.topology().out(n)),
+        NodeStep::Arrive => character_comes(wires, network.topology().into(n)),
+        NodeStep::Emit => node.can_emit(),
+        NodeStep::Accept => node.can_accept(),
+        NodeStep::Reply => node.can_reply(),
+    }
+}
+
+/// Whether some step of node `n` is possible, other than to begin a packet.
+pub fn enabled(network: &Network, n: u16, node: &NodeCell, wires: &Wires) -> bool
+    requires node { IsNodeFor network.now n node.now }
+    requires reached { HasNodeState (network_of network.now) n node.now wires.now }
+    ensures { NodeEnabled (network_of network.now) n node.now wires.now result }
+{
+    if node.enabled() {
+        return true;
+    }
+    if fct_comes(wires, network.topology().out(n)) {
+        return true;
+    }
+    character_comes(wires, network.topology().into(n))
 }
