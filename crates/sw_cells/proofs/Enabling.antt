@@ -1,6 +1,5 @@
 -- Whether a link end can step, by what the code tests.
-use Rattle.std.proofs.Common.{◌≡◌, ◌↔◌, ℕ, ◌<◌, ◌≤◌, Bool, true, false, List, length, Some, None, IsTrue, IsBitSet, inl, inr, refl, ap, sym, ◌∙◌, ⊎_elim, arith}
-use Rattle.std.proofs.lemmas.Bool.{false≢true}
+use Rattle.std.proofs.Common.{◌≡◌, ◌↔◌, ℕ, ◌<◌, Bool, true, false, length, Some, IsTrue, inl, inr, refl, ap, sym, ◌∙◌, ⊎_elim, arith}
 use Rattle.std.specs.Prelude.{slice_get}
 use Rattle.sw_cells.proofs.Dropping as dropping
 use Rattle.sw_cells.proofs.Granting as granting
@@ -11,23 +10,21 @@ use Rattle.sw_cells.proofs.Passing as passing
 use Rattle.sw_cells.proofs.Picking as picking
 use Rattle.sw_cells.proofs.Switches as switches
 use Rattle.sw_cells.proofs.Telling as telling
-use Rattle.sw_cells.specs.Parts.{IsNodeState}
-use Rattle.sw_cells.specs.Possible.{CanStepAt, NodeEnabled, PortEnabled}
-use Rattle.sw_cells.specs.SwitchParts.{IsSwitchFor, IsSwitchState}
+use Rattle.sw_cells.specs.Possible.{NodeEnabled, PortEnabled}
+use Rattle.sw_cells.specs.SwitchParts.{IsSwitchFor}
 use Rattle.sw_flow.specs.Places.{end_of, ends_of}
 use Rattle.sw_machine.specs.Network.{IsNetwork, Network, reverse_of}
-use Rattle.sw_machine.specs.State.{State}
-use Rattle.sw_machine.specs.Steps.{Accept, Arrive, Drop, Emit, Fct, FctIn, Forward, Grant, IsPossible, Reply, Spill, Step}
+use Rattle.sw_machine.specs.Steps.{Accept, Arrive, Drop, Emit, Fct, FctIn, Forward, Grant, Reply, Spill}
 use Rattle.sw_model.proofs.Networks.{are_networks}
 use Rattle.sw_model.specs.Model.{network_of}
-use Rattle.sw_network.specs.Entries.{Declaration, wiring_of}
+use Rattle.sw_network.specs.Entries.{Declaration}
 use Rattle.sw_node.specs.Conditions.{CanAccept, CanEmit, CanIssue, CanReply, CanStep}
 use Rattle.sw_node.specs.Node.{Node}
 use Rattle.sw_route.specs.declared.look.Look.{Look}
 use Rattle.sw_switch.specs.Cell.{Cell}
 use Rattle.sw_switch.specs.Conditions as ports
-use Rattle.sw_topo.proofs.Ends.{partner_back, port_starts}
-use Rattle.sw_topo.specs.Wiring.{out_of, partner}
+use Rattle.sw_topo.proofs.Ends.{partner_back}
+use Rattle.sw_topo.specs.Wiring.{partner}
 use Rattle.sw_topo.specs.declared.place.PlaceEnd.TheVariants.{Switch}
 use Rattle.sw_wires.specs.Between.{Between, fcts_at, wire_at}
 

@@ -1,10 +1,10 @@
 -- The steps that belong to the link end of a cell.
-use Rattle.std.proofs.Common.{Bool, List, [], ap, false, refl, subst, sym, true, ℕ, ⊎_elim, ◌<◌, ◌∙◌, ◌∷◌, ◌≡◌}
+use Rattle.std.proofs.Common.{List, [], ap, false, refl, subst, sym, ℕ, ⊎_elim, ◌<◌, ◌∙◌, ◌∷◌, ◌≡◌}
 use Rattle.std.proofs.lemmas.Bool.{cases_eq, false≢true}
 use Rattle.sw_cells.specs.Possible.{CanStepAt}
 use Rattle.sw_char.specs.declared.nchar.NChar.{NChar}
 use Rattle.sw_char.specs.declared.nchar.NChar.TheVariants.{Data, Eep, Eop}
-use Rattle.sw_machine.proofs.Lists.{put_here, put_there}
+use Rattle.sw_machine.proofs.Lists.{put_there}
 use Rattle.sw_machine.proofs.Parts.{link_ends}
 use Rattle.sw_machine.specs.Network.{AtNode, AtSwitch, IsNetwork, Network}
 use Rattle.sw_machine.specs.Parts.{cell_of, link_end_of}

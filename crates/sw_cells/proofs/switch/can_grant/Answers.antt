@@ -1,4 +1,4 @@
-use Rattle.std.proofs.Common.{ap, sym, ◌∙◌}
+use Rattle.std.proofs.Common.{sym, ◌∙◌}
 use Rattle.sw_cells.proofs.Granting as granting
 use Rattle.sw_cells.proofs.Telling as telling
 use Rattle.sw_cells.proofs.switch.can_grant.Goals as goal

@@ -1,6 +1,5 @@
 use Rattle.std.proofs.Common.{◌<◌, ◌≡◌, ◌↔◌, IsTrue, Some, ap, arith, length, subst, sym, ◌∙◌}
 use Rattle.std.specs.Prelude.{slice_get}
-use Rattle.sw_cells.proofs.Network.{channels_are}
 use Rattle.sw_cells.proofs.Switches as switches
 use Rattle.sw_cells.proofs.Telling as telling
 use Rattle.sw_cells.proofs.switch.is_possible.Goals as goal
