@@ -1,5 +1,6 @@
 -- Calls that tell whether a step is possible, and change nothing.
-use Rattle.std.specs.Prelude.{Bool, false, true, ℕ, ◌≡◌}
+use Rattle.std.specs.Prelude.{Bool, List, false, true, ℕ, ◌≡◌}
+use Rattle.sw_cells.specs.Makes.{IsDeclaredAt}
 use Rattle.sw_cells.specs.Parts.{IsNodeState}
 use Rattle.sw_cells.specs.Picks.{CannotGrant}
 use Rattle.sw_cells.specs.SwitchParts.{IsSwitchState}
@@ -7,10 +8,11 @@ use Rattle.sw_cells.specs.declared.node.NodeStep.{NodeStep}
 use Rattle.sw_cells.specs.declared.node.NodeStep.TheVariants as at_node
 use Rattle.sw_cells.specs.declared.switch.PortStep.{PortStep}
 use Rattle.sw_cells.specs.declared.switch.PortStep.TheVariants as at_port
+use Rattle.sw_char.specs.declared.nchar.End.{End}
 use Rattle.sw_machine.specs.Network.{Network}
 use Rattle.sw_machine.specs.Parts.{link_end_of}
 use Rattle.sw_machine.specs.State.{State}
-use Rattle.sw_machine.specs.Steps.{Accept, Arrive, Drop, Emit, Fct, FctIn, Forward, Grant, IsPossible, Reply, Spill, Step, is_begin}
+use Rattle.sw_machine.specs.Steps.{Accept, Arrive, Begin, Drop, Emit, Fct, FctIn, Forward, Grant, IsPossible, Reply, Spill, Step, is_begin}
 use Rattle.sw_model.specs.Model.{network_of}
 use Rattle.sw_network.specs.Entries.{Declaration}
 use Rattle.sw_node.specs.Node.{Node}
@@ -40,6 +42,10 @@ step_at_port c at_port.Spill = Spill (partner c)
 abbrev pub NodeTells : Network → ℕ → Node → Between → Step → Bool → Type 0
 NodeTells net n node b step true = (s : State) → IsNodeState net n node b s → IsPossible net s step
 NodeTells net n node b step false = (s : State) → IsNodeState net n node b s → IsPossible net s step → ⊥
+
+-- the same of each packet that a flow declares which starts at node n
+abbrev pub BeginTells : Declaration → ℕ → Node → Bool → Type 0
+BeginTells d n node told = (flow : ℕ) (cargo : List ℕ) (end : End) (b : Between) → IsDeclaredAt d n flow cargo → NodeTells (network_of d) n node b (Begin flow cargo end) told
 
 -- the same of a switch
 abbrev pub SwitchTells : {R A : Type 0} → Declaration → ℕ → Cell R A → Between → Step → Bool → Type 0

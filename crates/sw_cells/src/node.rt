@@ -3,12 +3,11 @@
 ghost use Rattle.std.specs.Prelude.{◌≡◌, ◌<◌, IfNone, IfOk, IfSome, OnErr, length};
 ghost use Rattle.sw_cells.specs.Makes.{HasNodeState, IsDeclaredAt, NodeDoes, NodeMakes};
 ghost use Rattle.sw_cells.specs.Parts.{IsNodeFor};
-ghost use Rattle.sw_cells.specs.Possible.{NodeEnabled, NodeTells, step_at_node};
+ghost use Rattle.sw_cells.specs.Possible.{BeginTells, NodeEnabled, NodeTells, step_at_node};
 ghost use Rattle.sw_load.specs.Packets.{IsDeclaredPacket};
 ghost use Rattle.sw_machine.specs.Steps.{Accept, Arrive, Begin, Emit, Fct, FctIn, Reply};
 ghost use Rattle.sw_model.specs.Model.{network_of};
 ghost use Rattle.sw_network.specs.Entries.{Declaration};
-ghost use Rattle.sw_wires.specs.Between.{Between};
 
 use crate::between::{character_comes, fct_comes};
 use std::alloc::{AllocError, Global};
@@ -149,18 +148,10 @@ pub fn begin(
     Ok(true)
 }
 
-/// Whether `begin` would begin the packet.
-pub fn can_begin(
-    network: &Network,
-    n: u16,
-    flow: u16,
-    cargo: &[u8],
-    end: End,
-    node: &NodeCell,
-) -> bool
-    requires node { IsNodeFor network.now n node.now }
-    requires declared { IsDeclaredAt network.now n flow cargo.now }
-    ensures { (b : Between) → NodeTells (network_of network.now) n node.now b (Begin flow cargo.now end) result }
+/// Whether node `n` can begin a packet. This hangs on no packet: it can begin each that a flow which
+/// starts there declares, or none.
+pub fn can_begin(n: u16, node: &NodeCell) -> bool
+    ensures { (d : Declaration) → IsNodeFor d n node.now → BeginTells d n node.now result }
 {
     node.can_begin()
 }
