@@ -1,13 +1,18 @@
 //! The steps of a node. Each answers whether the step was possible; where it was not, nothing
 //! changed.
-ghost use Rattle.std.specs.Prelude.{◌≡◌, IfOk, OnErr};
-ghost use Rattle.sw_cells.specs.Makes.{HasNodeState, NodeDoes, NodeMakes};
+ghost use Rattle.std.specs.Prelude.{◌≡◌, ◌<◌, IfNone, IfOk, IfSome, OnErr, length};
+ghost use Rattle.sw_cells.specs.Makes.{HasNodeState, IsDeclaredAt, NodeDoes, NodeMakes};
 ghost use Rattle.sw_cells.specs.Parts.{IsNodeFor};
-ghost use Rattle.sw_machine.specs.Steps.{Accept, Arrive, Emit, Fct, FctIn, Reply};
+ghost use Rattle.sw_cells.specs.Possible.{BeginTells, NodeEnabled, NodeTells, step_at_node};
+ghost use Rattle.sw_load.specs.Packets.{IsDeclaredPacket};
+ghost use Rattle.sw_machine.specs.Steps.{Accept, Arrive, Begin, Emit, Fct, FctIn, Reply};
 ghost use Rattle.sw_model.specs.Model.{network_of};
 ghost use Rattle.sw_network.specs.Entries.{Declaration};
 
+use crate::between::{character_comes, fct_comes};
 use std::alloc::{AllocError, Global};
+use sw_char::End;
+use sw_load::in_flow;
 use sw_network::Network;
 use sw_node::NodeCell;
 use sw_wires::Wires;
@@ -95,4 +100,112 @@ pub fn reply(n: u16, node: &mut NodeCell) -> bool
     }
     node.reply();
     true
+}
+
+/// The node where the flow starts, if a packet with this cargo is one that the flow declares.
+#[tactic(auto, unfolding(sw_model::specs::Model::network_of))]
+pub fn begins_at(network: &Network, flow: u16, cargo: &[u8], end: End) -> Option<u16>
+    ensures undeclared { IfNone result (¬ IsDeclaredPacket network.now flow cargo.now) }
+    ensures declared { IfSome result (λ n. IsDeclaredAt network.now n flow cargo.now) }
+    ensures within { IfSome result (λ n. n < length network.now.nodes) }
+{
+    if in_flow(network, flow, cargo, end) {
+        Some(network.flow(flow).from())
+    } else {
+        None
+    }
+}
+
+/// The address bytes that packets of the declared flow begin with.
+#[tactic(auto, unfolding(sw_model::specs::Model::network_of))]
+fn address_of(network: &Network, flow: u16) -> &[u8]
+    requires { flow < (network_of network.now).declared_flows }
+    ensures { result.now ≡ ((network_of network.now).flow flow).address }
+{
+    network.flow(flow).address()
+}
+
+/// Node `n` begins to send a packet of a declared flow that starts there: the flow's address, the
+/// cargo and the end marker. After want of memory it is as it was.
+pub fn begin(
+    alloc: Global,
+    network: &Network,
+    n: u16,
+    flow: u16,
+    cargo: &[u8],
+    end: End,
+    node: &mut NodeCell,
+) -> Result<bool, AllocError>
+    requires node { IsNodeFor network.now n node.old }
+    requires declared { IsDeclaredAt network.now n flow cargo.now }
+    ensures made { IfOk result (λ made. NodeDoes network.now n node.old (Begin flow cargo.now end) made node.new) }
+    ensures err { OnErr result (node.new ≡ node.old) }
+{
+    if !node.can_begin() {
+        return Ok(false);
+    }
+    node.begin(alloc, address_of(network, flow), cargo, end)?;
+    Ok(true)
+}
+
+/// Whether node `n` can begin a packet. This hangs on no packet: it can begin each that a flow which
+/// starts there declares, or none.
+pub fn can_begin(n: u16, node: &NodeCell) -> bool
+    ensures { (d : Declaration) → IsNodeFor d n node.now → BeginTells d n node.now result }
+{
+    node.can_begin()
+}
+
+/// A step at a node, other than to begin a packet.
+#[derive(Clone, Copy, Debug, PartialEq, Eq)]
+pub enum NodeStep {
+    /// The end of the channel that comes to the node sends an FCT.
+    Fct,
+    /// An FCT arrives where the channel starts that goes out from it.
+    FctIn,
+    /// The first character on the wire of the channel that comes to it arrives.
+    Arrive,
+    /// It puts a character on its wire.
+    Emit,
+    /// It takes a character.
+    Accept,
+    /// It begins to send the reply that has waited longest.
+    Reply,
+}
+
+/// Whether that step of node `n` is possible.
+pub fn is_possible(
+    network: &Network,
+    n: u16,
+    step: NodeStep,
+    node: &NodeCell,
+    wires: &Wires,
+) -> bool
+    requires node { IsNodeFor network.now n node.now }
+    requires reached { HasNodeState (network_of network.now) n node.now wires.now }
+    ensures { NodeTells (network_of network.now) n node.now wires.now (step_at_node (network_of network.now) n step) result }
+{
+    match step {
+        NodeStep::Fct => node.can_issue(),
+        NodeStep::FctIn => fct_comes(wires, network.topology().out(n)),
+        NodeStep::Arrive => character_comes(wires, network.topology().into(n)),
+        NodeStep::Emit => node.can_emit(),
+        NodeStep::Accept => node.can_accept(),
+        NodeStep::Reply => node.can_reply(),
+    }
+}
+
+/// Whether some step of node `n` is possible, other than to begin a packet.
+pub fn enabled(network: &Network, n: u16, node: &NodeCell, wires: &Wires) -> bool
+    requires node { IsNodeFor network.now n node.now }
+    requires reached { HasNodeState (network_of network.now) n node.now wires.now }
+    ensures { NodeEnabled (network_of network.now) n node.now wires.now result }
+{
+    if node.enabled() {
+        return true;
+    }
+    if fct_comes(wires, network.topology().out(n)) {
+        return true;
+    }
+    character_comes(wires, network.topology().into(n))
 }
