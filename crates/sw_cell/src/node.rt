@@ -4,17 +4,19 @@ ghost use Rattle.sw_cell.specs.Answers.{Stores};
 ghost use Rattle.sw_cell.specs.Places.{HasNamed};
 ghost use Rattle.sw_cells.specs.Makes.{HasNodeState, NodeDoes, NodeMakes};
 ghost use Rattle.sw_cells.specs.Parts.{IsNodeFor, IsNodeState};
-ghost use Rattle.sw_machine.specs.Network.{AtNode};
+ghost use Rattle.sw_machine.specs.Network.{AtNode, IsDeclared};
 ghost use Rattle.sw_machine.specs.Parts.{cell_of};
 ghost use Rattle.sw_machine.specs.State.{State};
-ghost use Rattle.sw_machine.specs.Steps.{Accept, IsPossible};
+ghost use Rattle.sw_machine.specs.Steps.{Accept, Begin, IsPossible};
 ghost use Rattle.sw_model.specs.Model.{network_of};
 ghost use Rattle.sw_network.specs.Entries.{Declaration};
-ghost use Rattle.sw_node.specs.Conditions.{CanAccept};
+ghost use Rattle.sw_node.specs.Conditions.{CanAccept, CanBegin};
 ghost use Rattle.sw_steps.specs.Steps.{machine_step};
 
 use std::alloc::{AllocError, Global};
 use sw_cells::node;
+use sw_char::End;
+use sw_load::laws::declared_packets_agree;
 use sw_network::Network;
 use sw_node::NodeCell;
 use sw_steps::Step;
@@ -30,6 +32,30 @@ fn accept(alloc: Global, n: u16, cell: &mut NodeCell) -> Result<bool, AllocError
         return Ok(false);
     }
     node::accept(alloc, n, cell)
+}
+
+/// Node `n` begins to send a declared packet of a flow that starts there, if it can.
+fn begin(
+    alloc: Global,
+    network: &Network,
+    n: u16,
+    flow: u16,
+    cargo: &[u8],
+    end: End,
+    cell: &mut NodeCell,
+) -> Result<bool, AllocError>
+    requires cell { IsNodeFor network.now n cell.old }
+    requires declared { IsDeclared (network_of network.now) flow cargo.now }
+    requires from { ((network_of network.now).flow flow).from ≡ n }
+    ensures made { IfOk result (λ made. NodeDoes network.now n cell.old (Begin flow cargo.now end) made cell.new) }
+    ensures possible { OnErr result (CanBegin cell.old) }
+    ensures refused { OnErr result (cell.new ≡ cell.old) }
+{
+    if !cell.can_begin() {
+        return Ok(false);
+    }
+    declared_packets_agree();
+    node::begin(alloc, network, n, flow, cargo, end, cell)
 }
 
 /// Makes the step, which has to be one at node `n`, if it is possible. After want of memory
@@ -60,7 +86,7 @@ pub fn step_node(
         Step::Emit(_) => Ok(node::emit(network, n, cell, wires)),
         Step::Accept(_) => accept(alloc, n, cell),
         Step::Reply(_) => Ok(node::reply(n, cell)),
-        Step::Begin { .. } => Ok(false),
+        Step::Begin { flow, cargo, end } => begin(alloc, network, n, *flow, cargo, *end, cell),
         Step::Grant(_, _) | Step::Drop(_) | Step::Forward(_) | Step::Spill(_) => Ok(false),
     }
 }

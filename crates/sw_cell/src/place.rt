@@ -7,7 +7,7 @@ ghost use Rattle.sw_steps.specs.Steps.{machine_step};
 
 use crate::cell::CellId;
 use crate::fault::NetFault;
-use sw_load::in_flow;
+use sw_cells::node::begins_at;
 use sw_network::Network;
 use sw_steps::Step;
 use sw_topo::{Chan, PlaceEnd};
@@ -68,10 +68,9 @@ pub fn cell_of(network: &Network, step: &Step) -> Result<CellId, NetFault>
 {
     let found = match step {
         Step::Begin { flow, cargo, end } => {
-            return if in_flow(network, *flow, cargo, *end) {
-                Ok(CellId::Node(network.flow(*flow).from()))
-            } else {
-                Err(NetFault::NotInFlow)
+            return match begins_at(network, *flow, cargo, *end) {
+                Some(n) => Ok(CellId::Node(n)),
+                None => Err(NetFault::NotInFlow),
             };
         }
         Step::Fct(channel) => end_cell(network, *channel),

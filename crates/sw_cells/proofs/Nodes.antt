@@ -16,12 +16,12 @@ use Rattle.sw_link.specs.Ends.{Received, arrived, asked, granted, may_issue}
 use Rattle.sw_machine.proofs.Credit.{reached_numbers}
 use Rattle.sw_machine.proofs.Cuts.{cut_byte, cut_marker}
 use Rattle.sw_machine.proofs.Lists.{put_here}
-use Rattle.sw_machine.specs.Network.{IsNetwork, Network}
-use Rattle.sw_machine.specs.State.{State, after_accept, after_arrive, after_emit, after_fct, after_fct_in, after_reply, owed_after, owed_with, pending_with, reply_packet}
-use Rattle.sw_machine.specs.Steps.{Accept, Arrive, Emit, Fct, FctIn, Leads, Reply, Step}
+use Rattle.sw_machine.specs.Network.{IsDeclared, IsNetwork, Network, form}
+use Rattle.sw_machine.specs.State.{State, after_accept, after_arrive, after_begin, after_emit, after_fct, after_fct_in, after_reply, owed_after, owed_with, pending_with, put, reply_packet}
+use Rattle.sw_machine.specs.Steps.{Accept, Arrive, Begin, Emit, Fct, FctIn, Leads, Reply, Step}
 use Rattle.sw_model.specs.Model.{answer_of, memory_after}
-use Rattle.sw_node.specs.Changes.{accepted, emitted, first_reply, replied, took, with_credit, with_memory, with_received, without_front}
-use Rattle.sw_node.specs.Conditions.{CanAccept, CanEmit, CanIssue, CanReply}
+use Rattle.sw_node.specs.Changes.{accepted, begun, emitted, first_reply, replied, took, with_credit, with_memory, with_received, without_front}
+use Rattle.sw_node.specs.Conditions.{CanAccept, CanBegin, CanEmit, CanIssue, CanReply}
 use Rattle.sw_node.specs.Node.{Node, config_of, memory_of, slots}
 use Rattle.sw_rmap.specs.Answers.{TargetView}
 use Rattle.sw_wires.specs.Between.{Between, fcts_at, wire_at, with_fcts, with_wire}
@@ -297,6 +297,42 @@ module _ (net : Network) (n : ℕ) (in_net : n < net.nodes) (node : Node) (b : B
         let h = p.1 in
         let l = ap length (sym is.part.pending ∙ h.waits) in
         never (record { waits = omega arith; sends_nothing = sym is.part.to_send ∙ h.sends_nothing }),
+    refl,
+    refl,
+  )
+
+  -- ---- beginning
+
+  pub begin_made : (f : ℕ) (cargo : List ℕ) (end : End) → IsDeclared net f cargo → (net.flow f).from ≡ n → CanBegin node
+      → NodeMakes net n node b (Begin f cargo end) true (begun node (net.flow f).address cargo end) b
+  begin_made f cargo end declared from can s is =
+      let p = is.part in
+      let packet = form net f 0 cargo end in
+      let t = after_begin s (net.flow f).from packet in
+      let h : Leads net s (Begin f cargo end) t = record { declared = declared; sends_nothing = ap s.to_send from ∙ p.to_send ∙ can.sends_nothing; none_pending = ap s.pending from ∙ p.pending ∙ can.none_waits; after = refl } in (
+        t,
+        h,
+        record {
+          reached = reached_more net s t (Begin f cargo end) is.reached h;
+          part = record {
+            credit = p.credit;
+            buffer = p.buffer;
+            outstanding = p.outstanding;
+            to_send = ap (put s.to_send (net.flow f).from packet) (sym from) ∙ put_here s.to_send (net.flow f).from packet;
+            pending = p.pending;
+            owed = p.owed;
+            taken = p.taken;
+            memory = p.memory;
+          };
+          between = record { all_wires = is.between.all_wires; all_fcts = is.between.all_fcts; wire = is.between.wire; fcts = is.between.fcts };
+        },
+      )
+
+  pub begin_not : (f : ℕ) (cargo : List ℕ) (end : End) → (net.flow f).from ≡ n → (CanBegin node → ⊥) → NodeMakes net n node b (Begin f cargo end) false node b
+  begin_not f cargo end from never = (
+    λ s is p.
+        let h = p.1 in
+        never (record { sends_nothing = sym is.part.to_send ∙ ap s.to_send (sym from) ∙ h.sends_nothing; none_waits = sym is.part.pending ∙ ap s.pending (sym from) ∙ h.none_pending }),
     refl,
     refl,
   )

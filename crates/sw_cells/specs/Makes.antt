@@ -1,6 +1,7 @@
 -- A call that makes one of the machine's steps.
-use Rattle.std.specs.Prelude.{Bool, false, true, ℕ, ◌≡◌}
+use Rattle.std.specs.Prelude.{Bool, List, false, true, ℕ, ◌≡◌}
 use Rattle.sw_cells.specs.Parts.{IsNodeFor, IsNodeState}
+use Rattle.sw_load.specs.Packets.{IsDeclaredPacket}
 use Rattle.sw_machine.specs.Network.{Network}
 use Rattle.sw_machine.specs.State.{State}
 use Rattle.sw_machine.specs.Steps.{IsPossible, Leads, Step}
@@ -23,3 +24,8 @@ pub record NodeDoes (d : Declaration) (n : ℕ) (node : Node) (step : Step) (don
 -- there is a reached state whose parts these are
 abbrev pub HasNodeState : Network → ℕ → Node → Between → Type 0
 HasNodeState net n node b = ∥ ((s : State) × IsNodeState net n node b s) ∥₁
+
+-- a flow that starts at node n declares the packet with this cargo
+pub record IsDeclaredAt (d : Declaration) (n flow : ℕ) (cargo : List ℕ) : Type 0 where
+  pub packet : IsDeclaredPacket d flow cargo
+  pub from : ((network_of d).flow flow).from ≡ n

@@ -1,13 +1,16 @@
 //! The steps of a node. Each answers whether the step was possible; where it was not, nothing
 //! changed.
-ghost use Rattle.std.specs.Prelude.{◌≡◌, IfOk, OnErr};
-ghost use Rattle.sw_cells.specs.Makes.{HasNodeState, NodeDoes, NodeMakes};
+ghost use Rattle.std.specs.Prelude.{◌≡◌, ◌<◌, IfNone, IfOk, IfSome, OnErr, length};
+ghost use Rattle.sw_cells.specs.Makes.{HasNodeState, IsDeclaredAt, NodeDoes, NodeMakes};
 ghost use Rattle.sw_cells.specs.Parts.{IsNodeFor};
-ghost use Rattle.sw_machine.specs.Steps.{Accept, Arrive, Emit, Fct, FctIn, Reply};
+ghost use Rattle.sw_load.specs.Packets.{IsDeclaredPacket};
+ghost use Rattle.sw_machine.specs.Steps.{Accept, Arrive, Begin, Emit, Fct, FctIn, Reply};
 ghost use Rattle.sw_model.specs.Model.{network_of};
 ghost use Rattle.sw_network.specs.Entries.{Declaration};
 
 use std::alloc::{AllocError, Global};
+use sw_char::End;
+use sw_load::in_flow;
 use sw_network::Network;
 use sw_node::NodeCell;
 use sw_wires::Wires;
@@ -95,4 +98,50 @@ pub fn reply(n: u16, node: &mut NodeCell) -> bool
     }
     node.reply();
     true
+}
+
+/// The node where the flow starts, if a packet with this cargo is one that the flow declares.
+#[tactic(auto, unfolding(sw_model::specs::Model::network_of))]
+pub fn begins_at(network: &Network, flow: u16, cargo: &[u8], end: End) -> Option<u16>
+    ensures undeclared { IfNone result (¬ IsDeclaredPacket network.now flow cargo.now) }
+    ensures declared { IfSome result (λ n. IsDeclaredAt network.now n flow cargo.now) }
+    ensures within { IfSome result (λ n. n < length network.now.nodes) }
+{
+    if in_flow(network, flow, cargo, end) {
+        Some(network.flow(flow).from())
+    } else {
+        None
+    }
+}
+
+/// The address bytes that packets of the declared flow begin with.
+#[tactic(auto, unfolding(sw_model::specs::Model::network_of))]
+fn address_of(network: &Network, flow: u16) -> &[u8]
+    requires { flow < (network_of network.now).declared_flows }
+    ensures { result.now ≡ ((network_of network.now).flow flow).address }
+{
+    network.flow(flow).address()
+}
+
+/// Node `n` begins to send a packet of a declared flow that starts there: the flow's address, the
+/// cargo and the end marker. After want of memory it is as it was.
+pub fn begin(
+    alloc: Global,
+    network: &Network,
+    n: u16,
+    flow: u16,
+    cargo: &[u8],
+    end: End,
+    node: &mut NodeCell,
+) -> Result<bool, AllocError>
+    requires node { IsNodeFor network.now n node.old }
+    requires declared { IsDeclaredAt network.now n flow cargo.now }
+    ensures made { IfOk result (λ made. NodeDoes network.now n node.old (Begin flow cargo.now end) made node.new) }
+    ensures err { OnErr result (node.new ≡ node.old) }
+{
+    if !node.can_begin() {
+        return Ok(false);
+    }
+    node.begin(alloc, address_of(network, flow), cargo, end)?;
+    Ok(true)
 }

@@ -2,3 +2,4 @@ mod Headers
 mod Ends
 mod Spelled
 mod Declared
+pub mod Declares

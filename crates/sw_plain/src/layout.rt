@@ -155,7 +155,7 @@ pub fn slots(network: &Network, n: u16) -> usize
 }
 
 /// Whether a packet with this cargo is one that flow f declares.
-#[tactic(auto, using(crate::proofs::Declares::declared_are_declared))]
+#[tactic(auto, using(sw_load::proofs::Declares::declared_are_declared))]
 pub fn declares(network: &Network, f: u16, cargo: &[u8], end: End) -> bool
     ensures { IsTrue result ↔ IsDeclared (network_of network.now) f cargo.now }
 {
