@@ -2,9 +2,9 @@
 ghost use Rattle.std.specs.Prelude.{◌≡◌, IfOk, OnErr};
 ghost use Rattle.sw_cell.specs.Answers.{Stores};
 ghost use Rattle.sw_cell.specs.Places.{HasNamed};
-ghost use Rattle.sw_cells.specs.Makes.{HasNodeState, NodeDoes, NodeMakes};
+ghost use Rattle.sw_cells.specs.Makes.{HasNodeState, IsDeclaredAt, NodeDoes, NodeMakes};
 ghost use Rattle.sw_cells.specs.Parts.{IsNodeFor, IsNodeState};
-ghost use Rattle.sw_machine.specs.Network.{AtNode, IsDeclared};
+ghost use Rattle.sw_machine.specs.Network.{AtNode};
 ghost use Rattle.sw_machine.specs.Parts.{cell_of};
 ghost use Rattle.sw_machine.specs.State.{State};
 ghost use Rattle.sw_machine.specs.Steps.{Accept, Begin, IsPossible};
@@ -16,7 +16,6 @@ ghost use Rattle.sw_steps.specs.Steps.{machine_step};
 use std::alloc::{AllocError, Global};
 use sw_cells::node;
 use sw_char::End;
-use sw_load::laws::declared_packets_agree;
 use sw_network::Network;
 use sw_node::NodeCell;
 use sw_steps::Step;
@@ -45,8 +44,7 @@ fn begin(
     cell: &mut NodeCell,
 ) -> Result<bool, AllocError>
     requires cell { IsNodeFor network.now n cell.old }
-    requires declared { IsDeclared (network_of network.now) flow cargo.now }
-    requires from { ((network_of network.now).flow flow).from ≡ n }
+    requires declared { IsDeclaredAt network.now n flow cargo.now }
     ensures made { IfOk result (λ made. NodeDoes network.now n cell.old (Begin flow cargo.now end) made cell.new) }
     ensures possible { OnErr result (CanBegin cell.old) }
     ensures refused { OnErr result (cell.new ≡ cell.old) }
@@ -54,7 +52,6 @@ fn begin(
     if !cell.can_begin() {
         return Ok(false);
     }
-    declared_packets_agree();
     node::begin(alloc, network, n, flow, cargo, end, cell)
 }
 

@@ -1,11 +1,13 @@
 use Rattle.std.proofs.Common.{ap, false, sym, subst, ◌∙◌, ◌≡◌, ◌⊎◌, ⊎_elim, ℕ}
 use Rattle.sw_cell.proofs.Nodes as nodes
-use Rattle.sw_cells.proofs.Nodes.{accept_made}
+use Rattle.sw_cell.specs.Places.{HasNamed}
+use Rattle.sw_cells.proofs.Nodes.{accept_made, begin_made}
+use Rattle.sw_load.proofs.Declares.{declared_are_declared}
 use Rattle.sw_cells.proofs.Network.{answers_as, in_network}
 use Rattle.sw_cells.specs.Makes.{NodeMakes}
-use Rattle.sw_machine.specs.Network.{AtNode}
+use Rattle.sw_machine.specs.Network.{AtNode, IsDeclared}
 use Rattle.sw_machine.specs.Parts.{cell_of}
-use Rattle.sw_machine.specs.Steps.{Accept, IsPossible}
+use Rattle.sw_machine.specs.Steps.{Accept, Begin, IsPossible}
 use Rattle.sw_network.specs.Entries.{Declaration}
 use Rattle.sw_network.specs.Valid.{IsValid}
 use Rattle.sw_node.specs.Node.{Node}
@@ -59,8 +61,33 @@ returns-in-Accept-clause-possible c =
     subst (IsPossible (network_of d) s) (ap Accept same ∙ sym is) (made.0, made.1))
     c.accept.ensures.possible
 
-pub returns-in-Begin-clause-made : goal.returns-in-Begin-clause-made
-returns-in-Begin-clause-made c = ?
+pub begin-requires-clause-declared : goal.begin-requires-clause-declared
+begin-requires-clause-declared c =
+    let d = c.args.network.now in
+    let net = network_of d in
+    let is = ap machine_step c.in-Begin.is in
+    let packet = subst (HasNamed net) is c.requires.named in
+    let at = subst (λ k. cell_of net k ≡ AtNode c.args.n) is c.requires.at in
+    record {
+      packet = (declared_are_declared d c.in-Begin.flow c.deref.result.now).1 (subst (IsDeclared net c.in-Begin.flow) (sym c.deref.ensures.value) packet);
+      from = sym (nodes.node_of c.args.n (net.flow c.in-Begin.flow).from at);
+    }
+
+pub returns-in-Begin-clause-possible : goal.returns-in-Begin-clause-possible
+returns-in-Begin-clause-possible c =
+    let d = c.args.network.now in
+    let net = network_of d in
+    let n = c.args.n in
+    let node = c.args.cell.now in
+    let cargo = c.deref.result.now in
+    let is = ap machine_step c.in-Begin.is in
+    let packet = subst (IsDeclared net c.in-Begin.flow) (sym c.deref.ensures.value) (subst (HasNamed net) is c.requires.named) in
+    let at = subst (λ k. cell_of net k ≡ AtNode n) is c.requires.at in
+    let from = sym (nodes.node_of n (net.flow c.in-Begin.flow).from at) in
+    nodes.on_err c.begin.result
+    (λ can s state. let made = begin_made net n (in_network d n node c.requires.cell) node c.args.wires.now c.in-Begin.flow cargo c.in-Begin.end packet from can s state in
+    subst (IsPossible net s) (ap (λ k. Begin c.in-Begin.flow k c.in-Begin.end) c.deref.ensures.value ∙ sym is) (made.0, made.1))
+    c.begin.ensures.possible
 
 pub returns-in-Grant-3-clause-made : goal.returns-in-Grant-3-clause-made
 returns-in-Grant-3-clause-made c = never c.args.network.now c.requires.cell.valid c.args.n c.args.cell.now c.args.wires.now c.args.step.now c.requires.at c.in-Grant.is
