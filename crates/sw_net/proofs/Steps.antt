@@ -1,12 +1,14 @@
 -- A step of one cell, on the whole network.
 use mathlib.Core.Logic.{∥∥₁_map}
-use Rattle.std.proofs.Common.{ℕ, Bool, Err, List, Ok, Some, [], ◌∷◌, ap, arith, false, length, length-set, refl, set, subst, suc, sym, true, zero, ◌<◌, ◌≡◌, ◌≢◌, ◌∙◌, ⊎_elim}
+use Rattle.std.proofs.Common.{ℕ, Bool, Err, List, Ok, Some, [], ◌∷◌, ap, arith, false, get_or, length, length-set, refl, set, subst, suc, sym, true, zero, ◌<◌, ◌≡◌, ◌≢◌, ◌∙◌, ⊎_elim}
 use Rattle.std.proofs.lemmas.Bool.{cases_eq}
-use Rattle.std.proofs.lemmas.Option.{same_Some, slice_get_within}
+use Rattle.std.proofs.lemmas.Option.{same_Some, slice_get-get_or, slice_get_within}
 use Rattle.std.specs.Prelude.{OnErr, slice_get}
 use Rattle.sw_cell.specs.Answers.{Answers, Stores, done}
-use Rattle.sw_cell.specs.Places.{HasNamed, IsUndeclared}
-use Rattle.sw_cell.specs.declared.fault.NetFault.TheVariants.{Memory}
+use Rattle.sw_cell.specs.Places.{HasNamed, IsAt, IsDoneAt, IsUndeclared}
+use Rattle.sw_cell.specs.declared.cell.CellId.TheVariants as place
+use Rattle.sw_cell.specs.declared.fault.NetFault.{NetFault}
+use Rattle.sw_cell.specs.declared.fault.NetFault.TheVariants.{Memory, NotEnabled, NotInFlow}
 use Rattle.sw_cells.proofs.Network.{nodes_are}
 use Rattle.sw_cells.specs.Makes.{HasNodeState, NodeMakes}
 use Rattle.sw_cells.specs.Parts.{IsNodeFor, IsNodePart, IsNodeState}
@@ -21,7 +23,7 @@ use Rattle.sw_machine.specs.Steps.{Accept, Arrive, Begin, Drop, Emit, Fct, FctIn
 use Rattle.sw_model.proofs.Networks.{are_networks}
 use Rattle.sw_model.specs.Model.{network_of}
 use Rattle.sw_net.proofs.Others.{node_stays, switch_stays}
-use Rattle.sw_net.specs.Net.{IsNet, IsNetState, NetView, net_of}
+use Rattle.sw_net.specs.Net.{IsNet, IsNetState, NetAnswers, NetView, net_of}
 use Rattle.sw_network.specs.Entries.{Declaration}
 use Rattle.sw_node.specs.Node.{Node}
 use Rattle.sw_route.specs.declared.look.Look.{Look}
@@ -186,3 +188,24 @@ module _ {R A : Type 0} (answer : R → ℕ → Look) (ports : A → ℕ) (d : D
     pub switch_refused : (made : Bool) (after : Cell R A) (c : Between) → SwitchMakes d w cell b step made after c → OnErr (done made) (net_of d nodes (set switches w after) c ≡ net_of d nodes switches b)
     switch_refused true after c made = tt
     switch_refused false after c made = same_switch after c made.1 made.2
+
+-- ---- the cell that the code finds
+
+module _ {R A : Type 0} (answer : R → ℕ → Look) (ports : A → ℕ) (v w : NetView R A) (same : v ≡ w) (is : IsNet answer ports v) (step : Step) where
+  pub node_is_at : (n : ℕ) → IsAt w.declared step (place.Node n) → IsAt v.declared step (place.Node n)
+  node_is_at n h = subst (λ (k : NetView R A). IsAt k.declared step (place.Node n)) (sym same) h
+
+  pub node_found : (n : ℕ) (x : Node) → IsAt w.declared step (place.Node n) → x ≡ get_or v.nodes n x → slice_get v.nodes n ≡ Some x
+  node_found n x h e = let inside = (node_is_at n h).inside in let all = is.all_nodes in slice_get-get_or v.nodes n x (omega arith) ∙ ap Some (sym e)
+
+  pub switch_is_at : (n : ℕ) → IsAt w.declared step (place.Switch n) → IsAt v.declared step (place.Switch n)
+  switch_is_at n h = subst (λ (k : NetView R A). IsAt k.declared step (place.Switch n)) (sym same) h
+
+  pub switch_found : (n : ℕ) (x : Cell R A) → IsAt w.declared step (place.Switch n) → x ≡ get_or v.switches n x → slice_get v.switches n ≡ Some x
+  switch_found n x h e = let inside = (switch_is_at n h).inside in let all = is.all_switches in slice_get-get_or v.switches n x (omega arith) ∙ ap Some (sym e)
+
+-- a step that is nowhere possible
+pub nowhere : {R A : Type 0} (v : NetView R A) (after : NetView R A) (step : Step) (fault : NetFault) → IsDoneAt v.declared step (Err fault) → NetAnswers v step (Err fault) after
+nowhere v after step NotInFlow h = h
+nowhere v after step NotEnabled h = (h.0, λ s is p. h.1 s p)
+nowhere v after step Memory h = absurd h
