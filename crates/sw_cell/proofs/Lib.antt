@@ -1,0 +1,3 @@
+pub mod Spilling
+pub mod Nodes
+pub mod Cells

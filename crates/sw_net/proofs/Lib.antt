@@ -1,0 +1,2 @@
+pub mod Others
+pub mod Steps

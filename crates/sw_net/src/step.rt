@@ -1,0 +1,52 @@
+//! The machine's steps.
+ghost use Rattle.std.specs.Prelude.{◌≡◌, OnErr};
+ghost use Rattle.sw_cell.specs.Places.{IsAt};
+ghost use Rattle.sw_cell.specs.declared.cell.CellId.{CellId};
+ghost use Rattle.sw_steps.specs.Steps.{machine_step};
+
+use crate::net::Net;
+use std::alloc::Global;
+use sw_arb::Arbiter;
+use sw_cell::{CellId, NetFault, cell_of, made_or_not, step_node, step_switch};
+use sw_route::Routing;
+use sw_steps::Step;
+
+impl<'n, R: Routing, A: Arbiter> Net<'n, R, A> {
+    ghost use Rattle.sw_net.specs.Net.{NetAnswers};
+
+    /// Makes a step of node `n`.
+    fn step_node(&mut self, alloc: Global, n: u16, step: &Step) -> Result<(), NetFault>
+        requires { IsAt self.old.declared (machine_step step.now) (CellId.Node n) }
+        ensures network { self.new.declared ≡ self.old.declared }
+        ensures answers { NetAnswers self.old (machine_step step.now) result self.new }
+        ensures refused { OnErr result (self.new ≡ self.old) }
+    {
+        let cell = &mut self.nodes[n as usize];
+        made_or_not(step_node(alloc, self.network, n, cell, &mut self.wires, step)?)
+    }
+
+    /// Makes a step of switch `w`.
+    fn step_switch(&mut self, w: u16, step: &Step) -> Result<(), NetFault>
+        requires { IsAt self.old.declared (machine_step step.now) (CellId.Switch w) }
+        ensures network { self.new.declared ≡ self.old.declared }
+        ensures answers { NetAnswers self.old (machine_step step.now) result self.new }
+        ensures refused { OnErr result (self.new ≡ self.old) }
+    {
+        let cell = &mut self.switches[w as usize];
+        made_or_not(step_switch(self.network, w, cell, &mut self.wires, step))
+    }
+
+    /// Makes the step, if the machine can; else nothing changes. The network's flows have to
+    /// declare the packet that it begins, if it begins one. Only a step that begins a packet or
+    /// takes a character at a node may want memory, and is not made then.
+    pub fn step(&mut self, alloc: Global, step: &Step) -> Result<(), NetFault>
+        ensures network { self.new.declared ≡ self.old.declared }
+        ensures answers { NetAnswers self.old (machine_step step.now) result self.new }
+        ensures refused { OnErr result (self.new ≡ self.old) }
+    {
+        match cell_of(self.network, step)? {
+            CellId::Node(n) => self.step_node(alloc, n, step),
+            CellId::Switch(w) => self.step_switch(w, step),
+        }
+    }
+}
