@@ -8,6 +8,7 @@ ghost use Rattle.sw_load.specs.Packets.{IsDeclaredPacket};
 ghost use Rattle.sw_machine.specs.Steps.{Accept, Arrive, Begin, Emit, Fct, FctIn, Reply};
 ghost use Rattle.sw_model.specs.Model.{network_of};
 ghost use Rattle.sw_network.specs.Entries.{Declaration};
+ghost use Rattle.sw_node.specs.Conditions.{CanAccept, CanBegin};
 
 use crate::between::{character_comes, fct_comes};
 use std::alloc::{AllocError, Global};
@@ -79,9 +80,10 @@ pub fn emit(network: &Network, n: u16, node: &mut NodeCell, wires: &mut Wires) -
     true
 }
 
-/// Node `n` takes a character. After want of memory it is as it was.
+/// Node `n` takes a character. Memory is wanted only where it can, and then the node is as it was.
 pub fn accept(alloc: Global, n: u16, node: &mut NodeCell) -> Result<bool, AllocError>
     ensures made { IfOk result (λ made. (d : Declaration) → IsNodeFor d n node.old → NodeDoes d n node.old (Accept n) made node.new) }
+    ensures possible { OnErr result (CanAccept node.old) }
     ensures err { OnErr result (node.new ≡ node.old) }
 {
     if !node.can_accept() {
@@ -126,7 +128,7 @@ fn address_of(network: &Network, flow: u16) -> &[u8]
 }
 
 /// Node `n` begins to send a packet of a declared flow that starts there: the flow's address, the
-/// cargo and the end marker. After want of memory it is as it was.
+/// cargo and the end marker. Memory is wanted only where it can, and then the node is as it was.
 pub fn begin(
     alloc: Global,
     network: &Network,
@@ -139,6 +141,7 @@ pub fn begin(
     requires node { IsNodeFor network.now n node.old }
     requires declared { IsDeclaredAt network.now n flow cargo.now }
     ensures made { IfOk result (λ made. NodeDoes network.now n node.old (Begin flow cargo.now end) made node.new) }
+    ensures possible { OnErr result (CanBegin node.old) }
     ensures err { OnErr result (node.new ≡ node.old) }
 {
     if !node.can_begin() {
