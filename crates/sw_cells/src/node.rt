@@ -80,7 +80,8 @@ pub fn emit(network: &Network, n: u16, node: &mut NodeCell, wires: &mut Wires) -
     true
 }
 
-/// Node `n` takes a character. Memory is wanted only where it can, and then the node is as it was.
+/// Node `n` takes a character. Memory is wanting only where that is possible; the node is then as it
+/// was.
 pub fn accept(alloc: Global, n: u16, node: &mut NodeCell) -> Result<bool, AllocError>
     ensures made { IfOk result (λ made. (d : Declaration) → IsNodeFor d n node.old → NodeDoes d n node.old (Accept n) made node.new) }
     ensures possible { OnErr result (CanAccept node.old) }
@@ -128,7 +129,8 @@ fn address_of(network: &Network, flow: u16) -> &[u8]
 }
 
 /// Node `n` begins to send a packet of a declared flow that starts there: the flow's address, the
-/// cargo and the end marker. Memory is wanted only where it can, and then the node is as it was.
+/// cargo and the end marker. Memory is wanting only where that is possible; the node is then as it
+/// was.
 pub fn begin(
     alloc: Global,
     network: &Network,
