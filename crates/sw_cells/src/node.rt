@@ -3,7 +3,7 @@
 ghost use Rattle.std.specs.Prelude.{◌≡◌, ◌<◌, IfNone, IfOk, IfSome, OnErr, length};
 ghost use Rattle.sw_cells.specs.Makes.{HasNodeState, IsDeclaredAt, NodeDoes, NodeMakes};
 ghost use Rattle.sw_cells.specs.Parts.{IsNodeFor};
-ghost use Rattle.sw_cells.specs.Possible.{BeginTells, NodeEnabled, NodeTells, step_at_node};
+ghost use Rattle.sw_cells.specs.Possible.{BeginTells, NodeEnabled, NodeHas, NodeTells, step_at_node};
 ghost use Rattle.sw_load.specs.Packets.{IsDeclaredPacket};
 ghost use Rattle.sw_machine.specs.Steps.{Accept, Arrive, Begin, Emit, Fct, FctIn, Reply};
 ghost use Rattle.sw_model.specs.Model.{network_of};
@@ -213,4 +213,32 @@ pub fn enabled(network: &Network, n: u16, node: &NodeCell, wires: &Wires) -> boo
         return true;
     }
     character_comes(wires, network.topology().into(n))
+}
+
+/// A step of node `n` that is possible, other than to begin a packet: the first in the order of
+/// [`NodeStep`].
+pub fn first_possible(network: &Network, n: u16, node: &NodeCell, wires: &Wires) -> Option<NodeStep>
+    requires node { IsNodeFor network.now n node.now }
+    requires reached { HasNodeState (network_of network.now) n node.now wires.now }
+    ensures { NodeHas (network_of network.now) n node.now wires.now result }
+{
+    if is_possible(network, n, NodeStep::Fct, node, wires) {
+        return Some(NodeStep::Fct);
+    }
+    if is_possible(network, n, NodeStep::FctIn, node, wires) {
+        return Some(NodeStep::FctIn);
+    }
+    if is_possible(network, n, NodeStep::Arrive, node, wires) {
+        return Some(NodeStep::Arrive);
+    }
+    if is_possible(network, n, NodeStep::Emit, node, wires) {
+        return Some(NodeStep::Emit);
+    }
+    if is_possible(network, n, NodeStep::Accept, node, wires) {
+        return Some(NodeStep::Accept);
+    }
+    if is_possible(network, n, NodeStep::Reply, node, wires) {
+        return Some(NodeStep::Reply);
+    }
+    None
 }
