@@ -1,16 +1,16 @@
 -- `decide` has one answer.
 use Rattle.std.proofs.Common.{◌≡◌, ◌∙◌, ℕ, ◌+◌, List, [], ◌∷◌, ◌++◌, ap, length, refl, subst, sym}
-use Rattle.std.specs.Prelude.{Err, Ok, Result, Some, slice_get}
+use Rattle.std.specs.Prelude.{Err, Ok, Result}
 use Rattle.sw_network.specs.Entries.{Declaration}
 use Rattle.sw_tree.specs.declared.fault.TextFault.{TextFault}
 use Rattle.sw_file.specs.Network.{network_text}
 use Rattle.sw_cert.specs.Grammar.{spelling}
 use Rattle.sw_cert.specs.Text.{Contents}
-use Rattle.sw_cycle.specs.Cycles.{CauseEntry, CycleEntry, round}
+use Rattle.sw_cycle.specs.Cycles.{CauseEntry, round}
 use Rattle.sw_cause.specs.Causes.{AreChosen}
 use Rattle.sw_search.specs.declared.verdict.Verdict.{Verdict}
 use Rattle.sw_search.specs.declared.verdict.Verdict.TheVariants.{Misrouted, Cyclic, Free}
-use Rattle.sw_search.specs.Verdicts.{IsCyclic, IsVerdict}
+use Rattle.sw_search.specs.Verdicts.{IsVerdict}
 use Rattle.sw_search.proofs.Determined.{determined}
 use Rattle.sw_texts.specs.VerdictTexts.{cycle_text, cyclic_words, misrouted_words}
 use Rattle.sw_texts.specs.Lines.{line}

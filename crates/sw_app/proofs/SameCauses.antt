@@ -1,7 +1,6 @@
 -- Chosen causes of one dependency are told by the same words.
-use Rattle.std.proofs.Common.{◌≡◌, ◌∙◌, ℕ, zero, suc, ◌<◌, List, [], ◌∷◌, ◌++◌, ap, arith, inl, inr, length, refl, subst, sym}
-use Rattle.std.specs.Prelude.{slice_get, None, Option, Some}
-use Rattle.std.specs.List.{flat_map, zip}
+use Rattle.std.proofs.Common.{◌≡◌, ◌∙◌, ℕ, suc, List, [], ◌∷◌, ◌++◌, ap, arith, inl, inr, length, refl, subst, sym}
+use Rattle.std.specs.Prelude.{slice_get, Option, Some}
 use Rattle.std.proofs.lemmas.Bool.{cases_lt}
 use Rattle.sw_topo.specs.Wiring.{out}
 use Rattle.sw_topo.specs.declared.place.PlaceEnd.{PlaceEnd}

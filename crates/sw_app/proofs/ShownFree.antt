@@ -1,6 +1,6 @@
 -- What is written with status 0 is an accepted certificate of a network that never locks up.
-use Rattle.std.proofs.Common.{◌≡◌, ◌∙◌, ℕ, ◌≤◌, List, [], ◌∷◌, arith, length, refl, subst, sym}
-use Rattle.std.specs.Prelude.{IfSome, None, Ok, Option, Some}
+use Rattle.std.proofs.Common.{◌≡◌, ◌∙◌, ℕ, ◌≤◌, List, [], ◌∷◌, arith, length, subst, sym}
+use Rattle.std.specs.Prelude.{IfSome, None, Option, Some}
 use Rattle.std.specs.Io.KnownBytes.{Appends}
 use Rattle.std.specs.List.{AllByRecursion, AllZip}
 use Rattle.std.proofs.lemmas.List.Elements.{recursion_from_All}
@@ -11,12 +11,10 @@ use Rattle.sw_network.specs.Valid.{IsFlow, IsValid}
 use Rattle.sw_flow.specs.declared.place.Place.{Place}
 use Rattle.sw_flow.specs.Places.{ends_of, IsPlaceList}
 use Rattle.sw_cert.specs.Grammar.{HasText, IsBlock}
-use Rattle.sw_cert.specs.Text as certificate
 use Rattle.sw_cert.specs.Text.{Contents}
 use Rattle.sw_check.proofs.Accepted.{not_refused_is_accepted}
 use Rattle.sw_check.proofs.Headline.{is_deadlock_free}
 use Rattle.sw_check.specs.Contents.{certificate_of}
-use Rattle.sw_file.specs.Network.{network_text}
 use Rattle.sw_search.specs.declared.verdict.Verdict.{Verdict}
 use Rattle.sw_search.specs.declared.verdict.Verdict.TheVariants.{Misrouted, Cyclic, Free}
 use Rattle.sw_search.specs.Laws.{IsChecked}

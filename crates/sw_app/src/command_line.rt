@@ -3,7 +3,7 @@ ghost use Rattle.std.specs.Prelude.{◌≡◌, ℕ, map, option_map, true, false
 ghost use Rattle.clap.specs.Words.{app_of, first_of, found_of, kind_of, rows_of, subcommand_rows_of};
 ghost use Rattle.clap.specs.declared.builder.Command.TheViews.{out-Command};
 ghost use Rattle.sw_app.specs.declared.command_line.WordsFault.TheVariants.{Memory};
-ghost use Rattle.sw_app.specs.CommandLine.{check_app, decide_app, report_app, route_app, swcheck_app, Gives, IsCallOf, IsMatched, Refuses, ShowsKind};
+ghost use Rattle.sw_app.specs.CommandLine.{check_app, decide_app, report_app, route_app, swcheck_app, top_app, Gives, IsCallOf, IsMatched, Refuses, ShowsKind};
 
 use clap::error::ErrorKind;
 use clap::{Arg, ArgMatches, Command};
@@ -114,13 +114,19 @@ fn check_command<'a>(alloc: Global) -> Result<Command<'a>, AllocError>
     check.arg(file)?.arg(certificate)
 }
 
+fn top_command<'a>(alloc: Global) -> Command<'a>
+    ensures { app_of result ≡ top_app }
+{
+    Command::new(alloc, "swcheck")
+        .about("Checks SpaceWire networks")
+        .subcommand_required(true)
+}
+
 fn swcheck_command<'a>(alloc: Global) -> Result<Command<'a>, AllocError>
     ensures { IfOk result (λ c. app_of c ≡ swcheck_app) }
 {
-    let top = Command::new(alloc, "swcheck")
-        .about("Checks SpaceWire networks")
-        .subcommand_required(true);
-    top.subcommand(route_command(alloc)?)?
+    top_command(alloc)
+        .subcommand(route_command(alloc)?)?
         .subcommand(decide_command(alloc)?)?
         .subcommand(check_command(alloc)?)?
         .subcommand(report_command(alloc)?)

@@ -1,5 +1,6 @@
 //! The texts of a verdict.
-ghost use Rattle.std.specs.Prelude.{◌≡◌, IfOk, string_bytes};
+ghost use Rattle.std.specs.Prelude.{◌≡◌, ◌≤◌, IfOk, string_bytes};
+ghost use Rattle.std.specs.List.{AllByRecursion};
 ghost use Rattle.sw_cert.specs.Grammar.{spelling};
 ghost use Rattle.sw_cert.specs.Text.{Says};
 ghost use Rattle.sw_search.specs.Verdicts.{IsCyclic, IsFree, IsVerdict};
@@ -23,6 +24,11 @@ fn shown_text(alloc: Global, network: &Network, cycle: &Cycle) -> Result<String,
     cycle_text(alloc, network, cycle)
 }
 
+// Numbers of 16 bits have a place in a certificate's text: the proof reads their range here.
+fn have_text(numbers: &[u16])
+    ensures { AllByRecursion (λ v. v ≤ 65535) numbers.now }
+{}
+
 // The text of a free network's certificate, which says just that certificate.
 fn certificate_text(
     alloc: Global,
@@ -33,11 +39,11 @@ fn certificate_text(
     ensures spelled { IfOk result (λ text. text.items ≡ spelling certificate.now.numbers certificate.now.places) }
     ensures said { IfOk result (λ text. Says text.items certificate.now) }
 {
-    // There are at most 2,048 channels and 8,192 flows, in a network that is valid by its type, and numbers of 16 bits.
+    // There are at most 2,048 channels and 8,192 flows, in a network that is valid by its type.
     let _topology = network.topology();
     let _channels = network.channels();
     let _flows = network.flows();
-    let _numbers = certificate.numbers();
+    have_text(certificate.numbers());
     one_text();
     certificate.write(alloc)
 }

@@ -23,7 +23,7 @@ returns-in-Ok-decide_answer-clause-shown g c =
     (rw c.deref.ensures.value c.in-Ok.ensures.whole) (rw c.deref-in-Ok-decide_answer.ensures.value c.in-Ok-decide_answer.ensures.shown) c.tell_bytes.ensures
 
 pub returns-clause-answer : goal.returns-clause-answer
-returns-clause-answer g c = told_memory IsDecideAnswer _ _ _ _ c.tell_memory-in-Err.ensures
+returns-clause-answer g c = told_memory IsDecideAnswer _ _ _ _ c.tell_memory.ensures
 
 pub returns-clause-shown : goal.returns-clause-shown
-returns-clause-shown g c = λ zero. absurd (memory_not_zero _ _ _ c.tell_memory-in-Err.ensures zero)
+returns-clause-shown g c = λ zero. absurd (memory_not_zero _ _ _ c.tell_memory.ensures zero)

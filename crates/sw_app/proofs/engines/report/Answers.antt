@@ -11,7 +11,7 @@ pub returns-in-Ok-report_answer : goal.returns-in-Ok-report_answer
 returns-in-Ok-report_answer g c =
     told_answer IsReportAnswer _ _ _ _ c.deref.result.now c.as_str.result.now c.in-Ok-report_answer.answer.status
     (rw c.deref.ensures.value c.in-Ok.ensures.whole) (rw c.deref.ensures.value c.in-Ok.ensures.within)
-    (rw c.as_str.ensures.value c.in-Ok-report_answer.ensures) c.tell-in-Ok-report_answer.ensures
+    (rw c.as_str.ensures.value c.in-Ok-report_answer.ensures) c.tell.ensures
 
 pub returns : goal.returns
-returns g c = told_memory IsReportAnswer _ _ _ _ c.tell_memory-in-Err.ensures
+returns g c = told_memory IsReportAnswer _ _ _ _ c.tell_memory.ensures

@@ -11,7 +11,7 @@ pub returns-in-Ok-route_answer : goal.returns-in-Ok-route_answer
 returns-in-Ok-route_answer g c =
     told_answer (IsRouteAnswer c.args.flow.now) _ _ _ _ c.deref.result.now c.as_str.result.now c.in-Ok-route_answer.answer.status
     (rw c.deref.ensures.value c.in-Ok.ensures.whole) (rw c.deref.ensures.value c.in-Ok.ensures.within)
-    (rw c.as_str.ensures.value c.in-Ok-route_answer.ensures) c.tell-in-Ok-route_answer.ensures
+    (rw c.as_str.ensures.value c.in-Ok-route_answer.ensures) c.tell.ensures
 
 pub returns : goal.returns
-returns g c = told_memory (IsRouteAnswer c.args.flow.now) _ _ _ _ c.tell_memory-in-Err.ensures
+returns g c = told_memory (IsRouteAnswer c.args.flow.now) _ _ _ _ c.tell_memory.ensures
