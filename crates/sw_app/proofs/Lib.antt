@@ -6,3 +6,7 @@ pub mod FlowAnswers
 pub mod Endings
 pub mod OneListing
 pub mod OneAnswer
+pub mod CycleChannels
+pub mod SameCauses
+pub mod OneVerdict
+pub mod ShownFree
