@@ -1,5 +1,5 @@
 -- The target between two channels of which the one depends on the other, where no flow goes on.
-use Rattle.std.proofs.Common.{◌≡◌, ℕ, ◌<◌, length, Option, Some, None, refl, sym, ap, ◌∙◌, subst}
+use Rattle.std.proofs.Common.{◌≡◌, ℕ, ◌+◌, ◌<◌, All, List, get_or, length, Option, Some, None, refl, sym, ap, ◌∙◌, subst}
 use Rattle.std.specs.Prelude.{slice_get, IsSome}
 use Rattle.std.specs.Option.{option_map}
 use Rattle.sw_topo.specs.declared.place.PlaceEnd.TheVariants.{Node}
@@ -10,6 +10,7 @@ use Rattle.sw_network.specs.Valid.{IsFlow, IsValid}
 use Rattle.sw_network.proofs.Flows.{All-at}
 use Rattle.sw_network.proofs.FlowLaws.{valid_flows}
 use Rattle.sw_flow.specs.Places.{ends_of, end_of}
+use Rattle.sw_flow.proofs.Stepping.{places_are_in}
 use Rattle.sw_machine.specs.Network.{Network}
 use Rattle.sw_machine.specs.Places.{IsDependency, IsPlace, Follows}
 use Rattle.sw_machine.specs.Places.IsDependency.{ByFlow, ByTarget}
@@ -17,8 +18,10 @@ use Rattle.sw_model.specs.Model.{network_of, reply_number}
 use Rattle.sw_model.proofs.Flows.{some_at}
 use Rattle.sw_model.proofs.Steps.{steps_agree}
 use Rattle.sw_model.proofs.Topology.{partner_within}
-use Rattle.sw_cycle.specs.Cycles.{IsTargetCause}
-use Rattle.sw_cause.specs.Causes.{NoneGoesOn}
+use Rattle.sw_cycle.specs.Cycles.{IsTargetCause, round}
+use Rattle.sw_cause.specs.Causes.{IsRound, NoneGoesOn}
+use Rattle.sw_cause.proofs.Chosen.{here}
+use Rattle.std.proofs.lemmas.List.{get_or_default}
 use Rattle.std.proofs.lemmas.Option.{slice_get_within}
 
 -- a dependency, taken apart
@@ -81,3 +84,23 @@ module _ (d : Declaration) (valid : IsValid d) where
 
   pub between : (c e : ℕ) → IsDependency (network_of d) c e → NoneGoesOn d c e → IsBetween d c e
   between c e h none = by_parts c e (apart (network_of d) c e h) none
+
+  channel_within : (c e i k : ℕ) → i < (network_of d).flows → IsPlace (network_of d) i c k → c < length (ends_of d)
+  unfolding network_of
+  channel_within c e i k lt p =
+      let here = some_at (all_flows d) i lt in
+      let same = steps_agree d valid i here.0 here.1 in
+      (places_are_in d here.0 c k ((same.place c k).0 p)).0
+
+  within_by_parts : (c e : ℕ) → IsBy (network_of d) c e → c < length (ends_of d)
+  within_by_parts c e (flow i k m lt p f) = channel_within c e i k lt p
+  within_by_parts c e (target i j lt reply into leaves) = (target_is c e i j lt reply into leaves).within
+
+  pub depends_within : (c e : ℕ) → IsDependency (network_of d) c e → c < length (ends_of d)
+  depends_within c e h = within_by_parts c e (apart (network_of d) c e h)
+
+-- the channels of a round are the network's
+pub round_within : (d : Declaration) → IsValid d → (channels : List ℕ) → IsRound d channels → All (λ c. c < length (ends_of d)) channels
+round_within d valid channels round_is i c lt =
+    let here_is : round channels i ≡ get_or channels i c = here channels i (get_or channels i c) lt (get_or_default channels i c (get_or channels i c) lt) in
+    subst (λ (x : ℕ). x < length (ends_of d)) here_is (depends_within d valid (round channels i) (round channels (i + 1)) (round_is i lt))

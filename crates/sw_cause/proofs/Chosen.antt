@@ -70,6 +70,10 @@ module _ (d : Declaration) (channels : List ℕ) (i c e : ℕ) (lt : i < length 
   pub read_for : (P : ℕ → ℕ → Type 0) → P (round channels i) (round channels (i + 1)) → P c e
   read_for P h = subst (λ (y : ℕ). P c y) (behind channels i e lt e_is) (subst (λ (x : ℕ). P x (round channels (i + 1))) (here channels i c lt c_is) h)
 
+  -- and back
+  pub as_round : (P : ℕ → ℕ → Type 0) → P c e → P (round channels i) (round channels (i + 1))
+  as_round P h = subst (λ (y : ℕ). P (round channels i) y) (sym (behind channels i e lt e_is)) (subst (λ (x : ℕ). P x e) (sym (here channels i c lt c_is)) h)
+
   pub pushed : (old new : List Cause) (x : Cause) → AreFor d channels i (map cause_of old) → IsChosenCause d (cause_of x) c e → new ≡ old ++ x ∷ [] → AreFor d channels (i + 1) (map cause_of new)
   pushed old new x known is push =
       let round_is : IsChosenCause d (cause_of x) (round channels i) (round channels (i + 1)) =

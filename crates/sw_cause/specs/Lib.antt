@@ -1,2 +1,4 @@
 pub mod Causes
 pub mod Laws
+pub mod Firsts
+pub mod Positions

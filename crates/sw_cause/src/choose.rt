@@ -1,14 +1,16 @@
 //! The causes that are chosen.
-ghost use Rattle.std.specs.Prelude.{map, IfOk};
+ghost use Rattle.std.specs.Prelude.{map, IfOk, MatchOption};
 ghost use Rattle.std.specs.List.{AllZip};
 ghost use Rattle.sw_network.specs.Entries.{all_flows};
 ghost use Rattle.sw_flow.specs.Places.{IsPlaceList};
 ghost use Rattle.sw_machine.specs.Places.{IsDependency};
 ghost use Rattle.sw_model.specs.Model.{network_of};
 ghost use Rattle.sw_cycle.specs.Cycles.{cause_of, IsFlowCause};
-ghost use Rattle.sw_cause.specs.Causes.{AreChosen, IsChosenCause, IsRound, IsStep};
+ghost use Rattle.sw_cause.specs.Causes.{AreChosen, IsChosenCause, IsRound, IsStep, NoneGoesOn};
+ghost use Rattle.sw_cause.specs.Firsts.{IsFirstStep};
 
-use crate::steps::{Step, first_step};
+use crate::firsts::first_steps;
+use crate::steps::Step;
 use std::alloc::{AllocError, Global};
 use sw_cycle::Cause;
 use sw_flow::{Place, way_to};
@@ -25,19 +27,20 @@ fn places_to(alloc: Global, network: &Network, step: &Step) -> Result<Vec<Place>
     Ok(places)
 }
 
-/// The cause that is chosen for the dependency of one channel on another.
+/// The cause that is chosen for the dependency of one channel on another, where this is a step of
+/// the first flow that goes on so.
 fn cause_for(
     alloc: Global,
     network: &Network,
-    places: &[Vec<Place>],
+    first: Option<Step>,
     from: Chan,
     to: Chan,
 ) -> Result<Cause, AllocError>
-    requires lists { AllZip (λ f ps. IsPlaceList network.now f ps.items) (all_flows network.now) places.now }
+    requires first { MatchOption first (NoneGoesOn network.now from to) (IsFirstStep network.now from to) }
     requires dependency { IsDependency (network_of network.now) from to }
     ensures { IfOk result (λ cause. IsChosenCause network.now (cause_of cause) from to) }
 {
-    if let Some(step) = first_step(network, places, from, to) {
+    if let Some(step) = first {
         let places = places_to(alloc, network, &step)?;
         return Ok(Cause::Flow(step.flow, places));
     }
@@ -51,7 +54,8 @@ fn cause_for(
 /// goes on from the one to the other, and where no flow does, the target between them. `places` has the places of each flow, by the
 /// flows' numbers, as `all_places` gives them.
 ///
-/// The time is linear in the channels of the cycle times the places of all flows.
+/// The places of the flows are gone through once, and for each channel of the cycle one way of a
+/// flow is looked for.
 pub fn causes(
     alloc: Global,
     network: &Network,
@@ -62,10 +66,13 @@ pub fn causes(
     requires cycle { IsRound network.now channels.now }
     ensures { IfOk result (λ v. AreChosen network.now channels.now (map cause_of v.items)) }
 {
+    // Names the network, which is valid by its type.
+    let _topology = network.topology();
+    let steps = first_steps(alloc, network, places, channels)?;
     let mut causes = Vec::new(alloc);
     for (i, from) in channels.iter().enumerate() {
         let to = channels[(i + 1) % channels.len()];
-        causes.push(cause_for(alloc, network, places, *from, to)?)?;
+        causes.push(cause_for(alloc, network, steps[i], *from, to)?)?;
     }
     Ok(causes)
 }

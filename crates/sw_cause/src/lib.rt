@@ -2,7 +2,9 @@
 #![tactic(auto)]
 
 mod choose;
+mod firsts;
 pub mod laws;
+mod positions;
 mod steps;
 
 pub use choose::causes;

@@ -1,3 +1,4 @@
 pub mod Naming
 pub mod Rowing
 pub mod Bridge
+pub mod Chunking

@@ -1,3 +1,4 @@
 pub mod Named
 pub mod Answering
 pub mod Rows
+pub mod Chunks

@@ -9,9 +9,10 @@ ghost use Rattle.sw_order.specs.Rows.{IsGraph, Leads};
 ghost use Rattle.sw_depend.specs.Rows.{AreOnce};
 
 use crate::answering::answering;
-use crate::named::named_by;
 use crate::rows::rows;
+use crate::spread::all_named;
 use std::alloc::{AllocError, Global};
+use std::thread::Threads;
 use sw_flow::Place;
 use sw_network::Network;
 
@@ -19,10 +20,12 @@ use sw_network::Network;
 /// goes on to, and at a target that answers, where its replies leave. A row has each of them once.
 ///
 /// `places` has the places of each flow, reply flows too, as `sw_flow::all_places` gives them.
+/// Threads share the work, as many as there are processors.
 ///
 /// # Errors
 /// Want of memory.
-pub fn dependencies(
+pub fn dependencies<R: Threads + Sync>(
+    rt: &R,
     alloc: Global,
     network: &Network,
     places: &[Vec<Place>],
@@ -33,7 +36,9 @@ pub fn dependencies(
     ensures graph { IfOk result (λ v. IsGraph v.items) }
     ensures once { IfOk result (λ v. AreOnce v.items) }
 {
-    let sets = named_by(alloc, network, places, 0, network.flows())?;
+    // Names the network, which is valid by its type.
+    let _flows = network.flows();
+    let sets = all_named(rt, alloc, network, places)?;
     let marks = answering(alloc, network)?;
     rows(alloc, network, &sets, &marks)
 }

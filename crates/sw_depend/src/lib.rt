@@ -5,6 +5,7 @@ mod answering;
 mod entry;
 mod named;
 mod rows;
+mod spread;
 
 pub use entry::dependencies;
 

@@ -173,7 +173,7 @@ fn are_rows<R: Abort + Threads + Sync>(
     wanted: &[&[u16]],
 ) -> Result<(), Fail> {
     let places = all_places(rt, alloc, network)?;
-    let rows = dependencies(alloc, network, &places)?;
+    let rows = dependencies(rt, alloc, network, &places)?;
     assert!(rt; rows.len() == wanted.len());
     for (found, row) in rows.iter().zip(wanted) {
         assert!(rt; found.as_slice() == *row);

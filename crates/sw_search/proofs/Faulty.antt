@@ -1,6 +1,7 @@
 -- The first fault of a flow.
-use Rattle.std.proofs.Common.{◌≡◌, ℕ, ◌+◌, ◌<◌, List, length, get_or, Option, Some, None, Vec, Global, sym, ap, ◌∙◌, subst, inl, inr, arith}
+use Rattle.std.proofs.Common.{◌≡◌, ℕ, zero, suc, ◌+◌, ◌-◌, ◌<◌, List, [], ◌∷◌, length, get_or, refl, Option, Some, None, Vec, Global, sym, ap, ◌∙◌, subst, inl, inr, arith}
 use Rattle.std.specs.Prelude.{slice_get, IfSome}
+use Rattle.std.specs.List.{AllZip, range_with_len}
 use Rattle.std.proofs.lemmas.Bool.{cases_lt}
 use Rattle.std.proofs.lemmas.Option.{get_or_from_slice_get}
 use Rattle.sw_network.specs.Entries.{FlowEntry, Declaration, all_flows}
@@ -10,7 +11,7 @@ use Rattle.sw_flow.specs.Places.{IsPlaceList}
 use Rattle.sw_flow.specs.Faults.{first_fault_of, IsWellRouted}
 use Rattle.sw_flow.proofs.WellRouted.{well_routed_by_list}
 use Rattle.sw_model.proofs.Flows.{some_at}
-use Rattle.sw_search.specs.Lists.{AreListed, IsFirstFault, IsRouted}
+use Rattle.sw_search.specs.Lists.{AreFirstFaults, AreListed, IsFirstFault, IsRouted}
 use Rattle.sw_search.specs.Verdicts.{AllWellRouted}
 use Rattle.sw_search.proofs.Zips.{zip_here}
 
@@ -47,3 +48,40 @@ all_routed d each i e lt =
     let f = some_at (all_flows d) i lt in
     let at : slice_get (all_flows d) i ≡ Some (get_or (all_flows d) i e) = f.1 ∙ ap Some (sym (get_or_from_slice_get (all_flows d) i f.0 e f.1)) in
     each i lt (get_or (all_flows d) i e) at
+
+-- ---- the first faults of all flows
+
+abbrev Found : Type 0
+Found = Option (Place × RouteFault)
+
+-- what the jobs gave
+pub faults_are : (d e : Declaration) (from to : ℕ) (is : List ℕ) (xs items : List Found) → e ≡ d → from ≡ 0 → to ≡ length (all_flows d) → is ≡ range_with_len from (to - from) → AllZip (IsFirstFault e) is xs → items ≡ xs
+    → AreFirstFaults d items
+faults_are d e from to is xs items here low high numbers zips same =
+    let count : ℕ = length (all_flows d) in
+    let whole : to - from ≡ count = omega (arith, low, high) in
+    let all : is ≡ range_with_len 0 count = numbers ∙ (λ i. range_with_len (low i) (whole i)) in
+    let each = subst (λ (g : Declaration). AllZip (IsFirstFault g) (range_with_len 0 count) xs) here (subst (λ (l : List ℕ). AllZip (IsFirstFault e) l xs) all zips) in
+    subst (λ (l : List Found). AllZip (IsFirstFault d) (range_with_len 0 count) l) (sym same) each
+
+module _ (d : Declaration) where
+  at : (a n : ℕ) (faults : List Found) (i : ℕ) (o : Found) → AllZip (IsFirstFault d) (range_with_len a n) faults → i < n → o ≡ get_or faults i o → IsFirstFault d (a + i) o
+  at a zero faults i o h lt is = absurd (omega arith)
+  at a (suc n) [] i o h lt is = absurd h
+  at a (suc n) (p ∷ faults) zero o h lt is = subst (λ (k : ℕ). IsFirstFault d k o) (omega arith) (subst (IsFirstFault d a) (sym is) h.0)
+  at a (suc n) (p ∷ faults) (suc i) o h lt is = subst (λ (k : ℕ). IsFirstFault d k o) (omega arith) (at (a + 1) n faults i o h.1 (omega arith) is)
+
+  long : (a n : ℕ) (faults : List Found) → AllZip (IsFirstFault d) (range_with_len a n) faults → length faults ≡ n
+  long a zero [] h = refl
+  long a zero (p ∷ faults) h = absurd h
+  long a (suc n) [] h = absurd h
+  long a (suc n) (p ∷ faults) h = ap suc (long (a + 1) n faults h.1)
+
+  -- one for each flow
+  pub faults_long : (faults : List Found) → AreFirstFaults d faults → length faults ≡ length (all_flows d)
+  faults_long faults h = long 0 (length (all_flows d)) faults h
+
+  -- the one of a flow
+  pub faults_at : (faults : List Found) (i j : ℕ) (o : Found) → AreFirstFaults d faults → j ≡ i → i < length (all_flows d) → o ≡ get_or faults j o → IsFirstFault d i o
+  faults_at faults i j o h same lt is =
+      subst (λ (k : ℕ). IsFirstFault d k o) (omega arith) (at 0 (length (all_flows d)) faults i o h lt (is ∙ ap (λ (k : ℕ). get_or faults k o) same))

@@ -1,6 +1,6 @@
 -- The lists of places and the rows of dependencies that a search goes by.
 use Rattle.std.specs.Prelude.{◌≡◌, ◌≢◌, ◌↔◌, ℕ, All, AllPairs, List, length, slice_get, Option, Some, None, Vec}
-use Rattle.std.specs.List.{AllZip}
+use Rattle.std.specs.List.{AllZip, range_with_len}
 use Rattle.std.specs.declared.alloc.Global.{Global}
 use Rattle.sw_network.specs.Entries.{FlowEntry, Declaration, all_flows}
 use Rattle.sw_flow.specs.declared.fault.RouteFault.{RouteFault}
@@ -31,6 +31,10 @@ IsRouted d i = (f : FlowEntry) → slice_get (all_flows d) i ≡ Some f → IsWe
 abbrev pub IsFirstFault : Declaration → ℕ → Option (Place × RouteFault) → Type 0
 IsFirstFault d i None = IsRouted d i
 IsFirstFault d i (Some found) = IsFaulty d i found.0 found.1
+
+-- the first fault of each flow, where it has one
+abbrev pub AreFirstFaults : Declaration → List (Option (Place × RouteFault)) → Type 0
+AreFirstFaults d faults = AllZip (IsFirstFault d) (range_with_len 0 (length (all_flows d))) faults
 
 -- a row for each channel, with the channels that depend on it, each once
 pub record AreRows (d : Declaration) (rows : List (Vec ℕ Global)) : Type 0 where

@@ -20,7 +20,8 @@ use sw_network::Network;
 use sw_order::Order;
 
 /// For each channel those that depend on it, each once.
-fn rows_of(
+fn rows_of<R: Threads + Sync>(
+    rt: &R,
     alloc: Global,
     network: &Network,
     places: &[Vec<Place>],
@@ -28,7 +29,7 @@ fn rows_of(
     requires { AreListed network.now places.now }
     ensures { IfOk result (λ v. AreRows network.now v.items) }
 {
-    dependencies(alloc, network, places)
+    dependencies(rt, alloc, network, places)
 }
 
 /// The verdict on a network in which each flow is well routed.
@@ -65,7 +66,7 @@ fn verdict_by<R: Threads + Sync>(
     requires rows { AreRows network.now rows.now }
     ensures { IfOk result (IsVerdict network.now) }
 {
-    match first_misrouted(network, &places) {
+    match first_misrouted(rt, alloc, network, &places)? {
         Some((flow, place, fault)) => Ok(Verdict::Misrouted(flow, place, fault)),
         None => routed_verdict(rt, alloc, network, places, rows),
     }
@@ -83,7 +84,7 @@ pub fn survey<R: Threads + Sync>(
     ensures { IfOk result (AreFindings network.now) }
 {
     let lists = all_places(rt, alloc, network)?;
-    let rows = rows_of(alloc, network, &lists)?;
+    let rows = rows_of(rt, alloc, network, &lists)?;
     let places = places_in(network, &lists);
     let dependencies = dependencies_in(network, &rows);
     let verdict = verdict_by(rt, alloc, network, lists, &rows)?;

@@ -1,12 +1,18 @@
 //! The first flow that is not well routed.
-ghost use Rattle.std.specs.Prelude.{◌<◌, length, MatchOption, Vec};
-ghost use Rattle.std.specs.declared.alloc.Global.{Global};
+ghost use Rattle.std.specs.Prelude.{◌<◌, IfOk, length, MatchOption};
 ghost use Rattle.sw_network.specs.Entries.{all_flows};
 ghost use Rattle.sw_search.specs.Verdicts.{AllWellRouted, IsMisrouted};
-ghost use Rattle.sw_search.specs.Lists.{AreListed, IsFirstFault};
+ghost use Rattle.sw_search.specs.Lists.{AreFirstFaults, AreListed, IsFirstFault};
 
+use rayon::prelude::*;
+use std::alloc::{AllocError, Global};
+use std::thread::Threads;
 use sw_flow::{Place, RouteFault, first_fault};
 use sw_network::Network;
+
+/// The fewest flows that a thread is started for: a flow has up to 67,584 places, and a thread takes
+/// as long to start as some thousand places to look at.
+const LEAST_PIECE: usize = 64;
 
 /// The first of the flow's places that has a fault, with it.
 fn fault_of_flow(network: &Network, flow: u16, places: &[Vec<Place>]) -> Option<(Place, RouteFault)>
@@ -17,18 +23,69 @@ fn fault_of_flow(network: &Network, flow: u16, places: &[Vec<Place>]) -> Option<
     first_fault(network, flow, &places[usize::from(flow)])
 }
 
-/// The first flow that is not well routed, with the first of its places that has a fault.
-pub(crate) fn first_misrouted(
+/// The first fault of each flow, by the flows' numbers, from as many threads as there are
+/// processors.
+fn faults_of_flows<R: Threads + Sync>(
+    rt: &R,
+    alloc: Global,
     network: &Network,
     places: &[Vec<Place>],
+) -> Result<Vec<Option<(Place, RouteFault)>>, AllocError>
+    requires { AreListed network.now places.now }
+    ensures { IfOk result (λ v. AreFirstFaults network.now v.items) }
+{
+    (0..network.flows())
+        .into_par_iter()
+        .with_min_len(LEAST_PIECE)
+        .map(
+            |flow: u16| -> Option<(Place, RouteFault)>
+                requires lists { AreListed network.now places.now }
+                requires inside { flow < length (all_flows network.now) }
+                ensures { IsFirstFault network.entry.now flow result }
+            { fault_of_flow(network, flow, places) },
+        )
+        .collect(rt, alloc)
+}
+
+/// The first fault of the flow, if it has one.
+fn fault_at(
+    network: &Network,
+    faults: &[Option<(Place, RouteFault)>],
+    flow: u16,
+) -> Option<(Place, RouteFault)>
+    requires faults { AreFirstFaults network.now faults.now }
+    requires inside { flow < length (all_flows network.now) }
+    ensures { IsFirstFault network.now flow result }
+{
+    faults[usize::from(flow)]
+}
+
+/// The first flow that has a fault, with its first one.
+fn first_faulty(
+    network: &Network,
+    faults: &[Option<(Place, RouteFault)>],
 ) -> Option<(u16, Place, RouteFault)>
-    requires lists { AreListed network.now places.now }
+    requires { AreFirstFaults network.now faults.now }
     ensures { MatchOption result (AllWellRouted network.now) (λ found. IsMisrouted network.now found.0 found.1 found.2) }
 {
     for flow in 0..network.flows() {
-        if let Some((place, fault)) = fault_of_flow(network, flow, places) {
+        if let Some((place, fault)) = fault_at(network, faults, flow) {
             return Some((flow, place, fault));
         }
     }
     None
+}
+
+/// The first flow that is not well routed, with the first of its places that has a fault.
+pub(crate) fn first_misrouted<R: Threads + Sync>(
+    rt: &R,
+    alloc: Global,
+    network: &Network,
+    places: &[Vec<Place>],
+) -> Result<Option<(u16, Place, RouteFault)>, AllocError>
+    requires { AreListed network.now places.now }
+    ensures { IfOk result (λ o. MatchOption o (AllWellRouted network.now) (λ found. IsMisrouted network.now found.0 found.1 found.2)) }
+{
+    let faults = faults_of_flows(rt, alloc, network, places)?;
+    Ok(first_faulty(network, &faults))
 }

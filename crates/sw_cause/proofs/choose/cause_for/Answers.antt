@@ -3,22 +3,21 @@ use Rattle.std.specs.Prelude.{slice_get}
 use Rattle.sw_topo.specs.declared.place.PlaceEnd.TheVariants.{Node, Switch}
 use Rattle.sw_topo.specs.Wiring.{Wiring, partner}
 use Rattle.sw_cycle.specs.Cycles.{IsTargetCause}
-use Rattle.sw_cause.specs.Causes.{NoneGoesOn}
-use Rattle.sw_cause.proofs.Stepped.{when_none}
+use Rattle.sw_cause.proofs.Found.{missing}
 use Rattle.sw_cause.proofs.Between.{between}
 use Rattle.sw_cause.proofs.choose.cause_for.Goals as goal
 
 pub end_of-requires : goal.end_of-requires
 end_of-requires c =
     let d = c.args.network.now in
-    let none = when_none c.first_step.result (NoneGoesOn d c.args.from c.args.to) c.in_default.is c.first_step.ensures.none in
+    let none = missing d c.args.from c.args.to c.args.first c.in_default.is c.requires.first in
     let b = between d c.topology.ensures.valid c.args.from c.args.to c.requires.dependency none in
     subst (λ (w : Wiring). c.args.from < length w.ends) (sym c.topology.ensures.wiring) b.within
 
 pub unreachable-requires : goal.unreachable-requires
 unreachable-requires c =
     let d = c.args.network.now in
-    let none = when_none c.first_step.result (NoneGoesOn d c.args.from c.args.to) c.in_default.is c.first_step.ensures.none in
+    let none = missing d c.args.from c.args.to c.args.first c.in_default.is c.requires.first in
     let b = between d c.topology.ensures.valid c.args.from c.args.to c.requires.dependency none in
     let there = ap (λ (w : Wiring). slice_get w.ends (partner c.args.from)) (sym c.topology.ensures.wiring) ∙ c.end_of.ensures.place ∙ ap Some c.in-Switch.is in
     let two : Some (Node b.node) ≡ Some (Switch c.in-Switch.field-0 c.in-Switch.field-1) = sym b.ends ∙ there in
@@ -27,7 +26,7 @@ unreachable-requires c =
 pub returns : goal.returns
 returns c =
     let d = c.args.network.now in
-    let none = when_none c.first_step.result (NoneGoesOn d c.args.from c.args.to) c.in_default.is c.first_step.ensures.none in
+    let none = missing d c.args.from c.args.to c.args.first c.in_default.is c.requires.first in
     let b = between d c.topology.ensures.valid c.args.from c.args.to c.requires.dependency none in
     let there = ap (λ (w : Wiring). slice_get w.ends (partner c.args.from)) (sym c.topology.ensures.wiring) ∙ c.end_of.ensures.place ∙ ap Some c.in-Node.is in
     let two : Some (Node b.node) ≡ Some (Node c.in-Node.node) = sym b.ends ∙ there in
