@@ -1,50 +1,68 @@
-//! Runs the engines of swcheck on the files of `examples/`, and prints what they write and how they end.
+//! Calls swcheck's engines on the files of `examples/`, word by word as the program is called, and prints what they write and how they
+//! end.
 #![tactic(auto)]
 
-use std::rt::Files;
-use std::{fs, io};
-use sw_app::{Ended, route};
+mod calls;
 
-/// Files, each with flows of its network. The last three are of other kinds: the engine tells their first fault.
-static ROUTES: [(&str, &[&str]); 13] = [
-    ("line.toml", &["f"]),
-    ("star.toml", &["p", "l"]),
-    ("region.toml", &["r"]),
-    ("group.toml", &["g"]),
-    ("bad.toml", &["m1", "m2", "m3", "m4"]),
-    ("ring.toml", &["f0", "f1", "f2"]),
-    ("turn.toml", &["f0", "f1", "f2"]),
-    ("duel.toml", &["pq", "qp", "pq+reply", "qp+reply"]),
-    ("rmap.toml", &["w", "w+reply", "x", "x+reply"]),
-    ("rmap2.toml", &["w", "w+reply", "x"]),
-    ("turn.load", &["f0"]),
-    ("turn.cert", &["f0"]),
-    ("ring.schedule", &["f0"]),
+use crate::calls::show_run;
+use std::io;
+
+/// The words of each call; what comes of it stands in `stdout`, in this order.
+static RUNS: [&[&str]; 49] = [
+    &["swcheck", "route", "line.toml", "f"],
+    &["swcheck", "route", "star.toml", "p"],
+    &["swcheck", "route", "star.toml", "l"],
+    &["swcheck", "route", "region.toml", "r"],
+    &["swcheck", "route", "group.toml", "g"],
+    &["swcheck", "route", "bad.toml", "m1"],
+    &["swcheck", "route", "bad.toml", "m2"],
+    &["swcheck", "route", "bad.toml", "m3"],
+    &["swcheck", "route", "bad.toml", "m4"],
+    &["swcheck", "route", "ring.toml", "f0"],
+    &["swcheck", "route", "ring.toml", "f1"],
+    &["swcheck", "route", "ring.toml", "f2"],
+    &["swcheck", "route", "turn.toml", "f0"],
+    &["swcheck", "route", "turn.toml", "f1"],
+    &["swcheck", "route", "turn.toml", "f2"],
+    &["swcheck", "route", "duel.toml", "pq"],
+    &["swcheck", "route", "duel.toml", "qp"],
+    &["swcheck", "route", "duel.toml", "pq+reply"],
+    &["swcheck", "route", "duel.toml", "qp+reply"],
+    &["swcheck", "route", "rmap.toml", "w"],
+    &["swcheck", "route", "rmap.toml", "w+reply"],
+    &["swcheck", "route", "rmap.toml", "x"],
+    &["swcheck", "route", "rmap.toml", "x+reply"],
+    &["swcheck", "route", "rmap2.toml", "w"],
+    &["swcheck", "route", "rmap2.toml", "w+reply"],
+    &["swcheck", "route", "rmap2.toml", "x"],
+    &["swcheck", "route", "turn.load", "f0"],
+    &["swcheck", "route", "turn.cert", "f0"],
+    &["swcheck", "route", "ring.schedule", "f0"],
+    &["swcheck", "route", "line.toml", "g"],
+    &["swcheck", "route", "line.toml", "f+reply"],
+    &["swcheck", "route", "--", "line.toml", "f"],
+    &["swcheck", "check", "turn.toml", "turn.cert"],
+    &["swcheck", "check", "line.toml", "turn.cert"],
+    &["swcheck", "check", "turn.toml", "turn.load"],
+    &["swcheck", "check", "turn.cert", "turn.cert"],
+    &["swcheck", "--help"],
+    &["swcheck", "-h"],
+    &["swcheck", "help"],
+    &["swcheck", "route", "--help"],
+    &["swcheck", "help", "check"],
+    &["swcheck"],
+    &["swcheck", "fly"],
+    &["swcheck", "route"],
+    &["swcheck", "route", "line.toml"],
+    &["swcheck", "route", "line.toml", "f", "g"],
+    &["swcheck", "route", "line.toml", "f", "--loud"],
+    &["swcheck", "check", "line.toml"],
+    &["swcheck", "--loud"],
 ];
 
-fn show_end(rt: &impl Print, ended: Ended) -> io::Result<()> {
-    match ended {
-        Ended::Status(status) => println!(rt; "status {status}"),
-        Ended::ReadFailed => println!(rt; "read failed"),
-        Ended::WriteFailed => println!(rt; "write failed"),
-    }
-}
-
-fn show_route<R: Files + Print + AllocGlobal>(rt: &R, file: &str, flow: &str) -> io::Result<()> {
-    println!(rt; "> route {file} {flow}")?;
-    let mut reader = fs::open(rt, file)?;
-    let mut writer = io::writer(rt);
-    show_end(rt, route(rt.alloc(), &mut reader, flow, &mut writer))
-}
-
 fn main(rt: HostRuntime) -> io::Result<()> {
-    for (file, flows) in ROUTES {
-        for flow in flows {
-            show_route(&rt, file, flow)?;
-        }
+    for given in &RUNS {
+        show_run(&rt, given)?;
     }
     Ok(())
 }
-
-#[cfg(test)]
-mod tests;

@@ -1,0 +1,71 @@
+//! A call of the program, and how it ends.
+use std::rt::Files;
+use std::{fs, io};
+use sw_app::{Call, Ended, WordsFault, check, route, words};
+
+fn run_route<R: Files + Print + AllocGlobal>(rt: &R, file: &str, flow: &str) -> io::Result<Ended> {
+    let mut reader = fs::open(rt, file)?;
+    let mut writer = io::writer(rt);
+    Ok(route(rt.alloc(), &mut reader, flow, &mut writer))
+}
+
+fn run_check<R: Files + Print + AllocGlobal>(
+    rt: &R,
+    file: &str,
+    certificate: &str,
+) -> io::Result<Ended> {
+    let mut network = fs::open(rt, file)?;
+    let mut certificate = fs::open(rt, certificate)?;
+    let mut writer = io::writer(rt);
+    Ok(check(rt.alloc(), &mut network, &mut certificate, &mut writer))
+}
+
+fn run_call<R: Files + Print + AllocGlobal>(rt: &R, call: Call<'_>) -> io::Result<Ended> {
+    match call {
+        Call::Route { file, flow } => run_route(rt, file, flow),
+        Call::Check { file, certificate } => run_check(rt, file, certificate),
+    }
+}
+
+fn show_end(rt: &impl Print, ended: Ended) -> io::Result<()> {
+    match ended {
+        Ended::Status(status) => println!(rt; "status {status}"),
+        Ended::ReadFailed => println!(rt; "read failed"),
+        Ended::WriteFailed => println!(rt; "write failed"),
+    }
+}
+
+// What kind of text the program shows in place of a call. The text is clap's.
+fn kind_of(fault: &WordsFault) -> &'static str {
+    match fault {
+        WordsFault::Help(text) if text.contains("Usage: swcheck") => "help",
+        WordsFault::Refused(text) if text.starts_with("error: ") => "refused",
+        _ => "something else",
+    }
+}
+
+fn show_fault(rt: &impl Print, fault: &WordsFault) -> io::Result<()> {
+    let kind = kind_of(fault);
+    let status = fault.status();
+    println!(rt; "{kind}\nstatus {status}")
+}
+
+fn show_words(rt: &impl Print, given: &[&str]) -> io::Result<()> {
+    print!(rt; ">")?;
+    for word in given {
+        print!(rt; " {word}")?;
+    }
+    println!(rt; "")
+}
+
+/// Prints the words, what the program writes, and its status.
+pub(crate) fn show_run<R: Files + Print + AllocGlobal>(rt: &R, given: &[&str]) -> io::Result<()> {
+    show_words(rt, given)?;
+    match words(rt.alloc(), given) {
+        Ok(call) => {
+            let ended = run_call(rt, call)?;
+            show_end(rt, ended)
+        }
+        Err(fault) => show_fault(rt, &fault),
+    }
+}
