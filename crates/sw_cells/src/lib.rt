@@ -3,5 +3,3 @@
 
 pub mod node;
 pub mod switch;
-#[cfg(test)]
-mod tests;

@@ -7,6 +7,3 @@ mod named;
 mod rows;
 
 pub use entry::dependencies;
-
-#[cfg(test)]
-mod tests;

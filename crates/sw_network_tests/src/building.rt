@@ -109,7 +109,8 @@ pub fn add_commands(
     from: u16,
     to: u16,
 ) -> Result<(), AllocError> {
-    assert!(rt; from < network.nodes() && to < network.nodes());
+    assert!(rt; from < network.nodes());
+    assert!(rt; to < network.nodes());
     assert!(rt; network.is_target(to));
     assert!(rt; network.declared_flows() < 4096);
     assert!(rt; !network.has_flow_name(name));
