@@ -9,8 +9,6 @@ mod laws;
 mod least_recent;
 mod policy;
 mod round_robin;
-#[cfg(test)]
-mod tests;
 
 pub use arbiter::{Arbiter, FairArbiter};
 pub use arbitration::Arbitration;

@@ -4,5 +4,3 @@
 mod between;
 pub mod node;
 pub mod switch;
-#[cfg(test)]
-mod tests;

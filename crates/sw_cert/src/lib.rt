@@ -12,6 +12,3 @@ mod write;
 pub use certificate::{Certificate, CertificateFault};
 pub use laws::{field_spelling, one_spelling, one_text};
 pub use sw_flow::Place;
-
-#[cfg(test)]
-mod tests;

@@ -6,6 +6,3 @@ mod packet;
 
 pub use nchar::{End, NChar};
 pub use packet::{Packet, cut_is_unique, packets};
-
-#[cfg(test)]
-mod tests;

@@ -9,6 +9,3 @@ pub use check::check_cycle;
 pub use cycle::{Cause, Cycle};
 pub use sw_flow::Place;
 pub use sw_topo::Chan;
-
-#[cfg(test)]
-mod tests;

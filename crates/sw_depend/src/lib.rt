@@ -8,6 +8,3 @@ mod rows;
 mod spread;
 
 pub use entry::dependencies;
-
-#[cfg(test)]
-mod tests;

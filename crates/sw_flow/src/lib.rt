@@ -24,6 +24,3 @@ pub use routes::places;
 pub use spread::all_places;
 pub use walk::{Followers, followers_in};
 pub use ways::way_to;
-
-#[cfg(test)]
-mod tests;

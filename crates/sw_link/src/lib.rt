@@ -3,8 +3,6 @@
 
 mod laws;
 mod rx;
-#[cfg(test)]
-mod tests;
 mod tx;
 
 pub use laws::{

@@ -15,6 +15,3 @@ pub use laws::{
     flows_are_valid, later_flows_are_replies, names_are_distinct, replies_follow_in_order,
 };
 pub use network::{MAX_FLOWS, Network};
-
-#[cfg(test)]
-mod tests;

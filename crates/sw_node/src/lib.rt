@@ -8,7 +8,5 @@ mod make;
 mod reply;
 mod sending;
 mod steps;
-#[cfg(test)]
-mod tests;
 
 pub use cell::NodeCell;

@@ -13,6 +13,3 @@ mod turn;
 pub use answer::Order;
 pub use entry::order;
 pub use laws::{answers_carry_over, levels_are_where_no_cycle_is, levels_rise, shown_is_cycle};
-
-#[cfg(test)]
-mod tests;

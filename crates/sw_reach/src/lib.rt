@@ -9,6 +9,3 @@ mod ways;
 pub use least::reached;
 pub use steps::Steps;
 pub use ways::way;
-
-#[cfg(test)]
-mod tests;

@@ -18,6 +18,3 @@ pub use config::TargetConfig;
 pub use reply::reply_to;
 pub use target::Target;
 pub use writing::write_command;
-
-#[cfg(test)]
-mod tests;

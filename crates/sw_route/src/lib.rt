@@ -13,6 +13,3 @@ pub use look::{Look, Route};
 pub use output::outputs;
 pub use routing::Routing;
 pub use table::{RouteError, TableRoutes};
-
-#[cfg(test)]
-mod tests;

@@ -12,6 +12,3 @@ mod step;
 pub use entry::Entry;
 pub use schedule::{MAX_STEPS, Schedule, ScheduleFault, read_steps};
 pub use step::Step;
-
-#[cfg(test)]
-mod tests;

@@ -6,6 +6,3 @@ mod writing;
 
 pub use reading::{ReadError, read_whole};
 pub use writing::{WriteError, write_whole};
-
-#[cfg(test)]
-mod tests;

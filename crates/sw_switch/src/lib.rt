@@ -7,8 +7,6 @@ mod input;
 mod laws;
 mod make;
 mod steps;
-#[cfg(test)]
-mod tests;
 
 pub use cell::SwitchCell;
 pub use input::Input;

@@ -7,6 +7,3 @@ pub mod laws;
 
 pub use bytes::cut;
 pub use decimal::number;
-
-#[cfg(test)]
-mod tests;

@@ -1,8 +1,6 @@
 //! What lies between the cells of a network: the wires of its channels, and the FCTs under way.
 #![tactic(auto)]
 
-#[cfg(test)]
-mod tests;
 mod wires;
 
 pub use wires::{MAX_ON_WIRE, Wires};

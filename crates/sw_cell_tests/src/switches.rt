@@ -1,0 +1,91 @@
+//! A switch with two inputs that ask for one output.
+ghost use Rattle.std.specs.Prelude.{◌≡◌, IfOk, vec_len};
+ghost use Rattle.sw_switch.specs.Cell.{HaveArbiters};
+
+use std::alloc::{AllocError, Global};
+use std::process::Abort;
+use sw_arb::RoundRobin;
+use sw_char::NChar;
+use sw_route::TableRoutes;
+use sw_switch::SwitchCell;
+use sw_topo::{Port, PortSet};
+
+type Cell = SwitchCell<TableRoutes, RoundRobin>;
+
+fn arbiters(alloc: Global, ports: PortSet) -> Result<Vec<Option<RoundRobin>>, AllocError>
+    ensures { IfOk result (λ v. (vec_len v ≡ 32) × HaveArbiters (λ arbiter. arbiter.ports) ports v.items) }
+{
+    let mut all = Vec::new(alloc);
+    for _ in 0..32usize {
+        all.push(Some(RoundRobin::new(ports)))?;
+    }
+    Ok(all)
+}
+
+// A switch with links at those ports. It is not dropped where a call fails: the test ends there. So there is less to prove.
+fn switch(rt: &impl Abort, alloc: Global, linked: PortSet) -> Cell {
+    let routes = TableRoutes::new(alloc);
+    let arbiters = arbiters(alloc, linked).expect(rt, "arbiters");
+    SwitchCell::new(alloc, routes, linked, &[64; 32], arbiters).expect(rt, "switch")
+}
+
+/// The port's end asks for eight N-Chars, and those arrive.
+fn receive(rt: &impl Abort, cell: &mut Cell, input: Port, characters: &[NChar]) {
+    assert!(rt; cell.can_issue(input));
+    cell.issue(input);
+    for character in characters {
+        assert!(rt; cell.outstanding(input) > 0);
+        cell.arrive(input, *character);
+    }
+}
+
+fn forwarded(rt: &impl Abort, cell: &mut Cell, input: Port) -> (Port, NChar) {
+    assert!(rt; cell.can_forward(input));
+    cell.forward(input)
+}
+
+// Port 2 has credit, and a packet to port 2 begins at each of the two.
+fn begin(rt: &impl Abort, cell: &mut Cell, one: Port, two: Port) {
+    assert!(rt; cell.credit(two) == 0);
+    cell.fct_in(two);
+    receive(rt, cell, one, &[NChar::Data(2), NChar::Data(0xaa)]);
+    receive(rt, cell, two, &[NChar::Data(2), NChar::Data(0xbb)]);
+    assert!(rt; cell.asks(two) == PortSet::single(one).with(two));
+}
+
+fn is_granted(rt: &impl Abort, cell: &mut Cell, out: Port, wanted: Option<Port>) {
+    assert!(rt; cell.grant(out) == wanted);
+}
+
+fn sends_what_it_has(rt: &impl Abort, cell: &mut Cell, one: Port, two: Port) {
+    assert!(rt; cell.front(one) == Some(NChar::Data(0xaa)));
+    assert!(rt; forwarded(rt, cell, one) == (two, NChar::Data(0xaa)));
+    assert!(rt; cell.front(one) == None);
+}
+
+fn finish(rt: &impl Abort, cell: &mut Cell, one: Port, two: Port) {
+    assert!(rt; cell.outstanding(one) > 0);
+    cell.arrive(one, NChar::Eop);
+    assert!(rt; forwarded(rt, cell, one) == (two, NChar::Eop));
+}
+
+fn stays_with_a_packet(rt: &impl Abort, cell: &mut Cell, one: Port, two: Port) {
+    begin(rt, cell, one, two);
+    is_granted(rt, cell, two, Some(one));
+    sends_what_it_has(rt, cell, one, two);
+    is_granted(rt, cell, two, None);
+    finish(rt, cell, one, two);
+    is_granted(rt, cell, two, Some(two));
+}
+
+fn shares_an_output(rt: &impl Abort, alloc: Global) {
+    let one = Port::new(1).expect(rt, "port");
+    let two = Port::new(2).expect(rt, "port");
+    let mut cell = switch(rt, alloc, PortSet::single(one).with(two));
+    stays_with_a_packet(rt, &mut cell, one, two);
+}
+
+#[test]
+fn the_output_stays_with_a_packet_until_its_end(rt: HostRuntime) {
+    shares_an_output(&rt, rt.alloc());
+}
