@@ -86,5 +86,6 @@ fn takes_what_came(rt: &impl Abort, alloc: Global, node: &mut NodeCell) {
 #[test]
 fn a_node_takes_what_came(rt: HostRuntime) {
     let mut node = NodeCell::new(rt.alloc(), None, 8).expect(&rt, "node");
+    assert!(rt; node::can_begin(0, &node));
     takes_what_came(&rt, rt.alloc(), &mut node);
 }
