@@ -1,9 +1,8 @@
 -- First steps, one place and one flow more at a time.
-use Rattle.std.proofs.Common.{◌≡◌, ℕ, zero, suc, ◌+◌, ◌<◌, ◌≤◌, ◌%◌, List, [], ◌∷◌, ◌++◌, length, get_or, set, replicate, Option, Some, None, Contains, refl, sym, ap, ◌∙◌, subst, ◌⊎◌, inl, inr, arith, get_or-set_same, get_or-set_other, length-set}
+use Rattle.std.proofs.Common.{◌≡◌, ℕ, zero, suc, ◌+◌, ◌<◌, ◌≤◌, List, [], ◌∷◌, ◌++◌, length, get_or, set, Option, Some, None, Contains, sym, ap, ◌∙◌, subst, inl, inr, arith, get_or-set_same, get_or-set_other, length-set}
 use Rattle.std.specs.Prelude.{MatchOption, slice_get, slice_index_or}
 use Rattle.std.proofs.Math.Nat.{mod-eq_of_lt}
 use Rattle.std.proofs.lemmas.Bool.{cases_eq, cases_lt}
-use Rattle.std.proofs.lemmas.List.{get_or-replicate, get_or_default, length-replicate}
 use Rattle.std.proofs.lemmas.List.Elements.{Contains-append_cases, Contains-append_left}
 use Rattle.std.proofs.lemmas.Option.{slice_get-get_or, slice_get_within}
 use Rattle.sw_network.specs.Entries.{FlowEntry, Declaration, all_flows}
@@ -12,7 +11,7 @@ use Rattle.sw_flow.specs.Places.{Follows, IsPlace, IsPlaceList}
 use Rattle.sw_cycle.specs.Cycles.{round}
 use Rattle.sw_cause.specs.declared.steps.Step.{Step}
 use Rattle.sw_cause.specs.Causes.{GoesOn, IsStep, NoneBelow, NoneGoesOn}
-use Rattle.sw_cause.specs.Firsts.{AreFirst, AreNoted, IsFirstStep, IsNotedAt, IsStepAfter, IsTaken, NoneFrom, NoneYet}
+use Rattle.sw_cause.specs.Firsts.{AreFirst, IsFirstStep, IsNotedAt, IsStepAfter, IsTaken, NoneYet}
 use Rattle.sw_cause.proofs.Stepped.{no_step}
 
 -- ---- what is missing
@@ -30,20 +29,6 @@ missing d c e o is h = subst (λ (p : Option Step). MatchOption p (NoneGoesOn d 
 
 none_in : {X : Type 0} (x : X) → Contains [] x → ⊥
 none_in x h = let lt = h.1 in omega arith
-
--- no flow is below the first
-pub none_at_first : (d : Declaration) (channels : List ℕ) → AreFirst d (NoneBelow d 0) channels (replicate (length channels) None)
-none_at_first d channels = record {
-  size = length-replicate (length channels) None;
-  each = λ i lt.
-      let is : get_or (replicate (length channels) None) i None ≡ None = get_or-replicate (length channels) i None None lt in
-      let P : Option Step → Type 0 = λ o. MatchOption o (NoneBelow d 0 (round channels i) (round channels (i + 1))) (IsFirstStep d (round channels i) (round channels (i + 1))) in
-      subst P (sym is) (λ j less goes. absurd (omega arith));
-}
-
--- no place of the flow is looked at yet
-pub none_from : (d : Declaration) (n : ℕ) (f : FlowEntry) (channels : List ℕ) (steps : List (Option Step)) → AreFirst d (NoneBelow d n) channels steps → AreFirst d (NoneYet d n f []) channels steps
-none_from d n f channels steps a = weaker_all d (NoneBelow d n) (NoneYet d n f []) (λ c e none. (none, λ p m h is follows. none_in p h)) channels steps a
 
 -- all places of the flow are looked at
 pub flow_more : (d : Declaration) (n : ℕ) (f : FlowEntry) (places : List Place) (channels : List ℕ) (steps : List (Option Step)) → slice_get (all_flows d) n ≡ Some f → IsPlaceList d f places

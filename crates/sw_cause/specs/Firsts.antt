@@ -6,7 +6,7 @@ use Rattle.sw_flow.specs.Places.{Follows}
 use Rattle.sw_flow.specs.Ways.{GoesTo}
 use Rattle.sw_cycle.specs.Cycles.{round}
 use Rattle.sw_cause.specs.declared.steps.Step.{Step}
-use Rattle.sw_cause.specs.Causes.{IsStep, NoneBelow, NoneGoesOn}
+use Rattle.sw_cause.specs.Causes.{IsStep, NoneBelow}
 
 -- a step from channel c to channel e, of the first flow that has one
 pub record IsFirstStep (d : Declaration) (c e : ℕ) (s : Step) : Type 0 where
