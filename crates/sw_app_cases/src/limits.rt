@@ -17,14 +17,29 @@ static LISTS: [(&str, usize); 8] = [
     ("flow", 4097),
 ];
 
+/// More than may be nested.
+const DEPTH: usize = 100_000;
+
+// So many times the part, between a start and an end.
+fn repeated(
+    alloc: Global,
+    start: &str,
+    part: &str,
+    count: usize,
+    end: &str,
+) -> Result<String, AllocError> {
+    let mut text = String::from_str(alloc, start)?;
+    for _ in 0..count {
+        text.push_str(part)?;
+    }
+    text.push_str(end)?;
+    Ok(text)
+}
+
 // A network file with a list of so many empty tables.
 fn long_list(alloc: Global, key: &str, count: usize) -> Result<String, AllocError> {
-    let mut text = format!(in alloc; "version = 1\n{key} = [")?;
-    for _ in 0..count {
-        text.push_str("{},")?;
-    }
-    text.push_str("]\n")?;
-    Ok(text)
+    let start = format!(in alloc; "version = 1\n{key} = [")?;
+    repeated(alloc, start.as_str(), "{},", count, "]\n")
 }
 
 fn show_long_list<R: Print + AllocGlobal>(rt: &R, key: &str, count: usize) -> io::Result<()> {
@@ -39,6 +54,16 @@ pub(crate) fn show_long_lists<R: Print + AllocGlobal>(rt: &R) -> io::Result<()> 
         show_long_list(rt, key, count)?;
     }
     Ok(())
+}
+
+/// Texts that are nested deeper than is read.
+pub(crate) fn show_deep_texts<R: Print + AllocGlobal>(rt: &R) -> io::Result<()> {
+    println!(rt; "> {DEPTH} brackets")?;
+    let lists = repeated(rt.alloc(), "version = ", "[", DEPTH, "\n")?;
+    show_route(rt, lists.as_bytes(), "f")?;
+    println!(rt; "> {DEPTH} dotted keys")?;
+    let keys = repeated(rt.alloc(), "version", ".a", DEPTH, " = 1\n")?;
+    show_route(rt, keys.as_bytes(), "f")
 }
 
 /// A text with one byte more than there may be.
