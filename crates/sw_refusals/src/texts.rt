@@ -1,0 +1,51 @@
+//! Loads and schedules.
+
+use anyhow::{Result, bail, ensure};
+use std::alloc::Global;
+use sw_load::{Load, read_load};
+use sw_network::Network;
+use sw_steps::{Schedule, ScheduleFault, read_steps};
+use sw_tree::FileFault;
+
+const LOAD: &[u8] =
+    b"packet = [{ flow = \"x\", cargo = \"01 AAbb\" }, { flow = \"x\", cargo = \"AA*3\", count = 2 }]\n";
+
+const SCHEDULE: &[u8] = b"begin x EOP AA*2\n2 fct 0\nfctin 0\nemit I\n";
+
+fn read_packets(alloc: Global, network: &Network) -> Result<Load> {
+    match read_load(alloc, network, LOAD) {
+        Ok(load) => return Ok(load),
+        Err(FileFault::Memory) => {}
+        Err(FileFault::Text(_)) => bail!("a fault"),
+    }
+    match read_load(alloc, network, LOAD) {
+        Ok(load) => Ok(load),
+        Err(_) => bail!("refused again"),
+    }
+}
+
+fn read_schedule(alloc: Global, network: &Network) -> Result<Schedule> {
+    match read_steps(alloc, network, SCHEDULE) {
+        Ok(schedule) => return Ok(schedule),
+        Err(ScheduleFault::Memory) => {}
+        Err(ScheduleFault::BadLine(line)) => bail!("line {line}"),
+    }
+    match read_steps(alloc, network, SCHEDULE) {
+        Ok(schedule) => Ok(schedule),
+        Err(_) => bail!("refused again"),
+    }
+}
+
+/// A load of three packets.
+pub fn load(alloc: Global, network: &Network) -> Result<u64> {
+    let load = read_packets(alloc, network)?;
+    ensure!(load.packets().len() == 2, "other packets");
+    Ok(u64::from(load.total()))
+}
+
+/// A schedule of five steps.
+pub fn schedule(alloc: Global, network: &Network) -> Result<u64> {
+    let schedule = read_schedule(alloc, network)?;
+    ensure!(schedule.entries().len() == 4, "other steps");
+    Ok(u64::from(schedule.total()))
+}
