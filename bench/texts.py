@@ -26,6 +26,23 @@ def line_of_switches(switches, flows, address, routes=""):
     return "\n".join(lines) + "\n"
 
 
+def ring(switches, flows, hops):
+    """A ring, node i at port 1 of switch i, port 2 to the next switch's port 3; each flow goes that many switches on."""
+    lines = ["version = 1", "node = ["]
+    lines += [f'  {{ name = "N{i}" }},' for i in range(switches)]
+    lines += ["]", "switch = ["]
+    lines += [f'  {{ name = "S{i}" }},' for i in range(switches)]
+    lines += ["]", "link = ["]
+    lines += [f'  {{ a = "N{i}", b = "S{i}", b_port = 1 }},' for i in range(switches)]
+    lines += [f'  {{ a = "S{i}", a_port = 2, b = "S{(i + 1) % switches}", b_port = 3 }},' for i in range(switches)]
+    lines += ["]", "flow = ["]
+    path = [2] * hops + [1]
+    for i in range(flows):
+        lines.append(f'  {{ name = "f{i}", from = "N{i % switches}", to = "N{(i + hops) % switches}", address = {path} }},')
+    lines.append("]")
+    return "\n".join(lines) + "\n"
+
+
 def at_the_limits():
     """1,024 links, 512 switches, 4,096 flows of 32 address bytes."""
     lines = ["version = 1", "node = ["]
@@ -60,6 +77,7 @@ def full_tables():
 
 
 write("line.toml", line_of_switches(500, 4096, [40], ", route = [{ address = 40, ports = [2] }]"))
+write("ring.toml", ring(500, 4096, 31))
 write("limits.toml", at_the_limits())
 write("tables.toml", full_tables())
 write("nested-arrays.toml", "version = " + "[" * 5_000_000)

@@ -84,6 +84,8 @@ pub struct Flow {
 }
 
 pub struct Network {
+    pub nodes: Vec<String>,
+    pub switches: Vec<String>,
     pub ends: Vec<End>,
     pub out: Vec<u16>,
     pub ports: Vec<[Option<u16>; 32]>,
@@ -153,10 +155,23 @@ impl Network {
         }
         let declared = flows.len();
         flows.extend(replies);
-        Network { ends, out, ports, tables: document.switch.iter().map(table).collect(), flows, declared }
+        let nodes = document.node.iter().map(|node| node.name.clone()).collect();
+        let switches = document.switch.iter().map(|switch| switch.name.clone()).collect();
+        Network { nodes, switches, ends, out, ports, tables: document.switch.iter().map(table).collect(), flows, declared }
     }
 
     pub fn end_of(&self, channel: u16) -> End {
         self.ends[(channel ^ 1) as usize]
+    }
+
+    fn end_text(&self, end: End) -> String {
+        match end {
+            End::Node(node) => self.nodes[node as usize].clone(),
+            End::Switch(switch, port) => format!("{}:{port}", self.switches[switch as usize]),
+        }
+    }
+
+    pub fn channel_text(&self, channel: u16) -> String {
+        format!("{}>{}", self.end_text(self.ends[channel as usize]), self.end_text(self.end_of(channel)))
     }
 }

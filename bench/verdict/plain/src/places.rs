@@ -3,6 +3,9 @@ use crate::network::{End, Flow, Look, Network};
 
 pub type Place = (u16, u8);
 
+/// The places of each flow.
+pub type Lists = Vec<Vec<Place>>;
+
 /// The channels that follow a place, with how many bytes are deleted there.
 pub fn followers<'a>(network: &'a Network, flow: &Flow, place: Place) -> impl Iterator<Item = Place> + 'a {
     let (channel, deleted) = place;
@@ -44,10 +47,13 @@ pub fn places(network: &Network, flow: &Flow) -> Vec<Place> {
     found
 }
 
-/// Is something wrong with the place?
-pub fn is_faulty(network: &Network, flow: &Flow, place: Place) -> bool {
+/// What is wrong with the place.
+pub fn fault_of(network: &Network, flow: &Flow, place: Place) -> Option<&'static str> {
+    let rest = flow.address.len() - place.1 as usize;
     match network.end_of(place.0) {
-        End::Node(node) => node != flow.to || flow.address.len() - place.1 as usize != flow.left as usize,
-        End::Switch(..) => followers(network, flow, place).next().is_none(),
+        End::Node(node) if node != flow.to => Some("M3 WrongNode"),
+        End::Node(_) => (rest != flow.left as usize).then_some("M4 WrongLeft"),
+        End::Switch(..) if rest == 0 => Some("M1 AddressEnds"),
+        End::Switch(..) => followers(network, flow, place).next().is_none().then_some("M2 NoRoute"),
     }
 }
