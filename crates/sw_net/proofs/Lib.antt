@@ -1,2 +1,3 @@
 pub mod Others
 pub mod Steps
+pub mod New
