@@ -41,7 +41,7 @@ deletes_are : (d : Declaration) (w h : ℕ) → (network_of d).deletes w h ≡ (
 unfolding network_of
 deletes_are d w h = refl
 
-starts_at : (d : Declaration) (c w p : ℕ) → slice_get (ends_of d) c ≡ Some (Switch w p) → (network_of d).start_of c ≡ AtSwitch w
+pub starts_at : (d : Declaration) (c w p : ℕ) → slice_get (ends_of d) c ≡ Some (Switch w p) → (network_of d).start_of c ≡ AtSwitch w
 unfolding network_of
 starts_at d c w p e = rw e refl
 

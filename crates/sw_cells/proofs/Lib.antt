@@ -6,3 +6,7 @@ pub mod Switches
 pub mod Passing
 pub mod Dropping
 pub mod Granting
+pub mod Picking
+pub mod Telling
+pub mod LinkEnds
+pub mod Enabling

@@ -1,3 +1,5 @@
 pub mod Parts
 pub mod Makes
 pub mod SwitchParts
+pub mod Picks
+pub mod Possible

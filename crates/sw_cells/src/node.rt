@@ -3,11 +3,14 @@
 ghost use Rattle.std.specs.Prelude.{◌≡◌, ◌<◌, IfNone, IfOk, IfSome, OnErr, length};
 ghost use Rattle.sw_cells.specs.Makes.{HasNodeState, IsDeclaredAt, NodeDoes, NodeMakes};
 ghost use Rattle.sw_cells.specs.Parts.{IsNodeFor};
+ghost use Rattle.sw_cells.specs.Possible.{BeginTells, NodeEnabled, NodeHas, NodeTells, step_at_node};
 ghost use Rattle.sw_load.specs.Packets.{IsDeclaredPacket};
 ghost use Rattle.sw_machine.specs.Steps.{Accept, Arrive, Begin, Emit, Fct, FctIn, Reply};
 ghost use Rattle.sw_model.specs.Model.{network_of};
 ghost use Rattle.sw_network.specs.Entries.{Declaration};
+ghost use Rattle.sw_node.specs.Conditions.{CanAccept, CanBegin};
 
+use crate::between::{character_comes, fct_comes};
 use std::alloc::{AllocError, Global};
 use sw_char::End;
 use sw_load::in_flow;
@@ -77,9 +80,11 @@ pub fn emit(network: &Network, n: u16, node: &mut NodeCell, wires: &mut Wires) -
     true
 }
 
-/// Node `n` takes a character. After want of memory it is as it was.
+/// Node `n` takes a character. Memory is wanting only where that is possible; the node is then as it
+/// was.
 pub fn accept(alloc: Global, n: u16, node: &mut NodeCell) -> Result<bool, AllocError>
     ensures made { IfOk result (λ made. (d : Declaration) → IsNodeFor d n node.old → NodeDoes d n node.old (Accept n) made node.new) }
+    ensures possible { OnErr result (CanAccept node.old) }
     ensures err { OnErr result (node.new ≡ node.old) }
 {
     if !node.can_accept() {
@@ -124,7 +129,8 @@ fn address_of(network: &Network, flow: u16) -> &[u8]
 }
 
 /// Node `n` begins to send a packet of a declared flow that starts there: the flow's address, the
-/// cargo and the end marker. After want of memory it is as it was.
+/// cargo and the end marker. Memory is wanting only where that is possible; the node is then as it
+/// was.
 pub fn begin(
     alloc: Global,
     network: &Network,
@@ -137,6 +143,7 @@ pub fn begin(
     requires node { IsNodeFor network.now n node.old }
     requires declared { IsDeclaredAt network.now n flow cargo.now }
     ensures made { IfOk result (λ made. NodeDoes network.now n node.old (Begin flow cargo.now end) made node.new) }
+    ensures possible { OnErr result (CanBegin node.old) }
     ensures err { OnErr result (node.new ≡ node.old) }
 {
     if !node.can_begin() {
@@ -144,4 +151,94 @@ pub fn begin(
     }
     node.begin(alloc, address_of(network, flow), cargo, end)?;
     Ok(true)
+}
+
+/// Whether node `n` can begin a packet. This hangs on no packet: it can begin each that a flow which
+/// starts there declares, or none.
+pub fn can_begin(n: u16, node: &NodeCell) -> bool
+    ensures { (d : Declaration) → IsNodeFor d n node.now → BeginTells d n node.now result }
+{
+    node.can_begin()
+}
+
+/// A step at a node, other than to begin a packet.
+#[derive(Clone, Copy, Debug, PartialEq, Eq)]
+pub enum NodeStep {
+    /// The end of the channel that comes to the node sends an FCT.
+    Fct,
+    /// An FCT arrives where the channel starts that goes out from it.
+    FctIn,
+    /// The first character on the wire of the channel that comes to it arrives.
+    Arrive,
+    /// It puts a character on its wire.
+    Emit,
+    /// It takes a character.
+    Accept,
+    /// It begins to send the reply that has waited longest.
+    Reply,
+}
+
+/// Whether that step of node `n` is possible.
+pub fn is_possible(
+    network: &Network,
+    n: u16,
+    step: NodeStep,
+    node: &NodeCell,
+    wires: &Wires,
+) -> bool
+    requires node { IsNodeFor network.now n node.now }
+    requires reached { HasNodeState (network_of network.now) n node.now wires.now }
+    ensures { NodeTells (network_of network.now) n node.now wires.now (step_at_node (network_of network.now) n step) result }
+{
+    match step {
+        NodeStep::Fct => node.can_issue(),
+        NodeStep::FctIn => fct_comes(wires, network.topology().out(n)),
+        NodeStep::Arrive => character_comes(wires, network.topology().into(n)),
+        NodeStep::Emit => node.can_emit(),
+        NodeStep::Accept => node.can_accept(),
+        NodeStep::Reply => node.can_reply(),
+    }
+}
+
+/// Whether some step of node `n` is possible, other than to begin a packet.
+pub fn enabled(network: &Network, n: u16, node: &NodeCell, wires: &Wires) -> bool
+    requires node { IsNodeFor network.now n node.now }
+    requires reached { HasNodeState (network_of network.now) n node.now wires.now }
+    ensures { NodeEnabled (network_of network.now) n node.now wires.now result }
+{
+    if node.enabled() {
+        return true;
+    }
+    if fct_comes(wires, network.topology().out(n)) {
+        return true;
+    }
+    character_comes(wires, network.topology().into(n))
+}
+
+/// A step of node `n` that is possible, other than to begin a packet: the first in the order of
+/// [`NodeStep`].
+pub fn first_possible(network: &Network, n: u16, node: &NodeCell, wires: &Wires) -> Option<NodeStep>
+    requires node { IsNodeFor network.now n node.now }
+    requires reached { HasNodeState (network_of network.now) n node.now wires.now }
+    ensures { NodeHas (network_of network.now) n node.now wires.now result }
+{
+    if is_possible(network, n, NodeStep::Fct, node, wires) {
+        return Some(NodeStep::Fct);
+    }
+    if is_possible(network, n, NodeStep::FctIn, node, wires) {
+        return Some(NodeStep::FctIn);
+    }
+    if is_possible(network, n, NodeStep::Arrive, node, wires) {
+        return Some(NodeStep::Arrive);
+    }
+    if is_possible(network, n, NodeStep::Emit, node, wires) {
+        return Some(NodeStep::Emit);
+    }
+    if is_possible(network, n, NodeStep::Accept, node, wires) {
+        return Some(NodeStep::Accept);
+    }
+    if is_possible(network, n, NodeStep::Reply, node, wires) {
+        return Some(NodeStep::Reply);
+    }
+    None
 }

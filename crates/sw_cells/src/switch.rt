@@ -1,6 +1,8 @@
 //! The steps of a switch. Each answers whether the step was possible; where it was not, nothing
 //! changed.
-ghost use Rattle.std.specs.Prelude.{◌≡◌, Some, slice_get};
+ghost use Rattle.std.specs.Prelude.{◌≡◌, IfNone, IfSome, Some, slice_get};
+ghost use Rattle.sw_cells.specs.Picks.{CannotGrant, GrantsPick};
+ghost use Rattle.sw_cells.specs.Possible.{GrantTells, PortEnabled, PortHas, SwitchTells, step_at_port};
 ghost use Rattle.sw_cells.specs.SwitchParts.{HasSwitchState, IsSwitchFor, SwitchMakes, port_at};
 ghost use Rattle.sw_flow.specs.Places.{end_of, ends_of};
 ghost use Rattle.sw_machine.specs.Network.{AtSwitch};
@@ -8,11 +10,12 @@ ghost use Rattle.sw_machine.specs.Steps.{Arrive, Drop, Fct, FctIn, Forward, Gran
 ghost use Rattle.sw_model.specs.Model.{network_of};
 ghost use Rattle.sw_wires.specs.Between.{Between};
 
+use crate::between::{character_comes, fct_comes};
 use sw_arb::Arbiter;
 use sw_network::Network;
 use sw_route::Routing;
 use sw_switch::SwitchCell;
-use sw_topo::{Chan, PlaceEnd, Port};
+use sw_topo::{Chan, LinkEnd, PlaceEnd, Port};
 use sw_wires::Wires;
 
 /// The port of switch `w` where the channel ends.
@@ -209,4 +212,164 @@ pub fn grant<R: Routing, A: Arbiter>(
     }
     cell.grant_to(out, port);
     true
+}
+
+/// The output where the channel starts, at switch `w`, is granted to the input that its arbiter
+/// picks among those that ask. Answers the channel that ends at that input, and `None` if no input
+/// asks or the output is held: then nothing changed.
+pub fn arbitrate<R: Routing, A: Arbiter>(
+    network: &Network,
+    w: u16,
+    channel: Chan,
+    cell: &mut SwitchCell<R, A>,
+) -> Option<Chan>
+    requires cell { IsSwitchFor R.answer A.ports network.now w cell.old }
+    requires at { (network_of network.now).start_of channel ≡ AtSwitch w }
+    ensures cell { IsSwitchFor R.answer A.ports network.now w cell.new }
+    ensures none { IfNone result (CannotGrant network.now w cell.old channel) }
+    ensures kept { IfNone result (cell.new ≡ cell.old) }
+    ensures some { IfSome result (GrantsPick R.answer A.policy network.now w cell.old cell.new channel) }
+{
+    let out = output(network, w, channel);
+    let picked = cell.grant(out)?;
+    let back = network.topology().out_of(w, picked).unwrap();
+    Some(back.partner())
+}
+
+/// A step at the link end of a port of a switch, other than to grant its output.
+#[derive(Clone, Copy, Debug, PartialEq, Eq)]
+pub enum PortStep {
+    /// An FCT leaves for the channel that comes to the port.
+    Fct,
+    /// An FCT arrives for the channel that goes out from it.
+    FctIn,
+    /// The first character on the wire of the channel that comes to it arrives.
+    Arrive,
+    /// Its input drops an end marker, or begins to discard a packet that goes nowhere.
+    DropFront,
+    /// Its input passes a character on to the output that it holds.
+    Forward,
+    /// Its input loses a character of a packet that is discarded.
+    Spill,
+}
+
+/// Whether that step of the link end, which stands at switch `w`, is possible.
+pub fn is_possible<R: Routing, A: Arbiter>(
+    network: &Network,
+    w: u16,
+    end: LinkEnd,
+    step: PortStep,
+    cell: &SwitchCell<R, A>,
+    wires: &Wires,
+) -> bool
+    requires cell { IsSwitchFor R.answer A.ports network.now w cell.now }
+    requires at { (network_of network.now).start_of end ≡ AtSwitch w }
+    requires reached { HasSwitchState network.now w cell.now wires.now }
+    ensures { SwitchTells network.now w cell.now wires.now (step_at_port end step) result }
+{
+    let port = output(network, w, end.sends());
+    match step {
+        PortStep::Fct => cell.can_issue(port),
+        PortStep::FctIn => fct_comes(wires, end.sends()),
+        PortStep::Arrive => character_comes(wires, end.receives()),
+        PortStep::DropFront => cell.can_drop(port),
+        PortStep::Forward => cell.can_forward(port),
+        PortStep::Spill => cell.can_spill(port),
+    }
+}
+
+/// Whether the output where a channel starts can be granted to the input where the other ends, at
+/// switch `w`.
+pub fn can_grant<R: Routing, A: Arbiter>(
+    network: &Network,
+    w: u16,
+    output: Chan,
+    channel: Chan,
+    cell: &SwitchCell<R, A>,
+) -> bool
+    requires cell { IsSwitchFor R.answer A.ports network.now w cell.now }
+    requires at { (network_of network.now).end_of channel ≡ AtSwitch w }
+    ensures { (b : Between) → SwitchTells network.now w cell.now b (Grant output channel) result }
+{
+    let port = input(network, w, channel);
+    match output_port(network, w, output) {
+        Some(out) => cell.asks(out).contains(port),
+        None => false,
+    }
+}
+
+/// Whether `arbitrate` would grant the output where the channel starts.
+pub fn can_arbitrate<R: Routing, A: Arbiter>(
+    network: &Network,
+    w: u16,
+    channel: Chan,
+    cell: &SwitchCell<R, A>,
+) -> bool
+    requires cell { IsSwitchFor R.answer A.ports network.now w cell.now }
+    requires at { (network_of network.now).start_of channel ≡ AtSwitch w }
+    ensures { GrantTells network.now w cell.now channel result }
+{
+    let out = output(network, w, channel);
+    match cell.asks(out).first() {
+        Some(_) => true,
+        None => false,
+    }
+}
+
+/// Whether some step of the link end, which stands at switch `w`, is possible.
+pub fn enabled<R: Routing, A: Arbiter>(
+    network: &Network,
+    w: u16,
+    end: LinkEnd,
+    cell: &SwitchCell<R, A>,
+    wires: &Wires,
+) -> bool
+    requires cell { IsSwitchFor R.answer A.ports network.now w cell.now }
+    requires at { (network_of network.now).start_of end ≡ AtSwitch w }
+    requires reached { HasSwitchState network.now w cell.now wires.now }
+    ensures { PortEnabled network.now w cell.now wires.now end result }
+{
+    let port = output(network, w, end.sends());
+    if cell.enabled(port) {
+        return true;
+    }
+    if fct_comes(wires, end.sends()) {
+        return true;
+    }
+    character_comes(wires, end.receives())
+}
+
+/// A step of the link end, which stands at switch `w`, that is possible, other than to grant its
+/// output: the first in the order of [`PortStep`].
+pub fn first_possible<R: Routing, A: Arbiter>(
+    network: &Network,
+    w: u16,
+    end: LinkEnd,
+    cell: &SwitchCell<R, A>,
+    wires: &Wires,
+) -> Option<PortStep>
+    requires cell { IsSwitchFor R.answer A.ports network.now w cell.now }
+    requires at { (network_of network.now).start_of end ≡ AtSwitch w }
+    requires reached { HasSwitchState network.now w cell.now wires.now }
+    ensures { PortHas network.now w cell.now wires.now end result }
+{
+    if is_possible(network, w, end, PortStep::Fct, cell, wires) {
+        return Some(PortStep::Fct);
+    }
+    if is_possible(network, w, end, PortStep::FctIn, cell, wires) {
+        return Some(PortStep::FctIn);
+    }
+    if is_possible(network, w, end, PortStep::Arrive, cell, wires) {
+        return Some(PortStep::Arrive);
+    }
+    if is_possible(network, w, end, PortStep::DropFront, cell, wires) {
+        return Some(PortStep::DropFront);
+    }
+    if is_possible(network, w, end, PortStep::Forward, cell, wires) {
+        return Some(PortStep::Forward);
+    }
+    if is_possible(network, w, end, PortStep::Spill, cell, wires) {
+        return Some(PortStep::Spill);
+    }
+    None
 }

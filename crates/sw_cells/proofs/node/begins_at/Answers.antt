@@ -1,4 +1,4 @@
-use Rattle.std.proofs.Common.{◌<◌, ◌≡◌, arith, length, length-append, sym}
+use Rattle.std.proofs.Common.{arith, length-append, sym}
 use Rattle.std.proofs.lemmas.Option.{slice_get_within}
 use Rattle.sw_cells.proofs.node.begins_at.Goals as goal
 use Rattle.sw_model.specs.Model.{network_of}
