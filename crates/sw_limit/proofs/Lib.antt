@@ -1,0 +1,3 @@
+mod Fronts
+mod Headers
+mod Packets

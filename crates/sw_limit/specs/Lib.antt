@@ -1,0 +1,2 @@
+pub mod History
+pub mod Limit

@@ -1,0 +1,28 @@
+-- How long the histories of a load are.
+use Rattle.std.specs.Prelude.{All, List, length, sum_by, ℕ, ◌*◌, ◌+◌, ◌<◌}
+use Rattle.sw_limit.specs.History.{IsHistory}
+use Rattle.sw_load.specs.Load.{LoadEntry}
+use Rattle.sw_load.specs.Packets.{IsDeclaredPacket}
+use Rattle.sw_machine.specs.Begun.{Begun, length_with_reply}
+use Rattle.sw_machine.specs.Headline.{OfAccepted}
+use Rattle.sw_machine.specs.Network.{Network}
+use Rattle.sw_machine.specs.State.{State}
+use Rattle.sw_machine.specs.Steps.{Step}
+use Rattle.sw_network.specs.Entries.{Declaration}
+
+-- each packet of the load is one that its flow declares
+abbrev pub AreDeclared : Declaration → List LoadEntry → Type 0
+AreDeclared d load = All (λ p. IsDeclaredPacket d p.flow p.cargo) load
+
+-- one more than the steps that a network can make which begins these packets: a beginning for each, and for each channel 14 and 5 for each
+-- character of the packets and of the longest replies to those that are answered
+abbrev pub enough_limit : Network → List Begun → ℕ
+enough_limit net packets = length packets + net.channels * (14 + 5 * sum_by (length_with_reply net) packets) + 1
+
+-- each history that begins packets of a load has fewer steps
+abbrev pub HistoriesEnd : Network → Type 0
+HistoriesEnd net = (packets : List Begun) (steps : List Step) (s : State) → IsHistory net packets steps s → length steps < enough_limit net packets
+
+-- so it is wherever a certificate is accepted
+abbrev pub AcceptedHistoriesEnd : Type 0
+AcceptedHistoriesEnd = OfAccepted HistoriesEnd
