@@ -1,5 +1,6 @@
 -- The places that follow a place, as a walk over ports gives them.
-use Rattle.std.proofs.Common.{◌≡◌, ℕ, ◌+◌, ◌*◌, ◌/◌, ◌%◌, ◌^◌, ◌==◌, ◌<◌, ◌≤◌, Bool, cond, not, Option, Some, None, List, [], ◌∷◌, length, map, filter, filter_map, bit_and, Contains, refl, sym, ap, ◌∙◌, subst, ◌⊎◌, inl, inr, arith}
+use Rattle.std.proofs.Common.{◌≡◌, ℕ, ◌+◌, ◌*◌, ◌/◌, ◌%◌, ◌^◌, ◌==◌, ◌<◌, ◌≤◌, Bool, cond, not, Option, Some, None, List, [], ◌∷◌, length, map, filter, filter_map, is_some, bit_and, Contains, refl, sym, ap, ◌∙◌, subst, ◌⊎◌, inl, inr, arith}
+use Rattle.std.specs.Prelude.{MatchOption}
 use Rattle.std.specs.List.{range_with_len, cons_option}
 use Rattle.std.proofs.lemmas.Bool.{cases_Bool, cases_lt, lt-ltb, le-ltb}
 use Rattle.sw_topo.specs.declared.place.PlaceEnd.{PlaceEnd}
@@ -12,9 +13,10 @@ use Rattle.sw_flow.specs.declared.place.Place.{Place}
 use Rattle.sw_flow.specs.Places.{ends_of, end_of, look_after, deleted_behind, Follows}
 use Rattle.sw_flow.specs.Followers.{outputs_of, places_on, followers_at_switch, followers_at_end, followers_of}
 use Rattle.sw_flow.specs.Numbers.{width, place_of, outputs, next_at_end, next_numbers}
+use Rattle.sw_flow.specs.Faults.{has_output}
 use Rattle.sw_flow.specs.Laws.{FollowersAreListed}
-use Rattle.sw_flow.proofs.Listed.{Contains-map, Contains-from_map}
-use Rattle.sw_flow.proofs.Outputs.{outputs_are}
+use Rattle.sw_flow.proofs.Listed.{Contains-head, Contains-map, Contains-from_map}
+use Rattle.sw_flow.proofs.Outputs.{has_output-from_names, names-from_has_output, outputs_are}
 
 -- what h gives of those that fail the test
 left_out : {X Y : Type 0} (test : X → Bool) (h : X → Option Y) (xs : List X) → filter_map (λ x. cond (test x) None (h x)) xs ≡ filter_map h (filter (λ x. not (test x)) xs)
@@ -93,3 +95,16 @@ followers_numbered d f n address place followers same at so =
     let here : place ≡ place_of f n = at ∙ ap (λ (w : ℕ). record { channel = n / w; deleted = n % w }) wide in
     let list : followers ≡ followers_of d f (n / width f) (n % width f) = so ∙ ap (λ (p : Place). followers_of d f p.channel p.deleted) here in
     ap (λ (w : ℕ). map (λ (p : Place). p.channel * w + p.deleted) followers) wide ∙ ap (map (λ (p : Place). p.channel * width f + p.deleted)) list ∙ numbers_of_followers d f (n / width f) (n % width f)
+
+-- the first of the outputs tells whether there is one
+pub has_output-by_first : (ends : List PlaceEnd) (s : ℕ) (look : Look) (o : Option ℕ) (rest : List ℕ) → MatchOption o (outputs_of ends s look.ports ≡ []) (λ c. outputs_of ends s look.ports ≡ c ∷ rest) → is_some o ≡ has_output ends s look
+has_output-by_first ends s look None rest none = elim (cases_Bool (has_output ends s look)) [
+  | inr unset ↦ sym unset
+  | inl set ↦
+      let n = names-from_has_output ends s look set in
+      let listed : Contains [] n.0 = subst (λ (l : List ℕ). Contains l n.0) (outputs_by_ports ends s look ∙ none) ((outputs_are ends s look n.0).1 n.1) in
+      absurd (let lt = listed.1 in omega arith)
+]
+has_output-by_first ends s look (Some c) rest some =
+    let listed : Contains (outputs ends s look) c = subst (λ (l : List ℕ). Contains l c) (sym (outputs_by_ports ends s look ∙ some)) (Contains-head c rest) in
+    sym (has_output-from_names ends s look c ((outputs_are ends s look c).0 listed))

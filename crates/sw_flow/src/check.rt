@@ -5,7 +5,7 @@ ghost use Rattle.sw_flow.specs.Faults.{has_output, fault_of, fault_at_switch, fa
 
 use crate::fault::RouteFault;
 use crate::place::Place;
-use crate::steps::output_at;
+use crate::walk::next_output;
 use sw_network::{Flow, Network};
 use sw_route::Look;
 use sw_topo::{PlaceEnd, Topology};
@@ -14,12 +14,8 @@ fn has_output(topology: &Topology, switch: u16, look: &Look) -> bool
     requires { switch < topology.now.switches }
     ensures { result ≡ has_output topology.now.ends switch look.now }
 {
-    for number in 0..32 {
-        if output_at(topology, switch, look, number).is_some() {
-            return true;
-        }
-    }
-    false
+    let mut ports = look.ports.ports();
+    next_output(topology, switch, &mut ports).is_some()
 }
 
 fn fault_at_switch(network: &Network, flow: &Flow, switch: u16, deleted: u8) -> Option<RouteFault>

@@ -11,6 +11,10 @@ use std::alloc::{AllocError, Global};
 use std::thread::Threads;
 use sw_network::Network;
 
+/// The fewest flows that a thread is started for: a flow has up to 67,584 places, and a thread takes as long to start as some hundred
+/// places to find.
+const LEAST_PIECE: usize = 64;
+
 /// The places of each flow, reply flows too, by the flows' numbers, from as many threads as there are processors.
 pub fn all_places<R: Threads + Sync>(
     rt: &R,
@@ -21,6 +25,7 @@ pub fn all_places<R: Threads + Sync>(
 {
     let all: Result<Vec<Vec<Place>>, AllocError> = (0..network.flows())
         .into_par_iter()
+        .with_min_len(LEAST_PIECE)
         .map(
             |flow: u16| -> Result<Vec<Place>, AllocError>
                 requires { flow < length (all_flows network.now) }

@@ -1,15 +1,13 @@
 //! The steps of a flow, between the numbers of its places.
-ghost use Rattle.std.specs.Prelude.{◌≡◌, ◌<◌, ◌≤◌, ◌+◌, ◌*◌, ◌/◌, ◌%◌, ◌++◌, map, length, OnOk, IfSome, Option};
+ghost use Rattle.std.specs.Prelude.{◌≡◌, ◌<◌, ◌≤◌, ◌+◌, ◌*◌, ◌/◌, ◌%◌, ◌++◌, map, length, OnOk};
 ghost use Rattle.sw_flow.specs.Places.{ends_of};
-ghost use Rattle.sw_flow.specs.Faults.{output_at};
 
 use crate::place::Place;
 use crate::walk::{Followers, followers_in};
 use std::alloc::AllocError;
 use sw_network::{Flow, Network};
 use sw_reach::Steps;
-use sw_route::Look;
-use sw_topo::{Chan, Port, Topology};
+use sw_topo::Chan;
 
 /// A flow of a network.
 #[derive(Drop)]
@@ -30,21 +28,6 @@ pub(crate) fn place_of(number: usize, width: usize) -> Place
     Place {
         channel: Chan::new((number / width) as u16),
         deleted: (number % width) as u8,
-    }
-}
-
-/// The channel that starts at the port of that number of the switch, if the look names the port.
-pub(crate) fn output_at(topology: &Topology, switch: u16, look: &Look, number: u8) -> Option<Chan>
-    requires switch { switch < topology.now.switches }
-    requires number { number < 32 }
-    ensures channel { result ≡ output_at topology.now.ends switch look.now number }
-    ensures within { IfSome result (λ c. c < length topology.now.ends) }
-{
-    let port = Port::new(number)?;
-    if look.ports.contains(port) {
-        topology.out_of(switch, port)
-    } else {
-        None
     }
 }
 

@@ -31,7 +31,7 @@ impl<'a> Model for Followers<'a> {
 }
 
 /// The channel that starts at the first of the ports that has a link; these ports come no more.
-fn next_output(topology: &Topology, switch: u16, ports: &mut Ports) -> Option<Chan>
+pub(crate) fn next_output(topology: &Topology, switch: u16, ports: &mut Ports) -> Option<Chan>
     requires { 0 < length (ports_of ports.old) → switch < topology.now.switches }
     ensures first { MatchOption result (outputs_of topology.now.ends switch ports.old ≡ []) (λ c. outputs_of topology.now.ends switch ports.old ≡ c ∷ outputs_of topology.now.ends switch ports.new) }
     ensures last { MatchOption result (ports_of ports.new ≡ []) (λ c. length (ports_of ports.new) < length (ports_of ports.old)) }

@@ -1,12 +1,10 @@
-use Rattle.std.proofs.Common.{sym, ◌∙◌, ap, is_some, arith}
-use Rattle.sw_flow.proofs.Outputs.{has_output-from_port, has_output-none}
+use Rattle.std.proofs.Common.{◌∙◌}
+use Rattle.sw_flow.specs.Followers.{outputs_of}
+use Rattle.sw_flow.proofs.Walked.{has_output-by_first}
 use Rattle.sw_flow.proofs.check.has_output.Goals as goal
-
-pub returns-then-is_some : goal.returns-then-is_some
-returns-then-is_some c =
-    sym (has_output-from_port c.args.topology.now.ends c.args.switch c.args.look.now c.loop-number.number (omega arith)
-    (ap is_some (sym c.output_at.ensures.channel) ∙ sym c.is_some.ensures ∙ c.if-is_some.true))
 
 pub returns : goal.returns
 returns c =
-    sym (has_output-none c.args.topology.now.ends c.args.switch c.args.look.now (λ p lt. c.loop-number.invariant p (omega arith)))
+    let ends = c.args.topology.now.ends in
+    let first = rw c.ports-ports.ensures.all at c.next_output.ensures.first in
+    c.is_some.ensures ∙ has_output-by_first ends c.args.switch c.args.look.now c.next_output.result (outputs_of ends c.args.switch c.next_output.new.ports) first
