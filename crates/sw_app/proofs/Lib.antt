@@ -10,3 +10,5 @@ pub mod CycleChannels
 pub mod SameCauses
 pub mod OneVerdict
 pub mod ShownFree
+pub mod OneCount
+pub mod OneReport

@@ -3,10 +3,10 @@ use Rattle.std.proofs.Common.{◌≡◌, zero, suc, List, [], ◌∷◌, ap₂, 
 use Rattle.std.specs.Prelude.{◌⊎◌, ◌↔◌, AllPairs, Contains}
 use Rattle.sw_flow.specs.Places.{IsBefore}
 
-contains_head : {X : Type 0} (x : X) (xs : List X) → Contains (x ∷ xs) x
+pub contains_head : {X : Type 0} (x : X) (xs : List X) → Contains (x ∷ xs) x
 contains_head x xs = (0, omega arith, refl)
 
-contains_tail : {X : Type 0} (x z : X) (xs : List X) → Contains xs z → Contains (x ∷ xs) z
+pub contains_tail : {X : Type 0} (x z : X) (xs : List X) → Contains xs z → Contains (x ∷ xs) z
 contains_tail x z xs (k, lt, is) = (suc k, omega arith, is)
 
 contains_cases : {X : Type 0} (x z : X) (xs : List X) → Contains (x ∷ xs) z → (x ≡ z) ⊎ Contains xs z
@@ -14,10 +14,10 @@ contains_cases x z xs (zero, lt, is) = inl is
 contains_cases x z xs (suc k, lt, is) = inr (k, omega arith, is)
 
 -- the first stands before each of the rest
-first_before : {X : Type 0} (R : X → X → Type 0) (x z : X) (xs : List X) → AllPairs R (x ∷ xs) → Contains xs z → R x z
+pub first_before : {X : Type 0} (R : X → X → Type 0) (x z : X) (xs : List X) → AllPairs R (x ∷ xs) → Contains xs z → R x z
 first_before R x z xs pairs (k, lt, is) = subst (R x) is (pairs 0 (suc k) z (omega arith) (omega arith))
 
-rest_pairs : {X : Type 0} (R : X → X → Type 0) (x : X) (xs : List X) → AllPairs R (x ∷ xs) → AllPairs R xs
+pub rest_pairs : {X : Type 0} (R : X → X → Type 0) (x : X) (xs : List X) → AllPairs R (x ∷ xs) → AllPairs R xs
 rest_pairs R x xs pairs = λ i j d lt low. pairs (suc i) (suc j) d (omega arith) (omega arith)
 
 -- a list in order, where nothing stands before itself and no two stand before one another

@@ -49,6 +49,7 @@ impl Answer {
             status: FAULTY,
         })
     }
+
     /// The bytes of the text, with the status.
     pub(crate) fn into_bytes(self) -> ByteAnswer
         ensures text { result.text.items ≡ string_bytes self.text }
