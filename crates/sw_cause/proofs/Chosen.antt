@@ -9,7 +9,9 @@ use Rattle.sw_network.specs.Entries.{Declaration}
 use Rattle.sw_cycle.specs.declared.cycle.Cause.{Cause}
 use Rattle.sw_cycle.specs.Cycles.{cause_of, CauseEntry, round}
 use Rattle.sw_cause.specs.Causes.{AreChosen, IsChosenCause}
-use Rattle.sw_cause.specs.Laws.{ChosenCausesShowCycles}
+use Rattle.sw_cause.specs.Laws.{ChosenCausesShowCycles, ShownCyclesAreRounds}
+use Rattle.sw_model.proofs.Flows.{some_at}
+use Rattle.sw_cycle.proofs.Shown.{causes_show}
 
 pub chosen_show : ChosenCausesShowCycles
 chosen_show d channels causes some chosen = record {
@@ -17,6 +19,11 @@ chosen_show d channels causes some chosen = record {
   one_each = chosen.one_each;
   caused = λ i cause at. (chosen.chosen i cause at).shows;
 }
+
+pub shown_round : ShownCyclesAreRounds
+shown_round d valid cycle shown = λ i lt.
+    let cause = some_at cycle.causes i (omega (arith, lt, shown.one_each)) in
+    causes_show d valid cause.0 (round cycle.channels i) (round cycle.channels (i + 1)) (shown.caused i cause.0 cause.1)
 
 -- causes for the first n channels
 pub record AreFor (d : Declaration) (channels : List ℕ) (n : ℕ) (causes : List CauseEntry) : Type 0 where

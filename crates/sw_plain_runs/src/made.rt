@@ -2,7 +2,7 @@
 ghost use Rattle.sw_plain.specs.Lists.{IsKept};
 ghost use Rattle.sw_plain.specs.View.{lists_of};
 
-use crate::rounds::is_quiet;
+use crate::rounds::{is_quiet, run_out};
 use crate::show::{show_parts, undelivered};
 use std::alloc::{AllocError, Global};
 use std::io;
@@ -67,7 +67,33 @@ fn make_all(
     Ok(total)
 }
 
-// How many steps were made, and what the machine has come to.
+// Whether the network is locked up. One round of steps is made to find out.
+fn show_stuck<R: Print + AllocGlobal>(
+    rt: &R,
+    network: &Network,
+    plain: &mut Plain,
+) -> io::Result<()>
+    requires { IsKept network.now (lists_of plain.old) }
+    ensures { IsKept network.now (lists_of plain.new) }
+{
+    let waits = undelivered(plain) > 0;
+    let quiet = is_quiet(rt.alloc(), network, plain)?;
+    if waits && quiet {
+        println!(rt; "stuck yes")
+    } else {
+        println!(rt; "stuck no")
+    }
+}
+
+fn show_count(rt: &impl Print, made: u32, schedule: &Schedule) -> io::Result<()> {
+    if made == schedule.total() {
+        println!(rt; "replayed {made}")
+    } else {
+        println!(rt; "refused after {made}")
+    }
+}
+
+// How many steps were made, what the machine has come to, and what it comes to where it runs on.
 fn show_made<R: Print + AllocGlobal>(
     rt: &R,
     network: &Network,
@@ -77,18 +103,12 @@ fn show_made<R: Print + AllocGlobal>(
     requires { IsKept network.now (lists_of plain.old) }
 {
     let made = make_all(rt.alloc(), network, plain, schedule)?;
-    if made == schedule.total() {
-        println!(rt; "replayed {made}")?;
-    } else {
-        println!(rt; "refused after {made}")?;
-    }
+    show_count(rt, made, schedule)?;
     show_parts(rt, network, plain)?;
-    let waits = undelivered(plain) > 0;
-    if waits && is_quiet(rt.alloc(), network, plain)? {
-        println!(rt; "stuck yes")
-    } else {
-        println!(rt; "stuck no")
-    }
+    show_stuck(rt, network, plain)?;
+    run_out(rt.alloc(), network, plain)?;
+    println!(rt; "run out")?;
+    show_parts(rt, network, plain)
 }
 
 fn show_run<R: Print + AllocGlobal>(
@@ -102,7 +122,8 @@ fn show_run<R: Print + AllocGlobal>(
     }
 }
 
-/// Makes the steps of the schedule, and prints how many were possible, what came out, and whether the network is locked up.
+/// Makes the steps of the schedule, and prints how many were possible, what came out, and whether the network is locked up; then makes
+/// steps until none is possible, and prints what came out.
 pub(crate) fn show_schedule<R: Print + AllocGlobal>(
     rt: &R,
     network: &Network,

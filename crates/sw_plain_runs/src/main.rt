@@ -14,7 +14,7 @@ use std::{fs, io};
 use sw_file::read_network;
 
 /// Networks, each with a schedule.
-static SCHEDULES: [(&str, &str); 11] = [
+static SCHEDULES: [(&str, &str); 12] = [
     ("line.toml", "line.schedule"),
     ("line.toml", "twice.schedule"),
     ("line4096.toml", "many_fcts.schedule"),
@@ -26,6 +26,7 @@ static SCHEDULES: [(&str, &str); 11] = [
     ("rmap.toml", "unanswered.schedule"),
     ("bad.toml", "bad.schedule"),
     ("bad.toml", "bad_more.schedule"),
+    ("turn.toml", "three.schedule"),
 ];
 
 /// Networks, each with a load.

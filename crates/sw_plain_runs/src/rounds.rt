@@ -98,6 +98,7 @@ pub(crate) fn is_quiet(
     plain: &mut Plain,
 ) -> Result<bool, AllocError>
     requires { IsKept network.now (lists_of plain.old) }
+    ensures { IsKept network.now (lists_of plain.new) }
 {
     Ok(!try_all(alloc, network, plain)?)
 }
