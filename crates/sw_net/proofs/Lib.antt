@@ -1,4 +1,4 @@
 pub mod Others
 pub mod Steps
 pub mod New
-pub mod Asked
+pub mod Told

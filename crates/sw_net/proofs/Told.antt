@@ -47,6 +47,6 @@ module _ {R A : Type 0} (v : NetView R A) (valid : IsValid v.declared) where
       let l = link_ends net (are_networks v.declared valid) s step p in
       none (link_end_of net step) l.0 s is (record { step = step; belongs = refl; no_begin = no_begin; possible = p })
 
-  pub quiet_by : (first : Option ℕ) → IsFirst v first → IsQuietNet v (not (is_some first))
-  quiet_by None h = h
-  quiet_by (Some e) h = λ s is. let can = h.1 s is in record { step = can.step; no_begin = can.no_begin; possible = can.possible }
+pub quiet_by : {R A : Type 0} (v : NetView R A) (first : Option ℕ) → IsFirst v first → IsQuietNet v (not (is_some first))
+quiet_by v None h = h
+quiet_by v (Some e) h = λ s is. let can = h.1 s is in record { step = can.step; no_begin = can.no_begin; possible = can.possible }
