@@ -10,7 +10,9 @@ use Rattle.sw_cells.proofs.Passing as passing
 use Rattle.sw_cells.proofs.Passing.{some_first}
 use Rattle.sw_cells.proofs.Switches as switches
 use Rattle.sw_cells.specs.Makes.{NodeMakes}
-use Rattle.sw_cells.specs.Possible.{NodeTells, SwitchTells}
+use Rattle.sw_cells.specs.Possible.{NodeTells, SwitchTells, step_at_port}
+use Rattle.sw_cells.specs.declared.switch.PortStep.{PortStep}
+use Rattle.sw_cells.specs.declared.switch.PortStep.TheVariants as at_port
 use Rattle.sw_cells.specs.SwitchParts.{IsSwitchFor, IsSwitchState, SwitchMakes}
 use Rattle.sw_char.specs.declared.nchar.End.{End}
 use Rattle.sw_char.specs.declared.nchar.NChar.{NChar}
@@ -122,3 +124,15 @@ module _ {R A : Type 0} (answer : R → ℕ → Look) (arbiter_ports : A → ℕ
       let at : end_of d (partner back.0) ≡ Some (Switch w p) = ap (slice_get (ends_of d)) (partner_back back.0) ∙ port_starts (wiring_of d) w p back.0 back.1 in
       let t = granting.grant_made answer arbiter_ports d w cell for b (partner back.0) p o out at at_o can s is in
       (partner back.0, (t.0, t.1))
+
+-- none of the six steps of a link end, apart from grants
+pub none_of_six : {R A : Type 0} (d : Declaration) (w : ℕ) (cell : Cell R A) (b : Between) (e : ℕ)
+    → SwitchTells d w cell b (Fct (partner e)) false → SwitchTells d w cell b (FctIn e) false → SwitchTells d w cell b (Arrive (partner e)) false
+    → SwitchTells d w cell b (Drop (partner e)) false → SwitchTells d w cell b (Forward (partner e)) false → SwitchTells d w cell b (Spill (partner e)) false
+    → (step : PortStep) → SwitchTells d w cell b (step_at_port e step) false
+none_of_six d w cell b e fct fct_in arrive drops forward spill at_port.Fct = fct
+none_of_six d w cell b e fct fct_in arrive drops forward spill at_port.FctIn = fct_in
+none_of_six d w cell b e fct fct_in arrive drops forward spill at_port.Arrive = arrive
+none_of_six d w cell b e fct fct_in arrive drops forward spill at_port.DropFront = drops
+none_of_six d w cell b e fct fct_in arrive drops forward spill at_port.Forward = forward
+none_of_six d w cell b e fct fct_in arrive drops forward spill at_port.Spill = spill

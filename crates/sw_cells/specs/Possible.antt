@@ -1,5 +1,5 @@
 -- Calls that tell whether a step is possible, and change nothing.
-use Rattle.std.specs.Prelude.{Bool, List, false, true, ℕ, ◌≡◌}
+use Rattle.std.specs.Prelude.{Bool, List, None, Option, Some, false, true, ℕ, ◌≡◌}
 use Rattle.sw_cells.specs.Makes.{IsDeclaredAt}
 use Rattle.sw_cells.specs.Parts.{IsNodeState}
 use Rattle.sw_cells.specs.Picks.{CannotGrant}
@@ -73,3 +73,13 @@ NodeEnabled net n node b false = (s : State) → IsNodeState net n node b s → 
 abbrev pub PortEnabled : {R A : Type 0} → Declaration → ℕ → Cell R A → Between → ℕ → Bool → Type 0
 PortEnabled d w cell b e true = (s : State) → IsSwitchState d w cell b s → CanStepAt (network_of d) s e
 PortEnabled d w cell b e false = (s : State) → IsSwitchState d w cell b s → CanStepAt (network_of d) s e → ⊥
+
+-- Some: in each reached state whose parts these are that step at node n is possible; None: in none can the node's link end step
+abbrev pub NodeHas : Network → ℕ → Node → Between → Option NodeStep → Type 0
+NodeHas net n node b None = NodeEnabled net n node b false
+NodeHas net n node b (Some step) = NodeTells net n node b (step_at_node net n step) true
+
+-- Some: in each reached state whose parts these are that step of the link end is possible; None: in none is any, apart from grants of its output
+abbrev pub PortHas : {R A : Type 0} → Declaration → ℕ → Cell R A → Between → ℕ → Option PortStep → Type 0
+PortHas d w cell b e None = (step : PortStep) → SwitchTells d w cell b (step_at_port e step) false
+PortHas d w cell b e (Some step) = SwitchTells d w cell b (step_at_port e step) true

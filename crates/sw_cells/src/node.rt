@@ -3,11 +3,12 @@
 ghost use Rattle.std.specs.Prelude.{◌≡◌, ◌<◌, IfNone, IfOk, IfSome, OnErr, length};
 ghost use Rattle.sw_cells.specs.Makes.{HasNodeState, IsDeclaredAt, NodeDoes, NodeMakes};
 ghost use Rattle.sw_cells.specs.Parts.{IsNodeFor};
-ghost use Rattle.sw_cells.specs.Possible.{BeginTells, NodeEnabled, NodeTells, step_at_node};
+ghost use Rattle.sw_cells.specs.Possible.{BeginTells, NodeEnabled, NodeHas, NodeTells, step_at_node};
 ghost use Rattle.sw_load.specs.Packets.{IsDeclaredPacket};
 ghost use Rattle.sw_machine.specs.Steps.{Accept, Arrive, Begin, Emit, Fct, FctIn, Reply};
 ghost use Rattle.sw_model.specs.Model.{network_of};
 ghost use Rattle.sw_network.specs.Entries.{Declaration};
+ghost use Rattle.sw_node.specs.Conditions.{CanAccept, CanBegin};
 
 use crate::between::{character_comes, fct_comes};
 use std::alloc::{AllocError, Global};
@@ -79,9 +80,11 @@ pub fn emit(network: &Network, n: u16, node: &mut NodeCell, wires: &mut Wires) -
     true
 }
 
-/// Node `n` takes a character. After want of memory it is as it was.
+/// Node `n` takes a character. Memory is wanting only where that is possible; the node is then as it
+/// was.
 pub fn accept(alloc: Global, n: u16, node: &mut NodeCell) -> Result<bool, AllocError>
     ensures made { IfOk result (λ made. (d : Declaration) → IsNodeFor d n node.old → NodeDoes d n node.old (Accept n) made node.new) }
+    ensures possible { OnErr result (CanAccept node.old) }
     ensures err { OnErr result (node.new ≡ node.old) }
 {
     if !node.can_accept() {
@@ -126,7 +129,8 @@ fn address_of(network: &Network, flow: u16) -> &[u8]
 }
 
 /// Node `n` begins to send a packet of a declared flow that starts there: the flow's address, the
-/// cargo and the end marker. After want of memory it is as it was.
+/// cargo and the end marker. Memory is wanting only where that is possible; the node is then as it
+/// was.
 pub fn begin(
     alloc: Global,
     network: &Network,
@@ -139,6 +143,7 @@ pub fn begin(
     requires node { IsNodeFor network.now n node.old }
     requires declared { IsDeclaredAt network.now n flow cargo.now }
     ensures made { IfOk result (λ made. NodeDoes network.now n node.old (Begin flow cargo.now end) made node.new) }
+    ensures possible { OnErr result (CanBegin node.old) }
     ensures err { OnErr result (node.new ≡ node.old) }
 {
     if !node.can_begin() {
@@ -208,4 +213,32 @@ pub fn enabled(network: &Network, n: u16, node: &NodeCell, wires: &Wires) -> boo
         return true;
     }
     character_comes(wires, network.topology().into(n))
+}
+
+/// A step of node `n` that is possible, other than to begin a packet: the first in the order of
+/// [`NodeStep`].
+pub fn first_possible(network: &Network, n: u16, node: &NodeCell, wires: &Wires) -> Option<NodeStep>
+    requires node { IsNodeFor network.now n node.now }
+    requires reached { HasNodeState (network_of network.now) n node.now wires.now }
+    ensures { NodeHas (network_of network.now) n node.now wires.now result }
+{
+    if is_possible(network, n, NodeStep::Fct, node, wires) {
+        return Some(NodeStep::Fct);
+    }
+    if is_possible(network, n, NodeStep::FctIn, node, wires) {
+        return Some(NodeStep::FctIn);
+    }
+    if is_possible(network, n, NodeStep::Arrive, node, wires) {
+        return Some(NodeStep::Arrive);
+    }
+    if is_possible(network, n, NodeStep::Emit, node, wires) {
+        return Some(NodeStep::Emit);
+    }
+    if is_possible(network, n, NodeStep::Accept, node, wires) {
+        return Some(NodeStep::Accept);
+    }
+    if is_possible(network, n, NodeStep::Reply, node, wires) {
+        return Some(NodeStep::Reply);
+    }
+    None
 }

@@ -2,7 +2,7 @@
 //! changed.
 ghost use Rattle.std.specs.Prelude.{◌≡◌, IfNone, IfSome, Some, slice_get};
 ghost use Rattle.sw_cells.specs.Picks.{CannotGrant, GrantsPick};
-ghost use Rattle.sw_cells.specs.Possible.{GrantTells, PortEnabled, SwitchTells, step_at_port};
+ghost use Rattle.sw_cells.specs.Possible.{GrantTells, PortEnabled, PortHas, SwitchTells, step_at_port};
 ghost use Rattle.sw_cells.specs.SwitchParts.{HasSwitchState, IsSwitchFor, SwitchMakes, port_at};
 ghost use Rattle.sw_flow.specs.Places.{end_of, ends_of};
 ghost use Rattle.sw_machine.specs.Network.{AtSwitch};
@@ -337,4 +337,39 @@ pub fn enabled<R: Routing, A: Arbiter>(
         return true;
     }
     character_comes(wires, end.receives())
+}
+
+/// A step of the link end, which stands at switch `w`, that is possible, other than to grant its
+/// output: the first in the order of [`PortStep`].
+pub fn first_possible<R: Routing, A: Arbiter>(
+    network: &Network,
+    w: u16,
+    end: LinkEnd,
+    cell: &SwitchCell<R, A>,
+    wires: &Wires,
+) -> Option<PortStep>
+    requires cell { IsSwitchFor R.answer A.ports network.now w cell.now }
+    requires at { (network_of network.now).start_of end ≡ AtSwitch w }
+    requires reached { HasSwitchState network.now w cell.now wires.now }
+    ensures { PortHas network.now w cell.now wires.now end result }
+{
+    if is_possible(network, w, end, PortStep::Fct, cell, wires) {
+        return Some(PortStep::Fct);
+    }
+    if is_possible(network, w, end, PortStep::FctIn, cell, wires) {
+        return Some(PortStep::FctIn);
+    }
+    if is_possible(network, w, end, PortStep::Arrive, cell, wires) {
+        return Some(PortStep::Arrive);
+    }
+    if is_possible(network, w, end, PortStep::DropFront, cell, wires) {
+        return Some(PortStep::DropFront);
+    }
+    if is_possible(network, w, end, PortStep::Forward, cell, wires) {
+        return Some(PortStep::Forward);
+    }
+    if is_possible(network, w, end, PortStep::Spill, cell, wires) {
+        return Some(PortStep::Spill);
+    }
+    None
 }

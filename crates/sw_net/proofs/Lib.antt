@@ -1,2 +1,4 @@
 pub mod Others
 pub mod Steps
+pub mod New
+pub mod Told

@@ -84,7 +84,7 @@ module _ {R A : Type 0} (answer : R → ℕ → Look) (ports : A → ℕ) (d : D
   -- ---- a step of node n
 
   module _ (n : ℕ) (node : Node) (at : slice_get nodes n ≡ Some node) where
-    node_state : (s : State) → IsNetState (net_of d nodes switches b) s → IsNodeState (network_of d) n node b s
+    pub node_state : (s : State) → IsNetState (net_of d nodes switches b) s → IsNodeState (network_of d) n node b s
     node_state s k = record { reached = k.reached; part = k.nodes n node at; between = k.between }
 
     pub has_node : HasNodeState (network_of d) n node b
@@ -140,7 +140,7 @@ module _ {R A : Type 0} (answer : R → ℕ → Look) (ports : A → ℕ) (d : D
   -- ---- a step of switch w
 
   module _ (w : ℕ) (cell : Cell R A) (at : slice_get switches w ≡ Some cell) where
-    switch_state : (s : State) → IsNetState (net_of d nodes switches b) s → IsSwitchState d w cell b s
+    pub switch_state : (s : State) → IsNetState (net_of d nodes switches b) s → IsSwitchState d w cell b s
     switch_state s k = record { reached = k.reached; part = k.switches w cell at; between = k.between }
 
     pub has_switch : HasSwitchState d w cell b

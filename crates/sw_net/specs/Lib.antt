@@ -1,1 +1,3 @@
 pub mod Net
+pub mod New
+pub mod Asked

@@ -1,6 +1,8 @@
 //! A network that makes the machine's steps: its cells, and what lies between them.
 #![tactic(auto)]
 
+mod asked;
+mod make;
 mod net;
 mod step;
 

@@ -1,0 +1,64 @@
+-- What a new network is made of, and its cells at first.
+use Rattle.std.specs.Option.{option_map_or}
+use Rattle.std.specs.Prelude.{IsBitSet, IsSome, List, None, Option, Some, [], length, slice_get, slice_index, ℕ, ◌<◌, ◌^◌, ◌∷◌, ◌↔◌, ◌≡◌}
+use Rattle.sw_cells.specs.Parts.{IsNodeFor, IsNodePart}
+use Rattle.sw_cells.specs.SwitchParts.{IsSwitchFor, IsSwitchPart}
+use Rattle.sw_flow.specs.Places.{ends_of}
+use Rattle.sw_machine.specs.State.{empty}
+use Rattle.sw_model.specs.Model.{network_of}
+use Rattle.sw_net.specs.Net.{IsNetState, NetView}
+use Rattle.sw_network.specs.Entries.{Declaration, capacities, look_at}
+use Rattle.sw_node.specs.Node.{Node}
+use Rattle.sw_route.specs.declared.look.Look.{Look}
+use Rattle.sw_switch.specs.Cell.{Cell}
+use Rattle.sw_topo.specs.Wiring.{out_of, partner}
+use Rattle.sw_topo.specs.declared.place.PlaceEnd.{PlaceEnd}
+use Rattle.sw_topo.specs.declared.place.PlaceEnd.TheVariants as place
+
+-- there is one for each switch, and each answers as the switch's routing table
+pub record AreRoutes {R : Type 0} (answer : R → ℕ → Look) (d : Declaration) (routes : List R) : Type 0 where
+  pub all : length routes ≡ length d.switches
+  pub answers : (w : ℕ) (r : R) → slice_get routes w ≡ Some r → (byte : ℕ) → answer r byte ≡ look_at d.switches w byte
+
+-- the set has the linked ports of switch w
+pub record IsLinkedSet (d : Declaration) (w set : ℕ) : Type 0 where
+  pub within : set < 2 ^ 32
+  pub linked : (port : ℕ) → port < 32 → IsBitSet set port ↔ IsSome (out_of (ends_of d) w port)
+
+-- there is one for each of these channels that starts at a switch, in their order, made with the linked ports of that switch
+abbrev pub AreArbiters : {A : Type 0} → (A → ℕ) → Declaration → List PlaceEnd → List A → Type 0
+AreArbiters ports d [] [] = Unit {0}
+AreArbiters ports d [] (a ∷ more) = ⊥
+AreArbiters ports d (place.Node n ∷ ends) arbiters = AreArbiters ports d ends arbiters
+AreArbiters ports d (place.Switch w port ∷ ends) [] = ⊥
+AreArbiters ports d (place.Switch w port ∷ ends) (a ∷ more) = IsLinkedSet d w (ports a) × AreArbiters ports d ends more
+
+-- the net is of this network, in the empty state
+pub record IsNewNet {R A : Type 0} (d : Declaration) (v : NetView R A) : Type 0 where
+  pub network : v.declared ≡ d
+  pub empty : IsNetState v (empty (network_of d))
+
+-- ---- on the way to it
+
+-- what the channel that comes to the port can hold; 8, which is not used, where it has no link
+abbrev pub port_capacity : Declaration → ℕ → ℕ → ℕ
+port_capacity d w port = option_map_or (λ c. slice_index (capacities d.links) (partner c)) (out_of (ends_of d) w port) 8
+
+pub record IsNewNode (d : Declaration) (n : ℕ) (node : Node) : Type 0 where
+  pub for : IsNodeFor d n node
+  pub part : IsNodePart (network_of d) n node (empty (network_of d))
+
+pub record IsNewSwitch {R A : Type 0} (answer : R → ℕ → Look) (arbiter_ports : A → ℕ) (d : Declaration) (w : ℕ) (cell : Cell R A) : Type 0 where
+  pub for : IsSwitchFor answer arbiter_ports d w cell
+  pub part : IsSwitchPart d w cell (empty (network_of d))
+
+-- an arbiter for switch w
+abbrev pub IsPlaced : {A : Type 0} → (A → ℕ) → Declaration → ℕ → Option (Option A) → Type 0
+IsPlaced ports d w None = ⊥
+IsPlaced ports d w (Some None) = ⊥
+IsPlaced ports d w (Some (Some a)) = IsLinkedSet d w (ports a)
+
+-- each of the first channels that starts at switch w has an arbiter in its row, which has an entry for each port
+pub record IsRow {A : Type 0} (ports : A → ℕ) (d : Declaration) (channels w : ℕ) (row : List (Option A)) : Type 0 where
+  pub whole : length row ≡ 32
+  pub placed : (c port : ℕ) → c < channels → slice_get (ends_of d) c ≡ Some (place.Switch w port) → IsPlaced ports d w (slice_get row port)

@@ -1,0 +1,84 @@
+//! What can be asked of a network.
+ghost use Rattle.std.specs.Prelude.{◌≡◌, ◌<◌, ◌*◌, IfOk, Some, length, slice_get};
+ghost use Rattle.sw_machine.specs.Runs.{CameOut};
+ghost use Rattle.sw_machine.specs.State.{State};
+
+use crate::net::Net;
+use std::alloc::{AllocError, Global};
+use sw_arb::Arbiter;
+use sw_cells::{node, switch};
+use sw_char::Packet;
+use sw_network::Network;
+use sw_node::NodeCell;
+use sw_route::Routing;
+use sw_switch::SwitchCell;
+use sw_topo::{LinkEnd, PlaceEnd};
+
+impl<'n, R: Routing, A: Arbiter> Net<'n, R, A> {
+    ghost use Rattle.sw_net.specs.Asked.{CanStep, IsFirst, IsQuietNet};
+    ghost use Rattle.sw_net.specs.Net.{IsNet, IsNetState};
+
+    /// The network whose machine this is.
+    pub fn network(&self) -> &'n Network
+        ensures network { result.now ≡ self.now.declared }
+        ensures sound { IsNet R.answer A.ports self.now }
+    {
+        self.network
+    }
+
+    fn node(&self, n: u16) -> &NodeCell
+        requires { n < length self.now.declared.nodes }
+        ensures { slice_get self.now.nodes n ≡ Some result.now }
+    {
+        &self.nodes[n as usize]
+    }
+
+    fn switch(&self, w: u16) -> &SwitchCell<R, A>
+        requires { w < length self.now.declared.switches }
+        ensures { slice_get self.now.switches w ≡ Some result.now }
+    {
+        &self.switches[w as usize]
+    }
+
+    /// Whether some step that belongs to the link end is possible, other than to begin a packet.
+    pub fn enabled(&self, end: LinkEnd) -> bool
+        requires { end < 2 * length self.now.declared.links }
+        ensures { CanStep self.now end result }
+    {
+        match self.network().topology().start_of(end.sends()) {
+            PlaceEnd::Node(n) => node::enabled(self.network, n, self.node(n), &self.wires),
+            PlaceEnd::Switch(w, _) => {
+                switch::enabled(self.network, w, end, self.switch(w), &self.wires)
+            }
+        }
+    }
+
+    /// The link end of least number at which some step is possible, other than to begin a packet.
+    /// None where no such step is possible in the whole network.
+    pub fn first_enabled(&self) -> Option<LinkEnd>
+        ensures { IsFirst self.now result }
+    {
+        for number in 0..self.network().channels() {
+            let end = LinkEnd::new(number);
+            if self.enabled(end) {
+                return Some(end);
+            }
+        }
+        None
+    }
+
+    /// Whether no step is possible, other than to begin a packet.
+    pub fn quiet(&self) -> bool
+        ensures { IsQuietNet self.now result }
+    {
+        self.first_enabled().is_none()
+    }
+
+    /// The whole packets that came out at the node, in their order.
+    pub fn came_out(&self, alloc: Global, node: u16) -> Result<Vec<Packet>, AllocError>
+        requires { node < length self.now.declared.nodes }
+        ensures { IfOk result (λ packets. (s : State) → IsNetState self.now s → CameOut s node packets.items) }
+    {
+        self.node(node).came_out(alloc)
+    }
+}

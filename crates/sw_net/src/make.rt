@@ -1,0 +1,210 @@
+//! A new network.
+ghost use Rattle.std.specs.Prelude.{◌≡◌, ◌<◌, ◌+◌, ℕ, All, Option, IfOk, Some, drop, length, slice_get};
+ghost use Rattle.std.specs.Global.{Vec};
+ghost use Rattle.std.specs.Vec.Iter.{into_iter_items};
+ghost use Rattle.sw_flow.specs.Places.{ends_of};
+ghost use Rattle.sw_link.specs.Ends.{IsCapacity};
+ghost use Rattle.sw_net.specs.New.{AreArbiters, AreRoutes, IsNewNet, IsNewNode, IsNewSwitch, IsRow, port_capacity};
+ghost use Rattle.sw_network.specs.Entries.{look_at};
+ghost use Rattle.sw_node.specs.Node.{Node};
+ghost use Rattle.sw_switch.specs.Cell.{Cell};
+
+use crate::net::Net;
+use std::alloc::{AllocError, Global};
+use std::vec::IntoIter;
+use sw_arb::Arbiter;
+use sw_network::Network;
+use sw_node::NodeCell;
+use sw_route::Routing;
+use sw_switch::SwitchCell;
+use sw_topo::{Chan, PlaceEnd, Port};
+use sw_wires::Wires;
+
+/// How many ports a switch has.
+const PORTS: u8 = 32;
+
+/// A port of a switch with no link has this capacity, which is not used.
+const NO_LINK: usize = 8;
+
+/// What the channel that comes to the port can hold.
+fn capacity(network: &Network, w: u16, port: Port) -> usize
+    requires { w < length network.now.switches }
+    ensures value { result ≡ port_capacity network.now w port }
+    ensures capacity { IsCapacity result }
+{
+    match network.topology().out_of(w, port) {
+        Some(out) => network.capacity(out.partner()) as usize,
+        None => NO_LINK,
+    }
+}
+
+/// The same by port.
+fn capacities(alloc: Global, network: &Network, w: u16) -> Result<Vec<usize>, AllocError>
+    requires { w < length network.now.switches }
+    ensures whole { IfOk result (λ v. length v.items ≡ 32) }
+    ensures capacities { IfOk result (λ v. All IsCapacity v.items) }
+    ensures each { IfOk result (λ v. (port capacity : ℕ) → slice_get v.items port ≡ Some capacity → capacity ≡ port_capacity network.now w port) }
+{
+    let mut all = Vec::new(alloc);
+    for number in 0..PORTS {
+        let port = Port::new(number).unwrap();
+        all.push(capacity(network, w, port))?;
+    }
+    Ok(all)
+}
+
+fn new_node(alloc: Global, network: &Network, n: u16) -> Result<NodeCell, AllocError>
+    requires { n < length network.now.nodes }
+    ensures { IfOk result (IsNewNode network.now n) }
+{
+    let into = network.topology().into(n);
+    NodeCell::new(alloc, network.target(n), network.capacity(into) as usize)
+}
+
+fn new_nodes(alloc: Global, network: &Network) -> Result<Vec<NodeCell>, AllocError>
+    ensures all { IfOk result (λ v. length v.items ≡ length network.now.nodes) }
+    ensures each { IfOk result (λ v. (n : ℕ) (node : Node) → slice_get v.items n ≡ Some node → IsNewNode network.now n node) }
+{
+    let mut nodes = Vec::new(alloc);
+    for n in 0..network.nodes() {
+        nodes.push(new_node(alloc, network, n)?)?;
+    }
+    Ok(nodes)
+}
+
+/// Room for an arbiter at each port.
+fn empty_row<A: Arbiter + Drop>(alloc: Global) -> Result<Vec<Option<A>>, AllocError>
+    ensures { IfOk result (λ row. length row.items ≡ 32) }
+{
+    let mut row = Vec::new(alloc);
+    for port in 0..PORTS {
+        row.push(None)?;
+    }
+    Ok(row)
+}
+
+fn empty_rows<A: Arbiter + Drop>(
+    alloc: Global,
+    network: &Network,
+) -> Result<Vec<Vec<Option<A>>>, AllocError>
+    ensures all { IfOk result (λ rows. length rows.items ≡ length network.now.switches) }
+    ensures each { IfOk result (λ rows. (w : ℕ) (row : Vec (Option A)) → slice_get rows.items w ≡ Some row → IsRow A.ports network.now 0 w row.items) }
+{
+    let mut rows = Vec::new(alloc);
+    for w in 0..network.switches() {
+        rows.push(empty_row(alloc)?)?;
+    }
+    Ok(rows)
+}
+
+/// The next arbiter is that of the channel, if that starts at a switch.
+fn place<A: Arbiter + Drop>(
+    network: &Network,
+    channel: Chan,
+    arbiters: &mut IntoIter<A>,
+    rows: &mut Vec<Vec<Option<A>>>,
+)
+    requires channel { channel < length (ends_of network.now) }
+    requires arbiters { AreArbiters A.ports network.now (drop channel (ends_of network.now)) (into_iter_items arbiters.old) }
+    requires all { length rows.old.items ≡ length network.now.switches }
+    requires each { (w : ℕ) (row : Vec (Option A)) → slice_get rows.old.items w ≡ Some row → IsRow A.ports network.now channel w row.items }
+    ensures arbiters { AreArbiters A.ports network.now (drop (channel + 1) (ends_of network.now)) (into_iter_items arbiters.new) }
+    ensures all { length rows.new.items ≡ length network.now.switches }
+    ensures each { (w : ℕ) (row : Vec (Option A)) → slice_get rows.new.items w ≡ Some row → IsRow A.ports network.now (channel + 1) w row.items }
+{
+    match network.topology().start_of(channel) {
+        PlaceEnd::Node(_) => {}
+        PlaceEnd::Switch(w, port) => match arbiters.next() {
+            Some(arbiter) => {
+                let row = &mut rows[w as usize];
+                row[port.number() as usize] = Some(arbiter);
+            }
+            None => unreachable!(),
+        },
+    }
+}
+
+/// The arbiters by switch and port.
+fn placed<A: Arbiter + Drop>(
+    alloc: Global,
+    network: &Network,
+    arbiters: Vec<A>,
+) -> Result<Vec<Vec<Option<A>>>, AllocError>
+    requires { AreArbiters A.ports network.now (ends_of network.now) arbiters.items }
+    ensures all { IfOk result (λ rows. length rows.items ≡ length network.now.switches) }
+    ensures each { IfOk result (λ rows. (w : ℕ) (row : Vec (Option A)) → slice_get rows.items w ≡ Some row → IsRow A.ports network.now (length (ends_of network.now)) w row.items) }
+{
+    let mut rows = empty_rows(alloc, network)?;
+    let mut rest = arbiters.into_iter();
+    for number in 0..network.channels() {
+        place(network, Chan::new(number), &mut rest, &mut rows);
+    }
+    Ok(rows)
+}
+
+fn new_switch<R: Routing + Drop, A: Arbiter + Drop>(
+    alloc: Global,
+    network: &Network,
+    w: u16,
+    routes: R,
+    arbiters: Vec<Option<A>>,
+) -> Result<SwitchCell<R, A>, AllocError>
+    requires switch { w < length network.now.switches }
+    requires routes { (byte : ℕ) → R.answer routes byte ≡ look_at network.now.switches w byte }
+    requires arbiters { IsRow A.ports network.now (length (ends_of network.now)) w arbiters.items }
+    ensures { IfOk result (IsNewSwitch R.answer A.ports network.now w) }
+{
+    let linked = network.topology().linked(w);
+    let capacities = capacities(alloc, network, w)?;
+    SwitchCell::new(alloc, routes, linked, &capacities, arbiters)
+}
+
+fn new_switches<R: Routing + Drop, A: Arbiter + Drop>(
+    alloc: Global,
+    network: &Network,
+    routes: Vec<R>,
+    rows: Vec<Vec<Option<A>>>,
+) -> Result<Vec<SwitchCell<R, A>>, AllocError>
+    requires routes { AreRoutes R.answer network.now routes.items }
+    requires all { length rows.items ≡ length network.now.switches }
+    requires each { (w : ℕ) (row : Vec (Option A)) → slice_get rows.items w ≡ Some row → IsRow A.ports network.now (length (ends_of network.now)) w row.items }
+    ensures all { IfOk result (λ v. length v.items ≡ length network.now.switches) }
+    ensures each { IfOk result (λ v. (w : ℕ) (cell : Cell R A) → slice_get v.items w ≡ Some cell → IsNewSwitch R.answer A.ports network.now w cell) }
+{
+    let mut switches = Vec::new(alloc);
+    let mut tables = routes.into_iter();
+    let mut arbiters = rows.into_iter();
+    for w in 0..network.switches() {
+        let table = tables.next().unwrap();
+        let row = arbiters.next().unwrap();
+        switches.push(new_switch(alloc, network, w, table, row)?)?;
+    }
+    Ok(switches)
+}
+
+impl<'n, R: Routing + Drop, A: Arbiter + Drop> Net<'n, R, A> {
+    /// The network in its empty state: no credit, no character, no output held. There is one
+    /// routing for each switch, and one arbiter for each channel that starts at a switch, in their
+    /// order. All that it keeps of its wires, buffers and memories is made here.
+    pub fn new(
+        alloc: Global,
+        network: &'n Network,
+        routes: Vec<R>,
+        arbiters: Vec<A>,
+    ) -> Result<Net<'n, R, A>, AllocError>
+        requires routes { AreRoutes R.answer network.now routes.items }
+        requires arbiters { AreArbiters A.ports network.now (ends_of network.now) arbiters.items }
+        ensures { IfOk result (IsNewNet network.entry.now) }
+    {
+        let nodes = new_nodes(alloc, network)?;
+        let rows = placed(alloc, network, arbiters)?;
+        let switches = new_switches(alloc, network, routes, rows)?;
+        let wires = Wires::new(alloc, network.topology().channels() as usize)?;
+        Ok(Net {
+            network,
+            nodes,
+            switches,
+            wires,
+        })
+    }
+}
