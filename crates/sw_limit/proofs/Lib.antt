@@ -1,3 +1,4 @@
 mod Fronts
 mod Headers
+mod Listed
 mod Packets

@@ -1,7 +1,7 @@
 -- How long the histories of a load are.
-use Rattle.std.specs.Prelude.{All, List, length, sum_by, ℕ, ◌*◌, ◌+◌, ◌<◌}
+use Rattle.std.specs.Prelude.{All, List, Ok, length, sum_by, ℕ, ◌*◌, ◌+◌, ◌<◌, ◌≡◌}
 use Rattle.sw_limit.specs.History.{IsHistory}
-use Rattle.sw_load.specs.Load.{LoadEntry}
+use Rattle.sw_load.specs.Load.{LoadEntry, load_text}
 use Rattle.sw_load.specs.Packets.{IsDeclaredPacket}
 use Rattle.sw_machine.specs.Begun.{Begun, length_with_reply}
 use Rattle.sw_machine.specs.Headline.{OfAccepted}
@@ -26,3 +26,7 @@ HistoriesEnd net = (packets : List Begun) (steps : List Step) (s : State) → Is
 -- so it is wherever a certificate is accepted
 abbrev pub AcceptedHistoriesEnd : Type 0
 AcceptedHistoriesEnd = OfAccepted HistoriesEnd
+
+-- the packets that a load file lists are those that the network's flows declare
+abbrev pub ListedAreDeclared : Type 0
+ListedAreDeclared = (d : Declaration) (bytes : List ℕ) (load : List LoadEntry) → load_text d bytes ≡ Ok load → AreDeclared d load
