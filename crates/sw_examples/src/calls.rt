@@ -1,7 +1,8 @@
 //! A call of the program, and how it ends.
 use std::rt::Files;
+use std::thread::Threads;
 use std::{fs, io};
-use sw_app::{Call, Ended, WordsFault, check, route, words};
+use sw_app::{Call, Ended, WordsFault, check, decide, report, route, words};
 
 fn run_route<R: Files + Print + AllocGlobal>(rt: &R, file: &str, flow: &str) -> io::Result<Ended> {
     let mut reader = fs::open(rt, file)?;
@@ -20,9 +21,32 @@ fn run_check<R: Files + Print + AllocGlobal>(
     Ok(check(rt.alloc(), &mut network, &mut certificate, &mut writer))
 }
 
-fn run_call<R: Files + Print + AllocGlobal>(rt: &R, call: Call<'_>) -> io::Result<Ended> {
+fn run_decide<R: Files + Print + AllocGlobal + Threads + Sync>(
+    rt: &R,
+    file: &str,
+) -> io::Result<Ended> {
+    let mut reader = fs::open(rt, file)?;
+    let mut writer = io::writer(rt);
+    Ok(decide(rt, rt.alloc(), &mut reader, &mut writer))
+}
+
+fn run_report<R: Files + Print + AllocGlobal + Threads + Sync>(
+    rt: &R,
+    file: &str,
+) -> io::Result<Ended> {
+    let mut reader = fs::open(rt, file)?;
+    let mut writer = io::writer(rt);
+    Ok(report(rt, rt.alloc(), &mut reader, &mut writer))
+}
+
+fn run_call<R: Files + Print + AllocGlobal + Threads + Sync>(
+    rt: &R,
+    call: Call<'_>,
+) -> io::Result<Ended> {
     match call {
         Call::Route { file, flow } => run_route(rt, file, flow),
+        Call::Decide { file } => run_decide(rt, file),
+        Call::Report { file } => run_report(rt, file),
         Call::Check { file, certificate } => run_check(rt, file, certificate),
     }
 }
@@ -59,7 +83,10 @@ fn show_words(rt: &impl Print, given: &[&str]) -> io::Result<()> {
 }
 
 /// Prints the words, what the program writes, and its status.
-pub(crate) fn show_run<R: Files + Print + AllocGlobal>(rt: &R, given: &[&str]) -> io::Result<()> {
+pub(crate) fn show_run<R: Files + Print + AllocGlobal + Threads + Sync>(
+    rt: &R,
+    given: &[&str],
+) -> io::Result<()> {
     show_words(rt, given)?;
     match words(rt.alloc(), given) {
         Ok(call) => {

@@ -8,7 +8,7 @@ use crate::calls::show_run;
 use std::io;
 
 /// The words of each call; what comes of it stands in `stdout`, in this order.
-static RUNS: [&[&str]; 49] = [
+static RUNS: [&[&str]; 61] = [
     &["swcheck", "route", "line.toml", "f"],
     &["swcheck", "route", "star.toml", "p"],
     &["swcheck", "route", "star.toml", "l"],
@@ -45,6 +45,18 @@ static RUNS: [&[&str]; 49] = [
     &["swcheck", "check", "line.toml", "turn.cert"],
     &["swcheck", "check", "turn.toml", "turn.load"],
     &["swcheck", "check", "turn.cert", "turn.cert"],
+    &["swcheck", "decide", "turn.toml"],
+    &["swcheck", "decide", "group.toml"],
+    &["swcheck", "decide", "line.toml"],
+    &["swcheck", "decide", "ring.toml"],
+    &["swcheck", "decide", "duel.toml"],
+    &["swcheck", "decide", "bad.toml"],
+    &["swcheck", "decide", "turn.load"],
+    &["swcheck", "decide", "turn.cert"],
+    &["swcheck", "report", "turn.toml"],
+    &["swcheck", "report", "turn.cert"],
+    &["swcheck", "decide"],
+    &["swcheck", "report", "line.toml", "f"],
     &["swcheck", "--help"],
     &["swcheck", "-h"],
     &["swcheck", "help"],
