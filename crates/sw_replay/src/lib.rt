@@ -1,0 +1,7 @@
+//! Replays of schedules: their steps are made one after another, up to the first that is refused.
+#![tactic(auto)]
+
+pub mod laws;
+mod replayed;
+
+pub use replayed::{Outcome, Refusal, Replayed};
