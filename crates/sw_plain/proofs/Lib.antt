@@ -5,3 +5,5 @@ pub mod Start
 pub mod Declares
 pub mod Layouts
 pub mod Takes
+pub mod Advancing
+pub mod Delivered

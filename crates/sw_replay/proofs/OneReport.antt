@@ -39,8 +39,8 @@ module _ (net : Network) (s : State) (r q : Report) (x : IsTrueOf net s r) (y : 
 
   same_packets : r.came_out ≡ q.came_out
   same_packets =
-      let count : length r.came_out ≡ length q.came_out = x.each_node ∙ sym y.each_node in
-      same_list r.came_out q.came_out [] count (λ k lt. let in_net : k < net.nodes = subst (λ n. k < n) x.each_node lt in one_cut s k (get_or r.came_out k []) (get_or q.came_out k []) (x.packets k in_net) (y.packets k in_net))
+      let count : length r.came_out ≡ length q.came_out = x.outputs.each_node ∙ sym y.outputs.each_node in
+      same_list r.came_out q.came_out [] count (λ k lt. let in_net : k < net.nodes = subst (λ n. k < n) x.outputs.each_node lt in one_cut s k (get_or r.came_out k []) (get_or q.came_out k []) (x.outputs.packets k in_net) (y.outputs.packets k in_net))
 
   pub same_report : r.outcome ≡ q.outcome → r ≡ q
   same_report outcome = λ i. record { outcome = outcome i; remaining = same_remaining i; stuck = same_stuck i; came_out = same_packets i }

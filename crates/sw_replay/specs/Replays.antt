@@ -1,9 +1,9 @@
 -- The replay of a list of steps: they are made one after another, from the empty state, up to the first that is refused.
-use Rattle.std.specs.Prelude.{◌≡◌, ℕ, ◌+◌, List, ◌∷◌, ◌++◌, length}
+use Rattle.std.specs.Prelude.{◌≡◌, ℕ, ◌+◌, List, ◌∷◌, ◌++◌, length, None, Option, Some}
 use Rattle.sw_machine.specs.Network.{IsDeclared, Network}
 use Rattle.sw_machine.specs.Runs.{Run}
 use Rattle.sw_machine.specs.State.{State, empty}
-use Rattle.sw_machine.specs.Steps.{Begin, IsPossible, Step}
+use Rattle.sw_machine.specs.Steps.{Begin, IsPossible, Leads, Step}
 use Rattle.sw_model.specs.Model.{network_of}
 use Rattle.sw_network.specs.Entries.{Declaration}
 use Rattle.sw_replay.specs.declared.replayed.Outcome.{Outcome}
@@ -21,6 +21,11 @@ IsUndeclared net step = ⊥
 abbrev pub Refuses : Network → State → Step → Refusal → Type 0
 Refuses net s step NotInFlow = IsUndeclared net step
 Refuses net s step NotEnabled = (IsUndeclared net step → ⊥) × (IsPossible net s step → ⊥)
+
+-- the step leads from s to t, or it is refused, and nothing changed
+abbrev pub MakesOr : Network → State → Step → Option Refusal → State → Type 0
+MakesOr net s step None t = Leads net s step t
+MakesOr net s step (Some refusal) t = Refuses net s step refusal × (t ≡ s)
 
 -- the first steps lead from s to t, and there the next one, of this number, is refused
 pub record StopsAt (net : Network) (s : State) (steps : List Step) (number : ℕ) (refusal : Refusal) (t : State) : Type 0 where

@@ -21,9 +21,13 @@ report_of r = record {
   came_out = map (λ packets. packets.items) r.came_out.items;
 }
 
+-- for each node, the packets that came out there
+pub record AreOutputs (net : Network) (s : State) (all : List (List Packet)) : Type 0 where
+  pub each_node : length all ≡ net.nodes
+  pub packets : (n : ℕ) → n < net.nodes → CameOut s n (slice_index_or all n [])
+
 -- what the report tells is true of state s
 pub record IsTrueOf (net : Network) (s : State) (r : Report) : Type 0 where
   pub counted : r.remaining ≡ undelivered net s
   pub locked_up : IsTrue r.stuck ↔ IsLockedUp net s
-  pub each_node : length r.came_out ≡ net.nodes
-  pub packets : (n : ℕ) → n < net.nodes → CameOut s n (slice_index_or r.came_out n [])
+  pub outputs : AreOutputs net s r.came_out

@@ -2,6 +2,10 @@
 #![tactic(auto)]
 
 pub mod laws;
+mod make;
+mod replay;
 mod replayed;
+mod report;
 
+pub use replay::replay;
 pub use replayed::{Outcome, Refusal, Replayed};
