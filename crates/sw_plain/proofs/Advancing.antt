@@ -1,6 +1,6 @@
 -- Steps that are tried one after another, until one is made.
 use Rattle.std.proofs.Common.{Bool, Err, Ok, Result, arith, false, refl, subst, sym, true, ⊎_elim, ℕ, ◌<◌, ◌+◌, ◌∙◌, ◌≡◌}
-use Rattle.std.proofs.lemmas.Bool.{cases_eq, cases_lt}
+use Rattle.std.proofs.lemmas.Bool.{cases_lt}
 use Rattle.std.specs.Prelude.{IfOk}
 use Rattle.std.specs.declared.alloc.AllocError.{AllocError}
 use Rattle.sw_machine.specs.Network.{IsNetwork, Network}

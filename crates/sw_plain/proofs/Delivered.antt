@@ -1,9 +1,9 @@
 -- Sums over channels and nodes, one more at a time.
-use Rattle.std.proofs.Common.{◌≡◌, ◌<◌, ◌≤◌, ◌+◌, [], ℕ, zero, suc, List, ⊎_elim, add-one, ap, arith, length, map, refl, rules, subst, sum_by, sym, ◌∙◌, ◌∷◌}
+use Rattle.std.proofs.Common.{◌≡◌, ◌<◌, ◌≤◌, ◌+◌, [], ℕ, zero, suc, List, ⊎_elim, add-one, ap, arith, length, map, refl, subst, sum_by, sym, ◌∙◌, ◌∷◌}
 use Rattle.std.proofs.lemmas.Bool.{cases_lt}
 use Rattle.std.proofs.lemmas.List.Sums.{sum_by-cons}
 use Rattle.std.specs.Global.{Vec}
-use Rattle.std.specs.Prelude.{slice_index_or, vec_len}
+use Rattle.std.specs.Prelude.{slice_index_or}
 use Rattle.sw_machine.specs.Runs.{length_pending, total}
 use Rattle.sw_machine.specs.State.{reply_packet}
 use Rattle.sw_plain.specs.declared.state.Reply.{Reply}

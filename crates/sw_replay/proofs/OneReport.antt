@@ -1,15 +1,13 @@
 -- One thing is true of a state.
-use Rattle.std.proofs.Common.{Bool, IsTrue, List, [], ap, arith, false, get_or, length, refl, subst, sym, true, zero, suc, ℕ, ◌<◌, ◌+◌, ◌∙◌, ◌∷◌, ◌≡◌, ◌↔◌}
+use Rattle.std.proofs.Common.{Bool, IsTrue, List, [], ap, arith, false, get_or, length, refl, subst, sym, true, suc, ℕ, ◌<◌, ◌∙◌, ◌∷◌, ◌≡◌, ◌↔◌}
 use Rattle.sw_machine.proofs.Cuts.{cuts}
 use Rattle.sw_machine.specs.Network.{Network}
 use Rattle.sw_machine.specs.Packets.{Packet}
 use Rattle.sw_machine.specs.Runs.{CameOut, IsLockedUp}
 use Rattle.sw_machine.specs.State.{State, empty}
-use Rattle.sw_machine.specs.Steps.{Step}
 use Rattle.sw_model.specs.Model.{network_of}
-use Rattle.sw_network.specs.Entries.{Declaration}
 use Rattle.sw_replay.specs.Reports.{IsTrueOf, Report}
-use Rattle.sw_replay.specs.Replays.{IsReplayed, ReplaysAreDetermined}
+use Rattle.sw_replay.specs.Replays.{ReplaysAreDetermined}
 use Rattle.sw_replay.proofs.Stops.{one_end}
 
 one_answer : (P : Type 0) (a b : Bool) → (IsTrue a ↔ P) → (IsTrue b ↔ P) → a ≡ b

@@ -1,15 +1,15 @@
 -- From one state on, steps are made to one end.
-use Rattle.std.proofs.Common.{List, [], ap, arith, length, refl, subst, suc, sym, ℕ, ◌++◌, ◌+◌, ◌∙◌, ◌∷◌, ◌≡◌}
+use Rattle.std.proofs.Common.{List, [], ap, length, refl, subst, suc, sym, ◌++◌, ◌+◌, ◌∙◌, ◌∷◌, ◌≡◌}
 use Rattle.sw_machine.proofs.Determined.{determined}
 use Rattle.sw_machine.specs.Network.{Network}
 use Rattle.sw_machine.specs.Runs.{Run}
 use Rattle.sw_machine.specs.State.{State}
-use Rattle.sw_machine.specs.Steps.{Accept, Arrive, Begin, Drop, Emit, Fct, FctIn, Forward, Grant, IsPossible, Leads, Reply, Spill, Step}
+use Rattle.sw_machine.specs.Steps.{Accept, Arrive, Begin, Drop, Emit, Fct, FctIn, Forward, Grant, Leads, Reply, Spill, Step}
 use Rattle.sw_replay.specs.declared.replayed.Outcome.{Outcome}
 use Rattle.sw_replay.specs.declared.replayed.Outcome.TheVariants.{Made, Refused}
 use Rattle.sw_replay.specs.declared.replayed.Refusal.{Refusal}
 use Rattle.sw_replay.specs.declared.replayed.Refusal.TheVariants.{NotEnabled, NotInFlow}
-use Rattle.sw_replay.specs.Replays.{Ends, IsUndeclared, Refuses, StopsAt}
+use Rattle.sw_replay.specs.Replays.{Ends, IsUndeclared, Refuses}
 
 module _ (net : Network) where
   -- a step that leads on begins no undeclared packet

@@ -3,9 +3,9 @@
 
 pub mod laws;
 mod make;
-mod replay;
+mod replaying;
 mod replayed;
 mod report;
 
-pub use replay::replay;
+pub use replaying::replay;
 pub use replayed::{Outcome, Refusal, Replayed};

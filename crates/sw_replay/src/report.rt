@@ -13,6 +13,7 @@ use sw_network::Network;
 use sw_plain::Plain;
 
 /// The packets that came out at each node.
+#[tactic(auto, unfolding(sw_model::specs::Model::network_of))]
 fn outputs(
     alloc: Global,
     network: &Network,
@@ -28,18 +29,18 @@ fn outputs(
     Ok(all)
 }
 
-/// Whether the machine is locked up, where so many characters are undelivered. Where they are some, a step of it is tried.
+/// Whether the machine is locked up, where so many characters are undelivered. It may make a step.
 fn is_locked_up(
     alloc: Global,
     network: &Network,
     machine: &mut Plain,
-    undelivered: u64,
+    remaining: u64,
 ) -> Result<bool, AllocError>
     requires kept { IsKept network.now (lists_of machine.old) }
-    requires counted { undelivered ≡ undelivered (network_of network.now) (state_of (lists_of machine.old)) }
+    requires counted { remaining ≡ undelivered (network_of network.now) (state_of (lists_of machine.old)) }
     ensures { IfOk result (λ stuck. IsTrue stuck ↔ IsLockedUp (network_of network.now) (state_of (lists_of machine.old))) }
 {
-    if undelivered == 0 {
+    if remaining == 0 {
         return Ok(false);
     }
     Ok(!machine.advance(alloc, network)?)
@@ -57,6 +58,10 @@ pub(crate) fn report(
     ensures outcome { IfOk result (λ r. r.outcome ≡ outcome) }
     ensures report { IfOk result (λ r. IsTrueOf (network_of network.now) (state_of (lists_of machine.old)) (report_of r)) }
 {
+    // Names the network, which is valid by its type, and has at most so many channels and nodes.
+    let _flows = network.flows();
+    let _channels = network.channels();
+    let _nodes = network.nodes();
     let undelivered = machine.undelivered(network);
     let came_out = outputs(alloc, network, machine)?;
     let stuck = is_locked_up(alloc, network, machine, undelivered)?;

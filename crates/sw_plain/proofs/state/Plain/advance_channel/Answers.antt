@@ -1,5 +1,5 @@
 use Rattle.std.proofs.Common.{refl}
-use Rattle.sw_machine.specs.Steps.{Arrive, Drop, Fct, FctIn, Forward, Spill}
+use Rattle.sw_machine.specs.Steps.{Arrive, Drop, Fct, FctIn, Forward}
 use Rattle.sw_model.specs.Model.{network_of}
 use Rattle.sw_plain.specs.View.{lists_of}
 use Rattle.sw_plain.proofs.Advancing.{last_of_channel, made, refused}

@@ -1,4 +1,4 @@
-use Rattle.std.proofs.Common.{ℕ, arith, refl, rules, subst, ◌∙◌, ◌≡◌}
+use Rattle.std.proofs.Common.{ℕ, refl, rules, subst, ◌≡◌}
 use Rattle.sw_machine.specs.Steps.{IsPossible, Step}
 use Rattle.sw_model.specs.Model.{network_of}
 use Rattle.sw_plain.specs.Advances.{IsGrantTo, IsOfChannel, IsOfChannels}

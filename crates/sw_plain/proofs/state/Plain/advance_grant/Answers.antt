@@ -1,8 +1,7 @@
-use Rattle.std.proofs.Common.{ℕ, arith, refl, rules, subst, sym, ◌<◌, ◌∙◌, ◌≡◌}
-use Rattle.sw_machine.specs.Steps.{Grant, IsPossible}
+use Rattle.std.proofs.Common.{ℕ, refl, rules, subst, sym, ◌<◌, ◌≡◌}
+use Rattle.sw_machine.specs.Steps.{Grant}
 use Rattle.sw_model.proofs.Networks.{are_networks}
 use Rattle.sw_model.specs.Model.{network_of}
-use Rattle.sw_plain.specs.Lists.{state_of}
 use Rattle.sw_plain.specs.View.{lists_of}
 use Rattle.sw_plain.proofs.Advancing.{made, no_grant, no_grants, refused}
 use Rattle.sw_plain.proofs.state.Plain.advance_grant.Goals as goal

@@ -1,9 +1,8 @@
-use Rattle.std.proofs.Common.{◌≡◌, ◌<◌, ◌+◌, arith, length, map, rules, sum_by, ◌∙◌}
+use Rattle.std.proofs.Common.{◌≡◌, ◌<◌, arith, length, map, rules, sum_by, ◌∙◌}
 use Rattle.std.proofs.lemmas.List.{length-map}
 use Rattle.std.specs.Prelude.{vec_len}
 use Rattle.sw_machine.specs.Runs.{length_pending}
 use Rattle.sw_machine.specs.State.{reply_packet}
-use Rattle.sw_plain.specs.Delivery.{at_node}
 use Rattle.sw_plain.specs.Lists.{state_of}
 use Rattle.sw_plain.specs.View.{lists_of, reply_of, rows}
 use Rattle.sw_plain.proofs.Delivered.{replies_length, row_len}
