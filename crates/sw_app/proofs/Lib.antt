@@ -6,3 +6,4 @@ pub mod FlowAnswers
 pub mod Endings
 pub mod OneListing
 pub mod OneAnswer
+pub mod NodeLines

@@ -9,3 +9,5 @@ pub mod CheckTexts
 pub mod CheckAnswers
 pub mod Inputs
 pub mod Laws
+pub mod ReplayTexts
+pub mod ReplayAnswers

@@ -11,6 +11,9 @@ mod engines;
 mod fault_texts;
 mod inputs;
 mod laws;
+mod replay_answer;
+mod replay_engine;
+mod replay_texts;
 mod route_answer;
 mod route_texts;
 
@@ -19,3 +22,4 @@ pub use ended::{Ended, MAX_TEXT};
 pub use engines::{check, route};
 pub use fault_texts::fault_text;
 pub use laws::route_has_one_answer;
+pub use replay_engine::replay;
