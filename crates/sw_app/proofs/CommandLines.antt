@@ -1,7 +1,11 @@
 -- What clap's matches say of the words.
-use Rattle.std.proofs.Common.{◌≡◌, List, ℕ, [], Option, refl, sym, ap, ◌∙◌, subst, true, inl, inr}
+use Rattle.std.proofs.Common.{◌≡◌, List, ℕ, [], Option, refl, sym, ap, ◌∙◌, subst, true, false, inl, inr}
 use Rattle.std.specs.Prelude.{IfOk, IfSome, ok_or, Some, None}
-use Rattle.clap.specs.Words.{App, HasKind, HasMatchesOf, fault_of, is_simple, is_simple_and_free, kind_of, subcommand_of, subcommand_rows_of}
+use Rattle.clap.specs.Built.{AddsSubcommand}
+use Rattle.clap.specs.Simple.{with_subcommand}
+use Rattle.clap.specs.Words.{App, app_of, HasKind, HasMatchesOf, fault_of, is_simple, is_simple_and_free, kind_of, subcommand_of, subcommand_rows_of}
+use Rattle.clap.specs.declared.builder.Command.{Command}
+use Rattle.clap.specs.declared.builder.Command.TheViews.{out-Command}
 use Rattle.clap.specs.declared.parser.matches.ArgMatches.{ArgMatches}
 use Rattle.clap.specs.declared.error.Error.{Error}
 use Rattle.sw_app.specs.declared.command_line.Call.{Call}
@@ -49,3 +53,8 @@ refuses app words e (Refused text) is has shows =
       | inl memory ↦ absurd (shows.0 memory)
       | inr known ↦ (kind_of e, known, shows)
     ]
+
+-- a command with one more subcommand
+pub with_added : (old sub new : Command) (a b : App) → app_of old ≡ a → (app_of sub ≡ b) × ((out-Command sub).has_globals ≡ false) → AddsSubcommand old sub new
+    → app_of new ≡ with_subcommand a b.top
+with_added old sub new a b first second adds = adds.shape second.1 ∙ (λ i. with_subcommand (first i) (second.0 i).top)

@@ -1,12 +1,14 @@
 -- What an engine that told a text has done.
-use Rattle.std.proofs.Common.{◌≡◌, ℕ, ◌≤◌, ◌++◌, List, [], ◌∷◌, true, false, ap, arith, codes, inl, inr, length, length-append, refl, subst}
+use Rattle.std.proofs.Common.{◌≡◌, ℕ, ◌≤◌, ◌++◌, List, [], ◌∷◌, true, false, ap, arith, codes, inl, inr, length, length-append, refl, subst, sym}
 use Rattle.std.specs.Prelude.{IfSome, None, Option, Some, nat_le}
 use Rattle.std.proofs.lemmas.Bool.Decides.{nat_tests}
 use Rattle.sw_stream.specs.Reading.{Takes}
+use Rattle.sw_stream.specs.declared.reading.ReadError.{ReadError}
+use Rattle.sw_stream.specs.declared.reading.ReadError.TheVariants.{TooLong, Failed, Memory}
 use Rattle.sw_app.specs.declared.ended.Ended.{Ended}
 use Rattle.sw_app.specs.declared.ended.Ended.TheVariants.{Status, ReadFailed, WriteFailed}
-use Rattle.sw_app.specs.Ends.{Answers, EndsBy, EndsByTwo, IfShort, IsMemoryTold, IsTold, OrMemory, limited}
-use Rattle.sw_app.specs.Lines.{line}
+use Rattle.sw_app.specs.Ends.{Answers, EndsBy, EndsByTwo, IfShort, IsMemoryTold, IsTold, IsUnreadTold, OrMemory, limited}
+use Rattle.sw_texts.specs.Lines.{line}
 
 -- a text that may be told was told
 told : (P : List ℕ → Answers) (input old new : Option (List ℕ)) (ended : Ended) (text : List ℕ) (status : ℕ)
@@ -39,6 +41,13 @@ told_long P input rest old new ended takes is = told P input old new ended (line
     may (Some bytes) (Some left) takes =
         let long : nat_le (length bytes) 67108864 ≡ false = is_long bytes takes.0 left takes.1 takes.2 in
         inl (rw long (refl, refl))
+
+-- why the text was not read
+pub told_unread : (P : List ℕ → Answers) (input rest old new : Option (List ℕ)) (error : ReadError) (ended : Ended) → (error ≡ TooLong → Takes input rest 67108865)
+    → IsUnreadTold error old new ended → EndsBy P input old new ended
+told_unread P input rest old new TooLong ended takes is = told_long P input rest old new ended (takes refl) is
+told_unread P input rest old new Memory ended takes is = told_memory P input old new ended is
+told_unread P input rest old new Failed ended takes is = subst (λ (e : Ended). EndsBy P input old new e) (sym is.0) is.1
 
 -- an answer to the text
 pub told_answer : (P : List ℕ → Answers) (input old new : Option (List ℕ)) (ended : Ended) (read text : List ℕ) (status : ℕ)

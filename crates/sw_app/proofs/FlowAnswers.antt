@@ -9,7 +9,7 @@ use Rattle.sw_flow.specs.declared.place.Place.{Place}
 use Rattle.sw_flow.specs.Faults.{first_fault_of}
 use Rattle.sw_flow.specs.Places.{IsPlaceList, IsPlacesOf}
 use Rattle.sw_app.proofs.NamedFlows.{find_by-none, find_by-some}
-use Rattle.sw_app.specs.Lines.{line}
+use Rattle.sw_texts.specs.Lines.{line}
 use Rattle.sw_app.specs.RouteAnswers.{IsFlowAnswer, IsFoundAnswer, IsNamedAnswer}
 use Rattle.sw_app.specs.RouteTexts.{outcome_status, text_of}
 

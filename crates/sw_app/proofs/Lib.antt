@@ -6,4 +6,8 @@ pub mod FlowAnswers
 pub mod Endings
 pub mod OneListing
 pub mod OneAnswer
+pub mod CycleChannels
+pub mod SameCauses
+pub mod OneVerdict
+pub mod ShownFree
 pub mod NodeLines

@@ -8,7 +8,7 @@ use Rattle.std.specs.Option.{option_map, option_map_or}
 use Rattle.std.specs.Prelude.{slice_get}
 use Rattle.sw_char.specs.PacketView.{PacketView}
 use Rattle.sw_network.specs.Entries.{Declaration, NodeEntry}
-use Rattle.sw_app.specs.ChannelTexts.{node_name}
+use Rattle.sw_texts.specs.ChannelTexts.{node_name}
 
 range_more : (a n k : ℕ) → a + n ≡ k → range_with_len a (n + 1) ≡ range_with_len a n ++ k ∷ []
 range_more a n k is = ?

@@ -22,7 +22,7 @@ one_place_list d f places others p q =
       (λ here. (p.member z).1 ((q.member z).0 here)),
     ))
 
-says_once : (said : List ℕ) (n : ℕ) (text other : List ℕ) (status number : ℕ) → Says said n text status → Says said n other number → (text ≡ other) × (status ≡ number)
+pub says_once : (said : List ℕ) (n : ℕ) (text other : List ℕ) (status number : ℕ) → Says said n text status → Says said n other number → (text ≡ other) × (status ≡ number)
 says_once said n text other status number p q = (p.0 ∙ sym q.0, p.1 ∙ sym q.1)
 
 flow_once : (d : Declaration) (f : FlowEntry) (text other : List ℕ) (status number : ℕ) → IsFlowAnswer d f text status → IsFlowAnswer d f other number

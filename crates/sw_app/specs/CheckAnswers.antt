@@ -14,7 +14,7 @@ use Rattle.sw_check.specs.Contents.{certificate_of}
 use Rattle.sw_check.specs.Refusals.{refusal_of}
 use Rattle.sw_app.specs.Ends.{Answers, IfLimited, Says}
 use Rattle.sw_app.specs.FaultTexts.{fault_text}
-use Rattle.sw_app.specs.Lines.{line}
+use Rattle.sw_texts.specs.Lines.{line}
 use Rattle.sw_app.specs.CheckTexts.{accepted_line, grammar_line, refusal_line}
 
 -- by the first reason to refuse a certificate for the network, if there is one

@@ -4,7 +4,7 @@ use Rattle.clap.specs.Words.{App, Row, Rule, IsAmong, fault_of, first_of, new_ap
 use Rattle.clap.specs.declared.error.kind.ErrorKind.{ErrorKind}
 use Rattle.clap.specs.declared.error.kind.ErrorKind.TheVariants.{DisplayHelp, DisplayVersion, OutOfMemory}
 use Rattle.sw_app.specs.declared.command_line.Call.{Call}
-use Rattle.sw_app.specs.declared.command_line.Call.TheVariants.{Route, Check, Replay}
+use Rattle.sw_app.specs.declared.command_line.Call.TheVariants.{Route, Decide, Check, Report, Replay}
 use Rattle.sw_app.specs.declared.command_line.WordsFault.{WordsFault}
 use Rattle.sw_app.specs.declared.command_line.WordsFault.TheVariants.{Help, Refused, Memory}
 
@@ -16,9 +16,17 @@ required_value name = record (new_rule name) { required = true }
 abbrev pub route_app : App
 route_app = with_rule (with_rule (new_app (codes "route")) (required_value (codes "FILE"))) (required_value (codes "FLOW"))
 
+-- `decide FILE`
+abbrev pub decide_app : App
+decide_app = with_rule (new_app (codes "decide")) (required_value (codes "FILE"))
+
 -- `check FILE CERT`
 abbrev pub check_app : App
 check_app = with_rule (with_rule (new_app (codes "check")) (required_value (codes "FILE"))) (required_value (codes "CERT"))
+
+-- `report FILE`
+abbrev pub report_app : App
+report_app = with_rule (new_app (codes "report")) (required_value (codes "FILE"))
 
 -- `replay FILE SCHEDULE`
 abbrev pub replay_app : App
@@ -31,9 +39,11 @@ top_app = let a = new_app (codes "swcheck") in record a { top = record a.top { s
 -- the whole command line: each subcommand stands in a line of its own
 abbrev pub swcheck_app : App
 swcheck_app =
-    with_subcommand (with_subcommand (with_subcommand top_app
+    with_subcommand (with_subcommand (with_subcommand (with_subcommand (with_subcommand top_app
     route_app.top)
+    decide_app.top)
     check_app.top)
+    report_app.top)
     replay_app.top
 
 -- a subcommand with these values is this call
@@ -41,6 +51,8 @@ abbrev pub IsCallOf : List ℕ → List Row → Call → Type 0
 IsCallOf name values (Route file flow) = (name ≡ codes "route")
     × (first_of (codes "FILE") values ≡ Some file.now)
     × (first_of (codes "FLOW") values ≡ Some flow.now)
+IsCallOf name values (Decide file) = (name ≡ codes "decide") × (first_of (codes "FILE") values ≡ Some file.now)
+IsCallOf name values (Report file) = (name ≡ codes "report") × (first_of (codes "FILE") values ≡ Some file.now)
 IsCallOf name values (Check file certificate) = (name ≡ codes "check")
     × (first_of (codes "FILE") values ≡ Some file.now)
     × (first_of (codes "CERT") values ≡ Some certificate.now)

@@ -2,9 +2,11 @@
 use Rattle.std.specs.Prelude.{◌≡◌, ◌⊎◌, ℕ, ◌+◌, ◌<◌, List, [], ◌∷◌, Option, Some, None, IfSome, MatchBool, codes, if◌then◌else◌, length, nat_le, take}
 use Rattle.std.specs.Io.KnownBytes.{Appends, IsAtEnd, Keeps}
 use Rattle.sw_stream.specs.Reading.{Takes}
+use Rattle.sw_stream.specs.declared.reading.ReadError.{ReadError}
+use Rattle.sw_stream.specs.declared.reading.ReadError.TheVariants.{TooLong, Failed, Memory}
 use Rattle.sw_app.specs.declared.ended.Ended.{Ended}
 use Rattle.sw_app.specs.declared.ended.Ended.TheVariants.{Status, ReadFailed, WriteFailed}
-use Rattle.sw_app.specs.Lines.{line}
+use Rattle.sw_texts.specs.Lines.{line}
 
 -- the status that the program exits with: 6 where a read or a write failed
 abbrev pub exit_status : Ended → ℕ
@@ -52,6 +54,12 @@ IsTold old new text status WriteFailed = (count : ℕ) × (count < length text) 
 -- that memory was wanted was told
 abbrev pub IsMemoryTold : Option (List ℕ) → Option (List ℕ) → Ended → Type 0
 IsMemoryTold old new ended = IsTold old new (line (codes "fault memory" ∷ [])) 5 ended
+
+-- why a text was not read was told, and of a read that failed nothing
+abbrev pub IsUnreadTold : ReadError → Option (List ℕ) → Option (List ℕ) → Ended → Type 0
+IsUnreadTold TooLong old new ended = IsTold old new (line (codes "fault A1 TooLong" ∷ [])) 3 ended
+IsUnreadTold Memory old new ended = IsMemoryTold old new ended
+IsUnreadTold Failed old new ended = (ended ≡ ReadFailed) × Keeps old new
 
 -- one of the answers was told, and nothing else
 abbrev pub Tells : Option (List ℕ) → Option (List ℕ) → Answers → Ended → Type 0

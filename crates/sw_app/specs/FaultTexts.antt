@@ -12,7 +12,7 @@ use Rattle.sw_tree.specs.declared.fault.KeyFault.TheVariants.{MissingKey, WrongT
 use Rattle.sw_tree.specs.declared.fault.TextFault.{TextFault}
 use Rattle.sw_tree.specs.declared.fault.TextFault.TheVariants.{Syntax, UnknownKey, Key, Topology, DuplicateRoute, ReplyShape, NotInFlow}
 use Rattle.sw_tree.specs.Keys.{key_text}
-use Rattle.sw_app.specs.Lines.{spaced}
+use Rattle.sw_texts.specs.Lines.{spaced}
 
 -- where a key stands
 abbrev pub where_text : Section → List ℕ → List ℕ

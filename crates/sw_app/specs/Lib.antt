@@ -1,7 +1,5 @@
 pub mod CommandLine
-pub mod Lines
 pub mod FaultTexts
-pub mod ChannelTexts
 pub mod Ends
 pub mod RouteTexts
 pub mod RouteAnswers
@@ -9,5 +7,6 @@ pub mod CheckTexts
 pub mod CheckAnswers
 pub mod Inputs
 pub mod Laws
+pub mod VerdictAnswers
 pub mod ReplayTexts
 pub mod ReplayAnswers

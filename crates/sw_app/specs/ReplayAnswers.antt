@@ -10,7 +10,7 @@ use Rattle.sw_steps.specs.Schedule.{steps_of_text}
 use Rattle.sw_tree.specs.declared.fault.TextFault.{TextFault}
 use Rattle.sw_app.specs.Ends.{Answers, IfLimited, Says}
 use Rattle.sw_app.specs.FaultTexts.{fault_text}
-use Rattle.sw_app.specs.Lines.{line}
+use Rattle.sw_texts.specs.Lines.{line}
 use Rattle.sw_app.specs.ReplayTexts.{replay_status, replay_text}
 
 -- a schedule's first wrong line

@@ -12,8 +12,8 @@ use Rattle.sw_replay.specs.declared.replayed.Outcome.TheVariants.{Made, Refused}
 use Rattle.sw_replay.specs.declared.replayed.Refusal.{Refusal}
 use Rattle.sw_replay.specs.declared.replayed.Refusal.TheVariants.{NotEnabled, NotInFlow}
 use Rattle.sw_replay.specs.Reports.{Report}
-use Rattle.sw_app.specs.ChannelTexts.{node_name}
-use Rattle.sw_app.specs.Lines.{line}
+use Rattle.sw_texts.specs.ChannelTexts.{node_name}
+use Rattle.sw_texts.specs.Lines.{line}
 
 abbrev pub refusal_text : Refusal → List ℕ
 refusal_text NotEnabled = codes "N1 NotEnabled"

@@ -9,7 +9,7 @@ use Rattle.sw_flow.specs.Faults.{first_fault_of}
 use Rattle.sw_flow.specs.Places.{IsPlaceList}
 use Rattle.sw_app.specs.Ends.{Answers, Says}
 use Rattle.sw_app.specs.FaultTexts.{fault_text}
-use Rattle.sw_app.specs.Lines.{line}
+use Rattle.sw_texts.specs.Lines.{line}
 use Rattle.sw_app.specs.RouteTexts.{outcome_status, route_text}
 
 -- of a flow: the text of the list of its places

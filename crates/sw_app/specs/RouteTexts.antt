@@ -4,20 +4,14 @@ use Rattle.std.specs.Fmt.{decimal}
 use Rattle.sw_network.specs.Entries.{Declaration, FlowEntry}
 use Rattle.sw_flow.specs.declared.place.Place.{Place}
 use Rattle.sw_flow.specs.declared.fault.RouteFault.{RouteFault}
-use Rattle.sw_flow.specs.declared.fault.RouteFault.TheVariants.{AddressEnds, NoRoute, WrongNode, WrongLeft}
 use Rattle.sw_flow.specs.Faults.{first_fault_of}
-use Rattle.sw_app.specs.Lines.{line}
-use Rattle.sw_app.specs.ChannelTexts.{channel_text}
+use Rattle.sw_texts.specs.Lines.{line}
+use Rattle.sw_texts.specs.ChannelTexts.{channel_text}
+use Rattle.sw_texts.specs.FlowTexts.{route_fault_text}
 
 -- a place: the channel's number, how many address bytes are deleted there, and the channel's ends
 abbrev pub place_line : Declaration → Place → List ℕ
 place_line d p = line (codes "place" ∷ decimal p.channel ∷ decimal p.deleted ∷ channel_text d p.channel ∷ [])
-
-abbrev pub route_fault_text : RouteFault → List ℕ
-route_fault_text AddressEnds = codes "M1 AddressEnds"
-route_fault_text NoRoute = codes "M2 NoRoute"
-route_fault_text WrongNode = codes "M3 WrongNode"
-route_fault_text WrongLeft = codes "M4 WrongLeft"
 
 -- no place has a fault, or a place with its fault
 abbrev pub outcome_line : Option (Place × RouteFault) → List ℕ

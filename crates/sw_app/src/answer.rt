@@ -1,7 +1,7 @@
 //! Answers of an engine.
 ghost use Rattle.std.specs.Prelude.{◌≡◌, ◌∷◌, [], IfOk, codes, string_bytes};
 ghost use Rattle.sw_app.specs.FaultTexts.{fault_text};
-ghost use Rattle.sw_app.specs.Lines.{line};
+ghost use Rattle.sw_texts.specs.Lines.{line};
 
 use crate::fault_texts::fault_text;
 use std::alloc::{AllocError, Global};
@@ -14,6 +14,13 @@ const FAULTY: u8 = 3;
 #[derive(Drop)]
 pub(crate) struct Answer {
     pub(crate) text: String,
+    pub(crate) status: u8,
+}
+
+/// The same, where the text is at hand as bytes.
+#[derive(Drop)]
+pub(crate) struct ByteAnswer {
+    pub(crate) text: Vec<u8>,
     pub(crate) status: u8,
 }
 
@@ -41,5 +48,15 @@ impl Answer {
             text,
             status: FAULTY,
         })
+    }
+    /// The bytes of the text, with the status.
+    pub(crate) fn into_bytes(self) -> ByteAnswer
+        ensures text { result.text.items ≡ string_bytes self.text }
+        ensures status { result.status ≡ self.status }
+    {
+        ByteAnswer {
+            text: self.text.into_bytes(),
+            status: self.status,
+        }
     }
 }

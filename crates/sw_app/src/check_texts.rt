@@ -1,46 +1,19 @@
 //! The text of `check`.
-ghost use Rattle.std.specs.Prelude.{◌≡◌, ◌<◌, IfOk, length, string_bytes};
-ghost use Rattle.sw_network.specs.Entries.{all_flows};
-ghost use Rattle.sw_app.specs.CheckTexts.{flow_name, grammar_line, not_rising_line, place_words, refusal_line};
+ghost use Rattle.std.specs.Prelude.{◌≡◌, IfOk, string_bytes};
+ghost use Rattle.sw_app.specs.CheckTexts.{grammar_line, not_rising_line, refusal_line};
 
-use crate::route_texts::route_fault_text;
 use std::alloc::{AllocError, Global};
 use sw_check::Refusal;
 use sw_flow::{Place, RouteFault};
 use sw_network::Network;
+use sw_texts::{flow_name, place_words, route_fault_text};
 use sw_topo::Chan;
-
-/// The flow's name, which is empty where there is no such flow.
-pub(crate) fn flow_name(network: &Network, flow: u16) -> &str
-    ensures { result.now ≡ flow_name network.now flow }
-{
-    if flow < network.flows() {
-        network.flow(flow).name()
-    } else {
-        ""
-    }
-}
 
 /// The line for a text that is no certificate: the first line that is wrong.
 pub(crate) fn grammar_line(alloc: Global, number: usize) -> Result<String, AllocError>
     ensures { IfOk result (λ s. string_bytes s ≡ grammar_line number) }
 {
     format!(in alloc; "refused C1 Grammar {number}\n")
-}
-
-// A flow and a place of it: the flow's name, the channel's number and how many address bytes are deleted there.
-fn place_words(
-    alloc: Global,
-    network: &Network,
-    flow: u16,
-    place: Place,
-) -> Result<String, AllocError>
-    ensures { IfOk result (λ s. string_bytes s ≡ place_words network.now flow place) }
-{
-    let name = flow_name(network, flow);
-    let channel = place.channel.number();
-    let deleted = place.deleted;
-    format!(in alloc; "{name} {channel} {deleted}")
 }
 
 fn no_start_line(alloc: Global, network: &Network, flow: u16) -> Result<String, AllocError>

@@ -3,7 +3,7 @@ ghost use Rattle.std.specs.Prelude.{◌≡◌, ℕ, map, option_map, true, false
 ghost use Rattle.clap.specs.Words.{app_of, first_of, found_of, kind_of, rows_of, subcommand_rows_of};
 ghost use Rattle.clap.specs.declared.builder.Command.TheViews.{out-Command};
 ghost use Rattle.sw_app.specs.declared.command_line.WordsFault.TheVariants.{Memory};
-ghost use Rattle.sw_app.specs.CommandLine.{check_app, replay_app, route_app, swcheck_app, Gives, IsCallOf, IsMatched, Refuses, ShowsKind};
+ghost use Rattle.sw_app.specs.CommandLine.{check_app, decide_app, replay_app, report_app, route_app, swcheck_app, top_app, Gives, IsCallOf, IsMatched, Refuses, ShowsKind};
 
 use clap::error::ErrorKind;
 use clap::{Arg, ArgMatches, Command};
@@ -15,8 +15,12 @@ use thiserror::Error;
 pub enum Call<'a> {
     /// The places of a flow of a network file.
     Route { file: &'a str, flow: &'a str },
+    /// The verdict on a network file.
+    Decide { file: &'a str },
     /// Whether a certificate is accepted for a network file.
     Check { file: &'a str, certificate: &'a str },
+    /// How many parts a network file has, and the verdict on it.
+    Report { file: &'a str },
     /// What comes of a schedule of steps on a network file.
     Replay { file: &'a str, schedule: &'a str },
 }
@@ -73,6 +77,30 @@ fn route_command<'a>(alloc: Global) -> Result<Command<'a>, AllocError>
     route.arg(file)?.arg(flow)
 }
 
+fn decide_command<'a>(alloc: Global) -> Result<Command<'a>, AllocError>
+    ensures { IfOk result (λ c. (app_of c ≡ decide_app) × ((out-Command c).has_globals ≡ false)) }
+{
+    let file = Arg::new(alloc, "FILE")
+        .required(true)
+        .help("A network file");
+    let decide = Command::new(alloc, "decide").about(
+        "Print a certificate that a network never locks up, or why there is none",
+    );
+    decide.arg(file)
+}
+
+fn report_command<'a>(alloc: Global) -> Result<Command<'a>, AllocError>
+    ensures { IfOk result (λ c. (app_of c ≡ report_app) × ((out-Command c).has_globals ≡ false)) }
+{
+    let file = Arg::new(alloc, "FILE")
+        .required(true)
+        .help("A network file");
+    let report = Command::new(alloc, "report").about(
+        "Print how many parts a network has, and the verdict on it",
+    );
+    report.arg(file)
+}
+
 fn check_command<'a>(alloc: Global) -> Result<Command<'a>, AllocError>
     ensures { IfOk result (λ c. (app_of c ≡ check_app) × ((out-Command c).has_globals ≡ false)) }
 {
@@ -103,14 +131,22 @@ fn replay_command<'a>(alloc: Global) -> Result<Command<'a>, AllocError>
     replay.arg(file)?.arg(schedule)
 }
 
+fn top_command<'a>(alloc: Global) -> Command<'a>
+    ensures { app_of result ≡ top_app }
+{
+    Command::new(alloc, "swcheck")
+        .about("Checks SpaceWire networks")
+        .subcommand_required(true)
+}
+
 fn swcheck_command<'a>(alloc: Global) -> Result<Command<'a>, AllocError>
     ensures { IfOk result (λ c. app_of c ≡ swcheck_app) }
 {
-    let top = Command::new(alloc, "swcheck")
-        .about("Checks SpaceWire networks")
-        .subcommand_required(true);
-    top.subcommand(route_command(alloc)?)?
+    top_command(alloc)
+        .subcommand(route_command(alloc)?)?
+        .subcommand(decide_command(alloc)?)?
         .subcommand(check_command(alloc)?)?
+        .subcommand(report_command(alloc)?)?
         .subcommand(replay_command(alloc)?)
 }
 
@@ -144,6 +180,12 @@ fn call_of<'a>(name: &str, values: &ArgMatches<'a>) -> Option<Call<'a>>
         "route" => Some(Call::Route {
             file: value_of(values, "FILE")?,
             flow: value_of(values, "FLOW")?,
+        }),
+        "decide" => Some(Call::Decide {
+            file: value_of(values, "FILE")?,
+        }),
+        "report" => Some(Call::Report {
+            file: value_of(values, "FILE")?,
         }),
         "check" => Some(Call::Check {
             file: value_of(values, "FILE")?,

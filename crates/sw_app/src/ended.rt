@@ -33,12 +33,19 @@ impl Ended {
     }
 }
 
+/// Writes an answer of these bytes.
+pub(crate) fn tell_bytes<W: Write>(writer: &mut W, text: &[u8], status: u8) -> Ended
+    ensures { IsTold (W.contents writer.old) (W.contents writer.new) text.now status result }
+{
+    match write_whole(writer, text) {
+        Ok(()) => Ended::Status(status),
+        Err(_) => Ended::WriteFailed,
+    }
+}
+
 /// Writes an answer.
 pub(crate) fn tell<W: Write>(writer: &mut W, text: &str, status: u8) -> Ended
     ensures { IsTold (W.contents writer.old) (W.contents writer.new) text.now status result }
 {
-    match write_whole(writer, text.as_bytes()) {
-        Ok(()) => Ended::Status(status),
-        Err(_) => Ended::WriteFailed,
-    }
+    tell_bytes(writer, text.as_bytes(), status)
 }

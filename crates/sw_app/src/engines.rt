@@ -1,21 +1,35 @@
 //! The engines: each reads its texts whole, and writes one text.
 ghost use Rattle.std.specs.Prelude.{◌≡◌, IfSome};
 ghost use Rattle.sw_app.specs.CheckAnswers.{AreShownFree, IsCheckAnswer};
-ghost use Rattle.sw_app.specs.Ends.{AreReadInOrder, EndsBy, EndsByTwo, IsMemoryTold};
+ghost use Rattle.sw_app.specs.Ends.{AreReadInOrder, EndsBy, EndsByTwo, IsMemoryTold, IsUnreadTold};
 ghost use Rattle.sw_app.specs.RouteAnswers.{IsRouteAnswer};
+ghost use Rattle.sw_app.specs.VerdictAnswers.{IsDecideAnswer, IsReportAnswer, WritesAccepted};
 
 use crate::check_answer::check_answer;
-use crate::ended::{Ended, MAX_TEXT, tell};
+use crate::ended::{Ended, MAX_TEXT, tell, tell_bytes};
 use crate::inputs::{InputError, read_two};
 use crate::route_answer::route_answer;
+use crate::verdict_answers::{decide_answer, report_answer};
 use std::alloc::Global;
 use std::io::{Read, Write};
+use std::thread::Threads;
 use sw_stream::{ReadError, read_whole};
 
 pub(crate) fn tell_memory<W: Write>(writer: &mut W) -> Ended
     ensures { IsMemoryTold (W.contents writer.old) (W.contents writer.new) result }
 {
     tell(writer, "fault memory\n", 5)
+}
+
+// Tells why a text was not read: of a read that failed nothing is written.
+fn tell_unread<W: Write>(writer: &mut W, error: ReadError) -> Ended
+    ensures { IsUnreadTold error (W.contents writer.old) (W.contents writer.new) result }
+{
+    match error {
+        ReadError::TooLong => tell(writer, "fault A1 TooLong\n", 3),
+        ReadError::Memory => tell_memory(writer),
+        ReadError::Failed => Ended::ReadFailed,
+    }
 }
 
 /// The places of a flow of a network file: 0 where packets arrive rightly, and 1 where a place has a fault.
@@ -26,9 +40,7 @@ pub fn route<R: Read, W: Write>(alloc: Global, reader: &mut R, flow: &str, write
 {
     let input = match read_whole(alloc, reader, MAX_TEXT) {
         Ok(input) => input,
-        Err(ReadError::TooLong) => return tell(writer, "fault A1 TooLong\n", 3),
-        Err(ReadError::Memory) => return tell_memory(writer),
-        Err(ReadError::Failed) => return Ended::ReadFailed,
+        Err(error) => return tell_unread(writer, error),
     };
     match route_answer(alloc, &input, flow) {
         Ok(answer) => tell(writer, answer.text.as_str(), answer.status),
@@ -54,6 +66,47 @@ pub fn check<N: Read, C: Read, W: Write>(
         Err(InputError::Memory) => return tell_memory(writer),
     };
     match check_answer(alloc, &first, &second) {
+        Ok(answer) => tell(writer, answer.text.as_str(), answer.status),
+        Err(_) => tell_memory(writer),
+    }
+}
+
+/// The verdict on a network file: with status 0 a certificate, and then the network never locks up, over every run; with status 1 a
+/// cycle of dependencies, or a flow that is not well routed. Threads share the work, as many as there are processors.
+pub fn decide<T: Threads + Sync, R: Read, W: Write>(
+    rt: &T,
+    alloc: Global,
+    reader: &mut R,
+    writer: &mut W,
+) -> Ended
+    ensures answer { EndsBy IsDecideAnswer (R.remaining reader.old) (W.contents writer.old) (W.contents writer.new) result }
+    ensures shown { result ≡ Ended.Status 0 → IfSome (R.remaining reader.old) (λ bytes. WritesAccepted bytes (W.contents writer.old) (W.contents writer.new)) }
+{
+    let input = match read_whole(alloc, reader, MAX_TEXT) {
+        Ok(input) => input,
+        Err(error) => return tell_unread(writer, error),
+    };
+    match decide_answer(rt, alloc, &input) {
+        Ok(answer) => tell_bytes(writer, &answer.text, answer.status),
+        Err(_) => tell_memory(writer),
+    }
+}
+
+/// How many parts the network of a file has, and the verdict on it in one line, with status 0 whatever the verdict. Threads share the
+/// work, as many as there are processors.
+pub fn report<T: Threads + Sync, R: Read, W: Write>(
+    rt: &T,
+    alloc: Global,
+    reader: &mut R,
+    writer: &mut W,
+) -> Ended
+    ensures { EndsBy IsReportAnswer (R.remaining reader.old) (W.contents writer.old) (W.contents writer.new) result }
+{
+    let input = match read_whole(alloc, reader, MAX_TEXT) {
+        Ok(input) => input,
+        Err(error) => return tell_unread(writer, error),
+    };
+    match report_answer(rt, alloc, &input) {
         Ok(answer) => tell(writer, answer.text.as_str(), answer.status),
         Err(_) => tell_memory(writer),
     }

@@ -2,7 +2,6 @@
 #![tactic(auto)]
 
 mod answer;
-mod channel_texts;
 mod check_answer;
 mod check_texts;
 mod command_line;
@@ -16,10 +15,12 @@ mod replay_engine;
 mod replay_texts;
 mod route_answer;
 mod route_texts;
+mod verdict_answers;
+mod verdict_texts;
 
 pub use command_line::{Call, WordsFault, words};
 pub use ended::{Ended, MAX_TEXT};
-pub use engines::{check, route};
+pub use engines::{check, decide, report, route};
 pub use fault_texts::fault_text;
-pub use laws::route_has_one_answer;
+pub use laws::{decide_has_one_answer, route_has_one_answer};
 pub use replay_engine::replay;

@@ -1,7 +1,7 @@
 //! The text of `replay`.
 ghost use Rattle.std.specs.Prelude.{◌≡◌, ◌<◌, IfOk, flat_map, length, map, string_bytes};
 ghost use Rattle.sw_replay.specs.Reports.{report_of};
-ghost use Rattle.sw_app.specs.ChannelTexts.{node_name};
+ghost use Rattle.sw_texts.specs.ChannelTexts.{node_name};
 ghost use Rattle.sw_app.specs.ReplayTexts.{by_node, bytes_text, end_text, made_line, node_line, packet_line, packet_lines, refusal_text, replay_status, replay_text, stuck_line};
 
 use hex::encode_upper;

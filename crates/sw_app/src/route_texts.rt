@@ -1,12 +1,12 @@
 //! The text of `route`.
 ghost use Rattle.std.specs.Prelude.{◌≡◌, ◌++◌, ◌<◌, All, IfOk, flat_map, length, string_bytes};
 ghost use Rattle.sw_network.specs.Entries.{wiring_of};
-ghost use Rattle.sw_app.specs.RouteTexts.{outcome_line, place_line, route_fault_text, text_of};
+ghost use Rattle.sw_app.specs.RouteTexts.{outcome_line, place_line, text_of};
 
-use crate::channel_texts::channel_text;
 use std::alloc::{AllocError, Global};
 use sw_flow::{Place, RouteFault};
 use sw_network::{Flow, Network};
+use sw_texts::{channel_text, route_fault_text};
 
 fn place_line(alloc: Global, network: &Network, place: Place) -> Result<String, AllocError>
     requires { place.channel < length (wiring_of network.now).ends }
@@ -28,18 +28,6 @@ fn places_text(alloc: Global, network: &Network, places: &[Place]) -> Result<Str
         text.push_str(place_line(alloc, network, *place)?.as_str())?;
     }
     Ok(text)
-}
-
-/// The fault's code and name.
-pub(crate) fn route_fault_text(fault: RouteFault) -> &'static str
-    ensures { result.now ≡ route_fault_text fault }
-{
-    match fault {
-        RouteFault::AddressEnds => "M1 AddressEnds",
-        RouteFault::NoRoute => "M2 NoRoute",
-        RouteFault::WrongNode => "M3 WrongNode",
-        RouteFault::WrongLeft => "M4 WrongLeft",
-    }
 }
 
 fn misrouted_line(alloc: Global, place: Place, fault: RouteFault) -> Result<String, AllocError>

@@ -9,15 +9,16 @@ ghost use Rattle.sw_app.specs.Ends.{exit_status};
 
 use std::process::ExitCode;
 use std::rt::{Env, Files};
+use std::thread::Threads;
 use std::{env, fs, io};
-use sw_app::{Call, Ended, WordsFault, check, route, words};
+use sw_app::{Call, Ended, WordsFault, check, decide, replay, report, route, words};
 
 fn main(rt: HostRuntime) -> ExitCode {
     ExitCode::from(run(&rt))
 }
 
 // Does what the words say that the program was given, and answers its status.
-fn run<R: Env + Files + Print + Eprint + AllocGlobal>(rt: &R) -> u8 {
+fn run<R: Env + Files + Print + Eprint + AllocGlobal + Threads + Sync>(rt: &R) -> u8 {
     let given = match env::args(rt) {
         Ok(given) => given,
         Err(error) if error.kind() == io::ErrorKind::OutOfMemory => return refused(
@@ -32,7 +33,10 @@ fn run<R: Env + Files + Print + Eprint + AllocGlobal>(rt: &R) -> u8 {
     run_texts(rt, texts.as_slice())
 }
 
-fn run_texts<R: Files + Print + Eprint + AllocGlobal>(rt: &R, texts: &[String]) -> u8 {
+fn run_texts<R: Files + Print + Eprint + AllocGlobal + Threads + Sync>(
+    rt: &R,
+    texts: &[String],
+) -> u8 {
     let views = texts.iter().map(|text| text.as_str());
     let Ok(views) = views.collect::<Vec<&str>>(rt.alloc()) else {
         return refused(rt, &WordsFault::Memory);
@@ -43,10 +47,13 @@ fn run_texts<R: Files + Print + Eprint + AllocGlobal>(rt: &R, texts: &[String]) 
     }
 }
 
-fn run_call<R: Files + Print + AllocGlobal>(rt: &R, call: Call<'_>) -> Ended {
+fn run_call<R: Files + Print + AllocGlobal + Threads + Sync>(rt: &R, call: Call<'_>) -> Ended {
     match call {
         Call::Route { file, flow } => run_route(rt, file, flow),
+        Call::Decide { file } => run_decide(rt, file),
+        Call::Report { file } => run_report(rt, file),
         Call::Check { file, certificate } => run_check(rt, file, certificate),
+        Call::Replay { file, schedule } => run_replay(rt, file, schedule),
     }
 }
 
@@ -58,6 +65,22 @@ fn run_route<R: Files + Print + AllocGlobal>(rt: &R, file: &str, flow: &str) -> 
     route(rt.alloc(), &mut reader, flow, &mut writer)
 }
 
+fn run_decide<R: Files + Print + AllocGlobal + Threads + Sync>(rt: &R, file: &str) -> Ended {
+    let Ok(mut reader) = fs::open(rt, file) else {
+        return Ended::ReadFailed;
+    };
+    let mut writer = io::writer(rt);
+    decide(rt, rt.alloc(), &mut reader, &mut writer)
+}
+
+fn run_report<R: Files + Print + AllocGlobal + Threads + Sync>(rt: &R, file: &str) -> Ended {
+    let Ok(mut reader) = fs::open(rt, file) else {
+        return Ended::ReadFailed;
+    };
+    let mut writer = io::writer(rt);
+    report(rt, rt.alloc(), &mut reader, &mut writer)
+}
+
 fn run_check<R: Files + Print + AllocGlobal>(rt: &R, file: &str, certificate: &str) -> Ended {
     let Ok(mut network) = fs::open(rt, file) else {
         return Ended::ReadFailed;
@@ -67,6 +90,17 @@ fn run_check<R: Files + Print + AllocGlobal>(rt: &R, file: &str, certificate: &s
     };
     let mut writer = io::writer(rt);
     check(rt.alloc(), &mut network, &mut certificate, &mut writer)
+}
+
+fn run_replay<R: Files + Print + AllocGlobal>(rt: &R, file: &str, schedule: &str) -> Ended {
+    let Ok(mut network) = fs::open(rt, file) else {
+        return Ended::ReadFailed;
+    };
+    let Ok(mut schedule) = fs::open(rt, schedule) else {
+        return Ended::ReadFailed;
+    };
+    let mut writer = io::writer(rt);
+    replay(rt.alloc(), &mut network, &mut schedule, &mut writer)
 }
 
 // Tells of a read or a write that failed.

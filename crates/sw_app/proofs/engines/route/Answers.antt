@@ -1,20 +1,17 @@
 use Rattle.std.proofs.Common.{ap, Err}
 use Rattle.sw_app.specs.RouteAnswers.{IsRouteAnswer}
-use Rattle.sw_app.proofs.Endings.{told_answer, told_long, told_memory}
+use Rattle.sw_app.proofs.Endings.{told_answer, told_memory, told_unread}
 use Rattle.sw_app.proofs.engines.route.Goals as goal
 
-pub returns-in-Err-TooLong : goal.returns-in-Err-TooLong
-returns-in-Err-TooLong g c =
-    told_long (IsRouteAnswer c.args.flow.now) _ _ _ _ _ (c.in-Err-TooLong.ensures.long (ap Err c.in-Err-TooLong.field-0-is)) c.tell.ensures
-
-pub returns-in-Err-Memory : goal.returns-in-Err-Memory
-returns-in-Err-Memory g c = told_memory (IsRouteAnswer c.args.flow.now) _ _ _ _ c.tell_memory.ensures
+pub returns-in-Err : goal.returns-in-Err
+returns-in-Err g c =
+    told_unread (IsRouteAnswer c.args.flow.now) _ _ _ _ _ _ (λ long. c.in-Err.ensures.long (ap Err long)) c.tell_unread.ensures
 
 pub returns-in-Ok-route_answer : goal.returns-in-Ok-route_answer
 returns-in-Ok-route_answer g c =
     told_answer (IsRouteAnswer c.args.flow.now) _ _ _ _ c.deref.result.now c.as_str.result.now c.in-Ok-route_answer.answer.status
     (rw c.deref.ensures.value c.in-Ok.ensures.whole) (rw c.deref.ensures.value c.in-Ok.ensures.within)
-    (rw c.as_str.ensures.value c.in-Ok-route_answer.ensures) c.tell-in-Ok-route_answer.ensures
+    (rw c.as_str.ensures.value c.in-Ok-route_answer.ensures) c.tell.ensures
 
 pub returns : goal.returns
-returns g c = told_memory (IsRouteAnswer c.args.flow.now) _ _ _ _ c.tell_memory-in-Err.ensures
+returns g c = told_memory (IsRouteAnswer c.args.flow.now) _ _ _ _ c.tell_memory.ensures

@@ -1,7 +1,7 @@
 use Rattle.std.proofs.Common.{◌≡◌, [], map, string_bytes}
 use Rattle.std.specs.List.{flat_map, range_with_len}
 use Rattle.std.specs.Prelude.{slice_index_or}
-use Rattle.sw_app.specs.ChannelTexts.{node_name}
+use Rattle.sw_texts.specs.ChannelTexts.{node_name}
 use Rattle.sw_app.specs.ReplayTexts.{node_line}
 use Rattle.sw_app.proofs.replay_texts.all_node_lines.Given as goal
 

@@ -2,7 +2,7 @@
 ghost use Rattle.std.specs.Prelude.{◌≡◌, ◌<◌, length, IfOk, string_bytes};
 ghost use Rattle.sw_topo.specs.Checked.{IsIn};
 ghost use Rattle.sw_network.specs.Entries.{wiring_of};
-ghost use Rattle.sw_app.specs.ChannelTexts.{channel_text, end_text};
+ghost use Rattle.sw_texts.specs.ChannelTexts.{channel_text, end_text};
 
 use std::alloc::{AllocError, Global};
 use sw_network::Network;
@@ -23,11 +23,7 @@ fn end_text(alloc: Global, network: &Network, end: PlaceEnd) -> Result<String, A
 }
 
 /// The channel as `START>END`.
-pub(crate) fn channel_text(
-    alloc: Global,
-    network: &Network,
-    channel: Chan,
-) -> Result<String, AllocError>
+pub fn channel_text(alloc: Global, network: &Network, channel: Chan) -> Result<String, AllocError>
     requires { channel < length (wiring_of network.now).ends }
     ensures { IfOk result (λ s. string_bytes s ≡ channel_text network.now channel) }
 {

@@ -1,0 +1,79 @@
+-- Chosen causes of one dependency are told by the same words.
+use Rattle.std.proofs.Common.{◌≡◌, ◌∙◌, ℕ, suc, List, [], ◌∷◌, ◌++◌, ap, arith, inl, inr, length, refl, subst, sym}
+use Rattle.std.specs.Prelude.{slice_get, Option, Some}
+use Rattle.std.proofs.lemmas.Bool.{cases_lt}
+use Rattle.sw_topo.specs.Wiring.{out}
+use Rattle.sw_topo.specs.declared.place.PlaceEnd.{PlaceEnd}
+use Rattle.sw_topo.specs.declared.place.PlaceEnd.TheVariants.{Node}
+use Rattle.sw_topo.proofs.Ends.{node_starts}
+use Rattle.sw_network.specs.Entries.{FlowEntry, Declaration, wiring_of}
+use Rattle.sw_flow.specs.declared.place.Place.{Place}
+use Rattle.sw_flow.specs.Places.{ends_of, IsPlace}
+use Rattle.sw_flow.specs.Places.IsPlace.{start, next}
+use Rattle.sw_flow.specs.Ways.{GoesFromStart, GoesOver, GoesTo, IsStart}
+use Rattle.sw_cycle.specs.Cycles.{CauseEntry, ByFlow, ByTarget, IsFlowCause}
+use Rattle.sw_cause.specs.Causes.{GoesOn, IsChosenCause}
+use Rattle.std.specs.Prelude.{codes}
+use Rattle.std.specs.Fmt.{decimal}
+use Rattle.sw_texts.specs.ChannelTexts.{channel_text}
+use Rattle.sw_texts.specs.Lines.{line}
+use Rattle.sw_texts.specs.VerdictTexts.{cause_words, cycle_lines}
+
+module _ (d : Declaration) where
+  started : (f : FlowEntry) (p : Place) → IsStart d f p → IsPlace d f p.channel p.deleted
+  started f p h = subst (λ (k : ℕ). IsPlace d f p.channel k) (sym h.1) (start h.0)
+
+  -- over places that end with x and y, from a place on
+  goes_over : (f : FlowEntry) (p : Place) (before : List Place) (x y : Place) → IsPlace d f p.channel p.deleted → GoesOver d f p (before ++ x ∷ y ∷ []) → IsPlace d f x.channel x.deleted × GoesTo d f x y
+  goes_over f p [] x y here g = (next here g.0, g.1.0)
+  goes_over f p (q ∷ qs) x y here g = goes_over f q qs x y (next here g.0) g.1
+
+  last_step : (f : FlowEntry) (before : List Place) (x y : Place) → GoesFromStart d f (before ++ x ∷ y ∷ []) → IsPlace d f x.channel x.deleted × GoesTo d f x y
+  last_step f [] x y g = (started f x g.0, g.1.0)
+  last_step f (p ∷ ps) x y g = goes_over f p ps x y (started f p g.0) g.1
+
+  -- the flow of a cause goes on
+  goes_on : (i : ℕ) (places : List Place) (c e : ℕ) → IsFlowCause d i places c e → GoesOn d i c e
+  goes_on i places c e h =
+      let x : Place = h.ends_on.last in
+      let y : Place = h.ends_on.next in
+      let g : GoesFromStart d h.flow (h.ends_on.before ++ x ∷ y ∷ []) = subst (λ (ps : List Place). GoesFromStart d h.flow ps) h.ends_on.listed h.goes in
+      let l = last_step h.flow h.ends_on.before x y g in
+      (x, y, record { flow = h.flow; numbered = h.numbered; place = l.0; goes = l.1; from = h.ends_on.from; to = h.ends_on.to })
+
+  -- a channel starts at one node
+  same_node : (t u e : ℕ) → out (ends_of d) t ≡ Some e → out (ends_of d) u ≡ Some e → t ≡ u
+  same_node t u e p q =
+      let both : ◌≡◌ {A = Option PlaceEnd} (Some (Node t)) (Some (Node u)) = sym (node_starts (wiring_of d) t e p) ∙ node_starts (wiring_of d) u e q in
+      cc
+
+  pub same_words : (a b : CauseEntry) (c e : ℕ) → IsChosenCause d a c e → IsChosenCause d b c e → cause_words d a ≡ cause_words d b
+  same_words (ByTarget t) (ByTarget u) c e h k =
+      ap (λ (n : ℕ). cause_words d (ByTarget n)) (same_node t u e h.shows.leaves k.shows.leaves)
+  same_words (ByTarget t) (ByFlow j qs) c e h k = absurd (h.first j (goes_on j qs c e k.shows))
+  same_words (ByFlow i ps) (ByTarget u) c e h k = absurd (k.first i (goes_on i ps c e h.shows))
+  same_words (ByFlow i ps) (ByFlow j qs) c e h k = elim (cases_lt i j) [
+    | inl less ↦ absurd (k.first i less (goes_on i ps c e h.shows))
+    | inr more ↦ elim (cases_lt j i) [
+      | inl less ↦ absurd (h.first j less (goes_on j qs c e k.shows))
+      | inr both ↦ let same : i ≡ j = omega arith in ap (λ (n : ℕ). cause_words d (ByFlow n [])) same
+    ]
+  ]
+
+  -- lines of causes that are told by the same words
+  pub same_lines : (channels : List ℕ) (xs ys : List CauseEntry) → length xs ≡ length ys
+      → ((i : ℕ) (a b : CauseEntry) → slice_get xs i ≡ Some a → slice_get ys i ≡ Some b → cause_words d a ≡ cause_words d b)
+      → cycle_lines d channels xs ≡ cycle_lines d channels ys
+  same_lines [] xs ys size same = refl
+  same_lines (c ∷ cs) [] [] size same = refl
+  same_lines (c ∷ cs) [] (y ∷ ys) size same = absurd (omega (arith, size))
+  same_lines (c ∷ cs) (x ∷ xs) [] size same = absurd (omega (arith, size))
+  same_lines (c ∷ cs) (x ∷ xs) (y ∷ ys) size same =
+      let sizes : length xs ≡ length ys = omega (arith, size) in
+      let rest = same_lines cs xs ys sizes (λ i a b p q. same (suc i) a b p q) in
+      let words = same 0 x y refl refl in
+      -- cycle_line d c is made of the cause's words alone
+      (λ i. line_with (words i) ++ rest i)
+    where
+      line_with : List ℕ → List ℕ
+      line_with words = line (codes "channel" ∷ decimal c ∷ channel_text d c ∷ codes "by" ∷ words ∷ [])

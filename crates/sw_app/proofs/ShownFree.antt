@@ -1,0 +1,83 @@
+-- What is written with status 0 is an accepted certificate of a network that never locks up.
+use Rattle.std.proofs.Common.{◌≡◌, ◌∙◌, ℕ, ◌≤◌, List, [], ◌∷◌, arith, length, subst, sym}
+use Rattle.std.specs.Prelude.{IfSome, None, Option, Some}
+use Rattle.std.specs.Io.KnownBytes.{Appends}
+use Rattle.std.specs.List.{AllByRecursion, AllZip}
+use Rattle.std.proofs.lemmas.List.Elements.{recursion_from_All}
+use Rattle.sw_stream.specs.declared.reading.ReadError.{ReadError}
+use Rattle.sw_stream.specs.declared.reading.ReadError.TheVariants.{TooLong, Failed, Memory}
+use Rattle.sw_network.specs.Entries.{FlowEntry, Declaration, all_flows}
+use Rattle.sw_network.specs.Valid.{IsFlow, IsValid}
+use Rattle.sw_flow.specs.declared.place.Place.{Place}
+use Rattle.sw_flow.specs.Places.{ends_of, IsPlaceList}
+use Rattle.sw_cert.specs.Grammar.{HasText, IsBlock}
+use Rattle.sw_cert.specs.Text.{Contents}
+use Rattle.sw_check.proofs.Accepted.{not_refused_is_accepted}
+use Rattle.sw_check.proofs.Headline.{is_deadlock_free}
+use Rattle.sw_check.specs.Contents.{certificate_of}
+use Rattle.sw_search.specs.declared.verdict.Verdict.{Verdict}
+use Rattle.sw_search.specs.declared.verdict.Verdict.TheVariants.{Misrouted, Cyclic, Free}
+use Rattle.sw_search.specs.Laws.{IsChecked}
+use Rattle.sw_search.specs.Verdicts.{IsFree}
+use Rattle.sw_search.proofs.Blocks.{all_are_flows, is_block}
+use Rattle.sw_search.proofs.Zips.{zip_length}
+use Rattle.sw_app.specs.declared.ended.Ended.{Ended}
+use Rattle.sw_app.specs.declared.ended.Ended.TheVariants.{Status, ReadFailed, WriteFailed}
+use Rattle.sw_app.specs.CheckAnswers.{AreShownFree, IsShownFree}
+use Rattle.sw_app.specs.Ends.{IsMemoryTold, IsTold, IsUnreadTold}
+use Rattle.sw_app.specs.VerdictAnswers.{SaysCertificate, WritesAccepted, verdict_status}
+
+-- ---- a free network's certificate has a text
+
+all_blocks : (d : Declaration) → length (ends_of d) ≤ 2048 → (flows : List FlowEntry) (lists : List (List Place)) → AllByRecursion (IsFlow d.nodes) flows
+    → AllZip (IsPlaceList d) flows lists → AllByRecursion IsBlock lists
+all_blocks d few [] [] ok listed = tt
+all_blocks d few [] (l ∷ lists) ok listed = absurd listed
+all_blocks d few (f ∷ flows) [] ok listed = absurd listed
+all_blocks d few (f ∷ flows) (l ∷ lists) ok listed = (is_block d f few ok.0.address l listed.0, all_blocks d few flows lists ok.1 listed.1)
+
+pub has_text : (d : Declaration) (contents : Contents) → IsValid d → length (ends_of d) ≤ 2048 → length (all_flows d) ≤ 8192
+    → AllByRecursion (λ v. v ≤ 65535) contents.numbers → IsFree d contents → HasText contents.numbers contents.places
+has_text d contents valid few few_flows fit free =
+    let same = zip_length (IsPlaceList d) (all_flows d) contents.places free.places in
+    let size = free.levels.size in
+    record {
+      channels = omega arith;
+      numbers_fit = fit;
+      few = omega arith;
+      blocks = all_blocks d few (all_flows d) contents.places (recursion_from_All (IsFlow d.nodes) (all_flows d) (all_are_flows d valid)) free.places;
+    }
+
+-- ---- a verdict with status 0
+
+pub shown_free : (d : Declaration) (v : Verdict) (text : List ℕ) → IsValid d → IsChecked d v → SaysCertificate text v → verdict_status v ≡ 0 → IsShownFree d text
+shown_free d (Misrouted i p fault) text valid checked said none = absurd (let bad : 1 ≡ 0 = none in omega (arith, bad))
+shown_free d (Cyclic cycle) text valid checked said none = absurd (let bad : 1 ≡ 0 = none in omega (arith, bad))
+shown_free d (Free contents) text valid checked said none =
+    let accepted = (not_refused_is_accepted d contents valid).0 checked in
+    record { contents = contents; said = said; accepted = accepted; deadlock_free = is_deadlock_free d (certificate_of contents) valid accepted }
+
+-- ---- an end with status 0
+
+told_zero : (old new : Option (List ℕ)) (text : List ℕ) (status : ℕ) (ended : Ended) → IsTold old new text status ended → ended ≡ Status 0 → (status ≡ 0) × Appends old new text
+told_zero old new text status (Status n) is zero = (let none : n ≡ 0 = cc in sym is.0 ∙ none, is.1)
+told_zero old new text status ReadFailed is zero = absurd is
+told_zero old new text status WriteFailed is zero = absurd (let bad : WriteFailed ≡ Status 0 = zero in cc)
+
+not_zero : (old new : Option (List ℕ)) (text : List ℕ) (status : ℕ) (ended : Ended) → (status ≡ 0 → ⊥) → IsTold old new text status ended → ended ≡ Status 0 → ⊥
+not_zero old new text status ended other is zero = other (told_zero old new text status ended is zero).0
+
+pub memory_not_zero : (old new : Option (List ℕ)) (ended : Ended) → IsMemoryTold old new ended → ended ≡ Status 0 → ⊥
+memory_not_zero old new ended is zero = not_zero old new _ 5 ended (λ bad. omega (arith, bad)) is zero
+
+pub unread_not_zero : (error : ReadError) (old new : Option (List ℕ)) (ended : Ended) → IsUnreadTold error old new ended → ended ≡ Status 0 → ⊥
+unread_not_zero TooLong old new ended is zero = not_zero old new _ 3 ended (λ bad. omega (arith, bad)) is zero
+unread_not_zero Memory old new ended is zero = memory_not_zero old new ended is zero
+unread_not_zero Failed old new ended is zero = let bad : ReadFailed ≡ Status 0 = sym is.0 ∙ zero in cc
+
+pub writes_accepted : (input old new : Option (List ℕ)) (read text : List ℕ) (status : ℕ) (ended : Ended) → IfSome input (λ bytes. read ≡ bytes)
+    → (status ≡ 0 → AreShownFree read text) → IsTold old new text status ended → ended ≡ Status 0 → IfSome input (λ bytes. WritesAccepted bytes old new)
+writes_accepted None old new read text status ended whole shown is zero = tt
+writes_accepted (Some bytes) old new read text status ended whole shown is zero =
+    let told = told_zero old new text status ended is zero in
+    (text, subst (λ (b : List ℕ). AreShownFree b text) whole (shown told.0), told.1)

@@ -1,0 +1,82 @@
+//! What `decide` and `report` answer.
+ghost use Rattle.std.specs.Prelude.{◌≡◌, IfOk, string_bytes};
+ghost use Rattle.sw_app.specs.CheckAnswers.{AreShownFree, IsShownFree};
+ghost use Rattle.sw_app.specs.VerdictAnswers.{IsDecideAnswer, IsFindingsAnswer, IsReportAnswer, IsVerdictAnswer};
+
+use crate::answer::{Answer, ByteAnswer};
+use crate::verdict_texts::{verdict_status, verdict_text, verdict_words};
+use std::alloc::{AllocError, Global};
+use std::thread::Threads;
+use sw_file::read_network;
+use sw_network::Network;
+use sw_search::{decide, survey};
+use sw_texts::report_text;
+use sw_tree::FileFault;
+
+// The answer of `decide` to a network.
+fn verdict_answer<R: Threads + Sync>(
+    rt: &R,
+    alloc: Global,
+    network: &Network,
+) -> Result<ByteAnswer, AllocError>
+    ensures answer { IfOk result (λ a. IsVerdictAnswer network.now a.text.items a.status) }
+    ensures shown { IfOk result (λ a. a.status ≡ 0 → IsShownFree network.now a.text.items) }
+{
+    // Names the network, which is valid by its type.
+    let _topology = network.topology();
+    let verdict = decide(rt, alloc, network)?;
+    let status = verdict_status(&verdict);
+    let text = verdict_text(alloc, network, &verdict)?;
+    Ok(ByteAnswer { text, status })
+}
+
+/// The answer of `decide` to the bytes of a network file.
+pub(crate) fn decide_answer<R: Threads + Sync>(
+    rt: &R,
+    alloc: Global,
+    input: &[u8],
+) -> Result<ByteAnswer, AllocError>
+    ensures answer { IfOk result (λ a. IsDecideAnswer input.now a.text.items a.status) }
+    ensures shown { IfOk result (λ a. a.status ≡ 0 → AreShownFree input.now a.text.items) }
+{
+    match read_network(alloc, input) {
+        Ok(network) => verdict_answer(rt, alloc, &network),
+        Err(FileFault::Text(fault)) => Ok(Answer::of_fault(alloc, &fault)?.into_bytes()),
+        Err(FileFault::Memory) => Err(AllocError),
+    }
+}
+
+// The answer of `report` to a network.
+fn findings_answer<R: Threads + Sync>(
+    rt: &R,
+    alloc: Global,
+    network: &Network,
+) -> Result<Answer, AllocError>
+    ensures { IfOk result (λ a. IsFindingsAnswer network.now (string_bytes a.text) a.status) }
+{
+    let findings = survey(rt, alloc, network)?;
+    let words = verdict_words(alloc, network, &findings.verdict)?;
+    let text = report_text(
+        alloc,
+        network,
+        findings.places,
+        findings.dependencies,
+        words.as_str(),
+    )?;
+    Ok(Answer { text, status: 0 })
+}
+
+/// The answer of `report` to the bytes of a network file.
+pub(crate) fn report_answer<R: Threads + Sync>(
+    rt: &R,
+    alloc: Global,
+    input: &[u8],
+) -> Result<Answer, AllocError>
+    ensures { IfOk result (λ a. IsReportAnswer input.now (string_bytes a.text) a.status) }
+{
+    match read_network(alloc, input) {
+        Ok(network) => findings_answer(rt, alloc, &network),
+        Err(FileFault::Text(fault)) => Answer::of_fault(alloc, &fault),
+        Err(FileFault::Memory) => Err(AllocError),
+    }
+}

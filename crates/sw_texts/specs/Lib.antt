@@ -1,0 +1,5 @@
+pub mod Lines
+pub mod ChannelTexts
+pub mod FlowTexts
+pub mod VerdictTexts
+pub mod ReportTexts
