@@ -11,3 +11,4 @@ pub mod SameCauses
 pub mod OneVerdict
 pub mod ShownFree
 pub mod NodeLines
+pub mod ReplayReports

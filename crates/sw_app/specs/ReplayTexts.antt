@@ -57,9 +57,13 @@ packet_lines name packets = flat_map (packet_line name) packets
 abbrev pub by_node : (List ℕ → List PacketView → List ℕ) → Declaration → List (List PacketView) → List ℕ
 by_node text d all = flat_map (λ n. text (node_name d n) (slice_index_or all n [])) (range_with_len 0 (length d.nodes))
 
--- how far the steps were made, what is true of the state then, and which packets came out: first how many at each node, then all
+-- how far the steps were made, and what is true of the state then
+abbrev pub state_lines : Report → List ℕ
+state_lines r = made_line r.outcome ++ (undelivered_line r.remaining ++ stuck_line r.stuck)
+
+-- then which packets came out: first how many at each node, then all
 abbrev pub replay_text : Declaration → Report → List ℕ
-replay_text d r = made_line r.outcome ++ (undelivered_line r.remaining ++ (stuck_line r.stuck ++ (by_node node_line d r.came_out ++ by_node packet_lines d r.came_out)))
+replay_text d r = state_lines r ++ (by_node node_line d r.came_out ++ by_node packet_lines d r.came_out)
 
 -- a refused step before a lock-up
 abbrev pub replay_status : Outcome → Bool → ℕ

@@ -17,11 +17,7 @@ use sw_steps::{Schedule, ScheduleFault, read_steps};
 use sw_tree::FileFault;
 
 // The answer for a schedule.
-fn steps_answer(
-    alloc: Global,
-    network: &Network,
-    schedule: &Schedule,
-) -> Result<Answer, AllocError>
+fn steps_answer(alloc: Global, network: &Network, schedule: &Schedule) -> Result<Answer, AllocError>
     ensures { IfOk result (λ a. IsScheduleAnswer network.now (Ok schedule.now) (string_bytes a.text) a.status) }
 {
     let replayed = replay(alloc, network, schedule)?;

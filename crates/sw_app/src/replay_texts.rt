@@ -2,7 +2,7 @@
 ghost use Rattle.std.specs.Prelude.{◌≡◌, ◌<◌, IfOk, flat_map, length, map, string_bytes};
 ghost use Rattle.sw_replay.specs.Reports.{report_of};
 ghost use Rattle.sw_texts.specs.ChannelTexts.{node_name};
-ghost use Rattle.sw_app.specs.ReplayTexts.{by_node, bytes_text, end_text, made_line, node_line, packet_line, packet_lines, refusal_text, replay_status, replay_text, stuck_line};
+ghost use Rattle.sw_app.specs.ReplayTexts.{by_node, bytes_text, end_text, made_line, node_line, packet_line, packet_lines, refusal_text, replay_status, replay_text, state_lines, stuck_line, undelivered_line};
 
 use hex::encode_upper;
 use std::alloc::{AllocError, Global};
@@ -33,6 +33,12 @@ fn made_line(alloc: Global, outcome: Outcome) -> Result<String, AllocError>
         Outcome::Made(count) => format!(in alloc; "replayed {count}\n"),
         Outcome::Refused(number, refusal) => refused_line(alloc, number, refusal),
     }
+}
+
+fn undelivered_line(alloc: Global, count: u64) -> Result<String, AllocError>
+    ensures { IfOk result (λ s. string_bytes s ≡ undelivered_line count) }
+{
+    format!(in alloc; "undelivered {count}\n")
 }
 
 fn stuck_line(stuck: bool) -> &'static str
@@ -121,6 +127,16 @@ fn all_packet_lines(
     Ok(text)
 }
 
+// How far the steps were made, and what is true of the state then.
+fn state_lines(alloc: Global, replayed: &Replayed) -> Result<String, AllocError>
+    ensures { IfOk result (λ s. string_bytes s ≡ state_lines (report_of replayed.now)) }
+{
+    let made = made_line(alloc, replayed.outcome)?;
+    let undelivered = undelivered_line(alloc, replayed.undelivered)?;
+    let stuck = stuck_line(replayed.stuck);
+    format!(in alloc; "{made}{undelivered}{stuck}")
+}
+
 /// The text of a replay.
 pub(crate) fn replay_text(
     alloc: Global,
@@ -130,12 +146,11 @@ pub(crate) fn replay_text(
     requires { length replayed.now.came_out.items ≡ length network.now.nodes }
     ensures { IfOk result (λ s. string_bytes s ≡ replay_text network.now (report_of replayed.now)) }
 {
-    let made = made_line(alloc, replayed.outcome)?;
-    let undelivered = replayed.undelivered;
-    let stuck = stuck_line(replayed.stuck);
-    let nodes = all_node_lines(alloc, network, &replayed.came_out)?;
-    let packets = all_packet_lines(alloc, network, &replayed.came_out)?;
-    format!(in alloc; "{made}undelivered {undelivered}\n{stuck}{nodes}{packets}")
+    let state = state_lines(alloc, replayed)?;
+    let all = replayed.came_out.as_slice();
+    let nodes = all_node_lines(alloc, network, all)?;
+    let packets = all_packet_lines(alloc, network, all)?;
+    format!(in alloc; "{state}{nodes}{packets}")
 }
 
 /// The status of a replay: a refused step goes before a lock-up.
@@ -144,12 +159,6 @@ pub(crate) fn replay_status(replayed: &Replayed) -> u8
 {
     match replayed.outcome {
         Outcome::Refused(_, _) => 1,
-        Outcome::Made(_) => {
-            if replayed.stuck {
-                4
-            } else {
-                0
-            }
-        }
+        Outcome::Made(_) => { if replayed.stuck { 4 } else { 0 } }
     }
 }
