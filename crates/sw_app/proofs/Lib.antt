@@ -12,3 +12,4 @@ pub mod OneVerdict
 pub mod ShownFree
 pub mod NodeLines
 pub mod ReplayReports
+pub mod OneReplay

@@ -22,5 +22,5 @@ pub use command_line::{Call, WordsFault, words};
 pub use ended::{Ended, MAX_TEXT};
 pub use engines::{check, decide, report, route};
 pub use fault_texts::fault_text;
-pub use laws::{decide_has_one_answer, route_has_one_answer};
+pub use laws::{decide_has_one_answer, replay_has_one_answer, route_has_one_answer};
 pub use replay_engine::replay;
