@@ -12,3 +12,6 @@ pub mod OneVerdict
 pub mod ShownFree
 pub mod OneCount
 pub mod OneReport
+pub mod NodeLines
+pub mod ReplayReports
+pub mod OneReplay

@@ -4,7 +4,7 @@ use Rattle.clap.specs.Words.{App, Row, Rule, IsAmong, fault_of, first_of, new_ap
 use Rattle.clap.specs.declared.error.kind.ErrorKind.{ErrorKind}
 use Rattle.clap.specs.declared.error.kind.ErrorKind.TheVariants.{DisplayHelp, DisplayVersion, OutOfMemory}
 use Rattle.sw_app.specs.declared.command_line.Call.{Call}
-use Rattle.sw_app.specs.declared.command_line.Call.TheVariants.{Route, Decide, Check, Report}
+use Rattle.sw_app.specs.declared.command_line.Call.TheVariants.{Route, Decide, Check, Report, Replay}
 use Rattle.sw_app.specs.declared.command_line.WordsFault.{WordsFault}
 use Rattle.sw_app.specs.declared.command_line.WordsFault.TheVariants.{Help, Refused, Memory}
 
@@ -28,6 +28,10 @@ check_app = with_rule (with_rule (new_app (codes "check")) (required_value (code
 abbrev pub report_app : App
 report_app = with_rule (new_app (codes "report")) (required_value (codes "FILE"))
 
+-- `replay FILE SCHEDULE`
+abbrev pub replay_app : App
+replay_app = with_rule (with_rule (new_app (codes "replay")) (required_value (codes "FILE"))) (required_value (codes "SCHEDULE"))
+
 -- `swcheck`, which asks for a subcommand
 abbrev pub top_app : App
 top_app = let a = new_app (codes "swcheck") in record a { top = record a.top { subcommand_required = true } }
@@ -35,11 +39,12 @@ top_app = let a = new_app (codes "swcheck") in record a { top = record a.top { s
 -- the whole command line: each subcommand stands in a line of its own
 abbrev pub swcheck_app : App
 swcheck_app =
-    with_subcommand (with_subcommand (with_subcommand (with_subcommand top_app
+    with_subcommand (with_subcommand (with_subcommand (with_subcommand (with_subcommand top_app
     route_app.top)
     decide_app.top)
     check_app.top)
-    report_app.top
+    report_app.top)
+    replay_app.top
 
 -- a subcommand with these values is this call
 abbrev pub IsCallOf : List ℕ → List Row → Call → Type 0
@@ -51,6 +56,9 @@ IsCallOf name values (Report file) = (name ≡ codes "report") × (first_of (cod
 IsCallOf name values (Check file certificate) = (name ≡ codes "check")
     × (first_of (codes "FILE") values ≡ Some file.now)
     × (first_of (codes "CERT") values ≡ Some certificate.now)
+IsCallOf name values (Replay file schedule) = (name ≡ codes "replay")
+    × (first_of (codes "FILE") values ≡ Some file.now)
+    × (first_of (codes "SCHEDULE") values ≡ Some schedule.now)
 
 -- the subcommand that was met, with its values, is this call
 abbrev pub IsMatched : Option (List ℕ × List Row) → Call → Type 0

@@ -8,3 +8,5 @@ pub mod CheckAnswers
 pub mod Inputs
 pub mod Laws
 pub mod VerdictAnswers
+pub mod ReplayTexts
+pub mod ReplayAnswers

@@ -3,7 +3,7 @@ ghost use Rattle.std.specs.Prelude.{◌≡◌, ℕ, map, option_map, true, false
 ghost use Rattle.clap.specs.Words.{app_of, first_of, found_of, kind_of, rows_of, subcommand_rows_of};
 ghost use Rattle.clap.specs.declared.builder.Command.TheViews.{out-Command};
 ghost use Rattle.sw_app.specs.declared.command_line.WordsFault.TheVariants.{Memory};
-ghost use Rattle.sw_app.specs.CommandLine.{check_app, decide_app, report_app, route_app, swcheck_app, top_app, Gives, IsCallOf, IsMatched, Refuses, ShowsKind};
+ghost use Rattle.sw_app.specs.CommandLine.{check_app, decide_app, replay_app, report_app, route_app, swcheck_app, top_app, Gives, IsCallOf, IsMatched, Refuses, ShowsKind};
 
 use clap::error::ErrorKind;
 use clap::{Arg, ArgMatches, Command};
@@ -21,6 +21,8 @@ pub enum Call<'a> {
     Check { file: &'a str, certificate: &'a str },
     /// How many parts a network file has, and the verdict on it.
     Report { file: &'a str },
+    /// What comes of a schedule of steps on a network file.
+    Replay { file: &'a str, schedule: &'a str },
 }
 
 /// Why the words give no call, with the text to print.
@@ -114,6 +116,21 @@ fn check_command<'a>(alloc: Global) -> Result<Command<'a>, AllocError>
     check.arg(file)?.arg(certificate)
 }
 
+fn replay_command<'a>(alloc: Global) -> Result<Command<'a>, AllocError>
+    ensures { IfOk result (λ c. (app_of c ≡ replay_app) × ((out-Command c).has_globals ≡ false)) }
+{
+    let file = Arg::new(alloc, "FILE")
+        .required(true)
+        .help("A network file");
+    let schedule = Arg::new(alloc, "SCHEDULE")
+        .required(true)
+        .help("A schedule file");
+    let replay = Command::new(alloc, "replay").about(
+        "Make the steps of a schedule, and print what comes of them",
+    );
+    replay.arg(file)?.arg(schedule)
+}
+
 fn top_command<'a>(alloc: Global) -> Command<'a>
     ensures { app_of result ≡ top_app }
 {
@@ -129,7 +146,8 @@ fn swcheck_command<'a>(alloc: Global) -> Result<Command<'a>, AllocError>
         .subcommand(route_command(alloc)?)?
         .subcommand(decide_command(alloc)?)?
         .subcommand(check_command(alloc)?)?
-        .subcommand(report_command(alloc)?)
+        .subcommand(report_command(alloc)?)?
+        .subcommand(replay_command(alloc)?)
 }
 
 fn fault_of(alloc: Global, error: &clap::Error) -> WordsFault
@@ -172,6 +190,10 @@ fn call_of<'a>(name: &str, values: &ArgMatches<'a>) -> Option<Call<'a>>
         "check" => Some(Call::Check {
             file: value_of(values, "FILE")?,
             certificate: value_of(values, "CERT")?,
+        }),
+        "replay" => Some(Call::Replay {
+            file: value_of(values, "FILE")?,
+            schedule: value_of(values, "SCHEDULE")?,
         }),
         _ => None,
     }

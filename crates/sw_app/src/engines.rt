@@ -15,7 +15,7 @@ use std::io::{Read, Write};
 use std::thread::Threads;
 use sw_stream::{ReadError, read_whole};
 
-fn tell_memory<W: Write>(writer: &mut W) -> Ended
+pub(crate) fn tell_memory<W: Write>(writer: &mut W) -> Ended
     ensures { IsMemoryTold (W.contents writer.old) (W.contents writer.new) result }
 {
     tell(writer, "fault memory\n", 5)

@@ -10,6 +10,9 @@ mod engines;
 mod fault_texts;
 mod inputs;
 mod laws;
+mod replay_answer;
+mod replay_engine;
+mod replay_texts;
 mod route_answer;
 mod route_texts;
 mod verdict_answers;
@@ -19,4 +22,7 @@ pub use command_line::{Call, WordsFault, words};
 pub use ended::{Ended, MAX_TEXT};
 pub use engines::{check, decide, report, route};
 pub use fault_texts::fault_text;
-pub use laws::{decide_has_one_answer, report_has_one_answer, route_has_one_answer};
+pub use laws::{
+    decide_has_one_answer, replay_has_one_answer, report_has_one_answer, route_has_one_answer,
+};
+pub use replay_engine::replay;

@@ -4,3 +4,5 @@ pub mod Outputs
 pub mod Start
 pub mod Layouts
 pub mod Takes
+pub mod Advancing
+pub mod Delivered

@@ -1,3 +1,5 @@
 pub mod Lists
 pub mod View
 pub mod Targets
+pub mod Advances
+pub mod Delivery

@@ -1,6 +1,8 @@
 //! A plain, slow machine: its state lies in vectors, and each call makes one step of the machine of a network.
 #![tactic(auto)]
 
+mod advance;
+mod delivery;
 mod flow_control;
 mod layout;
 mod nodes;

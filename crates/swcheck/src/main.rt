@@ -11,7 +11,7 @@ use std::process::ExitCode;
 use std::rt::{Env, Files};
 use std::thread::Threads;
 use std::{env, fs, io};
-use sw_app::{Call, Ended, WordsFault, check, decide, report, route, words};
+use sw_app::{Call, Ended, WordsFault, check, decide, replay, report, route, words};
 
 fn main(rt: HostRuntime) -> ExitCode {
     ExitCode::from(run(&rt))
@@ -53,6 +53,7 @@ fn run_call<R: Files + Print + AllocGlobal + Threads + Sync>(rt: &R, call: Call<
         Call::Decide { file } => run_decide(rt, file),
         Call::Report { file } => run_report(rt, file),
         Call::Check { file, certificate } => run_check(rt, file, certificate),
+        Call::Replay { file, schedule } => run_replay(rt, file, schedule),
     }
 }
 
@@ -89,6 +90,17 @@ fn run_check<R: Files + Print + AllocGlobal>(rt: &R, file: &str, certificate: &s
     };
     let mut writer = io::writer(rt);
     check(rt.alloc(), &mut network, &mut certificate, &mut writer)
+}
+
+fn run_replay<R: Files + Print + AllocGlobal>(rt: &R, file: &str, schedule: &str) -> Ended {
+    let Ok(mut network) = fs::open(rt, file) else {
+        return Ended::ReadFailed;
+    };
+    let Ok(mut schedule) = fs::open(rt, schedule) else {
+        return Ended::ReadFailed;
+    };
+    let mut writer = io::writer(rt);
+    replay(rt.alloc(), &mut network, &mut schedule, &mut writer)
 }
 
 // Tells of a read or a write that failed.

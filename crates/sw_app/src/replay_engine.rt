@@ -1,0 +1,33 @@
+//! The engine of `replay`.
+ghost use Rattle.sw_app.specs.Ends.{AreReadInOrder, EndsByTwo};
+ghost use Rattle.sw_app.specs.ReplayAnswers.{IsReplayAnswer};
+
+use crate::ended::{Ended, tell};
+use crate::engines::tell_memory;
+use crate::inputs::{InputError, read_two};
+use crate::replay_answer::replay_answer;
+use std::alloc::Global;
+use std::io::{Read, Write};
+
+/// What comes of the steps of the second text's schedule, made one after another on the network of the first text from its empty
+/// state on: 0 where all are made and the network is not locked up then, 1 where one is refused, and 4 where the network is locked
+/// up.
+pub fn replay<N: Read, S: Read, W: Write>(
+    alloc: Global,
+    network: &mut N,
+    schedule: &mut S,
+    writer: &mut W,
+) -> Ended
+    ensures answer { EndsByTwo IsReplayAnswer (N.remaining network.old) (S.remaining schedule.old) (W.contents writer.old) (W.contents writer.new) result }
+    ensures order { AreReadInOrder (N.remaining network.old) (N.remaining network.new) (S.remaining schedule.old) (S.remaining schedule.new) }
+{
+    let (first, second) = match read_two(alloc, network, schedule) {
+        Ok(inputs) => inputs,
+        Err(InputError::Failed) => return Ended::ReadFailed,
+        Err(InputError::Memory) => return tell_memory(writer),
+    };
+    match replay_answer(alloc, &first, &second) {
+        Ok(answer) => tell(writer, answer.text.as_str(), answer.status),
+        Err(_) => tell_memory(writer),
+    }
+}
