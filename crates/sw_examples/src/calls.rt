@@ -2,7 +2,7 @@
 use std::rt::Files;
 use std::thread::Threads;
 use std::{fs, io};
-use sw_app::{Call, Ended, WordsFault, check, decide, report, route, words};
+use sw_app::{Call, Ended, WordsFault, check, decide, replay, report, route, words};
 
 fn run_route<R: Files + Print + AllocGlobal>(rt: &R, file: &str, flow: &str) -> io::Result<Ended> {
     let mut reader = fs::open(rt, file)?;
@@ -19,6 +19,17 @@ fn run_check<R: Files + Print + AllocGlobal>(
     let mut certificate = fs::open(rt, certificate)?;
     let mut writer = io::writer(rt);
     Ok(check(rt.alloc(), &mut network, &mut certificate, &mut writer))
+}
+
+fn run_replay<R: Files + Print + AllocGlobal>(
+    rt: &R,
+    file: &str,
+    schedule: &str,
+) -> io::Result<Ended> {
+    let mut network = fs::open(rt, file)?;
+    let mut schedule = fs::open(rt, schedule)?;
+    let mut writer = io::writer(rt);
+    Ok(replay(rt.alloc(), &mut network, &mut schedule, &mut writer))
 }
 
 fn run_decide<R: Files + Print + AllocGlobal + Threads + Sync>(
@@ -47,6 +58,7 @@ fn run_call<R: Files + Print + AllocGlobal + Threads + Sync>(
         Call::Route { file, flow } => run_route(rt, file, flow),
         Call::Decide { file } => run_decide(rt, file),
         Call::Report { file } => run_report(rt, file),
+        Call::Replay { file, schedule } => run_replay(rt, file, schedule),
         Call::Check { file, certificate } => run_check(rt, file, certificate),
     }
 }

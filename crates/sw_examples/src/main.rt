@@ -8,7 +8,7 @@ use crate::calls::show_run;
 use std::io;
 
 /// The words of each call; what comes of it stands in `stdout`, in this order.
-static RUNS: [&[&str]; 61] = [
+static RUNS: [&[&str]; 65] = [
     &["swcheck", "route", "line.toml", "f"],
     &["swcheck", "route", "star.toml", "p"],
     &["swcheck", "route", "star.toml", "l"],
@@ -57,6 +57,10 @@ static RUNS: [&[&str]; 61] = [
     &["swcheck", "report", "turn.cert"],
     &["swcheck", "decide"],
     &["swcheck", "report", "line.toml", "f"],
+    &["swcheck", "replay", "ring.toml", "ring.schedule"],
+    &["swcheck", "replay", "line.toml", "line.schedule"],
+    &["swcheck", "replay", "rmap2.toml", "reads.schedule"],
+    &["swcheck", "replay", "line.toml"],
     &["swcheck", "--help"],
     &["swcheck", "-h"],
     &["swcheck", "help"],
