@@ -10,5 +10,6 @@ mod sending;
 mod steps;
 #[cfg(test)]
 mod tests;
+mod undelivered;
 
 pub use cell::NodeCell;
