@@ -1,3 +1,4 @@
 pub mod Net
 pub mod New
 pub mod Asked
+pub mod Delivery

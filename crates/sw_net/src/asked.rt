@@ -26,14 +26,14 @@ impl<'n, R: Routing, A: Arbiter> Net<'n, R, A> {
         self.network
     }
 
-    fn node(&self, n: u16) -> &NodeCell
+    pub(crate) fn node(&self, n: u16) -> &NodeCell
         requires { n < length self.now.declared.nodes }
         ensures { slice_get self.now.nodes n ≡ Some result.now }
     {
         &self.nodes[n as usize]
     }
 
-    fn switch(&self, w: u16) -> &SwitchCell<R, A>
+    pub(crate) fn switch(&self, w: u16) -> &SwitchCell<R, A>
         requires { w < length self.now.declared.switches }
         ensures { slice_get self.now.switches w ≡ Some result.now }
     {

@@ -2,6 +2,7 @@
 #![tactic(auto)]
 
 mod asked;
+mod delivery;
 mod make;
 mod net;
 mod step;

@@ -8,5 +8,6 @@ mod make;
 mod reply;
 mod sending;
 mod steps;
+mod undelivered;
 
 pub use cell::NodeCell;

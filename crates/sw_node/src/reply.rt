@@ -1,5 +1,5 @@
 //! A reply that waits to be sent.
-ghost use Rattle.std.specs.Prelude.{◌≡◌, Some, IfOk, OnErr, OnOk};
+ghost use Rattle.std.specs.Prelude.{◌≡◌, Some, IfOk, OnErr, OnOk, length};
 ghost use Rattle.sw_machine.specs.State.{reply_packet};
 ghost use Rattle.sw_model.specs.Model.{answer_of, memory_after};
 ghost use Rattle.sw_node.specs.Changes.{with_memory};
@@ -32,6 +32,13 @@ impl Model for Reply {
 }
 
 impl Reply {
+    /// How many characters it has, with its marker.
+    pub(crate) fn len(&self) -> u64
+        ensures { result ≡ length (reply_packet self.now) }
+    {
+        self.bytes.len() as u64 + 1
+    }
+
     /// Its characters, to be sent.
     pub(crate) fn into_sending(self) -> Sending
         ensures { result ≡ reply_packet self }

@@ -60,6 +60,13 @@ impl Sending {
         }
     }
 
+    /// How many characters are still to be sent.
+    pub(crate) fn len(&self) -> usize
+        ensures { result ≡ length self.now }
+    {
+        self.bytes.len() + 1 - self.sent
+    }
+
     pub(crate) fn is_empty(&self) -> bool
         ensures { result ≡ (length self.now == 0) }
     {

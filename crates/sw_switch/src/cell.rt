@@ -52,6 +52,13 @@ impl<R: Routing, A: Arbiter> SwitchCell<R, A> {
         self.received[input.number() as usize].outstanding()
     }
 
+    /// How many N-Chars are in the port's buffer.
+    pub fn buffered(&self, input: Port) -> usize
+        ensures { result ≡ length (end_at self.now input).buffer }
+    {
+        self.received[input.number() as usize].len()
+    }
+
     /// What the port's input does.
     pub fn input(&self, input: Port) -> Input
         ensures { result ≡ input_at self.now input }

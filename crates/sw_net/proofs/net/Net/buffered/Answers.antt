@@ -1,0 +1,34 @@
+use Rattle.std.proofs.Common.{Some, ap, arith, length, subst, ◌<◌, ◌∙◌, ◌≡◌}
+use Rattle.std.specs.Prelude.{slice_get}
+use Rattle.sw_model.specs.Model.{network_of}
+use Rattle.sw_net.proofs.Delivered.{channel_count, node_buffered, switch_buffered}
+use Rattle.sw_net.proofs.net.Net.buffered.Goals as goal
+use Rattle.sw_network.proofs.Steps.{length-link_ends}
+use Rattle.sw_network.specs.Entries.{Declaration, wiring_of}
+use Rattle.sw_topo.specs.Wiring.{Wiring, partner}
+use Rattle.sw_topo.specs.declared.place.PlaceEnd.TheVariants.{Node, Switch}
+
+pub end_of-requires : goal.end_of-requires
+end_of-requires g c =
+    let w = ap (λ (k : Wiring). length k.ends) c.topology.ensures.wiring in
+    let size = length-link_ends c.network.result.now.links in
+    let same = ap (λ (k : Declaration). length k.links) c.network.ensures.network in
+    let r = c.requires in
+    omega arith
+
+pub returns-in-Node : goal.returns-in-Node
+returns-in-Node g c =
+    let v = c.args.self.now in
+    let wires = c.topology.ensures.wiring ∙ ap wiring_of c.network.ensures.network in
+    let ends = subst (λ (w : Wiring). slice_get w.ends (partner c.args.channel) ≡ Some (Node c.in-Node.n)) wires (c.in-Node.ensures.place) in
+    let all = channel_count v.declared in
+    let r = c.requires in
+    let lt : c.args.channel < (network_of v.declared).channels = omega arith in
+    node_buffered g.R.Routing.answer g.A.Arbiter.ports c.args.self.now c.network.ensures.sound c.in-Node.n c.node.result.now c.args.channel c.buffered.result c.node.ensures lt ends c.buffered.ensures
+
+pub returns-in-Switch : goal.returns-in-Switch
+returns-in-Switch g c =
+    let v = c.args.self.now in
+    let wires = c.topology.ensures.wiring ∙ ap wiring_of c.network.ensures.network in
+    let ends = subst (λ (w : Wiring). slice_get w.ends (partner c.args.channel) ≡ Some (Switch c.in-Switch.w c.in-Switch.port)) wires (c.in-Switch.ensures.place) in
+    switch_buffered g.R.Routing.answer g.A.Arbiter.ports c.args.self.now c.network.ensures.sound c.in-Switch.w c.switch.result.now c.args.channel c.in-Switch.port c.buffered-in-Switch.result c.switch.ensures ends c.buffered-in-Switch.ensures
