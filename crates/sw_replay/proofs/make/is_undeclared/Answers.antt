@@ -2,7 +2,7 @@ use Rattle.std.proofs.Common.{List, ℕ}
 use Rattle.sw_load.specs.Packets.{IsDeclaredPacket}
 use Rattle.sw_machine.specs.Network.{IsDeclared}
 use Rattle.sw_model.specs.Model.{network_of}
-use Rattle.sw_plain.proofs.Declares.{declared_are_declared}
+use Rattle.sw_load.proofs.Declares.{declared_are_declared}
 use Rattle.sw_replay.proofs.Making.{not_so}
 use Rattle.sw_replay.proofs.make.is_undeclared.Goals as goal
 
