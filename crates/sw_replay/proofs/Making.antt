@@ -51,9 +51,9 @@ module _ (net : Network) where
   pub stopped_then : (s t u : State) (a b rest : List Step) (count k : ℕ) (r : Refusal) → Run net s a t → count ≡ length a → Ends net t b (Refused k r) u → Ends net s (a ++ (b ++ rest)) (Refused (count + k) r) u
   stopped_then s t u a b rest count k r run is stop =
       let parts : a ++ (b ++ rest) ≡ (a ++ stop.made) ++ (stop.step ∷ (stop.others ++ rest)) =
-          ap (λ (l : List Step). a ++ (l ++ rest)) stop.parts
-          ∙ ap (λ (l : List Step). a ++ l) (append_assoc stop.made (stop.step ∷ stop.others) rest)
-          ∙ sym (append_assoc a stop.made (stop.step ∷ (stop.others ++ rest)))
+      ap (λ (l : List Step). a ++ (l ++ rest)) stop.parts
+      ∙ ap (λ (l : List Step). a ++ l) (append_assoc stop.made (stop.step ∷ stop.others) rest)
+      ∙ sym (append_assoc a stop.made (stop.step ∷ (stop.others ++ rest)))
       in
       let sum = length-append a stop.made in
       let counted = stop.counted in
@@ -98,9 +98,9 @@ pub replayed : (d : Declaration) (s t : State) (steps all : List Step) (o : Outc
 replayed d s t steps all o r first same ends is report = record {
   state = t;
   ends =
-    subst (λ (p : Outcome). Ends (network_of d) (empty (network_of d)) all p t) (sym is)
-    (subst (λ (l : List Step). Ends (network_of d) (empty (network_of d)) l o t) same
-    (subst (λ (w : State). Ends (network_of d) w steps o t) first ends));
+      subst (λ (p : Outcome). Ends (network_of d) (empty (network_of d)) all p t) (sym is)
+      (subst (λ (l : List Step). Ends (network_of d) (empty (network_of d)) l o t) same
+      (subst (λ (w : State). Ends (network_of d) w steps o t) first ends));
   report = report;
 }
 

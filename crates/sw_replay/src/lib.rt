@@ -3,9 +3,9 @@
 
 pub mod laws;
 mod make;
-mod replaying;
 mod replayed;
+mod replaying;
 mod report;
 
-pub use replaying::replay;
 pub use replayed::{Outcome, Refusal, Replayed};
+pub use replaying::replay;

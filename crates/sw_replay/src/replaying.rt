@@ -13,11 +13,7 @@ use sw_steps::Schedule;
 
 /// Makes the steps of the schedule one after another, from the empty network on, up to the first
 /// that is refused, and tells what holds then.
-pub fn replay(
-    alloc: Global,
-    network: &Network,
-    schedule: &Schedule,
-) -> Result<Replayed, AllocError>
+pub fn replay(alloc: Global, network: &Network, schedule: &Schedule) -> Result<Replayed, AllocError>
     ensures { IfOk result (λ r. IsReplayed network.now schedule.now (report_of r)) }
 {
     // Tells that there are at most as many steps as a schedule may have.
