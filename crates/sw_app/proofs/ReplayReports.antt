@@ -1,7 +1,6 @@
 -- A replay that was told.
-use Rattle.std.proofs.Common.{List, length, map, refl, sym, ℕ, ◌∙◌, ◌≡◌}
+use Rattle.std.proofs.Common.{List, length, sym, ◌∙◌, ◌≡◌}
 use Rattle.std.proofs.lemmas.List.{length-map}
-use Rattle.sw_machine.specs.Packets.{Packet}
 use Rattle.sw_machine.specs.Steps.{Step}
 use Rattle.sw_model.specs.Model.{network_of}
 use Rattle.sw_network.specs.Entries.{Declaration}

@@ -1,4 +1,4 @@
-use Rattle.std.proofs.Common.{◌≡◌, ◌<◌, ◌++◌, List, ap, arith, length, rules, string_bytes, sym, ◌∙◌, ℕ}
+use Rattle.std.proofs.Common.{◌≡◌, ◌<◌, ◌++◌, List, ap, length, rules, string_bytes, ◌∙◌, ℕ}
 use Rattle.sw_app.specs.ReplayTexts.{packet_lines}
 use Rattle.sw_app.proofs.NodeLines.{lines_more}
 use Rattle.sw_app.proofs.replay_texts.all_packet_lines.Goals as goal
