@@ -142,17 +142,17 @@ module _ (d : Declaration) (valid : IsValid d) where
   few_undelivered s (steps, run) channels nodes =
       let net = network_of d in
       let at_channels : (c : ℕ) → c < net.channels → length (s.buffer c) + length (s.wire c) ≤ 8192 = λ c lt.
-          let e = (reached_numbers net (are_networks d valid) s (steps, run)).at c lt in
-          let few = e.few in let fits = e.fits in let equation = e.equation in let room = room_few c lt in
-          omega arith
+      let e = (reached_numbers net (are_networks d valid) s (steps, run)).at c lt in
+      let few = e.few in let fits = e.fits in let equation = e.equation in let room = room_few c lt in
+      omega arith
       in
       let at_nodes : (n : ℕ) → n < net.nodes → length (s.to_send n) + length_pending (s.pending n) ≤ 603979776 = λ n lt.
-          let small = sends_few net 67108864 begins_few steps s run n in
-          let sending = small.sending in
-          let waiting = replies_few (s.pending n) small.waiting in
-          let count = few_wait net n steps s (owes net n steps s run) in
-          let slots = slots_few n lt in
-          omega arith
+      let small = sends_few net 67108864 begins_few steps s run n in
+      let sending = small.sending in
+      let waiting = replies_few (s.pending n) small.waiting in
+      let count = few_wait net n steps s (owes net n steps s run) in
+      let slots = slots_few n lt in
+      omega arith
       in
       let one = total_in_channels (λ c. length (s.buffer c) + length (s.wire c)) net.channels at_channels in
       let other = total_at_nodes (λ n. length (s.to_send n) + length_pending (s.pending n)) net.nodes at_nodes in

@@ -5,3 +5,4 @@ pub mod Told
 pub mod Sizes
 pub mod Few
 pub mod Delivered
+pub mod Policies

@@ -80,8 +80,8 @@ module _ (net : Network) (most : ℕ) (few : BeginsFew net most) where
   step_few s t (Accept m) h each = subst Each (sym h.after) (λ n. record {
     sending = (each n).sending;
     waiting = put_all (AllFew most) s.pending m n (pending_with (s.pending m) (reply_at net m (s.memory m) h.bytes h.first))
-    (with_few (s.pending m) (reply_at net m (s.memory m) h.bytes h.first) (each m).waiting (λ r is. reply_few m (s.memory m) h.bytes h.first r h.in_net is))
-    (each n).waiting;
+        (with_few (s.pending m) (reply_at net m (s.memory m) h.bytes h.first) (each m).waiting (λ r is. reply_few m (s.memory m) h.bytes h.first r h.in_net is))
+        (each n).waiting;
   })
   step_few s t (Reply m) h each =
       let first = first_few (s.pending m) h.reply h.others h.waits (each m).waiting in

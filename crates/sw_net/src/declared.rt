@@ -1,0 +1,90 @@
+//! What a new network is made of, as its file declares it.
+ghost use Rattle.std.specs.Prelude.{◌+◌, ◌<◌, IfOk, OnOk, length, take};
+ghost use Rattle.sw_arb.specs.Chosen.{policy_ports};
+ghost use Rattle.sw_flow.specs.Places.{ends_of};
+ghost use Rattle.sw_net.specs.Switches.{switch_look};
+ghost use Rattle.sw_net.specs.New.{AreArbiters, AreRoutes, IsNewNet};
+
+use crate::net::Net;
+use either::Either;
+use std::alloc::{AllocError, Global};
+use sw_arb::Policy;
+use sw_network::Network;
+use sw_route::{IntervalRoutes, Look, Routing, TableRoutes};
+use sw_topo::{Chan, PlaceEnd};
+
+/// A switch's routing table, as its network has it.
+#[derive(Drop)]
+pub struct SwitchRoutes<'n> {
+    pub(crate) routing: &'n Either<TableRoutes, IntervalRoutes>,
+}
+
+impl<'n> Routing for SwitchRoutes<'n> {
+    ghost use Rattle.sw_net.specs.Switches.{routing_path, routing_reserved, switch_look};
+
+    ghost answer = { switch_look };
+
+    fn look(&self, byte: u8) -> Look {
+        self.routing.look(byte)
+    }
+
+    ghost path = { λ r byte small. routing_path r.routing.now byte small };
+
+    ghost reserved = { λ r. routing_reserved r.routing.now };
+}
+
+/// The routing tables of all switches.
+fn declared_routes<'n>(
+    alloc: Global,
+    network: &'n Network,
+) -> Result<Vec<SwitchRoutes<'n>>, AllocError>
+    ensures { IfOk result (λ v. AreRoutes switch_look network.entry.now v.items) }
+{
+    let mut all = Vec::new(alloc);
+    for w in 0..network.switches() {
+        all.push(SwitchRoutes {
+            routing: network.routing(w),
+        })?;
+    }
+    Ok(all)
+}
+
+/// The arbiter of the channel's output is the next, if the channel starts at a switch.
+fn push_policy(network: &Network, channel: Chan, all: &mut Vec<Policy>) -> Result<(), AllocError>
+    requires channel { channel < length (ends_of network.now) }
+    requires so_far { AreArbiters policy_ports network.now (take channel (ends_of network.now)) all.old.items }
+    ensures { OnOk result (AreArbiters policy_ports network.now (take (channel + 1) (ends_of network.now)) all.new.items) }
+{
+    match network.topology().start_of(channel) {
+        PlaceEnd::Node(_) => Ok(()),
+        PlaceEnd::Switch(w, _) => {
+            let linked = network.topology().linked(w);
+            all.push(Policy::new(network.arbitration(w), linked))?;
+            Ok(())
+        }
+    }
+}
+
+/// The arbiters of all outputs.
+fn declared_policies(alloc: Global, network: &Network) -> Result<Vec<Policy>, AllocError>
+    ensures { IfOk result (λ v. AreArbiters policy_ports network.now (ends_of network.now) v.items) }
+{
+    let mut all = Vec::new(alloc);
+    for number in 0..network.channels() {
+        push_policy(network, Chan::new(number), &mut all)?;
+    }
+    Ok(all)
+}
+
+/// The network in its empty state, with the routing tables and the kinds of arbitration that its
+/// file declares.
+pub fn declared_net<'n>(
+    alloc: Global,
+    network: &'n Network,
+) -> Result<Net<'n, SwitchRoutes<'n>, Policy>, AllocError>
+    ensures { IfOk result (IsNewNet network.entry.now) }
+{
+    let routes = declared_routes(alloc, network)?;
+    let arbiters = declared_policies(alloc, network)?;
+    Net::new(alloc, network, routes, arbiters)
+}
