@@ -1,0 +1,3 @@
+pub mod Next
+pub mod Laws
+pub mod History
