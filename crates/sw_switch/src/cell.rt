@@ -56,7 +56,8 @@ impl<R: Routing, A: Arbiter> SwitchCell<R, A> {
     pub fn buffered(&self, input: Port) -> usize
         ensures { result ≡ length (end_at self.now input).buffer }
     {
-        self.received[input.number() as usize].len()
+        let index = input.number() as usize;
+        self.received[index].len()
     }
 
     /// What the port's input does.
