@@ -1,5 +1,5 @@
 -- The steps at a node: those of its two channels, and those that are never possible there.
-use Rattle.std.proofs.Common.{ℕ, Bool, ◌<◌, ◌≡◌, ap, false, refl, subst, sym, ◌∙◌}
+use Rattle.std.proofs.Common.{ℕ, Bool, ◌≡◌, ap, false, refl, subst, sym, ◌∙◌}
 use Rattle.std.specs.Prelude.{Err, Ok, OnErr, Result}
 use Rattle.sw_cell.proofs.Spilling.{spilling_at_switches}
 use Rattle.sw_cell.specs.Places.{HasNamed}

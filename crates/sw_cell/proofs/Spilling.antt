@@ -9,7 +9,7 @@ use Rattle.sw_machine.specs.Runs.{IsReached, Run}
 use Rattle.sw_machine.specs.State.{State, empty, input_after, put}
 use Rattle.sw_machine.specs.Steps.{Accept, Arrive, Begin, Drop, Drops, Emit, Fct, FctIn, Forward, Grant, Leads, Reply, Spill, Step}
 use Rattle.sw_machine.specs.declared.input.Input.{Input}
-use Rattle.sw_machine.specs.declared.input.Input.TheVariants.{Held, Idle, Spilling}
+use Rattle.sw_machine.specs.declared.input.Input.TheVariants.{Held, Spilling}
 
 module _ (net : Network) where
   -- an input that discards ends at a switch

@@ -1,5 +1,5 @@
 -- At which cell of a declared network a step is done.
-use Rattle.std.specs.Prelude.{Err, Ok, Result, length, ℕ, ◌<◌, ◌≡◌}
+use Rattle.std.specs.Prelude.{Err, Ok, Result, length, ◌<◌, ◌≡◌}
 use Rattle.sw_cell.specs.declared.cell.CellId.{CellId}
 use Rattle.sw_cell.specs.declared.cell.CellId.TheVariants.{Node, Switch}
 use Rattle.sw_cell.specs.declared.fault.NetFault.{NetFault}
