@@ -50,13 +50,13 @@ module _ (net : Network) (packets : List Begun) where
   abbrev at : ℕ → List Begun → List Begun
   at n ps = packets_at net n ps
 
-  begun_at_last : (steps : List Step) (step : Step) (n : ℕ) → at n (beginnings (steps ++ step ∷ [])) ≡ at n (beginnings steps) ++ at n (beginning step)
+  pub begun_at_last : (steps : List Step) (step : Step) (n : ℕ) → at n (beginnings (steps ++ step ∷ [])) ≡ at n (beginnings steps) ++ at n (beginning step)
   begun_at_last steps step n = ap (at n) (begun_last steps step) ∙ filter-append (λ b. nat_eq (net.flow b.flow).from n) (beginnings steps) (beginning step)
 
-  its_own : (b : Begun) (n : ℕ) → (net.flow b.flow).from ≡ n → at n (b ∷ []) ≡ b ∷ []
+  pub its_own : (b : Begun) (n : ℕ) → (net.flow b.flow).from ≡ n → at n (b ∷ []) ≡ b ∷ []
   its_own b n e = rw (eq-eqb (net.flow b.flow).from n e) refl
 
-  not_its_own : (b : Begun) (n : ℕ) → ((net.flow b.flow).from ≡ n → ⊥) → at n (b ∷ []) ≡ []
+  pub not_its_own : (b : Begun) (n : ℕ) → ((net.flow b.flow).from ≡ n → ⊥) → at n (b ∷ []) ≡ []
   not_its_own b n ne = rw (ne_eqb (net.flow b.flow).from n ne) refl
 
   keeps_front : (steps : List Step) (step : Step) (n : ℕ) → at n (beginning step) ≡ [] → IsFront (at n (beginnings steps)) (at n packets) → IsFront (at n (beginnings (steps ++ step ∷ []))) (at n packets)

@@ -1,2 +1,4 @@
 pub mod Follows
+mod Adds
+mod Kept
 mod Sends

@@ -23,3 +23,8 @@ next_packet net packets steps n = slice_get (packets_at net n packets) (length (
 abbrev pub BeginsNext : Network → List Begun → List Step → Step → Type 0
 BeginsNext net packets steps (Begin flow cargo end) = next_packet net packets steps (net.flow flow).from ≡ Some (record { flow = flow; cargo = cargo; end = end })
 BeginsNext net packets steps step = Unit {0}
+
+-- the node that begins a packet by the step, if it begins one
+abbrev pub beginner_of : Network → Step → Option ℕ
+beginner_of net (Begin flow cargo end) = Some (net.flow flow).from
+beginner_of net step = None

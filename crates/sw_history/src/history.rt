@@ -1,8 +1,11 @@
 //! A history, and the network in the state after it.
 
-use crate::packets::packet_at;
+use crate::fault::StepFault;
+use crate::packets::{is_same, packet_at};
+use std::alloc::{AllocError, Global};
 use std::marker::Model;
 use sw_arb::Arbiter;
+use sw_char::End;
 use sw_load::{Load, LoadPacket};
 use sw_net::Net;
 use sw_route::Routing;
@@ -32,12 +35,11 @@ impl<'n, R: Routing, A: Arbiter> Model for History<'n, R, A> {
 }
 
 impl<'n, R: Routing, A: Arbiter> History<'n, R, A> {
-    ghost use Rattle.std.specs.Prelude.{◌≡◌, ◌<◌, ◌≤◌, IfErr, IfOk, OnErr, OnOk, IfSome, length, option_map, replicate, []};
-    ghost use Rattle.sw_history.specs.History.{Adds, IsNext, with_steps};
-    ghost use Rattle.sw_history.specs.Next.{next_packet, BeginsNext};
-    ghost use Rattle.sw_limit.specs.Limit.{AreDeclared};
-    ghost use Rattle.sw_net.specs.Net.{IsNetState};
-    ghost use Rattle.sw_machine.specs.State.{empty};
+    ghost use Rattle.std.specs.Prelude.{◌≡◌, ◌<◌, IfErr, IfNone, IfOk, IfSome, length, option_map};
+    ghost use Rattle.sw_history.specs.History.{IsNext};
+    ghost use Rattle.sw_history.specs.Next.{BeginsNext, beginner_of, next_packet};
+    ghost use Rattle.sw_history.specs.declared.fault.StepFault.TheVariants.{NotEnabled};
+    ghost use Rattle.sw_machine.specs.Steps.{Begin};
     ghost use Rattle.sw_steps.specs.Steps.{machine_step};
     ghost use Rattle.sw_limit.specs.History.{packet_of, packets_of};
     ghost use Rattle.sw_model.specs.Model.{network_of};
@@ -54,6 +56,82 @@ impl<'n, R: Routing, A: Arbiter> History<'n, R, A> {
         requires { node < length self.now.declared.nodes }
         ensures { option_map (λ p. packet_of p.now) result ≡ next_packet (network_of self.now.declared) (packets_of self.now.load) self.now.steps node }
     {
-        packet_at(self.net.network(), self.load, node, self.begun[node as usize])
+        packet_at(
+            self.net.network(),
+            self.load,
+            node,
+            self.begun[node as usize],
+        )
+    }
+
+    /// Whether these are the flow, cargo and end of the packet that the node where the flow starts is
+    /// to begin next: then that node.
+    fn sender(&self, flow: u16, cargo: &[u8], end: End) -> Option<u16>
+        ensures some { IfSome result (λ n. n ≡ ((network_of self.now.declared).flow flow).from) }
+        ensures within { IfSome result (λ n. n < length self.now.declared.nodes) }
+        ensures next { IfSome result (λ n. next_packet (network_of self.now.declared) (packets_of self.now.load) self.now.steps n ≡ Some (record { flow = flow; cargo = cargo.now; end = end })) }
+        ensures none { IfNone result (IsNext self.now (Begin flow cargo.now end) → ⊥) }
+    {
+        let network = self.net.network();
+        if flow >= network.declared_flows() {
+            return None;
+        }
+        let node = network.flow(flow).from();
+        match self.next(node) {
+            Some(packet) => {
+                if is_same(packet, flow, cargo, end) {
+                    Some(node)
+                } else {
+                    None
+                }
+            }
+            None => None,
+        }
+    }
+
+    /// The node that begins a packet by the step, if it begins one: that has to be its next.
+    fn beginner(&self, step: &Step) -> Result<Option<u16>, StepFault>
+        ensures refused { IfErr result (λ e. (e ≡ NotEnabled) × (IsNext self.now (machine_step step.now) → ⊥)) }
+        ensures next { IfOk result (λ n. BeginsNext (network_of self.now.declared) (packets_of self.now.load) self.now.steps (machine_step step.now)) }
+        ensures node { IfOk result (λ n. n ≡ beginner_of (network_of self.now.declared) (machine_step step.now)) }
+        ensures within { IfOk result (λ n. IfSome n (λ n. n < length self.now.declared.nodes)) }
+    {
+        match step {
+            Step::Begin { flow, cargo, end } => match self.sender(*flow, cargo, *end) {
+                Some(node) => Ok(Some(node)),
+                None => Err(StepFault::NotEnabled),
+            },
+            _ => Ok(None),
+        }
+    }
+}
+
+impl<'n, R: Routing + Drop, A: Arbiter + Drop> History<'n, R, A> {
+    ghost use Rattle.std.specs.Prelude.{◌≡◌, IfOk, []};
+    ghost use Rattle.sw_limit.specs.Limit.{AreDeclared};
+    ghost use Rattle.sw_machine.specs.State.{empty};
+    ghost use Rattle.sw_model.specs.Model.{network_of};
+    ghost use Rattle.sw_net.specs.Net.{IsNetState};
+
+    /// The history of no steps, of a network in its empty state.
+    pub fn new(
+        alloc: Global,
+        net: Net<'n, R, A>,
+        load: &'n Load,
+    ) -> Result<History<'n, R, A>, AllocError>
+        requires state { IsNetState net (empty (network_of net.declared)) }
+        requires packets { AreDeclared net.declared load.now }
+        ensures network { IfOk result (λ h. h.declared ≡ net.entry.declared) }
+        ensures load { IfOk result (λ h. h.load ≡ load.entry.now) }
+        ensures steps { IfOk result (λ h. h.steps ≡ []) }
+    {
+        let nodes = net.network().nodes() as usize;
+        let begun = vec![in alloc; 0u32; nodes]?;
+        Ok(History {
+            net,
+            load,
+            steps: Vec::new(alloc),
+            begun,
+        })
     }
 }

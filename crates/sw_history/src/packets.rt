@@ -1,9 +1,10 @@
 //! The packets of a load, by the node that sends them.
-ghost use Rattle.std.specs.Prelude.{◌≡◌, option_map, slice_get};
+ghost use Rattle.std.specs.Prelude.{◌≡◌, ◌↔◌, IsTrue, option_map, slice_get};
 ghost use Rattle.sw_limit.specs.History.{packet_of, packets_at, packets_of};
 ghost use Rattle.sw_limit.specs.Limit.{AreDeclared};
 ghost use Rattle.sw_model.specs.Model.{network_of};
 
+use sw_char::End;
 use sw_load::{Load, LoadPacket};
 use sw_network::Network;
 
@@ -28,4 +29,11 @@ pub(crate) fn packet_at<'l>(
         }
     }
     None
+}
+
+/// Whether the packet is of this flow, with this cargo and this end.
+pub(crate) fn is_same(packet: &LoadPacket, flow: u16, cargo: &[u8], end: End) -> bool
+    ensures { IsTrue result ↔ (packet_of packet.now ≡ record { flow = flow; cargo = cargo.now; end = end }) }
+{
+    packet.flow() == flow && packet.cargo() == cargo && packet.end() == end
 }
