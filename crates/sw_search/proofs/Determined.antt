@@ -18,7 +18,7 @@ use Rattle.sw_search.proofs.Levels.{has_cycle, same_levels}
 use Rattle.sw_search.proofs.Sorted.{same_places}
 use Rattle.sw_search.proofs.Zips.{zip_determined}
 
-faulty : (d : Declaration) (i : ℕ) (p : Place) (fault : RouteFault) (h : IsMisrouted d i p fault) → IsWellRouted d h.flow → ⊥
+pub faulty : (d : Declaration) (i : ℕ) (p : Place) (fault : RouteFault) (h : IsMisrouted d i p fault) → IsWellRouted d h.flow → ⊥
 faulty d i p fault h well =
     let none = (well_routed_by_list d h.flow h.places h.listed).1 well in
     let bad : ◌≡◌ {A = Option (Place × RouteFault)} (Some (p, fault)) None = sym h.first ∙ none in

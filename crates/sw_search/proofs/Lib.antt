@@ -11,3 +11,6 @@ pub mod Sorted
 pub mod Cycles
 pub mod Determined
 pub mod Entered
+pub mod Paths
+pub mod Decided
+pub mod Exactly

@@ -1,17 +1,19 @@
--- What a verdict says, and that it is determined.
-use Rattle.std.specs.Prelude.{◌≡◌, ℕ, None}
-use Rattle.sw_network.specs.Entries.{Declaration}
+-- What a verdict says, that it is determined, and that exactly one holds.
+use Rattle.std.specs.Prelude.{◌≡◌, ◌↔◌, ◌⊎◌, ℕ, Contains, None}
+use Rattle.sw_network.specs.Entries.{FlowEntry, Declaration, all_flows}
 use Rattle.sw_network.specs.Valid.{IsValid}
+use Rattle.sw_flow.specs.Faults.{IsWellRouted}
 use Rattle.sw_machine.specs.Certificate.{IsAccepted}
 use Rattle.sw_machine.specs.Places.{IsRising}
 use Rattle.sw_model.specs.Model.{network_of}
+use Rattle.sw_order.specs.Levels.{HasCycle}
 use Rattle.sw_cycle.specs.Cycles.{CycleEntry, IsShown}
 use Rattle.sw_cert.specs.Text.{Contents}
 use Rattle.sw_check.specs.Contents.{certificate_of}
 use Rattle.sw_check.specs.Refusals.{refusal_of}
 use Rattle.sw_search.specs.declared.verdict.Verdict.{Verdict}
 use Rattle.sw_search.specs.declared.verdict.Verdict.TheVariants.{Misrouted, Cyclic, Free}
-use Rattle.sw_search.specs.Verdicts.{IsCyclic, IsFree, IsVerdict}
+use Rattle.sw_search.specs.Verdicts.{AllWellRouted, IsCyclic, IsFree, IsVerdict, depends}
 
 -- Two verdicts say the same: of one kind, with the same flow, place and fault, with cycles of the same channels, or with the same
 -- certificate. Only the places that show a cause may differ.
@@ -40,3 +42,40 @@ abbrev pub IsChecked : Declaration → Verdict → Type 0
 IsChecked d (Misrouted i p fault) = Unit {0}
 IsChecked d (Cyclic cycle) = IsShown d cycle
 IsChecked d (Free contents) = refusal_of d contents ≡ None
+
+-- some flow is not well routed, declared or of replies
+abbrev pub SomeMisrouted : Declaration → Type 0
+SomeMisrouted d = (f : FlowEntry) × Contains (all_flows d) f × (IsWellRouted d f → ⊥)
+
+-- each flow is well routed, and the dependencies have a cycle
+abbrev pub RoutedAndCyclic : Declaration → Type 0
+RoutedAndCyclic d = AllWellRouted d × HasCycle (depends d)
+
+-- each flow is well routed, and the dependencies have no cycle
+abbrev pub RoutedAndFree : Declaration → Type 0
+RoutedAndFree d = AllWellRouted d × (HasCycle (depends d) → ⊥)
+
+-- one of the three holds, and no two of them
+pub record IsExactlyOne (A B C : Type 0) : Type 0 where
+  pub some : A ⊎ (B ⊎ C)
+  pub not_first_second : A → B → ⊥
+  pub not_first_third : A → C → ⊥
+  pub not_second_third : B → C → ⊥
+
+-- of each valid network exactly one of these holds
+abbrev pub OneVerdictHolds : Type 0
+OneVerdictHolds = (d : Declaration) → IsValid d → IsExactlyOne (SomeMisrouted d) (RoutedAndCyclic d) (RoutedAndFree d)
+
+-- which of them a verdict stands for
+abbrev pub StandsFor : Declaration → Verdict → Type 0
+StandsFor d (Misrouted i p fault) = SomeMisrouted d
+StandsFor d (Cyclic cycle) = RoutedAndCyclic d
+StandsFor d (Free contents) = RoutedAndFree d
+
+-- a verdict on a network stands for the one that holds
+abbrev pub VerdictsTell : Type 0
+VerdictsTell = (d : Declaration) (v : Verdict) → IsVerdict d v → StandsFor d v
+
+-- there are numbers that rise along the dependencies exactly where these have no cycle
+abbrev pub RisingIsWhereNoCycleIs : Type 0
+RisingIsWhereNoCycleIs = (d : Declaration) → IsValid d → ((HasCycle (depends d) → ⊥) ↔ ((number : ℕ → ℕ) × IsRising (network_of d) number))

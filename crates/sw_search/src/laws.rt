@@ -1,5 +1,12 @@
 //! What verdicts show. These functions do nothing: each is the proof of what its clause says.
-ghost use Rattle.sw_search.specs.Laws.{CyclicIsShown, FreeIsAccepted, VerdictsAreDetermined};
+ghost use Rattle.sw_search.specs.Laws.{
+  CyclicIsShown,
+  FreeIsAccepted,
+  OneVerdictHolds,
+  RisingIsWhereNoCycleIs,
+  VerdictsAreDetermined,
+  VerdictsTell,
+};
 
 use sw_check::not_refused_is_accepted;
 use sw_cycle::laws::shown_cycles_rule_out_rising;
@@ -22,3 +29,16 @@ pub fn cyclic_is_shown()
 {
     shown_cycles_rule_out_rising();
 }
+
+/// Of each valid network exactly one of three holds: some flow is not well routed; or each is, and
+/// the dependencies have a cycle; or each is, and they have none. A verdict tells which.
+pub fn one_verdict_holds()
+    ensures one { OneVerdictHolds }
+    ensures told { VerdictsTell }
+{}
+
+/// There are numbers that rise along the dependencies of a valid network exactly where these have no
+/// cycle.
+pub fn rising_is_where_no_cycle_is()
+    ensures { RisingIsWhereNoCycleIs }
+{}

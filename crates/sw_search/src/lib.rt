@@ -11,5 +11,8 @@ mod order;
 mod verdict;
 
 pub use entry::{decide, survey};
-pub use laws::{cyclic_is_shown, free_is_accepted, verdicts_are_determined};
+pub use laws::{
+    cyclic_is_shown, free_is_accepted, one_verdict_holds, rising_is_where_no_cycle_is,
+    verdicts_are_determined,
+};
 pub use verdict::{Findings, Verdict};
