@@ -1,8 +1,8 @@
 -- Whether flows are well routed, channels depend on one another, and the dependencies have a cycle, decided.
-use Rattle.std.proofs.Common.{◌≡◌, ℕ, suc, ◌+◌, ◌*◌, ◌/◌, ◌%◌, ◌<◌, ◌≤◌, ◌⊎◌, length, map, Option, Some, None, Contains, refl, sym, ◌∙◌, subst, inl, inr, arith}
+use Rattle.std.proofs.Common.{◌≡◌, ℕ, suc, ◌+◌, ◌*◌, ◌/◌, ◌%◌, ◌<◌, ◌⊎◌, length, map, Option, Some, None, refl, sym, ◌∙◌, subst, inl, inr, arith}
 use Rattle.std.specs.Prelude.{slice_get}
 use Rattle.std.proofs.lemmas.Bool.{cases_eq, cases_lt}
-use Rattle.std.proofs.lemmas.Nat.{div-mul-add, mod-mul-add, mul-add-lt}
+use Rattle.std.proofs.lemmas.Nat.{div-mul-add, mod-mul-add}
 use Rattle.sw_topo.specs.Wiring.{out}
 use Rattle.sw_topo.proofs.Ends.{node_only}
 use Rattle.sw_network.specs.Entries.{FlowEntry, Declaration, all_flows, wiring_of}
@@ -30,7 +30,6 @@ use Rattle.sw_order.specs.Levels.{HasCycle}
 use Rattle.sw_order.proofs.Peels.{is_listed}
 use Rattle.sw_check.proofs.Lists.{Contains-at}
 use Rattle.sw_search.specs.Laws.{SomeMisrouted}
-use Rattle.sw_search.specs.Lists.{IsRouted}
 use Rattle.sw_search.specs.Verdicts.{AllWellRouted, depends}
 use Rattle.sw_search.proofs.Faulty.{all_routed}
 use Rattle.sw_search.proofs.Paths.{Decided, both, either, some_before, cycle_decided, reached_decided}
