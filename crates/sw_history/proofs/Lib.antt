@@ -1,4 +1,0 @@
-pub mod Follows
-mod Adds
-mod Kept
-mod Sends

@@ -1,3 +1,0 @@
-pub mod Next
-pub mod Laws
-pub mod History
