@@ -5,7 +5,7 @@
 
 ghost use Rattle.std.specs.Prelude.{◌≡◌, ◌⊎◌};
 ghost use Rattle.sw_app.specs.CommandLine.{words_status};
-ghost use Rattle.sw_app.specs.Ends.{exit_status};
+ghost use Rattle.sw_ends.specs.Ends.{exit_status};
 
 use std::process::ExitCode;
 use std::rt::{Env, Files};

@@ -1,0 +1,3 @@
+pub mod NodeLines
+pub mod Order
+pub mod Counts
