@@ -1,12 +1,12 @@
 -- How often packets came out, and how that is written (this project's choice).
-use Rattle.std.specs.Prelude.{ℕ, ◌≡◌, ◌+◌, List, [], ◌∷◌, ◌++◌, codes, flat_map, map}
+use Rattle.std.specs.Prelude.{ℕ, ◌≡◌, ◌≤◌, ◌+◌, All, List, [], ◌∷◌, ◌++◌, codes, flat_map, if◌then◌else◌, map}
 use Rattle.std.specs.Cmp.Lexicographic.{slice_cmp}
 use Rattle.std.specs.Fmt.{decimal}
 use Rattle.std.specs.List.{fold}
 use Rattle.std.specs.List.Sorted.{IsStrictlySortedBy}
 use Rattle.std.specs.declared.cmp.Ordering.{Ordering}
 use Rattle.std.specs.declared.cmp.Ordering.TheVariants.{Less, Equal, Greater}
-use Rattle.std.specs.Ordering.{nat_cmp, ordering_then}
+use Rattle.std.specs.Ordering.{is_eq, nat_cmp, ordering_then}
 use Rattle.sw_char.specs.declared.nchar.End.{End}
 use Rattle.sw_char.specs.declared.nchar.End.TheVariants.{Eop, Eep}
 use Rattle.sw_char.specs.PacketView.{PacketView}
@@ -45,6 +45,25 @@ tallies packets = fold (λ ts p. counted p ts) [] packets
 -- each packet comes before those after it
 abbrev pub IsRising : List TallyView → Type 0
 IsRising ts = IsStrictlySortedBy packet_order (map (λ t. t.packet) ts)
+
+-- how often a packet is in a list
+abbrev pub times : PacketView → List PacketView → ℕ
+times p [] = 0
+times p (q ∷ qs) = (if is_eq (packet_order p q) then 1 else 0) + times p qs
+
+-- how often it is by the tallies
+abbrev pub tallied : PacketView → List TallyView → ℕ
+tallied p [] = 0
+tallied p (t ∷ ts) = (if is_eq (packet_order p t.packet) then t.count else 0) + tallied p ts
+
+-- the tallies tell of the packets of a list and of no others, each once, and how often it is in the list
+pub record AreTallies (packets : List PacketView) (ts : List TallyView) : Type 0 where
+  pub rising : IsRising ts
+  pub listed : All (λ t. 1 ≤ t.count) ts
+  pub counts : (p : PacketView) → tallied p ts ≡ times p packets
+
+abbrev pub TalliesCount : Type 0
+TalliesCount = (packets : List PacketView) → AreTallies packets (tallies packets)
 
 -- a packet that came out at a node, and how often
 abbrev pub counted_line : List ℕ → TallyView → List ℕ

@@ -3,6 +3,7 @@
 
 mod all_nodes;
 mod counted_lines;
+pub mod laws;
 mod packet_lines;
 mod tallies;
 

@@ -7,7 +7,7 @@ use Rattle.clap.specs.Built.{AddsArg, AddsSubcommand}
 use Rattle.clap.specs.declared.builder.arg.Arg.{Arg}
 use Rattle.clap.specs.declared.parser.matches.Found.{Found}
 use Rattle.clap.specs.Simple.{with_subcommand}
-use Rattle.clap.specs.Words.{App, ReadsOne, Rule, app_of, HasKind, HasMatchesOf, fault_of, is_simple, is_simple_and_free, kind_of, one_of, one_text, rows_of, rule_of, subcommand_of, subcommand_rows_of, with_rule}
+use Rattle.clap.specs.Words.{App, ReadsOne, Rule, app_of, HasKind, HasMatchesOf, fault_of, is_simple, is_simple_and_free, kind_of, one_text, rows_of, rule_of, subcommand_of, subcommand_rows_of, with_rule}
 use Rattle.clap.specs.declared.builder.Command.{Command}
 use Rattle.clap.specs.declared.builder.Command.TheViews.{out-Command}
 use Rattle.clap.specs.declared.parser.matches.ArgMatches.{ArgMatches}

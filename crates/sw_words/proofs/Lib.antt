@@ -1,1 +1,2 @@
 mod CommandLines
+pub mod Workers

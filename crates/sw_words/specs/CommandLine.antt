@@ -1,5 +1,5 @@
 -- The words that the program takes.
-use Rattle.std.specs.Prelude.{◌≡◌, ◌≢◌, ◌≤◌, ◌⊎◌, ℕ, List, [], ◌∷◌, Option, Some, codes, option_map, pos, true}
+use Rattle.std.specs.Prelude.{◌≡◌, ◌≢◌, ◌≤◌, ◌<◌, ◌⊎◌, ℕ, List, [], ◌∷◌, Option, Some, codes, option_map, pos, true}
 use Rattle.std.specs.Str.Parse.{digits_value, without_leading_plus}
 use Rattle.clap.specs.Words.{App, Row, Rule, IsAmong, fault_of, first_of, new_app, new_rule, one_of, subcommand_of, with_rule, with_subcommand}
 use Rattle.clap.specs.declared.builder.value_parser.ValueParser.TheVariants.{Signed}
@@ -96,6 +96,15 @@ IsCallOf name values (Run file load workers limit) = (name ≡ codes "run")
     × (first_of (codes "LOAD") values ≡ Some load.now)
     × IsCount most_workers (codes "workers") values workers
     × IsCount most_steps (codes "limit") values limit
+
+-- a run has a worker
+abbrev pub HasWorkers : Call → Type 0
+HasWorkers (Run file load workers limit) = 0 < workers
+HasWorkers (Route file flow) = Unit {0}
+HasWorkers (Decide file) = Unit {0}
+HasWorkers (Check file certificate) = Unit {0}
+HasWorkers (Report file) = Unit {0}
+HasWorkers (Replay file schedule) = Unit {0}
 
 -- the subcommand that was met, with its values, is this call
 abbrev pub IsMatched : Option (List ℕ × List Row) → Call → Type 0

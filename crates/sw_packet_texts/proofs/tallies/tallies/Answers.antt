@@ -1,6 +1,5 @@
-use Rattle.std.proofs.Common.{arith, rules, subst, sym, take}
-use Rattle.std.proofs.Common.{All, ◌<◌, ◌+◌, length}
-use Rattle.sw_packet_texts.specs.Tallies.{IsRising}
+use Rattle.std.proofs.Common.{rules, take}
+use Rattle.std.proofs.Common.{◌<◌, length}
 use Rattle.sw_packet_texts.proofs.Counts.{tallies_fit, tallies_rise}
 use Rattle.sw_packet_texts.proofs.tallies.tallies.Goals as goal
 
