@@ -120,6 +120,6 @@ pub missing_counted : (p : PacketView) (ts us : List TallyView) (i : ℕ) (after
 missing_counted p ts us i after same h within found is =
     let inside : i ≤ length ts = subst (λ (l : List TallyView). i ≤ length l) same within in
     let parted : IsPartitionPoint (λ (u : TallyView). packet_order u.packet p ≡ Less) (λ (u : TallyView). packet_order u.packet p ≡ Greater) ts i =
-        subst (λ (l : List TallyView). IsPartitionPoint (λ (u : TallyView). packet_order u.packet p ≡ Less) (λ (u : TallyView). packet_order u.packet p ≡ Greater) l i) same
-        (found (subst (λ (l : List TallyView). IsNonDecreasingBy (λ (u : TallyView). ordering_index (packet_order u.packet p)) l) (sym same) (answers_rise p ts h))) in
+    subst (λ (l : List TallyView). IsPartitionPoint (λ (u : TallyView). packet_order u.packet p ≡ Less) (λ (u : TallyView). packet_order u.packet p ≡ Greater) l i) same
+    (found (subst (λ (l : List TallyView). IsNonDecreasingBy (λ (u : TallyView). ordering_index (packet_order u.packet p)) l) (sym same) (answers_rise p ts h))) in
     is ∙ sym (counted_new p ts i (new_tally p) inside (λ k less. parted.0 k (new_tally p) (omega arith) less) (λ k more less. parted.1 k (new_tally p) more less))

@@ -8,7 +8,7 @@ use Rattle.std.specs.Ordering.{is_eq}
 use Rattle.std.specs.declared.cmp.Ordering.{Ordering}
 use Rattle.std.specs.declared.cmp.Ordering.TheVariants.{Less, Equal, Greater}
 use Rattle.sw_char.specs.PacketView.{PacketView}
-use Rattle.sw_packet_texts.specs.Tallies.{TalliesCount, TallyView, counted, counted_at, packet_order, tallied, times}
+use Rattle.sw_packet_texts.specs.Tallies.{TalliesCount, TallyView, counted, counted_at, packet_order, tallied, tallies, times}
 use Rattle.sw_packet_texts.proofs.Counts.{tallies_rise}
 use Rattle.sw_packet_texts.proofs.Order.{packet_order_total}
 
@@ -66,5 +66,5 @@ pub tallies_count : TalliesCount
 tallies_count packets = record {
   rising = tallies_rise packets;
   listed = listed_from [] packets (All-nil _);
-  counts = λ p. tallied_from p [] packets;
+  counts = λ p. (let sum : tallied p (tallies packets) ≡ 0 + times p packets = tallied_from p [] packets in omega (arith, sum));
 }

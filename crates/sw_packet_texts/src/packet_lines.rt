@@ -33,11 +33,7 @@ pub(crate) fn bytes_text(alloc: Global, bytes: &[u8]) -> Result<String, AllocErr
 }
 
 /// How many packets came out at a node.
-pub(crate) fn node_line(
-    alloc: Global,
-    name: &str,
-    packets: &[Packet],
-) -> Result<String, AllocError>
+pub(crate) fn node_line(alloc: Global, name: &str, packets: &[Packet]) -> Result<String, AllocError>
     ensures { IfOk result (λ s. string_bytes s ≡ node_line name.now packets.now) }
 {
     let count = packets.len();

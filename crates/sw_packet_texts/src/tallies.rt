@@ -46,7 +46,11 @@ fn order(packet: &Packet, other: &Packet) -> Ordering
     ensures { result ≡ packet_order packet.now other.now }
 {
     let ends = end_rank(packet.end).cmp(&end_rank(other.end));
-    packet.bytes.as_slice().cmp(other.bytes.as_slice()).then(ends)
+    packet
+        .bytes
+        .as_slice()
+        .cmp(other.bytes.as_slice())
+        .then(ends)
 }
 
 // Where the packet stands, or where it has to be put.

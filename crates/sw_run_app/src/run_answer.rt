@@ -41,7 +41,15 @@ fn outcome_answer<'a, G: Gate + Sync, T: Threads + Wait + Sync>(
     requires workers { 0 < options.workers }
     ensures { IfOk result (λ a. IsOutcomeAnswer options.limit network.now load.now (string_bytes a.text) a.status) }
 {
-    let outcome = run(rt, alloc, network, load, options.workers, options.limit, gate)?;
+    let outcome = run(
+        rt,
+        alloc,
+        network,
+        load,
+        options.workers,
+        options.limit,
+        gate,
+    )?;
     let status = stop_status(outcome.stop);
     let text = outcome_text(alloc, network, &outcome)?;
     Ok(Answer { text, status })

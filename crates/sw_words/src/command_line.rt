@@ -14,15 +14,28 @@ use thiserror::Error;
 #[derive(Clone, Copy, Debug)]
 pub enum Call<'a> {
     /// The places of a flow of a network file.
-    Route { file: &'a str, flow: &'a str },
+    Route {
+        file: &'a str,
+        flow: &'a str,
+    },
     /// The verdict on a network file.
-    Decide { file: &'a str },
+    Decide {
+        file: &'a str,
+    },
     /// Whether a certificate is accepted for a network file.
-    Check { file: &'a str, certificate: &'a str },
+    Check {
+        file: &'a str,
+        certificate: &'a str,
+    },
     /// How many parts a network file has, and the verdict on it.
-    Report { file: &'a str },
+    Report {
+        file: &'a str,
+    },
     /// What comes of a schedule of steps on a network file.
-    Replay { file: &'a str, schedule: &'a str },
+    Replay {
+        file: &'a str,
+        schedule: &'a str,
+    },
     /// What comes of a load of packets on a network file, by so many threads and in at most so many steps.
     Run {
         file: &'a str,
@@ -86,7 +99,11 @@ fn route_command<'a>(alloc: Global) -> Result<Command<'a>, AllocError>
     ensures { IfOk result (λ c. (app_of c ≡ route_app) × ((out-Command c).has_globals ≡ false)) }
 {
     let file = value_arg(alloc, "FILE", "A network file");
-    let flow = value_arg(alloc, "FLOW", "The name of a flow, or NAME+reply of its replies");
+    let flow = value_arg(
+        alloc,
+        "FLOW",
+        "The name of a flow, or NAME+reply of its replies",
+    );
     let route = Command::new(alloc, "route").about(
         "Print the places of a flow, and whether packets arrive rightly",
     );
@@ -157,8 +174,20 @@ fn run_command<'a>(alloc: Global) -> Result<Command<'a>, AllocError>
 {
     let file = value_arg(alloc, "FILE", "A network file");
     let load = value_arg(alloc, "LOAD", "A load file");
-    let workers = count_arg(alloc, "workers", "4", MOST_WORKERS, "How many threads work, 1 to 64");
-    let limit = count_arg(alloc, "limit", "1000000", MOST_STEPS, "How many steps may be made, 1 to 16777216");
+    let workers = count_arg(
+        alloc,
+        "workers",
+        "4",
+        MOST_WORKERS,
+        "How many threads work, 1 to 64",
+    );
+    let limit = count_arg(
+        alloc,
+        "limit",
+        "1000000",
+        MOST_STEPS,
+        "How many steps may be made, 1 to 16777216",
+    );
     let run = Command::new(alloc, "run").about(
         "Send the packets of a load through a network, and print what comes of them",
     );

@@ -52,10 +52,7 @@ fn run_texts<R: Files + Print + Eprint + AllocGlobal + Threads + Wait + Sync>(
     }
 }
 
-fn run_call<R: Files + Print + AllocGlobal + Threads + Wait + Sync>(
-    rt: &R,
-    call: Call<'_>,
-) -> Ended
+fn run_call<R: Files + Print + AllocGlobal + Threads + Wait + Sync>(rt: &R, call: Call<'_>) -> Ended
     requires { HasWorkers call }
 {
     match call {
@@ -64,7 +61,12 @@ fn run_call<R: Files + Print + AllocGlobal + Threads + Wait + Sync>(
         Call::Report { file } => run_report(rt, file),
         Call::Check { file, certificate } => run_check(rt, file, certificate),
         Call::Replay { file, schedule } => run_replay(rt, file, schedule),
-        Call::Run { file, load, workers, limit } => run_load(
+        Call::Run {
+            file,
+            load,
+            workers,
+            limit,
+        } => run_load(
             rt,
             file,
             load,
@@ -137,7 +139,15 @@ fn run_load<R: Files + Print + AllocGlobal + Threads + Wait + Sync>(
         return Ended::ReadFailed;
     };
     let mut writer = io::writer(rt);
-    sw_run_app::run(rt, rt.alloc(), &mut network, &mut load, options, &mut writer, &Open)
+    sw_run_app::run(
+        rt,
+        rt.alloc(),
+        &mut network,
+        &mut load,
+        options,
+        &mut writer,
+        &Open,
+    )
 }
 
 // Tells of a read or a write that failed.
