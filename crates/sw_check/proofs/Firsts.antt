@@ -44,7 +44,7 @@ module _ (r : ℕ → FlowEntry → List Place → Option Refusal) where
       let first : o ≡ r j f ps = h.0 ∙ subst (λ (n : ℕ). at n ≡ r n f ps) here (each 0 f ps refl refl) in
       let later : AllZip (λ i p. p ≡ at i) (range_with_len (suc j) (length fs)) os = subst (λ (n : ℕ). AllZip (λ i p. p ≡ at i) (range_with_len n (length fs)) os) next h.1 in
       let rest : first_refusal (λ p. p) os ≡ by_flow r (suc j) fs pss =
-          first_by_flow (suc j) fs pss at os (omega arith) (λ i g qs there lists. let moved : j + suc i ≡ suc j + i = omega arith in subst (λ (n : ℕ). at n ≡ r n g qs) moved (each (suc i) g qs there lists)) later in
+      first_by_flow (suc j) fs pss at os (omega arith) (λ i g qs there lists. let moved : j + suc i ≡ suc j + i = omega arith in subst (λ (n : ℕ). at n ≡ r n g qs) moved (each (suc i) g qs there lists)) later in
       (λ i. first_of (first i) (rest i))
 
   at_here : (fs : List FlowEntry) (pss : List (List Place)) (i : ℕ) (f : FlowEntry) (ps : List Place) → slice_get fs i ≡ Some f → slice_get pss i ≡ Some ps → refusal_at r fs pss i ≡ r i f ps

@@ -43,7 +43,9 @@ fn refusal_of<R: Threads + Sync>(
 /// The first reason to refuse it: counts, then flow by flow its start and its places, and then the numbers along the flows and at
 /// the nodes that answer.
 ///
-/// It takes no memory. The time is linear in the places and in what follows them, but for a search of a flow's list for each.
+/// Threads share the work, flow by flow, as many as there are processors. It takes no memory that it cannot do without: where no
+/// thread can be started, the one that there is does the work, and no answer tells of want of memory. The time is linear in the
+/// places and in what follows them, but for a search of a flow's list for each.
 pub fn check<'a, R: Threads + Sync>(
     rt: &R,
     network: &'a Network,
