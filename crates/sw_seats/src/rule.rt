@@ -1,0 +1,90 @@
+//! The rule of the table.
+
+use crate::numbers::Numbers;
+use atomic_table::{Join, Play, Seat, Split, Table, TableRule};
+use std::alloc::Global;
+use std::collections::LinkedList;
+
+// What a seat knows. No value of it is made.
+pub struct View {
+    pub keeps: bool,
+    pub all: LinkedList<LinkedList<Numbers>>,
+    pub claims: bool,
+    pub cell: u64,
+    pub numbers: LinkedList<Numbers>,
+}
+
+// What a step tells: the numbers of one of a cell's link ends, and which.
+#[derive(Drop)]
+pub struct Change {
+    pub at: usize,
+    pub numbers: Numbers,
+}
+
+pub struct Tied;
+
+impl TableRule<Change, View, ()> for Tied {
+    ghost use Rattle.std.specs.Prelude.{[]};
+    ghost use Rattle.sw_seats.specs.Views.{knower, Kept};
+
+    ghost holds = { λ _ s. Kept s.views };
+
+    ghost first = { λ _. knower [] };
+}
+
+pub struct Checks;
+
+impl Play<Change, View> for Checks {
+    ghost use Rattle.sw_seats.specs.Views.{Checked};
+
+    ghost then = { Checked };
+}
+
+pub struct Changes;
+
+impl Play<Change, View> for Changes {
+    ghost use Rattle.sw_seats.specs.Views.{Changed};
+
+    ghost then = { Changed };
+}
+
+pub struct Pushes;
+
+impl Play<Change, View> for Pushes {
+    ghost use Rattle.sw_seats.specs.Views.{Pushed};
+
+    ghost then = { Pushed };
+}
+
+pub struct Grows;
+
+impl Play<Change, View> for Grows {
+    ghost use Rattle.sw_seats.specs.Views.{Grown};
+
+    ghost then = { Grown };
+}
+
+// Hands on what a seat stands for.
+pub struct Hands;
+
+impl Split<View> for Hands {
+    ghost use Rattle.sw_seats.specs.Views.{held_of, kept_of};
+
+    ghost left = { kept_of };
+
+    ghost right = { held_of };
+}
+
+impl Join<View> for Hands {
+    ghost use Rattle.sw_seats.specs.Views.{nobody, shown};
+
+    ghost both = { shown };
+
+    ghost spent = { nobody };
+}
+
+/// The table of a journal and its cells.
+pub type Ties = Table<Change, View, (), Tied, Global>;
+
+/// A seat of the journal or of a cell.
+pub type Place = Seat<Change, View>;
