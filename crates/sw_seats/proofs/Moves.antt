@@ -1,15 +1,18 @@
 -- Each step keeps the rule.
-use Rattle.std.proofs.Common.{◌≡◌, ◌≢◌, ◌⊎◌, ℕ, zero, suc, Some, None, List, [], ◌∷◌, ◌++◌, length, set, Bool, true, false, true≢false, refl, sym, ap, ◌∙◌, subst, ⊎_elim, inl, inr, eq-eqb, ne_eqb}
+use Rattle.std.proofs.Common.{◌≡◌, ◌≢◌, ◌⊎◌, ℕ, zero, suc, Some, List, [], ◌∷◌, ◌++◌, length, set, Bool, true, false, true≢false, refl, sym, ap, ◌∙◌, subst, ⊎_elim, inl, inr, eq-eqb, ne_eqb}
 use Rattle.std.specs.Prelude.{slice_get, slice_set, if◌then◌else◌, ◌==◌}
 use mathlib.Core.Option.{some, none, some-ne-none, some-injective}
 use lib.ListN.{get_elem?}
 use prog.Atomic.{either}
-use Rattle.atomic_table.specs.Table.{State, Me, Step, keeps, step, Allows, Splits, Joins}
-use Rattle.atomic_table.proofs.Lists.{at_set, set_again}
+use Rattle.atomic_table.specs.Table.{Me, Step, keeps, step, Allows, Splits, Joins}
+use Rattle.atomic_table.proofs.Lists.{at_set}
 use Rattle.sw_seats.specs.declared.numbers.Numbers.{Numbers}
+use Rattle.sw_seats.specs.declared.rule.Known.{Known}
 use Rattle.sw_seats.specs.declared.rule.View.{View}
+use Rattle.sw_cell.specs.declared.cell.CellId.{CellId}
+use Rattle.sw_seats.specs.declared.rule.Change.TheVariants as told
 use Rattle.sw_seats.specs.declared.rule.Change.{Change}
-use Rattle.sw_seats.specs.Views.{knower, holder, nobody, shown, kept_of, held_of, with_numbers, Fits, Kept, Checked, changed, Changed, pushed, Pushed, grown, Grown}
+use Rattle.sw_seats.specs.Views.{knower, nobody, shown, kept_of, held_of, with_known, Fits, Kept, Checked, changed, Changed, pushed, Pushed, grown, Grown}
 
 off : {X : Type 0} → false ≡ true → X
 off e = absurd (true≢false (sym e))
@@ -51,7 +54,7 @@ beyond (z ∷ zs) x e = beyond zs x e
 -- ---- the rule
 
 -- the rule after a change of one view
-fits_set : (seat : ℕ) (all : List (List Numbers)) (owner : ℕ → ℕ) (views : List View) (by : ℕ) (w : View)
+fits_set : (seat : ℕ) (all : List Known) (owner : ℕ → ℕ) (views : List View) (by : ℕ) (w : View)
     → ((j : ℕ) (u : View) → j ≢ by → get_elem? views j ≡ some u → Fits seat all owner j u) → Fits seat all owner by w
     → (j : ℕ) (u : View) → get_elem? (set views by w) j ≡ some u → Fits seat all owner j u
 fits_set seat all owner views by w others mine j u e =
@@ -75,54 +78,55 @@ checks slots id me st is s h _ at _ =
       keeps,
       tt,
       (h.0, h.1, h.2, fits_set h.0 h.1 h.2 s.views id me.0 (λ j u _ e. h.3 j u e) mine),
-      (refl, λ c. subst (λ (l : List (List Numbers)). slice_get l me.0.cell ≡ Some me.0.numbers) (sym known.1) (mine.1 c).0),
+      (refl, λ c. subst (λ (l : List Known). slice_get l me.0.cell ≡ Some me.0.known) (sym known.1) (mine.1 c).0),
     )
 
 -- the cell that the seat stands for may have any numbers from now on
-sets : (slots id : ℕ) (me : Me Change View) (numbers : List Numbers) (f : ℕ → ℕ) → me.0.keeps ≡ true → me.0.claims ≡ true
-    → Allows (λ s. Kept s.views) slots id me 0 f (λ (n : ℕ) (w : Me Change View). w ≡ (with_numbers me.0 numbers, me.1))
-sets slots id me numbers f is claims s h _ at _ =
+sets : (slots id : ℕ) (me : Me Change View) (known : Known) (f : ℕ → ℕ) → me.0.keeps ≡ true → me.0.claims ≡ true
+    → Allows (λ s. Kept s.views) slots id me 0 f (λ (n : ℕ) (w : Me Change View). w ≡ (with_known me.0 known, me.1))
+sets slots id me new f is claims s h _ at _ =
     let v = me.0 in
     let mine = h.3 id v at in
     let known = mine.0 is in
     let here = mine.1 claims in
-    let now = slice_set h.1 v.cell numbers in
-    let w = with_numbers v numbers in
+    let now = slice_set h.1 v.cell new in
+    let w = with_known v new in
     let others : (j : ℕ) (u : View) → j ≢ id → get_elem? s.views j ≡ some u → Fits h.0 now h.2 j u = λ j u apart e.
     let theirs = h.3 j u e in (
       (λ k. absurd (apart ((theirs.0 k).0 ∙ sym known.0))),
       (λ c.
           let there = theirs.1 c in
           let ne : u.cell ≢ v.cell = λ same. apart (sym there.1 ∙ ap h.2 same ∙ here.1) in
-          (set_other h.1 v.cell u.cell numbers ne ∙ there.0, there.1)),
+          (set_other h.1 v.cell u.cell new ne ∙ there.0, there.1)),
     ) in
     let after : Fits h.0 now h.2 id w = (
-      (λ _. (known.0, ap (λ (l : List (List Numbers)). slice_set l v.cell numbers) known.1)),
-      (λ _. (set_same h.1 v.cell v.numbers numbers here.0, here.1)),
+      (λ _. (known.0, ap (λ (l : List Known). slice_set l v.cell new) known.1)),
+      (λ _. (set_same h.1 v.cell v.known new here.0, here.1)),
     ) in
     (w, keeps, tt, (h.0, now, h.2, fits_set h.0 now h.2 s.views id w others after), refl)
 
-grows : (slots id : ℕ) (me : Me Change View) (st : Step Change) (f : ℕ → ℕ) → me.0.keeps ≡ true → Allows (λ s. Kept s.views) slots id me 0 f (Grown st me)
-grows slots id me st f is s h _ at _ =
+grows : (slots id : ℕ) (me : Me Change View) (cell : CellId) (f : ℕ → ℕ) → me.0.keeps ≡ true
+    → Allows (λ s. Kept s.views) slots id me 0 f (λ (n : ℕ) (w : Me Change View). w ≡ (grown me.0 cell, me.1))
+grows slots id me cell f is s h _ at _ =
     let v = me.0 in
-    let none : List Numbers = [] in
+    let new : Known = record { id = cell; ends = [] } in
     let mine = h.3 id v at in
     let known = mine.0 is in
-    let now = h.1 ++ none ∷ [] in
+    let now = h.1 ++ new ∷ [] in
     let owner : ℕ → ℕ = λ c. if c == length h.1 then id else h.2 c in
-    let w = grown v in
+    let w = grown v cell in
     let others : (j : ℕ) (u : View) → j ≢ id → get_elem? s.views j ≡ some u → Fits h.0 now owner j u = λ j u apart e.
     let theirs = h.3 j u e in (
       (λ k. absurd (apart ((theirs.0 k).0 ∙ sym known.0))),
       (λ c.
           let there = theirs.1 c in
-          let ne : u.cell ≢ length h.1 = (λ same. beyond h.1 u.numbers (ap (slice_get h.1) (sym same) ∙ there.0)) in
-          (front h.1 none u.numbers u.cell there.0, rw (ne_eqb u.cell (length h.1) ne) there.1)),
+          let ne : u.cell ≢ length h.1 = (λ same. beyond h.1 u.known (ap (slice_get h.1) (sym same) ∙ there.0)) in
+          (front h.1 new u.known u.cell there.0, rw (ne_eqb u.cell (length h.1) ne) there.1)),
     ) in
-    let same : length v.all ≡ length h.1 = ap (length {A = List Numbers}) known.1 in
+    let same : length v.all ≡ length h.1 = ap (length {A = Known}) known.1 in
     let after : Fits h.0 now owner id w = (
-      (λ _. (known.0, ap (λ (l : List (List Numbers)). l ++ none ∷ []) known.1)),
-      (λ _. (ap (slice_get now) same ∙ last h.1 none, rw (eq-eqb (length v.all) (length h.1) same) refl)),
+      (λ _. (known.0, ap (λ (l : List Known). l ++ new ∷ []) known.1)),
+      (λ _. (ap (slice_get now) same ∙ last h.1 new, rw (eq-eqb (length v.all) (length h.1) same) refl)),
     ) in
     (w, keeps, tt, (h.0, now, owner, fits_set h.0 now owner s.views id w others after), refl)
 
@@ -210,16 +214,17 @@ takes id v other w = takes_at id v other w w.claims refl
 
 -- ---- the same, as the code makes the step
 
-pub grows_by : (slots id : ℕ) (me : Me Change View) → me.0.keeps ≡ true → Allows (λ s. Kept s.views) slots id me 0 (λ k. either (k == 0) 0 k) (Grown (step slots 0 0 0 none) me)
-grows_by slots id me is = grows slots id me (step slots 0 0 0 none) (λ k. either (k == 0) 0 k) is
+pub grows_by : (slots id : ℕ) (me : Me Change View) (cell : CellId) → me.0.keeps ≡ true
+    → Allows (λ s. Kept s.views) slots id me 0 (λ k. either (k == 0) 0 k) (Grown (step slots 0 0 0 (some (told.Cell cell))) me)
+grows_by slots id me cell is = grows slots id me cell (λ k. either (k == 0) 0 k) is
 
 pub changes_by : (slots id : ℕ) (me : Me Change View) (at : ℕ) (numbers : Numbers) → me.0.keeps ≡ true → me.0.claims ≡ true
-    → Allows (λ s. Kept s.views) slots id me 0 (λ k. either (k == 0) 0 k) (Changed (step slots 0 0 0 (some (record { at = at; numbers = numbers }))) me)
-changes_by slots id me at numbers is claims = sets slots id me (slice_set me.0.numbers at numbers) (λ k. either (k == 0) 0 k) is claims
+    → Allows (λ s. Kept s.views) slots id me 0 (λ k. either (k == 0) 0 k) (Changed (step slots 0 0 0 (some (told.Numbers at numbers))) me)
+changes_by slots id me at numbers is claims = sets slots id me (changed me.0 at numbers).known (λ k. either (k == 0) 0 k) is claims
 
-pub pushes_by : (slots id : ℕ) (me : Me Change View) (at : ℕ) (numbers : Numbers) → me.0.keeps ≡ true → me.0.claims ≡ true
-    → Allows (λ s. Kept s.views) slots id me 0 (λ k. either (k == 0) 0 k) (Pushed (step slots 0 0 0 (some (record { at = at; numbers = numbers }))) me)
-pushes_by slots id me at numbers is claims = sets slots id me (me.0.numbers ++ numbers ∷ []) (λ k. either (k == 0) 0 k) is claims
+pub pushes_by : (slots id : ℕ) (me : Me Change View) (end : ℕ) (numbers : Numbers) → me.0.keeps ≡ true → me.0.claims ≡ true
+    → Allows (λ s. Kept s.views) slots id me 0 (λ k. either (k == 0) 0 k) (Pushed (step slots 0 0 0 (some (told.End end numbers))) me)
+pushes_by slots id me end numbers is claims = sets slots id me (pushed me.0 end numbers).known (λ k. either (k == 0) 0 k) is claims
 
 pub checks_by : (slots id : ℕ) (me : Me Change View) → me.0.keeps ≡ true → Allows (λ s. Kept s.views) slots id me 0 (λ n. n) (Checked (step slots 0 0 0 none) me)
 checks_by slots id me is = checks slots id me (step slots 0 0 0 none) is

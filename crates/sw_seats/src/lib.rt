@@ -1,4 +1,4 @@
-//! The rule that ties the numbers of each cell of a network to those that a journal knows of it.
+//! The rule that ties what each cell of a network knows of its link ends to what a journal knows of them.
 #![tactic(auto)]
 
 mod numbers;

@@ -4,21 +4,32 @@ use crate::numbers::Numbers;
 use atomic_table::{Join, Play, Seat, Split, Table, TableRule};
 use std::alloc::Global;
 use std::collections::LinkedList;
+use sw_cell::CellId;
+use sw_topo::LinkEnd;
+
+/// What is known of a cell: which it is, and its link ends, each with its numbers. No value of it is
+/// made.
+pub struct Known {
+    pub id: CellId,
+    pub ends: LinkedList<(LinkEnd, Numbers)>,
+}
 
 // What a seat knows. No value of it is made.
 pub struct View {
     pub keeps: bool,
-    pub all: LinkedList<LinkedList<Numbers>>,
+    pub all: LinkedList<Known>,
     pub claims: bool,
     pub cell: u64,
-    pub numbers: LinkedList<Numbers>,
+    pub known: Known,
 }
 
-// What a step tells: the numbers of one of a cell's link ends, and which.
+// What a step tells: which cell is new; a link end that it has, with its numbers; or the numbers that
+// stand for the link end at a place of its list from now on.
 #[derive(Drop)]
-pub struct Change {
-    pub at: usize,
-    pub numbers: Numbers,
+pub enum Change {
+    Cell(CellId),
+    End(LinkEnd, Numbers),
+    Numbers(usize, Numbers),
 }
 
 pub struct Tied;

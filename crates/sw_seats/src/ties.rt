@@ -5,6 +5,8 @@ ghost use Rattle.sw_seats.specs.Views.{changed, grown, held_of, kept_of, knower,
 use crate::numbers::Numbers;
 use crate::rule::{Change, Changes, Checks, Grows, Hands, Place, Pushes, Ties};
 use std::alloc::{AllocError, Global};
+use sw_cell::CellId;
+use sw_topo::LinkEnd;
 
 /// A table, and the journal's seat, which knows of no cell.
 pub fn begin(alloc: Global) -> Result<(Ties, Place), AllocError>
@@ -16,34 +18,36 @@ pub fn begin(alloc: Global) -> Result<(Ties, Place), AllocError>
 }
 
 /// A new cell with no link end, for which the journal's seat stands from now on.
-pub fn grow(table: &Ties, seat: &mut Place)
+pub fn grow(table: &Ties, seat: &mut Place, id: CellId)
     requires table { 0 < table.now.shared.table_id.words }
     requires seat { (seat.old.table_id ≡ table.now.shared.table_id) × (seat.old.me.0.keeps ≡ true) }
-    ensures { (seat.new.table_id ≡ seat.old.table_id) × (seat.new.me ≡ (grown seat.old.me.0, seat.old.me.1)) }
-{
-    table.shared.compare_exchange::<Grows>(seat, 0, 0, 0);
-}
-
-/// The cell that the journal's seat stands for has one more link end, with these numbers.
-pub fn push(table: &Ties, seat: &mut Place, numbers: Numbers)
-    requires table { 0 < table.now.shared.table_id.words }
-    requires seat { (seat.old.table_id ≡ table.now.shared.table_id) × (seat.old.me.0.keeps ≡ true) × (seat.old.me.0.claims ≡ true) }
-    ensures { (seat.new.table_id ≡ seat.old.table_id) × (seat.new.me ≡ (pushed seat.old.me.0 numbers, seat.old.me.1)) }
+    ensures { (seat.new.table_id ≡ seat.old.table_id) × (seat.new.me ≡ (grown seat.old.me.0 id, seat.old.me.1)) }
 {
     table
         .shared
-        .compare_exchange_with::<Pushes>(seat, 0, 0, 0, &Change { at: 0, numbers });
+        .compare_exchange_with::<Grows>(seat, 0, 0, 0, &Change::Cell(id));
 }
 
-/// Two seats meet: the journal's learns that the cell's numbers are its own for it, and stands for the
-/// cell too.
+/// The cell that the journal's seat stands for has one more link end, with these numbers.
+pub fn push(table: &Ties, seat: &mut Place, end: LinkEnd, numbers: Numbers)
+    requires table { 0 < table.now.shared.table_id.words }
+    requires seat { (seat.old.table_id ≡ table.now.shared.table_id) × (seat.old.me.0.keeps ≡ true) × (seat.old.me.0.claims ≡ true) }
+    ensures { (seat.new.table_id ≡ seat.old.table_id) × (seat.new.me ≡ (pushed seat.old.me.0 end numbers, seat.old.me.1)) }
+{
+    table
+        .shared
+        .compare_exchange_with::<Pushes>(seat, 0, 0, 0, &Change::End(end, numbers));
+}
+
+/// Two seats meet: the journal's learns that what the cell's knows is its own for the cell, and
+/// stands for the cell too.
 pub fn meet(table: &Ties, seat: &mut Place, theirs: &mut Place)
     requires table { 0 < table.now.shared.table_id.words }
     requires seat { (seat.old.table_id ≡ table.now.shared.table_id) × (seat.old.me.0.keeps ≡ true) }
     requires theirs { theirs.old.table_id ≡ table.now.shared.table_id }
     ensures table { (seat.new.table_id ≡ seat.old.table_id) × (theirs.new.table_id ≡ theirs.old.table_id) }
     ensures seat { seat.new.me ≡ (shown seat.old.me.0 theirs.old.me.0, seat.old.me.1) }
-    ensures same { theirs.old.me.0.claims ≡ true → slice_get seat.old.me.0.all theirs.old.me.0.cell ≡ Some theirs.old.me.0.numbers }
+    ensures same { theirs.old.me.0.claims ≡ true → slice_get seat.old.me.0.all theirs.old.me.0.cell ≡ Some theirs.old.me.0.known }
 {
     let shared = &table.shared;
     let note = shared.split_seat::<Hands>(theirs);
@@ -51,7 +55,8 @@ pub fn meet(table: &Ties, seat: &mut Place, theirs: &mut Place)
     shared.load::<Checks>(seat, 0);
 }
 
-/// The numbers of this one of the link ends of the cell that the journal's seat stands for become these.
+/// The link end at this place of the list of the cell that the journal's seat stands for has these
+/// numbers from now on.
 pub fn tell(table: &Ties, seat: &mut Place, at: usize, numbers: Numbers)
     requires table { 0 < table.now.shared.table_id.words }
     requires seat { (seat.old.table_id ≡ table.now.shared.table_id) × (seat.old.me.0.keeps ≡ true) × (seat.old.me.0.claims ≡ true) }
@@ -59,7 +64,7 @@ pub fn tell(table: &Ties, seat: &mut Place, at: usize, numbers: Numbers)
 {
     table
         .shared
-        .compare_exchange_with::<Changes>(seat, 0, 0, 0, &Change { at, numbers });
+        .compare_exchange_with::<Changes>(seat, 0, 0, 0, &Change::Numbers(at, numbers));
 }
 
 /// A seat for what the journal's seat stands for.
