@@ -6,3 +6,6 @@ pub mod Sizes
 pub mod Few
 pub mod Delivered
 pub mod Policies
+pub mod Possibles
+pub mod LinkNumbers
+pub mod Asks

@@ -2,14 +2,18 @@
 #![tactic(auto)]
 
 mod asked;
+mod asking;
 mod declared;
 mod delivery;
 mod make;
 mod net;
+mod numbers;
+mod possible;
 mod step;
 
 pub use declared::{SwitchRoutes, declared_net};
 pub use net::Net;
+pub use numbers::Numbers;
 
 #[cfg(test)]
 mod tests;

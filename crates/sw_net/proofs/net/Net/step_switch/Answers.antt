@@ -1,5 +1,4 @@
-use Rattle.std.proofs.Common.{◌≡◌, Err, Some, rules, set, subst, sym}
-use Rattle.sw_cell.specs.declared.fault.NetFault.TheVariants.{Memory}
+use Rattle.std.proofs.Common.{set, subst, sym}
 use Rattle.sw_net.proofs.Steps as steps
 use Rattle.sw_net.specs.Net.{NetAnswers, net_of}
 use Rattle.sw_net.proofs.net.Net.step_switch.Goals as goal
