@@ -6,13 +6,13 @@ use lib.ListN.{get_elem?}
 use prog.Atomic.{either}
 use Rattle.atomic_table.specs.Table.{Me, Step, keeps, step, Allows, Splits, Joins}
 use Rattle.atomic_table.proofs.Lists.{at_set}
-use Rattle.sw_seats.specs.declared.numbers.Numbers.{Numbers}
+use Rattle.sw_net.specs.declared.numbers.Numbers.{Numbers}
 use Rattle.sw_seats.specs.declared.rule.Known.{Known}
 use Rattle.sw_seats.specs.declared.rule.View.{View}
 use Rattle.sw_cell.specs.declared.cell.CellId.{CellId}
 use Rattle.sw_seats.specs.declared.rule.Change.TheVariants as told
 use Rattle.sw_seats.specs.declared.rule.Change.{Change}
-use Rattle.sw_seats.specs.Views.{knower, nobody, shown, kept_of, held_of, with_known, Fits, Kept, Checked, changed, Changed, pushed, Pushed, grown, Grown}
+use Rattle.sw_seats.specs.Views.{knower, nobody, shown, kept_of, held_of, with_known, Fits, Kept, Checked, changed, Changed, pushed, Pushed, grown, opened, Opened}
 
 off : {X : Type 0} → false ≡ true → X
 off e = absurd (true≢false (sym e))
@@ -105,16 +105,16 @@ sets slots id me new f is claims s h _ at _ =
     ) in
     (w, keeps, tt, (h.0, now, h.2, fits_set h.0 now h.2 s.views id w others after), refl)
 
-grows : (slots id : ℕ) (me : Me Change View) (cell : CellId) (f : ℕ → ℕ) → me.0.keeps ≡ true
-    → Allows (λ s. Kept s.views) slots id me 0 f (λ (n : ℕ) (w : Me Change View). w ≡ (grown me.0 cell, me.1))
-grows slots id me cell f is s h _ at _ =
+opens : (slots id : ℕ) (me : Me Change View) (cell : CellId) (f : ℕ → ℕ) → me.0.keeps ≡ true
+    → Allows (λ s. Kept s.views) slots id me 0 f (λ (n : ℕ) (w : Me Change View). w ≡ (opened me.0 cell, me.1))
+opens slots id me cell f is s h _ at _ =
     let v = me.0 in
     let new : Known = record { id = cell; ends = [] } in
     let mine = h.3 id v at in
     let known = mine.0 is in
     let now = h.1 ++ new ∷ [] in
     let owner : ℕ → ℕ = λ c. if c == length h.1 then id else h.2 c in
-    let w = grown v cell in
+    let w = opened v cell in
     let others : (j : ℕ) (u : View) → j ≢ id → get_elem? s.views j ≡ some u → Fits h.0 now owner j u = λ j u apart e.
     let theirs = h.3 j u e in (
       (λ k. absurd (apart ((theirs.0 k).0 ∙ sym known.0))),
@@ -214,9 +214,9 @@ takes id v other w = takes_at id v other w w.claims refl
 
 -- ---- the same, as the code makes the step
 
-pub grows_by : (slots id : ℕ) (me : Me Change View) (cell : CellId) → me.0.keeps ≡ true
-    → Allows (λ s. Kept s.views) slots id me 0 (λ k. either (k == 0) 0 k) (Grown (step slots 0 0 0 (some (told.Cell cell))) me)
-grows_by slots id me cell is = grows slots id me cell (λ k. either (k == 0) 0 k) is
+pub opens_by : (slots id : ℕ) (me : Me Change View) (cell : CellId) → me.0.keeps ≡ true
+    → Allows (λ s. Kept s.views) slots id me 0 (λ k. either (k == 0) 0 k) (Opened (step slots 0 0 0 (some (told.Cell cell))) me)
+opens_by slots id me cell is = opens slots id me cell (λ k. either (k == 0) 0 k) is
 
 pub changes_by : (slots id : ℕ) (me : Me Change View) (at : ℕ) (numbers : Numbers) → me.0.keeps ≡ true → me.0.claims ≡ true
     → Allows (λ s. Kept s.views) slots id me 0 (λ k. either (k == 0) 0 k) (Changed (step slots 0 0 0 (some (told.Numbers at numbers))) me)
@@ -228,3 +228,23 @@ pushes_by slots id me end numbers is claims = sets slots id me (pushed me.0 end 
 
 pub checks_by : (slots id : ℕ) (me : Me Change View) → me.0.keeps ≡ true → Allows (λ s. Kept s.views) slots id me 0 (λ n. n) (Checked (step slots 0 0 0 none) me)
 checks_by slots id me is = checks slots id me (step slots 0 0 0 none) is
+
+-- ---- a cell with link ends
+
+set_last : {X : Type 0} (xs : List X) (x y : X) → slice_set (xs ++ x ∷ []) (length xs) y ≡ xs ++ y ∷ []
+set_last [] x y = refl
+set_last (z ∷ zs) x y = ap (λ l. z ∷ l) (set_last zs x y)
+
+-- one link end more
+pub grown_more : (before me after : Me Change View) (id : CellId) (ends more : List (ℕ × Numbers)) (end : ℕ) (numbers : Numbers)
+    → me ≡ (grown before.0 (record { id = id; ends = ends }), before.1) → after ≡ (pushed me.0 end numbers, me.1) → more ≡ ends ++ (end, numbers) ∷ []
+    → after ≡ (grown before.0 (record { id = id; ends = more }), before.1)
+grown_more before me after id ends more end numbers is pushes longer =
+    let v = before.0 in
+    let known : List (ℕ × Numbers) → Known = λ l. record { id = id; ends = l } in
+    let push : Me Change View → Me Change View = λ m. (pushed m.0 end numbers, m.1) in
+    let all = set_last v.all (known ends) (known (ends ++ (end, numbers) ∷ [])) in
+    let set : Me Change View → Me Change View = λ m. m in
+    pushes ∙ ap push is
+    ∙ (λ i. (record { keeps = v.keeps; all = all i; claims = true; cell = length v.all; known = known (ends ++ (end, numbers) ∷ []) }, before.1))
+    ∙ ap (λ (l : List (ℕ × Numbers)). let m : Me Change View = (grown v (known l), before.1) in m) (sym longer)

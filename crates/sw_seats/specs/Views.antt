@@ -6,7 +6,7 @@ use Rattle.atomic_table.specs.Seated.{TableId}
 use Rattle.atomic_table.specs.Table.{Me, Step}
 use Rattle.sw_cell.specs.declared.cell.CellId.{CellId}
 use Rattle.sw_cell.specs.declared.cell.CellId.TheVariants as place
-use Rattle.sw_seats.specs.declared.numbers.Numbers.{Numbers}
+use Rattle.sw_net.specs.declared.numbers.Numbers.{Numbers}
 use Rattle.sw_seats.specs.declared.rule.Change.{Change}
 use Rattle.sw_seats.specs.declared.rule.Change.TheVariants as told
 use Rattle.sw_seats.specs.declared.rule.Known.{Known}
@@ -93,14 +93,18 @@ pushed_by v (some change) = v
 abbrev pub Pushed : Step Change → Me Change View → ℕ → Me Change View → Type 0
 Pushed s v n w = w ≡ (pushed_by v.0 s.said, v.1)
 
+-- a new cell, of which this is known
+abbrev pub grown : View → Known → View
+grown v known = record { keeps = v.keeps; all = v.all ++ known ∷ []; claims = true; cell = length v.all; known = known }
+
 -- a new cell, with no link end
-abbrev pub grown : View → CellId → View
-grown v id = record { keeps = v.keeps; all = v.all ++ record { id = id; ends = [] } ∷ []; claims = true; cell = length v.all; known = record { id = id; ends = [] } }
+abbrev pub opened : View → CellId → View
+opened v id = grown v (record { id = id; ends = [] })
 
-abbrev pub grown_by : View → Option Change → View
-grown_by v none = v
-grown_by v (some (told.Cell id)) = grown v id
-grown_by v (some change) = v
+abbrev pub opened_by : View → Option Change → View
+opened_by v none = v
+opened_by v (some (told.Cell id)) = opened v id
+opened_by v (some change) = v
 
-abbrev pub Grown : Step Change → Me Change View → ℕ → Me Change View → Type 0
-Grown s v n w = w ≡ (grown_by v.0 s.said, v.1)
+abbrev pub Opened : Step Change → Me Change View → ℕ → Me Change View → Type 0
+Opened s v n w = w ≡ (opened_by v.0 s.said, v.1)

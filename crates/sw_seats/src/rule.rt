@@ -1,10 +1,10 @@
 //! The rule of the table.
 
-use crate::numbers::Numbers;
 use atomic_table::{Join, Play, Seat, Split, Table, TableRule};
 use std::alloc::Global;
 use std::collections::LinkedList;
 use sw_cell::CellId;
+use sw_net::Numbers;
 use sw_topo::LinkEnd;
 
 /// What is known of a cell: which it is, and its link ends, each with its numbers. No value of it is
@@ -67,12 +67,12 @@ impl Play<Change, View> for Pushes {
     ghost then = { Pushed };
 }
 
-pub struct Grows;
+pub struct Opens;
 
-impl Play<Change, View> for Grows {
-    ghost use Rattle.sw_seats.specs.Views.{Grown};
+impl Play<Change, View> for Opens {
+    ghost use Rattle.sw_seats.specs.Views.{Opened};
 
-    ghost then = { Grown };
+    ghost then = { Opened };
 }
 
 // Hands on what a seat stands for.

@@ -1,11 +1,11 @@
 //! What is done with the seats of the table.
 ghost use Rattle.std.specs.Prelude.{◌≡◌, ◌<◌, [], IfOk, Some, slice_get, true};
-ghost use Rattle.sw_seats.specs.Views.{changed, grown, held_of, kept_of, knower, pushed, shown};
+ghost use Rattle.sw_seats.specs.Views.{changed, grown, held_of, kept_of, knower, opened, pushed, shown};
 
-use crate::numbers::Numbers;
-use crate::rule::{Change, Changes, Checks, Grows, Hands, Place, Pushes, Ties};
+use crate::rule::{Change, Changes, Checks, Hands, Opens, Place, Pushes, Ties};
 use std::alloc::{AllocError, Global};
 use sw_cell::CellId;
+use sw_net::Numbers;
 use sw_topo::LinkEnd;
 
 /// A table, and the journal's seat, which knows of no cell.
@@ -18,18 +18,18 @@ pub fn begin(alloc: Global) -> Result<(Ties, Place), AllocError>
 }
 
 /// A new cell with no link end, for which the journal's seat stands from now on.
-pub fn grow(table: &Ties, seat: &mut Place, id: CellId)
+fn open(table: &Ties, seat: &mut Place, id: CellId)
     requires table { 0 < table.now.shared.table_id.words }
     requires seat { (seat.old.table_id ≡ table.now.shared.table_id) × (seat.old.me.0.keeps ≡ true) }
-    ensures { (seat.new.table_id ≡ seat.old.table_id) × (seat.new.me ≡ (grown seat.old.me.0 id, seat.old.me.1)) }
+    ensures { (seat.new.table_id ≡ seat.old.table_id) × (seat.new.me ≡ (opened seat.old.me.0 id, seat.old.me.1)) }
 {
     table
         .shared
-        .compare_exchange_with::<Grows>(seat, 0, 0, 0, &Change::Cell(id));
+        .compare_exchange_with::<Opens>(seat, 0, 0, 0, &Change::Cell(id));
 }
 
 /// The cell that the journal's seat stands for has one more link end, with these numbers.
-pub fn push(table: &Ties, seat: &mut Place, end: LinkEnd, numbers: Numbers)
+fn push(table: &Ties, seat: &mut Place, end: LinkEnd, numbers: Numbers)
     requires table { 0 < table.now.shared.table_id.words }
     requires seat { (seat.old.table_id ≡ table.now.shared.table_id) × (seat.old.me.0.keeps ≡ true) × (seat.old.me.0.claims ≡ true) }
     ensures { (seat.new.table_id ≡ seat.old.table_id) × (seat.new.me ≡ (pushed seat.old.me.0 end numbers, seat.old.me.1)) }
@@ -37,6 +37,18 @@ pub fn push(table: &Ties, seat: &mut Place, end: LinkEnd, numbers: Numbers)
     table
         .shared
         .compare_exchange_with::<Pushes>(seat, 0, 0, 0, &Change::End(end, numbers));
+}
+
+/// A new cell with these link ends, for which the journal's seat stands from now on.
+pub fn grow(table: &Ties, seat: &mut Place, id: CellId, ends: &[(LinkEnd, Numbers)])
+    requires table { 0 < table.now.shared.table_id.words }
+    requires seat { (seat.old.table_id ≡ table.now.shared.table_id) × (seat.old.me.0.keeps ≡ true) }
+    ensures { (seat.new.table_id ≡ seat.old.table_id) × (seat.new.me ≡ (grown seat.old.me.0 (record { id = id; ends = ends.now }), seat.old.me.1)) }
+{
+    open(table, seat, id);
+    for (end, numbers) in ends {
+        push(table, seat, *end, *numbers);
+    }
 }
 
 /// Two seats meet: the journal's learns that what the cell's knows is its own for the cell, and
