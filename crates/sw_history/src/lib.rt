@@ -1,6 +1,7 @@
 //! The history of a load in a network: the steps that were made, each possible where it stands.
 #![tactic(auto)]
 
+mod asked;
 mod fault;
 mod history;
 pub mod laws;
