@@ -1,3 +1,4 @@
 pub mod Told
 mod Renewed
 mod Commit
+mod Opened

@@ -3,3 +3,4 @@ pub mod Marks
 pub mod Record
 pub mod Renewal
 pub mod Adding
+pub mod Opening
