@@ -12,6 +12,7 @@ use Rattle.sw_machine.specs.Steps.{Step}
 use Rattle.sw_model.specs.Model.{network_of}
 use Rattle.sw_net.specs.Net.{IsNetState, NetView}
 use Rattle.sw_network.specs.Entries.{Declaration}
+use Rattle.sw_network.specs.Valid.{IsValid}
 
 -- what the network declares, the load that it is to send, the steps that were made, and for how many more there is room
 pub record HistoryView : Type 0 where
@@ -27,6 +28,13 @@ LeadsTo h s = IsHistory (network_of h.declared) (packets_of h.load) h.steps s
 -- the step may be the next
 abbrev pub IsNext : HistoryView → Step → Type 0
 IsNext h step = MayFollow (network_of h.declared) (packets_of h.load) h.steps step
+
+-- the network is valid, its flows declare the packets of the load, and there is a state to which the steps lead
+pub record IsSoundHistory (h : HistoryView) : Type 0 where
+  pub valid : IsValid h.declared
+  pub packets : AreDeclared h.declared h.load
+  pub state : State
+  pub leads : LeadsTo h state
 
 -- the same history but for the steps and the room
 abbrev pub with_steps : HistoryView → List Step → ℕ → HistoryView

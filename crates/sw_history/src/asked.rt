@@ -16,12 +16,13 @@ use sw_steps::Step;
 use sw_topo::{LinkEnd, PlaceEnd};
 
 impl<'n, R: Routing, A: Arbiter> History<'n, R, A> {
-    ghost use Rattle.sw_history.specs.History.{IsNext, LeadsTo};
+    ghost use Rattle.sw_history.specs.History.{IsNext, IsSoundHistory, LeadsTo};
     ghost use Rattle.sw_history.specs.Next.{BeginsOne, IsIdle, IsWhole, next_packet};
 
     /// The network that makes the steps.
     pub fn network(&self) -> &'n Network
-        ensures { result.now ≡ self.now.declared }
+        ensures network { result.now ≡ self.now.declared }
+        ensures sound { IsSoundHistory self.now }
     {
         self.net.network()
     }
@@ -56,7 +57,7 @@ impl<'n, R: Routing, A: Arbiter> History<'n, R, A> {
         self.next(node).is_some()
     }
 
-    /// Whether the node has begun all its packets, for each node: the whole load is begun.
+    /// Whether the whole load is begun: each node has begun all its packets.
     pub fn is_whole(&self) -> bool
         ensures { IsTrue result ↔ IsWhole (network_of self.now.declared) (packets_of self.now.load) self.now.steps }
     {
