@@ -2,3 +2,4 @@ pub mod Told
 mod Renewed
 mod Commit
 mod Opened
+mod Idle

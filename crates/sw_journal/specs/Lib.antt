@@ -4,3 +4,4 @@ pub mod Record
 pub mod Renewal
 pub mod Adding
 pub mod Opening
+pub mod Asked
