@@ -9,3 +9,4 @@ pub mod Policies
 pub mod Possibles
 pub mod LinkNumbers
 pub mod Asks
+pub mod Making

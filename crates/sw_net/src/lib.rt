@@ -10,6 +10,7 @@ mod net;
 mod numbers;
 mod possible;
 mod step;
+mod step_of;
 
 pub use declared::{SwitchRoutes, declared_net};
 pub use net::Net;
