@@ -1,0 +1,4 @@
+mod Counts
+mod Delivered
+mod Ended
+mod Out
