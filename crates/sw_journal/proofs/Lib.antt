@@ -1,0 +1,3 @@
+pub mod Told
+mod Renewed
+mod Commit
