@@ -2,14 +2,14 @@
 use Rattle.std.proofs.Common.{List, ap, arith, length, subst, sym, ℕ, ◌∙◌, ◌≡◌, ◌≤◌}
 use Rattle.std.proofs.lemmas.List.{length-map}
 use Rattle.sw_history.specs.Next.{IsWhole}
-use Rattle.sw_journal.specs.Record.{Account}
+use Rattle.sw_journal.specs.Record.{Account, LeadsTo}
 use Rattle.sw_limit.specs.History.{IsHistory, packets_of}
 use Rattle.sw_load.specs.Load.{LoadEntry}
 use Rattle.sw_machine.specs.State.{State}
 use Rattle.sw_machine.specs.Steps.{Step}
 use Rattle.sw_model.specs.Model.{network_of}
 use Rattle.sw_network.specs.Entries.{Declaration}
-use Rattle.sw_run.specs.Ends.{AreOutBy, EndsBy, IsLeft, LeadsTo}
+use Rattle.sw_run.specs.Ends.{AreOutBy, EndsBy, IsLeft}
 use Rattle.sw_run.specs.Outcomes.{IsOutcome, NothingFollows, came_out_of, steps_of}
 use Rattle.sw_run.specs.declared.outcome.Outcome.{Outcome}
 use Rattle.sw_steps.specs.Steps.{machine_step}

@@ -1,8 +1,8 @@
 -- What a journal tells at the end of a run.
 use Rattle.std.specs.Prelude.{List, length, ℕ, ◌≡◌}
 use Rattle.sw_history.specs.Next.{IsWhole}
-use Rattle.sw_journal.specs.Record.{Account}
-use Rattle.sw_limit.specs.History.{IsHistory, packets_of}
+use Rattle.sw_journal.specs.Record.{Account, LeadsTo}
+use Rattle.sw_limit.specs.History.{packets_of}
 use Rattle.sw_machine.specs.Packets.{Packet}
 use Rattle.sw_machine.specs.Runs.{IsLockedUp, undelivered}
 use Rattle.sw_machine.specs.State.{State}
@@ -10,10 +10,6 @@ use Rattle.sw_model.specs.Model.{network_of}
 use Rattle.sw_run.specs.Outcomes.{AreOut, NothingFollows}
 use Rattle.sw_run.specs.declared.outcome.Stop.{Stop}
 use Rattle.sw_run.specs.declared.outcome.Stop.TheVariants.{Drained, JournalFull, Memory, Stuck}
-
--- the steps of the journal lead to s
-abbrev pub LeadsTo : Account → State → Type 0
-LeadsTo j s = IsHistory (network_of j.declared) (packets_of j.load) j.history s
 
 -- a list for each node, of the packets that came out there, in the state after the journal's history
 abbrev pub AreOutBy : Account → ℕ → List (List Packet) → Type 0
