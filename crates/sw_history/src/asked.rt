@@ -57,7 +57,7 @@ impl<'n, R: Routing, A: Arbiter> History<'n, R, A> {
         self.next(node).is_some()
     }
 
-    /// Whether the node has begun all its packets, for each node: the whole load is begun.
+    /// Whether the whole load is begun: each node has begun all its packets.
     pub fn is_whole(&self) -> bool
         ensures { IsTrue result ↔ IsWhole (network_of self.now.declared) (packets_of self.now.load) self.now.steps }
     {

@@ -36,7 +36,7 @@ impl<'n, R: Routing, A: Arbiter> Model for History<'n, R, A> {
 }
 
 impl<'n, R: Routing, A: Arbiter> History<'n, R, A> {
-    ghost use Rattle.std.specs.Prelude.{◌≡◌, ◌<◌, IfErr, IfNone, IfOk, IfSome, OnOk, length, option_map};
+    ghost use Rattle.std.specs.Prelude.{◌≡◌, ◌<◌, IfErr, IfNone, IfOk, IfSome, OnErr, OnOk, length, option_map};
     ghost use Rattle.sw_history.specs.History.{Adds, IsNext};
     ghost use Rattle.sw_history.specs.Next.{BeginsNext, beginner_of, next_packet};
     ghost use Rattle.sw_history.specs.declared.fault.StepFault.TheVariants.{NotEnabled};
@@ -112,6 +112,7 @@ impl<'n, R: Routing, A: Arbiter> History<'n, R, A> {
         ensures steps { self.new.steps ≡ self.old.steps }
         ensures declared { self.new.declared ≡ self.old.declared }
         ensures load { self.new.load ≡ self.old.load }
+        ensures refused { OnErr result (self.new ≡ self.old) }
     {
         self.steps.reserve(1)
     }

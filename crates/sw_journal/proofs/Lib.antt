@@ -1,3 +1,5 @@
 pub mod Told
 mod Renewed
 mod Commit
+mod Opened
+mod Idle

@@ -3,3 +3,5 @@ pub mod Marks
 pub mod Record
 pub mod Renewal
 pub mod Adding
+pub mod Opening
+pub mod Asked

@@ -82,9 +82,13 @@ Declares j e false k = (IsIdle (network_of j.declared) (packets_of j.load) j.his
 abbrev pub IsNew : Declaration → List LoadEntry → ℕ → Account → Type 0
 IsNew d load limit j = j ≡ record { name = j.name; declared = d; load = load; limit = limit; history = []; marks = replicate (network_of d).channels None }
 
--- the cells of a journal with this name in the empty state: one for each node and each switch, in the order of their numbers
+-- the cell of a journal with this name in the empty state
+abbrev pub new_cell : Declaration → TableId → CellId → CellView
+new_cell d name id = record { name = name; id = id; ends = numbered (network_of d) (empty (network_of d)) id }
+
+-- all of them: one for each node and each switch, in the order of their numbers
 abbrev pub new_cells : Declaration → TableId → List CellView
-new_cells d name = map (λ id. record { name = name; id = id; ends = numbered (network_of d) (empty (network_of d)) id }) (cells_of d)
+new_cells d name = map (new_cell d name) (cells_of d)
 
 -- the history is one of the load's, within the limit, and each mark is true
 pub record IsAccount (j : Account) : Type 0 where

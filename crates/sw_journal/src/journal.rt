@@ -5,15 +5,17 @@ ghost use Rattle.sw_steps.specs.Steps.{machine_step};
 
 use crate::cell::Cell;
 use crate::fault::JournalFault;
+use crate::opening::opening;
 use crate::renewal::renew_after;
-use std::alloc::Global;
+use std::alloc::{AllocError, Global};
 use std::marker::Model;
 use sw_arb::Policy;
 use sw_cell::{CellId, cell_of};
 use sw_history::{History, StepFault};
-use sw_net::SwitchRoutes;
+use sw_load::Load;
+use sw_net::{SwitchRoutes, declared_net};
 use sw_network::Network;
-use sw_seats::{Place, Ties, meet, part};
+use sw_seats::{Place, Ties, begin, meet, part};
 use sw_steps::Step;
 
 /// The history of a run, which has a limit, and after how many steps each link end was found idle
@@ -55,8 +57,38 @@ impl<'n> Model for Journal<'n> {
 }
 
 impl<'n> Journal<'n> {
-    ghost use Rattle.sw_journal.specs.Record.{Commits, IsAccount, IsNowCell};
+    ghost use Rattle.std.specs.Prelude.{IfOk};
+    ghost use Rattle.sw_journal.specs.Record.{Commits, IsAccount, IsNew, IsNowCell, new_cells};
+    ghost use Rattle.sw_limit.specs.Limit.{AreDeclared};
     ghost use Rattle.sw_steps.specs.Steps.{machine_step};
+
+    /// A journal of no steps and no marks, and a cell for each node and each switch of the network,
+    /// in their order, in the empty state.
+    pub fn new(
+        alloc: Global,
+        network: &'n Network,
+        load: &'n Load,
+        limit: usize,
+    ) -> Result<(Journal<'n>, Vec<Cell>), AllocError>
+        requires { AreDeclared network.now load.now }
+        ensures journal { IfOk result (λ r. IsNew network.now load.now limit r.0) }
+        ensures cells { IfOk result (λ r. r.1.items ≡ new_cells network.now r.0.name) }
+    {
+        let net = declared_net(alloc, network)?;
+        let channels = net.network().channels() as usize;
+        let marks = vec![in alloc; None; channels]?;
+        let (table, mut seat) = begin(alloc)?;
+        let cells = opening(alloc, &net, &table, &mut seat)?;
+        let history = History::new(alloc, net, load)?;
+        let journal = Journal {
+            history,
+            limit,
+            marks,
+            table,
+            seat,
+        };
+        Ok((journal, cells))
+    }
 
     /// How many steps there are.
     pub fn len(&self) -> usize

@@ -1,6 +1,7 @@
 //! The journal of a run: its history, and the cells that make its steps.
 #![tactic(auto)]
 
+mod asked;
 mod cell;
 mod fault;
 mod journal;

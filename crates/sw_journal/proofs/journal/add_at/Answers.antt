@@ -10,7 +10,7 @@ use Rattle.sw_steps.specs.Steps.{machine_step}
 pub returns-then-not-is_at : goal.returns-then-not-is_at
 returns-then-not-is_at c =
     let h = c.args.history.now in
-    let none : IsAtCell h.declared c.args.at (machine_step c.args.step) false = rw (c.network.ensures) at c.if-not-is_at.ensures in
+    let none : IsAtCell h.declared c.args.at (machine_step c.args.step) false = rw (c.network.ensures.network) at c.if-not-is_at.ensures in
     record {
       adds = (
         (λ next. let some = possible_of (network_of h.declared) (packets_of h.load) h.steps (machine_step c.args.step) next.1 in none next.0 some.0 some.1),
