@@ -151,8 +151,6 @@ impl<'a, W: Which> Desk<'a, W> {
     pub(crate) fn outcome(self, alloc: Global) -> Result<Outcome, AllocError>
         ensures { IfOk result (IsOutcome W.declared W.load W.limit) }
     {
-        // Names the state after the history.
-        let _ = self.journal.len();
         let stop = self.why();
         let came_out = all_came_out(alloc, &self.journal, self.nodes)?;
         let undelivered = self.journal.undelivered();
