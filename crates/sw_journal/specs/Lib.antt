@@ -5,3 +5,4 @@ pub mod Renewal
 pub mod Adding
 pub mod Opening
 pub mod Asked
+pub mod Choices

@@ -1,7 +1,8 @@
 //! What can be asked of a journal.
-ghost use Rattle.std.specs.Prelude.{◌≡◌, ◌↔◌, ◌<◌, ◌*◌, Contains, IfOk, IsTrue, Some, length, map, slice_get, slice_set};
+ghost use Rattle.std.specs.Prelude.{◌≡◌, ◌↔◌, ◌<◌, ◌*◌, IfOk, IsSome, IsTrue, Some, length, map, slice_get, slice_set};
 ghost use Rattle.sw_history.specs.Next.{IsIdle, IsWhole, MayFollow};
 ghost use Rattle.sw_journal.specs.Asked.{BroughtOut, IsDrained, IsStuck, IsStill, IsUndelivered};
+ghost use Rattle.sw_journal.specs.Cells.{end_numbers};
 ghost use Rattle.sw_journal.specs.Record.{Declares, IsAccount, with_marks};
 ghost use Rattle.sw_limit.specs.History.{packets_of};
 ghost use Rattle.sw_machine.specs.Steps.{Step as MachineStep};
@@ -18,14 +19,14 @@ use sw_topo::LinkEnd;
 impl<'n> Journal<'n> {
     /// After how many steps the link end was found idle last, if ever.
     pub fn mark(&self, end: LinkEnd) -> Option<u64>
-        requires { end < length self.now.marks }
+        requires { end < 2 * length self.now.declared.links }
         ensures { slice_get self.now.marks end ≡ Some result }
     {
         self.marks[end.number() as usize]
     }
 
     // Whether no step of the link end may be the next.
-    fn is_idle(&self, end: LinkEnd) -> bool
+    pub(crate) fn is_idle(&self, end: LinkEnd) -> bool
         ensures { IsTrue result ↔ IsIdle (network_of self.now.declared) (packets_of self.now.load) self.now.history end }
     {
         if end.number() >= self.history.network().channels() {
@@ -51,7 +52,7 @@ impl<'n> Journal<'n> {
     /// its node's next packet included. Then the link end is marked.
     pub fn declare_idle(&mut self, end: LinkEnd, cell: &Cell) -> bool
         requires journal { cell.now.name ≡ self.old.name }
-        requires end { Contains (map (λ p. p.0) cell.now.ends) end }
+        requires end { IsSome (end_numbers cell.now.ends end) }
         ensures { Declares self.old end result self.new }
     {
         if !self.is_idle(end) {

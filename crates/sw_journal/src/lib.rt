@@ -3,6 +3,7 @@
 
 mod asked;
 mod cell;
+mod choice;
 mod fault;
 mod journal;
 mod opening;

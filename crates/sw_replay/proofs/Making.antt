@@ -1,19 +1,14 @@
 -- Steps that are made one after another.
-use Rattle.std.proofs.Common.{Bool, List, Some, [], ap, append_assoc, arith, drop, false, get_or, length, length-append, not, refl, replicate, subst, suc, sym, take, true, zero, ℕ, ◌++◌, ◌+◌, ◌-◌, ◌<◌, ◌≤◌, ◌∙◌, ◌∷◌, ◌≡◌, ◌↔◌}
+use Rattle.std.proofs.Common.{List, Some, [], ap, append_assoc, arith, drop, get_or, length, length-append, refl, replicate, subst, suc, sym, take, zero, ℕ, ◌++◌, ◌+◌, ◌-◌, ◌<◌, ◌≤◌, ◌∙◌, ◌∷◌, ◌≡◌}
 use Rattle.std.proofs.lemmas.List.{flat_map_more, length-replicate, replicate-append-replicate, take_more}
-use Rattle.std.specs.Prelude.{IsTrue}
 use Rattle.sw_machine.proofs.RunLists.{run_append}
 use Rattle.sw_machine.specs.Network.{Network}
-use Rattle.sw_machine.specs.Runs.{IsReached, Run}
-use Rattle.sw_machine.specs.State.{State, empty}
+use Rattle.sw_machine.specs.Runs.{Run}
+use Rattle.sw_machine.specs.State.{State}
 use Rattle.sw_machine.specs.Steps.{Leads, Step}
-use Rattle.sw_replay.specs.declared.replayed.Outcome.{Outcome}
 use Rattle.sw_replay.specs.declared.replayed.Outcome.TheVariants.{Made, Refused}
 use Rattle.sw_replay.specs.declared.replayed.Refusal.{Refusal}
-use Rattle.sw_model.specs.Model.{network_of}
-use Rattle.sw_network.specs.Entries.{Declaration}
-use Rattle.sw_replay.specs.Replays.{Ends, IsReplayed, MakesOr, Refuses}
-use Rattle.sw_replay.specs.Reports.{IsTrueOf, Report}
+use Rattle.sw_replay.specs.Replays.{Ends, MakesOr, Refuses}
 use Rattle.sw_steps.specs.Lines.{Repeated}
 use Rattle.sw_steps.specs.Schedule.{steps_of}
 

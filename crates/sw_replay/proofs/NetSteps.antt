@@ -4,7 +4,7 @@ use Rattle.std.proofs.lemmas.List.{length-replicate}
 use Rattle.std.specs.Prelude.{IfOk}
 use Rattle.sw_machine.proofs.RunLists.{run_append}
 use Rattle.sw_machine.specs.Runs.{Run}
-use Rattle.sw_machine.specs.State.{State, empty}
+use Rattle.sw_machine.specs.State.{empty}
 use Rattle.sw_machine.specs.Steps.{Leads, Step}
 use Rattle.sw_model.specs.Model.{network_of}
 use Rattle.sw_net.specs.Net.{NetView}

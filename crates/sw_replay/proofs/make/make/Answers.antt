@@ -1,7 +1,3 @@
-use Rattle.std.proofs.Common.{Err, Result, subst, ◌≡◌}
-use Rattle.std.specs.Prelude.{OnErr}
-use Rattle.sw_cell.specs.declared.fault.NetFault.{NetFault}
-use Rattle.sw_net.specs.Net.{NetAnswers}
 use Rattle.sw_replay.proofs.NetReports.{refused_here}
 use Rattle.sw_steps.specs.Steps.{machine_step}
 use Rattle.sw_replay.proofs.make.make.Goals as goal

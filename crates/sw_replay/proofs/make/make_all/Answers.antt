@@ -1,6 +1,5 @@
-use Rattle.std.proofs.Common.{List, ap, arith, drop, length, length-append, replicate, subst, take, ◌+◌, ◌∙◌, ◌≡◌, ◌≤◌}
+use Rattle.std.proofs.Common.{List, ap, arith, drop, length, length-append, replicate, subst, take, ◌+◌, ◌∙◌}
 use Rattle.std.proofs.lemmas.List.{length-replicate, take_all}
-use Rattle.sw_machine.specs.Steps.{Step}
 use Rattle.sw_replay.proofs.Making.{steps_at, steps_more, within_all}
 use Rattle.sw_replay.proofs.NetSteps.{made_behind, stopped_behind}
 use Rattle.sw_replay.specs.Nets.{IsWithin, NetEnds}

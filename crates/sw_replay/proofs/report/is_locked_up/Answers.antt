@@ -1,8 +1,7 @@
-use Rattle.std.proofs.Common.{Bool, arith, nat_lt, subst}
+use Rattle.std.proofs.Common.{nat_lt, subst}
 use Rattle.std.proofs.lemmas.Bool.{lt-ltb, ltb-true}
 use Rattle.sw_net.specs.Asked.{IsQuietNet}
 use Rattle.sw_replay.proofs.NetReports.{locked, loose}
-use Rattle.sw_replay.specs.Nets.{TellsLockedUp}
 use Rattle.sw_replay.proofs.report.is_locked_up.Goals as goal
 
 pub returns-then-quiet : goal.returns-then-quiet
