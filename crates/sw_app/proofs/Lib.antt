@@ -1,9 +1,7 @@
-mod CommandLines
 mod Lines
 pub mod NamedFlows
 pub mod PlaceChannels
 pub mod FlowAnswers
-pub mod Endings
 pub mod OneListing
 pub mod OneAnswer
 pub mod CycleChannels
@@ -12,6 +10,5 @@ pub mod OneVerdict
 pub mod ShownFree
 pub mod OneCount
 pub mod OneReport
-pub mod NodeLines
 pub mod ReplayReports
 pub mod OneReplay

@@ -8,7 +8,7 @@ use Rattle.sw_file.specs.Network.{network_text}
 use Rattle.sw_flow.specs.declared.place.Place.{Place}
 use Rattle.sw_flow.specs.Faults.{first_fault_of}
 use Rattle.sw_flow.specs.Places.{IsBefore, IsPlaceList}
-use Rattle.sw_app.specs.Ends.{Says}
+use Rattle.sw_ends.specs.Ends.{Says}
 use Rattle.sw_app.specs.Laws.{RouteHasOneAnswer}
 use Rattle.sw_app.specs.RouteAnswers.{IsFlowAnswer, IsFoundAnswer, IsReadAnswer}
 use Rattle.sw_app.specs.RouteTexts.{outcome_status, route_text}

@@ -7,7 +7,7 @@ use Rattle.sw_replay.proofs.OneReport.{replays_are_determined}
 use Rattle.sw_replay.specs.Reports.{Report}
 use Rattle.sw_steps.specs.Schedule.{steps_of_text}
 use Rattle.sw_tree.specs.declared.fault.TextFault.{TextFault}
-use Rattle.sw_app.specs.Ends.{Says}
+use Rattle.sw_ends.specs.Ends.{Says}
 use Rattle.sw_app.specs.Laws.{ReplayHasOneAnswer}
 use Rattle.sw_app.specs.ReplayAnswers.{IsReplayOf, IsScheduleAnswer}
 use Rattle.sw_app.specs.ReplayTexts.{replay_status, replay_text}

@@ -21,10 +21,10 @@ use Rattle.sw_search.specs.Laws.{IsChecked}
 use Rattle.sw_search.specs.Verdicts.{IsFree}
 use Rattle.sw_search.proofs.Blocks.{all_are_flows, is_block}
 use Rattle.sw_search.proofs.Zips.{zip_length}
-use Rattle.sw_app.specs.declared.ended.Ended.{Ended}
-use Rattle.sw_app.specs.declared.ended.Ended.TheVariants.{Status, ReadFailed, WriteFailed}
+use Rattle.sw_ends.specs.declared.ended.Ended.{Ended}
+use Rattle.sw_ends.specs.declared.ended.Ended.TheVariants.{Status, ReadFailed, WriteFailed}
 use Rattle.sw_app.specs.CheckAnswers.{AreShownFree, IsShownFree}
-use Rattle.sw_app.specs.Ends.{IsMemoryTold, IsTold, IsUnreadTold}
+use Rattle.sw_ends.specs.Ends.{IsMemoryTold, IsTold, IsUnreadTold}
 use Rattle.sw_app.specs.VerdictAnswers.{SaysCertificate, WritesAccepted, verdict_status}
 
 -- ---- a free network's certificate has a text

@@ -12,8 +12,8 @@ use Rattle.sw_model.specs.Model.{network_of}
 use Rattle.sw_check.specs.declared.refusal.Refusal.{Refusal}
 use Rattle.sw_check.specs.Contents.{certificate_of}
 use Rattle.sw_check.specs.Refusals.{refusal_of}
-use Rattle.sw_app.specs.Ends.{Answers, IfLimited, Says}
-use Rattle.sw_app.specs.FaultTexts.{fault_text}
+use Rattle.sw_ends.specs.Ends.{Answers, IfLimited, Says}
+use Rattle.sw_ends.specs.FaultTexts.{fault_text}
 use Rattle.sw_texts.specs.Lines.{line}
 use Rattle.sw_app.specs.CheckTexts.{accepted_line, grammar_line, refusal_line}
 

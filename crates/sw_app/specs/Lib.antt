@@ -1,11 +1,7 @@
-pub mod CommandLine
-pub mod FaultTexts
-pub mod Ends
 pub mod RouteTexts
 pub mod RouteAnswers
 pub mod CheckTexts
 pub mod CheckAnswers
-pub mod Inputs
 pub mod Laws
 pub mod VerdictAnswers
 pub mod ReplayTexts

@@ -8,8 +8,8 @@ use Rattle.sw_replay.specs.Replays.{IsReplayed}
 use Rattle.sw_replay.specs.Reports.{Report}
 use Rattle.sw_steps.specs.Schedule.{steps_of_text}
 use Rattle.sw_tree.specs.declared.fault.TextFault.{TextFault}
-use Rattle.sw_app.specs.Ends.{Answers, IfLimited, Says}
-use Rattle.sw_app.specs.FaultTexts.{fault_text}
+use Rattle.sw_ends.specs.Ends.{Answers, IfLimited, Says}
+use Rattle.sw_ends.specs.FaultTexts.{fault_text}
 use Rattle.sw_texts.specs.Lines.{line}
 use Rattle.sw_app.specs.ReplayTexts.{replay_status, replay_text}
 

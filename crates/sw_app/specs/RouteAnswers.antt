@@ -7,8 +7,8 @@ use Rattle.sw_file.specs.Network.{network_text}
 use Rattle.sw_flow.specs.declared.place.Place.{Place}
 use Rattle.sw_flow.specs.Faults.{first_fault_of}
 use Rattle.sw_flow.specs.Places.{IsPlaceList}
-use Rattle.sw_app.specs.Ends.{Answers, Says}
-use Rattle.sw_app.specs.FaultTexts.{fault_text}
+use Rattle.sw_ends.specs.Ends.{Answers, Says}
+use Rattle.sw_ends.specs.FaultTexts.{fault_text}
 use Rattle.sw_texts.specs.Lines.{line}
 use Rattle.sw_app.specs.RouteTexts.{outcome_status, route_text}
 

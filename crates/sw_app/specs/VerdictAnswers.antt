@@ -15,8 +15,8 @@ use Rattle.sw_texts.specs.Lines.{line}
 use Rattle.sw_texts.specs.ReportTexts.{report_text}
 use Rattle.sw_texts.specs.VerdictTexts.{cycle_text, cyclic_words, free_words, misrouted_words}
 use Rattle.sw_app.specs.CheckAnswers.{AreShownFree}
-use Rattle.sw_app.specs.Ends.{Answers, Says}
-use Rattle.sw_app.specs.FaultTexts.{fault_text}
+use Rattle.sw_ends.specs.Ends.{Answers, Says}
+use Rattle.sw_ends.specs.FaultTexts.{fault_text}
 
 -- the flow that is not well routed, or the cycle, or the certificate in its one spelling
 abbrev pub verdict_text : Declaration → Verdict → List ℕ

@@ -1,36 +1,18 @@
 //! The engines: each reads its texts whole, and writes one text.
 ghost use Rattle.std.specs.Prelude.{◌≡◌, IfSome};
 ghost use Rattle.sw_app.specs.CheckAnswers.{AreShownFree, IsCheckAnswer};
-ghost use Rattle.sw_app.specs.Ends.{AreReadInOrder, EndsBy, EndsByTwo, IsMemoryTold, IsUnreadTold};
+ghost use Rattle.sw_ends.specs.Ends.{AreReadInOrder, EndsBy, EndsByTwo};
 ghost use Rattle.sw_app.specs.RouteAnswers.{IsRouteAnswer};
 ghost use Rattle.sw_app.specs.VerdictAnswers.{IsDecideAnswer, IsReportAnswer, WritesAccepted};
 
 use crate::check_answer::check_answer;
-use crate::ended::{Ended, MAX_TEXT, tell, tell_bytes};
-use crate::inputs::{InputError, read_two};
 use crate::route_answer::route_answer;
 use crate::verdict_answers::{decide_answer, report_answer};
 use std::alloc::Global;
 use std::io::{Read, Write};
 use std::thread::Threads;
-use sw_stream::{ReadError, read_whole};
-
-pub(crate) fn tell_memory<W: Write>(writer: &mut W) -> Ended
-    ensures { IsMemoryTold (W.contents writer.old) (W.contents writer.new) result }
-{
-    tell(writer, "fault memory\n", 5)
-}
-
-// Tells why a text was not read: of a read that failed nothing is written.
-fn tell_unread<W: Write>(writer: &mut W, error: ReadError) -> Ended
-    ensures { IsUnreadTold error (W.contents writer.old) (W.contents writer.new) result }
-{
-    match error {
-        ReadError::TooLong => tell(writer, "fault A1 TooLong\n", 3),
-        ReadError::Memory => tell_memory(writer),
-        ReadError::Failed => Ended::ReadFailed,
-    }
-}
+use sw_ends::{Ended, InputError, MAX_TEXT, read_two, tell, tell_bytes, tell_memory, tell_unread};
+use sw_stream::read_whole;
 
 /// The places of a flow of a network file: 0 where packets arrive rightly, and 1 where a place has a fault.
 ///

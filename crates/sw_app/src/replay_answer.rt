@@ -2,14 +2,13 @@
 ghost use Rattle.std.specs.Prelude.{◌≡◌, IfOk, string_bytes};
 ghost use Rattle.sw_file.specs.Network.{network_text};
 ghost use Rattle.sw_steps.specs.Schedule.{steps_of_text};
-ghost use Rattle.sw_app.specs.Ends.{IfLimited, Says};
-ghost use Rattle.sw_app.specs.Inputs.{given};
+ghost use Rattle.sw_ends.specs.Ends.{IfLimited, Says};
+ghost use Rattle.sw_ends.specs.Inputs.{given};
 ghost use Rattle.sw_app.specs.ReplayAnswers.{IsReplayAnswer, IsReplayOf, IsScheduleAnswer, bad_line};
 
-use crate::answer::Answer;
-use crate::inputs::Input;
 use crate::replay_texts::{replay_status, replay_text};
 use std::alloc::{AllocError, Global};
+use sw_ends::{Answer, Input};
 use sw_file::read_network;
 use sw_network::Network;
 use sw_replay::replay;

@@ -4,9 +4,9 @@ ghost use Rattle.sw_network.specs.Entries.{all_flows};
 ghost use Rattle.sw_app.specs.RouteAnswers.{IsFlowAnswer, IsNamedAnswer, IsRouteAnswer};
 ghost use Rattle.sw_app.specs.RouteTexts.{outcome_status};
 
-use crate::answer::Answer;
 use crate::route_texts::route_text;
 use std::alloc::{AllocError, Global};
+use sw_ends::Answer;
 use sw_file::read_network;
 use sw_flow::{Place, RouteFault, first_fault, places};
 use sw_network::Network;

@@ -3,10 +3,10 @@ ghost use Rattle.std.specs.Prelude.{◌≡◌, IfOk, string_bytes};
 ghost use Rattle.sw_app.specs.CheckAnswers.{AreShownFree, IsShownFree};
 ghost use Rattle.sw_app.specs.VerdictAnswers.{IsDecideAnswer, IsFindingsAnswer, IsReportAnswer, IsVerdictAnswer};
 
-use crate::answer::{Answer, ByteAnswer};
 use crate::verdict_texts::{verdict_status, verdict_text, verdict_words};
 use std::alloc::{AllocError, Global};
 use std::thread::Threads;
+use sw_ends::{Answer, ByteAnswer};
 use sw_file::read_network;
 use sw_network::Network;
 use sw_search::{decide, survey};

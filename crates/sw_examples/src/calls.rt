@@ -2,7 +2,9 @@
 use std::rt::Files;
 use std::thread::Threads;
 use std::{fs, io};
-use sw_app::{Call, Ended, WordsFault, check, decide, replay, report, route, words};
+use sw_app::{check, decide, replay, report, route};
+use sw_ends::Ended;
+use sw_words::{Call, WordsFault, words};
 
 fn run_route<R: Files + Print + AllocGlobal>(rt: &R, file: &str, flow: &str) -> io::Result<Ended> {
     let mut reader = fs::open(rt, file)?;

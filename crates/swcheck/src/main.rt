@@ -1,24 +1,29 @@
 //! `swcheck`: a checker of SpaceWire networks.
 //!
-//! It opens the files that its words name, and hands them on to the engines of `sw_app`.
+//! It opens the files that its words name, and hands them on to the engines of `sw_app` and `sw_run_app`.
 #![tactic(auto)]
 
-ghost use Rattle.std.specs.Prelude.{◌≡◌, ◌⊎◌};
-ghost use Rattle.sw_app.specs.CommandLine.{words_status};
-ghost use Rattle.sw_app.specs.Ends.{exit_status};
+ghost use Rattle.std.specs.Prelude.{◌≡◌, ◌⊎◌, ◌<◌};
+ghost use Rattle.sw_words.specs.CommandLine.{HasWorkers, words_status};
+ghost use Rattle.sw_ends.specs.Ends.{exit_status};
 
 use std::process::ExitCode;
 use std::rt::{Env, Files};
+use std::sync::Wait;
 use std::thread::Threads;
 use std::{env, fs, io};
-use sw_app::{Call, Ended, WordsFault, check, decide, replay, report, route, words};
+use sw_app::{check, decide, replay, report, route};
+use sw_ends::Ended;
+use sw_run::Open;
+use sw_run_app::Options;
+use sw_words::{Call, WordsFault, words};
 
 fn main(rt: HostRuntime) -> ExitCode {
     ExitCode::from(run(&rt))
 }
 
 // Does what the words say that the program was given, and answers its status.
-fn run<R: Env + Files + Print + Eprint + AllocGlobal + Threads + Sync>(rt: &R) -> u8 {
+fn run<R: Env + Files + Print + Eprint + AllocGlobal + Threads + Wait + Sync>(rt: &R) -> u8 {
     let given = match env::args(rt) {
         Ok(given) => given,
         Err(error) if error.kind() == io::ErrorKind::OutOfMemory => return refused(
@@ -33,7 +38,7 @@ fn run<R: Env + Files + Print + Eprint + AllocGlobal + Threads + Sync>(rt: &R) -
     run_texts(rt, texts.as_slice())
 }
 
-fn run_texts<R: Files + Print + Eprint + AllocGlobal + Threads + Sync>(
+fn run_texts<R: Files + Print + Eprint + AllocGlobal + Threads + Wait + Sync>(
     rt: &R,
     texts: &[String],
 ) -> u8 {
@@ -47,13 +52,27 @@ fn run_texts<R: Files + Print + Eprint + AllocGlobal + Threads + Sync>(
     }
 }
 
-fn run_call<R: Files + Print + AllocGlobal + Threads + Sync>(rt: &R, call: Call<'_>) -> Ended {
+fn run_call<R: Files + Print + AllocGlobal + Threads + Wait + Sync>(
+    rt: &R,
+    call: Call<'_>,
+) -> Ended
+    requires { HasWorkers call }
+{
     match call {
         Call::Route { file, flow } => run_route(rt, file, flow),
         Call::Decide { file } => run_decide(rt, file),
         Call::Report { file } => run_report(rt, file),
         Call::Check { file, certificate } => run_check(rt, file, certificate),
         Call::Replay { file, schedule } => run_replay(rt, file, schedule),
+        Call::Run { file, load, workers, limit } => run_load(
+            rt,
+            file,
+            load,
+            Options {
+                workers: workers as usize,
+                limit: limit as usize,
+            },
+        ),
     }
 }
 
@@ -105,6 +124,24 @@ fn run_replay<R: Files + Print + AllocGlobal>(rt: &R, file: &str, schedule: &str
     };
     let mut writer = io::writer(rt);
     replay(rt.alloc(), &mut network, &mut schedule, &mut writer)
+}
+
+fn run_load<R: Files + Print + AllocGlobal + Threads + Wait + Sync>(
+    rt: &R,
+    file: &str,
+    load: &str,
+    options: Options,
+) -> Ended
+    requires { 0 < options.workers }
+{
+    let Ok(mut network) = fs::open(rt, file) else {
+        return Ended::ReadFailed;
+    };
+    let Ok(mut load) = fs::open(rt, load) else {
+        return Ended::ReadFailed;
+    };
+    let mut writer = io::writer(rt);
+    sw_run_app::run(rt, rt.alloc(), &mut network, &mut load, options, &mut writer, &Open)
 }
 
 // Tells of a read or a write that failed.

@@ -1,6 +1,6 @@
 use Rattle.std.proofs.Common.{ap, Err}
 use Rattle.sw_app.specs.VerdictAnswers.{IsDecideAnswer}
-use Rattle.sw_app.proofs.Endings.{told_answer, told_memory, told_unread}
+use Rattle.sw_ends.proofs.Endings.{told_answer, told_memory, told_unread}
 use Rattle.sw_app.proofs.ShownFree.{memory_not_zero, unread_not_zero, writes_accepted}
 use Rattle.sw_app.proofs.engines.decide.Goals as goal
 

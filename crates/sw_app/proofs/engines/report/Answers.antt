@@ -1,6 +1,6 @@
 use Rattle.std.proofs.Common.{ap, Err}
 use Rattle.sw_app.specs.VerdictAnswers.{IsReportAnswer}
-use Rattle.sw_app.proofs.Endings.{told_answer, told_memory, told_unread}
+use Rattle.sw_ends.proofs.Endings.{told_answer, told_memory, told_unread}
 use Rattle.sw_app.proofs.engines.report.Goals as goal
 
 pub returns-in-Err : goal.returns-in-Err

@@ -1,6 +1,6 @@
-use Rattle.sw_app.specs.Inputs.{given}
+use Rattle.sw_ends.specs.Inputs.{given}
 use Rattle.sw_app.specs.ReplayAnswers.{IsReplayAnswer}
-use Rattle.sw_app.proofs.Endings.{told_answer_of_two, told_memory_of_two}
+use Rattle.sw_ends.proofs.Endings.{told_answer_of_two, told_memory_of_two}
 use Rattle.sw_app.proofs.replay_engine.replay.Goals as goal
 
 pub returns-in-Err-Memory-clause-answer : goal.returns-in-Err-Memory-clause-answer

@@ -1,0 +1,3 @@
+pub mod FaultTexts
+pub mod Ends
+pub mod Inputs

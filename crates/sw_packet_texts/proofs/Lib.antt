@@ -1,0 +1,4 @@
+pub mod NodeLines
+pub mod Order
+pub mod Counts
+mod Sums

@@ -1,0 +1,2 @@
+pub mod PacketTexts
+pub mod Tallies

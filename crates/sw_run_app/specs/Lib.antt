@@ -1,0 +1,2 @@
+pub mod RunTexts
+pub mod RunAnswers

@@ -1,0 +1,9 @@
+//! The engine of `swcheck run`.
+#![tactic(auto)]
+
+mod engine;
+mod run_answer;
+mod run_texts;
+
+pub use engine::run;
+pub use run_answer::Options;

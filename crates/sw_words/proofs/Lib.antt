@@ -1,0 +1,2 @@
+mod CommandLines
+pub mod Workers

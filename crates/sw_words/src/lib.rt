@@ -1,0 +1,6 @@
+//! The words of the program swcheck.
+#![tactic(auto)]
+
+mod command_line;
+
+pub use command_line::{Call, WordsFault, words};
