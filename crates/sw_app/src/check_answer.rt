@@ -13,6 +13,7 @@ ghost use Rattle.sw_app.specs.CheckAnswers.{AreShownFree, IsCertificateAnswer, I
 
 use crate::check_texts::{grammar_line, refusal_line};
 use std::alloc::{AllocError, Global};
+use std::thread::Threads;
 use sw_cert::{Certificate, CertificateFault};
 use sw_check::check;
 use sw_ends::{Answer, Input};
@@ -21,7 +22,8 @@ use sw_network::Network;
 use sw_tree::FileFault;
 
 // The answer for a certificate.
-fn judgement(
+fn judgement<R: Threads + Sync>(
+    rt: &R,
     alloc: Global,
     network: &Network,
     certificate: &Certificate,
@@ -32,7 +34,7 @@ fn judgement(
 {
     // Names the network, which is valid by its type.
     let _flows = network.flows();
-    match check(network, certificate) {
+    match check(rt, network, certificate) {
         Ok(_) => {
             let text = String::from_str(alloc, "accepted\n")?;
             Ok(Answer { text, status: 0 })
@@ -45,12 +47,17 @@ fn judgement(
 }
 
 // The answer for the text of a certificate.
-fn certificate_answer(alloc: Global, network: &Network, text: &[u8]) -> Result<Answer, AllocError>
+fn certificate_answer<R: Threads + Sync>(
+    rt: &R,
+    alloc: Global,
+    network: &Network,
+    text: &[u8],
+) -> Result<Answer, AllocError>
     ensures answer { IfOk result (λ a. IsCertificateAnswer network.now (read_text text.now) (string_bytes a.text) a.status) }
     ensures shown { IfOk result (λ a. a.status ≡ 0 → IsShownFree network.now text.now) }
 {
     match Certificate::read(alloc, text) {
-        Ok(certificate) => judgement(alloc, network, &certificate),
+        Ok(certificate) => judgement(rt, alloc, network, &certificate),
         Err(CertificateFault::Grammar(number)) => {
             let text = grammar_line(alloc, number)?;
             Ok(Answer { text, status: 1 })
@@ -60,30 +67,41 @@ fn certificate_answer(alloc: Global, network: &Network, text: &[u8]) -> Result<A
 }
 
 // The answer for a network and the second text.
-fn network_answer(alloc: Global, network: &Network, second: &Input) -> Result<Answer, AllocError>
+fn network_answer<R: Threads + Sync>(
+    rt: &R,
+    alloc: Global,
+    network: &Network,
+    second: &Input,
+) -> Result<Answer, AllocError>
     ensures answer { IfOk result (λ a. IfLimited (given second.now) (λ bytes. IsCertificateAnswer network.now (read_text bytes)) (string_bytes a.text) a.status) }
     ensures shown { IfOk result (λ a. a.status ≡ 0 → IsSomeAnd (given second.now) (IsShownFree network.now)) }
 {
     match second {
-        Input::Whole(text) => certificate_answer(alloc, network, text),
+        Input::Whole(text) => certificate_answer(rt, alloc, network, text),
         Input::TooLong => Answer::of_long_text(alloc),
     }
 }
 
 // The answer for the bytes of a network file and the second text.
-fn file_answer(alloc: Global, first: &[u8], second: &Input) -> Result<Answer, AllocError>
+fn file_answer<R: Threads + Sync>(
+    rt: &R,
+    alloc: Global,
+    first: &[u8],
+    second: &Input,
+) -> Result<Answer, AllocError>
     ensures answer { IfOk result (λ a. IsNetworkAnswer (given second.now) (network_text first.now) (string_bytes a.text) a.status) }
     ensures shown { IfOk result (λ a. a.status ≡ 0 → IsSomeAnd (given second.now) (AreShownFree first.now)) }
 {
     match read_network(alloc, first) {
-        Ok(network) => network_answer(alloc, &network, second),
+        Ok(network) => network_answer(rt, alloc, &network, second),
         Err(FileFault::Text(fault)) => Answer::of_fault(alloc, &fault),
         Err(FileFault::Memory) => Err(AllocError),
     }
 }
 
 /// The answer to the bytes of a network file and of a certificate file.
-pub(crate) fn check_answer(
+pub(crate) fn check_answer<R: Threads + Sync>(
+    rt: &R,
     alloc: Global,
     first: &Input,
     second: &Input,
@@ -92,7 +110,7 @@ pub(crate) fn check_answer(
     ensures shown { IfOk result (λ a. a.status ≡ 0 → IsSomeAnd (given first.now) (λ bytes. IsSomeAnd (given second.now) (AreShownFree bytes))) }
 {
     match first {
-        Input::Whole(text) => file_answer(alloc, text, second),
+        Input::Whole(text) => file_answer(rt, alloc, text, second),
         Input::TooLong => Answer::of_long_text(alloc),
     }
 }

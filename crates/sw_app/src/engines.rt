@@ -31,8 +31,9 @@ pub fn route<R: Read, W: Write>(alloc: Global, reader: &mut R, flow: &str, write
 }
 
 /// Whether the certificate of the second text is accepted for the network of the first: 0 where it is, and then the network never
-/// locks up, over every run; 1 where it is refused.
-pub fn check<N: Read, C: Read, W: Write>(
+/// locks up, over every run; 1 where it is refused. Threads share the work, as many as there are processors.
+pub fn check<T: Threads + Sync, N: Read, C: Read, W: Write>(
+    rt: &T,
     alloc: Global,
     network: &mut N,
     certificate: &mut C,
@@ -47,7 +48,7 @@ pub fn check<N: Read, C: Read, W: Write>(
         Err(InputError::Failed) => return Ended::ReadFailed,
         Err(InputError::Memory) => return tell_memory(writer),
     };
-    match check_answer(alloc, &first, &second) {
+    match check_answer(rt, alloc, &first, &second) {
         Ok(answer) => tell(writer, answer.text.as_str(), answer.status),
         Err(_) => tell_memory(writer),
     }

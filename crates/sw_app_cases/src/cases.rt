@@ -1,6 +1,7 @@
 //! Files of texts, each of which stands behind `#` and its title.
 use crate::show::{show_end, show_route};
 use std::rt::Files;
+use std::thread::Threads;
 use std::{fs, io};
 use sw_app::check;
 
@@ -27,7 +28,7 @@ pub(crate) fn show_networks<R: Files + Print + AllocGlobal>(
     Ok(())
 }
 
-fn show_check<R: Print + AllocGlobal>(
+fn show_check<R: Print + AllocGlobal + Threads + Sync>(
     rt: &R,
     network: &[u8],
     certificate: &[u8],
@@ -35,12 +36,12 @@ fn show_check<R: Print + AllocGlobal>(
     let mut network = network;
     let mut certificate = certificate;
     let mut writer = io::writer(rt);
-    let ended = check(rt.alloc(), &mut network, &mut certificate, &mut writer);
+    let ended = check(rt, rt.alloc(), &mut network, &mut certificate, &mut writer);
     show_end(rt, ended)
 }
 
 /// `check` of each of the second file's certificates for the network of the first.
-pub(crate) fn show_certificates<R: Files + Print + AllocGlobal>(
+pub(crate) fn show_certificates<R: Files + Print + AllocGlobal + Threads + Sync>(
     rt: &R,
     file: &str,
     certificates: &str,

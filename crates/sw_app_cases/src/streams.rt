@@ -2,6 +2,7 @@
 use crate::failing::{FailingReader, SlowWriter};
 use std::alloc::Global;
 use std::io;
+use std::thread::Threads;
 use sw_app::{Ended, check, route};
 
 const LINE: &[u8] = br#"version = 1
@@ -79,7 +80,7 @@ pub(crate) fn show_failing_writes<R: Print + AllocGlobal>(rt: &R) -> io::Result<
 }
 
 /// `check` reads both texts before it looks at the first, which is no network file.
-pub(crate) fn show_second_input<R: Print + AllocGlobal>(rt: &R) -> io::Result<()> {
+pub(crate) fn show_second_input<R: Print + AllocGlobal + Threads + Sync>(rt: &R) -> io::Result<()> {
     println!(rt; "> where the second text can't be read no fault of the first is told")?;
     let mut certificate = FailingReader {
         rest: b"swcert 1\n",
@@ -88,6 +89,7 @@ pub(crate) fn show_second_input<R: Print + AllocGlobal>(rt: &R) -> io::Result<()
     };
     let mut written = Vec::new(rt.alloc());
     let ended = check(
+        rt,
         rt.alloc(),
         &mut &b"version ="[..],
         &mut certificate,

@@ -26,6 +26,7 @@ pub fn step_switch<R: Routing, A: Arbiter>(
     requires reached { HasSwitchState network.now w cell.old wires.old }
     requires at { cell_of (network_of network.now) (machine_step step.now) ≡ AtSwitch w }
     ensures cell { IsSwitchFor R.answer A.ports network.now w cell.new }
+    ensures arbiters { cell.new.arbiters ≡ cell.old.arbiters }
     ensures made { SwitchMakes network.now w cell.old wires.old (machine_step step.now) result cell.new wires.new }
 {
     match step {

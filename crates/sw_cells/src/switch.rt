@@ -52,6 +52,7 @@ pub fn fct<R: Routing, A: Arbiter>(
     requires at { (network_of network.now).end_of channel ≡ AtSwitch w }
     requires reached { HasSwitchState network.now w cell.old wires.old }
     ensures cell { IsSwitchFor R.answer A.ports network.now w cell.new }
+    ensures arbiters { cell.new.arbiters ≡ cell.old.arbiters }
     ensures made { SwitchMakes network.now w cell.old wires.old (Fct channel) result cell.new wires.new }
 {
     let port = input(network, w, channel);
@@ -75,6 +76,7 @@ pub fn fct_in<R: Routing, A: Arbiter>(
     requires at { (network_of network.now).start_of channel ≡ AtSwitch w }
     requires reached { HasSwitchState network.now w cell.old wires.old }
     ensures cell { IsSwitchFor R.answer A.ports network.now w cell.new }
+    ensures arbiters { cell.new.arbiters ≡ cell.old.arbiters }
     ensures made { SwitchMakes network.now w cell.old wires.old (FctIn channel) result cell.new wires.new }
 {
     let port = output(network, w, channel);
@@ -98,6 +100,7 @@ pub fn arrive<R: Routing, A: Arbiter>(
     requires at { (network_of network.now).end_of channel ≡ AtSwitch w }
     requires reached { HasSwitchState network.now w cell.old wires.old }
     ensures cell { IsSwitchFor R.answer A.ports network.now w cell.new }
+    ensures arbiters { cell.new.arbiters ≡ cell.old.arbiters }
     ensures made { SwitchMakes network.now w cell.old wires.old (Arrive channel) result cell.new wires.new }
 {
     let port = input(network, w, channel);
@@ -120,6 +123,7 @@ pub fn spill<R: Routing, A: Arbiter>(
     requires cell { IsSwitchFor R.answer A.ports network.now w cell.old }
     requires at { (network_of network.now).end_of channel ≡ AtSwitch w }
     ensures cell { IsSwitchFor R.answer A.ports network.now w cell.new }
+    ensures arbiters { cell.new.arbiters ≡ cell.old.arbiters }
     ensures made { (b : Between) → SwitchMakes network.now w cell.old b (Spill channel) result cell.new b }
 {
     let port = input(network, w, channel);
@@ -143,6 +147,7 @@ pub fn forward<R: Routing, A: Arbiter>(
     requires at { (network_of network.now).end_of channel ≡ AtSwitch w }
     requires reached { HasSwitchState network.now w cell.old wires.old }
     ensures cell { IsSwitchFor R.answer A.ports network.now w cell.new }
+    ensures arbiters { cell.new.arbiters ≡ cell.old.arbiters }
     ensures made { SwitchMakes network.now w cell.old wires.old (Forward channel) result cell.new wires.new }
 {
     let port = input(network, w, channel);
@@ -166,6 +171,7 @@ pub fn drop_front<R: Routing, A: Arbiter>(
     requires cell { IsSwitchFor R.answer A.ports network.now w cell.old }
     requires at { (network_of network.now).end_of channel ≡ AtSwitch w }
     ensures cell { IsSwitchFor R.answer A.ports network.now w cell.new }
+    ensures arbiters { cell.new.arbiters ≡ cell.old.arbiters }
     ensures made { (b : Between) → SwitchMakes network.now w cell.old b (Drop channel) result cell.new b }
 {
     let port = input(network, w, channel);
@@ -201,6 +207,7 @@ pub fn grant<R: Routing, A: Arbiter>(
     requires cell { IsSwitchFor R.answer A.ports network.now w cell.old }
     requires at { (network_of network.now).end_of channel ≡ AtSwitch w }
     ensures cell { IsSwitchFor R.answer A.ports network.now w cell.new }
+    ensures arbiters { cell.new.arbiters ≡ cell.old.arbiters }
     ensures made { (b : Between) → SwitchMakes network.now w cell.old b (Grant output channel) result cell.new b }
 {
     let port = input(network, w, channel);

@@ -6,3 +6,4 @@ pub mod Leasts
 pub mod Parts
 pub mod Answering
 pub mod Accepted
+pub mod Firsts

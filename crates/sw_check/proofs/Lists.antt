@@ -1,5 +1,5 @@
 -- First refusals of lists, and what lists keep.
-use Rattle.std.proofs.Common.{◌≡◌, ℕ, zero, suc, ◌+◌, ◌<◌, ◌≤◌, ◌&&◌, ◌||◌, Bool, true, false, cond, List, [], ◌∷◌, length, drop, Option, Some, None, option_map, is_some, Contains, refl, sym, ap, ◌∙◌, subst, ◌⊎◌, inl, inr, arith}
+use Rattle.std.proofs.Common.{◌≡◌, ℕ, zero, suc, ◌+◌, ◌<◌, ◌≤◌, ◌&&◌, ◌||◌, Bool, true, false, cond, List, [], ◌∷◌, length, drop, Option, Some, None, option_map, Contains, refl, sym, ap, subst, ◌⊎◌, inl, inr, arith}
 use Rattle.std.specs.Prelude.{slice_get}
 use Rattle.std.specs.List.{list_all}
 use Rattle.std.proofs.lemmas.Bool.{cases_eq, eq-eqb, ne_eqb}
@@ -114,34 +114,6 @@ drop_past [] zero le = refl
 drop_past [] (suc n) le = refl
 drop_past (x ∷ xs) zero le = absurd (omega arith)
 drop_past (x ∷ xs) (suc n) le = drop_past xs n (omega arith)
-
--- the number of an answer that is there
-first_some : {X : Type 0} (o p : Option X) → is_some o ≡ true → first_of o p ≡ o
-first_some None p h = absurd cc
-first_some (Some x) p h = refl
-
-first_else : {X : Type 0} (o p : Option X) → is_some o ≡ false → first_of o p ≡ p
-first_else None p h = refl
-first_else (Some x) p h = absurd cc
-
-module _ (r : ℕ → FlowEntry → List Place → Option Refusal) (i : ℕ) (fs : List FlowEntry) (pss : List (List Place)) where
-  -- one flow more
-  by_flow_more : (f : FlowEntry) (ps : List Place) → slice_get fs i ≡ Some f → slice_get pss i ≡ Some ps → by_flow r i (drop i fs) (drop i pss) ≡ first_of (r i f ps) (by_flow r (suc i) (drop (suc i) fs) (drop (suc i) pss))
-  by_flow_more f ps here there = rw (drop_at fs i f here, drop_at pss i ps there) refl
-
-  pub by_flow_here : (f : FlowEntry) (ps : List Place) (o : Option Refusal) → slice_get fs i ≡ Some f → slice_get pss i ≡ Some ps → o ≡ r i f ps → is_some o ≡ true → by_flow r i (drop i fs) (drop i pss) ≡ o
-  by_flow_here f ps o here there is some =
-      by_flow_more f ps here there ∙ ap (λ (x : Option Refusal). first_of x (by_flow r (suc i) (drop (suc i) fs) (drop (suc i) pss))) (sym is) ∙ first_some o _ some
-
-  pub by_flow_next : (f : FlowEntry) (ps : List Place) (o : Option Refusal) → slice_get fs i ≡ Some f → slice_get pss i ≡ Some ps → o ≡ r i f ps → is_some o ≡ false
-      → by_flow r (i + 1) (drop (i + 1) fs) (drop (i + 1) pss) ≡ by_flow r i (drop i fs) (drop i pss)
-  by_flow_next f ps o here there is none =
-      let next : i + 1 ≡ suc i = omega arith in
-      let here_on : by_flow r (i + 1) (drop (i + 1) fs) (drop (i + 1) pss) ≡ by_flow r (suc i) (drop (suc i) fs) (drop (suc i) pss) = ap (λ (n : ℕ). by_flow r n (drop n fs) (drop n pss)) next in
-      here_on ∙ sym (by_flow_more f ps here there ∙ ap (λ (x : Option Refusal). first_of x (by_flow r (suc i) (drop (suc i) fs) (drop (suc i) pss))) (sym is) ∙ first_else o _ none)
-
-  pub by_flow_end : length fs ≤ i → by_flow r i (drop i fs) (drop i pss) ≡ None
-  by_flow_end le = rw (drop_past fs i le) refl
 
 -- ---- listed places
 

@@ -4,3 +4,4 @@ pub mod Refusals
 pub mod Ranks
 pub mod Ends
 pub mod Laws
+pub mod Numbered

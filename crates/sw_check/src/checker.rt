@@ -5,27 +5,31 @@ ghost use Rattle.sw_model.specs.Model.{network_of};
 ghost use Rattle.sw_check.specs.Contents.{certificate_of};
 ghost use Rattle.sw_check.specs.Refusals.{refusal_of};
 
-use crate::closed::refusal_of_flows;
 use crate::counts::is_of_the_network;
 use crate::passed::Passed;
 use crate::refusal::Refusal;
-use crate::rising::not_rising_along_flows;
+use crate::spread::{not_rising_along_flows, refusal_of_flows};
 use crate::targets::not_rising_at_targets;
+use std::thread::Threads;
 use sw_cert::Certificate;
 use sw_network::Network;
 
 /// The first reason to refuse the certificate.
-fn refusal_of(network: &Network, certificate: &Certificate) -> Option<Refusal>
+fn refusal_of<R: Threads + Sync>(
+    rt: &R,
+    network: &Network,
+    certificate: &Certificate,
+) -> Option<Refusal>
     ensures { result ≡ refusal_of network.now certificate.now }
 {
     if !is_of_the_network(network, certificate) {
         return Some(Refusal::WrongCount);
     }
-    let closed = refusal_of_flows(network, certificate);
+    let closed = refusal_of_flows(rt, network, certificate);
     if closed.is_some() {
         return closed;
     }
-    let rising = not_rising_along_flows(network, certificate);
+    let rising = not_rising_along_flows(rt, network, certificate);
     if rising.is_some() {
         return rising;
     }
@@ -39,14 +43,20 @@ fn refusal_of(network: &Network, certificate: &Certificate) -> Option<Refusal>
 /// The first reason to refuse it: counts, then flow by flow its start and its places, and then the numbers along the flows and at
 /// the nodes that answer.
 ///
-/// It takes no memory. The time is linear in the places and in what follows them, but for a search of a flow's list for each.
-pub fn check<'a>(network: &'a Network, certificate: &Certificate) -> Result<Passed<'a>, Refusal>
+/// Threads share the work, flow by flow, as many as there are processors. It takes no memory that it cannot do without: where no
+/// thread can be started, the one that there is does the work, and no answer tells of want of memory. The time is linear in the
+/// places and in what follows them, but for a search of a flow's list for each.
+pub fn check<'a, R: Threads + Sync>(
+    rt: &R,
+    network: &'a Network,
+    certificate: &Certificate,
+) -> Result<Passed<'a>, Refusal>
     ensures exact { MatchResult result (λ passed. (passed ≡ network.entry.now) × (refusal_of network.entry.now certificate.now ≡ None)) (λ refusal. refusal_of network.entry.now certificate.now ≡ Some refusal) }
     ensures deadlock_free { IfOk result (λ passed. IsDeadlockFree (network_of network.entry.now) (certificate_of certificate.now)) }
 {
     // Names the network, which is valid by its type.
     let _flows = network.flows();
-    match refusal_of(network, certificate) {
+    match refusal_of(rt, network, certificate) {
         Some(refusal) => Err(refusal),
         None => Ok(Passed::new(network, certificate)),
     }

@@ -4,7 +4,8 @@ ghost use Rattle.std.specs.List.{list_all};
 ghost use Rattle.sw_network.specs.Entries.{all_flows};
 ghost use Rattle.sw_network.specs.Valid.{IsFlow};
 ghost use Rattle.sw_cert.specs.Grammar.{IsBlock};
-ghost use Rattle.sw_check.specs.Refusals.{by_flow, first_refusal, is_closed_at, is_listed, refusal_of_flow, refusal_of_place, start_of};
+ghost use Rattle.sw_check.specs.Refusals.{first_refusal, is_closed_at, is_listed, refusal_of_flow, refusal_of_place, start_of};
+ghost use Rattle.sw_check.specs.Numbered.{refusal_at};
 
 use crate::listed::is_listed;
 use crate::refusal::Refusal;
@@ -91,18 +92,17 @@ fn refusal_of_flow(network: &Network, number: u16, flow: &Flow, listed: &[Place]
     refusal_of_places(network, number, flow, listed)
 }
 
-/// The first refusal of a flow, for its start, a faulty place, or a place that follows and is not listed.
-pub(crate) fn refusal_of_flows(network: &Network, certificate: &Certificate) -> Option<Refusal>
-    requires { length certificate.now.places ≡ length (all_flows network.now) }
-    ensures { result ≡ by_flow (refusal_of_flow network.now) 0 (all_flows network.now) certificate.now.places }
+/// The first refusal of the flow of that number, for its start, a faulty place, or a place that follows and is not listed.
+pub(crate) fn closed_refusal(
+    network: &Network,
+    certificate: &Certificate,
+    number: u16,
+) -> Option<Refusal>
+    requires inside { number < length (all_flows network.now) }
+    requires lists { length certificate.now.places ≡ length (all_flows network.now) }
+    ensures { result ≡ refusal_at (refusal_of_flow network.now) (all_flows network.now) certificate.now.places number }
 {
-    for number in 0..network.flows() {
-        let entry = network.flow(number);
-        let listed = certificate.places(number);
-        let refusal = refusal_of_flow(network, number, entry, listed);
-        if refusal.is_some() {
-            return refusal;
-        }
-    }
-    None
+    let entry = network.flow(number);
+    let listed = certificate.places(number);
+    refusal_of_flow(network, number, entry, listed)
 }

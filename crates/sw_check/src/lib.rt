@@ -9,6 +9,7 @@ mod listed;
 mod passed;
 mod refusal;
 mod rising;
+mod spread;
 mod targets;
 
 pub use checker::check;

@@ -1,9 +1,10 @@
 //! Whether the numbers of a certificate rise along the flows.
-ghost use Rattle.std.specs.Prelude.{◌≡◌, length, map, slice_index, Some, None, if◌then◌else◌};
+ghost use Rattle.std.specs.Prelude.{◌≡◌, ◌<◌, length, map, slice_index, Some, None, if◌then◌else◌};
 ghost use Rattle.sw_network.specs.Entries.{all_flows};
 ghost use Rattle.sw_network.specs.Valid.{IsFlow};
 ghost use Rattle.sw_check.specs.Least.{least, lesser};
-ghost use Rattle.sw_check.specs.Refusals.{by_flow, first_refusal, is_not_above, not_rising_along, not_rising_from};
+ghost use Rattle.sw_check.specs.Refusals.{first_refusal, is_not_above, not_rising_along, not_rising_from};
+ghost use Rattle.sw_check.specs.Numbered.{refusal_at};
 
 use crate::refusal::Refusal;
 use sw_cert::Certificate;
@@ -91,21 +92,17 @@ fn not_rising_along(
     None
 }
 
-/// The first refusal for numbers that do not rise along a flow.
-pub(crate) fn not_rising_along_flows(
+/// The first refusal for numbers that do not rise along the flow of that number.
+pub(crate) fn rising_refusal(
     network: &Network,
     certificate: &Certificate,
+    number: u16,
 ) -> Option<Refusal>
-    requires { length certificate.now.places ≡ length (all_flows network.now) }
-    ensures { result ≡ by_flow (not_rising_along network.now certificate.now.numbers) 0 (all_flows network.now) certificate.now.places }
+    requires inside { number < length (all_flows network.now) }
+    requires lists { length certificate.now.places ≡ length (all_flows network.now) }
+    ensures { result ≡ refusal_at (not_rising_along network.now certificate.now.numbers) (all_flows network.now) certificate.now.places number }
 {
-    for number in 0..network.flows() {
-        let entry = network.flow(number);
-        let listed = certificate.places(number);
-        let refusal = not_rising_along(network, certificate.numbers(), entry, listed);
-        if refusal.is_some() {
-            return refusal;
-        }
-    }
-    None
+    let entry = network.flow(number);
+    let listed = certificate.places(number);
+    not_rising_along(network, certificate.numbers(), entry, listed)
 }

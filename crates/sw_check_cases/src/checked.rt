@@ -1,5 +1,6 @@
 //! Certificates that are checked.
 use std::io;
+use std::thread::Threads;
 use sw_cert::{Certificate, CertificateFault};
 use sw_check::{Passed, Refusal, check};
 use sw_flow::Place;
@@ -50,15 +51,19 @@ fn show_passed(rt: &impl Print, passed: &Passed<'_>) -> io::Result<()> {
     println!(rt; "accepted for {flows} flows")
 }
 
-fn show_check(rt: &impl Print, network: &Network, certificate: &Certificate) -> io::Result<()> {
-    match check(network, certificate) {
+fn show_check<R: Print + Threads + Sync>(
+    rt: &R,
+    network: &Network,
+    certificate: &Certificate,
+) -> io::Result<()> {
+    match check(rt, network, certificate) {
         Ok(passed) => show_passed(rt, &passed),
         Err(refusal) => show_refusal(rt, network, &refusal),
     }
 }
 
 /// Whether the certificate of this text is accepted for the network, or why it is not.
-fn show_certificate<R: Print + AllocGlobal>(
+fn show_certificate<R: Print + AllocGlobal + Threads + Sync>(
     rt: &R,
     network: &Network,
     text: &[u8],
@@ -71,7 +76,7 @@ fn show_certificate<R: Print + AllocGlobal>(
 }
 
 /// The same for each certificate of a text, in which each stands behind `#` and its title.
-pub(crate) fn show_cases<R: Print + AllocGlobal>(
+pub(crate) fn show_cases<R: Print + AllocGlobal + Threads + Sync>(
     rt: &R,
     network: &Network,
     cases: &str,

@@ -7,6 +7,7 @@ mod checked;
 use crate::beginnings::show_beginnings;
 use crate::checked::show_cases;
 use std::rt::Files;
+use std::thread::Threads;
 use std::{fs, io};
 use sw_file::read_network;
 
@@ -17,7 +18,11 @@ static CERTIFICATES: [(&str, &str); 3] = [
     ("turn.toml", "turn.cases"),
 ];
 
-fn check_file<R: Files + Print + AllocGlobal>(rt: &R, file: &str, cases: &str) -> io::Result<()> {
+fn check_file<R: Files + Print + AllocGlobal + Threads + Sync>(
+    rt: &R,
+    file: &str,
+    cases: &str,
+) -> io::Result<()> {
     println!(rt; "> certificates for {file}")?;
     let text = fs::read(rt, file)?;
     let cases = fs::read_to_string(rt, cases)?;

@@ -12,7 +12,7 @@ fn run_route<R: Files + Print + AllocGlobal>(rt: &R, file: &str, flow: &str) -> 
     Ok(route(rt.alloc(), &mut reader, flow, &mut writer))
 }
 
-fn run_check<R: Files + Print + AllocGlobal>(
+fn run_check<R: Files + Print + AllocGlobal + Threads + Sync>(
     rt: &R,
     file: &str,
     certificate: &str,
@@ -20,7 +20,7 @@ fn run_check<R: Files + Print + AllocGlobal>(
     let mut network = fs::open(rt, file)?;
     let mut certificate = fs::open(rt, certificate)?;
     let mut writer = io::writer(rt);
-    Ok(check(rt.alloc(), &mut network, &mut certificate, &mut writer))
+    Ok(check(rt, rt.alloc(), &mut network, &mut certificate, &mut writer))
 }
 
 fn run_replay<R: Files + Print + AllocGlobal>(

@@ -117,7 +117,7 @@ length-sum : {X : Type 0} (xs : List X) → sum_by (λ x. 1) xs ≡ length xs
 length-sum [] = refl
 length-sum (x ∷ xs) = let r = length-sum xs in let c = sum_by-cons (λ x. 1) x xs in omega arith
 
-histories_end : (net : Network) → IsBoundedByLoad net → HistoriesEnd net
+pub histories_end : (net : Network) → IsBoundedByLoad net → HistoriesEnd net
 histories_end net bound packets steps s h =
     let from : Begun → ℕ = λ b. (net.flow b.flow).from in
     let begun = beginnings steps in

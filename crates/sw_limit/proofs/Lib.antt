@@ -1,4 +1,4 @@
-mod Fronts
+pub mod Fronts
 mod Headers
 mod Listed
-mod Packets
+pub mod Packets

@@ -5,7 +5,7 @@ use Rattle.std.proofs.Common.{Some, ⊎_elim, add-one, ap, arith, length, refl, 
 use Rattle.std.proofs.lemmas.Bool.{cases_lt}
 use Rattle.std.specs.Prelude.{slice_get}
 use Rattle.sw_cells.proofs.Network.{channels_are, nodes_are}
-use Rattle.sw_flow.specs.Places.{end_of, ends_of}
+use Rattle.sw_flow.specs.Places.{end_of}
 use Rattle.sw_machine.specs.Network.{AtNode}
 use Rattle.sw_machine.specs.Runs.{length_pending, total, undelivered}
 use Rattle.sw_machine.specs.State.{State}
@@ -16,7 +16,6 @@ use Rattle.sw_net.specs.Delivery.{IsAtNode, IsAtNodes, IsBuffered, IsInChannel, 
 use Rattle.sw_net.specs.Net.{IsNet, IsNetState, NetView}
 use Rattle.sw_network.proofs.Steps.{length-link_ends}
 use Rattle.sw_network.specs.Entries.{Declaration, wiring_of}
-use Rattle.sw_network.specs.Valid.{IsValid}
 use Rattle.sw_node.specs.Node.{Node}
 use Rattle.sw_route.specs.declared.look.Look.{Look}
 use Rattle.sw_switch.specs.Cell.{Cell, end_at}

@@ -6,3 +6,7 @@ pub mod Sizes
 pub mod Few
 pub mod Delivered
 pub mod Policies
+pub mod Possibles
+pub mod LinkNumbers
+pub mod Asks
+pub mod Making

@@ -1,39 +1,34 @@
 -- The cells of a new network.
-use Rattle.std.proofs.Common.{All, IsBitSet, IsSome, List, None, Option, Some, [], ap, arith, drop, get_or, inl, inr, length, length-set, map, refl, replicate, set, subst, suc, sym, zero, ℕ, ◌+◌, ◌*◌, ◌^◌, ◌<◌, ◌↔◌, ◌∙◌, ◌∷◌, ◌++◌, ◌≡◌, ◌⊎◌, ⊎_elim}
+use Rattle.std.proofs.Common.{IsBitSet, IsSome, List, None, Option, Some, [], ap, arith, drop, get_or, inl, inr, length, length-set, map, refl, replicate, set, subst, suc, sym, zero, ℕ, ◌+◌, ◌*◌, ◌^◌, ◌<◌, ◌↔◌, ◌∙◌, ◌∷◌, ◌++◌, ◌≡◌, ◌⊎◌, ⊎_elim}
 use Rattle.std.proofs.lemmas.Bool.{cases_eq}
 use Rattle.std.proofs.lemmas.List.{length-map, length-replicate}
 use Rattle.std.proofs.lemmas.Nat.Bits.{same_from_bits_below}
 use Rattle.std.proofs.lemmas.Option.{get_or_from_slice_get, same_Some, slice_get-get_or, slice_get_within}
-use Rattle.std.specs.Global.{Vec}
 use Rattle.std.specs.Int.{bit_at}
 use Rattle.std.specs.Option.{option_map_or}
 use Rattle.std.specs.Prelude.{Err, IfOk, Ok, Result, slice_get, slice_index}
-use Rattle.sw_cells.proofs.Network.{channels_are, into_is, nodes_are}
 use Rattle.sw_cells.proofs.Dropping.{some_of}
 use Rattle.sw_cells.proofs.Switches.{port_small}
-use Rattle.sw_cells.specs.Parts.{IsBetweenPart, IsNodeFor, IsNodePart}
-use Rattle.sw_cells.specs.SwitchParts.{IsSwitchFor, IsSwitchPart, input_of}
+use Rattle.sw_cells.specs.Parts.{IsBetweenPart}
+use Rattle.sw_cells.specs.SwitchParts.{input_of}
 use Rattle.sw_char.specs.declared.nchar.NChar.{NChar}
-use Rattle.sw_flow.specs.Places.{end_of, ends_of}
-use Rattle.sw_link.specs.Ends.{IsCapacity, Received}
+use Rattle.sw_flow.specs.Places.{ends_of}
 use Rattle.sw_machine.specs.State.{empty}
 use Rattle.sw_model.specs.Model.{memory_at_first, network_of}
-use Rattle.sw_net.proofs.Steps.{each_set, get_set_other, get_set_same}
+use Rattle.sw_net.proofs.Steps.{get_set_other, get_set_same}
 use Rattle.sw_net.specs.Net.{IsNet, IsNetState, net_of}
-use Rattle.sw_net.specs.New.{AreArbiters, AreRoutes, IsLinkedSet, IsNewNode, IsNewSwitch, IsPlaced, IsRow, port_capacity}
+use Rattle.sw_net.specs.New.{AreArbiters, IsLinkedSet, IsNewNode, IsNewSwitch, IsPlaced, IsRow, port_capacity}
 use Rattle.sw_network.proofs.Steps.{length-link_ends}
 use Rattle.sw_network.specs.Entries.{Declaration, capacities, look_at, target_of, wiring_of}
 use Rattle.sw_network.specs.Valid.{IsValid}
 use Rattle.sw_node.specs.Node.{Node, config_of, memory_of, new_node, target_at_first}
 use Rattle.sw_rmap.specs.declared.config.TargetConfig.{TargetConfig}
 use Rattle.sw_route.specs.declared.look.Look.{Look}
-use Rattle.sw_switch.specs.Cell.{Cell, HasArbiter, HaveArbiters, IsCell, credit_at, end_at, input_at, new_cell, new_end}
-use Rattle.sw_switch.specs.declared.input.Input.{Input as PortInput}
+use Rattle.sw_switch.specs.Cell.{Cell, HasArbiter, HaveArbiters, new_cell, new_end}
 use Rattle.sw_switch.specs.declared.input.Input.TheVariants as ports
 use Rattle.sw_topo.proofs.Ends.{one_port, partner_back, port_found, port_starts}
 use Rattle.sw_topo.proofs.PortBits.{clear_zero, one_set, set_below, set_one}
 use Rattle.sw_topo.specs.Wiring.{out_of, partner}
-use Rattle.sw_topo.specs.declared.place.PlaceEnd.{PlaceEnd}
 use Rattle.sw_topo.specs.declared.place.PlaceEnd.TheVariants.{Node as AtNode, Switch}
 use Rattle.sw_wires.specs.Between.{Between, empty_between}
 
@@ -98,7 +93,7 @@ memory_first : (o : Option TargetConfig) → memory_at_first o ≡ memory_of (ta
 memory_first None = refl
 memory_first (Some t) = refl
 
-node_capacity : (d : Declaration) (c x : ℕ) → slice_get (capacities d.links) c ≡ Some x → x ≡ (network_of d).capacity c
+pub node_capacity : (d : Declaration) (c x : ℕ) → slice_get (capacities d.links) c ≡ Some x → x ≡ (network_of d).capacity c
 unfolding network_of
 node_capacity d c x at = sym (get_or_from_slice_get (capacities d.links) c x 0 at)
 

@@ -1,5 +1,5 @@
 -- The arbiters that a network declares.
-use Rattle.std.proofs.Common.{IsBitSet, IsSome, List, Some, [], ap, arith, drop, length, refl, subst, suc, sym, take, zero, ℕ, ◌+◌, ◌<◌, ◌^◌, ◌++◌, ◌∷◌, ◌↔◌, ◌∙◌, ◌≡◌}
+use Rattle.std.proofs.Common.{List, Some, [], ap, arith, length, refl, subst, suc, sym, take, zero, ℕ, ◌+◌, ◌++◌, ◌∷◌, ◌∙◌, ◌≡◌}
 use Rattle.std.proofs.lemmas.Option.{same_Some}
 use Rattle.std.specs.Prelude.{slice_get}
 use Rattle.sw_arb.specs.Chosen.{IsNewPolicy, policy_ports}

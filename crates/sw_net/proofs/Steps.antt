@@ -1,6 +1,6 @@
 -- A step of one cell, on the whole network.
 use mathlib.Core.Logic.{∥∥₁_map}
-use Rattle.std.proofs.Common.{ℕ, Bool, Err, List, Ok, Some, [], ◌∷◌, ap, arith, false, get_or, length, length-set, refl, set, subst, suc, sym, true, zero, ◌<◌, ◌≡◌, ◌≢◌, ◌∙◌, ⊎_elim}
+use Rattle.std.proofs.Common.{ℕ, Bool, Err, List, Some, [], ◌∷◌, ap, arith, false, get_or, length, length-set, refl, set, subst, suc, sym, true, zero, ◌<◌, ◌≡◌, ◌≢◌, ◌∙◌, ⊎_elim}
 use Rattle.std.proofs.lemmas.Bool.{cases_eq}
 use Rattle.std.proofs.lemmas.Option.{same_Some, slice_get-get_or, slice_get_within}
 use Rattle.std.specs.Prelude.{OnErr, slice_get}

@@ -1,5 +1,5 @@
 -- What the cells tell, told of the whole network.
-use Rattle.std.proofs.Common.{Bool, List, None, Option, Some, arith, false, refl, subst, sym, true, ℕ, ◌<◌, ◌≡◌}
+use Rattle.std.proofs.Common.{Bool, None, Option, Some, false, refl, subst, sym, true, ℕ, ◌<◌, ◌≡◌}
 use Rattle.std.specs.Prelude.{is_some, not, slice_get}
 use Rattle.sw_cells.specs.Possible.{CanStepAt, NodeEnabled, PortEnabled}
 use Rattle.sw_flow.specs.Places.{ends_of}

@@ -1,5 +1,5 @@
 -- A network's cells and what lies between them, as the parts of a state of its machine.
-use Rattle.std.specs.Prelude.{List, Result, Some, length, slice_get, ℕ, ◌≡◌}
+use Rattle.std.specs.Prelude.{List, Option, Result, Some, length, map, slice_get, ℕ, ◌≡◌}
 use Rattle.sw_cell.specs.Answers.{Answers}
 use Rattle.sw_cell.specs.declared.fault.NetFault.{NetFault}
 use Rattle.sw_cells.specs.Parts.{IsBetweenPart, IsNodeFor, IsNodePart}
@@ -44,3 +44,7 @@ pub record IsNet {R A : Type 0} (answer : R → ℕ → Look) (arbiter_ports : A
 -- what a call answers that is to make a step, where it found the first and left the second
 abbrev pub NetAnswers : {R A : Type 0} → NetView R A → Step → Result Unit NetFault → NetView R A → Type 0
 NetAnswers v step result w = Answers (network_of v.declared) (IsNetState v) step result (IsNetState w)
+
+-- the arbiters of each switch
+abbrev pub arbiters_of : {R A : Type 0} → List (Cell R A) → List (List (Option A))
+arbiters_of {R} {A} switches = map (λ (c : Cell R A). c.arbiters) switches

@@ -12,13 +12,14 @@ use sw_route::Routing;
 use sw_steps::Step;
 
 impl<'n, R: Routing, A: Arbiter> Net<'n, R, A> {
-    ghost use Rattle.sw_net.specs.Net.{NetAnswers};
+    ghost use Rattle.sw_net.specs.Net.{NetAnswers, arbiters_of};
 
     /// Makes a step of node `n`.
     fn step_node(&mut self, alloc: Global, n: u16, step: &Step) -> Result<(), NetFault>
         requires { IsAt self.old.declared (machine_step step.now) (CellId.Node n) }
         ensures network { self.new.declared ≡ self.old.declared }
         ensures answers { NetAnswers self.old (machine_step step.now) result self.new }
+        ensures arbiters { arbiters_of self.new.switches ≡ arbiters_of self.old.switches }
         ensures refused { OnErr result (self.new ≡ self.old) }
     {
         let cell = &mut self.nodes[n as usize];
@@ -30,6 +31,7 @@ impl<'n, R: Routing, A: Arbiter> Net<'n, R, A> {
         requires { IsAt self.old.declared (machine_step step.now) (CellId.Switch w) }
         ensures network { self.new.declared ≡ self.old.declared }
         ensures answers { NetAnswers self.old (machine_step step.now) result self.new }
+        ensures arbiters { arbiters_of self.new.switches ≡ arbiters_of self.old.switches }
         ensures refused { OnErr result (self.new ≡ self.old) }
     {
         let cell = &mut self.switches[w as usize];
@@ -38,10 +40,11 @@ impl<'n, R: Routing, A: Arbiter> Net<'n, R, A> {
 
     /// Makes the step, if the machine can; else nothing changes. The network's flows have to
     /// declare the packet that it begins, if it begins one. Only a step that begins a packet or
-    /// takes a character at a node may want memory, and is not made then.
+    /// takes a character at a node may want memory, and is not made then. No arbiter is asked.
     pub fn step(&mut self, alloc: Global, step: &Step) -> Result<(), NetFault>
         ensures network { self.new.declared ≡ self.old.declared }
         ensures answers { NetAnswers self.old (machine_step step.now) result self.new }
+        ensures arbiters { arbiters_of self.new.switches ≡ arbiters_of self.old.switches }
         ensures refused { OnErr result (self.new ≡ self.old) }
     {
         match cell_of(self.network, step)? {

@@ -1,7 +1,7 @@
 //! A packet goes from node to node, step by step.
 ghost use Rattle.std.specs.Prelude.{◌≡◌, []};
 
-use crate::{Net, SwitchRoutes, declared_net};
+use crate::{Net, Numbers, SwitchRoutes, declared_net};
 use std::alloc::{AllocError, Global};
 use std::process::Abort;
 use sw_arb::Policy;
@@ -103,4 +103,40 @@ fn goes_over_a_line(rt: &impl Abort, alloc: Global) {
 #[test]
 fn a_packet_goes_over_a_line(rt: HostRuntime) {
     goes_over_a_line(&rt, rt.alloc());
+}
+
+fn check_start(rt: &impl Abort, net: &Line) {
+    let end = LinkEnd::new(0);
+    let numbers = Numbers {
+        credit: 0,
+        outstanding: 0,
+        room: 64,
+    };
+    assert!(rt; net.network().channels() == 2 && net.network().nodes() == 2);
+    assert!(rt; net.numbers(end) == numbers);
+    assert!(rt; net.can_begin(0));
+    assert!(rt; net.is_possible(&Step::Fct(Chan::new(1))));
+    assert!(rt; !net.is_possible(&Step::Fct(Chan::new(2))));
+}
+
+fn ask_and_check(rt: &impl Abort, alloc: Global, net: &mut Line) {
+    let end = LinkEnd::new(0);
+    assert!(rt; net.network().channels() == 2);
+    let made = net.step_of(alloc, end).expect(rt, "step");
+    assert!(rt; matches!(made, Some(Step::Fct(_))));
+    assert!(rt; net.numbers(end).outstanding == 8);
+    assert!(rt; net.asks(end).is_empty());
+}
+
+fn steps_by_link_ends(rt: &impl Abort, alloc: Global) {
+    let mut network = line(rt, alloc);
+    add_flow(rt, alloc, &mut network);
+    let mut net = declared_net(alloc, &network).expect(rt, "net");
+    check_start(rt, &net);
+    ask_and_check(rt, alloc, &mut net);
+}
+
+#[test]
+fn a_link_end_tells_and_steps(rt: HostRuntime) {
+    steps_by_link_ends(&rt, rt.alloc());
 }

@@ -1,6 +1,6 @@
 pub mod Stops
 pub mod OneReport
 pub mod Making
+pub mod NetSteps
+pub mod NetReports
 pub mod Outputs
-pub mod Sizes
-pub mod Few

@@ -1,26 +1,16 @@
 -- Steps that are made one after another.
-use Rattle.std.proofs.Common.{Bool, List, Some, [], ap, append_assoc, arith, drop, false, get_or, length, length-append, not, refl, replicate, subst, suc, sym, take, true, zero, ℕ, ◌++◌, ◌+◌, ◌-◌, ◌<◌, ◌≤◌, ◌∙◌, ◌∷◌, ◌≡◌, ◌↔◌}
+use Rattle.std.proofs.Common.{List, Some, [], ap, append_assoc, arith, drop, get_or, length, length-append, refl, replicate, subst, suc, sym, take, zero, ℕ, ◌++◌, ◌+◌, ◌-◌, ◌<◌, ◌≤◌, ◌∙◌, ◌∷◌, ◌≡◌}
 use Rattle.std.proofs.lemmas.List.{flat_map_more, length-replicate, replicate-append-replicate, take_more}
-use Rattle.std.specs.Prelude.{IsTrue}
 use Rattle.sw_machine.proofs.RunLists.{run_append}
 use Rattle.sw_machine.specs.Network.{Network}
-use Rattle.sw_machine.specs.Runs.{IsReached, Run}
-use Rattle.sw_machine.specs.State.{State, empty}
+use Rattle.sw_machine.specs.Runs.{Run}
+use Rattle.sw_machine.specs.State.{State}
 use Rattle.sw_machine.specs.Steps.{Leads, Step}
-use Rattle.sw_replay.specs.declared.replayed.Outcome.{Outcome}
 use Rattle.sw_replay.specs.declared.replayed.Outcome.TheVariants.{Made, Refused}
 use Rattle.sw_replay.specs.declared.replayed.Refusal.{Refusal}
-use Rattle.sw_model.specs.Model.{network_of}
-use Rattle.sw_network.specs.Entries.{Declaration}
-use Rattle.sw_replay.specs.Replays.{Ends, IsReplayed, MakesOr, Refuses}
-use Rattle.sw_replay.specs.Reports.{IsTrueOf, Report}
+use Rattle.sw_replay.specs.Replays.{Ends, MakesOr, Refuses}
 use Rattle.sw_steps.specs.Lines.{Repeated}
 use Rattle.sw_steps.specs.Schedule.{steps_of}
-
--- what is not so
-pub not_so : (b : Bool) (P Q : Type 0) → (IsTrue b ↔ P) → (P ↔ Q) → (IsTrue (not b) ↔ (Q → ⊥))
-not_so true P Q is same = (λ e. absurd cc, λ none. absurd (none (same.0 (is.0 refl))))
-not_so false P Q is same = (λ e q. let t = is.1 (same.1 q) in cc, λ none. refl)
 
 module _ (net : Network) where
   -- a step that is made once more
@@ -70,39 +60,13 @@ module _ (net : Network) where
   pub stopped_at : (s t u : State) (all a b rest : List Step) (count k : ℕ) (r : Refusal) → all ≡ a ++ (b ++ rest) → Run net s a t → count ≡ length a → Ends net t b (Refused k r) u → Ends net s all (Refused (count + k) r) u
   stopped_at s t u all a b rest count k r parts run is stop = subst (λ (l : List Step). Ends net s l (Refused (count + k) r) u) (sym parts) (stopped_then s t u a b rest count k r run is stop)
 
-  -- the step that is refused is one of the steps
-  pub within_stop : (t u : State) (all a b rest : List Step) (k : ℕ) (r : Refusal) → all ≡ a ++ (b ++ rest) → Ends net t b (Refused k r) u → length a + k ≤ length all
-  within_stop t u all a b rest k r parts stop =
-      let whole = ap length parts in
-      let la = length-append a (b ++ rest) in
-      let lb = length-append b rest in
-      let inner = ap length stop.parts in
-      let lm = length-append stop.made (stop.step ∷ stop.others) in
-      let counted = stop.counted in
-      omega arith
-
-  -- a replay ends in a state that is reached
-  pub is_reached : (s : State) (steps : List Step) (o : Outcome) → Ends net (empty net) steps o s → IsReached net s
-  is_reached s steps (Made k) ends = (steps, ends.1)
-  is_reached s steps (Refused k r) ends = (ends.made, ends.run)
-
-pub within_made : (all a b rest : List Step) (count : ℕ) → all ≡ a ++ (b ++ rest) → count ≡ length b → length a + count ≤ length all
-within_made all a b rest count parts is =
+-- steps that are made, and some of those behind them, are some of all
+pub within_all : (all a b rest : List Step) (count k : ℕ) → all ≡ a ++ (b ++ rest) → count ≤ length a → k ≤ length b → count + k ≤ length all
+within_all all a b rest count k parts made more =
     let whole = ap length parts in
     let la = length-append a (b ++ rest) in
     let lb = length-append b rest in
     omega arith
-
--- what is told of a replay that ends so
-pub replayed : (d : Declaration) (s t : State) (steps all : List Step) (o : Outcome) (r : Report) → s ≡ empty (network_of d) → steps ≡ all → Ends (network_of d) s steps o t → r.outcome ≡ o → IsTrueOf (network_of d) t r → IsReplayed d all r
-replayed d s t steps all o r first same ends is report = record {
-  state = t;
-  ends =
-      subst (λ (p : Outcome). Ends (network_of d) (empty (network_of d)) all p t) (sym is)
-      (subst (λ (l : List Step). Ends (network_of d) (empty (network_of d)) l o t) same
-      (subst (λ (w : State). Ends (network_of d) w steps o t) first ends));
-  report = report;
-}
 
 -- the steps of the entries before entry i, its own, and those behind
 pub steps_at : (entries : List Repeated) (i j : ℕ) (e : Repeated) → i < length entries → e ≡ get_or entries i e → j ≡ suc i

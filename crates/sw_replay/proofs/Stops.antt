@@ -1,5 +1,6 @@
 -- From one state on, steps are made to one end.
 use Rattle.std.proofs.Common.{List, [], ap, length, refl, subst, suc, sym, ◌++◌, ◌+◌, ◌∙◌, ◌∷◌, ◌≡◌}
+use Rattle.sw_cell.specs.Places.{IsUndeclared}
 use Rattle.sw_machine.proofs.Determined.{determined}
 use Rattle.sw_machine.specs.Network.{Network}
 use Rattle.sw_machine.specs.Runs.{Run}
@@ -9,7 +10,7 @@ use Rattle.sw_replay.specs.declared.replayed.Outcome.{Outcome}
 use Rattle.sw_replay.specs.declared.replayed.Outcome.TheVariants.{Made, Refused}
 use Rattle.sw_replay.specs.declared.replayed.Refusal.{Refusal}
 use Rattle.sw_replay.specs.declared.replayed.Refusal.TheVariants.{NotEnabled, NotInFlow}
-use Rattle.sw_replay.specs.Replays.{Ends, IsUndeclared, Refuses}
+use Rattle.sw_replay.specs.Replays.{Ends, Refuses}
 
 module _ (net : Network) where
   -- a step that leads on begins no undeclared packet

@@ -1,9 +1,10 @@
 -- The replay of a list of steps: they are made one after another, from the empty state, up to the first that is refused.
 use Rattle.std.specs.Prelude.{◌≡◌, ℕ, ◌+◌, List, ◌∷◌, ◌++◌, length, None, Option, Some}
-use Rattle.sw_machine.specs.Network.{IsDeclared, Network}
+use Rattle.sw_cell.specs.Places.{IsUndeclared}
+use Rattle.sw_machine.specs.Network.{Network}
 use Rattle.sw_machine.specs.Runs.{Run}
 use Rattle.sw_machine.specs.State.{State, empty}
-use Rattle.sw_machine.specs.Steps.{Begin, IsPossible, Leads, Step}
+use Rattle.sw_machine.specs.Steps.{IsPossible, Leads, Step}
 use Rattle.sw_model.specs.Model.{network_of}
 use Rattle.sw_network.specs.Entries.{Declaration}
 use Rattle.sw_replay.specs.declared.replayed.Outcome.{Outcome}
@@ -11,11 +12,6 @@ use Rattle.sw_replay.specs.declared.replayed.Outcome.TheVariants.{Made, Refused}
 use Rattle.sw_replay.specs.declared.replayed.Refusal.{Refusal}
 use Rattle.sw_replay.specs.declared.replayed.Refusal.TheVariants.{NotEnabled, NotInFlow}
 use Rattle.sw_replay.specs.Reports.{IsTrueOf, Report}
-
--- the step begins a packet that is none of its flow's
-abbrev pub IsUndeclared : Network → Step → Type 0
-IsUndeclared net (Begin f cargo end) = IsDeclared net f cargo → ⊥
-IsUndeclared net step = ⊥
 
 -- in state s the step is refused, and this is why: that a packet is not declared goes before that a step is not possible
 abbrev pub Refuses : Network → State → Step → Refusal → Type 0

@@ -7,8 +7,8 @@ use crate::make::make_all;
 use crate::replayed::Replayed;
 use crate::report::report;
 use std::alloc::{AllocError, Global};
+use sw_net::declared_net;
 use sw_network::Network;
-use sw_plain::Plain;
 use sw_steps::Schedule;
 
 /// Makes the steps of the schedule one after another, from the empty network on, up to the first
@@ -18,7 +18,7 @@ pub fn replay(alloc: Global, network: &Network, schedule: &Schedule) -> Result<R
 {
     // Tells that there are at most as many steps as a schedule may have.
     let _total = schedule.total();
-    let mut machine = Plain::new(alloc, network)?;
-    let outcome = make_all(alloc, network, &mut machine, schedule.entries())?;
-    report(alloc, network, &mut machine, outcome)
+    let mut net = declared_net(alloc, network)?;
+    let outcome = make_all(alloc, &mut net, schedule.entries())?;
+    report(alloc, &net, outcome)
 }

@@ -26,18 +26,18 @@ fn show_cycle<R: Print + AllocGlobal>(rt: &R, network: &Network, cycle: &Cycle) 
     show_check(rt, check_cycle(network, cycle))
 }
 
-fn show_certificate<R: Print + AllocGlobal>(
+fn show_certificate<R: Print + AllocGlobal + Threads + Sync>(
     rt: &R,
     network: &Network,
     certificate: &Certificate,
 ) -> io::Result<()> {
     let text = certificate.write(rt.alloc())?;
     io::writer(rt).write_all(&text)?;
-    show_check(rt, check(network, certificate).is_ok())
+    show_check(rt, check(rt, network, certificate).is_ok())
 }
 
 // Prints the lines that tell the verdict.
-fn show_verdict<R: Print + AllocGlobal>(
+fn show_verdict<R: Print + AllocGlobal + Threads + Sync>(
     rt: &R,
     network: &Network,
     verdict: &Verdict,

@@ -102,7 +102,11 @@ fn run_report<R: Files + Print + AllocGlobal + Threads + Sync>(rt: &R, file: &st
     report(rt, rt.alloc(), &mut reader, &mut writer)
 }
 
-fn run_check<R: Files + Print + AllocGlobal>(rt: &R, file: &str, certificate: &str) -> Ended {
+fn run_check<R: Files + Print + AllocGlobal + Threads + Sync>(
+    rt: &R,
+    file: &str,
+    certificate: &str,
+) -> Ended {
     let Ok(mut network) = fs::open(rt, file) else {
         return Ended::ReadFailed;
     };
@@ -110,7 +114,7 @@ fn run_check<R: Files + Print + AllocGlobal>(rt: &R, file: &str, certificate: &s
         return Ended::ReadFailed;
     };
     let mut writer = io::writer(rt);
-    check(rt.alloc(), &mut network, &mut certificate, &mut writer)
+    check(rt, rt.alloc(), &mut network, &mut certificate, &mut writer)
 }
 
 fn run_replay<R: Files + Print + AllocGlobal>(rt: &R, file: &str, schedule: &str) -> Ended {

@@ -5,8 +5,8 @@ use Rattle.sw_check.proofs.Accepted.{not_refused_is_accepted}
 use Rattle.sw_check.proofs.checker.check.Goals as goal
 
 pub new-requires : goal.new-requires
-new-requires c = (not_refused_is_accepted c.args.network.now c.args.certificate.now c.flows-flows.ensures.valid).0 (sym c.in-None.ensures)
+new-requires g c = (not_refused_is_accepted c.args.network.now c.args.certificate.now c.flows-flows.ensures.valid).0 (sym c.in-None.ensures)
 
 pub returns-in-None-clause-deadlock_free : goal.returns-in-None-clause-deadlock_free
-returns-in-None-clause-deadlock_free c =
+returns-in-None-clause-deadlock_free g c =
     is_deadlock_free c.args.network.now (certificate_of c.args.certificate.now) c.flows-flows.ensures.valid ((not_refused_is_accepted c.args.network.now c.args.certificate.now c.flows-flows.ensures.valid).0 (sym c.in-None.ensures))

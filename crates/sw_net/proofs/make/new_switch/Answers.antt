@@ -1,6 +1,5 @@
-use Rattle.std.proofs.Common.{IsBitSet, IsSome, Some, ap, length, rules, subst, sym, ℕ, ◌<◌, ◌^◌, ◌↔◌, ◌∙◌, ◌≡◌}
+use Rattle.std.proofs.Common.{IsBitSet, IsSome, Some, length, rules, subst, sym, ℕ, ◌<◌, ◌^◌, ◌↔◌, ◌≡◌}
 use Rattle.std.specs.Prelude.{slice_get}
-use Rattle.sw_flow.specs.Places.{ends_of}
 use Rattle.sw_net.proofs.New.{have_arbiters, if_ok, new_switch_is}
 use Rattle.sw_net.specs.New.{IsNewSwitch, port_capacity}
 use Rattle.sw_net.proofs.make.new_switch.Goals as goal

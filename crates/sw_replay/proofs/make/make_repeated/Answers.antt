@@ -1,29 +1,36 @@
-use Rattle.std.proofs.Common.{Option, arith, subst, ◌<◌}
-use Rattle.sw_model.specs.Model.{network_of}
-use Rattle.sw_plain.specs.Lists.{state_of}
-use Rattle.sw_plain.specs.View.{lists_of, step_of}
+use Rattle.std.proofs.Common.{Option, arith, replicate, subst, ℕ, ◌<◌, ◌∙◌, ◌≡◌}
+use Rattle.sw_replay.proofs.NetSteps.{made_again, refused_again}
+use Rattle.sw_replay.specs.Nets.{NetEnds, NetMakesOr}
+use Rattle.sw_replay.specs.declared.replayed.Outcome.TheVariants.{Made}
 use Rattle.sw_replay.specs.declared.replayed.Refusal.{Refusal}
-use Rattle.sw_replay.specs.Replays.{MakesOr}
-use Rattle.sw_replay.proofs.Making.{once_more, refused_then}
+use Rattle.sw_steps.specs.Steps.{machine_step}
 use Rattle.sw_replay.proofs.make.make_repeated.Goals as goal
 
 pub returns-in-Some-clause-ends : goal.returns-in-Some-clause-ends
-returns-in-Some-clause-ends c =
-    let net = network_of c.args.network.now in
-    let t = state_of (lists_of c.loop-made.machine) in
-    let u = state_of (lists_of c.make.new.machine) in
-    let x = step_of c.args.step.now in
+returns-in-Some-clause-ends g c =
+    let w = c.loop-made.net in
+    let u = c.make.new.net in
+    let x = machine_step c.args.step.now in
+    let t = c.loop-made-test.true in
     let lt : c.loop-made.made < c.args.count = omega arith in
-    let makes = subst (λ (r : Option Refusal). MakesOr net t x r u) c.in-Some.is c.in_ok-make.ensures.made in
-    refused_then net (state_of (lists_of c.args.machine.now)) t u x c.loop-made.made c.args.count c.in-Some.refusal lt c.loop-made.invariant.run makes
+    let makes = subst (λ (r : Option Refusal). NetMakesOr w x r u) c.in-Some.is c.in_ok-make.ensures.made in
+    refused_again c.args.net.now w u c.loop-made.invariant.network x c.loop-made.made c.args.count c.in-Some.refusal lt c.loop-made.invariant.made makes
 
 pub loop-made-preserved : goal.loop-made-preserved
-loop-made-preserved c =
-    let net = network_of c.args.network.now in
-    let t = state_of (lists_of c.loop-made.machine) in
-    let u = state_of (lists_of c.make.new.machine) in
-    let x = step_of c.args.step.now in
+loop-made-preserved g c =
+    let w = c.loop-made.net in
+    let u = c.make.new.net in
+    let x = machine_step c.args.step.now in
+    let makes = subst (λ (r : Option Refusal). NetMakesOr w x r u) c.in-None.is c.in_ok-make.ensures.made in
     record {
-      kept = c.in_ok-make.ensures.kept;
-      run = once_more net (state_of (lists_of c.args.machine.now)) t u x c.loop-made.made c.loop-made.invariant.run (subst (λ (r : Option Refusal). MakesOr net t x r u) c.in-None.is c.in_ok-make.ensures.made);
+      network = c.in_ok-make.ensures.network ∙ c.loop-made.invariant.network;
+      made = made_again c.args.net.now w u c.loop-made.invariant.network x c.loop-made.made c.loop-made.invariant.made makes;
     }
+
+pub returns-clause-ends : goal.returns-clause-ends
+returns-clause-ends g c =
+    let x = machine_step c.args.step.now in
+    let least = c.loop-made-test.false in
+    let most = c.loop-made.auto.made-end in
+    let is : c.loop-made.made ≡ c.args.count = omega arith in
+    subst (λ (n : ℕ). NetEnds c.args.net.now (replicate n x) (Made n) c.loop-made.net) is c.loop-made.invariant.made

@@ -1,12 +1,11 @@
-use Rattle.std.proofs.Common.{replicate}
-use Rattle.sw_machine.specs.Runs.{Run}
-use Rattle.sw_model.specs.Model.{network_of}
-use Rattle.sw_plain.specs.Lists.{IsKept, state_of}
-use Rattle.sw_plain.specs.View.{lists_of, step_of}
+use Rattle.std.proofs.Common.{replicate, ◌≡◌}
+use Rattle.sw_replay.specs.Nets.{NetEnds}
+use Rattle.sw_replay.specs.declared.replayed.Outcome.TheVariants.{Made}
+use Rattle.sw_steps.specs.Steps.{machine_step}
 use Rattle.sw_replay.proofs.make.make_repeated.Given as goal
 
 abbrev pub invariant-loop-made : goal.invariant-loop-made
-invariant-loop-made l = record {
-  kept : IsKept l.network (lists_of l.machine);
-  run : Run (network_of l.network) (state_of (lists_of l.initial.machine)) (replicate l.made (step_of l.step)) (state_of (lists_of l.machine));
+invariant-loop-made g l = record {
+  network : l.net.declared ≡ l.initial.net.declared;
+  made : NetEnds l.initial.net (replicate l.made (machine_step l.step)) (Made l.made) l.net;
 }

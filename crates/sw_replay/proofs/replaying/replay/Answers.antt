@@ -1,16 +1,13 @@
-use Rattle.std.proofs.Common.{subst}
-use Rattle.sw_machine.specs.State.{State}
-use Rattle.sw_model.specs.Model.{network_of}
-use Rattle.sw_plain.specs.Lists.{state_of}
-use Rattle.sw_plain.specs.View.{lists_of}
-use Rattle.sw_replay.specs.Replays.{Ends}
-use Rattle.sw_replay.proofs.Making.{is_reached}
-use Rattle.sw_steps.specs.Schedule.{steps_of}
+use Rattle.std.proofs.Common.{List, subst}
+use Rattle.sw_machine.specs.Steps.{Step}
+use Rattle.sw_replay.proofs.NetSteps.{replayed_if}
+use Rattle.sw_replay.specs.Nets.{NetEnds}
 use Rattle.sw_replay.proofs.replaying.replay.Goals as goal
 
-pub report-requires-clause-reached : goal.report-requires-clause-reached
-report-requires-clause-reached c =
-    let net = network_of c.args.network.now in
-    let t = state_of (lists_of c.make_all.new.machine) in
-    let steps = steps_of c.entries.result.now in
-    is_reached net t steps c.in_ok-outcome.outcome (subst (λ (s : State). Ends net s steps c.in_ok-outcome.outcome t) c.in_ok-machine.ensures.empty c.in_ok-outcome.ensures.ends)
+pub returns : goal.returns
+returns c =
+    let v = c.in_ok-net.net in
+    let w = c.make_all.new.net in
+    let o = c.in_ok-outcome.outcome in
+    let ends = subst (λ (l : List Step). NetEnds v l o w) c.entries.ensures c.in_ok-outcome.ensures.ends in
+    replayed_if c.args.network.now v w c.args.schedule.now o c.report.result c.in_ok-net.ensures c.in_ok-outcome.ensures.network ends c.report.ensures.outcome c.report.ensures.report

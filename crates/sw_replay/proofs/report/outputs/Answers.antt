@@ -1,32 +1,17 @@
-use Rattle.std.proofs.Common.{List, [], rules, subst, sym, ℕ, ◌+◌, ◌<◌, ◌∙◌, ◌≡◌, length}
-use Rattle.std.specs.Prelude.{slice_index_or}
-use Rattle.sw_machine.specs.Packets.{Packet}
-use Rattle.sw_machine.specs.Runs.{CameOut}
-use Rattle.sw_model.specs.Model.{network_of}
-use Rattle.sw_plain.specs.Lists.{state_of}
-use Rattle.sw_plain.specs.View.{lists_of, rows}
-use Rattle.sw_replay.proofs.Outputs.{more_outputs, one_more, pushed}
+use Rattle.std.proofs.Common.{ap, arith, length, ◌≡◌}
+use Rattle.sw_network.specs.Entries.{Declaration}
+use Rattle.sw_replay.proofs.Outputs.{all_outputs, pushed}
 use Rattle.sw_replay.proofs.report.outputs.Goals as goal
 
 pub loop-n-preserved : goal.loop-n-preserved
-loop-n-preserved c =
-    let s = state_of (lists_of c.args.machine.now) in
-    let q = c.in_ok-came_out.field-0 in
-    let all = rows c.loop-n.all in
-    let is = pushed c.loop-n.all c.push.new.self q c.in_ok-push.ensures.items in
-    let count : length all ≡ c.loop-n.n = c.loop-n.invariant.each_node in
-    let each = more_outputs s all c.loop-n.n q.items count c.loop-n.invariant.packets c.in_ok-came_out.ensures in
-    record {
-      each_node = subst (λ (l : List (List Packet)). length l ≡ c.loop-n.n + 1) (sym is) (one_more s all c.loop-n.n q.items count);
-      packets = subst (λ (l : List (List Packet)). (k : ℕ) → k < c.loop-n.n + 1 → CameOut s k (slice_index_or l k [])) (sym is) each;
-    }
+loop-n-preserved g c = pushed c.args.net.now c.loop-n.all.items c.loop-n.n c.in_ok-came_out.field-0 c.push.new.self.items c.in_ok-push.ensures.items c.loop-n.invariant c.in_ok-came_out.ensures
 
 pub returns : goal.returns
-unfolding network_of
-returns c =
-    let s = state_of (lists_of c.args.machine.now) in
-    let end : c.loop-n.n ≡ (network_of c.args.network.now).nodes = search rules in
-    record {
-      each_node = c.loop-n.invariant.each_node ∙ end;
-      packets = subst (λ (n : ℕ). (k : ℕ) → k < n → CameOut s k (slice_index_or (rows c.loop-n.all) k [])) end c.loop-n.invariant.packets;
-    }
+returns g c =
+    let v = c.args.net.now in
+    let same = ap (λ (d : Declaration). length d.nodes) c.network.ensures.network in
+    let count = c.nodes-n-end.ensures.count in
+    let least = c.loop-n-test.false in
+    let most = c.loop-n.auto.n-end in
+    let is : c.loop-n.n ≡ length v.declared.nodes = omega arith in
+    all_outputs v c.loop-n.n c.loop-n.all.items is c.loop-n.invariant

@@ -1,4 +1,4 @@
-use Rattle.std.proofs.Common.{ap, arith, below_more, false, length, subst, sym, true, ℕ, ◌<◌, ◌∙◌, ◌≡◌}
+use Rattle.std.proofs.Common.{ap, arith, below_more, false, length, subst, sym, ℕ, ◌<◌, ◌∙◌}
 use Rattle.sw_cells.proofs.Network.{channels_are}
 use Rattle.sw_model.specs.Model.{network_of}
 use Rattle.sw_net.proofs.Told.{all_quiet}

@@ -1,4 +1,4 @@
-use Rattle.std.proofs.Common.{ap, length, refl, sym, ◌∙◌, ◌≡◌}
+use Rattle.std.proofs.Common.{ap, length, refl, sym, ◌∙◌}
 use Rattle.sw_cells.proofs.Network.{channels_are}
 use Rattle.sw_net.proofs.New as new
 use Rattle.sw_net.proofs.net.Net.new.Goals as goal

@@ -1,4 +1,4 @@
-use Rattle.std.proofs.Common.{◌≡◌, Err, Some, rules, set, subst, sym}
+use Rattle.std.proofs.Common.{◌≡◌, Err, rules, set, subst, sym}
 use Rattle.sw_cell.specs.declared.fault.NetFault.TheVariants.{Memory}
 use Rattle.sw_net.proofs.Steps as steps
 use Rattle.sw_net.specs.Net.{NetAnswers, net_of}

@@ -1,7 +1,7 @@
-use Rattle.std.proofs.Common.{◌≡◌, Err, Some, rules, set, subst, sym}
-use Rattle.sw_cell.specs.declared.fault.NetFault.TheVariants.{Memory}
+use Rattle.std.proofs.Common.{ap, set, subst, sym, ◌∙◌}
+use Rattle.sw_net.proofs.Making.{same_arbiters}
 use Rattle.sw_net.proofs.Steps as steps
-use Rattle.sw_net.specs.Net.{NetAnswers, net_of}
+use Rattle.sw_net.specs.Net.{NetAnswers, NetView, arbiters_of, net_of}
 use Rattle.sw_net.proofs.net.Net.step_switch.Goals as goal
 use Rattle.sw_steps.specs.Steps.{machine_step}
 
@@ -24,3 +24,9 @@ returns-clause-answers g c =
     subst (λ k. NetAnswers k (machine_step c.args.step.now) c.made_or_not.result (net_of c.self.inside.network.now c.self.inside.nodes.items (set c.self.inside.switches.items c.args.w c.step_switch.new.cell) c.step_switch.new.wires)) c.self.view_is
     (subst (λ r. NetAnswers (net_of c.self.inside.network.now c.self.inside.nodes.items c.self.inside.switches.items c.self.inside.wires) (machine_step c.args.step.now) r (net_of c.self.inside.network.now c.self.inside.nodes.items (set c.self.inside.switches.items c.args.w c.step_switch.new.cell) c.step_switch.new.wires)) (sym c.made_or_not.ensures)
     (steps.switch_answers g.R.Routing.answer g.A.Arbiter.ports c.self.inside.network.now c.self.inside.nodes.items c.self.inside.switches.items c.self.inside.wires c.self.invariant (machine_step c.args.step.now) c.args.w c.index_mut-cell.result.now at here.cell c.step_switch.result c.step_switch.new.cell c.step_switch.new.wires here.named c.step_switch.ensures.made))
+
+pub returns-clause-arbiters : goal.returns-clause-arbiters
+returns-clause-arbiters g c =
+    let at = steps.switch_found g.R.Routing.answer g.A.Arbiter.ports (net_of c.self.inside.network.now c.self.inside.nodes.items c.self.inside.switches.items c.self.inside.wires) c.args.self.now c.self.view_is c.self.invariant (machine_step c.args.step.now) c.args.w c.index_mut-cell.result.now c.requires c.index_mut-cell.ensures.value in
+    same_arbiters c.self.inside.switches.items c.args.w c.index_mut-cell.result.now c.step_switch.new.cell at c.step_switch.ensures.arbiters
+    ∙ ap (λ (k : NetView g.row.R.Denot g.row.A.Denot). arbiters_of k.switches) c.self.view_is

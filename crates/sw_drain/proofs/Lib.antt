@@ -1,0 +1,9 @@
+pub mod Follows
+pub mod Counts
+pub mod Sends
+pub mod Begun
+pub mod Way
+pub mod Ends
+pub mod Idle
+pub mod Steps
+pub mod Loop

@@ -1,0 +1,59 @@
+use Rattle.std.proofs.Common.{ap, arith, false, length, refl, rules, subst, sym, true, ◌+◌, ◌∙◌, ◌≡◌}
+use Rattle.sw_drain.proofs.Loop.{finished, never_over, new_way, one_moved, written}
+use Rattle.sw_drain.proofs.whole.drain.Goals as goal
+use Rattle.sw_drain.specs.Way.{BeginsOne, IsOnTheWay, MovesOne}
+use Rattle.sw_limit.specs.History.{packets_of}
+use Rattle.sw_limit.specs.Limit.{enough_limit}
+use Rattle.sw_machine.specs.Headline.{IsDeadlockFree}
+use Rattle.sw_model.specs.Model.{network_of}
+use Rattle.sw_network.specs.Entries.{Declaration}
+
+pub loop-init : goal.loop-init
+loop-init g c =
+    let begun = c.in_ok-begun.ensures.items_if_clones_equal (λ y same. same) in
+    let all = c.nodes.ensures.count ∙ ap (λ (d : Declaration). length d.nodes) c.network-network.ensures.network in
+    (refl, new_way c.args.load.now c.args.net.now c.in_ok-begun.begun.items c.nodes.result begun c.requires.empty all)
+
+pub returns-then-not-branch-clause-drained : goal.returns-then-not-branch-clause-drained
+returns-then-not-branch-clause-drained g c =
+    let load = c.args.load.now in
+    let d = c.args.net.now.declared in
+    let valid = c.network-network.ensures.sound.valid in
+    let cert = c.is_deadlock_free.ensures.0 in
+    let free = subst (λ (e : Declaration). IsDeadlockFree (network_of e) cert) c.requires.passed c.is_deadlock_free.ensures.1 in
+    let v = c.loop.net in
+    let u = c.begin_one.new.net in
+    let none = subst (λ k. BeginsOne load v c.as_mut_slice.result.now k u c.begin_one.new.begun) c.if-branch.false c.in_ok-begin_one.ensures.begins in
+    let begins = subst (λ l. BeginsOne load v l false u c.begin_one.new.begun) c.as_mut_slice.ensures.value none in
+    let no : c.in_ok-move_one.field-0 ≡ false = search rules in
+    let stops = subst (λ k. MovesOne u k c.move_one.new.net) no c.in_ok-move_one.ensures.moves in
+    finished load v u c.move_one.new.net c.loop.begun.items c.begin_one.new.begun c.loop.counter c.loop.moves begins c.loop.invariant.1 d c.loop.invariant.0 valid c.requires.packets cert free stops
+
+pub loop-preserved : goal.loop-preserved
+loop-preserved g c =
+    let load = c.args.load.now in
+    let v = c.loop.net in
+    let u = c.begin_one.new.net in
+    let none = subst (λ k. BeginsOne load v c.as_mut_slice.result.now k u c.begin_one.new.begun) c.if-branch.false c.in_ok-begin_one.ensures.begins in
+    let begins = subst (λ l. BeginsOne load v l false u c.begin_one.new.begun) c.as_mut_slice.ensures.value none in
+    let yes : c.in_ok-move_one.field-0 ≡ true = search rules in
+    let moves = subst (λ k. MovesOne u k c.move_one.new.net) yes c.in_ok-move_one.ensures.moves in
+    let there = one_moved load v u c.move_one.new.net c.loop.begun.items c.begin_one.new.begun c.loop.counter c.loop.moves begins c.loop.invariant.1 moves c.move_one.ensures.network in
+    let same : length c.begin_one.new.begun ≡ length c.loop.begun.items = c.begin_one.ensures.nodes ∙ ap length c.as_mut_slice.ensures.value in
+    let all : c.loop.begun.len ≡ length c.loop.begun.items = search rules in (
+      c.move_one.ensures.network ∙ c.begin_one.ensures.network ∙ c.loop.invariant.0,
+      subst (λ l. IsOnTheWay load c.move_one.new.net l (c.loop.counter + 1) (c.loop.moves + 1)) (sym (written c.begin_one.new.begun c.loop.begun.items c.loop.begun.len same all)) there,
+    )
+
+pub unreachable-requires : goal.unreachable-requires
+unreachable-requires g c =
+    let load = c.args.load.now in
+    let d = c.args.net.now.declared in
+    let valid = c.network-network.ensures.sound.valid in
+    let cert = c.is_deadlock_free.ensures.0 in
+    let free = subst (λ (e : Declaration). IsDeadlockFree (network_of e) cert) c.requires.passed c.is_deadlock_free.ensures.1 in
+    let past = c.loop-test.false in
+    let end = c.loop.auto.counter-end in
+    let over : c.loop.counter ≡ c.enough_limit-end.result = omega arith in
+    never_over load c.loop.net c.loop.begun.items c.loop.counter c.loop.moves c.loop.invariant.1 d c.loop.invariant.0 valid c.requires.packets cert free
+    (over ∙ c.enough_limit-end.ensures ∙ ap (λ (e : Declaration). enough_limit (network_of e) (packets_of load)) c.network-network.ensures.network)

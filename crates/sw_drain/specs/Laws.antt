@@ -1,0 +1,19 @@
+-- Where nothing more can happen in a network that can't lock up.
+use Rattle.std.specs.Prelude.{ℕ, ◌<◌, ◌≡◌}
+use Rattle.sw_cells.specs.Possible.{CanStepAt}
+use Rattle.sw_machine.specs.Headline.{OfAccepted}
+use Rattle.sw_machine.specs.Network.{Network}
+use Rattle.sw_machine.specs.Runs.{IsReached, undelivered}
+use Rattle.sw_machine.specs.State.{State}
+
+-- no link end has a possible step other than a beginning
+abbrev pub NoneCanStep : Network → State → Type 0
+NoneCanStep net s = (e : ℕ) → e < net.channels → CanStepAt net s e → ⊥
+
+-- in a reached state where none has, nothing is undelivered
+abbrev pub IdleIsEmpty : Network → Type 0
+IdleIsEmpty net = (s : State) → IsReached net s → NoneCanStep net s → undelivered net s ≡ 0
+
+-- so it is wherever a certificate is accepted
+abbrev pub AcceptedIdleIsEmpty : Type 0
+AcceptedIdleIsEmpty = OfAccepted IdleIsEmpty

@@ -1,0 +1,3 @@
+pub mod Drained
+pub mod Laws
+pub mod Way

@@ -1,0 +1,53 @@
+-- A network on the way, while it sends a load.
+use Rattle.std.specs.Prelude.{Bool, List, None, Ok, Some, false, length, slice_get, true, ℕ, ◌+◌, ◌≡◌, ◌⊎◌}
+use Rattle.sw_limit.specs.History.{IsHistory, packets_at, packets_of}
+use Rattle.sw_load.specs.Load.{LoadEntry}
+use Rattle.sw_machine.specs.Begun.{Begun, beginnings, moves}
+use Rattle.sw_machine.specs.State.{State}
+use Rattle.sw_machine.specs.Steps.{Step, is_begin}
+use Rattle.sw_model.specs.Model.{network_of}
+use Rattle.sw_net.specs.Asked.{IsQuietNet}
+use Rattle.sw_net.specs.Net.{IsNetState, NetAnswers, NetView}
+use Rattle.sw_net.specs.Possible.{TellsBeginning}
+
+-- the net is in the state after so many steps, so many of them no beginnings; begun tells by node how many packets it has begun
+pub record IsOnTheWay {R A : Type 0} (load : List LoadEntry) (v : NetView R A) (begun : List ℕ) (long count : ℕ) : Type 0 where
+  pub steps : List Step
+  pub state : State
+  pub history : IsHistory (network_of v.declared) (packets_of load) steps state
+  pub in_net : IsNetState v state
+  pub all_nodes : length begun ≡ length v.declared.nodes
+  pub counted : (n k : ℕ) → slice_get begun n ≡ Some k → k ≡ length (packets_at (network_of v.declared) n (beginnings steps))
+  pub steps_are : length steps ≡ long
+  pub moves_are : moves steps ≡ count
+
+-- the packet that node n begins next, where it has begun so many
+abbrev pub IsNext : {R A : Type 0} → List LoadEntry → NetView R A → ℕ → ℕ → Begun → Type 0
+IsNext load v n k b = slice_get (packets_at (network_of v.declared) n (packets_of load)) k ≡ Some b
+
+-- true: node n can begin its next packet; false: it has none left, or can't begin
+abbrev pub IsReady : {R A : Type 0} → List LoadEntry → NetView R A → ℕ → ℕ → Bool → Type 0
+IsReady load v n k true = ((b : Begun) × IsNext load v n k b) × TellsBeginning v n true
+IsReady load v n k false = (slice_get (packets_at (network_of v.declared) n (packets_of load)) k ≡ None) ⊎ TellsBeginning v n false
+
+-- no node can
+abbrev pub NoneIsReady : {R A : Type 0} → List LoadEntry → NetView R A → List ℕ → Type 0
+NoneIsReady load v begun = (n k : ℕ) → slice_get begun n ≡ Some k → IsReady load v n k false
+
+-- some step other than a beginning was made
+abbrev pub HasMoved : {R A : Type 0} → NetView R A → NetView R A → Type 0
+HasMoved v w = (step : Step) × (is_begin step ≡ false) × NetAnswers v step (Ok tt) w
+
+-- some node began its next packet, and that is counted
+abbrev pub HasBegun : {R A : Type 0} → List LoadEntry → NetView R A → List ℕ → NetView R A → List ℕ → Type 0
+HasBegun load v begun w after = (long count : ℕ) → IsOnTheWay load v begun long count → IsOnTheWay load w after (long + 1) count
+
+-- true: some node began its next packet; false: none can, and nothing changed
+abbrev pub BeginsOne : {R A : Type 0} → List LoadEntry → NetView R A → List ℕ → Bool → NetView R A → List ℕ → Type 0
+BeginsOne load v begun true w after = HasBegun load v begun w after
+BeginsOne load v begun false w after = (w ≡ v) × (after ≡ begun) × NoneIsReady load v begun
+
+-- true: a step other than a beginning was made; false: none is possible, and nothing changed
+abbrev pub MovesOne : {R A : Type 0} → NetView R A → Bool → NetView R A → Type 0
+MovesOne v true w = HasMoved v w
+MovesOne v false w = (w ≡ v) × IsQuietNet v true

@@ -1,0 +1,114 @@
+-- What a history keeps when a step is added.
+use Rattle.std.proofs.Common.{◌≡◌, ◌++◌, ◌+◌, ◌<◌, ◌∷◌, ◌∙◌, ⊎_elim, [], ℕ, List, None, Ok, Some, drop, length, map, set, take, refl, sym, ap, subst, arith, append-nil, length-append}
+use Rattle.std.proofs.Math.ListN.{drop_of_length-le}
+use Rattle.std.proofs.lemmas.List.{map-append, take_all}
+use Rattle.std.specs.Prelude.{slice_get}
+use Rattle.std.proofs.lemmas.Bool.{cases_eq}
+use Rattle.std.proofs.lemmas.Option.{same_Some}
+use Rattle.sw_char.specs.declared.nchar.End.{End}
+use Rattle.sw_history.proofs.Follows.{begun_at_last, grows, its_own, not_its_own}
+use Rattle.sw_history.specs.History.{HistoryView, IsCounted, IsKept, IsNext, with_steps}
+use Rattle.sw_history.specs.Next.{BeginsNext, beginner_of}
+use Rattle.sw_limit.specs.History.{packets_at, packets_of}
+use Rattle.sw_load.specs.Load.{LoadEntry}
+use Rattle.sw_machine.specs.Begun.{Begun, beginning, beginnings}
+use Rattle.sw_machine.specs.Network.{Network}
+use Rattle.sw_machine.specs.Steps.{Accept, Arrive, Begin, Drop, Emit, Fct, FctIn, Forward, Grant, Leads, Reply, Spill, Step}
+use Rattle.sw_model.specs.Model.{network_of}
+use Rattle.sw_net.specs.Net.{NetAnswers, NetView}
+use Rattle.sw_net.proofs.Steps.{get_set_other, get_set_same}
+use Rattle.sw_network.specs.Entries.{Declaration}
+
+module _ (d : Declaration) (steps : List Step) (begun : List ℕ) (counted : IsCounted d steps begun) where
+  abbrev net : Network
+  net = network_of d
+
+  nothing_more : (step : Step) (n : ℕ) → packets_at net n (beginning step) ≡ [] → length (packets_at net n (beginnings (steps ++ step ∷ []))) ≡ length (packets_at net n (beginnings steps))
+  nothing_more step n none = ap length (begun_at_last net [] steps step n ∙ ap (λ l. packets_at net n (beginnings steps) ++ l) none ∙ append-nil (packets_at net n (beginnings steps)))
+
+  counted_by : (step : Step) → ((n : ℕ) → packets_at net n (beginning step) ≡ []) → IsCounted d (steps ++ step ∷ []) begun
+  counted_by step none n count h = counted n count h ∙ sym (nothing_more step n (none n))
+
+  pub none_counted : (step : Step) → beginner_of net step ≡ None → IsCounted d (steps ++ step ∷ []) begun
+  none_counted (Begin f cargo end) h = absurd cc
+  none_counted (Fct c) h = counted_by (Fct c) (λ n. refl)
+  none_counted (FctIn c) h = counted_by (FctIn c) (λ n. refl)
+  none_counted (Arrive c) h = counted_by (Arrive c) (λ n. refl)
+  none_counted (Grant e c) h = counted_by (Grant e c) (λ n. refl)
+  none_counted (Drop c) h = counted_by (Drop c) (λ n. refl)
+  none_counted (Forward c) h = counted_by (Forward c) (λ n. refl)
+  none_counted (Spill c) h = counted_by (Spill c) (λ n. refl)
+  none_counted (Emit m) h = counted_by (Emit m) (λ n. refl)
+  none_counted (Accept m) h = counted_by (Accept m) (λ n. refl)
+  none_counted (Reply m) h = counted_by (Reply m) (λ n. refl)
+
+  begin_counted : (f : ℕ) (cargo : List ℕ) (end : End) (before : ℕ) → slice_get begun (net.flow f).from ≡ Some before → (net.flow f).from < length begun
+      → IsCounted d (steps ++ Begin f cargo end ∷ []) (set begun (net.flow f).from (before + 1))
+  begin_counted f cargo end before at lt n count h =
+      let m = (net.flow f).from in
+      let b : Begun = record { flow = f; cargo = cargo; end = end } in
+      ⊎_elim
+      (λ same.
+      let is : count ≡ before + 1 = same_Some count (before + 1) (sym h ∙ ap (slice_get (set begun m (before + 1))) (sym same) ∙ get_set_same begun m (before + 1) lt) in
+      let was = counted m before at in
+      let more = ap length (begun_at_last net [] steps (Begin f cargo end) m ∙ ap (λ l. packets_at net m (beginnings steps) ++ l) (its_own net [] b m refl)) in
+      let sum = length-append (packets_at net m (beginnings steps)) (b ∷ []) in
+      let here : count ≡ length (packets_at net m (beginnings (steps ++ Begin f cargo end ∷ []))) = omega arith in
+      here ∙ ap (λ k. length (packets_at net k (beginnings (steps ++ Begin f cargo end ∷ [])))) same)
+      (λ other.
+      let ne : n ≡ m → ⊥ = λ e. other (sym e) in
+      counted n count (sym (get_set_other begun m n (before + 1) ne) ∙ h) ∙ sym (nothing_more (Begin f cargo end) n (not_its_own net [] b n other)))
+      (cases_eq m n)
+
+  pub some_counted : (step : Step) (n before : ℕ) → beginner_of net step ≡ Some n → slice_get begun n ≡ Some before → n < length begun → IsCounted d (steps ++ step ∷ []) (set begun n (before + 1))
+  some_counted (Begin f cargo end) n before h at lt =
+      let same : (net.flow f).from ≡ n = cc in
+      subst (λ k. IsCounted d (steps ++ Begin f cargo end ∷ []) (set begun k (before + 1))) same
+      (begin_counted f cargo end before (ap (slice_get begun) same ∙ at) (subst (λ k. k < length begun) (sym same) lt))
+  some_counted (Fct c) n before h at lt = absurd cc
+  some_counted (FctIn c) n before h at lt = absurd cc
+  some_counted (Arrive c) n before h at lt = absurd cc
+  some_counted (Grant e c) n before h at lt = absurd cc
+  some_counted (Drop c) n before h at lt = absurd cc
+  some_counted (Forward c) n before h at lt = absurd cc
+  some_counted (Spill c) n before h at lt = absurd cc
+  some_counted (Emit m) n before h at lt = absurd cc
+  some_counted (Accept m) n before h at lt = absurd cc
+  some_counted (Reply m) n before h at lt = absurd cc
+
+-- a step that the net made goes to the end of the history
+pub add_is_kept : {R A : Type 0} (net after : NetView R A) (load : List LoadEntry) (steps : List Step) (step : Step) (room less : ℕ) (begun more : List ℕ) → after.declared ≡ net.declared
+    → IsKept net (record { declared = net.declared; load = load; steps = steps; room = room }) begun → BeginsNext (network_of net.declared) (packets_of load) steps step
+    → NetAnswers net step (Ok tt) after → length more ≡ length begun → IsCounted net.declared (steps ++ step ∷ []) more
+    → IsKept after (record { declared = after.declared; load = load; steps = steps ++ step ∷ []; room = less }) more
+add_is_kept net after load steps step room less begun more same kept next answers all counted =
+    let t = answers kept.state kept.in_net in
+    let is : IsKept after (record { declared = net.declared; load = load; steps = steps ++ step ∷ []; room = less }) more = record {
+      network = same;
+      packets = kept.packets;
+      all_nodes = all ∙ kept.all_nodes;
+      counted = counted;
+      state = t.0;
+      leads = grows (network_of net.declared) (packets_of load) steps kept.state kept.leads step t.0 t.1 next;
+      in_net = t.2;
+    } in
+    subst (λ (e : Declaration). IsKept after (record { declared = e; load = load; steps = steps ++ step ∷ []; room = less }) more) (sym same) is
+
+-- the list of a vector whose slice was written whole
+pub written : (count : ℕ) (xs new : List ℕ) → length new ≡ length xs → count ≡ length xs → take count (new ++ drop (length new) xs) ≡ new
+written count xs new same all =
+    let none = drop_of_length-le xs {i = length new} (omega arith) in
+    let whole = ap (λ l. new ++ l) none ∙ append-nil new in
+    let size = ap (λ (l : List ℕ). length l) whole in
+    take_all count (new ++ drop (length new) xs) (omega arith) ∙ whole
+
+pub last_of_map : {X Y : Type 0} (f : X → Y) (xs ys : List X) (x : X) → ys ≡ xs ++ x ∷ [] → map f ys ≡ map f xs ++ f x ∷ []
+last_of_map f xs ys x e = ap (map f) e ∙ map-append f xs (x ∷ [])
+
+pub made_may_follow : {R A : Type 0} (before after : NetView R A) (h : HistoryView) (begun : List ℕ) (step : Step) → IsKept before h begun → BeginsNext (network_of h.declared) (packets_of h.load) h.steps step → NetAnswers before step (Ok tt) after → IsNext h step
+made_may_follow before after h begun step kept next answers =
+    let t = answers kept.state kept.in_net in
+    (t.0, grows (network_of h.declared) (packets_of h.load) h.steps kept.state kept.leads step t.0 (subst (λ (d : Declaration). Leads (network_of d) kept.state step t.0) kept.network t.1) next)
+
+pub same_view : (h : HistoryView) (d : Declaration) (load : List LoadEntry) (steps : List Step) (room : ℕ) → d ≡ h.declared → load ≡ h.load → (all : List Step) → steps ≡ all → (left : ℕ) → room ≡ left → record { declared = d; load = load; steps = steps; room = room } ≡ with_steps h all left
+same_view h d load steps room e f all s left r = cc

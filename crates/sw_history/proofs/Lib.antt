@@ -1,0 +1,9 @@
+pub mod Follows
+mod Adds
+mod Counts
+mod Idle
+mod Kept
+mod Refused
+mod Sends
+mod Undeclared
+mod Whole

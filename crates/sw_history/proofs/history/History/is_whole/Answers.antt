@@ -1,0 +1,32 @@
+use Rattle.std.proofs.Common.{ap, arith, below_more, false, length, refl, subst, sym, ◌∙◌, ◌≡◌}
+use Rattle.std.specs.Prelude.{is_some}
+use Rattle.std.proofs.lemmas.Bool.{false≢true}
+use Rattle.sw_history.proofs.Whole.{not_whole, whole}
+use Rattle.sw_history.proofs.history.History.is_whole.Goals as goal
+use Rattle.sw_history.specs.History.{HistoryView, IsKept}
+use Rattle.sw_history.specs.Next.{next_packet}
+use Rattle.sw_limit.specs.History.{packets_of}
+use Rattle.sw_model.specs.Model.{network_of}
+use Rattle.sw_network.specs.Entries.{Declaration}
+use Rattle.sw_network.specs.Valid.{IsValid}
+
+pub returns-then-has_next : goal.returns-then-has_next
+returns-then-has_next g c =
+    let now = c.args.self.now in
+    (λ t. absurd (false≢true t), λ all. absurd (not_whole now.declared now.load now.steps c.loop-node.node (sym c.has_next.ensures ∙ c.if-has_next.true) all))
+
+pub loop-node-preserved : goal.loop-node-preserved
+loop-node-preserved g c =
+    let now = c.args.self.now in
+    below_more (λ k. is_some (next_packet (network_of now.declared) (packets_of now.load) now.steps k) ≡ false) c.loop-node.node c.loop-node.invariant (sym c.has_next.ensures ∙ c.if-has_next.false)
+
+pub returns : goal.returns
+returns g c =
+    let in_self = c.self.inside in
+    let now = c.args.self.now in
+    let kept = subst (λ (k : HistoryView). IsKept in_self.net k in_self.begun.items) c.self.view_is c.self.invariant in
+    let same = c.network.ensures.network ∙ kept.network in
+    let count = c.nodes-node-end.ensures.count ∙ ap (λ (d : Declaration). length d.nodes) same in
+    let test = c.loop-node-test.false in
+    let valid = subst IsValid kept.network c.network.ensures.sound.valid in
+    (λ t. whole now.declared valid now.load now.steps kept.state kept.leads kept.packets (λ k lt. c.loop-node.invariant k (omega arith)), λ all. refl)

@@ -1,0 +1,4 @@
+pub mod Next
+pub mod Laws
+pub mod History
+pub mod Makes

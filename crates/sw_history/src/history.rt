@@ -1,0 +1,163 @@
+//! A history, and the network in the state after it.
+
+use crate::fault::StepFault;
+use crate::making::make;
+use crate::packets::{count_begun, is_same, packet_at};
+use std::alloc::{AllocError, Global};
+use std::marker::Model;
+use sw_arb::Arbiter;
+use sw_char::End;
+use sw_load::{Load, LoadPacket};
+use sw_net::Net;
+use sw_route::Routing;
+use sw_steps::Step;
+
+/// The steps that a network has made from its empty state, which begin packets of a load, each node
+/// its own in their order.
+#[derive(Drop)]
+pub struct History<'n, R: Routing, A: Arbiter> {
+    pub(crate) net: Net<'n, R, A>,
+    pub(crate) load: &'n Load,
+    pub(crate) steps: Vec<Step>,
+    begun: Vec<u32>,
+}
+
+impl<'n, R: Routing, A: Arbiter> Model for History<'n, R, A> {
+    ghost use Rattle.std.specs.Prelude.{map, ◌-◌};
+    ghost use Rattle.std.specs.Prelude.{vec_capacity, vec_len};
+    ghost use Rattle.sw_history.specs.History.{HistoryView, IsKept};
+    ghost use Rattle.sw_steps.specs.Steps.{machine_step};
+
+    ghost Value = { HistoryView };
+
+    ghost view = { λ h. record { declared = h.net.declared; load = h.load.now; steps = map machine_step h.steps.items; room = vec_capacity h.steps - vec_len h.steps } };
+
+    ghost invariant = { λ h. IsKept h.net (record { declared = h.net.declared; load = h.load.now; steps = map machine_step h.steps.items; room = vec_capacity h.steps - vec_len h.steps }) h.begun.items };
+}
+
+impl<'n, R: Routing, A: Arbiter> History<'n, R, A> {
+    ghost use Rattle.std.specs.Prelude.{◌≡◌, ◌<◌, IfErr, IfNone, IfOk, IfSome, OnErr, OnOk, length, option_map};
+    ghost use Rattle.sw_history.specs.History.{Adds, IsNext};
+    ghost use Rattle.sw_history.specs.Next.{BeginsNext, beginner_of, next_packet};
+    ghost use Rattle.sw_history.specs.declared.fault.StepFault.TheVariants.{NotEnabled};
+    ghost use Rattle.sw_machine.specs.Steps.{Begin};
+    ghost use Rattle.sw_steps.specs.Steps.{machine_step};
+    ghost use Rattle.sw_limit.specs.History.{packet_of, packets_of};
+    ghost use Rattle.sw_model.specs.Model.{network_of};
+
+    /// How many steps there are.
+    pub fn len(&self) -> usize
+        ensures { result ≡ length self.now.steps }
+    {
+        self.steps.len()
+    }
+
+    /// The packet that the node is to begin next. None where it has begun all of its packets.
+    pub fn next(&self, node: u16) -> Option<&LoadPacket>
+        requires { node < length self.now.declared.nodes }
+        ensures { option_map (λ p. packet_of p.now) result ≡ next_packet (network_of self.now.declared) (packets_of self.now.load) self.now.steps node }
+    {
+        packet_at(
+            self.net.network(),
+            self.load,
+            node,
+            self.begun[node as usize],
+        )
+    }
+
+    /// Whether these are the flow, cargo and end of the packet that the node where the flow starts is
+    /// to begin next: then that node.
+    fn sender(&self, flow: u16, cargo: &[u8], end: End) -> Option<u16>
+        ensures some { IfSome result (λ n. n ≡ ((network_of self.now.declared).flow flow).from) }
+        ensures within { IfSome result (λ n. n < length self.now.declared.nodes) }
+        ensures next { IfSome result (λ n. next_packet (network_of self.now.declared) (packets_of self.now.load) self.now.steps n ≡ Some (record { flow = flow; cargo = cargo.now; end = end })) }
+        ensures none { IfNone result (IsNext self.now (Begin flow cargo.now end) → ⊥) }
+    {
+        let network = self.net.network();
+        if flow >= network.declared_flows() {
+            return None;
+        }
+        let node = network.flow(flow).from();
+        match self.next(node) {
+            Some(packet) => {
+                if is_same(packet, flow, cargo, end) {
+                    Some(node)
+                } else {
+                    None
+                }
+            }
+            None => None,
+        }
+    }
+
+    /// The node that begins a packet by the step, if it begins one: that has to be its next.
+    pub(crate) fn beginner(&self, step: &Step) -> Result<Option<u16>, StepFault>
+        ensures refused { IfErr result (λ e. (e ≡ NotEnabled) × (IsNext self.now (machine_step step.now) → ⊥)) }
+        ensures next { IfOk result (λ n. BeginsNext (network_of self.now.declared) (packets_of self.now.load) self.now.steps (machine_step step.now)) }
+        ensures node { IfOk result (λ n. n ≡ beginner_of (network_of self.now.declared) (machine_step step.now)) }
+        ensures within { IfOk result (λ n. IfSome n (λ n. n < length self.now.declared.nodes)) }
+    {
+        match step {
+            Step::Begin { flow, cargo, end } => match self.sender(*flow, cargo, *end) {
+                Some(node) => Ok(Some(node)),
+                None => Err(StepFault::NotEnabled),
+            },
+            _ => Ok(None),
+        }
+    }
+
+    /// Makes room for one more step. Nothing else changes, and after want of memory nothing at all.
+    pub fn reserve(&mut self) -> Result<(), AllocError>
+        ensures room { OnOk result (0 < self.new.room) }
+        ensures steps { self.new.steps ≡ self.old.steps }
+        ensures declared { self.new.declared ≡ self.old.declared }
+        ensures load { self.new.load ≡ self.old.load }
+        ensures refused { OnErr result (self.new ≡ self.old) }
+    {
+        self.steps.reserve(1)
+    }
+
+    /// Adds the step, if it may be the next. There has to be room for it.
+    pub fn add(&mut self, alloc: Global, step: Step) -> Result<(), StepFault>
+        requires { 0 < self.old.room }
+        ensures { Adds self.old (machine_step step) result self.new }
+    {
+        // Names the total, which bounds what a node begins.
+        let _total = self.load.total();
+        let beginner = self.beginner(&step)?;
+        make(&mut self.net, alloc, &step)?;
+        count_begun(self.begun.as_mut_slice(), beginner);
+        self.steps.push_reserved(step);
+        Ok(())
+    }
+}
+
+impl<'n, R: Routing + Drop, A: Arbiter + Drop> History<'n, R, A> {
+    ghost use Rattle.std.specs.Prelude.{◌≡◌, IfOk, []};
+    ghost use Rattle.sw_limit.specs.Limit.{AreDeclared};
+    ghost use Rattle.sw_machine.specs.State.{empty};
+    ghost use Rattle.sw_model.specs.Model.{network_of};
+    ghost use Rattle.sw_net.specs.Net.{IsNetState};
+
+    /// The history of no steps, of a network in its empty state.
+    pub fn new(
+        alloc: Global,
+        net: Net<'n, R, A>,
+        load: &'n Load,
+    ) -> Result<History<'n, R, A>, AllocError>
+        requires state { IsNetState net (empty (network_of net.declared)) }
+        requires packets { AreDeclared net.declared load.now }
+        ensures network { IfOk result (λ h. h.declared ≡ net.entry.declared) }
+        ensures load { IfOk result (λ h. h.load ≡ load.entry.now) }
+        ensures steps { IfOk result (λ h. h.steps ≡ []) }
+    {
+        let nodes = net.network().nodes() as usize;
+        let begun = vec![in alloc; 0u32; nodes]?;
+        Ok(History {
+            net,
+            load,
+            steps: Vec::new(alloc),
+            begun,
+        })
+    }
+}

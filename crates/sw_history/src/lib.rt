@@ -1,0 +1,12 @@
+//! The history of a load in a network: the steps that were made, each possible where it stands.
+#![tactic(auto)]
+
+mod asked;
+mod fault;
+mod history;
+pub mod laws;
+mod making;
+mod packets;
+
+pub use fault::StepFault;
+pub use history::History;

@@ -1,0 +1,31 @@
+//! A step of the network, for its history.
+ghost use Rattle.std.specs.Prelude.{◌≡◌, OnErr};
+ghost use Rattle.sw_history.specs.Makes.{Makes};
+ghost use Rattle.sw_steps.specs.Steps.{machine_step};
+
+use crate::fault::StepFault;
+use std::alloc::Global;
+use std::marker::Model;
+use sw_arb::Arbiter;
+use sw_cell::NetFault;
+use sw_net::Net;
+use sw_route::Routing;
+use sw_steps::Step;
+
+/// Makes the step, if the network can.
+pub(crate) fn make<R: Routing, A: Arbiter>(
+    net: &mut Net<'_, R, A>,
+    alloc: Global,
+    step: &Step,
+) -> Result<(), StepFault>
+    ensures network { net.new.declared ≡ net.old.declared }
+    ensures answers { Makes net.old (machine_step step.now) result net.new }
+    ensures refused { OnErr result (net.new ≡ net.old) }
+{
+    match net.step(alloc, step) {
+        Ok(()) => Ok(()),
+        Err(NetFault::NotInFlow) => Err(StepFault::NotEnabled),
+        Err(NetFault::NotEnabled) => Err(StepFault::NotEnabled),
+        Err(NetFault::Memory) => Err(StepFault::Memory),
+    }
+}

@@ -1,0 +1,217 @@
+-- What a commit keeps.
+use Rattle.std.proofs.Common.{All, Bool, Err, IsTrue, List, None, Ok, Option, Some, [], ap, arith, get_or, length, map, refl, subst, suc, sym, take, zero, ℕ, ◌++◌, ◌+◌, ◌<◌, ◌∙◌, ◌∷◌, ◌≡◌, ◌≤◌}
+use Rattle.std.proofs.lemmas.Option.{get_or_from_slice_get, slice_get-get_or, slice_get-map}
+use Rattle.std.proofs.lemmas.List.{length-append, length-map, take-append-le}
+use Rattle.std.specs.Prelude.{false, option_map, slice_get, slice_set, true, ◌↔◌}
+use Rattle.atomic_table.specs.Seated.{TableId}
+use Rattle.atomic_table.specs.Table.{Me}
+use Rattle.sw_cell.specs.Places.{IsAt, IsDoneAt, IsIn, IsUndeclared, machine_cell}
+use Rattle.sw_cell.specs.declared.fault.NetFault.{NetFault}
+use Rattle.sw_cell.specs.declared.fault.NetFault.TheVariants.{Memory, NotEnabled, NotInFlow}
+use Rattle.sw_cell.specs.declared.cell.CellId.{CellId}
+use Rattle.sw_history.proofs.Follows.{one_state_after, split_last}
+use Rattle.sw_history.specs.History.{HistoryView}
+use Rattle.sw_history.specs.Next.{IsIdle, MayFollow}
+use Rattle.sw_journal.specs.Adding.{AddsAt, IsAtCell, IsWithSteps}
+use Rattle.sw_journal.proofs.Told.{at_its_cell, known_after, known_at, placed}
+use Rattle.sw_journal.specs.Cells.{all_known, cells_of, ends_at, known_of, numbered}
+use Rattle.sw_journal.specs.Marks.{IsTrueMark}
+use Rattle.sw_journal.specs.Record.{Account, CellView, Commits, IsAccount, IsKept, IsNowCell, IsSameCell, LeadsTo, with_step}
+use Rattle.sw_journal.specs.Renewal.{AreRenewedAfter, renewed}
+use Rattle.sw_journal.specs.declared.fault.JournalFault.{JournalFault}
+use Rattle.sw_journal.specs.declared.fault.JournalFault.TheVariants as journal
+use Rattle.sw_load.specs.Load.{LoadEntry}
+use Rattle.sw_limit.specs.History.{IsHistory, packets_of}
+use Rattle.sw_machine.specs.Begun.{Begun}
+use Rattle.sw_machine.specs.Network.{IsNetwork, Network}
+use Rattle.sw_machine.specs.Parts.{cell_of}
+use Rattle.sw_machine.specs.Runs.{IsReached}
+use Rattle.sw_machine.specs.State.{State, empty}
+use Rattle.sw_machine.specs.Steps.{Accept, Arrive, Begin, Drop, Emit, Fct, FctIn, Forward, Grant, IsPossible, Leads, Reply, Spill, Step}
+use Rattle.sw_model.specs.Model.{network_of}
+use Rattle.sw_network.specs.Entries.{Declaration}
+use Rattle.sw_net.specs.Numbers.{numbers_at}
+use Rattle.sw_net.specs.declared.numbers.Numbers.{Numbers}
+use Rattle.sw_seats.specs.Views.{held_of, holder, kept_of, knower, shown, with_known}
+use Rattle.sw_seats.specs.declared.rule.Change.{Change}
+use Rattle.sw_seats.specs.declared.rule.Known.{Known}
+use Rattle.sw_seats.specs.declared.rule.View.{View}
+
+abbrev pub known : CellId → List (ℕ × Numbers) → Known
+known id ends = record { id = id; ends = ends }
+
+-- a cell that met the journal is the network's at its place, with its numbers in the state after the history
+pub record IsMet (j : Account) (s : State) (number : ℕ) (id : CellId) (ends : List (ℕ × Numbers)) : Type 0 where
+  pub at : slice_get (cells_of j.declared) number ≡ Some id
+  pub ends_are : ends ≡ numbered (network_of j.declared) s id
+
+pub met : (j : Account) (me theirs : Me Change View) (number : ℕ) (id : CellId) (ends : List (ℕ × Numbers)) → (k : IsKept j me) → theirs ≡ (holder number (known id ends), [])
+    → (theirs.0.claims ≡ true → slice_get me.0.all theirs.0.cell ≡ Some theirs.0.known) → IsMet j k.account.state number id ends
+met j me theirs number id ends k is same =
+    let s = k.account.state in
+    let claims : theirs.0.claims ≡ true = ap (λ (m : Me Change View). m.0.claims) is in
+    let read : slice_get (all_known j.declared s) number ≡ Some (known id ends) =
+    ap (λ (m : Me Change View). slice_get m.0.all number) (sym k.seat)
+    ∙ ap (λ (m : Me Change View). slice_get me.0.all m.0.cell) (sym is)
+    ∙ same claims
+    ∙ ap (λ (m : Me Change View). Some m.0.known) is in
+    let own = known_at j.declared s number (known id ends) read in
+    let which : id ≡ own.0 = ap (λ (x : Known). x.id) own.2 in
+    record {
+      at = own.1 ∙ ap (λ (i : CellId). Some i) (sym which);
+      ends_are = ap (λ (x : Known). x.ends) own.2 ∙ ap (numbered (network_of j.declared) s) (sym which);
+    }
+
+pub now_cell : (j : Account) (s : State) (number : ℕ) (cell : CellView) → LeadsTo j s → IsMet j s number cell.id cell.ends → IsNowCell j cell
+now_cell j s number cell leads is = record {
+  inside = (placed j.declared number cell.id is.at).0;
+  ends = λ t to. is.ends_are ∙ ap (λ (u : State). numbered (network_of j.declared) u cell.id) (sym (one_state_after (network_of j.declared) (packets_of j.load) j.history s t leads to));
+}
+
+-- ---- the link ends of a cell are in range
+
+pub ends_within : (net : Network) (s : State) (id : CellId) (n : ℕ) (ends : List (ℕ × Numbers)) → IsNetwork net → net.channels ≡ n → ends ≡ map (λ e. (e, numbers_at net s e)) (ends_at net id) → All {X = ℕ × Numbers} (λ p. p.0 < n) ends
+ends_within net s id n ends ok count is = subst (λ (l : List (ℕ × Numbers)). All {X = ℕ × Numbers} (λ p. p.0 < n) l) (sym is) (each (ends_at net id) (λ k e at. let lt = (at_its_cell net ok id k e at).0 in omega (arith, count)))
+  where
+    each : (es : List ℕ) → ((k e : ℕ) → slice_get es k ≡ Some e → e < n) → All {X = ℕ × Numbers} (λ p. p.0 < n) (map (λ e. (e, numbers_at net s e)) es)
+    each es low = λ k d lt.
+        let f : ℕ → ℕ × Numbers = λ e. (e, numbers_at net s e) in
+        let few : k < length es = omega (arith, lt, length-map es f) in
+        let e = get_or es k 0 in
+        let at = slice_get-get_or es k 0 few in
+        let there = slice_get-map (λ (e : ℕ). (e, numbers_at net s e)) es k ∙ ap (option_map (λ (e : ℕ). (e, numbers_at net s e))) at in
+        subst (λ (p : ℕ × Numbers). p.0 < n) (sym (get_or_from_slice_get (map (λ (e : ℕ). (e, numbers_at net s e)) es) k (e, numbers_at net s e) d there)) (low k e at)
+
+-- ---- the journal's seat
+
+-- after a refusal
+pub kept_same : (j k : Account) (before met parted theirs : Me Change View) → k ≡ j → IsKept j before → met ≡ (shown before.0 theirs.0, before.1) → parted ≡ (kept_of met.0, met.1) → IsKept k parted
+kept_same j k before met parted theirs same is meets parts =
+    let split : Me Change View → Me Change View = λ m. (kept_of m.0, m.1) in
+    let seat : parted ≡ (knower (all_known j.declared is.account.state), []) =
+    parts ∙ ap split meets ∙ (λ i. (kept_of (is.seat i).0, (is.seat i).1)) in
+    subst (λ (a : Account). IsKept a parted) (sym same) (record { account = is.account; channels = is.channels; seat = seat })
+
+mark_more : (net : Network) (packets : List Begun) (steps : List Step) (step : Step) (e k : ℕ) → IsTrueMark net packets steps e k → IsTrueMark net packets (steps ++ step ∷ []) e k
+mark_more net packets steps step e k m = record {
+  within = let w = m.within in omega (arith, length-append steps (step ∷ []));
+  idle = subst (λ l. IsIdle net packets l e) (sym (take-append-le k steps (step ∷ []) m.within)) m.idle;
+}
+
+map_renewed : (net : Network) (s t : State) (es : List ℕ) → map (renewed net t) (map (λ e. (e, numbers_at net s e)) es) ≡ map (λ e. (e, numbers_at net t e)) es
+map_renewed net s t [] = refl
+map_renewed net s t (e ∷ es) = ap (λ l. (e, numbers_at net t e) ∷ l) (map_renewed net s t es)
+
+module _ (j : Account) (before : Me Change View) (is : IsKept j before) (number : ℕ) (id : CellId) (ends : List (ℕ × Numbers)) (cell_is : IsMet j is.account.state number id ends)
+    (step : Step) (here : cell_of (network_of j.declared) step ≡ machine_cell id) (next : MayFollow (network_of j.declared) (packets_of j.load) j.history step) where
+  abbrev net : Network
+  net = network_of j.declared
+
+  abbrev t : State
+  t = next.0
+
+  leads : Leads net is.account.state step t
+  leads =
+      let last = split_last net j.history step (empty net) t next.1.run in
+      let same = one_state_after net (packets_of j.load) j.history is.account.state last.0 is.account.history (record { run = last.1; in_order = is.account.history.in_order }) in
+      subst (λ (m : State). Leads net m step t) same last.2
+
+  -- the numbers after the step
+  pub after_step : (more : List (ℕ × Numbers)) → more ≡ map (renewed net t) ends → more ≡ numbered net t id
+  after_step more renew = renew ∙ ap (map (renewed net t)) cell_is.ends_are ∙ map_renewed net is.account.state t (ends_at net id)
+
+  known_then : (more : List (ℕ × Numbers)) → more ≡ map (renewed net t) ends → slice_set (all_known j.declared is.account.state) number (known id more) ≡ all_known j.declared t
+  known_then more renew =
+      ap (λ (l : List (ℕ × Numbers)). slice_set (all_known j.declared is.account.state) number (known id l)) (after_step more renew)
+      ∙ sym (known_after j.declared is.account.network is.account.state t (j.history, is.account.history.run) step leads number id cell_is.at here)
+
+  pub account_after : length j.history < j.limit → IsAccount (with_step j step)
+  account_after room = record {
+    network = is.account.network;
+    state = t;
+    history = next.1;
+    within = omega (arith, length-append j.history (step ∷ []), room);
+    places = is.account.places;
+    true_marks = λ e k at. mark_more net (packets_of j.load) j.history step e k (is.account.true_marks e k at);
+  }
+
+  -- what the journal keeps after the step
+  pub kept_after : (k : Account) (theirs shown_seat renewed_seat parted : Me Change View) (more : List (ℕ × Numbers)) → k ≡ with_step j step → length j.history < j.limit
+      → more ≡ map (renewed net t) ends → theirs ≡ (holder number (known id ends), []) → shown_seat ≡ (shown before.0 theirs.0, before.1)
+      → renewed_seat ≡ (with_known shown_seat.0 (known shown_seat.0.known.id more), shown_seat.1) → parted ≡ (kept_of renewed_seat.0, renewed_seat.1) → IsKept k parted
+  unfolding account_after
+  kept_after k theirs shown_seat renewed_seat parted more same room renew cell meets renews parts =
+      let all = all_known j.declared is.account.state in
+      let split : Me Change View → Me Change View = λ m. (kept_of m.0, m.1) in
+      let change : Me Change View → Me Change View = λ m. (with_known m.0 (known m.0.known.id more), m.1) in
+      let met_is : shown_seat ≡ (shown (knower all) (holder number (known id ends)), []) = meets ∙ (λ i. (shown (is.seat i).0 (cell i).0, (is.seat i).1)) in
+      let seat : parted ≡ (knower (all_known j.declared t), []) =
+      parts ∙ ap split (renews ∙ ap change met_is)
+      ∙ ap (λ (l : List Known). let m : Me Change View = (knower l, []) in m) (known_then more renew) in
+      subst (λ (a : Account). IsKept a parted) (sym same) (record { account = account_after room; channels = is.channels; seat = seat })
+
+  -- and the cell
+  pub same_cell_after : (k : Account) (cell : CellView) (more : List (ℕ × Numbers)) → k ≡ with_step j step → cell.id ≡ id → cell.ends ≡ more → more ≡ map (renewed net t) ends → IsNowCell k cell
+  same_cell_after k cell more same which ends_are renew =
+      let here : IsMet (with_step j step) t number cell.id cell.ends = record {
+        at = cell_is.at ∙ ap (λ (i : CellId). Some i) (sym which);
+        ends_are = ends_are ∙ after_step more renew ∙ ap (numbered net t) (sym which);
+      } in
+      subst (λ (a : Account). IsNowCell a cell) (sym same) (now_cell (with_step j step) t number cell next.1 here)
+
+-- ---- refusals
+
+never_begun : (n : Network) (s : State) (step : Step) → IsUndeclared n step → IsPossible n s step → ⊥
+never_begun n s (Begin f cargo end) none p = none p.1.declared
+never_begun n s (Fct c) none p = absurd none
+never_begun n s (FctIn c) none p = absurd none
+never_begun n s (Arrive c) none p = absurd none
+never_begun n s (Grant d c) none p = absurd none
+never_begun n s (Drop c) none p = absurd none
+never_begun n s (Forward c) none p = absurd none
+never_begun n s (Spill c) none p = absurd none
+never_begun n s (Emit m) none p = absurd none
+never_begun n s (Accept m) none p = absurd none
+never_begun n s (Reply m) none p = absurd none
+
+pub at_own : (d : Declaration) (step : Step) (own at : CellId) (r : Bool) → IsAt d step own → IsTrue r ↔ (machine_cell own ≡ machine_cell at) → IsAtCell d at step r
+at_own d step own at true is same = is.cell ∙ same.0 refl
+at_own d step own at false is same = λ here s p. absurd (let no = same.1 (sym is.cell ∙ here) in cc)
+
+pub at_none : (d : Declaration) (step : Step) (at : CellId) (e : NetFault) → IsDoneAt d step (Err e) → IsAtCell d at step false
+at_none d step at NotInFlow is = λ here s p. never_begun (network_of d) s step is p
+at_none d step at NotEnabled is = λ here s p. is.1 s p
+at_none d step at Memory is = absurd is
+
+-- a step that may follow a history is possible in some state
+pub possible_of : (n : Network) (packets : List Begun) (steps : List Step) (step : Step) → MayFollow n packets steps step → (s : State) × IsPossible n s step
+possible_of n packets steps step next =
+    let last = split_last n steps step (empty n) next.0 next.1.run in
+    (last.0, (next.0, last.2))
+
+-- ---- the answers of a history
+
+abbrev pub account : TableId → HistoryView → ℕ → List (Option ℕ) → Account
+account name h limit marks = record { name = name; declared = h.declared; load = h.load; limit = limit; history = h.steps; marks = marks }
+
+pub refused_same : (h k : HistoryView) (at : CellId) (limit : ℕ) (step : Step) (fault : JournalFault) → AddsAt h at limit step (Err fault) k → IsWithSteps h h.steps k
+refused_same h k at limit step journal.NotEnabled adds = adds.1
+refused_same h k at limit step journal.Full adds = adds.2
+refused_same h k at limit step journal.Memory adds = adds.2
+
+pub account_same : (name : TableId) (h k : HistoryView) (limit : ℕ) (marks : List (Option ℕ)) (steps : List Step) → IsWithSteps h steps k
+    → account name k limit marks ≡ record { name = name; declared = h.declared; load = h.load; limit = limit; history = steps; marks = marks }
+account_same name h k limit marks steps w = λ i. record { name = name; declared = w.declared i; load = w.load i; limit = limit; history = w.steps i; marks = marks }
+
+pub renewed_then : (h k : HistoryView) (steps : List Step) (t : State) (ends more : List (ℕ × Numbers)) → IsWithSteps h steps k → IsHistory (network_of h.declared) (packets_of h.load) steps t
+    → AreRenewedAfter k ends more → more ≡ map (renewed (network_of h.declared) t) ends
+renewed_then h k steps t ends more w leads renew =
+    let P : HistoryView → Type 0 = λ v. AreRenewedAfter v ends more in
+    let then : IsHistory (network_of k.declared) (packets_of k.load) k.steps t = subst (λ (v : Declaration × (List LoadEntry × List Step)). IsHistory (network_of v.0) (packets_of v.1.0) v.1.1 t) (λ i. (sym w.declared i, (sym w.load i, sym w.steps i))) leads in
+    renew t then ∙ ap (λ (d : Declaration). map (renewed (network_of d) t) ends) w.declared
+
+pub now_same : (j k : Account) (cell after : CellView) → j ≡ k → cell ≡ after → IsNowCell j cell → IsNowCell k after
+now_same j k cell after same also is = subst (λ (v : Account × CellView). IsNowCell v.0 v.1) (λ i. (same i, also i)) is
+
+pub commits_same : (j k then : Account) (cell after now : CellView) (step : Step) → j ≡ k → cell ≡ after → Commits j cell step (Ok tt) then now → Commits k after step (Ok tt) then now
+commits_same j k then cell after now step same also is = subst (λ (v : Account × CellView). Commits v.0 v.1 step (Ok tt) then now) (λ i. (same i, also i)) is

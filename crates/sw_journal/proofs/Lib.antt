@@ -1,0 +1,6 @@
+pub mod Told
+mod Renewed
+mod Commit
+mod Opened
+mod Idle
+mod Tried

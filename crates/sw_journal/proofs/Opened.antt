@@ -1,0 +1,127 @@
+-- A new journal.
+use Rattle.std.proofs.Common.{Bool, IsTrue, cond, List, None, Option, Some, [], ap, arith, false, filter, length, map, refl, replicate, subst, sym, true, zero, suc, ℕ, ◌*◌, ◌++◌, ◌+◌, ◌<◌, ◌∙◌, ◌∷◌, ◌≡◌, ◌↔◌}
+use Rattle.atomic_table.specs.Seated.{TableId}
+use Rattle.atomic_table.specs.Table.{Me}
+use Rattle.std.proofs.lemmas.Bool.{eq-eqb}
+use Rattle.std.proofs.lemmas.List.{length-replicate}
+use Rattle.std.proofs.lemmas.List.Elements.{filter-append}
+use Rattle.std.specs.List.{range_with_len}
+use Rattle.std.specs.Prelude.{slice_get}
+use Rattle.sw_cell.specs.Places.{machine_cell}
+use Rattle.sw_cell.specs.declared.cell.CellId.{CellId}
+use Rattle.sw_history.specs.History.{HistoryView}
+use Rattle.sw_journal.proofs.Commit.{account}
+use Rattle.sw_journal.proofs.Told.{is_same_cell}
+use Rattle.sw_journal.specs.Cells.{all_known, known_of, same_cell}
+use Rattle.sw_journal.specs.Opening.{numbered_of}
+use Rattle.sw_journal.specs.Record.{Account, IsKept}
+use Rattle.sw_limit.specs.History.{packets_at, packets_of}
+use Rattle.sw_load.specs.Load.{LoadEntry}
+use Rattle.sw_machine.specs.Network.{AtNode, AtSwitch, Cell, Network}
+use Rattle.sw_machine.specs.State.{State, empty}
+use Rattle.sw_machine.specs.Steps.{Step}
+use Rattle.sw_model.proofs.Networks.{are_networks}
+use Rattle.sw_model.specs.Model.{cell_of, network_of}
+use Rattle.sw_net.proofs.Delivered.{channel_count}
+use Rattle.sw_net.specs.Numbers.{numbers_at}
+use Rattle.sw_net.specs.declared.numbers.Numbers.{Numbers}
+use Rattle.sw_network.specs.Entries.{Declaration, wiring_of}
+use Rattle.sw_network.specs.Valid.{IsValid}
+use Rattle.sw_seats.specs.Views.{knower}
+use Rattle.sw_seats.specs.declared.rule.Change.{Change}
+use Rattle.sw_seats.specs.declared.rule.Known.{Known}
+use Rattle.sw_seats.specs.declared.rule.View.{View}
+use Rattle.sw_topo.specs.Wiring.{Wiring}
+use Rattle.sw_topo.specs.declared.place.PlaceEnd.{PlaceEnd}
+
+-- ---- where a link end stands
+
+same_itself : (a : Cell) → same_cell a a ≡ true
+same_itself (AtNode n) = eq-eqb n n refl
+same_itself (AtSwitch w) = eq-eqb w w refl
+
+are_same : (a b : Cell) → a ≡ b → same_cell a b ≡ true
+are_same a b e = ap (same_cell a) (sym e) ∙ same_itself a
+
+not_same : (a b : Cell) → (a ≡ b → ⊥) → (r : Bool) → same_cell a b ≡ r → false ≡ same_cell a b
+not_same a b apart true e = absurd (apart (is_same_cell a b e))
+not_same a b apart false e = sym e
+
+pub is_same : (r : Bool) (at own : Cell) → IsTrue r ↔ (at ≡ own) → r ≡ same_cell own at
+is_same true at own e = sym (are_same own at (sym (e.0 refl)))
+is_same false at own e = not_same own at (λ same. let no = e.1 (sym same) in cc) (same_cell own at) refl
+
+pub starts_there : (d : Declaration) (w : Wiring) (e : ℕ) (p : PlaceEnd) → w ≡ wiring_of d → slice_get w.ends e ≡ Some p → (network_of d).start_of e ≡ cell_of (Some p)
+unfolding network_of
+starts_there d w e p same at = ap cell_of (ap (λ (v : Wiring). slice_get v.ends e) (sym same) ∙ at)
+
+-- ---- the link ends of a cell
+
+range_more : (a n : ℕ) → range_with_len a (suc n) ≡ range_with_len a n ++ (a + n) ∷ []
+range_more a zero = let same : a ≡ a + 0 = omega arith in ap (λ x. x ∷ []) same
+range_more a (suc n) = let same : a + 1 + n ≡ a + suc n = omega arith in ap (λ l. a ∷ l) (range_more (a + 1) n ∙ ap (λ x. range_with_len (a + 1) n ++ x ∷ []) same)
+
+pub next_number : (n : ℕ) → range_with_len 0 (n + 1) ≡ range_with_len 0 n ++ n ∷ []
+next_number n =
+    let one : n + 1 ≡ suc n = omega arith in
+    let same : 0 + n ≡ n = omega arith in
+    ap (range_with_len 0) one ∙ range_more 0 n ∙ ap (λ x. range_with_len 0 n ++ x ∷ []) same
+
+map_append : {A B : Type 0} (f : A → B) (xs ys : List A) → map f (xs ++ ys) ≡ map f xs ++ map f ys
+map_append f [] ys = refl
+map_append f (x ∷ xs) ys = ap (λ l. f x ∷ l) (map_append f xs ys)
+
+pub numbered_more : (net : Network) (s : State) (id : CellId) (n : ℕ) (before after : List (ℕ × Numbers)) → before ≡ numbered_of net s id (range_with_len 0 n) → after ≡ before ++ numbered_of net s id (n ∷ [])
+    → after ≡ numbered_of net s id (range_with_len 0 (n + 1))
+numbered_more net s id n before after is next =
+    let here : ℕ → Bool = λ e. same_cell (net.start_of e) (machine_cell id) in
+    let f : ℕ → ℕ × Numbers = λ e. (e, numbers_at net s e) in
+    next ∙ ap (λ l. l ++ numbered_of net s id (n ∷ [])) is
+    ∙ sym (map_append f (filter here (range_with_len 0 n)) (filter here (n ∷ [])))
+    ∙ ap (map f) (sym (filter-append here (range_with_len 0 n) (n ∷ [])))
+    ∙ ap (numbered_of net s id) (sym (next_number n))
+
+-- one that stands there
+pub numbered_one : (net : Network) (s : State) (id : CellId) (e : ℕ) (numbers : Numbers) (before after : List (ℕ × Numbers)) → same_cell (net.start_of e) (machine_cell id) ≡ true → numbers ≡ numbers_at net s e
+    → after ≡ before ++ (e, numbers) ∷ [] → after ≡ before ++ numbered_of net s id (e ∷ [])
+numbered_one net s id e numbers before after here is next =
+    let f : ℕ → ℕ × Numbers = λ k. (k, numbers_at net s k) in
+    next ∙ (λ i. before ++ (e, is i) ∷ []) ∙ ap (λ (b : Bool). before ++ map f (cond b (e ∷ []) [])) (sym here)
+
+pub ids_more : (f : ℕ → CellId) (n : ℕ) → map f (range_with_len 0 (n + 1)) ≡ map f (range_with_len 0 n) ++ f n ∷ []
+ids_more f n = ap (map f) (next_number n) ∙ map_append f (range_with_len 0 n) (n ∷ [])
+
+-- ---- the journal
+
+no_mark : (n e k : ℕ) → slice_get (replicate {A = Option ℕ} n None) e ≡ Some (Some k) → ⊥
+no_mark zero e k h = cc
+no_mark (suc n) zero k h = cc
+no_mark (suc n) (suc e) k h = no_mark n e k h
+
+abbrev pub first_account : TableId → Declaration → List LoadEntry → ℕ → Account
+first_account name d load limit = record { name = name; declared = d; load = load; limit = limit; history = []; marks = replicate (network_of d).channels None }
+
+pub account_first : (name : TableId) (d : Declaration) (h : HistoryView) (load : List LoadEntry) (limit n : ℕ) (marks : List (Option ℕ)) → n ≡ 2 * length d.links → h.declared ≡ d → h.load ≡ load → h.steps ≡ []
+    → marks ≡ replicate n None → account name h limit marks ≡ first_account name d load limit
+account_first name d h load limit n marks count declared packets steps none =
+    let channels : n ≡ (network_of d).channels = count ∙ sym (channel_count d) in
+    let all : marks ≡ replicate (network_of d).channels None = none ∙ ap (λ k. replicate k None) channels in
+    λ i. record { name = name; declared = declared i; load = packets i; limit = limit; history = steps i; marks = all i }
+
+pub kept_first : (name : TableId) (d : Declaration) (h : HistoryView) (limit n : ℕ) (marks : List (Option ℕ)) (me : Me Change View) → IsValid d → n ≡ 2 * length d.links → h.declared ≡ d → h.steps ≡ []
+    → marks ≡ replicate n None → me ≡ (knower (all_known d (empty (network_of d))), []) → IsKept (account name h limit marks) me
+kept_first name d h limit n marks me valid count declared steps none seat =
+    let net = network_of d in
+    let first : IsKept (first_account name d h.load limit) me = record {
+      account = record {
+        network = are_networks d valid;
+        state = empty net;
+        history = record { run = refl; in_order = λ m. (packets_at net m (packets_of h.load), refl) };
+        within = omega arith;
+        places = length-replicate net.channels None;
+        true_marks = λ e k at. absurd (no_mark net.channels e k at);
+      };
+      channels = channel_count d;
+      seat = seat;
+    } in
+    subst (λ (a : Account). IsKept a me) (sym (account_first name d h h.load limit n marks count declared refl steps none)) first

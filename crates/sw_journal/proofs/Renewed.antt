@@ -1,0 +1,96 @@
+-- Link ends whose numbers are renewed one after another.
+use Rattle.std.proofs.Common.{All, List, None, Option, Some, [], ap, arith, get_or, length, map, refl, set, suc, sym, take, zero, ℕ, ◌+◌, ◌<◌, ◌∙◌, ◌∷◌, ◌≡◌}
+use Rattle.std.proofs.lemmas.List.{get_or-map, length-map}
+use Rattle.std.specs.Prelude.{slice_get, slice_set}
+use Rattle.atomic_table.specs.Table.{Me}
+use Rattle.sw_journal.specs.Renewal.{renewed, renewed_at}
+use Rattle.sw_machine.specs.Network.{Network}
+use Rattle.sw_machine.specs.State.{State}
+use Rattle.sw_net.specs.Numbers.{numbers_at}
+use Rattle.sw_net.specs.declared.numbers.Numbers.{Numbers}
+use Rattle.sw_seats.specs.Views.{changed, ends_with, with_known}
+use Rattle.sw_seats.specs.declared.rule.Change.{Change}
+use Rattle.sw_seats.specs.declared.rule.View.{View}
+
+module _ (net : Network) (s : State) where
+  -- the first k are renewed
+  abbrev pub first_renewed : ℕ → List (ℕ × Numbers) → List (ℕ × Numbers)
+  first_renewed zero ends = ends
+  first_renewed (suc k) [] = []
+  first_renewed (suc k) (p ∷ ends) = renewed net s p ∷ first_renewed k ends
+
+  next_renewed : (k : ℕ) (ends : List (ℕ × Numbers)) → renewed_at net s k (first_renewed k ends) ≡ first_renewed (suc k) ends
+  next_renewed zero [] = refl
+  next_renewed zero (p ∷ ends) = refl
+  next_renewed (suc k) [] = refl
+  next_renewed (suc k) (p ∷ ends) = ap (λ l. renewed net s p ∷ l) (next_renewed k ends)
+
+  pub more_renewed : (k : ℕ) (ends before after : List (ℕ × Numbers)) → before ≡ first_renewed k ends → after ≡ renewed_at net s k before → after ≡ first_renewed (k + 1) ends
+  more_renewed k ends before after is next =
+      let same : suc k ≡ k + 1 = omega arith in
+      next ∙ ap (renewed_at net s k) is ∙ next_renewed k ends ∙ ap (λ n. first_renewed n ends) same
+
+  pub all_renewed : (k : ℕ) (ends : List (ℕ × Numbers)) → k ≡ length ends → first_renewed k ends ≡ map (renewed net s) ends
+  all_renewed zero [] e = refl
+  all_renewed zero (p ∷ ends) e = absurd (omega arith)
+  all_renewed (suc k) [] e = absurd (omega arith)
+  all_renewed (suc k) (p ∷ ends) e = ap (λ l. renewed net s p ∷ l) (all_renewed k ends (omega arith))
+
+  -- a link end of the list with its numbers
+  pub set_renewed : (k : ℕ) (ends : List (ℕ × Numbers)) (p : ℕ × Numbers) (numbers : Numbers) → slice_get ends k ≡ Some p → numbers ≡ numbers_at net s p.0 → slice_set ends k (p.0, numbers) ≡ renewed_at net s k ends
+  set_renewed zero [] p numbers e is = refl
+  set_renewed (suc k) [] p numbers e is = refl
+  set_renewed zero (q ∷ ends) p numbers e is =
+      let same : q ≡ p = cc in
+      let own : numbers ≡ numbers_at net s q.0 = is ∙ ap (λ (r : ℕ × Numbers). numbers_at net s r.0) (sym same) in
+      λ i. ((sym same i).0, own i) ∷ ends
+  set_renewed (suc k) (q ∷ ends) p numbers e is = ap (λ l. q ∷ l) (set_renewed k ends p numbers e is)
+
+-- ---- what the journal's seat knows of them
+
+set_back : {X : Type 0} (xs : List X) (k : ℕ) (x : X) → slice_get xs k ≡ Some x → slice_set xs k x ≡ xs
+set_back [] zero x e = refl
+set_back [] (suc k) x e = refl
+set_back (y ∷ xs) zero x e = let same : x ≡ y = cc in λ i. same i ∷ xs
+set_back (y ∷ xs) (suc k) x e = ap (λ l. y ∷ l) (set_back xs k x e)
+
+set_twice : {X : Type 0} (xs : List X) (k : ℕ) (x y : X) → slice_set (slice_set xs k x) k y ≡ slice_set xs k y
+set_twice [] zero x y = refl
+set_twice [] (suc k) x y = refl
+set_twice (z ∷ xs) zero x y = refl
+set_twice (z ∷ xs) (suc k) x y = ap (λ l. z ∷ l) (set_twice xs k x y)
+
+abbrev pub with_ends : Me Change View → List (ℕ × Numbers) → Me Change View
+with_ends m ends = (with_known m.0 (record { id = m.0.known.id; ends = ends }), m.1)
+
+-- as it is
+pub seat_first : (before : Me Change View) (ends : List (ℕ × Numbers)) → slice_get before.0.all before.0.cell ≡ Some before.0.known → before.0.known.ends ≡ ends → before ≡ with_ends before ends
+seat_first before ends at is =
+    let v = before.0 in
+    let all = set_back v.all v.cell v.known at in
+    (λ i. (record { keeps = v.keeps; all = sym all i; claims = v.claims; cell = v.cell; known = v.known }, before.1)) ∙ ap (with_ends before) is
+
+-- it is told of one
+pub seat_told : (before after : Me Change View) (ends : List (ℕ × Numbers)) (k : ℕ) (p : ℕ × Numbers) (numbers : Numbers) → before.0.known.ends ≡ ends → slice_get ends k ≡ Some p
+    → after ≡ (changed before.0 k numbers, before.1) → after ≡ with_ends before (slice_set ends k (p.0, numbers))
+seat_told before after ends k p numbers is at told =
+    let own : ends_with before.0.known.ends k numbers (slice_get before.0.known.ends k) ≡ slice_set ends k (p.0, numbers) =
+    (λ i. ends_with (is i) k numbers (slice_get (is i) k)) ∙ ap (ends_with ends k numbers) at in
+    told ∙ ap (with_ends before) own
+
+-- one more
+pub seat_more : (first before after : Me Change View) (ends more : List (ℕ × Numbers)) → before ≡ with_ends first ends → after ≡ with_ends before more → after ≡ with_ends first more
+seat_more first before after ends more is next =
+    let v = first.0 in
+    let all = set_twice v.all v.cell (record { id = v.known.id; ends = ends }) (record { id = v.known.id; ends = more }) in
+    next ∙ ap (λ (m : Me Change View). with_ends m more) is
+    ∙ (λ i. (record { keeps = v.keeps; all = all i; claims = v.claims; cell = v.cell; known = record { id = v.known.id; ends = more } }, first.1))
+
+-- the same link ends are in range
+pub within_names : (n : ℕ) (a b : List (ℕ × Numbers)) → map (λ p. p.0) a ≡ map (λ p. p.0) b → All {X = ℕ × Numbers} (λ p. p.0 < n) b → All {X = ℕ × Numbers} (λ p. p.0 < n) a
+within_names n a b same low k d lt =
+    let name : ℕ × Numbers → ℕ = λ p. p.0 in
+    let counts : length a ≡ length b = sym (length-map a name) ∙ ap length same ∙ length-map b name in
+    let here : (get_or a k d).0 ≡ (get_or b k d).0 = sym (get_or-map name a k d d.0 lt) ∙ ap (λ (l : List ℕ). get_or l k d.0) same ∙ get_or-map name b k d d.0 (omega arith) in
+    let small = low k d (omega arith) in
+    omega (arith, here, small)

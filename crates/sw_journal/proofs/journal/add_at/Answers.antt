@@ -1,0 +1,19 @@
+use Rattle.std.proofs.Common.{ap, false, refl, rules, sym, ◌∙◌, ◌≡◌}
+use Rattle.sw_journal.proofs.Commit.{possible_of}
+use Rattle.sw_journal.proofs.journal.add_at.Goals as goal
+use Rattle.sw_journal.specs.Adding.{IsAtCell}
+use Rattle.sw_limit.specs.History.{packets_of}
+use Rattle.sw_model.specs.Model.{network_of}
+use Rattle.sw_network.specs.Entries.{Declaration}
+use Rattle.sw_steps.specs.Steps.{machine_step}
+
+pub returns-then-not-is_at : goal.returns-then-not-is_at
+returns-then-not-is_at c =
+    let h = c.args.history.now in
+    let none : IsAtCell h.declared c.args.at (machine_step c.args.step) false = rw (c.network.ensures.network) at c.if-not-is_at.ensures in
+    record {
+      adds = (
+        (λ next. let some = possible_of (network_of h.declared) (packets_of h.load) h.steps (machine_step c.args.step) next.1 in none next.0 some.0 some.1),
+        record { declared = refl; load = refl; steps = refl },
+      );
+    }

@@ -1,0 +1,164 @@
+//! The journal.
+ghost use Rattle.std.specs.Prelude.{◌≡◌, ◌≤◌, length};
+ghost use Rattle.sw_journal.specs.Adding.{AddsAt, IsAtCell};
+ghost use Rattle.sw_steps.specs.Steps.{machine_step};
+
+use crate::cell::Cell;
+use crate::fault::JournalFault;
+use crate::opening::opening;
+use crate::renewal::renew_after;
+use std::alloc::{AllocError, Global};
+use std::marker::Model;
+use sw_arb::Policy;
+use sw_cell::{CellId, cell_of};
+use sw_history::{History, StepFault};
+use sw_load::Load;
+use sw_net::{SwitchRoutes, declared_net};
+use sw_network::Network;
+use sw_seats::{Place, Ties, begin, meet, part};
+use sw_steps::Step;
+
+/// The history of a run, which has a limit, and after how many steps each link end was found idle
+/// last.
+#[derive(Drop)]
+pub struct Journal<'n> {
+    pub(crate) history: History<'n, SwitchRoutes<'n>, Policy>,
+    pub(crate) limit: usize,
+    pub(crate) marks: Vec<Option<u64>>,
+    pub(crate) table: Ties,
+    pub(crate) seat: Place,
+}
+
+impl<'n> Model for Journal<'n> {
+    ghost use Rattle.std.specs.Prelude.{◌≡◌, ◌<◌};
+    ghost use Rattle.sw_journal.specs.Record.{Account, IsKept};
+
+    ghost Value = { Account };
+
+    ghost view = { λ j. record {
+      name = j.table.shared.table_id;
+      declared = j.history.declared;
+      load = j.history.load;
+      limit = j.limit;
+      history = j.history.steps;
+      marks = j.marks.items;
+    } };
+
+    ghost invariant = { λ j. IsKept (record {
+      name = j.table.shared.table_id;
+      declared = j.history.declared;
+      load = j.history.load;
+      limit = j.limit;
+      history = j.history.steps;
+      marks = j.marks.items;
+    }) j.seat.me
+        × (j.seat.table_id ≡ j.table.shared.table_id)
+        × (0 < j.table.shared.table_id.words) };
+}
+
+impl<'n> Journal<'n> {
+    ghost use Rattle.std.specs.Prelude.{IfOk};
+    ghost use Rattle.sw_journal.specs.Record.{Commits, IsAccount, IsNew, IsNowCell, new_cells};
+    ghost use Rattle.sw_limit.specs.Limit.{AreDeclared};
+    ghost use Rattle.sw_steps.specs.Steps.{machine_step};
+
+    /// A journal of no steps and no marks, and a cell for each node and each switch of the network,
+    /// in their order, in the empty state.
+    pub fn new(
+        alloc: Global,
+        network: &'n Network,
+        load: &'n Load,
+        limit: usize,
+    ) -> Result<(Journal<'n>, Vec<Cell>), AllocError>
+        requires { AreDeclared network.now load.now }
+        ensures journal { IfOk result (λ r. IsNew network.now load.now limit r.0) }
+        ensures cells { IfOk result (λ r. r.1.items ≡ new_cells network.now r.0.name) }
+    {
+        let net = declared_net(alloc, network)?;
+        let channels = net.network().channels() as usize;
+        let marks = vec![in alloc; None; channels]?;
+        let (table, mut seat) = begin(alloc)?;
+        let cells = opening(alloc, &net, &table, &mut seat)?;
+        let history = History::new(alloc, net, load)?;
+        let journal = Journal {
+            history,
+            limit,
+            marks,
+            table,
+            seat,
+        };
+        Ok((journal, cells))
+    }
+
+    /// How many steps there are.
+    pub fn len(&self) -> usize
+        ensures len { result ≡ length self.now.history }
+        ensures account { IsAccount self.now }
+    {
+        self.history.len()
+    }
+
+    /// Makes the step at the cell and adds it to the history, if it is one of the cell's and may be
+    /// the next. The cell then has its new numbers. A refusal changes nothing.
+    pub fn commit(&mut self, alloc: Global, cell: &mut Cell, step: Step) -> Result<(), JournalFault>
+        requires { cell.old.name ≡ self.old.name }
+        ensures commits { Commits self.old cell.old (machine_step step) result self.new cell.new }
+        ensures numbers { IsNowCell self.old cell.old }
+    {
+        let Journal {
+            history,
+            limit,
+            marks: _,
+            table,
+            seat,
+        } = self;
+        meet(table, seat, &mut cell.seat);
+        if let Err(fault) = add_at(history, alloc, cell.id, *limit, step) {
+            cell.seat = part(table, seat);
+            return Err(fault);
+        }
+        renew_after(history, table, seat, &mut cell.ends);
+        cell.seat = part(table, seat);
+        Ok(())
+    }
+}
+
+// Whether the step is done at that cell.
+fn is_at(network: &Network, at: CellId, step: &Step) -> bool
+    ensures { IsAtCell network.now at (machine_step step.now) result }
+{
+    match cell_of(network, step) {
+        Ok(own) => own.is(at),
+        Err(_) => false,
+    }
+}
+
+// Adds the step, if it is one of the cell's, may be the next, and there is room below the limit.
+fn add_at(
+    history: &mut History<'_, SwitchRoutes<'_>, Policy>,
+    alloc: Global,
+    at: CellId,
+    limit: usize,
+    step: Step,
+) -> Result<(), JournalFault>
+    requires { length history.old.steps ≤ limit }
+    ensures adds { AddsAt history.old at limit (machine_step step) result history.new }
+{
+    if !is_at(history.network(), at, &step) {
+        return Err(JournalFault::NotEnabled);
+    }
+    if !history.may_follow(&step) {
+        return Err(JournalFault::NotEnabled);
+    }
+    if history.len() == limit {
+        return Err(JournalFault::Full);
+    }
+    if history.reserve().is_err() {
+        return Err(JournalFault::Memory);
+    }
+    match history.add(alloc, step) {
+        Ok(()) => Ok(()),
+        Err(StepFault::NotEnabled) => unreachable!(),
+        Err(StepFault::Memory) => Err(JournalFault::Memory),
+    }
+}

@@ -1,0 +1,14 @@
+//! The journal of a run: its history, and the cells that make its steps.
+#![tactic(auto)]
+
+mod asked;
+mod cell;
+mod choice;
+mod fault;
+mod journal;
+mod opening;
+mod renewal;
+
+pub use cell::Cell;
+pub use fault::JournalFault;
+pub use journal::Journal;

@@ -1,0 +1,156 @@
+//! A new journal, and its cells.
+ghost use Rattle.std.specs.Prelude.{◌≡◌, ◌++◌, ◌<◌, ◌≤◌, ◌*◌, [], ◌∷◌, IfOk, OnOk, List, length};
+ghost use Rattle.sw_cell.specs.Places.{machine_cell};
+ghost use Rattle.sw_cell.specs.declared.cell.CellId.{CellId};
+ghost use Rattle.sw_journal.specs.Cells.{all_known, cells_of, numbered, same_cell};
+ghost use Rattle.sw_journal.specs.Opening.{AreOpened, node_ids, numbered_of};
+ghost use Rattle.sw_journal.specs.Record.{new_cells};
+ghost use Rattle.sw_machine.specs.State.{empty};
+ghost use Rattle.sw_model.specs.Model.{network_of};
+ghost use Rattle.sw_net.specs.Net.{IsNetState};
+ghost use Rattle.sw_seats.specs.Views.{knower};
+
+use crate::cell::Cell;
+use std::alloc::{AllocError, Global};
+use sw_arb::Policy;
+use sw_cell::CellId;
+use sw_net::{Net, Numbers, SwitchRoutes};
+use sw_network::Network;
+use sw_seats::{Place, Ties, grow, part};
+use sw_topo::{LinkEnd, PlaceEnd};
+
+// Whether the link end stands at that cell.
+fn stands_at(network: &Network, end: LinkEnd, id: CellId) -> bool
+    requires { end < 2 * length network.now.links }
+    ensures { result ≡ same_cell ((network_of network.now).start_of end) (machine_cell id) }
+{
+    match network.topology().start_of(end.sends()) {
+        PlaceEnd::Node(n) => id.is(CellId::Node(n)),
+        PlaceEnd::Switch(w, _) => id.is(CellId::Switch(w)),
+    }
+}
+
+// The link end goes to the list, with its numbers, if it stands at that cell.
+fn push_end(
+    net: &Net<'_, SwitchRoutes<'_>, Policy>,
+    id: CellId,
+    end: LinkEnd,
+    ends: &mut Vec<(LinkEnd, Numbers)>,
+) -> Result<(), AllocError>
+    requires state { IsNetState net.now (empty (network_of net.now.declared)) }
+    requires end { end < 2 * length net.now.declared.links }
+    ensures { OnOk result (ends.new.items ≡ ends.old.items ++ numbered_of (network_of net.now.declared) (empty (network_of net.now.declared)) id (end ∷ [])) }
+{
+    if !stands_at(net.network(), end, id) {
+        return Ok(());
+    }
+    ends.push((end, net.numbers(end)))?;
+    Ok(())
+}
+
+// The link ends of the cell, each with its numbers.
+fn ends_of(
+    alloc: Global,
+    net: &Net<'_, SwitchRoutes<'_>, Policy>,
+    id: CellId,
+) -> Result<Vec<(LinkEnd, Numbers)>, AllocError>
+    requires { IsNetState net.now (empty (network_of net.now.declared)) }
+    ensures { IfOk result (λ v. v.items ≡ numbered (network_of net.now.declared) (empty (network_of net.now.declared)) id) }
+{
+    let mut ends = Vec::new(alloc);
+    for number in 0..net.network().channels() {
+        push_end(net, id, LinkEnd::new(number), &mut ends)?;
+    }
+    Ok(ends)
+}
+
+// One more cell.
+fn open(
+    alloc: Global,
+    net: &Net<'_, SwitchRoutes<'_>, Policy>,
+    table: &Ties,
+    seat: &mut Place,
+    cells: &mut Vec<Cell>,
+    id: CellId,
+) -> Result<(), AllocError>
+    requires state { IsNetState net.now (empty (network_of net.now.declared)) }
+    requires table { 0 < table.now.shared.table_id.words }
+    requires seat { seat.old.table_id ≡ table.now.shared.table_id }
+    requires opened { (ids : List CellId) × AreOpened net.now.declared table.now.shared.table_id ids cells.old.items seat.old.me }
+    ensures seat { seat.new.table_id ≡ seat.old.table_id }
+    ensures opened { OnOk result ((ids : List CellId) → AreOpened net.now.declared table.now.shared.table_id ids cells.old.items seat.old.me → AreOpened net.now.declared table.now.shared.table_id (ids ++ id ∷ []) cells.new.items seat.new.me) }
+{
+    let ends = ends_of(alloc, net, id)?;
+    grow(table, seat, id, &ends);
+    let number = cells.len() as u64;
+    let cell = Cell {
+        id,
+        number,
+        ends,
+        seat: part(table, seat),
+    };
+    cells.push(cell)?;
+    Ok(())
+}
+
+// The cells of all nodes.
+fn open_nodes(
+    alloc: Global,
+    net: &Net<'_, SwitchRoutes<'_>, Policy>,
+    table: &Ties,
+    seat: &mut Place,
+    cells: &mut Vec<Cell>,
+) -> Result<(), AllocError>
+    requires state { IsNetState net.now (empty (network_of net.now.declared)) }
+    requires table { 0 < table.now.shared.table_id.words }
+    requires seat { seat.old.table_id ≡ table.now.shared.table_id }
+    requires opened { AreOpened net.now.declared table.now.shared.table_id [] cells.old.items seat.old.me }
+    ensures seat { seat.new.table_id ≡ seat.old.table_id }
+    ensures opened { OnOk result (AreOpened net.now.declared table.now.shared.table_id (node_ids (length net.now.declared.nodes)) cells.new.items seat.new.me) }
+{
+    for n in 0..net.network().nodes() {
+        open(alloc, net, table, seat, cells, CellId::Node(n))?;
+    }
+    Ok(())
+}
+
+// And of all switches, behind these.
+fn open_switches(
+    alloc: Global,
+    net: &Net<'_, SwitchRoutes<'_>, Policy>,
+    table: &Ties,
+    seat: &mut Place,
+    cells: &mut Vec<Cell>,
+) -> Result<(), AllocError>
+    requires state { IsNetState net.now (empty (network_of net.now.declared)) }
+    requires table { 0 < table.now.shared.table_id.words }
+    requires seat { seat.old.table_id ≡ table.now.shared.table_id }
+    requires opened { AreOpened net.now.declared table.now.shared.table_id (node_ids (length net.now.declared.nodes)) cells.old.items seat.old.me }
+    ensures seat { seat.new.table_id ≡ seat.old.table_id }
+    ensures opened { OnOk result (AreOpened net.now.declared table.now.shared.table_id (cells_of net.now.declared) cells.new.items seat.new.me) }
+{
+    for w in 0..net.network().switches() {
+        open(alloc, net, table, seat, cells, CellId::Switch(w))?;
+    }
+    Ok(())
+}
+
+// The cells of a network in its empty state.
+pub(crate) fn opening(
+    alloc: Global,
+    net: &Net<'_, SwitchRoutes<'_>, Policy>,
+    table: &Ties,
+    seat: &mut Place,
+) -> Result<Vec<Cell>, AllocError>
+    requires state { IsNetState net.now (empty (network_of net.now.declared)) }
+    requires table { 0 < table.now.shared.table_id.words }
+    requires seat { (seat.old.table_id ≡ table.now.shared.table_id) × (seat.old.me ≡ (knower [], [])) }
+    ensures seat { seat.new.table_id ≡ seat.old.table_id }
+    ensures known { OnOk result (seat.new.me ≡ (knower (all_known net.now.declared (empty (network_of net.now.declared))), [])) }
+    ensures cells { IfOk result (λ v. v.items ≡ new_cells net.now.declared table.now.shared.table_id) }
+{
+    let mut cells = Vec::new(alloc);
+    open_nodes(alloc, net, table, seat, &mut cells)?;
+    open_switches(alloc, net, table, seat, &mut cells)?;
+    Ok(cells)
+}

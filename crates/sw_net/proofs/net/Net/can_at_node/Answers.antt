@@ -1,0 +1,28 @@
+use Rattle.std.proofs.Common.{subst, sym}
+use Rattle.sw_cells.specs.Makes.{HasNodeState}
+use Rattle.sw_cells.specs.Parts.{IsNodeFor}
+use Rattle.sw_cells.specs.Possible.{NodeTells, step_at_node}
+use Rattle.sw_machine.specs.Steps.{Emit}
+use Rattle.sw_model.specs.Model.{network_of}
+use Rattle.sw_net.proofs.Possibles.{node_told}
+use Rattle.sw_net.proofs.Steps.{has_node}
+use Rattle.sw_net.proofs.net.Net.can_at_node.Goals as goal
+use Rattle.sw_net.specs.Net.{NetView}
+use Rattle.sw_network.specs.Entries.{Declaration}
+
+pub is_possible-requires-clause-node : goal.is_possible-requires-clause-node
+is_possible-requires-clause-node g c = subst (λ (d : Declaration). IsNodeFor d c.args.n c.node.result.now) (sym c.network-network.ensures.network) (c.network-network.ensures.sound.nodes c.args.n c.node.result.now c.node.ensures)
+
+pub is_possible-requires-clause-reached : goal.is_possible-requires-clause-reached
+is_possible-requires-clause-reached g c =
+    let v = c.args.self.now in
+    subst (λ (d : Declaration). HasNodeState (network_of d) c.args.n c.node.result.now c.self.inside.wires) (sym c.network-network.ensures.network)
+    (subst (λ (k : NetView g.row.R.Denot g.row.A.Denot). HasNodeState (network_of v.declared) c.args.n c.node.result.now k.between) (sym c.self.view_is)
+    (has_node g.R.Routing.answer g.A.Arbiter.ports v.declared v.nodes v.switches v.between c.network-network.ensures.sound (Emit 0) c.args.n c.node.result.now c.node.ensures))
+
+pub returns : goal.returns
+returns g c =
+    let v = c.args.self.now in
+    let told = subst (λ (d : Declaration). NodeTells (network_of d) c.args.n c.node.result.now c.self.inside.wires (step_at_node (network_of d) c.args.n c.args.step) c.is_possible.result) c.network-network.ensures.network c.is_possible.ensures in
+    node_told v c.args.n c.node.result.now (step_at_node (network_of v.declared) c.args.n c.args.step) c.is_possible.result c.node.ensures
+    (subst (λ (k : NetView g.row.R.Denot g.row.A.Denot). NodeTells (network_of v.declared) c.args.n c.node.result.now k.between (step_at_node (network_of v.declared) c.args.n c.args.step) c.is_possible.result) c.self.view_is told)

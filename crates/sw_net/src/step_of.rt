@@ -1,0 +1,166 @@
+//! A step of a link end.
+ghost use Rattle.std.specs.Prelude.{◌≡◌, ◌<◌, ◌*◌, IfNone, IfSome, Ok, OnErr, OnOk, false, length, true};
+ghost use Rattle.sw_cell.specs.Answers.{Stores};
+ghost use Rattle.sw_cells.specs.Possible.{step_at_node, step_at_port};
+ghost use Rattle.sw_cells.specs.declared.switch.PortStep.{PortStep};
+ghost use Rattle.sw_machine.specs.Network.{AtSwitch};
+ghost use Rattle.sw_model.specs.Model.{network_of};
+ghost use Rattle.sw_net.specs.Making.{IsPlain};
+ghost use Rattle.sw_steps.specs.Steps.{machine_step};
+
+use crate::net::Net;
+use std::alloc::{AllocError, Global};
+use sw_arb::Arbiter;
+use sw_cell::NetFault;
+use sw_cells::node::NodeStep;
+use sw_cells::switch::PortStep;
+use sw_cells::{node, switch};
+use sw_network::Network;
+use sw_route::Routing;
+use sw_steps::Step;
+use sw_topo::{LinkEnd, PlaceEnd};
+
+/// The step at node `n`.
+#[tactic(auto, unfolding(sw_model::specs::Model::network_of))]
+fn node_step(network: &Network, n: u16, step: NodeStep) -> Step
+    requires { n < length network.now.nodes }
+    ensures { machine_step result ≡ step_at_node (network_of network.now) n step }
+{
+    match step {
+        NodeStep::Fct => Step::Fct(network.topology().into(n)),
+        NodeStep::FctIn => Step::FctIn(network.topology().out(n)),
+        NodeStep::Arrive => Step::Arrive(network.topology().into(n)),
+        NodeStep::Emit => Step::Emit(n),
+        NodeStep::Accept => Step::Accept(n),
+        NodeStep::Reply => Step::Reply(n),
+    }
+}
+
+/// The step at the link end of a port.
+fn port_step(end: LinkEnd, step: PortStep) -> Step
+    ensures { machine_step result ≡ step_at_port end step }
+{
+    match step {
+        PortStep::Fct => Step::Fct(end.receives()),
+        PortStep::FctIn => Step::FctIn(end.sends()),
+        PortStep::Arrive => Step::Arrive(end.receives()),
+        PortStep::DropFront => Step::Drop(end.receives()),
+        PortStep::Forward => Step::Forward(end.receives()),
+        PortStep::Spill => Step::Spill(end.receives()),
+    }
+}
+
+impl<'n, R: Routing, A: Arbiter> Net<'n, R, A> {
+    ghost use Rattle.sw_net.specs.Asked.{CanStep};
+    ghost use Rattle.sw_net.specs.Making.{MovesAt};
+    ghost use Rattle.sw_net.specs.Net.{NetAnswers, arbiters_of};
+    ghost use Rattle.sw_net.specs.Possible.{Tells};
+
+    /// Makes the step, which has to be possible, and no beginning or grant.
+    fn make_plain(&mut self, alloc: Global, step: &Step) -> Result<(), AllocError>
+        requires plain { IsPlain (machine_step step.now) }
+        requires possible { Tells self.old (machine_step step.now) true }
+        ensures network { self.new.declared ≡ self.old.declared }
+        ensures made { OnOk result (NetAnswers self.old (machine_step step.now) (Ok tt) self.new) }
+        ensures arbiters { OnOk result (arbiters_of self.new.switches ≡ arbiters_of self.old.switches) }
+        ensures stores { OnErr result (Stores (machine_step step.now)) }
+        ensures refused { OnErr result (self.new ≡ self.old) }
+    {
+        let _network = self.network();
+        match self.step(alloc, step) {
+            Ok(()) => Ok(()),
+            Err(fault) => match fault {
+                NetFault::Memory => Err(AllocError),
+                NetFault::NotEnabled => unreachable!(),
+                NetFault::NotInFlow => unreachable!(),
+            },
+        }
+    }
+
+    /// A step of node `n` that is possible, other than to begin a packet.
+    fn first_at_node(&self, n: u16) -> Option<NodeStep>
+        requires { n < length self.now.declared.nodes }
+        ensures some { IfSome result (λ step. Tells self.now (step_at_node (network_of self.now.declared) n step) true) }
+        ensures none { IfNone result (CanStep self.now ((network_of self.now.declared).out n) false) }
+    {
+        let network = self.network();
+        node::first_possible(network, n, self.node(n), &self.wires)
+    }
+
+    /// A step of the link end, which stands at switch `w`, that is possible, other than to grant its
+    /// output.
+    fn first_at_port(&self, w: u16, end: LinkEnd) -> Option<PortStep>
+        requires switch { w < length self.now.declared.switches }
+        requires at { (network_of self.now.declared).start_of end ≡ AtSwitch w }
+        ensures some { IfSome result (λ step. Tells self.now (step_at_port end step) true) }
+        ensures none { IfNone result ((step : PortStep) → Tells self.now (step_at_port end step) false) }
+    {
+        let network = self.network();
+        switch::first_possible(network, w, end, self.switch(w), &self.wires)
+    }
+
+    /// Grants the output of the link end, which stands at switch `w` and can make no other step, to
+    /// the input that its arbiter picks.
+    fn arbitrate(&mut self, w: u16, end: LinkEnd) -> Option<Step>
+        requires switch { w < length self.old.declared.switches }
+        requires at { (network_of self.old.declared).start_of end ≡ AtSwitch w }
+        requires no_other { (step : PortStep) → Tells self.old (step_at_port end step) false }
+        ensures network { self.new.declared ≡ self.old.declared }
+        ensures moves { MovesAt R.answer A.policy self.old end (Ok result) self.new }
+    {
+        let cell = &mut self.switches[w as usize];
+        let channel = switch::arbitrate(self.network, w, end.sends(), cell)?;
+        Some(Step::Grant(end.sends(), channel))
+    }
+
+    fn step_of_node(&mut self, alloc: Global, n: u16) -> Result<Option<Step>, AllocError>
+        requires { n < length self.old.declared.nodes }
+        ensures network { self.new.declared ≡ self.old.declared }
+        ensures moves { MovesAt R.answer A.policy self.old ((network_of self.old.declared).out n) result self.new }
+    {
+        let Some(first) = self.first_at_node(n) else {
+            return Ok(None);
+        };
+        let step = node_step(self.network(), n, first);
+        self.make_plain(alloc, &step)?;
+        Ok(Some(step))
+    }
+
+    fn step_of_port(
+        &mut self,
+        alloc: Global,
+        w: u16,
+        end: LinkEnd,
+    ) -> Result<Option<Step>, AllocError>
+        requires switch { w < length self.old.declared.switches }
+        requires at { (network_of self.old.declared).start_of end ≡ AtSwitch w }
+        ensures network { self.new.declared ≡ self.old.declared }
+        ensures moves { MovesAt R.answer A.policy self.old end result self.new }
+    {
+        let Some(first) = self.first_at_port(w, end) else {
+            return Ok(self.arbitrate(w, end));
+        };
+        let step = port_step(end, first);
+        self.make_plain(alloc, &step)?;
+        Ok(Some(step))
+    }
+
+    /// Makes a step that belongs to the link end, if one is possible other than to begin a packet,
+    /// and tells which. A grant of its output comes after its other steps, and goes to the input
+    /// that the output's arbiter picks among those that ask (ECSS-E-ST-50-12C, network layer:
+    /// arbitration). No other arbiter changes.
+    ///
+    /// # Errors
+    ///
+    /// There is no memory for what the step stores: then nothing has changed.
+    pub fn step_of(&mut self, alloc: Global, end: LinkEnd) -> Result<Option<Step>, AllocError>
+        requires { end < 2 * length self.old.declared.links }
+        ensures network { self.new.declared ≡ self.old.declared }
+        ensures moves { MovesAt R.answer A.policy self.old end result self.new }
+    {
+        match self.network().topology().start_of(end.sends()) {
+            PlaceEnd::Node(n) => self.step_of_node(alloc, n),
+            PlaceEnd::Switch(w, _) => self.step_of_port(alloc, w, end),
+        }
+    }
+}

@@ -1,0 +1,41 @@
+-- From the journal at the end of a run to the outcome.
+use Rattle.std.proofs.Common.{List, ap, arith, length, subst, sym, ℕ, ◌∙◌, ◌≡◌, ◌≤◌}
+use Rattle.std.proofs.lemmas.List.{length-map}
+use Rattle.sw_history.specs.Next.{IsWhole}
+use Rattle.sw_journal.specs.Asked.{IsUndelivered}
+use Rattle.sw_journal.specs.Record.{Account, LeadsTo}
+use Rattle.sw_limit.specs.History.{IsHistory, packets_of}
+use Rattle.sw_load.specs.Load.{LoadEntry}
+use Rattle.sw_machine.specs.State.{State}
+use Rattle.sw_machine.specs.Steps.{Step}
+use Rattle.sw_model.specs.Model.{network_of}
+use Rattle.sw_network.specs.Entries.{Declaration}
+use Rattle.sw_run.specs.Ends.{AreOutBy, EndsBy}
+use Rattle.sw_run.specs.Outcomes.{IsOutcome, NothingFollows, came_out_of, steps_of}
+use Rattle.sw_run.specs.declared.outcome.Outcome.{Outcome}
+use Rattle.sw_steps.specs.Steps.{machine_step}
+
+module _ (j : Account) (s : State) (o : Outcome) (leads : LeadsTo j s) (within : length j.history ≤ j.limit) (steps : steps_of o ≡ j.history) where
+  as_long : length o.history.items ≡ length j.history
+  as_long = let a = length-map o.history.items machine_step in let b = ap (λ (l : List Step). length l) steps in omega arith
+
+  by_journal : EndsBy j o.stop → AreOutBy j (length j.declared.nodes) (came_out_of o) → IsUndelivered j o.undelivered → IsOutcome j.declared j.load j.limit o
+  by_journal ends out left = record {
+    state = s;
+    history = subst (λ l. IsHistory (network_of j.declared) (packets_of j.load) l s) (sym steps) leads;
+    within = let a = as_long in omega arith;
+    came_out = out s leads;
+    undelivered = left s leads;
+    drained = λ e. let t = subst (EndsBy j) e ends in (subst (IsWhole (network_of j.declared) (packets_of j.load)) (sym steps) t.whole, left s leads ∙ sym (t.delivered s leads));
+    stuck = λ e. let t = subst (EndsBy j) e ends in (t.locked_up s leads, subst (NothingFollows (network_of j.declared) (packets_of j.load)) (sym steps) t.still);
+    full = λ e. let t = subst (EndsBy j) e ends in as_long ∙ t;
+  }
+
+  -- the same of the network, load and limit that the journal is of
+  pub is_outcome : (d : Declaration) (load : List LoadEntry) (limit nodes : ℕ) → j.declared ≡ d → j.load ≡ load → j.limit ≡ limit → nodes ≡ length d.nodes
+      → EndsBy j o.stop → AreOutBy j nodes (came_out_of o) → IsUndelivered j o.undelivered → IsOutcome d load limit o
+  is_outcome d load limit nodes same_network same_load same_limit all ends out left =
+      let all_nodes : nodes ≡ length j.declared.nodes = all ∙ ap (λ (x : Declaration). length x.nodes) (sym same_network) in
+      let is = by_journal ends (subst (λ n. AreOutBy j n (came_out_of o)) all_nodes out) left in
+      subst (λ x. IsOutcome x load limit o) same_network
+      (subst (λ x. IsOutcome j.declared x limit o) same_load (subst (λ x. IsOutcome j.declared j.load x o) same_limit is))

@@ -1,0 +1,5 @@
+mod Counts
+mod Delivered
+mod Ended
+mod Named
+mod Out

@@ -1,0 +1,5 @@
+use Rattle.sw_run.proofs.laws.accepted_is_not_stuck.Goals as goal
+
+pub returns : goal.returns
+returns c = λ d cert valid acc load limit o is stuck.
+    c.accepted_is_never_locked_up.ensures.never _ cert (c.declared_networks_are_networks.ensures d valid) acc is.state (_, is.history.run) (is.stuck stuck).0

@@ -1,0 +1,4 @@
+pub mod Picked
+pub mod Outcomes
+pub mod Ends
+pub mod Laws

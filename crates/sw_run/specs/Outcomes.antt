@@ -1,0 +1,46 @@
+-- What an outcome says.
+use Rattle.std.specs.Prelude.{List, Some, length, map, slice_get, ℕ, ◌≡◌, ◌≤◌}
+use Rattle.sw_history.specs.Next.{IsWhole, MayFollow}
+use Rattle.sw_limit.specs.History.{IsHistory, packets_of}
+use Rattle.sw_load.specs.Load.{LoadEntry}
+use Rattle.sw_machine.specs.Begun.{Begun}
+use Rattle.sw_machine.specs.Network.{Network}
+use Rattle.sw_machine.specs.Packets.{Packet}
+use Rattle.sw_machine.specs.Runs.{CameOut, IsLockedUp, undelivered}
+use Rattle.sw_machine.specs.State.{State}
+use Rattle.sw_machine.specs.Steps as machine
+use Rattle.sw_model.specs.Model.{network_of}
+use Rattle.sw_network.specs.Entries.{Declaration}
+use Rattle.sw_run.specs.declared.outcome.Outcome.{Outcome}
+use Rattle.sw_run.specs.declared.outcome.Stop.TheVariants.{Drained, JournalFull, Stuck}
+use Rattle.sw_steps.specs.Steps.{machine_step}
+
+-- the steps of the history, as steps of the machine
+abbrev pub steps_of : Outcome → List machine.Step
+steps_of o = map machine_step o.history.items
+
+-- the packets that came out, a list for each node
+abbrev pub came_out_of : Outcome → List (List Packet)
+came_out_of o = map (λ packets. packets.items) o.came_out.items
+
+-- no step may follow these, the beginning of a packet of the load included
+abbrev pub NothingFollows : Network → List Begun → List machine.Step → Type 0
+NothingFollows net packets steps = (step : machine.Step) → MayFollow net packets steps step → ⊥
+
+-- a list for each node, of the packets that came out there
+pub record AreOut (nodes : ℕ) (s : State) (lists : List (List Packet)) : Type 0 where
+  pub all_nodes : length lists ≡ nodes
+  pub out : (n : ℕ) (packets : List Packet) → slice_get lists n ≡ Some packets → CameOut s n packets
+
+-- The history is one of the load, no longer than the limit, and what the outcome tells is so in the state after it: what came out at each
+-- node, and how many characters are undelivered. Drained: the whole load was begun, and nothing is undelivered. Stuck: the network is locked
+-- up, and no step may follow. JournalFull: the history is as long as the limit.
+pub record IsOutcome (d : Declaration) (load : List LoadEntry) (limit : ℕ) (o : Outcome) : Type 0 where
+  pub state : State
+  pub history : IsHistory (network_of d) (packets_of load) (steps_of o) state
+  pub within : length o.history.items ≤ limit
+  pub came_out : AreOut (length d.nodes) state (came_out_of o)
+  pub undelivered : o.undelivered ≡ undelivered (network_of d) state
+  pub drained : o.stop ≡ Drained → IsWhole (network_of d) (packets_of load) (steps_of o) × (o.undelivered ≡ 0)
+  pub stuck : o.stop ≡ Stuck → IsLockedUp (network_of d) state × NothingFollows (network_of d) (packets_of load) (steps_of o)
+  pub full : o.stop ≡ JournalFull → length o.history.items ≡ limit

@@ -1,0 +1,22 @@
+//! What a run tells while it goes on.
+
+use sw_cell::CellId;
+
+/// Is told of each decision and of each step. A call may wait, and the run waits with it.
+pub trait Gate {
+    /// A worker holds the lock of the cell, and is about to choose what the cell does next.
+    fn deciding(&self, cell: CellId);
+
+    /// A step of the cell was committed, and the worker holds no lock.
+    fn committed(&self, cell: CellId);
+}
+
+/// A gate that does nothing.
+#[derive(Drop)]
+pub struct Open;
+
+impl Gate for Open {
+    fn deciding(&self, _cell: CellId) {}
+
+    fn committed(&self, _cell: CellId) {}
+}

@@ -1,0 +1,30 @@
+//! What holds of outcomes where a certificate is accepted for the network. These functions do nothing: each is the proof of what its clause says.
+ghost use Rattle.sw_run.specs.Laws.{IsDeliveredWhereDrained, IsNotFull, IsNotStuck, OfAcceptedOutcomes};
+
+use sw_limit::laws::accepted_histories_end;
+use sw_machine::laws::accepted_is_never_locked_up;
+use sw_model::declared_networks_are_networks;
+
+/// No run ends stuck.
+pub fn accepted_is_not_stuck()
+    ensures { OfAcceptedOutcomes IsNotStuck }
+{
+    accepted_is_never_locked_up();
+    declared_networks_are_networks();
+}
+
+/// A run that ends drained brought each packet of the load, once, to the node where its flow ends,
+/// and one reply for each that is answered.
+pub fn accepted_is_delivered()
+    ensures { OfAcceptedOutcomes IsDeliveredWhereDrained }
+{
+    declared_networks_are_networks();
+}
+
+/// Where the limit is enough for the load, no run ends with a full journal.
+pub fn accepted_is_not_full()
+    ensures { OfAcceptedOutcomes IsNotFull }
+{
+    accepted_histories_end();
+    declared_networks_are_networks();
+}

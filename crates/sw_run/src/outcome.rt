@@ -1,0 +1,30 @@
+//! How a run ends.
+
+use sw_char::Packet;
+use sw_steps::Step;
+
+/// Why a run ended.
+#[derive(Clone, Copy, Debug, PartialEq, Eq)]
+pub enum Stop {
+    /// The whole load was begun, and nothing is undelivered.
+    Drained,
+    /// Something is undelivered, and no step may follow.
+    Stuck,
+    /// The history is as long as it may be, and the run is not at its end.
+    JournalFull,
+    /// There was no memory for a step or for a worker.
+    Memory,
+}
+
+/// What a run did.
+#[derive(Drop)]
+pub struct Outcome {
+    /// Why it ended.
+    pub stop: Stop,
+    /// The steps, in the order in which they were committed.
+    pub history: Vec<Step>,
+    /// The packets that came out at each node, in their order.
+    pub came_out: Vec<Vec<Packet>>,
+    /// How many characters are undelivered.
+    pub undelivered: u64,
+}

@@ -1,0 +1,59 @@
+//! The run of a load.
+ghost use Rattle.std.specs.Prelude.{◌≡◌, ◌<◌, All, IfOk};
+ghost use Rattle.sw_limit.specs.Limit.{AreDeclared};
+ghost use Rattle.sw_run.specs.Outcomes.{IsOutcome};
+
+use crate::gate::Gate;
+use crate::outcome::Outcome;
+use crate::shared::Shared;
+use crate::which::Which;
+use crate::work::start_all;
+use std::alloc::{AllocError, Global};
+use std::marker::Brand;
+use std::sync::Wait;
+use std::thread::Threads;
+use sw_journal::{Cell, Journal};
+use sw_load::Load;
+use sw_network::Network;
+
+/// Runs the workers on the cells and the journal of one run.
+fn run_named<'a, W: Which + Send + Sync, G: Gate + Sync, R: Threads + Wait + Sync>(
+    rt: &R,
+    alloc: Global,
+    network: &'a Network,
+    journal: Journal<'a>,
+    cells: Vec<Cell>,
+    workers: usize,
+    limit: usize,
+    gate: &G,
+) -> Result<Outcome, AllocError>
+    requires network { network.now ≡ W.declared }
+    requires account { (journal.name ≡ W.name) × (journal.declared ≡ W.declared) × (journal.load ≡ W.load) × (journal.limit ≡ W.limit) }
+    requires cells { All (λ c. c.name ≡ W.name) cells.items }
+    requires limit { limit ≡ W.limit }
+    requires some { 0 < workers }
+    ensures { IfOk result (IsOutcome W.declared W.load W.limit) }
+{
+    let shared: Shared<'a, W> = Shared::new(alloc, network, journal, cells, limit)?;
+    start_all(rt, alloc, &shared, gate, workers);
+    shared.outcome(alloc)
+}
+
+/// Sends the packets of the load over the network, by so many threads, until nothing can go on or
+/// there are so many steps as there may be.
+pub fn run<'a, G: Gate + Sync, R: Threads + Wait + Sync>(
+    rt: &R,
+    alloc: Global,
+    network: &'a Network,
+    load: &'a Load,
+    workers: usize,
+    limit: usize,
+    gate: &G,
+) -> Result<Outcome, AllocError>
+    requires packets { AreDeclared network.now load.now }
+    requires some { 0 < workers }
+    ensures { IfOk result (IsOutcome network.now load.now limit) }
+{
+    let (journal, cells) = Journal::new(alloc, network, load, limit)?;
+    run_named::<Brand, G, R>(rt, alloc, network, journal, cells, workers, limit, gate)
+}

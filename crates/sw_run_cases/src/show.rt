@@ -1,0 +1,34 @@
+//! How a run ended, as it is printed.
+
+use std::io;
+use sw_network::Network;
+use sw_run::{Outcome, Stop};
+
+fn name_of(stop: Stop) -> &'static str {
+    match stop {
+        Stop::Drained => "drained",
+        Stop::Stuck => "stuck",
+        Stop::JournalFull => "journal full",
+        Stop::Memory => "out of memory",
+    }
+}
+
+/// Prints why the run ended, how many characters are undelivered, and how many packets came out at
+/// each node.
+pub(crate) fn show_outcome(
+    rt: &impl Print,
+    network: &Network,
+    outcome: &Outcome,
+) -> io::Result<()> {
+    let stop = name_of(outcome.stop);
+    let undelivered = outcome.undelivered;
+    println!(rt; "{stop}, undelivered {undelivered}")?;
+    for node in 0..network.nodes() {
+        if let Some(packets) = outcome.came_out.get(node as usize) {
+            let name = network.node_name(node);
+            let count = packets.len();
+            println!(rt; "node {name} packets {count}")?;
+        }
+    }
+    Ok(())
+}
