@@ -1,15 +1,16 @@
 -- A run that the words ask for has a worker.
-use Rattle.std.proofs.Common.{List, arith, ℕ}
-use Rattle.sw_words.specs.CommandLine.{Gives, HasWorkers}
+use Rattle.std.proofs.Common.{List, Option, arith, ℕ}
+use Rattle.clap.specs.Words.{Row}
+use Rattle.sw_words.specs.CommandLine.{HasWorkers, IsMatched}
 use Rattle.sw_words.specs.declared.command_line.Call.{Call}
 use Rattle.sw_words.specs.declared.command_line.Call.TheVariants.{Route, Decide, Check, Report, Replay, Run}
 
-pub given_workers : (words : List (List ℕ)) (call : Call) → Gives words call → HasWorkers call
-given_workers words (Run file load workers limit) (none, (name, values, found, (called, is_file, is_load, is_workers, is_limit))) =
+pub matched_workers : (found : Option (List ℕ × List Row)) (call : Call) → IsMatched found call → HasWorkers call
+matched_workers found (Run file load workers limit) (name, values, met, (called, is_file, is_load, is_workers, is_limit)) =
     let least = is_workers.1 in
     omega (arith, least)
-given_workers words (Route file flow) given = tt
-given_workers words (Decide file) given = tt
-given_workers words (Check file certificate) given = tt
-given_workers words (Report file) given = tt
-given_workers words (Replay file schedule) given = tt
+matched_workers found (Route file flow) matched = tt
+matched_workers found (Decide file) matched = tt
+matched_workers found (Check file certificate) matched = tt
+matched_workers found (Report file) matched = tt
+matched_workers found (Replay file schedule) matched = tt
