@@ -1,9 +1,12 @@
 //! A call of the program, and how it ends.
 use std::rt::Files;
+use std::sync::Wait;
 use std::thread::Threads;
 use std::{fs, io};
 use sw_app::{check, decide, replay, report, route};
 use sw_ends::Ended;
+use sw_run::Open;
+use sw_run_app::Options;
 use sw_words::{Call, WordsFault, words};
 
 fn run_route<R: Files + Print + AllocGlobal>(rt: &R, file: &str, flow: &str) -> io::Result<Ended> {
@@ -52,7 +55,31 @@ fn run_report<R: Files + Print + AllocGlobal + Threads + Sync>(
     Ok(report(rt, rt.alloc(), &mut reader, &mut writer))
 }
 
-fn run_call<R: Files + Print + AllocGlobal + Threads + Sync>(
+fn run_load<R: Files + Print + AllocGlobal + Threads + Wait + Sync>(
+    rt: &R,
+    file: &str,
+    load: &str,
+    options: Options,
+) -> io::Result<Ended> {
+    // The words ask for no run without workers.
+    if options.workers == 0 {
+        return Ok(Ended::ReadFailed);
+    }
+    let mut network = fs::open(rt, file)?;
+    let mut packets = fs::open(rt, load)?;
+    let mut writer = io::writer(rt);
+    Ok(sw_run_app::run(
+        rt,
+        rt.alloc(),
+        &mut network,
+        &mut packets,
+        options,
+        &mut writer,
+        &Open,
+    ))
+}
+
+fn run_call<R: Files + Print + AllocGlobal + Threads + Wait + Sync>(
     rt: &R,
     call: Call<'_>,
 ) -> io::Result<Ended> {
@@ -62,6 +89,20 @@ fn run_call<R: Files + Print + AllocGlobal + Threads + Sync>(
         Call::Report { file } => run_report(rt, file),
         Call::Replay { file, schedule } => run_replay(rt, file, schedule),
         Call::Check { file, certificate } => run_check(rt, file, certificate),
+        Call::Run {
+            file,
+            load,
+            workers,
+            limit,
+        } => run_load(
+            rt,
+            file,
+            load,
+            Options {
+                workers: workers as usize,
+                limit: limit as usize,
+            },
+        ),
     }
 }
 
@@ -97,7 +138,7 @@ fn show_words(rt: &impl Print, given: &[&str]) -> io::Result<()> {
 }
 
 /// Prints the words, what the program writes, and its status.
-pub(crate) fn show_run<R: Files + Print + AllocGlobal + Threads + Sync>(
+pub(crate) fn show_run<R: Files + Print + AllocGlobal + Threads + Wait + Sync>(
     rt: &R,
     given: &[&str],
 ) -> io::Result<()> {
