@@ -7,3 +7,4 @@ pub mod Ends
 pub mod Idle
 pub mod Steps
 pub mod Loop
+pub mod Enabled

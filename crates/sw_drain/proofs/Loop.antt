@@ -46,15 +46,15 @@ module _ {R A : Type 0} (load : List LoadEntry) where
   no_more_moves v begun long count way = let all = all_moves way.steps in let l = way.steps_are in let m = way.moves_are in omega arith
 
   module _ (v u w : NetView R A) (begun after : List ℕ) (long count : ℕ) (begins : BeginsOne load v begun false u after) (way : IsOnTheWay load v begun long count) where
-    pub one_moved : MovesOne u true w → w.declared ≡ u.declared → IsOnTheWay load w after (long + 1) (count + 1)
-    one_moved move same =
+    pub one_moved : (index : ℕ) → MovesOne u index true w → w.declared ≡ u.declared → IsOnTheWay load w after (long + 1) (count + 1)
+    one_moved index move same =
         let here = subst (λ (k : NetView R A). IsOnTheWay load k begun long count) (sym begins.0) way in
         let there = subst (λ l. IsOnTheWay load u l long count) (sym begins.1) here in
-        moved_on load u w same after move long count there
+        moved_on load u w same after move.0 move.2 long count there
 
     module _ (d : Declaration) (same : v.declared ≡ d) (valid : IsValid d) (declared : AreDeclared d load) (cert : Certificate) (free : IsDeadlockFree (network_of d) cert) where
-      pub finished : MovesOne u false w → IsDrained load w count
-      finished stops =
+      pub finished : (index : ℕ) → MovesOne u index false w → IsDrained load w count
+      finished index stops =
           let quiet = subst (λ (k : NetView R A). IsQuietNet k true) begins.0 stops.1 in
           let is = is_drained load v (subst IsValid (sym same) valid) (subst (λ (e : Declaration). AreDeclared e load) (sym same) declared) cert (subst (λ (e : Declaration). IsDeadlockFree (network_of e) cert) (sym same) free) begun long count way begins.2 quiet in
           subst (λ (k : NetView R A). IsDrained load k count) (sym (stops.0 ∙ begins.0)) is

@@ -40,14 +40,14 @@ last_moves : (steps : List Step) (step : Step) → moves (steps ++ step ∷ []) 
 last_moves steps step = let a = moves_append steps (step ∷ []) in let c = moves_cons step [] in omega arith
 
 module _ {R A : Type 0} (load : List LoadEntry) (v w : NetView R A) (same : w.declared ≡ v.declared) where
-  pub moved_on : (begun : List ℕ) → HasMoved v w → (long count : ℕ) → IsOnTheWay load v begun long count → IsOnTheWay load w begun (long + 1) (count + 1)
-  moved_on begun move long count way =
-      let step = move.0 in
+  pub moved_on : (begun : List ℕ) (e : ℕ) → HasMoved v e w → (long count : ℕ) → IsOnTheWay load v begun long count → IsOnTheWay load w begun (long + 1) (count + 1)
+  moved_on begun e move long count way =
+      let step = move.step in
       let net = network_of v.declared in
-      let r = move.2 way.state way.in_net in
+      let r = move.made way.state way.in_net in
       let steps = way.steps ++ step ∷ [] in
-      let history = grows net (packets_of load) way.steps way.state way.history step r.0 r.1 (no_begin_next net (packets_of load) way.steps step move.1) in
-      let one : move_of (is_begin step) ≡ 1 = ap move_of move.1 in
+      let history = grows net (packets_of load) way.steps way.state way.history step r.0 r.1 (no_begin_next net (packets_of load) way.steps step move.no_begin) in
+      let one : move_of (is_begin step) ≡ 1 = ap move_of move.no_begin in
       let more = last_moves way.steps step in
       let before = way.moves_are in
       record {
@@ -56,7 +56,7 @@ module _ {R A : Type 0} (load : List LoadEntry) (v w : NetView R A) (same : w.de
         history = subst (λ (d : Declaration). IsHistory (network_of d) (packets_of load) steps r.0) (sym same) history;
         in_net = r.2;
         all_nodes = way.all_nodes ∙ ap (λ (d : Declaration). length d.nodes) (sym same);
-        counted = subst (λ (d : Declaration). IsCounted d steps begun) (sym same) (none_counted v.declared way.steps begun way.counted step move.1);
+        counted = subst (λ (d : Declaration). IsCounted d steps begun) (sym same) (none_counted v.declared way.steps begun way.counted step move.no_begin);
         steps_are = one_longer way.steps step long way.steps_are;
         moves_are = omega arith;
       }

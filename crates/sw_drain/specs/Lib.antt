@@ -1,3 +1,4 @@
 pub mod Drained
+pub mod Enabled
 pub mod Laws
 pub mod Way

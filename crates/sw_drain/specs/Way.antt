@@ -1,8 +1,10 @@
 -- A network on the way, while it sends a load.
 use Rattle.std.specs.Prelude.{Bool, List, None, Ok, Some, false, length, slice_get, true, ℕ, ◌+◌, ◌≡◌, ◌⊎◌}
+use Rattle.sw_drain.specs.Enabled.{IsChosen}
 use Rattle.sw_limit.specs.History.{IsHistory, packets_at, packets_of}
 use Rattle.sw_load.specs.Load.{LoadEntry}
 use Rattle.sw_machine.specs.Begun.{Begun, beginnings, moves}
+use Rattle.sw_machine.specs.Parts.{link_end_of}
 use Rattle.sw_machine.specs.State.{State}
 use Rattle.sw_machine.specs.Steps.{Step, is_begin}
 use Rattle.sw_model.specs.Model.{network_of}
@@ -34,9 +36,12 @@ IsReady load v n k false = (slice_get (packets_at (network_of v.declared) n (pac
 abbrev pub NoneIsReady : {R A : Type 0} → List LoadEntry → NetView R A → List ℕ → Type 0
 NoneIsReady load v begun = (n k : ℕ) → slice_get begun n ≡ Some k → IsReady load v n k false
 
--- some step other than a beginning was made
-abbrev pub HasMoved : {R A : Type 0} → NetView R A → NetView R A → Type 0
-HasMoved v w = (step : Step) × (is_begin step ≡ false) × NetAnswers v step (Ok tt) w
+-- a step other than a beginning was made that belongs to the link end where channel e starts
+pub record HasMoved {R A : Type 0} (v : NetView R A) (e : ℕ) (w : NetView R A) : Type 0 where
+  pub step : Step
+  pub belongs : link_end_of (network_of v.declared) step ≡ e
+  pub no_begin : is_begin step ≡ false
+  pub made : NetAnswers v step (Ok tt) w
 
 -- some node began its next packet, and that is counted
 abbrev pub HasBegun : {R A : Type 0} → List LoadEntry → NetView R A → List ℕ → NetView R A → List ℕ → Type 0
@@ -47,7 +52,7 @@ abbrev pub BeginsOne : {R A : Type 0} → List LoadEntry → NetView R A → Lis
 BeginsOne load v begun true w after = HasBegun load v begun w after
 BeginsOne load v begun false w after = (w ≡ v) × (after ≡ begun) × NoneIsReady load v begun
 
--- true: a step other than a beginning was made; false: none is possible, and nothing changed
-abbrev pub MovesOne : {R A : Type 0} → NetView R A → Bool → NetView R A → Type 0
-MovesOne v true w = HasMoved v w
-MovesOne v false w = (w ≡ v) × IsQuietNet v true
+-- true: a step other than a beginning was made, of the link end that the index chooses; false: none is possible, and nothing changed
+abbrev pub MovesOne : {R A : Type 0} → NetView R A → ℕ → Bool → NetView R A → Type 0
+MovesOne v index true w = (e : ℕ) × IsChosen v index e × HasMoved v e w
+MovesOne v index false w = (w ≡ v) × IsQuietNet v true

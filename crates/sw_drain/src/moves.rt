@@ -1,5 +1,6 @@
 //! The steps other than beginnings.
 ghost use Rattle.std.specs.Prelude.{◌≡◌, ◌<◌, ◌*◌, IfNone, IfOk, IfSome, OnOk, length, true};
+ghost use Rattle.sw_drain.specs.Enabled.{CanStepBelow, IsChosen, IsNth};
 ghost use Rattle.sw_drain.specs.Way.{HasMoved, MovesOne};
 ghost use Rattle.sw_net.specs.Asked.{CanStep, IsQuietNet};
 
@@ -10,7 +11,9 @@ use sw_route::Routing;
 use sw_topo::LinkEnd;
 
 /// How many link ends can step.
-pub(crate) fn count_enabled<R: Routing, A: Arbiter>(net: &Net<'_, R, A>) -> usize {
+pub(crate) fn count_enabled<R: Routing, A: Arbiter>(net: &Net<'_, R, A>) -> usize
+    ensures { CanStepBelow net.now (2 * length net.now.declared.links) result }
+{
     let mut count: usize = 0;
     for number in 0..net.network().channels() {
         if net.enabled(LinkEnd::new(number)) {
@@ -23,16 +26,16 @@ pub(crate) fn count_enabled<R: Routing, A: Arbiter>(net: &Net<'_, R, A>) -> usiz
 /// The link end that can step and has so many before it that can.
 fn nth_enabled<R: Routing, A: Arbiter>(net: &Net<'_, R, A>, index: usize) -> Option<LinkEnd>
     ensures within { IfSome result (λ e. e < 2 * length net.now.declared.links) }
-    ensures enabled { IfSome result (λ e. CanStep net.now e true) }
+    ensures nth { IsNth net.now index result }
 {
-    let mut left = index;
+    let mut before: usize = 0;
     for number in 0..net.network().channels() {
         let end = LinkEnd::new(number);
         if net.enabled(end) {
-            if left == 0 {
+            if before == index {
                 return Some(end);
             }
-            left -= 1;
+            before += 1;
         }
     }
     None
@@ -41,7 +44,7 @@ fn nth_enabled<R: Routing, A: Arbiter>(net: &Net<'_, R, A>, index: usize) -> Opt
 /// The same, or the first that can step where there are not so many.
 fn enabled_at<R: Routing, A: Arbiter>(net: &Net<'_, R, A>, index: usize) -> Option<LinkEnd>
     ensures within { IfSome result (λ e. e < 2 * length net.now.declared.links) }
-    ensures enabled { IfSome result (λ e. CanStep net.now e true) }
+    ensures chosen { IfSome result (IsChosen net.now index) }
     ensures none { IfNone result (IsQuietNet net.now true) }
 {
     let _network = net.network();
@@ -60,7 +63,7 @@ fn move_at<R: Routing, A: Arbiter>(
     requires within { end < 2 * length net.old.declared.links }
     requires enabled { CanStep net.old end true }
     ensures network { net.new.declared ≡ net.old.declared }
-    ensures moved { OnOk result (HasMoved net.old net.new) }
+    ensures moved { OnOk result (HasMoved net.old end net.new) }
 {
     let _network = net.network();
     match net.step_of(alloc, end)? {
@@ -77,7 +80,7 @@ pub(crate) fn move_one<R: Routing, A: Arbiter>(
     index: usize,
 ) -> Result<bool, AllocError>
     ensures network { net.new.declared ≡ net.old.declared }
-    ensures moves { IfOk result (λ made. MovesOne net.old made net.new) }
+    ensures moves { IfOk result (λ made. MovesOne net.old index made net.new) }
 {
     let Some(end) = enabled_at(net, index) else {
         return Ok(false);

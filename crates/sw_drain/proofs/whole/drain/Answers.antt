@@ -26,8 +26,8 @@ returns-then-not-branch-clause-drained g c =
     let none = subst (λ k. BeginsOne load v c.as_mut_slice.result.now k u c.begin_one.new.begun) c.if-branch.false c.in_ok-begin_one.ensures.begins in
     let begins = subst (λ l. BeginsOne load v l false u c.begin_one.new.begun) c.as_mut_slice.ensures.value none in
     let no : c.in_ok-move_one.field-0 ≡ false = search rules in
-    let stops = subst (λ k. MovesOne u k c.move_one.new.net) no c.in_ok-move_one.ensures.moves in
-    finished load v u c.move_one.new.net c.loop.begun.items c.begin_one.new.begun c.loop.counter c.loop.moves begins c.loop.invariant.1 d c.loop.invariant.0 valid c.requires.packets cert free stops
+    let stops = subst (λ k. MovesOne u c.if-count-eq0.index k c.move_one.new.net) no c.in_ok-move_one.ensures.moves in
+    finished load v u c.move_one.new.net c.loop.begun.items c.begin_one.new.begun c.loop.counter c.loop.moves begins c.loop.invariant.1 d c.loop.invariant.0 valid c.requires.packets cert free c.if-count-eq0.index stops
 
 pub loop-preserved : goal.loop-preserved
 loop-preserved g c =
@@ -37,8 +37,8 @@ loop-preserved g c =
     let none = subst (λ k. BeginsOne load v c.as_mut_slice.result.now k u c.begin_one.new.begun) c.if-branch.false c.in_ok-begin_one.ensures.begins in
     let begins = subst (λ l. BeginsOne load v l false u c.begin_one.new.begun) c.as_mut_slice.ensures.value none in
     let yes : c.in_ok-move_one.field-0 ≡ true = search rules in
-    let moves = subst (λ k. MovesOne u k c.move_one.new.net) yes c.in_ok-move_one.ensures.moves in
-    let there = one_moved load v u c.move_one.new.net c.loop.begun.items c.begin_one.new.begun c.loop.counter c.loop.moves begins c.loop.invariant.1 moves c.move_one.ensures.network in
+    let moves = subst (λ k. MovesOne u c.if-count-eq0.index k c.move_one.new.net) yes c.in_ok-move_one.ensures.moves in
+    let there = one_moved load v u c.move_one.new.net c.loop.begun.items c.begin_one.new.begun c.loop.counter c.loop.moves begins c.loop.invariant.1 c.if-count-eq0.index moves c.move_one.ensures.network in
     let same : length c.begin_one.new.begun ≡ length c.loop.begun.items = c.begin_one.ensures.nodes ∙ ap length c.as_mut_slice.ensures.value in
     let all : c.loop.begun.len ≡ length c.loop.begun.items = search rules in (
       c.move_one.ensures.network ∙ c.begin_one.ensures.network ∙ c.loop.invariant.0,
