@@ -3,12 +3,11 @@
 use crate::files::{network_of, text_of};
 use crate::runs::outcome_of;
 use crate::show::show_outcome;
-use std::io;
 use std::rt::Files;
 use std::sync::Wait;
 use std::sync::atomic::{AtomicBool, AtomicUsize, Ordering};
-use std::thread;
 use std::thread::Threads;
+use std::{io, thread};
 use sw_cell::CellId;
 use sw_run::Gate;
 

@@ -10,8 +10,8 @@ use crate::gated::show_gated;
 use crate::runs::{show_each, show_enough, show_limited};
 use std::io;
 
-/// Networks for which a certificate is accepted, each with a load.
-static ACCEPTED: [(&str, &str); 6] = [
+/// Networks in which each run of the load ends in one way, each with a load.
+static DETERMINED: [(&str, &str); 6] = [
     ("line.toml", "line.load"),
     ("star.toml", "star.load"),
     ("region.toml", "region.load"),
@@ -24,7 +24,7 @@ static ACCEPTED: [(&str, &str); 6] = [
 static CYCLIC: [(&str, &str); 2] = [("ring.toml", "ring.load"), ("duel.toml", "duel.load")];
 
 fn main(rt: HostRuntime) -> io::Result<()> {
-    for (network, load) in ACCEPTED {
+    for (network, load) in DETERMINED {
         show_each(&rt, network, load)?;
     }
     for (network, load) in CYCLIC {

@@ -30,15 +30,7 @@ pub(crate) fn outcome_of<G: Gate + Sync, R: AllocGlobal + Threads + Wait + Sync>
         return Err(no_text());
     }
     let limit = limit.unwrap_or(enough_limit(network, &load) as usize);
-    Ok(run(
-        rt,
-        rt.alloc(),
-        network,
-        &load,
-        workers,
-        limit,
-        gate,
-    )?)
+    Ok(run(rt, rt.alloc(), network, &load, workers, limit, gate)?)
 }
 
 fn show_run<R: Files + Print + AllocGlobal + Threads + Wait + Sync>(
