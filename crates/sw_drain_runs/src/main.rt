@@ -1,0 +1,65 @@
+//! Drains the networks in `data/` of their loads, with the link ends chosen in three ways, and prints
+//! what came out at the nodes and whether the number of steps is within its bounds.
+#![tactic(auto)]
+
+mod drained;
+
+use crate::drained::show_drains;
+use std::rt::Files;
+use std::thread::Threads;
+use std::{fs, io};
+use sw_cert::Certificate;
+use sw_file::read_network;
+
+/// A network, its certificate and its load, by the names of their files, and the least and the most
+/// steps other than beginnings.
+struct Sample {
+    network: &'static str,
+    certificate: &'static str,
+    load: &'static str,
+    least: u64,
+    most: u64,
+}
+
+static SAMPLES: [Sample; 2] = [
+    Sample {
+        network: "line.toml",
+        certificate: "line.cert",
+        load: "line.load",
+        least: 8,
+        most: 48,
+    },
+    Sample {
+        network: "turn.toml",
+        certificate: "turn.cert",
+        load: "turn.load",
+        least: 40,
+        most: 11_388,
+    },
+];
+
+fn show_sample<R: Files + Print + AllocGlobal + Threads + Sync>(
+    rt: &R,
+    sample: &Sample,
+) -> io::Result<()> {
+    let name = sample.load;
+    println!(rt; "> {name}")?;
+    let network = fs::read(rt, sample.network)?;
+    let certificate = fs::read(rt, sample.certificate)?;
+    let load = fs::read(rt, sample.load)?;
+    let network = read_network(rt.alloc(), &network);
+    let certificate = Certificate::read(rt.alloc(), &certificate);
+    match (network, certificate) {
+        (Ok(network), Ok(certificate)) => {
+            show_drains(rt, &network, &certificate, &load, sample.least, sample.most)
+        }
+        _ => println!(rt; "no network or no certificate"),
+    }
+}
+
+fn main(rt: HostRuntime) -> io::Result<()> {
+    for sample in &SAMPLES {
+        show_sample(&rt, sample)?;
+    }
+    Ok(())
+}
