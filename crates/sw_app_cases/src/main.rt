@@ -4,7 +4,6 @@
 
 mod beginnings;
 mod cases;
-mod failing;
 mod limits;
 mod show;
 mod streams;

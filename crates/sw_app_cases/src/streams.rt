@@ -1,9 +1,9 @@
 //! Engines on streams that fail.
-use crate::failing::{FailingReader, SlowWriter};
 use std::alloc::Global;
 use std::io;
 use std::thread::Threads;
 use sw_app::{Ended, check, route};
+use sw_failing::{FailingReader, SlowWriter};
 
 const LINE: &[u8] = br#"version = 1
 node = [{ name = "A" }, { name = "B" }]

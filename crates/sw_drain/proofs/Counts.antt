@@ -4,7 +4,7 @@ use Rattle.std.proofs.lemmas.Bool.{cases_eq, false≢true}
 use Rattle.std.proofs.lemmas.Option.{same_Some}
 use Rattle.std.specs.Prelude.{slice_get}
 use Rattle.sw_char.specs.declared.nchar.End.{End}
-use Rattle.sw_drain.proofs.Follows.{begun_at_last, its_own, not_its_own}
+use Rattle.sw_limit.proofs.Grown.{begun_at_last, its_own, not_its_own}
 use Rattle.sw_limit.specs.History.{packets_at}
 use Rattle.sw_machine.specs.Begun.{Begun, beginning, beginnings}
 use Rattle.sw_machine.specs.Network.{Network}

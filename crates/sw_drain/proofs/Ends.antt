@@ -7,11 +7,11 @@ use Rattle.std.specs.Prelude.{slice_get, sum_by}
 use Rattle.sw_cells.proofs.Network.{nodes_are}
 use Rattle.sw_char.specs.declared.nchar.NChar.TheVariants.{Data, Eop}
 use Rattle.sw_drain.proofs.Begun.{declared_at}
-use Rattle.sw_drain.proofs.Follows.{slice_get-behind}
-use Rattle.sw_drain.specs.Drained.{IsAllBegun, IsDrained, most_moves}
+use Rattle.sw_drain.specs.Drained.{IsDrained, most_moves}
 use Rattle.sw_drain.specs.Way.{IsOnTheWay, NoneIsReady}
 use Rattle.sw_limit.proofs.Fronts.{histories_end, no-more}
-use Rattle.sw_limit.specs.History.{packets_at, packets_of}
+use Rattle.sw_limit.proofs.Grown.{slice_get-behind}
+use Rattle.sw_limit.specs.History.{IsWhole, packets_at, packets_of}
 use Rattle.sw_limit.specs.Limit.{AreDeclared, enough_limit}
 use Rattle.sw_load.proofs.Declares.{declared_are_declared}
 use Rattle.sw_load.specs.Load.{LoadEntry}
@@ -70,7 +70,7 @@ module _ {R A : Type 0} (load : List LoadEntry) (v : NetView R A) (valid : IsVal
       let l = way.steps_are in
       absurd (omega arith)
 
-  few_moves : IsAllBegun (network_of v.declared) (packets_of load) way.steps → moves way.steps ≤ most_moves (network_of v.declared) (packets_of load)
+  few_moves : IsWhole (network_of v.declared) (packets_of load) way.steps → moves way.steps ≤ most_moves (network_of v.declared) (packets_of load)
   few_moves whole =
       let net = network_of v.declared in
       let steps = way.steps in
@@ -126,7 +126,7 @@ module _ {R A : Type 0} (load : List LoadEntry) (v : NetView R A) (valid : IsVal
         let xs = packets_at (network_of v.declared) n (beginnings way.steps) in
         absurd (none_left n (length xs) b refl (ap (λ l. slice_get l (length xs)) e ∙ slice_get-behind xs (b ∷ rest)))
 
-    all_begun : IsAllBegun (network_of v.declared) (packets_of load) way.steps
+    all_begun : IsWhole (network_of v.declared) (packets_of load) way.steps
     all_begun n = let front = (way.history).in_order n in whole_by n front.0 front.1
 
     pub is_drained : IsDrained load v count

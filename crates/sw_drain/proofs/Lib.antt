@@ -1,6 +1,4 @@
-pub mod Follows
 pub mod Counts
-pub mod Sends
 pub mod Begun
 pub mod Way
 pub mod Ends

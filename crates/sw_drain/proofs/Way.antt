@@ -4,9 +4,9 @@ use Rattle.std.proofs.lemmas.Bool.{false≢true}
 use Rattle.std.proofs.lemmas.Option.{slice_get_within}
 use Rattle.std.specs.Prelude.{if◌then◌else◌, not, slice_get}
 use Rattle.sw_drain.proofs.Counts.{IsCounted, begin_counted, none_counted}
-use Rattle.sw_drain.proofs.Follows.{BeginsNext, grows}
 use Rattle.sw_drain.specs.Way.{HasBegun, HasMoved, IsNext, IsOnTheWay}
-use Rattle.sw_limit.specs.History.{IsHistory, packets_at, packets_of}
+use Rattle.sw_limit.proofs.Grown.{grows}
+use Rattle.sw_limit.specs.History.{BeginsNext, IsHistory, packets_at, packets_of}
 use Rattle.sw_load.specs.Load.{LoadEntry}
 use Rattle.sw_machine.proofs.RunLists.{moves_append, moves_cons}
 use Rattle.sw_machine.specs.Begun.{Begun, beginnings, moves}

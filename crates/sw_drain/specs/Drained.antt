@@ -1,6 +1,6 @@
 -- A network that has sent a whole load, and is empty again.
 use Rattle.std.specs.Prelude.{List, sum_by, ℕ, ◌*◌, ◌+◌, ◌≡◌, ◌≤◌}
-use Rattle.sw_limit.specs.History.{IsHistory, packets_at, packets_of}
+use Rattle.sw_limit.specs.History.{IsHistory, IsWhole, packets_of}
 use Rattle.sw_load.specs.Load.{LoadEntry}
 use Rattle.sw_machine.specs.Begun.{Begun, beginnings, length_with_reply, moves}
 use Rattle.sw_machine.specs.Network.{Network}
@@ -9,10 +9,6 @@ use Rattle.sw_machine.specs.State.{State}
 use Rattle.sw_machine.specs.Steps.{Step}
 use Rattle.sw_model.specs.Model.{network_of}
 use Rattle.sw_net.specs.Net.{IsNetState, NetView}
-
--- each node has begun all of its packets, in their order
-abbrev pub IsAllBegun : Network → List Begun → List Step → Type 0
-IsAllBegun net packets steps = (n : ℕ) → packets_at net n (beginnings steps) ≡ packets_at net n packets
 
 -- for each channel 14 steps, and 5 for each character of the packets and of the longest replies to those that are answered
 abbrev pub most_moves : Network → List Begun → ℕ
@@ -25,7 +21,7 @@ pub record IsDrained {R A : Type 0} (load : List LoadEntry) (v : NetView R A) (c
   pub state : State
   pub history : IsHistory (network_of v.declared) (packets_of load) steps state
   pub in_net : IsNetState v state
-  pub all_begun : IsAllBegun (network_of v.declared) (packets_of load) steps
+  pub all_begun : IsWhole (network_of v.declared) (packets_of load) steps
   pub empty : (s : State) → IsNetState v s → undelivered (network_of v.declared) s ≡ 0
   pub counted : count ≡ moves steps
   pub few : count ≤ most_moves (network_of v.declared) (packets_of load)

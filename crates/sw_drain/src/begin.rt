@@ -6,10 +6,10 @@ ghost use Rattle.sw_machine.specs.Steps.{Begin};
 ghost use Rattle.sw_net.specs.Net.{NetAnswers};
 ghost use Rattle.sw_net.specs.Possible.{Tells};
 
-use crate::packets::packet_at;
 use std::alloc::{AllocError, Global};
 use sw_arb::Arbiter;
 use sw_cell::NetFault;
+use sw_limit::packet_at;
 use sw_load::{Load, LoadPacket};
 use sw_net::Net;
 use sw_route::Routing;

@@ -4,7 +4,6 @@
 mod begin;
 pub mod laws;
 mod moves;
-mod packets;
 mod whole;
 
 pub use whole::drain;

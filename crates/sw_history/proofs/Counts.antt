@@ -6,9 +6,9 @@ use Rattle.std.proofs.lemmas.Option.{slice_get-get_or, slice_get_within}
 use Rattle.sw_history.proofs.Adds.{none_counted, some_counted}
 use Rattle.sw_history.specs.History.{IsCounted}
 use Rattle.sw_history.specs.Makes.{counted_with}
-use Rattle.sw_history.specs.Next.{BeginsNext, beginner_of, next_packet}
+use Rattle.sw_history.specs.Next.{beginner_of}
 use Rattle.sw_limit.proofs.Packets.{length-packets}
-use Rattle.sw_limit.specs.History.{packets_at, packets_of}
+use Rattle.sw_limit.specs.History.{BeginsNext, next_packet, packets_at, packets_of}
 use Rattle.sw_load.specs.Load.{LoadEntry, packet_count}
 use Rattle.sw_machine.specs.Begun.{Begun, beginnings}
 use Rattle.sw_machine.specs.Steps.{Accept, Arrive, Begin, Drop, Emit, Fct, FctIn, Forward, Grant, Reply, Spill, Step}

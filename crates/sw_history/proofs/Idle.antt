@@ -1,6 +1,6 @@
 -- Whether a step of a link end may follow.
 use Rattle.std.proofs.Common.{◌≡◌, ◌↔◌, ◌<◌, ◌∷◌, ◌∙◌, [], ℕ, suc, zero, Bool, List, None, Option, Some, ap, arith, eq-eqb, false, length, ne_eqb, refl, replicate, subst, sym, true, ⊎_elim}
-use Rattle.std.specs.Prelude.{All, IsTrue, is_some, nat_eq, not, slice_get}
+use Rattle.std.specs.Prelude.{All, IfNone, IfSome, IsTrue, is_some, nat_eq, not, option_map, slice_get}
 use Rattle.std.proofs.lemmas.Bool.{cases_eq, false≢true}
 use Rattle.std.proofs.lemmas.List.Elements.{All-append, All-filter, All-nil, All-replicate}
 use Rattle.std.proofs.lemmas.List.Concat.{flat_map-cons}
@@ -8,9 +8,9 @@ use Rattle.std.proofs.lemmas.Option.{get_or_from_slice_get, slice_get_within}
 use Rattle.sw_cells.specs.Makes.{IsDeclaredAt}
 use Rattle.sw_cells.specs.Possible.{CanStepAt}
 use Rattle.sw_history.proofs.Follows.{follows_where_possible}
-use Rattle.sw_history.specs.History.{HistoryView, IsKept, IsNext}
-use Rattle.sw_history.specs.Next.{BeginsNext, BeginsOne, IsIdle, next_packet}
-use Rattle.sw_limit.specs.History.{packet_of, packets_at, packets_of}
+use Rattle.sw_history.specs.History.{HistoryView, IsKept, IsNext, IsNextAt}
+use Rattle.sw_history.specs.Next.{BeginsOne, begin_of, IsIdle}
+use Rattle.sw_limit.specs.History.{BeginsNext, next_packet, packet_of, packets_at, packets_of}
 use Rattle.sw_limit.specs.Limit.{AreDeclared}
 use Rattle.sw_load.specs.Load.{LoadEntry}
 use Rattle.sw_load.specs.Packets.{IsDeclaredPacket}
@@ -22,6 +22,7 @@ use Rattle.sw_machine.specs.Steps.{Accept, Arrive, Begin, Drop, Emit, Fct, FctIn
 use Rattle.sw_model.proofs.Networks.{are_networks}
 use Rattle.sw_model.specs.Model.{network_of}
 use Rattle.sw_net.specs.Asked.{CanStep}
+use Rattle.sw_net.specs.Making.{IsMoveOf}
 use Rattle.sw_net.specs.Net.{NetView}
 use Rattle.sw_net.specs.Possible.{Tells, TellsBeginning}
 use Rattle.sw_network.specs.Entries.{Declaration}
@@ -67,6 +68,15 @@ some_of : {A : Type 0} (o : Option A) → is_some o ≡ true → (x : A) × (o �
 some_of None h = absurd (false≢true h)
 some_of (Some x) h = (x, refl)
 
+-- what holds of what an option is mapped to
+pub if_mapped : {X Y : Type 0} (f : X → Y) (P : Y → Type 0) (o : Option X) (m : Option Y) → option_map f o ≡ m → ((y : Y) → m ≡ Some y → P y) → IfSome o (λ x. P (f x))
+if_mapped f P None m e each = tt
+if_mapped f P (Some x) m e each = each (f x) (sym e)
+
+pub none_mapped : {X Y : Type 0} (f : X → Y) (P : Type 0) (o : Option X) (m : Option Y) → option_map f o ≡ m → (m ≡ None → P) → IfNone o P
+none_mapped f P None m e none = none (sym e)
+none_mapped f P (Some x) m e none = tt
+
 -- ---- what may follow
 
 no_begin_next : (net : Network) (packets : List Begun) (steps : List Step) (step : Step) → is_begin step ≡ false → BeginsNext net packets steps step
@@ -81,6 +91,12 @@ no_begin_next net packets steps (Spill c) h = tt
 no_begin_next net packets steps (Emit m) h = tt
 no_begin_next net packets steps (Accept m) h = tt
 no_begin_next net packets steps (Reply m) h = tt
+
+-- whether a node begins a packet, by the packet
+pub begins_by : (h : HistoryView) (n : ℕ) {X : Type 0} (f : X → Begun) (o : Option X) → IfSome o (λ x. IsNext h (begin_of (f x))) → IfSome o (λ x. ((network_of h.declared).flow (f x).flow).from ≡ n)
+    → IfNone o (BeginsOne (network_of h.declared) (packets_of h.load) h.steps n → ⊥) → (IsTrue (is_some o) ↔ BeginsOne (network_of h.declared) (packets_of h.load) h.steps n)
+begins_by h n f None some from none = (λ t. absurd (false≢true t), λ one. absurd (none one))
+begins_by h n f (Some x) some from none = (λ t. record { packet = f x; from = from; follows = some }, λ one. refl)
 
 module _ {R A : Type 0} (v : NetView R A) (h : HistoryView) (begun : List ℕ) (kept : IsKept v h begun) where
   abbrev net : Network
@@ -125,6 +141,22 @@ module _ {R A : Type 0} (v : NetView R A) (h : HistoryView) (begun : List ℕ) (
       λ one. (let b = one.packet in (tells_next (Begin b.flow b.cargo b.end) false (tells_packet false tells b (one_next one)) (begins_next b (one_next one))).1 one.follows),
     )
 
+    pub begins_packet : TellsBeginning v n true → (b : Begun) → next ≡ Some b → IsNext h (begin_of b)
+    begins_packet tells b is = (tells_next (begin_of b) true (tells_packet true tells b is) (begins_next b is)).0 refl
+
+    pub cannot_begin : TellsBeginning v n false → BeginsOne net (packets_of h.load) h.steps n → ⊥
+    cannot_begin tells one = let b = one.packet in false≢true ((tells_next (begin_of b) false (tells_packet false tells b (one_next one)) (begins_next b (one_next one))).1 one.follows)
+
+    pub begun_all : next ≡ None → BeginsOne net (packets_of h.load) h.steps n → ⊥
+    begun_all none one = let some = one_next one in let bad : ⊥ = cc in bad
+
+  -- a possible step of a link end that begins no packet
+  pub next_move : (e : ℕ) (step : Step) → IsMoveOf v e step → Tells v step true → IsNextAt h e step
+  next_move e step move tells = record {
+    belongs = subst (λ (d : Declaration). link_end_of (network_of d) step ≡ e) kept.network move.belongs;
+    next = (tells_next step true tells (no_begin_next net (packets_of h.load) h.steps step move.no_begin)).0 refl;
+  }
+
   -- ---- link ends
 
   can_step : (e : ℕ) → CanStep v e true → CanStepAt net kept.state e
@@ -166,7 +198,7 @@ module _ {R A : Type 0} (v : NetView R A) (h : HistoryView) (begun : List ℕ) (
         bad)
 
     module _ (e n : ℕ) (lt : e < net.channels) (none : CanStep v e false) (starts : net.start_of e ≡ AtNode n) where
-      idle_node : (BeginsOne net (packets_of h.load) h.steps n → ⊥) → IsIdle net (packets_of h.load) h.steps e
+      pub idle_node : (BeginsOne net (packets_of h.load) h.steps n → ⊥) → IsIdle net (packets_of h.load) h.steps e
       idle_node no_packet = idle_but e none (λ b belongs may.
           let both : AtNode (net.flow b.flow).from ≡ AtNode n = sym (begins_at b may) ∙ ap net.start_of belongs ∙ starts in
           let same : (net.flow b.flow).from ≡ n = cc in

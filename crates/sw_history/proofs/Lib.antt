@@ -4,6 +4,5 @@ mod Counts
 mod Idle
 mod Kept
 mod Refused
-mod Sends
 mod Undeclared
 mod Whole

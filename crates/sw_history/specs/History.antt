@@ -7,6 +7,7 @@ use Rattle.sw_limit.specs.History.{IsHistory, packets_at, packets_of}
 use Rattle.sw_limit.specs.Limit.{AreDeclared}
 use Rattle.sw_load.specs.Load.{LoadEntry}
 use Rattle.sw_machine.specs.Begun.{beginnings}
+use Rattle.sw_machine.specs.Parts.{link_end_of}
 use Rattle.sw_machine.specs.State.{State}
 use Rattle.sw_machine.specs.Steps.{Step}
 use Rattle.sw_model.specs.Model.{network_of}
@@ -28,6 +29,11 @@ LeadsTo h s = IsHistory (network_of h.declared) (packets_of h.load) h.steps s
 -- the step may be the next
 abbrev pub IsNext : HistoryView → Step → Type 0
 IsNext h step = MayFollow (network_of h.declared) (packets_of h.load) h.steps step
+
+-- the step belongs to the link end where channel e starts, and may be the next
+pub record IsNextAt (h : HistoryView) (e : ℕ) (step : Step) : Type 0 where
+  pub belongs : link_end_of (network_of h.declared) step ≡ e
+  pub next : IsNext h step
 
 -- the network is valid, its flows declare the packets of the load, and there is a state to which the steps lead
 pub record IsSoundHistory (h : HistoryView) : Type 0 where

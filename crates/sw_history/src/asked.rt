@@ -1,6 +1,6 @@
 //! What can be asked of a history.
 ghost use Rattle.std.specs.Prelude.{◌≡◌, ◌↔◌, ◌<◌, ◌*◌, IsTrue, is_some, length, map};
-ghost use Rattle.sw_limit.specs.History.{packets_of};
+ghost use Rattle.sw_limit.specs.History.{IsWhole, next_packet, packets_of};
 ghost use Rattle.sw_machine.specs.State.{State};
 ghost use Rattle.sw_model.specs.Model.{network_of};
 ghost use Rattle.sw_net.specs.Net.{IsNetState};
@@ -17,7 +17,7 @@ use sw_topo::{LinkEnd, PlaceEnd};
 
 impl<'n, R: Routing, A: Arbiter> History<'n, R, A> {
     ghost use Rattle.sw_history.specs.History.{IsNext, IsSoundHistory, LeadsTo};
-    ghost use Rattle.sw_history.specs.Next.{BeginsOne, IsIdle, IsWhole, next_packet};
+    ghost use Rattle.sw_history.specs.Next.{BeginsOne, IsIdle};
 
     /// The network that makes the steps.
     pub fn network(&self) -> &'n Network
@@ -84,7 +84,7 @@ impl<'n, R: Routing, A: Arbiter> History<'n, R, A> {
         requires { node < length self.now.declared.nodes }
         ensures { IsTrue result ↔ BeginsOne (network_of self.now.declared) (packets_of self.now.load) self.now.steps node }
     {
-        self.has_next(node) && self.net.can_begin(node)
+        self.may_begin(node).is_some()
     }
 
     /// Whether no step may be the next that belongs to the link end.

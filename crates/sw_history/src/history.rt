@@ -2,11 +2,12 @@
 
 use crate::fault::StepFault;
 use crate::making::make;
-use crate::packets::{count_begun, is_same, packet_at};
+use crate::packets::{count_begun, is_same};
 use std::alloc::{AllocError, Global};
 use std::marker::Model;
 use sw_arb::Arbiter;
 use sw_char::End;
+use sw_limit::packet_at;
 use sw_load::{Load, LoadPacket};
 use sw_net::Net;
 use sw_route::Routing;
@@ -38,11 +39,11 @@ impl<'n, R: Routing, A: Arbiter> Model for History<'n, R, A> {
 impl<'n, R: Routing, A: Arbiter> History<'n, R, A> {
     ghost use Rattle.std.specs.Prelude.{◌≡◌, ◌<◌, IfErr, IfNone, IfOk, IfSome, OnErr, OnOk, length, option_map};
     ghost use Rattle.sw_history.specs.History.{Adds, IsNext};
-    ghost use Rattle.sw_history.specs.Next.{BeginsNext, beginner_of, next_packet};
+    ghost use Rattle.sw_history.specs.Next.{beginner_of};
     ghost use Rattle.sw_history.specs.declared.fault.StepFault.TheVariants.{NotEnabled};
     ghost use Rattle.sw_machine.specs.Steps.{Begin};
     ghost use Rattle.sw_steps.specs.Steps.{machine_step};
-    ghost use Rattle.sw_limit.specs.History.{packet_of, packets_of};
+    ghost use Rattle.sw_limit.specs.History.{BeginsNext, next_packet, packet_of, packets_of};
     ghost use Rattle.sw_model.specs.Model.{network_of};
 
     /// How many steps there are.

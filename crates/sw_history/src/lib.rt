@@ -2,6 +2,7 @@
 #![tactic(auto)]
 
 mod asked;
+mod choice;
 mod fault;
 mod history;
 pub mod laws;

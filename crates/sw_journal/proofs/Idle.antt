@@ -5,12 +5,12 @@ use Rattle.std.proofs.lemmas.Bool.{eq-eqb, false≢true, ne_eqb}
 use Rattle.std.proofs.lemmas.List.{length-set}
 use Rattle.std.specs.Prelude.{nat_eq, slice_get, slice_set}
 use Rattle.sw_history.proofs.Follows.{follows_where_possible}
-use Rattle.sw_history.specs.Next.{BeginsNext, IsIdle, MayFollow}
+use Rattle.sw_history.specs.Next.{IsIdle, MayFollow}
 use Rattle.sw_journal.proofs.Commit.{possible_of}
 use Rattle.sw_journal.specs.Asked.{IsStill, IsStuck, IsUndelivered}
 use Rattle.sw_journal.specs.Marks.{IsTrueMark}
 use Rattle.sw_journal.specs.Record.{Account, IsAccount, IsKept, LeadsTo, with_marks}
-use Rattle.sw_limit.specs.History.{packets_of}
+use Rattle.sw_limit.specs.History.{BeginsNext, packets_of}
 use Rattle.sw_machine.proofs.Parts.{link_ends}
 use Rattle.sw_machine.specs.Begun.{Begun}
 use Rattle.sw_machine.specs.Network.{IsNetwork, Network}

@@ -3,4 +3,4 @@ mod Renewed
 mod Commit
 mod Opened
 mod Idle
-mod Tried
+mod Chosen

@@ -1,5 +1,5 @@
 -- Link ends whose numbers are renewed one after another.
-use Rattle.std.proofs.Common.{All, List, None, Option, Some, [], ap, arith, get_or, length, map, refl, set, suc, sym, take, zero, ℕ, ◌+◌, ◌<◌, ◌∙◌, ◌∷◌, ◌≡◌}
+use Rattle.std.proofs.Common.{All, List, None, Option, Some, [], ap, arith, get_or, length, map, refl, set, subst, suc, sym, take, zero, ℕ, ◌+◌, ◌<◌, ◌∙◌, ◌∷◌, ◌≡◌}
 use Rattle.std.proofs.lemmas.List.{get_or-map, length-map}
 use Rattle.std.specs.Prelude.{slice_get, slice_set}
 use Rattle.atomic_table.specs.Table.{Me}
@@ -10,7 +10,14 @@ use Rattle.sw_net.specs.Numbers.{numbers_at}
 use Rattle.sw_net.specs.declared.numbers.Numbers.{Numbers}
 use Rattle.sw_seats.specs.Views.{changed, ends_with, with_known}
 use Rattle.sw_seats.specs.declared.rule.Change.{Change}
+use Rattle.sw_seats.specs.declared.rule.Known.{Known}
 use Rattle.sw_seats.specs.declared.rule.View.{View}
+
+set_back : {X : Type 0} (xs : List X) (k : ℕ) (x : X) → slice_get xs k ≡ Some x → slice_set xs k x ≡ xs
+set_back [] zero x e = refl
+set_back [] (suc k) x e = refl
+set_back (y ∷ xs) zero x e = let same : x ≡ y = cc in λ i. same i ∷ xs
+set_back (y ∷ xs) (suc k) x e = ap (λ l. y ∷ l) (set_back xs k x e)
 
 module _ (net : Network) (s : State) where
   -- the first k are renewed
@@ -46,19 +53,24 @@ module _ (net : Network) (s : State) where
       λ i. ((sym same i).0, own i) ∷ ends
   set_renewed (suc k) (q ∷ ends) p numbers e is = ap (λ l. q ∷ l) (set_renewed k ends p numbers e is)
 
--- ---- what the journal's seat knows of them
+  -- a link end that has them already
+  pub same_renewed : (k : ℕ) (ends : List (ℕ × Numbers)) (p : ℕ × Numbers) (numbers : Numbers) → slice_get ends k ≡ Some p → numbers ≡ numbers_at net s p.0 → numbers ≡ p.1 → ends ≡ renewed_at net s k ends
+  same_renewed k ends p numbers at is same =
+      let here : slice_get ends k ≡ Some (p.0, numbers) = at ∙ ap (λ (n : Numbers). Some (p.0, n)) (sym same) in
+      sym (set_back ends k (p.0, numbers) here) ∙ set_renewed k ends p numbers at is
 
-set_back : {X : Type 0} (xs : List X) (k : ℕ) (x : X) → slice_get xs k ≡ Some x → slice_set xs k x ≡ xs
-set_back [] zero x e = refl
-set_back [] (suc k) x e = refl
-set_back (y ∷ xs) zero x e = let same : x ≡ y = cc in λ i. same i ∷ xs
-set_back (y ∷ xs) (suc k) x e = ap (λ l. y ∷ l) (set_back xs k x e)
+-- ---- what the journal's seat knows of them
 
 set_twice : {X : Type 0} (xs : List X) (k : ℕ) (x y : X) → slice_set (slice_set xs k x) k y ≡ slice_set xs k y
 set_twice [] zero x y = refl
 set_twice [] (suc k) x y = refl
 set_twice (z ∷ xs) zero x y = refl
 set_twice (z ∷ xs) (suc k) x y = ap (λ l. z ∷ l) (set_twice xs k x y)
+
+set_there : {X : Type 0} (xs : List X) (k : ℕ) (x y : X) → slice_get xs k ≡ Some x → slice_get (slice_set xs k y) k ≡ Some y
+set_there [] k x y e = cc
+set_there (z ∷ xs) zero x y e = refl
+set_there (z ∷ xs) (suc k) x y e = set_there xs k x y e
 
 abbrev pub with_ends : Me Change View → List (ℕ × Numbers) → Me Change View
 with_ends m ends = (with_known m.0 (record { id = m.0.known.id; ends = ends }), m.1)
@@ -69,6 +81,12 @@ seat_first before ends at is =
     let v = before.0 in
     let all = set_back v.all v.cell v.known at in
     (λ i. (record { keeps = v.keeps; all = sym all i; claims = v.claims; cell = v.cell; known = v.known }, before.1)) ∙ ap (with_ends before) is
+
+-- still as it is
+pub seat_same : (first before : Me Change View) (ends : List (ℕ × Numbers)) → slice_get first.0.all first.0.cell ≡ Some first.0.known → before ≡ with_ends first ends → slice_get before.0.all before.0.cell ≡ Some before.0.known
+seat_same first before ends at is =
+    let known : Known = record { id = first.0.known.id; ends = ends } in
+    subst (λ (m : Me Change View). slice_get m.0.all m.0.cell ≡ Some m.0.known) (sym is) (set_there first.0.all first.0.cell first.0.known known at)
 
 -- it is told of one
 pub seat_told : (before after : Me Change View) (ends : List (ℕ × Numbers)) (k : ℕ) (p : ℕ × Numbers) (numbers : Numbers) → before.0.known.ends ≡ ends → slice_get ends k ≡ Some p

@@ -1,8 +1,8 @@
 -- What can be asked of a journal.
 use Rattle.std.specs.Prelude.{List, ℕ, ◌≡◌}
-use Rattle.sw_history.specs.Next.{IsWhole, MayFollow}
+use Rattle.sw_history.specs.Next.{MayFollow}
 use Rattle.sw_journal.specs.Record.{Account, LeadsTo}
-use Rattle.sw_limit.specs.History.{packets_of}
+use Rattle.sw_limit.specs.History.{IsWhole, packets_of}
 use Rattle.sw_machine.specs.Packets.{Packet}
 use Rattle.sw_machine.specs.Runs.{CameOut, IsLockedUp, undelivered}
 use Rattle.sw_machine.specs.State.{State}

@@ -1,10 +1,10 @@
 //! What can be asked of a journal.
 ghost use Rattle.std.specs.Prelude.{◌≡◌, ◌↔◌, ◌<◌, ◌*◌, IfOk, IsSome, IsTrue, Some, length, map, slice_get, slice_set};
-ghost use Rattle.sw_history.specs.Next.{IsIdle, IsWhole, MayFollow};
+ghost use Rattle.sw_history.specs.Next.{IsIdle, MayFollow};
 ghost use Rattle.sw_journal.specs.Asked.{BroughtOut, IsDrained, IsStuck, IsStill, IsUndelivered};
 ghost use Rattle.sw_journal.specs.Cells.{end_numbers};
 ghost use Rattle.sw_journal.specs.Record.{Declares, IsAccount, with_marks};
-ghost use Rattle.sw_limit.specs.History.{packets_of};
+ghost use Rattle.sw_limit.specs.History.{IsWhole, packets_of};
 ghost use Rattle.sw_machine.specs.Steps.{Step as MachineStep};
 ghost use Rattle.sw_model.specs.Model.{network_of};
 ghost use Rattle.sw_steps.specs.Steps.{machine_step};
@@ -36,7 +36,7 @@ impl<'n> Journal<'n> {
     }
 
     // The link end is marked as idle now.
-    fn set_mark(&mut self, end: LinkEnd)
+    pub(crate) fn set_mark(&mut self, end: LinkEnd)
         requires { IsIdle (network_of self.old.declared) (packets_of self.old.load) self.old.history end }
         ensures { self.new ≡ with_marks self.old (slice_set self.old.marks end (Some (length self.old.history))) }
     {

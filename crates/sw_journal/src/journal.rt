@@ -147,18 +147,21 @@ fn add_at(
     if !is_at(history.network(), at, &step) {
         return Err(JournalFault::NotEnabled);
     }
-    if !history.may_follow(&step) {
+    if history.len() == limit {
+        if history.may_follow(&step) {
+            return Err(JournalFault::Full);
+        }
         return Err(JournalFault::NotEnabled);
     }
-    if history.len() == limit {
-        return Err(JournalFault::Full);
-    }
     if history.reserve().is_err() {
-        return Err(JournalFault::Memory);
+        if history.may_follow(&step) {
+            return Err(JournalFault::Memory);
+        }
+        return Err(JournalFault::NotEnabled);
     }
     match history.add(alloc, step) {
         Ok(()) => Ok(()),
-        Err(StepFault::NotEnabled) => unreachable!(),
+        Err(StepFault::NotEnabled) => Err(JournalFault::NotEnabled),
         Err(StepFault::Memory) => Err(JournalFault::Memory),
     }
 }

@@ -8,7 +8,9 @@ mod fault;
 mod journal;
 mod opening;
 mod renewal;
+mod state;
 
 pub use cell::Cell;
 pub use fault::JournalFault;
 pub use journal::Journal;
+pub use sw_net::{Input, NodePart, Part, PendingReply, PortPart};

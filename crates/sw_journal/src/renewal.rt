@@ -9,7 +9,8 @@ use sw_net::{Net, Numbers, SwitchRoutes};
 use sw_seats::{Place, Ties, tell};
 use sw_topo::LinkEnd;
 
-// The link end at this place has its numbers in the net from now on, and the table is told.
+// The link end at this place has its numbers in the net from now on. The table is told where they
+// are new.
 fn renew_one(
     net: &Net<'_, SwitchRoutes<'_>, Policy>,
     table: &Ties,
@@ -20,6 +21,7 @@ fn renew_one(
     requires table { 0 < table.now.shared.table_id.words }
     requires seat { (seat.old.table_id ≡ table.now.shared.table_id) × (seat.old.me.0.keeps ≡ true) × (seat.old.me.0.claims ≡ true) }
     requires known { seat.old.me.0.known.ends ≡ ends.old.items }
+    requires same { slice_get seat.old.me.0.all seat.old.me.0.cell ≡ Some seat.old.me.0.known }
     requires within { All (λ p. p.0 < 2 * length net.now.declared.links) ends.old.items }
     requires place { place < length ends.old.items }
     ensures numbers { IsRenewed net.now place ends.old.items ends.new.items }
@@ -27,8 +29,11 @@ fn renew_one(
     ensures table { seat.new.table_id ≡ seat.old.table_id }
     ensures seat { seat.new.me ≡ (with_known seat.old.me.0 (record { id = seat.old.me.0.known.id; ends = ends.new.items }), seat.old.me.1) }
 {
-    let (end, _) = ends[place];
+    let (end, known) = ends[place];
     let numbers = net.numbers(end);
+    if numbers == known {
+        return;
+    }
     ends[place] = (end, numbers);
     tell(table, seat, place, numbers);
 }

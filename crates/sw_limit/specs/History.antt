@@ -1,11 +1,11 @@
 -- The packets that a load lists, and the histories in which each node begins them in their order.
-use Rattle.std.specs.Prelude.{List, filter, flat_map, nat_eq, replicate, ℕ, ◌++◌, ◌≡◌}
+use Rattle.std.specs.Prelude.{List, Option, Some, filter, flat_map, length, nat_eq, replicate, slice_get, ℕ, ◌++◌, ◌≡◌}
 use Rattle.sw_load.specs.Load.{LoadEntry}
 use Rattle.sw_machine.specs.Begun.{Begun, beginnings}
 use Rattle.sw_machine.specs.Network.{Network}
 use Rattle.sw_machine.specs.Runs.{Run}
 use Rattle.sw_machine.specs.State.{State, empty}
-use Rattle.sw_machine.specs.Steps.{Step}
+use Rattle.sw_machine.specs.Steps.{Begin, Step}
 
 -- a packet of an entry of the load: its packets are all alike
 abbrev pub packet_of : LoadEntry → Begun
@@ -28,3 +28,16 @@ IsFront {A} xs ys = (rest : List A) × (ys ≡ xs ++ rest)
 pub record IsHistory (net : Network) (packets : List Begun) (steps : List Step) (s : State) : Type 0 where
   pub run : Run net (empty net) steps s
   pub in_order : (n : ℕ) → IsFront (packets_at net n (beginnings steps)) (packets_at net n packets)
+
+-- the packet that node n is to begin next: its first packet in the load that was not begun in these steps
+abbrev pub next_packet : Network → List Begun → List Step → ℕ → Option Begun
+next_packet net packets steps n = slice_get (packets_at net n packets) (length (packets_at net n (beginnings steps)))
+
+-- what the step begins, if it begins a packet, is the next packet of the node where its flow starts
+abbrev pub BeginsNext : Network → List Begun → List Step → Step → Type 0
+BeginsNext net packets steps (Begin flow cargo end) = next_packet net packets steps (net.flow flow).from ≡ Some (record { flow = flow; cargo = cargo; end = end })
+BeginsNext net packets steps step = Unit {0}
+
+-- each node has begun all its packets
+abbrev pub IsWhole : Network → List Begun → List Step → Type 0
+IsWhole net packets steps = (n : ℕ) → packets_at net n (beginnings steps) ≡ packets_at net n packets

@@ -1,8 +1,11 @@
-//! How long the histories of a load can be in a network that can't lock up.
+//! The histories of a load: what each node begins in them, and how long they can be in a network that
+//! can't lock up.
 #![tactic(auto)]
 
 pub mod laws;
 mod limit;
 mod replies;
+mod sent;
 
 pub use limit::enough_limit;
+pub use sent::packet_at;

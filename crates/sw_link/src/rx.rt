@@ -48,6 +48,13 @@ impl RxEnd {
         self.ring.len()
     }
 
+    /// A copy of the buffer: the N-Chars that arrived and were not taken, the oldest first.
+    pub fn buffer(&self, alloc: Global) -> Result<Vec<NChar>, AllocError>
+        ensures { IfOk result (λ buffer. buffer.items ≡ self.now.buffer) }
+    {
+        self.ring.to_vec(alloc)
+    }
+
     /// How many N-Chars were asked for and did not arrive yet: 0 to 56.
     pub fn outstanding(&self) -> u8
         ensures value { result ≡ self.now.outstanding }

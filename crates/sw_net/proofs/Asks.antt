@@ -3,6 +3,7 @@ use Rattle.std.proofs.Common.{Bool, Some, ap, false, refl, sym, true, ℕ, ◌�
 use Rattle.std.proofs.lemmas.Bool.{false≢true}
 use Rattle.std.specs.Prelude.{IsBitSet, slice_get}
 use Rattle.sw_cells.proofs.Dropping.{some_of}
+use Rattle.sw_cells.proofs.Picking as picking
 use Rattle.sw_cells.proofs.Telling.{port_grant}
 use Rattle.sw_flow.specs.Places.{end_of, ends_of}
 use Rattle.sw_machine.specs.Steps.{Grant}
@@ -30,7 +31,7 @@ module _ {R A : Type 0} (answer : R → ℕ → Look) (arbiter_ports : A → ℕ
   none_asks set none nowhere = record { asks = λ port h. absurd (none port h); no_others = λ port c is h. absurd (nowhere is.switch is.output is.starts) }
 
   module _ (w out : ℕ) (cell : Cell R A) (at : slice_get v.switches w ≡ Some cell) (starts : slice_get (ends_of v.declared) e ≡ Some (Switch w out)) where
-    told : (port c : ℕ) (can : Bool) → end_of v.declared c ≡ Some (Switch w port) → (IsTrue can ↔ ports.CanGrant answer cell out port) → Tells v (Grant e c) can
+    pub told : (port c : ℕ) (can : Bool) → end_of v.declared c ≡ Some (Switch w port) → (IsTrue can ↔ ports.CanGrant answer cell out port) → Tells v (Grant e c) can
     told port c can ends is = switch_told v w cell (Grant e c) can at (port_grant answer arbiter_ports v.declared w cell (net.switches w cell at) v.between c port can e out ends starts is)
 
     asks_some : (port : ℕ) → ports.CanGrant answer cell out port → (c : ℕ) × IsInput v.declared e port c × Tells v (Grant e c) true
@@ -49,3 +50,9 @@ module _ {R A : Type 0} (answer : R → ℕ → Look) (arbiter_ports : A → ℕ
           let ends : end_of v.declared c ≡ Some (Switch w port) = is.ends ∙ ap (λ k. Some (Switch k port)) (sym same) in
           told port c false ends (λ f. absurd (false≢true f), λ can. absurd (none ((are port).1 can)));
     }
+
+    -- nothing can be granted where no input asks
+    pub none_granted : ((port : ℕ) → ports.CanGrant answer cell out port → ⊥) → (c : ℕ) → Tells v (Grant e c) false
+    none_granted none c = λ s is.
+        picking.none_picked answer arbiter_ports v.declared w cell (net.switches w cell at) e out starts none c v.between s
+        (record { reached = is.reached; part = is.switches w cell at; between = is.between })

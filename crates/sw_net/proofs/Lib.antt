@@ -9,4 +9,5 @@ pub mod Policies
 pub mod Possibles
 pub mod LinkNumbers
 pub mod Asks
+pub mod Parts
 pub mod Making

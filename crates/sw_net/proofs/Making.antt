@@ -160,6 +160,29 @@ module _ {R A : Type 0} (v : NetView R A) (w : ℕ) (cell : Cell R A) (at : slic
   port_has_none None h = λ step. switch_told v w cell (step_at_port e step) false at (h step)
   port_has_none (Some step) h = tt
 
+pub any_none : {X : Type 0} (o : Option X) (P : Type 0) → P → IfNone o P
+any_none None P p = p
+any_none (Some x) P p = tt
+
+pub then_none : {X : Type 0} (o : Option X) (P Q : Type 0) → (P → Q) → IfNone o P → IfNone o Q
+then_none None P Q then none = then none
+then_none (Some x) P Q then none = tt
+
+-- a link end of a switch with none of these steps and no grant of its output
+pub none_at_switch : {R A : Type 0} (v : NetView R A) → IsValid v.declared → (e w : ℕ) → (network_of v.declared).start_of e ≡ AtSwitch w → ((step : PortStep) → Tells v (step_at_port e step) false) → ((c : ℕ) → Tells v (Grant e c) false) → CanStep v e false
+none_at_switch v valid e w starts none grants = λ s k can.
+    none_at_port (network_of v.declared) (are_networks v.declared valid) s k.reached e w starts
+    (record {
+      fct = none at_port.Fct s k;
+      fct_in = none at_port.FctIn s k;
+      arrive = none at_port.Arrive s k;
+      drops = none at_port.DropFront s k;
+      forward = none at_port.Forward s k;
+      spill = none at_port.Spill s k;
+      grant = λ c. grants c s k;
+    })
+    can
+
 -- ---- a grant by an arbiter
 
 pub switch_here : {R A : Type 0} (answer : R → ℕ → Look) (arbiter_ports : A → ℕ) (v u : NetView R A) → v ≡ u → IsNet answer arbiter_ports v → (w : ℕ) (x : Cell R A) → w < length u.declared.switches → x ≡ get_or v.switches w x → slice_get v.switches w ≡ Some x

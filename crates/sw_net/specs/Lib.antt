@@ -4,6 +4,8 @@ pub mod Asked
 pub mod Asking
 pub mod Delivery
 pub mod Making
+pub mod Kept
 pub mod Numbers
+pub mod Parts
 pub mod Possible
 pub mod Switches

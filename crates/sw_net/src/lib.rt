@@ -3,11 +3,13 @@
 
 mod asked;
 mod asking;
+mod choice;
 mod declared;
 mod delivery;
 mod make;
 mod net;
 mod numbers;
+mod part;
 mod possible;
 mod step;
 mod step_of;
@@ -15,6 +17,9 @@ mod step_of;
 pub use declared::{SwitchRoutes, declared_net};
 pub use net::Net;
 pub use numbers::Numbers;
+pub use part::{NodePart, Part, PortPart};
+pub use sw_node::PendingReply;
+pub use sw_switch::Input;
 
 #[cfg(test)]
 mod tests;

@@ -22,7 +22,7 @@ use sw_topo::{LinkEnd, PlaceEnd};
 
 /// The step at node `n`.
 #[tactic(auto, unfolding(sw_model::specs::Model::network_of))]
-fn node_step(network: &Network, n: u16, step: NodeStep) -> Step
+pub(crate) fn node_step(network: &Network, n: u16, step: NodeStep) -> Step
     requires { n < length network.now.nodes }
     ensures { machine_step result ≡ step_at_node (network_of network.now) n step }
 {
@@ -37,7 +37,7 @@ fn node_step(network: &Network, n: u16, step: NodeStep) -> Step
 }
 
 /// The step at the link end of a port.
-fn port_step(end: LinkEnd, step: PortStep) -> Step
+pub(crate) fn port_step(end: LinkEnd, step: PortStep) -> Step
     ensures { machine_step result ≡ step_at_port end step }
 {
     match step {
@@ -78,7 +78,7 @@ impl<'n, R: Routing, A: Arbiter> Net<'n, R, A> {
     }
 
     /// A step of node `n` that is possible, other than to begin a packet.
-    fn first_at_node(&self, n: u16) -> Option<NodeStep>
+    pub(crate) fn first_at_node(&self, n: u16) -> Option<NodeStep>
         requires { n < length self.now.declared.nodes }
         ensures some { IfSome result (λ step. Tells self.now (step_at_node (network_of self.now.declared) n step) true) }
         ensures none { IfNone result (CanStep self.now ((network_of self.now.declared).out n) false) }
@@ -89,7 +89,7 @@ impl<'n, R: Routing, A: Arbiter> Net<'n, R, A> {
 
     /// A step of the link end, which stands at switch `w`, that is possible, other than to grant its
     /// output.
-    fn first_at_port(&self, w: u16, end: LinkEnd) -> Option<PortStep>
+    pub(crate) fn first_at_port(&self, w: u16, end: LinkEnd) -> Option<PortStep>
         requires switch { w < length self.now.declared.switches }
         requires at { (network_of self.now.declared).start_of end ≡ AtSwitch w }
         ensures some { IfSome result (λ step. Tells self.now (step_at_port end step) true) }

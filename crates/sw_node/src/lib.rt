@@ -5,9 +5,11 @@ mod came_out;
 mod cell;
 mod conditions;
 mod make;
+mod part;
 mod reply;
 mod sending;
 mod steps;
 mod undelivered;
 
 pub use cell::NodeCell;
+pub use part::PendingReply;

@@ -5,6 +5,7 @@ ghost use Rattle.sw_model.specs.Model.{answer_of, memory_after};
 ghost use Rattle.sw_node.specs.Changes.{with_memory};
 ghost use Rattle.sw_node.specs.Node.{config_of, memory_of};
 
+use crate::part::PendingReply;
 use crate::sending::Sending;
 use std::alloc::{AllocError, Global};
 use std::marker::Model;
@@ -37,6 +38,17 @@ impl Reply {
         ensures { result ≡ length (reply_packet self.now) }
     {
         self.bytes.len() as u64 + 1
+    }
+
+    /// A copy of its address and of its cargo.
+    pub(crate) fn copied(&self, alloc: Global) -> Result<PendingReply, AllocError>
+        ensures { IfOk result (λ reply. reply ≡ self.now) }
+    {
+        let (address, cargo) = self.bytes.split_at(self.address);
+        Ok(PendingReply {
+            address: Vec::from_slice(alloc, address)?,
+            cargo: Vec::from_slice(alloc, cargo)?,
+        })
     }
 
     /// Its characters, to be sent.

@@ -1,9 +1,10 @@
 //! A packet that a node sends, character by character.
-ghost use Rattle.std.specs.Prelude.{◌≡◌, ◌==◌, ◌<◌, ◌≤◌, ◌+◌, [], drop, length, slice_get};
+ghost use Rattle.std.specs.Prelude.{◌≡◌, ◌==◌, ◌<◌, ◌≤◌, ◌+◌, ◌++◌, [], IfOk, OnOk, drop, length, map, slice_get};
+ghost use Rattle.sw_char.specs.declared.nchar.NChar.TheVariants.{Data};
 ghost use Rattle.sw_char.specs.Packets.{marker_of};
 ghost use Rattle.sw_node.specs.Node.{packet_chars};
 
-use std::alloc::Global;
+use std::alloc::{AllocError, Global};
 use std::marker::Model;
 use sw_char::{End, NChar};
 
@@ -35,6 +36,25 @@ fn marker(end: End) -> NChar
         End::Eop => NChar::Eop,
         End::Eep => NChar::Eep,
     }
+}
+
+/// Puts the bytes behind the characters.
+pub(crate) fn push_data(chars: &mut Vec<NChar>, bytes: &[u8]) -> Result<(), AllocError>
+    ensures { OnOk result (chars.new.items ≡ chars.old.items ++ map Data bytes.now) }
+{
+    for byte in bytes {
+        chars.push(NChar::Data(*byte))?;
+    }
+    Ok(())
+}
+
+/// Puts the bytes and the marker behind the characters.
+pub(crate) fn push_chars(chars: &mut Vec<NChar>, bytes: &[u8], end: End) -> Result<(), AllocError>
+    ensures { OnOk result (chars.new.items ≡ chars.old.items ++ packet_chars bytes.now end) }
+{
+    push_data(chars, bytes)?;
+    chars.push(marker(end))?;
+    Ok(())
 }
 
 impl Sending {
@@ -71,6 +91,18 @@ impl Sending {
         ensures { result ≡ (length self.now == 0) }
     {
         self.sent > self.bytes.len()
+    }
+
+    /// A copy of the characters that are still to be sent.
+    pub(crate) fn chars(&self, alloc: Global) -> Result<Vec<NChar>, AllocError>
+        ensures { IfOk result (λ chars. chars.items ≡ self.now) }
+    {
+        let mut chars = Vec::new(alloc);
+        if self.is_empty() {
+            return Ok(chars);
+        }
+        push_chars(&mut chars, &self.bytes[self.sent..], self.end)?;
+        Ok(chars)
     }
 
     /// The character that is sent next.

@@ -5,10 +5,14 @@
 
 mod flows;
 mod packets;
+mod runs;
 mod tables;
 mod texts;
 
 use anyhow::Result;
+use std::sync::Wait;
+use std::thread::Threads;
+use sw_network::Network;
 
 /// Tables and packets.
 fn small<R: Print + AllocGlobal>(rt: &R) -> Result<()> {
@@ -22,12 +26,22 @@ fn small<R: Print + AllocGlobal>(rt: &R) -> Result<()> {
 }
 
 /// A network, and what is read and found for it.
-fn large<R: Print + AllocGlobal>(rt: &R) -> Result<()> {
+fn large<R: Print + AllocGlobal + Threads + Wait + Sync>(rt: &R) -> Result<()> {
     let alloc = rt.alloc();
     let network = flows::network(alloc)?;
     println!(rt; "places {}", flows::route(alloc, &network, 1)?)?;
-    println!(rt; "load of {}", texts::load(alloc, &network)?)?;
     println!(rt; "schedule of {}", texts::schedule(alloc, &network)?)?;
+    loaded(rt, &network)
+}
+
+/// What is done for a load.
+fn loaded<R: Print + AllocGlobal + Threads + Wait + Sync>(rt: &R, network: &Network) -> Result<()> {
+    let alloc = rt.alloc();
+    let load = texts::load(alloc, network)?;
+    println!(rt; "load of {}", load.total())?;
+    println!(rt; "history of {}", runs::history(alloc, network, &load)?)?;
+    println!(rt; "cells {}", runs::journal(alloc, network, &load)?)?;
+    println!(rt; "came out {}", runs::came_out(rt, network, &load)?)?;
     Ok(())
 }
 

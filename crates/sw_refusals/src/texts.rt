@@ -1,7 +1,10 @@
 //! Loads and schedules.
+ghost use Rattle.std.specs.Prelude.{IfOk};
+ghost use Rattle.sw_limit.specs.Limit.{AreDeclared};
 
 use anyhow::{Result, bail, ensure};
 use std::alloc::Global;
+use sw_limit::laws::listed_are_declared;
 use sw_load::{Load, read_load};
 use sw_network::Network;
 use sw_steps::{Schedule, ScheduleFault, read_steps};
@@ -12,7 +15,11 @@ const LOAD: &[u8] =
 
 const SCHEDULE: &[u8] = b"begin x EOP AA*2\n2 fct 0\nfctin 0\nemit I\n";
 
-fn read_packets(alloc: Global, network: &Network) -> Result<Load> {
+fn read_packets(alloc: Global, network: &Network) -> Result<Load>
+    ensures { IfOk result (λ load. AreDeclared network.now load) }
+{
+    // Names what holds of a load that was read.
+    listed_are_declared();
     match read_load(alloc, network, LOAD) {
         Ok(load) => return Ok(load),
         Err(FileFault::Memory) => {}
@@ -37,10 +44,12 @@ fn read_schedule(alloc: Global, network: &Network) -> Result<Schedule> {
 }
 
 /// A load of three packets.
-pub fn load(alloc: Global, network: &Network) -> Result<u64> {
+pub fn load(alloc: Global, network: &Network) -> Result<Load>
+    ensures { IfOk result (λ load. AreDeclared network.now load) }
+{
     let load = read_packets(alloc, network)?;
     ensure!(load.packets().len() == 2, "other packets");
-    Ok(u64::from(load.total()))
+    Ok(load)
 }
 
 /// A schedule of five steps.

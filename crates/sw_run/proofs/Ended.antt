@@ -1,10 +1,9 @@
 -- From the journal at the end of a run to the outcome.
 use Rattle.std.proofs.Common.{List, ap, arith, length, subst, sym, ℕ, ◌∙◌, ◌≡◌, ◌≤◌}
 use Rattle.std.proofs.lemmas.List.{length-map}
-use Rattle.sw_history.specs.Next.{IsWhole}
 use Rattle.sw_journal.specs.Asked.{IsUndelivered}
 use Rattle.sw_journal.specs.Record.{Account, LeadsTo}
-use Rattle.sw_limit.specs.History.{IsHistory, packets_of}
+use Rattle.sw_limit.specs.History.{IsHistory, IsWhole, packets_of}
 use Rattle.sw_load.specs.Load.{LoadEntry}
 use Rattle.sw_machine.specs.State.{State}
 use Rattle.sw_machine.specs.Steps.{Step}

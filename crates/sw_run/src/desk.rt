@@ -84,11 +84,8 @@ impl<'a, W: Which> Desk<'a, W> {
         self.journal.mark(end) == Some(self.journal.len() as u64)
     }
 
-    /// Marks the link end as idle. Where all are, nothing can go on.
-    fn rest(&mut self, held: &Held<W>, end: LinkEnd) -> Turn {
-        if held.cell.numbers(end).is_none() || !self.journal.declare_idle(end, &held.cell) {
-            return Turn::Idle;
-        }
+    /// One link end more has its mark at the present length. Where all have, nothing can go on.
+    fn rest(&mut self) -> Turn {
         if self.awake <= 1 {
             return self.end(Stop::Stuck);
         }
@@ -96,16 +93,20 @@ impl<'a, W: Which> Desk<'a, W> {
         Turn::Idle
     }
 
-    /// Makes a step of this link end, whatever the journal chooses.
+    /// Makes a step of this link end of the cell, whatever the journal chooses, or marks the link
+    /// end as idle.
     fn advance(&mut self, alloc: Global, held: &mut Held<W>, end: LinkEnd) -> Turn
         requires { end < 2 * length W.declared.links }
     {
         if self.is_marked(end) {
             return Turn::Idle;
         }
-        match self.journal.choose(alloc, end) {
+        if held.cell.numbers(end).is_none() {
+            return Turn::Idle;
+        }
+        match self.journal.choose_or_mark(alloc, end, &held.cell) {
             Ok(Some(step)) => self.commit(alloc, held, step),
-            Ok(None) => self.rest(held, end),
+            Ok(None) => self.rest(),
             Err(_) => self.end(Stop::Memory),
         }
     }

@@ -6,6 +6,7 @@ mod conditions;
 mod input;
 mod laws;
 mod make;
+mod part;
 mod steps;
 
 pub use cell::SwitchCell;

@@ -1,6 +1,6 @@
 use Rattle.std.proofs.Common.{ap, arith, length, refl, rules, sym, ℕ, ◌∙◌, ◌≡◌}
 use Rattle.atomic_table.specs.Table.{Me}
-use Rattle.sw_journal.proofs.Renewed.{all_renewed, more_renewed, seat_first, seat_more, within_names}
+use Rattle.sw_journal.proofs.Renewed.{all_renewed, more_renewed, seat_first, seat_more, seat_same, within_names}
 use Rattle.sw_journal.proofs.renewal.renew.Goals as goal
 use Rattle.sw_model.specs.Model.{network_of}
 use Rattle.sw_net.specs.declared.numbers.Numbers.{Numbers}
@@ -17,6 +17,9 @@ loop-place-init c = record {
 
 pub renew_one-requires-clause-within : goal.renew_one-requires-clause-within
 renew_one-requires-clause-within c = within_names _ c.loop-place.ends.items c.args.ends.now.items c.loop-place.invariant.names c.requires.within
+
+pub renew_one-requires-clause-same : goal.renew_one-requires-clause-same
+renew_one-requires-clause-same c = seat_same c.args.seat.now.me c.loop-place.seat.me c.loop-place.ends.items c.requires.same c.loop-place.invariant.seat
 
 pub loop-place-preserved : goal.loop-place-preserved
 loop-place-preserved c =

@@ -1,8 +1,8 @@
-use Rattle.std.proofs.Common.{Some, ap, get_or, length, refl, sym, ℕ, ◌≡◌}
+use Rattle.std.proofs.Common.{Some, ap, get_or, length, refl, rules, sym, ℕ, ◌≡◌}
 use Rattle.std.proofs.Math.Seq.{map-set_same}
 use Rattle.std.proofs.lemmas.Option.{get_or_from_slice_get, slice_get_read}
 use Rattle.std.specs.Prelude.{slice_get}
-use Rattle.sw_journal.proofs.Renewed.{seat_told, set_renewed}
+use Rattle.sw_journal.proofs.Renewed.{same_renewed, seat_first, seat_told, set_renewed}
 use Rattle.sw_journal.proofs.renewal.renew_one.Goals as goal
 use Rattle.sw_model.specs.Model.{network_of}
 use Rattle.sw_net.specs.declared.numbers.Numbers.{Numbers}
@@ -22,3 +22,12 @@ pub returns-clause-seat : goal.returns-clause-seat
 returns-clause-seat c =
     let at : slice_get c.args.ends.now.items c.args.place ≡ Some c.index.result.now = slice_get_read c.args.ends.now.items (length c.args.ends.now.items) c.args.place c.index.result.now refl c.requires.place c.index.ensures in
     seat_told c.args.seat.now.me c.tell.new.seat.me c.args.ends.now.items c.args.place c.index.result.now c.numbers-numbers.result c.requires.known at c.tell.ensures.1
+
+pub returns-then-eq-clause-numbers : goal.returns-then-eq-clause-numbers
+returns-then-eq-clause-numbers c = λ s state.
+    let at : slice_get c.args.ends.now.items c.args.place ≡ Some c.index.result.now = slice_get_read c.args.ends.now.items (length c.args.ends.now.items) c.args.place c.index.result.now refl c.requires.place c.index.ensures in
+    let same : c.numbers-numbers.result ≡ c.index.result.now.1 = search rules in
+    same_renewed (network_of c.args.net.now.declared) s c.args.place c.args.ends.now.items c.index.result.now c.numbers-numbers.result at (c.numbers-numbers.ensures s state) same
+
+pub returns-then-eq-clause-seat : goal.returns-then-eq-clause-seat
+returns-then-eq-clause-seat c = seat_first c.args.seat.now.me c.args.ends.now.items c.requires.same c.requires.known

@@ -1,0 +1,62 @@
+//! A step that may be the next.
+ghost use Rattle.std.specs.Prelude.{◌≡◌, ◌<◌, ◌*◌, IfNone, IfOk, IfSome, length};
+ghost use Rattle.sw_history.specs.Next.{begin_of};
+ghost use Rattle.sw_limit.specs.History.{packet_of, packets_of};
+ghost use Rattle.sw_model.specs.Model.{network_of};
+ghost use Rattle.sw_steps.specs.Steps.{machine_step};
+
+use crate::history::History;
+use std::alloc::{AllocError, Global};
+use sw_arb::Arbiter;
+use sw_load::LoadPacket;
+use sw_route::Routing;
+use sw_steps::Step;
+use sw_topo::{LinkEnd, PlaceEnd};
+
+/// The step that begins the packet.
+fn beginning(alloc: Global, packet: &LoadPacket) -> Result<Step, AllocError>
+    ensures { IfOk result (λ step. machine_step step ≡ begin_of (packet_of packet.now)) }
+{
+    Ok(Step::Begin {
+        flow: packet.flow(),
+        cargo: Vec::from_slice(alloc, packet.cargo())?,
+        end: packet.end(),
+    })
+}
+
+impl<'n, R: Routing, A: Arbiter> History<'n, R, A> {
+    ghost use Rattle.sw_history.specs.History.{IsNext, IsNextAt};
+    ghost use Rattle.sw_history.specs.Next.{BeginsOne, IsIdle};
+
+    /// The packet that the node may begin as the next step.
+    pub(crate) fn may_begin(&self, node: u16) -> Option<&LoadPacket>
+        requires { node < length self.now.declared.nodes }
+        ensures some { IfSome result (λ p. IsNext self.now (begin_of (packet_of p.now))) }
+        ensures from { IfSome result (λ p. ((network_of self.now.declared).flow (packet_of p.now).flow).from ≡ node) }
+        ensures none { IfNone result (BeginsOne (network_of self.now.declared) (packets_of self.now.load) self.now.steps node → ⊥) }
+    {
+        if !self.net.can_begin(node) {
+            return None;
+        }
+        self.next(node)
+    }
+
+    /// A step that belongs to the link end and may be the next; the beginning of its node's next
+    /// packet comes after its other steps. None where the link end is idle.
+    pub fn choose(&self, alloc: Global, end: LinkEnd) -> Result<Option<Step>, AllocError>
+        requires { end < 2 * length self.now.declared.links }
+        ensures some { IfOk result (λ o. IfSome o (λ step. IsNextAt self.now end (machine_step step))) }
+        ensures none { IfOk result (λ o. IfNone o (IsIdle (network_of self.now.declared) (packets_of self.now.load) self.now.steps end)) }
+    {
+        if let Some(step) = self.net.possible_at(end) {
+            return Ok(Some(step));
+        }
+        match self.net.network().topology().start_of(end.sends()) {
+            PlaceEnd::Node(node) => match self.may_begin(node) {
+                Some(packet) => Ok(Some(beginning(alloc, packet)?)),
+                None => Ok(None),
+            },
+            PlaceEnd::Switch(_, _) => Ok(None),
+        }
+    }
+}

@@ -1,0 +1,74 @@
+//! Which step of a link end is possible.
+ghost use Rattle.std.specs.Prelude.{◌≡◌, ◌<◌, ◌*◌, ℕ, IfNone, IfSome, Some, false, length, slice_get, true};
+ghost use Rattle.sw_flow.specs.Places.{ends_of};
+ghost use Rattle.sw_machine.specs.Steps.{Grant};
+ghost use Rattle.sw_model.specs.Model.{network_of};
+ghost use Rattle.sw_steps.specs.Steps.{machine_step};
+
+use crate::net::Net;
+use crate::step_of::{node_step, port_step};
+use sw_arb::Arbiter;
+use sw_route::Routing;
+use sw_steps::Step;
+use sw_topo::{LinkEnd, PlaceEnd, Port};
+
+impl<'n, R: Routing, A: Arbiter> Net<'n, R, A> {
+    ghost use Rattle.sw_net.specs.Asked.{CanStep};
+    ghost use Rattle.sw_net.specs.Making.{IsMoveOf};
+    ghost use Rattle.sw_net.specs.Possible.{Tells};
+
+    /// A step of node `n` that is possible, other than to begin a packet.
+    fn possible_at_node(&self, n: u16) -> Option<Step>
+        requires { n < length self.now.declared.nodes }
+        ensures some { IfSome result (λ step. IsMoveOf self.now ((network_of self.now.declared).out n) (machine_step step)) }
+        ensures possible { IfSome result (λ step. Tells self.now (machine_step step) true) }
+        ensures none { IfNone result (CanStep self.now ((network_of self.now.declared).out n) false) }
+    {
+        let first = self.first_at_node(n)?;
+        Some(node_step(self.network(), n, first))
+    }
+
+    /// A grant of the output of the link end, which stands at port `out` of switch `w`, that is
+    /// possible.
+    fn possible_grant(&self, w: u16, out: Port, end: LinkEnd) -> Option<Step>
+        requires switch { w < length self.now.declared.switches }
+        requires starts { slice_get (ends_of self.now.declared) end ≡ Some (PlaceEnd.Switch w out) }
+        ensures some { IfSome result (λ step. IsMoveOf self.now end (machine_step step)) }
+        ensures possible { IfSome result (λ step. Tells self.now (machine_step step) true) }
+        ensures none { IfNone result ((channel : ℕ) → Tells self.now (Grant end channel) false) }
+    {
+        let network = self.network();
+        let port = self.switch(w).asks(out).first()?;
+        let back = network.topology().out_of(w, port).unwrap();
+        Some(Step::Grant(end.sends(), back.partner()))
+    }
+
+    /// A step of the link end, which stands at port `out` of switch `w`, that is possible.
+    fn possible_at_port(&self, w: u16, out: Port, end: LinkEnd) -> Option<Step>
+        requires switch { w < length self.now.declared.switches }
+        requires starts { slice_get (ends_of self.now.declared) end ≡ Some (PlaceEnd.Switch w out) }
+        ensures some { IfSome result (λ step. IsMoveOf self.now end (machine_step step)) }
+        ensures possible { IfSome result (λ step. Tells self.now (machine_step step) true) }
+        ensures none { IfNone result (CanStep self.now end false) }
+    {
+        let _network = self.network();
+        match self.first_at_port(w, end) {
+            Some(first) => Some(port_step(end, first)),
+            None => self.possible_grant(w, out, end),
+        }
+    }
+
+    /// A step that belongs to the link end and is possible, other than to begin a packet. A grant of
+    /// its output comes after its other steps. None where the link end has no such step.
+    pub fn possible_at(&self, end: LinkEnd) -> Option<Step>
+        requires { end < 2 * length self.now.declared.links }
+        ensures some { IfSome result (λ step. IsMoveOf self.now end (machine_step step)) }
+        ensures possible { IfSome result (λ step. Tells self.now (machine_step step) true) }
+        ensures none { IfNone result (CanStep self.now end false) }
+    {
+        match self.network().topology().start_of(end.sends()) {
+            PlaceEnd::Node(n) => self.possible_at_node(n),
+            PlaceEnd::Switch(w, out) => self.possible_at_port(w, out, end),
+        }
+    }
+}

@@ -1,0 +1,176 @@
+//! What a cell has of a network's state.
+ghost use Rattle.std.specs.Prelude.{◌≡◌, ◌<◌, IfOk, length, map};
+ghost use Rattle.sw_cell.specs.Places.{IsIn};
+ghost use Rattle.sw_machine.specs.State.{State};
+ghost use Rattle.sw_model.specs.Model.{network_of};
+ghost use Rattle.sw_net.specs.Kept.{kept_at_port, kept_by_node};
+ghost use Rattle.sw_topo.specs.Ports.{ports_of};
+
+use crate::net::Net;
+use std::alloc::{AllocError, Global};
+use std::marker::Model;
+use sw_arb::Arbiter;
+use sw_cell::CellId;
+use sw_char::NChar;
+use sw_node::{NodeCell, PendingReply};
+use sw_route::Routing;
+use sw_switch::{Input, SwitchCell};
+use sw_topo::Port;
+
+/// What a node has of a network's state.
+#[derive(Debug, Drop)]
+pub struct NodePart {
+    /// The characters that it has still to send of the packet under way, the next first.
+    pub to_send: Vec<NChar>,
+    /// The replies that wait to be sent, the oldest first: 0 to 8.
+    pub pending: Vec<PendingReply>,
+    /// How many replies it owes, those that wait included: 0 to 8.
+    pub owed: u8,
+    /// All characters that it took, the oldest first.
+    pub taken: Vec<NChar>,
+    /// What its memory holds, from its start on; nothing where it is no RMAP target.
+    pub memory: Vec<u8>,
+    /// How many N-Chars may still be sent on the channel that starts there: 0 to 56
+    /// (ECSS-E-ST-50-12C, data link layer: flow control).
+    pub credit: u8,
+    /// The N-Chars in its receive buffer, the oldest first: 0 to 4,096.
+    pub buffer: Vec<NChar>,
+    /// How many N-Chars were asked for on the channel that ends there, and did not arrive yet: 0
+    /// to 56.
+    pub outstanding: u8,
+}
+
+impl Model for NodePart {
+    ghost use Rattle.sw_net.specs.Kept.{NodeView};
+
+    ghost Value = { NodeView };
+
+    ghost view = { λ p. record {
+      to_send = p.to_send.items;
+      pending = p.pending.items;
+      owed = p.owed;
+      taken = p.taken.items;
+      memory = p.memory.items;
+      credit = p.credit;
+      buffer = p.buffer.items;
+      outstanding = p.outstanding;
+    } };
+}
+
+/// What a switch has of a network's state at a port with a link.
+#[derive(Debug, Drop)]
+pub struct PortPart {
+    /// The port.
+    pub port: Port,
+    /// What its input does (ECSS-E-ST-50-12C, network layer: wormhole routing).
+    pub input: Input,
+    /// How many N-Chars may still be sent on the channel that starts there: 0 to 56
+    /// (ECSS-E-ST-50-12C, data link layer: flow control).
+    pub credit: u8,
+    /// The N-Chars in its receive buffer, the oldest first: 0 to 4,096.
+    pub buffer: Vec<NChar>,
+    /// How many N-Chars were asked for on the channel that ends there, and did not arrive yet: 0
+    /// to 56.
+    pub outstanding: u8,
+}
+
+impl Model for PortPart {
+    ghost use Rattle.sw_net.specs.Kept.{PortView};
+
+    ghost Value = { PortView };
+
+    ghost view = { λ p. record {
+      port = p.port;
+      input = p.input;
+      credit = p.credit;
+      buffer = p.buffer.items;
+      outstanding = p.outstanding;
+    } };
+}
+
+/// What a cell has of a network's state.
+#[derive(Debug, Drop)]
+pub enum Part {
+    /// What a node has.
+    Node(NodePart),
+    /// What a switch has at its ports with a link, in rising order of the ports.
+    Switch(Vec<PortPart>),
+}
+
+/// What the node keeps.
+fn node_part(alloc: Global, node: &NodeCell) -> Result<NodePart, AllocError>
+    ensures { IfOk result (λ part. part ≡ kept_by_node node.now) }
+{
+    Ok(NodePart {
+        to_send: node.to_send(alloc)?,
+        pending: node.pending(alloc)?,
+        owed: node.owed() as u8,
+        taken: node.taken(alloc)?,
+        memory: node.memory(alloc)?,
+        credit: node.credit(),
+        buffer: node.buffer(alloc)?,
+        outstanding: node.outstanding(),
+    })
+}
+
+/// What the switch keeps at the port.
+fn port_part<R: Routing, A: Arbiter>(
+    alloc: Global,
+    switch: &SwitchCell<R, A>,
+    port: Port,
+) -> Result<PortPart, AllocError>
+    ensures { IfOk result (λ part. part ≡ kept_at_port switch.now port) }
+{
+    Ok(PortPart {
+        port,
+        input: switch.input(port),
+        credit: switch.credit(port),
+        buffer: switch.buffer(alloc, port)?,
+        outstanding: switch.outstanding(port),
+    })
+}
+
+/// What the switch keeps at its ports with a link.
+fn port_parts<R: Routing, A: Arbiter>(
+    alloc: Global,
+    switch: &SwitchCell<R, A>,
+) -> Result<Vec<PortPart>, AllocError>
+    ensures { IfOk result (λ parts. parts.items ≡ map (kept_at_port switch.now) (ports_of switch.now.linked)) }
+{
+    let mut parts = Vec::new(alloc);
+    for port in switch.linked().ports() {
+        parts.push(port_part(alloc, switch, port)?)?;
+    }
+    Ok(parts)
+}
+
+impl<'n, R: Routing, A: Arbiter> Net<'n, R, A> {
+    ghost use Rattle.sw_net.specs.Net.{IsNetState};
+    ghost use Rattle.sw_net.specs.Parts.{ArePortsOf, IsNodeOf, IsPartOf};
+
+    fn part_of_node(&self, alloc: Global, n: u16) -> Result<NodePart, AllocError>
+        requires { n < length self.now.declared.nodes }
+        ensures { IfOk result (λ part. (s : State) → IsNetState self.now s → IsNodeOf (network_of self.now.declared) s n part) }
+    {
+        node_part(alloc, self.node(n))
+    }
+
+    fn part_of_switch(&self, alloc: Global, w: u16) -> Result<Vec<PortPart>, AllocError>
+        requires { w < length self.now.declared.switches }
+        ensures { IfOk result (λ parts. (s : State) → IsNetState self.now s → ArePortsOf self.now.declared s w parts.items) }
+    {
+        let _network = self.network();
+        port_parts(alloc, self.switch(w))
+    }
+
+    /// What the cell, which is one of the network's, has of the network's state.
+    pub fn part(&self, alloc: Global, cell: CellId) -> Result<Part, AllocError>
+        requires { IsIn self.now.declared cell }
+        ensures { IfOk result (λ part. (s : State) → IsNetState self.now s → IsPartOf self.now.declared s cell part) }
+    {
+        match cell {
+            CellId::Node(n) => Ok(Part::Node(self.part_of_node(alloc, n)?)),
+            CellId::Switch(w) => Ok(Part::Switch(self.part_of_switch(alloc, w)?)),
+        }
+    }
+}

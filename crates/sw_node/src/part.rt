@@ -1,0 +1,91 @@
+//! What a node has, copied.
+ghost use Rattle.std.specs.Prelude.{◌≡◌, ◌++◌, IfOk, OnOk};
+ghost use Rattle.sw_node.specs.Node.{memory_of, taken};
+
+use crate::cell::NodeCell;
+use crate::reply::Reply;
+use crate::sending::{push_chars, push_data};
+use std::alloc::{AllocError, Global};
+use std::marker::Model;
+use sw_char::NChar;
+
+/// A reply that waits to be sent (ECSS-E-ST-50-52C, reply fields).
+#[derive(Debug, Drop)]
+pub struct PendingReply {
+    /// The address bytes that it begins with.
+    pub address: Vec<u8>,
+    /// What follows these, up to its end marker.
+    pub cargo: Vec<u8>,
+}
+
+impl Model for PendingReply {
+    ghost use Rattle.sw_machine.specs.Network.{PendingReply as Pending};
+
+    ghost Value = { Pending };
+
+    ghost view = { λ r. record { address = r.address.items; cargo = r.cargo.items } };
+}
+
+/// Puts copies of the replies that wait behind the others.
+fn push_replies(
+    replies: &mut Vec<PendingReply>,
+    alloc: Global,
+    waiting: &[Reply],
+) -> Result<(), AllocError>
+    ensures { OnOk result (replies.new.items ≡ replies.old.items ++ waiting.now) }
+{
+    for reply in waiting {
+        replies.push(reply.copied(alloc)?)?;
+    }
+    Ok(())
+}
+
+impl NodeCell {
+    /// The characters that it has still to send of the packet under way, the next first.
+    pub fn to_send(&self, alloc: Global) -> Result<Vec<NChar>, AllocError>
+        ensures { IfOk result (λ chars. chars.items ≡ self.now.to_send) }
+    {
+        self.sending.chars(alloc)
+    }
+
+    /// The replies that wait to be sent, the oldest first: 0 to 8.
+    pub fn pending(&self, alloc: Global) -> Result<Vec<PendingReply>, AllocError>
+        ensures { IfOk result (λ replies. replies.items ≡ self.now.pending) }
+    {
+        let (first, second) = self.pending.as_slices();
+        let mut replies = Vec::new(alloc);
+        push_replies(&mut replies, alloc, first)?;
+        push_replies(&mut replies, alloc, second)?;
+        Ok(replies)
+    }
+
+    /// The characters that it took, the oldest first: those of the packets that came out, and the
+    /// bytes that came of the packet under way.
+    pub fn taken(&self, alloc: Global) -> Result<Vec<NChar>, AllocError>
+        ensures { IfOk result (λ chars. chars.items ≡ taken self.now) }
+    {
+        let mut chars = Vec::new(alloc);
+        for packet in &self.packets {
+            push_chars(&mut chars, &packet.bytes, packet.end)?;
+        }
+        push_data(&mut chars, &self.bytes)?;
+        Ok(chars)
+    }
+
+    /// What its memory holds; nothing at a plain node.
+    pub fn memory(&self, alloc: Global) -> Result<Vec<u8>, AllocError>
+        ensures { IfOk result (λ memory. memory.items ≡ memory_of self.now.target) }
+    {
+        match &self.target {
+            Some(target) => Vec::from_slice(alloc, target.memory()),
+            None => Ok(Vec::new(alloc)),
+        }
+    }
+
+    /// The N-Chars in its receive buffer, the oldest first.
+    pub fn buffer(&self, alloc: Global) -> Result<Vec<NChar>, AllocError>
+        ensures { IfOk result (λ buffer. buffer.items ≡ self.now.received.buffer) }
+    {
+        self.received.buffer(alloc)
+    }
+}
