@@ -8,7 +8,7 @@ use crate::calls::show_run;
 use std::io;
 
 /// The words of each call; what comes of it stands in `stdout`, in this order.
-static RUNS: [&[&str]; 82] = [
+static RUNS: &[&[&str]] = &[
     &["swcheck", "route", "line.toml", "f"],
     &["swcheck", "route", "star.toml", "p"],
     &["swcheck", "route", "star.toml", "l"],
@@ -145,7 +145,7 @@ static RUNS: [&[&str]; 82] = [
 ];
 
 fn main(rt: HostRuntime) -> io::Result<()> {
-    for given in &RUNS {
+    for given in RUNS {
         show_run(&rt, given)?;
     }
     Ok(())
