@@ -90,6 +90,7 @@ fn begin_at<R: Routing, A: Arbiter>(
 ) -> Result<(), AllocError>
     requires packets { AreDeclared net.old.declared senders.now.load }
     requires network { senders.now.declared ≡ net.old.declared }
+    requires nodes { length begun.old ≡ length net.old.declared.nodes }
     requires node { node < length begun.old }
     requires ready { IsReady senders.now.load net.old node (slice_index begun.old node) true }
     ensures network { net.new.declared ≡ net.old.declared }
