@@ -9,38 +9,45 @@ ghost use Rattle.sw_net.specs.Possible.{Tells};
 use std::alloc::{AllocError, Global};
 use sw_arb::Arbiter;
 use sw_cell::NetFault;
-use sw_limit::packet_at;
-use sw_load::{Load, LoadPacket};
+use sw_limit::Senders;
+use sw_load::LoadPacket;
 use sw_net::Net;
 use sw_route::Routing;
 use sw_steps::Step;
 
 /// Whether the node, which has begun so many of its packets, can begin its next.
-fn is_ready<R: Routing, A: Arbiter>(net: &Net<'_, R, A>, load: &Load, node: u16, begun: u32) -> bool
-    requires packets { AreDeclared net.now.declared load.now }
+fn is_ready<R: Routing, A: Arbiter>(
+    net: &Net<'_, R, A>,
+    senders: &Senders<'_>,
+    node: u16,
+    begun: u32,
+) -> bool
+    requires packets { AreDeclared net.now.declared senders.now.load }
+    requires network { senders.now.declared ≡ net.now.declared }
     requires node { node < length net.now.declared.nodes }
-    ensures { IsReady load.now net.now node begun result }
+    ensures { IsReady senders.now.load net.now node begun result }
 {
     if !net.can_begin(node) {
         return false;
     }
-    packet_at(net.network(), load, node, begun).is_some()
+    senders.packet(node, begun).is_some()
 }
 
 /// A node that can begin its next packet.
 fn find_ready<R: Routing, A: Arbiter>(
     net: &Net<'_, R, A>,
-    load: &Load,
+    senders: &Senders<'_>,
     begun: &[u32],
 ) -> Option<u16>
-    requires packets { AreDeclared net.now.declared load.now }
+    requires packets { AreDeclared net.now.declared senders.now.load }
+    requires network { senders.now.declared ≡ net.now.declared }
     requires nodes { length begun.now ≡ length net.now.declared.nodes }
     ensures within { IfSome result (λ n. n < length begun.now) }
-    ensures ready { IfSome result (λ n. IsReady load.now net.now n (slice_index begun.now n) true) }
-    ensures none { IfNone result (NoneIsReady load.now net.now begun.now) }
+    ensures ready { IfSome result (λ n. IsReady senders.now.load net.now n (slice_index begun.now n) true) }
+    ensures none { IfNone result (NoneIsReady senders.now.load net.now begun.now) }
 {
     for node in 0..net.network().nodes() {
-        if is_ready(net, load, node, begun[node as usize]) {
+        if is_ready(net, senders, node, begun[node as usize]) {
             return Some(node);
         }
     }
@@ -77,20 +84,22 @@ fn begin_packet<R: Routing, A: Arbiter>(
 fn begin_at<R: Routing, A: Arbiter>(
     alloc: Global,
     net: &mut Net<'_, R, A>,
-    load: &Load,
+    senders: &Senders<'_>,
     begun: &mut [u32],
     node: u16,
 ) -> Result<(), AllocError>
-    requires packets { AreDeclared net.old.declared load.now }
+    requires packets { AreDeclared net.old.declared senders.now.load }
+    requires network { senders.now.declared ≡ net.old.declared }
+    requires nodes { length begun.old ≡ length net.old.declared.nodes }
     requires node { node < length begun.old }
-    requires ready { IsReady load.now net.old node (slice_index begun.old node) true }
+    requires ready { IsReady senders.now.load net.old node (slice_index begun.old node) true }
     ensures network { net.new.declared ≡ net.old.declared }
     ensures nodes { length begun.new ≡ length begun.old }
-    ensures begun { OnOk result (HasBegun load.now net.old begun.old net.new begun.new) }
+    ensures begun { OnOk result (HasBegun senders.now.load net.old begun.old net.new begun.new) }
 {
     // Names the total, which bounds what a node begins.
-    let _total = load.total();
-    match packet_at(net.network(), load, node, begun[node as usize]) {
+    let _total = senders.load().total();
+    match senders.packet(node, begun[node as usize]) {
         Some(packet) => {
             begin_packet(alloc, net, packet)?;
             begun[node as usize] += 1;
@@ -104,18 +113,19 @@ fn begin_at<R: Routing, A: Arbiter>(
 pub(crate) fn begin_one<R: Routing, A: Arbiter>(
     alloc: Global,
     net: &mut Net<'_, R, A>,
-    load: &Load,
+    senders: &Senders<'_>,
     begun: &mut [u32],
 ) -> Result<bool, AllocError>
-    requires packets { AreDeclared net.old.declared load.now }
+    requires packets { AreDeclared net.old.declared senders.now.load }
+    requires network { senders.now.declared ≡ net.old.declared }
     requires nodes { length begun.old ≡ length net.old.declared.nodes }
     ensures network { net.new.declared ≡ net.old.declared }
     ensures nodes { length begun.new ≡ length begun.old }
-    ensures begins { IfOk result (λ made. BeginsOne load.now net.old begun.old made net.new begun.new) }
+    ensures begins { IfOk result (λ made. BeginsOne senders.now.load net.old begun.old made net.new begun.new) }
 {
-    let Some(node) = find_ready(net, load, begun) else {
+    let Some(node) = find_ready(net, senders, begun) else {
         return Ok(false);
     };
-    begin_at(alloc, net, load, begun, node)?;
+    begin_at(alloc, net, senders, begun, node)?;
     Ok(true)
 }

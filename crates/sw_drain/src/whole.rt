@@ -11,7 +11,7 @@ use crate::moves::{count_enabled, move_one};
 use std::alloc::{AllocError, Global};
 use sw_arb::Arbiter;
 use sw_check::Passed;
-use sw_limit::enough_limit;
+use sw_limit::{Senders, enough_limit};
 use sw_load::Load;
 use sw_net::Net;
 use sw_route::Routing;
@@ -45,9 +45,10 @@ pub fn drain<'n, R: Routing, A: Arbiter, F: FnMut(usize) -> usize>(
     passed.is_deadlock_free();
     let network = net.network();
     let mut begun = vec![in alloc; 0u32; network.nodes() as usize]?;
+    let senders = Senders::new(alloc, network, load)?;
     let mut moves: u64 = 0;
     for _ in 0..enough_limit(network, load) {
-        if begin_one(alloc, net, load, begun.as_mut_slice())? {
+        if begin_one(alloc, net, &senders, begun.as_mut_slice())? {
             continue;
         }
         let count = count_enabled(net);

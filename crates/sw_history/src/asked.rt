@@ -31,7 +31,7 @@ impl<'n, R: Routing, A: Arbiter> History<'n, R, A> {
     pub fn load(&self) -> &'n Load
         ensures { result.now ≡ self.now.load }
     {
-        self.load
+        self.senders.load()
     }
 
     /// The steps, in their order.

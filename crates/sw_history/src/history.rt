@@ -7,7 +7,7 @@ use std::alloc::{AllocError, Global};
 use std::marker::Model;
 use sw_arb::Arbiter;
 use sw_char::End;
-use sw_limit::packet_at;
+use sw_limit::Senders;
 use sw_load::{Load, LoadPacket};
 use sw_net::Net;
 use sw_route::Routing;
@@ -18,22 +18,23 @@ use sw_steps::Step;
 #[derive(Drop)]
 pub struct History<'n, R: Routing, A: Arbiter> {
     pub(crate) net: Net<'n, R, A>,
-    pub(crate) load: &'n Load,
+    pub(crate) senders: Senders<'n>,
     pub(crate) steps: Vec<Step>,
     begun: Vec<u32>,
 }
 
 impl<'n, R: Routing, A: Arbiter> Model for History<'n, R, A> {
-    ghost use Rattle.std.specs.Prelude.{map, ◌-◌};
+    ghost use Rattle.std.specs.Prelude.{map, ◌-◌, ◌≡◌, ◌*◌};
     ghost use Rattle.std.specs.Prelude.{vec_capacity, vec_len};
     ghost use Rattle.sw_history.specs.History.{HistoryView, IsKept};
     ghost use Rattle.sw_steps.specs.Steps.{machine_step};
 
     ghost Value = { HistoryView };
 
-    ghost view = { λ h. record { declared = h.net.declared; load = h.load.now; steps = map machine_step h.steps.items; room = vec_capacity h.steps - vec_len h.steps } };
+    ghost view = { λ h. record { declared = h.net.declared; load = h.senders.load; steps = map machine_step h.steps.items; room = vec_capacity h.steps - vec_len h.steps } };
 
-    ghost invariant = { λ h. IsKept h.net (record { declared = h.net.declared; load = h.load.now; steps = map machine_step h.steps.items; room = vec_capacity h.steps - vec_len h.steps }) h.begun.items };
+    ghost invariant = { λ h. IsKept h.net (record { declared = h.net.declared; load = h.senders.load; steps = map machine_step h.steps.items; room = vec_capacity h.steps - vec_len h.steps }) h.begun.items
+        × (h.senders.declared ≡ h.net.declared) };
 }
 
 impl<'n, R: Routing, A: Arbiter> History<'n, R, A> {
@@ -58,12 +59,7 @@ impl<'n, R: Routing, A: Arbiter> History<'n, R, A> {
         requires { node < length self.now.declared.nodes }
         ensures { option_map (λ p. packet_of p.now) result ≡ next_packet (network_of self.now.declared) (packets_of self.now.load) self.now.steps node }
     {
-        packet_at(
-            self.net.network(),
-            self.load,
-            node,
-            self.begun[node as usize],
-        )
+        self.senders.packet(node, self.begun[node as usize])
     }
 
     /// Whether these are the flow, cargo and end of the packet that the node where the flow starts is
@@ -124,7 +120,7 @@ impl<'n, R: Routing, A: Arbiter> History<'n, R, A> {
         ensures { Adds self.old (machine_step step) result self.new }
     {
         // Names the total, which bounds what a node begins.
-        let _total = self.load.total();
+        let _total = self.senders.load().total();
         let beginner = self.beginner(&step)?;
         make(&mut self.net, alloc, &step)?;
         count_begun(self.begun.as_mut_slice(), beginner);
@@ -152,11 +148,12 @@ impl<'n, R: Routing + Drop, A: Arbiter + Drop> History<'n, R, A> {
         ensures load { IfOk result (λ h. h.load ≡ load.entry.now) }
         ensures steps { IfOk result (λ h. h.steps ≡ []) }
     {
-        let nodes = net.network().nodes() as usize;
-        let begun = vec![in alloc; 0u32; nodes]?;
+        let network = net.network();
+        let begun = vec![in alloc; 0u32; network.nodes() as usize]?;
+        let senders = Senders::new(alloc, network, load)?;
         Ok(History {
             net,
-            load,
+            senders,
             steps: Vec::new(alloc),
             begun,
         })

@@ -5,7 +5,7 @@
 pub mod laws;
 mod limit;
 mod replies;
-mod sent;
+mod senders;
 
 pub use limit::enough_limit;
-pub use sent::packet_at;
+pub use senders::Senders;

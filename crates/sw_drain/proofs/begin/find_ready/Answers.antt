@@ -7,7 +7,7 @@ use Rattle.sw_network.specs.Entries.{Declaration}
 
 pub loop-node-preserved : goal.loop-node-preserved
 loop-node-preserved g c =
-    let load = c.args.load.now in
+    let load = c.args.senders.now.load in
     let v = c.args.net.now in
     let begun = c.args.begun.now in
     let node = c.loop-node.node in

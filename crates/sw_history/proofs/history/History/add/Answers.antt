@@ -17,9 +17,9 @@ returns-in_err-make g c =
     let in_self = c.self.inside in
     let now = c.args.self.now in
     let step = machine_step c.args.step in
-    let kept = subst (λ (k : HistoryView). IsKept in_self.net k in_self.begun.items) c.self.view_is c.self.invariant in
+    let kept = subst (λ (k : HistoryView). IsKept in_self.net k in_self.begun.items) c.self.view_is c.self.invariant.0 in
     let same : c.from_residual-in_err-make.result ≡ Err c.in_err-make.field-0.0 = search rules in
-    let view : NetView g.row.R.Denot g.row.A.Denot → HistoryView = λ n. record { declared = n.declared; load = in_self.load.now; steps = map machine_step in_self.steps.items; room = vec_capacity in_self.steps - vec_len in_self.steps } in
+    let view : NetView g.row.R.Denot g.row.A.Denot → HistoryView = λ n. record { declared = n.declared; load = in_self.senders.load; steps = map machine_step in_self.steps.items; room = vec_capacity in_self.steps - vec_len in_self.steps } in
     let stays = ap view c.in_err-make.ensures.refused ∙ c.self.view_is in
     subst (λ r. Adds now step r (view c.make.new.net)) (sym same)
     (refused in_self.net c.make.new.net now (view c.make.new.net) in_self.begun.items step c.in_err-make.field-0.0 kept c.in_ok-beginner.ensures.next c.in_err-make.ensures.answers stays)
@@ -28,8 +28,8 @@ pub count_begun-requires-clause-few : goal.count_begun-requires-clause-few
 count_begun-requires-clause-few g c =
     let in_self = c.self.inside in
     let now = c.args.self.now in
-    let kept = subst (λ (k : HistoryView). IsKept in_self.net k in_self.begun.items) c.self.view_is c.self.invariant in
-    let count = c.total-total.ensures.count ∙ ap (λ (k : HistoryView). packet_count k.load) c.self.view_is in
+    let kept = subst (λ (k : HistoryView). IsKept in_self.net k in_self.begun.items) c.self.view_is c.self.invariant.0 in
+    let count = c.total-total.ensures.count ∙ ap packet_count c.load.ensures ∙ ap (λ (k : HistoryView). packet_count k.load) c.self.view_is in
     let few = c.total-total.ensures.few in
     let who = c.in_ok-beginner.beginner in
     subst (λ (l : List ℕ). IfSome who (λ n. slice_index l n < 65536)) (sym c.as_mut_slice.ensures.value)
@@ -41,7 +41,7 @@ invariant_of-self-2 g c =
     let now = c.args.self.now in
     let step = machine_step c.args.step in
     let who = c.in_ok-beginner.beginner in
-    let kept = subst (λ (k : HistoryView). IsKept in_self.net k in_self.begun.items) c.self.view_is c.self.invariant in
+    let kept = subst (λ (k : HistoryView). IsKept in_self.net k in_self.begun.items) c.self.view_is c.self.invariant.0 in
     let next = subst (λ (k : HistoryView). BeginsNext (network_of k.declared) (packets_of k.load) k.steps step) (sym c.self.view_is) c.in_ok-beginner.ensures.next in
     let more = c.count_begun.ensures ∙ ap (λ (l : List ℕ). counted_with l who) c.as_mut_slice.ensures.value in
     let long = length-counted in_self.begun.items who in
@@ -52,15 +52,15 @@ invariant_of-self-2 g c =
     let inside = subst (λ (k : HistoryView). IsCounted k.declared (k.steps ++ step ∷ []) (counted_with in_self.begun.items who)) (sym c.self.view_is) counted in
     let room = vec_capacity in_self.steps - vec_len in_self.steps in
     let less = vec_capacity c.push_reserved.new.self - vec_len c.push_reserved.new.self in
-    let is = add_is_kept in_self.net c.make.new.net in_self.load.now (map machine_step in_self.steps.items) step room less in_self.begun.items (counted_with in_self.begun.items who) c.make.ensures.network c.self.invariant next c.in_ok-make.ensures.answers long inside in
-    rw (last, items) is
+    let is = add_is_kept in_self.net c.make.new.net in_self.senders.load (map machine_step in_self.steps.items) step room less in_self.begun.items (counted_with in_self.begun.items who) c.make.ensures.network c.self.invariant.0 next c.in_ok-make.ensures.answers long inside in
+    rw (last, items) (is, c.self.invariant.1 ∙ sym c.make.ensures.network)
 
 pub returns : goal.returns
 returns g c =
     let in_self = c.self.inside in
     let now = c.args.self.now in
     let step = machine_step c.args.step in
-    let kept = subst (λ (k : HistoryView). IsKept in_self.net k in_self.begun.items) c.self.view_is c.self.invariant in
+    let kept = subst (λ (k : HistoryView). IsKept in_self.net k in_self.begun.items) c.self.view_is c.self.invariant.0 in
     let last = last_of_map machine_step in_self.steps.items c.push_reserved.new.self.items c.args.step c.push_reserved.ensures.items ∙ ap (λ (k : HistoryView). k.steps ++ step ∷ []) c.self.view_is in
     let declared = c.make.ensures.network ∙ ap (λ (k : HistoryView). k.declared) c.self.view_is in
     let load = ap (λ (k : HistoryView). k.load) c.self.view_is in
@@ -69,5 +69,5 @@ returns g c =
     let len = c.push_reserved.ensures.len in
     let left : vec_capacity c.push_reserved.new.self - vec_len c.push_reserved.new.self ≡ now.room - 1 = omega arith in (
       made_may_follow in_self.net c.make.new.net now in_self.begun.items step kept c.in_ok-beginner.ensures.next c.in_ok-make.ensures.answers,
-      same_view now c.make.new.net.declared in_self.load.now (map machine_step c.push_reserved.new.self.items) _ declared load (now.steps ++ step ∷ []) last (now.room - 1) left,
+      same_view now c.make.new.net.declared in_self.senders.load (map machine_step c.push_reserved.new.self.items) _ declared load (now.steps ++ step ∷ []) last (now.room - 1) left,
     )

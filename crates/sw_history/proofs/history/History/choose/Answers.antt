@@ -17,7 +17,7 @@ use Rattle.sw_topo.specs.declared.place.PlaceEnd.TheVariants.{Node, Switch}
 pub returns-in-Some-clause-some : goal.returns-in-Some-clause-some
 returns-in-Some-clause-some g c =
     let in_self = c.self.inside in
-    let kept = subst (λ (k : HistoryView). IsKept in_self.net k in_self.begun.items) c.self.view_is c.self.invariant in
+    let kept = subst (λ (k : HistoryView). IsKept in_self.net k in_self.begun.items) c.self.view_is c.self.invariant.0 in
     next_move in_self.net c.args.self.now in_self.begun.items kept c.args.end (machine_step c.in-Some.step) c.in-Some.ensures.some c.in-Some.ensures.possible
 
 pub start_of-requires : goal.start_of-requires
@@ -34,7 +34,7 @@ returns-in_ok-beginning-in-Some-may_begin-clause-some g c =
     let in_self = c.self.inside in
     let now = c.args.self.now in
     let net = network_of now.declared in
-    let kept = subst (λ (k : HistoryView). IsKept in_self.net k in_self.begun.items) c.self.view_is c.self.invariant in
+    let kept = subst (λ (k : HistoryView). IsKept in_self.net k in_self.begun.items) c.self.view_is c.self.invariant.0 in
     let valid = subst IsValid kept.network c.network.ensures.sound.valid in
     let wires = c.topology.ensures.wiring ∙ ap wiring_of (c.network.ensures.network ∙ kept.network) in
     let starts = start_at_node now.declared c.args.end c.in-Node.node (subst (λ (w : Wiring). slice_get w.ends c.args.end ≡ Some (Node c.in-Node.node)) wires (subst (λ k. slice_get c.topology.result.now.ends k ≡ Some (Node c.in-Node.node)) c.sends.ensures (c.in-Node.ensures.place))) in
@@ -49,7 +49,7 @@ pub returns-in-None-clause-none : goal.returns-in-None-clause-none
 returns-in-None-clause-none g c =
     let in_self = c.self.inside in
     let now = c.args.self.now in
-    let kept = subst (λ (k : HistoryView). IsKept in_self.net k in_self.begun.items) c.self.view_is c.self.invariant in
+    let kept = subst (λ (k : HistoryView). IsKept in_self.net k in_self.begun.items) c.self.view_is c.self.invariant.0 in
     let valid = subst IsValid kept.network c.network.ensures.sound.valid in
     let wires = c.topology.ensures.wiring ∙ ap wiring_of (c.network.ensures.network ∙ kept.network) in
     let starts = start_at_node now.declared c.args.end c.in-Node.node (subst (λ (w : Wiring). slice_get w.ends c.args.end ≡ Some (Node c.in-Node.node)) wires (subst (λ k. slice_get c.topology.result.now.ends k ≡ Some (Node c.in-Node.node)) c.sends.ensures (c.in-Node.ensures.place))) in
@@ -63,7 +63,7 @@ pub returns-in-Switch-clause-none : goal.returns-in-Switch-clause-none
 returns-in-Switch-clause-none g c =
     let in_self = c.self.inside in
     let now = c.args.self.now in
-    let kept = subst (λ (k : HistoryView). IsKept in_self.net k in_self.begun.items) c.self.view_is c.self.invariant in
+    let kept = subst (λ (k : HistoryView). IsKept in_self.net k in_self.begun.items) c.self.view_is c.self.invariant.0 in
     let valid = subst IsValid kept.network c.network.ensures.sound.valid in
     let wires = c.topology.ensures.wiring ∙ ap wiring_of (c.network.ensures.network ∙ kept.network) in
     let starts = start_at_switch now.declared c.args.end c.in-Switch.field-0 c.in-Switch.field-1 (subst (λ (w : Wiring). slice_get w.ends c.args.end ≡ Some (Switch c.in-Switch.field-0 c.in-Switch.field-1)) wires (subst (λ k. slice_get c.topology.result.now.ends k ≡ Some (Switch c.in-Switch.field-0 c.in-Switch.field-1)) c.sends.ensures (c.in-Switch.ensures.place))) in

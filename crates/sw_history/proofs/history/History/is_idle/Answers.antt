@@ -17,7 +17,7 @@ use Rattle.sw_topo.specs.declared.place.PlaceEnd.TheVariants.{Node, Switch}
 pub returns-then-enabled : goal.returns-then-enabled
 returns-then-enabled g c =
     let in_self = c.self.inside in
-    let kept = subst (λ (k : HistoryView). IsKept in_self.net k in_self.begun.items) c.self.view_is c.self.invariant in
+    let kept = subst (λ (k : HistoryView). IsKept in_self.net k in_self.begun.items) c.self.view_is c.self.invariant.0 in
     let can = subst (CanStep in_self.net c.args.end) c.if-enabled.true c.enabled.ensures in
     (λ t. absurd (false≢true t), λ idle. absurd (not_idle in_self.net c.args.self.now in_self.begun.items kept c.args.end can idle))
 
@@ -34,7 +34,7 @@ pub returns-in-Node : goal.returns-in-Node
 returns-in-Node g c =
     let in_self = c.self.inside in
     let now = c.args.self.now in
-    let kept = subst (λ (k : HistoryView). IsKept in_self.net k in_self.begun.items) c.self.view_is c.self.invariant in
+    let kept = subst (λ (k : HistoryView). IsKept in_self.net k in_self.begun.items) c.self.view_is c.self.invariant.0 in
     let none = subst (CanStep in_self.net c.args.end) c.if-enabled.false c.enabled.ensures in
     let valid = subst IsValid kept.network c.network.ensures.sound.valid in
     let wires = c.topology.ensures.wiring ∙ ap wiring_of (c.network.ensures.network ∙ kept.network) in
@@ -49,7 +49,7 @@ pub returns-in-Switch : goal.returns-in-Switch
 returns-in-Switch g c =
     let in_self = c.self.inside in
     let now = c.args.self.now in
-    let kept = subst (λ (k : HistoryView). IsKept in_self.net k in_self.begun.items) c.self.view_is c.self.invariant in
+    let kept = subst (λ (k : HistoryView). IsKept in_self.net k in_self.begun.items) c.self.view_is c.self.invariant.0 in
     let none = subst (CanStep in_self.net c.args.end) c.if-enabled.false c.enabled.ensures in
     let valid = subst IsValid kept.network c.network.ensures.sound.valid in
     let wires = c.topology.ensures.wiring ∙ ap wiring_of (c.network.ensures.network ∙ kept.network) in

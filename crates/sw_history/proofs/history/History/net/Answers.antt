@@ -9,5 +9,5 @@ use Rattle.sw_net.specs.Net.{IsNetState}
 pub returns-clause-state : goal.returns-clause-state
 returns-clause-state g c = λ s leads.
     let now = c.args.self.now in
-    let first = subst (λ (k : HistoryView). LeadsTo k c.self.invariant.state) c.self.view_is c.self.invariant.leads in
-    subst (IsNetState c.self.inside.net) (sym (one_state_after (network_of now.declared) (packets_of now.load) now.steps c.self.invariant.state s first leads)) c.self.invariant.in_net
+    let first = subst (λ (k : HistoryView). LeadsTo k c.self.invariant.0.state) c.self.view_is c.self.invariant.0.leads in
+    subst (IsNetState c.self.inside.net) (sym (one_state_after (network_of now.declared) (packets_of now.load) now.steps c.self.invariant.0.state s first leads)) c.self.invariant.0.in_net
