@@ -1,11 +1,10 @@
-use Rattle.std.proofs.Common.{List, None, Some, ap, arith, get_or, length, option_map, refl, sym, ◌<◌, ◌∙◌, ◌≡◌}
+use Rattle.std.proofs.Common.{ap, arith, get_or, length, option_map, refl, sym, ◌<◌, ◌∙◌}
 use Rattle.std.specs.Prelude.{slice_get}
 use Rattle.std.proofs.lemmas.Option.{slice_get_past, slice_get_read}
 use Rattle.sw_limit.proofs.Sends.{lent, no_packet, packet_found, row_read}
 use Rattle.sw_limit.proofs.senders.Senders.packet.Goals as goal
-use Rattle.sw_limit.specs.History.{packet_of, packets_at, packets_of}
+use Rattle.sw_limit.specs.History.{packet_of}
 use Rattle.sw_limit.specs.Senders.{SendersView, places_at}
-use Rattle.sw_model.specs.Model.{network_of}
 
 pub returns-in-None : goal.returns-in-None
 returns-in-None c =
