@@ -33,11 +33,11 @@ def measured(programs, words, told, turns):
 
 def print_head(what):
     names = ["swcheck s", "plain s", "ratio", "processor", "processor", "ratio", "MiB", "MiB", "ratio"]
-    print(f"{what:22}" + "".join(f" {name:>9}" for name in names))
+    print(f"{what:28}" + "".join(f" {name:>9}" for name in names))
 
 
 def print_row(what, measures):
     cells = []
     for ours, theirs in zip(*measures):
         cells += [f"{ours:.3f}", f"{theirs:.3f}", f"{ours / theirs:.2f}"]
-    print(f"{what:22}" + "".join(f" {cell:>9}" for cell in cells))
+    print(f"{what:28}" + "".join(f" {cell:>9}" for cell in cells))

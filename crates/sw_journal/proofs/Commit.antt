@@ -1,11 +1,11 @@
 -- What a commit keeps.
-use Rattle.std.proofs.Common.{All, Bool, Err, IsTrue, List, None, Ok, Option, Some, [], ap, arith, get_or, length, map, refl, subst, suc, sym, take, zero, ℕ, ◌++◌, ◌+◌, ◌<◌, ◌∙◌, ◌∷◌, ◌≡◌, ◌≤◌}
+use Rattle.std.proofs.Common.{All, Bool, Err, IsTrue, List, Ok, Option, Some, [], ap, arith, get_or, length, map, refl, subst, sym, ℕ, ◌++◌, ◌<◌, ◌∙◌, ◌∷◌, ◌≡◌}
 use Rattle.std.proofs.lemmas.Option.{get_or_from_slice_get, slice_get-get_or, slice_get-map}
 use Rattle.std.proofs.lemmas.List.{length-append, length-map, take-append-le}
 use Rattle.std.specs.Prelude.{false, option_map, slice_get, slice_set, true, ◌↔◌}
 use Rattle.atomic_table.specs.Seated.{TableId}
 use Rattle.atomic_table.specs.Table.{Me}
-use Rattle.sw_cell.specs.Places.{IsAt, IsDoneAt, IsIn, IsUndeclared, machine_cell}
+use Rattle.sw_cell.specs.Places.{IsAt, IsDoneAt, IsUndeclared, machine_cell}
 use Rattle.sw_cell.specs.declared.fault.NetFault.{NetFault}
 use Rattle.sw_cell.specs.declared.fault.NetFault.TheVariants.{Memory, NotEnabled, NotInFlow}
 use Rattle.sw_cell.specs.declared.cell.CellId.{CellId}
@@ -14,9 +14,9 @@ use Rattle.sw_history.specs.History.{HistoryView}
 use Rattle.sw_history.specs.Next.{IsIdle, MayFollow}
 use Rattle.sw_journal.specs.Adding.{AddsAt, IsAtCell, IsWithSteps}
 use Rattle.sw_journal.proofs.Told.{at_its_cell, known_after, known_at, placed}
-use Rattle.sw_journal.specs.Cells.{all_known, cells_of, ends_at, known_of, numbered}
+use Rattle.sw_journal.specs.Cells.{all_known, cells_of, ends_at, numbered}
 use Rattle.sw_journal.specs.Marks.{IsTrueMark}
-use Rattle.sw_journal.specs.Record.{Account, CellView, Commits, IsAccount, IsKept, IsNowCell, IsSameCell, LeadsTo, with_step}
+use Rattle.sw_journal.specs.Record.{Account, CellView, Commits, IsAccount, IsKept, IsNowCell, LeadsTo, with_step}
 use Rattle.sw_journal.specs.Renewal.{AreRenewedAfter, renewed}
 use Rattle.sw_journal.specs.declared.fault.JournalFault.{JournalFault}
 use Rattle.sw_journal.specs.declared.fault.JournalFault.TheVariants as journal
@@ -25,14 +25,13 @@ use Rattle.sw_limit.specs.History.{IsHistory, packets_of}
 use Rattle.sw_machine.specs.Begun.{Begun}
 use Rattle.sw_machine.specs.Network.{IsNetwork, Network}
 use Rattle.sw_machine.specs.Parts.{cell_of}
-use Rattle.sw_machine.specs.Runs.{IsReached}
 use Rattle.sw_machine.specs.State.{State, empty}
 use Rattle.sw_machine.specs.Steps.{Accept, Arrive, Begin, Drop, Emit, Fct, FctIn, Forward, Grant, IsPossible, Leads, Reply, Spill, Step}
 use Rattle.sw_model.specs.Model.{network_of}
 use Rattle.sw_network.specs.Entries.{Declaration}
 use Rattle.sw_net.specs.Numbers.{numbers_at}
 use Rattle.sw_net.specs.declared.numbers.Numbers.{Numbers}
-use Rattle.sw_seats.specs.Views.{held_of, holder, kept_of, knower, shown, with_known}
+use Rattle.sw_seats.specs.Views.{holder, kept_of, knower, shown, with_known}
 use Rattle.sw_seats.specs.declared.rule.Change.{Change}
 use Rattle.sw_seats.specs.declared.rule.Known.{Known}
 use Rattle.sw_seats.specs.declared.rule.View.{View}

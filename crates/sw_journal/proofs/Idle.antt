@@ -1,5 +1,5 @@
 -- What a journal is asked.
-use Rattle.std.proofs.Common.{Bool, IsTrue, List, None, Option, Some, [], ap, arith, false, length, not, refl, subst, suc, sym, take, take_all, true, zero, ℕ, ◌++◌, ◌+◌, ◌*◌, ◌<◌, ◌≤◌, ◌∙◌, ◌∷◌, ◌≡◌}
+use Rattle.std.proofs.Common.{List, Some, [], ap, arith, false, length, not, refl, subst, suc, sym, take_all, true, zero, ℕ, ◌<◌, ◌≤◌, ◌∙◌, ◌∷◌, ◌≡◌}
 use Rattle.atomic_table.specs.Table.{Me}
 use Rattle.std.proofs.lemmas.Bool.{eq-eqb, false≢true, ne_eqb}
 use Rattle.std.proofs.lemmas.List.{length-set}
@@ -9,14 +9,12 @@ use Rattle.sw_history.specs.Next.{IsIdle, MayFollow}
 use Rattle.sw_journal.proofs.Commit.{possible_of}
 use Rattle.sw_journal.specs.Asked.{IsStill, IsStuck, IsUndelivered}
 use Rattle.sw_journal.specs.Marks.{IsTrueMark}
-use Rattle.sw_journal.specs.Record.{Account, IsAccount, IsKept, LeadsTo, with_marks}
+use Rattle.sw_journal.specs.Record.{Account, IsAccount, IsKept, with_marks}
 use Rattle.sw_limit.specs.History.{BeginsNext, packets_of}
 use Rattle.sw_machine.proofs.Parts.{link_ends}
 use Rattle.sw_machine.specs.Begun.{Begun}
 use Rattle.sw_machine.specs.Network.{IsNetwork, Network}
-use Rattle.sw_machine.specs.Runs.{IsLockedUp, undelivered}
-use Rattle.sw_machine.specs.State.{State}
-use Rattle.sw_machine.specs.Steps.{Accept, Arrive, Begin, Drop, Emit, Fct, FctIn, Forward, Grant, IsPossible, Reply, Spill, Step, is_begin}
+use Rattle.sw_machine.specs.Steps.{Accept, Arrive, Begin, Drop, Emit, Fct, FctIn, Forward, Grant, Reply, Spill, Step, is_begin}
 use Rattle.sw_model.specs.Model.{network_of}
 use Rattle.sw_seats.specs.declared.rule.Change.{Change}
 use Rattle.sw_seats.specs.declared.rule.View.{View}

@@ -1,5 +1,5 @@
 -- A new journal.
-use Rattle.std.proofs.Common.{Bool, IsTrue, cond, List, None, Option, Some, [], ap, arith, false, filter, length, map, refl, replicate, subst, sym, true, zero, suc, ℕ, ◌*◌, ◌++◌, ◌+◌, ◌<◌, ◌∙◌, ◌∷◌, ◌≡◌, ◌↔◌}
+use Rattle.std.proofs.Common.{Bool, IsTrue, cond, List, None, Option, Some, [], ap, arith, false, filter, length, map, refl, replicate, subst, sym, true, zero, suc, ℕ, ◌*◌, ◌++◌, ◌+◌, ◌∙◌, ◌∷◌, ◌≡◌, ◌↔◌}
 use Rattle.atomic_table.specs.Seated.{TableId}
 use Rattle.atomic_table.specs.Table.{Me}
 use Rattle.std.proofs.lemmas.Bool.{eq-eqb}
@@ -12,14 +12,13 @@ use Rattle.sw_cell.specs.declared.cell.CellId.{CellId}
 use Rattle.sw_history.specs.History.{HistoryView}
 use Rattle.sw_journal.proofs.Commit.{account}
 use Rattle.sw_journal.proofs.Told.{is_same_cell}
-use Rattle.sw_journal.specs.Cells.{all_known, known_of, same_cell}
+use Rattle.sw_journal.specs.Cells.{all_known, same_cell}
 use Rattle.sw_journal.specs.Opening.{numbered_of}
 use Rattle.sw_journal.specs.Record.{Account, IsKept}
 use Rattle.sw_limit.specs.History.{packets_at, packets_of}
 use Rattle.sw_load.specs.Load.{LoadEntry}
 use Rattle.sw_machine.specs.Network.{AtNode, AtSwitch, Cell, Network}
 use Rattle.sw_machine.specs.State.{State, empty}
-use Rattle.sw_machine.specs.Steps.{Step}
 use Rattle.sw_model.proofs.Networks.{are_networks}
 use Rattle.sw_model.specs.Model.{cell_of, network_of}
 use Rattle.sw_net.proofs.Delivered.{channel_count}
@@ -29,7 +28,6 @@ use Rattle.sw_network.specs.Entries.{Declaration, wiring_of}
 use Rattle.sw_network.specs.Valid.{IsValid}
 use Rattle.sw_seats.specs.Views.{knower}
 use Rattle.sw_seats.specs.declared.rule.Change.{Change}
-use Rattle.sw_seats.specs.declared.rule.Known.{Known}
 use Rattle.sw_seats.specs.declared.rule.View.{View}
 use Rattle.sw_topo.specs.Wiring.{Wiring}
 use Rattle.sw_topo.specs.declared.place.PlaceEnd.{PlaceEnd}

@@ -1,5 +1,5 @@
 -- Link ends whose numbers are renewed one after another.
-use Rattle.std.proofs.Common.{All, List, None, Option, Some, [], ap, arith, get_or, length, map, refl, set, subst, suc, sym, take, zero, ℕ, ◌+◌, ◌<◌, ◌∙◌, ◌∷◌, ◌≡◌}
+use Rattle.std.proofs.Common.{All, List, Some, [], ap, arith, get_or, length, map, refl, subst, suc, sym, zero, ℕ, ◌+◌, ◌<◌, ◌∙◌, ◌∷◌, ◌≡◌}
 use Rattle.std.proofs.lemmas.List.{get_or-map, length-map}
 use Rattle.std.specs.Prelude.{slice_get, slice_set}
 use Rattle.atomic_table.specs.Table.{Me}

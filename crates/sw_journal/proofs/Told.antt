@@ -1,14 +1,14 @@
 -- What cells know before and after a step.
-use Rattle.std.proofs.Common.{◌≡◌, ◌≢◌, ◌⊎◌, ◌↔◌, ℕ, zero, suc, ◌+◌, ◌-◌, ◌<◌, Some, None, List, [], ◌∷◌, ◌++◌, length, map, filter, Bool, true, false, refl, sym, ap, ◌∙◌, subst, ⊎_elim, inl, inr, arith, cond}
+use Rattle.std.proofs.Common.{◌≡◌, ◌≢◌, ◌⊎◌, ℕ, zero, suc, ◌+◌, ◌-◌, ◌<◌, Some, None, List, [], ◌∷◌, ◌++◌, length, map, filter, Bool, true, false, refl, sym, ap, ◌∙◌, subst, ⊎_elim, inl, inr, arith, cond}
 use Rattle.std.specs.List.{range_with_len}
-use Rattle.std.specs.Prelude.{Option, nat_eq, option_map, slice_get, slice_set}
+use Rattle.std.specs.Prelude.{Option, option_map, slice_get, slice_set}
 use Rattle.std.proofs.lemmas.Bool.{eqb-true}
 use Rattle.std.proofs.lemmas.List.FromFn.{length-map-range_with_len}
 use Rattle.std.proofs.lemmas.Option.{same_Some, slice_get-map}
 use Rattle.sw_cell.specs.Places.{IsIn, machine_cell}
 use Rattle.sw_cell.specs.declared.cell.CellId.{CellId}
 use Rattle.sw_cell.specs.declared.cell.CellId.TheVariants.{Node, Switch}
-use Rattle.sw_journal.specs.Cells.{all_known, cells_of, ends_at, known_of, numbered, same_cell}
+use Rattle.sw_journal.specs.Cells.{all_known, cells_of, ends_at, known_of, same_cell}
 use Rattle.sw_machine.proofs.Parts.{changes}
 use Rattle.sw_machine.proofs.Wormhole.{held_once}
 use Rattle.sw_machine.specs.Network.{AtNode, AtSwitch, Cell, IsNetwork, Network, reverse_of}
@@ -18,7 +18,6 @@ use Rattle.sw_machine.specs.State.{State}
 use Rattle.sw_machine.specs.Steps.{Leads, Step}
 use Rattle.sw_model.specs.Model.{network_of}
 use Rattle.sw_net.specs.Numbers.{numbers_at}
-use Rattle.sw_net.specs.declared.numbers.Numbers.{Numbers}
 use Rattle.sw_network.specs.Entries.{Declaration}
 use Rattle.sw_seats.specs.declared.rule.Known.{Known}
 

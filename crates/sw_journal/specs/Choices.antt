@@ -1,5 +1,5 @@
 -- Which step of a link end a journal chooses.
-use Rattle.std.specs.Prelude.{Err, None, Ok, Option, Result, Some, true, ℕ, ◌*◌, ◌≡◌}
+use Rattle.std.specs.Prelude.{Err, None, Ok, Option, Result, Some, true, ℕ, ◌≡◌}
 use Rattle.std.specs.declared.alloc.AllocError.{AllocError}
 use Rattle.sw_history.specs.Next.{IsIdle, MayFollow}
 use Rattle.sw_journal.specs.Record.{Account, Declares}

@@ -1,10 +1,9 @@
-use Rattle.std.proofs.Common.{ap, false, refl, rules, sym, ◌∙◌, ◌≡◌}
+use Rattle.std.proofs.Common.{false, refl}
 use Rattle.sw_journal.proofs.Commit.{possible_of}
 use Rattle.sw_journal.proofs.journal.add_at.Goals as goal
 use Rattle.sw_journal.specs.Adding.{IsAtCell}
 use Rattle.sw_limit.specs.History.{packets_of}
 use Rattle.sw_model.specs.Model.{network_of}
-use Rattle.sw_network.specs.Entries.{Declaration}
 use Rattle.sw_steps.specs.Steps.{machine_step}
 
 pub returns-then-not-is_at : goal.returns-then-not-is_at

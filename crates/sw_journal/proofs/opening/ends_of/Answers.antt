@@ -1,4 +1,4 @@
-use Rattle.std.proofs.Common.{ap, arith, length, rules, sym, ◌∙◌, ◌≡◌}
+use Rattle.std.proofs.Common.{ap, arith, length, ◌∙◌, ◌≡◌}
 use Rattle.std.specs.List.{range_with_len}
 use Rattle.sw_journal.proofs.Opened.{numbered_more}
 use Rattle.sw_journal.proofs.opening.ends_of.Goals as goal

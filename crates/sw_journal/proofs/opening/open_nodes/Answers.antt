@@ -1,4 +1,4 @@
-use Rattle.std.proofs.Common.{[], subst, sym, ◌++◌, ◌∙◌, ◌∷◌, ◌≡◌}
+use Rattle.std.proofs.Common.{subst, sym, ◌∙◌}
 use Rattle.sw_cell.specs.declared.cell.CellId.{CellId}
 use Rattle.sw_cell.specs.declared.cell.CellId.TheVariants.{Node}
 use Rattle.std.specs.Prelude.{List}

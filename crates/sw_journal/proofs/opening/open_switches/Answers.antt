@@ -1,4 +1,4 @@
-use Rattle.std.proofs.Common.{[], ap, append_assoc, length, map, subst, sym, ◌++◌, ◌∙◌, ◌∷◌, ◌≡◌}
+use Rattle.std.proofs.Common.{[], ap, append_assoc, length, map, subst, sym, ◌++◌, ◌∙◌, ◌∷◌}
 use Rattle.sw_cell.specs.declared.cell.CellId.{CellId}
 use Rattle.sw_cell.specs.declared.cell.CellId.TheVariants.{Switch}
 use Rattle.std.specs.List.{range_with_len}

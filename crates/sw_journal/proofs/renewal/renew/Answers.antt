@@ -1,11 +1,7 @@
-use Rattle.std.proofs.Common.{ap, arith, length, refl, rules, sym, ℕ, ◌∙◌, ◌≡◌}
-use Rattle.atomic_table.specs.Table.{Me}
+use Rattle.std.proofs.Common.{length, refl, rules, ◌∙◌, ◌≡◌}
 use Rattle.sw_journal.proofs.Renewed.{all_renewed, more_renewed, seat_first, seat_more, seat_same, within_names}
 use Rattle.sw_journal.proofs.renewal.renew.Goals as goal
 use Rattle.sw_model.specs.Model.{network_of}
-use Rattle.sw_net.specs.declared.numbers.Numbers.{Numbers}
-use Rattle.sw_seats.specs.declared.rule.Change.{Change}
-use Rattle.sw_seats.specs.declared.rule.View.{View}
 
 pub loop-place-init : goal.loop-place-init
 loop-place-init c = record {

@@ -1,4 +1,4 @@
-use Rattle.std.proofs.Common.{Some, ap, get_or, length, refl, rules, sym, ℕ, ◌≡◌}
+use Rattle.std.proofs.Common.{Some, ap, length, refl, rules, sym, ℕ, ◌≡◌}
 use Rattle.std.proofs.Math.Seq.{map-set_same}
 use Rattle.std.proofs.lemmas.Option.{get_or_from_slice_get, slice_get_read}
 use Rattle.std.specs.Prelude.{slice_get}

@@ -1,4 +1,4 @@
-use Rattle.std.proofs.Common.{IsTrue, false, subst, sym, true, ◌≡◌}
+use Rattle.std.proofs.Common.{subst, sym, true, ◌≡◌}
 use Rattle.sw_journal.proofs.journal.Journal.is_drained.Goals as goal
 use Rattle.sw_journal.specs.Record.{Account}
 use Rattle.sw_limit.specs.History.{IsWhole, packets_of}

@@ -1,4 +1,4 @@
-use Rattle.std.proofs.Common.{IsTrue, ap, arith, length, refl, subst, ◌*◌, ◌≡◌, ◌≤◌, ◌↔◌}
+use Rattle.std.proofs.Common.{IsTrue, ap, arith, length, refl, subst, ◌*◌, ◌≤◌, ◌↔◌}
 use Rattle.sw_history.specs.Next.{IsIdle}
 use Rattle.sw_journal.proofs.Idle.{beyond_idle}
 use Rattle.sw_journal.proofs.journal.Journal.is_idle.Goals as goal

@@ -1,4 +1,4 @@
-use Rattle.std.proofs.Common.{IsTrue, ap, arith, false, length, refl, rules, subst, true, ◌*◌, ◌≡◌, ◌≤◌}
+use Rattle.std.proofs.Common.{ap, arith, false, length, refl, rules, subst, true, ◌*◌, ◌≡◌, ◌≤◌}
 use Rattle.sw_journal.proofs.Idle.{all_still}
 use Rattle.sw_journal.proofs.journal.Journal.is_still.Goals as goal
 use Rattle.sw_journal.specs.Record.{Account}

@@ -1,5 +1,3 @@
-use Rattle.std.proofs.Common.{IsTrue, false, not, true, ◌≡◌}
-use Rattle.std.specs.Prelude.{nat_eq}
 use Rattle.sw_journal.proofs.Idle.{none_left, stuck_by, stuck_left}
 use Rattle.sw_journal.proofs.journal.Journal.is_stuck.Goals as goal
 

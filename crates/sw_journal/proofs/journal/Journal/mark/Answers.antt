@@ -1,4 +1,4 @@
-use Rattle.std.proofs.Common.{ap, arith, length, ◌≡◌}
+use Rattle.std.proofs.Common.{ap, arith, length}
 use Rattle.sw_journal.proofs.journal.Journal.mark.Goals as goal
 use Rattle.sw_journal.specs.Record.{Account}
 
