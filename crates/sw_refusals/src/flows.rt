@@ -16,13 +16,18 @@ flow = [{ name = \"w\", from = \"I\", to = \"T\", address = [2], reply = { path 
         { name = \"x\", from = \"I\", to = \"T\", address = [40], left = 1 }]
 ";
 
-/// The network of a file.
-pub fn network(alloc: Global) -> Result<Network> {
-    match read_network(alloc, FILE) {
+/// The network of a text.
+pub fn read(alloc: Global, text: &[u8]) -> Result<Network> {
+    match read_network(alloc, text) {
         Ok(network) => Ok(network),
-        Err(FileFault::Memory) => Ok(read_network(alloc, FILE)?),
+        Err(FileFault::Memory) => Ok(read_network(alloc, text)?),
         Err(FileFault::Text(_)) => bail!("a fault"),
     }
+}
+
+/// The network of a file.
+pub fn network(alloc: Global) -> Result<Network> {
+    read(alloc, FILE)
 }
 
 fn places_of(alloc: Global, network: &Network, flow: u16) -> Result<Vec<Place>, AllocError> {

@@ -6,6 +6,7 @@
 mod flows;
 mod packets;
 mod runs;
+mod steps;
 mod tables;
 mod texts;
 
@@ -22,6 +23,7 @@ fn small<R: Print + AllocGlobal>(rt: &R) -> Result<()> {
     println!(rt; "packets end at {}", packets::cut(alloc)?)?;
     println!(rt; "reply of {}", packets::answered(alloc)?)?;
     println!(rt; "certificate of {}", flows::certificate(alloc)?)?;
+    println!(rt; "undelivered {}", steps::answered(alloc)?)?;
     Ok(())
 }
 

@@ -23,7 +23,8 @@ const CARGO: &[u8] = &[0x01, 0xAA, 0xBB];
 /// More steps than the load needs.
 const LIMIT: usize = 1_000;
 
-fn empty_net<'n>(
+/// The network in its empty state.
+pub fn empty_net<'n>(
     alloc: Global,
     network: &'n Network,
 ) -> Result<Net<'n, SwitchRoutes<'n>, Policy>, AllocError>

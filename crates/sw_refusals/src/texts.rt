@@ -31,13 +31,14 @@ fn read_packets(alloc: Global, network: &Network) -> Result<Load>
     }
 }
 
-fn read_schedule(alloc: Global, network: &Network) -> Result<Schedule> {
-    match read_steps(alloc, network, SCHEDULE) {
+/// The schedule of a text.
+pub fn read_schedule(alloc: Global, network: &Network, text: &[u8]) -> Result<Schedule> {
+    match read_steps(alloc, network, text) {
         Ok(schedule) => return Ok(schedule),
         Err(ScheduleFault::Memory) => {}
         Err(ScheduleFault::BadLine(line)) => bail!("line {line}"),
     }
-    match read_steps(alloc, network, SCHEDULE) {
+    match read_steps(alloc, network, text) {
         Ok(schedule) => Ok(schedule),
         Err(_) => bail!("refused again"),
     }
@@ -54,7 +55,7 @@ pub fn load(alloc: Global, network: &Network) -> Result<Load>
 
 /// A schedule of five steps.
 pub fn schedule(alloc: Global, network: &Network) -> Result<u64> {
-    let schedule = read_schedule(alloc, network)?;
+    let schedule = read_schedule(alloc, network, SCHEDULE)?;
     ensure!(schedule.entries().len() == 4, "other steps");
     Ok(u64::from(schedule.total()))
 }
