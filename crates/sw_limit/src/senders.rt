@@ -60,6 +60,11 @@ impl<'n> Senders<'n> {
     ghost use Rattle.sw_limit.specs.Limit.{AreDeclared};
     ghost use Rattle.sw_model.specs.Model.{network_of};
 
+    /// What the nodes of the network send of the load, whose packets its flows have to declare.
+    ///
+    /// # Errors
+    ///
+    /// There is no memory for the places of the packets.
     pub fn new(
         alloc: Global,
         network: &'n Network,
