@@ -1,13 +1,13 @@
 -- What clap's matches say of the words.
-use Rattle.std.proofs.Common.{◌≡◌, ◌||◌, Bool, List, ℕ, [], Option, refl, sym, ap, ap₂, ◌∙◌, subst, true, false, inl, inr}
+use Rattle.std.proofs.Common.{◌≡◌, List, ℕ, [], Option, refl, sym, ap, ◌∙◌, subst, true, false, inl, inr}
 use Rattle.std.specs.Prelude.{IfOk, IfSome, Ok, Result, ok_or, option_map, Some, None}
 use Rattle.std.specs.Str.Parse.{ParsesUnsigned, digits_value, without_leading_plus}
 use Rattle.clap.proofs.WalkLemmas.{one_text-rows}
-use Rattle.clap.specs.Built.{AddsArg, AddsSubcommand}
-use Rattle.clap.specs.declared.builder.arg.Arg.{Arg}
+use Rattle.clap.specs.Built.{AddsSubcommand}
+use Rattle.std.specs.declared.alloc.AllocError.{AllocError}
 use Rattle.clap.specs.declared.parser.matches.Found.{Found}
 use Rattle.clap.specs.Simple.{with_subcommand}
-use Rattle.clap.specs.Words.{App, ReadsOne, Rule, app_of, HasKind, HasMatchesOf, fault_of, is_simple, is_simple_and_free, kind_of, one_text, rows_of, rule_of, subcommand_of, subcommand_rows_of, with_rule}
+use Rattle.clap.specs.Words.{App, ReadsOne, app_of, HasKind, HasMatchesOf, fault_of, is_simple, is_simple_and_free, kind_of, one_text, rows_of, subcommand_of, subcommand_rows_of}
 use Rattle.clap.specs.declared.builder.Command.{Command}
 use Rattle.clap.specs.declared.builder.Command.TheViews.{out-Command}
 use Rattle.clap.specs.declared.parser.matches.ArgMatches.{ArgMatches}
@@ -15,7 +15,7 @@ use Rattle.clap.specs.declared.error.Error.{Error}
 use Rattle.sw_words.specs.declared.command_line.Call.{Call}
 use Rattle.sw_words.specs.declared.command_line.WordsFault.{WordsFault}
 use Rattle.sw_words.specs.declared.command_line.WordsFault.TheVariants.{Help, Refused, Memory}
-use Rattle.sw_words.specs.CommandLine.{swcheck_app, Gives, IsMatched, Refuses, SaysNumber, ShowsKind}
+use Rattle.sw_words.specs.CommandLine.{swcheck_app, Gives, IsMatched, Refuses, SaysNumber, ShowsKind, WithMade}
 
 swcheck_simple : is_simple swcheck_app ≡ true
 swcheck_simple = refl
@@ -63,13 +63,11 @@ pub with_added : (old sub new : Command) (a b : App) → app_of old ≡ a → (a
     → app_of new ≡ with_subcommand a b.top
 with_added old sub new a b first second adds = adds.shape second.1 ∙ (λ i. with_subcommand (first i) (second.0 i).top)
 
--- a command with one more argument
-pub with_argument : (old new : Command) (a : Arg) (app : App) (r : Rule) → (app_of old ≡ app) × ((out-Command old).has_globals ≡ false)
-    → rule_of a ≡ r → a.global ≡ false → AddsArg old a new → (app_of new ≡ with_rule app r) × ((out-Command new).has_globals ≡ false)
-with_argument old new a app r before rule plain adds = (
-  adds.shape plain ∙ ap₂ with_rule before.0 rule,
-  adds.globals ∙ (ap (λ (b : Bool). b || a.global) before.1 ∙ ap (λ (b : Bool). false || b) plain),
-)
+-- the same where the subcommand was made just before
+pub with_made : (old new : Command) (made : Result Command AllocError) (a b : App) → app_of old ≡ a
+    → IfOk made (λ c. (app_of c ≡ b) × ((out-Command c).has_globals ≡ false)) → WithMade old made new → app_of new ≡ with_subcommand a b.top
+with_made old new made a b first each (sub, is, adds) =
+    with_added old sub new a b first (subst (λ (m : Result Command AllocError). IfOk m (λ c. (app_of c ≡ b) × ((out-Command c).has_globals ≡ false))) is each) adds
 
 -- a number that was read is the one that the text says
 pub says_number : (E : Type 0) (G : List ℕ → Result ℕ E → Type 0) (width : ℕ) (m : Found) (name : List ℕ) (o : Option ℕ)

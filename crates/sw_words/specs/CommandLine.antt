@@ -1,5 +1,9 @@
 -- The words that the program takes.
 use Rattle.std.specs.Prelude.{◌≡◌, ◌≢◌, ◌≤◌, ◌<◌, ◌⊎◌, ℕ, List, [], ◌∷◌, Option, Some, codes, option_map, pos, true}
+use Rattle.std.specs.Prelude.{Result, Ok}
+use Rattle.std.specs.declared.alloc.AllocError.{AllocError}
+use Rattle.clap.specs.Built.{AddsSubcommand}
+use Rattle.clap.specs.declared.builder.command.Command.{Command}
 use Rattle.std.specs.Str.Parse.{digits_value, without_leading_plus}
 use Rattle.clap.specs.Words.{App, Row, Rule, IsAmong, fault_of, first_of, new_app, new_rule, one_of, subcommand_of, with_rule, with_subcommand}
 use Rattle.clap.specs.declared.builder.value_parser.ValueParser.TheVariants.{Signed}
@@ -69,6 +73,10 @@ swcheck_app =
     report_app.top)
     replay_app.top)
     run_app.top
+
+-- the command has a subcommand that was made
+abbrev pub WithMade : Command → Result Command AllocError → Command → Type 0
+WithMade command made new = (subcommand : Command) × (made ≡ Ok subcommand) × AddsSubcommand command subcommand new
 
 -- the option's value says this number, in decimal digits
 abbrev pub SaysNumber : List ℕ → List Row → ℕ → Type 0

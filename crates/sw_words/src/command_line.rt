@@ -3,7 +3,7 @@ ghost use Rattle.std.specs.Prelude.{◌≡◌, ℕ, map, option_map, true, false
 ghost use Rattle.clap.specs.Words.{app_of, first_of, found_of, kind_of, rows_of, rule_of, subcommand_rows_of};
 ghost use Rattle.clap.specs.declared.builder.Command.TheViews.{out-Command};
 ghost use Rattle.sw_words.specs.declared.command_line.WordsFault.TheVariants.{Memory};
-ghost use Rattle.sw_words.specs.CommandLine.{check_app, count_rule, decide_app, replay_app, report_app, required_value, route_app, run_app, swcheck_app, top_app, Gives, IsCallOf, IsCount, IsMatched, Refuses, SaysNumber, ShowsKind};
+ghost use Rattle.sw_words.specs.CommandLine.{check_app, count_rule, decide_app, replay_app, report_app, required_value, route_app, run_app, swcheck_app, top_app, Gives, IsCallOf, IsCount, IsMatched, Refuses, SaysNumber, ShowsKind, WithMade};
 
 use clap::error::ErrorKind;
 use clap::{Arg, ArgMatches, Command};
@@ -172,26 +172,16 @@ fn count_arg<'a>(
 fn run_command<'a>(alloc: Global) -> Result<Command<'a>, AllocError>
     ensures { IfOk result (λ c. (app_of c ≡ run_app) × ((out-Command c).has_globals ≡ false)) }
 {
-    let file = value_arg(alloc, "FILE", "A network file");
-    let load = value_arg(alloc, "LOAD", "A load file");
-    let workers = count_arg(
-        alloc,
-        "workers",
-        "4",
-        MOST_WORKERS,
-        "How many threads work, 1 to 64",
-    );
-    let limit = count_arg(
-        alloc,
-        "limit",
-        "1000000",
-        MOST_STEPS,
-        "How many steps may be made, 1 to 16777216",
-    );
     let run = Command::new(alloc, "run").about(
         "Send the packets of a load through a network, and print what comes of them",
     );
-    run.arg(file)?.arg(load)?.arg(workers)?.arg(limit)
+    let run = run.arg(value_arg(alloc, "FILE", "A network file"))?;
+    let run = run.arg(value_arg(alloc, "LOAD", "A load file"))?;
+    let run = run.arg(
+        count_arg(alloc, "workers", "4", MOST_WORKERS, "How many threads work, 1 to 64"),
+    )?;
+    let help = "How many steps may be made, 1 to 16777216";
+    run.arg(count_arg(alloc, "limit", "1000000", MOST_STEPS, help))
 }
 
 fn top_command<'a>(alloc: Global) -> Command<'a>
@@ -202,16 +192,25 @@ fn top_command<'a>(alloc: Global) -> Command<'a>
         .subcommand_required(true)
 }
 
+// A command with a subcommand that was made, if there was memory for both.
+fn with_made<'a>(
+    command: Command<'a>,
+    subcommand: Result<Command<'a>, AllocError>,
+) -> Result<Command<'a>, AllocError>
+    ensures { IfOk result (WithMade command.entry subcommand.entry) }
+{
+    command.subcommand(subcommand?)
+}
+
 fn swcheck_command<'a>(alloc: Global) -> Result<Command<'a>, AllocError>
     ensures { IfOk result (λ c. app_of c ≡ swcheck_app) }
 {
-    top_command(alloc)
-        .subcommand(route_command(alloc)?)?
-        .subcommand(decide_command(alloc)?)?
-        .subcommand(check_command(alloc)?)?
-        .subcommand(report_command(alloc)?)?
-        .subcommand(replay_command(alloc)?)?
-        .subcommand(run_command(alloc)?)
+    let command = with_made(top_command(alloc), route_command(alloc))?;
+    let command = with_made(command, decide_command(alloc))?;
+    let command = with_made(command, check_command(alloc))?;
+    let command = with_made(command, report_command(alloc))?;
+    let command = with_made(command, replay_command(alloc))?;
+    with_made(command, run_command(alloc))
 }
 
 fn fault_of(alloc: Global, error: &clap::Error) -> WordsFault
