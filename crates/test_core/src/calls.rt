@@ -1,7 +1,7 @@
 //! Single calls of the core, over one link between A and B.
 
 use crate::files::network_of;
-use crate::show::show_parts;
+use crate::show::{show_first, show_parts};
 use crate::stepping::Core;
 use std::alloc::{AllocError, Global};
 use std::io;
@@ -60,13 +60,6 @@ fn show_carry<R: Print + AllocGlobal>(rt: &R, net: &mut Core<'_>) -> io::Result<
         show_step(rt, net, "accept B", &Step::Accept(1))?;
     }
     Ok(())
-}
-
-fn show_first(rt: &impl Print, net: &Core<'_>) -> io::Result<()> {
-    match net.first_enabled() {
-        Some(end) => println!(rt; "first enabled {}", end.number()),
-        None => println!(rt; "first enabled none"),
-    }
 }
 
 fn show_packet<R: Print + AllocGlobal>(rt: &R, network: &Network) -> io::Result<()> {

@@ -58,3 +58,11 @@ pub(crate) fn show_parts<R: Print + AllocGlobal>(rt: &R, net: &Core<'_>) -> io::
     }
     Ok(())
 }
+
+/// Prints the first link end that can make a step, if any can.
+pub(crate) fn show_first(rt: &impl Print, net: &Core<'_>) -> io::Result<()> {
+    match net.first_enabled() {
+        Some(end) => println!(rt; "first enabled {}", end.number()),
+        None => println!(rt; "first enabled none"),
+    }
+}

@@ -11,7 +11,7 @@ use sw_steps::Step;
 pub(crate) type Core<'n> = Net<'n, SwitchRoutes<'n>, Policy>;
 
 /// More steps than any run here takes.
-const MANY: u32 = 100_000;
+pub(crate) const MANY: u32 = 100_000;
 
 /// Makes the step if it is possible, and tells so.
 pub(crate) fn attempt(alloc: Global, net: &mut Core<'_>, step: &Step) -> Result<bool, AllocError> {

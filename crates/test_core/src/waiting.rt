@@ -1,7 +1,8 @@
 //! Loads whose packets each begin as soon as they can.
 
 use crate::files::{network_of, no_text};
-use crate::stepping::{Core, attempt_begin, step_first};
+use crate::show::show_first;
+use crate::stepping::{Core, MANY, attempt_begin, step_first};
 use std::alloc::{AllocError, Global};
 use std::rt::Files;
 use std::{fs, io};
@@ -23,9 +24,6 @@ static LOADS: [(&str, &str); 11] = [
     ("rmap2.toml", "rmap.load"),
     ("mixed.toml", "mixed.load"),
 ];
-
-/// More steps than any load here takes.
-const MANY: u32 = 100_000;
 
 // How many packets each entry of the load has.
 fn counts(alloc: Global, load: &Load) -> Result<Vec<u16>, AllocError> {
@@ -93,13 +91,6 @@ fn count_packets(alloc: Global, net: &Core<'_>) -> Result<usize, AllocError> {
         packets = packets.saturating_add(net.came_out(alloc, node)?.len());
     }
     Ok(packets)
-}
-
-fn show_first(rt: &impl Print, net: &Core<'_>) -> io::Result<()> {
-    match net.first_enabled() {
-        Some(end) => println!(rt; "first enabled {}", end.number()),
-        None => println!(rt; "first enabled none"),
-    }
 }
 
 fn show_steps<R: Print + AllocGlobal>(rt: &R, net: &mut Core<'_>, load: &Load) -> io::Result<()> {
