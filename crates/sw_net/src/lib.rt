@@ -20,6 +20,3 @@ pub use numbers::Numbers;
 pub use part::{NodePart, Part, PortPart};
 pub use sw_node::PendingReply;
 pub use sw_switch::Input;
-
-#[cfg(test)]
-mod tests;

@@ -1,6 +1,0 @@
-use Rattle.std.proofs.Common.{◌≡◌, ◌++◌, map, take}
-use Rattle.sw_char.specs.declared.nchar.NChar.TheVariants.{Data}
-use Rattle.sw_plain.proofs.packet.push_bytes.Given as goal
-
-abbrev pub invariant-loop-byte : goal.invariant-loop-byte
-invariant-loop-byte l = l.chars.items ≡ l.initial.chars.items ++ map Data (take l.byte-index l.bytes)

@@ -1,0 +1,132 @@
+//! Single calls of the core, over one link between A and B.
+
+use crate::files::network_of;
+use crate::show::{show_first, show_parts};
+use crate::stepping::Core;
+use std::alloc::{AllocError, Global};
+use std::io;
+use std::rt::Files;
+use sw_cell::NetFault;
+use sw_char::End;
+use sw_net::declared_net;
+use sw_network::Network;
+use sw_steps::Step;
+use sw_topo::{Chan, LinkEnd};
+
+fn show_made(rt: &impl Print, name: &str, made: Result<(), NetFault>) -> io::Result<()> {
+    match made {
+        Ok(()) => println!(rt; "{name}: made"),
+        Err(fault) => println!(rt; "{name}: {fault}"),
+    }
+}
+
+fn begin_step(alloc: Global, cargo: &[u8]) -> Result<Step, AllocError> {
+    Ok(Step::Begin {
+        flow: 0,
+        cargo: Vec::from_slice(alloc, cargo)?,
+        end: End::Eop,
+    })
+}
+
+fn show_begin<R: Print + AllocGlobal>(
+    rt: &R,
+    net: &mut Core<'_>,
+    name: &str,
+    cargo: &[u8],
+) -> io::Result<()> {
+    let step = begin_step(rt.alloc(), cargo)?;
+    show_made(rt, name, net.step(rt.alloc(), &step))?;
+    let undelivered = net.undelivered();
+    println!(rt; "undelivered {undelivered}")
+}
+
+fn show_step<R: Print + AllocGlobal>(
+    rt: &R,
+    net: &mut Core<'_>,
+    name: &str,
+    step: &Step,
+) -> io::Result<()> {
+    show_made(rt, name, net.step(rt.alloc(), step))
+}
+
+// A packet of one byte goes from A to B.
+fn show_carry<R: Print + AllocGlobal>(rt: &R, net: &mut Core<'_>) -> io::Result<()> {
+    let channel = Chan::new(0);
+    show_step(rt, net, "fct 0", &Step::Fct(channel))?;
+    show_step(rt, net, "fctin 0", &Step::FctIn(channel))?;
+    for _ in 0..2usize {
+        show_step(rt, net, "emit A", &Step::Emit(0))?;
+        show_step(rt, net, "arrive 0", &Step::Arrive(channel))?;
+        show_step(rt, net, "accept B", &Step::Accept(1))?;
+    }
+    Ok(())
+}
+
+fn show_packet<R: Print + AllocGlobal>(rt: &R, network: &Network) -> io::Result<()> {
+    let mut net = declared_net(rt.alloc(), network)?;
+    show_begin(rt, &mut net, "begin with no cargo", &[])?;
+    show_begin(rt, &mut net, "begin AA", &[0xAA])?;
+    show_begin(rt, &mut net, "begin AA", &[0xAA])?;
+    show_carry(rt, &mut net)?;
+    show_parts(rt, &net)?;
+    show_first(rt, &net)
+}
+
+fn show_numbers(rt: &impl Print, net: &Core<'_>, end: LinkEnd) -> io::Result<()> {
+    if end.number() >= net.network().channels() {
+        return println!(rt; "no such link end");
+    }
+    let numbers = net.numbers(end);
+    let credit = numbers.credit;
+    let outstanding = numbers.outstanding;
+    let room = numbers.room;
+    println!(rt; "numbers: credit {credit}, outstanding {outstanding}, room {room}")
+}
+
+fn show_possible(rt: &impl Print, net: &Core<'_>) -> io::Result<()> {
+    let channels = net.network().channels();
+    let nodes = net.network().nodes();
+    println!(rt; "channels {channels}, nodes {nodes}")?;
+    if nodes > 0 {
+        let can_begin = net.can_begin(0);
+        println!(rt; "can begin A: {can_begin}")?;
+    }
+    let last = net.is_possible(&Step::Fct(Chan::new(1)));
+    let beyond = net.is_possible(&Step::Fct(Chan::new(2)));
+    println!(rt; "possible fct 1: {last}, fct 2: {beyond}")
+}
+
+fn show_step_of<R: Print + AllocGlobal>(
+    rt: &R,
+    net: &mut Core<'_>,
+    end: LinkEnd,
+) -> io::Result<()> {
+    if end.number() >= net.network().channels() {
+        return println!(rt; "no such link end");
+    }
+    match net.step_of(rt.alloc(), end)? {
+        Some(Step::Fct(channel)) => println!(rt; "step of the link end: fct {}", channel.number()),
+        Some(_) => println!(rt; "step of the link end: no fct"),
+        None => println!(rt; "step of the link end: none"),
+    }
+}
+
+fn show_link_end<R: Print + AllocGlobal>(rt: &R, network: &Network) -> io::Result<()> {
+    let mut net = declared_net(rt.alloc(), network)?;
+    let end = LinkEnd::new(0);
+    show_numbers(rt, &net, end)?;
+    show_possible(rt, &net)?;
+    show_step_of(rt, &mut net, end)?;
+    show_numbers(rt, &net, end)?;
+    let none_ask = net.asks(end).is_empty();
+    println!(rt; "no input asks: {none_ask}")
+}
+
+/// Prints what single calls answer: a packet goes from A to B, and a link end tells its numbers and makes a step.
+pub(crate) fn show_calls<R: Files + Print + AllocGlobal>(rt: &R) -> io::Result<()> {
+    let network = network_of(rt, "line.toml")?;
+    println!(rt; "> a packet from A to B")?;
+    show_packet(rt, &network)?;
+    println!(rt; "> link end 0")?;
+    show_link_end(rt, &network)
+}

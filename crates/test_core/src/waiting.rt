@@ -1,0 +1,131 @@
+//! Loads whose packets each begin as soon as they can.
+
+use crate::files::{network_of, no_text};
+use crate::show::show_first;
+use crate::stepping::{Core, MANY, attempt_begin, step_first};
+use std::alloc::{AllocError, Global};
+use std::rt::Files;
+use std::{fs, io};
+use sw_load::{Load, LoadPacket, read_load};
+use sw_net::declared_net;
+use sw_network::Network;
+
+/// Networks, each with a load.
+static LOADS: [(&str, &str); 11] = [
+    ("line.toml", "line.load"),
+    ("star.toml", "star.load"),
+    ("region.toml", "region.load"),
+    ("group.toml", "group.load"),
+    ("bad.toml", "faults.load"),
+    ("turn.toml", "turn.load"),
+    ("ring.toml", "turn.load"),
+    ("duel.toml", "answers.load"),
+    ("rmap.toml", "rmap.load"),
+    ("rmap2.toml", "rmap.load"),
+    ("mixed.toml", "mixed.load"),
+];
+
+// How many packets each entry of the load has.
+fn counts(alloc: Global, load: &Load) -> Result<Vec<u16>, AllocError> {
+    let mut counts = Vec::new(alloc);
+    for packet in load.packets() {
+        counts.push(packet.count())?;
+    }
+    Ok(counts)
+}
+
+// Begins a packet of the entry, if any is left and it can begin. How many packets were begun.
+fn begin_one(
+    alloc: Global,
+    net: &mut Core<'_>,
+    packet: &LoadPacket,
+    left: &mut u16,
+) -> Result<u32, AllocError> {
+    if *left == 0 {
+        return Ok(0);
+    }
+    if !attempt_begin(alloc, net, packet)? {
+        return Ok(0);
+    }
+    *left = left.saturating_sub(1);
+    Ok(1)
+}
+
+// Begins a packet of each entry where that is possible. How many packets were begun.
+fn begin_each(
+    alloc: Global,
+    net: &mut Core<'_>,
+    load: &Load,
+    left: &mut [u16],
+) -> Result<u32, AllocError> {
+    let mut begun: u32 = 0;
+    for (packet, left) in load.packets().iter().zip(left.iter_mut()) {
+        begun = begun.saturating_add(begin_one(alloc, net, packet, left)?);
+    }
+    Ok(begun)
+}
+
+// Begins packets wherever that is possible, and makes steps of the first link end that can make one, until none can. How many steps
+// were made.
+fn make_steps(
+    alloc: Global,
+    net: &mut Core<'_>,
+    load: &Load,
+    left: &mut [u16],
+) -> Result<u32, AllocError> {
+    let mut made: u32 = 0;
+    for _ in 0..MANY {
+        made = made.saturating_add(begin_each(alloc, net, load, left)?);
+        if !step_first(alloc, net)? {
+            break;
+        }
+        made = made.saturating_add(1);
+    }
+    Ok(made)
+}
+
+// How many packets came out.
+fn count_packets(alloc: Global, net: &Core<'_>) -> Result<usize, AllocError> {
+    let mut packets: usize = 0;
+    for node in 0..net.network().nodes() {
+        packets = packets.saturating_add(net.came_out(alloc, node)?.len());
+    }
+    Ok(packets)
+}
+
+fn show_steps<R: Print + AllocGlobal>(rt: &R, net: &mut Core<'_>, load: &Load) -> io::Result<()> {
+    let mut left = counts(rt.alloc(), load)?;
+    let made = make_steps(rt.alloc(), net, load, &mut left)?;
+    let packets = count_packets(rt.alloc(), net)?;
+    let undelivered = net.undelivered();
+    print!(rt; "made {made}, packets {packets}, undelivered {undelivered}, ")?;
+    show_first(rt, net)
+}
+
+fn show_load<R: Print + AllocGlobal>(rt: &R, network: &Network, text: &[u8]) -> io::Result<()> {
+    let Ok(load) = read_load(rt.alloc(), network, text) else {
+        return Err(no_text());
+    };
+    let mut net = declared_net(rt.alloc(), network)?;
+    show_steps(rt, &mut net, &load)
+}
+
+fn show_waiting<R: Files + Print + AllocGlobal>(
+    rt: &R,
+    network: &str,
+    load: &str,
+) -> io::Result<()> {
+    print!(rt; "{network} {load}: ")?;
+    let text = fs::read(rt, load)?;
+    let network = network_of(rt, network)?;
+    show_load(rt, &network, &text)
+}
+
+/// Prints for each load how many steps were made, how many packets came out, and what is left.
+pub(crate) fn show_waitings<R: Files + Print + AllocGlobal>(rt: &R) -> io::Result<()> {
+    println!(rt; "> packets that begin as soon as they can")?;
+    for (network, load) in LOADS {
+        show_waiting(rt, network, load)?;
+    }
+    Ok(())
+}
