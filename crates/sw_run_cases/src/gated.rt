@@ -7,7 +7,7 @@ use std::io;
 use std::rt::Files;
 use std::sync::Wait;
 use std::thread::Threads;
-use sw_run_gate::Together;
+use test_gate::Together;
 
 /// Runs with such a gate and as many workers as link ends.
 pub(crate) fn show_gated<R: Files + Print + AllocGlobal + Threads + Wait + Sync>(

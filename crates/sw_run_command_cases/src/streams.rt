@@ -6,9 +6,9 @@ use std::io;
 use std::sync::Wait;
 use std::thread::Threads;
 use sw_ends::Ended;
-use sw_failing::{FailingReader, SlowWriter};
 use sw_run::Open;
 use sw_run_app::{Options, run};
+use test_streams::{FailingReader, SlowWriter};
 
 const NETWORK: &[u8] = br#"version = 1
 node = [{ name = "A" }, { name = "B" }]
