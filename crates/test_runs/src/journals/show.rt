@@ -1,0 +1,118 @@
+//! What came of a run, as it is printed.
+ghost use Rattle.std.specs.Prelude.{◌≡◌, All};
+ghost use Rattle.sw_limit.specs.Limit.{AreDeclared};
+
+use crate::journals::opened::open;
+use crate::journals::tried::{try_full, try_line};
+use crate::journals::turns::play;
+use std::io;
+use sw_journal::{Cell, Journal};
+use sw_limit::laws::listed_are_declared;
+use sw_load::{Load, read_load};
+use sw_network::Network;
+
+fn show_journal<R: Print + AllocGlobal>(
+    rt: &R,
+    network: &Network,
+    journal: Journal<'_>,
+) -> io::Result<()>
+    requires { journal.declared ≡ network.now }
+{
+    println!(rt;
+        "{} steps, {} undelivered",
+        journal.len(),
+        journal.undelivered()
+    )?;
+    if journal.is_drained() {
+        println!(rt; "drained")?;
+    }
+    if journal.is_stuck() {
+        println!(rt; "stuck")?;
+    }
+    for node in 0..network.nodes() {
+        let packets = journal.came_out(rt.alloc(), node)?;
+        println!(rt; "node {node}: {} came out", packets.len())?;
+    }
+    let history = journal.into_history();
+    println!(rt; "{} steps in the history", history.len())
+}
+
+fn show_played<R: Print + AllocGlobal>(
+    rt: &R,
+    network: &Network,
+    journal: Journal<'_>,
+    cells: Vec<Cell>,
+) -> io::Result<()>
+    requires names { All (λ c. c.name ≡ journal.name) cells.items }
+    requires network { journal.declared ≡ network.now }
+{
+    let mut journal = journal;
+    let mut cells = cells;
+    match play(network, &mut journal, rt.alloc(), &mut cells) {
+        Ok(()) => show_journal(rt, network, journal),
+        Err(_) => println!(rt; "no memory"),
+    }
+}
+
+fn show_run<R: Print + AllocGlobal>(
+    rt: &R,
+    network: &Network,
+    load: &Load,
+    limit: usize,
+) -> io::Result<()>
+    requires { AreDeclared network.now load.now }
+{
+    match open(rt.alloc(), network, load, limit) {
+        Ok((journal, cells)) => show_played(rt, network, journal, cells),
+        Err(_) => println!(rt; "no journal"),
+    }
+}
+
+fn show_tried<R: Print + AllocGlobal>(rt: &R, network: &Network, load: &Load) -> io::Result<()>
+    requires { AreDeclared network.now load.now }
+{
+    match open(rt.alloc(), network, load, 1000) {
+        Ok((journal, cells)) => try_line(rt, network, journal, cells),
+        Err(_) => println!(rt; "no journal"),
+    }
+}
+
+fn show_full<R: Print + AllocGlobal>(rt: &R, network: &Network, load: &Load) -> io::Result<()>
+    requires { AreDeclared network.now load.now }
+{
+    match open(rt.alloc(), network, load, 1) {
+        Ok((journal, cells)) => try_full(rt, journal, cells),
+        Err(_) => println!(rt; "no journal"),
+    }
+}
+
+/// Runs the load, and prints what came of it.
+pub(crate) fn show_load<R: Print + AllocGlobal>(
+    rt: &R,
+    network: &Network,
+    text: &[u8],
+    limit: usize,
+) -> io::Result<()> {
+    listed_are_declared();
+    match read_load(rt.alloc(), network, text) {
+        Ok(load) => show_run(rt, network, &load, limit),
+        Err(_) => println!(rt; "no load"),
+    }
+}
+
+/// Tries steps of the load, and prints what came of each.
+pub(crate) fn show_steps<R: Print + AllocGlobal>(
+    rt: &R,
+    network: &Network,
+    text: &[u8],
+) -> io::Result<()> {
+    listed_are_declared();
+    match read_load(rt.alloc(), network, text) {
+        Ok(load) => {
+            show_tried(rt, network, &load)?;
+            println!(rt; "> with a limit of 1")?;
+            show_full(rt, network, &load)
+        }
+        Err(_) => println!(rt; "no load"),
+    }
+}

@@ -1,0 +1,21 @@
+//! Runs loads, and prints what came of them, as far as that does not hang on the order of the threads: through journals in one
+//! thread, by the threads of `sw_run`, and by the engine of `swcheck run`.
+#![tactic(auto)]
+
+mod calls;
+mod journals;
+mod runs;
+
+use crate::calls::show_calls;
+use crate::journals::show_journals;
+use crate::runs::show_runs;
+use std::io;
+
+fn main(rt: HostRuntime) -> io::Result<()> {
+    println!(rt; "# journals in one thread")?;
+    show_journals(&rt)?;
+    println!(rt; "# runs by threads")?;
+    show_runs(&rt)?;
+    println!(rt; "# the engine of run")?;
+    show_calls(&rt)
+}

@@ -1,0 +1,40 @@
+//! Runs of loads on their networks, by one worker and by several, and how they ended.
+
+mod files;
+mod gated;
+mod open_gate;
+mod show;
+
+use crate::runs::gated::show_gated;
+use crate::runs::open_gate::{show_each, show_enough, show_limited};
+use std::io;
+use std::rt::Files;
+use std::sync::Wait;
+use std::thread::Threads;
+
+/// Networks in which each run of the load ends in one way, each with a load.
+static DETERMINED: [(&str, &str); 6] = [
+    ("line.toml", "line.load"),
+    ("star.toml", "star.load"),
+    ("region.toml", "region.load"),
+    ("turn.toml", "turn.load"),
+    ("rmap.toml", "rmap.load"),
+    ("bad.toml", "bad.load"),
+];
+
+/// Networks that can lock up, each with a load.
+static CYCLIC: [(&str, &str); 2] = [("ring.toml", "ring.load"), ("duel.toml", "duel.load")];
+
+/// Prints how each run ended.
+pub(crate) fn show_runs<R: Files + Print + AllocGlobal + Threads + Wait + Sync>(
+    rt: &R,
+) -> io::Result<()> {
+    for (network, load) in DETERMINED {
+        show_each(rt, network, load)?;
+    }
+    for (network, load) in CYCLIC {
+        show_enough(rt, network, load, 1)?;
+    }
+    show_limited(rt, "turn.toml", "turn.load", 100)?;
+    show_gated(rt, "turn.toml", "turn.load")
+}
