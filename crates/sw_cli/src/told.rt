@@ -37,7 +37,9 @@ pub(crate) fn refused<R: Print + Eprint>(rt: &R, fault: &WordsFault) -> u8
 }
 
 /// Tells that a word is no text.
-pub(crate) fn not_text(rt: &impl Eprint) -> u8 {
+pub(crate) fn not_text(rt: &impl Eprint) -> u8
+    ensures { result ≡ 2 }
+{
     let _ = eprint!(rt; "error: the words are no UTF-8 text\n");
     2
 }
