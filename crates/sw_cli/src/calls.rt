@@ -1,0 +1,130 @@
+//! The call that the words ask for, on the files that they name.
+ghost use Rattle.std.specs.Prelude.{◌<◌, IfErr, IfOk, map};
+ghost use Rattle.sw_words.specs.CommandLine.{Gives, HasWorkers, Refuses};
+ghost use Rattle.sw_words.specs.declared.command_line.Call.{Call};
+
+use std::rt::Files;
+use std::sync::Wait;
+use std::thread::Threads;
+use std::{fs, io};
+use sw_app::{check, decide, replay, report, route};
+use sw_ends::Ended;
+use sw_run::Open;
+use sw_run_app::Options;
+use sw_words::{Call, WordsFault, words};
+
+/// Makes the call that the words ask for, and tells how it ended, or why they give no call; they begin with the program's name.
+pub fn run_words<'a, R: Files + Print + AllocGlobal + Threads + Wait + Sync>(
+    rt: &R,
+    given: &'a [&'a str],
+) -> Result<Ended, WordsFault>
+    ensures call { IfOk result (λ _. (call : Call) × Gives (map (λ s. s.now) given.entry.now) call) }
+    ensures fault { IfErr result (Refuses (map (λ s. s.now) given.entry.now)) }
+{
+    match words(rt.alloc(), given) {
+        Ok(call) => Ok(run_call(rt, call)),
+        Err(fault) => Err(fault),
+    }
+}
+
+fn run_call<R: Files + Print + AllocGlobal + Threads + Wait + Sync>(rt: &R, call: Call<'_>) -> Ended
+    requires { HasWorkers call }
+{
+    match call {
+        Call::Route { file, flow } => run_route(rt, file, flow),
+        Call::Decide { file } => run_decide(rt, file),
+        Call::Report { file } => run_report(rt, file),
+        Call::Check { file, certificate } => run_check(rt, file, certificate),
+        Call::Replay { file, schedule } => run_replay(rt, file, schedule),
+        Call::Run {
+            file,
+            load,
+            workers,
+            limit,
+        } => run_load(
+            rt,
+            file,
+            load,
+            Options {
+                workers: workers as usize,
+                limit: limit as usize,
+            },
+        ),
+    }
+}
+
+fn run_route<R: Files + Print + AllocGlobal>(rt: &R, file: &str, flow: &str) -> Ended {
+    let Ok(mut reader) = fs::open(rt, file) else {
+        return Ended::ReadFailed;
+    };
+    let mut writer = io::writer(rt);
+    route(rt.alloc(), &mut reader, flow, &mut writer)
+}
+
+fn run_decide<R: Files + Print + AllocGlobal + Threads + Sync>(rt: &R, file: &str) -> Ended {
+    let Ok(mut reader) = fs::open(rt, file) else {
+        return Ended::ReadFailed;
+    };
+    let mut writer = io::writer(rt);
+    decide(rt, rt.alloc(), &mut reader, &mut writer)
+}
+
+fn run_report<R: Files + Print + AllocGlobal + Threads + Sync>(rt: &R, file: &str) -> Ended {
+    let Ok(mut reader) = fs::open(rt, file) else {
+        return Ended::ReadFailed;
+    };
+    let mut writer = io::writer(rt);
+    report(rt, rt.alloc(), &mut reader, &mut writer)
+}
+
+fn run_check<R: Files + Print + AllocGlobal + Threads + Sync>(
+    rt: &R,
+    file: &str,
+    certificate: &str,
+) -> Ended {
+    let Ok(mut network) = fs::open(rt, file) else {
+        return Ended::ReadFailed;
+    };
+    let Ok(mut certificate) = fs::open(rt, certificate) else {
+        return Ended::ReadFailed;
+    };
+    let mut writer = io::writer(rt);
+    check(rt, rt.alloc(), &mut network, &mut certificate, &mut writer)
+}
+
+fn run_replay<R: Files + Print + AllocGlobal>(rt: &R, file: &str, schedule: &str) -> Ended {
+    let Ok(mut network) = fs::open(rt, file) else {
+        return Ended::ReadFailed;
+    };
+    let Ok(mut schedule) = fs::open(rt, schedule) else {
+        return Ended::ReadFailed;
+    };
+    let mut writer = io::writer(rt);
+    replay(rt.alloc(), &mut network, &mut schedule, &mut writer)
+}
+
+fn run_load<R: Files + Print + AllocGlobal + Threads + Wait + Sync>(
+    rt: &R,
+    file: &str,
+    load: &str,
+    options: Options,
+) -> Ended
+    requires { 0 < options.workers }
+{
+    let Ok(mut network) = fs::open(rt, file) else {
+        return Ended::ReadFailed;
+    };
+    let Ok(mut load) = fs::open(rt, load) else {
+        return Ended::ReadFailed;
+    };
+    let mut writer = io::writer(rt);
+    sw_run_app::run(
+        rt,
+        rt.alloc(),
+        &mut network,
+        &mut load,
+        options,
+        &mut writer,
+        &Open,
+    )
+}

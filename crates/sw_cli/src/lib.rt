@@ -1,0 +1,10 @@
+//! A call of the program swcheck: it opens the files that the words name, hands them on to the engines of `sw_app` and `sw_run_app`,
+//! and tells of words that give no call, and of a read or a write that failed.
+#![tactic(auto)]
+
+mod calls;
+mod program;
+mod told;
+
+pub use calls::run_words;
+pub use program::run_program;

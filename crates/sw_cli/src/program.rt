@@ -1,0 +1,40 @@
+//! The words that the program was given.
+use crate::calls::run_words;
+use crate::told::{finished, not_text, refused};
+use std::rt::{Env, Files};
+use std::sync::Wait;
+use std::thread::Threads;
+use std::{env, io};
+use sw_words::WordsFault;
+
+/// Does what the words say that the program was given, and answers its status.
+pub fn run_program<R: Env + Files + Print + Eprint + AllocGlobal + Threads + Wait + Sync>(
+    rt: &R,
+) -> u8 {
+    let given = match env::args(rt) {
+        Ok(given) => given,
+        Err(error) if error.kind() == io::ErrorKind::OutOfMemory => return refused(
+            rt,
+            &WordsFault::Memory,
+        ),
+        Err(_) => return not_text(rt),
+    };
+    let Ok(texts) = given.collect::<Vec<String>>(rt.alloc()) else {
+        return refused(rt, &WordsFault::Memory);
+    };
+    run_texts(rt, texts.as_slice())
+}
+
+fn run_texts<R: Files + Print + Eprint + AllocGlobal + Threads + Wait + Sync>(
+    rt: &R,
+    texts: &[String],
+) -> u8 {
+    let views = texts.iter().map(|text| text.as_str());
+    let Ok(views) = views.collect::<Vec<&str>>(rt.alloc()) else {
+        return refused(rt, &WordsFault::Memory);
+    };
+    match run_words(rt, views.as_slice()) {
+        Ok(ended) => finished(rt, ended),
+        Err(fault) => refused(rt, &fault),
+    }
+}

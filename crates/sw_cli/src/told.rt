@@ -1,0 +1,45 @@
+//! What is told besides what an engine writes.
+ghost use Rattle.std.specs.Prelude.{◌≡◌, ◌⊎◌};
+ghost use Rattle.sw_words.specs.CommandLine.{words_status};
+ghost use Rattle.sw_ends.specs.Ends.{exit_status};
+
+use sw_ends::Ended;
+use sw_words::WordsFault;
+
+/// Tells of a read or a write that failed.
+pub(crate) fn finished(rt: &impl Eprint, ended: Ended) -> u8
+    ensures { result ≡ exit_status ended }
+{
+    let _ = match ended {
+        Ended::Status(_) => Ok(()),
+        Ended::ReadFailed => eprint!(rt; "swcheck: read failed\n"),
+        Ended::WriteFailed => eprint!(rt; "swcheck: write failed\n"),
+    };
+    ended.status()
+}
+
+/// Tells why the words give no call.
+pub(crate) fn refused<R: Print + Eprint>(rt: &R, fault: &WordsFault) -> u8
+    ensures { (result ≡ words_status fault.now) ⊎ (result ≡ exit_status Ended.WriteFailed) }
+{
+    let written = match fault {
+        WordsFault::Help(text) => print!(rt; "{text}"),
+        WordsFault::Refused(text) => {
+            let _ = eprint!(rt; "{text}");
+            Ok(())
+        }
+        WordsFault::Memory => print!(rt; "fault memory\n"),
+    };
+    match written {
+        Ok(()) => fault.status(),
+        Err(_) => finished(rt, Ended::WriteFailed),
+    }
+}
+
+/// Tells that a word is no text.
+pub(crate) fn not_text(rt: &impl Eprint) -> u8
+    ensures { result ≡ 2 }
+{
+    let _ = eprint!(rt; "error: the words are no UTF-8 text\n");
+    2
+}
