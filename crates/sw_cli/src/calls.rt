@@ -9,8 +9,7 @@ use std::thread::Threads;
 use std::{fs, io};
 use sw_app::{check, decide, replay, report, route};
 use sw_ends::Ended;
-use sw_run::Open;
-use sw_run_app::Options;
+use sw_run_app::{Open, Options};
 use sw_words::{Call, WordsFault, words};
 
 /// Makes the call that the words ask for, and tells how it ended, or why they give no call; they begin with the program's name.

@@ -6,3 +6,4 @@ pub mod Adding
 pub mod Opening
 pub mod Asked
 pub mod Choices
+pub use Rattle.sw_history.specs.Next

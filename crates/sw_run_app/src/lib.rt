@@ -7,3 +7,4 @@ mod run_texts;
 
 pub use engine::run;
 pub use run_answer::Options;
+pub use sw_run::Open;
