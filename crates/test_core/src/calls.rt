@@ -104,11 +104,9 @@ fn show_step_of<R: Print + AllocGlobal>(
     if end.number() >= net.network().channels() {
         return println!(rt; "no such link end");
     }
-    match net.step_of(rt.alloc(), end)? {
-        Some(Step::Fct(channel)) => println!(rt; "step of the link end: fct {}", channel.number()),
-        Some(_) => println!(rt; "step of the link end: no fct"),
-        None => println!(rt; "step of the link end: none"),
-    }
+    let made = net.step_of(rt.alloc(), end)?;
+    let is_fct = matches!(made, Some(Step::Fct(_)));
+    println!(rt; "the link end sends an FCT: {is_fct}")
 }
 
 fn show_link_end<R: Print + AllocGlobal>(rt: &R, network: &Network) -> io::Result<()> {
