@@ -25,7 +25,7 @@ use Rattle.sw_file.specs.Nodes.{node_of, next_node}
 use Rattle.sw_file.specs.Switches.{switch_of, next_switch}
 use Rattle.sw_file.specs.Links.{link_of, next_link}
 use Rattle.sw_file.specs.FlowTables.{flow_of, next_flow}
-use Rattle.sw_file.specs.Network.{version_of, entries, with_nodes, with_switches, with_links, wired, with_flows, network_of}
+use Rattle.sw_file.specs.Network.{version_of, entries, with_nodes, with_switches, with_links, with_parts, wired, with_flows, network_of}
 use Rattle.sw_file.specs.Laws.{Declares, IsDeclaredBy, ReadsEachEntry}
 use Rattle.sw_file.proofs.Grown.{bind_ok, grown_from, as_many, entry_at}
 
@@ -185,6 +185,15 @@ after_switches version ms d = with_links version d ms >>= after_links ms
 abbrev after_nodes : Version → Members → Declaration → Result Declaration TextFault
 after_nodes version ms d = with_switches version d ms >>= after_switches version ms
 
+-- the parts are read one kind after another
+parts_first : (ms : Members) (version : Version) (d : Declaration) → (with_parts version empty ms >>= after_links ms) ≡ Ok d → (with_nodes version empty ms >>= after_nodes version ms) ≡ Ok d
+unfolding with_parts
+parts_first ms version d well =
+    let a = bind_ok (with_parts version empty ms) (after_links ms) d well in
+    let b = bind_ok (with_nodes version empty ms) (λ nodes. with_switches version nodes ms >>= λ switches. with_links version switches ms) a.0 a.1 in
+    let c = bind_ok (with_switches version b.0 ms) (λ switches. with_links version switches ms) a.0 b.2 in
+    rw (b.1, c.1, c.2) a.2
+
 declared_by : (ms : Members) (version : Version) (d : Declaration) → version_of ms ≡ Ok version → (with_nodes version empty ms >>= after_nodes version ms) ≡ Ok d → IsDeclaredBy ms version d
 declared_by ms version d versioned well =
     let a = bind_ok (with_nodes version empty ms) (after_nodes version ms) d well in
@@ -208,5 +217,5 @@ declared_by ms version d versioned well =
 pub reads_each_entry : ReadsEachEntry
 unfolding network_of
 reads_each_entry ms d well =
-    let v = bind_ok (version_of ms) (λ version. with_nodes version empty ms >>= after_nodes version ms) d well in
-    (v.0, declared_by ms v.0 d v.1 v.2)
+    let v = bind_ok (version_of ms) (λ version. with_parts version empty ms >>= after_links ms) d well in
+    (v.0, declared_by ms v.0 d v.1 (parts_first ms v.0 d v.2))

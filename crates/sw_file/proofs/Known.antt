@@ -1,26 +1,27 @@
 -- No table of a document that is read has a key that it may not have.
 use Rattle.std.proofs.Common.{◌≡◌, ℕ, zero, suc, ◌+◌, ◌<◌, List, [], ◌∷◌, length, take, Option, Some, Result, Ok, Err, refl, sym, ◌∙◌, arith, inl, inr}
-use Rattle.std.specs.Prelude.{slice_get}
+use Rattle.std.specs.Prelude.{slice_get, if◌then◌else◌}
 use Rattle.std.proofs.lemmas.Option.{slice_get_cases, slice_get_within}
 use Rattle.toml.specs.Data.{Members}
 use Rattle.sw_rmap.specs.declared.config.TargetConfig.{TargetConfig}
 use Rattle.sw_route.specs.declared.look.Route.{Route as RouteEntry}
 use Rattle.sw_network.specs.Entries.{NodeEntry, SwitchEntry, LinkEntry, ReplyEntry, FlowEntry, part_names, flow_names}
 use Rattle.sw_tree.specs.declared.keys.Key.{Key}
-use Rattle.sw_tree.specs.declared.keys.Key.TheVariants.{Node, Switch, Link, Flow, Target, Route, From, To, Left, Reply}
+use Rattle.sw_tree.specs.declared.keys.Key.TheVariants.{Node, Switch, Link, Flow, Target, Route, From, To, Reply}
 use Rattle.sw_tree.specs.declared.keys.Section.{Section}
 use Rattle.sw_tree.specs.declared.keys.Section.TheVariants as section
 use Rattle.sw_tree.specs.declared.keys.Version.{Version}
 use Rattle.sw_tree.specs.declared.fault.TextFault.{TextFault}
+use Rattle.sw_tree.specs.declared.fault.TextFault.TheVariants as fault
 use Rattle.sw_tree.specs.Gives.{walk_from}
-use Rattle.sw_tree.specs.Table.{only_known, number_or, tables_or_none, table_or_none}
+use Rattle.sw_tree.specs.Table.{only_known, tables_or_none, table_or_none}
 use Rattle.sw_tree.specs.Laws.{HasOnly}
 use Rattle.sw_tree.proofs.Unknown.{refuses_least_unknown}
 use Rattle.sw_file.specs.Keys.{document_keys, node_keys, target_keys, switch_keys, route_keys, link_keys, flow_keys, reply_keys}
 use Rattle.sw_file.specs.Nodes.{config_of, target_or_none, node_of}
 use Rattle.sw_file.specs.Switches.{route_of, next_route, routes_at, arbitration_at, switch_of}
 use Rattle.sw_file.specs.Links.{link_of}
-use Rattle.sw_file.specs.FlowTables.{node_names, address_at, reply_of, reply_or_none, flow_of}
+use Rattle.sw_file.specs.FlowTables.{node_names, addressed, can_reply, reply_of, reply_or_none, replies_at, flow_of}
 use Rattle.sw_file.specs.Names.{new_name, place_at}
 use Rattle.sw_file.specs.Network.{version_of}
 use Rattle.sw_file.specs.Laws.{before_node, before_switch, Declares, IsKnownNode, IsKnownSwitch, IsKnownFlow, RefusesUnknownKeys}
@@ -97,6 +98,12 @@ known_reply i ms reply y fine there =
     well (only_known (section.Reply i) reply_keys reply) y (λ f is. rw (there, is) at fine) (λ keys keys_is.
     passed (section.Reply i) reply_keys reply keys keys_is)
 
+known_replies : (i : ℕ) (nodes : List NodeEntry) (to : ℕ) (ms reply : Members) (y : Option ReplyEntry) → replies_at i nodes to ms ≡ Ok y → table_or_none (section.Flow i) Reply ms ≡ Ok (Some reply) → HasOnly reply_keys reply
+unfolding replies_at
+known_replies i nodes to ms reply y fine there =
+    let read = bind_ok (reply_or_none i ms) (λ r. if can_reply nodes to r then Ok r else Err (fault.ReplyShape i)) y fine in
+    known_reply i ms reply read.0 read.1 there
+
 known_flow : (i : ℕ) (nodes : List NodeEntry) (taken : List (List ℕ)) (ms : Members) (e : FlowEntry) → flow_of i nodes taken ms ≡ Ok e → IsKnownFlow i ms
 unfolding flow_of
 known_flow i nodes taken ms e fine =
@@ -104,10 +111,9 @@ known_flow i nodes taken ms e fine =
     well (new_name (section.Flow i) taken ms) e (λ f is. rw (keys_is, is) at fine) (λ name name_is.
     well (place_at (section.Flow i) From (node_names nodes) ms) e (λ f is. rw (keys_is, name_is, is) at fine) (λ from from_is.
     well (place_at (section.Flow i) To (node_names nodes) ms) e (λ f is. rw (keys_is, name_is, from_is, is) at fine) (λ to to_is.
-    well (address_at i ms) e (λ f is. rw (keys_is, name_is, from_is, to_is, is) at fine) (λ address address_is.
-    well (number_or (section.Flow i) Left 0 (length address) 0 ms) e (λ f is. rw (keys_is, name_is, from_is, to_is, address_is, is) at fine) (λ left left_is.
-    well (reply_or_none i ms) e (λ f is. rw (keys_is, name_is, from_is, to_is, address_is, left_is, is) at fine) (λ reply reply_is.
-    record { keys = passed (section.Flow i) flow_keys ms keys keys_is; reply = λ table there. known_reply i ms table reply reply_is there })))))))
+    well (addressed i ms) e (λ f is. rw (keys_is, name_is, from_is, to_is, is) at fine) (λ way way_is.
+    well (replies_at i nodes to ms) e (λ f is. rw (keys_is, name_is, from_is, to_is, way_is, is) at fine) (λ reply reply_is.
+    record { keys = passed (section.Flow i) flow_keys ms keys keys_is; reply = λ table there. known_replies i nodes to ms table reply reply_is there }))))))
 
 known_document : (version : Version) (ms : Members) → version_of ms ≡ Ok version → HasOnly document_keys ms
 unfolding version_of

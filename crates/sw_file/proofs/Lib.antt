@@ -1,4 +1,3 @@
 pub mod Entries
 pub mod Grown
 pub mod Known
-pub mod Reading

@@ -47,6 +47,25 @@ can_reply nodes to None = true
 can_reply nodes to (Some r) =
     nat_le (length r.path) 12 && has_no_leading_zero r.path && nat_le 32 r.initiator && nat_le r.initiator 254 && is_some (target_of nodes to)
 
+-- the address bytes of flow i, and how many of them are left at its end
+unfoldable pub addressed : ℕ → Members → Result (List ℕ × ℕ) TextFault
+addressed i ms = do
+  address ← address_at i ms
+  left ← number_or (section.Flow i) Left 0 (length address) 0 ms
+  Ok (address, left)
+
+-- where the replies of flow i go, which come back from the node `to`
+unfoldable pub replies_at : ℕ → List NodeEntry → ℕ → Members → Result (Option ReplyEntry) TextFault
+replies_at i nodes to ms = do
+  reply ← reply_or_none i ms
+  if can_reply nodes to reply then Ok reply else Err (fault.ReplyShape i)
+
+-- a flow, where its replies were read
+abbrev pub with_replies : List ℕ → ℕ → ℕ → List ℕ → ℕ → Result (Option ReplyEntry) TextFault → Result FlowEntry TextFault
+with_replies name from to address left replies = do
+  reply ← replies
+  Ok (record { name = name; from = from; to = to; address = address; left = left; reply = reply })
+
 -- Entry i of `flow`, among these nodes and where these names are taken. Whether replies can come back is looked at last.
 unfoldable pub flow_of : ℕ → List NodeEntry → List (List ℕ) → Members → Result FlowEntry TextFault
 flow_of i nodes taken ms = do
@@ -54,12 +73,8 @@ flow_of i nodes taken ms = do
   name ← new_name (section.Flow i) taken ms
   from ← place_at (section.Flow i) From (node_names nodes) ms
   to ← place_at (section.Flow i) To (node_names nodes) ms
-  address ← address_at i ms
-  left ← number_or (section.Flow i) Left 0 (length address) 0 ms
-  reply ← reply_or_none i ms
-  if can_reply nodes to reply
-      then Ok (record { name = name; from = from; to = to; address = address; left = left; reply = reply })
-      else Err (fault.ReplyShape i)
+  way ← addressed i ms
+  with_replies name from to way.0 way.1 (replies_at i nodes to ms)
 
 -- one more flow
 unfoldable pub next_flow : ℕ → Declaration → Members → Result Declaration TextFault

@@ -71,14 +71,19 @@ with_flows d ms = do
   tables ← entries Flow MAX_FLOWS (fault.Key OutOfRange Document Flow) ms
   walk next_flow d tables
 
+-- the nodes, the switches and the links that it lists
+unfoldable pub with_parts : Version → Declaration → Members → Result Declaration TextFault
+with_parts version d ms = do
+  nodes ← with_nodes version d ms
+  switches ← with_switches version nodes ms
+  with_links version switches ms
+
 -- the network that the document's table declares, or the first fault that is met in it
 unfoldable pub network_of : Members → Result Declaration TextFault
 network_of ms = do
   version ← version_of ms
-  nodes ← with_nodes version empty ms
-  switches ← with_switches version nodes ms
-  links ← with_links version switches ms
-  network ← wired links
+  parts ← with_parts version empty ms
+  network ← wired parts
   with_flows network ms
 
 -- the network that a text declares, or its first fault

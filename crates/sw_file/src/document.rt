@@ -1,12 +1,13 @@
 //! The network that a text declares.
 ghost use Rattle.std.specs.Prelude.{◌≡◌, ◌≤◌, [], length, vec_len, map, IfOk, OnOk};
 ghost use Rattle.toml.specs.View.{table_view};
+ghost use Rattle.sw_network.specs.Entries.{empty};
 ghost use Rattle.sw_tree.specs.Gives.{Gives, walk};
 ghost use Rattle.sw_file.specs.Nodes.{next_node};
 ghost use Rattle.sw_file.specs.Switches.{next_switch};
 ghost use Rattle.sw_file.specs.Links.{next_link};
 ghost use Rattle.sw_file.specs.FlowTables.{next_flow};
-ghost use Rattle.sw_file.specs.Network.{version_of, entries, with_nodes, with_switches, with_links, wired, with_flows, network_of, network_text};
+ghost use Rattle.sw_file.specs.Network.{version_of, entries, with_nodes, with_switches, with_links, with_parts, wired, with_flows, network_of, network_text};
 
 use crate::flows::add_flow;
 use crate::keys::document_keys;
@@ -150,6 +151,33 @@ fn read_links(
     walk_links(alloc, version, &tables, builder)
 }
 
+#[tactic(auto, unfolding(crate::specs::Network::with_parts))]
+fn read_parts(
+    alloc: Global,
+    version: Version,
+    document: &Entry,
+    builder: &mut NetworkBuilder,
+) -> Result<(), FileFault>
+    requires document { document.now.section ≡ Section.Document }
+    requires none { builder.old.nodes ≡ [] }
+    requires nodes_first { builder.old.switches ≡ [] }
+    ensures { Gives (λ _. builder.new) result (with_parts version builder.old (table_view document.now.table.now)) }
+{
+    read_nodes(alloc, version, document, builder)?;
+    read_switches(alloc, version, document, builder)?;
+    read_links(alloc, version, document, builder)
+}
+
+/// The nodes, the switches and the links, not yet looked at together.
+fn parts(alloc: Global, version: Version, document: &Entry) -> Result<NetworkBuilder, FileFault>
+    requires { document.now.section ≡ Section.Document }
+    ensures { Gives (λ b. b) result (with_parts version empty (table_view document.now.table.now)) }
+{
+    let mut builder = NetworkBuilder::new(alloc);
+    read_parts(alloc, version, document, &mut builder)?;
+    Ok(builder)
+}
+
 fn wired(alloc: Global, builder: NetworkBuilder) -> Result<Network, FileFault>
     ensures gives { Gives (λ n. n) result (wired builder) }
     ensures same { IfOk result (λ n. n ≡ builder) }
@@ -183,19 +211,25 @@ fn read_flows(alloc: Global, document: &Entry, network: &mut Network) -> Result<
     walk_flows(alloc, &tables, network)
 }
 
+fn with_flows(alloc: Global, document: &Entry, network: Network) -> Result<Network, FileFault>
+    requires document { document.now.section ≡ Section.Document }
+    requires none { network.flows ≡ [] }
+    ensures { Gives (λ n. n) result (with_flows network (table_view document.now.table.now)) }
+{
+    let mut network = network;
+    read_flows(alloc, document, &mut network)?;
+    Ok(network)
+}
+
 #[tactic(auto, unfolding(crate::specs::Network::network_of))]
 fn network_of(alloc: Global, document: &Entry) -> Result<Network, FileFault>
     requires { document.now.section ≡ Section.Document }
     ensures { Gives (λ n. n) result (network_of (table_view document.now.table.now)) }
 {
     let version = version_of(alloc, document)?;
-    let mut builder = NetworkBuilder::new(alloc);
-    read_nodes(alloc, version, document, &mut builder)?;
-    read_switches(alloc, version, document, &mut builder)?;
-    read_links(alloc, version, document, &mut builder)?;
-    let mut network = wired(alloc, builder)?;
-    read_flows(alloc, document, &mut network)?;
-    Ok(network)
+    let builder = parts(alloc, version, document)?;
+    let network = wired(alloc, builder)?;
+    with_flows(alloc, document, network)
 }
 
 /// Reads a network file of version 1 or 2: the network that it declares, or its first fault.

@@ -1,13 +1,14 @@
 //! Entries of `flow`.
-ghost use Rattle.std.specs.Prelude.{◌≡◌, ◌+◌, ◌≤◌, ◌<◌, false, length, vec_len, IfOk, IfSome, IsTrue, OnOk, Option, option_map};
+ghost use Rattle.std.specs.Prelude.{◌≡◌, ◌+◌, ◌≤◌, ◌<◌, false, length, vec_len, IfOk, IfSome, IsTrue, OnOk, Ok, Option, Result, option_map};
 ghost use Rattle.std.specs.List.{list_any};
 ghost use Rattle.std.specs.Str.{bytes_eq};
 ghost use Rattle.toml.specs.View.{table_view};
-ghost use Rattle.sw_network.specs.Entries.{flow_names};
-ghost use Rattle.sw_network.specs.Valid.{has_no_leading_zero, IsReply};
+ghost use Rattle.sw_network.specs.Entries.{ReplyEntry, flow_names};
+ghost use Rattle.sw_network.specs.Valid.{has_no_leading_zero, IsFlow, IsReply};
+ghost use Rattle.sw_tree.specs.declared.fault.TextFault.{TextFault};
 ghost use Rattle.sw_tree.specs.Gives.{Gives};
 ghost use Rattle.sw_file.specs.Names.{new_name, place_at};
-ghost use Rattle.sw_file.specs.FlowTables.{node_names, address_at, reply_of, reply_or_none, can_reply, next_flow};
+ghost use Rattle.sw_file.specs.FlowTables.{node_names, address_at, addressed, reply_of, reply_or_none, can_reply, replies_at, with_replies, flow_of, next_flow};
 
 use crate::keys::{flow_keys, reply_keys};
 use std::alloc::Global;
@@ -52,6 +53,19 @@ fn address_at(alloc: Global, index: usize, flow: &Entry) -> Result<Vec<u8>, File
         return Err(flow.fault(KeyFault::OutOfRange, Key::Address));
     }
     Ok(address)
+}
+
+/// The address bytes of the flow, and how many of them are left at its end.
+#[tactic(auto, unfolding(crate::specs::FlowTables::addressed))]
+fn addressed(alloc: Global, index: usize, flow: &Entry) -> Result<(Vec<u8>, u8), FileFault>
+    requires { flow.now.section ≡ Section.Flow index }
+    ensures gives { Gives (λ a. (a.0.items, a.1)) result (addressed index (table_view flow.now.table.now)) }
+    ensures few { IfOk result (λ a. vec_len a.0 ≤ 32) }
+    ensures left { IfOk result (λ a. a.1 ≤ vec_len a.0) }
+{
+    let address = address_at(alloc, index, flow)?;
+    let left = flow.number_or(Key::Left, 0, address.len() as u64, 0)? as u8;
+    Ok((address, left))
 }
 
 #[tactic(auto, unfolding(crate::specs::FlowTables::reply_of))]
@@ -107,8 +121,64 @@ fn can_reply(network: &Network, to: u16, reply: Option<&Reply>) -> bool
     }
 }
 
+/// Where the replies of the flow go, which come back from the node `to`.
+#[tactic(auto, unfolding(crate::specs::FlowTables::replies_at))]
+fn replies_at(
+    alloc: Global,
+    index: usize,
+    flow: &Entry,
+    network: &Network,
+    to: u16,
+) -> Result<Option<Reply>, FileFault>
+    requires section { flow.now.section ≡ Section.Flow index }
+    requires within { to < length network.now.nodes }
+    ensures gives { Gives (λ r. r) result (replies_at index network.now.nodes to (table_view flow.now.table.now)) }
+    ensures valid { IfOk result (λ r. IfSome r (IsReply network.now.nodes to)) }
+{
+    let reply = reply_or_none(alloc, index, flow)?;
+    if !can_reply(network, to, reply.as_ref()) {
+        return Err(FileFault::Text(TextFault::ReplyShape(index)));
+    }
+    Ok(reply)
+}
+
+/// The flow whose replies were read last.
+fn with_replies(
+    alloc: Global,
+    name: &str,
+    from: u16,
+    to: u16,
+    address: Vec<u8>,
+    left: u8,
+    replies: Result<Option<Reply>, FileFault>,
+) -> Result<Flow, FileFault>
+    ensures gives { (read : Result (Option ReplyEntry) TextFault) → Gives (λ r. r) replies read → Gives (λ f. f) result (with_replies name.now from to address.items left read) }
+    ensures made { IfOk result (λ f. f ≡ record { name = name.now; from = from; to = to; address = address.items; left = left; reply = f.reply }) }
+    ensures replies { IfOk result (λ f. replies ≡ Ok f.reply) }
+{
+    let reply = replies?;
+    let name = String::from_str(alloc, name)?;
+    Ok(Flow::new(name, from, to, address, left, reply))
+}
+
+#[tactic(auto, unfolding(crate::specs::FlowTables::flow_of))]
+fn flow_of(alloc: Global, index: usize, flow: &Entry, network: &Network) -> Result<Flow, FileFault>
+    requires { flow.now.section ≡ Section.Flow index }
+    ensures gives { Gives (λ f. f) result (flow_of index network.now.nodes (flow_names network.now.flows) (table_view flow.now.table.now)) }
+    ensures fresh { IfOk result (λ f. list_any (bytes_eq f.name) (flow_names network.now.flows) ≡ false) }
+    ensures valid { IfOk result (IsFlow network.now.nodes) }
+{
+    flow.only_known(alloc, flow_keys())?;
+    let name = new_flow_name(flow, network)?;
+    let from = node_at(flow, Key::From, network)?;
+    let to = node_at(flow, Key::To, network)?;
+    let (address, left) = addressed(alloc, index, flow)?;
+    let replies = replies_at(alloc, index, flow, network, to);
+    with_replies(alloc, name, from, to, address, left, replies)
+}
+
 /// Adds the flow that the table declares.
-#[tactic(auto, unfolding(crate::specs::FlowTables::flow_of, crate::specs::FlowTables::next_flow))]
+#[tactic(auto, unfolding(crate::specs::FlowTables::next_flow))]
 pub(crate) fn add_flow(
     alloc: Global,
     index: usize,
@@ -123,17 +193,7 @@ pub(crate) fn add_flow(
         section: Section::Flow(index),
         table,
     };
-    flow.only_known(alloc, flow_keys())?;
-    let name = new_flow_name(&flow, network)?;
-    let from = node_at(&flow, Key::From, network)?;
-    let to = node_at(&flow, Key::To, network)?;
-    let address = address_at(alloc, index, &flow)?;
-    let left = flow.number_or(Key::Left, 0, address.len() as u64, 0)? as u8;
-    let reply = reply_or_none(alloc, index, &flow)?;
-    if !can_reply(network, to, reply.as_ref()) {
-        return Err(FileFault::Text(TextFault::ReplyShape(index)));
-    }
-    let name = String::from_str(alloc, name)?;
-    network.add_flow(alloc, Flow::new(name, from, to, address, left, reply))?;
+    let made = flow_of(alloc, index, &flow, network)?;
+    network.add_flow(alloc, made)?;
     Ok(())
 }
