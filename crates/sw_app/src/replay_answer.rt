@@ -6,6 +6,7 @@ ghost use Rattle.sw_ends.specs.Ends.{IfLimited, Says};
 ghost use Rattle.sw_ends.specs.Inputs.{given};
 ghost use Rattle.sw_app.specs.ReplayAnswers.{IsReplayAnswer, IsReplayOf, IsScheduleAnswer, bad_line};
 
+use crate::endings::fault_answer;
 use crate::replay_texts::{replay_status, replay_text};
 use std::alloc::{AllocError, Global};
 use sw_ends::{Answer, Input};
@@ -13,7 +14,6 @@ use sw_file::read_network;
 use sw_network::Network;
 use sw_replay::replay;
 use sw_steps::{Schedule, ScheduleFault, read_steps};
-use sw_tree::FileFault;
 
 // The answer for a schedule.
 fn steps_answer(alloc: Global, network: &Network, schedule: &Schedule) -> Result<Answer, AllocError>
@@ -60,8 +60,7 @@ fn file_answer(alloc: Global, first: &[u8], second: &Input) -> Result<Answer, Al
 {
     match read_network(alloc, first) {
         Ok(network) => network_answer(alloc, &network, second),
-        Err(FileFault::Text(fault)) => Answer::of_fault(alloc, &fault),
-        Err(FileFault::Memory) => Err(AllocError),
+        Err(fault) => fault_answer(alloc, fault),
     }
 }
 

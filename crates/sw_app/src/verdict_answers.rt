@@ -3,6 +3,7 @@ ghost use Rattle.std.specs.Prelude.{◌≡◌, IfOk, string_bytes};
 ghost use Rattle.sw_app.specs.CheckAnswers.{AreShownFree, IsShownFree};
 ghost use Rattle.sw_app.specs.VerdictAnswers.{IsDecideAnswer, IsFindingsAnswer, IsReportAnswer, IsVerdictAnswer};
 
+use crate::endings::fault_answer;
 use crate::verdict_texts::{verdict_status, verdict_text, verdict_words};
 use std::alloc::{AllocError, Global};
 use std::thread::Threads;
@@ -11,7 +12,6 @@ use sw_file::read_network;
 use sw_network::Network;
 use sw_search::{decide, survey};
 use sw_texts::report_text;
-use sw_tree::FileFault;
 
 // The answer of `decide` to a network.
 fn verdict_answer<R: Threads + Sync>(
@@ -41,8 +41,7 @@ pub(crate) fn decide_answer<R: Threads + Sync>(
 {
     match read_network(alloc, input) {
         Ok(network) => verdict_answer(rt, alloc, &network),
-        Err(FileFault::Text(fault)) => Ok(Answer::of_fault(alloc, &fault)?.into_bytes()),
-        Err(FileFault::Memory) => Err(AllocError),
+        Err(fault) => Ok(fault_answer(alloc, fault)?.into_bytes()),
     }
 }
 
@@ -76,7 +75,6 @@ pub(crate) fn report_answer<R: Threads + Sync>(
 {
     match read_network(alloc, input) {
         Ok(network) => findings_answer(rt, alloc, &network),
-        Err(FileFault::Text(fault)) => Answer::of_fault(alloc, &fault),
-        Err(FileFault::Memory) => Err(AllocError),
+        Err(fault) => fault_answer(alloc, fault),
     }
 }
