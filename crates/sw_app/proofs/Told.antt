@@ -1,12 +1,7 @@
--- What an engine that told an answer has done, and what the answer to a fault is worth.
-use Rattle.std.proofs.Common.{◌≡◌, ◌∙◌, ℕ, ◌≤◌, Bool, true, false, List, arith, length, subst, sym}
+-- What an engine that told an answer has done.
+use Rattle.std.proofs.Common.{◌≡◌, ℕ, ◌≤◌, Bool, true, false, List, length, subst}
 use Rattle.std.specs.Prelude.{Err, IfOk, IfSome, IsSomeAnd, None, Ok, Option, Result, Some, if◌then◌else◌, nat_le, string_bytes}
 use Rattle.std.specs.declared.alloc.AllocError.{AllocError}
-use Rattle.sw_network.specs.Entries.{Declaration}
-use Rattle.sw_tree.specs.Gives.{Fails}
-use Rattle.sw_tree.specs.declared.fault.FileFault.{FileFault}
-use Rattle.sw_tree.specs.declared.fault.FileFault.TheVariants.{Text, Memory}
-use Rattle.sw_tree.specs.declared.fault.TextFault.{TextFault}
 use Rattle.sw_ends.specs.declared.answer.Answer.{Answer}
 use Rattle.sw_ends.specs.declared.answer.ByteAnswer.{ByteAnswer}
 use Rattle.sw_ends.specs.declared.ended.Ended.{Ended}
@@ -14,7 +9,7 @@ use Rattle.sw_ends.specs.declared.ended.Ended.TheVariants.{Status}
 use Rattle.sw_ends.specs.Ends.{Answers, EndsBy, EndsByTwo, limited}
 use Rattle.sw_ends.proofs.Endings.{told_answer, told_answer_of_two, told_memory, told_memory_of_two}
 use Rattle.sw_app.specs.CheckAnswers.{AreShownFree}
-use Rattle.sw_app.specs.Endings.{IsAnswerTold, IsByteAnswerTold, IsFaultAnswer}
+use Rattle.sw_app.specs.Endings.{IsAnswerTold, IsByteAnswerTold}
 use Rattle.sw_app.specs.VerdictAnswers.{WritesAccepted}
 use Rattle.sw_app.proofs.ShownFree.{memory_not_zero, told_zero, writes_accepted}
 
@@ -69,28 +64,3 @@ pub shown_of_two : (first second old new one other : Option (List ℕ)) (P : Lis
 shown_of_two first second old new one other P (Ok a) ended is_first is_second shown is zero =
     both_given first second one other P is_first is_second (shown (told_zero old new (string_bytes a.text) a.status ended is zero).0)
 shown_of_two first second old new one other P (Err none) ended is_first is_second shown is zero = absurd (memory_not_zero old new ended is zero)
-
--- ---- the answer to a fault
-
--- is one to what reading gave
-pub of_fault : (P : Result Declaration TextFault → Answers) (met : (fault : TextFault) (text : List ℕ) (status : ℕ) → IsFaultAnswer (Text fault) text status → P (Err fault) text status)
-    (fault : FileFault) (read : Result Declaration TextFault) (text : List ℕ) (status : ℕ) → Fails fault read → IsFaultAnswer fault text status → P read text status
-of_fault P met Memory read text status fails is = absurd is
-of_fault P met (Text fault) read text status fails is = subst (λ (r : Result Declaration TextFault). P r text status) (sym fails) (met fault text status is)
-
-pub fault_answered : (P : Result Declaration TextFault → Answers)
-    (met : (fault : TextFault) (text : List ℕ) (status : ℕ) → IsFaultAnswer (Text fault) text status → P (Err fault) text status)
-    (fault : FileFault) (read : Result Declaration TextFault) (answer : Result Answer AllocError) → Fails fault read
-    → IfOk answer (λ a. IsFaultAnswer fault (string_bytes a.text) a.status) → IfOk answer (λ a. P read (string_bytes a.text) a.status)
-fault_answered P met fault read (Err none) fails is = tt
-fault_answered P met fault read (Ok a) fails is = of_fault P met fault read (string_bytes a.text) a.status fails is
-
--- has not status 0
-pub fault_not_zero : (fault : FileFault) (text : List ℕ) (status : ℕ) → IsFaultAnswer fault text status → status ≡ 0 → ⊥
-fault_not_zero Memory text status is zero = absurd is
-fault_not_zero (Text fault) text status is zero = let bad : 3 ≡ 0 = sym is.1 ∙ zero in omega (arith, bad)
-
-pub fault_shows_nothing : (P : Answer → Type 0) (fault : FileFault) (answer : Result Answer AllocError)
-    → IfOk answer (λ a. IsFaultAnswer fault (string_bytes a.text) a.status) → IfOk answer (λ a. a.status ≡ 0 → P a)
-fault_shows_nothing P fault (Err none) is = tt
-fault_shows_nothing P fault (Ok a) is = λ zero. absurd (fault_not_zero fault (string_bytes a.text) a.status is zero)

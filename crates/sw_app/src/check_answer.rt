@@ -93,7 +93,11 @@ fn file_answer<R: Threads + Sync>(
     ensures shown { IfOk result (λ a. a.status ≡ 0 → IsSomeAnd (given second.now) (AreShownFree first.now)) }
 {
     match read_network(alloc, first) {
-        Ok(network) => network_answer(rt, alloc, &network, second),
+        Ok(network) => {
+            let answer = network_answer(rt, alloc, &network, second);
+            drop(network);
+            answer
+        }
         Err(fault) => fault_answer(alloc, fault),
     }
 }

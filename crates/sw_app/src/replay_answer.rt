@@ -59,7 +59,11 @@ fn file_answer(alloc: Global, first: &[u8], second: &Input) -> Result<Answer, Al
     ensures { IfOk result (λ a. IsReplayOf (given second.now) (network_text first.now) (string_bytes a.text) a.status) }
 {
     match read_network(alloc, first) {
-        Ok(network) => network_answer(alloc, &network, second),
+        Ok(network) => {
+            let answer = network_answer(alloc, &network, second);
+            drop(network);
+            answer
+        }
         Err(fault) => fault_answer(alloc, fault),
     }
 }

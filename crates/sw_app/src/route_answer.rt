@@ -53,7 +53,11 @@ pub(crate) fn route_answer(alloc: Global, input: &[u8], name: &str) -> Result<An
     ensures { IfOk result (λ a. IsRouteAnswer name.now input.now (string_bytes a.text) a.status) }
 {
     match read_network(alloc, input) {
-        Ok(network) => named_answer(alloc, &network, name),
+        Ok(network) => {
+            let answer = named_answer(alloc, &network, name);
+            drop(network);
+            answer
+        }
         Err(fault) => fault_answer(alloc, fault),
     }
 }

@@ -40,7 +40,11 @@ pub(crate) fn decide_answer<R: Threads + Sync>(
     ensures shown { IfOk result (λ a. a.status ≡ 0 → AreShownFree input.now a.text.items) }
 {
     match read_network(alloc, input) {
-        Ok(network) => verdict_answer(rt, alloc, &network),
+        Ok(network) => {
+            let answer = verdict_answer(rt, alloc, &network);
+            drop(network);
+            answer
+        }
         Err(fault) => Ok(fault_answer(alloc, fault)?.into_bytes()),
     }
 }
@@ -74,7 +78,11 @@ pub(crate) fn report_answer<R: Threads + Sync>(
     ensures { IfOk result (λ a. IsReportAnswer input.now (string_bytes a.text) a.status) }
 {
     match read_network(alloc, input) {
-        Ok(network) => findings_answer(rt, alloc, &network),
+        Ok(network) => {
+            let answer = findings_answer(rt, alloc, &network);
+            drop(network);
+            answer
+        }
         Err(fault) => fault_answer(alloc, fault),
     }
 }
