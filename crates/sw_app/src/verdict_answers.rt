@@ -1,7 +1,7 @@
 //! What `decide` and `report` answer.
 ghost use Rattle.std.specs.Prelude.{◌≡◌, IfOk, string_bytes};
 ghost use Rattle.sw_app.specs.CheckAnswers.{AreShownFree, IsShownFree};
-ghost use Rattle.sw_app.specs.VerdictAnswers.{IsDecideAnswer, IsFindingsAnswer, IsReportAnswer, IsVerdictAnswer};
+ghost use Rattle.sw_app.specs.VerdictAnswers.{IsDecideAnswer, IsFindingsAnswer, IsReportAnswer, IsVerdictAnswer, SaysFindings};
 
 use crate::endings::fault_answer;
 use crate::verdict_texts::{verdict_status, verdict_text, verdict_words};
@@ -10,7 +10,7 @@ use std::thread::Threads;
 use sw_ends::{Answer, ByteAnswer};
 use sw_file::read_network;
 use sw_network::Network;
-use sw_search::{decide, survey};
+use sw_search::{Findings, decide, survey};
 use sw_texts::report_text;
 
 // The answer of `decide` to a network.
@@ -49,15 +49,14 @@ pub(crate) fn decide_answer<R: Threads + Sync>(
     }
 }
 
-// The answer of `report` to a network.
-fn findings_answer<R: Threads + Sync>(
-    rt: &R,
+// The answer of `report` that tells what was found.
+fn told_findings(
     alloc: Global,
     network: &Network,
+    findings: &Findings,
 ) -> Result<Answer, AllocError>
-    ensures { IfOk result (λ a. IsFindingsAnswer network.now (string_bytes a.text) a.status) }
+    ensures { IfOk result (λ a. SaysFindings network.now findings.now (string_bytes a.text) a.status) }
 {
-    let findings = survey(rt, alloc, network)?;
     let words = verdict_words(alloc, network, &findings.verdict)?;
     let text = report_text(
         alloc,
@@ -67,6 +66,18 @@ fn findings_answer<R: Threads + Sync>(
         words.as_str(),
     )?;
     Ok(Answer { text, status: 0 })
+}
+
+// The answer of `report` to a network.
+fn findings_answer<R: Threads + Sync>(
+    rt: &R,
+    alloc: Global,
+    network: &Network,
+) -> Result<Answer, AllocError>
+    ensures { IfOk result (λ a. IsFindingsAnswer network.now (string_bytes a.text) a.status) }
+{
+    let findings = survey(rt, alloc, network)?;
+    told_findings(alloc, network, &findings)
 }
 
 /// The answer of `report` to the bytes of a network file.
