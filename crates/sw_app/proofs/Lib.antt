@@ -8,6 +8,7 @@ pub mod CycleChannels
 pub mod SameCauses
 pub mod OneVerdict
 pub mod ShownFree
+pub mod Told
 pub mod OneCount
 pub mod OneReport
 pub mod ReplayReports

@@ -59,7 +59,7 @@ shown_free d (Free contents) text valid checked said none =
 
 -- ---- an end with status 0
 
-told_zero : (old new : Option (List ℕ)) (text : List ℕ) (status : ℕ) (ended : Ended) → IsTold old new text status ended → ended ≡ Status 0 → (status ≡ 0) × Appends old new text
+pub told_zero : (old new : Option (List ℕ)) (text : List ℕ) (status : ℕ) (ended : Ended) → IsTold old new text status ended → ended ≡ Status 0 → (status ≡ 0) × Appends old new text
 told_zero old new text status (Status n) is zero = (let none : n ≡ 0 = cc in sym is.0 ∙ none, is.1)
 told_zero old new text status ReadFailed is zero = absurd is
 told_zero old new text status WriteFailed is zero = absurd (let bad : WriteFailed ≡ Status 0 = zero in cc)

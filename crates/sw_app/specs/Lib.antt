@@ -1,3 +1,4 @@
+pub mod Endings
 pub mod RouteTexts
 pub mod RouteAnswers
 pub mod CheckTexts

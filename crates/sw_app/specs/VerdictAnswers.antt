@@ -46,10 +46,13 @@ verdict_words d (Free contents) = free_words contents.numbers
 abbrev pub IsVerdictAnswer : Declaration → Answers
 IsVerdictAnswer d text status = (v : Verdict) × IsVerdict d v × Says (verdict_text d v) (verdict_status v) text status
 
--- of a network: what was found of it, with status 0 whatever the verdict
+-- what was found of a network, with status 0 whatever the verdict
+abbrev pub SaysFindings : Declaration → Findings → Answers
+SaysFindings d f = Says (report_text d f.places f.dependencies (verdict_words d f.verdict)) 0
+
+-- of a network: what was found of it
 abbrev pub IsFindingsAnswer : Declaration → Answers
-IsFindingsAnswer d text status =
-    (f : Findings) × AreFindings d f × Says (report_text d f.places f.dependencies (verdict_words d f.verdict)) 0 text status
+IsFindingsAnswer d text status = (f : Findings) × AreFindings d f × SaysFindings d f text status
 
 -- of a text that is a network, or of its first fault
 abbrev pub OfNetwork : (Declaration → Answers) → Result Declaration TextFault → Answers

@@ -12,6 +12,7 @@ ghost use Rattle.sw_ends.specs.Inputs.{given};
 ghost use Rattle.sw_app.specs.CheckAnswers.{AreShownFree, IsCertificateAnswer, IsCheckAnswer, IsJudgement, IsNetworkAnswer, IsShownFree};
 
 use crate::check_texts::{grammar_line, refusal_line};
+use crate::endings::fault_answer;
 use std::alloc::{AllocError, Global};
 use std::thread::Threads;
 use sw_cert::{Certificate, CertificateFault};
@@ -19,7 +20,6 @@ use sw_check::check;
 use sw_ends::{Answer, Input};
 use sw_file::read_network;
 use sw_network::Network;
-use sw_tree::FileFault;
 
 // The answer for a certificate.
 fn judgement<R: Threads + Sync>(
@@ -93,9 +93,12 @@ fn file_answer<R: Threads + Sync>(
     ensures shown { IfOk result (λ a. a.status ≡ 0 → IsSomeAnd (given second.now) (AreShownFree first.now)) }
 {
     match read_network(alloc, first) {
-        Ok(network) => network_answer(rt, alloc, &network, second),
-        Err(FileFault::Text(fault)) => Answer::of_fault(alloc, &fault),
-        Err(FileFault::Memory) => Err(AllocError),
+        Ok(network) => {
+            let answer = network_answer(rt, alloc, &network, second);
+            drop(network);
+            answer
+        }
+        Err(fault) => fault_answer(alloc, fault),
     }
 }
 

@@ -6,12 +6,13 @@ ghost use Rattle.sw_app.specs.RouteAnswers.{IsRouteAnswer};
 ghost use Rattle.sw_app.specs.VerdictAnswers.{IsDecideAnswer, IsReportAnswer, WritesAccepted};
 
 use crate::check_answer::check_answer;
+use crate::endings::{tell_answer, tell_byte_answer};
 use crate::route_answer::route_answer;
 use crate::verdict_answers::{decide_answer, report_answer};
 use std::alloc::Global;
 use std::io::{Read, Write};
 use std::thread::Threads;
-use sw_ends::{Ended, InputError, MAX_TEXT, read_two, tell, tell_bytes, tell_memory, tell_unread};
+use sw_ends::{Ended, InputError, MAX_TEXT, read_two, tell_memory, tell_unread};
 use sw_stream::read_whole;
 
 /// The places of a flow of a network file: 0 where packets arrive rightly, and 1 where a place has a fault.
@@ -24,10 +25,7 @@ pub fn route<R: Read, W: Write>(alloc: Global, reader: &mut R, flow: &str, write
         Ok(input) => input,
         Err(error) => return tell_unread(writer, error),
     };
-    match route_answer(alloc, &input, flow) {
-        Ok(answer) => tell(writer, answer.text.as_str(), answer.status),
-        Err(_) => tell_memory(writer),
-    }
+    tell_answer(writer, route_answer(alloc, &input, flow))
 }
 
 /// Whether the certificate of the second text is accepted for the network of the first: 0 where it is, and then the network never
@@ -48,10 +46,7 @@ pub fn check<T: Threads + Sync, N: Read, C: Read, W: Write>(
         Err(InputError::Failed) => return Ended::ReadFailed,
         Err(InputError::Memory) => return tell_memory(writer),
     };
-    match check_answer(rt, alloc, &first, &second) {
-        Ok(answer) => tell(writer, answer.text.as_str(), answer.status),
-        Err(_) => tell_memory(writer),
-    }
+    tell_answer(writer, check_answer(rt, alloc, &first, &second))
 }
 
 /// The verdict on a network file: with status 0 a certificate, and then the network never locks up, over every run; with status 1 a
@@ -69,10 +64,7 @@ pub fn decide<T: Threads + Sync, R: Read, W: Write>(
         Ok(input) => input,
         Err(error) => return tell_unread(writer, error),
     };
-    match decide_answer(rt, alloc, &input) {
-        Ok(answer) => tell_bytes(writer, &answer.text, answer.status),
-        Err(_) => tell_memory(writer),
-    }
+    tell_byte_answer(writer, decide_answer(rt, alloc, &input))
 }
 
 /// How many parts the network of a file has, and the verdict on it in one line, with status 0 whatever the verdict. Threads share the
@@ -89,8 +81,5 @@ pub fn report<T: Threads + Sync, R: Read, W: Write>(
         Ok(input) => input,
         Err(error) => return tell_unread(writer, error),
     };
-    match report_answer(rt, alloc, &input) {
-        Ok(answer) => tell(writer, answer.text.as_str(), answer.status),
-        Err(_) => tell_memory(writer),
-    }
+    tell_answer(writer, report_answer(rt, alloc, &input))
 }

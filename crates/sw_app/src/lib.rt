@@ -3,6 +3,7 @@
 
 mod check_answer;
 mod check_texts;
+mod endings;
 mod engines;
 mod laws;
 mod replay_answer;

@@ -6,6 +6,7 @@ ghost use Rattle.sw_ends.specs.Ends.{IfLimited, Says};
 ghost use Rattle.sw_ends.specs.Inputs.{given};
 ghost use Rattle.sw_app.specs.ReplayAnswers.{IsReplayAnswer, IsReplayOf, IsScheduleAnswer, bad_line};
 
+use crate::endings::fault_answer;
 use crate::replay_texts::{replay_status, replay_text};
 use std::alloc::{AllocError, Global};
 use sw_ends::{Answer, Input};
@@ -13,7 +14,6 @@ use sw_file::read_network;
 use sw_network::Network;
 use sw_replay::replay;
 use sw_steps::{Schedule, ScheduleFault, read_steps};
-use sw_tree::FileFault;
 
 // The answer for a schedule.
 fn steps_answer(alloc: Global, network: &Network, schedule: &Schedule) -> Result<Answer, AllocError>
@@ -59,9 +59,12 @@ fn file_answer(alloc: Global, first: &[u8], second: &Input) -> Result<Answer, Al
     ensures { IfOk result (λ a. IsReplayOf (given second.now) (network_text first.now) (string_bytes a.text) a.status) }
 {
     match read_network(alloc, first) {
-        Ok(network) => network_answer(alloc, &network, second),
-        Err(FileFault::Text(fault)) => Answer::of_fault(alloc, &fault),
-        Err(FileFault::Memory) => Err(AllocError),
+        Ok(network) => {
+            let answer = network_answer(alloc, &network, second);
+            drop(network);
+            answer
+        }
+        Err(fault) => fault_answer(alloc, fault),
     }
 }
 

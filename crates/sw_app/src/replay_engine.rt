@@ -2,10 +2,11 @@
 ghost use Rattle.sw_ends.specs.Ends.{AreReadInOrder, EndsByTwo};
 ghost use Rattle.sw_app.specs.ReplayAnswers.{IsReplayAnswer};
 
+use crate::endings::tell_answer;
 use crate::replay_answer::replay_answer;
 use std::alloc::Global;
 use std::io::{Read, Write};
-use sw_ends::{Ended, InputError, read_two, tell, tell_memory};
+use sw_ends::{Ended, InputError, read_two, tell_memory};
 
 /// What comes of the steps of the second text's schedule, made one after another on the network of the first text from its empty
 /// state on: 0 where all are made and the network is not locked up then, 1 where one is refused, and 4 where the network is locked
@@ -24,8 +25,5 @@ pub fn replay<N: Read, S: Read, W: Write>(
         Err(InputError::Failed) => return Ended::ReadFailed,
         Err(InputError::Memory) => return tell_memory(writer),
     };
-    match replay_answer(alloc, &first, &second) {
-        Ok(answer) => tell(writer, answer.text.as_str(), answer.status),
-        Err(_) => tell_memory(writer),
-    }
+    tell_answer(writer, replay_answer(alloc, &first, &second))
 }

@@ -4,13 +4,13 @@ ghost use Rattle.sw_network.specs.Entries.{all_flows};
 ghost use Rattle.sw_app.specs.RouteAnswers.{IsFlowAnswer, IsNamedAnswer, IsRouteAnswer};
 ghost use Rattle.sw_app.specs.RouteTexts.{outcome_status};
 
+use crate::endings::fault_answer;
 use crate::route_texts::route_text;
 use std::alloc::{AllocError, Global};
 use sw_ends::Answer;
 use sw_file::read_network;
 use sw_flow::{Place, RouteFault, first_fault, places};
 use sw_network::Network;
-use sw_tree::FileFault;
 
 fn status_of(fault: &Option<(Place, RouteFault)>) -> u8
     ensures { result ≡ outcome_status fault.now }
@@ -53,8 +53,11 @@ pub(crate) fn route_answer(alloc: Global, input: &[u8], name: &str) -> Result<An
     ensures { IfOk result (λ a. IsRouteAnswer name.now input.now (string_bytes a.text) a.status) }
 {
     match read_network(alloc, input) {
-        Ok(network) => named_answer(alloc, &network, name),
-        Err(FileFault::Text(fault)) => Answer::of_fault(alloc, &fault),
-        Err(FileFault::Memory) => Err(AllocError),
+        Ok(network) => {
+            let answer = named_answer(alloc, &network, name);
+            drop(network);
+            answer
+        }
+        Err(fault) => fault_answer(alloc, fault),
     }
 }

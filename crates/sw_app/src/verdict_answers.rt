@@ -1,17 +1,17 @@
 //! What `decide` and `report` answer.
 ghost use Rattle.std.specs.Prelude.{◌≡◌, IfOk, string_bytes};
 ghost use Rattle.sw_app.specs.CheckAnswers.{AreShownFree, IsShownFree};
-ghost use Rattle.sw_app.specs.VerdictAnswers.{IsDecideAnswer, IsFindingsAnswer, IsReportAnswer, IsVerdictAnswer};
+ghost use Rattle.sw_app.specs.VerdictAnswers.{IsDecideAnswer, IsFindingsAnswer, IsReportAnswer, IsVerdictAnswer, SaysFindings};
 
+use crate::endings::fault_answer;
 use crate::verdict_texts::{verdict_status, verdict_text, verdict_words};
 use std::alloc::{AllocError, Global};
 use std::thread::Threads;
 use sw_ends::{Answer, ByteAnswer};
 use sw_file::read_network;
 use sw_network::Network;
-use sw_search::{decide, survey};
+use sw_search::{Findings, decide, survey};
 use sw_texts::report_text;
-use sw_tree::FileFault;
 
 // The answer of `decide` to a network.
 fn verdict_answer<R: Threads + Sync>(
@@ -40,21 +40,23 @@ pub(crate) fn decide_answer<R: Threads + Sync>(
     ensures shown { IfOk result (λ a. a.status ≡ 0 → AreShownFree input.now a.text.items) }
 {
     match read_network(alloc, input) {
-        Ok(network) => verdict_answer(rt, alloc, &network),
-        Err(FileFault::Text(fault)) => Ok(Answer::of_fault(alloc, &fault)?.into_bytes()),
-        Err(FileFault::Memory) => Err(AllocError),
+        Ok(network) => {
+            let answer = verdict_answer(rt, alloc, &network);
+            drop(network);
+            answer
+        }
+        Err(fault) => Ok(fault_answer(alloc, fault)?.into_bytes()),
     }
 }
 
-// The answer of `report` to a network.
-fn findings_answer<R: Threads + Sync>(
-    rt: &R,
+// The answer of `report` that tells what was found.
+fn told_findings(
     alloc: Global,
     network: &Network,
+    findings: &Findings,
 ) -> Result<Answer, AllocError>
-    ensures { IfOk result (λ a. IsFindingsAnswer network.now (string_bytes a.text) a.status) }
+    ensures { IfOk result (λ a. SaysFindings network.now findings.now (string_bytes a.text) a.status) }
 {
-    let findings = survey(rt, alloc, network)?;
     let words = verdict_words(alloc, network, &findings.verdict)?;
     let text = report_text(
         alloc,
@@ -66,6 +68,18 @@ fn findings_answer<R: Threads + Sync>(
     Ok(Answer { text, status: 0 })
 }
 
+// The answer of `report` to a network.
+fn findings_answer<R: Threads + Sync>(
+    rt: &R,
+    alloc: Global,
+    network: &Network,
+) -> Result<Answer, AllocError>
+    ensures { IfOk result (λ a. IsFindingsAnswer network.now (string_bytes a.text) a.status) }
+{
+    let findings = survey(rt, alloc, network)?;
+    told_findings(alloc, network, &findings)
+}
+
 /// The answer of `report` to the bytes of a network file.
 pub(crate) fn report_answer<R: Threads + Sync>(
     rt: &R,
@@ -75,8 +89,11 @@ pub(crate) fn report_answer<R: Threads + Sync>(
     ensures { IfOk result (λ a. IsReportAnswer input.now (string_bytes a.text) a.status) }
 {
     match read_network(alloc, input) {
-        Ok(network) => findings_answer(rt, alloc, &network),
-        Err(FileFault::Text(fault)) => Answer::of_fault(alloc, &fault),
-        Err(FileFault::Memory) => Err(AllocError),
+        Ok(network) => {
+            let answer = findings_answer(rt, alloc, &network);
+            drop(network);
+            answer
+        }
+        Err(fault) => fault_answer(alloc, fault),
     }
 }

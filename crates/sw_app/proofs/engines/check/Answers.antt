@@ -1,15 +1,18 @@
-use Rattle.sw_app.specs.CheckAnswers.{IsCheckAnswer}
+use Rattle.sw_app.specs.CheckAnswers.{AreShownFree, IsCheckAnswer}
 use Rattle.sw_ends.specs.Inputs.{given}
-use Rattle.sw_ends.proofs.Endings.{told_answer_of_two, told_memory_of_two}
+use Rattle.sw_ends.proofs.Endings.{told_memory_of_two}
+use Rattle.sw_app.proofs.Told.{answered_of_two, shown_of_two}
 use Rattle.sw_app.proofs.engines.check.Goals as goal
 
 pub returns-in-Err-Memory-clause-answer : goal.returns-in-Err-Memory-clause-answer
 returns-in-Err-Memory-clause-answer g c = told_memory_of_two IsCheckAnswer _ _ _ _ _ c.tell_memory.ensures
 
-pub returns-in-Ok-check_answer-clause-answer : goal.returns-in-Ok-check_answer-clause-answer
-returns-in-Ok-check_answer-clause-answer g c =
-    told_answer_of_two IsCheckAnswer _ _ _ _ _ (given c.in-Ok.inputs.0) (given c.in-Ok.inputs.1) c.as_str.result.now c.in-Ok-check_answer.answer.status
-    c.in-Ok.ensures.first c.in-Ok.ensures.second (rw c.as_str.ensures.value c.in-Ok-check_answer.ensures.answer) c.tell.ensures
-
 pub returns-clause-answer : goal.returns-clause-answer
-returns-clause-answer g c = told_memory_of_two IsCheckAnswer _ _ _ _ _ c.tell_memory-in-Err.ensures
+returns-clause-answer g c =
+    answered_of_two IsCheckAnswer _ _ _ _ _ (given c.in-Ok.inputs.0) (given c.in-Ok.inputs.1) c.check_answer.result c.in-Ok.ensures.first
+    c.in-Ok.ensures.second c.check_answer.ensures.answer c.tell_answer.ensures
+
+pub returns-clause-shown : goal.returns-clause-shown
+returns-clause-shown g c =
+    shown_of_two _ _ _ _ (given c.in-Ok.inputs.0) (given c.in-Ok.inputs.1) AreShownFree c.check_answer.result _ c.in-Ok.ensures.first c.in-Ok.ensures.second
+    c.check_answer.ensures.shown c.tell_answer.ensures

@@ -1,17 +1,13 @@
 use Rattle.std.proofs.Common.{ap, Err}
 use Rattle.sw_app.specs.RouteAnswers.{IsRouteAnswer}
-use Rattle.sw_ends.proofs.Endings.{told_answer, told_memory, told_unread}
+use Rattle.sw_ends.proofs.Endings.{told_unread}
+use Rattle.sw_app.proofs.Told.{answered}
 use Rattle.sw_app.proofs.engines.route.Goals as goal
 
 pub returns-in-Err : goal.returns-in-Err
-returns-in-Err g c =
-    told_unread (IsRouteAnswer c.args.flow.now) _ _ _ _ _ _ (λ long. c.in-Err.ensures.long (ap Err long)) c.tell_unread.ensures
-
-pub returns-in-Ok-route_answer : goal.returns-in-Ok-route_answer
-returns-in-Ok-route_answer g c =
-    told_answer (IsRouteAnswer c.args.flow.now) _ _ _ _ c.deref.result.now c.as_str.result.now c.in-Ok-route_answer.answer.status
-    (rw c.deref.ensures.value c.in-Ok.ensures.whole) (rw c.deref.ensures.value c.in-Ok.ensures.within)
-    (rw c.as_str.ensures.value c.in-Ok-route_answer.ensures) c.tell.ensures
+returns-in-Err g c = told_unread (IsRouteAnswer c.args.flow.now) _ _ _ _ _ _ (λ long. c.in-Err.ensures.long (ap Err long)) c.tell_unread.ensures
 
 pub returns : goal.returns
-returns g c = told_memory (IsRouteAnswer c.args.flow.now) _ _ _ _ c.tell_memory.ensures
+returns g c =
+    answered (IsRouteAnswer c.args.flow.now) _ _ _ _ c.deref.result.now c.route_answer.result (rw c.deref.ensures.value c.in-Ok.ensures.whole)
+    (rw c.deref.ensures.value c.in-Ok.ensures.within) c.route_answer.ensures c.tell_answer.ensures

@@ -1,15 +1,13 @@
-use Rattle.sw_ends.specs.Inputs.{given}
 use Rattle.sw_app.specs.ReplayAnswers.{IsReplayAnswer}
-use Rattle.sw_ends.proofs.Endings.{told_answer_of_two, told_memory_of_two}
+use Rattle.sw_ends.specs.Inputs.{given}
+use Rattle.sw_ends.proofs.Endings.{told_memory_of_two}
+use Rattle.sw_app.proofs.Told.{answered_of_two}
 use Rattle.sw_app.proofs.replay_engine.replay.Goals as goal
 
 pub returns-in-Err-Memory-clause-answer : goal.returns-in-Err-Memory-clause-answer
 returns-in-Err-Memory-clause-answer g c = told_memory_of_two IsReplayAnswer _ _ _ _ _ c.tell_memory.ensures
 
-pub returns-in-Ok-replay_answer-clause-answer : goal.returns-in-Ok-replay_answer-clause-answer
-returns-in-Ok-replay_answer-clause-answer g c =
-    told_answer_of_two IsReplayAnswer _ _ _ _ _ (given c.in-Ok.inputs.0) (given c.in-Ok.inputs.1) c.as_str.result.now c.in-Ok-replay_answer.answer.status
-    c.in-Ok.ensures.first c.in-Ok.ensures.second (rw c.as_str.ensures.value c.in-Ok-replay_answer.ensures) c.tell.ensures
-
 pub returns-clause-answer : goal.returns-clause-answer
-returns-clause-answer g c = told_memory_of_two IsReplayAnswer _ _ _ _ _ c.tell_memory-in-Err.ensures
+returns-clause-answer g c =
+    answered_of_two IsReplayAnswer _ _ _ _ _ (given c.in-Ok.inputs.0) (given c.in-Ok.inputs.1) c.replay_answer.result c.in-Ok.ensures.first
+    c.in-Ok.ensures.second c.replay_answer.ensures c.tell_answer.ensures
