@@ -105,7 +105,7 @@ fn empty_row<A: Arbiter + Drop>(alloc: Global) -> Result<Vec<Option<A>>, AllocEr
 {
     let mut row = Vec::new(alloc);
     for port in 0..PORTS {
-        row.push(None)?;
+        push_made(&mut row, Ok(None))?;
     }
     Ok(row)
 }
@@ -174,16 +174,19 @@ fn new_switch<R: Routing + Drop, A: Arbiter + Drop>(
     network: &Network,
     w: u16,
     routes: R,
+    capacities: &[usize],
     arbiters: Vec<Option<A>>,
 ) -> Result<SwitchCell<R, A>, AllocError>
     requires switch { w < length network.now.switches }
+    requires whole { length capacities.now ≡ 32 }
+    requires capacities { All IsCapacity capacities.now }
+    requires each { (port capacity : ℕ) → slice_get capacities.now port ≡ Some capacity → capacity ≡ port_capacity network.now w port }
     requires routes { (byte : ℕ) → R.answer routes byte ≡ look_at network.now.switches w byte }
     requires arbiters { IsRow A.ports network.now (length (ends_of network.now)) w arbiters.items }
     ensures { IfOk result (IsNewSwitch R.answer A.ports network.now w) }
 {
     let linked = network.topology().linked(w);
-    let capacities = capacities(alloc, network, w)?;
-    SwitchCell::new(alloc, routes, linked, &capacities, arbiters)
+    SwitchCell::new(alloc, routes, linked, capacities, arbiters)
 }
 
 /// The next switch has the next routing and the next row.
@@ -199,9 +202,11 @@ fn push_switch<R: Routing + Drop, A: Arbiter + Drop>(
     requires left { AreLeft R.answer A.ports network.now w (into_iter_items tables.old) (into_iter_items rows.old) switches.old.items }
     ensures { OnOk result (AreLeft R.answer A.ports network.now (w + 1) (into_iter_items tables.new) (into_iter_items rows.new) switches.new.items) }
 {
+    let capacities = capacities(alloc, network, w)?;
     let table = tables.next().unwrap();
     let row = rows.next().unwrap();
-    push_made(switches, new_switch(alloc, network, w, table, row))
+    let switch = new_switch(alloc, network, w, table, &capacities, row);
+    push_made(switches, switch)
 }
 
 fn push_switches<R: Routing + Drop, A: Arbiter + Drop>(
