@@ -1,12 +1,13 @@
 -- The cells of a new network.
 use Rattle.std.proofs.Common.{IsBitSet, IsSome, List, None, Option, Some, [], ap, arith, drop, get_or, inl, inr, length, length-set, map, refl, replicate, set, subst, suc, sym, zero, ℕ, ◌+◌, ◌*◌, ◌^◌, ◌<◌, ◌↔◌, ◌∙◌, ◌∷◌, ◌++◌, ◌≡◌, ◌⊎◌, ⊎_elim}
 use Rattle.std.proofs.lemmas.Bool.{cases_eq}
-use Rattle.std.proofs.lemmas.List.{length-map, length-replicate}
+use Rattle.std.proofs.lemmas.List.{length-map, length-replicate, length_push}
 use Rattle.std.proofs.lemmas.Nat.Bits.{same_from_bits_below}
 use Rattle.std.proofs.lemmas.Option.{get_or_from_slice_get, same_Some, slice_get-get_or, slice_get_within}
+use Rattle.std.specs.Global.{Vec}
 use Rattle.std.specs.Int.{bit_at}
 use Rattle.std.specs.Option.{option_map_or}
-use Rattle.std.specs.Prelude.{Err, IfOk, Ok, Result, slice_get, slice_index}
+use Rattle.std.specs.Prelude.{Err, IfOk, Ok, OnOk, Result, slice_get, slice_index}
 use Rattle.sw_cells.proofs.Dropping.{some_of}
 use Rattle.sw_cells.proofs.Switches.{port_small}
 use Rattle.sw_cells.specs.Parts.{IsBetweenPart}
@@ -17,7 +18,7 @@ use Rattle.sw_machine.specs.State.{empty}
 use Rattle.sw_model.specs.Model.{memory_at_first, network_of}
 use Rattle.sw_net.proofs.Steps.{get_set_other, get_set_same}
 use Rattle.sw_net.specs.Net.{IsNet, IsNetState, net_of}
-use Rattle.sw_net.specs.New.{AreArbiters, IsLinkedSet, IsNewNode, IsNewSwitch, IsPlaced, IsRow, port_capacity}
+use Rattle.sw_net.specs.New.{AreArbiters, AreLeft, AreRoutes, IsLinkedSet, IsNewNode, IsNewSwitch, IsOneMore, IsPlaced, IsRow, port_capacity}
 use Rattle.sw_network.proofs.Steps.{length-link_ends}
 use Rattle.sw_network.specs.Entries.{Declaration, capacities, look_at, target_of, wiring_of}
 use Rattle.sw_network.specs.Valid.{IsValid}
@@ -66,10 +67,28 @@ module _ {X : Type 0} where
   first_left (y ∷ l) zero x rest e = let a : y ≡ x = cc in let b : l ≡ rest = cc in (ap Some a, sym b)
   first_left (y ∷ l) (suc c) x rest e = let h = first_left l c x rest e in let same : suc c + 1 ≡ suc (c + 1) = omega arith in (h.0, h.1 ∙ ap (λ k. drop k (y ∷ l)) (sym same))
 
+-- each of the elements is so, and one that was made is so too
+pub made_too : {X E : Type 0} (P : ℕ → X → Type 0) (l all : List X) (made : Result X E) (n : ℕ) → length l ≡ n → IfOk made (P n) → IsOneMore l made all → ((m : ℕ) (y : X) → slice_get l m ≡ Some y → P m y)
+    → (length all ≡ n + 1) × ((m : ℕ) (y : X) → slice_get all m ≡ Some y → P m y)
+made_too P l all made n size is (x, was, pushed) others =
+    let here = subst (λ r. IfOk r (P n)) was is in
+    let longer : length all ≡ n + 1 = omega (arith, length_push l x, ap length pushed, size) in
+    (longer, each_push P l all x pushed (subst (λ k. P k x) (sym size) here) others)
+
 -- what holds of a value, if what it follows from does
 pub if_ok : {T E : Type 0} {P Q : T → Type 0} (r : Result T E) → ((x : T) → P x → Q x) → IfOk r P → IfOk r Q
 if_ok (Ok x) then h = then x h
 if_ok (Err e) then h = tt
+
+pub on_ok : {T E P Q : Type 0} (r : Result T E) → (P → Q) → OnOk r P → OnOk r Q
+on_ok (Ok x) then h = then h
+on_ok (Err e) then h = tt
+
+pub if_is : {T E : Type 0} (P : T → Type 0) (r : Result T E) (x : T) → r ≡ Ok x → IfOk r P → P x
+if_is {T} {E} P r x is h = subst (λ (k : Result T E). IfOk k P) is h
+
+pub when_ok : {E P : Type 0} (r : Result Unit E) → r ≡ Ok tt → OnOk r P → P
+when_ok {E} {P} r is h = subst (λ (k : Result Unit E). OnOk k P) is h
 
 -- ---- channels
 
@@ -239,6 +258,42 @@ module _ {R A : Type 0} (answer : R → ℕ → Look) (arbiter_ports : A → ℕ
       ports = λ c port at. record { buffer = sym (end_buffer caps port); outstanding = sym (end_outstanding caps port); input = ap (input_of (ends_of d) w) (sym (all_same 32 port ports.Idle)) };
     };
   }
+
+-- ---- one switch after another
+
+module _ {R A : Type 0} (answer : R → ℕ → Look) (arbiter_ports : A → ℕ) (d : Declaration) where
+  pub none_made : (tables : List R) (rows : List (Vec (Option A))) → AreRoutes answer d tables → length rows ≡ length d.switches
+      → ((w : ℕ) (row : Vec (Option A)) → slice_get rows w ≡ Some row → IsRow arbiter_ports d (length (ends_of d)) w row.items) → AreLeft answer arbiter_ports d 0 tables rows []
+  none_made tables rows routes all each = record {
+    all_tables = let e = routes.all in omega arith;
+    all_rows = omega arith;
+    all_made = refl;
+    each_table = λ k r at byte. let same : k ≡ k + 0 = omega arith in subst (λ j. answer r byte ≡ look_at d.switches j byte) same (routes.answers k r at byte);
+    each_row = λ k row at. let same : k ≡ k + 0 = omega arith in subst (λ j. IsRow arbiter_ports d (length (ends_of d)) j row.items) same (each k row at);
+    each_made = λ k cell at. absurd (cc);
+  }
+
+  pub next_made : {E : Type 0} (w : ℕ) (tables more : List R) (rows more_rows : List (Vec (Option A))) (cells all : List (Cell R A)) (r : R) (row : Vec (Option A)) (made : Result (Cell R A) E)
+      → tables ≡ r ∷ more → rows ≡ row ∷ more_rows → IfOk made (IsNewSwitch answer arbiter_ports d w) → IsOneMore cells made all
+      → AreLeft answer arbiter_ports d w tables rows cells → AreLeft answer arbiter_ports d (w + 1) more more_rows all
+  next_made w tables more rows more_rows cells all r row made is row_is new one left =
+      let both = made_too (IsNewSwitch answer arbiter_ports d) cells all made w left.all_made new one left.each_made in
+      record {
+        all_tables = let e = left.all_tables in let l : length tables ≡ suc (length more) = ap length is in omega arith;
+        all_rows = let e = left.all_rows in let l : length rows ≡ suc (length more_rows) = ap length row_is in omega arith;
+        all_made = both.0;
+        each_table = λ k x at byte. let same : suc k + w ≡ k + (w + 1) = omega arith in
+            subst (λ j. answer x byte ≡ look_at d.switches j byte) same (left.each_table (suc k) x (subst (λ l. slice_get l (suc k) ≡ Some x) (sym is) at) byte);
+        each_row = λ k x at. let same : suc k + w ≡ k + (w + 1) = omega arith in
+            subst (λ j. IsRow arbiter_ports d (length (ends_of d)) j x.items) same (left.each_row (suc k) x (subst (λ l. slice_get l (suc k) ≡ Some x) (sym row_is) at));
+        each_made = both.1;
+      }
+
+  pub table_is : (w : ℕ) (tables more : List R) (rows : List (Vec (Option A))) (cells : List (Cell R A)) (r : R) → tables ≡ r ∷ more → AreLeft answer arbiter_ports d w tables rows cells → (byte : ℕ) → answer r byte ≡ look_at d.switches w byte
+  table_is w tables more rows cells r is left byte = let same : 0 + w ≡ w = omega arith in subst (λ j. answer r byte ≡ look_at d.switches j byte) same (left.each_table 0 r (ap (λ l. slice_get l 0) is) byte)
+
+  pub row_is : (w : ℕ) (tables : List R) (rows more : List (Vec (Option A))) (cells : List (Cell R A)) (row : Vec (Option A)) → rows ≡ row ∷ more → AreLeft answer arbiter_ports d w tables rows cells → IsRow arbiter_ports d (length (ends_of d)) w row.items
+  row_is w tables rows more cells row is left = let same : 0 + w ≡ w = omega arith in subst (λ j. IsRow arbiter_ports d (length (ends_of d)) j row.items) same (left.each_row 0 row (ap (λ l. slice_get l 0) is))
 
 -- ---- the whole
 

@@ -3,7 +3,7 @@ use mathlib.Core.Logic.{∥∥₁_map}
 use Rattle.std.proofs.Common.{ℕ, Bool, Err, List, Some, [], ◌∷◌, ap, arith, false, get_or, length, length-set, refl, set, subst, suc, sym, true, zero, ◌<◌, ◌≡◌, ◌≢◌, ◌∙◌, ⊎_elim}
 use Rattle.std.proofs.lemmas.Bool.{cases_eq}
 use Rattle.std.proofs.lemmas.Option.{same_Some, slice_get-get_or, slice_get_within}
-use Rattle.std.specs.Prelude.{OnErr, slice_get}
+use Rattle.std.specs.Prelude.{Ok, OnErr, Result, slice_get}
 use Rattle.sw_cell.specs.Answers.{Answers, Stores, done}
 use Rattle.sw_cell.specs.Places.{HasNamed, IsAt, IsDoneAt, IsUndeclared}
 use Rattle.sw_cell.specs.declared.cell.CellId.TheVariants as place
@@ -60,6 +60,10 @@ module _ {X : Type 0} where
       (cases_eq m n)
 
 -- ---- answers
+
+pub on_err : {T E P : Type 0} (r : Result T E) → P → OnErr r P
+on_err (Ok x) h = tt
+on_err (Err e) h = h
 
 pub is_declared : (d : Declaration) (step : Step) → HasNamed (network_of d) step → IsUndeclared (network_of d) step → ⊥
 is_declared d (Fct c) named not = not

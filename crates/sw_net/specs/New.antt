@@ -1,6 +1,7 @@
 -- What a new network is made of, and its cells at first.
+use Rattle.std.specs.Global.{Vec}
 use Rattle.std.specs.Option.{option_map_or}
-use Rattle.std.specs.Prelude.{IsBitSet, IsSome, List, None, Option, Some, [], length, slice_get, slice_index, ℕ, ◌<◌, ◌^◌, ◌∷◌, ◌↔◌, ◌≡◌}
+use Rattle.std.specs.Prelude.{IsBitSet, IsSome, List, None, Ok, Option, Result, Some, [], length, slice_get, slice_index, ℕ, ◌+◌, ◌++◌, ◌<◌, ◌^◌, ◌∷◌, ◌↔◌, ◌≡◌}
 use Rattle.sw_cells.specs.Parts.{IsNodeFor, IsNodePart}
 use Rattle.sw_cells.specs.SwitchParts.{IsSwitchFor, IsSwitchPart}
 use Rattle.sw_flow.specs.Places.{ends_of}
@@ -62,3 +63,16 @@ IsPlaced ports d w (Some (Some a)) = IsLinkedSet d w (ports a)
 pub record IsRow {A : Type 0} (ports : A → ℕ) (d : Declaration) (channels w : ℕ) (row : List (Option A)) : Type 0 where
   pub whole : length row ≡ 32
   pub placed : (c port : ℕ) → c < channels → slice_get (ends_of d) c ≡ Some (place.Switch w port) → IsPlaced ports d w (slice_get row port)
+
+-- a value was made, and stands at the end
+abbrev pub IsOneMore : {X E : Type 0} → List X → Result X E → List X → Type 0
+IsOneMore {X} l made all = (x : X) × (made ≡ Ok x) × (all ≡ l ++ x ∷ [])
+
+-- the first w switches are made, and these routings and rows are those of the others
+pub record AreLeft {R A : Type 0} (answer : R → ℕ → Look) (arbiter_ports : A → ℕ) (d : Declaration) (w : ℕ) (tables : List R) (rows : List (Vec (Option A))) (made : List (Cell R A)) : Type 0 where
+  pub all_tables : length tables + w ≡ length d.switches
+  pub all_rows : length rows + w ≡ length d.switches
+  pub all_made : length made ≡ w
+  pub each_table : (k : ℕ) (r : R) → slice_get tables k ≡ Some r → (byte : ℕ) → answer r byte ≡ look_at d.switches (k + w) byte
+  pub each_row : (k : ℕ) (row : Vec (Option A)) → slice_get rows k ≡ Some row → IsRow arbiter_ports d (length (ends_of d)) (k + w) row.items
+  pub each_made : (k : ℕ) (cell : Cell R A) → slice_get made k ≡ Some cell → IsNewSwitch answer arbiter_ports d k cell

@@ -1,10 +1,10 @@
 //! A new network.
-ghost use Rattle.std.specs.Prelude.{◌≡◌, ◌<◌, ◌+◌, ℕ, All, Option, IfOk, Some, drop, length, slice_get};
+ghost use Rattle.std.specs.Prelude.{◌≡◌, ◌<◌, ◌+◌, ℕ, All, Option, IfOk, Ok, OnOk, Some, drop, length, slice_get};
 ghost use Rattle.std.specs.Global.{Vec};
 ghost use Rattle.std.specs.Vec.Iter.{into_iter_items};
 ghost use Rattle.sw_flow.specs.Places.{ends_of};
 ghost use Rattle.sw_link.specs.Ends.{IsCapacity};
-ghost use Rattle.sw_net.specs.New.{AreArbiters, AreRoutes, IsNewNet, IsNewNode, IsNewSwitch, IsRow, port_capacity};
+ghost use Rattle.sw_net.specs.New.{AreArbiters, AreLeft, AreRoutes, IsNewNet, IsNewNode, IsNewSwitch, IsOneMore, IsRow, port_capacity};
 ghost use Rattle.sw_network.specs.Entries.{look_at};
 ghost use Rattle.sw_node.specs.Node.{Node};
 ghost use Rattle.sw_switch.specs.Cell.{Cell};
@@ -25,6 +25,33 @@ const PORTS: u8 = 32;
 
 /// A port of a switch with no link has this capacity, which is not used.
 const NO_LINK: usize = 8;
+
+/// Puts an element that was made at the end.
+fn push_made<T: Drop>(all: &mut Vec<T>, made: Result<T, AllocError>) -> Result<(), AllocError>
+    ensures { OnOk result (IsOneMore all.old.items made all.new.items) }
+{
+    all.push(made?)?;
+    Ok(())
+}
+
+/// The value, if all that it needs was done.
+fn when_done<T: Drop>(done: Result<(), AllocError>, value: T) -> Result<T, AllocError>
+    ensures { IfOk result (λ v. (done ≡ Ok tt) × (v ≡ value)) }
+{
+    done?;
+    Ok(value)
+}
+
+/// Both, if both were made.
+fn both<T: Drop, U: Drop>(
+    first: Result<T, AllocError>,
+    second: Result<U, AllocError>,
+) -> Result<(T, U), AllocError>
+    ensures { IfOk result (λ p. (first ≡ Ok p.0) × (second ≡ Ok p.1)) }
+{
+    let first = first?;
+    Ok((first, second?))
+}
 
 /// What the channel that comes to the port can hold.
 fn capacity(network: &Network, w: u16, port: Port) -> usize
@@ -67,7 +94,7 @@ fn new_nodes(alloc: Global, network: &Network) -> Result<Vec<NodeCell>, AllocErr
 {
     let mut nodes = Vec::new(alloc);
     for n in 0..network.nodes() {
-        nodes.push(new_node(alloc, network, n)?)?;
+        push_made(&mut nodes, new_node(alloc, network, n))?;
     }
     Ok(nodes)
 }
@@ -78,7 +105,7 @@ fn empty_row<A: Arbiter + Drop>(alloc: Global) -> Result<Vec<Option<A>>, AllocEr
 {
     let mut row = Vec::new(alloc);
     for port in 0..PORTS {
-        row.push(None)?;
+        push_made(&mut row, Ok(None))?;
     }
     Ok(row)
 }
@@ -92,7 +119,7 @@ fn empty_rows<A: Arbiter + Drop>(
 {
     let mut rows = Vec::new(alloc);
     for w in 0..network.switches() {
-        rows.push(empty_row(alloc)?)?;
+        push_made(&mut rows, empty_row(alloc))?;
     }
     Ok(rows)
 }
@@ -147,16 +174,55 @@ fn new_switch<R: Routing + Drop, A: Arbiter + Drop>(
     network: &Network,
     w: u16,
     routes: R,
+    capacities: &[usize],
     arbiters: Vec<Option<A>>,
 ) -> Result<SwitchCell<R, A>, AllocError>
     requires switch { w < length network.now.switches }
+    requires whole { length capacities.now ≡ 32 }
+    requires capacities { All IsCapacity capacities.now }
+    requires each { (port capacity : ℕ) → slice_get capacities.now port ≡ Some capacity → capacity ≡ port_capacity network.now w port }
     requires routes { (byte : ℕ) → R.answer routes byte ≡ look_at network.now.switches w byte }
     requires arbiters { IsRow A.ports network.now (length (ends_of network.now)) w arbiters.items }
     ensures { IfOk result (IsNewSwitch R.answer A.ports network.now w) }
 {
     let linked = network.topology().linked(w);
+    SwitchCell::new(alloc, routes, linked, capacities, arbiters)
+}
+
+/// The next switch has the next routing and the next row.
+fn push_switch<R: Routing + Drop, A: Arbiter + Drop>(
+    alloc: Global,
+    network: &Network,
+    w: u16,
+    tables: &mut IntoIter<R>,
+    rows: &mut IntoIter<Vec<Option<A>>>,
+    switches: &mut Vec<SwitchCell<R, A>>,
+) -> Result<(), AllocError>
+    requires switch { w < length network.now.switches }
+    requires left { AreLeft R.answer A.ports network.now w (into_iter_items tables.old) (into_iter_items rows.old) switches.old.items }
+    ensures { OnOk result (AreLeft R.answer A.ports network.now (w + 1) (into_iter_items tables.new) (into_iter_items rows.new) switches.new.items) }
+{
     let capacities = capacities(alloc, network, w)?;
-    SwitchCell::new(alloc, routes, linked, &capacities, arbiters)
+    let table = tables.next().unwrap();
+    let row = rows.next().unwrap();
+    let switch = new_switch(alloc, network, w, table, &capacities, row);
+    push_made(switches, switch)
+}
+
+fn push_switches<R: Routing + Drop, A: Arbiter + Drop>(
+    alloc: Global,
+    network: &Network,
+    tables: &mut IntoIter<R>,
+    rows: &mut IntoIter<Vec<Option<A>>>,
+    switches: &mut Vec<SwitchCell<R, A>>,
+) -> Result<(), AllocError>
+    requires { AreLeft R.answer A.ports network.now 0 (into_iter_items tables.old) (into_iter_items rows.old) switches.old.items }
+    ensures { OnOk result (AreLeft R.answer A.ports network.now (length network.now.switches) (into_iter_items tables.new) (into_iter_items rows.new) switches.new.items) }
+{
+    for w in 0..network.switches() {
+        push_switch(alloc, network, w, tables, rows, switches)?;
+    }
+    Ok(())
 }
 
 fn new_switches<R: Routing + Drop, A: Arbiter + Drop>(
@@ -174,12 +240,8 @@ fn new_switches<R: Routing + Drop, A: Arbiter + Drop>(
     let mut switches = Vec::new(alloc);
     let mut tables = routes.into_iter();
     let mut arbiters = rows.into_iter();
-    for w in 0..network.switches() {
-        let table = tables.next().unwrap();
-        let row = arbiters.next().unwrap();
-        switches.push(new_switch(alloc, network, w, table, row)?)?;
-    }
-    Ok(switches)
+    let done = push_switches(alloc, network, &mut tables, &mut arbiters, &mut switches);
+    when_done(done, switches)
 }
 
 impl<'n, R: Routing + Drop, A: Arbiter + Drop> Net<'n, R, A> {
@@ -196,10 +258,13 @@ impl<'n, R: Routing + Drop, A: Arbiter + Drop> Net<'n, R, A> {
         requires arbiters { AreArbiters A.ports network.now (ends_of network.now) arbiters.items }
         ensures { IfOk result (IsNewNet network.entry.now) }
     {
-        let nodes = new_nodes(alloc, network)?;
         let rows = placed(alloc, network, arbiters)?;
-        let switches = new_switches(alloc, network, routes, rows)?;
-        let wires = Wires::new(alloc, network.topology().channels() as usize)?;
+        let cells = both(
+            new_nodes(alloc, network),
+            new_switches(alloc, network, routes, rows),
+        );
+        let wires = Wires::new(alloc, network.topology().channels() as usize);
+        let ((nodes, switches), wires) = both(cells, wires)?;
         Ok(Net {
             network,
             nodes,

@@ -17,9 +17,5 @@ returns g c =
     let d = c.args.network.now in
     let small : c.linked-linked.result < 2 ^ 32 = search rules in
     let is_linked = subst (λ (k : Wiring). (p : ℕ) → p < 32 → IsBitSet c.linked-linked.result p ↔ IsSome (out_of k.ends c.args.w p)) c.topology.ensures.wiring c.linked-linked.ensures in
-    let caps = c.deref.result.now in
-    let same = sym c.deref.ensures.value in
-    let whole = subst (λ l. length l ≡ 32) same c.in_ok-capacities.ensures.whole in
-    let each = subst (λ l. (port k : ℕ) → slice_get l port ≡ Some k → k ≡ port_capacity d c.args.w port) same c.in_ok-capacities.ensures.each in
-    let is = new_switch_is g.R.Routing.answer g.A.Arbiter.ports d c.topology.ensures.valid c.args.w c.linked-linked.result small is_linked c.args.routes caps c.args.arbiters.items c.requires.switch c.requires.routes whole each c.requires.arbiters in
+    let is = new_switch_is g.R.Routing.answer g.A.Arbiter.ports d c.topology.ensures.valid c.args.w c.linked-linked.result small is_linked c.args.routes c.args.capacities.now c.args.arbiters.items c.requires.switch c.requires.routes c.requires.whole c.requires.each c.requires.arbiters in
     if_ok c.new.result (λ cell e. subst (IsNewSwitch g.R.Routing.answer g.A.Arbiter.ports d c.args.w) (sym e) is) c.new.ensures

@@ -1,34 +1,34 @@
-use Rattle.std.proofs.Common.{[], ap, arith, length, rules, subst, sym, ◌++◌, ◌∷◌, ◌≡◌, ◌+◌, ◌∙◌}
-use Rattle.std.proofs.lemmas.List.{length_push}
-use Rattle.std.specs.Option.{option_to_list}
+use Rattle.std.proofs.Common.{Some, length, subst, sym, ℕ, ◌≡◌}
+use Rattle.std.specs.Global.{Vec}
+use Rattle.std.specs.Prelude.{slice_get}
 use Rattle.std.specs.Vec.Iter.{into_iter_items}
-use Rattle.sw_net.proofs.New.{each_push, first_left}
-use Rattle.sw_net.specs.New.{IsNewSwitch}
+use Rattle.sw_net.proofs.New.{if_ok, none_made, when_ok}
+use Rattle.sw_net.specs.New.{AreLeft, IsNewSwitch}
+use Rattle.sw_switch.specs.Cell.{Cell}
 use Rattle.sw_net.proofs.make.new_switches.Goals as goal
 
-pub new_switch-requires-clause-routes : goal.new_switch-requires-clause-routes
-new_switch-requires-clause-routes g c =
-    let next = c.next.ensures.items ∙ ap (λ o. option_to_list o ++ into_iter_items c.next.new.self) c.unwrap-table.ensures in
-    let first = first_left c.args.routes.items c.loop-w.w c.unwrap-table.result (into_iter_items c.next.new.self) (sym c.loop-w.invariant.1 ∙ next) in
-    c.requires.routes.answers c.loop-w.w c.unwrap-table.result first.0
-
-pub new_switch-requires-clause-arbiters : goal.new_switch-requires-clause-arbiters
-new_switch-requires-clause-arbiters g c =
-    let next = c.next-in-loop-w.ensures.items ∙ ap (λ o. option_to_list o ++ into_iter_items c.next-in-loop-w.new.self) c.unwrap-row.ensures in
-    let first = first_left c.args.rows.items c.loop-w.w c.unwrap-row.result (into_iter_items c.next-in-loop-w.new.self) (sym c.loop-w.invariant.2 ∙ next) in
-    c.requires.each c.loop-w.w c.unwrap-row.result first.0
-
-pub loop-w-preserved : goal.loop-w-preserved
-loop-w-preserved g c =
+pub push_switches-done-requires : goal.push_switches-done-requires
+push_switches-done-requires g c =
     let d = c.args.network.now in
-    let tables = c.next.ensures.items ∙ ap (λ o. option_to_list o ++ into_iter_items c.next.new.self) c.unwrap-table.ensures in
-    let table = first_left c.args.routes.items c.loop-w.w c.unwrap-table.result (into_iter_items c.next.new.self) (sym c.loop-w.invariant.1 ∙ tables) in
-    let rows = c.next-in-loop-w.ensures.items ∙ ap (λ o. option_to_list o ++ into_iter_items c.next-in-loop-w.new.self) c.unwrap-row.ensures in
-    let row = first_left c.args.rows.items c.loop-w.w c.unwrap-row.result (into_iter_items c.next-in-loop-w.new.self) (sym c.loop-w.invariant.2 ∙ rows) in
-    let l = c.loop-w.switches.items in
-    let x = c.in_ok-new_switch.field-0 in
-    let pushed : c.push.new.self.items ≡ l ++ x ∷ [] = search rules in
-    let before = c.loop-w.invariant.0 in
-    let size : length c.push.new.self.items ≡ c.loop-w.w + 1 = omega (arith, length_push l x, ap length pushed, before) in
-    let P = IsNewSwitch g.R.Routing.answer g.A.Arbiter.ports d in
-    (size, table.1, row.1, each_push P l c.push.new.self.items x pushed (subst (λ k. P k x) (sym before) (c.in_ok-new_switch.ensures)) c.loop-w.invariant.3)
+    let answer = g.R.Routing.answer in
+    let ports = g.A.Arbiter.ports in
+    let first = none_made answer ports d c.args.routes.items c.args.rows.items c.requires.routes c.requires.all c.requires.each in
+    subst (λ t. AreLeft answer ports d 0 t (into_iter_items c.into_iter-arbiters.result) c.new-switches.result.items) (sym c.into_iter-tables.ensures.rest)
+    (subst (λ r. AreLeft answer ports d 0 c.args.routes.items r c.new-switches.result.items) (sym c.into_iter-arbiters.ensures.rest)
+    (subst (λ l. AreLeft answer ports d 0 c.args.routes.items c.args.rows.items l) (sym c.new-switches.ensures.items) first))
+
+pub returns : goal.returns
+returns g c =
+    let d = c.args.network.now in
+    let answer = g.R.Routing.answer in
+    let ports = g.A.Arbiter.ports in
+    let after = c.push_switches-done.new in
+    let made = AreLeft answer ports d (length d.switches) (into_iter_items after.tables) (into_iter_items after.rows) after.switches.items in
+    record {
+      all = if_ok c.when_done.result
+          (λ v h. subst (λ (k : Vec (Cell g.row.R.Denot g.row.A.Denot)). length k.items ≡ length d.switches) (sym h.1) (when_ok {P = made} c.push_switches-done.result h.0 c.push_switches-done.ensures).all_made)
+          c.when_done.ensures;
+      each = if_ok c.when_done.result
+          (λ v h. subst (λ (k : Vec (Cell g.row.R.Denot g.row.A.Denot)). (w : ℕ) (cell : Cell g.row.R.Denot g.row.A.Denot) → slice_get k.items w ≡ Some cell → IsNewSwitch answer ports d w cell) (sym h.1) (when_ok {P = made} c.push_switches-done.result h.0 c.push_switches-done.ensures).each_made)
+          c.when_done.ensures;
+    }

@@ -1,12 +1,13 @@
-use Rattle.std.proofs.Common.{None, rules, set, subst, sym, ◌≡◌}
+use Rattle.std.proofs.Common.{None, ap, refl, rules, set, subst, sym, ◌≡◌}
 use Rattle.sw_cells.specs.Picks.{GrantsPick}
 use Rattle.sw_machine.specs.Network.{AtSwitch}
 use Rattle.sw_machine.specs.Steps.{Grant}
 use Rattle.sw_model.specs.Model.{network_of}
 use Rattle.sw_net.proofs.Making.{none_is_made, picked_moves, picked_net, switch_here}
+use Rattle.sw_net.proofs.Steps.{same_switch}
 use Rattle.sw_net.proofs.net.Net.arbitrate.Goals as goal
 use Rattle.sw_net.specs.Making.{Moves}
-use Rattle.sw_net.specs.Net.{NetView, net_of}
+use Rattle.sw_net.specs.Net.{IsNet, NetView, net_of}
 
 pub arbitrate-requires-clause-cell : goal.arbitrate-requires-clause-cell
 arbitrate-requires-clause-cell g c =
@@ -36,3 +37,20 @@ returns-clause-moves g c =
     let moves = picked_moves g.R.Routing.answer g.A.Arbiter.ports g.A.Arbiter.policy c.self.inside.network.now c.self.inside.nodes.items c.self.inside.switches.items c.self.inside.wires c.self.invariant c.args.w c.index_mut-cell.result.now at c.args.end starts c.arbitrate.new.cell c.in_ok-channel.channel picks in
     subst (λ k. Moves g.R.Routing.answer g.A.Arbiter.policy c.args.self.now c.args.end (Grant k c.in_ok-channel.channel) after) (sym c.sends-2.ensures)
     (subst (λ (k : NetView g.row.R.Denot g.row.A.Denot). Moves g.R.Routing.answer g.A.Arbiter.policy k c.args.end (Grant c.args.end c.in_ok-channel.channel) after) c.self.view_is moves)
+
+pub arbitrate-requires-clause-at : goal.arbitrate-requires-clause-at
+arbitrate-requires-clause-at g c =
+    let starts = subst (λ (k : NetView g.row.R.Denot g.row.A.Denot). (network_of k.declared).start_of c.args.end ≡ AtSwitch c.args.w) (sym c.self.view_is) c.requires.at in
+    subst (λ k. (network_of c.self.inside.network.now).start_of k ≡ AtSwitch c.args.w) (sym c.sends.ensures) starts
+
+pub returns-clause-network : goal.returns-clause-network
+returns-clause-network g c = ap (λ (k : NetView g.row.R.Denot g.row.A.Denot). k.declared) c.self.view_is
+
+pub returns-in_err-channel-clause-network : goal.returns-in_err-channel-clause-network
+returns-in_err-channel-clause-network g c = ap (λ (k : NetView g.row.R.Denot g.row.A.Denot). k.declared) c.self.view_is
+
+pub invariant_of-self : goal.invariant_of-self
+invariant_of-self g c =
+    let at = switch_here g.R.Routing.answer g.A.Arbiter.ports (net_of c.self.inside.network.now c.self.inside.nodes.items c.self.inside.switches.items c.self.inside.wires) c.args.self.now c.self.view_is c.self.invariant c.args.w c.index_mut-cell.result.now c.requires.switch c.index_mut-cell.ensures.value in
+    let same = same_switch g.R.Routing.answer g.A.Arbiter.ports c.self.inside.network.now c.self.inside.nodes.items c.self.inside.switches.items c.self.inside.wires c.self.invariant (Grant c.args.end 0) c.args.w c.index_mut-cell.result.now at c.arbitrate.new.cell c.self.inside.wires c.in_err-channel.ensures.kept refl in
+    subst (IsNet g.R.Routing.answer g.A.Arbiter.ports) (sym same) c.self.invariant

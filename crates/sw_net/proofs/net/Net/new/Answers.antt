@@ -8,16 +8,23 @@ use Rattle.sw_wires.specs.Between.{empty_between}
 pub invariant_of-result : goal.invariant_of-result
 invariant_of-result g c =
     let d = c.args.network.now in
+    let ok = c.in_ok-nodes in
     let count = c.channels.ensures.channels ∙ ap (λ (k : Wiring). length k.ends) c.topology.ensures.wiring ∙ sym (channels_are d) in
-    new.new_net g.R.Routing.answer g.A.Arbiter.ports d c.topology.ensures.valid c.in_ok-nodes.nodes.items c.in_ok-switches.switches.items c.in_ok-wires.wires
-    (c.in_ok-wires.ensures ∙ ap empty_between count) c.in_ok-nodes.ensures.each c.in_ok-switches.ensures.each c.in_ok-nodes.ensures.all c.in_ok-switches.ensures.all
+    let both = new.if_is _ c.both-cells.result (ok.nodes, ok.switches) ok.ensures.0 c.both-cells.ensures in
+    let wires = new.if_is _ c.new-wires.result ok.wires ok.ensures.1 c.new-wires.ensures in
+    new.new_net g.R.Routing.answer g.A.Arbiter.ports d c.topology.ensures.valid ok.nodes.items ok.switches.items ok.wires
+    (wires ∙ ap empty_between count) (new.if_is _ c.new_nodes.result ok.nodes both.0 c.new_nodes.ensures.each) (new.if_is _ c.new_switches.result ok.switches both.1 c.new_switches.ensures.each)
+    (new.if_is _ c.new_nodes.result ok.nodes both.0 c.new_nodes.ensures.all) (new.if_is _ c.new_switches.result ok.switches both.1 c.new_switches.ensures.all)
 
 pub returns : goal.returns
 returns g c =
     let d = c.args.network.now in
+    let ok = c.in_ok-nodes in
     let count = c.channels.ensures.channels ∙ ap (λ (k : Wiring). length k.ends) c.topology.ensures.wiring ∙ sym (channels_are d) in
+    let both = new.if_is _ c.both-cells.result (ok.nodes, ok.switches) ok.ensures.0 c.both-cells.ensures in
+    let wires = new.if_is _ c.new-wires.result ok.wires ok.ensures.1 c.new-wires.ensures in
     record {
       network = refl;
-      empty = new.new_state g.R.Routing.answer g.A.Arbiter.ports d c.topology.ensures.valid c.in_ok-nodes.nodes.items c.in_ok-switches.switches.items c.in_ok-wires.wires
-          (c.in_ok-wires.ensures ∙ ap empty_between count) c.in_ok-nodes.ensures.each c.in_ok-switches.ensures.each;
+      empty = new.new_state g.R.Routing.answer g.A.Arbiter.ports d c.topology.ensures.valid ok.nodes.items ok.switches.items ok.wires
+          (wires ∙ ap empty_between count) (new.if_is _ c.new_nodes.result ok.nodes both.0 c.new_nodes.ensures.each) (new.if_is _ c.new_switches.result ok.switches both.1 c.new_switches.ensures.each);
     }

@@ -1,4 +1,4 @@
-use Rattle.std.proofs.Common.{ap, arith, subst, sym, true, ◌<◌, ◌∙◌, ◌≡◌}
+use Rattle.std.proofs.Common.{ap, arith, subst, sym, true, ◌<◌, ◌∙◌}
 use Rattle.sw_cells.proofs.Network.{nodes_are}
 use Rattle.sw_cells.specs.Possible.{step_at_node}
 use Rattle.sw_machine.specs.Parts.{link_end_of}

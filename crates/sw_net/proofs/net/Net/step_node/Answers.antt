@@ -1,7 +1,7 @@
-use Rattle.std.proofs.Common.{◌≡◌, Err, rules, set, subst, sym}
+use Rattle.std.proofs.Common.{◌≡◌, ◌∙◌, Err, ap, rules, set, subst, sym}
 use Rattle.sw_cell.specs.declared.fault.NetFault.TheVariants.{Memory}
 use Rattle.sw_net.proofs.Steps as steps
-use Rattle.sw_net.specs.Net.{NetAnswers, net_of}
+use Rattle.sw_net.specs.Net.{IsNet, NetAnswers, NetView, arbiters_of, net_of}
 use Rattle.sw_net.proofs.net.Net.step_node.Goals as goal
 use Rattle.sw_steps.specs.Steps.{machine_step}
 
@@ -32,3 +32,29 @@ returns-in_err-step_node-clause-answers g c =
     subst (λ k. NetAnswers k (machine_step c.args.step.now) c.from_residual.result (net_of c.self.inside.network.now (set c.self.inside.nodes.items c.args.n c.step_node.new.cell) c.self.inside.switches.items c.step_node.new.wires)) c.self.view_is
     (subst (λ r. NetAnswers (net_of c.self.inside.network.now c.self.inside.nodes.items c.self.inside.switches.items c.self.inside.wires) (machine_step c.args.step.now) r (net_of c.self.inside.network.now (set c.self.inside.nodes.items c.args.n c.step_node.new.cell) c.self.inside.switches.items c.step_node.new.wires)) (sym same)
     (steps.node_wants g.R.Routing.answer g.A.Arbiter.ports c.self.inside.network.now c.self.inside.nodes.items c.self.inside.switches.items c.self.inside.wires c.self.invariant (machine_step c.args.step.now) c.args.n c.index_mut-cell.result.now at (net_of c.self.inside.network.now (set c.self.inside.nodes.items c.args.n c.step_node.new.cell) c.self.inside.switches.items c.step_node.new.wires) c.in_err-step_node.ensures.stores c.in_err-step_node.ensures.possible))
+
+pub returns-clause-network : goal.returns-clause-network
+returns-clause-network g c = ap (λ (k : NetView g.row.R.Denot g.row.A.Denot). k.declared) c.self.view_is
+
+pub returns-clause-arbiters : goal.returns-clause-arbiters
+returns-clause-arbiters g c = ap (λ (k : NetView g.row.R.Denot g.row.A.Denot). arbiters_of k.switches) c.self.view_is
+
+pub returns-in_err-step_node-clause-network : goal.returns-in_err-step_node-clause-network
+returns-in_err-step_node-clause-network g c = ap (λ (k : NetView g.row.R.Denot g.row.A.Denot). k.declared) c.self.view_is
+
+pub returns-in_err-step_node-clause-arbiters : goal.returns-in_err-step_node-clause-arbiters
+returns-in_err-step_node-clause-arbiters g c = ap (λ (k : NetView g.row.R.Denot g.row.A.Denot). arbiters_of k.switches) c.self.view_is
+
+pub invariant_of-self : goal.invariant_of-self
+invariant_of-self g c =
+    let before = net_of c.self.inside.network.now c.self.inside.nodes.items c.self.inside.switches.items c.self.inside.wires in
+    let at = steps.node_found g.R.Routing.answer g.A.Arbiter.ports before c.args.self.now c.self.view_is c.self.invariant (machine_step c.args.step.now) c.args.n c.index_mut-cell.result.now c.requires c.index_mut-cell.ensures.value in
+    let same = steps.same_node g.R.Routing.answer g.A.Arbiter.ports c.self.inside.network.now c.self.inside.nodes.items c.self.inside.switches.items c.self.inside.wires c.self.invariant (machine_step c.args.step.now) c.args.n c.index_mut-cell.result.now at c.step_node.new.cell c.step_node.new.wires c.in_err-step_node.ensures.refused_cell c.in_err-step_node.ensures.refused_wires in
+    subst (IsNet g.R.Routing.answer g.A.Arbiter.ports) (sym same) c.self.invariant
+
+pub returns-in_err-step_node-clause-refused : goal.returns-in_err-step_node-clause-refused
+returns-in_err-step_node-clause-refused g c =
+    let before = net_of c.self.inside.network.now c.self.inside.nodes.items c.self.inside.switches.items c.self.inside.wires in
+    let at = steps.node_found g.R.Routing.answer g.A.Arbiter.ports before c.args.self.now c.self.view_is c.self.invariant (machine_step c.args.step.now) c.args.n c.index_mut-cell.result.now c.requires c.index_mut-cell.ensures.value in
+    let same = steps.same_node g.R.Routing.answer g.A.Arbiter.ports c.self.inside.network.now c.self.inside.nodes.items c.self.inside.switches.items c.self.inside.wires c.self.invariant (machine_step c.args.step.now) c.args.n c.index_mut-cell.result.now at c.step_node.new.cell c.step_node.new.wires c.in_err-step_node.ensures.refused_cell c.in_err-step_node.ensures.refused_wires in
+    steps.on_err c.from_residual.result (same ∙ c.self.view_is)

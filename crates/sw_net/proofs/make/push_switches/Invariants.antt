@@ -1,0 +1,6 @@
+use Rattle.std.specs.Vec.Iter.{into_iter_items}
+use Rattle.sw_net.specs.New.{AreLeft}
+use Rattle.sw_net.proofs.make.push_switches.Given as goal
+
+abbrev pub invariant-loop-w : goal.invariant-loop-w
+invariant-loop-w g l = AreLeft g.R.Routing.answer g.A.Arbiter.ports l.network l.w (into_iter_items l.tables) (into_iter_items l.rows) l.switches.items
