@@ -1,7 +1,6 @@
-use Rattle.std.proofs.Common.{IsBitSet, IsSome, Some, length, rules, subst, sym, ℕ, ◌<◌, ◌^◌, ◌↔◌, ◌≡◌}
-use Rattle.std.specs.Prelude.{slice_get}
+use Rattle.std.proofs.Common.{IsBitSet, IsSome, rules, subst, sym, ℕ, ◌<◌, ◌^◌, ◌↔◌}
 use Rattle.sw_net.proofs.New.{have_arbiters, if_ok, new_switch_is}
-use Rattle.sw_net.specs.New.{IsNewSwitch, port_capacity}
+use Rattle.sw_net.specs.New.{IsNewSwitch}
 use Rattle.sw_net.proofs.make.new_switch.Goals as goal
 use Rattle.sw_topo.specs.Wiring.{Wiring, out_of}
 
