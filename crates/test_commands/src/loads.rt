@@ -28,7 +28,11 @@ fn show_file<R: Files + Print + AllocGlobal>(rt: &R, file: &str, load: &str) -> 
     let network = fs::read(rt, file)?;
     let load = fs::read(rt, load)?;
     match read_network(rt.alloc(), &network) {
-        Ok(network) => show_load(rt, &network, &load),
+        Ok(network) => {
+            let shown = show_load(rt, &network, &load);
+            drop(network);
+            shown
+        }
         Err(fault) => show_fault(rt, &fault),
     }
 }
@@ -57,7 +61,11 @@ pub(crate) fn show_loads<R: Files + Print + AllocGlobal>(rt: &R) -> io::Result<(
     let cases = fs::read_to_string(rt, CASES)?;
     let network = fs::read(rt, ANSWERED)?;
     match read_network(rt.alloc(), &network) {
-        Ok(network) => show_answered(rt, &network, cases.as_str()),
+        Ok(network) => {
+            let shown = show_answered(rt, &network, cases.as_str());
+            drop(network);
+            shown
+        }
         Err(fault) => show_fault(rt, &fault),
     }
 }

@@ -13,7 +13,11 @@ fn show_cycle<R: Threads + Sync + Print + AllocGlobal>(
     shown: &Shown,
 ) -> io::Result<()> {
     match cycle_of(rt.alloc(), shown) {
-        Ok(cycle) => show_chosen(rt, network, &cycle),
+        Ok(cycle) => {
+            let done = show_chosen(rt, network, &cycle);
+            drop(cycle);
+            done
+        }
         Err(_) => println!(rt; "out of memory"),
     }
 }
@@ -26,7 +30,11 @@ fn show_file<R: Files + Threads + Sync + Print + AllocGlobal>(
     println!(rt; "> {file}")?;
     let text = fs::read(rt, file)?;
     match read_network(rt.alloc(), &text) {
-        Ok(network) => show_cycle(rt, &network, shown),
+        Ok(network) => {
+            let done = show_cycle(rt, &network, shown);
+            drop(network);
+            done
+        }
         Err(_) => println!(rt; "no network"),
     }
 }

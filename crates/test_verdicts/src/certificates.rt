@@ -22,7 +22,11 @@ fn check_file<R: Files + Print + AllocGlobal + Threads + Sync>(
     let text = fs::read(rt, file)?;
     let cases = fs::read_to_string(rt, cases)?;
     match read_network(rt.alloc(), &text) {
-        Ok(network) => show_cases(rt, &network, cases.as_str()),
+        Ok(network) => {
+            let shown = show_cases(rt, &network, cases.as_str());
+            drop(network);
+            shown
+        }
         Err(_) => println!(rt; "no network"),
     }
 }

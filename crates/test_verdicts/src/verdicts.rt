@@ -47,7 +47,11 @@ fn show_file<R: Files + Print + AllocGlobal + Threads + Sync>(
         return Err(no_network());
     };
     match read_network(rt.alloc(), &text) {
-        Ok(network) => show_network(rt, &network),
+        Ok(network) => {
+            let shown = show_network(rt, &network);
+            drop(network);
+            shown
+        }
         Err(_) => Err(no_network()),
     }
 }
@@ -56,7 +60,11 @@ fn show_long_line<R: Print + AllocGlobal + Threads + Sync>(rt: &R) -> io::Result
     println!(rt; "> 4096 flows over a line of 500 switches")?;
     let text = long_line(rt.alloc())?;
     match read_network(rt.alloc(), text.as_bytes()) {
-        Ok(network) => show_report(rt, &network),
+        Ok(network) => {
+            let shown = show_report(rt, &network);
+            drop(network);
+            shown
+        }
         Err(_) => Err(no_network()),
     }
 }
