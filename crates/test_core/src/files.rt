@@ -11,8 +11,18 @@ pub(crate) fn no_text() -> io::Error {
     io::Error::from(ErrorKind::InvalidData)
 }
 
-/// The network that the file declares.
-pub(crate) fn network_of<R: Files + AllocGlobal>(rt: &R, file: &str) -> io::Result<Network> {
+/// Does the work with the network that the file declares.
+pub(crate) fn with_network<R: Files + AllocGlobal, F: FnOnce(&Network) -> io::Result<()> + Copy>(
+    rt: &R,
+    file: &str,
+    work: F,
+) -> io::Result<()>
+    requires { F.IsAlwaysCallable work }
+{
     let text = fs::read(rt, file)?;
-    read_network(rt.alloc(), &text).map_err(|_| no_text())
+    let read = read_network(rt.alloc(), &text);
+    match &read {
+        Ok(network) => work(network),
+        Err(_) => Err(no_text()),
+    }
 }
