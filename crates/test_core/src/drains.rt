@@ -51,9 +51,8 @@ fn show_network<R: Files + Print + AllocGlobal + Threads + Sync>(
     network: &Network,
 ) -> io::Result<()> {
     let text = fs::read(rt, sample.certificate)?;
-    let read = Certificate::read(rt.alloc(), &text);
-    match &read {
-        Ok(certificate) => show_certified(rt, sample, network, certificate),
+    match Certificate::read(rt.alloc(), &text) {
+        Ok(certificate) => show_certified(rt, sample, network, &certificate),
         Err(_) => println!(rt; "no certificate"),
     }
 }

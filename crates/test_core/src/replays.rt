@@ -88,9 +88,8 @@ fn show_schedule<R: Files + Print + AllocGlobal>(
     schedule: &str,
 ) -> io::Result<()> {
     let text = fs::read(rt, schedule)?;
-    let read = read_steps(rt.alloc(), network, &text);
-    match &read {
-        Ok(schedule) => with_core(rt.alloc(), network, |net| show_made(rt, net, schedule)),
+    match read_steps(rt.alloc(), network, &text) {
+        Ok(schedule) => with_core(rt.alloc(), network, |net| show_made(rt, net, &schedule)),
         Err(_) => Err(no_text()),
     }
 }

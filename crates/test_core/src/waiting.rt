@@ -107,9 +107,8 @@ fn show_load<R: Files + Print + AllocGlobal>(
     load: &str,
 ) -> io::Result<()> {
     let text = fs::read(rt, load)?;
-    let read = read_load(rt.alloc(), network, &text);
-    match &read {
-        Ok(load) => with_core(rt.alloc(), network, |net| show_steps(rt, net, load)),
+    match read_load(rt.alloc(), network, &text) {
+        Ok(load) => with_core(rt.alloc(), network, |net| show_steps(rt, net, &load)),
         Err(_) => Err(no_text()),
     }
 }
