@@ -1,14 +1,13 @@
 //! Single calls of the core, over one link between A and B.
 
-use crate::files::network_of;
+use crate::files::with_network;
 use crate::show::{show_first, show_parts};
-use crate::stepping::Core;
+use crate::stepping::{Core, with_core};
 use std::alloc::{AllocError, Global};
 use std::io;
 use std::rt::Files;
 use sw_cell::NetFault;
 use sw_char::End;
-use sw_net::declared_net;
 use sw_network::Network;
 use sw_steps::Step;
 use sw_topo::{Chan, LinkEnd};
@@ -62,14 +61,18 @@ fn show_carry<R: Print + AllocGlobal>(rt: &R, net: &mut Core<'_>) -> io::Result<
     Ok(())
 }
 
-fn show_packet<R: Print + AllocGlobal>(rt: &R, network: &Network) -> io::Result<()> {
-    let mut net = declared_net(rt.alloc(), network)?;
-    show_begin(rt, &mut net, "begin with no cargo", &[])?;
-    show_begin(rt, &mut net, "begin AA", &[0xAA])?;
-    show_begin(rt, &mut net, "begin AA", &[0xAA])?;
-    show_carry(rt, &mut net)?;
-    show_parts(rt, &net)?;
-    show_first(rt, &net)
+// No packet has no cargo, and only one of two waits at A.
+fn show_begins<R: Print + AllocGlobal>(rt: &R, net: &mut Core<'_>) -> io::Result<()> {
+    show_begin(rt, net, "begin with no cargo", &[])?;
+    show_begin(rt, net, "begin AA", &[0xAA])?;
+    show_begin(rt, net, "begin AA", &[0xAA])
+}
+
+fn show_packet<R: Print + AllocGlobal>(rt: &R, net: &mut Core<'_>) -> io::Result<()> {
+    show_begins(rt, net)?;
+    show_carry(rt, net)?;
+    show_parts(rt, net)?;
+    show_first(rt, net)
 }
 
 fn show_numbers(rt: &impl Print, net: &Core<'_>, end: LinkEnd) -> io::Result<()> {
@@ -96,6 +99,11 @@ fn show_possible(rt: &impl Print, net: &Core<'_>) -> io::Result<()> {
     println!(rt; "possible fct 1: {last}, fct 2: {beyond}")
 }
 
+fn show_sent(rt: &impl Print, made: &Option<Step>) -> io::Result<()> {
+    let is_fct = matches!(made, Some(Step::Fct(_)));
+    println!(rt; "the link end sends an FCT: {is_fct}")
+}
+
 fn show_step_of<R: Print + AllocGlobal>(
     rt: &R,
     net: &mut Core<'_>,
@@ -105,26 +113,27 @@ fn show_step_of<R: Print + AllocGlobal>(
         return println!(rt; "no such link end");
     }
     let made = net.step_of(rt.alloc(), end)?;
-    let is_fct = matches!(made, Some(Step::Fct(_)));
-    println!(rt; "the link end sends an FCT: {is_fct}")
+    show_sent(rt, &made)
 }
 
-fn show_link_end<R: Print + AllocGlobal>(rt: &R, network: &Network) -> io::Result<()> {
-    let mut net = declared_net(rt.alloc(), network)?;
+fn show_link_end<R: Print + AllocGlobal>(rt: &R, net: &mut Core<'_>) -> io::Result<()> {
     let end = LinkEnd::new(0);
-    show_numbers(rt, &net, end)?;
-    show_possible(rt, &net)?;
-    show_step_of(rt, &mut net, end)?;
-    show_numbers(rt, &net, end)?;
+    show_numbers(rt, net, end)?;
+    show_possible(rt, net)?;
+    show_step_of(rt, net, end)?;
+    show_numbers(rt, net, end)?;
     let none_ask = net.asks(end).is_empty();
     println!(rt; "no input asks: {none_ask}")
 }
 
+fn show_line<R: Print + AllocGlobal>(rt: &R, network: &Network) -> io::Result<()> {
+    println!(rt; "> a packet from A to B")?;
+    with_core(rt.alloc(), network, |net| show_packet(rt, net))?;
+    println!(rt; "> link end 0")?;
+    with_core(rt.alloc(), network, |net| show_link_end(rt, net))
+}
+
 /// Prints what single calls answer: a packet goes from A to B, and a link end tells its numbers and makes a step.
 pub(crate) fn show_calls<R: Files + Print + AllocGlobal>(rt: &R) -> io::Result<()> {
-    let network = network_of(rt, "line.toml")?;
-    println!(rt; "> a packet from A to B")?;
-    show_packet(rt, &network)?;
-    println!(rt; "> link end 0")?;
-    show_link_end(rt, &network)
+    with_network(rt, "line.toml", |network| show_line(rt, network))
 }

@@ -1,11 +1,12 @@
 //! Networks that are drained of a load, with the link ends chosen in three ways.
 
 use crate::drained::show_drains;
-use crate::files::network_of;
+use crate::files::with_network;
 use std::rt::Files;
 use std::thread::Threads;
 use std::{fs, io};
 use sw_cert::Certificate;
+use sw_network::Network;
 
 /// A network, its certificate and its load, by the names of their files, and the least and the most
 /// steps other than beginnings.
@@ -34,21 +35,39 @@ static SAMPLES: [Sample; 2] = [
     },
 ];
 
+fn show_certified<R: Files + Print + AllocGlobal + Threads + Sync>(
+    rt: &R,
+    sample: &Sample,
+    network: &Network,
+    certificate: &Certificate,
+) -> io::Result<()> {
+    let load = fs::read(rt, sample.load)?;
+    show_drains(rt, network, certificate, &load, sample.least, sample.most)
+}
+
+fn show_network<R: Files + Print + AllocGlobal + Threads + Sync>(
+    rt: &R,
+    sample: &Sample,
+    network: &Network,
+) -> io::Result<()> {
+    let text = fs::read(rt, sample.certificate)?;
+    match Certificate::read(rt.alloc(), &text) {
+        Ok(certificate) => show_certified(rt, sample, network, &certificate),
+        Err(_) => println!(rt; "no certificate"),
+    }
+}
+
 fn show_sample<R: Files + Print + AllocGlobal + Threads + Sync>(
     rt: &R,
     sample: &Sample,
 ) -> io::Result<()> {
     let name = sample.load;
     println!(rt; "> {name}")?;
-    let certificate = fs::read(rt, sample.certificate)?;
-    let load = fs::read(rt, sample.load)?;
-    let network = network_of(rt, sample.network)?;
-    match Certificate::read(rt.alloc(), &certificate) {
-        Ok(certificate) => {
-            show_drains(rt, &network, &certificate, &load, sample.least, sample.most)
-        }
-        Err(_) => println!(rt; "no certificate"),
-    }
+    with_network(
+        rt,
+        sample.network,
+        |network| show_network(rt, sample, network),
+    )
 }
 
 /// Prints what came out at the nodes of each network, and whether the number of steps is within its

@@ -1,6 +1,6 @@
 //! Limits that no history of a load reaches.
 
-use crate::files::{network_of, no_text};
+use crate::files::{no_text, with_network};
 use std::alloc::Global;
 use std::rt::Files;
 use std::{fs, io};
@@ -24,10 +24,13 @@ fn limit_of(alloc: Global, network: &Network, load: &[u8]) -> Option<u64> {
     }
 }
 
-fn show_limit<R: Files + Print + AllocGlobal>(rt: &R, network: &str, load: &str) -> io::Result<()> {
+fn show_limit<R: Files + Print + AllocGlobal>(
+    rt: &R,
+    network: &Network,
+    load: &str,
+) -> io::Result<()> {
     let text = fs::read(rt, load)?;
-    let network = network_of(rt, network)?;
-    match limit_of(rt.alloc(), &network, &text) {
+    match limit_of(rt.alloc(), network, &text) {
         Some(limit) => println!(rt; "{load} {limit}"),
         None => Err(no_text()),
     }
@@ -36,7 +39,7 @@ fn show_limit<R: Files + Print + AllocGlobal>(rt: &R, network: &str, load: &str)
 /// Prints for each load the limit that no history of it reaches.
 pub(crate) fn show_limits<R: Files + Print + AllocGlobal>(rt: &R) -> io::Result<()> {
     for (network, load) in LOADS {
-        show_limit(rt, network, load)?;
+        with_network(rt, network, |network| show_limit(rt, network, load))?;
     }
     Ok(())
 }

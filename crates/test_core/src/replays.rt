@@ -1,12 +1,11 @@
 //! The steps of schedules, made one by one.
 
-use crate::files::{network_of, no_text};
+use crate::files::{no_text, with_network};
 use crate::show::show_parts;
-use crate::stepping::{Core, attempt, run_out};
+use crate::stepping::{Core, attempt, run_out, with_core};
 use std::alloc::{AllocError, Global};
 use std::rt::Files;
 use std::{fs, io};
-use sw_net::declared_net;
 use sw_network::Network;
 use sw_steps::{Entry, Schedule, read_steps};
 
@@ -83,12 +82,16 @@ fn show_made<R: Print + AllocGlobal>(
     show_parts(rt, net)
 }
 
-fn show_schedule<R: Print + AllocGlobal>(rt: &R, network: &Network, text: &[u8]) -> io::Result<()> {
-    let Ok(schedule) = read_steps(rt.alloc(), network, text) else {
-        return Err(no_text());
-    };
-    let mut net = declared_net(rt.alloc(), network)?;
-    show_made(rt, &mut net, &schedule)
+fn show_schedule<R: Files + Print + AllocGlobal>(
+    rt: &R,
+    network: &Network,
+    schedule: &str,
+) -> io::Result<()> {
+    let text = fs::read(rt, schedule)?;
+    match read_steps(rt.alloc(), network, &text) {
+        Ok(schedule) => with_core(rt.alloc(), network, |net| show_made(rt, net, &schedule)),
+        Err(_) => Err(no_text()),
+    }
 }
 
 fn show_replay<R: Files + Print + AllocGlobal>(
@@ -97,9 +100,7 @@ fn show_replay<R: Files + Print + AllocGlobal>(
     schedule: &str,
 ) -> io::Result<()> {
     println!(rt; "> replay {network} {schedule}")?;
-    let text = fs::read(rt, schedule)?;
-    let network = network_of(rt, network)?;
-    show_schedule(rt, &network, &text)
+    with_network(rt, network, |network| show_schedule(rt, network, schedule))
 }
 
 /// Makes the steps of each schedule, and prints how many were possible, what came out, and whether the network is locked up; then makes

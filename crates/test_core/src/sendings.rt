@@ -1,13 +1,12 @@
 //! The packets of loads, sent one after another.
 
-use crate::files::{network_of, no_text};
+use crate::files::{no_text, with_network};
 use crate::show::show_parts;
-use crate::stepping::{Core, attempt_begin, run_out};
+use crate::stepping::{Core, attempt_begin, run_out, with_core};
 use std::alloc::{AllocError, Global};
 use std::rt::Files;
 use std::{fs, io};
 use sw_load::{Load, LoadPacket, read_load};
-use sw_net::declared_net;
 use sw_network::Network;
 
 /// Networks, each with a load.
@@ -55,12 +54,16 @@ fn show_sent<R: Print + AllocGlobal>(rt: &R, net: &mut Core<'_>, load: &Load) ->
     show_parts(rt, net)
 }
 
-fn show_load<R: Print + AllocGlobal>(rt: &R, network: &Network, text: &[u8]) -> io::Result<()> {
-    let Ok(load) = read_load(rt.alloc(), network, text) else {
-        return Err(no_text());
-    };
-    let mut net = declared_net(rt.alloc(), network)?;
-    show_sent(rt, &mut net, &load)
+fn show_load<R: Files + Print + AllocGlobal>(
+    rt: &R,
+    network: &Network,
+    load: &str,
+) -> io::Result<()> {
+    let text = fs::read(rt, load)?;
+    match read_load(rt.alloc(), network, &text) {
+        Ok(load) => with_core(rt.alloc(), network, |net| show_sent(rt, net, &load)),
+        Err(_) => Err(no_text()),
+    }
 }
 
 fn show_sending<R: Files + Print + AllocGlobal>(
@@ -69,9 +72,7 @@ fn show_sending<R: Files + Print + AllocGlobal>(
     load: &str,
 ) -> io::Result<()> {
     println!(rt; "> run {network} {load}")?;
-    let text = fs::read(rt, load)?;
-    let network = network_of(rt, network)?;
-    show_load(rt, &network, &text)
+    with_network(rt, network, |network| show_load(rt, network, load))
 }
 
 /// Sends the packets of each load, and prints what came out.

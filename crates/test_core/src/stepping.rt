@@ -1,10 +1,12 @@
 //! Steps of the core: those that are given, and those that its link ends choose.
 
 use std::alloc::{AllocError, Global};
+use std::io;
 use sw_arb::Policy;
 use sw_cell::NetFault;
 use sw_load::LoadPacket;
-use sw_net::{Net, SwitchRoutes};
+use sw_net::{Net, SwitchRoutes, declared_net};
+use sw_network::Network;
 use sw_steps::Step;
 
 /// The core of a network as its file declares it.
@@ -12,6 +14,18 @@ pub(crate) type Core<'n> = Net<'n, SwitchRoutes<'n>, Policy>;
 
 /// More steps than any run here takes.
 pub(crate) const MANY: u32 = 100_000;
+
+/// Does the work with the network's core in its empty state.
+pub(crate) fn with_core<F: FnOnce(&mut Core<'_>) -> io::Result<()> + Copy>(
+    alloc: Global,
+    network: &Network,
+    work: F,
+) -> io::Result<()>
+    requires { F.IsAlwaysCallable work }
+{
+    let mut net = declared_net(alloc, network)?;
+    work(&mut net)
+}
 
 /// Makes the step if it is possible, and tells so.
 pub(crate) fn attempt(alloc: Global, net: &mut Core<'_>, step: &Step) -> Result<bool, AllocError> {

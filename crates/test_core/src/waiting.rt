@@ -1,13 +1,12 @@
 //! Loads whose packets each begin as soon as they can.
 
-use crate::files::{network_of, no_text};
+use crate::files::{no_text, with_network};
 use crate::show::show_first;
-use crate::stepping::{Core, MANY, attempt_begin, step_first};
+use crate::stepping::{Core, MANY, attempt_begin, step_first, with_core};
 use std::alloc::{AllocError, Global};
 use std::rt::Files;
 use std::{fs, io};
 use sw_load::{Load, LoadPacket, read_load};
-use sw_net::declared_net;
 use sw_network::Network;
 
 /// Networks, each with a load.
@@ -102,12 +101,16 @@ fn show_steps<R: Print + AllocGlobal>(rt: &R, net: &mut Core<'_>, load: &Load) -
     show_first(rt, net)
 }
 
-fn show_load<R: Print + AllocGlobal>(rt: &R, network: &Network, text: &[u8]) -> io::Result<()> {
-    let Ok(load) = read_load(rt.alloc(), network, text) else {
-        return Err(no_text());
-    };
-    let mut net = declared_net(rt.alloc(), network)?;
-    show_steps(rt, &mut net, &load)
+fn show_load<R: Files + Print + AllocGlobal>(
+    rt: &R,
+    network: &Network,
+    load: &str,
+) -> io::Result<()> {
+    let text = fs::read(rt, load)?;
+    match read_load(rt.alloc(), network, &text) {
+        Ok(load) => with_core(rt.alloc(), network, |net| show_steps(rt, net, &load)),
+        Err(_) => Err(no_text()),
+    }
 }
 
 fn show_waiting<R: Files + Print + AllocGlobal>(
@@ -116,9 +119,7 @@ fn show_waiting<R: Files + Print + AllocGlobal>(
     load: &str,
 ) -> io::Result<()> {
     print!(rt; "{network} {load}: ")?;
-    let text = fs::read(rt, load)?;
-    let network = network_of(rt, network)?;
-    show_load(rt, &network, &text)
+    with_network(rt, network, |network| show_load(rt, network, load))
 }
 
 /// Prints for each load how many steps were made, how many packets came out, and what is left.
