@@ -3,6 +3,7 @@
 #![tactic(auto)]
 
 mod calls;
+mod files;
 mod journals;
 mod runs;
 

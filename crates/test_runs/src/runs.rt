@@ -1,6 +1,5 @@
 //! Runs of loads on their networks, by one worker and by several, and how they ended.
 
-mod files;
 mod gated;
 mod open_gate;
 mod show;
@@ -13,7 +12,7 @@ use std::sync::Wait;
 use std::thread::Threads;
 
 /// Networks in which each run of the load ends in one way, each with a load.
-static DETERMINED: [(&str, &str); 6] = [
+static DETERMINED: &[(&str, &str)] = &[
     ("line.toml", "line.load"),
     ("star.toml", "star.load"),
     ("region.toml", "region.load"),
@@ -22,19 +21,23 @@ static DETERMINED: [(&str, &str); 6] = [
     ("bad.toml", "bad.load"),
 ];
 
-/// Networks that can lock up, each with a load.
-static CYCLIC: [(&str, &str); 2] = [("ring.toml", "ring.load"), ("duel.toml", "duel.load")];
+fn show_determined<R: Files + Print + AllocGlobal + Threads + Wait + Sync>(
+    rt: &R,
+) -> io::Result<()> {
+    for &(network, load) in DETERMINED {
+        show_each(rt, network, load)?;
+    }
+    Ok(())
+}
 
 /// Prints how each run ended.
 pub(crate) fn show_runs<R: Files + Print + AllocGlobal + Threads + Wait + Sync>(
     rt: &R,
 ) -> io::Result<()> {
-    for (network, load) in DETERMINED {
-        show_each(rt, network, load)?;
-    }
-    for (network, load) in CYCLIC {
-        show_enough(rt, network, load, 1)?;
-    }
+    show_determined(rt)?;
+    // Networks that can lock up.
+    show_enough(rt, "ring.toml", "ring.load", 1)?;
+    show_enough(rt, "duel.toml", "duel.load", 1)?;
     show_limited(rt, "turn.toml", "turn.load", 100)?;
     show_gated(rt, "turn.toml", "turn.load")
 }
