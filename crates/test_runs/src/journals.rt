@@ -1,16 +1,16 @@
 //! Loads through journals in one thread, and then steps that are tried one by one.
 
 mod opened;
-mod show;
+pub(crate) mod show;
 mod told;
 mod tried;
 mod turns;
 
-use crate::files::{network_of, text_of};
-use crate::journals::show::{show_load, show_steps};
+use crate::work::{Work, show_work};
 use std::io;
 use std::rt::Files;
-use sw_network::Network;
+use std::sync::Wait;
+use std::thread::Threads;
 
 /// A load of one packet, unlike the other of its name.
 const ONE_PACKET: &str = "one_packet/line.load";
@@ -34,42 +34,31 @@ fn name_of(path: &str) -> &str {
     }
 }
 
-fn run_on<R: Files + Print + AllocGlobal>(
+fn run_load<R: Files + Print + AllocGlobal + Threads + Wait + Sync>(
     rt: &R,
-    network: &Network,
+    network: &str,
     load: &str,
     limit: usize,
 ) -> io::Result<()> {
-    let text = text_of(rt, load)?;
-    show_load(rt, network, &text, limit)
+    println!(rt; "> run {network} {} {limit}", name_of(load))?;
+    show_work(rt, network, load, Work::Journal(limit))
 }
 
-fn run_load<R: Files + Print + AllocGlobal>(
+fn try_load<R: Files + Print + AllocGlobal + Threads + Wait + Sync>(
     rt: &R,
-    file: &str,
+    network: &str,
     load: &str,
-    limit: usize,
 ) -> io::Result<()> {
-    println!(rt; "> run {file} {} {limit}", name_of(load))?;
-    let network = network_of(rt, file)?;
-    run_on(rt, &network, load, limit)
-}
-
-fn try_on<R: Files + Print + AllocGlobal>(rt: &R, network: &Network, load: &str) -> io::Result<()> {
-    let text = text_of(rt, load)?;
-    show_steps(rt, network, &text)
-}
-
-fn try_load<R: Files + Print + AllocGlobal>(rt: &R, file: &str, load: &str) -> io::Result<()> {
-    println!(rt; "> try {file} {}", name_of(load))?;
-    let network = network_of(rt, file)?;
-    try_on(rt, &network, load)
+    println!(rt; "> try {network} {}", name_of(load))?;
+    show_work(rt, network, load, Work::Steps)
 }
 
 /// Prints what came of the runs, and of each step that was tried.
-pub(crate) fn show_journals<R: Files + Print + AllocGlobal>(rt: &R) -> io::Result<()> {
-    for &(file, load, limit) in RUNS {
-        run_load(rt, file, load, limit)?;
+pub(crate) fn show_journals<R: Files + Print + AllocGlobal + Threads + Wait + Sync>(
+    rt: &R,
+) -> io::Result<()> {
+    for &(network, load, limit) in RUNS {
+        run_load(rt, network, load, limit)?;
     }
     try_load(rt, "line.toml", ONE_PACKET)
 }

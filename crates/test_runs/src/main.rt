@@ -6,6 +6,7 @@ mod calls;
 mod files;
 mod journals;
 mod runs;
+mod work;
 
 use crate::calls::show_calls;
 use crate::journals::show_journals;

@@ -11,19 +11,21 @@ use sw_limit::laws::listed_are_declared;
 use sw_load::{Load, read_load};
 use sw_network::Network;
 
+fn show_word(rt: &impl Print, word: &str, holds: bool) -> io::Result<()> {
+    if holds {
+        return println!(rt; "{word}");
+    }
+    Ok(())
+}
+
 fn show_stop<R: Print>(rt: &R, journal: &Journal<'_>) -> io::Result<()> {
     println!(rt;
         "{} steps, {} undelivered",
         journal.len(),
         journal.undelivered()
     )?;
-    if journal.is_drained() {
-        println!(rt; "drained")?;
-    }
-    if journal.is_stuck() {
-        println!(rt; "stuck")?;
-    }
-    Ok(())
+    show_word(rt, "drained", journal.is_drained())?;
+    show_word(rt, "stuck", journal.is_stuck())
 }
 
 fn show_came_out<R: Print + AllocGlobal>(

@@ -1,9 +1,8 @@
 //! Runs with an open gate.
 
-use crate::files::{network_of, no_text, text_of};
+use crate::files::no_text;
 use crate::runs::show::show_outcome;
 use std::io;
-use std::rt::Files;
 use std::sync::Wait;
 use std::thread::Threads;
 use sw_limit::enough_limit;
@@ -33,7 +32,8 @@ pub(crate) fn outcome_of<G: Gate + Sync, R: AllocGlobal + Threads + Wait + Sync>
     Ok(run(rt, rt.alloc(), network, &load, workers, limit, gate)?)
 }
 
-fn show_run<R: Print + AllocGlobal + Threads + Wait + Sync>(
+/// Runs with so many workers and a limit that is enough.
+pub(crate) fn show_run<R: Print + AllocGlobal + Threads + Wait + Sync>(
     rt: &R,
     network: &Network,
     load: &[u8],
@@ -44,29 +44,8 @@ fn show_run<R: Print + AllocGlobal + Threads + Wait + Sync>(
     show_outcome(rt, network, &outcome)
 }
 
-fn show_enough_on<R: Files + Print + AllocGlobal + Threads + Wait + Sync>(
-    rt: &R,
-    network: &Network,
-    load: &str,
-    workers: usize,
-) -> io::Result<()> {
-    let text = text_of(rt, load)?;
-    show_run(rt, network, &text, workers)
-}
-
-/// Runs with so many workers and a limit that is enough.
-pub(crate) fn show_enough<R: Files + Print + AllocGlobal + Threads + Wait + Sync>(
-    rt: &R,
-    network: &str,
-    load: &str,
-    workers: usize,
-) -> io::Result<()> {
-    println!(rt; "> {network} {load}")?;
-    let network = network_of(rt, network)?;
-    show_enough_on(rt, &network, load, workers)
-}
-
-fn show_workers<R: Print + AllocGlobal + Threads + Wait + Sync>(
+/// Runs with several numbers of workers and a limit that is enough.
+pub(crate) fn show_workers<R: Print + AllocGlobal + Threads + Wait + Sync>(
     rt: &R,
     network: &Network,
     load: &[u8],
@@ -77,33 +56,14 @@ fn show_workers<R: Print + AllocGlobal + Threads + Wait + Sync>(
     Ok(())
 }
 
-fn show_each_on<R: Files + Print + AllocGlobal + Threads + Wait + Sync>(
-    rt: &R,
-    network: &Network,
-    load: &str,
-) -> io::Result<()> {
-    let text = text_of(rt, load)?;
-    show_workers(rt, network, &text)
-}
-
-/// Runs with several numbers of workers and a limit that is enough.
-pub(crate) fn show_each<R: Files + Print + AllocGlobal + Threads + Wait + Sync>(
-    rt: &R,
-    network: &str,
-    load: &str,
-) -> io::Result<()> {
-    println!(rt; "> {network} {load}")?;
-    let network = network_of(rt, network)?;
-    show_each_on(rt, &network, load)
-}
-
 fn show_full(rt: &impl Print, outcome: &Outcome) -> io::Result<()> {
     let steps = outcome.history.len();
     let full = outcome.stop == Stop::JournalFull;
     println!(rt; "journal full {full}, steps {steps}")
 }
 
-fn show_limited_run<R: Print + AllocGlobal + Threads + Wait + Sync>(
+/// Runs with a limit that the load needs more than.
+pub(crate) fn show_limited<R: Print + AllocGlobal + Threads + Wait + Sync>(
     rt: &R,
     network: &Network,
     load: &[u8],
@@ -111,26 +71,4 @@ fn show_limited_run<R: Print + AllocGlobal + Threads + Wait + Sync>(
 ) -> io::Result<()> {
     let outcome = outcome_of(rt, network, load, 4, Some(limit), &Open)?;
     show_full(rt, &outcome)
-}
-
-fn show_limited_on<R: Files + Print + AllocGlobal + Threads + Wait + Sync>(
-    rt: &R,
-    network: &Network,
-    load: &str,
-    limit: usize,
-) -> io::Result<()> {
-    let text = text_of(rt, load)?;
-    show_limited_run(rt, network, &text, limit)
-}
-
-/// Runs with a limit that the load needs more than.
-pub(crate) fn show_limited<R: Files + Print + AllocGlobal + Threads + Wait + Sync>(
-    rt: &R,
-    network: &str,
-    load: &str,
-    limit: usize,
-) -> io::Result<()> {
-    println!(rt; "> {network} {load} limit {limit}")?;
-    let network = network_of(rt, network)?;
-    show_limited_on(rt, &network, load, limit)
 }
