@@ -1,21 +1,22 @@
 //! Loads through journals in one thread, and then steps that are tried one by one.
 
 mod opened;
-mod show;
+pub(crate) mod show;
 mod told;
 mod tried;
 mod turns;
 
-use crate::journals::show::{show_load, show_steps};
+use crate::work::{Work, show_work};
+use std::io;
 use std::rt::Files;
-use std::{fs, io};
-use sw_file::read_network;
+use std::sync::Wait;
+use std::thread::Threads;
 
 /// A load of one packet, unlike the other of its name.
 const ONE_PACKET: &str = "one_packet/line.load";
 
 /// Networks, each with a load and a limit.
-static RUNS: [(&str, &str, usize); 7] = [
+static RUNS: &[(&str, &str, usize)] = &[
     ("line.toml", ONE_PACKET, 1000),
     ("line.toml", ONE_PACKET, 5),
     ("star.toml", "star.load", 100_000),
@@ -33,35 +34,31 @@ fn name_of(path: &str) -> &str {
     }
 }
 
-fn run_load<R: Files + Print + AllocGlobal>(
+fn run_load<R: Files + Print + AllocGlobal + Threads + Wait + Sync>(
     rt: &R,
-    file: &str,
+    network: &str,
     load: &str,
     limit: usize,
 ) -> io::Result<()> {
-    println!(rt; "> run {file} {} {limit}", name_of(load))?;
-    let network = fs::read(rt, file)?;
-    let load = fs::read(rt, load)?;
-    match read_network(rt.alloc(), &network) {
-        Ok(network) => show_load(rt, &network, &load, limit),
-        Err(_) => println!(rt; "no network"),
-    }
+    println!(rt; "> run {network} {} {limit}", name_of(load))?;
+    show_work(rt, network, load, Work::Journal(limit))
 }
 
-fn try_load<R: Files + Print + AllocGlobal>(rt: &R, file: &str, load: &str) -> io::Result<()> {
-    println!(rt; "> try {file} {}", name_of(load))?;
-    let network = fs::read(rt, file)?;
-    let load = fs::read(rt, load)?;
-    match read_network(rt.alloc(), &network) {
-        Ok(network) => show_steps(rt, &network, &load),
-        Err(_) => println!(rt; "no network"),
-    }
+fn try_load<R: Files + Print + AllocGlobal + Threads + Wait + Sync>(
+    rt: &R,
+    network: &str,
+    load: &str,
+) -> io::Result<()> {
+    println!(rt; "> try {network} {}", name_of(load))?;
+    show_work(rt, network, load, Work::Steps)
 }
 
 /// Prints what came of the runs, and of each step that was tried.
-pub(crate) fn show_journals<R: Files + Print + AllocGlobal>(rt: &R) -> io::Result<()> {
-    for (file, load, limit) in RUNS {
-        run_load(rt, file, load, limit)?;
+pub(crate) fn show_journals<R: Files + Print + AllocGlobal + Threads + Wait + Sync>(
+    rt: &R,
+) -> io::Result<()> {
+    for &(network, load, limit) in RUNS {
+        run_load(rt, network, load, limit)?;
     }
     try_load(rt, "line.toml", ONE_PACKET)
 }

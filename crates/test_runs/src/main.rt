@@ -3,8 +3,10 @@
 #![tactic(auto)]
 
 mod calls;
+mod files;
 mod journals;
 mod runs;
+mod work;
 
 use crate::calls::show_calls;
 use crate::journals::show_journals;

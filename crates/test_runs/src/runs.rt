@@ -1,19 +1,17 @@
 //! Runs of loads on their networks, by one worker and by several, and how they ended.
 
-mod files;
-mod gated;
-mod open_gate;
+pub(crate) mod gated;
+pub(crate) mod open_gate;
 mod show;
 
-use crate::runs::gated::show_gated;
-use crate::runs::open_gate::{show_each, show_enough, show_limited};
+use crate::work::{Work, show_work};
 use std::io;
 use std::rt::Files;
 use std::sync::Wait;
 use std::thread::Threads;
 
 /// Networks in which each run of the load ends in one way, each with a load.
-static DETERMINED: [(&str, &str); 6] = [
+static DETERMINED: &[(&str, &str)] = &[
     ("line.toml", "line.load"),
     ("star.toml", "star.load"),
     ("region.toml", "region.load"),
@@ -22,19 +20,40 @@ static DETERMINED: [(&str, &str); 6] = [
     ("bad.toml", "bad.load"),
 ];
 
-/// Networks that can lock up, each with a load.
-static CYCLIC: [(&str, &str); 2] = [("ring.toml", "ring.load"), ("duel.toml", "duel.load")];
+fn show_each<R: Files + Print + AllocGlobal + Threads + Wait + Sync>(
+    rt: &R,
+    network: &str,
+    load: &str,
+) -> io::Result<()> {
+    println!(rt; "> {network} {load}")?;
+    show_work(rt, network, load, Work::Workers)
+}
+
+fn show_determined<R: Files + Print + AllocGlobal + Threads + Wait + Sync>(
+    rt: &R,
+) -> io::Result<()> {
+    for &(network, load) in DETERMINED {
+        show_each(rt, network, load)?;
+    }
+    Ok(())
+}
+
+/// Networks that can lock up.
+fn show_cyclic<R: Files + Print + AllocGlobal + Threads + Wait + Sync>(rt: &R) -> io::Result<()> {
+    println!(rt; "> ring.toml ring.load")?;
+    show_work(rt, "ring.toml", "ring.load", Work::OneWorker)?;
+    println!(rt; "> duel.toml duel.load")?;
+    show_work(rt, "duel.toml", "duel.load", Work::OneWorker)
+}
 
 /// Prints how each run ended.
 pub(crate) fn show_runs<R: Files + Print + AllocGlobal + Threads + Wait + Sync>(
     rt: &R,
 ) -> io::Result<()> {
-    for (network, load) in DETERMINED {
-        show_each(rt, network, load)?;
-    }
-    for (network, load) in CYCLIC {
-        show_enough(rt, network, load, 1)?;
-    }
-    show_limited(rt, "turn.toml", "turn.load", 100)?;
-    show_gated(rt, "turn.toml", "turn.load")
+    show_determined(rt)?;
+    show_cyclic(rt)?;
+    println!(rt; "> turn.toml turn.load limit 100")?;
+    show_work(rt, "turn.toml", "turn.load", Work::Limited(100))?;
+    println!(rt; "> turn.toml turn.load together")?;
+    show_work(rt, "turn.toml", "turn.load", Work::Gated)
 }

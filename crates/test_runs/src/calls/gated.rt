@@ -1,39 +1,44 @@
 //! A run whose workers wait for one another.
 
+use crate::calls::files::ended_of;
 use crate::calls::open_gate::ENOUGH;
 use crate::calls::show::show_end;
+use std::io;
 use std::rt::Files;
 use std::sync::Wait;
 use std::thread::Threads;
-use std::{fs, io};
-use sw_run_app::{Options, run};
+use sw_ends::Ended;
+use sw_run_app::Options;
 use test_gate::Together;
 
-/// Runs with such a gate and as many workers as link ends.
+/// A run that writes to the output with that gate and as many workers as link ends.
+fn gated<R: Files + Print + AllocGlobal + Threads + Wait + Sync>(
+    rt: &R,
+    network: &str,
+    load: &str,
+    gate: &Together,
+) -> io::Result<Ended> {
+    let options = Options {
+        workers: 12,
+        limit: ENOUGH,
+    };
+    let mut writer = io::writer(rt);
+    ended_of(rt, network, load, options, &mut writer, gate)
+}
+
+fn show_late(rt: &impl Print, ended: Ended, late: bool) -> io::Result<()> {
+    show_end(rt, ended)?;
+    println!(rt; "late {late}")
+}
+
+/// Runs with such a gate.
 pub(crate) fn show_gated<R: Files + Print + AllocGlobal + Threads + Wait + Sync>(
     rt: &R,
     network: &str,
     load: &str,
 ) -> io::Result<()> {
     println!(rt; "> {network} {load} together")?;
-    let options = Options {
-        workers: 12,
-        limit: ENOUGH,
-    };
-    let mut network = fs::open(rt, network)?;
-    let mut load = fs::open(rt, load)?;
-    let mut writer = io::writer(rt);
     let gate = Together::new();
-    let ended = run(
-        rt,
-        rt.alloc(),
-        &mut network,
-        &mut load,
-        options,
-        &mut writer,
-        &gate,
-    );
-    show_end(rt, ended)?;
-    let late = gate.is_late();
-    println!(rt; "late {late}")
+    let ended = gated(rt, network, load, &gate)?;
+    show_late(rt, ended, gate.is_late())
 }

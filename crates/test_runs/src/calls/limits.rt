@@ -1,5 +1,6 @@
 //! Limits on steps and texts.
 
+use crate::calls::files::ended_of;
 use crate::calls::open_gate::ENOUGH;
 use crate::calls::show::{show_end, word_of};
 use std::io::Read;
@@ -11,6 +12,19 @@ use sw_ends::{Ended, MAX_TEXT};
 use sw_run::Open;
 use sw_run_app::{Options, run};
 
+/// Whether a run is told to have filled its journal.
+fn is_full<R: Files + AllocGlobal + Threads + Wait + Sync>(
+    rt: &R,
+    network: &str,
+    load: &str,
+    limit: usize,
+) -> io::Result<bool> {
+    let options = Options { workers: 3, limit };
+    let mut told: Vec<u8> = Vec::new(rt.alloc());
+    let ended = ended_of(rt, network, load, options, &mut told, &Open)?;
+    Ok(told.starts_with(b"journal-full\nundelivered ") && ended == Ended::Status(5))
+}
+
 /// Prints whether a run is told to have filled its journal, where the load needs more steps than the
 /// limit.
 pub(crate) fn show_limit<R: Files + Print + AllocGlobal + Threads + Wait + Sync>(
@@ -20,21 +34,7 @@ pub(crate) fn show_limit<R: Files + Print + AllocGlobal + Threads + Wait + Sync>
     limit: usize,
 ) -> io::Result<()> {
     print!(rt; "> {network} {load} limit {limit}: journal full ")?;
-    let options = Options { workers: 3, limit };
-    let mut network = fs::open(rt, network)?;
-    let mut load = fs::open(rt, load)?;
-    let mut told: Vec<u8> = Vec::new(rt.alloc());
-    let ended = run(
-        rt,
-        rt.alloc(),
-        &mut network,
-        &mut load,
-        options,
-        &mut told,
-        &Open,
-    );
-    let full = told.starts_with(b"journal-full\nundelivered ");
-    let holds = word_of(full && ended == Ended::Status(5));
+    let holds = word_of(is_full(rt, network, load, limit)?);
     println!(rt; "{holds}")
 }
 

@@ -1,6 +1,7 @@
 //! Runs with an open gate and a limit that is enough.
 ghost use Rattle.std.specs.Prelude.{◌<◌};
 
+use crate::calls::files::ended_of;
 use crate::calls::show::{show_end, word_of};
 use std::rt::Files;
 use std::sync::Wait;
@@ -8,7 +9,7 @@ use std::thread::Threads;
 use std::{fs, io};
 use sw_ends::Ended;
 use sw_run::Open;
-use sw_run_app::{Options, run};
+use sw_run_app::Options;
 
 /// So many steps are enough for each load here.
 pub(crate) const ENOUGH: usize = 1_000_000;
@@ -27,18 +28,8 @@ fn show_run<R: Files + Print + AllocGlobal + Threads + Wait + Sync>(
         workers,
         limit: ENOUGH,
     };
-    let mut network = fs::open(rt, network)?;
-    let mut load = fs::open(rt, load)?;
     let mut writer = io::writer(rt);
-    let ended = run(
-        rt,
-        rt.alloc(),
-        &mut network,
-        &mut load,
-        options,
-        &mut writer,
-        &Open,
-    );
+    let ended = ended_of(rt, network, load, options, &mut writer, &Open)?;
     show_end(rt, ended)
 }
 
@@ -71,36 +62,49 @@ fn may_be(told: &[u8], ended: Ended, drained: &[u8]) -> bool {
     }
 }
 
+/// Whether a run tells what one may tell.
+fn is_possible<R: Files + AllocGlobal + Threads + Wait + Sync>(
+    rt: &R,
+    network: &str,
+    load: &str,
+    drained: &[u8],
+    workers: usize,
+) -> io::Result<bool>
+    requires { 0 < workers }
+{
+    let options = Options {
+        workers,
+        limit: ENOUGH,
+    };
+    let mut told: Vec<u8> = Vec::new(rt.alloc());
+    let ended = ended_of(rt, network, load, options, &mut told, &Open)?;
+    Ok(may_be(&told, ended, drained))
+}
+
 /// Prints whether a run tells what one may tell.
 fn show_judged<R: Files + Print + AllocGlobal + Threads + Wait + Sync>(
     rt: &R,
     network: &str,
     load: &str,
-    drained: &str,
+    drained: &[u8],
     workers: usize,
 ) -> io::Result<()>
     requires { 0 < workers }
 {
     print!(rt; "> {network} {load} workers {workers}: drained or stuck ")?;
-    let options = Options {
-        workers,
-        limit: ENOUGH,
-    };
-    let drained = fs::read(rt, drained)?;
-    let mut network = fs::open(rt, network)?;
-    let mut load = fs::open(rt, load)?;
-    let mut told: Vec<u8> = Vec::new(rt.alloc());
-    let ended = run(
-        rt,
-        rt.alloc(),
-        &mut network,
-        &mut load,
-        options,
-        &mut told,
-        &Open,
-    );
-    let holds = word_of(may_be(&told, ended, &drained));
+    let holds = word_of(is_possible(rt, network, load, drained, workers)?);
     println!(rt; "{holds}")
+}
+
+fn show_judged_each<R: Files + Print + AllocGlobal + Threads + Wait + Sync>(
+    rt: &R,
+    network: &str,
+    load: &str,
+    drained: &[u8],
+) -> io::Result<()> {
+    show_judged(rt, network, load, drained, 1)?;
+    show_judged(rt, network, load, drained, 3)?;
+    show_judged(rt, network, load, drained, 64)
 }
 
 /// Prints whether runs tell what they may tell where the load may lock up the network.
@@ -110,7 +114,6 @@ pub(crate) fn show_cyclic<R: Files + Print + AllocGlobal + Threads + Wait + Sync
     load: &str,
     drained: &str,
 ) -> io::Result<()> {
-    show_judged(rt, network, load, drained, 1)?;
-    show_judged(rt, network, load, drained, 3)?;
-    show_judged(rt, network, load, drained, 64)
+    let drained = fs::read(rt, drained)?;
+    show_judged_each(rt, network, load, &drained)
 }

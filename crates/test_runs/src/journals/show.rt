@@ -1,5 +1,5 @@
 //! What came of a run, as it is printed.
-ghost use Rattle.std.specs.Prelude.{◌≡◌, All};
+ghost use Rattle.std.specs.Prelude.{◌<◌, ◌≡◌, All, length};
 ghost use Rattle.sw_limit.specs.Limit.{AreDeclared};
 
 use crate::journals::opened::open;
@@ -11,30 +11,68 @@ use sw_limit::laws::listed_are_declared;
 use sw_load::{Load, read_load};
 use sw_network::Network;
 
-fn show_journal<R: Print + AllocGlobal>(
-    rt: &R,
-    network: &Network,
-    journal: Journal<'_>,
-) -> io::Result<()>
-    requires { journal.declared ≡ network.now }
-{
+fn show_word(rt: &impl Print, word: &str, holds: bool) -> io::Result<()> {
+    if holds {
+        return println!(rt; "{word}");
+    }
+    Ok(())
+}
+
+fn show_stop<R: Print>(rt: &R, journal: &Journal<'_>) -> io::Result<()> {
     println!(rt;
         "{} steps, {} undelivered",
         journal.len(),
         journal.undelivered()
     )?;
-    if journal.is_drained() {
-        println!(rt; "drained")?;
-    }
-    if journal.is_stuck() {
-        println!(rt; "stuck")?;
-    }
+    show_word(rt, "drained", journal.is_drained())?;
+    show_word(rt, "stuck", journal.is_stuck())
+}
+
+fn show_came_out<R: Print + AllocGlobal>(
+    rt: &R,
+    network: &Network,
+    journal: &Journal<'_>,
+    node: u16,
+) -> io::Result<()>
+    requires node { node < length network.now.nodes }
+    requires network { journal.now.declared ≡ network.now }
+{
+    let count = journal.came_out(rt.alloc(), node)?.len();
+    println!(rt; "node {node}: {count} came out")
+}
+
+fn show_journal<R: Print + AllocGlobal>(
+    rt: &R,
+    network: &Network,
+    journal: &Journal<'_>,
+) -> io::Result<()>
+    requires { journal.now.declared ≡ network.now }
+{
+    show_stop(rt, journal)?;
     for node in 0..network.nodes() {
-        let packets = journal.came_out(rt.alloc(), node)?;
-        println!(rt; "node {node}: {} came out", packets.len())?;
+        show_came_out(rt, network, journal, node)?;
     }
-    let history = journal.into_history();
-    println!(rt; "{} steps in the history", history.len())
+    Ok(())
+}
+
+// Runs the load to its end, and prints what came of it.
+fn show_whole<R: Print + AllocGlobal>(
+    rt: &R,
+    network: &Network,
+    journal: &mut Journal<'_>,
+    cells: Vec<Cell>,
+) -> io::Result<()>
+    requires names { All (λ c. c.name ≡ journal.old.name) cells.items }
+    requires network { journal.old.declared ≡ network.now }
+{
+    let mut cells = cells;
+    play(network, journal, rt.alloc(), &mut cells)?;
+    show_journal(rt, network, journal)
+}
+
+fn show_history<R: Print>(rt: &R, shown: io::Result<()>, steps: usize) -> io::Result<()> {
+    shown?;
+    println!(rt; "{steps} steps in the history")
 }
 
 fn show_played<R: Print + AllocGlobal>(
@@ -47,11 +85,8 @@ fn show_played<R: Print + AllocGlobal>(
     requires network { journal.declared ≡ network.now }
 {
     let mut journal = journal;
-    let mut cells = cells;
-    match play(network, &mut journal, rt.alloc(), &mut cells) {
-        Ok(()) => show_journal(rt, network, journal),
-        Err(_) => println!(rt; "no memory"),
-    }
+    let shown = show_whole(rt, network, &mut journal, cells);
+    show_history(rt, shown, journal.into_history().len())
 }
 
 fn show_run<R: Print + AllocGlobal>(
@@ -86,6 +121,14 @@ fn show_full<R: Print + AllocGlobal>(rt: &R, network: &Network, load: &Load) -> 
     }
 }
 
+fn show_both<R: Print + AllocGlobal>(rt: &R, network: &Network, load: &Load) -> io::Result<()>
+    requires { AreDeclared network.now load.now }
+{
+    show_tried(rt, network, load)?;
+    println!(rt; "> with a limit of 1")?;
+    show_full(rt, network, load)
+}
+
 /// Runs the load, and prints what came of it.
 pub(crate) fn show_load<R: Print + AllocGlobal>(
     rt: &R,
@@ -108,11 +151,7 @@ pub(crate) fn show_steps<R: Print + AllocGlobal>(
 ) -> io::Result<()> {
     listed_are_declared();
     match read_load(rt.alloc(), network, text) {
-        Ok(load) => {
-            show_tried(rt, network, &load)?;
-            println!(rt; "> with a limit of 1")?;
-            show_full(rt, network, &load)
-        }
+        Ok(load) => show_both(rt, network, &load),
         Err(_) => println!(rt; "no load"),
     }
 }

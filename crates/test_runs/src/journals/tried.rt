@@ -33,6 +33,13 @@ fn attempt<R: Print + AllocGlobal>(
     }
 }
 
+fn show_mark<R: Print>(rt: &R, number: u16, idle: bool, mark: Option<u64>) -> io::Result<()> {
+    match mark {
+        Some(mark) => println!(rt; "link end {number}: idle {idle}, mark {mark}"),
+        None => println!(rt; "link end {number}: idle {idle}, no mark"),
+    }
+}
+
 // Asks at the cell of that place whether the link end is idle, and prints the answer and the mark.
 fn ask<R: Print>(
     rt: &R,
@@ -53,10 +60,7 @@ fn ask<R: Print>(
         return println!(rt; "not a link end of the cell");
     }
     let idle = journal.declare_idle(LinkEnd::new(number), &cells[place]);
-    match journal.mark(LinkEnd::new(number)) {
-        Some(mark) => println!(rt; "link end {number}: idle {idle}, mark {mark}"),
-        None => println!(rt; "link end {number}: idle {idle}, no mark"),
-    }
+    show_mark(rt, number, idle, journal.mark(LinkEnd::new(number)))
 }
 
 // Prints how much of each the node has.
@@ -105,6 +109,46 @@ fn try_fcts<R: Print + AllocGlobal>(
     tell(rt, network, journal, 1)
 }
 
+// Begins the packet at the first cell.
+fn begin<R: Print + AllocGlobal>(
+    rt: &R,
+    journal: &mut Journal<'_>,
+    cells: &mut Vec<Cell>,
+) -> io::Result<()>
+    requires { All (λ c. c.name ≡ journal.old.name) cells.old.items }
+    ensures names { All (λ c. c.name ≡ journal.old.name) cells.new.items }
+    ensures journal { IsSameRun journal.old journal.new }
+{
+    attempt(rt, journal, cells, 0, beginning(rt.alloc())?)
+}
+
+fn try_both<R: Print + AllocGlobal>(
+    rt: &R,
+    network: &Network,
+    journal: &mut Journal<'_>,
+    cells: &mut Vec<Cell>,
+) -> io::Result<()>
+    requires names { All (λ c. c.name ≡ journal.old.name) cells.old.items }
+    requires network { journal.old.declared ≡ network.now }
+{
+    try_fcts(rt, network, journal, cells)?;
+    begin(rt, journal, cells)?;
+    begin(rt, journal, cells)?;
+    tell(rt, network, journal, 0)
+}
+
+fn try_three<R: Print + AllocGlobal>(
+    rt: &R,
+    journal: &mut Journal<'_>,
+    cells: &mut Vec<Cell>,
+) -> io::Result<()>
+    requires { All (λ c. c.name ≡ journal.old.name) cells.old.items }
+{
+    attempt(rt, journal, cells, 1, Step::Fct(Chan::new(0)))?;
+    attempt(rt, journal, cells, 1, Step::Fct(Chan::new(0)))?;
+    attempt(rt, journal, cells, 1, Step::Accept(1))
+}
+
 /// Tries steps of two nodes that are joined by a link, the first of which has one packet to send.
 pub(crate) fn try_line<R: Print + AllocGlobal>(
     rt: &R,
@@ -117,10 +161,7 @@ pub(crate) fn try_line<R: Print + AllocGlobal>(
 {
     let mut journal = journal;
     let mut cells = cells;
-    try_fcts(rt, network, &mut journal, &mut cells)?;
-    attempt(rt, &mut journal, &mut cells, 0, beginning(rt.alloc())?)?;
-    attempt(rt, &mut journal, &mut cells, 0, beginning(rt.alloc())?)?;
-    tell(rt, network, &journal, 0)
+    try_both(rt, network, &mut journal, &mut cells)
 }
 
 /// Tries steps when one is the most that there may be.
@@ -133,7 +174,5 @@ pub(crate) fn try_full<R: Print + AllocGlobal>(
 {
     let mut journal = journal;
     let mut cells = cells;
-    attempt(rt, &mut journal, &mut cells, 1, Step::Fct(Chan::new(0)))?;
-    attempt(rt, &mut journal, &mut cells, 1, Step::Fct(Chan::new(0)))?;
-    attempt(rt, &mut journal, &mut cells, 1, Step::Accept(1))
+    try_three(rt, &mut journal, &mut cells)
 }

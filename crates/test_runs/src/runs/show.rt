@@ -1,4 +1,5 @@
 //! How a run ended, as it is printed.
+ghost use Rattle.std.specs.Prelude.{◌<◌, length};
 
 use std::io;
 use sw_network::Network;
@@ -13,6 +14,17 @@ fn name_of(stop: Stop) -> &'static str {
     }
 }
 
+fn show_count(rt: &impl Print, network: &Network, outcome: &Outcome, node: u16) -> io::Result<()>
+    requires { node < length network.now.nodes }
+{
+    if let Some(packets) = outcome.came_out.get(node as usize) {
+        let name = network.node_name(node);
+        let count = packets.len();
+        println!(rt; "node {name} packets {count}")?;
+    }
+    Ok(())
+}
+
 /// Prints why the run ended, how many characters are undelivered, and how many packets came out at
 /// each node.
 pub(crate) fn show_outcome(
@@ -24,11 +36,7 @@ pub(crate) fn show_outcome(
     let undelivered = outcome.undelivered;
     println!(rt; "{stop}, undelivered {undelivered}")?;
     for node in 0..network.nodes() {
-        if let Some(packets) = outcome.came_out.get(node as usize) {
-            let name = network.node_name(node);
-            let count = packets.len();
-            println!(rt; "node {name} packets {count}")?;
-        }
+        show_count(rt, network, outcome, node)?;
     }
     Ok(())
 }
