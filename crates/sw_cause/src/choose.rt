@@ -56,6 +56,10 @@ fn cause_for(
 ///
 /// The places of the flows are gone through once, and for each channel of the cycle one way of a
 /// flow is looked for.
+///
+/// # Errors
+///
+/// There is no memory for the causes, or for what finds them.
 pub fn causes(
     alloc: Global,
     network: &Network,

@@ -18,8 +18,12 @@ use sw_node::NodeCell;
 use sw_steps::Step;
 use sw_wires::Wires;
 
-/// Makes the step, which has to be one at node `n`, if it is possible. After want of memory
-/// nothing has changed.
+/// Makes the step, which has to be one at node `n`, if it is possible.
+///
+/// # Errors
+///
+/// There is no memory for what the step stores: only where the step is possible. Then nothing has
+/// changed.
 pub fn step_node(
     alloc: Global,
     network: &Network,

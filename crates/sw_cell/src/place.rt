@@ -61,8 +61,12 @@ fn node_cell(network: &Network, node: u16) -> Option<CellId>
     }
 }
 
-/// The cell at which the step is done. Where it is never possible, since the network has not what
-/// it names, it is not enabled; where it begins a packet that no flow declares, that is the fault.
+/// The cell at which the step is done.
+///
+/// # Errors
+///
+/// `NotInFlow`: the step begins a packet that no flow declares. `NotEnabled`: it begins none such,
+/// and is never possible, since the network has not what it names. `Memory` does not come.
 pub fn cell_of(network: &Network, step: &Step) -> Result<CellId, NetFault>
     ensures { IsDoneAt network.now (machine_step step.now) result }
 {

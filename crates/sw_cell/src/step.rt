@@ -19,6 +19,10 @@ use sw_steps::Step;
 use sw_wires::Wires;
 
 /// The answer where a step was made, or was not possible.
+///
+/// # Errors
+///
+/// `NotEnabled`: the step was not possible. No other error comes.
 pub fn made_or_not(made: bool) -> Result<(), NetFault>
     ensures { result ≡ done made }
 {
@@ -58,8 +62,13 @@ fn make<R: Routing, A: Arbiter>(
     }
 }
 
-/// Makes the step on the cell and what lies between the cells. A step of another cell is not
-/// enabled. After a refusal nothing has changed.
+/// Makes the step on the cell and what lies between the cells.
+///
+/// # Errors
+///
+/// `NotInFlow`: the step begins a packet that no flow declares. `NotEnabled`: it begins none such,
+/// and is a step of another cell or is not possible. `Memory`: it is one of this cell and possible,
+/// and there is no memory for what it stores. After a refusal nothing has changed.
 pub fn step_cell<R: Routing, A: Arbiter>(
     alloc: Global,
     network: &Network,

@@ -18,7 +18,8 @@ use sw_network::Network;
 use sw_node::NodeCell;
 use sw_wires::Wires;
 
-/// The end of the channel that comes to node `n` sends an FCT.
+/// The end of the channel that comes to node `n` sends an FCT (ECSS-E-ST-50-12C, data link layer: flow
+/// control).
 pub fn fct(network: &Network, n: u16, node: &mut NodeCell, wires: &mut Wires) -> bool
     requires node { IsNodeFor network.now n node.old }
     requires reached { HasNodeState (network_of network.now) n node.old wires.old }
@@ -33,7 +34,8 @@ pub fn fct(network: &Network, n: u16, node: &mut NodeCell, wires: &mut Wires) ->
     true
 }
 
-/// An FCT arrives where the channel starts that goes out from node `n`.
+/// An FCT arrives where the channel starts that goes out from node `n` (ECSS-E-ST-50-12C, data link
+/// layer: flow control).
 pub fn fct_in(network: &Network, n: u16, node: &mut NodeCell, wires: &mut Wires) -> bool
     requires node { IsNodeFor network.now n node.old }
     requires reached { HasNodeState (network_of network.now) n node.old wires.old }
@@ -49,7 +51,8 @@ pub fn fct_in(network: &Network, n: u16, node: &mut NodeCell, wires: &mut Wires)
     true
 }
 
-/// The first character on the wire of the channel that comes to node `n` arrives.
+/// The first character on the wire of the channel that comes to node `n` arrives (ECSS-E-ST-50-12C,
+/// data link layer: flow control).
 pub fn arrive(network: &Network, n: u16, node: &mut NodeCell, wires: &mut Wires) -> bool
     requires node { IsNodeFor network.now n node.old }
     requires reached { HasNodeState (network_of network.now) n node.old wires.old }
@@ -65,7 +68,7 @@ pub fn arrive(network: &Network, n: u16, node: &mut NodeCell, wires: &mut Wires)
     true
 }
 
-/// Node `n` puts a character on its wire.
+/// Node `n` puts a character on its wire (ECSS-E-ST-50-12C, data link layer: flow control).
 pub fn emit(network: &Network, n: u16, node: &mut NodeCell, wires: &mut Wires) -> bool
     requires node { IsNodeFor network.now n node.old }
     requires reached { HasNodeState (network_of network.now) n node.old wires.old }
@@ -80,7 +83,11 @@ pub fn emit(network: &Network, n: u16, node: &mut NodeCell, wires: &mut Wires) -
     true
 }
 
-/// Node `n` takes a character. Memory is wanting only where that is possible; the node is then as it
+/// Node `n` takes a character.
+///
+/// # Errors
+///
+/// There is no memory for what is stored: only where the step is possible. The node is then as it
 /// was.
 pub fn accept(alloc: Global, n: u16, node: &mut NodeCell) -> Result<bool, AllocError>
     ensures made { IfOk result (λ made. (d : Declaration) → IsNodeFor d n node.old → NodeDoes d n node.old (Accept n) made node.new) }
@@ -94,7 +101,7 @@ pub fn accept(alloc: Global, n: u16, node: &mut NodeCell) -> Result<bool, AllocE
     Ok(true)
 }
 
-/// Node `n` begins to send the reply that has waited longest.
+/// Node `n` begins to send the reply (ECSS-E-ST-50-52C, reply fields) that has waited longest.
 pub fn reply(n: u16, node: &mut NodeCell) -> bool
     ensures { (d : Declaration) → IsNodeFor d n node.old → NodeDoes d n node.old (Reply n) result node.new }
 {
@@ -129,8 +136,11 @@ fn address_of(network: &Network, flow: u16) -> &[u8]
 }
 
 /// Node `n` begins to send a packet of a declared flow that starts there: the flow's address, the
-/// cargo and the end marker. Memory is wanting only where that is possible; the node is then as it
-/// was.
+/// cargo and the end marker (ECSS-E-ST-50-12C, network layer: packets).
+///
+/// # Errors
+///
+/// There is no memory for the packet: only where the step is possible. The node is then as it was.
 pub fn begin(
     alloc: Global,
     network: &Network,
@@ -153,8 +163,8 @@ pub fn begin(
     Ok(true)
 }
 
-/// Whether node `n` can begin a packet. This hangs on no packet: it can begin each that a flow which
-/// starts there declares, or none.
+/// Whether node `n` can begin a packet (ECSS-E-ST-50-12C, network layer: packets). This hangs on no
+/// packet: it can begin each that a flow which starts there declares, or none.
 pub fn can_begin(n: u16, node: &NodeCell) -> bool
     ensures { (d : Declaration) → IsNodeFor d n node.now → BeginTells d n node.now result }
 {

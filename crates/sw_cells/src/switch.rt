@@ -40,7 +40,8 @@ fn output(network: &Network, w: u16, channel: Chan) -> Port
     }
 }
 
-/// The end of the channel, which comes to switch `w`, sends an FCT.
+/// The end of the channel, which comes to switch `w`, sends an FCT (ECSS-E-ST-50-12C, data link layer:
+/// flow control).
 pub fn fct<R: Routing, A: Arbiter>(
     network: &Network,
     w: u16,
@@ -64,7 +65,8 @@ pub fn fct<R: Routing, A: Arbiter>(
     true
 }
 
-/// An FCT arrives where the channel starts that goes out from switch `w`.
+/// An FCT arrives where the channel starts that goes out from switch `w` (ECSS-E-ST-50-12C, data link
+/// layer: flow control).
 pub fn fct_in<R: Routing, A: Arbiter>(
     network: &Network,
     w: u16,
@@ -88,7 +90,8 @@ pub fn fct_in<R: Routing, A: Arbiter>(
     true
 }
 
-/// The first character on the wire of the channel, which comes to switch `w`, arrives.
+/// The first character on the wire of the channel, which comes to switch `w`, arrives
+/// (ECSS-E-ST-50-12C, data link layer: flow control).
 pub fn arrive<R: Routing, A: Arbiter>(
     network: &Network,
     w: u16,
@@ -135,7 +138,7 @@ pub fn spill<R: Routing, A: Arbiter>(
 }
 
 /// The input where the channel ends, at switch `w`, passes a character on to the output that it
-/// holds.
+/// holds (ECSS-E-ST-50-12C, network layer: wormhole routing).
 pub fn forward<R: Routing, A: Arbiter>(
     network: &Network,
     w: u16,
@@ -195,8 +198,8 @@ fn output_port(network: &Network, w: u16, channel: Chan) -> Option<Port>
     }
 }
 
-/// The output where a channel starts is granted to the input where the other ends, at switch `w`.
-/// The output's arbiter is not asked.
+/// The output where a channel starts is granted to the input where the other ends, at switch `w`
+/// (ECSS-E-ST-50-12C, network layer: wormhole routing). The output's arbiter is not asked.
 pub fn grant<R: Routing, A: Arbiter>(
     network: &Network,
     w: u16,
@@ -222,8 +225,8 @@ pub fn grant<R: Routing, A: Arbiter>(
 }
 
 /// The output where the channel starts, at switch `w`, is granted to the input that its arbiter
-/// picks among those that ask. Answers the channel that ends at that input, and `None` if no input
-/// asks or the output is held: then nothing changed.
+/// picks among those that ask (ECSS-E-ST-50-12C, network layer: arbitration). Answers the channel
+/// that ends at that input, and `None` if no input asks or the output is held: then nothing changed.
 pub fn arbitrate<R: Routing, A: Arbiter>(
     network: &Network,
     w: u16,
@@ -286,7 +289,7 @@ pub fn is_possible<R: Routing, A: Arbiter>(
 }
 
 /// Whether the output where a channel starts can be granted to the input where the other ends, at
-/// switch `w`.
+/// switch `w` (ECSS-E-ST-50-12C, network layer: wormhole routing).
 pub fn can_grant<R: Routing, A: Arbiter>(
     network: &Network,
     w: u16,

@@ -104,6 +104,12 @@ impl Certificate {
     ghost use Rattle.sw_cert.specs.Text.{Reads};
 
     /// The certificate of a text.
+    ///
+    /// # Errors
+    ///
+    /// `Grammar`: this line, counted from 1, is the first that is not as the grammar asks after the
+    /// lines before it. `Memory`: there is no memory for what the text says; this tells nothing of
+    /// the text.
     pub fn read(alloc: Global, text: &[u8]) -> Result<Certificate, CertificateFault>
         ensures { Reads text.now result }
     {
@@ -126,6 +132,10 @@ impl Certificate {
 
 impl Certificate {
     /// The certificate's text, in its one spelling.
+    ///
+    /// # Errors
+    ///
+    /// There is no memory for the text.
     pub fn write(&self, alloc: Global) -> Result<Vec<u8>, AllocError>
         ensures { IfOk result (λ text. text.items ≡ spelling self.now.numbers self.now.places) }
     {

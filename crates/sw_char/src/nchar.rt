@@ -11,7 +11,7 @@ pub enum NChar {
     Eep,
 }
 
-/// How a packet ends.
+/// How a packet ends: the end markers (ECSS-E-ST-50-12C, data link layer).
 #[derive(Clone, Copy, Debug, PartialEq, Eq)]
 pub enum End {
     /// The normal end of a packet.

@@ -25,8 +25,12 @@ impl Model for Packet {
     ghost view = { λ p. record { bytes = p.bytes.items; end = p.end } };
 }
 
-/// The whole packets of these characters, and where the unfinished rest begins: the index after
-/// the last marker.
+/// The whole packets of these characters (ECSS-E-ST-50-12C, network layer: packets), and where the
+/// unfinished rest begins: the index after the last marker.
+///
+/// # Errors
+///
+/// There is no memory for the packets.
 pub fn packets(alloc: Global, chars: &[NChar]) -> Result<(Vec<Packet>, usize), AllocError>
     ensures { IfOk result (λ found. (rest : List ℕ) × IsCut chars.now found.0.items rest × (found.1 + length rest ≡ length chars.now)) }
 {

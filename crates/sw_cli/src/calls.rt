@@ -12,7 +12,12 @@ use sw_ends::Ended;
 use sw_run_app::{Open, Options};
 use sw_words::{Call, WordsFault, words};
 
-/// Makes the call that the words ask for, and tells how it ended, or why they give no call; they begin with the program's name.
+/// Makes the call that the words ask for, and tells how it ended; they begin with the program's name.
+///
+/// # Errors
+///
+/// `Help`: the words ask for help. `Refused`: something is wrong with them. Both have the text to print. `Memory`: there is no
+/// memory to read the words; this tells nothing of them. No call is made.
 pub fn run_words<'a, R: Files + Print + AllocGlobal + Threads + Wait + Sync>(
     rt: &R,
     given: &'a [&'a str],

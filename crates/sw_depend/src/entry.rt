@@ -23,7 +23,8 @@ use sw_network::Network;
 /// Threads share the work, as many as there are processors.
 ///
 /// # Errors
-/// Want of memory.
+///
+/// There is no memory for the rows, or for what finds them.
 pub fn dependencies<R: Threads + Sync>(
     rt: &R,
     alloc: Global,

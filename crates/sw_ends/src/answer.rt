@@ -28,6 +28,10 @@ impl Answer {
     ghost use Rattle.sw_ends.specs.Ends.{Says};
 
     /// The answer to a text that has a fault.
+    ///
+    /// # Errors
+    ///
+    /// There is no memory for the text.
     pub fn of_fault(alloc: Global, fault: &TextFault) -> Result<Answer, AllocError>
         ensures { IfOk result (λ a. Says (line (fault_text fault.now ∷ [])) 3 (string_bytes a.text) a.status) }
     {
@@ -40,6 +44,10 @@ impl Answer {
     }
 
     /// The answer to a text that is too long.
+    ///
+    /// # Errors
+    ///
+    /// There is no memory for the text.
     pub fn of_long_text(alloc: Global) -> Result<Answer, AllocError>
         ensures { IfOk result (λ a. Says (line (codes "fault A1 TooLong" ∷ [])) 3 (string_bytes a.text) a.status) }
     {

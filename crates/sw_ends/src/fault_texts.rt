@@ -59,6 +59,10 @@ fn topology_fault_text(alloc: Global, fault: TopoFault) -> Result<String, AllocE
 }
 
 /// What is printed of a text's fault, without the LF.
+///
+/// # Errors
+///
+/// There is no memory for the text.
 pub fn fault_text(alloc: Global, fault: &TextFault) -> Result<String, AllocError>
     ensures { IfOk result (λ s. string_bytes s ≡ fault_text fault.now) }
 {

@@ -39,6 +39,11 @@ fn read_one<R: Read>(alloc: Global, reader: &mut R) -> Result<Input, InputError>
 }
 
 /// Reads two texts, the first one first.
+///
+/// # Errors
+///
+/// `Failed`: a read failed. `Memory`: there is no memory for a text. Unless the first was read to
+/// its end, or found too long, nothing is taken from the second. What was taken is gone.
 pub fn read_two<A: Read, B: Read>(
     alloc: Global,
     first: &mut A,

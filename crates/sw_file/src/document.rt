@@ -232,7 +232,11 @@ fn network_of(alloc: Global, document: &Entry) -> Result<Network, FileFault>
     with_flows(alloc, document, network)
 }
 
-/// Reads a network file of version 1 or 2: the network that it declares, or its first fault.
+/// Reads a network file of version 1 or 2: the network that it declares.
+///
+/// # Errors
+///
+/// `Text`: the first fault of the text. `Memory`: there is no memory for what is read; this tells nothing of the text.
 pub fn read_network(alloc: Global, bytes: &[u8]) -> Result<Network, FileFault>
     ensures { Gives (λ n. n) result (network_text bytes.now) }
 {

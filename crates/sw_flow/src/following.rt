@@ -39,7 +39,8 @@ fn follows_at(network: &Network, flow: &Flow, switch: u16, deleted: u8, to: Plac
     to.deleted as u16 == behind && names_output(network.topology(), switch, &look, to.channel)
 }
 
-/// Does the flow go from the first place to the second by one step? Not where there is no such place.
+/// Does the flow go from the first place to the second by one step (ECSS-E-ST-50-12C, network layer: packet addressing)? Not where
+/// there is no such place.
 pub fn follows(network: &Network, flow: &Flow, from: Place, to: Place) -> bool
     ensures { IsTrue result ↔ Follows network.now flow.now from.channel from.deleted to.channel to.deleted }
 {

@@ -2,7 +2,8 @@
 
 use sw_topo::Chan;
 
-/// A place of a flow: its packets go over the channel with that many of their address bytes deleted.
+/// A place of a flow: its packets go over the channel with that many of their address bytes deleted
+/// (ECSS-E-ST-50-12C, network layer: packet addressing).
 #[derive(Clone, Copy, Debug, PartialEq, Eq)]
 pub struct Place {
     pub channel: Chan,

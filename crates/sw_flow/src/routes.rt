@@ -28,6 +28,10 @@ pub(crate) fn places_of(
 }
 
 /// The places of the flow of that number, each once, in order: by channel, then by the count of deleted address bytes.
+///
+/// # Errors
+///
+/// There is no memory for the places, or for what finds them.
 pub fn places(alloc: Global, network: &Network, flow: u16) -> Result<Vec<Place>, AllocError>
     requires { flow < length (all_flows network.now) }
     ensures { IfOk result (λ v. IsPlacesOf network.now flow v.items) }

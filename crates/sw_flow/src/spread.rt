@@ -16,6 +16,10 @@ use sw_network::Network;
 const LEAST_PIECE: usize = 64;
 
 /// The places of each flow, reply flows too, by the flows' numbers, from as many threads as there are processors.
+///
+/// # Errors
+///
+/// There is no memory for the places, or for what finds them.
 pub fn all_places<R: Threads + Sync>(
     rt: &R,
     alloc: Global,

@@ -8,7 +8,8 @@ use std::marker::Model;
 use sw_network::{Flow, Network};
 use sw_topo::{Chan, PlaceEnd, PortSet, Ports, Topology};
 
-/// The places that follow a place and are still to come, in the order of the ports that lead to them.
+/// The places that follow a place (ECSS-E-ST-50-12C, network layer: packet addressing) and are still to come, in the order of the
+/// ports that lead to them.
 #[derive(Drop)]
 pub struct Followers<'a> {
     topology: &'a Topology,
@@ -98,8 +99,8 @@ fn followers_at_switch<'a>(
     }
 }
 
-/// The places that follow a place of the flow, in the order of the ports that lead to them; none where the network has no such
-/// channel.
+/// The places that follow a place of the flow (ECSS-E-ST-50-12C, network layer: packet addressing), in the order of the ports that
+/// lead to them; none where the network has no such channel.
 #[tactic(auto, unfolding(crate::specs::Followers::followers_of))]
 pub fn followers_in<'a>(network: &'a Network, flow: &Flow, place: Place) -> Followers<'a>
     requires { length flow.now.address ≤ 32 }

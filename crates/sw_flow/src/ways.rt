@@ -40,6 +40,10 @@ fn way_in(
 /// not one of the flow's.
 ///
 /// The time is linear in the number of channels times the length of the flow's address.
+///
+/// # Errors
+///
+/// There is no memory for the places, or for what finds them.
 pub fn way_to(
     alloc: Global,
     network: &Network,

@@ -43,6 +43,10 @@ impl<'n, R: Routing, A: Arbiter> History<'n, R, A> {
 
     /// A step that belongs to the link end and may be the next; the beginning of its node's next
     /// packet comes after its other steps. None where the link end is idle.
+    ///
+    /// # Errors
+    ///
+    /// There is no memory for the step.
     pub fn choose(&self, alloc: Global, end: LinkEnd) -> Result<Option<Step>, AllocError>
         requires { end < 2 * length self.now.declared.links }
         ensures some { IfOk result (λ o. IfSome o (λ step. IsNextAt self.now end (machine_step step))) }

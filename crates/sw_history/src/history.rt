@@ -103,7 +103,11 @@ impl<'n, R: Routing, A: Arbiter> History<'n, R, A> {
         }
     }
 
-    /// Makes room for one more step. Nothing else changes, and after want of memory nothing at all.
+    /// Makes room for one more step. Nothing else changes.
+    ///
+    /// # Errors
+    ///
+    /// There is no memory for the room: then nothing at all has changed.
     pub fn reserve(&mut self) -> Result<(), AllocError>
         ensures room { OnOk result (0 < self.new.room) }
         ensures steps { self.new.steps ≡ self.old.steps }
@@ -115,6 +119,11 @@ impl<'n, R: Routing, A: Arbiter> History<'n, R, A> {
     }
 
     /// Adds the step, if it may be the next. There has to be room for it.
+    ///
+    /// # Errors
+    ///
+    /// `NotEnabled`: the step may not be the next. `Memory`: it may, and there is no memory for
+    /// what it stores. The history is then unchanged, and the step is gone.
     pub fn add(&mut self, alloc: Global, step: Step) -> Result<(), StepFault>
         requires { 0 < self.old.room }
         ensures { Adds self.old (machine_step step) result self.new }
@@ -137,6 +146,10 @@ impl<'n, R: Routing + Drop, A: Arbiter + Drop> History<'n, R, A> {
     ghost use Rattle.sw_net.specs.Net.{IsNetState};
 
     /// The history of no steps, of a network in its empty state.
+    ///
+    /// # Errors
+    ///
+    /// There is no memory for the counts or the lists of what each node sends. `net` is then gone.
     pub fn new(
         alloc: Global,
         net: Net<'n, R, A>,

@@ -72,6 +72,10 @@ impl<'n> Journal<'n> {
     }
 
     /// The whole packets that came out at the node in the history, in their order.
+    ///
+    /// # Errors
+    ///
+    /// There is no memory for the packets.
     pub fn came_out(&self, alloc: Global, node: u16) -> Result<Vec<Packet>, AllocError>
         requires { node < length self.now.declared.nodes }
         ensures { IfOk result (λ packets. BroughtOut self.now node packets.items) }

@@ -12,6 +12,10 @@ use sw_topo::LinkEnd;
 impl<'n> Journal<'n> {
     /// A step of the link end that may be the next, the beginning of its node's next packet included.
     /// None where the link end is idle.
+    ///
+    /// # Errors
+    ///
+    /// There is no memory for the step.
     pub fn choose(&self, alloc: Global, end: LinkEnd) -> Result<Option<Step>, AllocError>
         requires { end < 2 * length self.now.declared.links }
         ensures { IfOk result (λ o. Chooses self.now end o) }
@@ -19,8 +23,11 @@ impl<'n> Journal<'n> {
         self.history.choose(alloc, end)
     }
 
-    /// The same of a link end of the cell, which is marked where it is idle. After want of memory
-    /// nothing has changed.
+    /// The same of a link end of the cell, which is marked where it is idle.
+    ///
+    /// # Errors
+    ///
+    /// There is no memory for the step: then nothing has changed.
     pub fn choose_or_mark(
         &mut self,
         alloc: Global,

@@ -64,6 +64,10 @@ impl<'n> Journal<'n> {
 
     /// A journal of no steps and no marks, and a cell for each node and each switch of the network,
     /// in their order, in the empty state.
+    ///
+    /// # Errors
+    ///
+    /// There is no memory for the journal or its cells.
     pub fn new(
         alloc: Global,
         network: &'n Network,
@@ -99,7 +103,14 @@ impl<'n> Journal<'n> {
     }
 
     /// Makes the step at the cell and adds it to the history, if it is one of the cell's and may be
-    /// the next. The cell then has its new numbers. A refusal changes nothing.
+    /// the next. The cell then has its new numbers.
+    ///
+    /// # Errors
+    ///
+    /// `NotEnabled`: the step is not one of the cell's or may not be the next. `Full`: it is and
+    /// may, but the history has as many steps as it may have. `Memory`: it is and may, and the
+    /// history has fewer, but there is no memory for the step or for what it stores. A refusal
+    /// changes nothing, and the step is gone.
     pub fn commit(&mut self, alloc: Global, cell: &mut Cell, step: Step) -> Result<(), JournalFault>
         requires { cell.old.name ≡ self.old.name }
         ensures commits { Commits self.old cell.old (machine_step step) result self.new cell.new }

@@ -29,6 +29,10 @@ impl RxEnd {
 
     /// An end with an empty buffer that asked for nothing yet. Its buffer is made here, and holds
     /// `capacity` N-Chars: 8 to 4,096.
+    ///
+    /// # Errors
+    ///
+    /// There is no memory for the buffer.
     pub fn new(alloc: Global, capacity: usize) -> Result<RxEnd, AllocError>
         requires { IsCapacity capacity }
         ensures { IfOk result (λ e. e ≡ record { buffer = []; outstanding = 0; capacity = capacity }) }
@@ -49,13 +53,18 @@ impl RxEnd {
     }
 
     /// A copy of the buffer: the N-Chars that arrived and were not taken, the oldest first.
+    ///
+    /// # Errors
+    ///
+    /// There is no memory for the copy.
     pub fn buffer(&self, alloc: Global) -> Result<Vec<NChar>, AllocError>
         ensures { IfOk result (λ buffer. buffer.items ≡ self.now.buffer) }
     {
         self.ring.to_vec(alloc)
     }
 
-    /// How many N-Chars were asked for and did not arrive yet: 0 to 56.
+    /// How many N-Chars were asked for and did not arrive yet: 0 to 56 (ECSS-E-ST-50-12C, data link
+    /// layer: flow control).
     pub fn outstanding(&self) -> u8
         ensures value { result ≡ self.now.outstanding }
         ensures most { result ≤ 56 }
@@ -63,7 +72,8 @@ impl RxEnd {
         self.outstanding
     }
 
-    /// Is there room for eight more N-Chars, and are at most 48 outstanding?
+    /// Is there room for eight more N-Chars, and are at most 48 outstanding (ECSS-E-ST-50-12C, data
+    /// link layer: flow control)?
     pub fn can_issue(&self) -> bool
         ensures { result ≡ may_issue self.now }
     {
@@ -71,7 +81,8 @@ impl RxEnd {
             && self.outstanding <= 48
     }
 
-    /// An FCT leaves: eight more N-Chars are asked for.
+    /// An FCT leaves: eight more N-Chars are asked for (ECSS-E-ST-50-12C, data link layer: flow
+    /// control).
     pub fn issue(&mut self)
         requires { IsTrue (may_issue self.old) }
         ensures { self.new ≡ asked self.old }
@@ -79,7 +90,8 @@ impl RxEnd {
         self.outstanding += 8;
     }
 
-    /// An N-Char arrives from the wire and goes to the end of the buffer.
+    /// An N-Char arrives from the wire and goes to the end of the buffer (ECSS-E-ST-50-12C, data link
+    /// layer: flow control).
     pub fn arrive(&mut self, character: NChar)
         requires { 0 < self.old.outstanding }
         ensures { self.new ≡ arrived character self.old }

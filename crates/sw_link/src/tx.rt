@@ -28,7 +28,7 @@ impl TxEnd {
         TxEnd { credit: 0 }
     }
 
-    /// How many N-Chars may be sent: 0 to 56.
+    /// How many N-Chars may be sent: 0 to 56 (ECSS-E-ST-50-12C, data link layer: flow control).
     pub fn credit(&self) -> u8
         ensures value { result ≡ self.now }
         ensures most { result ≤ 56 }
@@ -36,7 +36,7 @@ impl TxEnd {
         self.credit
     }
 
-    /// An N-Char is put on the wire.
+    /// An N-Char is put on the wire (ECSS-E-ST-50-12C, data link layer: flow control).
     pub fn send(&mut self)
         requires { 0 < self.old }
         ensures { self.new ≡ spent self.old }
@@ -44,7 +44,8 @@ impl TxEnd {
         self.credit -= 1;
     }
 
-    /// An FCT is received: eight more N-Chars may be sent.
+    /// An FCT is received: eight more N-Chars may be sent (ECSS-E-ST-50-12C, data link layer: flow
+    /// control).
     pub fn fct_in(&mut self)
         requires { self.old ≤ 48 }
         ensures { self.new ≡ granted self.old }

@@ -154,7 +154,11 @@ fn load_of(alloc: Global, network: &Network, document: &Entry) -> Result<Load, F
     Ok(load)
 }
 
-/// Reads a load file: the packets that it lists for the network's declared flows, or its first fault.
+/// Reads a load file: the packets that it lists for the network's declared flows.
+///
+/// # Errors
+///
+/// `Text`: the first fault of the text. `Memory`: there is no memory for what is read; this tells nothing of the text.
 pub fn read_load(alloc: Global, network: &Network, bytes: &[u8]) -> Result<Load, FileFault>
     ensures { Gives (λ l. l) result (load_text network.now bytes.now) }
 {
