@@ -4,7 +4,8 @@ ghost use Rattle.sw_arb.specs.Arbiters.{IsWithin, AheadIsBelow, AheadFalls};
 
 use sw_topo::{Port, PortSet};
 
-/// Picks one of the ports that ask, of a set of ports that it was made with.
+/// Picks one of the ports that ask, of a set of ports that it was made with (ECSS-E-ST-50-12C,
+/// network layer: arbitration).
 pub trait Arbiter {
     /// The ports that it was made with.
     ghost ports: { Self → ℕ };

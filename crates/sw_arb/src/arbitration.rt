@@ -1,6 +1,7 @@
 //! The kinds of arbitration that a network file names.
 
-/// How a switch chooses among the inputs that ask for one output.
+/// How a switch chooses among the inputs that ask for one output (ECSS-E-ST-50-12C, network layer:
+/// arbitration).
 #[derive(Clone, Copy, Debug, PartialEq, Eq)]
 pub enum Arbitration {
     /// The lowest port.

@@ -75,6 +75,10 @@ impl<'n, R: Routing, A: Arbiter> Net<'n, R, A> {
     }
 
     /// The whole packets that came out at the node, in their order.
+    ///
+    /// # Errors
+    ///
+    /// There is no memory for the copies of the packets.
     pub fn came_out(&self, alloc: Global, node: u16) -> Result<Vec<Packet>, AllocError>
         requires { node < length self.now.declared.nodes }
         ensures { IfOk result (λ packets. (s : State) → IsNetState self.now s → CameOut s node packets.items) }

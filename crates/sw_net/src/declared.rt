@@ -78,6 +78,10 @@ fn declared_policies(alloc: Global, network: &Network) -> Result<Vec<Policy>, Al
 
 /// The network in its empty state, with the routing tables and the kinds of arbitration that its
 /// file declares.
+///
+/// # Errors
+///
+/// There is no memory for what the network keeps.
 pub fn declared_net<'n>(
     alloc: Global,
     network: &'n Network,

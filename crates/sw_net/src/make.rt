@@ -248,6 +248,10 @@ impl<'n, R: Routing + Drop, A: Arbiter + Drop> Net<'n, R, A> {
     /// The network in its empty state: no credit, no character, no output held. There is one
     /// routing for each switch, and one arbiter for each channel that starts at a switch, in their
     /// order. All that it keeps of its wires, buffers and memories is made here.
+    ///
+    /// # Errors
+    ///
+    /// There is no memory for what the network keeps: then the routings and the arbiters are gone.
     pub fn new(
         alloc: Global,
         network: &'n Network,

@@ -164,6 +164,10 @@ impl<'n, R: Routing, A: Arbiter> Net<'n, R, A> {
     }
 
     /// What the cell, which is one of the network's, has of the network's state.
+    ///
+    /// # Errors
+    ///
+    /// There is no memory for the part.
     pub fn part(&self, alloc: Global, cell: CellId) -> Result<Part, AllocError>
         requires { IsIn self.now.declared cell }
         ensures { IfOk result (λ part. (s : State) → IsNetState self.now s → IsPartOf self.now.declared s cell part) }

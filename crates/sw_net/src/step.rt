@@ -38,9 +38,13 @@ impl<'n, R: Routing, A: Arbiter> Net<'n, R, A> {
         made_or_not(step_switch(self.network, w, cell, &mut self.wires, step))
     }
 
-    /// Makes the step, if the machine can; else nothing changes. The network's flows have to
-    /// declare the packet that it begins, if it begins one. Only a step that begins a packet or
-    /// takes a character at a node may want memory, and is not made then. No arbiter is asked.
+    /// Makes the step, if the machine can. No arbiter is asked.
+    ///
+    /// # Errors
+    ///
+    /// The step begins a packet that the network's flows don't declare, or is not possible, or
+    /// there is no memory for what it stores, which only a step that begins a packet or takes a
+    /// character at a node may want. Then nothing has changed.
     pub fn step(&mut self, alloc: Global, step: &Step) -> Result<(), NetFault>
         ensures network { self.new.declared ≡ self.old.declared }
         ensures answers { NetAnswers self.old (machine_step step.now) result self.new }

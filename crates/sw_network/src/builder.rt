@@ -17,7 +17,7 @@ use sw_topo::{Builder, MAX_NODES, MAX_SWITCHES, PlaceEnd, TopoError};
 
 /// The nodes, switches and links of a network so far: nodes come first, then switches.
 ///
-/// Nodes and switches share one set of names. After want of memory the builder is as it was.
+/// Nodes and switches share one set of names.
 #[derive(Drop)]
 pub struct NetworkBuilder {
     wiring: Builder,
@@ -88,6 +88,10 @@ impl NetworkBuilder {
     }
 
     /// Adds a node of a new name, which is an RMAP target if `target` says how it answers.
+    ///
+    /// # Errors
+    ///
+    /// There is no memory for it: then the builder is as it was.
     pub fn add_node(
         &mut self,
         alloc: Global,
@@ -113,6 +117,10 @@ impl NetworkBuilder {
     }
 
     /// Adds a routing switch of a new name.
+    ///
+    /// # Errors
+    ///
+    /// There is no memory for it: then the builder is as it was, and the table is gone.
     pub fn add_switch(
         &mut self,
         alloc: Global,
@@ -134,6 +142,10 @@ impl NetworkBuilder {
     }
 
     /// Adds a link between its end `a` and its end `b`. The receive buffer at each end holds 8 to 4,096 characters.
+    ///
+    /// # Errors
+    ///
+    /// There is no memory for it: then the builder is as it was.
     pub fn add_link(
         &mut self,
         a: PlaceEnd,
@@ -162,7 +174,11 @@ impl NetworkBuilder {
         Ok(())
     }
 
-    /// The network, still without flows, or the first fault of its wiring. The builder is given up either way.
+    /// The network, still without flows. The builder is given up either way.
+    ///
+    /// # Errors
+    ///
+    /// The first fault of the wiring, or there is no memory for the network.
     pub fn wire(self, alloc: Global) -> Result<Network, TopoError>
         ensures { Wires result self }
     {

@@ -20,7 +20,8 @@ impl Model for Reply {
 }
 
 impl Reply {
-    /// Replies that begin with these path addresses, at most 12, and then the initiator logical address, 32 to 254.
+    /// Replies that begin with these path addresses, at most 12, and then the initiator logical address, 32 to 254
+    /// (ECSS-E-ST-50-52C, the reply address field of a command).
     pub fn new(path: Vec<u8>, initiator: u8) -> Reply
         ensures { result ≡ record { path = path.items; initiator = initiator } }
     {
@@ -109,7 +110,7 @@ impl Flow {
         self.to
     }
 
-    /// The address bytes that its packets begin with.
+    /// The address bytes that its packets begin with (ECSS-E-ST-50-12C, network layer: packet addressing).
     pub fn address(&self) -> &[u8]
         ensures { result.now ≡ self.now.address }
     {

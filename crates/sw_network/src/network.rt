@@ -75,7 +75,11 @@ impl Network {
         }
     }
 
-    /// Adds a declared flow of a new name, and its reply flow if it has replies. After want of memory the network is as it was.
+    /// Adds a declared flow of a new name, and its reply flow if it has replies.
+    ///
+    /// # Errors
+    ///
+    /// There is no memory for them: then the network is as it was, and the flow is gone.
     pub fn add_flow(&mut self, alloc: Global, flow: Flow) -> Result<(), AllocError>
         requires few { length self.old.flows < MAX_FLOWS }
         requires new_name { list_any (bytes_eq flow.name) (flow_names self.old.flows) ≡ false }
@@ -199,7 +203,7 @@ impl Network {
         self.target(node).is_some()
     }
 
-    /// How the switch chooses among inputs that ask for one output.
+    /// How the switch chooses among inputs that ask for one output (ECSS-E-ST-50-12C, network layer: arbitration).
     pub fn arbitration(&self, switch: u16) -> Arbitration
         requires { switch < length self.now.switches }
         ensures { option_map (λ e. e.arbitration) (slice_get self.now.switches switch) ≡ Some result }
@@ -218,7 +222,7 @@ impl Network {
         switch.routes()
     }
 
-    /// What the leading byte of a packet names at the switch.
+    /// What the leading byte of a packet names at the switch (ECSS-E-ST-50-12C, network layer: packet addressing).
     pub fn look(&self, switch: u16, byte: u8) -> Look
         requires { switch < length self.now.switches }
         ensures { result ≡ look_at self.now.switches switch byte }

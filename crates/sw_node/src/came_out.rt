@@ -7,6 +7,10 @@ use sw_char::Packet;
 
 impl NodeCell {
     /// The packets that came out at the node, in their order.
+    ///
+    /// # Errors
+    ///
+    /// There is no memory for the copies of the packets.
     pub fn came_out(&self, alloc: Global) -> Result<Vec<Packet>, AllocError>
         ensures { IfOk result (λ packets. packets.items ≡ self.now.packets) }
     {

@@ -40,14 +40,16 @@ impl Model for NodeCell {
 impl NodeCell {
     ghost use Rattle.sw_node.specs.Node.{IsNode};
 
-    /// The credit of the channel that starts at the node: 0 to 56.
+    /// The credit of the channel that starts at the node: 0 to 56 (ECSS-E-ST-50-12C, data link
+    /// layer: flow control).
     pub fn credit(&self) -> u8
         ensures { result ≡ self.now.credit }
     {
         self.credit.credit()
     }
 
-    /// How many N-Chars its receiving end asked for that did not arrive yet: 0 to 56.
+    /// How many N-Chars its receiving end asked for that did not arrive yet: 0 to 56
+    /// (ECSS-E-ST-50-12C, data link layer: flow control).
     pub fn outstanding(&self) -> u8
         ensures { result ≡ self.now.received.outstanding }
     {
@@ -84,8 +86,8 @@ impl NodeCell {
         self.received.arrive(character);
     }
 
-    /// An FCT for the channel that starts at the node is received. The credit has to be at most
-    /// 48.
+    /// An FCT for the channel that starts at the node is received (ECSS-E-ST-50-12C, data link
+    /// layer: flow control). The credit has to be at most 48.
     pub fn fct_in(&mut self)
         requires { self.old.credit ≤ 48 }
         ensures { self.new ≡ with_credit self.old (granted self.old.credit) }

@@ -12,7 +12,7 @@ impl NodeCell {
         self.sending.is_empty() && self.pending.is_empty()
     }
 
-    /// Has it a character to send, and credit?
+    /// Has it a character to send, and credit (ECSS-E-ST-50-12C, data link layer: flow control)?
     pub fn can_emit(&self) -> bool
         ensures { IsTrue result ↔ CanEmit self.now }
     {
@@ -33,7 +33,8 @@ impl NodeCell {
         !self.pending.is_empty() && self.sending.is_empty()
     }
 
-    /// Can an FCT leave for the channel that ends at the node?
+    /// Can an FCT leave for the channel that ends at the node (ECSS-E-ST-50-12C, data link layer:
+    /// flow control)?
     pub fn can_issue(&self) -> bool
         ensures { IsTrue result ↔ CanIssue self.now }
     {

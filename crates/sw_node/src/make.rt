@@ -35,6 +35,10 @@ fn slots(config: Option<TargetConfig>) -> usize
 impl NodeCell {
     /// A node whose receive buffer holds `capacity` N-Chars, 8 to 4,096: a plain one, or an RMAP
     /// target. Its buffer, its memory and the room for the replies that wait are made here.
+    ///
+    /// # Errors
+    ///
+    /// There is no memory for what the node keeps.
     pub fn new(
         alloc: Global,
         target: Option<TargetConfig>,

@@ -42,6 +42,10 @@ fn push_replies(
 
 impl NodeCell {
     /// The characters that it has still to send of the packet under way, the next first.
+    ///
+    /// # Errors
+    ///
+    /// There is no memory for the copy.
     pub fn to_send(&self, alloc: Global) -> Result<Vec<NChar>, AllocError>
         ensures { IfOk result (λ chars. chars.items ≡ self.now.to_send) }
     {
@@ -49,6 +53,10 @@ impl NodeCell {
     }
 
     /// The replies that wait to be sent, the oldest first: 0 to 8.
+    ///
+    /// # Errors
+    ///
+    /// There is no memory for the copy.
     pub fn pending(&self, alloc: Global) -> Result<Vec<PendingReply>, AllocError>
         ensures { IfOk result (λ replies. replies.items ≡ self.now.pending) }
     {
@@ -61,6 +69,10 @@ impl NodeCell {
 
     /// The characters that it took, the oldest first: those of the packets that came out, and the
     /// bytes that came of the packet under way.
+    ///
+    /// # Errors
+    ///
+    /// There is no memory for the copy.
     pub fn taken(&self, alloc: Global) -> Result<Vec<NChar>, AllocError>
         ensures { IfOk result (λ chars. chars.items ≡ taken self.now) }
     {
@@ -73,6 +85,10 @@ impl NodeCell {
     }
 
     /// What its memory holds; nothing at a plain node.
+    ///
+    /// # Errors
+    ///
+    /// There is no memory for the copy.
     pub fn memory(&self, alloc: Global) -> Result<Vec<u8>, AllocError>
         ensures { IfOk result (λ memory. memory.items ≡ memory_of self.now.target) }
     {
@@ -83,6 +99,10 @@ impl NodeCell {
     }
 
     /// The N-Chars in its receive buffer, the oldest first.
+    ///
+    /// # Errors
+    ///
+    /// There is no memory for the copy.
     pub fn buffer(&self, alloc: Global) -> Result<Vec<NChar>, AllocError>
         ensures { IfOk result (λ buffer. buffer.items ≡ self.now.received.buffer) }
     {

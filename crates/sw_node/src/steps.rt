@@ -23,8 +23,11 @@ impl NodeCell {
     ghost use Rattle.sw_node.specs.Conditions.{CanAccept, CanBegin, CanEmit, CanIssue, CanReply};
     ghost use Rattle.sw_node.specs.Changes.{accepted, begun, completed, emitted, owing, replied, with_received};
 
-    /// Begins to send a packet. `can_begin` has to hold. After want of memory the node is as it
-    /// was.
+    /// Begins to send a packet (ECSS-E-ST-50-12C, network layer: packets). `can_begin` has to hold.
+    ///
+    /// # Errors
+    ///
+    /// There is no memory for the packet: then the node is as it was.
     pub fn begin(
         &mut self,
         alloc: Global,
@@ -40,7 +43,8 @@ impl NodeCell {
         Ok(())
     }
 
-    /// The first character to send leaves for the wire. `can_emit` has to hold.
+    /// The first character to send leaves for the wire (ECSS-E-ST-50-12C, data link layer: flow
+    /// control). `can_emit` has to hold.
     pub fn emit(&mut self) -> NChar
         requires { CanEmit self.old }
         ensures character { slice_get self.old.to_send 0 ≡ Some result }
@@ -59,7 +63,8 @@ impl NodeCell {
         }
     }
 
-    /// Begins to send the reply that has waited longest. `can_reply` has to hold.
+    /// Begins to send the reply that has waited longest (ECSS-E-ST-50-52C, reply fields).
+    /// `can_reply` has to hold.
     pub fn reply(&mut self)
         requires { CanReply self.old }
         ensures { self.new ≡ replied self.old }
@@ -96,7 +101,11 @@ impl NodeCell {
     }
 
     /// The first character in the buffer is taken; the last of a packet has that come out, and be
-    /// answered. `can_accept` has to hold. After want of memory the node is as it was.
+    /// answered. `can_accept` has to hold.
+    ///
+    /// # Errors
+    ///
+    /// There is no memory for what the node stores, or for the reply: then the node is as it was.
     pub fn accept(&mut self, alloc: Global) -> Result<(), AllocError>
         requires { CanAccept self.old }
         ensures ok { OnOk result (self.new ≡ accepted self.old) }
@@ -112,7 +121,8 @@ impl NodeCell {
         Ok(())
     }
 
-    /// An FCT leaves for the channel that ends at the node. `can_issue` has to hold.
+    /// An FCT leaves for the channel that ends at the node (ECSS-E-ST-50-12C, data link layer: flow
+    /// control). `can_issue` has to hold.
     pub fn issue(&mut self)
         requires { CanIssue self.old }
         ensures { self.new ≡ with_received self.old (asked self.old.received) }

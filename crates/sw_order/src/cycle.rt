@@ -94,6 +94,10 @@ fn since(path: &[u16], again: u16) -> &[u16]
 }
 
 /// The cycle to show, where the first member that is not done is start.
+///
+/// # Errors
+///
+/// There is no memory for the walk or the cycle.
 pub fn shown_cycle(
     alloc: Global,
     predecessors: &[Vec<u16>],

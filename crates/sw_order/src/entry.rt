@@ -16,7 +16,8 @@ use std::thread::Threads;
 /// the members to which a step leads from `c`, in any order, also more than once.
 ///
 /// # Errors
-/// Want of memory.
+///
+/// There is no memory for the levels or the cycle.
 pub fn order<R: Threads + Sync>(
     rt: &R,
     alloc: Global,

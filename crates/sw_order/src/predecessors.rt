@@ -38,6 +38,10 @@ fn add_to_each(rows: &mut [Vec<u16>], members: &[u16], c: u16) -> Result<(), All
 }
 
 /// The predecessors of each member.
+///
+/// # Errors
+///
+/// There is no memory for the rows.
 pub fn predecessors_of(alloc: Global, successors: &[Vec<u16>]) -> Result<Vec<Vec<u16>>, AllocError>
     requires few { length successors.now ≤ 65535 }
     requires graph { IsGraph successors.now }

@@ -88,6 +88,10 @@ pub struct Peeled {
 
 /// Peels members off in rounds: each takes those that are left of which all predecessors were taken
 /// in earlier rounds, and the number of the round is their level.
+///
+/// # Errors
+///
+/// There is no memory for the levels or for a round.
 pub fn peel<R: Threads + Sync>(
     rt: &R,
     alloc: Global,

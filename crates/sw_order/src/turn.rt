@@ -30,6 +30,10 @@ fn push_reversed(list: &mut Vec<u16>, xs: &[u16]) -> Result<(), AllocError>
 }
 
 /// The walk in the other direction, from its least number on.
+///
+/// # Errors
+///
+/// There is no memory for the turned walk.
 pub fn turned(alloc: Global, walked: &[u16]) -> Result<Vec<u16>, AllocError>
     requires { 0 < length walked.now }
     ensures { IfOk result (λ v. IsTurned walked.now v.items) }

@@ -11,6 +11,10 @@ use sw_char::Packet;
 use sw_network::Network;
 
 /// A line for each node.
+///
+/// # Errors
+///
+/// There is no memory for the text.
 pub fn all_node_lines(
     alloc: Global,
     network: &Network,
@@ -28,6 +32,10 @@ pub fn all_node_lines(
 }
 
 /// A line for each packet, node by node.
+///
+/// # Errors
+///
+/// There is no memory for the text.
 pub fn all_packet_lines(
     alloc: Global,
     network: &Network,

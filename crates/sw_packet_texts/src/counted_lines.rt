@@ -44,6 +44,10 @@ pub(crate) fn counted_lines(
 }
 
 /// How many characters are undelivered, how many packets came out at each node, and which.
+///
+/// # Errors
+///
+/// There is no memory for the text.
 pub fn sent_text(
     alloc: Global,
     network: &Network,

@@ -7,6 +7,10 @@ use std::alloc::{AllocError, Global};
 use sw_char::{End, Packet};
 
 /// How many characters are undelivered.
+///
+/// # Errors
+///
+/// There is no memory for the text.
 pub fn undelivered_line(alloc: Global, count: u64) -> Result<String, AllocError>
     ensures { IfOk result (λ s. string_bytes s ≡ undelivered_line count) }
 {

@@ -9,6 +9,10 @@ use std::alloc::{AllocError, Global};
 /// The numbers that steps lead to from the start, itself among them, in rising order.
 ///
 /// The time is linear in the bound, the numbers reached and the steps from them, but for the sorting of the numbers.
+///
+/// # Errors
+///
+/// There is no memory for the numbers.
 pub fn reached<S: Steps>(
     alloc: Global,
     steps: &S,

@@ -11,7 +11,11 @@ pub trait Steps {
     // The numbers that a step from a number leads to.
     ghost next: { Self → ℕ → List ℕ };
 
-    /// Adds the numbers that a step from this one leads to, in order; after an `Err` some of them.
+    /// Adds the numbers that a step from this one leads to, in order.
+    ///
+    /// # Errors
+    ///
+    /// There is no memory for all of them: some may have been added then.
     fn push_next(&self, number: usize, to: &mut Vec<usize>) -> Result<(), AllocError>
         requires { number < bound self.now }
         ensures { OnOk result (to.new.items ≡ to.old.items ++ next self.now number) };

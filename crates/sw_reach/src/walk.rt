@@ -26,6 +26,10 @@ impl Model for Walk {
 
 impl Walk {
     /// No numbers yet, of those below the bound.
+    ///
+    /// # Errors
+    ///
+    /// There is no memory for a mark for each number below the bound.
     pub fn new(alloc: Global, bound: usize) -> Result<Walk, AllocError>
         ensures { IfOk result (λ w. w ≡ record { bound = bound; numbers = [] }) }
     {
@@ -61,6 +65,10 @@ impl Walk {
     }
 
     /// Adds a number, if it is new.
+    ///
+    /// # Errors
+    ///
+    /// There is no memory for it: then the walk is as it was.
     pub fn add(&mut self, number: usize) -> Result<(), AllocError>
         requires { number < self.old.bound }
         ensures bound { self.new.bound ≡ self.old.bound }
@@ -76,6 +84,10 @@ impl Walk {
     }
 
     /// Adds those of the numbers that are new.
+    ///
+    /// # Errors
+    ///
+    /// There is no memory for all of them: some may have been added then.
     pub fn add_all(&mut self, numbers: &[usize]) -> Result<(), AllocError>
         requires { All (λ n. n < self.old.bound) numbers.now }
         ensures bound { self.new.bound ≡ self.old.bound }

@@ -44,6 +44,10 @@ fn way_to<S: Steps>(
 /// A way over steps from the start to the goal, with both; none where the steps don't lead there.
 ///
 /// The time is linear in the bound, the numbers reached and the steps from them.
+///
+/// # Errors
+///
+/// There is no memory for the numbers or the way.
 pub fn way<S: Steps>(
     alloc: Global,
     steps: &S,

@@ -13,6 +13,10 @@ use sw_steps::Schedule;
 
 /// Makes the steps of the schedule one after another, from the empty network on, up to the first
 /// that is refused, and tells what holds then.
+///
+/// # Errors
+///
+/// There is no memory for the network, for what a step stores or for what is told.
 pub fn replay(alloc: Global, network: &Network, schedule: &Schedule) -> Result<Replayed, AllocError>
     ensures { IfOk result (λ r. IsReplayed network.now schedule.now (report_of r)) }
 {

@@ -74,8 +74,9 @@ impl Command {
         })
     }
 
-    /// The command that the bytes of a packet begin with. None where they are too few, the
-    /// protocol is another, the header's CRC is wrong, or they are a reply.
+    /// The command that the bytes of a packet begin with (ECSS-E-ST-50-52C, the fields of a
+    /// command). None where they are too few, the protocol is another, the header's CRC is wrong,
+    /// or they are a reply.
     #[tactic(auto, unfolding(crate::specs::Commands::read, crate::specs::Commands::fields_of))]
     pub fn read(bytes: &[u8]) -> Option<Command>
         ensures { result ≡ read_of bytes.now }
@@ -105,7 +106,7 @@ impl Command {
         self.logical
     }
 
-    /// The instruction byte.
+    /// The instruction byte (ECSS-E-ST-50-52C, the instruction field of a command).
     pub fn instruction(&self) -> u8
         ensures value { result ≡ self.now.instruction }
         ensures command { IsCommand self.now }
@@ -120,7 +121,8 @@ impl Command {
         self.key
     }
 
-    /// The reply address: 0, 4, 8 or 12 bytes.
+    /// The reply address: 0, 4, 8 or 12 bytes (ECSS-E-ST-50-52C, the reply address field of a
+    /// command).
     pub fn reply_address(&self) -> &[u8]
         ensures { result.now ≡ self.now.reply_address }
     {
@@ -171,7 +173,7 @@ impl Command {
     }
 
     /// The path back, which the reply begins with, before the initiator logical address: the reply
-    /// address without its leading zeros.
+    /// address without its leading zeros (ECSS-E-ST-50-52C, the reply address field of a command).
     pub fn path(&self) -> &[u8]
         ensures { result.now ≡ path_of self.now }
     {

@@ -3,9 +3,9 @@
 /// The configuration of an RMAP target.
 #[derive(Clone, Copy, Debug, PartialEq, Eq)]
 pub struct TargetConfig {
-    /// The target logical address: 32 to 254.
+    /// The target logical address: 32 to 254 (ECSS-E-ST-50-52C, the fields of a command).
     pub logical: u8,
-    /// The key that commands have to carry.
+    /// The key that commands have to carry (ECSS-E-ST-50-52C, the fields of a command).
     pub key: u8,
     /// The first address of the window, below 2^40.
     pub start: u64,

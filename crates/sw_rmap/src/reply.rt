@@ -8,7 +8,11 @@ use crate::writing::push_with_crc;
 use std::alloc::{AllocError, Global};
 
 /// The address bytes that the reply to this packet begins with: the path back, and the initiator
-/// logical address. None where the packet gets no reply.
+/// logical address (ECSS-E-ST-50-52C, reply fields). None where the packet gets no reply.
+///
+/// # Errors
+///
+/// There is no memory for the bytes.
 #[tactic(auto, unfolding(crate::specs::Replies::reply_to))]
 pub fn reply_to(alloc: Global, bytes: &[u8]) -> Result<Option<Vec<u8>>, AllocError>
     ensures { IfOk result (λ way. option_map (λ w. w.items) way ≡ reply_to_of bytes.now) }

@@ -12,7 +12,7 @@ use std::alloc::{AllocError, Global};
 use std::marker::Model;
 use sw_char::End;
 
-/// An RMAP target: its configuration, and what its window holds.
+/// An RMAP target (ECSS-E-ST-50-52C): its configuration, and what its window holds.
 #[derive(Debug, Drop)]
 pub struct Target {
     config: TargetConfig,
@@ -33,6 +33,10 @@ impl Model for Target {
 
 impl Target {
     /// A target whose window holds zeros.
+    ///
+    /// # Errors
+    ///
+    /// There is no memory for the window.
     pub fn new(alloc: Global, config: TargetConfig) -> Result<Target, AllocError>
         requires { IsTargetConfig config }
         ensures { IfOk result (λ t. t ≡ record { config = config; memory = replicate config.size 0 }) }
@@ -57,8 +61,12 @@ impl Target {
         self.memory.as_slice()
     }
 
-    /// Takes a packet, and makes the reply to it if it gets one. After want of memory nothing is
-    /// stored.
+    /// Takes a packet, and makes the reply to it if it gets one (ECSS-E-ST-50-52C, write and read
+    /// commands).
+    ///
+    /// # Errors
+    ///
+    /// There is no memory for the reply: then nothing is stored.
     #[tactic(auto, unfolding(crate::specs::Answers::answer))]
     pub fn answer(
         &mut self,

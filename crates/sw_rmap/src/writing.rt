@@ -7,7 +7,12 @@ use crate::checksum::crc;
 use crate::command::{Command, PROTOCOL};
 use std::alloc::{AllocError, Global};
 
-/// The bytes of a command: its header with its CRC and, of a write, the data with theirs.
+/// The bytes of a command: its header with its CRC and, of a write, the data with theirs
+/// (ECSS-E-ST-50-52C, the fields of a command).
+///
+/// # Errors
+///
+/// There is no memory for the bytes.
 #[tactic(auto, unfolding(crate::specs::Commands::written))]
 pub fn write_command(alloc: Global, command: &Command, body: &[u8]) -> Result<Vec<u8>, AllocError>
     requires { length body.now ≡ carried_len command.now }

@@ -61,6 +61,10 @@ fn interval_look(intervals: &[Interval], address: u8) -> Look
 
 impl IntervalRoutes {
     /// The intervals of a table, as few as there can be. They answer every byte as the table.
+    ///
+    /// # Errors
+    ///
+    /// There is no memory for the intervals.
     pub fn from_table(alloc: Global, table: &TableRoutes) -> Result<IntervalRoutes, AllocError>
         ensures intervals { IfOk result IsIntervals }
         ensures same { IfOk result (λ t. (byte : ℕ) → intervals_look t byte ≡ look_of table.now byte) }

@@ -3,7 +3,8 @@ ghost use Rattle.std.specs.Prelude.{◌≡◌, ◌<◌, IsTrue};
 
 use sw_topo::{Port, PortSet};
 
-/// What a byte names at a switch: the ports, and whether the byte is deleted there.
+/// What a byte names at a switch (ECSS-E-ST-50-12C, network layer: packet addressing): the ports, and whether the byte is deleted
+/// there.
 #[derive(Clone, Copy, Debug, PartialEq, Eq)]
 pub struct Look {
     pub ports: PortSet,
@@ -23,7 +24,7 @@ impl Look {
         }
     }
 
-    /// What a path address names: that port alone. The address is deleted.
+    /// What a path address names: that port alone. The address is deleted (ECSS-E-ST-50-12C, network layer: packet addressing).
     pub fn path(port: Port) -> Look
         ensures { result ≡ path_look port }
     {
@@ -34,7 +35,8 @@ impl Look {
     }
 }
 
-/// An entry of a routing table: the logical addresses from `first` to `last` name these ports.
+/// An entry of a routing table: the logical addresses from `first` to `last` name these ports (ECSS-E-ST-50-12C, network layer:
+/// packet addressing).
 #[derive(Clone, Copy, Debug, PartialEq, Eq)]
 pub struct Route {
     /// 32 to 254.

@@ -6,7 +6,8 @@ ghost use Rattle.sw_route.specs.declared.look.Look.{Look};
 use crate::look::Look;
 use either::Either;
 
-/// Answers for each byte what it names at a switch. The answer depends on the value and the byte alone.
+/// Answers for each byte what it names at a switch (ECSS-E-ST-50-12C, network layer: packet addressing). The answer depends on
+/// the value and the byte alone.
 pub trait Routing {
     ghost answer: { Self → ℕ → Look };
 

@@ -104,7 +104,11 @@ impl TableRoutes {
         &self.routes
     }
 
-    /// Adds an entry for one logical address. Where it is refused, the table is as it was.
+    /// Adds an entry for one logical address.
+    ///
+    /// # Errors
+    ///
+    /// The table has an entry for the address already, or there is no memory for this one: then the table is as it was.
     pub fn add(&mut self, address: u8, ports: PortSet, delete: bool) -> Result<(), RouteError>
         requires low { 32 ≤ address }
         requires high { address ≤ 254 }
@@ -115,7 +119,11 @@ impl TableRoutes {
         self.add_range(address, address, ports, delete)
     }
 
-    /// Adds an entry for the logical addresses from `first` to `last`. Where it is refused, the table is as it was.
+    /// Adds an entry for the logical addresses from `first` to `last`.
+    ///
+    /// # Errors
+    ///
+    /// The table has an entry for one of the addresses already, or there is no memory for this one: then the table is as it was.
     pub fn add_range(
         &mut self,
         first: u8,

@@ -41,6 +41,10 @@ fn run_named<'a, W: Which + Send + Sync, G: Gate + Sync, R: Threads + Wait + Syn
 
 /// Sends the packets of the load over the network, by so many threads, until nothing can go on or
 /// there are so many steps as there may be.
+///
+/// # Errors
+///
+/// There is no memory for what the run begins with, or for its outcome.
 pub fn run<'a, G: Gate + Sync, R: Threads + Wait + Sync>(
     rt: &R,
     alloc: Global,

@@ -75,7 +75,8 @@ fn verdict_by<R: Threads + Sync>(
 /// The verdict on a network, and how many places and dependencies it has. Threads share the work, as many as there are processors.
 ///
 /// # Errors
-/// Want of memory.
+///
+/// There is no memory for the places, the dependencies or the verdict.
 pub fn survey<R: Threads + Sync>(
     rt: &R,
     alloc: Global,
@@ -99,7 +100,8 @@ pub fn survey<R: Threads + Sync>(
 /// the network never locks up. Threads share the work, as many as there are processors.
 ///
 /// # Errors
-/// Want of memory.
+///
+/// There is no memory for the places, the dependencies or the verdict.
 pub fn decide<R: Threads + Sync>(
     rt: &R,
     alloc: Global,

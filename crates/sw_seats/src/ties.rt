@@ -9,6 +9,10 @@ use sw_net::Numbers;
 use sw_topo::LinkEnd;
 
 /// A table, and the journal's seat, which knows of no cell.
+///
+/// # Errors
+///
+/// There is no memory for the table.
 pub fn begin(alloc: Global) -> Result<(Ties, Place), AllocError>
     ensures table { IfOk result (λ r. 0 < r.0.shared.table_id.words) }
     ensures name { IfOk result (λ r. r.1.table_id ≡ r.0.shared.table_id) }

@@ -68,6 +68,10 @@ impl Entry {
     }
 
     /// The step.
+    ///
+    /// # Errors
+    ///
+    /// There is no memory for the cargo of the packet that it begins.
     pub fn step(&self, alloc: Global) -> Result<Step, AllocError>
         ensures { IfOk result (λ s. machine_step s ≡ self.now.step) }
     {

@@ -123,7 +123,11 @@ fn add_line(
     }
 }
 
-/// Reads the text of a schedule: the steps that it lists for the network, or its first wrong line.
+/// Reads the text of a schedule: the steps that it lists for the network.
+///
+/// # Errors
+///
+/// A line is wrong: the number of the first such line, counted from 1. Or there is no memory for the steps.
 #[tactic(auto, unfolding(crate::specs::Schedule::steps_of_text))]
 pub fn read_steps(alloc: Global, network: &Network, text: &[u8]) -> Result<Schedule, ScheduleFault>
     ensures { Reads (λ steps. steps) result (steps_of_text network.now text.now) }

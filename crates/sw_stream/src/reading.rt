@@ -62,8 +62,11 @@ fn read_more<R: Read>(
 
 /// All bytes that a reader has left, where they are at most `limit`.
 ///
-/// A reader with more is read to one byte past the limit. A read that fails isn't tried again: what
-/// was read before it is lost.
+/// # Errors
+///
+/// The reader has more: then it is read to one byte past the limit. Or a read fails, which isn't
+/// tried again, or there is no memory for the bytes: then what was read, at most one byte past the
+/// limit, is lost.
 pub fn read_whole<R: Read>(
     alloc: Global,
     reader: &mut R,

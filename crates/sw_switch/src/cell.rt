@@ -11,7 +11,8 @@ use sw_link::{RxEnd, TxEnd};
 use sw_route::{Look, Routing};
 use sw_topo::{Port, PortSet};
 
-/// A wormhole routing switch with a link at some of its ports. Each linked output has an arbiter.
+/// A wormhole routing switch with a link at some of its ports (ECSS-E-ST-50-12C, network layer:
+/// wormhole routing). Each linked output has an arbiter.
 #[derive(Drop)]
 pub struct SwitchCell<R: Routing, A: Arbiter> {
     pub(crate) routes: R,
@@ -38,14 +39,16 @@ impl<R: Routing, A: Arbiter> SwitchCell<R, A> {
     ghost use Rattle.sw_switch.specs.Changes.{without_front, with_input, with_credit, with_end};
     ghost use Rattle.sw_switch.specs.Conditions.{is_held};
 
-    /// The credit of the channel that starts at the port: 0 to 56.
+    /// The credit of the channel that starts at the port: 0 to 56 (ECSS-E-ST-50-12C, data link
+    /// layer: flow control).
     pub fn credit(&self, out: Port) -> u8
         ensures { result ≡ credit_at self.now out }
     {
         self.credits[out.number() as usize].credit()
     }
 
-    /// How many N-Chars the port's receiving end asked for that did not arrive yet: 0 to 56.
+    /// How many N-Chars the port's receiving end asked for that did not arrive yet: 0 to 56
+    /// (ECSS-E-ST-50-12C, data link layer: flow control).
     pub fn outstanding(&self, input: Port) -> u8
         ensures { result ≡ (end_at self.now input).outstanding }
     {
@@ -60,7 +63,7 @@ impl<R: Routing, A: Arbiter> SwitchCell<R, A> {
         self.received[index].len()
     }
 
-    /// What the port's input does.
+    /// What the port's input does (ECSS-E-ST-50-12C, network layer: wormhole routing).
     pub fn input(&self, input: Port) -> Input
         ensures { result ≡ input_at self.now input }
     {
@@ -146,7 +149,8 @@ impl<R: Routing, A: Arbiter> SwitchCell<R, A> {
         self.received[input.number() as usize].arrive(character);
     }
 
-    /// An FCT for the channel that starts at the port is received. The credit has to be at most 48.
+    /// An FCT for the channel that starts at the port is received (ECSS-E-ST-50-12C, data link
+    /// layer: flow control). The credit has to be at most 48.
     pub fn fct_in(&mut self, out: Port)
         requires { credit_at self.old out ≤ 48 }
         ensures { self.new ≡ with_credit self.old out (granted (credit_at self.old out)) }

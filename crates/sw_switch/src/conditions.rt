@@ -39,7 +39,8 @@ impl<R: Routing, A: Arbiter> SwitchCell<R, A> {
         asking
     }
 
-    /// The inputs to which the output can be granted. There are none while it is held.
+    /// The inputs to which the output can be granted. There are none while it is held
+    /// (ECSS-E-ST-50-12C, network layer: wormhole routing).
     pub fn asks(&self, out: Port) -> PortSet
         ensures { AreAsking R.answer self.now out result }
     {
@@ -73,7 +74,8 @@ impl<R: Routing, A: Arbiter> SwitchCell<R, A> {
         }
     }
 
-    /// Does the input hold an output that has credit, and is there a character to pass on?
+    /// Does the input hold an output that has credit, and is there a character to pass on
+    /// (ECSS-E-ST-50-12C, network layer: wormhole routing)?
     pub fn can_forward(&self, input: Port) -> bool
         ensures { IsTrue result ↔ CanForward self.now input }
     {
@@ -93,7 +95,8 @@ impl<R: Routing, A: Arbiter> SwitchCell<R, A> {
         }
     }
 
-    /// Can an FCT leave for the channel that ends at the port?
+    /// Can an FCT leave for the channel that ends at the port (ECSS-E-ST-50-12C, data link layer:
+    /// flow control)?
     pub fn can_issue(&self, input: Port) -> bool
         ensures { IsTrue result ↔ CanIssue self.now input }
     {

@@ -38,6 +38,10 @@ fn empty_ends(alloc: Global, capacities: &[usize]) -> Result<Vec<RxEnd>, AllocEr
 impl<R: Routing + Drop, A: Arbiter + Drop> SwitchCell<R, A> {
     /// A switch with links at those ports. The capacities, each 8 to 4,096, and the arbiters go by
     /// port, 0 to 31. A port without a link needs no arbiter, and its capacity is not used.
+    ///
+    /// # Errors
+    ///
+    /// There is no memory for what the switch keeps: then the routing and the arbiters are gone.
     pub fn new(
         alloc: Global,
         routes: R,

@@ -12,6 +12,10 @@ impl<R: Routing, A: Arbiter> SwitchCell<R, A> {
     ghost use Rattle.sw_switch.specs.Cell.{end_at};
 
     /// The N-Chars in the port's receive buffer, the oldest first.
+    ///
+    /// # Errors
+    ///
+    /// There is no memory for the copy.
     pub fn buffer(&self, alloc: Global, input: Port) -> Result<Vec<NChar>, AllocError>
         ensures { IfOk result (λ buffer. buffer.items ≡ (end_at self.now input).buffer) }
     {

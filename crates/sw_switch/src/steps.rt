@@ -34,8 +34,8 @@ impl<R: Routing, A: Arbiter> SwitchCell<R, A> {
         self.set_input(input, Input::Held(out));
     }
 
-    /// Grants the output to that input, which has to ask for it. The output's arbiter stays as it
-    /// is.
+    /// Grants the output to that input, which has to ask for it (ECSS-E-ST-50-12C, network layer:
+    /// wormhole routing). The output's arbiter stays as it is.
     pub fn grant_to(&mut self, out: Port, input: Port)
         requires { CanGrant R.answer self.old out input }
         ensures { self.new ≡ granted_to R.answer self.old out input }
@@ -44,7 +44,7 @@ impl<R: Routing, A: Arbiter> SwitchCell<R, A> {
     }
 
     /// Grants the output to the input that its arbiter picks among those that ask, and `None` if
-    /// none does.
+    /// none does (ECSS-E-ST-50-12C, network layer: arbitration).
     pub fn grant(&mut self, out: Port) -> Option<Port>
         ensures none { IsNone result ↔ ((input : ℕ) → ¬ CanGrant R.answer self.old out input) }
         ensures kept { IfNone result (self.new ≡ self.old) }
@@ -71,7 +71,8 @@ impl<R: Routing, A: Arbiter> SwitchCell<R, A> {
     }
 
     /// Passes the front of the input on to the output that it holds: that output, and the
-    /// character, which goes to the wire there. `can_forward` has to hold.
+    /// character, which goes to the wire there (ECSS-E-ST-50-12C, network layer: wormhole routing).
+    /// `can_forward` has to hold.
     pub fn forward(&mut self, input: Port) -> (Port, NChar)
         requires { CanForward self.old input }
         ensures out { input_at self.old input ≡ Input.Held result.0 }
@@ -110,7 +111,8 @@ impl<R: Routing, A: Arbiter> SwitchCell<R, A> {
         let _ = self.pass_front(input);
     }
 
-    /// An FCT leaves for the channel that ends at the port. `can_issue` has to hold.
+    /// An FCT leaves for the channel that ends at the port (ECSS-E-ST-50-12C, data link layer: flow
+    /// control). `can_issue` has to hold.
     pub fn issue(&mut self, input: Port)
         requires { CanIssue self.old input }
         ensures { self.new ≡ with_end self.old input (asked (end_at self.old input)) }

@@ -23,6 +23,10 @@ fn end_text(alloc: Global, network: &Network, end: PlaceEnd) -> Result<String, A
 }
 
 /// The channel as `START>END`.
+///
+/// # Errors
+///
+/// There is no memory for the text.
 pub fn channel_text(alloc: Global, network: &Network, channel: Chan) -> Result<String, AllocError>
     requires { channel < length (wiring_of network.now).ends }
     ensures { IfOk result (λ s. string_bytes s ≡ channel_text network.now channel) }

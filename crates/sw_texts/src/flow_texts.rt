@@ -19,6 +19,10 @@ pub fn flow_name(network: &Network, flow: u16) -> &str
 }
 
 /// A flow and a place of it: the flow's name, the channel's number and how many address bytes are deleted there.
+///
+/// # Errors
+///
+/// There is no memory for the text.
 pub fn place_words(
     alloc: Global,
     network: &Network,

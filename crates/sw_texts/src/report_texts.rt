@@ -57,6 +57,10 @@ fn findings_text(
 }
 
 /// How many parts of each kind the network has, how many places and dependencies, and the verdict in these words.
+///
+/// # Errors
+///
+/// There is no memory for the text.
 pub fn report_text(
     alloc: Global,
     network: &Network,

@@ -89,6 +89,10 @@ fn cycle_lines(
 }
 
 /// How many channels a cycle has.
+///
+/// # Errors
+///
+/// There is no memory for the text.
 pub fn cyclic_words(alloc: Global, channels: &[Chan]) -> Result<String, AllocError>
     ensures { IfOk result (λ s. string_bytes s ≡ cyclic_words (length channels.now)) }
 {
@@ -104,6 +108,10 @@ fn words_line(alloc: Global, words: &str) -> Result<String, AllocError>
 }
 
 /// How many channels a cycle has, and a line for each, with what makes it wait for the next.
+///
+/// # Errors
+///
+/// There is no memory for the text.
 pub fn cycle_text(alloc: Global, network: &Network, cycle: &Cycle) -> Result<String, AllocError>
     requires { All (λ c. c < length (wiring_of network.now).ends) cycle.now.channels }
     ensures { IfOk result (λ s. string_bytes s ≡ cycle_text network.now cycle.now) }
@@ -115,6 +123,10 @@ pub fn cycle_text(alloc: Global, network: &Network, cycle: &Cycle) -> Result<Str
 }
 
 /// The flow, its place with a fault, and the fault.
+///
+/// # Errors
+///
+/// There is no memory for the text.
 pub fn misrouted_words(
     alloc: Global,
     network: &Network,
@@ -130,6 +142,10 @@ pub fn misrouted_words(
 }
 
 /// The line in which `misrouted_words` stands alone.
+///
+/// # Errors
+///
+/// There is no memory for the text.
 pub fn misrouted_text(
     alloc: Global,
     network: &Network,
@@ -158,6 +174,10 @@ fn height(numbers: &[u16]) -> u16
 }
 
 /// The greatest number of a certificate's channels.
+///
+/// # Errors
+///
+/// There is no memory for the text.
 pub fn free_words(alloc: Global, numbers: &[u16]) -> Result<String, AllocError>
     ensures { IfOk result (λ s. string_bytes s ≡ free_words numbers.now) }
 {

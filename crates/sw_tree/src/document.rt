@@ -8,6 +8,10 @@ use std::alloc::Global;
 use toml::Table;
 
 /// The table of the TOML document that the bytes are.
+///
+/// # Errors
+///
+/// The bytes are not UTF-8 or not TOML, or there is no memory for the table.
 pub fn read_document(alloc: Global, bytes: &[u8]) -> Result<Table, FileFault>
     ensures { Gives (λ t. table_view t) result (document_of bytes.now) }
 {

@@ -75,7 +75,11 @@ impl<'a> Entry<'a> {
         FileFault::Text(TextFault::Key(fault, self.section, key))
     }
 
-    /// Refuses a table with a key that it may not have, with the least of them by bytes.
+    /// Refuses a table with a key that it may not have.
+    ///
+    /// # Errors
+    ///
+    /// The table has such a key: the least of them by bytes. Or there is no memory for its name.
     pub fn only_known(&self, alloc: Global, known: &[Key]) -> Result<(), FileFault>
         ensures { Gives (λ x. x) result (only_known self.now.section known.now (table_view self.now.table.now)) }
     {
@@ -89,6 +93,10 @@ impl<'a> Entry<'a> {
     }
 
     /// Refuses a key that is known elsewhere in the table, but not here.
+    ///
+    /// # Errors
+    ///
+    /// Something stands at the key, or there is no memory for the key's name.
     pub fn absent(&self, alloc: Global, key: Key) -> Result<(), FileFault>
         ensures { Gives (λ x. x) result (absent self.now.section key (table_view self.now.table.now)) }
     {
@@ -205,6 +213,10 @@ impl<'a> Entry<'a> {
     }
 
     /// The text at a key that has to be there.
+    ///
+    /// # Errors
+    ///
+    /// The key is missing, or the value is no text.
     pub fn text(&self, key: Key) -> Result<&'a str, FileFault>
         ensures { Gives (λ s. s.now) result (text_at self.now.section key (table_view self.now.table.now)) }
     {
@@ -213,6 +225,10 @@ impl<'a> Entry<'a> {
     }
 
     /// The text at a key, if anything stands there.
+    ///
+    /// # Errors
+    ///
+    /// What stands there is no text.
     pub fn text_or_none(&self, key: Key) -> Result<Option<&'a str>, FileFault>
         ensures { Gives (λ o. option_map (λ s. s.now) o) result (text_or_none self.now.section key (table_view self.now.table.now)) }
     {
@@ -226,6 +242,10 @@ impl<'a> Entry<'a> {
     }
 
     /// The number from `low` to `high` at a key that has to be there.
+    ///
+    /// # Errors
+    ///
+    /// The key is missing, or the value is no integer, or not from `low` to `high`.
     pub fn number(&self, key: Key, low: u64, high: u64) -> Result<u64, FileFault>
         ensures gives { Gives (λ n. n) result (number_at self.now.section key low high (table_view self.now.table.now)) }
         ensures within { IfOk result (λ n. (low ≤ n) × (n ≤ high)) }
@@ -235,6 +255,10 @@ impl<'a> Entry<'a> {
     }
 
     /// The number from `low` to `high` at a key, or the default.
+    ///
+    /// # Errors
+    ///
+    /// What stands there is no integer, or not from `low` to `high`.
     pub fn number_or(&self, key: Key, low: u64, high: u64, default: u64) -> Result<u64, FileFault>
         requires low_default { low ≤ default }
         requires high_default { default ≤ high }
@@ -248,6 +272,11 @@ impl<'a> Entry<'a> {
     }
 
     /// The numbers from 0 to `high` of a list that has to be there.
+    ///
+    /// # Errors
+    ///
+    /// The key is missing, the value is no list, or an item is no integer or not from 0 to `high`: the first of these. Or there
+    /// is no memory for the numbers.
     pub fn numbers(&self, alloc: Global, key: Key, high: u8) -> Result<Vec<u8>, FileFault>
         ensures gives { Gives (λ v. v.items) result (numbers_at self.now.section key high (table_view self.now.table.now)) }
         ensures within { IfOk result (λ v. All (λ n. n ≤ high) v.items) }
@@ -257,6 +286,11 @@ impl<'a> Entry<'a> {
     }
 
     /// The numbers from 0 to `high` of a list, none where there is no list.
+    ///
+    /// # Errors
+    ///
+    /// What stands there is no list, or an item is no integer or not from 0 to `high`: the first of these. Or there is no memory
+    /// for the numbers.
     pub fn numbers_or_none(&self, alloc: Global, key: Key, high: u8) -> Result<Vec<u8>, FileFault>
         ensures gives { Gives (λ v. v.items) result (numbers_or_none self.now.section key high (table_view self.now.table.now)) }
         ensures within { IfOk result (λ v. All (λ n. n ≤ high) v.items) }
@@ -268,6 +302,10 @@ impl<'a> Entry<'a> {
     }
 
     /// The tables of a list, none where there is no list.
+    ///
+    /// # Errors
+    ///
+    /// What stands there is no list, or an item is no table, or there is no memory for the list.
     pub fn tables_or_none(&self, alloc: Global, key: Key) -> Result<Vec<&'a Table>, FileFault>
         ensures { Gives (λ v. map (λ t. table_view t.now) v.items) result (tables_or_none self.now.section key (table_view self.now.table.now)) }
     {
@@ -281,6 +319,10 @@ impl<'a> Entry<'a> {
     }
 
     /// The table at a key, if anything stands there.
+    ///
+    /// # Errors
+    ///
+    /// What stands there is no table.
     pub fn table_or_none(&self, key: Key) -> Result<Option<&'a Table>, FileFault>
         ensures { Gives (λ o. option_map (λ t. table_view t.now) o) result (table_or_none self.now.section key (table_view self.now.table.now)) }
     {
@@ -294,6 +336,10 @@ impl<'a> Entry<'a> {
     }
 
     /// True or false at a key, and false where nothing stands there.
+    ///
+    /// # Errors
+    ///
+    /// What stands there is neither.
     pub fn flag_or_false(&self, key: Key) -> Result<bool, FileFault>
         ensures { Gives (λ b. b) result (flag_or_false self.now.section key (table_view self.now.table.now)) }
     {
@@ -307,6 +353,10 @@ impl<'a> Entry<'a> {
     }
 
     /// The entry's name: 1 to 32 ASCII letters, digits, `_`, `-` and `.`.
+    ///
+    /// # Errors
+    ///
+    /// The name is missing, or is no text, or is not so written.
     #[tactic(auto, unfolding(crate::specs::Names::name_at))]
     pub fn name(&self) -> Result<&'a str, FileFault>
         ensures gives { Gives (λ s. s.now) result (name_at self.now.section (table_view self.now.table.now)) }

@@ -14,7 +14,7 @@ use sw_topo::Chan;
 pub const MAX_ON_WIRE: usize = 56;
 
 /// The wires of a network's channels, each with room for 56 N-Chars, and for each channel how many
-/// FCTs are under way to its start.
+/// FCTs are under way to its start (ECSS-E-ST-50-12C, data link layer: flow control).
 #[derive(Drop)]
 pub struct Wires {
     rings: Vec<HeapCircularBuffer<NChar>>,
@@ -44,6 +44,10 @@ fn rings(alloc: Global, channels: usize) -> Result<Vec<HeapCircularBuffer<NChar>
 
 impl Wires {
     /// The empty wires of so many channels. All their room is made here.
+    ///
+    /// # Errors
+    ///
+    /// There is no memory for the room.
     pub fn new(alloc: Global, channels: usize) -> Result<Wires, AllocError>
         ensures { IfOk result (λ w. w ≡ empty_between channels) }
     {
@@ -105,7 +109,8 @@ impl Wires {
         self.fcts[index]
     }
 
-    /// An FCT is sent for the channel, for which at most six are under way.
+    /// An FCT is sent for the channel, for which at most six are under way (ECSS-E-ST-50-12C, data
+    /// link layer: flow control).
     pub fn send_fct(&mut self, channel: Chan)
         requires within { channel < length self.old.wires }
         requires few { fcts_at self.old channel ≤ 6 }

@@ -297,6 +297,10 @@ fn matched_call<'a>(matches: &ArgMatches<'a>) -> Option<Call<'a>>
 }
 
 /// The call that the words ask for; they begin with the program's name.
+///
+/// # Errors
+///
+/// Help was asked for, or the words are refused, each with the text to print; or there is no memory.
 pub fn words<'a>(alloc: Global, words: &'a [&'a str]) -> Result<Call<'a>, WordsFault>
     ensures call { IfOk result (Gives (map (λ s. s.now) words.entry.now)) }
     ensures fault { IfErr result (Refuses (map (λ s. s.now) words.entry.now)) }
