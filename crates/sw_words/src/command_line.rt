@@ -177,9 +177,13 @@ fn run_command<'a>(alloc: Global) -> Result<Command<'a>, AllocError>
     );
     let run = run.arg(value_arg(alloc, "FILE", "A network file"))?;
     let run = run.arg(value_arg(alloc, "LOAD", "A load file"))?;
-    let run = run.arg(
-        count_arg(alloc, "workers", "4", MOST_WORKERS, "How many threads work, 1 to 64"),
-    )?;
+    let run = run.arg(count_arg(
+        alloc,
+        "workers",
+        "4",
+        MOST_WORKERS,
+        "How many threads work, 1 to 64",
+    ))?;
     let help = "How many steps may be made, 1 to 16777216";
     run.arg(count_arg(alloc, "limit", "1000000", MOST_STEPS, help))
 }
