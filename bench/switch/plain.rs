@@ -1,4 +1,4 @@
-//! The calls that `sw_bench` runs, written again in plain Rust, with no contract and no proof. It prints the same sums.
+//! The calls that `bench_switch` runs, written again in plain Rust, with no contract and no proof. It prints the same sums.
 
 use std::collections::VecDeque;
 

@@ -3,8 +3,8 @@ use Rattle.std.proofs.Common.{◌≡◌, ◌∙◌, ℕ, ◌<◌, ap, get_or, le
 use Rattle.std.specs.Prelude.{All}
 use Rattle.std.proofs.Math.Nat.{mod-eq_of_lt}
 use Rattle.std.proofs.lemmas.List.{get_or_default}
-use Rattle.sw_network.specs.Entries.{Declaration, all_flows, wiring_of}
-use Rattle.sw_network.specs.Valid.{IsValid}
+use Rattle.sw_config.specs.Entries.{Declaration, all_flows, wiring_of}
+use Rattle.sw_config.specs.Valid.{IsValid}
 use Rattle.sw_flow.specs.Places.{ends_of}
 use Rattle.sw_flow.proofs.Stepping.{places_are_in}
 use Rattle.sw_machine.specs.Places.{IsDependency}

@@ -3,13 +3,13 @@ use Rattle.std.proofs.Common.{◌≡◌, ℕ, ◌<◌, List, [], ◌∷◌, ap, 
 use Rattle.std.specs.Prelude.{codes, position, slice_get, Err, IfOk, IfSome, None, Ok, Option, Result, Some}
 use Rattle.std.specs.Str.{bytes_eq}
 use Rattle.std.proofs.lemmas.Option.{slice_get_cases}
-use Rattle.sw_network.specs.Entries.{Declaration, FlowEntry, all_flows, flow_names}
+use Rattle.sw_config.specs.Entries.{Declaration, FlowEntry, all_flows, flow_names}
 use Rattle.sw_flow.specs.declared.fault.RouteFault.{RouteFault}
 use Rattle.sw_flow.specs.declared.place.Place.{Place}
 use Rattle.sw_flow.specs.Faults.{first_fault_of}
 use Rattle.sw_flow.specs.Places.{IsPlaceList, IsPlacesOf}
 use Rattle.sw_app.proofs.NamedFlows.{find_by-none, find_by-some}
-use Rattle.sw_texts.specs.Lines.{line}
+use Rattle.sw_output.specs.Lines.{line}
 use Rattle.sw_app.specs.RouteAnswers.{IsFlowAnswer, IsFoundAnswer, IsNamedAnswer}
 use Rattle.sw_app.specs.RouteTexts.{outcome_status, text_of}
 

@@ -2,12 +2,12 @@
 use Rattle.std.proofs.Common.{Err, List, None, Ok, Option, Result, Some, ap, refl, sym, ℕ, ◌∙◌, ◌≡◌}
 use Rattle.sw_file.specs.Network.{network_text}
 use Rattle.sw_machine.specs.Steps.{Step}
-use Rattle.sw_network.specs.Entries.{Declaration}
+use Rattle.sw_config.specs.Entries.{Declaration}
 use Rattle.sw_replay.proofs.OneReport.{replays_are_determined}
 use Rattle.sw_replay.specs.Reports.{Report}
-use Rattle.sw_steps.specs.Schedule.{steps_of_text}
-use Rattle.sw_tree.specs.declared.fault.TextFault.{TextFault}
-use Rattle.sw_ends.specs.Ends.{Says}
+use Rattle.sw_schedule.specs.Schedule.{steps_of_text}
+use Rattle.sw_toml_table.specs.declared.fault.TextFault.{TextFault}
+use Rattle.sw_command.specs.Ends.{Says}
 use Rattle.sw_app.specs.Laws.{ReplayHasOneAnswer}
 use Rattle.sw_app.specs.ReplayAnswers.{IsReplayOf, IsScheduleAnswer}
 use Rattle.sw_app.specs.ReplayTexts.{replay_status, replay_text}

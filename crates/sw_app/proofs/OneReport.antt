@@ -1,8 +1,8 @@
 -- `report` has one answer.
 use Rattle.std.proofs.Common.{◌≡◌, ◌∙◌, ℕ, List, ap, length, map, sym}
 use Rattle.std.specs.Prelude.{Err, Ok, Result, sum}
-use Rattle.sw_network.specs.Entries.{Declaration, all_flows}
-use Rattle.sw_tree.specs.declared.fault.TextFault.{TextFault}
+use Rattle.sw_config.specs.Entries.{Declaration, all_flows}
+use Rattle.sw_toml_table.specs.declared.fault.TextFault.{TextFault}
 use Rattle.sw_file.specs.Network.{network_text}
 use Rattle.sw_flow.specs.declared.place.Place.{Place}
 use Rattle.sw_flow.specs.Places.{IsPlaceList}
@@ -15,8 +15,8 @@ use Rattle.sw_search.specs.Verdicts.{IsVerdict}
 use Rattle.sw_search.proofs.Determined.{determined}
 use Rattle.sw_search.proofs.Sorted.{same_places}
 use Rattle.sw_search.proofs.Zips.{zip_determined}
-use Rattle.sw_texts.specs.ReportTexts.{report_text}
-use Rattle.sw_texts.specs.VerdictTexts.{cyclic_words, free_words, misrouted_words}
+use Rattle.sw_output.specs.ReportTexts.{report_text}
+use Rattle.sw_output.specs.VerdictTexts.{cyclic_words, free_words, misrouted_words}
 use Rattle.sw_app.specs.Laws.{ReportHasOneAnswer}
 use Rattle.sw_app.specs.VerdictAnswers.{IsFindingsAnswer, OfNetwork, verdict_words}
 use Rattle.sw_app.proofs.OneAnswer.{says_once}

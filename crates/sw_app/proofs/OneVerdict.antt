@@ -1,19 +1,19 @@
 -- `decide` has one answer.
 use Rattle.std.proofs.Common.{◌≡◌, ◌∙◌, ℕ, ◌+◌, List, [], ◌∷◌, ◌++◌, ap, length, refl, subst, sym}
 use Rattle.std.specs.Prelude.{Err, Ok, Result}
-use Rattle.sw_network.specs.Entries.{Declaration}
-use Rattle.sw_tree.specs.declared.fault.TextFault.{TextFault}
+use Rattle.sw_config.specs.Entries.{Declaration}
+use Rattle.sw_toml_table.specs.declared.fault.TextFault.{TextFault}
 use Rattle.sw_file.specs.Network.{network_text}
 use Rattle.sw_cert.specs.Grammar.{spelling}
 use Rattle.sw_cert.specs.Text.{Contents}
 use Rattle.sw_cycle.specs.Cycles.{CauseEntry, round}
-use Rattle.sw_cause.specs.Causes.{AreChosen}
+use Rattle.sw_cycle.specs.Causes.{AreChosen}
 use Rattle.sw_search.specs.declared.verdict.Verdict.{Verdict}
 use Rattle.sw_search.specs.declared.verdict.Verdict.TheVariants.{Misrouted, Cyclic, Free}
 use Rattle.sw_search.specs.Verdicts.{IsVerdict}
 use Rattle.sw_search.proofs.Determined.{determined}
-use Rattle.sw_texts.specs.VerdictTexts.{cycle_text, cyclic_words, misrouted_words}
-use Rattle.sw_texts.specs.Lines.{line}
+use Rattle.sw_output.specs.VerdictTexts.{cycle_text, cyclic_words, misrouted_words}
+use Rattle.sw_output.specs.Lines.{line}
 use Rattle.sw_app.specs.Laws.{DecideHasOneAnswer}
 use Rattle.sw_app.specs.VerdictAnswers.{IsVerdictAnswer, OfNetwork, verdict_status, verdict_text}
 use Rattle.sw_app.proofs.OneAnswer.{says_once}

@@ -2,7 +2,7 @@
 use Rattle.std.proofs.Common.{◌≡◌, ℕ, ◌<◌, List, length, get_or, subst, sym}
 use Rattle.std.specs.Prelude.{All}
 use Rattle.std.proofs.lemmas.List.Elements.{Contains-get_or}
-use Rattle.sw_network.specs.Entries.{Declaration, FlowEntry}
+use Rattle.sw_config.specs.Entries.{Declaration, FlowEntry}
 use Rattle.sw_flow.specs.declared.place.Place.{Place}
 use Rattle.sw_flow.specs.Places.{IsPlaceList, IsPlacesOf, ends_of}
 use Rattle.sw_flow.proofs.Stepping.{places_are_in}

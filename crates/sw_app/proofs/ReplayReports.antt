@@ -3,7 +3,7 @@ use Rattle.std.proofs.Common.{List, length, sym, ◌∙◌, ◌≡◌}
 use Rattle.std.proofs.lemmas.List.{length-map}
 use Rattle.sw_machine.specs.Steps.{Step}
 use Rattle.sw_model.specs.Model.{network_of}
-use Rattle.sw_network.specs.Entries.{Declaration}
+use Rattle.sw_config.specs.Entries.{Declaration}
 use Rattle.sw_replay.specs.declared.replayed.Replayed.{Replayed}
 use Rattle.sw_replay.specs.Replays.{IsReplayed}
 use Rattle.sw_replay.specs.Reports.{report_of}

@@ -1,23 +1,22 @@
 -- Chosen causes of one dependency are told by the same words.
 use Rattle.std.proofs.Common.{◌≡◌, ◌∙◌, ℕ, suc, List, [], ◌∷◌, ◌++◌, ap, arith, inl, inr, length, refl, subst, sym}
-use Rattle.std.specs.Prelude.{slice_get, Option, Some}
+use Rattle.std.specs.Prelude.{slice_get, Option, Some, codes}
 use Rattle.std.proofs.lemmas.Bool.{cases_lt}
 use Rattle.sw_topo.specs.Wiring.{out}
 use Rattle.sw_topo.specs.declared.place.PlaceEnd.{PlaceEnd}
 use Rattle.sw_topo.specs.declared.place.PlaceEnd.TheVariants.{Node}
 use Rattle.sw_topo.proofs.Ends.{node_starts}
-use Rattle.sw_network.specs.Entries.{FlowEntry, Declaration, wiring_of}
+use Rattle.sw_config.specs.Entries.{FlowEntry, Declaration, wiring_of}
 use Rattle.sw_flow.specs.declared.place.Place.{Place}
 use Rattle.sw_flow.specs.Places.{ends_of, IsPlace}
 use Rattle.sw_flow.specs.Places.IsPlace.{start, next}
 use Rattle.sw_flow.specs.Ways.{GoesFromStart, GoesOver, GoesTo, IsStart}
 use Rattle.sw_cycle.specs.Cycles.{CauseEntry, ByFlow, ByTarget, IsFlowCause}
-use Rattle.sw_cause.specs.Causes.{GoesOn, IsChosenCause}
-use Rattle.std.specs.Prelude.{codes}
+use Rattle.sw_cycle.specs.Causes.{GoesOn, IsChosenCause}
 use Rattle.std.specs.Fmt.{decimal}
-use Rattle.sw_texts.specs.ChannelTexts.{channel_text}
-use Rattle.sw_texts.specs.Lines.{line}
-use Rattle.sw_texts.specs.VerdictTexts.{cause_words, cycle_lines}
+use Rattle.sw_output.specs.ChannelTexts.{channel_text}
+use Rattle.sw_output.specs.Lines.{line}
+use Rattle.sw_output.specs.VerdictTexts.{cause_words, cycle_lines}
 
 module _ (d : Declaration) where
   started : (f : FlowEntry) (p : Place) → IsStart d f p → IsPlace d f p.channel p.deleted

@@ -4,10 +4,10 @@ use Rattle.std.specs.Prelude.{IfSome, None, Option, Some}
 use Rattle.std.specs.Io.KnownBytes.{Appends}
 use Rattle.std.specs.List.{AllByRecursion, AllZip}
 use Rattle.std.proofs.lemmas.List.Elements.{recursion_from_All}
-use Rattle.sw_stream.specs.declared.reading.ReadError.{ReadError}
-use Rattle.sw_stream.specs.declared.reading.ReadError.TheVariants.{TooLong, Failed, Memory}
-use Rattle.sw_network.specs.Entries.{FlowEntry, Declaration, all_flows}
-use Rattle.sw_network.specs.Valid.{IsFlow, IsValid}
+use Rattle.sw_text.specs.declared.reading.ReadError.{ReadError}
+use Rattle.sw_text.specs.declared.reading.ReadError.TheVariants.{TooLong, Failed, Memory}
+use Rattle.sw_config.specs.Entries.{FlowEntry, Declaration, all_flows}
+use Rattle.sw_config.specs.Valid.{IsFlow, IsValid}
 use Rattle.sw_flow.specs.declared.place.Place.{Place}
 use Rattle.sw_flow.specs.Places.{ends_of, IsPlaceList}
 use Rattle.sw_cert.specs.Grammar.{HasText, IsBlock}
@@ -21,10 +21,10 @@ use Rattle.sw_search.specs.Laws.{IsChecked}
 use Rattle.sw_search.specs.Verdicts.{IsFree}
 use Rattle.sw_search.proofs.Blocks.{all_are_flows, is_block}
 use Rattle.sw_search.proofs.Zips.{zip_length}
-use Rattle.sw_ends.specs.declared.ended.Ended.{Ended}
-use Rattle.sw_ends.specs.declared.ended.Ended.TheVariants.{Status, ReadFailed, WriteFailed}
+use Rattle.sw_command.specs.declared.ended.Ended.{Ended}
+use Rattle.sw_command.specs.declared.ended.Ended.TheVariants.{Status, ReadFailed, WriteFailed}
 use Rattle.sw_app.specs.CheckAnswers.{AreShownFree, IsShownFree}
-use Rattle.sw_ends.specs.Ends.{IsMemoryTold, IsTold, IsUnreadTold}
+use Rattle.sw_command.specs.Ends.{IsMemoryTold, IsTold, IsUnreadTold}
 use Rattle.sw_app.specs.VerdictAnswers.{SaysCertificate, WritesAccepted, verdict_status}
 
 -- ---- a free network's certificate has a text

@@ -2,12 +2,12 @@
 use Rattle.std.proofs.Common.{◌≡◌, ℕ, ◌≤◌, Bool, true, false, List, length, subst}
 use Rattle.std.specs.Prelude.{Err, IfOk, IfSome, IsSomeAnd, None, Ok, Option, Result, Some, if◌then◌else◌, nat_le, string_bytes}
 use Rattle.std.specs.declared.alloc.AllocError.{AllocError}
-use Rattle.sw_ends.specs.declared.answer.Answer.{Answer}
-use Rattle.sw_ends.specs.declared.answer.ByteAnswer.{ByteAnswer}
-use Rattle.sw_ends.specs.declared.ended.Ended.{Ended}
-use Rattle.sw_ends.specs.declared.ended.Ended.TheVariants.{Status}
-use Rattle.sw_ends.specs.Ends.{Answers, EndsBy, EndsByTwo, limited}
-use Rattle.sw_ends.proofs.Endings.{told_answer, told_answer_of_two, told_memory, told_memory_of_two}
+use Rattle.sw_command.specs.declared.answer.Answer.{Answer}
+use Rattle.sw_command.specs.declared.answer.ByteAnswer.{ByteAnswer}
+use Rattle.sw_command.specs.declared.ended.Ended.{Ended}
+use Rattle.sw_command.specs.declared.ended.Ended.TheVariants.{Status}
+use Rattle.sw_command.specs.Ends.{Answers, EndsBy, EndsByTwo, limited}
+use Rattle.sw_command.proofs.Endings.{told_answer, told_answer_of_two, told_memory, told_memory_of_two}
 use Rattle.sw_app.specs.CheckAnswers.{AreShownFree}
 use Rattle.sw_app.specs.Endings.{IsAnswerTold, IsByteAnswerTold}
 use Rattle.sw_app.specs.VerdictAnswers.{WritesAccepted}

@@ -1,11 +1,11 @@
 -- The text of `check` (this project's choice).
 use Rattle.std.specs.Prelude.{ℕ, List, [], ◌∷◌, codes}
 use Rattle.std.specs.Fmt.{decimal}
-use Rattle.sw_network.specs.Entries.{Declaration}
+use Rattle.sw_config.specs.Entries.{Declaration}
 use Rattle.sw_check.specs.declared.refusal.Refusal.{Refusal}
 use Rattle.sw_check.specs.declared.refusal.Refusal.TheVariants.{WrongCount, NoStart, Faulty, NotClosed, NotRising}
-use Rattle.sw_texts.specs.Lines.{line}
-use Rattle.sw_texts.specs.FlowTexts.{flow_name, place_words, route_fault_text}
+use Rattle.sw_output.specs.Lines.{line}
+use Rattle.sw_output.specs.FlowTexts.{flow_name, place_words, route_fault_text}
 
 abbrev pub accepted_line : List ℕ
 accepted_line = line (codes "accepted" ∷ [])

@@ -1,14 +1,14 @@
 -- How an answer is told, and what answers a text that was not read as a network.
 use Rattle.std.specs.Prelude.{ℕ, List, [], ◌∷◌, Option, Result, Ok, Err, string_bytes}
 use Rattle.std.specs.declared.alloc.AllocError.{AllocError}
-use Rattle.sw_tree.specs.declared.fault.FileFault.{FileFault}
-use Rattle.sw_tree.specs.declared.fault.FileFault.TheVariants.{Text, Memory}
-use Rattle.sw_ends.specs.declared.answer.Answer.{Answer}
-use Rattle.sw_ends.specs.declared.answer.ByteAnswer.{ByteAnswer}
-use Rattle.sw_ends.specs.declared.ended.Ended.{Ended}
-use Rattle.sw_ends.specs.Ends.{Answers, IsMemoryTold, IsTold, Says}
-use Rattle.sw_ends.specs.FaultTexts.{fault_text}
-use Rattle.sw_texts.specs.Lines.{line}
+use Rattle.sw_toml_table.specs.declared.fault.FileFault.{FileFault}
+use Rattle.sw_toml_table.specs.declared.fault.FileFault.TheVariants.{Text, Memory}
+use Rattle.sw_command.specs.declared.answer.Answer.{Answer}
+use Rattle.sw_command.specs.declared.answer.ByteAnswer.{ByteAnswer}
+use Rattle.sw_command.specs.declared.ended.Ended.{Ended}
+use Rattle.sw_command.specs.Ends.{Answers, IsMemoryTold, IsTold, Says}
+use Rattle.sw_command.specs.FaultTexts.{fault_text}
+use Rattle.sw_output.specs.Lines.{line}
 
 -- the answer was told, or that memory was wanted
 abbrev pub IsAnswerTold : Result Answer AllocError → Option (List ℕ) → Option (List ℕ) → Ended → Type 0

@@ -3,14 +3,14 @@ use Rattle.std.specs.Prelude.{ℕ, List, [], ◌∷◌, codes, Option, Result, O
 use Rattle.std.specs.Fmt.{decimal}
 use Rattle.sw_file.specs.Network.{network_text}
 use Rattle.sw_machine.specs.Steps.{Step}
-use Rattle.sw_network.specs.Entries.{Declaration}
+use Rattle.sw_config.specs.Entries.{Declaration}
 use Rattle.sw_replay.specs.Replays.{IsReplayed}
 use Rattle.sw_replay.specs.Reports.{Report}
-use Rattle.sw_steps.specs.Schedule.{steps_of_text}
-use Rattle.sw_tree.specs.declared.fault.TextFault.{TextFault}
-use Rattle.sw_ends.specs.Ends.{Answers, IfLimited, Says}
-use Rattle.sw_ends.specs.FaultTexts.{fault_text}
-use Rattle.sw_texts.specs.Lines.{line}
+use Rattle.sw_schedule.specs.Schedule.{steps_of_text}
+use Rattle.sw_toml_table.specs.declared.fault.TextFault.{TextFault}
+use Rattle.sw_command.specs.Ends.{Answers, IfLimited, Says}
+use Rattle.sw_command.specs.FaultTexts.{fault_text}
+use Rattle.sw_output.specs.Lines.{line}
 use Rattle.sw_app.specs.ReplayTexts.{replay_status, replay_text}
 
 -- a schedule's first wrong line

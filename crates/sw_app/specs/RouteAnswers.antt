@@ -1,15 +1,15 @@
 -- What `route` answers (this project's choice).
 use Rattle.std.specs.Prelude.{ℕ, List, [], ◌∷◌, codes, find, Option, Some, None, Result, Ok, Err}
 use Rattle.std.specs.Str.{bytes_eq}
-use Rattle.sw_network.specs.Entries.{Declaration, FlowEntry, all_flows}
-use Rattle.sw_tree.specs.declared.fault.TextFault.{TextFault}
+use Rattle.sw_config.specs.Entries.{Declaration, FlowEntry, all_flows}
+use Rattle.sw_toml_table.specs.declared.fault.TextFault.{TextFault}
 use Rattle.sw_file.specs.Network.{network_text}
 use Rattle.sw_flow.specs.declared.place.Place.{Place}
 use Rattle.sw_flow.specs.Faults.{first_fault_of}
 use Rattle.sw_flow.specs.Places.{IsPlaceList}
-use Rattle.sw_ends.specs.Ends.{Answers, Says}
-use Rattle.sw_ends.specs.FaultTexts.{fault_text}
-use Rattle.sw_texts.specs.Lines.{line}
+use Rattle.sw_command.specs.Ends.{Answers, Says}
+use Rattle.sw_command.specs.FaultTexts.{fault_text}
+use Rattle.sw_output.specs.Lines.{line}
 use Rattle.sw_app.specs.RouteTexts.{outcome_status, route_text}
 
 -- of a flow: the text of the list of its places

@@ -1,13 +1,13 @@
 -- The text of `route` (this project's choice).
 use Rattle.std.specs.Prelude.{ℕ, List, [], ◌∷◌, ◌++◌, codes, flat_map, Option, Some, None}
 use Rattle.std.specs.Fmt.{decimal}
-use Rattle.sw_network.specs.Entries.{Declaration, FlowEntry}
+use Rattle.sw_config.specs.Entries.{Declaration, FlowEntry}
 use Rattle.sw_flow.specs.declared.place.Place.{Place}
 use Rattle.sw_flow.specs.declared.fault.RouteFault.{RouteFault}
 use Rattle.sw_flow.specs.Faults.{first_fault_of}
-use Rattle.sw_texts.specs.Lines.{line}
-use Rattle.sw_texts.specs.ChannelTexts.{channel_text}
-use Rattle.sw_texts.specs.FlowTexts.{route_fault_text}
+use Rattle.sw_output.specs.Lines.{line}
+use Rattle.sw_output.specs.ChannelTexts.{channel_text}
+use Rattle.sw_output.specs.FlowTexts.{route_fault_text}
 
 -- a place: the channel's number, how many address bytes are deleted there, and the channel's ends
 abbrev pub place_line : Declaration → Place → List ℕ

@@ -1,8 +1,8 @@
 -- What `decide` and `report` answer (this project's choice).
 use Rattle.std.specs.Prelude.{ℕ, List, [], ◌∷◌, Option, length, Result, Ok, Err}
 use Rattle.std.specs.Io.KnownBytes.{Appends}
-use Rattle.sw_network.specs.Entries.{Declaration}
-use Rattle.sw_tree.specs.declared.fault.TextFault.{TextFault}
+use Rattle.sw_config.specs.Entries.{Declaration}
+use Rattle.sw_toml_table.specs.declared.fault.TextFault.{TextFault}
 use Rattle.sw_file.specs.Network.{network_text}
 use Rattle.sw_cert.specs.Grammar.{spelling}
 use Rattle.sw_cert.specs.Text as certificate
@@ -11,12 +11,12 @@ use Rattle.sw_search.specs.declared.verdict.Verdict.TheVariants.{Misrouted, Cycl
 use Rattle.sw_search.specs.declared.verdict.Findings.{Findings}
 use Rattle.sw_search.specs.Findings.{AreFindings}
 use Rattle.sw_search.specs.Verdicts.{IsVerdict}
-use Rattle.sw_texts.specs.Lines.{line}
-use Rattle.sw_texts.specs.ReportTexts.{report_text}
-use Rattle.sw_texts.specs.VerdictTexts.{cycle_text, cyclic_words, free_words, misrouted_words}
+use Rattle.sw_output.specs.Lines.{line}
+use Rattle.sw_output.specs.ReportTexts.{report_text}
+use Rattle.sw_output.specs.VerdictTexts.{cycle_text, cyclic_words, free_words, misrouted_words}
 use Rattle.sw_app.specs.CheckAnswers.{AreShownFree}
-use Rattle.sw_ends.specs.Ends.{Answers, Says}
-use Rattle.sw_ends.specs.FaultTexts.{fault_text}
+use Rattle.sw_command.specs.Ends.{Answers, Says}
+use Rattle.sw_command.specs.FaultTexts.{fault_text}
 
 -- the flow that is not well routed, or the cycle, or the certificate in its one spelling
 abbrev pub verdict_text : Declaration → Verdict → List ℕ

@@ -7,8 +7,8 @@ ghost use Rattle.sw_machine.specs.Headline.{IsDeadlockFree};
 ghost use Rattle.sw_model.specs.Model.{network_of};
 ghost use Rattle.sw_check.specs.Contents.{certificate_of};
 ghost use Rattle.sw_check.specs.Refusals.{refusal_of};
-ghost use Rattle.sw_ends.specs.Ends.{IfLimited};
-ghost use Rattle.sw_ends.specs.Inputs.{given};
+ghost use Rattle.sw_command.specs.Ends.{IfLimited};
+ghost use Rattle.sw_command.specs.Inputs.{given};
 ghost use Rattle.sw_app.specs.CheckAnswers.{AreShownFree, IsCertificateAnswer, IsCheckAnswer, IsJudgement, IsNetworkAnswer, IsShownFree};
 
 use crate::check_texts::{grammar_line, refusal_line};
@@ -17,9 +17,9 @@ use std::alloc::{AllocError, Global};
 use std::thread::Threads;
 use sw_cert::{Certificate, CertificateFault};
 use sw_check::check;
-use sw_ends::{Answer, Input};
+use sw_command::{Answer, InputText};
+use sw_config::Network;
 use sw_file::read_network;
-use sw_network::Network;
 
 // The answer for a certificate.
 fn judgement<R: Threads + Sync>(
@@ -71,14 +71,14 @@ fn network_answer<R: Threads + Sync>(
     rt: &R,
     alloc: Global,
     network: &Network,
-    second: &Input,
+    second: &InputText,
 ) -> Result<Answer, AllocError>
     ensures answer { IfOk result (λ a. IfLimited (given second.now) (λ bytes. IsCertificateAnswer network.now (read_text bytes)) (string_bytes a.text) a.status) }
     ensures shown { IfOk result (λ a. a.status ≡ 0 → IsSomeAnd (given second.now) (IsShownFree network.now)) }
 {
     match second {
-        Input::Whole(text) => certificate_answer(rt, alloc, network, text),
-        Input::TooLong => Answer::of_long_text(alloc),
+        InputText::Whole(text) => certificate_answer(rt, alloc, network, text),
+        InputText::TooLong => Answer::of_long_text(alloc),
     }
 }
 
@@ -87,7 +87,7 @@ fn file_answer<R: Threads + Sync>(
     rt: &R,
     alloc: Global,
     first: &[u8],
-    second: &Input,
+    second: &InputText,
 ) -> Result<Answer, AllocError>
     ensures answer { IfOk result (λ a. IsNetworkAnswer (given second.now) (network_text first.now) (string_bytes a.text) a.status) }
     ensures shown { IfOk result (λ a. a.status ≡ 0 → IsSomeAnd (given second.now) (AreShownFree first.now)) }
@@ -106,14 +106,14 @@ fn file_answer<R: Threads + Sync>(
 pub(crate) fn check_answer<R: Threads + Sync>(
     rt: &R,
     alloc: Global,
-    first: &Input,
-    second: &Input,
+    first: &InputText,
+    second: &InputText,
 ) -> Result<Answer, AllocError>
     ensures answer { IfOk result (λ a. IsCheckAnswer (given first.now) (given second.now) (string_bytes a.text) a.status) }
     ensures shown { IfOk result (λ a. a.status ≡ 0 → IsSomeAnd (given first.now) (λ bytes. IsSomeAnd (given second.now) (AreShownFree bytes))) }
 {
     match first {
-        Input::Whole(text) => file_answer(rt, alloc, text, second),
-        Input::TooLong => Answer::of_long_text(alloc),
+        InputText::Whole(text) => file_answer(rt, alloc, text, second),
+        InputText::TooLong => Answer::of_long_text(alloc),
     }
 }

@@ -4,9 +4,9 @@ ghost use Rattle.sw_app.specs.CheckTexts.{grammar_line, not_rising_line, refusal
 
 use std::alloc::{AllocError, Global};
 use sw_check::Refusal;
+use sw_config::Network;
 use sw_flow::{Place, RouteFault};
-use sw_network::Network;
-use sw_texts::{flow_name, place_words, route_fault_text};
+use sw_output::{flow_name, place_words, route_fault_text};
 use sw_topo::Chan;
 
 /// The line for a text that is no certificate: the first line that is wrong.

@@ -4,8 +4,8 @@ ghost use Rattle.sw_app.specs.Endings.{IsAnswerTold, IsByteAnswerTold, IsFaultAn
 
 use std::alloc::{AllocError, Global};
 use std::io::Write;
-use sw_ends::{Answer, ByteAnswer, Ended, tell, tell_bytes, tell_memory};
-use sw_tree::FileFault;
+use sw_command::{Answer, ByteAnswer, Ended, tell, tell_bytes, tell_memory};
+use sw_toml_table::FileFault;
 
 /// Writes an answer, or that memory was wanted.
 pub(crate) fn tell_answer<W: Write>(writer: &mut W, answer: Result<Answer, AllocError>) -> Ended

@@ -1,7 +1,7 @@
 //! The engines: each reads its texts whole, and writes one text.
 ghost use Rattle.std.specs.Prelude.{◌≡◌, IfSome};
 ghost use Rattle.sw_app.specs.CheckAnswers.{AreShownFree, IsCheckAnswer};
-ghost use Rattle.sw_ends.specs.Ends.{AreReadInOrder, EndsBy, EndsByTwo};
+ghost use Rattle.sw_command.specs.Ends.{AreReadInOrder, EndsBy, EndsByTwo};
 ghost use Rattle.sw_app.specs.RouteAnswers.{IsRouteAnswer};
 ghost use Rattle.sw_app.specs.VerdictAnswers.{IsDecideAnswer, IsReportAnswer, WritesAccepted};
 
@@ -12,8 +12,8 @@ use crate::verdict_answers::{decide_answer, report_answer};
 use std::alloc::Global;
 use std::io::{Read, Write};
 use std::thread::Threads;
-use sw_ends::{Ended, InputError, MAX_TEXT, read_two, tell_memory, tell_unread};
-use sw_stream::read_whole;
+use sw_command::{Ended, InputError, MAX_TEXT, read_two, tell_memory, tell_unread};
+use sw_text::read_whole;
 
 /// The places of a flow of a network file: 0 where packets arrive rightly, and 1 where a place has a fault.
 ///

@@ -19,4 +19,4 @@ pub use laws::{
     decide_has_one_answer, replay_has_one_answer, report_has_one_answer, route_has_one_answer,
 };
 pub use replay_engine::replay;
-pub use sw_ends::{Ended, MAX_TEXT, fault_text};
+pub use sw_command::{Ended, MAX_TEXT, fault_text};

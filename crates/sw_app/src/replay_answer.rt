@@ -1,19 +1,19 @@
 //! What `replay` answers.
 ghost use Rattle.std.specs.Prelude.{◌≡◌, IfOk, string_bytes};
 ghost use Rattle.sw_file.specs.Network.{network_text};
-ghost use Rattle.sw_steps.specs.Schedule.{steps_of_text};
-ghost use Rattle.sw_ends.specs.Ends.{IfLimited, Says};
-ghost use Rattle.sw_ends.specs.Inputs.{given};
+ghost use Rattle.sw_schedule.specs.Schedule.{steps_of_text};
+ghost use Rattle.sw_command.specs.Ends.{IfLimited, Says};
+ghost use Rattle.sw_command.specs.Inputs.{given};
 ghost use Rattle.sw_app.specs.ReplayAnswers.{IsReplayAnswer, IsReplayOf, IsScheduleAnswer, bad_line};
 
 use crate::endings::fault_answer;
 use crate::replay_texts::{replay_status, replay_text};
 use std::alloc::{AllocError, Global};
-use sw_ends::{Answer, Input};
+use sw_command::{Answer, InputText};
+use sw_config::Network;
 use sw_file::read_network;
-use sw_network::Network;
 use sw_replay::replay;
-use sw_steps::{Schedule, ScheduleFault, read_steps};
+use sw_schedule::{Schedule, ScheduleFault, read_steps};
 
 // The answer for a schedule.
 fn steps_answer(alloc: Global, network: &Network, schedule: &Schedule) -> Result<Answer, AllocError>
@@ -45,17 +45,21 @@ fn schedule_answer(alloc: Global, network: &Network, text: &[u8]) -> Result<Answ
 }
 
 // The answer for a network and the second text.
-fn network_answer(alloc: Global, network: &Network, second: &Input) -> Result<Answer, AllocError>
+fn network_answer(
+    alloc: Global,
+    network: &Network,
+    second: &InputText,
+) -> Result<Answer, AllocError>
     ensures { IfOk result (λ a. IfLimited (given second.now) (λ bytes. IsScheduleAnswer network.now (steps_of_text network.now bytes)) (string_bytes a.text) a.status) }
 {
     match second {
-        Input::Whole(text) => schedule_answer(alloc, network, text),
-        Input::TooLong => Answer::of_long_text(alloc),
+        InputText::Whole(text) => schedule_answer(alloc, network, text),
+        InputText::TooLong => Answer::of_long_text(alloc),
     }
 }
 
 // The answer for the bytes of a network file and the second text.
-fn file_answer(alloc: Global, first: &[u8], second: &Input) -> Result<Answer, AllocError>
+fn file_answer(alloc: Global, first: &[u8], second: &InputText) -> Result<Answer, AllocError>
     ensures { IfOk result (λ a. IsReplayOf (given second.now) (network_text first.now) (string_bytes a.text) a.status) }
 {
     match read_network(alloc, first) {
@@ -71,13 +75,13 @@ fn file_answer(alloc: Global, first: &[u8], second: &Input) -> Result<Answer, Al
 /// The answer to the bytes of a network file and of a schedule file.
 pub(crate) fn replay_answer(
     alloc: Global,
-    first: &Input,
-    second: &Input,
+    first: &InputText,
+    second: &InputText,
 ) -> Result<Answer, AllocError>
     ensures { IfOk result (λ a. IsReplayAnswer (given first.now) (given second.now) (string_bytes a.text) a.status) }
 {
     match first {
-        Input::Whole(text) => file_answer(alloc, text, second),
-        Input::TooLong => Answer::of_long_text(alloc),
+        InputText::Whole(text) => file_answer(alloc, text, second),
+        InputText::TooLong => Answer::of_long_text(alloc),
     }
 }

@@ -1,12 +1,12 @@
 //! The engine of `replay`.
-ghost use Rattle.sw_ends.specs.Ends.{AreReadInOrder, EndsByTwo};
+ghost use Rattle.sw_command.specs.Ends.{AreReadInOrder, EndsByTwo};
 ghost use Rattle.sw_app.specs.ReplayAnswers.{IsReplayAnswer};
 
 use crate::endings::tell_answer;
 use crate::replay_answer::replay_answer;
 use std::alloc::Global;
 use std::io::{Read, Write};
-use sw_ends::{Ended, InputError, read_two, tell_memory};
+use sw_command::{Ended, InputError, read_two, tell_memory};
 
 /// What comes of the steps of the second text's schedule, made one after another on the network of the first text from its empty
 /// state on: 0 where all are made and the network is not locked up then, 1 where one is refused, and 4 where the network is locked

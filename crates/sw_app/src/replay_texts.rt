@@ -4,32 +4,32 @@ ghost use Rattle.sw_replay.specs.Reports.{report_of};
 ghost use Rattle.sw_app.specs.ReplayTexts.{made_line, refusal_text, replay_status, replay_text, state_lines, stuck_line};
 
 use std::alloc::{AllocError, Global};
-use sw_network::Network;
-use sw_packet_texts::{all_node_lines, all_packet_lines, undelivered_line};
-use sw_replay::{Outcome, Refusal, Replayed};
+use sw_config::Network;
+use sw_output::{all_node_lines, all_packet_lines, undelivered_line};
+use sw_replay::{ReplayEnd, Replayed, StepRefusal};
 
-fn refusal_text(refusal: Refusal) -> &'static str
+fn refusal_text(refusal: StepRefusal) -> &'static str
     ensures { result.now ≡ refusal_text refusal }
 {
     match refusal {
-        Refusal::NotEnabled => "N1 NotEnabled",
-        Refusal::NotInFlow => "N2 NotInFlow",
+        StepRefusal::NotEnabled => "N1 NotEnabled",
+        StepRefusal::NotInFlow => "N2 NotInFlow",
     }
 }
 
-fn refused_line(alloc: Global, number: u32, refusal: Refusal) -> Result<String, AllocError>
-    ensures { IfOk result (λ s. string_bytes s ≡ made_line (Outcome.Refused number refusal)) }
+fn refused_line(alloc: Global, number: u32, refusal: StepRefusal) -> Result<String, AllocError>
+    ensures { IfOk result (λ s. string_bytes s ≡ made_line (ReplayEnd.Refused number refusal)) }
 {
     let name = refusal_text(refusal);
     format!(in alloc; "refused {number} {name}\n")
 }
 
-fn made_line(alloc: Global, outcome: Outcome) -> Result<String, AllocError>
+fn made_line(alloc: Global, outcome: ReplayEnd) -> Result<String, AllocError>
     ensures { IfOk result (λ s. string_bytes s ≡ made_line outcome) }
 {
     match outcome {
-        Outcome::Made(count) => format!(in alloc; "replayed {count}\n"),
-        Outcome::Refused(number, refusal) => refused_line(alloc, number, refusal),
+        ReplayEnd::Made(count) => format!(in alloc; "replayed {count}\n"),
+        ReplayEnd::Refused(number, refusal) => refused_line(alloc, number, refusal),
     }
 }
 
@@ -70,7 +70,7 @@ pub(crate) fn replay_status(replayed: &Replayed) -> u8
     ensures { result ≡ replay_status replayed.now.outcome replayed.now.stuck }
 {
     match replayed.outcome {
-        Outcome::Refused(_, _) => 1,
-        Outcome::Made(_) => { if replayed.stuck { 4 } else { 0 } }
+        ReplayEnd::Refused(_, _) => 1,
+        ReplayEnd::Made(_) => { if replayed.stuck { 4 } else { 0 } }
     }
 }

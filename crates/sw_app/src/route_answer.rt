@@ -1,16 +1,16 @@
 //! What `route` answers.
 ghost use Rattle.std.specs.Prelude.{◌≡◌, ◌<◌, IfOk, IfSome, length, slice_get, string_bytes};
-ghost use Rattle.sw_network.specs.Entries.{all_flows};
+ghost use Rattle.sw_config.specs.Entries.{all_flows};
 ghost use Rattle.sw_app.specs.RouteAnswers.{IsFlowAnswer, IsNamedAnswer, IsRouteAnswer};
 ghost use Rattle.sw_app.specs.RouteTexts.{outcome_status};
 
 use crate::endings::fault_answer;
 use crate::route_texts::route_text;
 use std::alloc::{AllocError, Global};
-use sw_ends::Answer;
+use sw_command::Answer;
+use sw_config::Network;
 use sw_file::read_network;
 use sw_flow::{Place, RouteFault, first_fault, places};
-use sw_network::Network;
 
 fn status_of(fault: &Option<(Place, RouteFault)>) -> u8
     ensures { result ≡ outcome_status fault.now }

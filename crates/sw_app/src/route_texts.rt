@@ -1,12 +1,12 @@
 //! The text of `route`.
 ghost use Rattle.std.specs.Prelude.{◌≡◌, ◌++◌, ◌<◌, All, IfOk, flat_map, length, string_bytes};
-ghost use Rattle.sw_network.specs.Entries.{wiring_of};
+ghost use Rattle.sw_config.specs.Entries.{wiring_of};
 ghost use Rattle.sw_app.specs.RouteTexts.{outcome_line, place_line, text_of};
 
 use std::alloc::{AllocError, Global};
+use sw_config::{Flow, Network};
 use sw_flow::{Place, RouteFault};
-use sw_network::{Flow, Network};
-use sw_texts::{channel_text, route_fault_text};
+use sw_output::{channel_text, route_fault_text};
 
 fn place_line(alloc: Global, network: &Network, place: Place) -> Result<String, AllocError>
     requires { place.channel < length (wiring_of network.now).ends }

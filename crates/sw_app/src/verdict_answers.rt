@@ -7,11 +7,11 @@ use crate::endings::fault_answer;
 use crate::verdict_texts::{verdict_status, verdict_text, verdict_words};
 use std::alloc::{AllocError, Global};
 use std::thread::Threads;
-use sw_ends::{Answer, ByteAnswer};
+use sw_command::{Answer, ByteAnswer};
+use sw_config::Network;
 use sw_file::read_network;
-use sw_network::Network;
+use sw_output::report_text;
 use sw_search::{Findings, decide, survey};
-use sw_texts::report_text;
 
 // The answer of `decide` to a network.
 fn verdict_answer<R: Threads + Sync>(

@@ -4,15 +4,15 @@ ghost use Rattle.std.specs.List.{AllByRecursion};
 ghost use Rattle.sw_cert.specs.Grammar.{spelling};
 ghost use Rattle.sw_cert.specs.Text.{Says};
 ghost use Rattle.sw_search.specs.Verdicts.{IsCyclic, IsFree, IsVerdict};
-ghost use Rattle.sw_texts.specs.VerdictTexts.{cycle_text};
+ghost use Rattle.sw_output.specs.VerdictTexts.{cycle_text};
 ghost use Rattle.sw_app.specs.VerdictAnswers.{SaysCertificate, verdict_status, verdict_text, verdict_words};
 
 use std::alloc::{AllocError, Global};
 use sw_cert::{Certificate, one_text};
+use sw_config::Network;
 use sw_cycle::Cycle;
-use sw_network::Network;
+use sw_output::{cycle_text, cyclic_words, free_words, misrouted_text, misrouted_words};
 use sw_search::Verdict;
-use sw_texts::{cycle_text, cyclic_words, free_words, misrouted_text, misrouted_words};
 
 // The text of a cyclic network's cycle.
 fn shown_text(alloc: Global, network: &Network, cycle: &Cycle) -> Result<String, AllocError>

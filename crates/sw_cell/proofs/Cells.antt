@@ -2,7 +2,7 @@
 use Rattle.std.proofs.Common.{ℕ, ◌≡◌, subst}
 use Rattle.std.specs.Prelude.{Err}
 use Rattle.sw_cell.specs.Answers.{AnswersAt}
-use Rattle.sw_cell.specs.Parts.{HasCellState}
+use Rattle.sw_cell.specs.CellParts.{HasCellState}
 use Rattle.sw_cell.specs.Places.{IsDoneAt}
 use Rattle.sw_cell.specs.declared.cell.CellId.{CellId}
 use Rattle.sw_cell.specs.declared.cell.CellId.TheVariants as place
@@ -10,15 +10,15 @@ use Rattle.sw_cell.specs.declared.cell.CellState.{CellState}
 use Rattle.sw_cell.specs.declared.cell.CellState.TheVariants as state
 use Rattle.sw_cell.specs.declared.fault.NetFault.{NetFault}
 use Rattle.sw_cell.specs.declared.fault.NetFault.TheVariants.{Memory, NotEnabled, NotInFlow}
-use Rattle.sw_cells.specs.Makes.{HasNodeState}
-use Rattle.sw_cells.specs.SwitchParts.{HasSwitchState}
+use Rattle.sw_cell.specs.Makes.{HasNodeState}
+use Rattle.sw_cell.specs.SwitchParts.{HasSwitchState}
 use Rattle.sw_machine.specs.State.{State}
 use Rattle.sw_machine.specs.Steps.{Step}
 use Rattle.sw_model.specs.Model.{network_of}
-use Rattle.sw_network.specs.Entries.{Declaration}
+use Rattle.sw_config.specs.Entries.{Declaration}
 use Rattle.sw_node.specs.Node.{Node}
 use Rattle.sw_switch.specs.Cell.{Cell}
-use Rattle.sw_wires.specs.Between.{Between}
+use Rattle.sw_link.specs.Between.{Between}
 
 module _ {R A : Type 0} (d : Declaration) (at : CellId) (cell : CellState R A) (b : Between) where
   pub has_node : (n : ℕ) (node : Node) → at ≡ place.Node n → cell ≡ state.Node node → HasCellState d at cell b → HasNodeState (network_of d) n node b

@@ -1,3 +1,15 @@
-pub mod Spilling
+pub mod Puts
+pub mod Betweens
+pub mod Network
 pub mod Nodes
+pub mod Switches
+pub mod Passing
+pub mod Dropping
+pub mod Granting
+pub mod Picking
+pub mod Telling
+pub mod LinkEnds
+pub mod Enabling
+pub mod Spilling
+pub mod StepsAtNodes
 pub mod Cells

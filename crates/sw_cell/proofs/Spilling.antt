@@ -8,15 +8,15 @@ use Rattle.sw_machine.specs.Network.{AtSwitch, Network}
 use Rattle.sw_machine.specs.Runs.{IsReached, Run}
 use Rattle.sw_machine.specs.State.{State, empty, input_after, put}
 use Rattle.sw_machine.specs.Steps.{Accept, Arrive, Begin, Drop, Drops, Emit, Fct, FctIn, Forward, Grant, Leads, Reply, Spill, Step}
-use Rattle.sw_machine.specs.declared.input.Input.{Input}
-use Rattle.sw_machine.specs.declared.input.Input.TheVariants.{Held, Spilling}
+use Rattle.sw_machine.specs.declared.input.InputState.{InputState}
+use Rattle.sw_machine.specs.declared.input.InputState.TheVariants.{Held, Spilling}
 
 module _ (net : Network) where
   -- an input that discards ends at a switch
-  abbrev pub AtSwitches : (ℕ → Input) → Type 0
+  abbrev pub AtSwitches : (ℕ → InputState) → Type 0
   AtSwitches input = (c : ℕ) → input c ≡ Spilling → (w : ℕ) × (net.end_of c ≡ AtSwitch w)
 
-  put_keeps : (input : ℕ → Input) (c : ℕ) (i : Input) → (i ≡ Spilling → (w : ℕ) × (net.end_of c ≡ AtSwitch w)) → AtSwitches input → AtSwitches (put input c i)
+  put_keeps : (input : ℕ → InputState) (c : ℕ) (i : InputState) → (i ≡ Spilling → (w : ℕ) × (net.end_of c ≡ AtSwitch w)) → AtSwitches input → AtSwitches (put input c i)
   put_keeps input c i here others k e = ⊎_elim
       (λ same. subst (λ j. (w : ℕ) × (net.end_of j ≡ AtSwitch w)) (sym same) (here (sym (put_here input c i) ∙ ap (put input c i) (sym same) ∙ e)))
       (λ ne. others k (sym (put_there input c i k ne) ∙ e))

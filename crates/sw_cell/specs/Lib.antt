@@ -1,3 +1,8 @@
-pub mod Places
 pub mod Parts
+pub mod Makes
+pub mod SwitchParts
+pub mod Picks
+pub mod Possible
+pub mod Places
+pub mod CellParts
 pub mod Answers

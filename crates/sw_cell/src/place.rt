@@ -3,13 +3,13 @@ ghost use Rattle.std.specs.Prelude.{◌≡◌, ◌<◌, ◌≤◌, IfNone, IfSom
 ghost use Rattle.sw_cell.specs.Places.{IsDoneAt, IsIn, machine_cell};
 ghost use Rattle.sw_machine.specs.Network.{AtNode};
 ghost use Rattle.sw_model.specs.Model.{network_of};
-ghost use Rattle.sw_steps.specs.Steps.{machine_step};
+ghost use Rattle.sw_model.specs.Steps.{machine_step};
 
 use crate::cell::CellId;
 use crate::fault::NetFault;
-use sw_cells::node::begins_at;
-use sw_network::Network;
-use sw_steps::Step;
+use crate::node::begins_at;
+use sw_config::Network;
+use sw_model::Step;
 use sw_topo::{Chan, PlaceEnd};
 
 /// The cell where the channel ends, if there is such a channel.

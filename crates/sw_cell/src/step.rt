@@ -1,22 +1,22 @@
 //! Any step at any cell.
 ghost use Rattle.std.specs.Prelude.{◌≡◌, OnErr};
 ghost use Rattle.sw_cell.specs.Answers.{Answers, AnswersAt, done};
-ghost use Rattle.sw_cell.specs.Parts.{HasCellState, IsCellFor, IsCellState};
+ghost use Rattle.sw_cell.specs.CellParts.{HasCellState, IsCellFor, IsCellState};
 ghost use Rattle.sw_cell.specs.Places.{IsAt};
 ghost use Rattle.sw_model.specs.Model.{network_of};
-ghost use Rattle.sw_steps.specs.Steps.{machine_step};
+ghost use Rattle.sw_model.specs.Steps.{machine_step};
 
 use crate::cell::{CellId, CellState};
 use crate::fault::NetFault;
-use crate::node::step_node;
+use crate::node_steps::step_node;
 use crate::place::cell_of;
-use crate::switch::step_switch;
+use crate::switch_steps::step_switch;
 use std::alloc::Global;
 use sw_arb::Arbiter;
-use sw_network::Network;
+use sw_config::Network;
+use sw_link::Wires;
+use sw_model::Step;
 use sw_route::Routing;
-use sw_steps::Step;
-use sw_wires::Wires;
 
 /// The answer where a step was made, or was not possible.
 ///

@@ -1,9 +1,8 @@
 -- A text is cut at its LFs.
 use Rattle.std.proofs.Common.{◌≡◌, ℕ, ◌+◌, ◌%◌, ◌<◌, ◌≤◌, ◌^◌, Bool, true, false, List, [], ◌∷◌, ◌++◌, length, refl, sym, ap, ◌∙◌, inl, inr, arith, append_assoc, append-nil, ne_eqb, not, suc, take, drop, cond, Some, None}
 use Rattle.std.specs.Prelude.{◌==◌, codes, map, All, position, nat_lt}
-use Rattle.std.specs.List.{list_all, position_or_len, onto_first}
+use Rattle.std.specs.List.{list_all, position_or_len, onto_first, AllByRecursion, flat_map, slice_split, join_with_byte}
 use Rattle.std.proofs.lemmas.Bool.{and_parts, false≢true, ltb-true, ltb-false, cases_Bool}
-use Rattle.std.specs.List.{AllByRecursion, flat_map, slice_split, join_with_byte}
 use Rattle.std.specs.Fmt.{decimal}
 use Rattle.std.proofs.lemmas.List.Splits.{slice_split_at, slice_split_first}
 use Rattle.std.proofs.lemmas.List.Elements.{All-nil, All-cons, All-append}
@@ -84,31 +83,3 @@ are_lines ns fs h =
     (all_both IsOneLine (flow_lines (length fs) fs) (codes "end" ∷ [])
     (number_after (codes "flows ") (length fs) refl (omega arith), blocks_are_lines fs h.blocks)
     (word_line (codes "end") refl, tt))
-
-some_of : {A : Type 0} (b : Bool) (x y : A) → cond b (Some x) None ≡ Some y → (b ≡ true) × (x ≡ y)
-some_of true x y e = let s : x ≡ y = cc in (refl, s)
-some_of false x y e = let bad : ◌≡◌ {A = Bool} true false = cc in absurd (false≢true (sym bad))
-
-none_of : {A : Type 0} (b : Bool) (x : A) → cond b (Some x) None ≡ None → b ≡ false
-none_of true x e = let bad : ◌≡◌ {A = Bool} true false = cc in bad
-none_of false x e = refl
-
--- the first line, and what stands after it
-pub split_found : (xs : List ℕ) (i : ℕ) → position (λ b. b == 10) xs ≡ Some i → slice_split (λ b. b == 10) xs ≡ take i xs ∷ slice_split (λ b. b == 10) (drop (i + 1) xs)
-split_found xs i e =
-    let h = some_of (nat_lt (position_or_len (λ b. b == 10) xs) (length xs)) (position_or_len (λ b. b == 10) xs) i e in
-    slice_split_first (λ b. b == 10) xs 0 (ltb-true _ _ h.0)
-    ∙ ap (λ k. take k xs ∷ slice_split (λ b. b == 10) (drop (k + 1) xs)) h.1
-
-whole_split : (xs : List ℕ) → length xs ≤ position_or_len (λ b. b == 10) xs → slice_split (λ b. b == 10) xs ≡ xs ∷ []
-whole_split [] le = refl
-whole_split (x ∷ xs) le = elim (cases_Bool (x == 10)) [
-  | inl t ↦ let le2 : suc (length xs) ≤ 0 = rw t at le in absurd (omega arith)
-  | inr f ↦ let le2 : suc (length xs) ≤ 1 + position_or_len (λ b. b == 10) xs = rw f at le in rw f (ap (onto_first x) (whole_split xs (omega arith)))
-]
-
--- no line ends
-pub split_whole : (xs : List ℕ) → position (λ b. b == 10) xs ≡ None → slice_split (λ b. b == 10) xs ≡ xs ∷ []
-split_whole xs e =
-    let h = none_of (nat_lt (position_or_len (λ b. b == 10) xs) (length xs)) (position_or_len (λ b. b == 10) xs) e in
-    whole_split xs (ltb-false _ _ h)

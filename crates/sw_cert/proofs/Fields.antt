@@ -4,9 +4,9 @@ use Rattle.std.specs.Prelude.{nat_eq, option_and_then}
 use Rattle.std.specs.List.{starts_with}
 use Rattle.std.specs.Fmt.{decimal}
 use Rattle.std.proofs.lemmas.Bool.{cases_Bool, and_parts, eqb-true, eq-eqb, false≢true}
-use Rattle.sw_cert.specs.Number.{number_of}
+use Rattle.sw_text.specs.Number.{number_of}
 use Rattle.sw_cert.specs.Grammar.{after_word, field}
-use Rattle.sw_cert.proofs.Numbers.{read_spelled, spelled_read}
+use Rattle.sw_text.proofs.Numbers.{read_spelled, spelled_read}
 
 no_some : {A : Type 0} (x : A) → ◌≡◌ {A = Option A} None (Some x) → ⊥
 no_some x e = cc

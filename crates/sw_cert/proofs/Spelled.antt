@@ -12,11 +12,11 @@ use Rattle.sw_cert.specs.declared.lines.Expected.{Expected}
 use Rattle.sw_cert.specs.declared.lines.Expected.TheVariants.{Title, Channels, Numbers, Flows, Places, Nothing}
 use Rattle.sw_cert.specs.declared.lines.Said.{Said}
 use Rattle.sw_cert.specs.declared.lines.Said.TheVariants as said
-use Rattle.sw_cert.specs.Number.{number_of}
+use Rattle.sw_text.specs.Number.{number_of}
 use Rattle.sw_cert.specs.Grammar.{after_word, field, is_line, if_rising, place_of, place_at, places, place_line, block, head_lines, flow_lines, Fits, IsBlock, Rises, stands_before}
 use Rattle.sw_cert.specs.Reading.{State, next, with_said, last_of}
 use Rattle.sw_cert.specs.Sound.{IsSound}
-use Rattle.sw_cert.proofs.Numbers.{read_spelled}
+use Rattle.sw_text.proofs.Numbers.{read_spelled}
 use Rattle.sw_cert.proofs.Fields.{begins, field_spelled, after_spelled}
 
 no_some : {A : Type 0} (x : A) → ◌≡◌ {A = Option A} None (Some x) → ⊥

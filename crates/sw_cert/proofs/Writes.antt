@@ -1,12 +1,11 @@
 -- What is spelled so is read: the lines of a certificate lead from the start to its contents.
 use Rattle.std.proofs.Common.{◌≡◌, ℕ, suc, ◌+◌, ◌-◌, ◌<◌, ◌≤◌, ◌^◌, true, false, List, [], ◌∷◌, ◌++◌, length, map, drop, take, refl, sym, ap, ◌∙◌, subst, arith, Option, Some, None, append_assoc, append-nil, ◌%◌, ne_eqb, length-append}
 use Rattle.std.specs.Prelude.{◌==◌, codes, option_and_then, position}
-use Rattle.std.specs.List.{AllByRecursion, flat_map}
+use Rattle.std.specs.List.{AllByRecursion, flat_map, position_or_len}
 use Rattle.std.specs.Fmt.{decimal}
 use Rattle.std.proofs.lemmas.Bool.{lt-ltb}
 use Rattle.std.proofs.lemmas.Fmt.{decimal_by_steps}
 use Rattle.std.proofs.Math.Seq.{take-append_seam, drop-append-add}
-use Rattle.std.specs.List.{position_or_len}
 use Rattle.sw_flow.specs.declared.place.Place.{Place}
 use Rattle.sw_cert.specs.declared.lines.Expected.{Expected}
 use Rattle.sw_cert.specs.declared.lines.Expected.TheVariants.{Channels, Numbers, Flows, Places, Nothing}
@@ -14,7 +13,7 @@ use Rattle.sw_cert.specs.declared.lines.Said.TheVariants as said
 use Rattle.sw_cert.specs.Grammar.{place_of, place_line, after_word, block, head_lines, flow_lines, lines_of, HasText, Rises, stands_before, if_rising, Fits, IsBlock}
 use Rattle.sw_cert.specs.Reading.{State, next, last_of}
 use Rattle.sw_cert.specs.Text.{at_first}
-use Rattle.sw_cert.proofs.Numbers.{spelled_read}
+use Rattle.sw_text.proofs.Numbers.{spelled_read}
 use Rattle.sw_cert.proofs.Fields.{field_read, after_read}
 use Rattle.sw_cert.proofs.Runs.{Runs, runs_append}
 use Rattle.sw_cert.proofs.Spelled.{last_or, last_is}

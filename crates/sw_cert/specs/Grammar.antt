@@ -7,7 +7,7 @@ use Rattle.sw_cert.specs.declared.lines.Expected.{Expected}
 use Rattle.sw_cert.specs.declared.lines.Expected.TheVariants.{Title, Channels, Numbers, Flows, Places, Nothing}
 use Rattle.sw_cert.specs.declared.lines.Said.{Said}
 use Rattle.sw_cert.specs.declared.lines.Said.TheVariants as said
-use Rattle.sw_cert.specs.Number.{number_of}
+use Rattle.sw_text.specs.Number.{number_of}
 
 -- what follows a word
 abbrev pub after_word : List ℕ → List ℕ → Option (List ℕ)

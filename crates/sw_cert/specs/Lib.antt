@@ -1,4 +1,3 @@
-pub mod Number
 pub mod Grammar
 pub mod Reading
 pub mod Sound

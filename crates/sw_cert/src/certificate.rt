@@ -1,6 +1,5 @@
 //! Certificates, and their text.
-ghost use Rattle.std.specs.Prelude.{◌≡◌, ◌+◌, ◌≤◌, ◌==◌, ◌<◌, ◌↔◌, ◌&&◌, ◌∷◌, [], true, IfNone, IsTrue, position, length, map, IfSome, IsSome, IfOk, Some, None};
-ghost use Rattle.std.specs.List.{slice_split};
+ghost use Rattle.std.specs.Prelude.{◌≡◌, ◌<◌, ◌≤◌, ◌==◌, ◌↔◌, ◌&&◌, true, length, map, IfSome, IsSome, IfOk};
 ghost use Rattle.sw_cert.specs.Grammar.{spelling};
 ghost use Rattle.sw_cert.specs.Reading.{state_of};
 ghost use Rattle.sw_cert.specs.Text.{is_ended, contents_of};
@@ -13,6 +12,7 @@ use crate::write::spelled;
 use std::alloc::{AllocError, AllocFailed, Global};
 use std::marker::Model;
 use sw_flow::Place;
+use sw_text::cut;
 
 /// Why a certificate is refused.
 #[derive(Debug, Drop)]
@@ -59,26 +59,6 @@ impl Model for Certificate {
     ghost invariant = { λ c. HasText c.numbers.items (map items_of c.places.items) };
 }
 
-/// The end of the first line, where its LF stands.
-fn line_end(text: &[u8]) -> Option<usize>
-    ensures exact { result ≡ position (λ b. b == 10) text.now }
-    ensures within { IfSome result (λ at. at < length text.now) }
-{
-    text.iter().position(|b| *b == b'\n')
-}
-
-/// The first line, without its LF, and what stands after it.
-fn first_line<'a>(text: &'a [u8]) -> Option<(&'a [u8], &'a [u8])>
-    ensures cut { IfSome result (λ r. slice_split (λ b. b == 10) text.entry.now ≡ r.0.now ∷ slice_split (λ b. b == 10) r.1.now) }
-    ensures shorter { IfSome result (λ r. length r.1.now < length text.entry.now) }
-    ensures last { IfNone result (slice_split (λ b. b == 10) text.entry.now ≡ text.entry.now ∷ []) }
-{
-    match line_end(text) {
-        None => None,
-        Some(end) => Some((&text[..end], &text[end + 1..])),
-    }
-}
-
 /// The certificate that a draft has become, if nothing more is expected and no rest stands after the last line.
 fn finished(draft: Draft, rest: &[u8]) -> Option<Certificate>
     requires { IsSound (state_of draft) }
@@ -116,7 +96,7 @@ impl Certificate {
         let mut draft = Draft::new(alloc);
         let mut rest = text;
         let mut number = 1;
-        while let Some((line, more)) = first_line(rest) {
+        while let Some((line, more)) = cut(rest, b'\n') {
             if !draft.read_line(alloc, line)? {
                 return Err(CertificateFault::Grammar(number));
             }

@@ -2,13 +2,7 @@
 ghost use Rattle.std.specs.Prelude.{◌≡◌, ◌≤◌, ◌<◌, ◌^◌, ◌↔◌, ◌++◌, ℕ, List, Some};
 ghost use Rattle.std.specs.Fmt.{decimal};
 ghost use Rattle.sw_cert.specs.Grammar.{field};
-ghost use Rattle.sw_cert.specs.Number.{number_of};
 ghost use Rattle.sw_cert.specs.Text.{OneSpelling};
-
-/// A number is read exactly from its own spelling.
-pub fn one_spelling()
-    ensures { (limit n : ℕ) (bytes : List ℕ) → limit < 2 ^ 24 → (number_of limit bytes ≡ Some n) ↔ ((bytes ≡ decimal n) × (n ≤ limit)) }
-{}
 
 /// A line of a word and a number is read exactly from its one spelling.
 pub fn field_spelling()

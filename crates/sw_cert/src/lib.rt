@@ -6,9 +6,9 @@ mod draft;
 mod laws;
 mod lines;
 mod make;
-mod number;
 mod write;
 
 pub use certificate::{Certificate, CertificateFault};
-pub use laws::{field_spelling, one_spelling, one_text};
+pub use laws::{field_spelling, one_text};
 pub use sw_flow::Place;
+pub use sw_text::laws::one_spelling;

@@ -2,8 +2,8 @@
 ghost use Rattle.std.specs.Prelude.{◌≡◌, option_copied, position, length, ◌==◌, ◌<◌, ◌≤◌, ◌^◌, IfSome};
 ghost use Rattle.sw_cert.specs.Grammar.{after_word, field, is_line, moved, place_at, place_of, if_rising, places, said_by, stands_before};
 
-use crate::number::number;
 use sw_flow::Place;
+use sw_text::number;
 use sw_topo::Chan;
 
 /// What the next line has to be.

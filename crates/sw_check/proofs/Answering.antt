@@ -1,7 +1,7 @@
 -- The nodes where flows with replies end.
 use Rattle.std.proofs.Common.{◌≡◌, ℕ, Bool, true, false, cond, List, [], ◌∷◌, map, filter, Option, Some, None, option_map, is_some, Contains, refl, sym, ◌∙◌, subst, ◌⊎◌, inl, inr, arith}
 use Rattle.std.proofs.lemmas.Bool.{cases_Bool}
-use Rattle.sw_network.specs.Entries.{FlowEntry, ReplyEntry}
+use Rattle.sw_config.specs.Entries.{FlowEntry, ReplyEntry}
 use Rattle.sw_flow.proofs.Listed.{Contains-head, Contains-later, Contains-cases}
 use Rattle.sw_check.specs.Refusals.{answering_nodes}
 

@@ -7,7 +7,7 @@ use Rattle.std.specs.Borrow.{Bor}
 use Rattle.rayon.specs.Lists.{filter_by_mask}
 use Rattle.rayon.proofs.ToStd.{answers-by_ref, nat_range-All}
 use Rattle.sw_topo.specs.Checked.{first_of}
-use Rattle.sw_network.specs.Entries.{FlowEntry}
+use Rattle.sw_config.specs.Entries.{FlowEntry}
 use Rattle.sw_flow.specs.declared.place.Place.{Place}
 use Rattle.sw_check.specs.declared.refusal.Refusal.{Refusal}
 use Rattle.sw_check.specs.Refusals.{first_refusal, by_flow}

@@ -2,8 +2,8 @@
 use Rattle.sw_machine.specs.Certificate.{Certificate, IsAccepted}
 use Rattle.sw_machine.specs.Headline.{IsDeadlockFree}
 use Rattle.sw_machine.proofs.Free as machine
-use Rattle.sw_network.specs.Entries.{Declaration}
-use Rattle.sw_network.specs.Valid.{IsValid}
+use Rattle.sw_config.specs.Entries.{Declaration}
+use Rattle.sw_config.specs.Valid.{IsValid}
 use Rattle.sw_model.specs.Model.{network_of}
 use Rattle.sw_model.proofs.Networks.{are_networks}
 

@@ -2,7 +2,7 @@
 use Rattle.std.proofs.Common.{◌≡◌, ℕ, suc, ◌+◌, ◌≤◌, min, Bool, true, false, cond, List, [], ◌∷◌, length, drop, Option, Some, None, is_some, Contains, refl, sym, ap, ◌∙◌, subst, ◌⊎◌, inl, inr, arith}
 use Rattle.std.specs.Prelude.{slice_get, IfSome}
 use Rattle.std.proofs.lemmas.Bool.{cases_Bool, cases_lt}
-use Rattle.sw_network.specs.Entries.{FlowEntry, Declaration}
+use Rattle.sw_config.specs.Entries.{FlowEntry, Declaration}
 use Rattle.sw_flow.proofs.Listed.{Contains-head, Contains-later, Contains-cases}
 use Rattle.sw_check.specs.Least.{lesser, least, IsLeast, LeastIsLeast}
 use Rattle.sw_check.specs.Refusals.{answering_nodes, is_falling_at}

@@ -4,7 +4,7 @@ use Rattle.std.specs.Prelude.{slice_get}
 use Rattle.std.specs.List.{list_all}
 use Rattle.std.proofs.lemmas.Bool.{cases_eq, eq-eqb, ne_eqb}
 use Rattle.sw_topo.specs.Checked.{first_of}
-use Rattle.sw_network.specs.Entries.{FlowEntry}
+use Rattle.sw_config.specs.Entries.{FlowEntry}
 use Rattle.sw_flow.specs.declared.place.Place.{Place}
 use Rattle.sw_flow.proofs.Listed.{Contains-head, Contains-later, Contains-cases}
 use Rattle.sw_check.specs.declared.refusal.Refusal.{Refusal}

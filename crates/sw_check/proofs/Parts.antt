@@ -1,7 +1,7 @@
 -- The reasons of a refusal, one after another.
 use Rattle.std.proofs.Common.{◌≡◌, true, false, cond, Option, Some, None, is_some, refl, sym, ap, ◌∙◌}
 use Rattle.sw_topo.specs.Checked.{first_of}
-use Rattle.sw_network.specs.Entries.{Declaration, all_flows}
+use Rattle.sw_config.specs.Entries.{Declaration, all_flows}
 use Rattle.sw_cert.specs.Text.{Contents}
 use Rattle.sw_check.specs.declared.refusal.Refusal.{Refusal}
 use Rattle.sw_check.specs.declared.refusal.Refusal.TheVariants.{WrongCount}

@@ -3,7 +3,7 @@ use Rattle.std.proofs.Common.{◌≡◌, ℕ, zero, suc, ◌+◌, ◌<◌, ◌�
 use Rattle.std.specs.Prelude.{slice_get}
 use Rattle.std.specs.List.{list_all}
 use Rattle.std.proofs.lemmas.Bool.{cases_Bool, cases_lt, lt-ltb, le-ltb, le-leb, lt-leb}
-use Rattle.sw_network.specs.Entries.{FlowEntry, Declaration}
+use Rattle.sw_config.specs.Entries.{FlowEntry, Declaration}
 use Rattle.sw_flow.specs.declared.place.Place.{Place}
 use Rattle.sw_flow.specs.Places.{ends_of}
 use Rattle.sw_check.specs.Refusals.{is_in_range, are_in_range}

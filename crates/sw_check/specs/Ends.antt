@@ -1,6 +1,6 @@
 -- Where a flow with replies ends.
 use Rattle.std.specs.Prelude.{ℕ, List, Option, Some, None, is_some, if◌then◌else◌}
-use Rattle.sw_network.specs.Entries.{FlowEntry, Declaration}
+use Rattle.sw_config.specs.Entries.{FlowEntry, Declaration}
 use Rattle.sw_check.specs.Refusals.{is_falling_at}
 
 -- the node where the flow ends, if the flow has replies and the numbers do not rise there

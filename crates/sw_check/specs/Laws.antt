@@ -1,7 +1,7 @@
 -- What a refusal means.
 use Rattle.std.specs.Prelude.{◌≡◌, ◌↔◌, None}
-use Rattle.sw_network.specs.Entries.{Declaration}
-use Rattle.sw_network.specs.Valid.{IsValid}
+use Rattle.sw_config.specs.Entries.{Declaration}
+use Rattle.sw_config.specs.Valid.{IsValid}
 use Rattle.sw_cert.specs.Text.{Contents}
 use Rattle.sw_machine.specs.Certificate.{IsAccepted}
 use Rattle.sw_model.specs.Model.{network_of}

@@ -1,6 +1,6 @@
 -- The refusal of one flow, by its number.
 use Rattle.std.specs.Prelude.{ℕ, List, Option, Some, None, slice_get}
-use Rattle.sw_network.specs.Entries.{FlowEntry}
+use Rattle.sw_config.specs.Entries.{FlowEntry}
 use Rattle.sw_flow.specs.declared.place.Place.{Place}
 use Rattle.sw_check.specs.declared.refusal.Refusal.{Refusal}
 

@@ -12,7 +12,7 @@ use crate::spread::{not_rising_along_flows, refusal_of_flows};
 use crate::targets::not_rising_at_targets;
 use std::thread::Threads;
 use sw_cert::Certificate;
-use sw_network::Network;
+use sw_config::Network;
 
 /// The first reason to refuse the certificate.
 fn refusal_of<R: Threads + Sync>(

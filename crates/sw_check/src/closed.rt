@@ -1,8 +1,8 @@
 //! Whether the listed places hold each flow's start and what follows them, without fault.
 ghost use Rattle.std.specs.Prelude.{◌≡◌, ◌<◌, length};
 ghost use Rattle.std.specs.List.{list_all};
-ghost use Rattle.sw_network.specs.Entries.{all_flows};
-ghost use Rattle.sw_network.specs.Valid.{IsFlow};
+ghost use Rattle.sw_config.specs.Entries.{all_flows};
+ghost use Rattle.sw_config.specs.Valid.{IsFlow};
 ghost use Rattle.sw_cert.specs.Grammar.{IsBlock};
 ghost use Rattle.sw_check.specs.Refusals.{first_refusal, is_closed_at, is_listed, refusal_of_flow, refusal_of_place, start_of};
 ghost use Rattle.sw_check.specs.Numbered.{refusal_at};
@@ -10,8 +10,8 @@ ghost use Rattle.sw_check.specs.Numbered.{refusal_at};
 use crate::listed::is_listed;
 use crate::refusal::Refusal;
 use sw_cert::Certificate;
+use sw_config::{Flow, Network};
 use sw_flow::{Followers, Place, fault_in, followers_in};
-use sw_network::{Flow, Network};
 
 fn start_of(network: &Network, flow: &Flow) -> Place
     requires { IsFlow network.now.nodes flow.now }

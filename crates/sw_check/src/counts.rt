@@ -1,13 +1,13 @@
 //! Whether a certificate is one for as many channels and flows as the network has, with places that it can have.
 ghost use Rattle.std.specs.Prelude.{◌≡◌, ◌==◌, length};
 ghost use Rattle.std.specs.List.{list_all};
-ghost use Rattle.sw_network.specs.Entries.{all_flows};
+ghost use Rattle.sw_config.specs.Entries.{all_flows};
 ghost use Rattle.sw_flow.specs.Places.{ends_of};
 ghost use Rattle.sw_check.specs.Refusals.{is_in_range, are_in_range, is_of_the_network};
 
 use sw_cert::Certificate;
+use sw_config::{Flow, Network};
 use sw_flow::Place;
-use sw_network::{Flow, Network};
 
 fn is_in_range(network: &Network, flow: &Flow, place: &Place) -> bool
     ensures { result ≡ is_in_range network.now flow.now place.now }

@@ -2,7 +2,7 @@
 
 use std::marker::Model;
 use sw_cert::Certificate;
-use sw_network::Network;
+use sw_config::Network;
 
 /// A network for which some certificate was accepted: whoever holds one has the theorem for the network that it borrows.
 #[derive(Drop)]
@@ -11,7 +11,7 @@ pub struct Passed<'a> {
 }
 
 impl<'a> Model for Passed<'a> {
-    ghost use Rattle.sw_network.specs.Entries.{Declaration};
+    ghost use Rattle.sw_config.specs.Entries.{Declaration};
     ghost use Rattle.sw_machine.specs.Certificate.{Certificate, IsAccepted};
     ghost use Rattle.sw_model.specs.Model.{network_of};
 
@@ -24,11 +24,11 @@ impl<'a> Model for Passed<'a> {
 
 impl<'a> Passed<'a> {
     ghost use Rattle.std.specs.Prelude.{◌≡◌};
-    ghost use Rattle.sw_machine.specs.Certificate as machine;
     ghost use Rattle.sw_machine.specs.Certificate.{IsAccepted};
     ghost use Rattle.sw_machine.specs.Headline.{IsDeadlockFree};
     ghost use Rattle.sw_model.specs.Model.{network_of};
     ghost use Rattle.sw_check.specs.Contents.{certificate_of};
+    ghost use Rattle.sw_machine.specs.Certificate as machine;
 
     pub(crate) fn new(network: &'a Network, certificate: &Certificate) -> Passed<'a>
         requires { IsAccepted (network_of network.now) (certificate_of certificate.now) }

@@ -1,15 +1,15 @@
 //! Whether the numbers of a certificate rise along the flows.
 ghost use Rattle.std.specs.Prelude.{◌≡◌, ◌<◌, length, map, slice_index, Some, None, if◌then◌else◌};
-ghost use Rattle.sw_network.specs.Entries.{all_flows};
-ghost use Rattle.sw_network.specs.Valid.{IsFlow};
+ghost use Rattle.sw_config.specs.Entries.{all_flows};
+ghost use Rattle.sw_config.specs.Valid.{IsFlow};
 ghost use Rattle.sw_check.specs.Least.{least, lesser};
 ghost use Rattle.sw_check.specs.Refusals.{first_refusal, is_not_above, not_rising_along, not_rising_from};
 ghost use Rattle.sw_check.specs.Numbered.{refusal_at};
 
 use crate::refusal::Refusal;
 use sw_cert::Certificate;
+use sw_config::{Flow, Network};
 use sw_flow::{Followers, Place, followers_in};
-use sw_network::{Flow, Network};
 use sw_topo::Chan;
 
 /// The lesser of two numbers, of those that are there.

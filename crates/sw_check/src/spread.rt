@@ -1,7 +1,7 @@
 //! The first refusal of all flows, from many threads.
 ghost use Rattle.std.specs.Prelude.{◌≡◌, ◌<◌, All, List, Option, is_some, length};
 ghost use Rattle.std.specs.List.{AllZip, range_with_len};
-ghost use Rattle.sw_network.specs.Entries.{all_flows};
+ghost use Rattle.sw_config.specs.Entries.{all_flows};
 ghost use Rattle.sw_check.specs.declared.refusal.Refusal.{Refusal};
 ghost use Rattle.sw_check.specs.Refusals.{by_flow, first_refusal, not_rising_along, refusal_of_flow};
 ghost use Rattle.sw_check.specs.Numbered.{refusal_at};
@@ -12,7 +12,7 @@ use crate::rising::rising_refusal;
 use rayon::prelude::*;
 use std::thread::Threads;
 use sw_cert::Certificate;
-use sw_network::Network;
+use sw_config::Network;
 
 /// The fewest flows that a thread is started for: a flow has up to 67,584 places, and a thread takes as long to start as some hundred
 /// places to check.

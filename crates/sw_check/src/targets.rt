@@ -1,13 +1,13 @@
 //! Whether the numbers of a certificate rise at the nodes that answer.
 ghost use Rattle.std.specs.Prelude.{◌≡◌, ◌<◌, length, is_some, IfSome};
-ghost use Rattle.sw_network.specs.Entries.{all_flows};
+ghost use Rattle.sw_config.specs.Entries.{all_flows};
 ghost use Rattle.sw_check.specs.Least.{least};
 ghost use Rattle.sw_check.specs.Refusals.{answering_nodes, is_falling_at, not_rising_at_targets};
 ghost use Rattle.sw_check.specs.Ends.{falling_end};
 
 use crate::refusal::Refusal;
 use crate::rising::{is_not_above, lesser};
-use sw_network::{Flow, Network};
+use sw_config::{Flow, Network};
 
 fn is_falling_at(network: &Network, numbers: &[u16], node: u16) -> bool
     requires { node < length network.now.nodes }

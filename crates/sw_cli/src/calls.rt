@@ -1,16 +1,16 @@
 //! The call that the words ask for, on the files that they name.
 ghost use Rattle.std.specs.Prelude.{◌<◌, IfErr, IfOk, map};
-ghost use Rattle.sw_words.specs.CommandLine.{Gives, HasWorkers, Refuses};
-ghost use Rattle.sw_words.specs.declared.command_line.Call.{Call};
+ghost use Rattle.sw_args.specs.CommandLine.{Gives, HasWorkers, Refuses};
+ghost use Rattle.sw_args.specs.declared.command_line.Call.{Call};
 
 use std::rt::Files;
 use std::sync::Wait;
 use std::thread::Threads;
 use std::{fs, io};
 use sw_app::{check, decide, replay, report, route};
-use sw_ends::Ended;
-use sw_run_app::{Open, Options};
-use sw_words::{Call, WordsFault, words};
+use sw_app_run::{Open, Options};
+use sw_args::{Call, WordsFault, words};
+use sw_command::Ended;
 
 /// Makes the call that the words ask for, and tells how it ended; they begin with the program's name.
 ///
@@ -122,7 +122,7 @@ fn run_load<R: Files + Print + AllocGlobal + Threads + Wait + Sync>(
         return Ended::ReadFailed;
     };
     let mut writer = io::writer(rt);
-    sw_run_app::run(
+    sw_app_run::run(
         rt,
         rt.alloc(),
         &mut network,

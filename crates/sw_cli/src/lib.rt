@@ -1,4 +1,4 @@
-//! A call of the program swcheck: it opens the files that the words name, hands them on to the engines of `sw_app` and `sw_run_app`,
+//! A call of the program swcheck: it opens the files that the words name, hands them on to the engines of `sw_app` and `sw_app_run`,
 //! and tells of words that give no call, and of a read or a write that failed.
 #![tactic(auto)]
 

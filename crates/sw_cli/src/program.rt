@@ -5,7 +5,7 @@ use std::rt::{Env, Files};
 use std::sync::Wait;
 use std::thread::Threads;
 use std::{env, io};
-use sw_words::WordsFault;
+use sw_args::WordsFault;
 
 /// Does what the words say that the program was given, and answers its status.
 pub fn run_program<R: Env + Files + Print + Eprint + AllocGlobal + Threads + Wait + Sync>(

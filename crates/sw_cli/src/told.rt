@@ -1,10 +1,10 @@
 //! What is told besides what an engine writes.
 ghost use Rattle.std.specs.Prelude.{◌≡◌, ◌⊎◌};
-ghost use Rattle.sw_words.specs.CommandLine.{words_status};
-ghost use Rattle.sw_ends.specs.Ends.{exit_status};
+ghost use Rattle.sw_args.specs.CommandLine.{words_status};
+ghost use Rattle.sw_command.specs.Ends.{exit_status};
 
-use sw_ends::Ended;
-use sw_words::WordsFault;
+use sw_args::WordsFault;
+use sw_command::Ended;
 
 /// Tells of a read or a write that failed.
 pub(crate) fn finished(rt: &impl Eprint, ended: Ended) -> u8

@@ -5,10 +5,10 @@ use Rattle.std.specs.Option.{option_map}
 use Rattle.std.proofs.Math.Nat.{mod-eq_of_lt, mod-lt}
 use Rattle.std.proofs.lemmas.List.{get_or_default}
 use Rattle.std.proofs.lemmas.Option.{same_Some, slice_get-map, slice_get_read}
-use Rattle.sw_network.specs.Entries.{Declaration, all_flows}
-use Rattle.sw_network.specs.Valid.{IsFlow, IsValid}
-use Rattle.sw_network.proofs.Flows.{All-at}
-use Rattle.sw_network.proofs.FlowLaws.{valid_flows}
+use Rattle.sw_config.specs.Entries.{Declaration, all_flows}
+use Rattle.sw_config.specs.Valid.{IsFlow, IsValid}
+use Rattle.sw_config.proofs.Flows.{All-at}
+use Rattle.sw_config.proofs.FlowLaws.{valid_flows}
 use Rattle.sw_cycle.specs.declared.cycle.Cause.{Cause}
 use Rattle.sw_cycle.specs.Cycles.{cause_of, CauseEntry, IsAnswered, IsCause, IsShown, round}
 

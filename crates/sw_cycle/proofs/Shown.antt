@@ -6,8 +6,8 @@ use Rattle.std.proofs.Math.Nat.{mod-eq_of_lt, mod_self}
 use Rattle.std.proofs.lemmas.Bool.{cases_lt}
 use Rattle.std.proofs.lemmas.List.{get_or_append_left, get_or_push}
 use Rattle.std.proofs.lemmas.Option.{slice_get_within}
-use Rattle.sw_network.specs.Entries.{FlowEntry, ReplyEntry, Declaration, all_flows}
-use Rattle.sw_network.specs.Valid.{IsValid}
+use Rattle.sw_config.specs.Entries.{FlowEntry, ReplyEntry, Declaration, all_flows}
+use Rattle.sw_config.specs.Valid.{IsValid}
 use Rattle.sw_flow.specs.declared.place.Place.{Place}
 use Rattle.sw_flow.specs.Places.{IsPlace}
 use Rattle.sw_flow.specs.Places.IsPlace.{start, next}

@@ -1,2 +1,5 @@
 pub mod Cycles
 pub mod Laws
+pub mod Causes
+pub mod Firsts
+pub mod Positions

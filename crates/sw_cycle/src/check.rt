@@ -4,8 +4,8 @@ ghost use Rattle.sw_flow.specs.Ways.{GoesFromStart, GoesOver, IsStart};
 ghost use Rattle.sw_cycle.specs.Cycles.{cause_of, EndsOn, IsAnswered, IsCause, IsFlowCause, IsShown, IsTargetCause};
 
 use crate::cycle::{Cause, Cycle};
+use sw_config::{Flow, Network};
 use sw_flow::{Place, follows};
-use sw_network::{Flow, Network};
 use sw_topo::Chan;
 
 /// Has the flow a reply, and does it end at the node?

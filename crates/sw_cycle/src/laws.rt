@@ -1,5 +1,5 @@
 //! What a shown cycle shows. These functions do nothing: each is the proof of what its clause says.
-ghost use Rattle.sw_cycle.specs.Laws.{CausesShowDependencies, ShownCyclesAreCycles, ShownCyclesRuleOutRising};
+ghost use Rattle.sw_cycle.specs.Laws.{ChosenCausesShowCycles, ShownCyclesAreRounds, CausesShowDependencies, ShownCyclesAreCycles, ShownCyclesRuleOutRising};
 
 use sw_machine::laws::rising_has_no_cycle;
 
@@ -19,3 +19,13 @@ pub fn shown_cycles_rule_out_rising()
 {
     rising_has_no_cycle();
 }
+
+/// Channels, if there are any, are a shown cycle with the causes that are chosen for them.
+pub fn chosen_causes_show_cycles()
+    ensures { ChosenCausesShowCycles }
+{}
+
+/// Each channel of a shown cycle may wait for the next one, and the last for the first.
+pub fn shown_cycles_are_rounds()
+    ensures { ShownCyclesAreRounds }
+{}

@@ -4,15 +4,15 @@ use Rattle.std.proofs.lemmas.Bool.{cases_eq, false≢true, ne_eqb}
 use Rattle.std.proofs.lemmas.List.Concat.{flat_map-cons}
 use Rattle.std.proofs.lemmas.Option.{get_or_from_slice_get, same_Some, slice_get_within}
 use Rattle.std.specs.Prelude.{nat_eq, replicate, slice_get}
-use Rattle.sw_cells.specs.Makes.{IsDeclaredAt}
+use Rattle.sw_cell.specs.Makes.{IsDeclaredAt}
 use Rattle.sw_limit.proofs.Packets.{length-packets}
 use Rattle.sw_limit.specs.History.{packet_of, packets_at, packets_of}
 use Rattle.sw_limit.specs.Limit.{AreDeclared}
 use Rattle.sw_load.specs.Load.{LoadEntry, packet_count}
-use Rattle.sw_load.specs.Packets.{IsDeclaredPacket}
+use Rattle.sw_model.specs.Packets.{IsDeclaredPacket}
 use Rattle.sw_machine.specs.Begun.{Begun}
 use Rattle.sw_model.specs.Model.{network_of}
-use Rattle.sw_network.specs.Entries.{Declaration}
+use Rattle.sw_config.specs.Entries.{Declaration}
 
 module _ {X : Type 0} where
   -- each element of the list is such

@@ -11,7 +11,7 @@ use Rattle.sw_machine.specs.Network.{Network}
 use Rattle.sw_machine.specs.Steps.{Accept, Arrive, Begin, Drop, Emit, Fct, FctIn, Forward, Grant, Reply, Spill, Step, is_begin}
 use Rattle.sw_model.specs.Model.{network_of}
 use Rattle.sw_net.proofs.Steps.{get_set_other, get_set_same}
-use Rattle.sw_network.specs.Entries.{Declaration}
+use Rattle.sw_config.specs.Entries.{Declaration}
 
 -- begun tells by node how many packets it has begun
 abbrev pub IsCounted : Declaration → List Step → List ℕ → Type 0

@@ -4,7 +4,7 @@ use Rattle.std.proofs.Math.Nat.{mul-le-mul_left}
 use Rattle.std.proofs.lemmas.Bool.{cases_lt}
 use Rattle.std.proofs.lemmas.List.Sums.{sum_by-cons}
 use Rattle.std.specs.Prelude.{slice_get, sum_by}
-use Rattle.sw_cells.proofs.Network.{nodes_are}
+use Rattle.sw_cell.proofs.Network.{nodes_are}
 use Rattle.sw_char.specs.declared.nchar.NChar.TheVariants.{Data, Eop}
 use Rattle.sw_drain.proofs.Begun.{declared_at}
 use Rattle.sw_drain.specs.Drained.{IsDrained, most_moves}
@@ -13,7 +13,7 @@ use Rattle.sw_limit.proofs.Fronts.{histories_end, no-more}
 use Rattle.sw_limit.proofs.Grown.{slice_get-behind}
 use Rattle.sw_limit.specs.History.{IsWhole, packets_at, packets_of}
 use Rattle.sw_limit.specs.Limit.{AreDeclared, enough_limit}
-use Rattle.sw_load.proofs.Declares.{declared_are_declared}
+use Rattle.sw_model.proofs.Declares.{declared_are_declared}
 use Rattle.sw_load.specs.Load.{LoadEntry}
 use Rattle.sw_machine.proofs.Balance.{count_cons}
 use Rattle.sw_machine.proofs.RunLists.{all_moves}
@@ -29,7 +29,7 @@ use Rattle.sw_model.proofs.Networks.{are_networks}
 use Rattle.sw_model.specs.Model.{network_of}
 use Rattle.sw_net.specs.Asked.{IsQuietNet}
 use Rattle.sw_net.specs.Net.{IsNetState, NetView}
-use Rattle.sw_network.specs.Valid.{IsValid}
+use Rattle.sw_config.specs.Valid.{IsValid}
 
 total_zero : (f : ℕ → ℕ) (n c : ℕ) → total n f ≡ 0 → c < n → f c ≡ 0
 total_zero f zero c e lt = absurd (omega arith)

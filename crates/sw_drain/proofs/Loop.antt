@@ -16,8 +16,8 @@ use Rattle.sw_machine.specs.State.{empty}
 use Rattle.sw_model.specs.Model.{network_of}
 use Rattle.sw_net.specs.Asked.{IsQuietNet}
 use Rattle.sw_net.specs.Net.{IsNetState, NetView}
-use Rattle.sw_network.specs.Entries.{Declaration}
-use Rattle.sw_network.specs.Valid.{IsValid}
+use Rattle.sw_config.specs.Entries.{Declaration}
+use Rattle.sw_config.specs.Valid.{IsValid}
 
 all_zero : (n k count : ℕ) → slice_get (replicate n 0) k ≡ Some count → count ≡ 0
 all_zero zero k count h = absurd cc

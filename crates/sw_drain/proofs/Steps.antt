@@ -13,7 +13,7 @@ use Rattle.sw_net.specs.Making.{MovesAt}
 use Rattle.sw_net.specs.Net.{IsNet, NetAnswers, NetView}
 use Rattle.sw_net.specs.Possible.{Tells}
 use Rattle.sw_route.specs.declared.look.Look.{Look}
-use Rattle.sw_steps.specs.declared.step.Step.{Step as CodeStep}
+use Rattle.sw_model.specs.declared.step.Step.{Step as CodeStep}
 
 none_is : (x y : ⊥) → x ≡ y
 none_is x y = absurd x

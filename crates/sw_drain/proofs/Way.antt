@@ -14,7 +14,7 @@ use Rattle.sw_machine.specs.Network.{Network}
 use Rattle.sw_machine.specs.Steps.{Accept, Arrive, Begin, Drop, Emit, Fct, FctIn, Forward, Grant, Reply, Spill, Step, is_begin}
 use Rattle.sw_model.specs.Model.{network_of}
 use Rattle.sw_net.specs.Net.{NetAnswers, NetView}
-use Rattle.sw_network.specs.Entries.{Declaration}
+use Rattle.sw_config.specs.Entries.{Declaration}
 
 no_begin_next : (net : Network) (packets : List Begun) (steps : List Step) (step : Step) → is_begin step ≡ false → BeginsNext net packets steps step
 no_begin_next net packets steps (Begin f cargo end) e = absurd (false≢true (sym e))

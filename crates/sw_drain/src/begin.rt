@@ -11,9 +11,9 @@ use sw_arb::Arbiter;
 use sw_cell::NetFault;
 use sw_limit::Senders;
 use sw_load::LoadPacket;
+use sw_model::Step;
 use sw_net::Net;
 use sw_route::Routing;
-use sw_steps::Step;
 
 /// Whether the node, which has begun so many of its packets, can begin its next.
 fn is_ready<R: Routing, A: Arbiter>(

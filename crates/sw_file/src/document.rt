@@ -1,8 +1,8 @@
 //! The network that a text declares.
 ghost use Rattle.std.specs.Prelude.{◌≡◌, ◌≤◌, [], length, vec_len, map, IfOk, OnOk};
 ghost use Rattle.toml.specs.View.{table_view};
-ghost use Rattle.sw_network.specs.Entries.{empty};
-ghost use Rattle.sw_tree.specs.Gives.{Gives, walk};
+ghost use Rattle.sw_config.specs.Entries.{empty};
+ghost use Rattle.sw_toml_table.specs.Gives.{Gives, walk};
 ghost use Rattle.sw_file.specs.Nodes.{next_node};
 ghost use Rattle.sw_file.specs.Switches.{next_switch};
 ghost use Rattle.sw_file.specs.Links.{next_link};
@@ -16,13 +16,15 @@ use crate::nodes::add_node;
 use crate::switches::add_switch;
 use std::alloc::Global;
 use std::marker::Model;
-use sw_network::{MAX_FLOWS, Network, NetworkBuilder};
+use sw_config::{MAX_FLOWS, Network, NetworkBuilder};
+use sw_toml_table::{
+    FileFault, Key, KeyFault, Section, TableEntry, TextFault, Version, read_document,
+};
 use sw_topo::{Limit, MAX_LINKS, MAX_NODES, MAX_SWITCHES, TopoError, TopoFault};
-use sw_tree::{Entry, FileFault, Key, KeyFault, Section, TextFault, Version, read_document};
 use toml::Table;
 
 #[tactic(auto, unfolding(crate::specs::Network::version_of))]
-fn version_of(alloc: Global, document: &Entry) -> Result<Version, FileFault>
+fn version_of(alloc: Global, document: &TableEntry) -> Result<Version, FileFault>
     requires { document.now.section ≡ Section.Document }
     ensures { Gives (λ v. v) result (version_of (table_view document.now.table.now)) }
 {
@@ -38,7 +40,7 @@ fn version_of(alloc: Global, document: &Entry) -> Result<Version, FileFault>
 /// The tables of one of the document's lists, if there are not too many of them.
 fn entries<'a>(
     alloc: Global,
-    document: &Entry<'a>,
+    document: &TableEntry<'a>,
     key: Key,
     most: u16,
     over: TextFault,
@@ -76,7 +78,7 @@ fn walk_nodes(
 fn read_nodes(
     alloc: Global,
     version: Version,
-    document: &Entry,
+    document: &TableEntry,
     builder: &mut NetworkBuilder,
 ) -> Result<(), FileFault>
     requires document { document.now.section ≡ Section.Document }
@@ -110,7 +112,7 @@ fn walk_switches(
 fn read_switches(
     alloc: Global,
     version: Version,
-    document: &Entry,
+    document: &TableEntry,
     builder: &mut NetworkBuilder,
 ) -> Result<(), FileFault>
     requires document { document.now.section ≡ Section.Document }
@@ -140,7 +142,7 @@ fn walk_links(
 fn read_links(
     alloc: Global,
     version: Version,
-    document: &Entry,
+    document: &TableEntry,
     builder: &mut NetworkBuilder,
 ) -> Result<(), FileFault>
     requires { document.now.section ≡ Section.Document }
@@ -155,7 +157,7 @@ fn read_links(
 fn read_parts(
     alloc: Global,
     version: Version,
-    document: &Entry,
+    document: &TableEntry,
     builder: &mut NetworkBuilder,
 ) -> Result<(), FileFault>
     requires document { document.now.section ≡ Section.Document }
@@ -169,7 +171,11 @@ fn read_parts(
 }
 
 /// The nodes, the switches and the links, not yet looked at together.
-fn parts(alloc: Global, version: Version, document: &Entry) -> Result<NetworkBuilder, FileFault>
+fn parts(
+    alloc: Global,
+    version: Version,
+    document: &TableEntry,
+) -> Result<NetworkBuilder, FileFault>
     requires { document.now.section ≡ Section.Document }
     ensures { Gives (λ b. b) result (with_parts version empty (table_view document.now.table.now)) }
 {
@@ -201,7 +207,7 @@ fn walk_flows(alloc: Global, tables: &[&Table], network: &mut Network) -> Result
 }
 
 #[tactic(auto, unfolding(crate::specs::Network::with_flows))]
-fn read_flows(alloc: Global, document: &Entry, network: &mut Network) -> Result<(), FileFault>
+fn read_flows(alloc: Global, document: &TableEntry, network: &mut Network) -> Result<(), FileFault>
     requires document { document.now.section ≡ Section.Document }
     requires none { network.old.flows ≡ [] }
     ensures { Gives (λ _. network.new) result (with_flows network.old (table_view document.now.table.now)) }
@@ -211,7 +217,7 @@ fn read_flows(alloc: Global, document: &Entry, network: &mut Network) -> Result<
     walk_flows(alloc, &tables, network)
 }
 
-fn with_flows(alloc: Global, document: &Entry, network: Network) -> Result<Network, FileFault>
+fn with_flows(alloc: Global, document: &TableEntry, network: Network) -> Result<Network, FileFault>
     requires document { document.now.section ≡ Section.Document }
     requires none { network.flows ≡ [] }
     ensures { Gives (λ n. n) result (with_flows network (table_view document.now.table.now)) }
@@ -222,7 +228,7 @@ fn with_flows(alloc: Global, document: &Entry, network: Network) -> Result<Netwo
 }
 
 #[tactic(auto, unfolding(crate::specs::Network::network_of))]
-fn network_of(alloc: Global, document: &Entry) -> Result<Network, FileFault>
+fn network_of(alloc: Global, document: &TableEntry) -> Result<Network, FileFault>
     requires { document.now.section ≡ Section.Document }
     ensures { Gives (λ n. n) result (network_of (table_view document.now.table.now)) }
 {
@@ -241,7 +247,7 @@ pub fn read_network(alloc: Global, bytes: &[u8]) -> Result<Network, FileFault>
     ensures { Gives (λ n. n) result (network_text bytes.now) }
 {
     let table = read_document(alloc, bytes)?;
-    let document = Entry {
+    let document = TableEntry {
         section: Section::Document,
         table: &table,
     };

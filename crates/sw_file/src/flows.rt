@@ -3,23 +3,23 @@ ghost use Rattle.std.specs.Prelude.{◌≡◌, ◌+◌, ◌≤◌, ◌<◌, fals
 ghost use Rattle.std.specs.List.{list_any};
 ghost use Rattle.std.specs.Str.{bytes_eq};
 ghost use Rattle.toml.specs.View.{table_view};
-ghost use Rattle.sw_network.specs.Entries.{ReplyEntry, flow_names};
-ghost use Rattle.sw_network.specs.Valid.{has_no_leading_zero, IsFlow, IsReply};
-ghost use Rattle.sw_tree.specs.declared.fault.TextFault.{TextFault};
-ghost use Rattle.sw_tree.specs.Gives.{Gives};
+ghost use Rattle.sw_config.specs.Entries.{ReplyEntry, flow_names};
+ghost use Rattle.sw_config.specs.Valid.{has_no_leading_zero, IsFlow, IsReply};
+ghost use Rattle.sw_toml_table.specs.declared.fault.TextFault.{TextFault};
+ghost use Rattle.sw_toml_table.specs.Gives.{Gives};
 ghost use Rattle.sw_file.specs.Names.{new_name, place_at};
 ghost use Rattle.sw_file.specs.FlowTables.{node_names, address_at, addressed, reply_of, reply_or_none, can_reply, replies_at, with_replies, flow_of, next_flow};
 
 use crate::keys::{flow_keys, reply_keys};
 use std::alloc::Global;
 use std::marker::Model;
-use sw_network::{Flow, MAX_FLOWS, Network, Reply};
-use sw_tree::{Entry, FileFault, Key, KeyFault, Section, TextFault};
+use sw_config::{Flow, MAX_FLOWS, Network, Reply};
+use sw_toml_table::{FileFault, Key, KeyFault, Section, TableEntry, TextFault};
 use toml::Table;
 
 /// The name of a flow, which none before it has.
 #[tactic(auto, unfolding(crate::specs::Names::new_name))]
-fn new_flow_name<'a>(entry: &Entry<'a>, network: &Network) -> Result<&'a str, FileFault>
+fn new_flow_name<'a>(entry: &TableEntry<'a>, network: &Network) -> Result<&'a str, FileFault>
     ensures gives { Gives (λ s. s.now) result (new_name entry.now.section (flow_names network.now.flows) (table_view entry.now.table.now)) }
     ensures fresh { IfOk result (λ s. list_any (bytes_eq s.now) (flow_names network.now.flows) ≡ false) }
 {
@@ -31,7 +31,7 @@ fn new_flow_name<'a>(entry: &Entry<'a>, network: &Network) -> Result<&'a str, Fi
 }
 
 #[tactic(auto, unfolding(crate::specs::Names::place_at))]
-fn node_at(flow: &Entry, key: Key, network: &Network) -> Result<u16, FileFault>
+fn node_at(flow: &TableEntry, key: Key, network: &Network) -> Result<u16, FileFault>
     ensures gives { Gives (λ n. n) result (place_at flow.now.section key (node_names network.now.nodes) (table_view flow.now.table.now)) }
     ensures within { IfOk result (λ n. n < length network.now.nodes) }
 {
@@ -43,7 +43,7 @@ fn node_at(flow: &Entry, key: Key, network: &Network) -> Result<u16, FileFault>
 }
 
 #[tactic(auto, unfolding(crate::specs::FlowTables::address_at))]
-fn address_at(alloc: Global, index: usize, flow: &Entry) -> Result<Vec<u8>, FileFault>
+fn address_at(alloc: Global, index: usize, flow: &TableEntry) -> Result<Vec<u8>, FileFault>
     requires { flow.now.section ≡ Section.Flow index }
     ensures gives { Gives (λ v. v.items) result (address_at index (table_view flow.now.table.now)) }
     ensures few { IfOk result (λ v. vec_len v ≤ 32) }
@@ -57,7 +57,7 @@ fn address_at(alloc: Global, index: usize, flow: &Entry) -> Result<Vec<u8>, File
 
 /// The address bytes of the flow, and how many of them are left at its end.
 #[tactic(auto, unfolding(crate::specs::FlowTables::addressed))]
-fn addressed(alloc: Global, index: usize, flow: &Entry) -> Result<(Vec<u8>, u8), FileFault>
+fn addressed(alloc: Global, index: usize, flow: &TableEntry) -> Result<(Vec<u8>, u8), FileFault>
     requires { flow.now.section ≡ Section.Flow index }
     ensures gives { Gives (λ a. (a.0.items, a.1)) result (addressed index (table_view flow.now.table.now)) }
     ensures few { IfOk result (λ a. vec_len a.0 ≤ 32) }
@@ -72,7 +72,7 @@ fn addressed(alloc: Global, index: usize, flow: &Entry) -> Result<(Vec<u8>, u8),
 fn reply_of(alloc: Global, index: usize, table: &Table) -> Result<Reply, FileFault>
     ensures { Gives (λ r. r) result (reply_of index (table_view table.now)) }
 {
-    let reply = Entry {
+    let reply = TableEntry {
         section: Section::Reply(index),
         table,
     };
@@ -83,7 +83,7 @@ fn reply_of(alloc: Global, index: usize, table: &Table) -> Result<Reply, FileFau
 }
 
 #[tactic(auto, unfolding(crate::specs::FlowTables::reply_or_none))]
-fn reply_or_none(alloc: Global, index: usize, flow: &Entry) -> Result<Option<Reply>, FileFault>
+fn reply_or_none(alloc: Global, index: usize, flow: &TableEntry) -> Result<Option<Reply>, FileFault>
     requires { flow.now.section ≡ Section.Flow index }
     ensures { Gives (λ r. r) result (reply_or_none index (table_view flow.now.table.now)) }
 {
@@ -126,7 +126,7 @@ fn can_reply(network: &Network, to: u16, reply: Option<&Reply>) -> bool
 fn replies_at(
     alloc: Global,
     index: usize,
-    flow: &Entry,
+    flow: &TableEntry,
     network: &Network,
     to: u16,
 ) -> Result<Option<Reply>, FileFault>
@@ -162,7 +162,12 @@ fn with_replies(
 }
 
 #[tactic(auto, unfolding(crate::specs::FlowTables::flow_of))]
-fn flow_of(alloc: Global, index: usize, flow: &Entry, network: &Network) -> Result<Flow, FileFault>
+fn flow_of(
+    alloc: Global,
+    index: usize,
+    flow: &TableEntry,
+    network: &Network,
+) -> Result<Flow, FileFault>
     requires { flow.now.section ≡ Section.Flow index }
     ensures gives { Gives (λ f. f) result (flow_of index network.now.nodes (flow_names network.now.flows) (table_view flow.now.table.now)) }
     ensures fresh { IfOk result (λ f. list_any (bytes_eq f.name) (flow_names network.now.flows) ≡ false) }
@@ -189,7 +194,7 @@ pub(crate) fn add_flow(
     ensures gives { Gives (λ _. network.new) result (next_flow index network.old (table_view table.now)) }
     ensures one_more { OnOk result (length network.new.flows ≡ length network.old.flows + 1) }
 {
-    let flow = Entry {
+    let flow = TableEntry {
         section: Section::Flow(index),
         table,
     };

@@ -2,7 +2,7 @@
 ghost use Rattle.std.specs.Prelude.{◌≡◌};
 ghost use Rattle.sw_file.specs.Keys.{document_keys, node_keys, target_keys, switch_keys, route_keys, link_keys, flow_keys, reply_keys};
 
-use sw_tree::{Key, Version};
+use sw_toml_table::{Key, Version};
 
 pub(crate) fn document_keys() -> &'static [Key]
     ensures { result.now ≡ document_keys }

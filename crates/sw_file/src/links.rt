@@ -2,21 +2,21 @@
 ghost use Rattle.std.specs.Prelude.{◌≡◌, ◌+◌, ◌<◌, length, IfOk};
 ghost use Rattle.toml.specs.View.{table_view};
 ghost use Rattle.sw_topo.specs.Checked.{IsIn};
-ghost use Rattle.sw_network.specs.Entries.{part_names};
-ghost use Rattle.sw_tree.specs.Gives.{Gives};
+ghost use Rattle.sw_config.specs.Entries.{part_names};
+ghost use Rattle.sw_toml_table.specs.Gives.{Gives};
 ghost use Rattle.sw_file.specs.Names.{place_at};
 ghost use Rattle.sw_file.specs.Links.{end_at, next_link};
 
 use crate::keys::link_keys;
 use std::alloc::Global;
 use std::marker::Model;
-use sw_network::NetworkBuilder;
+use sw_config::NetworkBuilder;
+use sw_toml_table::{FileFault, Key, KeyFault, Section, TableEntry, Version};
 use sw_topo::{PlaceEnd, Port};
-use sw_tree::{Entry, FileFault, Key, KeyFault, Section, Version};
 use toml::Table;
 
 #[tactic(auto, unfolding(crate::specs::Names::place_at))]
-fn part_at(link: &Entry, key: Key, builder: &NetworkBuilder) -> Result<usize, FileFault>
+fn part_at(link: &TableEntry, key: Key, builder: &NetworkBuilder) -> Result<usize, FileFault>
     ensures gives { Gives (λ n. n) result (place_at link.now.section key (part_names builder.now) (table_view link.now.table.now)) }
     ensures within { IfOk result (λ n. n < length builder.now.nodes + length builder.now.switches) }
 {
@@ -30,7 +30,7 @@ fn part_at(link: &Entry, key: Key, builder: &NetworkBuilder) -> Result<usize, Fi
 #[tactic(auto, unfolding(crate::specs::Links::end_at))]
 fn link_end(
     alloc: Global,
-    link: &Entry,
+    link: &TableEntry,
     key: Key,
     port_key: Key,
     builder: &NetworkBuilder,
@@ -61,7 +61,7 @@ pub(crate) fn add_link(
 ) -> Result<(), FileFault>
     ensures { Gives (λ _. builder.new) result (next_link version index builder.old (table_view table.now)) }
 {
-    let link = Entry {
+    let link = TableEntry {
         section: Section::Link(index),
         table,
     };

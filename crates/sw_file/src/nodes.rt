@@ -4,25 +4,25 @@ ghost use Rattle.std.specs.List.{list_any};
 ghost use Rattle.std.specs.Str.{bytes_eq};
 ghost use Rattle.toml.specs.View.{table_view};
 ghost use Rattle.sw_rmap.specs.Config.{IsTargetConfig};
-ghost use Rattle.sw_network.specs.Entries.{part_names};
-ghost use Rattle.sw_tree.specs.Gives.{Gives};
+ghost use Rattle.sw_config.specs.Entries.{part_names};
+ghost use Rattle.sw_toml_table.specs.Gives.{Gives};
 ghost use Rattle.sw_file.specs.Names.{new_name};
 ghost use Rattle.sw_file.specs.Nodes.{size_at, config_of, target_or_none, next_node};
 
 use crate::keys::{node_keys, target_keys};
 use std::alloc::Global;
 use std::marker::Model;
-use sw_network::NetworkBuilder;
+use sw_config::NetworkBuilder;
 use sw_rmap::TargetConfig;
+use sw_toml_table::{FileFault, Key, KeyFault, Section, TableEntry, Version};
 use sw_topo::MAX_NODES;
-use sw_tree::{Entry, FileFault, Key, KeyFault, Section, Version};
 use toml::Table;
 
 /// One more than the greatest address of a target's memory.
 const MEMORY_END: u64 = 1_099_511_627_776;
 
 #[tactic(auto, unfolding(crate::specs::Nodes::size_at))]
-fn window_size(index: usize, target: &Entry, start: u64) -> Result<u32, FileFault>
+fn window_size(index: usize, target: &TableEntry, start: u64) -> Result<u32, FileFault>
     requires section { target.now.section ≡ Section.Target index }
     requires start { start ≤ 1099511627775 }
     ensures gives { Gives (λ n. n) result (size_at index start (table_view target.now.table.now)) }
@@ -45,7 +45,7 @@ fn target_config(
     ensures gives { Gives (λ t. t) result (config_of version index (table_view table.now)) }
     ensures valid { IfOk result IsTargetConfig }
 {
-    let target = Entry {
+    let target = TableEntry {
         section: Section::Target(index),
         table,
     };
@@ -69,7 +69,7 @@ fn target_or_none(
     alloc: Global,
     version: Version,
     index: usize,
-    node: &Entry,
+    node: &TableEntry,
 ) -> Result<Option<TargetConfig>, FileFault>
     requires { node.now.section ≡ Section.Node index }
     ensures gives { Gives (λ t. t) result (target_or_none version index (table_view node.now.table.now)) }
@@ -87,7 +87,7 @@ fn target_or_none(
 /// The name of a node or switch, which none before it has.
 #[tactic(auto, unfolding(crate::specs::Names::new_name))]
 pub(crate) fn new_part_name<'a>(
-    entry: &Entry<'a>,
+    entry: &TableEntry<'a>,
     builder: &NetworkBuilder,
 ) -> Result<&'a str, FileFault>
     ensures gives { Gives (λ s. s.now) result (new_name entry.now.section (part_names builder.now) (table_view entry.now.table.now)) }
@@ -115,7 +115,7 @@ pub(crate) fn add_node(
     ensures one_more { OnOk result (length builder.new.nodes ≡ length builder.old.nodes + 1) }
     ensures switches { OnOk result (builder.new.switches ≡ builder.old.switches) }
 {
-    let node = Entry {
+    let node = TableEntry {
         section: Section::Node(index),
         table,
     };

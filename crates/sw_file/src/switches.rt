@@ -3,7 +3,7 @@ ghost use Rattle.std.specs.Prelude.{◌≡◌, ◌+◌, ◌<◌, ◌≤◌, [], 
 ghost use Rattle.toml.specs.View.{table_view};
 ghost use Rattle.sw_topo.specs.Ports.{port_set};
 ghost use Rattle.sw_route.specs.Looks.{IsRoute};
-ghost use Rattle.sw_tree.specs.Gives.{Gives, walk};
+ghost use Rattle.sw_toml_table.specs.Gives.{Gives, walk};
 ghost use Rattle.sw_file.specs.Switches.{arbitration_named, arbitration_at, ports_at, route_of, next_route, routes_at, next_switch};
 
 use crate::keys::{route_keys, switch_keys};
@@ -11,10 +11,10 @@ use crate::nodes::new_part_name;
 use std::alloc::Global;
 use std::marker::Model;
 use sw_arb::Arbitration;
-use sw_network::NetworkBuilder;
+use sw_config::NetworkBuilder;
 use sw_route::{Route, RouteError, TableRoutes};
+use sw_toml_table::{FileFault, Key, KeyFault, Section, TableEntry, TextFault, Version};
 use sw_topo::{MAX_SWITCHES, Port, PortSet};
-use sw_tree::{Entry, FileFault, Key, KeyFault, Section, TextFault, Version};
 use toml::Table;
 
 fn arbitration_named(name: &str) -> Option<Arbitration>
@@ -32,7 +32,7 @@ fn arbitration_named(name: &str) -> Option<Arbitration>
 }
 
 #[tactic(auto, unfolding(crate::specs::Switches::arbitration_at))]
-fn arbitration_at(index: usize, switch: &Entry) -> Result<Arbitration, FileFault>
+fn arbitration_at(index: usize, switch: &TableEntry) -> Result<Arbitration, FileFault>
     requires { switch.now.section ≡ Section.Switch index }
     ensures { Gives (λ a. a) result (arbitration_at index (table_view switch.now.table.now)) }
 {
@@ -58,7 +58,7 @@ fn port_set(numbers: &[u8]) -> PortSet
 }
 
 #[tactic(auto, unfolding(crate::specs::Switches::ports_at))]
-fn ports_at(alloc: Global, route: &Entry) -> Result<PortSet, FileFault>
+fn ports_at(alloc: Global, route: &TableEntry) -> Result<PortSet, FileFault>
     ensures { Gives (λ s. s) result (ports_at route.now.section (table_view route.now.table.now)) }
 {
     let numbers = route.numbers(alloc, Key::Ports, 31)?;
@@ -69,7 +69,7 @@ fn ports_at(alloc: Global, route: &Entry) -> Result<PortSet, FileFault>
 }
 
 #[tactic(auto, unfolding(crate::specs::Switches::route_of))]
-fn route_of(alloc: Global, version: Version, route: &Entry) -> Result<Route, FileFault>
+fn route_of(alloc: Global, version: Version, route: &TableEntry) -> Result<Route, FileFault>
     ensures gives { Gives (λ r. r) result (route_of version route.now.section (table_view route.now.table.now)) }
     ensures valid { IfOk result IsRoute }
 {
@@ -97,7 +97,7 @@ fn add_route(
 ) -> Result<(), FileFault>
     ensures { Gives (λ _. routes.new) result (next_route version switch index routes.old (table_view table.now)) }
 {
-    let entry = Entry {
+    let entry = TableEntry {
         section: Section::Route(switch, index),
         table,
     };
@@ -131,7 +131,7 @@ fn routes_at(
     alloc: Global,
     version: Version,
     index: usize,
-    switch: &Entry,
+    switch: &TableEntry,
 ) -> Result<TableRoutes, FileFault>
     requires { switch.now.section ≡ Section.Switch index }
     ensures { Gives (λ t. t) result (routes_at version index (table_view switch.now.table.now)) }
@@ -153,7 +153,7 @@ pub(crate) fn add_switch(
     ensures gives { Gives (λ _. builder.new) result (next_switch version index builder.old (table_view table.now)) }
     ensures one_more { OnOk result (length builder.new.switches ≡ length builder.old.switches + 1) }
 {
-    let switch = Entry {
+    let switch = TableEntry {
         section: Section::Switch(index),
         table,
     };

@@ -8,9 +8,9 @@ use Rattle.sw_topo.specs.declared.place.PlaceEnd.{PlaceEnd}
 use Rattle.sw_topo.specs.declared.place.PlaceEnd.TheVariants.{Node, Switch}
 use Rattle.sw_topo.specs.Wiring.{Wiring, out, is_node, is_port}
 use Rattle.sw_route.specs.declared.look.Look.{Look}
-use Rattle.sw_network.specs.Entries.{FlowEntry, Declaration, wiring_of}
-use Rattle.sw_reach.specs.Reached.{Reached}
-use Rattle.sw_reach.specs.Reached.Reached.{begin, step}
+use Rattle.sw_config.specs.Entries.{FlowEntry, Declaration, wiring_of}
+use Rattle.sw_graph.specs.Reached.{Reached}
+use Rattle.sw_graph.specs.Reached.Reached.{begin, step}
 use Rattle.sw_flow.specs.Places.{ends_of, end_of, look_after, deleted_behind, Follows, IsPlace}
 use Rattle.sw_flow.specs.Places.IsPlace.{start, next}
 use Rattle.sw_flow.specs.Numbers.{width, number_bound, outputs, next_at_switch, next_at_end, next_numbers}

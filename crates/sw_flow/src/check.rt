@@ -1,12 +1,12 @@
 //! What is wrong with places.
 ghost use Rattle.std.specs.Prelude.{◌≡◌, ◌<◌, length, slice_get, IfSome, Option};
-ghost use Rattle.sw_network.specs.Entries.{all_flows};
+ghost use Rattle.sw_config.specs.Entries.{all_flows};
 ghost use Rattle.sw_flow.specs.Faults.{has_output, fault_of, fault_at_switch, fault_at_node, first_fault_of};
 
 use crate::fault::RouteFault;
 use crate::place::Place;
 use crate::walk::next_output;
-use sw_network::{Flow, Network};
+use sw_config::{Flow, Network};
 use sw_route::Look;
 use sw_topo::{PlaceEnd, Topology};
 

@@ -5,7 +5,7 @@ ghost use Rattle.sw_route.specs.Looks.{NamesOutput};
 ghost use Rattle.sw_flow.specs.Places.{deleted_behind, ends_of, look_after, Follows};
 
 use crate::place::Place;
-use sw_network::{Flow, Network};
+use sw_config::{Flow, Network};
 use sw_route::Look;
 use sw_route::laws::outputs_are_the_named_channels;
 use sw_topo::{Chan, PlaceEnd, Topology};

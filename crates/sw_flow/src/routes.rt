@@ -1,13 +1,13 @@
 //! The places of flows.
 ghost use Rattle.std.specs.Prelude.{◌≡◌, ◌<◌, ◌≤◌, ◌*◌, ◌/◌, ◌%◌, ℕ, All, map, length, IfOk};
-ghost use Rattle.sw_network.specs.Entries.{all_flows};
+ghost use Rattle.sw_config.specs.Entries.{all_flows};
 ghost use Rattle.sw_flow.specs.Places.{IsPlacesOf};
 
 use crate::place::Place;
 use crate::steps::{FlowSteps, place_of};
 use std::alloc::{AllocError, Global};
-use sw_network::Network;
-use sw_reach::reached;
+use sw_config::Network;
+use sw_graph::reached;
 
 /// The places of these numbers, where each channel has `width` places.
 pub(crate) fn places_of(

@@ -1,7 +1,7 @@
 //! The places of all flows, from many threads.
 ghost use Rattle.std.specs.Prelude.{◌<◌, length, IfOk};
 ghost use Rattle.std.specs.List.{AllZip};
-ghost use Rattle.sw_network.specs.Entries.{all_flows};
+ghost use Rattle.sw_config.specs.Entries.{all_flows};
 ghost use Rattle.sw_flow.specs.Places.{IsPlaceList, IsPlacesOf};
 
 use crate::place::Place;
@@ -9,7 +9,7 @@ use crate::routes::places;
 use rayon::prelude::*;
 use std::alloc::{AllocError, Global};
 use std::thread::Threads;
-use sw_network::Network;
+use sw_config::Network;
 
 /// The fewest flows that a thread is started for: a flow has up to 67,584 places, and a thread takes as long to start as some hundred
 /// places to find.

@@ -5,7 +5,7 @@ ghost use Rattle.sw_flow.specs.Followers.{outputs_of, followers_at_switch, follo
 
 use crate::place::Place;
 use std::marker::Model;
-use sw_network::{Flow, Network};
+use sw_config::{Flow, Network};
 use sw_topo::{Chan, PlaceEnd, PortSet, Ports, Topology};
 
 /// The places that follow a place (ECSS-E-ST-50-12C, network layer: packet addressing) and are still to come, in the order of the

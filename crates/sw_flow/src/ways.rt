@@ -1,15 +1,15 @@
 //! Ways of flows to their places.
 ghost use Rattle.std.specs.Prelude.{◌<◌, length, option_map, slice_get, IfOk, IfSome, Option};
-ghost use Rattle.sw_network.specs.Entries.{all_flows};
-ghost use Rattle.sw_network.specs.Valid.{IsFlow};
+ghost use Rattle.sw_config.specs.Entries.{all_flows};
+ghost use Rattle.sw_config.specs.Valid.{IsFlow};
 ghost use Rattle.sw_flow.specs.Ways.{IsWayIfPlace};
 
 use crate::place::Place;
 use crate::routes::places_of;
 use crate::steps::FlowSteps;
 use std::alloc::{AllocError, Global};
-use sw_network::{Flow, Network};
-use sw_reach::way;
+use sw_config::{Flow, Network};
+use sw_graph::way;
 
 fn way_in(
     alloc: Global,

@@ -17,7 +17,7 @@ use Rattle.sw_machine.specs.Steps.{Accept, Arrive, Begin, Drop, Emit, Fct, FctIn
 use Rattle.sw_model.specs.Model.{network_of}
 use Rattle.sw_net.specs.Net.{NetAnswers, NetView}
 use Rattle.sw_net.proofs.Steps.{get_set_other, get_set_same}
-use Rattle.sw_network.specs.Entries.{Declaration}
+use Rattle.sw_config.specs.Entries.{Declaration}
 
 module _ (d : Declaration) (steps : List Step) (begun : List ℕ) (counted : IsCounted d steps begun) where
   abbrev net : Network

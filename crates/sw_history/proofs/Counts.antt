@@ -13,7 +13,7 @@ use Rattle.sw_load.specs.Load.{LoadEntry, packet_count}
 use Rattle.sw_machine.specs.Begun.{Begun, beginnings}
 use Rattle.sw_machine.specs.Steps.{Accept, Arrive, Begin, Drop, Emit, Fct, FctIn, Forward, Grant, Reply, Spill, Step}
 use Rattle.sw_model.specs.Model.{network_of}
-use Rattle.sw_network.specs.Entries.{Declaration}
+use Rattle.sw_config.specs.Entries.{Declaration}
 
 module _ (d : Declaration) (load : List LoadEntry) (steps : List Step) (begun : List ℕ) (counted : IsCounted d steps begun) where
   -- a node with a packet to begin has begun fewer than the load has

@@ -5,15 +5,15 @@ use Rattle.std.proofs.lemmas.Bool.{cases_eq, false≢true}
 use Rattle.std.proofs.lemmas.List.Elements.{All-append, All-filter, All-nil, All-replicate}
 use Rattle.std.proofs.lemmas.List.Concat.{flat_map-cons}
 use Rattle.std.proofs.lemmas.Option.{get_or_from_slice_get, slice_get_within}
-use Rattle.sw_cells.specs.Makes.{IsDeclaredAt}
-use Rattle.sw_cells.specs.Possible.{CanStepAt}
+use Rattle.sw_cell.specs.Makes.{IsDeclaredAt}
+use Rattle.sw_cell.specs.Possible.{CanStepAt}
 use Rattle.sw_history.proofs.Follows.{follows_where_possible}
 use Rattle.sw_history.specs.History.{HistoryView, IsKept, IsNext, IsNextAt}
 use Rattle.sw_history.specs.Next.{BeginsOne, begin_of, IsIdle}
 use Rattle.sw_limit.specs.History.{BeginsNext, next_packet, packet_of, packets_at, packets_of}
 use Rattle.sw_limit.specs.Limit.{AreDeclared}
 use Rattle.sw_load.specs.Load.{LoadEntry}
-use Rattle.sw_load.specs.Packets.{IsDeclaredPacket}
+use Rattle.sw_model.specs.Packets.{IsDeclaredPacket}
 use Rattle.sw_machine.proofs.Parts.{link_ends}
 use Rattle.sw_machine.specs.Begun.{Begun, beginnings}
 use Rattle.sw_machine.specs.Network.{AtNode, AtSwitch, Network}
@@ -25,8 +25,8 @@ use Rattle.sw_net.specs.Asked.{CanStep}
 use Rattle.sw_net.specs.Making.{IsMoveOf}
 use Rattle.sw_net.specs.Net.{NetView}
 use Rattle.sw_net.specs.Possible.{Tells, TellsBeginning}
-use Rattle.sw_network.specs.Entries.{Declaration}
-use Rattle.sw_network.specs.Valid.{IsValid}
+use Rattle.sw_config.specs.Entries.{Declaration}
+use Rattle.sw_config.specs.Valid.{IsValid}
 
 -- ---- the packets of a load
 

@@ -13,7 +13,7 @@ use Rattle.sw_machine.specs.Steps.{Begin}
 use Rattle.sw_model.specs.Model.{network_of}
 use Rattle.sw_net.specs.Net.{IsNetState, NetView}
 use Rattle.sw_limit.proofs.Sends.{flow_from}
-use Rattle.sw_network.specs.Entries.{Declaration, FlowEntry, all_flows}
+use Rattle.sw_config.specs.Entries.{Declaration, FlowEntry, all_flows}
 
 all_zero : (n k count : ℕ) → slice_get (replicate n 0) k ≡ Some count → count ≡ 0
 all_zero zero k count h = absurd cc

@@ -9,7 +9,7 @@ use Rattle.sw_limit.specs.History.{BeginsNext, packets_of}
 use Rattle.sw_machine.specs.Steps.{IsPossible, Step}
 use Rattle.sw_model.specs.Model.{network_of}
 use Rattle.sw_net.specs.Net.{NetView}
-use Rattle.sw_network.specs.Entries.{Declaration}
+use Rattle.sw_config.specs.Entries.{Declaration}
 
 pub refused : {R A : Type 0} (net after : NetView R A) (h k : HistoryView) (begun : List ℕ) (step : Step) (fault : StepFault) → IsKept net h begun → BeginsNext (network_of h.declared) (packets_of h.load) h.steps step
     → Makes net step (Err fault) after → k ≡ h → Adds h step (Err fault) k

@@ -3,20 +3,20 @@ use Rattle.std.proofs.Common.{◌≡◌, ◌++◌, ◌<◌, ◌≤◌, ◌∷◌
 use Rattle.std.specs.Prelude.{is_some, slice_get}
 use Rattle.std.proofs.lemmas.Bool.{cases_lt}
 use Rattle.std.proofs.lemmas.Option.{slice_get_past}
-use Rattle.sw_cells.proofs.Network.{nodes_are}
+use Rattle.sw_cell.proofs.Network.{nodes_are}
 use Rattle.sw_limit.proofs.Grown.{slice_get-behind}
 use Rattle.sw_limit.proofs.Sends.{entry_first, other_copies}
 use Rattle.sw_limit.specs.History.{IsHistory, IsWhole, next_packet, packet_of, packets_at, packets_of}
 use Rattle.sw_limit.specs.Limit.{AreDeclared}
-use Rattle.sw_load.proofs.Declares.{declared_are_declared}
+use Rattle.sw_model.proofs.Declares.{declared_are_declared}
 use Rattle.sw_load.specs.Load.{LoadEntry}
 use Rattle.sw_machine.specs.Begun.{Begun, beginnings}
 use Rattle.sw_machine.specs.State.{State}
 use Rattle.sw_machine.specs.Steps.{Step}
 use Rattle.sw_model.proofs.Networks.{are_networks}
 use Rattle.sw_model.specs.Model.{network_of}
-use Rattle.sw_network.specs.Entries.{Declaration}
-use Rattle.sw_network.specs.Valid.{IsValid}
+use Rattle.sw_config.specs.Entries.{Declaration}
+use Rattle.sw_config.specs.Valid.{IsValid}
 
 none_of : {A : Type 0} (o : Option A) → is_some o ≡ false → o ≡ None
 none_of None h = refl

@@ -12,8 +12,8 @@ use Rattle.sw_machine.specs.State.{State}
 use Rattle.sw_machine.specs.Steps.{Step}
 use Rattle.sw_model.specs.Model.{network_of}
 use Rattle.sw_net.specs.Net.{IsNetState, NetView}
-use Rattle.sw_network.specs.Entries.{Declaration}
-use Rattle.sw_network.specs.Valid.{IsValid}
+use Rattle.sw_config.specs.Entries.{Declaration}
+use Rattle.sw_config.specs.Valid.{IsValid}
 
 -- what the network declares, the load that it is to send, the steps that were made, and for how many more there is room
 pub record HistoryView : Type 0 where

@@ -4,15 +4,15 @@ ghost use Rattle.sw_limit.specs.History.{IsWhole, next_packet, packets_of};
 ghost use Rattle.sw_machine.specs.State.{State};
 ghost use Rattle.sw_model.specs.Model.{network_of};
 ghost use Rattle.sw_net.specs.Net.{IsNetState};
-ghost use Rattle.sw_steps.specs.Steps.{machine_step};
+ghost use Rattle.sw_model.specs.Steps.{machine_step};
 
 use crate::history::History;
 use sw_arb::Arbiter;
+use sw_config::Network;
 use sw_load::Load;
+use sw_model::Step;
 use sw_net::Net;
-use sw_network::Network;
 use sw_route::Routing;
-use sw_steps::Step;
 use sw_topo::{LinkEnd, PlaceEnd};
 
 impl<'n, R: Routing, A: Arbiter> History<'n, R, A> {
@@ -104,7 +104,7 @@ impl<'n, R: Routing, A: Arbiter> History<'n, R, A> {
 
 impl<'n, R: Routing + Drop, A: Arbiter + Drop> History<'n, R, A> {
     ghost use Rattle.std.specs.Prelude.{◌≡◌, map};
-    ghost use Rattle.sw_steps.specs.Steps.{machine_step};
+    ghost use Rattle.sw_model.specs.Steps.{machine_step};
 
     /// The steps, and nothing else.
     pub fn into_steps(self) -> Vec<Step>

@@ -3,14 +3,14 @@ ghost use Rattle.std.specs.Prelude.{◌≡◌, ◌<◌, ◌*◌, IfNone, IfOk, I
 ghost use Rattle.sw_history.specs.Next.{begin_of};
 ghost use Rattle.sw_limit.specs.History.{packet_of, packets_of};
 ghost use Rattle.sw_model.specs.Model.{network_of};
-ghost use Rattle.sw_steps.specs.Steps.{machine_step};
+ghost use Rattle.sw_model.specs.Steps.{machine_step};
 
 use crate::history::History;
 use std::alloc::{AllocError, Global};
 use sw_arb::Arbiter;
 use sw_load::LoadPacket;
+use sw_model::Step;
 use sw_route::Routing;
-use sw_steps::Step;
 use sw_topo::{LinkEnd, PlaceEnd};
 
 /// The step that begins the packet.

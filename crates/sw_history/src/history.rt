@@ -9,9 +9,9 @@ use sw_arb::Arbiter;
 use sw_char::End;
 use sw_limit::Senders;
 use sw_load::{Load, LoadPacket};
+use sw_model::Step;
 use sw_net::Net;
 use sw_route::Routing;
-use sw_steps::Step;
 
 /// The steps that a network has made from its empty state, which begin packets of a load, each node
 /// its own in their order.
@@ -24,10 +24,9 @@ pub struct History<'n, R: Routing, A: Arbiter> {
 }
 
 impl<'n, R: Routing, A: Arbiter> Model for History<'n, R, A> {
-    ghost use Rattle.std.specs.Prelude.{map, ◌-◌, ◌≡◌, ◌*◌};
-    ghost use Rattle.std.specs.Prelude.{vec_capacity, vec_len};
+    ghost use Rattle.std.specs.Prelude.{map, ◌-◌, ◌≡◌, ◌*◌, vec_capacity, vec_len};
     ghost use Rattle.sw_history.specs.History.{HistoryView, IsKept};
-    ghost use Rattle.sw_steps.specs.Steps.{machine_step};
+    ghost use Rattle.sw_model.specs.Steps.{machine_step};
 
     ghost Value = { HistoryView };
 
@@ -43,7 +42,7 @@ impl<'n, R: Routing, A: Arbiter> History<'n, R, A> {
     ghost use Rattle.sw_history.specs.Next.{beginner_of};
     ghost use Rattle.sw_history.specs.declared.fault.StepFault.TheVariants.{NotEnabled};
     ghost use Rattle.sw_machine.specs.Steps.{Begin};
-    ghost use Rattle.sw_steps.specs.Steps.{machine_step};
+    ghost use Rattle.sw_model.specs.Steps.{machine_step};
     ghost use Rattle.sw_limit.specs.History.{BeginsNext, next_packet, packet_of, packets_of};
     ghost use Rattle.sw_model.specs.Model.{network_of};
 

@@ -1,16 +1,16 @@
 //! A step of the network, for its history.
 ghost use Rattle.std.specs.Prelude.{◌≡◌, OnErr};
 ghost use Rattle.sw_history.specs.Makes.{Makes};
-ghost use Rattle.sw_steps.specs.Steps.{machine_step};
+ghost use Rattle.sw_model.specs.Steps.{machine_step};
 
 use crate::fault::StepFault;
 use std::alloc::Global;
 use std::marker::Model;
 use sw_arb::Arbiter;
 use sw_cell::NetFault;
+use sw_model::Step;
 use sw_net::Net;
 use sw_route::Routing;
-use sw_steps::Step;
 
 /// Makes the step, if the network can.
 pub(crate) fn make<R: Routing, A: Arbiter>(

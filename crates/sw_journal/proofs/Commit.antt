@@ -16,7 +16,7 @@ use Rattle.sw_journal.specs.Adding.{AddsAt, IsAtCell, IsWithSteps}
 use Rattle.sw_journal.proofs.Told.{at_its_cell, known_after, known_at, placed}
 use Rattle.sw_journal.specs.Cells.{all_known, cells_of, ends_at, numbered}
 use Rattle.sw_journal.specs.Marks.{IsTrueMark}
-use Rattle.sw_journal.specs.Record.{Account, CellView, Commits, IsAccount, IsKept, IsNowCell, LeadsTo, with_step}
+use Rattle.sw_journal.specs.Record.{JournalView, CellView, Commits, IsAccount, IsKept, IsNowCell, LeadsTo, with_step}
 use Rattle.sw_journal.specs.Renewal.{AreRenewedAfter, renewed}
 use Rattle.sw_journal.specs.declared.fault.JournalFault.{JournalFault}
 use Rattle.sw_journal.specs.declared.fault.JournalFault.TheVariants as journal
@@ -28,23 +28,23 @@ use Rattle.sw_machine.specs.Parts.{cell_of}
 use Rattle.sw_machine.specs.State.{State, empty}
 use Rattle.sw_machine.specs.Steps.{Accept, Arrive, Begin, Drop, Emit, Fct, FctIn, Forward, Grant, IsPossible, Leads, Reply, Spill, Step}
 use Rattle.sw_model.specs.Model.{network_of}
-use Rattle.sw_network.specs.Entries.{Declaration}
+use Rattle.sw_config.specs.Entries.{Declaration}
 use Rattle.sw_net.specs.Numbers.{numbers_at}
 use Rattle.sw_net.specs.declared.numbers.Numbers.{Numbers}
-use Rattle.sw_seats.specs.Views.{holder, kept_of, knower, shown, with_known}
-use Rattle.sw_seats.specs.declared.rule.Change.{Change}
-use Rattle.sw_seats.specs.declared.rule.Known.{Known}
-use Rattle.sw_seats.specs.declared.rule.View.{View}
+use Rattle.sw_journal.specs.Views.{holder, kept_of, knower, shown, with_known}
+use Rattle.sw_journal.specs.declared.cell_table.Change.{Change}
+use Rattle.sw_journal.specs.declared.cell_table.Known.{Known}
+use Rattle.sw_journal.specs.declared.cell_table.View.{View}
 
 abbrev pub known : CellId → List (ℕ × Numbers) → Known
 known id ends = record { id = id; ends = ends }
 
 -- a cell that met the journal is the network's at its place, with its numbers in the state after the history
-pub record IsMet (j : Account) (s : State) (number : ℕ) (id : CellId) (ends : List (ℕ × Numbers)) : Type 0 where
+pub record IsMet (j : JournalView) (s : State) (number : ℕ) (id : CellId) (ends : List (ℕ × Numbers)) : Type 0 where
   pub at : slice_get (cells_of j.declared) number ≡ Some id
   pub ends_are : ends ≡ numbered (network_of j.declared) s id
 
-pub met : (j : Account) (me theirs : Me Change View) (number : ℕ) (id : CellId) (ends : List (ℕ × Numbers)) → (k : IsKept j me) → theirs ≡ (holder number (known id ends), [])
+pub met : (j : JournalView) (me theirs : Me Change View) (number : ℕ) (id : CellId) (ends : List (ℕ × Numbers)) → (k : IsKept j me) → theirs ≡ (holder number (known id ends), [])
     → (theirs.0.claims ≡ true → slice_get me.0.all theirs.0.cell ≡ Some theirs.0.known) → IsMet j k.account.state number id ends
 met j me theirs number id ends k is same =
     let s = k.account.state in
@@ -61,7 +61,7 @@ met j me theirs number id ends k is same =
       ends_are = ap (λ (x : Known). x.ends) own.2 ∙ ap (numbered (network_of j.declared) s) (sym which);
     }
 
-pub now_cell : (j : Account) (s : State) (number : ℕ) (cell : CellView) → LeadsTo j s → IsMet j s number cell.id cell.ends → IsNowCell j cell
+pub now_cell : (j : JournalView) (s : State) (number : ℕ) (cell : CellView) → LeadsTo j s → IsMet j s number cell.id cell.ends → IsNowCell j cell
 now_cell j s number cell leads is = record {
   inside = (placed j.declared number cell.id is.at).0;
   ends = λ t to. is.ends_are ∙ ap (λ (u : State). numbered (network_of j.declared) u cell.id) (sym (one_state_after (network_of j.declared) (packets_of j.load) j.history s t leads to));
@@ -84,12 +84,12 @@ ends_within net s id n ends ok count is = subst (λ (l : List (ℕ × Numbers)).
 -- ---- the journal's seat
 
 -- after a refusal
-pub kept_same : (j k : Account) (before met parted theirs : Me Change View) → k ≡ j → IsKept j before → met ≡ (shown before.0 theirs.0, before.1) → parted ≡ (kept_of met.0, met.1) → IsKept k parted
+pub kept_same : (j k : JournalView) (before met parted theirs : Me Change View) → k ≡ j → IsKept j before → met ≡ (shown before.0 theirs.0, before.1) → parted ≡ (kept_of met.0, met.1) → IsKept k parted
 kept_same j k before met parted theirs same is meets parts =
     let split : Me Change View → Me Change View = λ m. (kept_of m.0, m.1) in
     let seat : parted ≡ (knower (all_known j.declared is.account.state), []) =
     parts ∙ ap split meets ∙ (λ i. (kept_of (is.seat i).0, (is.seat i).1)) in
-    subst (λ (a : Account). IsKept a parted) (sym same) (record { account = is.account; channels = is.channels; seat = seat })
+    subst (λ (a : JournalView). IsKept a parted) (sym same) (record { account = is.account; channels = is.channels; seat = seat })
 
 mark_more : (net : Network) (packets : List Begun) (steps : List Step) (step : Step) (e k : ℕ) → IsTrueMark net packets steps e k → IsTrueMark net packets (steps ++ step ∷ []) e k
 mark_more net packets steps step e k m = record {
@@ -101,7 +101,7 @@ map_renewed : (net : Network) (s t : State) (es : List ℕ) → map (renewed net
 map_renewed net s t [] = refl
 map_renewed net s t (e ∷ es) = ap (λ l. (e, numbers_at net t e) ∷ l) (map_renewed net s t es)
 
-module _ (j : Account) (before : Me Change View) (is : IsKept j before) (number : ℕ) (id : CellId) (ends : List (ℕ × Numbers)) (cell_is : IsMet j is.account.state number id ends)
+module _ (j : JournalView) (before : Me Change View) (is : IsKept j before) (number : ℕ) (id : CellId) (ends : List (ℕ × Numbers)) (cell_is : IsMet j is.account.state number id ends)
     (step : Step) (here : cell_of (network_of j.declared) step ≡ machine_cell id) (next : MayFollow (network_of j.declared) (packets_of j.load) j.history step) where
   abbrev net : Network
   net = network_of j.declared
@@ -135,7 +135,7 @@ module _ (j : Account) (before : Me Change View) (is : IsKept j before) (number 
   }
 
   -- what the journal keeps after the step
-  pub kept_after : (k : Account) (theirs shown_seat renewed_seat parted : Me Change View) (more : List (ℕ × Numbers)) → k ≡ with_step j step → length j.history < j.limit
+  pub kept_after : (k : JournalView) (theirs shown_seat renewed_seat parted : Me Change View) (more : List (ℕ × Numbers)) → k ≡ with_step j step → length j.history < j.limit
       → more ≡ map (renewed net t) ends → theirs ≡ (holder number (known id ends), []) → shown_seat ≡ (shown before.0 theirs.0, before.1)
       → renewed_seat ≡ (with_known shown_seat.0 (known shown_seat.0.known.id more), shown_seat.1) → parted ≡ (kept_of renewed_seat.0, renewed_seat.1) → IsKept k parted
   unfolding account_after
@@ -147,16 +147,16 @@ module _ (j : Account) (before : Me Change View) (is : IsKept j before) (number 
       let seat : parted ≡ (knower (all_known j.declared t), []) =
       parts ∙ ap split (renews ∙ ap change met_is)
       ∙ ap (λ (l : List Known). let m : Me Change View = (knower l, []) in m) (known_then more renew) in
-      subst (λ (a : Account). IsKept a parted) (sym same) (record { account = account_after room; channels = is.channels; seat = seat })
+      subst (λ (a : JournalView). IsKept a parted) (sym same) (record { account = account_after room; channels = is.channels; seat = seat })
 
   -- and the cell
-  pub same_cell_after : (k : Account) (cell : CellView) (more : List (ℕ × Numbers)) → k ≡ with_step j step → cell.id ≡ id → cell.ends ≡ more → more ≡ map (renewed net t) ends → IsNowCell k cell
+  pub same_cell_after : (k : JournalView) (cell : CellView) (more : List (ℕ × Numbers)) → k ≡ with_step j step → cell.id ≡ id → cell.ends ≡ more → more ≡ map (renewed net t) ends → IsNowCell k cell
   same_cell_after k cell more same which ends_are renew =
       let here : IsMet (with_step j step) t number cell.id cell.ends = record {
         at = cell_is.at ∙ ap (λ (i : CellId). Some i) (sym which);
         ends_are = ends_are ∙ after_step more renew ∙ ap (numbered net t) (sym which);
       } in
-      subst (λ (a : Account). IsNowCell a cell) (sym same) (now_cell (with_step j step) t number cell next.1 here)
+      subst (λ (a : JournalView). IsNowCell a cell) (sym same) (now_cell (with_step j step) t number cell next.1 here)
 
 -- ---- refusals
 
@@ -190,7 +190,7 @@ possible_of n packets steps step next =
 
 -- ---- the answers of a history
 
-abbrev pub account : TableId → HistoryView → ℕ → List (Option ℕ) → Account
+abbrev pub account : TableId → HistoryView → ℕ → List (Option ℕ) → JournalView
 account name h limit marks = record { name = name; declared = h.declared; load = h.load; limit = limit; history = h.steps; marks = marks }
 
 pub refused_same : (h k : HistoryView) (at : CellId) (limit : ℕ) (step : Step) (fault : JournalFault) → AddsAt h at limit step (Err fault) k → IsWithSteps h h.steps k
@@ -209,8 +209,8 @@ renewed_then h k steps t ends more w leads renew =
     let then : IsHistory (network_of k.declared) (packets_of k.load) k.steps t = subst (λ (v : Declaration × (List LoadEntry × List Step)). IsHistory (network_of v.0) (packets_of v.1.0) v.1.1 t) (λ i. (sym w.declared i, (sym w.load i, sym w.steps i))) leads in
     renew t then ∙ ap (λ (d : Declaration). map (renewed (network_of d) t) ends) w.declared
 
-pub now_same : (j k : Account) (cell after : CellView) → j ≡ k → cell ≡ after → IsNowCell j cell → IsNowCell k after
-now_same j k cell after same also is = subst (λ (v : Account × CellView). IsNowCell v.0 v.1) (λ i. (same i, also i)) is
+pub now_same : (j k : JournalView) (cell after : CellView) → j ≡ k → cell ≡ after → IsNowCell j cell → IsNowCell k after
+now_same j k cell after same also is = subst (λ (v : JournalView × CellView). IsNowCell v.0 v.1) (λ i. (same i, also i)) is
 
-pub commits_same : (j k then : Account) (cell after now : CellView) (step : Step) → j ≡ k → cell ≡ after → Commits j cell step (Ok tt) then now → Commits k after step (Ok tt) then now
-commits_same j k then cell after now step same also is = subst (λ (v : Account × CellView). Commits v.0 v.1 step (Ok tt) then now) (λ i. (same i, also i)) is
+pub commits_same : (j k then : JournalView) (cell after now : CellView) (step : Step) → j ≡ k → cell ≡ after → Commits j cell step (Ok tt) then now → Commits k after step (Ok tt) then now
+commits_same j k then cell after now step same also is = subst (λ (v : JournalView × CellView). Commits v.0 v.1 step (Ok tt) then now) (λ i. (same i, also i)) is

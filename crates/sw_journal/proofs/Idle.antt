@@ -9,15 +9,15 @@ use Rattle.sw_history.specs.Next.{IsIdle, MayFollow}
 use Rattle.sw_journal.proofs.Commit.{possible_of}
 use Rattle.sw_journal.specs.Asked.{IsStill, IsStuck, IsUndelivered}
 use Rattle.sw_journal.specs.Marks.{IsTrueMark}
-use Rattle.sw_journal.specs.Record.{Account, IsAccount, IsKept, with_marks}
+use Rattle.sw_journal.specs.Record.{JournalView, IsAccount, IsKept, with_marks}
 use Rattle.sw_limit.specs.History.{BeginsNext, packets_of}
 use Rattle.sw_machine.proofs.Parts.{link_ends}
 use Rattle.sw_machine.specs.Begun.{Begun}
 use Rattle.sw_machine.specs.Network.{IsNetwork, Network}
 use Rattle.sw_machine.specs.Steps.{Accept, Arrive, Begin, Drop, Emit, Fct, FctIn, Forward, Grant, Reply, Spill, Step, is_begin}
 use Rattle.sw_model.specs.Model.{network_of}
-use Rattle.sw_seats.specs.declared.rule.Change.{Change}
-use Rattle.sw_seats.specs.declared.rule.View.{View}
+use Rattle.sw_journal.specs.declared.cell_table.Change.{Change}
+use Rattle.sw_journal.specs.declared.cell_table.View.{View}
 use mathlib.Core.Logic.{dite}
 use native.Mathlib.Decide.{ℕ_discrete}
 
@@ -55,7 +55,7 @@ get_other (z ∷ zs) (suc i) (suc j) y n = get_other zs i j y (λ e. n (ap suc e
 whole_mark : (net : Network) (packets : List Begun) (steps : List Step) (e : ℕ) → IsIdle net packets steps e → IsTrueMark net packets steps e (length steps)
 whole_mark net packets steps e idle = record { within = omega arith; idle = subst (λ l. IsIdle net packets l e) (sym (take_all (length steps) steps (omega arith))) idle }
 
-pub kept_mark : (j : Account) (me : Me Change View) (e place count : ℕ) → IsKept j me → IsIdle (network_of j.declared) (packets_of j.load) j.history e → place ≡ e → count ≡ length j.history
+pub kept_mark : (j : JournalView) (me : Me Change View) (e place count : ℕ) → IsKept j me → IsIdle (network_of j.declared) (packets_of j.load) j.history e → place ≡ e → count ≡ length j.history
     → IsKept (with_marks j (slice_set j.marks place (Some count))) me
 kept_mark j me e place count is idle there now =
     let net = network_of j.declared in
@@ -106,7 +106,7 @@ left_some r lt = ap not (ne_eqb r 0 (λ e. absurd (omega (arith, lt, e))))
 pub none_left : (r : ℕ) → r ≡ 0 → not (nat_eq r 0) ≡ true → ⊥
 none_left r none some = false≢true (sym (ap not (eq-eqb r 0 none)) ∙ some)
 
-pub stuck_by : (j : Account) (count : ℕ) → IsUndelivered j count → (count ≡ 0 → ⊥) → IsStill j → IsStuck j
+pub stuck_by : (j : JournalView) (count : ℕ) → IsUndelivered j count → (count ≡ 0 → ⊥) → IsStill j → IsStuck j
 stuck_by j count left some still = record {
   still = still;
   locked_up = λ s leads. record {
@@ -115,7 +115,7 @@ stuck_by j count left some still = record {
   };
 }
 
-pub stuck_left : (j : Account) (count : ℕ) → IsAccount j → IsUndelivered j count → IsStuck j → not (nat_eq count 0) ≡ true
+pub stuck_left : (j : JournalView) (count : ℕ) → IsAccount j → IsUndelivered j count → IsStuck j → not (nat_eq count 0) ≡ true
 stuck_left j count is left stuck =
     let here = left is.state is.history in
     let holds = (stuck.locked_up is.state is.history).holds in

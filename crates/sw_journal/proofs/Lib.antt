@@ -1,3 +1,4 @@
+pub mod Moves
 pub mod Told
 mod Renewed
 mod Commit

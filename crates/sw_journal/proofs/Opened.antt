@@ -14,7 +14,7 @@ use Rattle.sw_journal.proofs.Commit.{account}
 use Rattle.sw_journal.proofs.Told.{is_same_cell}
 use Rattle.sw_journal.specs.Cells.{all_known, same_cell}
 use Rattle.sw_journal.specs.Opening.{numbered_of}
-use Rattle.sw_journal.specs.Record.{Account, IsKept}
+use Rattle.sw_journal.specs.Record.{JournalView, IsKept}
 use Rattle.sw_limit.specs.History.{packets_at, packets_of}
 use Rattle.sw_load.specs.Load.{LoadEntry}
 use Rattle.sw_machine.specs.Network.{AtNode, AtSwitch, Cell, Network}
@@ -24,11 +24,11 @@ use Rattle.sw_model.specs.Model.{cell_of, network_of}
 use Rattle.sw_net.proofs.Delivered.{channel_count}
 use Rattle.sw_net.specs.Numbers.{numbers_at}
 use Rattle.sw_net.specs.declared.numbers.Numbers.{Numbers}
-use Rattle.sw_network.specs.Entries.{Declaration, wiring_of}
-use Rattle.sw_network.specs.Valid.{IsValid}
-use Rattle.sw_seats.specs.Views.{knower}
-use Rattle.sw_seats.specs.declared.rule.Change.{Change}
-use Rattle.sw_seats.specs.declared.rule.View.{View}
+use Rattle.sw_config.specs.Entries.{Declaration, wiring_of}
+use Rattle.sw_config.specs.Valid.{IsValid}
+use Rattle.sw_journal.specs.Views.{knower}
+use Rattle.sw_journal.specs.declared.cell_table.Change.{Change}
+use Rattle.sw_journal.specs.declared.cell_table.View.{View}
 use Rattle.sw_topo.specs.Wiring.{Wiring}
 use Rattle.sw_topo.specs.declared.place.PlaceEnd.{PlaceEnd}
 
@@ -96,7 +96,7 @@ no_mark zero e k h = cc
 no_mark (suc n) zero k h = cc
 no_mark (suc n) (suc e) k h = no_mark n e k h
 
-abbrev pub first_account : TableId → Declaration → List LoadEntry → ℕ → Account
+abbrev pub first_account : TableId → Declaration → List LoadEntry → ℕ → JournalView
 first_account name d load limit = record { name = name; declared = d; load = load; limit = limit; history = []; marks = replicate (network_of d).channels None }
 
 pub account_first : (name : TableId) (d : Declaration) (h : HistoryView) (load : List LoadEntry) (limit n : ℕ) (marks : List (Option ℕ)) → n ≡ 2 * length d.links → h.declared ≡ d → h.load ≡ load → h.steps ≡ []
@@ -122,4 +122,4 @@ kept_first name d h limit n marks me valid count declared steps none seat =
       channels = channel_count d;
       seat = seat;
     } in
-    subst (λ (a : Account). IsKept a me) (sym (account_first name d h h.load limit n marks count declared refl steps none)) first
+    subst (λ (a : JournalView). IsKept a me) (sym (account_first name d h h.load limit n marks count declared refl steps none)) first

@@ -8,10 +8,10 @@ use Rattle.sw_machine.specs.Network.{Network}
 use Rattle.sw_machine.specs.State.{State}
 use Rattle.sw_net.specs.Numbers.{numbers_at}
 use Rattle.sw_net.specs.declared.numbers.Numbers.{Numbers}
-use Rattle.sw_seats.specs.Views.{changed, ends_with, with_known}
-use Rattle.sw_seats.specs.declared.rule.Change.{Change}
-use Rattle.sw_seats.specs.declared.rule.Known.{Known}
-use Rattle.sw_seats.specs.declared.rule.View.{View}
+use Rattle.sw_journal.specs.Views.{changed, ends_with, with_known}
+use Rattle.sw_journal.specs.declared.cell_table.Change.{Change}
+use Rattle.sw_journal.specs.declared.cell_table.Known.{Known}
+use Rattle.sw_journal.specs.declared.cell_table.View.{View}
 
 set_back : {X : Type 0} (xs : List X) (k : ℕ) (x : X) → slice_get xs k ≡ Some x → slice_set xs k x ≡ xs
 set_back [] zero x e = refl

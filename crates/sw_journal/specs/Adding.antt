@@ -9,7 +9,7 @@ use Rattle.sw_machine.specs.Parts.{cell_of}
 use Rattle.sw_machine.specs.State.{State}
 use Rattle.sw_machine.specs.Steps.{IsPossible, Step}
 use Rattle.sw_model.specs.Model.{network_of}
-use Rattle.sw_network.specs.Entries.{Declaration}
+use Rattle.sw_config.specs.Entries.{Declaration}
 
 -- true: the step is done at this cell; false: it is not, or it is never possible
 abbrev pub IsAtCell : Declaration → CellId → Step → Bool → Type 0

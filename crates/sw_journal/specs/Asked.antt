@@ -1,7 +1,7 @@
 -- What can be asked of a journal.
 use Rattle.std.specs.Prelude.{List, ℕ, ◌≡◌}
 use Rattle.sw_history.specs.Next.{MayFollow}
-use Rattle.sw_journal.specs.Record.{Account, LeadsTo}
+use Rattle.sw_journal.specs.Record.{JournalView, LeadsTo}
 use Rattle.sw_limit.specs.History.{IsWhole, packets_of}
 use Rattle.sw_machine.specs.Packets.{Packet}
 use Rattle.sw_machine.specs.Runs.{CameOut, IsLockedUp, undelivered}
@@ -10,23 +10,23 @@ use Rattle.sw_machine.specs.Steps.{Step}
 use Rattle.sw_model.specs.Model.{network_of}
 
 -- so many characters are undelivered in the state after the history
-abbrev pub IsUndelivered : Account → ℕ → Type 0
+abbrev pub IsUndelivered : JournalView → ℕ → Type 0
 IsUndelivered j count = (s : State) → LeadsTo j s → count ≡ undelivered (network_of j.declared) s
 
 -- these packets came out at node n in the state after the history
-abbrev pub BroughtOut : Account → ℕ → List Packet → Type 0
+abbrev pub BroughtOut : JournalView → ℕ → List Packet → Type 0
 BroughtOut j n packets = (s : State) → LeadsTo j s → CameOut s n packets
 
 -- the whole load is begun, and nothing is undelivered
-pub record IsDrained (j : Account) : Type 0 where
+pub record IsDrained (j : JournalView) : Type 0 where
   pub whole : IsWhole (network_of j.declared) (packets_of j.load) j.history
   pub delivered : IsUndelivered j 0
 
 -- no step may be the next
-abbrev pub IsStill : Account → Type 0
+abbrev pub IsStill : JournalView → Type 0
 IsStill j = (step : Step) → MayFollow (network_of j.declared) (packets_of j.load) j.history step → ⊥
 
 -- no step may be the next, and the state after the history is locked up
-pub record IsStuck (j : Account) : Type 0 where
+pub record IsStuck (j : JournalView) : Type 0 where
   pub still : IsStill j
   pub locked_up : (s : State) → LeadsTo j s → IsLockedUp (network_of j.declared) s

@@ -9,8 +9,8 @@ use Rattle.sw_machine.specs.State.{State}
 use Rattle.sw_model.specs.Model.{network_of}
 use Rattle.sw_net.specs.Numbers.{numbers_at}
 use Rattle.sw_net.specs.declared.numbers.Numbers.{Numbers}
-use Rattle.sw_network.specs.Entries.{Declaration}
-use Rattle.sw_seats.specs.declared.rule.Known.{Known}
+use Rattle.sw_config.specs.Entries.{Declaration}
+use Rattle.sw_journal.specs.declared.cell_table.Known.{Known}
 
 -- whether the two are one cell
 abbrev pub same_cell : Cell → Cell → Bool

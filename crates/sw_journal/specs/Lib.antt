@@ -1,3 +1,4 @@
+pub mod Views
 pub mod Cells
 pub mod Marks
 pub mod Record

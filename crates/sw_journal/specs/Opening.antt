@@ -13,10 +13,10 @@ use Rattle.sw_machine.specs.State.{State, empty}
 use Rattle.sw_model.specs.Model.{network_of}
 use Rattle.sw_net.specs.Numbers.{numbers_at}
 use Rattle.sw_net.specs.declared.numbers.Numbers.{Numbers}
-use Rattle.sw_network.specs.Entries.{Declaration}
-use Rattle.sw_seats.specs.Views.{knower}
-use Rattle.sw_seats.specs.declared.rule.Change.{Change}
-use Rattle.sw_seats.specs.declared.rule.View.{View}
+use Rattle.sw_config.specs.Entries.{Declaration}
+use Rattle.sw_journal.specs.Views.{knower}
+use Rattle.sw_journal.specs.declared.cell_table.Change.{Change}
+use Rattle.sw_journal.specs.declared.cell_table.View.{View}
 
 -- those of these link ends that stand at the cell, each with its numbers in a state
 abbrev pub numbered_of : Network → State → CellId → List ℕ → List (ℕ × Numbers)

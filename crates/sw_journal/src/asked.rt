@@ -7,13 +7,13 @@ ghost use Rattle.sw_journal.specs.Record.{Declares, IsAccount, with_marks};
 ghost use Rattle.sw_limit.specs.History.{IsWhole, packets_of};
 ghost use Rattle.sw_machine.specs.Steps.{Step as MachineStep};
 ghost use Rattle.sw_model.specs.Model.{network_of};
-ghost use Rattle.sw_steps.specs.Steps.{machine_step};
+ghost use Rattle.sw_model.specs.Steps.{machine_step};
 
 use crate::cell::Cell;
 use crate::journal::Journal;
 use std::alloc::{AllocError, Global};
 use sw_char::Packet;
-use sw_steps::Step;
+use sw_model::Step;
 use sw_topo::LinkEnd;
 
 impl<'n> Journal<'n> {

@@ -1,10 +1,10 @@
 //! A cell of a run.
 ghost use Rattle.std.specs.Prelude.{◌≡◌, find, nat_eq, option_copied};
 
+use crate::cell_table::CellSeat;
 use std::marker::Model;
 use sw_cell::CellId;
 use sw_net::Numbers;
-use sw_seats::Place;
 use sw_topo::LinkEnd;
 
 /// A node or a switch of a network, with the numbers of its link ends in the state after a journal's
@@ -14,13 +14,13 @@ pub struct Cell {
     pub(crate) id: CellId,
     pub(crate) number: u64,
     pub(crate) ends: Vec<(LinkEnd, Numbers)>,
-    pub(crate) seat: Place,
+    pub(crate) seat: CellSeat,
 }
 
 impl Model for Cell {
     ghost use Rattle.std.specs.Prelude.{◌≡◌, []};
     ghost use Rattle.sw_journal.specs.Record.{CellView};
-    ghost use Rattle.sw_seats.specs.Views.{holder};
+    ghost use Rattle.sw_journal.specs.Views.{holder};
 
     ghost Value = { CellView };
 

@@ -6,7 +6,7 @@ ghost use Rattle.sw_journal.specs.Choices.{Chooses, ChoosesOrMarks};
 use crate::cell::Cell;
 use crate::journal::Journal;
 use std::alloc::{AllocError, Global};
-use sw_steps::Step;
+use sw_model::Step;
 use sw_topo::LinkEnd;
 
 impl<'n> Journal<'n> {

@@ -1,22 +1,23 @@
 //! The journal.
 ghost use Rattle.std.specs.Prelude.{◌≡◌, ◌≤◌, length};
 ghost use Rattle.sw_journal.specs.Adding.{AddsAt, IsAtCell};
-ghost use Rattle.sw_steps.specs.Steps.{machine_step};
+ghost use Rattle.sw_model.specs.Steps.{machine_step};
 
 use crate::cell::Cell;
+use crate::cell_table::{CellSeat, CellTable};
 use crate::fault::JournalFault;
 use crate::opening::opening;
 use crate::renewal::renew_after;
+use crate::seats::{begin, meet, part};
 use std::alloc::{AllocError, Global};
 use std::marker::Model;
 use sw_arb::Policy;
 use sw_cell::{CellId, cell_of};
+use sw_config::Network;
 use sw_history::{History, StepFault};
 use sw_load::Load;
+use sw_model::Step;
 use sw_net::{SwitchRoutes, declared_net};
-use sw_network::Network;
-use sw_seats::{Place, Ties, begin, meet, part};
-use sw_steps::Step;
 
 /// The history of a run, which has a limit, and after how many steps each link end was found idle
 /// last.
@@ -25,15 +26,15 @@ pub struct Journal<'n> {
     pub(crate) history: History<'n, SwitchRoutes<'n>, Policy>,
     pub(crate) limit: usize,
     pub(crate) marks: Vec<Option<u64>>,
-    pub(crate) table: Ties,
-    pub(crate) seat: Place,
+    pub(crate) table: CellTable,
+    pub(crate) seat: CellSeat,
 }
 
 impl<'n> Model for Journal<'n> {
     ghost use Rattle.std.specs.Prelude.{◌≡◌, ◌<◌};
-    ghost use Rattle.sw_journal.specs.Record.{Account, IsKept};
+    ghost use Rattle.sw_journal.specs.Record.{JournalView, IsKept};
 
-    ghost Value = { Account };
+    ghost Value = { JournalView };
 
     ghost view = { λ j. record {
       name = j.table.shared.table_id;
@@ -60,7 +61,7 @@ impl<'n> Journal<'n> {
     ghost use Rattle.std.specs.Prelude.{IfOk};
     ghost use Rattle.sw_journal.specs.Record.{Commits, IsAccount, IsNew, IsNowCell, new_cells};
     ghost use Rattle.sw_limit.specs.Limit.{AreDeclared};
-    ghost use Rattle.sw_steps.specs.Steps.{machine_step};
+    ghost use Rattle.sw_model.specs.Steps.{machine_step};
 
     /// A journal of no steps and no marks, and a cell for each node and each switch of the network,
     /// in their order, in the empty state.

@@ -3,11 +3,13 @@
 
 mod asked;
 mod cell;
+mod cell_table;
 mod choice;
 mod fault;
 mod journal;
 mod opening;
 mod renewal;
+mod seats;
 mod state;
 
 pub use cell::Cell;

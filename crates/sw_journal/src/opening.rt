@@ -8,15 +8,16 @@ ghost use Rattle.sw_journal.specs.Record.{new_cells};
 ghost use Rattle.sw_machine.specs.State.{empty};
 ghost use Rattle.sw_model.specs.Model.{network_of};
 ghost use Rattle.sw_net.specs.Net.{IsNetState};
-ghost use Rattle.sw_seats.specs.Views.{knower};
+ghost use Rattle.sw_journal.specs.Views.{knower};
 
 use crate::cell::Cell;
+use crate::cell_table::{CellSeat, CellTable};
+use crate::seats::{grow, part};
 use std::alloc::{AllocError, Global};
 use sw_arb::Policy;
 use sw_cell::CellId;
+use sw_config::Network;
 use sw_net::{Net, Numbers, SwitchRoutes};
-use sw_network::Network;
-use sw_seats::{Place, Ties, grow, part};
 use sw_topo::{LinkEnd, PlaceEnd};
 
 // Whether the link end stands at that cell.
@@ -68,8 +69,8 @@ fn ends_of(
 fn open(
     alloc: Global,
     net: &Net<'_, SwitchRoutes<'_>, Policy>,
-    table: &Ties,
-    seat: &mut Place,
+    table: &CellTable,
+    seat: &mut CellSeat,
     cells: &mut Vec<Cell>,
     id: CellId,
 ) -> Result<(), AllocError>
@@ -97,8 +98,8 @@ fn open(
 fn open_nodes(
     alloc: Global,
     net: &Net<'_, SwitchRoutes<'_>, Policy>,
-    table: &Ties,
-    seat: &mut Place,
+    table: &CellTable,
+    seat: &mut CellSeat,
     cells: &mut Vec<Cell>,
 ) -> Result<(), AllocError>
     requires state { IsNetState net.now (empty (network_of net.now.declared)) }
@@ -118,8 +119,8 @@ fn open_nodes(
 fn open_switches(
     alloc: Global,
     net: &Net<'_, SwitchRoutes<'_>, Policy>,
-    table: &Ties,
-    seat: &mut Place,
+    table: &CellTable,
+    seat: &mut CellSeat,
     cells: &mut Vec<Cell>,
 ) -> Result<(), AllocError>
     requires state { IsNetState net.now (empty (network_of net.now.declared)) }
@@ -139,8 +140,8 @@ fn open_switches(
 pub(crate) fn opening(
     alloc: Global,
     net: &Net<'_, SwitchRoutes<'_>, Policy>,
-    table: &Ties,
-    seat: &mut Place,
+    table: &CellTable,
+    seat: &mut CellSeat,
 ) -> Result<Vec<Cell>, AllocError>
     requires state { IsNetState net.now (empty (network_of net.now.declared)) }
     requires table { 0 < table.now.shared.table_id.words }

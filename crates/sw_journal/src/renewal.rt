@@ -1,20 +1,21 @@
 //! The numbers of a cell after a step.
 ghost use Rattle.std.specs.Prelude.{◌≡◌, ◌*◌, ◌<◌, All, Some, length, map, slice_get, true};
 ghost use Rattle.sw_journal.specs.Renewal.{AreRenewed, AreRenewedAfter, IsRenewed};
-ghost use Rattle.sw_seats.specs.Views.{with_known};
+ghost use Rattle.sw_journal.specs.Views.{with_known};
 
+use crate::cell_table::{CellSeat, CellTable};
+use crate::seats::tell;
 use sw_arb::Policy;
 use sw_history::History;
 use sw_net::{Net, Numbers, SwitchRoutes};
-use sw_seats::{Place, Ties, tell};
 use sw_topo::LinkEnd;
 
 // The link end at this place has its numbers in the net from now on. The table is told where they
 // are new.
 fn renew_one(
     net: &Net<'_, SwitchRoutes<'_>, Policy>,
-    table: &Ties,
-    seat: &mut Place,
+    table: &CellTable,
+    seat: &mut CellSeat,
     ends: &mut Vec<(LinkEnd, Numbers)>,
     place: usize,
 )
@@ -41,8 +42,8 @@ fn renew_one(
 // Each link end has its numbers in the net from now on, and the table is told.
 fn renew(
     net: &Net<'_, SwitchRoutes<'_>, Policy>,
-    table: &Ties,
-    seat: &mut Place,
+    table: &CellTable,
+    seat: &mut CellSeat,
     ends: &mut Vec<(LinkEnd, Numbers)>,
 )
     requires table { 0 < table.now.shared.table_id.words }
@@ -62,8 +63,8 @@ fn renew(
 // The same, in the state after the history.
 pub(crate) fn renew_after(
     history: &History<'_, SwitchRoutes<'_>, Policy>,
-    table: &Ties,
-    seat: &mut Place,
+    table: &CellTable,
+    seat: &mut CellSeat,
     ends: &mut Vec<(LinkEnd, Numbers)>,
 )
     requires table { 0 < table.now.shared.table_id.words }

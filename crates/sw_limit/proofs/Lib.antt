@@ -1,6 +1,5 @@
 pub mod Fronts
 pub mod Grown
-mod Headers
 mod Listed
 pub mod Packets
 pub mod Sends

@@ -5,18 +5,18 @@ use Rattle.std.proofs.lemmas.List.Elements.{All-append, All-nil}
 use Rattle.toml.specs.Data.{Members}
 use Rattle.sw_char.specs.declared.nchar.End.{End}
 use Rattle.sw_limit.specs.Limit.{AreDeclared, ListedAreDeclared}
-use Rattle.sw_load.specs.Laws.{DeclaredPacketsPass}
+use Rattle.sw_model.specs.Laws.{DeclaredPacketsPass}
 use Rattle.sw_load.specs.Load.{LoadEntry, cargo_at, count_at, document_keys, flow_at, load_of, marker_at, next_packet, packet_count, packet_keys, packet_of}
-use Rattle.sw_load.specs.Packets.{IsDeclaredPacket, is_declared_packet}
-use Rattle.sw_network.specs.Entries.{Declaration}
-use Rattle.sw_tree.specs.Document.{document_of}
-use Rattle.sw_tree.specs.Table.{only_known, tables_or_none}
-use Rattle.sw_tree.specs.declared.fault.KeyFault.TheVariants.{OutOfRange}
-use Rattle.sw_tree.specs.declared.fault.TextFault.TheVariants as fault
-use Rattle.sw_tree.specs.declared.keys.Key.TheVariants.{Packet}
-use Rattle.sw_tree.specs.declared.keys.Section.TheVariants as section
-use Rattle.sw_tree.specs.Gives.{◌>>=◌, walk_from}
-use Rattle.sw_tree.specs.declared.fault.TextFault.{TextFault}
+use Rattle.sw_model.specs.Packets.{IsDeclaredPacket, is_declared_packet}
+use Rattle.sw_config.specs.Entries.{Declaration}
+use Rattle.sw_toml_table.specs.Document.{document_of}
+use Rattle.sw_toml_table.specs.Table.{only_known, tables_or_none}
+use Rattle.sw_toml_table.specs.declared.fault.KeyFault.TheVariants.{OutOfRange}
+use Rattle.sw_toml_table.specs.declared.fault.TextFault.TheVariants as fault
+use Rattle.sw_toml_table.specs.declared.keys.Key.TheVariants.{Packet}
+use Rattle.sw_toml_table.specs.declared.keys.Section.TheVariants as section
+use Rattle.sw_toml_table.specs.Gives.{◌>>=◌, walk_from}
+use Rattle.sw_toml_table.specs.declared.fault.TextFault.{TextFault}
 
 goes_on : {A B : Type 0} (r : Result A TextFault) (f : A → Result B TextFault) (b : B) → (r >>= f) ≡ Ok b → (a : A) × (r ≡ Ok a) × (f a ≡ Ok b)
 goes_on (Ok a) f b h = (a, refl, h)

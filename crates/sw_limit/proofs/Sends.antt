@@ -17,7 +17,7 @@ use Rattle.sw_load.specs.Load.{LoadEntry}
 use Rattle.sw_machine.specs.Begun.{Begun}
 use Rattle.sw_machine.specs.Network.{Network}
 use Rattle.sw_model.specs.Model.{network_of}
-use Rattle.sw_network.specs.Entries.{Declaration, FlowEntry, all_flows}
+use Rattle.sw_config.specs.Entries.{Declaration, FlowEntry, all_flows}
 
 map-copies : {A B : Type 0} (f : A → B) (k : ℕ) (x : A) → map f (replicate k x) ≡ replicate k (f x)
 map-copies f zero x = refl

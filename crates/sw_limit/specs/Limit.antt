@@ -2,13 +2,13 @@
 use Rattle.std.specs.Prelude.{All, List, Ok, length, sum_by, ℕ, ◌*◌, ◌+◌, ◌<◌, ◌≡◌}
 use Rattle.sw_limit.specs.History.{IsHistory}
 use Rattle.sw_load.specs.Load.{LoadEntry, load_text}
-use Rattle.sw_load.specs.Packets.{IsDeclaredPacket}
+use Rattle.sw_model.specs.Packets.{IsDeclaredPacket}
 use Rattle.sw_machine.specs.Begun.{Begun, length_with_reply}
 use Rattle.sw_machine.specs.Headline.{OfAccepted}
 use Rattle.sw_machine.specs.Network.{Network}
 use Rattle.sw_machine.specs.State.{State}
 use Rattle.sw_machine.specs.Steps.{Step}
-use Rattle.sw_network.specs.Entries.{Declaration}
+use Rattle.sw_config.specs.Entries.{Declaration}
 
 -- each packet of the load is one that its flow declares
 abbrev pub AreDeclared : Declaration → List LoadEntry → Type 0

@@ -5,7 +5,7 @@ use Rattle.sw_limit.specs.History.{packet_of, packets_at, packets_of}
 use Rattle.sw_load.specs.Load.{LoadEntry}
 use Rattle.sw_machine.specs.Begun.{Begun}
 use Rattle.sw_model.specs.Model.{network_of}
-use Rattle.sw_network.specs.Entries.{Declaration}
+use Rattle.sw_config.specs.Entries.{Declaration}
 
 -- what the network declares, and the load
 pub record SendersView : Type 0 where

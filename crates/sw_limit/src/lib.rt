@@ -4,7 +4,6 @@
 
 pub mod laws;
 mod limit;
-mod replies;
 mod senders;
 
 pub use limit::enough_limit;

@@ -2,13 +2,13 @@
 ghost use Rattle.std.specs.Prelude.{◌≡◌, ◌≤◌, sum_by};
 ghost use Rattle.sw_limit.specs.History.{packet_of, packets_of};
 ghost use Rattle.sw_limit.specs.Limit.{AreDeclared, enough_limit};
-ghost use Rattle.sw_load.specs.Packets.{IsDeclaredPacket};
+ghost use Rattle.sw_model.specs.Packets.{IsDeclaredPacket};
 ghost use Rattle.sw_machine.specs.Begun.{length_with_reply};
 ghost use Rattle.sw_model.specs.Model.{network_of};
 
-use crate::replies::reply_length;
+use sw_config::Network;
 use sw_load::{Load, LoadPacket};
-use sw_network::Network;
+use sw_model::reply_length;
 
 /// How many characters the packet has, with its address and its end marker, and the longest reply
 /// to it, if it is answered.

@@ -4,8 +4,8 @@ ghost use Rattle.sw_limit.specs.Senders.{AreAdded, places_at};
 
 use std::alloc::{AllocError, Global};
 use std::marker::Model;
+use sw_config::Network;
 use sw_load::{Load, LoadPacket};
-use sw_network::Network;
 
 /// What each node of a network is to send of a load, in order.
 #[derive(Drop)]

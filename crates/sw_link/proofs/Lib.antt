@@ -1,2 +1,3 @@
 mod Accounts
 mod Carried
+pub mod Rings

@@ -1,5 +1,1 @@
-mod Headers
-mod Ends
 mod Spelled
-mod Declared
-pub mod Declares

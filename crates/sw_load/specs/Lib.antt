@@ -1,4 +1,2 @@
-pub mod Packets
 pub mod Cargo
 pub mod Load
-pub mod Laws

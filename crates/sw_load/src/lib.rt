@@ -1,13 +1,10 @@
-//! Packets that a network's flows declare, and the load file, which lists some to be sent.
+//! The load file, which lists packets to be sent, each of them one that a flow declares.
 #![tactic(auto)]
 
 mod cargo;
 pub mod laws;
 mod load;
-mod packets;
 mod reading;
-mod way;
 
 pub use load::{Load, LoadPacket, MAX_PACKETS};
-pub use packets::in_flow;
 pub use reading::read_load;

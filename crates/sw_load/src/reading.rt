@@ -1,18 +1,18 @@
 //! The load that a text lists.
 ghost use Rattle.std.specs.Prelude.{◌≡◌, ◌+◌, ◌≤◌, map, IfOk, option_map};
 ghost use Rattle.toml.specs.View.{table_view};
-ghost use Rattle.sw_tree.specs.Gives.{Gives, walk};
-ghost use Rattle.sw_load.specs.Packets.{is_declared_packet};
+ghost use Rattle.sw_toml_table.specs.Gives.{Gives, walk};
+ghost use Rattle.sw_model.specs.Packets.{is_declared_packet};
 ghost use Rattle.sw_load.specs.Load.{document_keys, packet_keys, packet_count, flow_at, cargo_at, marker_of, marker_at, count_at, packet_of, next_packet, load_of, load_text};
 
 use crate::cargo::cargo_of;
 use crate::load::{Load, LoadPacket, MAX_PACKETS};
-use crate::packets::in_flow;
 use std::alloc::Global;
 use std::marker::Model;
 use sw_char::End;
-use sw_network::Network;
-use sw_tree::{Entry, FileFault, Key, KeyFault, Section, TextFault, read_document};
+use sw_config::Network;
+use sw_model::in_flow;
+use sw_toml_table::{FileFault, Key, KeyFault, Section, TableEntry, TextFault, read_document};
 use toml::Table;
 
 /// A load has at most this many entries.
@@ -31,7 +31,7 @@ fn packet_keys() -> &'static [Key]
 }
 
 #[tactic(auto, unfolding(crate::specs::Load::flow_at))]
-fn flow_at(index: usize, packet: &Entry, network: &Network) -> Result<u16, FileFault>
+fn flow_at(index: usize, packet: &TableEntry, network: &Network) -> Result<u16, FileFault>
     requires { packet.now.section ≡ Section.Packet index }
     ensures { Gives (λ n. n) result (flow_at index network.now.flows (table_view packet.now.table.now)) }
 {
@@ -43,7 +43,7 @@ fn flow_at(index: usize, packet: &Entry, network: &Network) -> Result<u16, FileF
 }
 
 #[tactic(auto, unfolding(crate::specs::Load::cargo_at))]
-fn cargo_at(alloc: Global, index: usize, packet: &Entry) -> Result<Vec<u8>, FileFault>
+fn cargo_at(alloc: Global, index: usize, packet: &TableEntry) -> Result<Vec<u8>, FileFault>
     requires { packet.now.section ≡ Section.Packet index }
     ensures { Gives (λ v. v.items) result (cargo_at index (table_view packet.now.table.now)) }
 {
@@ -66,7 +66,7 @@ fn marker_of(text: Option<&str>) -> Option<End>
 }
 
 #[tactic(auto, unfolding(crate::specs::Load::marker_at))]
-fn marker_at(index: usize, packet: &Entry) -> Result<End, FileFault>
+fn marker_at(index: usize, packet: &TableEntry) -> Result<End, FileFault>
     requires { packet.now.section ≡ Section.Packet index }
     ensures { Gives (λ e. e) result (marker_at index (table_view packet.now.table.now)) }
 {
@@ -78,7 +78,7 @@ fn marker_at(index: usize, packet: &Entry) -> Result<End, FileFault>
 }
 
 #[tactic(auto, unfolding(crate::specs::Load::count_at))]
-fn count_at(index: usize, packet: &Entry, before: u32) -> Result<u16, FileFault>
+fn count_at(index: usize, packet: &TableEntry, before: u32) -> Result<u16, FileFault>
     requires section { packet.now.section ≡ Section.Packet index }
     requires few { before ≤ MAX_PACKETS }
     ensures gives { Gives (λ n. n) result (count_at index before (table_view packet.now.table.now)) }
@@ -91,7 +91,7 @@ fn count_at(index: usize, packet: &Entry, before: u32) -> Result<u16, FileFault>
     Ok(count)
 }
 
-#[tactic(auto, using(crate::proofs::Declared::same_test))]
+#[tactic(auto, using(sw_model::proofs::Declared::same_test))]
 fn is_declared(network: &Network, flow: u16, cargo: &[u8], end: End) -> bool
     ensures { result ≡ is_declared_packet network.now flow cargo.now }
 {
@@ -109,7 +109,7 @@ fn add_packet(
 ) -> Result<(), FileFault>
     ensures { Gives (λ _. load.new) result (next_packet network.now index load.old (table_view table.now)) }
 {
-    let packet = Entry {
+    let packet = TableEntry {
         section: Section::Packet(index),
         table,
     };
@@ -140,7 +140,7 @@ fn walk_packets(
 }
 
 #[tactic(auto, unfolding(crate::specs::Load::load_of))]
-fn load_of(alloc: Global, network: &Network, document: &Entry) -> Result<Load, FileFault>
+fn load_of(alloc: Global, network: &Network, document: &TableEntry) -> Result<Load, FileFault>
     requires { document.now.section ≡ Section.Document }
     ensures { Gives (λ l. l) result (load_of network.now (table_view document.now.table.now)) }
 {
@@ -163,7 +163,7 @@ pub fn read_load(alloc: Global, network: &Network, bytes: &[u8]) -> Result<Load,
     ensures { Gives (λ l. l) result (load_text network.now bytes.now) }
 {
     let table = read_document(alloc, bytes)?;
-    let document = Entry {
+    let document = TableEntry {
         section: Section::Document,
         table: &table,
     };

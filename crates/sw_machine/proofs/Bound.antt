@@ -20,8 +20,8 @@ use Rattle.sw_machine.specs.Network.{IsNetwork, Network, PendingReply, form}
 use Rattle.sw_machine.specs.Runs.{total}
 use Rattle.sw_machine.specs.State.{State, after_accept, after_arrive, after_begin, after_emit, after_fct, after_fct_in, after_forward, after_grant, after_reply, empty, input_after, put, reply_packet}
 use Rattle.sw_machine.specs.Steps.{Accept, Arrive, Begin, Drop, Emit, Fct, FctIn, Forward, Grant, Leads, Reply, Spill, Step}
-use Rattle.sw_machine.specs.declared.input.Input.{Input}
-use Rattle.sw_machine.specs.declared.input.Input.TheVariants.{Held, Idle, Spilling}
+use Rattle.sw_machine.specs.declared.input.InputState.{InputState}
+use Rattle.sw_machine.specs.declared.input.InputState.TheVariants.{Held, Idle, Spilling}
 
 pub total_le : (n : ℕ) (f g : ℕ → ℕ) → ((k : ℕ) → k < n → f k ≤ g k) → total n f ≤ total n g
 total_le zero f g h = omega arith
@@ -59,7 +59,7 @@ held_weight r (Data b ∷ l) = 40 * r + 6 + held_weight r l
 held_weight r (Eop ∷ l) = 40 * r + 6 + (40 * r + 14) * length l
 held_weight r (Eep ∷ l) = 40 * r + 6 + (40 * r + 14) * length l
 
-buffer_weight : ℕ → Input → List NChar → ℕ
+buffer_weight : ℕ → InputState → List NChar → ℕ
 buffer_weight r Idle l = (40 * r + 14) * length l
 buffer_weight r (Held d) l = held_weight r l
 buffer_weight r Spilling l = (40 * r + 14) * length l
@@ -80,7 +80,7 @@ held_push r (Data b ∷ l) x = let h = held_push r l x in omega arith
 held_push r (Eop ∷ l) x = let h = length_push l x in omega (arith, ap (λ k. (40 * r + 14) * k) h)
 held_push r (Eep ∷ l) x = let h = length_push l x in omega (arith, ap (λ k. (40 * r + 14) * k) h)
 
-buffer_push : (r : ℕ) (i : Input) (l : List NChar) (x : NChar) → buffer_weight r i (l ++ x ∷ []) ≤ buffer_weight r i l + (40 * r + 14)
+buffer_push : (r : ℕ) (i : InputState) (l : List NChar) (x : NChar) → buffer_weight r i (l ++ x ∷ []) ≤ buffer_weight r i l + (40 * r + 14)
 unfolding buffer_weight
 buffer_push r Idle l x = let h = length_push l x in omega (arith, ap (λ k. (40 * r + 14) * k) h)
 buffer_push r (Held d) l x = held_push r l x
@@ -199,7 +199,7 @@ module _ (net : Network) (cert : Certificate) where
       omega arith
 
   -- the input and the buffer of c change
-  buffer_change : (s : State) (c : ℕ) (i : Input) (l : List NChar) → c < net.channels → total net.channels (λ k. buffer_weight (room k) (put s.input c i k) (put s.buffer c l k)) + buffer_weight (room c) (s.input c) (s.buffer c) ≡ of_buffers s + buffer_weight (room c) i l
+  buffer_change : (s : State) (c : ℕ) (i : InputState) (l : List NChar) → c < net.channels → total net.channels (λ k. buffer_weight (room k) (put s.input c i k) (put s.buffer c l k)) + buffer_weight (room c) (s.input c) (s.buffer c) ≡ of_buffers s + buffer_weight (room c) i l
   buffer_change s c i l lt =
       let r = total_change net.channels (λ k. buffer_weight (room k) (s.input k) (s.buffer k)) (λ k. buffer_weight (room k) (put s.input c i k) (put s.buffer c l k)) c lt (λ k lk ne. rw (ne_eqb k c ne) refl) in
       let here : buffer_weight (room c) (put s.input c i c) (put s.buffer c l c) ≡ buffer_weight (room c) i l = rw (eq-eqb c c refl) refl in
@@ -258,7 +258,7 @@ module _ (net : Network) (cert : Certificate) where
       omega arith
 
   module _ (ok : IsNetwork net) (acc : IsAccepted net cert) where
-    node_idle : (g : Ghost) (n : ℕ) → n < net.nodes → (i : Input) → InputIs net cert g.rest g.coming (net.into n) i → i ≡ Idle
+    node_idle : (g : Ghost) (n : ℕ) → n < net.nodes → (i : InputState) → InputIs net cert g.rest g.coming (net.into n) i → i ≡ Idle
     node_idle g n ln Idle h = refl
     node_idle g n ln (Held d) h = absurd (node_or_switch net cert ok acc n h.switch (net.end_of (net.into n)) (ok.into_ends n ln).1 h.ends)
     node_idle g n ln Spilling h = absurd h

@@ -10,7 +10,7 @@ use Rattle.sw_machine.specs.Network.{IsNetwork, Network}
 use Rattle.sw_machine.specs.Runs.{IsReached, Run}
 use Rattle.sw_machine.specs.State.{State, empty, put}
 use Rattle.sw_machine.specs.Steps.{Accept, Arrive, Begin, Drop, Drops, Emit, Fct, FctIn, Forward, Grant, Leads, Reply, Spill, Step}
-use Rattle.sw_machine.specs.declared.input.Input.TheVariants.{Spilling}
+use Rattle.sw_machine.specs.declared.input.InputState.TheVariants.{Spilling}
 
 ruleset numbers = (nat_tests, length_push)
 

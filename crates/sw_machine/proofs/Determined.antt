@@ -7,7 +7,7 @@ use Rattle.sw_machine.proofs.Cuts.{cuts_are_equal}
 use Rattle.sw_machine.specs.Network.{AtSwitch, Network}
 use Rattle.sw_machine.specs.State.{State, after_accept, after_arrive, after_drop_marker, after_emit, after_fct_in, after_forward, after_grant, after_reply, after_spill}
 use Rattle.sw_machine.specs.Steps.{Accept, Arrive, Begin, Drop, Drops, Emit, Fct, FctIn, Forward, Grant, Leads, Reply, Spill, Step}
-use Rattle.sw_machine.specs.declared.input.Input.TheVariants.{Held}
+use Rattle.sw_machine.specs.declared.input.InputState.TheVariants.{Held}
 
 module _ (net : Network) (s : State) where
   same_place : (a b : ℕ) → AtSwitch a ≡ AtSwitch b → a ≡ b

@@ -10,8 +10,8 @@ use Rattle.sw_machine.specs.Network.{AnsweredBy, AtNode, AtSwitch, Cell, Network
 use Rattle.sw_machine.specs.Owed.{IsAsked}
 use Rattle.sw_machine.specs.Places.{deleted_after}
 use Rattle.sw_machine.specs.State.{State, put}
-use Rattle.sw_machine.specs.declared.input.Input.{Input}
-use Rattle.sw_machine.specs.declared.input.Input.TheVariants.{Held, Idle, Spilling}
+use Rattle.sw_machine.specs.declared.input.InputState.{InputState}
+use Rattle.sw_machine.specs.declared.input.InputState.TheVariants.{Held, Idle, Spilling}
 
 -- a packet on a channel: its flow, how many bytes are deleted, its cargo and its marker
 pub record Entry : Type 0 where
@@ -70,13 +70,13 @@ pub record Holds (net : Network) (cert : Certificate) (rest coming : ℕ → Lis
   pub ends : net.end_of c ≡ AtSwitch switch
   pub starts : net.start_of d ≡ AtSwitch switch
 
-abbrev pub InputIs : Network → Certificate → (ℕ → List NChar) → (ℕ → List NChar) → ℕ → Input → Type 0
+abbrev pub InputIs : Network → Certificate → (ℕ → List NChar) → (ℕ → List NChar) → ℕ → InputState → Type 0
 InputIs net cert rest coming c Idle = (switch : ℕ) → net.end_of c ≡ AtSwitch switch → rest c ≡ []
 InputIs net cert rest coming c (Held d) = Holds net cert rest coming c d
 InputIs net cert rest coming c Spilling = ⊥
 
 -- where what comes to d comes from
-abbrev pub Fed : Network → (ℕ → List NChar) → (ℕ → Input) → (ℕ → List NChar) → ℕ → Cell → Type 0
+abbrev pub Fed : Network → (ℕ → List NChar) → (ℕ → InputState) → (ℕ → List NChar) → ℕ → Cell → Type 0
 Fed net to_send input coming d (AtNode n) = coming d ≡ to_send n
 Fed net to_send input coming d (AtSwitch switch) = (coming d ≡ []) ⊎ ((b : ℕ) × (b < net.channels) × (input b ≡ Held d))
 

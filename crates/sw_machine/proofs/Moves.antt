@@ -17,8 +17,8 @@ use Rattle.sw_machine.specs.Network.{AnsweredBy, AtNode, AtSwitch, Cell, IsNetwo
 use Rattle.sw_machine.specs.Owed.{IsAsked}
 use Rattle.sw_machine.specs.Packets.{IsCut, Packet, marker_of}
 use Rattle.sw_machine.specs.State.{State, after_accept, after_arrive, after_begin, after_emit, after_fct, after_fct_in, after_forward, after_grant, after_reply, input_after, owed_after, owed_with, pending_with, put, reply_at, reply_packet}
-use Rattle.sw_machine.specs.declared.input.Input.{Input}
-use Rattle.sw_machine.specs.declared.input.Input.TheVariants.{Held, Idle, Spilling}
+use Rattle.sw_machine.specs.declared.input.InputState.{InputState}
+use Rattle.sw_machine.specs.declared.input.InputState.TheVariants.{Held, Idle, Spilling}
 
 module _ (net : Network) (cert : Certificate) (ok : IsNetwork net) (acc : IsAccepted net cert) where
   -- only credit and FCTs
@@ -51,7 +51,7 @@ module _ (net : Network) (cert : Certificate) (ok : IsNetwork net) (acc : IsAcce
   held_not_out s g n k d lt h e = node_or_switch n h.switch (net.start_of d) (ap net.start_of e ∙ (ok.out_starts n lt).1) h.starts
 
   -- what an input is does not hang on channels that it does not hold
-  other_coming : (rest coming more : ℕ → List NChar) (k : ℕ) (i : Input) → ((d : ℕ) → i ≡ Held d → Holds net cert rest coming k d → coming d ≡ more d) → InputIs net cert rest coming k i → InputIs net cert rest more k i
+  other_coming : (rest coming more : ℕ → List NChar) (k : ℕ) (i : InputState) → ((d : ℕ) → i ≡ Held d → Holds net cert rest coming k d → coming d ≡ more d) → InputIs net cert rest coming k i → InputIs net cert rest more k i
   other_coming rest coming more k Idle same h = h
   other_coming rest coming more k (Held d) same h = record { in_net = h.in_net; same = h.same ∙ same d refl h; whole = h.whole; rising = h.rising; switch = h.switch; ends = h.ends; starts = h.starts }
   other_coming rest coming more k Spilling same h = h
@@ -62,7 +62,7 @@ module _ (net : Network) (cert : Certificate) (ok : IsNetwork net) (acc : IsAcce
       (λ d e h. sym (put_there g.coming (net.out n) l d (held_not_out s g n k d ln h)))
       (inv.inputs k lt)
 
-  other_fed : (input : ℕ → Input) (to_send more : ℕ → List NChar) (coming coming2 : ℕ → List NChar) (k : ℕ) (p : Cell) → coming2 k ≡ coming k → ((m : ℕ) → p ≡ AtNode m → to_send m ≡ more m) → Fed net to_send input coming k p → Fed net more input coming2 k p
+  other_fed : (input : ℕ → InputState) (to_send more : ℕ → List NChar) (coming coming2 : ℕ → List NChar) (k : ℕ) (p : Cell) → coming2 k ≡ coming k → ((m : ℕ) → p ≡ AtNode m → to_send m ≡ more m) → Fed net to_send input coming k p → Fed net more input coming2 k p
   other_fed input to_send more coming coming2 k (AtNode m) e same f = e ∙ f ∙ same m refl
   other_fed input to_send more coming coming2 k (AtSwitch w) e same f = ⊎_elim (λ none. inl (e ∙ none)) (λ h. inr h) f
 
@@ -156,7 +156,7 @@ module _ (net : Network) (cert : Certificate) (ok : IsNetwork net) (acc : IsAcce
   })
 
   -- only the input of c changes, to Idle or not at all
-  held_before : (c b e : ℕ) (x : NChar) (d : ℕ) (input : ℕ → Input) → input c ≡ Held d → put input c (input_after x (Held d)) b ≡ Held e → input b ≡ Held e
+  held_before : (c b e : ℕ) (x : NChar) (d : ℕ) (input : ℕ → InputState) → input c ≡ Held d → put input c (input_after x (Held d)) b ≡ Held e → input b ≡ Held e
   held_before c b e x d input held h = ⊎_elim
       (λ same. let at = ap input same in was x (sym (put_here input c (input_after x (Held d))) ∙ ap (put input c (input_after x (Held d))) (sym same) ∙ h) at)
       (λ ne. sym (put_there input c (input_after x (Held d)) b ne) ∙ h)
@@ -172,18 +172,18 @@ module _ (net : Network) (cert : Certificate) (ok : IsNetwork net) (acc : IsAcce
   forward_input g c d Eop tail w h = λ switch at. put_here g.rest c tail ∙ w
   forward_input g c d Eep tail w h = λ switch at. put_here g.rest c tail ∙ w
 
-  other_rest : (rest coming rest2 coming2 : ℕ → List NChar) (k : ℕ) (i : Input) → rest2 k ≡ rest k → ((d : ℕ) → i ≡ Held d → coming d ≡ coming2 d) → InputIs net cert rest coming k i → InputIs net cert rest2 coming2 k i
+  other_rest : (rest coming rest2 coming2 : ℕ → List NChar) (k : ℕ) (i : InputState) → rest2 k ≡ rest k → ((d : ℕ) → i ≡ Held d → coming d ≡ coming2 d) → InputIs net cert rest coming k i → InputIs net cert rest2 coming2 k i
   other_rest rest coming rest2 coming2 k Idle r same h = λ switch at. r ∙ h switch at
   other_rest rest coming rest2 coming2 k (Held d) r same h = record { in_net = h.in_net; same = r ∙ h.same ∙ same d refl; whole = subst IsWhole (sym r) h.whole; rising = h.rising; switch = h.switch; ends = h.ends; starts = h.starts }
   other_rest rest coming rest2 coming2 k Spilling r same h = h
 
-  forward_fed : (x : NChar) (tail : List NChar) (c d : ℕ) (w : ℕ) (to_send : ℕ → List NChar) (input : ℕ → Input) (coming : ℕ → List NChar) → c < net.channels → IsWhole (x ∷ tail) → Fed net to_send (put input c (input_after x (Held d))) (put coming d tail) d (AtSwitch w)
+  forward_fed : (x : NChar) (tail : List NChar) (c d : ℕ) (w : ℕ) (to_send : ℕ → List NChar) (input : ℕ → InputState) (coming : ℕ → List NChar) → c < net.channels → IsWhole (x ∷ tail) → Fed net to_send (put input c (input_after x (Held d))) (put coming d tail) d (AtSwitch w)
   forward_fed (Data byte) tail c d w to_send input coming lt whole = inr (c, lt, put_here input c (Held d))
   forward_fed Eop tail c d w to_send input coming lt whole = inl (put_here coming d tail ∙ whole)
   forward_fed Eep tail c d w to_send input coming lt whole = inl (put_here coming d tail ∙ whole)
 
   -- what comes to k does not change, and what held it still does
-  same_fed : (to_send : ℕ → List NChar) (input input2 : ℕ → Input) (coming coming2 : ℕ → List NChar) (k : ℕ) (p : Cell) → coming2 k ≡ coming k → ((b : ℕ) → b < net.channels → input b ≡ Held k → input2 b ≡ Held k) → Fed net to_send input coming k p → Fed net to_send input2 coming2 k p
+  same_fed : (to_send : ℕ → List NChar) (input input2 : ℕ → InputState) (coming coming2 : ℕ → List NChar) (k : ℕ) (p : Cell) → coming2 k ≡ coming k → ((b : ℕ) → b < net.channels → input b ≡ Held k → input2 b ≡ Held k) → Fed net to_send input coming k p → Fed net to_send input2 coming2 k p
   same_fed to_send input input2 coming coming2 k (AtNode m) e same f = e ∙ f
   same_fed to_send input input2 coming coming2 k (AtSwitch w) e same f = ⊎_elim (λ none. inl (e ∙ none)) (λ h. inr (h.0, h.1, same h.0 h.1 h.2)) f
 
@@ -318,7 +318,7 @@ module _ (net : Network) (cert : Certificate) (ok : IsNetwork net) (acc : IsAcce
       ne (cc)
 
   -- what the end of a channel to a node has yet to take is no switch's matter
-  taken_input : (g : Ghost) (n : ℕ) (l : List NChar) → n < net.nodes → (i : Input) → InputIs net cert g.rest g.coming (net.into n) i → InputIs net cert (put g.rest (net.into n) l) g.coming (net.into n) i
+  taken_input : (g : Ghost) (n : ℕ) (l : List NChar) → n < net.nodes → (i : InputState) → InputIs net cert g.rest g.coming (net.into n) i → InputIs net cert (put g.rest (net.into n) l) g.coming (net.into n) i
   taken_input g n l ln Idle h = λ switch at. absurd (node_or_switch n switch (net.end_of (net.into n)) (ok.into_ends n ln).1 at)
   taken_input g n l ln (Held d) h = absurd (node_or_switch n h.switch (net.end_of (net.into n)) (ok.into_ends n ln).1 h.ends)
   taken_input g n l ln Spilling h = h

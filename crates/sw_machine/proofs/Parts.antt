@@ -8,7 +8,7 @@ use Rattle.sw_machine.specs.Network.{AtNode, Cell, IsNetwork, Network, form, rev
 use Rattle.sw_machine.specs.Parts.{IsWormhole, SameBetween, SameEnd, SameNode, SamePart, cell_of, link_end_of}
 use Rattle.sw_machine.specs.State.{State, after_arrive, after_drop_byte, after_drop_marker, after_fct, after_grant, after_spill, input_after, memory_at, owed_after, owed_with, pending_with, reply_at, reply_packet}
 use Rattle.sw_machine.specs.Steps.{Accept, Arrive, Begin, Drop, Drops, Emit, Fct, FctIn, Forward, Grant, IsPossible, Leads, Reply, Spill, Step}
-use Rattle.sw_machine.specs.declared.input.Input.TheVariants.{Held, Spilling}
+use Rattle.sw_machine.specs.declared.input.InputState.TheVariants.{Held, Spilling}
 
 module _ (net : Network) (ok : IsNetwork net) where
   back : (c : ℕ) → c < net.channels → (reverse_of c < net.channels) × (net.start_of (reverse_of c) ≡ net.end_of c)

@@ -15,16 +15,16 @@ use Rattle.sw_machine.specs.Packets.{marker_of}
 use Rattle.sw_machine.specs.Runs.{GoesOn, length_pending, total, undelivered}
 use Rattle.sw_machine.specs.State.{State}
 use Rattle.sw_machine.specs.Steps.{Accept, Arrive, Emit, Fct, FctIn, Forward, Grant, Reply}
-use Rattle.sw_machine.specs.declared.input.Input.{Input}
-use Rattle.sw_machine.specs.declared.input.Input.TheVariants.{Held, Idle, Spilling}
+use Rattle.sw_machine.specs.declared.input.InputState.{InputState}
+use Rattle.sw_machine.specs.declared.input.InputState.TheVariants.{Held, Idle, Spilling}
 
 -- whether some input holds d
-pub held_or_free : (n d : ℕ) (input : ℕ → Input) → ((b : ℕ) × (b < n) × (input b ≡ Held d)) ⊎ ((b : ℕ) → b < n → input b ≡ Held d → ⊥)
+pub held_or_free : (n d : ℕ) (input : ℕ → InputState) → ((b : ℕ) × (b < n) × (input b ≡ Held d)) ⊎ ((b : ℕ) → b < n → input b ≡ Held d → ⊥)
 held_or_free zero d input = inr (λ b lt e. omega arith)
 held_or_free (suc n) d input =
     ⊎_elim (λ h. inl (h.0, omega (arith, h.1), h.2)) (λ free. here (input n) refl free) (held_or_free n d input)
   where
-    here : (i : Input) → input n ≡ i → ((b : ℕ) → b < n → input b ≡ Held d → ⊥) → ((b : ℕ) × (b < suc n) × (input b ≡ Held d)) ⊎ ((b : ℕ) → b < suc n → input b ≡ Held d → ⊥)
+    here : (i : InputState) → input n ≡ i → ((b : ℕ) → b < n → input b ≡ Held d → ⊥) → ((b : ℕ) × (b < suc n) × (input b ≡ Held d)) ⊎ ((b : ℕ) → b < suc n → input b ≡ Held d → ⊥)
     here Idle e free = inr (λ b lt h. ⊎_elim (λ same. let k = ap input same in cc) (λ other. free b (omega arith) h) (cases_eq b n))
     here Spilling e free = inr (λ b lt h. ⊎_elim (λ same. let k = ap input same in cc) (λ other. free b (omega arith) h) (cases_eq b n))
     here (Held x) e free =
@@ -190,7 +190,7 @@ module _ (net : Network) (cert : Certificate) (s : State) (g : Ghost) (ok : IsNe
           (λ free. record { step = Grant h.d c; no_begin = refl; possible = (_, record { in_net = lt; switch = switch; at = at; idle = idle; h = h.h; rest = r; front = e ∙ ap (λ y. y ∷ r) h.is; named = h.names; not_held = free; after = refl }) })
           (held_or_free net.channels h.d s.input)
 
-      by_input : (switch : ℕ) → net.end_of c ≡ AtSwitch switch → (x : NChar) (r : List NChar) → s.buffer c ≡ x ∷ r → (i : Input) → s.input c ≡ i → ((d : ℕ) → d < net.channels → top < number cert d + m → Busy d → GoesOn net s) → GoesOn net s
+      by_input : (switch : ℕ) → net.end_of c ≡ AtSwitch switch → (x : NChar) (r : List NChar) → s.buffer c ≡ x ∷ r → (i : InputState) → s.input c ≡ i → ((d : ℕ) → d < net.channels → top < number cert d + m → Busy d → GoesOn net s) → GoesOn net s
       by_input switch at x r e Idle ei on =
           let idle = subst (InputIs net cert g.rest g.coming c) ei (inv.inputs c lt) in
           waiting switch at x r e ei (front_header c switch lt at (idle switch at) x r e (g.queue c) refl) on

@@ -21,7 +21,7 @@ use Rattle.sw_machine.specs.Packets.{IsCut, Packet, is_marker, marker_of}
 use Rattle.sw_machine.specs.Runs.{IsReached, Run}
 use Rattle.sw_machine.specs.State.{State, after_accept, after_arrive, after_begin, after_emit, after_fct, after_fct_in, after_forward, after_grant, after_reply, empty, reply_packet}
 use Rattle.sw_machine.specs.Steps.{Accept, Arrive, Begin, Drop, Drops, Emit, Fct, FctIn, Forward, Grant, Leads, Reply, Spill, Step}
-use Rattle.sw_machine.specs.declared.input.Input.TheVariants.{Idle}
+use Rattle.sw_machine.specs.declared.input.InputState.TheVariants.{Idle}
 
 module _ (net : Network) (cert : Certificate) (ok : IsNetwork net) (acc : IsAccepted net cert) where
   -- the packets behind t's characters are those of g and these

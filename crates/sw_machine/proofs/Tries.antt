@@ -15,8 +15,8 @@ use Rattle.sw_machine.specs.Runs.{Run}
 use Rattle.sw_machine.specs.State.{State, after_accept, after_arrive, after_begin, after_drop_byte, after_drop_marker, after_emit, after_fct, after_fct_in, after_forward, after_grant, after_reply, after_spill}
 use Rattle.sw_machine.specs.Steps.{Accept, Arrive, Begin, Drop, Drops, Emit, Fct, FctIn, Forward, Grant, Leads, Reply, Spill, Step}
 use Rattle.sw_machine.specs.Tried.{holds, is_answered_by, is_held, try_accept, try_arrive, try_begin, try_credit, try_drop, try_drop_byte, try_emit, try_fct_in, try_forward, try_grant, try_reply, try_spill, try_step, try_steps, under_way}
-use Rattle.sw_machine.specs.declared.input.Input.{Input}
-use Rattle.sw_machine.specs.declared.input.Input.TheVariants.{Held, Idle, Spilling}
+use Rattle.sw_machine.specs.declared.input.InputState.{InputState}
+use Rattle.sw_machine.specs.declared.input.InputState.TheVariants.{Held, Idle, Spilling}
 
 pub fits : (b : Bool) (x t : State) → (if b then Some x else None) ≡ Some t → (b ≡ true) × (t ≡ x)
 fits true x t e = (refl, cc)
@@ -26,11 +26,11 @@ both : (a b : Bool) → (a && b) ≡ true → (a ≡ true) × (b ≡ true)
 both true b e = (refl, e)
 both false b e = absurd (cc)
 
-none_holds : (n d : ℕ) (input : ℕ → Input) → not (is_held n d input) ≡ true → (b : ℕ) → b < n → input b ≢ Held d
+none_holds : (n d : ℕ) (input : ℕ → InputState) → not (is_held n d input) ≡ true → (b : ℕ) → b < n → input b ≢ Held d
 none_holds zero d input e b lt held = omega arith
 none_holds (suc n) d input e b lt held = here (input n) refl e (λ e ne. none_holds n d input e b (omega arith) held)
   where
-    here : (i : Input) → input n ≡ i → not (holds d i || is_held n d input) ≡ true → (not (is_held n d input) ≡ true → (b ≡ n → ⊥) → ⊥) → ⊥
+    here : (i : InputState) → input n ≡ i → not (holds d i || is_held n d input) ≡ true → (not (is_held n d input) ≡ true → (b ≡ n → ⊥) → ⊥) → ⊥
     here Idle is e rest = rest e (λ same. let k = ap input same in cc)
     here Spilling is e rest = rest e (λ same. let k = ap input same in cc)
     here (Held x) is e rest = ⊎_elim
@@ -67,11 +67,11 @@ names_it [] d (k, lt, e) = absurd (omega arith)
 names_it (x ∷ l) d (zero, lt, e) = rw (eq-eqb d x (sym e)) refl
 names_it (x ∷ l) d (suc k, lt, e) = ⊎_elim (λ same. rw (eq-eqb d x same) refl) (λ ne. rw (ne_eqb d x ne) (names_it l d (k, omega arith, e))) (cases_eq d x)
 
-holds_none : (n d : ℕ) (input : ℕ → Input) → ((b : ℕ) → b < n → input b ≢ Held d) → not (is_held n d input) ≡ true
+holds_none : (n d : ℕ) (input : ℕ → InputState) → ((b : ℕ) → b < n → input b ≢ Held d) → not (is_held n d input) ≡ true
 holds_none zero d input free = refl
 holds_none (suc n) d input free = here (input n) refl (holds_none n d input (λ b lt. free b (omega arith)))
   where
-    here : (i : Input) → input n ≡ i → not (is_held n d input) ≡ true → not (holds d i || is_held n d input) ≡ true
+    here : (i : InputState) → input n ≡ i → not (is_held n d input) ≡ true → not (holds d i || is_held n d input) ≡ true
     here Idle is rest = rest
     here Spilling is rest = rest
     here (Held x) is rest = rw (ne_eqb x d (λ same. free n (omega arith) (is ∙ ap Held same))) rest
@@ -91,7 +91,7 @@ module _ (net : Network) (s : State) where
   arrive c [] t is e = absurd (cc)
   arrive c (x ∷ l) t is e = let f = fits (nat_lt c net.channels) (after_arrive s c x l) t e in record { in_net = in_net c f.0; first = x; rest = l; on_wire = is; after = f.1 }
 
-  grant : (d c : ℕ) (at : Cell) (i : Input) (l : List NChar) (t : State) → net.end_of c ≡ at → s.input c ≡ i → s.buffer c ≡ l → try_grant net s d c at i l ≡ Some t → Leads net s (Grant d c) t
+  grant : (d c : ℕ) (at : Cell) (i : InputState) (l : List NChar) (t : State) → net.end_of c ≡ at → s.input c ≡ i → s.buffer c ≡ l → try_grant net s d c at i l ≡ Some t → Leads net s (Grant d c) t
   grant d c (AtSwitch w) Idle (Data h ∷ l) t at is front e =
       let f = fits (nat_lt c net.channels && (list_any (nat_eq d) (net.look w h) && not (is_held net.channels d s.input))) (after_grant s d c (if net.deletes w h then l else Data h ∷ l)) t e in
       let a = both (nat_lt c net.channels) (list_any (nat_eq d) (net.look w h) && not (is_held net.channels d s.input)) f.0 in
@@ -103,7 +103,7 @@ module _ (net : Network) (s : State) where
   drop_byte c w h l [] t at is front none e = let f = fits (nat_lt c net.channels) (after_drop_byte s c) t e in record { in_net = in_net c f.0; switch = w; at = at; idle = is; first = Data h; rest = l; front = front; after = (none, f.1) }
   drop_byte c w h l (d ∷ look) t at is front none e = absurd (cc)
 
-  dropped : (c : ℕ) (at : Cell) (i : Input) (l : List NChar) (t : State) → net.end_of c ≡ at → s.input c ≡ i → s.buffer c ≡ l → try_drop net s c at i l ≡ Some t → Leads net s (Drop c) t
+  dropped : (c : ℕ) (at : Cell) (i : InputState) (l : List NChar) (t : State) → net.end_of c ≡ at → s.input c ≡ i → s.buffer c ≡ l → try_drop net s c at i l ≡ Some t → Leads net s (Drop c) t
   dropped c (AtSwitch w) Idle (Data h ∷ l) t at is front e = drop_byte c w h l (net.look w h) t at is front refl e
   dropped c (AtSwitch w) Idle (Eop ∷ l) t at is front e = let f = fits (nat_lt c net.channels) (after_drop_marker s c l) t e in record { in_net = in_net c f.0; switch = w; at = at; idle = is; first = Eop; rest = l; front = front; after = f.1 }
   dropped c (AtSwitch w) Idle (Eep ∷ l) t at is front e = let f = fits (nat_lt c net.channels) (after_drop_marker s c l) t e in record { in_net = in_net c f.0; switch = w; at = at; idle = is; first = Eep; rest = l; front = front; after = f.1 }
@@ -113,11 +113,11 @@ module _ (net : Network) (s : State) where
   credited c d x l zero t is front credit e = absurd (cc)
   credited c d x l (suc k) t is front credit e = let f = fits (nat_lt c net.channels) (after_forward s c d x l k) t e in record { in_net = in_net c f.0; d = d; held = is; first = x; rest = l; front = front; remaining = k; credit = credit; after = f.1 }
 
-  forwarded : (c : ℕ) (i : Input) (l : List NChar) (t : State) → s.input c ≡ i → s.buffer c ≡ l → try_forward net s c i l ≡ Some t → Leads net s (Forward c) t
+  forwarded : (c : ℕ) (i : InputState) (l : List NChar) (t : State) → s.input c ≡ i → s.buffer c ≡ l → try_forward net s c i l ≡ Some t → Leads net s (Forward c) t
   forwarded c (Held d) (x ∷ l) t is front e = credited c d x l (s.credit d) t is front refl e
   forwarded c i l t is front e = absurd (cc)
 
-  spilled : (c : ℕ) (i : Input) (l : List NChar) (t : State) → s.input c ≡ i → s.buffer c ≡ l → try_spill net s c i l ≡ Some t → Leads net s (Spill c) t
+  spilled : (c : ℕ) (i : InputState) (l : List NChar) (t : State) → s.input c ≡ i → s.buffer c ≡ l → try_spill net s c i l ≡ Some t → Leads net s (Spill c) t
   spilled c Spilling (x ∷ l) t is front e = let f = fits (nat_lt c net.channels) (after_spill s c x l) t e in record { in_net = in_net c f.0; spilling = is; first = x; rest = l; front = front; after = f.1 }
   spilled c i l t is front e = absurd (cc)
 

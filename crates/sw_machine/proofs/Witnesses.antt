@@ -9,7 +9,7 @@ use Rattle.sw_machine.specs.State.{State, empty}
 use Rattle.sw_machine.specs.Steps.{Fct, Step}
 use Rattle.sw_machine.specs.Tried.{try_steps}
 use Rattle.sw_machine.specs.Witnesses.{IsAnswered, IsDiscarded, IsDropped, SendsFcts, commands, discards, replies, strays}
-use Rattle.sw_machine.specs.declared.input.Input.TheVariants.{Idle, Spilling}
+use Rattle.sw_machine.specs.declared.input.InputState.TheVariants.{Idle, Spilling}
 
 abbrev after : Network → State → List Step → State
 after net s steps = unwrap_or (try_steps net s steps) s

@@ -9,41 +9,41 @@ use Rattle.sw_machine.specs.Parts.{HoldsItsOwn, IsWormhole}
 use Rattle.sw_machine.specs.Runs.{IsReached, Run}
 use Rattle.sw_machine.specs.State.{State, empty, input_after, put}
 use Rattle.sw_machine.specs.Steps.{Accept, Arrive, Begin, Drop, Drops, Emit, Fct, FctIn, Forward, Grant, Leads, Reply, Spill, Step}
-use Rattle.sw_machine.specs.declared.input.Input.{Input}
-use Rattle.sw_machine.specs.declared.input.Input.TheVariants.{Held, Spilling}
+use Rattle.sw_machine.specs.declared.input.InputState.{InputState}
+use Rattle.sw_machine.specs.declared.input.InputState.TheVariants.{Held, Spilling}
 
 module _ (net : Network) (ok : IsNetwork net) where
   -- what holds of the inputs alone
-  record Inputs (input : ℕ → Input) : Type 0 where
+  record Inputs (input : ℕ → InputState) : Type 0 where
     own : (c d : ℕ) → c < net.channels → input c ≡ Held d → HoldsItsOwn net c d
     one : (b c d : ℕ) → b < net.channels → c < net.channels → input b ≡ Held d → input c ≡ Held d → b ≡ c
 
   -- an input holds something else, or nothing, and no other changes
-  fewer : (input more : ℕ → Input) → ((c d : ℕ) → more c ≡ Held d → input c ≡ Held d) → Inputs input → Inputs more
+  fewer : (input more : ℕ → InputState) → ((c d : ℕ) → more c ≡ Held d → input c ≡ Held d) → Inputs input → Inputs more
   fewer input more back h = record {
     own = λ c d lc e. h.own c d lc (back c d e);
     one = λ b c d lb lc eb ec. h.one b c d lb lc (back b d eb) (back c d ec);
   }
 
   -- c passes its marker on, or another character
-  back_passed : (input : ℕ → Input) (c : ℕ) (x : NChar) (before : Input) → input c ≡ before → (b e : ℕ) → put input c (input_after x before) b ≡ Held e → input b ≡ Held e
+  back_passed : (input : ℕ → InputState) (c : ℕ) (x : NChar) (before : InputState) → input c ≡ before → (b e : ℕ) → put input c (input_after x before) b ≡ Held e → input b ≡ Held e
   back_passed input c x before was b e h = ⊎_elim
       (λ same. ap input same ∙ was ∙ held x before (sym (put_here input c (input_after x before)) ∙ ap (put input c (input_after x before)) (sym same) ∙ h))
       (λ ne. sym (put_there input c (input_after x before) b ne) ∙ h)
       (cases_eq b c)
     where
-      held : (x : NChar) (before : Input) → input_after x before ≡ Held e → before ≡ Held e
+      held : (x : NChar) (before : InputState) → input_after x before ≡ Held e → before ≡ Held e
       held (Data byte) before h = h
       held Eop before h = absurd (cc)
       held Eep before h = absurd (cc)
 
-  back_spilled : (input : ℕ → Input) (c b e : ℕ) → put input c Spilling b ≡ Held e → input b ≡ Held e
+  back_spilled : (input : ℕ → InputState) (c b e : ℕ) → put input c Spilling b ≡ Held e → input b ≡ Held e
   back_spilled input c b e h = ⊎_elim
       (λ same. let at = sym (put_here input c Spilling) ∙ ap (put input c Spilling) (sym same) ∙ h in absurd (cc))
       (λ ne. sym (put_there input c Spilling b ne) ∙ h)
       (cases_eq b c)
 
-  granted : (input : ℕ → Input) (d c switch h : ℕ) → net.end_of c ≡ AtSwitch switch → Contains (net.look switch h) d → ((b : ℕ) → b < net.channels → input b ≢ Held d) → Inputs input → Inputs (put input c (Held d))
+  granted : (input : ℕ → InputState) (d c switch h : ℕ) → net.end_of c ≡ AtSwitch switch → Contains (net.look switch h) d → ((b : ℕ) → b < net.channels → input b ≢ Held d) → Inputs input → Inputs (put input c (Held d))
   granted input d c switch h at named free i = record {
     own = λ b e lb held. ⊎_elim
         (λ same.

@@ -7,8 +7,8 @@ use Rattle.sw_machine.specs.Packets.{IsCut, Packet}
 use Rattle.sw_machine.specs.Runs.{IsReached}
 use Rattle.sw_machine.specs.State.{State, empty, input_after, memory_at, put, reply_at, reply_packet}
 use Rattle.sw_machine.specs.Steps.{Accept, Arrive, Begin, Drop, Emit, Fct, FctIn, Forward, Grant, Leads, Reply, Spill, Step}
-use Rattle.sw_machine.specs.declared.input.Input.{Input}
-use Rattle.sw_machine.specs.declared.input.Input.TheVariants.{Held, Idle, Spilling}
+use Rattle.sw_machine.specs.declared.input.InputState.{InputState}
+use Rattle.sw_machine.specs.declared.input.InputState.TheVariants.{Held, Idle, Spilling}
 
 pub record OneReplyState : Type 0 where
   pub credit : ℕ → ℕ
@@ -16,7 +16,7 @@ pub record OneReplyState : Type 0 where
   pub fcts : ℕ → ℕ
   pub buffer : ℕ → List NChar
   pub outstanding : ℕ → ℕ
-  pub input : ℕ → Input
+  pub input : ℕ → InputState
   pub to_send : ℕ → List NChar
   pub pending : ℕ → Option PendingReply
   pub answering : ℕ → Bool

@@ -4,7 +4,7 @@ use Rattle.sw_machine.specs.Network.{AtNode, AtSwitch, Cell, IsNetwork, Network,
 use Rattle.sw_machine.specs.Runs.{IsReached}
 use Rattle.sw_machine.specs.State.{State}
 use Rattle.sw_machine.specs.Steps.{Accept, Arrive, Begin, Drop, Emit, Fct, FctIn, Forward, Grant, IsPossible, Leads, Reply, Spill, Step}
-use Rattle.sw_machine.specs.declared.input.Input.TheVariants.{Held}
+use Rattle.sw_machine.specs.declared.input.InputState.TheVariants.{Held}
 
 -- the cell at which the step is done
 abbrev pub cell_of : Network → Step → Cell

@@ -5,8 +5,8 @@ use Rattle.sw_char.specs.declared.nchar.NChar.{NChar}
 use Rattle.sw_char.specs.declared.nchar.NChar.TheVariants.{Data, Eep, Eop}
 use Rattle.sw_machine.specs.Network.{Network, PendingReply}
 use Rattle.sw_machine.specs.Packets.{is_marker}
-use Rattle.sw_machine.specs.declared.input.Input.{Input}
-use Rattle.sw_machine.specs.declared.input.Input.TheVariants.{Held, Idle, Spilling}
+use Rattle.sw_machine.specs.declared.input.InputState.{InputState}
+use Rattle.sw_machine.specs.declared.input.InputState.TheVariants.{Held, Idle, Spilling}
 
 -- each channel's and each node's part, by its number
 pub record State : Type 0 where
@@ -15,7 +15,7 @@ pub record State : Type 0 where
   pub fcts : ℕ → ℕ  -- how many FCTs for the channel are under way
   pub buffer : ℕ → List NChar
   pub outstanding : ℕ → ℕ  -- how many characters were asked for by FCTs and have not yet arrived
-  pub input : ℕ → Input
+  pub input : ℕ → InputState
   pub to_send : ℕ → List NChar
   pub pending : ℕ → List PendingReply
   pub owed : ℕ → ℕ  -- how many replies the node owes
@@ -43,7 +43,7 @@ abbrev pub put : {A : Type 0} → (ℕ → A) → ℕ → A → ℕ → A
 put f c x k = if nat_eq k c then x else f k
 
 -- what an input does after it has passed this character on: a marker frees its output
-abbrev pub input_after : NChar → Input → Input
+abbrev pub input_after : NChar → InputState → InputState
 input_after x before = if is_marker x then Idle else before
 
 -- the reply to the packet that this character completes, where bytes came before it

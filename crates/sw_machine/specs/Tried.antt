@@ -9,16 +9,16 @@ use Rattle.sw_char.specs.declared.nchar.NChar.TheVariants.{Data, Eep, Eop}
 use Rattle.sw_machine.specs.Network.{AtSwitch, Cell, Network, PendingReply, form, left_bytes}
 use Rattle.sw_machine.specs.State.{State, after_accept, after_arrive, after_begin, after_drop_byte, after_drop_marker, after_emit, after_fct, after_fct_in, after_forward, after_grant, after_reply, after_spill}
 use Rattle.sw_machine.specs.Steps.{Accept, Arrive, Begin, Drop, Emit, Fct, FctIn, Forward, Grant, Leads, Reply, Spill, Step}
-use Rattle.sw_machine.specs.declared.input.Input.{Input}
-use Rattle.sw_machine.specs.declared.input.Input.TheVariants.{Held, Idle, Spilling}
+use Rattle.sw_machine.specs.declared.input.InputState.{InputState}
+use Rattle.sw_machine.specs.declared.input.InputState.TheVariants.{Held, Idle, Spilling}
 
 -- whether the input holds d
-abbrev pub holds : ℕ → Input → Bool
+abbrev pub holds : ℕ → InputState → Bool
 holds d (Held e) = nat_eq e d
 holds d i = false
 
 -- whether some input below n holds d
-abbrev pub is_held : ℕ → ℕ → (ℕ → Input) → Bool
+abbrev pub is_held : ℕ → ℕ → (ℕ → InputState) → Bool
 is_held zero d input = false
 is_held (suc n) d input = holds d (input n) || is_held n d input
 
@@ -38,7 +38,7 @@ module _ (net : Network) (s : State) where
   try_arrive c [] = None
   try_arrive c (x ∷ l) = if nat_lt c net.channels then Some (after_arrive s c x l) else None
 
-  abbrev pub try_grant : ℕ → ℕ → Cell → Input → List NChar → Option State
+  abbrev pub try_grant : ℕ → ℕ → Cell → InputState → List NChar → Option State
   try_grant d c (AtSwitch w) Idle (Data h ∷ l) = if nat_lt c net.channels && (list_any (nat_eq d) (net.look w h) && not (is_held net.channels d s.input)) then Some (after_grant s d c (if net.deletes w h then l else Data h ∷ l)) else None
   try_grant d c at i l = None
 
@@ -46,7 +46,7 @@ module _ (net : Network) (s : State) where
   try_drop_byte c [] = if nat_lt c net.channels then Some (after_drop_byte s c) else None
   try_drop_byte c (d ∷ l) = None
 
-  abbrev pub try_drop : ℕ → Cell → Input → List NChar → Option State
+  abbrev pub try_drop : ℕ → Cell → InputState → List NChar → Option State
   try_drop c (AtSwitch w) Idle (Data h ∷ l) = try_drop_byte c (net.look w h)
   try_drop c (AtSwitch w) Idle (Eop ∷ l) = if nat_lt c net.channels then Some (after_drop_marker s c l) else None
   try_drop c (AtSwitch w) Idle (Eep ∷ l) = if nat_lt c net.channels then Some (after_drop_marker s c l) else None
@@ -56,11 +56,11 @@ module _ (net : Network) (s : State) where
   try_credit c d x l zero = None
   try_credit c d x l (suc k) = if nat_lt c net.channels then Some (after_forward s c d x l k) else None
 
-  abbrev pub try_forward : ℕ → Input → List NChar → Option State
+  abbrev pub try_forward : ℕ → InputState → List NChar → Option State
   try_forward c (Held d) (x ∷ l) = try_credit c d x l (s.credit d)
   try_forward c i l = None
 
-  abbrev pub try_spill : ℕ → Input → List NChar → Option State
+  abbrev pub try_spill : ℕ → InputState → List NChar → Option State
   try_spill c Spilling (x ∷ l) = if nat_lt c net.channels then Some (after_spill s c x l) else None
   try_spill c i l = None
 

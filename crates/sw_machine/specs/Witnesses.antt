@@ -6,7 +6,7 @@ use Rattle.sw_machine.specs.Runs.{CameOut, Run, undelivered}
 use Rattle.sw_machine.specs.Sample.{misrouted, of_capacity, sample}
 use Rattle.sw_machine.specs.State.{State, empty}
 use Rattle.sw_machine.specs.Steps.{Accept, Arrive, Begin, Drop, Emit, Fct, FctIn, Forward, Grant, IsPossible, Reply, Spill, Step}
-use Rattle.sw_machine.specs.declared.input.Input.TheVariants.{Idle}
+use Rattle.sw_machine.specs.declared.input.InputState.TheVariants.{Idle}
 
 -- with buffers of this size, so many FCTs can be sent on channel 0 at first, and not one more
 abbrev pub SendsFcts : ℕ → ℕ → Type 0

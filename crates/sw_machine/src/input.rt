@@ -2,7 +2,7 @@
 
 /// The state of a switch's input port (ECSS-E-ST-50-12C, network layer: wormhole routing).
 #[derive(Clone, Copy, Debug, PartialEq, Eq)]
-pub enum Input {
+pub enum InputState {
     /// It waits for a packet's header.
     Idle,
     /// It passes a packet on to the channel of this number.

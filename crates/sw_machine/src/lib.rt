@@ -4,4 +4,4 @@
 mod input;
 pub mod laws;
 
-pub use input::Input;
+pub use input::InputState;

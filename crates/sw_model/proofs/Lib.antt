@@ -4,3 +4,7 @@ pub mod Topology
 pub mod Networks
 pub mod Steps
 pub mod Memories
+pub mod Declared
+pub mod Declares
+mod Headers
+mod Ends

@@ -1,15 +1,16 @@
 -- What holds of the machine's network of a network that a file declares.
-use Rattle.std.specs.Prelude.{◌≡◌, ◌↔◌, ℕ, ◌<◌, ◌≤◌, length, slice_get, Some, None}
+use Rattle.std.specs.Prelude.{◌≡◌, ◌↔◌, ℕ, ◌<◌, ◌≤◌, List, length, slice_get, Some, None, true}
 use Rattle.sw_rmap.specs.declared.config.TargetConfig.{TargetConfig}
-use Rattle.sw_network.specs.Entries.{FlowEntry, Declaration, all_flows, target_of}
-use Rattle.sw_network.specs.Valid.{IsValid}
+use Rattle.sw_config.specs.Entries.{FlowEntry, Declaration, all_flows, target_of}
+use Rattle.sw_config.specs.Valid.{IsValid}
 use Rattle.sw_flow.specs.Places as declared
 use Rattle.sw_flow.specs.Faults as declared_faults
-use Rattle.sw_machine.specs.Network.{IsNetwork}
+use Rattle.sw_machine.specs.Network.{IsDeclared, IsNetwork}
 use Rattle.sw_machine.specs.Places as machine
 use Rattle.sw_machine.specs.Runs.{IsReached}
 use Rattle.sw_machine.specs.State.{State}
 use Rattle.sw_model.specs.Model.{network_of}
+use Rattle.sw_model.specs.Packets.{IsDeclaredPacket, is_declared_packet}
 
 -- each valid network is one of the machine's
 abbrev pub DeclaredNetworksAreNetworks : Type 0
@@ -34,3 +35,11 @@ StepsOfFlowsAgree = (d : Declaration) → IsValid d → (i : ℕ) (f : FlowEntry
 -- in each reached state a target's memory has as many bytes as its window
 abbrev pub MemoriesKeepTheirLength : Type 0
 MemoriesKeepTheirLength = (d : Declaration) (s : State) → IsReached (network_of d) s → (n : ℕ) (t : TargetConfig) → target_of d.nodes n ≡ Some t → length (s.memory n) ≡ t.size
+
+-- the test passes for the declared packets alone
+abbrev pub DeclaredPacketsPass : Type 0
+DeclaredPacketsPass = (d : Declaration) (flow : ℕ) (cargo : List ℕ) → (is_declared_packet d flow cargo ≡ true) ↔ IsDeclaredPacket d flow cargo
+
+-- the packets that a flow declares by its entry are those that it declares in the machine
+abbrev pub DeclaredPacketsAgree : Type 0
+DeclaredPacketsAgree = (d : Declaration) (flow : ℕ) (cargo : List ℕ) → IsDeclaredPacket d flow cargo ↔ IsDeclared (network_of d) flow cargo

@@ -1,2 +1,4 @@
 pub mod Model
 pub mod Laws
+pub mod Steps
+pub mod Packets

@@ -1,5 +1,5 @@
 //! What holds of the machine's network of a declared network. These functions do nothing: each is the proof of what its clause says.
-ghost use Rattle.sw_model.specs.Laws.{DeclaredNetworksAreNetworks, MemoriesKeepTheirLength, StepsOfFlowsAgree};
+ghost use Rattle.sw_model.specs.Laws.{DeclaredNetworksAreNetworks, DeclaredPacketsAgree, DeclaredPacketsPass, MemoriesKeepTheirLength, StepsOfFlowsAgree};
 
 /// Each valid network is one of the machine's.
 pub fn declared_networks_are_networks()
@@ -15,4 +15,14 @@ pub fn steps_of_flows_agree()
 /// window: no command, whatever its bytes, makes it longer or shorter.
 pub fn memories_keep_their_length()
     ensures { MemoriesKeepTheirLength }
+{}
+
+/// The test for declared packets passes for these alone.
+pub fn declared_packets_pass()
+    ensures { DeclaredPacketsPass }
+{}
+
+/// A flow declares the same packets by its entry and in the machine.
+pub fn declared_packets_agree()
+    ensures { DeclaredPacketsAgree }
 {}

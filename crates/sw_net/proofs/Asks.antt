@@ -2,16 +2,16 @@
 use Rattle.std.proofs.Common.{Bool, Some, ap, false, refl, sym, true, ℕ, ◌∙◌, ◌≡◌, ◌↔◌, IsTrue}
 use Rattle.std.proofs.lemmas.Bool.{false≢true}
 use Rattle.std.specs.Prelude.{IsBitSet, slice_get}
-use Rattle.sw_cells.proofs.Dropping.{some_of}
-use Rattle.sw_cells.proofs.Picking as picking
-use Rattle.sw_cells.proofs.Telling.{port_grant}
+use Rattle.sw_cell.proofs.Dropping.{some_of}
+use Rattle.sw_cell.proofs.Picking as picking
+use Rattle.sw_cell.proofs.Telling.{port_grant}
 use Rattle.sw_flow.specs.Places.{end_of, ends_of}
 use Rattle.sw_machine.specs.Steps.{Grant}
 use Rattle.sw_net.proofs.Possibles.{switch_told}
 use Rattle.sw_net.specs.Asking.{AreAsking, IsInput}
 use Rattle.sw_net.specs.Net.{IsNet, NetView}
 use Rattle.sw_net.specs.Possible.{Tells}
-use Rattle.sw_network.specs.Entries.{wiring_of}
+use Rattle.sw_config.specs.Entries.{wiring_of}
 use Rattle.sw_route.specs.declared.look.Look.{Look}
 use Rattle.sw_switch.specs.Cell.{Cell}
 use Rattle.sw_switch.specs.Conditions as ports

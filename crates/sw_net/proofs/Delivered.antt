@@ -4,7 +4,7 @@ use native.Mathlib.Bridge.{le_prop}
 use Rattle.std.proofs.Common.{Some, ⊎_elim, add-one, ap, arith, length, refl, subst, suc, sym, zero, ℕ, ◌+◌, ◌*◌, ◌^◌, ◌<◌, ◌≤◌, ◌∙◌, ◌≡◌}
 use Rattle.std.proofs.lemmas.Bool.{cases_lt}
 use Rattle.std.specs.Prelude.{slice_get}
-use Rattle.sw_cells.proofs.Network.{channels_are, nodes_are}
+use Rattle.sw_cell.proofs.Network.{channels_are, nodes_are}
 use Rattle.sw_flow.specs.Places.{end_of}
 use Rattle.sw_machine.specs.Network.{AtNode}
 use Rattle.sw_machine.specs.Runs.{length_pending, total, undelivered}
@@ -14,14 +14,14 @@ use Rattle.sw_model.specs.Model.{network_of}
 use Rattle.sw_net.proofs.Few.{few_undelivered}
 use Rattle.sw_net.specs.Delivery.{IsAtNode, IsAtNodes, IsBuffered, IsInChannel, IsInChannels, IsUndelivered, at_node, in_channel}
 use Rattle.sw_net.specs.Net.{IsNet, IsNetState, NetView}
-use Rattle.sw_network.proofs.Steps.{length-link_ends}
-use Rattle.sw_network.specs.Entries.{Declaration, wiring_of}
+use Rattle.sw_config.proofs.Steps.{length-link_ends}
+use Rattle.sw_config.specs.Entries.{Declaration, wiring_of}
 use Rattle.sw_node.specs.Node.{Node}
 use Rattle.sw_route.specs.declared.look.Look.{Look}
 use Rattle.sw_switch.specs.Cell.{Cell, end_at}
 use Rattle.sw_topo.proofs.Converse.{no_fault}
 use Rattle.sw_topo.specs.declared.place.PlaceEnd.TheVariants as place
-use Rattle.sw_wires.specs.Between.{wire_at}
+use Rattle.sw_link.specs.Between.{wire_at}
 
 module _ (f : ℕ → ℕ) where
   total_more : (c : ℕ) → total (c + 1) f ≡ total c f + f c

@@ -17,10 +17,10 @@ use Rattle.sw_model.proofs.Answering.{reply_length}
 use Rattle.sw_model.proofs.Flows.{some_at}
 use Rattle.sw_model.proofs.Networks.{are_networks}
 use Rattle.sw_model.specs.Model.{answer_of, answered_to, longest_reply, network_of, slots_of}
-use Rattle.sw_network.proofs.FlowLaws.{valid_flows}
-use Rattle.sw_network.proofs.Flows.{All-at}
-use Rattle.sw_network.specs.Entries.{Declaration, LinkEntry, NodeEntry, all_flows, capacities, link_ends, target_of}
-use Rattle.sw_network.specs.Valid.{IsFlow, IsLink, IsNode, IsValid}
+use Rattle.sw_config.proofs.FlowLaws.{valid_flows}
+use Rattle.sw_config.proofs.Flows.{All-at}
+use Rattle.sw_config.specs.Entries.{Declaration, LinkEntry, NodeEntry, all_flows, capacities, link_ends, target_of}
+use Rattle.sw_config.specs.Valid.{IsFlow, IsLink, IsNode, IsValid}
 use Rattle.sw_rmap.proofs.Reading.{is_read}
 use Rattle.sw_rmap.specs.CommandView.{CommandView}
 use Rattle.sw_rmap.specs.Commands.{fields_of, instruction_of, read}

@@ -11,8 +11,8 @@ use Rattle.sw_net.proofs.Told.{start_at_node}
 use Rattle.sw_net.specs.Net.{NetView}
 use Rattle.sw_net.specs.Numbers.{AreNumbers, numbers_at}
 use Rattle.sw_net.specs.declared.numbers.Numbers.{Numbers}
-use Rattle.sw_network.specs.Entries.{capacities}
-use Rattle.sw_network.specs.Valid.{IsValid}
+use Rattle.sw_config.specs.Entries.{capacities}
+use Rattle.sw_config.specs.Valid.{IsValid}
 use Rattle.sw_node.specs.Node.{Node}
 use Rattle.sw_switch.specs.Cell.{Cell, credit_at, end_at}
 use Rattle.sw_topo.proofs.Ends.{partner_back}

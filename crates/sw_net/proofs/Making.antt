@@ -7,15 +7,15 @@ use Rattle.std.specs.Prelude.{Err, IfNone, IfSome, Result, slice_get}
 use Rattle.sw_cell.specs.Places.{IsUndeclared}
 use Rattle.sw_cell.specs.declared.fault.NetFault.{NetFault}
 use Rattle.sw_cell.specs.declared.fault.NetFault.TheVariants.{NotEnabled, NotInFlow}
-use Rattle.sw_cells.proofs.LinkEnds.{none_at_port}
-use Rattle.sw_cells.proofs.Switches.{ends_at}
-use Rattle.sw_cells.specs.Picks.{CannotGrant, GrantsPick}
-use Rattle.sw_cells.specs.Possible.{NodeHas, PortHas, step_at_node, step_at_port}
-use Rattle.sw_cells.specs.SwitchParts.{IsSwitchFor}
-use Rattle.sw_cells.specs.declared.node.NodeStep.{NodeStep}
-use Rattle.sw_cells.specs.declared.node.NodeStep.TheVariants as at_node
-use Rattle.sw_cells.specs.declared.switch.PortStep.{PortStep}
-use Rattle.sw_cells.specs.declared.switch.PortStep.TheVariants as at_port
+use Rattle.sw_cell.proofs.LinkEnds.{none_at_port}
+use Rattle.sw_cell.proofs.Switches.{ends_at}
+use Rattle.sw_cell.specs.Picks.{CannotGrant, GrantsPick}
+use Rattle.sw_cell.specs.Possible.{NodeHas, PortHas, step_at_node, step_at_port}
+use Rattle.sw_cell.specs.SwitchParts.{IsSwitchFor}
+use Rattle.sw_cell.specs.declared.node.NodeStep.{NodeStep}
+use Rattle.sw_cell.specs.declared.node.NodeStep.TheVariants as at_node
+use Rattle.sw_cell.specs.declared.switch.PortStep.{PortStep}
+use Rattle.sw_cell.specs.declared.switch.PortStep.TheVariants as at_port
 use Rattle.sw_machine.specs.Network.{AtSwitch, IsNetwork, Network, reverse_of}
 use Rattle.sw_machine.specs.Parts.{link_end_of}
 use Rattle.sw_machine.specs.Steps.{Accept, Arrive, Begin, Drop, Emit, Fct, FctIn, Forward, Grant, Reply, Spill, Step, is_begin}
@@ -28,14 +28,14 @@ use Rattle.sw_net.specs.Asked.{CanStep}
 use Rattle.sw_net.specs.Making.{IsDecided, IsMoveOf, IsPlain, Moves, MovesAt}
 use Rattle.sw_net.specs.Net.{IsNet, NetAnswers, NetView, arbiters_of, net_of}
 use Rattle.sw_net.specs.Possible.{Tells}
-use Rattle.sw_network.specs.Entries.{Declaration}
-use Rattle.sw_network.specs.Valid.{IsValid}
+use Rattle.sw_config.specs.Entries.{Declaration}
+use Rattle.sw_config.specs.Valid.{IsValid}
 use Rattle.sw_node.specs.Node.{Node}
 use Rattle.sw_route.specs.declared.look.Look.{Look}
-use Rattle.sw_steps.specs.declared.step.Step.{Step as CodeStep}
+use Rattle.sw_model.specs.declared.step.Step.{Step as CodeStep}
 use Rattle.sw_switch.specs.Cell.{Cell}
 use Rattle.sw_topo.proofs.Ends.{partner_back}
-use Rattle.sw_wires.specs.Between.{Between}
+use Rattle.sw_link.specs.Between.{Between}
 
 -- one switch changes, and keeps its arbiters
 pub same_arbiters : {R A : Type 0} (switches : List (Cell R A)) (w : ℕ) (cell after : Cell R A) → slice_get switches w ≡ Some cell → after.arbiters ≡ cell.arbiters → arbiters_of (set switches w after) ≡ arbiters_of switches

@@ -8,10 +8,10 @@ use Rattle.std.specs.Global.{Vec}
 use Rattle.std.specs.Int.{bit_at}
 use Rattle.std.specs.Option.{option_map_or}
 use Rattle.std.specs.Prelude.{Err, IfOk, Ok, OnOk, Result, slice_get, slice_index}
-use Rattle.sw_cells.proofs.Dropping.{some_of}
-use Rattle.sw_cells.proofs.Switches.{port_small}
-use Rattle.sw_cells.specs.Parts.{IsBetweenPart}
-use Rattle.sw_cells.specs.SwitchParts.{input_of}
+use Rattle.sw_cell.proofs.Dropping.{some_of}
+use Rattle.sw_cell.proofs.Switches.{port_small}
+use Rattle.sw_cell.specs.Parts.{IsBetweenPart}
+use Rattle.sw_cell.specs.SwitchParts.{input_of}
 use Rattle.sw_char.specs.declared.nchar.NChar.{NChar}
 use Rattle.sw_flow.specs.Places.{ends_of}
 use Rattle.sw_machine.specs.State.{empty}
@@ -19,9 +19,9 @@ use Rattle.sw_model.specs.Model.{memory_at_first, network_of}
 use Rattle.sw_net.proofs.Steps.{get_set_other, get_set_same}
 use Rattle.sw_net.specs.Net.{IsNet, IsNetState, net_of}
 use Rattle.sw_net.specs.New.{AreArbiters, AreLeft, AreRoutes, IsLinkedSet, IsNewNode, IsNewSwitch, IsOneMore, IsPlaced, IsRow, port_capacity}
-use Rattle.sw_network.proofs.Steps.{length-link_ends}
-use Rattle.sw_network.specs.Entries.{Declaration, capacities, look_at, target_of, wiring_of}
-use Rattle.sw_network.specs.Valid.{IsValid}
+use Rattle.sw_config.proofs.Steps.{length-link_ends}
+use Rattle.sw_config.specs.Entries.{Declaration, capacities, look_at, target_of, wiring_of}
+use Rattle.sw_config.specs.Valid.{IsValid}
 use Rattle.sw_node.specs.Node.{Node, config_of, memory_of, new_node, target_at_first}
 use Rattle.sw_rmap.specs.declared.config.TargetConfig.{TargetConfig}
 use Rattle.sw_route.specs.declared.look.Look.{Look}
@@ -31,7 +31,7 @@ use Rattle.sw_topo.proofs.Ends.{one_port, partner_back, port_found, port_starts}
 use Rattle.sw_topo.proofs.PortBits.{clear_zero, one_set, set_below, set_one}
 use Rattle.sw_topo.specs.Wiring.{out_of, partner}
 use Rattle.sw_topo.specs.declared.place.PlaceEnd.TheVariants.{Node as AtNode, Switch}
-use Rattle.sw_wires.specs.Between.{Between, empty_between}
+use Rattle.sw_link.specs.Between.{Between, empty_between}
 
 -- ---- lists
 

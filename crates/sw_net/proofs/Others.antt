@@ -1,16 +1,16 @@
 -- A step at one cell keeps the parts of all others.
 use Rattle.std.proofs.Common.{ℕ, Some, refl, ◌<◌, ◌≡◌, ◌∙◌}
 use Rattle.std.specs.Prelude.{slice_get}
-use Rattle.sw_cells.proofs.Switches.{ends_at, starts_within, within}
-use Rattle.sw_cells.specs.Parts.{IsNodePart}
-use Rattle.sw_cells.specs.SwitchParts.{IsSwitchPart}
+use Rattle.sw_cell.proofs.Switches.{ends_at, starts_within, within}
+use Rattle.sw_cell.specs.Parts.{IsNodePart}
+use Rattle.sw_cell.specs.SwitchParts.{IsSwitchPart}
 use Rattle.sw_flow.specs.Places.{ends_of}
 use Rattle.sw_machine.specs.Network.{AtNode, AtSwitch, IsNetwork, Network}
 use Rattle.sw_machine.specs.Parts.{SamePart}
 use Rattle.sw_machine.specs.State.{State}
 use Rattle.sw_model.specs.Model.{network_of}
-use Rattle.sw_network.specs.Entries.{Declaration}
-use Rattle.sw_network.specs.Valid.{IsValid}
+use Rattle.sw_config.specs.Entries.{Declaration}
+use Rattle.sw_config.specs.Valid.{IsValid}
 use Rattle.sw_node.specs.Node.{Node}
 use Rattle.sw_switch.specs.Cell.{Cell}
 use Rattle.sw_topo.specs.declared.place.PlaceEnd.TheVariants.{Switch}

@@ -4,16 +4,16 @@ use Rattle.std.proofs.lemmas.Bool.{cases_eq, eq-eqb, ne_eqb}
 use Rattle.std.proofs.lemmas.List.Elements.{All-map, filter_agree, filter_passes}
 use Rattle.std.specs.List.{range_with_len}
 use Rattle.std.specs.Prelude.{IsBitSet, IsSome, bit_and, is_some, slice_get, unwrap_or}
-use Rattle.sw_cells.proofs.Dropping.{some_of}
-use Rattle.sw_cells.specs.SwitchParts.{IsSwitchFor, input_of}
+use Rattle.sw_cell.proofs.Dropping.{some_of}
+use Rattle.sw_cell.specs.SwitchParts.{IsSwitchFor, input_of}
 use Rattle.sw_flow.specs.Places.{end_of, ends_of}
 use Rattle.sw_machine.specs.State.{State}
-use Rattle.sw_machine.specs.declared.input.Input.{Input}
+use Rattle.sw_machine.specs.declared.input.InputState.{InputState}
 use Rattle.sw_model.specs.Model.{network_of}
 use Rattle.sw_net.specs.Kept.{NodeView, PortView, kept_at_port, kept_by_node}
 use Rattle.sw_net.specs.Net.{IsNetState, NetView}
 use Rattle.sw_net.specs.Parts.{ArePortsOf, IsNodeOf, IsPortOf, IsSameInput, linked_ports}
-use Rattle.sw_network.specs.Entries.{wiring_of}
+use Rattle.sw_config.specs.Entries.{wiring_of}
 use Rattle.sw_node.specs.Node.{Node}
 use Rattle.sw_route.specs.declared.look.Look.{Look}
 use Rattle.sw_switch.specs.Cell.{Cell, input_at}
@@ -81,7 +81,7 @@ module _ {R A : Type 0} (v : NetView R A) (s : State) (k : IsNetState v s) where
         record {
           channel = c;
           starts = out.1;
-          input = subst (λ (i : Input). IsSameInput (ends_of d) w (input_at cell port) i) (sym q.input) input;
+          input = subst (λ (i : InputState). IsSameInput (ends_of d) w (input_at cell port) i) (sym q.input) input;
           credit = sym (p.credit c port starts);
           buffer = sym q.buffer;
           outstanding = sym q.outstanding;

@@ -8,7 +8,7 @@ use Rattle.sw_arb.specs.declared.arbitration.Arbitration.TheVariants as kinds
 use Rattle.sw_arb.specs.declared.policy.Policy.{Policy}
 use Rattle.sw_arb.specs.declared.policy.Policy.TheVariants.{Fixed, LeastRecent, RoundRobin}
 use Rattle.sw_net.specs.New.{AreArbiters, IsLinkedSet}
-use Rattle.sw_network.specs.Entries.{Declaration}
+use Rattle.sw_config.specs.Entries.{Declaration}
 use Rattle.sw_topo.specs.declared.place.PlaceEnd.{PlaceEnd}
 use Rattle.sw_topo.specs.declared.place.PlaceEnd.TheVariants.{Node, Switch}
 

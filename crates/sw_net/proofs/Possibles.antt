@@ -1,15 +1,15 @@
 -- What the cells tell of a step, told of the whole network.
 use Rattle.std.proofs.Common.{Bool, List, Some, ap, false, subst, sym, true, ℕ, ◌<◌, ◌∙◌, ◌≡◌, ◌⊎◌, ⊎_elim}
 use Rattle.std.specs.Prelude.{Err, slice_get}
-use Rattle.sw_cell.proofs.Nodes.{node_of}
+use Rattle.sw_cell.proofs.StepsAtNodes.{node_of}
 use Rattle.sw_cell.proofs.Spilling.{spilling_at_switches}
 use Rattle.sw_cell.specs.Places.{HasNamed, IsAt, IsDoneAt}
 use Rattle.sw_cell.specs.declared.cell.CellId.TheVariants as place
 use Rattle.sw_cell.specs.declared.fault.NetFault.{NetFault}
 use Rattle.sw_cell.specs.declared.fault.NetFault.TheVariants.{Memory, NotEnabled, NotInFlow}
-use Rattle.sw_cells.specs.Possible.{BeginTells, NodeTells, SwitchTells}
+use Rattle.sw_cell.specs.Possible.{BeginTells, NodeTells, SwitchTells}
 use Rattle.sw_char.specs.declared.nchar.End.{End}
-use Rattle.sw_load.proofs.Declares.{declared_are_declared}
+use Rattle.sw_model.proofs.Declares.{declared_are_declared}
 use Rattle.sw_machine.proofs.Wormhole.{held_once}
 use Rattle.sw_machine.specs.Network.{AtNode, AtSwitch}
 use Rattle.sw_machine.specs.Parts.{cell_of}
@@ -18,11 +18,11 @@ use Rattle.sw_model.proofs.Networks.{are_networks}
 use Rattle.sw_model.specs.Model.{network_of}
 use Rattle.sw_net.specs.Net.{NetView}
 use Rattle.sw_net.specs.Possible.{Tells, TellsBeginning}
-use Rattle.sw_network.specs.Valid.{IsValid}
+use Rattle.sw_config.specs.Valid.{IsValid}
 use Rattle.sw_node.specs.Node.{Node}
-use Rattle.sw_steps.specs.Steps.{machine_step}
-use Rattle.sw_steps.specs.declared.step.Step.{Step as CodeStep}
-use Rattle.sw_steps.specs.declared.step.Step.TheVariants as code
+use Rattle.sw_model.specs.Steps.{machine_step}
+use Rattle.sw_model.specs.declared.step.Step.{Step as CodeStep}
+use Rattle.sw_model.specs.declared.step.Step.TheVariants as code
 use Rattle.sw_switch.specs.Cell.{Cell}
 use Rattle.sw_topo.proofs.Ends.{partner_back}
 use Rattle.sw_topo.specs.Wiring.{partner}

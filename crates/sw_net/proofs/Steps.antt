@@ -9,10 +9,10 @@ use Rattle.sw_cell.specs.Places.{HasNamed, IsAt, IsDoneAt, IsUndeclared}
 use Rattle.sw_cell.specs.declared.cell.CellId.TheVariants as place
 use Rattle.sw_cell.specs.declared.fault.NetFault.{NetFault}
 use Rattle.sw_cell.specs.declared.fault.NetFault.TheVariants.{Memory, NotEnabled, NotInFlow}
-use Rattle.sw_cells.proofs.Network.{nodes_are}
-use Rattle.sw_cells.specs.Makes.{HasNodeState, NodeMakes}
-use Rattle.sw_cells.specs.Parts.{IsNodeFor, IsNodePart, IsNodeState}
-use Rattle.sw_cells.specs.SwitchParts.{HasSwitchState, IsSwitchFor, IsSwitchPart, IsSwitchState, SwitchMakes}
+use Rattle.sw_cell.proofs.Network.{nodes_are}
+use Rattle.sw_cell.specs.Makes.{HasNodeState, NodeMakes}
+use Rattle.sw_cell.specs.Parts.{IsNodeFor, IsNodePart, IsNodeState}
+use Rattle.sw_cell.specs.SwitchParts.{HasSwitchState, IsSwitchFor, IsSwitchPart, IsSwitchState, SwitchMakes}
 use Rattle.sw_machine.proofs.Parts.{changes}
 use Rattle.sw_machine.proofs.Wormhole.{held_once}
 use Rattle.sw_machine.specs.Network.{AtNode, AtSwitch, Cell as Place}
@@ -24,11 +24,11 @@ use Rattle.sw_model.proofs.Networks.{are_networks}
 use Rattle.sw_model.specs.Model.{network_of}
 use Rattle.sw_net.proofs.Others.{node_stays, switch_stays}
 use Rattle.sw_net.specs.Net.{IsNet, IsNetState, NetAnswers, NetView, net_of}
-use Rattle.sw_network.specs.Entries.{Declaration}
+use Rattle.sw_config.specs.Entries.{Declaration}
 use Rattle.sw_node.specs.Node.{Node}
 use Rattle.sw_route.specs.declared.look.Look.{Look}
 use Rattle.sw_switch.specs.Cell.{Cell}
-use Rattle.sw_wires.specs.Between.{Between}
+use Rattle.sw_link.specs.Between.{Between}
 
 -- ---- lists
 

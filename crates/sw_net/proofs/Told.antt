@@ -1,7 +1,7 @@
 -- What the cells tell, told of the whole network.
 use Rattle.std.proofs.Common.{Bool, None, Option, Some, false, refl, subst, sym, true, ℕ, ◌<◌, ◌≡◌}
 use Rattle.std.specs.Prelude.{is_some, not, slice_get}
-use Rattle.sw_cells.specs.Possible.{CanStepAt, NodeEnabled, PortEnabled}
+use Rattle.sw_cell.specs.Possible.{CanStepAt, NodeEnabled, PortEnabled}
 use Rattle.sw_flow.specs.Places.{ends_of}
 use Rattle.sw_machine.proofs.Parts.{link_ends}
 use Rattle.sw_machine.specs.Network.{AtNode, AtSwitch}
@@ -12,8 +12,8 @@ use Rattle.sw_model.proofs.Networks.{are_networks}
 use Rattle.sw_model.specs.Model.{network_of}
 use Rattle.sw_net.specs.Asked.{CanStep, IsFirst, IsQuietNet}
 use Rattle.sw_net.specs.Net.{IsNetState, NetView}
-use Rattle.sw_network.specs.Entries.{Declaration}
-use Rattle.sw_network.specs.Valid.{IsValid}
+use Rattle.sw_config.specs.Entries.{Declaration}
+use Rattle.sw_config.specs.Valid.{IsValid}
 use Rattle.sw_node.specs.Node.{Node}
 use Rattle.sw_switch.specs.Cell.{Cell}
 use Rattle.sw_topo.specs.declared.place.PlaceEnd.TheVariants as place

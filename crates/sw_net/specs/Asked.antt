@@ -1,6 +1,6 @@
 -- What a network tells of the states that its cells are the parts of.
 use Rattle.std.specs.Prelude.{Bool, None, Option, Some, false, true, ℕ, ◌<◌}
-use Rattle.sw_cells.specs.Possible.{CanStepAt}
+use Rattle.sw_cell.specs.Possible.{CanStepAt}
 use Rattle.sw_machine.specs.Runs.{GoesOn, IsQuiet}
 use Rattle.sw_machine.specs.State.{State}
 use Rattle.sw_model.specs.Model.{network_of}

@@ -4,7 +4,7 @@ use Rattle.sw_flow.specs.Places.{end_of, ends_of}
 use Rattle.sw_machine.specs.Steps.{Grant}
 use Rattle.sw_net.specs.Net.{NetView}
 use Rattle.sw_net.specs.Possible.{Tells}
-use Rattle.sw_network.specs.Entries.{Declaration}
+use Rattle.sw_config.specs.Entries.{Declaration}
 use Rattle.sw_topo.specs.declared.place.PlaceEnd.TheVariants.{Switch}
 
 -- channel c comes to that port of the switch where channel e starts

@@ -2,18 +2,18 @@
 use Rattle.std.specs.Prelude.{List, Option, Result, Some, length, map, slice_get, ℕ, ◌≡◌}
 use Rattle.sw_cell.specs.Answers.{Answers}
 use Rattle.sw_cell.specs.declared.fault.NetFault.{NetFault}
-use Rattle.sw_cells.specs.Parts.{IsBetweenPart, IsNodeFor, IsNodePart}
-use Rattle.sw_cells.specs.SwitchParts.{IsSwitchFor, IsSwitchPart}
+use Rattle.sw_cell.specs.Parts.{IsBetweenPart, IsNodeFor, IsNodePart}
+use Rattle.sw_cell.specs.SwitchParts.{IsSwitchFor, IsSwitchPart}
 use Rattle.sw_machine.specs.Runs.{IsReached}
 use Rattle.sw_machine.specs.State.{State}
 use Rattle.sw_machine.specs.Steps.{Step}
 use Rattle.sw_model.specs.Model.{network_of}
-use Rattle.sw_network.specs.Entries.{Declaration}
-use Rattle.sw_network.specs.Valid.{IsValid}
+use Rattle.sw_config.specs.Entries.{Declaration}
+use Rattle.sw_config.specs.Valid.{IsValid}
 use Rattle.sw_node.specs.Node.{Node}
 use Rattle.sw_route.specs.declared.look.Look.{Look}
 use Rattle.sw_switch.specs.Cell.{Cell}
-use Rattle.sw_wires.specs.Between.{Between}
+use Rattle.sw_link.specs.Between.{Between}
 
 -- what the network declares; the cells of its nodes and of its switches, in the order of their numbers; and what lies between them
 pub record NetView (R A : Type 0) : Type 0 where

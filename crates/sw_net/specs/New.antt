@@ -2,13 +2,13 @@
 use Rattle.std.specs.Global.{Vec}
 use Rattle.std.specs.Option.{option_map_or}
 use Rattle.std.specs.Prelude.{IsBitSet, IsSome, List, None, Ok, Option, Result, Some, [], length, slice_get, slice_index, ℕ, ◌+◌, ◌++◌, ◌<◌, ◌^◌, ◌∷◌, ◌↔◌, ◌≡◌}
-use Rattle.sw_cells.specs.Parts.{IsNodeFor, IsNodePart}
-use Rattle.sw_cells.specs.SwitchParts.{IsSwitchFor, IsSwitchPart}
+use Rattle.sw_cell.specs.Parts.{IsNodeFor, IsNodePart}
+use Rattle.sw_cell.specs.SwitchParts.{IsSwitchFor, IsSwitchPart}
 use Rattle.sw_flow.specs.Places.{ends_of}
 use Rattle.sw_machine.specs.State.{empty}
 use Rattle.sw_model.specs.Model.{network_of}
 use Rattle.sw_net.specs.Net.{IsNetState, NetView}
-use Rattle.sw_network.specs.Entries.{Declaration, capacities, look_at}
+use Rattle.sw_config.specs.Entries.{Declaration, capacities, look_at}
 use Rattle.sw_node.specs.Node.{Node}
 use Rattle.sw_route.specs.declared.look.Look.{Look}
 use Rattle.sw_switch.specs.Cell.{Cell}

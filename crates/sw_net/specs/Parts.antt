@@ -6,13 +6,13 @@ use Rattle.sw_cell.specs.declared.cell.CellId.TheVariants as place
 use Rattle.sw_flow.specs.Places.{ends_of}
 use Rattle.sw_machine.specs.Network.{Network, reverse_of}
 use Rattle.sw_machine.specs.State.{State}
-use Rattle.sw_machine.specs.declared.input.Input.{Input}
-use Rattle.sw_machine.specs.declared.input.Input.TheVariants.{Held, Idle, Spilling}
+use Rattle.sw_machine.specs.declared.input.InputState.{InputState}
+use Rattle.sw_machine.specs.declared.input.InputState.TheVariants.{Held, Idle, Spilling}
 use Rattle.sw_model.specs.Model.{network_of}
 use Rattle.sw_net.specs.Kept.{NodeView, PortView}
 use Rattle.sw_net.specs.declared.part.Part.{Part}
 use Rattle.sw_net.specs.declared.part.Part.TheVariants.{Node, Switch}
-use Rattle.sw_network.specs.Entries.{Declaration}
+use Rattle.sw_config.specs.Entries.{Declaration}
 use Rattle.sw_switch.specs.declared.input.Input.{Input as PortInput}
 use Rattle.sw_switch.specs.declared.input.Input.TheVariants as ports
 use Rattle.sw_topo.specs.Wiring.{out_of}
@@ -31,7 +31,7 @@ pub record IsNodeOf (net : Network) (s : State) (n : ℕ) (part : NodeView) : Ty
 
 -- an input of switch w does what the state says: it holds a port where that holds the channel that starts there (ECSS-E-ST-50-12C,
 -- network layer: wormhole routing)
-abbrev pub IsSameInput : List PlaceEnd → ℕ → PortInput → Input → Type 0
+abbrev pub IsSameInput : List PlaceEnd → ℕ → PortInput → InputState → Type 0
 IsSameInput ends w ports.Idle Idle = Unit {0}
 IsSameInput ends w (ports.Held port) (Held channel) = out_of ends w port ≡ Some channel
 IsSameInput ends w ports.Spilling Spilling = Unit {0}

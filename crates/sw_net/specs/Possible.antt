@@ -1,6 +1,6 @@
 -- Whether steps are possible in the states that a network's cells are the parts of.
 use Rattle.std.specs.Prelude.{Bool, List, false, true, ℕ}
-use Rattle.sw_cells.specs.Makes.{IsDeclaredAt}
+use Rattle.sw_cell.specs.Makes.{IsDeclaredAt}
 use Rattle.sw_char.specs.declared.nchar.End.{End}
 use Rattle.sw_machine.specs.State.{State}
 use Rattle.sw_machine.specs.Steps.{Begin, IsPossible, Step}

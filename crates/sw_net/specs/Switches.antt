@@ -2,7 +2,7 @@
 use Rattle.either.specs.declared.Either.{Either}
 use Rattle.std.specs.Prelude.{List, refl, ℕ, ◌<◌, ◌≡◌}
 use Rattle.sw_net.specs.declared.declared.SwitchRoutes.{SwitchRoutes}
-use Rattle.sw_network.specs.Routings.{routing_look}
+use Rattle.sw_config.specs.Routings.{routing_look}
 use Rattle.sw_route.specs.Intervals.{intervals_look}
 use Rattle.sw_route.specs.Laws.{either_path, either_reserved, intervals_path, table_path}
 use Rattle.sw_route.specs.Looks.{look_of, no_look, path_look}

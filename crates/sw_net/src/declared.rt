@@ -9,7 +9,7 @@ use crate::net::Net;
 use either::Either;
 use std::alloc::{AllocError, Global};
 use sw_arb::Policy;
-use sw_network::Network;
+use sw_config::Network;
 use sw_route::{IntervalRoutes, Look, Routing, TableRoutes};
 use sw_topo::{Chan, PlaceEnd};
 

@@ -5,7 +5,7 @@ ghost use Rattle.std.specs.Vec.Iter.{into_iter_items};
 ghost use Rattle.sw_flow.specs.Places.{ends_of};
 ghost use Rattle.sw_link.specs.Ends.{IsCapacity};
 ghost use Rattle.sw_net.specs.New.{AreArbiters, AreLeft, AreRoutes, IsNewNet, IsNewNode, IsNewSwitch, IsOneMore, IsRow, port_capacity};
-ghost use Rattle.sw_network.specs.Entries.{look_at};
+ghost use Rattle.sw_config.specs.Entries.{look_at};
 ghost use Rattle.sw_node.specs.Node.{Node};
 ghost use Rattle.sw_switch.specs.Cell.{Cell};
 
@@ -13,12 +13,12 @@ use crate::net::Net;
 use std::alloc::{AllocError, Global};
 use std::vec::IntoIter;
 use sw_arb::Arbiter;
-use sw_network::Network;
+use sw_config::Network;
+use sw_link::Wires;
 use sw_node::NodeCell;
 use sw_route::Routing;
 use sw_switch::SwitchCell;
 use sw_topo::{Chan, PlaceEnd, Port};
-use sw_wires::Wires;
 
 /// How many ports a switch has.
 const PORTS: u8 = 32;

@@ -2,11 +2,11 @@
 
 use std::marker::Model;
 use sw_arb::Arbiter;
-use sw_network::Network;
+use sw_config::Network;
+use sw_link::Wires;
 use sw_node::NodeCell;
 use sw_route::Routing;
 use sw_switch::SwitchCell;
-use sw_wires::Wires;
 
 /// A network in one of its machine's reached states: a cell for each node and each switch, and the
 /// wires and FCTs under way between them.

@@ -2,21 +2,20 @@
 ghost use Rattle.std.specs.Prelude.{◌≡◌, ◌<◌, length};
 ghost use Rattle.sw_cell.specs.Places.{IsAt};
 ghost use Rattle.sw_cell.specs.declared.cell.CellId.{CellId};
-ghost use Rattle.sw_cells.specs.Possible.{step_at_node, step_at_port};
+ghost use Rattle.sw_cell.specs.Possible.{step_at_node, step_at_port};
 ghost use Rattle.sw_machine.specs.Network.{AtSwitch};
 ghost use Rattle.sw_machine.specs.Steps.{Grant};
 ghost use Rattle.sw_model.specs.Model.{network_of};
-ghost use Rattle.sw_steps.specs.Steps.{machine_step};
+ghost use Rattle.sw_model.specs.Steps.{machine_step};
 ghost use Rattle.sw_topo.specs.Wiring.{partner};
 
 use crate::net::Net;
 use sw_arb::Arbiter;
-use sw_cell::{CellId, cell_of};
-use sw_cells::node::NodeStep;
-use sw_cells::switch::PortStep;
-use sw_cells::{node, switch};
+use sw_cell::node::NodeStep;
+use sw_cell::switch::PortStep;
+use sw_cell::{CellId, cell_of, node, switch};
+use sw_model::Step;
 use sw_route::Routing;
-use sw_steps::Step;
 use sw_topo::{Chan, LinkEnd};
 
 /// The link end where the channel ends.

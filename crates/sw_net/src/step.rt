@@ -2,14 +2,14 @@
 ghost use Rattle.std.specs.Prelude.{◌≡◌, OnErr};
 ghost use Rattle.sw_cell.specs.Places.{IsAt};
 ghost use Rattle.sw_cell.specs.declared.cell.CellId.{CellId};
-ghost use Rattle.sw_steps.specs.Steps.{machine_step};
+ghost use Rattle.sw_model.specs.Steps.{machine_step};
 
 use crate::net::Net;
 use std::alloc::Global;
 use sw_arb::Arbiter;
 use sw_cell::{CellId, NetFault, cell_of, made_or_not, step_node, step_switch};
+use sw_model::Step;
 use sw_route::Routing;
-use sw_steps::Step;
 
 impl<'n, R: Routing, A: Arbiter> Net<'n, R, A> {
     ghost use Rattle.sw_net.specs.Net.{NetAnswers, arbiters_of};

@@ -1,23 +1,22 @@
 //! A step of a link end.
 ghost use Rattle.std.specs.Prelude.{◌≡◌, ◌<◌, ◌*◌, IfNone, IfSome, Ok, OnErr, OnOk, false, length, true};
 ghost use Rattle.sw_cell.specs.Answers.{Stores};
-ghost use Rattle.sw_cells.specs.Possible.{step_at_node, step_at_port};
-ghost use Rattle.sw_cells.specs.declared.switch.PortStep.{PortStep};
+ghost use Rattle.sw_cell.specs.Possible.{step_at_node, step_at_port};
+ghost use Rattle.sw_cell.specs.declared.switch.PortStep.{PortStep};
 ghost use Rattle.sw_machine.specs.Network.{AtSwitch};
 ghost use Rattle.sw_model.specs.Model.{network_of};
 ghost use Rattle.sw_net.specs.Making.{IsPlain};
-ghost use Rattle.sw_steps.specs.Steps.{machine_step};
+ghost use Rattle.sw_model.specs.Steps.{machine_step};
 
 use crate::net::Net;
 use std::alloc::{AllocError, Global};
 use sw_arb::Arbiter;
-use sw_cell::NetFault;
-use sw_cells::node::NodeStep;
-use sw_cells::switch::PortStep;
-use sw_cells::{node, switch};
-use sw_network::Network;
+use sw_cell::node::NodeStep;
+use sw_cell::switch::PortStep;
+use sw_cell::{NetFault, node, switch};
+use sw_config::Network;
+use sw_model::Step;
 use sw_route::Routing;
-use sw_steps::Step;
 use sw_topo::{LinkEnd, PlaceEnd};
 
 /// The step at node `n`.

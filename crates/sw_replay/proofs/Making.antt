@@ -6,11 +6,11 @@ use Rattle.sw_machine.specs.Network.{Network}
 use Rattle.sw_machine.specs.Runs.{Run}
 use Rattle.sw_machine.specs.State.{State}
 use Rattle.sw_machine.specs.Steps.{Leads, Step}
-use Rattle.sw_replay.specs.declared.replayed.Outcome.TheVariants.{Made, Refused}
-use Rattle.sw_replay.specs.declared.replayed.Refusal.{Refusal}
+use Rattle.sw_replay.specs.declared.replayed.ReplayEnd.TheVariants.{Made, Refused}
+use Rattle.sw_replay.specs.declared.replayed.StepRefusal.{StepRefusal}
 use Rattle.sw_replay.specs.Replays.{Ends, MakesOr, Refuses}
-use Rattle.sw_steps.specs.Lines.{Repeated}
-use Rattle.sw_steps.specs.Schedule.{steps_of}
+use Rattle.sw_schedule.specs.Lines.{Repeated}
+use Rattle.sw_schedule.specs.Schedule.{steps_of}
 
 module _ (net : Network) where
   -- a step that is made once more
@@ -19,7 +19,7 @@ module _ (net : Network) where
       subst (λ (l : List Step). Run net s l u) (replicate-append-replicate k 1 x) (run_append net (replicate k x) (x ∷ []) s t u run (u, leads, refl))
 
   -- a step that is refused, behind so many times that it was made
-  pub refused_then : (s t u : State) (x : Step) (k n : ℕ) (r : Refusal) → k < n → Run net s (replicate k x) t → MakesOr net t x (Some r) u → Ends net s (replicate n x) (Refused (k + 1) r) u
+  pub refused_then : (s t u : State) (x : Step) (k n : ℕ) (r : StepRefusal) → k < n → Run net s (replicate k x) t → MakesOr net t x (Some r) u → Ends net s (replicate n x) (Refused (k + 1) r) u
   refused_then s t u x k n r lt run (refuses, same) =
       let m : ℕ = n - (k + 1) in
       let is : n ≡ k + suc m = omega arith in
@@ -38,7 +38,7 @@ module _ (net : Network) where
   made_all s t x k n is run = (sym (length-replicate n x), subst (λ (j : ℕ). Run net s (replicate j x) t) is run)
 
   -- steps that are stopped behind steps that were made
-  pub stopped_then : (s t u : State) (a b rest : List Step) (count k : ℕ) (r : Refusal) → Run net s a t → count ≡ length a → Ends net t b (Refused k r) u → Ends net s (a ++ (b ++ rest)) (Refused (count + k) r) u
+  pub stopped_then : (s t u : State) (a b rest : List Step) (count k : ℕ) (r : StepRefusal) → Run net s a t → count ≡ length a → Ends net t b (Refused k r) u → Ends net s (a ++ (b ++ rest)) (Refused (count + k) r) u
   stopped_then s t u a b rest count k r run is stop =
       let parts : a ++ (b ++ rest) ≡ (a ++ stop.made) ++ (stop.step ∷ (stop.others ++ rest)) =
       ap (λ (l : List Step). a ++ (l ++ rest)) stop.parts
@@ -57,7 +57,7 @@ module _ (net : Network) where
         refused = stop.refused;
       }
 
-  pub stopped_at : (s t u : State) (all a b rest : List Step) (count k : ℕ) (r : Refusal) → all ≡ a ++ (b ++ rest) → Run net s a t → count ≡ length a → Ends net t b (Refused k r) u → Ends net s all (Refused (count + k) r) u
+  pub stopped_at : (s t u : State) (all a b rest : List Step) (count k : ℕ) (r : StepRefusal) → all ≡ a ++ (b ++ rest) → Run net s a t → count ≡ length a → Ends net t b (Refused k r) u → Ends net s all (Refused (count + k) r) u
   stopped_at s t u all a b rest count k r parts run is stop = subst (λ (l : List Step). Ends net s l (Refused (count + k) r) u) (sym parts) (stopped_then s t u a b rest count k r run is stop)
 
 -- steps that are made, and some of those behind them, are some of all

@@ -8,7 +8,7 @@ use Rattle.sw_net.specs.Asked.{IsQuietNet}
 use Rattle.sw_net.specs.Delivery.{IsUndelivered}
 use Rattle.sw_net.specs.Net.{IsNetState, NetAnswers, NetView}
 use Rattle.sw_replay.specs.Nets.{NetMakesOr, TellsLockedUp}
-use Rattle.sw_replay.specs.declared.replayed.Refusal.TheVariants.{NotEnabled}
+use Rattle.sw_replay.specs.declared.replayed.StepRefusal.TheVariants.{NotEnabled}
 
 pub refused_here : {R A : Type 0} (v w : NetView R A) (step : Step) (answer : Result Unit NetFault) (why : NetFault) → answer ≡ Err why → why ≡ fault.NotEnabled → NetAnswers v step answer w → OnErr answer (w ≡ v) → NetMakesOr v step (Some NotEnabled) w
 refused_here v w step (Ok done) why is kind answers same = absurd cc

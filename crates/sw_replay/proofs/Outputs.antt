@@ -10,7 +10,7 @@ use Rattle.sw_machine.specs.Runs.{CameOut}
 use Rattle.sw_machine.specs.State.{State}
 use Rattle.sw_model.specs.Model.{network_of}
 use Rattle.sw_net.specs.Net.{IsNetState, NetView}
-use Rattle.sw_network.specs.Entries.{Declaration}
+use Rattle.sw_config.specs.Entries.{Declaration}
 use Rattle.sw_replay.specs.Reports.{AreOutputs}
 
 -- the lists by node

@@ -6,10 +6,10 @@ use Rattle.sw_machine.specs.Network.{Network}
 use Rattle.sw_machine.specs.Runs.{Run}
 use Rattle.sw_machine.specs.State.{State}
 use Rattle.sw_machine.specs.Steps.{Accept, Arrive, Begin, Drop, Emit, Fct, FctIn, Forward, Grant, Leads, Reply, Spill, Step}
-use Rattle.sw_replay.specs.declared.replayed.Outcome.{Outcome}
-use Rattle.sw_replay.specs.declared.replayed.Outcome.TheVariants.{Made, Refused}
-use Rattle.sw_replay.specs.declared.replayed.Refusal.{Refusal}
-use Rattle.sw_replay.specs.declared.replayed.Refusal.TheVariants.{NotEnabled, NotInFlow}
+use Rattle.sw_replay.specs.declared.replayed.ReplayEnd.{ReplayEnd}
+use Rattle.sw_replay.specs.declared.replayed.ReplayEnd.TheVariants.{Made, Refused}
+use Rattle.sw_replay.specs.declared.replayed.StepRefusal.{StepRefusal}
+use Rattle.sw_replay.specs.declared.replayed.StepRefusal.TheVariants.{NotEnabled, NotInFlow}
 use Rattle.sw_replay.specs.Replays.{Ends, Refuses}
 
 module _ (net : Network) where
@@ -28,19 +28,19 @@ module _ (net : Network) where
   is_declared s t (Reply n) l u = u
 
   -- a step that is refused leads nowhere
-  not_made : (s t : State) (step : Step) (refusal : Refusal) → Leads net s step t → Refuses net s step refusal → ⊥
+  not_made : (s t : State) (step : Step) (refusal : StepRefusal) → Leads net s step t → Refuses net s step refusal → ⊥
   not_made s t step NotInFlow l r = is_declared s t step l r
   not_made s t step NotEnabled l r = r.1 (t, l)
 
   -- a step is refused for one reason
-  one_refusal : (s : State) (step : Step) (a b : Refusal) → Refuses net s step a → Refuses net s step b → a ≡ b
+  one_refusal : (s : State) (step : Step) (a b : StepRefusal) → Refuses net s step a → Refuses net s step b → a ≡ b
   one_refusal s step NotInFlow NotInFlow r q = refl
   one_refusal s step NotInFlow NotEnabled r q = absurd (q.0 r)
   one_refusal s step NotEnabled NotInFlow r q = absurd (r.0 q)
   one_refusal s step NotEnabled NotEnabled r q = refl
 
   -- the steps lead on from s, and the next one is refused then, with the number and the reason
-  abbrev Stops : State → List Step → Step → Refusal → State → Type 0
+  abbrev Stops : State → List Step → Step → StepRefusal → State → Type 0
   Stops s made step refusal t = Run net s made t × Refuses net t step refusal
 
   pub one_run : (s t u : State) (steps : List Step) → Run net s steps t → Run net s steps u → t ≡ u
@@ -50,7 +50,7 @@ module _ (net : Network) where
       one_run k t u l (subst (λ (w : State). Run net w l t) same r) q
 
   -- steps that all lead on are not stopped
-  never_stops : (s t u : State) (steps made others : List Step) (step : Step) (refusal : Refusal) → steps ≡ made ++ step ∷ others → Run net s steps t → Stops s made step refusal u → ⊥
+  never_stops : (s t u : State) (steps made others : List Step) (step : Step) (refusal : StepRefusal) → steps ≡ made ++ step ∷ others → Run net s steps t → Stops s made step refusal u → ⊥
   never_stops s t u [] [] others step refusal is r stop = cc
   never_stops s t u [] (y ∷ made) others step refusal is r stop = cc
   never_stops s t u (x ∷ l) [] others step refusal is (m, h, r) (same, refused) =
@@ -63,12 +63,12 @@ module _ (net : Network) where
       never_stops m t u l made others step refusal rest r (subst (λ (w : State). Run net w made u) (sym same) q, refused)
 
   -- two stops of one list of steps are one
-  pub record SameStop (made other : List Step) (a b : Refusal) (t u : State) : Type 0 where
+  pub record SameStop (made other : List Step) (a b : StepRefusal) (t u : State) : Type 0 where
     pub count : length made ≡ length other
     pub reason : a ≡ b
     pub state : t ≡ u
 
-  one_stop : (s t u : State) (made others made' others' : List Step) (step step' : Step) (a b : Refusal) → made ++ step ∷ others ≡ made' ++ step' ∷ others'
+  one_stop : (s t u : State) (made others made' others' : List Step) (step step' : Step) (a b : StepRefusal) → made ++ step ∷ others ≡ made' ++ step' ∷ others'
       → Stops s made step a t → Stops s made' step' b u → SameStop made made' a b t u
   one_stop s t u [] others [] others' step step' a b is (r, x) (q, y) =
       let first : step ≡ step' = cc in
@@ -91,7 +91,7 @@ module _ (net : Network) where
       let stop = one_stop k t u made others made' others' step step' a b rest (subst (λ (w : State). Run net w made t) same r, x) (q, y) in
       record { count = ap suc stop.count; reason = stop.reason; state = stop.state }
 
-  pub one_end : (s t u : State) (steps : List Step) (a b : Outcome) → Ends net s steps a t → Ends net s steps b u → (a ≡ b) × (t ≡ u)
+  pub one_end : (s t u : State) (steps : List Step) (a b : ReplayEnd) → Ends net s steps a t → Ends net s steps b u → (a ≡ b) × (t ≡ u)
   one_end s t u steps (Made k) (Made j) x y = (ap Made (x.0 ∙ sym y.0), one_run s t u steps x.1 y.1)
   one_end s t u steps (Made k) (Refused j refusal) x y = absurd (never_stops s t u steps y.made y.others y.step refusal y.parts x.1 (y.run, y.refused))
   one_end s t u steps (Refused k refusal) (Made j) x y = absurd (never_stops s u t steps x.made x.others x.step refusal x.parts y.1 (x.run, x.refused))

@@ -6,22 +6,22 @@ use Rattle.sw_machine.specs.State.{State}
 use Rattle.sw_machine.specs.Steps.{Step}
 use Rattle.sw_model.specs.Model.{network_of}
 use Rattle.sw_net.specs.Net.{IsNetState, NetView}
-use Rattle.sw_replay.specs.declared.replayed.Outcome.{Outcome}
-use Rattle.sw_replay.specs.declared.replayed.Outcome.TheVariants.{Made, Refused}
-use Rattle.sw_replay.specs.declared.replayed.Refusal.{Refusal}
+use Rattle.sw_replay.specs.declared.replayed.ReplayEnd.{ReplayEnd}
+use Rattle.sw_replay.specs.declared.replayed.ReplayEnd.TheVariants.{Made, Refused}
+use Rattle.sw_replay.specs.declared.replayed.StepRefusal.{StepRefusal}
 use Rattle.sw_replay.specs.Replays.{Ends, MakesOr}
 use Rattle.sw_replay.specs.Reports.{AreOutputs, IsTrueOf, Report}
 
 -- from each state of the first the step leads to one of the second, or it is refused, and nothing changed
-abbrev pub NetMakesOr : {R A : Type 0} → NetView R A → Step → Option Refusal → NetView R A → Type 0
+abbrev pub NetMakesOr : {R A : Type 0} → NetView R A → Step → Option StepRefusal → NetView R A → Type 0
 NetMakesOr v step refusal w = (s : State) → IsNetState v s → (t : State) × MakesOr (network_of v.declared) s step refusal t × IsNetState w t
 
 -- from each state of the first the steps are made so far, to one of the second
-abbrev pub NetEnds : {R A : Type 0} → NetView R A → List Step → Outcome → NetView R A → Type 0
+abbrev pub NetEnds : {R A : Type 0} → NetView R A → List Step → ReplayEnd → NetView R A → Type 0
 NetEnds v steps outcome w = (s : State) → IsNetState v s → (t : State) × Ends (network_of v.declared) s steps outcome t × IsNetState w t
 
 -- no more steps were made, or tried, than there are
-abbrev pub IsWithin : ℕ → Outcome → Type 0
+abbrev pub IsWithin : ℕ → ReplayEnd → Type 0
 IsWithin count (Made number) = number ≤ count
 IsWithin count (Refused number refusal) = number ≤ count
 

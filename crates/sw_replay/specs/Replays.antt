@@ -6,25 +6,25 @@ use Rattle.sw_machine.specs.Runs.{Run}
 use Rattle.sw_machine.specs.State.{State, empty}
 use Rattle.sw_machine.specs.Steps.{IsPossible, Leads, Step}
 use Rattle.sw_model.specs.Model.{network_of}
-use Rattle.sw_network.specs.Entries.{Declaration}
-use Rattle.sw_replay.specs.declared.replayed.Outcome.{Outcome}
-use Rattle.sw_replay.specs.declared.replayed.Outcome.TheVariants.{Made, Refused}
-use Rattle.sw_replay.specs.declared.replayed.Refusal.{Refusal}
-use Rattle.sw_replay.specs.declared.replayed.Refusal.TheVariants.{NotEnabled, NotInFlow}
+use Rattle.sw_config.specs.Entries.{Declaration}
+use Rattle.sw_replay.specs.declared.replayed.ReplayEnd.{ReplayEnd}
+use Rattle.sw_replay.specs.declared.replayed.ReplayEnd.TheVariants.{Made, Refused}
+use Rattle.sw_replay.specs.declared.replayed.StepRefusal.{StepRefusal}
+use Rattle.sw_replay.specs.declared.replayed.StepRefusal.TheVariants.{NotEnabled, NotInFlow}
 use Rattle.sw_replay.specs.Reports.{IsTrueOf, Report}
 
 -- in state s the step is refused, and this is why: that a packet is not declared goes before that a step is not possible
-abbrev pub Refuses : Network → State → Step → Refusal → Type 0
+abbrev pub Refuses : Network → State → Step → StepRefusal → Type 0
 Refuses net s step NotInFlow = IsUndeclared net step
 Refuses net s step NotEnabled = (IsUndeclared net step → ⊥) × (IsPossible net s step → ⊥)
 
 -- the step leads from s to t, or it is refused, and nothing changed
-abbrev pub MakesOr : Network → State → Step → Option Refusal → State → Type 0
+abbrev pub MakesOr : Network → State → Step → Option StepRefusal → State → Type 0
 MakesOr net s step None t = Leads net s step t
 MakesOr net s step (Some refusal) t = Refuses net s step refusal × (t ≡ s)
 
 -- the first steps lead from s to t, and there the next one, of this number, is refused
-pub record StopsAt (net : Network) (s : State) (steps : List Step) (number : ℕ) (refusal : Refusal) (t : State) : Type 0 where
+pub record StopsAt (net : Network) (s : State) (steps : List Step) (number : ℕ) (refusal : StepRefusal) (t : State) : Type 0 where
   pub made : List Step
   pub step : Step
   pub others : List Step
@@ -34,7 +34,7 @@ pub record StopsAt (net : Network) (s : State) (steps : List Step) (number : ℕ
   pub refused : Refuses net t step refusal
 
 -- from s on, the steps are made so far, to t
-abbrev pub Ends : Network → State → List Step → Outcome → State → Type 0
+abbrev pub Ends : Network → State → List Step → ReplayEnd → State → Type 0
 Ends net s steps (Made count) t = (count ≡ length steps) × Run net s steps t
 Ends net s steps (Refused number refusal) t = StopsAt net s steps number refusal t
 

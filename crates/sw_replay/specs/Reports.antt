@@ -4,11 +4,11 @@ use Rattle.sw_machine.specs.Network.{Network}
 use Rattle.sw_machine.specs.Packets.{Packet}
 use Rattle.sw_machine.specs.Runs.{CameOut, IsLockedUp, undelivered}
 use Rattle.sw_machine.specs.State.{State}
-use Rattle.sw_replay.specs.declared.replayed.Outcome.{Outcome}
+use Rattle.sw_replay.specs.declared.replayed.ReplayEnd.{ReplayEnd}
 use Rattle.sw_replay.specs.declared.replayed.Replayed.{Replayed}
 
 pub record Report : Type 0 where
-  pub outcome : Outcome
+  pub outcome : ReplayEnd
   pub remaining : ℕ  -- how many characters are undelivered
   pub stuck : Bool
   pub came_out : List (List Packet)  -- by node, in the order in which they came out

@@ -7,5 +7,5 @@ mod replayed;
 mod replaying;
 mod report;
 
-pub use replayed::{Outcome, Refusal, Replayed};
+pub use replayed::{ReplayEnd, Replayed, StepRefusal};
 pub use replaying::replay;

@@ -4,7 +4,7 @@ use sw_char::Packet;
 
 /// Why a step is refused.
 #[derive(Clone, Copy, Debug, PartialEq, Eq)]
-pub enum Refusal {
+pub enum StepRefusal {
     /// It is not possible in the state that the steps before it lead to.
     NotEnabled,
     /// It begins a packet that its flow does not declare.
@@ -13,18 +13,18 @@ pub enum Refusal {
 
 /// How far the steps were made.
 #[derive(Clone, Copy, Debug, PartialEq, Eq)]
-pub enum Outcome {
+pub enum ReplayEnd {
     /// All of them were made, so many.
     Made(u32),
     /// The step of this number, counted from 1, was refused; those before it were made.
-    Refused(u32, Refusal),
+    Refused(u32, StepRefusal),
 }
 
 /// What a replay tells of the state that it ends in.
 #[derive(Debug, Drop)]
 pub struct Replayed {
     /// How far the steps were made.
-    pub outcome: Outcome,
+    pub outcome: ReplayEnd,
     /// How many characters are in a buffer, on a wire, still to send or of a reply that waits.
     pub undelivered: u64,
     /// Whether the network is locked up.

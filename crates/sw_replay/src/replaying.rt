@@ -7,9 +7,9 @@ use crate::make::make_all;
 use crate::replayed::Replayed;
 use crate::report::report;
 use std::alloc::{AllocError, Global};
+use sw_config::Network;
 use sw_net::declared_net;
-use sw_network::Network;
-use sw_steps::Schedule;
+use sw_schedule::Schedule;
 
 /// Makes the steps of the schedule one after another, from the empty network on, up to the first
 /// that is refused, and tells what holds then.

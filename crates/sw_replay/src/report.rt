@@ -4,7 +4,7 @@ ghost use Rattle.sw_net.specs.Delivery.{IsUndelivered};
 ghost use Rattle.sw_replay.specs.Nets.{AreOutputsOfNet, IsTrueOfNet, TellsLockedUp};
 ghost use Rattle.sw_replay.specs.Reports.{report_of};
 
-use crate::replayed::{Outcome, Replayed};
+use crate::replayed::{ReplayEnd, Replayed};
 use std::alloc::{AllocError, Global};
 use sw_arb::Arbiter;
 use sw_char::Packet;
@@ -37,7 +37,7 @@ fn is_locked_up<R: Routing, A: Arbiter>(net: &Net<'_, R, A>, remaining: u64) -> 
 pub(crate) fn report<R: Routing, A: Arbiter>(
     alloc: Global,
     net: &Net<'_, R, A>,
-    outcome: Outcome,
+    outcome: ReplayEnd,
 ) -> Result<Replayed, AllocError>
     ensures outcome { IfOk result (λ r. r.outcome ≡ outcome) }
     ensures report { IfOk result (λ r. IsTrueOfNet net.now (report_of r)) }

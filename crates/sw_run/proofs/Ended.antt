@@ -2,19 +2,19 @@
 use Rattle.std.proofs.Common.{List, ap, arith, length, subst, sym, ℕ, ◌∙◌, ◌≡◌, ◌≤◌}
 use Rattle.std.proofs.lemmas.List.{length-map}
 use Rattle.sw_journal.specs.Asked.{IsUndelivered}
-use Rattle.sw_journal.specs.Record.{Account, LeadsTo}
+use Rattle.sw_journal.specs.Record.{JournalView, LeadsTo}
 use Rattle.sw_limit.specs.History.{IsHistory, IsWhole, packets_of}
 use Rattle.sw_load.specs.Load.{LoadEntry}
 use Rattle.sw_machine.specs.State.{State}
 use Rattle.sw_machine.specs.Steps.{Step}
 use Rattle.sw_model.specs.Model.{network_of}
-use Rattle.sw_network.specs.Entries.{Declaration}
+use Rattle.sw_config.specs.Entries.{Declaration}
 use Rattle.sw_run.specs.Ends.{AreOutBy, EndsBy}
 use Rattle.sw_run.specs.Outcomes.{IsOutcome, NothingFollows, came_out_of, steps_of}
 use Rattle.sw_run.specs.declared.outcome.Outcome.{Outcome}
-use Rattle.sw_steps.specs.Steps.{machine_step}
+use Rattle.sw_model.specs.Steps.{machine_step}
 
-module _ (j : Account) (s : State) (o : Outcome) (leads : LeadsTo j s) (within : length j.history ≤ j.limit) (steps : steps_of o ≡ j.history) where
+module _ (j : JournalView) (s : State) (o : Outcome) (leads : LeadsTo j s) (within : length j.history ≤ j.limit) (steps : steps_of o ≡ j.history) where
   as_long : length o.history.items ≡ length j.history
   as_long = let a = length-map o.history.items machine_step in let b = ap (λ (l : List Step). length l) steps in omega arith
 

@@ -6,7 +6,7 @@ use Rattle.sw_journal.specs.Cells.{cells_of, numbered}
 use Rattle.sw_journal.specs.Record.{CellView, new_cells}
 use Rattle.sw_machine.specs.State.{empty}
 use Rattle.sw_model.specs.Model.{network_of}
-use Rattle.sw_network.specs.Entries.{Declaration}
+use Rattle.sw_config.specs.Entries.{Declaration}
 
 -- each has the journal's name
 pub all_named : (d : Declaration) (name : TableId) (cells : List CellView) → cells ≡ new_cells d name → All (λ c. c.name ≡ name) cells

@@ -1,7 +1,7 @@
 -- What a journal tells at the end of a run.
 use Rattle.std.specs.Prelude.{List, length, ℕ, ◌≡◌}
 use Rattle.sw_journal.specs.Asked.{IsDrained, IsStuck}
-use Rattle.sw_journal.specs.Record.{Account, LeadsTo}
+use Rattle.sw_journal.specs.Record.{JournalView, LeadsTo}
 use Rattle.sw_machine.specs.Packets.{Packet}
 use Rattle.sw_machine.specs.State.{State}
 use Rattle.sw_run.specs.Outcomes.{AreOut}
@@ -9,11 +9,11 @@ use Rattle.sw_run.specs.declared.outcome.Stop.{Stop}
 use Rattle.sw_run.specs.declared.outcome.Stop.TheVariants.{Drained, JournalFull, Memory, Stuck}
 
 -- a list for each node, of the packets that came out there, in the state after the journal's history
-abbrev pub AreOutBy : Account → ℕ → List (List Packet) → Type 0
+abbrev pub AreOutBy : JournalView → ℕ → List (List Packet) → Type 0
 AreOutBy j nodes lists = (s : State) → LeadsTo j s → AreOut nodes s lists
 
 -- why a run ends with this journal
-abbrev pub EndsBy : Account → Stop → Type 0
+abbrev pub EndsBy : JournalView → Stop → Type 0
 EndsBy j Drained = IsDrained j
 EndsBy j Stuck = IsStuck j
 EndsBy j JournalFull = length j.history ≡ j.limit

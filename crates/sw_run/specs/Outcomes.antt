@@ -10,10 +10,10 @@ use Rattle.sw_machine.specs.Runs.{CameOut, IsLockedUp, undelivered}
 use Rattle.sw_machine.specs.State.{State}
 use Rattle.sw_machine.specs.Steps as machine
 use Rattle.sw_model.specs.Model.{network_of}
-use Rattle.sw_network.specs.Entries.{Declaration}
+use Rattle.sw_config.specs.Entries.{Declaration}
 use Rattle.sw_run.specs.declared.outcome.Outcome.{Outcome}
 use Rattle.sw_run.specs.declared.outcome.Stop.TheVariants.{Drained, JournalFull, Stuck}
-use Rattle.sw_steps.specs.Steps.{machine_step}
+use Rattle.sw_model.specs.Steps.{machine_step}
 
 -- the steps of the history, as steps of the machine
 abbrev pub steps_of : Outcome → List machine.Step

@@ -2,14 +2,14 @@
 //! comes out is a history that one thread could have made.
 #![tactic(auto)]
 
-mod desk;
 mod gate;
-mod held;
 pub mod laws;
+mod locked_cell;
+mod locked_journal;
 mod outcome;
+mod run_identity;
+mod run_state;
 mod running;
-mod shared;
-mod which;
 mod work;
 
 pub use gate::{Gate, Open};

@@ -1,7 +1,7 @@
 //! How a run ends.
 
 use sw_char::Packet;
-use sw_steps::Step;
+use sw_model::Step;
 
 /// Why a run ended.
 #[derive(Clone, Copy, Debug, PartialEq, Eq)]

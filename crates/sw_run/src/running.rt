@@ -5,19 +5,19 @@ ghost use Rattle.sw_run.specs.Outcomes.{IsOutcome};
 
 use crate::gate::Gate;
 use crate::outcome::Outcome;
-use crate::shared::Shared;
-use crate::which::Which;
+use crate::run_identity::RunIdentity;
+use crate::run_state::RunState;
 use crate::work::start_all;
 use std::alloc::{AllocError, Global};
 use std::marker::Brand;
 use std::sync::Wait;
 use std::thread::Threads;
+use sw_config::Network;
 use sw_journal::{Cell, Journal};
 use sw_load::Load;
-use sw_network::Network;
 
 /// Runs the workers on the cells and the journal of one run.
-fn run_named<'a, W: Which + Send + Sync, G: Gate + Sync, R: Threads + Wait + Sync>(
+fn run_named<'a, W: RunIdentity + Send + Sync, G: Gate + Sync, R: Threads + Wait + Sync>(
     rt: &R,
     alloc: Global,
     network: &'a Network,
@@ -34,7 +34,7 @@ fn run_named<'a, W: Which + Send + Sync, G: Gate + Sync, R: Threads + Wait + Syn
     requires some { 0 < workers }
     ensures { IfOk result (IsOutcome W.declared W.load W.limit) }
 {
-    let shared: Shared<'a, W> = Shared::new(alloc, network, journal, cells, limit)?;
+    let shared: RunState<'a, W> = RunState::new(alloc, network, journal, cells, limit)?;
     start_all(rt, alloc, &shared, gate, workers);
     shared.outcome(alloc)
 }

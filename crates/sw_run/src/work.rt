@@ -1,10 +1,10 @@
 //! The workers.
 ghost use Rattle.std.specs.Prelude.{◌*◌, ◌<◌, length};
 
-use crate::desk::Turn;
 use crate::gate::Gate;
-use crate::shared::Shared;
-use crate::which::Which;
+use crate::locked_journal::Turn;
+use crate::run_identity::RunIdentity;
+use crate::run_state::RunState;
 use std::alloc::Global;
 use std::sync::Wait;
 use std::thread;
@@ -15,10 +15,10 @@ use sw_topo::LinkEnd;
 const MOST_STEPS: usize = 64;
 
 /// Turns of one link end, as long as it makes steps.
-fn serve<W: Which, G: Gate, R: Wait>(
+fn serve<W: RunIdentity, G: Gate, R: Wait>(
     rt: &R,
     alloc: Global,
-    shared: &Shared<'_, W>,
+    shared: &RunState<'_, W>,
     gate: &G,
     end: LinkEnd,
 ) -> Turn
@@ -37,10 +37,10 @@ fn serve<W: Which, G: Gate, R: Wait>(
 
 /// Turns of each link end of the worker: those whose number is its own modulo the number of
 /// workers.
-fn round<W: Which, G: Gate, R: Wait>(
+fn round<W: RunIdentity, G: Gate, R: Wait>(
     rt: &R,
     alloc: Global,
-    shared: &Shared<'_, W>,
+    shared: &RunState<'_, W>,
     gate: &G,
     worker: usize,
     workers: usize,
@@ -61,10 +61,10 @@ fn round<W: Which, G: Gate, R: Wait>(
 }
 
 /// Goes on until the run is over. A worker with no link end has nothing to do.
-fn work<W: Which, G: Gate, R: Wait>(
+fn work<W: RunIdentity, G: Gate, R: Wait>(
     rt: &R,
     alloc: Global,
-    shared: &Shared<'_, W>,
+    shared: &RunState<'_, W>,
     gate: &G,
     worker: usize,
     workers: usize,
@@ -85,10 +85,10 @@ fn work<W: Which, G: Gate, R: Wait>(
 }
 
 /// Starts the workers, and waits for them.
-pub(crate) fn start_all<W: Which + Send + Sync, G: Gate + Sync, R: Threads + Wait + Sync>(
+pub(crate) fn start_all<W: RunIdentity + Send + Sync, G: Gate + Sync, R: Threads + Wait + Sync>(
     rt: &R,
     alloc: Global,
-    shared: &Shared<'_, W>,
+    shared: &RunState<'_, W>,
     gate: &G,
     workers: usize,
 )

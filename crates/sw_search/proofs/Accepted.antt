@@ -3,8 +3,8 @@ use Rattle.std.proofs.Common.{◌≡◌, ℕ, zero, suc, ◌<◌, ◌≤◌, Lis
 use Rattle.std.specs.Prelude.{slice_get, slice_index, unwrap_or}
 use Rattle.std.proofs.lemmas.List.{length-map}
 use Rattle.std.proofs.lemmas.List.Elements.{All-contains}
-use Rattle.sw_network.specs.Entries.{FlowEntry, Declaration, all_flows}
-use Rattle.sw_network.specs.Valid.{IsValid}
+use Rattle.sw_config.specs.Entries.{FlowEntry, Declaration, all_flows}
+use Rattle.sw_config.specs.Valid.{IsValid}
 use Rattle.sw_flow.specs.declared.place.Place.{Place}
 use Rattle.sw_flow.specs.Places.{ends_of, IsPlaceList}
 use Rattle.sw_flow.specs.Faults.{IsWellRouted}

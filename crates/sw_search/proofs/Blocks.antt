@@ -4,9 +4,9 @@ use Rattle.std.specs.Prelude.{AllPairs}
 use Rattle.std.specs.List.{AllByRecursion}
 use Rattle.std.proofs.lemmas.Bool.{eq-eqb, lt-ltb, le-ltb}
 use Rattle.std.proofs.lemmas.List.Elements.{All-append, recursion_from_All, All-contains_itself}
-use Rattle.sw_network.specs.Entries.{FlowEntry, Declaration, all_flows, reply_flows}
-use Rattle.sw_network.specs.Valid.{IsFlow, IsValid}
-use Rattle.sw_network.proofs.Flows.{reply_flows_are_flows}
+use Rattle.sw_config.specs.Entries.{FlowEntry, Declaration, all_flows, reply_flows}
+use Rattle.sw_config.specs.Valid.{IsFlow, IsValid}
+use Rattle.sw_config.proofs.Flows.{reply_flows_are_flows}
 use Rattle.sw_flow.specs.declared.place.Place.{Place}
 use Rattle.sw_flow.specs.Places.{ends_of, IsBefore, IsPlaceList}
 use Rattle.sw_flow.proofs.Stepping.{places_are_in}

@@ -3,13 +3,13 @@ use Rattle.std.proofs.Common.{◌≡◌, ◌≢◌, ℕ, ◌+◌, ◌≤◌, Lis
 use Rattle.std.specs.Prelude.{AllPairs, sum}
 use Rattle.std.specs.List.{AllByRecursion}
 use Rattle.std.proofs.lemmas.List.Elements.{All-from_recursion, recursion_from_All}
-use Rattle.sw_network.specs.Entries.{FlowEntry, Declaration, all_flows}
-use Rattle.sw_network.specs.Valid.{IsValid}
+use Rattle.sw_config.specs.Entries.{FlowEntry, Declaration, all_flows}
+use Rattle.sw_config.specs.Valid.{IsValid}
 use Rattle.sw_flow.specs.declared.place.Place.{Place}
 use Rattle.sw_flow.specs.Places.{ends_of, IsPlaceList}
 use Rattle.sw_cert.specs.Grammar.{IsBlock}
 use Rattle.sw_cert.specs.Reading.{items_of}
-use Rattle.sw_order.specs.Rows.{row}
+use Rattle.sw_graph.specs.Rows.{row}
 use Rattle.sw_search.specs.Findings.{IsDependencyCount, IsPlaceCount}
 use Rattle.sw_search.specs.Lists.{AreListed, AreRows}
 use Rattle.sw_search.proofs.Blocks.{are_blocks}

@@ -5,9 +5,9 @@ use Rattle.std.proofs.lemmas.Bool.{cases_eq}
 use Rattle.std.proofs.lemmas.List.{append_assoc, length-reverse, reverse-append}
 use Rattle.std.proofs.lemmas.List.Sums.{sum_by-append}
 use Rattle.std.proofs.lemmas.List.Elements.{All-head, All-tail}
-use Rattle.sw_order.specs.Cycles.{IsBehindCycle, IsLeast, IsLeastPredecessor, IsShownCycle, IsTurned, Walks}
-use Rattle.sw_order.specs.Walking.{times}
-use Rattle.sw_order.proofs.Counts.{flag, flag_here, flag_there, times_cons}
+use Rattle.sw_graph.specs.Cycles.{IsBehindCycle, IsLeast, IsLeastPredecessor, IsShownCycle, IsTurned, Walks}
+use Rattle.sw_graph.specs.Walking.{times}
+use Rattle.sw_graph.proofs.Counts.{flag, flag_here, flag_there, times_cons}
 
 times_append : (xs ys : List ℕ) (c : ℕ) → times (xs ++ ys) c ≡ times xs c + times ys c
 times_append xs ys c = sum_by-append (λ (x : ℕ). flag (x == c)) xs ys

@@ -5,10 +5,10 @@ use Rattle.std.proofs.lemmas.Bool.{cases_eq, cases_lt}
 use Rattle.std.proofs.lemmas.Nat.{div-mul-add, mod-mul-add}
 use Rattle.sw_topo.specs.Wiring.{out}
 use Rattle.sw_topo.proofs.Ends.{node_only}
-use Rattle.sw_network.specs.Entries.{FlowEntry, Declaration, all_flows, wiring_of}
-use Rattle.sw_network.specs.Valid.{IsFlow, IsValid}
-use Rattle.sw_network.proofs.Flows.{All-at}
-use Rattle.sw_network.proofs.FlowLaws.{valid_flows}
+use Rattle.sw_config.specs.Entries.{FlowEntry, Declaration, all_flows, wiring_of}
+use Rattle.sw_config.specs.Valid.{IsFlow, IsValid}
+use Rattle.sw_config.proofs.Flows.{All-at}
+use Rattle.sw_config.proofs.FlowLaws.{valid_flows}
 use Rattle.sw_flow.specs.declared.fault.RouteFault.{RouteFault}
 use Rattle.sw_flow.specs.declared.place.Place.{Place}
 use Rattle.sw_flow.specs.Places.{ends_of, Follows, IsPlace}
@@ -25,9 +25,9 @@ use Rattle.sw_model.specs.Model.{network_of}
 use Rattle.sw_model.proofs.Flows.{flow_at, flow_ends, some_at}
 use Rattle.sw_model.proofs.Steps.{steps_agree}
 use Rattle.sw_model.proofs.Topology.{into_ends, out_starts}
-use Rattle.sw_order.specs.Laws.{IsAmong}
-use Rattle.sw_order.specs.Levels.{HasCycle}
-use Rattle.sw_order.proofs.Peels.{is_listed}
+use Rattle.sw_graph.specs.Laws.{IsAmong}
+use Rattle.sw_graph.specs.Levels.{HasCycle}
+use Rattle.sw_graph.proofs.Peels.{is_listed}
 use Rattle.sw_check.proofs.Lists.{Contains-at}
 use Rattle.sw_search.specs.Laws.{SomeMisrouted}
 use Rattle.sw_search.specs.Verdicts.{AllWellRouted, depends}

@@ -1,6 +1,6 @@
 -- Verdicts of what was found.
-use Rattle.sw_network.specs.Entries.{Declaration}
-use Rattle.sw_network.specs.Valid.{IsValid}
+use Rattle.sw_config.specs.Entries.{Declaration}
+use Rattle.sw_config.specs.Valid.{IsValid}
 use Rattle.sw_search.specs.declared.verdict.Verdict.{Verdict}
 use Rattle.sw_search.specs.declared.verdict.Verdict.TheVariants.{Misrouted, Cyclic, Free}
 use Rattle.sw_search.specs.Laws.{CyclicIsShown, FreeIsAccepted, IsChecked}

@@ -2,11 +2,11 @@
 use Rattle.std.proofs.Common.{◌≡◌, ℕ, zero, suc, ◌+◌, ◌<◌, ◌≤◌, ◌⊎◌, List, length, ap, inl, inr, arith}
 use Rattle.std.specs.Prelude.{slice_index}
 use Rattle.std.proofs.lemmas.List.Elements.{All-contains}
-use Rattle.sw_network.specs.Entries.{Declaration, all_flows}
+use Rattle.sw_config.specs.Entries.{Declaration, all_flows}
 use Rattle.sw_flow.specs.Places.{ends_of}
 use Rattle.sw_flow.specs.Faults.{IsWellRouted}
-use Rattle.sw_order.specs.Levels.{Chain, HasCycle, IsLevels}
-use Rattle.sw_order.proofs.Existence.{levels_are_where_no_cycle_is, levels_rise}
+use Rattle.sw_graph.specs.Levels.{Chain, HasCycle, IsLevels}
+use Rattle.sw_graph.proofs.Existence.{levels_are_where_no_cycle_is, levels_rise}
 use Rattle.sw_search.specs.declared.verdict.Verdict.TheVariants.{Misrouted, Cyclic, Free}
 use Rattle.sw_search.specs.Laws.{OneVerdictHolds, RisingIsWhereNoCycleIs, RoutedAndCyclic, RoutedAndFree, SomeMisrouted, VerdictsTell}
 use Rattle.sw_search.specs.Verdicts.{AllWellRouted, depends}

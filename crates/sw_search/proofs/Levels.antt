@@ -1,11 +1,11 @@
 -- What verdicts show.
 use Rattle.std.proofs.Common.{◌≡◌, ℕ, suc, ◌<◌, List, [], ◌∷◌, length, refl, sym, ◌∙◌, arith}
 use Rattle.std.specs.Prelude.{slice_index}
-use Rattle.sw_network.specs.Entries.{Declaration}
-use Rattle.sw_order.specs.Levels.{Chain, HasCycle, IsLevel, IsLevels}
-use Rattle.sw_order.specs.Cycles.{IsShownCycle}
+use Rattle.sw_config.specs.Entries.{Declaration}
+use Rattle.sw_graph.specs.Levels.{Chain, HasCycle, IsLevel, IsLevels}
+use Rattle.sw_graph.specs.Cycles.{IsShownCycle}
 use Rattle.sw_cycle.specs.Cycles.{CycleEntry, IsShown}
-use Rattle.sw_cause.specs.Causes.{AreChosen}
+use Rattle.sw_cycle.specs.Causes.{AreChosen}
 
 -- a shown cycle is a cycle
 pub has_cycle : (dep : ℕ → ℕ → Type 0) (cycle : List ℕ) → IsShownCycle dep cycle → HasCycle dep

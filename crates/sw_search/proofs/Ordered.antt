@@ -2,12 +2,12 @@
 use Rattle.std.proofs.Common.{ℕ, List, length, Result, Ok, Err, Vec, Global, subst}
 use Rattle.std.specs.Prelude.{IfOk}
 use Rattle.std.specs.declared.alloc.AllocError.{AllocError}
-use Rattle.sw_network.specs.Entries.{Declaration}
+use Rattle.sw_config.specs.Entries.{Declaration}
 use Rattle.sw_flow.specs.Places.{ends_of}
-use Rattle.sw_order.specs.declared.answer.Order.{Order}
-use Rattle.sw_order.specs.Answers.{Answers}
-use Rattle.sw_order.specs.Rows.{Leads}
-use Rattle.sw_order.proofs.Transfers.{carry_over}
+use Rattle.sw_graph.specs.declared.answer.Order.{Order}
+use Rattle.sw_graph.specs.Answers.{Answers}
+use Rattle.sw_graph.specs.Rows.{Leads}
+use Rattle.sw_graph.proofs.Transfers.{carry_over}
 use Rattle.sw_search.specs.Lists.{AreRows}
 use Rattle.sw_search.specs.Verdicts.{depends}
 

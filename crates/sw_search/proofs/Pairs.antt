@@ -7,8 +7,8 @@ use Rattle.std.proofs.lemmas.List.{length-append, length-map}
 use Rattle.std.proofs.lemmas.List.Sums.{sum_by-append}
 use Rattle.std.proofs.lemmas.List.Elements.{Contains-append_left, Contains-append_right, Contains-append_cases, Contains-get_or}
 use Rattle.sw_flow.proofs.Listed.{Contains-from_map, Contains-head, Contains-later, Contains-map}
-use Rattle.sw_order.specs.Rows.{row}
-use Rattle.sw_order.proofs.Pigeons.{pigeons}
+use Rattle.sw_graph.specs.Rows.{row}
+use Rattle.sw_graph.proofs.Pigeons.{pigeons}
 
 -- ---- no element twice
 

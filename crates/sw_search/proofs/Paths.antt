@@ -1,10 +1,10 @@
 -- Where steps lead, decided: over the first n numbers alone, one number more at a time.
 use Rattle.std.proofs.Common.{◌≡◌, ℕ, zero, suc, ◌<◌, ◌⊎◌, List, Contains, refl, sym, subst, inl, inr, arith}
 use Rattle.std.proofs.lemmas.Bool.{cases_eq}
-use Rattle.sw_order.specs.Levels.{Chain, HasCycle}
-use Rattle.sw_order.proofs.Peels.{is_listed}
-use Rattle.sw_reach.specs.Reached.{Reached}
-use Rattle.sw_reach.specs.Reached.Reached.{begin, step}
+use Rattle.sw_graph.specs.Levels.{Chain, HasCycle}
+use Rattle.sw_graph.proofs.Peels.{is_listed}
+use Rattle.sw_graph.specs.Reached.{Reached}
+use Rattle.sw_graph.specs.Reached.Reached.{begin, step}
 
 -- it holds, or it does not
 abbrev pub Decided : Type 0 → Type 0

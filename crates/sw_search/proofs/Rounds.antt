@@ -3,12 +3,12 @@ use Rattle.std.proofs.Common.{◌≡◌, ℕ, zero, suc, ◌+◌, ◌%◌, ◌<�
 use Rattle.std.proofs.Math.Nat.{mod-eq_of_lt, mod_self}
 use Rattle.std.proofs.lemmas.Bool.{cases_lt}
 use Rattle.std.proofs.lemmas.List.{get_or_append_left, get_or_push}
-use Rattle.sw_network.specs.Entries.{Declaration}
-use Rattle.sw_order.specs.Cycles.{IsShownCycle}
-use Rattle.sw_order.specs.Laws.{IsChain, IsCycle}
-use Rattle.sw_order.proofs.Rings.{shown_is_cycle}
+use Rattle.sw_config.specs.Entries.{Declaration}
+use Rattle.sw_graph.specs.Cycles.{IsShownCycle}
+use Rattle.sw_graph.specs.Laws.{IsChain, IsCycle}
+use Rattle.sw_graph.proofs.Rings.{shown_is_cycle}
 use Rattle.sw_cycle.specs.Cycles.{round}
-use Rattle.sw_cause.specs.Causes.{IsRound}
+use Rattle.sw_cycle.specs.Causes.{IsRound}
 use Rattle.sw_search.specs.Verdicts.{depends}
 
 round_here : (xs : List ℕ) (i : ℕ) → i < length xs → round xs i ≡ get_or xs i 0

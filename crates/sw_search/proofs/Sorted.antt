@@ -1,7 +1,7 @@
 -- Lists in order with the same elements are the same.
 use Rattle.std.proofs.Common.{◌≡◌, suc, List, [], ◌∷◌, Contains, refl, sym, subst, inl, inr, arith}
 use Rattle.std.specs.Prelude.{AllPairs}
-use Rattle.sw_network.specs.Entries.{FlowEntry, Declaration}
+use Rattle.sw_config.specs.Entries.{FlowEntry, Declaration}
 use Rattle.sw_flow.specs.declared.place.Place.{Place}
 use Rattle.sw_flow.specs.Places.{IsBefore, IsPlaceList}
 use Rattle.sw_flow.proofs.Listed.{Contains-cases, Contains-head, Contains-later}

@@ -1,7 +1,7 @@
 -- The verdict on a network, and how many places and dependencies it has.
 use Rattle.std.specs.Prelude.{◌≡◌, ◌≢◌, ◌↔◌, ℕ, AllPairs, Contains, List, length, map, sum}
 use Rattle.std.specs.List.{AllZip}
-use Rattle.sw_network.specs.Entries.{Declaration, all_flows}
+use Rattle.sw_config.specs.Entries.{Declaration, all_flows}
 use Rattle.sw_flow.specs.declared.place.Place.{Place}
 use Rattle.sw_flow.specs.Places.{IsPlaceList}
 use Rattle.sw_search.specs.declared.verdict.Findings.{Findings}

@@ -1,12 +1,12 @@
 -- What a verdict says, that it is determined, and that exactly one holds.
 use Rattle.std.specs.Prelude.{◌≡◌, ◌↔◌, ◌⊎◌, ℕ, Contains, None}
-use Rattle.sw_network.specs.Entries.{FlowEntry, Declaration, all_flows}
-use Rattle.sw_network.specs.Valid.{IsValid}
+use Rattle.sw_config.specs.Entries.{FlowEntry, Declaration, all_flows}
+use Rattle.sw_config.specs.Valid.{IsValid}
 use Rattle.sw_flow.specs.Faults.{IsWellRouted}
 use Rattle.sw_machine.specs.Certificate.{IsAccepted}
 use Rattle.sw_machine.specs.Places.{IsRising}
 use Rattle.sw_model.specs.Model.{network_of}
-use Rattle.sw_order.specs.Levels.{HasCycle}
+use Rattle.sw_graph.specs.Levels.{HasCycle}
 use Rattle.sw_cycle.specs.Cycles.{CycleEntry, IsShown}
 use Rattle.sw_cert.specs.Text.{Contents}
 use Rattle.sw_check.specs.Contents.{certificate_of}

@@ -2,14 +2,14 @@
 use Rattle.std.specs.Prelude.{◌≡◌, ◌≢◌, ◌↔◌, ℕ, All, AllPairs, List, length, slice_get, Option, Some, None, Vec}
 use Rattle.std.specs.List.{AllZip, range_with_len}
 use Rattle.std.specs.declared.alloc.Global.{Global}
-use Rattle.sw_network.specs.Entries.{FlowEntry, Declaration, all_flows}
+use Rattle.sw_config.specs.Entries.{FlowEntry, Declaration, all_flows}
 use Rattle.sw_flow.specs.declared.fault.RouteFault.{RouteFault}
 use Rattle.sw_flow.specs.declared.place.Place.{Place}
 use Rattle.sw_flow.specs.Places.{ends_of, IsPlaceList}
 use Rattle.sw_flow.specs.Faults.{first_fault_of, IsWellRouted}
 use Rattle.sw_machine.specs.Places.{IsDependency}
 use Rattle.sw_model.specs.Model.{network_of}
-use Rattle.sw_order.specs.Rows.{IsGraph, Leads}
+use Rattle.sw_graph.specs.Rows.{IsGraph, Leads}
 
 -- the places of each flow, reply flows too
 abbrev pub AreListed : Declaration → List (Vec Place Global) → Type 0

@@ -1,18 +1,18 @@
 -- What is found of a network: a flow that is not well routed, else a cycle of dependencies, else a certificate that there is none.
 use Rattle.std.specs.Prelude.{◌≡◌, ℕ, ◌<◌, All, List, length, slice_get, Some}
 use Rattle.std.specs.List.{AllZip}
-use Rattle.sw_network.specs.Entries.{FlowEntry, Declaration, all_flows}
+use Rattle.sw_config.specs.Entries.{FlowEntry, Declaration, all_flows}
 use Rattle.sw_flow.specs.declared.fault.RouteFault.{RouteFault}
 use Rattle.sw_flow.specs.declared.place.Place.{Place}
 use Rattle.sw_flow.specs.Places.{ends_of, IsPlaceList}
 use Rattle.sw_flow.specs.Faults.{first_fault_of, IsWellRouted}
 use Rattle.sw_machine.specs.Places.{IsDependency}
 use Rattle.sw_model.specs.Model.{network_of}
-use Rattle.sw_order.specs.Levels.{HasCycle, IsLevels}
-use Rattle.sw_order.specs.Cycles.{IsShownCycle}
+use Rattle.sw_graph.specs.Levels.{HasCycle, IsLevels}
+use Rattle.sw_graph.specs.Cycles.{IsShownCycle}
 use Rattle.sw_cycle.specs.Cycles.{CycleEntry}
 use Rattle.sw_cert.specs.Text.{Contents}
-use Rattle.sw_cause.specs.Causes.{AreChosen}
+use Rattle.sw_cycle.specs.Causes.{AreChosen}
 use Rattle.sw_search.specs.declared.verdict.Verdict.{Verdict}
 use Rattle.sw_search.specs.declared.verdict.Verdict.TheVariants.{Misrouted, Cyclic, Free}
 

@@ -3,8 +3,8 @@ ghost use Rattle.std.specs.Prelude.{◌≡◌, ◌≤◌, All, length, map, sum}
 ghost use Rattle.sw_search.specs.Findings.{IsDependencyCount, IsPlaceCount};
 ghost use Rattle.sw_search.specs.Lists.{AreListed, AreRows};
 
+use sw_config::Network;
 use sw_flow::Place;
-use sw_network::Network;
 
 /// How many places are listed.
 fn count_of_places(lists: &[Vec<Place>]) -> u64

@@ -1,14 +1,13 @@
 //! The cycle of a network whose dependencies have one.
 ghost use Rattle.std.specs.Prelude.{◌≡◌, IfOk};
-ghost use Rattle.sw_order.specs.Cycles.{IsShownCycle};
+ghost use Rattle.sw_graph.specs.Cycles.{IsShownCycle};
 ghost use Rattle.sw_search.specs.Lists.{AreListed};
 ghost use Rattle.sw_search.specs.Verdicts.{AllWellRouted, IsCyclic, depends};
 
 use std::alloc::{AllocError, Global};
-use sw_cause::causes;
-use sw_cycle::Cycle;
+use sw_config::Network;
+use sw_cycle::{Cycle, causes};
 use sw_flow::Place;
-use sw_network::Network;
 use sw_topo::Chan;
 
 /// The channels of these numbers.

@@ -14,10 +14,10 @@ use crate::order::ordered;
 use crate::verdict::{Findings, Verdict};
 use std::alloc::{AllocError, Global};
 use std::thread::Threads;
-use sw_depend::dependencies;
+use sw_config::Network;
+use sw_dependency::dependencies;
 use sw_flow::{Place, all_places};
-use sw_network::Network;
-use sw_order::Order;
+use sw_graph::Order;
 
 /// For each channel those that depend on it, each once.
 fn rows_of<R: Threads + Sync>(

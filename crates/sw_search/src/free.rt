@@ -4,13 +4,13 @@ ghost use Rattle.std.specs.List.{AllByRecursion};
 ghost use Rattle.sw_cert.specs.Grammar.{IsBlock};
 ghost use Rattle.sw_cert.specs.Reading.{items_of};
 ghost use Rattle.sw_flow.specs.Places.{ends_of};
-ghost use Rattle.sw_order.specs.Levels.{HasCycle, IsLevels};
+ghost use Rattle.sw_graph.specs.Levels.{HasCycle, IsLevels};
 ghost use Rattle.sw_search.specs.Lists.{AreListed};
 ghost use Rattle.sw_search.specs.Verdicts.{AllWellRouted, IsFree, depends};
 
 use sw_cert::Certificate;
+use sw_config::Network;
 use sw_flow::Place;
-use sw_network::Network;
 
 /// The certificate of these levels and places.
 fn certificate(levels: Vec<u16>, places: Vec<Vec<Place>>) -> Certificate

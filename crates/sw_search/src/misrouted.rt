@@ -1,14 +1,14 @@
 //! The first flow that is not well routed.
 ghost use Rattle.std.specs.Prelude.{◌<◌, IfOk, length, MatchOption};
-ghost use Rattle.sw_network.specs.Entries.{all_flows};
+ghost use Rattle.sw_config.specs.Entries.{all_flows};
 ghost use Rattle.sw_search.specs.Verdicts.{AllWellRouted, IsMisrouted};
 ghost use Rattle.sw_search.specs.Lists.{AreFirstFaults, AreListed, IsFirstFault};
 
 use rayon::prelude::*;
 use std::alloc::{AllocError, Global};
 use std::thread::Threads;
+use sw_config::Network;
 use sw_flow::{Place, RouteFault, first_fault};
-use sw_network::Network;
 
 /// The fewest flows that a thread is started for: a flow has up to 67,584 places, and a thread takes
 /// as long to start as some thousand places to look at.

@@ -1,14 +1,14 @@
 //! The levels of the channels, or the cycle to show.
 ghost use Rattle.std.specs.Prelude.{IfOk, length};
 ghost use Rattle.sw_flow.specs.Places.{ends_of};
-ghost use Rattle.sw_order.specs.Answers.{Answers};
+ghost use Rattle.sw_graph.specs.Answers.{Answers};
 ghost use Rattle.sw_search.specs.Lists.{AreRows};
 ghost use Rattle.sw_search.specs.Verdicts.{depends};
 
 use std::alloc::{AllocError, Global};
 use std::thread::Threads;
-use sw_network::Network;
-use sw_order::{Order, order};
+use sw_config::Network;
+use sw_graph::{Order, order};
 
 /// The order of the dependencies, given by rows.
 pub(crate) fn ordered<R: Threads + Sync>(

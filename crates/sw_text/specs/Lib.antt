@@ -1,1 +1,2 @@
 pub mod Number
+pub mod Reading

@@ -1,11 +1,11 @@
 //! Levels of relations, and cycles to show.
 ghost use Rattle.std.specs.Prelude.{◌<◌, ◌↔◌, All, IsTrue, length};
-ghost use Rattle.sw_order.specs.Rows.{IsGraph};
+ghost use Rattle.sw_graph.specs.Rows.{IsGraph};
 
 use std::alloc::{AllocError, Global};
 use std::process::Abort;
 use std::thread::Threads;
-use sw_order::{Order, order};
+use sw_graph::{Order, order};
 
 fn add_members(alloc: Global, rows: &mut Vec<Vec<u16>>, count: usize) -> Result<(), AllocError> {
     for _ in 0..count {

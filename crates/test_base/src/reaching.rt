@@ -3,7 +3,7 @@ ghost use Rattle.std.specs.Prelude.{◌/◌, ◌∷◌, []};
 
 use std::alloc::{AllocError, Global};
 use std::process::Abort;
-use sw_reach::{Steps, reached, way};
+use sw_graph::{Steps, reached, way};
 
 // From each number its half and its third, rounded down.
 struct Shares;

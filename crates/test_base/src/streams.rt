@@ -4,7 +4,7 @@ ghost use Rattle.std.specs.Prelude.{Some};
 use std::io;
 use std::io::{Read, Write};
 use std::test::*;
-use sw_stream::{ReadError, WriteError, read_whole, write_whole};
+use sw_text::{ReadError, WriteError, read_whole, write_whole};
 
 // Gives one byte a call, and fails at one call alone, the one after `before_fault` of them.
 #[derive(Drop)]

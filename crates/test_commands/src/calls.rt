@@ -4,8 +4,8 @@ use std::io;
 use std::rt::Files;
 use std::sync::Wait;
 use std::thread::Threads;
+use sw_args::WordsFault;
 use sw_cli::run_words;
-use sw_words::WordsFault;
 
 /// The words of each call.
 static CALLS: &[&[&str]] = &[

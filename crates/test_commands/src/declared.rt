@@ -2,8 +2,8 @@
 use crate::shown_loads::end_text;
 use std::io;
 use sw_char::End;
-use sw_load::in_flow;
-use sw_network::Network;
+use sw_config::Network;
+use sw_model::in_flow;
 
 /// A command to read 16 bytes (ECSS-E-ST-50-52C, annex A), whose initiator is 103.
 const READ: [u8; 16] = [

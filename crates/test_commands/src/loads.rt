@@ -5,8 +5,8 @@ use crate::show::shown;
 use crate::shown_loads::{show_fault, show_load};
 use std::rt::Files;
 use std::{fs, io};
+use sw_config::Network;
 use sw_file::read_network;
-use sw_network::Network;
 
 /// Networks, each with a load. The last load is for another network.
 static LOADS: [(&str, &str); 3] = [

@@ -2,7 +2,7 @@
 use crate::shown_loads::show_load;
 use std::alloc::{AllocError, Global};
 use std::io;
-use sw_network::Network;
+use sw_config::Network;
 
 /// Thousand packets.
 const THOUSAND: &str = r#"{ flow = "w", cargo = "AA", count = 1000 }"#;

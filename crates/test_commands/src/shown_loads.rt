@@ -2,9 +2,9 @@
 use std::io;
 use sw_app::fault_text;
 use sw_char::End;
+use sw_config::Network;
 use sw_load::{Load, LoadPacket, read_load};
-use sw_network::Network;
-use sw_tree::FileFault;
+use sw_toml_table::FileFault;
 
 pub(crate) fn show_fault<R: Print + AllocGlobal>(rt: &R, fault: &FileFault) -> io::Result<()> {
     match fault {

@@ -3,7 +3,7 @@ use std::alloc::Global;
 use std::io;
 use std::thread::Threads;
 use sw_app::{Ended, check, route};
-use test_streams::{FailingReader, SlowWriter};
+use test_support::{FailingReader, SlowWriter};
 
 const LINE: &[u8] = br#"version = 1
 node = [{ name = "A" }, { name = "B" }]

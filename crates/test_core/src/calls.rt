@@ -8,8 +8,8 @@ use std::io;
 use std::rt::Files;
 use sw_cell::NetFault;
 use sw_char::End;
-use sw_network::Network;
-use sw_steps::Step;
+use sw_config::Network;
+use sw_model::Step;
 use sw_topo::{Chan, LinkEnd};
 
 fn show_made(rt: &impl Print, name: &str, made: Result<(), NetFault>) -> io::Result<()> {

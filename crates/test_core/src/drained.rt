@@ -7,11 +7,11 @@ use std::io;
 use std::thread::Threads;
 use sw_cert::Certificate;
 use sw_check::{Passed, check};
+use sw_config::Network;
 use sw_drain::drain;
 use sw_limit::laws::listed_are_declared;
 use sw_load::{Load, read_load};
 use sw_net::declared_net;
-use sw_network::Network;
 
 /// How many steps it took, how many packets came out at each node, and what is left.
 #[derive(Drop)]

@@ -6,7 +6,7 @@ use std::rt::Files;
 use std::thread::Threads;
 use std::{fs, io};
 use sw_cert::Certificate;
-use sw_network::Network;
+use sw_config::Network;
 
 /// A network, its certificate and its load, by the names of their files, and the least and the most
 /// steps other than beginnings.

@@ -4,8 +4,8 @@ use std::alloc::Global;
 use std::io::ErrorKind;
 use std::rt::Files;
 use std::{fs, io};
+use sw_config::Network;
 use sw_file::read_network;
-use sw_network::Network;
 
 /// What is said of a file that does not have the text that it should.
 pub(crate) fn no_text() -> io::Error {

@@ -4,10 +4,10 @@ use crate::files::{no_text, with_network};
 use std::alloc::Global;
 use std::rt::Files;
 use std::{fs, io};
+use sw_config::Network;
 use sw_limit::enough_limit;
 use sw_limit::laws::listed_are_declared;
 use sw_load::read_load;
-use sw_network::Network;
 
 /// Networks, each with a load.
 static LOADS: [(&str, &str); 3] = [

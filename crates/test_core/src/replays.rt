@@ -6,8 +6,8 @@ use crate::stepping::{Core, attempt, run_out, with_core};
 use std::alloc::{AllocError, Global};
 use std::rt::Files;
 use std::{fs, io};
-use sw_network::Network;
-use sw_steps::{Entry, Schedule, read_steps};
+use sw_config::Network;
+use sw_schedule::{Schedule, ScheduleEntry, read_steps};
 
 /// Networks, each with a schedule.
 static SCHEDULES: [(&str, &str); 12] = [
@@ -26,7 +26,7 @@ static SCHEDULES: [(&str, &str); 12] = [
 ];
 
 // Makes the step as many times as the entry says, up to the first time that it is not possible. How many times it was made.
-fn make_entry(alloc: Global, net: &mut Core<'_>, entry: &Entry) -> Result<u32, AllocError> {
+fn make_entry(alloc: Global, net: &mut Core<'_>, entry: &ScheduleEntry) -> Result<u32, AllocError> {
     let step = entry.step(alloc)?;
     for made in 0..entry.count() {
         if !attempt(alloc, net, &step)? {

@@ -6,8 +6,8 @@ use crate::stepping::{Core, attempt_begin, run_out, with_core};
 use std::alloc::{AllocError, Global};
 use std::rt::Files;
 use std::{fs, io};
+use sw_config::Network;
 use sw_load::{Load, LoadPacket, read_load};
-use sw_network::Network;
 
 /// Networks, each with a load.
 static LOADS: [(&str, &str); 10] = [

@@ -4,10 +4,10 @@ use std::alloc::{AllocError, Global};
 use std::io;
 use sw_arb::Policy;
 use sw_cell::NetFault;
+use sw_config::Network;
 use sw_load::LoadPacket;
+use sw_model::Step;
 use sw_net::{Net, SwitchRoutes, declared_net};
-use sw_network::Network;
-use sw_steps::Step;
 
 /// The core of a network as its file declares it.
 pub(crate) type Core<'n> = Net<'n, SwitchRoutes<'n>, Policy>;

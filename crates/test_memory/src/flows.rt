@@ -3,10 +3,10 @@
 use anyhow::{Result, bail, ensure};
 use std::alloc::{AllocError, Global};
 use sw_cert::{Certificate, CertificateFault};
+use sw_config::Network;
 use sw_file::read_network;
 use sw_flow::{Place, places};
-use sw_network::Network;
-use sw_tree::FileFault;
+use sw_toml_table::FileFault;
 
 const FILE: &[u8] = b"version = 1
 node = [{ name = \"I\" }, { name = \"T\", target = { logical = 254, start = 2684354560, size = 64 } }]

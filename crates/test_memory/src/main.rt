@@ -13,7 +13,7 @@ mod texts;
 use anyhow::Result;
 use std::sync::Wait;
 use std::thread::Threads;
-use sw_network::Network;
+use sw_config::Network;
 
 /// Tables and packets.
 fn small<R: Print + AllocGlobal>(rt: &R) -> Result<()> {

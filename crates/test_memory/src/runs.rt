@@ -9,13 +9,13 @@ use std::sync::Wait;
 use std::thread::Threads;
 use sw_arb::Policy;
 use sw_char::End;
+use sw_config::Network;
 use sw_history::{History, StepFault};
 use sw_journal::Journal;
 use sw_load::Load;
+use sw_model::Step;
 use sw_net::{Net, SwitchRoutes, declared_net};
-use sw_network::Network;
 use sw_run::{Open, Outcome, Stop, run};
-use sw_steps::Step;
 
 /// The cargo of the load's first packet.
 const CARGO: &[u8] = &[0x01, 0xAA, 0xBB];

@@ -7,8 +7,9 @@ use anyhow::{Result, bail, ensure};
 use std::alloc::{AllocError, Global};
 use sw_arb::Policy;
 use sw_cell::NetFault;
+use sw_model::Step;
 use sw_net::{Net, SwitchRoutes};
-use sw_steps::{Entry, Step};
+use sw_schedule::ScheduleEntry;
 
 const FILE: &[u8] = b"version = 1
 node = [{ name = \"I\" }, { name = \"T\", target = { logical = 254, start = 2684354560, size = 64 } }]
@@ -38,14 +39,14 @@ fn make(alloc: Global, net: &mut Core<'_>, step: &Step) -> Result<()> {
     Ok(net.step(alloc, step)?)
 }
 
-fn step_of(alloc: Global, entry: &Entry) -> Result<Step, AllocError> {
+fn step_of(alloc: Global, entry: &ScheduleEntry) -> Result<Step, AllocError> {
     match entry.step(alloc) {
         Ok(step) => Ok(step),
         Err(_) => entry.step(alloc),
     }
 }
 
-fn make_all(alloc: Global, net: &mut Core<'_>, entries: &[Entry]) -> Result<()> {
+fn make_all(alloc: Global, net: &mut Core<'_>, entries: &[ScheduleEntry]) -> Result<()> {
     for entry in entries {
         let step = step_of(alloc, entry)?;
         for _ in 0..entry.count() {

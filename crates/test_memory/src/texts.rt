@@ -4,11 +4,11 @@ ghost use Rattle.sw_limit.specs.Limit.{AreDeclared};
 
 use anyhow::{Result, bail, ensure};
 use std::alloc::Global;
+use sw_config::Network;
 use sw_limit::laws::listed_are_declared;
 use sw_load::{Load, read_load};
-use sw_network::Network;
-use sw_steps::{Schedule, ScheduleFault, read_steps};
-use sw_tree::FileFault;
+use sw_schedule::{Schedule, ScheduleFault, read_steps};
+use sw_toml_table::FileFault;
 
 const LOAD: &[u8] =
     b"packet = [{ flow = \"x\", cargo = \"01 AAbb\" }, { flow = \"x\", cargo = \"AA*3\", count = 2 }]\n";

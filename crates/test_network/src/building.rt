@@ -6,7 +6,7 @@ ghost use Rattle.sw_topo.specs.Checked.{IsIn};
 use std::alloc::{AllocError, Global};
 use std::process::Abort;
 use sw_arb::Arbitration;
-use sw_network::{Flow, Network, NetworkBuilder, Reply};
+use sw_config::{Flow, Network, NetworkBuilder, Reply};
 use sw_rmap::TargetConfig;
 use sw_route::TableRoutes;
 use sw_topo::{PlaceEnd, Port, PortSet};

@@ -2,9 +2,9 @@
 use crate::samples::{duel, turn};
 use std::alloc::{AllocError, Global};
 use std::process::Abort;
+use sw_config::Network;
 use sw_cycle::{Cause, Cycle, check_cycle};
 use sw_flow::Place;
-use sw_network::Network;
 use sw_topo::Chan;
 
 fn channels(alloc: Global, numbers: &[u16]) -> Result<Vec<Chan>, AllocError> {

@@ -3,9 +3,9 @@ use crate::samples::{answered, two_ways};
 use std::alloc::Global;
 use std::process::Abort;
 use std::thread::Threads;
-use sw_depend::dependencies;
+use sw_config::Network;
+use sw_dependency::dependencies;
 use sw_flow::all_places;
-use sw_network::Network;
 
 fn rows_of<R: Abort + Threads + Sync>(rt: &R, alloc: Global, network: &Network) -> Vec<Vec<u16>> {
     let places = all_places(rt, alloc, network).expect(rt, "places");

@@ -3,8 +3,8 @@ use crate::samples::two_ways;
 use std::alloc::Global;
 use std::process::Abort;
 use std::thread::Threads;
+use sw_config::Network;
 use sw_flow::{Place, all_places, places};
-use sw_network::Network;
 use sw_topo::Chan;
 
 fn at(channel: u16, deleted: u8) -> Place {

@@ -3,7 +3,7 @@ use crate::building::{add_link, add_node, add_switch, one_route, port};
 use std::alloc::{AllocError, Global};
 use std::process::Abort;
 use sw_arb::Arbitration;
-use sw_network::{Flow, Network, NetworkBuilder, Reply};
+use sw_config::{Flow, Network, NetworkBuilder, Reply};
 use sw_rmap::TargetConfig;
 use sw_topo::{Chan, PlaceEnd, PortSet, TopoError, TopoFault};
 

@@ -1,7 +1,7 @@
 //! A target's cell, and the machine's step by which a node takes a packet.
 use std::alloc::Global;
 use std::process::Abort;
-use sw_cells::node;
+use sw_cell::node;
 use sw_char::{End, NChar};
 use sw_node::NodeCell;
 use sw_rmap::TargetConfig;

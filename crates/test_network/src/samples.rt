@@ -6,7 +6,7 @@ use crate::building::{add_commands, add_link, add_node, add_packets, add_switch,
 use std::alloc::{AllocError, Global};
 use std::process::Abort;
 use sw_arb::Arbitration;
-use sw_network::{Network, NetworkBuilder};
+use sw_config::{Network, NetworkBuilder};
 use sw_rmap::TargetConfig;
 use sw_route::TableRoutes;
 use sw_topo::{PlaceEnd, PortSet};

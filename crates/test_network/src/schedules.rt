@@ -3,8 +3,9 @@ use crate::samples::line;
 use std::alloc::{AllocError, Global};
 use std::process::Abort;
 use sw_char::End;
-use sw_network::Network;
-use sw_steps::{Schedule, ScheduleFault, Step, read_steps};
+use sw_config::Network;
+use sw_model::Step;
+use sw_schedule::{Schedule, ScheduleFault, read_steps};
 use sw_topo::Chan;
 
 const LINE: &[u8] = b"begin f EOP AA\nfct 0\nfctin 0\n2 emit A\n2 arrive 0\n2 accept B\n";

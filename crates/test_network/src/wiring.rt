@@ -2,8 +2,8 @@
 use std::alloc::Global;
 use std::process::Abort;
 use sw_char::NChar;
+use sw_link::Wires;
 use sw_topo::Chan;
-use sw_wires::Wires;
 
 // Wires on which a character, an EOP and an FCT are under way on channel 1.
 fn loaded(rt: &impl Abort, alloc: Global) -> Wires {

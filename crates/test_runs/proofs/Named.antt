@@ -7,7 +7,7 @@ use Rattle.sw_cell.specs.declared.cell.CellId.{CellId}
 use Rattle.sw_cell.specs.declared.cell.CellId.TheVariants.{Node}
 use Rattle.sw_journal.specs.Cells.{cells_of}
 use Rattle.sw_journal.specs.Record.{CellView, new_cell, new_cells}
-use Rattle.sw_network.specs.Entries.{Declaration}
+use Rattle.sw_config.specs.Entries.{Declaration}
 
 all_named : (d : Declaration) (name : TableId) (ids : List CellId) → All {X = CellView} (λ c. c.name ≡ name) (map (new_cell d name) ids)
 all_named d name ids k x lt =

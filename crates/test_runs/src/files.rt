@@ -3,9 +3,9 @@
 use std::io::ErrorKind;
 use std::rt::Files;
 use std::{fs, io};
+use sw_config::Network;
 use sw_file::read_network;
-use sw_network::Network;
-use sw_stream::read_whole;
+use sw_text::read_whole;
 
 /// The most bytes that a file may have.
 const MAX_TEXT: usize = 65_536;

@@ -8,7 +8,7 @@ use std::io;
 use std::rt::Files;
 use std::sync::Wait;
 use std::thread::Threads;
-use sw_network::Network;
+use sw_config::Network;
 
 /// What is done with a network and a load.
 #[derive(Clone, Copy)]

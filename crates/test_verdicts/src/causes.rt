@@ -4,8 +4,8 @@ use crate::cycles::{CYCLES, Shown, cycle_of};
 use std::rt::Files;
 use std::thread::Threads;
 use std::{fs, io};
+use sw_config::Network;
 use sw_file::read_network;
-use sw_network::Network;
 
 fn show_cycle<R: Threads + Sync + Print + AllocGlobal>(
     rt: &R,

@@ -3,8 +3,8 @@ use std::io;
 use std::thread::Threads;
 use sw_cert::{Certificate, CertificateFault};
 use sw_check::{Passed, Refusal, check};
+use sw_config::Network;
 use sw_flow::Place;
-use sw_network::Network;
 
 fn flow_name(network: &Network, flow: u16) -> &str {
     if flow < network.flows() {

@@ -1,16 +1,15 @@
 //! Causes that are chosen.
 ghost use Rattle.std.specs.List.{AllZip};
-ghost use Rattle.sw_network.specs.Entries.{all_flows};
+ghost use Rattle.sw_config.specs.Entries.{all_flows};
 ghost use Rattle.sw_flow.specs.Places.{IsPlaceList};
-ghost use Rattle.sw_cause.specs.Causes.{IsRound};
+ghost use Rattle.sw_cycle.specs.Causes.{IsRound};
 
 use std::io;
 use std::thread::Threads;
-use sw_cause::causes;
-use sw_cause::laws::shown_cycles_are_rounds;
-use sw_cycle::{Cause, Cycle, check_cycle};
+use sw_config::Network;
+use sw_cycle::laws::shown_cycles_are_rounds;
+use sw_cycle::{Cause, Cycle, causes, check_cycle};
 use sw_flow::{Place, all_places};
-use sw_network::Network;
 use sw_topo::Chan;
 
 fn show_places(rt: &impl Print, places: &[Place]) -> io::Result<()> {

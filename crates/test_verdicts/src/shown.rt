@@ -6,10 +6,10 @@ use std::io::Write;
 use std::thread::Threads;
 use sw_cert::Certificate;
 use sw_check::check;
+use sw_config::Network;
 use sw_cycle::{Cycle, check_cycle};
-use sw_network::Network;
+use sw_output::{misrouted_text, report_text};
 use sw_search::{Verdict, decide, survey};
-use sw_texts::{misrouted_text, report_text};
 
 // Prints whether what shows a verdict passes its own check.
 fn show_check(rt: &impl Print, passes: bool) -> io::Result<()> {

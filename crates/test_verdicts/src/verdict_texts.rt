@@ -1,13 +1,13 @@
 //! How a verdict is printed.
 ghost use Rattle.std.specs.Prelude.{◌<◌, All, IsTrue, length};
-ghost use Rattle.sw_network.specs.Entries.{wiring_of};
+ghost use Rattle.sw_config.specs.Entries.{wiring_of};
 
 use std::alloc::Global;
 use std::io;
+use sw_config::Network;
 use sw_cycle::Cycle;
-use sw_network::Network;
+use sw_output::{cycle_text, cyclic_words, free_words, misrouted_words};
 use sw_search::Verdict;
-use sw_texts::{cycle_text, cyclic_words, free_words, misrouted_words};
 use sw_topo::Chan;
 
 // Whether the channels are channels of the network.

@@ -6,7 +6,7 @@ use std::rt::Files;
 use std::thread::Threads;
 use std::{fs, io};
 use sw_file::read_network;
-use sw_stream::read_whole;
+use sw_text::read_whole;
 
 /// Files with a network each.
 static FILES: [&str; 18] = [

@@ -6,9 +6,9 @@ use std::rt::Files;
 use std::sync::Wait;
 use std::thread::Threads;
 use std::{fs, io};
-use sw_ends::Ended;
+use sw_app_run::{Options, run};
+use sw_command::Ended;
 use sw_run::Gate;
-use sw_run_app::{Options, run};
 
 /// How the run ended that read the files and wrote to the writer.
 pub(crate) fn ended_of<W: Write, G: Gate + Sync, R: Files + AllocGlobal + Threads + Wait + Sync>(

@@ -7,9 +7,9 @@ use std::io;
 use std::rt::Files;
 use std::sync::Wait;
 use std::thread::Threads;
-use sw_ends::Ended;
-use sw_run_app::Options;
-use test_gate::Together;
+use sw_app_run::Options;
+use sw_command::Ended;
+use test_support::Together;
 
 /// A run that writes to the output with that gate and as many workers as link ends.
 fn gated<R: Files + Print + AllocGlobal + Threads + Wait + Sync>(

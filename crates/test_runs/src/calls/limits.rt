@@ -8,9 +8,9 @@ use std::rt::Files;
 use std::sync::Wait;
 use std::thread::Threads;
 use std::{fs, io};
-use sw_ends::{Ended, MAX_TEXT};
+use sw_app_run::{Options, run};
+use sw_command::{Ended, MAX_TEXT};
 use sw_run::Open;
-use sw_run_app::{Options, run};
 
 /// Whether a run is told to have filled its journal.
 fn is_full<R: Files + AllocGlobal + Threads + Wait + Sync>(

@@ -7,9 +7,9 @@ use std::rt::Files;
 use std::sync::Wait;
 use std::thread::Threads;
 use std::{fs, io};
-use sw_ends::Ended;
+use sw_app_run::Options;
+use sw_command::Ended;
 use sw_run::Open;
-use sw_run_app::Options;
 
 /// So many steps are enough for each load here.
 pub(crate) const ENOUGH: usize = 1_000_000;

@@ -1,7 +1,7 @@
 //! How the engine ended, as it is printed.
 
 use std::io;
-use sw_ends::Ended;
+use sw_command::Ended;
 
 pub(crate) fn show_end(rt: &impl Print, ended: Ended) -> io::Result<()> {
     match ended {

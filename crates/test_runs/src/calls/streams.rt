@@ -5,10 +5,10 @@ use crate::calls::show::word_of;
 use std::io;
 use std::sync::Wait;
 use std::thread::Threads;
-use sw_ends::Ended;
+use sw_app_run::{Options, run};
+use sw_command::Ended;
 use sw_run::Open;
-use sw_run_app::{Options, run};
-use test_streams::{FailingReader, SlowWriter};
+use test_support::{FailingReader, SlowWriter};
 
 const NETWORK: &[u8] = br#"version = 1
 node = [{ name = "A" }, { name = "B" }]

@@ -3,9 +3,9 @@ ghost use Rattle.std.specs.Prelude.{◌≡◌, All, IfOk};
 ghost use Rattle.sw_limit.specs.Limit.{AreDeclared};
 
 use std::alloc::{AllocError, Global};
+use sw_config::Network;
 use sw_journal::{Cell, Journal};
 use sw_load::Load;
-use sw_network::Network;
 
 /// A journal of no steps, and its cells, which have its name.
 pub(crate) fn open<'n>(

@@ -6,10 +6,10 @@ use crate::journals::opened::open;
 use crate::journals::tried::{try_full, try_line};
 use crate::journals::turns::play;
 use std::io;
+use sw_config::Network;
 use sw_journal::{Cell, Journal};
 use sw_limit::laws::listed_are_declared;
 use sw_load::{Load, read_load};
-use sw_network::Network;
 
 fn show_word(rt: &impl Print, word: &str, holds: bool) -> io::Result<()> {
     if holds {

@@ -7,9 +7,9 @@ use std::alloc::{AllocError, Global};
 use std::io;
 use sw_cell::CellId;
 use sw_char::End;
+use sw_config::Network;
 use sw_journal::{Cell, Journal};
-use sw_network::Network;
-use sw_steps::Step;
+use sw_model::Step;
 use sw_topo::{Chan, LinkEnd};
 
 // Tries the step at the cell of that place, and prints what came of it.

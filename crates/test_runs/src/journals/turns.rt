@@ -3,8 +3,8 @@ ghost use Rattle.std.specs.Prelude.{◌≡◌, All, OnOk};
 ghost use Rattle.test_runs.specs.Names.{IsSameRun};
 
 use std::alloc::{AllocError, Global};
+use sw_config::Network;
 use sw_journal::{Cell, Journal};
-use sw_network::Network;
 use sw_topo::LinkEnd;
 
 // Makes a step of the link end, if it is the cell's and one may be the next. Whether one was made.

@@ -5,9 +5,9 @@ use crate::runs::show::show_outcome;
 use std::io;
 use std::sync::Wait;
 use std::thread::Threads;
-use sw_network::Network;
+use sw_config::Network;
 use sw_run::Outcome;
-use test_gate::Together;
+use test_support::Together;
 
 fn show_late(rt: &impl Print, network: &Network, outcome: &Outcome, late: bool) -> io::Result<()> {
     print!(rt; "late {late}: ")?;

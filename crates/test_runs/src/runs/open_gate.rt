@@ -5,10 +5,10 @@ use crate::runs::show::show_outcome;
 use std::io;
 use std::sync::Wait;
 use std::thread::Threads;
+use sw_config::Network;
 use sw_limit::enough_limit;
 use sw_limit::laws::listed_are_declared;
 use sw_load::read_load;
-use sw_network::Network;
 use sw_run::{Gate, Open, Outcome, Stop, run};
 
 /// Numbers of workers.

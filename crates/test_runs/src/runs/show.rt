@@ -2,7 +2,7 @@
 ghost use Rattle.std.specs.Prelude.{◌<◌, length};
 
 use std::io;
-use sw_network::Network;
+use sw_config::Network;
 use sw_run::{Outcome, Stop};
 
 fn name_of(stop: Stop) -> &'static str {

@@ -1,6 +1,6 @@
 use Rattle.std.proofs.Common.{ap, Err}
 use Rattle.sw_app.specs.VerdictAnswers.{IsDecideAnswer}
-use Rattle.sw_ends.proofs.Endings.{told_unread}
+use Rattle.sw_command.proofs.Endings.{told_unread}
 use Rattle.sw_app.proofs.ShownFree.{unread_not_zero}
 use Rattle.sw_app.proofs.Told.{accepted_written, answered_bytes}
 use Rattle.sw_app.proofs.engines.decide.Goals as goal

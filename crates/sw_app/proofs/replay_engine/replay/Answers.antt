@@ -1,6 +1,6 @@
 use Rattle.sw_app.specs.ReplayAnswers.{IsReplayAnswer}
-use Rattle.sw_ends.specs.Inputs.{given}
-use Rattle.sw_ends.proofs.Endings.{told_memory_of_two}
+use Rattle.sw_command.specs.Inputs.{given}
+use Rattle.sw_command.proofs.Endings.{told_memory_of_two}
 use Rattle.sw_app.proofs.Told.{answered_of_two}
 use Rattle.sw_app.proofs.replay_engine.replay.Goals as goal
 

@@ -1,6 +1,6 @@
 use Rattle.std.proofs.Common.{◌≤◌, length, arith}
 use Rattle.std.specs.List.{AllByRecursion}
-use Rattle.sw_network.specs.Entries.{all_flows}
+use Rattle.sw_config.specs.Entries.{all_flows}
 use Rattle.sw_flow.specs.Places.{ends_of}
 use Rattle.sw_app.proofs.FlowAnswers.{each_ok}
 use Rattle.sw_app.proofs.ShownFree.{has_text}

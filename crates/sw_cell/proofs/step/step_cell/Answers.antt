@@ -1,9 +1,9 @@
 use Rattle.std.proofs.Common.{◌≡◌, Err, rules, subst, sym}
 use Rattle.sw_cell.proofs.Cells.{refused_here}
 use Rattle.sw_cell.specs.Answers.{AnswersAt}
-use Rattle.sw_cell.specs.Parts.{IsCellState}
+use Rattle.sw_cell.specs.CellParts.{IsCellState}
 use Rattle.sw_model.specs.Model.{network_of}
-use Rattle.sw_steps.specs.Steps.{machine_step}
+use Rattle.sw_model.specs.Steps.{machine_step}
 use Rattle.sw_cell.proofs.step.step_cell.Goals as goal
 
 pub returns-in_err-cell_of-clause-answers : goal.returns-in_err-cell_of-clause-answers

@@ -1,5 +1,5 @@
 use Rattle.std.proofs.Common.{◌≡◌, ◌==◌, ℕ, List, true, length, ap, sym, ◌∙◌}
-use Rattle.sw_network.specs.Entries.{Declaration, all_flows}
+use Rattle.sw_config.specs.Entries.{Declaration, all_flows}
 use Rattle.sw_flow.specs.Places.{ends_of}
 use Rattle.sw_cert.specs.Text.{Contents}
 use Rattle.sw_check.specs.Refusals.{are_in_range, is_of_the_network, not_rising_at_targets}

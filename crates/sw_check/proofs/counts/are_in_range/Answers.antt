@@ -1,5 +1,5 @@
 use Rattle.std.proofs.Common.{sym, ◌∙◌, arith}
-use Rattle.sw_network.specs.Entries.{all_flows}
+use Rattle.sw_config.specs.Entries.{all_flows}
 use Rattle.sw_check.proofs.Ranged.{in_range_next, in_range_not, not_as_many}
 use Rattle.sw_check.proofs.counts.are_in_range.Goals as goal
 

@@ -1,5 +1,5 @@
 use Rattle.std.proofs.Common.{◌≡◌, drop}
-use Rattle.sw_network.specs.Entries.{all_flows}
+use Rattle.sw_config.specs.Entries.{all_flows}
 use Rattle.sw_check.specs.Refusals.{are_in_range}
 use Rattle.sw_check.proofs.counts.are_in_range.Given as goal
 

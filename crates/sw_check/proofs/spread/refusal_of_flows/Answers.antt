@@ -1,6 +1,6 @@
 use Rattle.std.proofs.Common.{ℕ, ◌<◌, ◌∙◌, All, subst}
 use Rattle.std.specs.List.{range_with_len}
-use Rattle.sw_network.specs.Entries.{all_flows}
+use Rattle.sw_config.specs.Entries.{all_flows}
 use Rattle.sw_check.specs.Refusals.{refusal_of_flow}
 use Rattle.sw_check.proofs.Firsts.{is_by_flow, each_inside}
 use Rattle.sw_check.proofs.spread.refusal_of_flows.Goals as goal

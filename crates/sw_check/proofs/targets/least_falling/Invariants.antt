@@ -1,6 +1,6 @@
 use Rattle.std.proofs.Common.{◌≡◌, ◌<◌, drop, length}
 use Rattle.std.specs.Prelude.{IfSome}
-use Rattle.sw_network.specs.Entries.{all_flows}
+use Rattle.sw_config.specs.Entries.{all_flows}
 use Rattle.sw_check.specs.Least.{lesser, least}
 use Rattle.sw_check.specs.Refusals.{answering_nodes, is_falling_at}
 use Rattle.sw_check.proofs.targets.least_falling.Given as goal

@@ -1,6 +1,6 @@
 use Rattle.std.proofs.Common.{◌≡◌, ℕ, ◌<◌, Some}
 use Rattle.std.specs.Prelude.{slice_get, IsSome}
-use Rattle.sw_network.specs.Entries.{FlowEntry, all_flows}
+use Rattle.sw_config.specs.Entries.{FlowEntry, all_flows}
 use Rattle.sw_cycle.proofs.check.is_answered.Given as goal
 
 abbrev pub invariant-loop-number : goal.invariant-loop-number

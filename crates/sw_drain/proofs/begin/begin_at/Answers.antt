@@ -7,7 +7,7 @@ use Rattle.sw_drain.proofs.begin.begin_at.Goals as goal
 use Rattle.sw_limit.specs.History.{packet_of, packets_at, packets_of}
 use Rattle.sw_load.specs.Load.{packet_count}
 use Rattle.sw_model.specs.Model.{network_of}
-use Rattle.sw_network.specs.Entries.{Declaration}
+use Rattle.sw_config.specs.Entries.{Declaration}
 
 pub begin_packet-requires : goal.begin_packet-requires
 begin_packet-requires g c =

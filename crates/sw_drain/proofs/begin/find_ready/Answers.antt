@@ -3,7 +3,7 @@ use Rattle.std.proofs.lemmas.Option.{get_or_from_slice_get, slice_get_within}
 use Rattle.std.specs.Prelude.{slice_get, slice_index}
 use Rattle.sw_drain.proofs.begin.find_ready.Goals as goal
 use Rattle.sw_drain.specs.Way.{IsReady}
-use Rattle.sw_network.specs.Entries.{Declaration}
+use Rattle.sw_config.specs.Entries.{Declaration}
 
 pub loop-node-preserved : goal.loop-node-preserved
 loop-node-preserved g c =

@@ -4,7 +4,7 @@ use Rattle.sw_drain.proofs.moves.nth_enabled.Goals as goal
 use Rattle.sw_drain.proofs.moves.nth_enabled.Goals.{else-enabled, then-enabled+else-before-index}
 use Rattle.sw_drain.specs.Enabled.{CanStepBelow}
 use Rattle.sw_net.specs.Asked.{CanStep}
-use Rattle.sw_network.specs.Entries.{Declaration}
+use Rattle.sw_config.specs.Entries.{Declaration}
 
 pub loop-number-init : goal.loop-number-init
 loop-number-init g c = (omega arith, omega arith, none_below c.args.net.now)

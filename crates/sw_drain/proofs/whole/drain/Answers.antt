@@ -6,7 +6,7 @@ use Rattle.sw_limit.specs.History.{packets_of}
 use Rattle.sw_limit.specs.Limit.{enough_limit}
 use Rattle.sw_machine.specs.Headline.{IsDeadlockFree}
 use Rattle.sw_model.specs.Model.{network_of}
-use Rattle.sw_network.specs.Entries.{Declaration}
+use Rattle.sw_config.specs.Entries.{Declaration}
 
 pub loop-init : goal.loop-init
 loop-init g c =

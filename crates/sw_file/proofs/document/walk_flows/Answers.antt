@@ -1,7 +1,7 @@
 use Rattle.std.proofs.Common.{arith}
 use Rattle.std.proofs.lemmas.Result.{err_from_is_err_and}
 use Rattle.toml.specs.View.{table_view}
-use Rattle.sw_tree.proofs.Walks.{walk_more, walk_fails}
+use Rattle.sw_toml_table.proofs.Walks.{walk_more, walk_fails}
 use Rattle.sw_file.specs.FlowTables.{next_flow}
 use Rattle.sw_file.proofs.document.walk_flows.Goals as goal
 

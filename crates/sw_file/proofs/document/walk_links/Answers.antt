@@ -1,6 +1,6 @@
 use Rattle.std.proofs.lemmas.Result.{err_from_is_err_and}
 use Rattle.toml.specs.View.{table_view}
-use Rattle.sw_tree.proofs.Walks.{walk_more, walk_fails}
+use Rattle.sw_toml_table.proofs.Walks.{walk_more, walk_fails}
 use Rattle.sw_file.specs.Links.{next_link}
 use Rattle.sw_file.proofs.document.walk_links.Goals as goal
 

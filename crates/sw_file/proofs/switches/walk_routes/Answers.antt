@@ -2,7 +2,7 @@ use Rattle.std.proofs.Common.{[]}
 use Rattle.std.proofs.lemmas.Result.{err_from_is_err_and}
 use Rattle.toml.specs.View.{table_view}
 use Rattle.sw_file.specs.Switches.{next_route}
-use Rattle.sw_tree.proofs.Walks.{walk_more, walk_fails}
+use Rattle.sw_toml_table.proofs.Walks.{walk_more, walk_fails}
 use Rattle.sw_file.proofs.switches.walk_routes.Goals as goal
 
 pub returns-in_err-add_route : goal.returns-in_err-add_route

@@ -3,7 +3,7 @@ use Rattle.std.specs.List.{AllZip, range_with_len}
 use Rattle.std.specs.declared.alloc.AllocError.{AllocError}
 use Rattle.std.proofs.lemmas.Option.{get_or_from_slice_get}
 use Rattle.rayon.proofs.ToStd.{nat_range-All}
-use Rattle.sw_network.specs.Entries.{FlowEntry, Declaration, all_flows}
+use Rattle.sw_config.specs.Entries.{FlowEntry, Declaration, all_flows}
 use Rattle.sw_flow.specs.declared.place.Place.{Place}
 use Rattle.sw_flow.specs.Places.{IsPlaceList, IsPlacesOf}
 use Rattle.sw_flow.proofs.Jobs.{spread}

@@ -4,7 +4,7 @@ use Rattle.sw_journal.proofs.journal.add_at.Goals as goal
 use Rattle.sw_journal.specs.Adding.{IsAtCell}
 use Rattle.sw_limit.specs.History.{packets_of}
 use Rattle.sw_model.specs.Model.{network_of}
-use Rattle.sw_steps.specs.Steps.{machine_step}
+use Rattle.sw_model.specs.Steps.{machine_step}
 
 pub returns-then-not-is_at : goal.returns-then-not-is_at
 returns-then-not-is_at c =

@@ -6,7 +6,7 @@ use Rattle.sw_journal.specs.Opening.{numbered_of}
 use Rattle.sw_machine.specs.State.{empty}
 use Rattle.sw_model.specs.Model.{network_of}
 use Rattle.sw_net.proofs.Delivered.{channel_count}
-use Rattle.sw_network.specs.Entries.{Declaration}
+use Rattle.sw_config.specs.Entries.{Declaration}
 
 pub loop-number-preserved : goal.loop-number-preserved
 loop-number-preserved c =

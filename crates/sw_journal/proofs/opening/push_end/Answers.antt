@@ -5,7 +5,7 @@ use Rattle.sw_journal.proofs.opening.push_end.Goals as goal
 use Rattle.sw_journal.specs.Cells.{same_cell}
 use Rattle.sw_machine.specs.State.{empty}
 use Rattle.sw_model.specs.Model.{network_of}
-use Rattle.sw_network.specs.Entries.{Declaration}
+use Rattle.sw_config.specs.Entries.{Declaration}
 
 pub returns : goal.returns
 returns c =

@@ -5,7 +5,7 @@ use Rattle.sw_journal.proofs.Opened.{is_same, starts_there}
 use Rattle.sw_journal.proofs.opening.stands_at.Goals as goal
 use Rattle.sw_journal.specs.Cells.{same_cell}
 use Rattle.sw_machine.specs.Network.{AtNode, AtSwitch, Cell}
-use Rattle.sw_network.proofs.Steps.{length-link_ends}
+use Rattle.sw_config.proofs.Steps.{length-link_ends}
 use Rattle.sw_topo.specs.Wiring.{Wiring}
 use Rattle.sw_topo.specs.declared.place.PlaceEnd.TheVariants.{Node, Switch}
 

@@ -1,6 +1,6 @@
 use Rattle.std.proofs.Common.{ℕ, ap, arith, length, sym, ◌∙◌}
 use Rattle.std.specs.Prelude.{slice_get}
-use Rattle.sw_network.specs.Entries.{all_flows}
+use Rattle.sw_config.specs.Entries.{all_flows}
 use Rattle.sw_limit.proofs.Packets.{length_with_reply-entry}
 use Rattle.sw_limit.proofs.limit.length_with_reply.Goals as goal
 

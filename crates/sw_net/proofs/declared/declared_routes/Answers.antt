@@ -3,7 +3,7 @@ use Rattle.std.proofs.lemmas.List.{length_push}
 use Rattle.sw_net.proofs.New.{each_push}
 use Rattle.sw_net.specs.Switches.{switch_look}
 use Rattle.sw_net.specs.declared.declared.SwitchRoutes.{SwitchRoutes}
-use Rattle.sw_network.specs.Entries.{look_at}
+use Rattle.sw_config.specs.Entries.{look_at}
 use Rattle.sw_net.proofs.declared.declared_routes.Goals as goal
 
 pub loop-w-preserved : goal.loop-w-preserved

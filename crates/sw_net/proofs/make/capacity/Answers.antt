@@ -2,7 +2,7 @@ use Rattle.std.proofs.Common.{ap, length, sym, ◌≡◌, ◌<◌, ◌*◌, ◌�
 use Rattle.std.specs.Prelude.{slice_get}
 use Rattle.sw_net.proofs.New.{capacity_at, partner_in}
 use Rattle.sw_net.proofs.make.capacity.Goals as goal
-use Rattle.sw_network.specs.Entries.{capacities}
+use Rattle.sw_config.specs.Entries.{capacities}
 use Rattle.sw_topo.specs.Wiring.{Wiring, out_of}
 
 pub capacity-requires : goal.capacity-requires

@@ -1,6 +1,6 @@
 use Rattle.std.proofs.Common.{ap, length, sym, ◌<◌, ◌∙◌, subst}
 use Rattle.std.specs.Prelude.{option_map}
-use Rattle.sw_cells.proofs.Network.{into_is}
+use Rattle.sw_cell.proofs.Network.{into_is}
 use Rattle.sw_net.proofs.New.{if_ok, in_links, new_node_is}
 use Rattle.sw_net.specs.New.{IsNewNode}
 use Rattle.sw_net.proofs.make.new_node.Goals as goal

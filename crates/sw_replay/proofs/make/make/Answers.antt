@@ -1,5 +1,5 @@
 use Rattle.sw_replay.proofs.NetReports.{refused_here}
-use Rattle.sw_steps.specs.Steps.{machine_step}
+use Rattle.sw_model.specs.Steps.{machine_step}
 use Rattle.sw_replay.proofs.make.make.Goals as goal
 
 pub returns-in-Err-NotEnabled-clause-made : goal.returns-in-Err-NotEnabled-clause-made

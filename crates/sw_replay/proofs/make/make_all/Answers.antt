@@ -3,10 +3,10 @@ use Rattle.std.proofs.lemmas.List.{length-replicate, take_all}
 use Rattle.sw_replay.proofs.Making.{steps_at, steps_more, within_all}
 use Rattle.sw_replay.proofs.NetSteps.{made_behind, stopped_behind}
 use Rattle.sw_replay.specs.Nets.{IsWithin, NetEnds}
-use Rattle.sw_replay.specs.declared.replayed.Outcome.{Outcome}
-use Rattle.sw_replay.specs.declared.replayed.Outcome.TheVariants.{Made}
-use Rattle.sw_steps.specs.Lines.{Repeated}
-use Rattle.sw_steps.specs.Schedule.{steps_of}
+use Rattle.sw_replay.specs.declared.replayed.ReplayEnd.{ReplayEnd}
+use Rattle.sw_replay.specs.declared.replayed.ReplayEnd.TheVariants.{Made}
+use Rattle.sw_schedule.specs.Lines.{Repeated}
+use Rattle.sw_schedule.specs.Schedule.{steps_of}
 use Rattle.sw_replay.proofs.make.make_all.Goals as goal
 
 pub overflow_add-before : goal.overflow_add-before
@@ -44,7 +44,7 @@ returns-in-Refused-clause-ends g c =
     let i = c.loop-entry.entry-index in
     let t = c.loop-entry-test.true in
     let parts = steps_at entries i (i + 1) e (omega arith) c.entry-item.is (omega arith) in
-    let ends = subst (λ (o : Outcome). NetEnds w (replicate e.count e.step) o u) c.in-Refused.is c.in_ok-count.ensures.ends in
+    let ends = subst (λ (o : ReplayEnd). NetEnds w (replicate e.count e.step) o u) c.in-Refused.is c.in_ok-count.ensures.ends in
     stopped_behind c.args.net.now w u c.loop-entry.invariant.network (steps_of entries) (steps_of (take i entries)) (replicate e.count e.step) (steps_of (drop (i + 1) entries)) c.loop-entry.before c.in-Refused.number c.in-Refused.refusal parts c.loop-entry.invariant.made ends
 
 pub loop-entry-preserved : goal.loop-entry-preserved
@@ -56,7 +56,7 @@ loop-entry-preserved g c =
     let i = c.loop-entry.entry-index in
     let t = c.loop-entry-test.true in
     let more = steps_more entries i e (omega arith) c.entry-item.is in
-    let ends = subst (λ (o : Outcome). NetEnds w (replicate e.count e.step) o u) c.in-Made.is c.in_ok-count.ensures.ends in
+    let ends = subst (λ (o : ReplayEnd). NetEnds w (replicate e.count e.step) o u) c.in-Made.is c.in_ok-count.ensures.ends in
     let some = subst (IsWithin e.count) c.in-Made.is c.in_ok-count.ensures.within in
     let size = length-replicate e.count e.step in
     let sum = length-append (steps_of (take i entries)) (replicate e.count e.step) in

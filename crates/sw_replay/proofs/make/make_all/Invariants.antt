@@ -1,7 +1,7 @@
 use Rattle.std.proofs.Common.{length, take, ◌≡◌, ◌≤◌}
 use Rattle.sw_replay.specs.Nets.{NetEnds}
-use Rattle.sw_replay.specs.declared.replayed.Outcome.TheVariants.{Made}
-use Rattle.sw_steps.specs.Schedule.{steps_of}
+use Rattle.sw_replay.specs.declared.replayed.ReplayEnd.TheVariants.{Made}
+use Rattle.sw_schedule.specs.Schedule.{steps_of}
 use Rattle.sw_replay.proofs.make.make_all.Given as goal
 
 abbrev pub invariant-loop-entry : goal.invariant-loop-entry

@@ -1,7 +1,7 @@
 use Rattle.std.proofs.Common.{replicate, ◌≡◌}
 use Rattle.sw_replay.specs.Nets.{NetEnds}
-use Rattle.sw_replay.specs.declared.replayed.Outcome.TheVariants.{Made}
-use Rattle.sw_steps.specs.Steps.{machine_step}
+use Rattle.sw_replay.specs.declared.replayed.ReplayEnd.TheVariants.{Made}
+use Rattle.sw_model.specs.Steps.{machine_step}
 use Rattle.sw_replay.proofs.make.make_repeated.Given as goal
 
 abbrev pub invariant-loop-made : goal.invariant-loop-made

@@ -1,5 +1,5 @@
 use Rattle.std.proofs.Common.{ap, arith, length, ◌≡◌}
-use Rattle.sw_network.specs.Entries.{Declaration}
+use Rattle.sw_config.specs.Entries.{Declaration}
 use Rattle.sw_replay.proofs.Outputs.{all_outputs, pushed}
 use Rattle.sw_replay.proofs.report.outputs.Goals as goal
 

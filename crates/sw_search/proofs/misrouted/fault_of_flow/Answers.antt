@@ -1,5 +1,5 @@
 use Rattle.std.proofs.Common.{arith, Vec, Global}
-use Rattle.sw_network.specs.Entries.{FlowEntry, all_flows}
+use Rattle.sw_config.specs.Entries.{FlowEntry, all_flows}
 use Rattle.sw_flow.specs.declared.place.Place.{Place}
 use Rattle.sw_flow.specs.Places.{IsPlaceList}
 use Rattle.sw_search.proofs.Zips.{zip_length}

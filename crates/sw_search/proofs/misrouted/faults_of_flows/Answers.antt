@@ -1,7 +1,7 @@
 use Rattle.std.proofs.Common.{◌≡◌, ◌<◌, ◌∙◌, length}
 use Rattle.rayon.proofs.ListFacts.{IfOk-then}
 use Rattle.rayon.proofs.ToStd.{nat_range-All}
-use Rattle.sw_network.specs.Entries.{all_flows}
+use Rattle.sw_config.specs.Entries.{all_flows}
 use Rattle.sw_search.proofs.Faulty.{faults_are}
 use Rattle.sw_search.proofs.misrouted.faults_of_flows.Goals as goal
 

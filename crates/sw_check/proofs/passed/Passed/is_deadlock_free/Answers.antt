@@ -1,7 +1,7 @@
 use Rattle.std.proofs.Common.{subst}
 use Rattle.sw_machine.specs.Certificate.{Certificate}
 use Rattle.sw_machine.specs.Headline.{IsDeadlockFree}
-use Rattle.sw_network.specs.Entries.{Declaration}
+use Rattle.sw_config.specs.Entries.{Declaration}
 use Rattle.sw_model.specs.Model.{network_of}
 use Rattle.sw_check.proofs.Headline.{is_deadlock_free}
 use Rattle.sw_check.proofs.passed.Passed.is_deadlock_free.Goals as goal

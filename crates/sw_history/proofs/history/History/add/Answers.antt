@@ -10,7 +10,7 @@ use Rattle.sw_limit.specs.History.{BeginsNext, packets_of}
 use Rattle.sw_load.specs.Load.{packet_count}
 use Rattle.sw_model.specs.Model.{network_of}
 use Rattle.sw_net.specs.Net.{NetView}
-use Rattle.sw_steps.specs.Steps.{machine_step}
+use Rattle.sw_model.specs.Steps.{machine_step}
 
 pub returns-in_err-make : goal.returns-in_err-make
 returns-in_err-make g c =

@@ -1,16 +1,16 @@
 use Rattle.std.proofs.Common.{Some, ap, arith, length, subst, sym, ◌<◌, ◌∙◌, ◌≡◌}
 use Rattle.std.specs.Prelude.{slice_get}
-use Rattle.sw_cells.proofs.Network.{channels_are}
+use Rattle.sw_cell.proofs.Network.{channels_are}
 use Rattle.sw_history.proofs.Idle.{idle_node, next_move, switch_idle}
 use Rattle.sw_history.proofs.history.History.choose.Goals as goal
 use Rattle.sw_history.specs.History.{HistoryView, IsKept, IsNextAt}
 use Rattle.sw_model.proofs.Networks.{are_networks}
 use Rattle.sw_model.specs.Model.{network_of}
 use Rattle.sw_net.proofs.Told.{start_at_node, start_at_switch}
-use Rattle.sw_network.proofs.Steps.{length-link_ends}
-use Rattle.sw_network.specs.Entries.{Declaration, wiring_of}
-use Rattle.sw_network.specs.Valid.{IsValid}
-use Rattle.sw_steps.specs.Steps.{machine_step}
+use Rattle.sw_config.proofs.Steps.{length-link_ends}
+use Rattle.sw_config.specs.Entries.{Declaration, wiring_of}
+use Rattle.sw_config.specs.Valid.{IsValid}
+use Rattle.sw_model.specs.Steps.{machine_step}
 use Rattle.sw_topo.specs.Wiring.{Wiring}
 use Rattle.sw_topo.specs.declared.place.PlaceEnd.TheVariants.{Node, Switch}
 

@@ -1,16 +1,16 @@
 use Rattle.std.proofs.Common.{Some, ap, arith, length, refl, subst, ◌<◌, ◌∙◌, ◌≡◌}
 use Rattle.std.specs.Prelude.{slice_get}
 use Rattle.std.proofs.lemmas.Bool.{false≢true}
-use Rattle.sw_cells.proofs.Network.{channels_are}
+use Rattle.sw_cell.proofs.Network.{channels_are}
 use Rattle.sw_history.proofs.Idle.{node_idle, not_idle, switch_idle}
 use Rattle.sw_history.proofs.history.History.is_idle.Goals as goal
 use Rattle.sw_history.specs.History.{HistoryView, IsKept}
 use Rattle.sw_model.specs.Model.{network_of}
 use Rattle.sw_net.proofs.Told.{start_at_node, start_at_switch}
 use Rattle.sw_net.specs.Asked.{CanStep}
-use Rattle.sw_network.proofs.Steps.{length-link_ends}
-use Rattle.sw_network.specs.Entries.{Declaration, wiring_of}
-use Rattle.sw_network.specs.Valid.{IsValid}
+use Rattle.sw_config.proofs.Steps.{length-link_ends}
+use Rattle.sw_config.specs.Entries.{Declaration, wiring_of}
+use Rattle.sw_config.specs.Valid.{IsValid}
 use Rattle.sw_topo.specs.Wiring.{Wiring}
 use Rattle.sw_topo.specs.declared.place.PlaceEnd.TheVariants.{Node, Switch}
 

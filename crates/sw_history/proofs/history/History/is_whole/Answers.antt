@@ -6,8 +6,8 @@ use Rattle.sw_history.proofs.history.History.is_whole.Goals as goal
 use Rattle.sw_history.specs.History.{HistoryView, IsKept}
 use Rattle.sw_limit.specs.History.{next_packet, packets_of}
 use Rattle.sw_model.specs.Model.{network_of}
-use Rattle.sw_network.specs.Entries.{Declaration}
-use Rattle.sw_network.specs.Valid.{IsValid}
+use Rattle.sw_config.specs.Entries.{Declaration}
+use Rattle.sw_config.specs.Valid.{IsValid}
 
 pub returns-then-has_next : goal.returns-then-has_next
 returns-then-has_next g c =

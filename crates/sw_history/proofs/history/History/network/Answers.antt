@@ -1,7 +1,7 @@
 use Rattle.std.proofs.Common.{subst}
 use Rattle.sw_history.proofs.history.History.network.Goals as goal
 use Rattle.sw_history.specs.History.{HistoryView, IsKept}
-use Rattle.sw_network.specs.Valid.{IsValid}
+use Rattle.sw_config.specs.Valid.{IsValid}
 
 pub returns-clause-sound : goal.returns-clause-sound
 returns-clause-sound g c =

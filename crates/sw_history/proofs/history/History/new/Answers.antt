@@ -1,7 +1,7 @@
 use Rattle.std.proofs.Common.{◌∙◌, ap, length}
 use Rattle.sw_history.proofs.Kept.{new_is_kept}
 use Rattle.sw_history.proofs.history.History.new.Goals as goal
-use Rattle.sw_network.specs.Entries.{Declaration}
+use Rattle.sw_config.specs.Entries.{Declaration}
 
 pub invariant_of-result : goal.invariant_of-result
 invariant_of-result g c =

@@ -3,7 +3,7 @@ use Rattle.std.proofs.lemmas.Bool.{false≢true}
 use Rattle.sw_history.specs.History.{HistoryView, LeadsTo}
 use Rattle.sw_history.proofs.Kept.{next_begins, not_next, sender_from}
 use Rattle.sw_history.proofs.history.History.sender.Goals as goal
-use Rattle.sw_network.specs.Entries.{Declaration}
+use Rattle.sw_config.specs.Entries.{Declaration}
 
 pub returns-then-flow-declared_flows-clause-none : goal.returns-then-flow-declared_flows-clause-none
 returns-then-flow-declared_flows-clause-none g c = λ next.

@@ -1,9 +1,9 @@
 use Rattle.std.proofs.Common.{ap, refl, sym, ◌++◌, ◌∙◌, ◌∷◌, []}
 use Rattle.sw_journal.proofs.Commit.{account_same, commits_same, ends_within, kept_after, kept_same, met, now_cell, now_same, refused_same, renewed_then, same_cell_after}
 use Rattle.sw_journal.proofs.journal.Journal.commit.Goals as goal
-use Rattle.sw_journal.specs.Record.{Account, CellView}
+use Rattle.sw_journal.specs.Record.{JournalView, CellView}
 use Rattle.sw_model.specs.Model.{network_of}
-use Rattle.sw_steps.specs.Steps.{machine_step}
+use Rattle.sw_model.specs.Steps.{machine_step}
 
 pub invariant_of-self : goal.invariant_of-self
 invariant_of-self c =
@@ -47,7 +47,7 @@ returns-clause-commits c =
     let m = met _ c.self.inside.seat.me c.cell.inside.seat.me c.cell.inside.number c.cell.inside.id c.cell.inside.ends.items i.0 c.cell.invariant c.meet.ensures.same in
     let same = account_same c.self.inside.table.shared.table_id h c.add_at.new.history c.self.inside.limit c.self.inside.marks.items (h.steps ++ machine_step c.args.step ∷ []) adds.2 in
     let renew = renewed_then h c.add_at.new.history (h.steps ++ machine_step c.args.step ∷ []) adds.0.1.0 c.cell.inside.ends.items c.renew_after.new.ends.items adds.2 adds.0.1.1 c.renew_after.ensures.numbers in
-    let own = ap (λ (v : CellView). v.name) c.cell.view_is ∙ c.requires ∙ sym (ap (λ (a : Account). a.name) c.self.view_is) in
+    let own = ap (λ (v : CellView). v.name) c.cell.view_is ∙ c.requires ∙ sym (ap (λ (a : JournalView). a.name) c.self.view_is) in
     let name = c.part-2.ensures.new.0 ∙ c.renew_after.ensures.table ∙ c.meet.ensures.table.0 ∙ i.1 ∙ sym own in
     let now = same_cell_after _ c.self.inside.seat.me i.0 c.cell.inside.number c.cell.inside.id c.cell.inside.ends.items m (machine_step c.args.step) adds.0.0 adds.0.1
     _ _ c.renew_after.new.ends.items same refl refl renew in

@@ -2,10 +2,10 @@ use Rattle.std.proofs.Common.{IsTrue, ap, arith, length, refl, subst, ◌*◌, �
 use Rattle.sw_history.specs.Next.{IsIdle}
 use Rattle.sw_journal.proofs.Idle.{beyond_idle}
 use Rattle.sw_journal.proofs.journal.Journal.is_idle.Goals as goal
-use Rattle.sw_journal.specs.Record.{Account}
+use Rattle.sw_journal.specs.Record.{JournalView}
 use Rattle.sw_limit.specs.History.{packets_of}
 use Rattle.sw_model.specs.Model.{network_of}
-use Rattle.sw_network.specs.Entries.{Declaration}
+use Rattle.sw_config.specs.Entries.{Declaration}
 
 pub returns-then-number-channels : goal.returns-then-number-channels
 returns-then-number-channels c =
@@ -17,9 +17,9 @@ returns-then-number-channels c =
     let test = c.if-number-channels.true in
     let past : 2 * length h.declared.links ≤ c.args.end = omega (arith, links, count, number, test) in
     let idle = beyond_idle (network_of h.declared) i.account.network (packets_of h.load) h.steps c.args.end (2 * length h.declared.links) i.channels past in (
-      (λ _. subst (λ (a : Account). IsIdle (network_of a.declared) (packets_of a.load) a.history c.args.end) c.self.view_is idle),
+      (λ _. subst (λ (a : JournalView). IsIdle (network_of a.declared) (packets_of a.load) a.history c.args.end) c.self.view_is idle),
       (λ _. refl),
     )
 
 pub returns : goal.returns
-returns c = subst (λ (a : Account). IsTrue c.is_idle.result ↔ IsIdle (network_of a.declared) (packets_of a.load) a.history c.args.end) c.self.view_is c.is_idle.ensures
+returns c = subst (λ (a : JournalView). IsTrue c.is_idle.result ↔ IsIdle (network_of a.declared) (packets_of a.load) a.history c.args.end) c.self.view_is c.is_idle.ensures

@@ -1,11 +1,11 @@
 use Rattle.std.proofs.Common.{ap, arith, false, length, refl, rules, subst, true, ◌*◌, ◌≡◌, ◌≤◌}
 use Rattle.sw_journal.proofs.Idle.{all_still}
 use Rattle.sw_journal.proofs.journal.Journal.is_still.Goals as goal
-use Rattle.sw_journal.specs.Record.{Account}
+use Rattle.sw_journal.specs.Record.{JournalView}
 use Rattle.sw_limit.specs.History.{packets_of}
 use Rattle.sw_machine.specs.Network.{IsNetwork}
 use Rattle.sw_model.specs.Model.{network_of}
-use Rattle.sw_network.specs.Entries.{Declaration}
+use Rattle.sw_config.specs.Entries.{Declaration}
 
 pub returns-then-not-is_idle : goal.returns-then-not-is_idle
 returns-then-not-is_idle c =
@@ -18,9 +18,9 @@ pub returns : goal.returns
 returns c =
     let i = c.self.invariant.0 in
     let a = c.args.self.now in
-    let ok = subst (λ (k : Account). IsNetwork (network_of k.declared)) c.self.view_is i.account.network in
-    let channels = subst (λ (k : Account). (network_of k.declared).channels ≡ 2 * length k.declared.links) c.self.view_is i.channels in
-    let own = ap (λ (k : Account). length k.declared.links) c.self.view_is in
+    let ok = subst (λ (k : JournalView). IsNetwork (network_of k.declared)) c.self.view_is i.account.network in
+    let channels = subst (λ (k : JournalView). (network_of k.declared).channels ≡ 2 * length k.declared.links) c.self.view_is i.channels in
+    let own = ap (λ (k : JournalView). length k.declared.links) c.self.view_is in
     let links = ap (λ (d : Declaration). length d.links) c.network.ensures.network in
     let count = c.channels-number-end.ensures.count in
     let test = c.loop-number-test.false in

@@ -1,7 +1,7 @@
 use Rattle.std.proofs.Common.{None, ap, replicate, rules, length, ◌*◌, ◌∙◌, ◌≡◌}
 use Rattle.sw_journal.proofs.Opened.{account_first, kept_first}
 use Rattle.sw_journal.proofs.journal.Journal.new.Goals as goal
-use Rattle.sw_network.specs.Entries.{Declaration}
+use Rattle.sw_config.specs.Entries.{Declaration}
 
 pub invariant_of-journal : goal.invariant_of-journal
 invariant_of-journal c =

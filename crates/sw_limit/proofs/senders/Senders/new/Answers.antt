@@ -2,7 +2,7 @@ use Rattle.std.proofs.Common.{ap, length, sym, ◌∙◌, ◌≡◌, ℕ}
 use Rattle.std.specs.Prelude.{slice_get}
 use Rattle.sw_limit.proofs.Sends.{flow_from, found_more, read_at, whole}
 use Rattle.sw_limit.proofs.senders.Senders.new.Goals as goal
-use Rattle.sw_network.specs.Entries.{all_flows}
+use Rattle.sw_config.specs.Entries.{all_flows}
 
 pub loop-place-preserved : goal.loop-place-preserved
 loop-place-preserved c =

@@ -1,5 +1,5 @@
 use Rattle.std.proofs.Common.{None, ap, refl, rules, set, subst, sym, ◌≡◌}
-use Rattle.sw_cells.specs.Picks.{GrantsPick}
+use Rattle.sw_cell.specs.Picks.{GrantsPick}
 use Rattle.sw_machine.specs.Network.{AtSwitch}
 use Rattle.sw_machine.specs.Steps.{Grant}
 use Rattle.sw_model.specs.Model.{network_of}

@@ -2,7 +2,7 @@ use Rattle.std.proofs.Common.{Some, ap, subst, ◌∙◌, ◌≡◌}
 use Rattle.std.specs.Prelude.{slice_get}
 use Rattle.sw_net.proofs.Asks.{switch_asks}
 use Rattle.sw_net.proofs.net.Net.asks.Goals as goal
-use Rattle.sw_network.specs.Entries.{wiring_of}
+use Rattle.sw_config.specs.Entries.{wiring_of}
 use Rattle.sw_topo.specs.Wiring.{Wiring}
 use Rattle.sw_topo.specs.declared.place.PlaceEnd.TheVariants.{Switch}
 

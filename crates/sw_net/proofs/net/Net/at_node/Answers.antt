@@ -1,5 +1,5 @@
 use Rattle.std.proofs.Common.{arith, ◌<◌}
-use Rattle.sw_cells.proofs.Network.{nodes_are}
+use Rattle.sw_cell.proofs.Network.{nodes_are}
 use Rattle.sw_model.specs.Model.{network_of}
 use Rattle.sw_net.proofs.Delivered.{node_fits, node_is}
 use Rattle.sw_net.proofs.net.Net.at_node.Goals as goal

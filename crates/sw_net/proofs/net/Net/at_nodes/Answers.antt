@@ -1,9 +1,9 @@
 use Rattle.std.proofs.Common.{ap, arith, length, ◌<◌}
-use Rattle.sw_cells.proofs.Network.{nodes_are}
+use Rattle.sw_cell.proofs.Network.{nodes_are}
 use Rattle.sw_model.specs.Model.{network_of}
 use Rattle.sw_net.proofs.Delivered.{nodes_fit}
 use Rattle.sw_net.proofs.net.Net.at_nodes.Goals as goal
-use Rattle.sw_network.specs.Entries.{Declaration}
+use Rattle.sw_config.specs.Entries.{Declaration}
 
 pub overflow_add-count : goal.overflow_add-count
 overflow_add-count g c =

@@ -3,8 +3,8 @@ use Rattle.std.specs.Prelude.{slice_get}
 use Rattle.sw_model.specs.Model.{network_of}
 use Rattle.sw_net.proofs.Delivered.{channel_count, node_buffered, switch_buffered}
 use Rattle.sw_net.proofs.net.Net.buffered.Goals as goal
-use Rattle.sw_network.proofs.Steps.{length-link_ends}
-use Rattle.sw_network.specs.Entries.{Declaration, wiring_of}
+use Rattle.sw_config.proofs.Steps.{length-link_ends}
+use Rattle.sw_config.specs.Entries.{Declaration, wiring_of}
 use Rattle.sw_topo.specs.Wiring.{Wiring, partner}
 use Rattle.sw_topo.specs.declared.place.PlaceEnd.TheVariants.{Node, Switch}
 

@@ -1,14 +1,14 @@
 use Rattle.std.proofs.Common.{subst, sym}
-use Rattle.sw_cells.specs.Makes.{HasNodeState}
-use Rattle.sw_cells.specs.Parts.{IsNodeFor}
-use Rattle.sw_cells.specs.Possible.{NodeTells, step_at_node}
+use Rattle.sw_cell.specs.Makes.{HasNodeState}
+use Rattle.sw_cell.specs.Parts.{IsNodeFor}
+use Rattle.sw_cell.specs.Possible.{NodeTells, step_at_node}
 use Rattle.sw_machine.specs.Steps.{Emit}
 use Rattle.sw_model.specs.Model.{network_of}
 use Rattle.sw_net.proofs.Possibles.{node_told}
 use Rattle.sw_net.proofs.Steps.{has_node}
 use Rattle.sw_net.proofs.net.Net.can_at_node.Goals as goal
 use Rattle.sw_net.specs.Net.{NetView}
-use Rattle.sw_network.specs.Entries.{Declaration}
+use Rattle.sw_config.specs.Entries.{Declaration}
 
 pub is_possible-requires-clause-node : goal.is_possible-requires-clause-node
 is_possible-requires-clause-node g c = subst (λ (d : Declaration). IsNodeFor d c.args.n c.node.result.now) (sym c.network-network.ensures.network) (c.network-network.ensures.sound.nodes c.args.n c.node.result.now c.node.ensures)

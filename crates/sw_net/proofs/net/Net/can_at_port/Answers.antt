@@ -1,6 +1,6 @@
 use Rattle.std.proofs.Common.{subst, sym, ◌≡◌}
-use Rattle.sw_cells.specs.Possible.{SwitchTells, step_at_port}
-use Rattle.sw_cells.specs.SwitchParts.{HasSwitchState, IsSwitchFor}
+use Rattle.sw_cell.specs.Possible.{SwitchTells, step_at_port}
+use Rattle.sw_cell.specs.SwitchParts.{HasSwitchState, IsSwitchFor}
 use Rattle.sw_machine.specs.Network.{AtSwitch}
 use Rattle.sw_machine.specs.Steps.{Emit}
 use Rattle.sw_model.specs.Model.{network_of}
@@ -8,7 +8,7 @@ use Rattle.sw_net.proofs.Possibles.{switch_told}
 use Rattle.sw_net.proofs.Steps.{has_switch}
 use Rattle.sw_net.proofs.net.Net.can_at_port.Goals as goal
 use Rattle.sw_net.specs.Net.{NetView}
-use Rattle.sw_network.specs.Entries.{Declaration}
+use Rattle.sw_config.specs.Entries.{Declaration}
 
 pub is_possible-requires-clause-cell : goal.is_possible-requires-clause-cell
 is_possible-requires-clause-cell g c = subst (λ (d : Declaration). IsSwitchFor g.R.Routing.answer g.A.Arbiter.ports d c.args.w c.switch.result.now) (sym c.network-network.ensures.network) (c.network-network.ensures.sound.switches c.args.w c.switch.result.now c.switch.ensures)

@@ -1,10 +1,10 @@
 use Rattle.std.proofs.Common.{Some, ap, arith, length, subst, sym, ◌<◌, ◌∙◌, ◌≡◌}
 use Rattle.std.specs.Prelude.{slice_get}
-use Rattle.sw_cells.proofs.Network.{channels_are}
-use Rattle.sw_cells.specs.Makes.{HasNodeState}
-use Rattle.sw_cells.specs.Parts.{IsNodeFor}
-use Rattle.sw_cells.specs.Possible.{NodeEnabled, PortEnabled}
-use Rattle.sw_cells.specs.SwitchParts.{HasSwitchState, IsSwitchFor}
+use Rattle.sw_cell.proofs.Network.{channels_are}
+use Rattle.sw_cell.specs.Makes.{HasNodeState}
+use Rattle.sw_cell.specs.Parts.{IsNodeFor}
+use Rattle.sw_cell.specs.Possible.{NodeEnabled, PortEnabled}
+use Rattle.sw_cell.specs.SwitchParts.{HasSwitchState, IsSwitchFor}
 use Rattle.sw_machine.specs.Network.{AtSwitch}
 use Rattle.sw_machine.specs.Steps.{Emit}
 use Rattle.sw_model.specs.Model.{network_of}
@@ -12,8 +12,8 @@ use Rattle.sw_net.proofs.Steps.{has_node, has_switch}
 use Rattle.sw_net.proofs.Told.{node_tells, start_at_node, start_at_switch, switch_tells}
 use Rattle.sw_net.proofs.net.Net.enabled.Goals as goal
 use Rattle.sw_net.specs.Net.{NetView}
-use Rattle.sw_network.proofs.Steps.{length-link_ends}
-use Rattle.sw_network.specs.Entries.{Declaration, wiring_of}
+use Rattle.sw_config.proofs.Steps.{length-link_ends}
+use Rattle.sw_config.specs.Entries.{Declaration, wiring_of}
 use Rattle.sw_topo.specs.Wiring.{Wiring}
 use Rattle.sw_topo.specs.declared.place.PlaceEnd.TheVariants.{Node, Switch}
 

@@ -1,15 +1,15 @@
 use Rattle.std.proofs.Common.{arith, subst, sym}
-use Rattle.sw_cells.proofs.Network.{nodes_are}
-use Rattle.sw_cells.specs.Makes.{HasNodeState}
-use Rattle.sw_cells.specs.Parts.{IsNodeFor}
-use Rattle.sw_cells.specs.Possible.{NodeHas}
+use Rattle.sw_cell.proofs.Network.{nodes_are}
+use Rattle.sw_cell.specs.Makes.{HasNodeState}
+use Rattle.sw_cell.specs.Parts.{IsNodeFor}
+use Rattle.sw_cell.specs.Possible.{NodeHas}
 use Rattle.sw_machine.specs.Steps.{Emit}
 use Rattle.sw_model.specs.Model.{network_of}
 use Rattle.sw_net.proofs.Making.{node_has, node_has_none}
 use Rattle.sw_net.proofs.Steps.{has_node}
 use Rattle.sw_net.proofs.net.Net.first_at_node.Goals as goal
 use Rattle.sw_net.specs.Net.{NetView}
-use Rattle.sw_network.specs.Entries.{Declaration}
+use Rattle.sw_config.specs.Entries.{Declaration}
 
 pub first_possible-requires-clause-node : goal.first_possible-requires-clause-node
 first_possible-requires-clause-node g c = subst (λ (d : Declaration). IsNodeFor d c.args.n c.node.result.now) (sym c.network-network.ensures.network) (c.network-network.ensures.sound.nodes c.args.n c.node.result.now c.node.ensures)

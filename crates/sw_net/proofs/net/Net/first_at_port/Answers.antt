@@ -1,12 +1,12 @@
 use Rattle.std.proofs.Common.{subst, sym}
-use Rattle.sw_cells.specs.Possible.{PortHas}
-use Rattle.sw_cells.specs.SwitchParts.{HasSwitchState, IsSwitchFor}
+use Rattle.sw_cell.specs.Possible.{PortHas}
+use Rattle.sw_cell.specs.SwitchParts.{HasSwitchState, IsSwitchFor}
 use Rattle.sw_machine.specs.Steps.{Emit}
 use Rattle.sw_net.proofs.Making.{port_has, port_has_none}
 use Rattle.sw_net.proofs.Steps.{has_switch}
 use Rattle.sw_net.proofs.net.Net.first_at_port.Goals as goal
 use Rattle.sw_net.specs.Net.{NetView}
-use Rattle.sw_network.specs.Entries.{Declaration}
+use Rattle.sw_config.specs.Entries.{Declaration}
 
 pub first_possible-requires-clause-cell : goal.first_possible-requires-clause-cell
 first_possible-requires-clause-cell g c = subst (λ (d : Declaration). IsSwitchFor g.R.Routing.answer g.A.Arbiter.ports d c.args.w c.switch.result.now) (sym c.network-network.ensures.network) (c.network-network.ensures.sound.switches c.args.w c.switch.result.now c.switch.ensures)

@@ -3,7 +3,7 @@ use Rattle.sw_model.specs.Model.{network_of}
 use Rattle.sw_net.proofs.Delivered.{channel_count, channel_fits, channel_is, wires_long}
 use Rattle.sw_net.proofs.net.Net.in_channel.Goals as goal
 use Rattle.sw_net.specs.Net.{NetView}
-use Rattle.sw_wires.specs.Between.{wire_at}
+use Rattle.sw_link.specs.Between.{wire_at}
 
 pub len-requires : goal.len-requires
 len-requires g c =

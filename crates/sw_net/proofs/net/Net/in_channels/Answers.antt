@@ -3,7 +3,7 @@ use Rattle.sw_model.specs.Model.{network_of}
 use Rattle.sw_net.proofs.Delivered.{channel_count, channels_fit}
 use Rattle.sw_net.proofs.net.Net.in_channels.Goals as goal
 use Rattle.sw_net.specs.Delivery.{IsInChannel}
-use Rattle.sw_network.specs.Entries.{Declaration}
+use Rattle.sw_config.specs.Entries.{Declaration}
 
 pub overflow_add-count : goal.overflow_add-count
 overflow_add-count g c =

@@ -3,8 +3,8 @@ use Rattle.std.specs.Prelude.{Err}
 use Rattle.sw_cell.specs.Places.{IsDoneAt}
 use Rattle.sw_net.proofs.Possibles.{nowhere_told}
 use Rattle.sw_net.proofs.net.Net.is_possible.Goals as goal
-use Rattle.sw_network.specs.Entries.{Declaration}
-use Rattle.sw_steps.specs.Steps.{machine_step}
+use Rattle.sw_config.specs.Entries.{Declaration}
+use Rattle.sw_model.specs.Steps.{machine_step}
 
 pub returns-in-Err : goal.returns-in-Err
 returns-in-Err g c =

@@ -1,7 +1,7 @@
 use Rattle.std.proofs.Common.{ap}
 use Rattle.sw_net.proofs.Possibles as steps
 use Rattle.sw_net.proofs.net.Net.is_possible_at_node.Goals as goal
-use Rattle.sw_steps.specs.Steps.{machine_step}
+use Rattle.sw_model.specs.Steps.{machine_step}
 
 pub returns-in-Fct : goal.returns-in-Fct
 returns-in-Fct g c = steps.fct_at c.args.self.now c.network-network.ensures.sound.valid (machine_step c.args.step.now) c.args.n c.requires c.in-Fct.field-0 c.can_at_node.result (ap machine_step c.in-Fct.is) c.can_at_node.ensures

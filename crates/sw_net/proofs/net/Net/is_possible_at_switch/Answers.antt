@@ -1,4 +1,4 @@
-use Rattle.std.proofs.Common.{ap, subst}
+use Rattle.std.proofs.Common.{ap, subst, ◌≡◌}
 use Rattle.sw_cell.specs.Places.{HasNamed}
 use Rattle.sw_machine.specs.Network.{AtSwitch}
 use Rattle.sw_machine.specs.Parts.{cell_of}
@@ -6,8 +6,7 @@ use Rattle.sw_machine.specs.Steps as machine
 use Rattle.sw_model.specs.Model.{network_of}
 use Rattle.sw_net.proofs.Possibles as steps
 use Rattle.sw_net.proofs.net.Net.is_possible_at_switch.Goals as goal
-use Rattle.sw_steps.specs.Steps.{machine_step}
-use Rattle.std.proofs.Common.{◌≡◌}
+use Rattle.sw_model.specs.Steps.{machine_step}
 
 pub can_at_port-requires-clause-at : goal.can_at_port-requires-clause-at
 can_at_port-requires-clause-at g c =

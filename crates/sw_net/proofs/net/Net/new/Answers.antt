@@ -1,9 +1,9 @@
 use Rattle.std.proofs.Common.{ap, length, refl, sym, ◌∙◌}
-use Rattle.sw_cells.proofs.Network.{channels_are}
+use Rattle.sw_cell.proofs.Network.{channels_are}
 use Rattle.sw_net.proofs.New as new
 use Rattle.sw_net.proofs.net.Net.new.Goals as goal
 use Rattle.sw_topo.specs.Wiring.{Wiring}
-use Rattle.sw_wires.specs.Between.{empty_between}
+use Rattle.sw_link.specs.Between.{empty_between}
 
 pub invariant_of-result : goal.invariant_of-result
 invariant_of-result g c =

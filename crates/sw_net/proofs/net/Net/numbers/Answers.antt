@@ -5,8 +5,8 @@ use Rattle.sw_model.specs.Model.{network_of}
 use Rattle.sw_net.proofs.Delivered.{channel_count}
 use Rattle.sw_net.proofs.LinkNumbers.{node_numbers, switch_numbers}
 use Rattle.sw_net.proofs.net.Net.numbers.Goals as goal
-use Rattle.sw_network.proofs.Steps.{length-link_ends}
-use Rattle.sw_network.specs.Entries.{Declaration, capacities, wiring_of}
+use Rattle.sw_config.proofs.Steps.{length-link_ends}
+use Rattle.sw_config.specs.Entries.{Declaration, capacities, wiring_of}
 use Rattle.sw_topo.specs.Wiring.{Wiring}
 use Rattle.sw_topo.specs.declared.place.PlaceEnd.TheVariants.{Node, Switch}
 

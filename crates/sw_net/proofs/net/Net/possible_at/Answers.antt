@@ -7,9 +7,9 @@ use Rattle.sw_net.proofs.Told.{start_at_node}
 use Rattle.sw_net.proofs.net.Net.possible_at.Goals as goal
 use Rattle.sw_net.specs.Asked.{CanStep}
 use Rattle.sw_net.specs.Making.{IsMoveOf}
-use Rattle.sw_network.proofs.Steps.{length-link_ends}
-use Rattle.sw_network.specs.Entries.{Declaration, wiring_of}
-use Rattle.sw_steps.specs.Steps.{machine_step}
+use Rattle.sw_config.proofs.Steps.{length-link_ends}
+use Rattle.sw_config.specs.Entries.{Declaration, wiring_of}
+use Rattle.sw_model.specs.Steps.{machine_step}
 use Rattle.sw_topo.specs.Wiring.{Wiring}
 use Rattle.sw_topo.specs.declared.place.PlaceEnd.TheVariants.{Node}
 

@@ -6,7 +6,7 @@ use Rattle.sw_net.proofs.Asks.{none_granted, told}
 use Rattle.sw_net.proofs.Making.{any_none}
 use Rattle.sw_net.proofs.net.Net.possible_grant.Goals as goal
 use Rattle.sw_net.specs.Possible.{Tells}
-use Rattle.sw_network.specs.Entries.{Declaration, wiring_of}
+use Rattle.sw_config.specs.Entries.{Declaration, wiring_of}
 use Rattle.sw_topo.proofs.Ends.{partner_back, port_starts}
 use Rattle.sw_topo.proofs.PortBits.{zero_none}
 use Rattle.sw_topo.specs.Wiring.{Wiring, out_of, partner}

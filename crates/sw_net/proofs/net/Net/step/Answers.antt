@@ -3,7 +3,7 @@ use Rattle.sw_cell.specs.Places.{IsDoneAt}
 use Rattle.sw_net.proofs.Steps.{nowhere}
 use Rattle.sw_net.specs.Net.{NetAnswers, NetView}
 use Rattle.sw_net.proofs.net.Net.step.Goals as goal
-use Rattle.sw_steps.specs.Steps.{machine_step}
+use Rattle.sw_model.specs.Steps.{machine_step}
 
 pub returns-in_err-n-clause-answers : goal.returns-in_err-n-clause-answers
 returns-in_err-n-clause-answers g c =

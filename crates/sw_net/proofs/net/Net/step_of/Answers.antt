@@ -6,8 +6,8 @@ use Rattle.sw_net.proofs.Delivered.{channel_count}
 use Rattle.sw_net.proofs.Told.{start_at_node, start_at_switch}
 use Rattle.sw_net.proofs.net.Net.step_of.Goals as goal
 use Rattle.sw_net.specs.Making.{MovesAt}
-use Rattle.sw_network.proofs.Steps.{length-link_ends}
-use Rattle.sw_network.specs.Entries.{Declaration, wiring_of}
+use Rattle.sw_config.proofs.Steps.{length-link_ends}
+use Rattle.sw_config.specs.Entries.{Declaration, wiring_of}
 use Rattle.sw_topo.specs.Wiring.{Wiring}
 use Rattle.sw_topo.specs.declared.place.PlaceEnd.TheVariants.{Node, Switch}
 

@@ -1,7 +1,7 @@
 use Rattle.std.proofs.Common.{ap, arith, rules, subst, sym, true, ◌<◌, ◌∙◌, ◌≡◌}
 use Rattle.std.specs.Prelude.{Err}
-use Rattle.sw_cells.proofs.Network.{nodes_are}
-use Rattle.sw_cells.specs.Possible.{step_at_node}
+use Rattle.sw_cell.proofs.Network.{nodes_are}
+use Rattle.sw_cell.specs.Possible.{step_at_node}
 use Rattle.sw_machine.specs.Parts.{link_end_of}
 use Rattle.sw_machine.specs.Steps.{Step}
 use Rattle.sw_model.proofs.Networks.{are_networks}
@@ -10,8 +10,8 @@ use Rattle.sw_net.proofs.Making.{node_step_belongs, node_step_is_plain, plain_mo
 use Rattle.sw_net.proofs.net.Net.step_of_node.Goals as goal
 use Rattle.sw_net.specs.Making.{IsPlain, MovesAt}
 use Rattle.sw_net.specs.Possible.{Tells}
-use Rattle.sw_network.specs.Entries.{Declaration}
-use Rattle.sw_steps.specs.Steps.{machine_step}
+use Rattle.sw_config.specs.Entries.{Declaration}
+use Rattle.sw_model.specs.Steps.{machine_step}
 
 pub make_plain-requires-clause-possible : goal.make_plain-requires-clause-possible
 make_plain-requires-clause-possible g c =

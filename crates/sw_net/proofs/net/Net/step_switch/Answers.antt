@@ -3,7 +3,7 @@ use Rattle.sw_net.proofs.Making.{same_arbiters}
 use Rattle.sw_net.proofs.Steps as steps
 use Rattle.sw_net.specs.Net.{NetAnswers, NetView, arbiters_of, net_of}
 use Rattle.sw_net.proofs.net.Net.step_switch.Goals as goal
-use Rattle.sw_steps.specs.Steps.{machine_step}
+use Rattle.sw_model.specs.Steps.{machine_step}
 
 pub step_switch-requires-clause-cell : goal.step_switch-requires-clause-cell
 step_switch-requires-clause-cell g c = c.self.invariant.switches c.args.w c.index_mut-cell.result.now (steps.switch_found g.R.Routing.answer g.A.Arbiter.ports (net_of c.self.inside.network.now c.self.inside.nodes.items c.self.inside.switches.items c.self.inside.wires) c.args.self.now c.self.view_is c.self.invariant (machine_step c.args.step.now) c.args.w c.index_mut-cell.result.now c.requires c.index_mut-cell.ensures.value)

@@ -1,0 +1,84 @@
+-- What clap's matches say of the words.
+use Rattle.std.proofs.Common.{◌≡◌, List, ℕ, [], Option, refl, sym, ap, ◌∙◌, subst, true, false, inl, inr}
+use Rattle.std.specs.Prelude.{IfOk, IfSome, Ok, Result, ok_or, option_map, Some, None}
+use Rattle.std.specs.Str.Parse.{ParsesUnsigned, digits_value, without_leading_plus}
+use Rattle.clap.proofs.WalkLemmas.{one_text-rows}
+use Rattle.clap.specs.Built.{AddsSubcommand}
+use Rattle.std.specs.declared.alloc.AllocError.{AllocError}
+use Rattle.clap.specs.declared.parser.matches.Found.{Found}
+use Rattle.clap.specs.Simple.{with_subcommand}
+use Rattle.clap.specs.Words.{App, ReadsOne, app_of, HasKind, HasMatchesOf, fault_of, is_simple, is_simple_and_free, kind_of, one_text, rows_of, subcommand_of, subcommand_rows_of}
+use Rattle.clap.specs.declared.builder.Command.{Command}
+use Rattle.clap.specs.declared.builder.Command.TheViews.{out-Command}
+use Rattle.clap.specs.declared.parser.matches.ArgMatches.{ArgMatches}
+use Rattle.clap.specs.declared.error.Error.{Error}
+use Rattle.sw_args.specs.declared.command_line.Call.{Call}
+use Rattle.sw_args.specs.declared.command_line.WordsFault.{WordsFault}
+use Rattle.sw_args.specs.declared.command_line.WordsFault.TheVariants.{Help, Refused, Memory}
+use Rattle.sw_args.specs.CommandLine.{swcheck_app, Gives, IsMatched, Refuses, SaysNumber, ShowsKind, WithMade}
+
+swcheck_simple : is_simple swcheck_app ≡ true
+swcheck_simple = refl
+
+swcheck_free : is_simple_and_free swcheck_app ≡ true
+swcheck_free = refl
+
+-- a call of the matches is one of the words
+pub gives : (app : App) (words : List (List ℕ)) (m : ArgMatches) (call : Call) → app ≡ swcheck_app
+    → HasMatchesOf app words m → (is_simple_and_free app ≡ true → fault_of app words ≡ [])
+    → IsMatched (subcommand_rows_of m) call → Gives words call
+gives app words m call is found free (name, values, met, is_call) =
+    let simple : is_simple app ≡ true = ap is_simple is ∙ swcheck_simple in
+    let same = ap (λ (a : App). subcommand_of a words) (sym is) ∙ sym (found simple).1 in
+    (ap (λ (a : App). fault_of a words) (sym is) ∙ free (ap is_simple_and_free is ∙ swcheck_free), (name, values, same ∙ met, is_call))
+
+among : (app : App) (words : List (List ℕ)) (e : Error) → app ≡ swcheck_app
+    → (is_simple_and_free app ≡ true → HasKind (fault_of app words) e) → HasKind (fault_of swcheck_app words) e
+among app words e is has =
+    subst (λ (a : App). HasKind (fault_of a words) e) is (has (ap is_simple_and_free is ∙ swcheck_free))
+
+-- a call that was matched, or want of memory
+pub gives_or_memory : (words : List (List ℕ)) (P : Call → Type 0) (found : Option Call) → IfSome found P → ((call : Call) → P call → Gives words call)
+    → IfOk (ok_or found Memory) (Gives words)
+gives_or_memory words P None h given = tt
+gives_or_memory words P (Some call) h given = given call h
+
+-- the fault that tells of an error of clap's tells of one that the words have
+pub refuses : (app : App) (words : List (List ℕ)) (e : Error) (f : WordsFault) → app ≡ swcheck_app
+    → (is_simple_and_free app ≡ true → HasKind (fault_of app words) e) → ShowsKind (kind_of e) f → Refuses words f
+refuses app words e Memory is has shows = tt
+refuses app words e (Help text) is has shows =
+    elim (among app words e is has) [
+      | inl memory ↦ absurd (elim shows [ inl help ↦ cc | inr version ↦ cc ])
+      | inr known ↦ (kind_of e, known, shows)
+    ]
+refuses app words e (Refused text) is has shows =
+    elim (among app words e is has) [
+      | inl memory ↦ absurd (shows.0 memory)
+      | inr known ↦ (kind_of e, known, shows)
+    ]
+
+-- a command with one more subcommand
+pub with_added : (old sub new : Command) (a b : App) → app_of old ≡ a → (app_of sub ≡ b) × ((out-Command sub).has_globals ≡ false) → AddsSubcommand old sub new
+    → app_of new ≡ with_subcommand a b.top
+with_added old sub new a b first second adds = adds.shape second.1 ∙ (λ i. with_subcommand (first i) (second.0 i).top)
+
+-- the same where the subcommand was made just before
+pub with_made : (old new : Command) (made : Result Command AllocError) (a b : App) → app_of old ≡ a
+    → IfOk made (λ c. (app_of c ≡ b) × ((out-Command c).has_globals ≡ false)) → WithMade old made new → app_of new ≡ with_subcommand a b.top
+with_made old new made a b first each (sub, is, adds) =
+    with_added old sub new a b first (subst (λ (m : Result Command AllocError). IfOk m (λ c. (app_of c ≡ b) × ((out-Command c).has_globals ≡ false))) is each) adds
+
+-- a number that was read is the one that the text says
+pub says_number : (E : Type 0) (G : List ℕ → Result ℕ E → Type 0) (width : ℕ) (m : Found) (name : List ℕ) (o : Option ℕ)
+    → ((t : List ℕ) (r : Result ℕ E) → G t r → ParsesUnsigned width 10 t r)
+    → (one_text m name ≡ None → o ≡ None) → ((t : List ℕ) → one_text m name ≡ Some t → ReadsOne G t o)
+    → IfSome o (SaysNumber name (rows_of m))
+says_number E G width m name None only none value = tt
+says_number E G width m name (Some v) only none value = go (one_text m name) refl
+  where
+    go : (t : Option (List ℕ)) → one_text m name ≡ t → SaysNumber name (rows_of m) v
+    go None is = let empty : Some v ≡ None = none is in absurd cc
+    go (Some t) is =
+        let parsed = only t (Ok v) (value t is) in
+        ap (option_map (λ (text : List ℕ). digits_value 10 (without_leading_plus text))) (sym (one_text-rows m name) ∙ is) ∙ ap Some (sym parsed.1)

@@ -1,0 +1,140 @@
+-- The words that the program takes.
+use Rattle.std.specs.Prelude.{◌≡◌, ◌≢◌, ◌≤◌, ◌<◌, ◌⊎◌, ℕ, List, [], ◌∷◌, Option, Some, codes, option_map, pos, true, Result, Ok}
+use Rattle.std.specs.declared.alloc.AllocError.{AllocError}
+use Rattle.clap.specs.Built.{AddsSubcommand}
+use Rattle.clap.specs.declared.builder.command.Command.{Command}
+use Rattle.std.specs.Str.Parse.{digits_value, without_leading_plus}
+use Rattle.clap.specs.Words.{App, Row, Rule, IsAmong, fault_of, first_of, new_app, new_rule, one_of, subcommand_of, with_rule, with_subcommand}
+use Rattle.clap.specs.declared.builder.value_parser.ValueParser.TheVariants.{Signed}
+use Rattle.clap.specs.declared.error.kind.ErrorKind.{ErrorKind}
+use Rattle.clap.specs.declared.error.kind.ErrorKind.TheVariants.{DisplayHelp, DisplayVersion, OutOfMemory}
+use Rattle.sw_args.specs.declared.command_line.Call.{Call}
+use Rattle.sw_args.specs.declared.command_line.Call.TheVariants.{Route, Decide, Check, Report, Replay, Run}
+use Rattle.sw_args.specs.declared.command_line.WordsFault.{WordsFault}
+use Rattle.sw_args.specs.declared.command_line.WordsFault.TheVariants.{Help, Refused, Memory}
+
+-- a value that must be given
+abbrev pub required_value : List ℕ → Rule
+required_value name = record (new_rule name) { required = true }
+
+-- an option `--NAME NUMBER`: a number from 1 up to the most, the usual one if it is left out
+abbrev pub count_rule : List ℕ → List ℕ → ℕ → Rule
+count_rule name usual most = record (new_rule name) {
+  long = Some name;
+  defaults = usual ∷ [];
+  parser = Some (Signed (pos 1) (pos most));
+}
+
+-- `route FILE FLOW`
+abbrev pub route_app : App
+route_app = with_rule (with_rule (new_app (codes "route")) (required_value (codes "FILE"))) (required_value (codes "FLOW"))
+
+-- `decide FILE`
+abbrev pub decide_app : App
+decide_app = with_rule (new_app (codes "decide")) (required_value (codes "FILE"))
+
+-- `check FILE CERT`
+abbrev pub check_app : App
+check_app = with_rule (with_rule (new_app (codes "check")) (required_value (codes "FILE"))) (required_value (codes "CERT"))
+
+-- `report FILE`
+abbrev pub report_app : App
+report_app = with_rule (new_app (codes "report")) (required_value (codes "FILE"))
+
+-- `replay FILE SCHEDULE`
+abbrev pub replay_app : App
+replay_app = with_rule (with_rule (new_app (codes "replay")) (required_value (codes "FILE"))) (required_value (codes "SCHEDULE"))
+
+-- the most threads and the most steps that a run may be asked for (this project's choice)
+abbrev pub most_workers : ℕ
+most_workers = 64
+
+abbrev pub most_steps : ℕ
+most_steps = 16777216
+
+-- `run FILE LOAD [--workers NUMBER] [--limit NUMBER]`: 4 workers and 1,000,000 steps if they are left out
+abbrev pub run_app : App
+run_app = with_rule (with_rule (with_rule (with_rule (new_app (codes "run")) (required_value (codes "FILE"))) (required_value (codes "LOAD")))
+    (count_rule (codes "workers") (codes "4") most_workers))
+    (count_rule (codes "limit") (codes "1000000") most_steps)
+
+-- `swcheck`, which asks for a subcommand
+abbrev pub top_app : App
+top_app = let a = new_app (codes "swcheck") in record a { top = record a.top { subcommand_required = true } }
+
+-- the whole command line: each subcommand stands in a line of its own
+abbrev pub swcheck_app : App
+swcheck_app =
+    with_subcommand (with_subcommand (with_subcommand (with_subcommand (with_subcommand (with_subcommand top_app
+    route_app.top)
+    decide_app.top)
+    check_app.top)
+    report_app.top)
+    replay_app.top)
+    run_app.top
+
+-- the command has a subcommand that was made
+abbrev pub WithMade : Command → Result Command AllocError → Command → Type 0
+WithMade command made new = (subcommand : Command) × (made ≡ Ok subcommand) × AddsSubcommand command subcommand new
+
+-- the option's value says this number, in decimal digits
+abbrev pub SaysNumber : List ℕ → List Row → ℕ → Type 0
+SaysNumber name values number = option_map (λ text. digits_value 10 (without_leading_plus text)) (one_of name values) ≡ Some number
+
+-- and the number is 1 or more, and not over the most
+abbrev pub IsCount : ℕ → List ℕ → List Row → ℕ → Type 0
+IsCount most name values number = SaysNumber name values number × (1 ≤ number) × (number ≤ most)
+
+-- a subcommand with these values is this call
+abbrev pub IsCallOf : List ℕ → List Row → Call → Type 0
+IsCallOf name values (Route file flow) = (name ≡ codes "route")
+    × (first_of (codes "FILE") values ≡ Some file.now)
+    × (first_of (codes "FLOW") values ≡ Some flow.now)
+IsCallOf name values (Decide file) = (name ≡ codes "decide") × (first_of (codes "FILE") values ≡ Some file.now)
+IsCallOf name values (Report file) = (name ≡ codes "report") × (first_of (codes "FILE") values ≡ Some file.now)
+IsCallOf name values (Check file certificate) = (name ≡ codes "check")
+    × (first_of (codes "FILE") values ≡ Some file.now)
+    × (first_of (codes "CERT") values ≡ Some certificate.now)
+IsCallOf name values (Replay file schedule) = (name ≡ codes "replay")
+    × (first_of (codes "FILE") values ≡ Some file.now)
+    × (first_of (codes "SCHEDULE") values ≡ Some schedule.now)
+IsCallOf name values (Run file load workers limit) = (name ≡ codes "run")
+    × (first_of (codes "FILE") values ≡ Some file.now)
+    × (first_of (codes "LOAD") values ≡ Some load.now)
+    × IsCount most_workers (codes "workers") values workers
+    × IsCount most_steps (codes "limit") values limit
+
+-- a run has a worker
+abbrev pub HasWorkers : Call → Type 0
+HasWorkers (Run file load workers limit) = 0 < workers
+HasWorkers (Route file flow) = Unit {0}
+HasWorkers (Decide file) = Unit {0}
+HasWorkers (Check file certificate) = Unit {0}
+HasWorkers (Report file) = Unit {0}
+HasWorkers (Replay file schedule) = Unit {0}
+
+-- the subcommand that was met, with its values, is this call
+abbrev pub IsMatched : Option (List ℕ × List Row) → Call → Type 0
+IsMatched found call = (name : List ℕ) × (values : List Row) × (found ≡ Some (name, values)) × IsCallOf name values call
+
+-- clap's own matches of the words have no error, and the call's subcommand and values
+abbrev pub Gives : List (List ℕ) → Call → Type 0
+Gives words call = (fault_of swcheck_app words ≡ []) × IsMatched (subcommand_of swcheck_app words) call
+
+-- the status that the program exits with
+abbrev pub words_status : WordsFault → ℕ
+words_status (Help text) = 0
+words_status (Refused text) = 2
+words_status Memory = 5
+
+-- how an error of clap's is told: help goes to standard output, and each other text to standard error
+abbrev pub ShowsKind : ErrorKind → WordsFault → Type 0
+ShowsKind kind Memory = Unit {0}
+ShowsKind kind (Help text) = (kind ≡ DisplayHelp) ⊎ (kind ≡ DisplayVersion)
+ShowsKind kind (Refused text) = (kind ≢ OutOfMemory) × (kind ≢ DisplayHelp) × (kind ≢ DisplayVersion)
+
+-- the fault tells of an error that clap's own matches of the words meet first; want of memory apart
+abbrev pub Refuses : List (List ℕ) → WordsFault → Type 0
+Refuses words Memory = Unit {0}
+Refuses words (Help text) = (kind : ErrorKind) × IsAmong kind (fault_of swcheck_app words) × ShowsKind kind (Help text)
+Refuses words (Refused text) = (kind : ErrorKind) × IsAmong kind (fault_of swcheck_app words) × ShowsKind kind (Refused text)

@@ -1,0 +1,317 @@
+//! The words of the command line.
+ghost use Rattle.std.specs.Prelude.{◌≡◌, ℕ, map, option_map, true, false, IfOk, IfErr, IfSome};
+ghost use Rattle.clap.specs.Words.{app_of, first_of, found_of, kind_of, rows_of, rule_of, subcommand_rows_of};
+ghost use Rattle.clap.specs.declared.builder.Command.TheViews.{out-Command};
+ghost use Rattle.sw_args.specs.declared.command_line.WordsFault.TheVariants.{Memory};
+ghost use Rattle.sw_args.specs.CommandLine.{check_app, count_rule, decide_app, replay_app, report_app, required_value, route_app, run_app, swcheck_app, top_app, Gives, IsCallOf, IsCount, IsMatched, Refuses, SaysNumber, ShowsKind, WithMade};
+
+use clap::error::ErrorKind;
+use clap::{Arg, ArgMatches, Command};
+use std::alloc::{AllocError, Global};
+use thiserror::Error;
+
+/// What the words ask for, with the values as they were written.
+#[derive(Clone, Copy, Debug)]
+pub enum Call<'a> {
+    /// The places of a flow of a network file.
+    Route {
+        file: &'a str,
+        flow: &'a str,
+    },
+    /// The verdict on a network file.
+    Decide {
+        file: &'a str,
+    },
+    /// Whether a certificate is accepted for a network file.
+    Check {
+        file: &'a str,
+        certificate: &'a str,
+    },
+    /// How many parts a network file has, and the verdict on it.
+    Report {
+        file: &'a str,
+    },
+    /// What comes of a schedule of steps on a network file.
+    Replay {
+        file: &'a str,
+        schedule: &'a str,
+    },
+    /// What comes of a load of packets on a network file, by so many threads and in at most so many steps.
+    Run {
+        file: &'a str,
+        load: &'a str,
+        workers: u32,
+        limit: u32,
+    },
+}
+
+/// The most threads that `run` may be asked for.
+const MOST_WORKERS: u32 = 64;
+
+/// The most steps that `run` may be asked for.
+const MOST_STEPS: u32 = 16_777_216;
+
+/// Why the words give no call, with the text to print.
+#[derive(Debug, Drop, Error)]
+pub enum WordsFault {
+    /// Help was asked for: the text goes to standard output.
+    #[error("{0}")]
+    Help(String),
+    /// The words are refused: the text goes to standard error.
+    #[error("{0}")]
+    Refused(String),
+    /// A growth was refused.
+    #[error("out of memory")]
+    Memory,
+}
+
+impl WordsFault {
+    ghost use Rattle.sw_args.specs.CommandLine.{words_status};
+
+    /// The status that the program exits with.
+    pub fn status(&self) -> u8
+        ensures { result ≡ words_status self.now }
+    {
+        match self {
+            WordsFault::Help(_) => 0,
+            WordsFault::Refused(_) => 2,
+            WordsFault::Memory => 5,
+        }
+    }
+}
+
+impl From<AllocError> for WordsFault {
+    ghost from_gives = { λ _ e. e ≡ Memory };
+
+    fn from(_error: AllocError) -> WordsFault {
+        WordsFault::Memory
+    }
+}
+
+// A value that must be given.
+fn value_arg<'a>(alloc: Global, name: &'static str, help: &'static str) -> Arg<'a>
+    ensures { (rule_of result ≡ required_value name.now) × (result.global ≡ false) }
+{
+    Arg::new(alloc, name).required(true).help(help)
+}
+
+fn route_command<'a>(alloc: Global) -> Result<Command<'a>, AllocError>
+    ensures { IfOk result (λ c. (app_of c ≡ route_app) × ((out-Command c).has_globals ≡ false)) }
+{
+    let file = value_arg(alloc, "FILE", "A network file");
+    let flow = value_arg(
+        alloc,
+        "FLOW",
+        "The name of a flow, or NAME+reply of its replies",
+    );
+    let route = Command::new(alloc, "route").about(
+        "Print the places of a flow, and whether packets arrive rightly",
+    );
+    route.arg(file)?.arg(flow)
+}
+
+fn decide_command<'a>(alloc: Global) -> Result<Command<'a>, AllocError>
+    ensures { IfOk result (λ c. (app_of c ≡ decide_app) × ((out-Command c).has_globals ≡ false)) }
+{
+    let file = value_arg(alloc, "FILE", "A network file");
+    let decide = Command::new(alloc, "decide").about(
+        "Print a certificate that a network never locks up, or why there is none",
+    );
+    decide.arg(file)
+}
+
+fn report_command<'a>(alloc: Global) -> Result<Command<'a>, AllocError>
+    ensures { IfOk result (λ c. (app_of c ≡ report_app) × ((out-Command c).has_globals ≡ false)) }
+{
+    let file = value_arg(alloc, "FILE", "A network file");
+    let report = Command::new(alloc, "report").about(
+        "Print how many parts a network has, and the verdict on it",
+    );
+    report.arg(file)
+}
+
+fn check_command<'a>(alloc: Global) -> Result<Command<'a>, AllocError>
+    ensures { IfOk result (λ c. (app_of c ≡ check_app) × ((out-Command c).has_globals ≡ false)) }
+{
+    let file = value_arg(alloc, "FILE", "A network file");
+    let certificate = value_arg(alloc, "CERT", "A certificate file");
+    let check = Command::new(alloc, "check").about(
+        "Check a certificate that a network never locks up",
+    );
+    check.arg(file)?.arg(certificate)
+}
+
+fn replay_command<'a>(alloc: Global) -> Result<Command<'a>, AllocError>
+    ensures { IfOk result (λ c. (app_of c ≡ replay_app) × ((out-Command c).has_globals ≡ false)) }
+{
+    let file = value_arg(alloc, "FILE", "A network file");
+    let schedule = value_arg(alloc, "SCHEDULE", "A schedule file");
+    let replay = Command::new(alloc, "replay").about(
+        "Make the steps of a schedule, and print what comes of them",
+    );
+    replay.arg(file)?.arg(schedule)
+}
+
+// An option whose value is a number from 1 up to the most, the usual one if it is left out.
+fn count_arg<'a>(
+    alloc: Global,
+    name: &'static str,
+    usual: &'static str,
+    most: u32,
+    help: &'static str,
+) -> Arg<'a>
+    ensures { (rule_of result ≡ count_rule name.now usual.now most) × (result.global ≡ false) }
+{
+    Arg::new(alloc, name)
+        .long(name)
+        .value_parser(clap::value_parser!(u32).range(1..=i64::from(most)))
+        .default_value(usual)
+        .help(help)
+}
+
+fn run_command<'a>(alloc: Global) -> Result<Command<'a>, AllocError>
+    ensures { IfOk result (λ c. (app_of c ≡ run_app) × ((out-Command c).has_globals ≡ false)) }
+{
+    let run = Command::new(alloc, "run").about(
+        "Send the packets of a load through a network, and print what comes of them",
+    );
+    let run = run.arg(value_arg(alloc, "FILE", "A network file"))?;
+    let run = run.arg(value_arg(alloc, "LOAD", "A load file"))?;
+    let run = run.arg(count_arg(
+        alloc,
+        "workers",
+        "4",
+        MOST_WORKERS,
+        "How many threads work, 1 to 64",
+    ))?;
+    let help = "How many steps may be made, 1 to 16777216";
+    run.arg(count_arg(alloc, "limit", "1000000", MOST_STEPS, help))
+}
+
+fn top_command<'a>(alloc: Global) -> Command<'a>
+    ensures { app_of result ≡ top_app }
+{
+    Command::new(alloc, "swcheck")
+        .about("Checks SpaceWire networks")
+        .subcommand_required(true)
+}
+
+// A command with a subcommand that was made, if there was memory for both.
+fn with_made<'a>(
+    command: Command<'a>,
+    subcommand: Result<Command<'a>, AllocError>,
+) -> Result<Command<'a>, AllocError>
+    ensures { IfOk result (WithMade command.entry subcommand.entry) }
+{
+    command.subcommand(subcommand?)
+}
+
+fn swcheck_command<'a>(alloc: Global) -> Result<Command<'a>, AllocError>
+    ensures { IfOk result (λ c. app_of c ≡ swcheck_app) }
+{
+    let command = with_made(top_command(alloc), route_command(alloc))?;
+    let command = with_made(command, decide_command(alloc))?;
+    let command = with_made(command, check_command(alloc))?;
+    let command = with_made(command, report_command(alloc))?;
+    let command = with_made(command, replay_command(alloc))?;
+    with_made(command, run_command(alloc))
+}
+
+fn fault_of(alloc: Global, error: &clap::Error) -> WordsFault
+    ensures { ShowsKind (kind_of error.now) result }
+{
+    if error.kind() == ErrorKind::OutOfMemory {
+        return WordsFault::Memory;
+    }
+    let Ok(text) = error.to_string(alloc) else {
+        return WordsFault::Memory;
+    };
+    if error.use_stderr() {
+        WordsFault::Refused(text)
+    } else {
+        WordsFault::Help(text)
+    }
+}
+
+fn value_of<'a>(values: &ArgMatches<'a>, name: &str) -> Option<&'a str>
+    ensures { option_map (λ s. s.now) result ≡ first_of name.now (rows_of (found_of values.now)) }
+{
+    values.get_str(name)
+}
+
+// The number that an option's value says.
+fn number_of(values: &ArgMatches<'_>, name: &str) -> Option<u32>
+    ensures { IfSome result (SaysNumber name.now (rows_of (found_of values.now))) }
+{
+    values.get_one(name)
+}
+
+// The same, if it is 1 or more and not over the most; clap gives no other.
+fn count_of(values: &ArgMatches<'_>, name: &str, most: u32) -> Option<u32>
+    ensures { IfSome result (IsCount most name.now (rows_of (found_of values.now))) }
+{
+    let number = number_of(values, name)?;
+    if number < 1 {
+        return None;
+    }
+    if most < number {
+        return None;
+    }
+    Some(number)
+}
+
+// The call of a subcommand. clap gives each value that the subcommand requires.
+fn call_of<'a>(name: &str, values: &ArgMatches<'a>) -> Option<Call<'a>>
+    ensures { IfSome result (IsCallOf name.now (rows_of (found_of values.now))) }
+{
+    match name {
+        "route" => Some(Call::Route {
+            file: value_of(values, "FILE")?,
+            flow: value_of(values, "FLOW")?,
+        }),
+        "decide" => Some(Call::Decide {
+            file: value_of(values, "FILE")?,
+        }),
+        "report" => Some(Call::Report {
+            file: value_of(values, "FILE")?,
+        }),
+        "check" => Some(Call::Check {
+            file: value_of(values, "FILE")?,
+            certificate: value_of(values, "CERT")?,
+        }),
+        "replay" => Some(Call::Replay {
+            file: value_of(values, "FILE")?,
+            schedule: value_of(values, "SCHEDULE")?,
+        }),
+        "run" => Some(Call::Run {
+            file: value_of(values, "FILE")?,
+            load: value_of(values, "LOAD")?,
+            workers: count_of(values, "workers", MOST_WORKERS)?,
+            limit: count_of(values, "limit", MOST_STEPS)?,
+        }),
+        _ => None,
+    }
+}
+
+fn matched_call<'a>(matches: &ArgMatches<'a>) -> Option<Call<'a>>
+    ensures { IfSome result (IsMatched (subcommand_rows_of matches.now)) }
+{
+    let (name, values) = matches.subcommand()?;
+    call_of(name, values)
+}
+
+/// The call that the words ask for; they begin with the program's name.
+///
+/// # Errors
+///
+/// Help was asked for, or the words are refused, each with the text to print; or there is no memory.
+pub fn words<'a>(alloc: Global, words: &'a [&'a str]) -> Result<Call<'a>, WordsFault>
+    ensures call { IfOk result (Gives (map (λ s. s.now) words.entry.now)) }
+    ensures fault { IfErr result (Refuses (map (λ s. s.now) words.entry.now)) }
+{
+    let command = swcheck_command(alloc)?;
+    match command.try_get_matches_from(words) {
+        Ok(matches) => matched_call(&matches).ok_or(WordsFault::Memory),
+        Err(error) => Err(fault_of(alloc, &error)),
+    }
+}

@@ -1,6 +1,0 @@
-pub mod Stepped
-pub mod Extended
-pub mod Between
-pub mod Chosen
-pub mod Found
-pub mod Standing

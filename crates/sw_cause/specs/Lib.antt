@@ -1,4 +1,0 @@
-pub mod Causes
-pub mod Laws
-pub mod Firsts
-pub mod Positions

@@ -1,0 +1,46 @@
+-- The machine's network of a declared network, as the code finds its parts.
+use Rattle.std.proofs.Common.{◌≡◌, ◌<◌, arith, ℕ, List, length, Some, refl, ap, sym}
+use Rattle.std.specs.Prelude.{option_map, unwrap_or}
+use Rattle.sw_cell.proofs.Nodes.{AnswersAs}
+use Rattle.sw_cell.specs.Parts.{IsNodeFor}
+use Rattle.sw_char.specs.declared.nchar.End.{End}
+use Rattle.sw_flow.specs.Places.{ends_of}
+use Rattle.sw_model.specs.Model.{answer_of, memory_after, network_of, slots_of}
+use Rattle.sw_config.specs.Entries.{Declaration}
+use Rattle.sw_node.specs.Node.{Node, config_of, slots}
+use Rattle.sw_topo.specs.Wiring.{out, partner}
+
+pub channels_are : (d : Declaration) → (network_of d).channels ≡ length (ends_of d)
+unfolding network_of
+channels_are d = refl
+
+pub nodes_are : (d : Declaration) → (network_of d).nodes ≡ length d.nodes
+unfolding network_of
+nodes_are d = refl
+
+pub out_is : (d : Declaration) (n c : ℕ) → out (ends_of d) n ≡ Some c → (network_of d).out n ≡ c
+unfolding network_of
+out_is d n c e = ap (λ o. unwrap_or o 0) e
+
+pub into_is : (d : Declaration) (n c : ℕ) → option_map partner (out (ends_of d) n) ≡ Some c → (network_of d).into n ≡ c
+unfolding network_of
+into_is d n c e = ap (λ o. unwrap_or o 0) e
+
+module _ (d : Declaration) (n : ℕ) (node : Node) (for : IsNodeFor d n node) where
+  pub slots_are : (network_of d).slots n ≡ slots node
+  unfolding network_of
+  slots_are = ap slots_of (sym for.target)
+
+  pub answers_are : (memory bytes : List ℕ) (end : End) → (network_of d).answer n memory bytes end ≡ answer_of (config_of node.target) memory bytes end
+  unfolding network_of
+  answers_are memory bytes end = ap (λ o. answer_of o memory bytes end) (sym for.target)
+
+  pub memories_are : (memory bytes : List ℕ) (end : End) → (network_of d).memory_after n memory bytes end ≡ memory_after (config_of node.target) memory bytes end
+  unfolding network_of
+  memories_are memory bytes end = ap (λ o. memory_after o memory bytes end) (sym for.target)
+
+  pub answers_as : AnswersAs (network_of d) n node
+  answers_as = record { slots_are = slots_are; answers_are = answers_are; memories_are = memories_are }
+
+  pub in_network : n < (network_of d).nodes
+  in_network = let e = nodes_are d in let lt = for.in_net in omega arith

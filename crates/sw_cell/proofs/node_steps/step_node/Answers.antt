@@ -1,0 +1,96 @@
+use Rattle.std.proofs.Common.{ap, false, sym, subst, ◌∙◌, ◌≡◌, ◌⊎◌, ⊎_elim, ℕ}
+use Rattle.sw_cell.proofs.StepsAtNodes as nodes
+use Rattle.sw_cell.specs.Places.{HasNamed}
+use Rattle.sw_cell.proofs.Nodes.{accept_made, begin_made}
+use Rattle.sw_model.proofs.Declares.{declared_are_declared}
+use Rattle.sw_cell.proofs.Network.{answers_as, in_network}
+use Rattle.sw_cell.specs.Makes.{NodeMakes}
+use Rattle.sw_machine.specs.Network.{AtNode, IsDeclared}
+use Rattle.sw_machine.specs.Parts.{cell_of}
+use Rattle.sw_machine.specs.Steps.{Accept, Begin, IsPossible}
+use Rattle.sw_config.specs.Entries.{Declaration}
+use Rattle.sw_config.specs.Valid.{IsValid}
+use Rattle.sw_node.specs.Node.{Node}
+use Rattle.sw_link.specs.Between.{Between}
+use Rattle.sw_model.specs.declared.step.Step.{Step as CodeStep}
+use Rattle.sw_model.specs.declared.step.Step.TheVariants as code
+use Rattle.sw_model.proofs.Networks.{are_networks}
+use Rattle.sw_model.specs.Model.{network_of}
+use Rattle.sw_model.specs.Steps.{machine_step}
+use Rattle.sw_cell.proofs.node_steps.step_node.Goals as goal
+
+-- one of the steps that are never done at a node
+abbrev IsOfSwitch : CodeStep → Type 0
+IsOfSwitch step = ((x : ℕ) × (y : ℕ) × (step ≡ code.Grant x y)) ⊎ (((x : ℕ) × (step ≡ code.Drop x)) ⊎ (((x : ℕ) × (step ≡ code.Forward x)) ⊎ ((x : ℕ) × (step ≡ code.Spill x))))
+
+never : (d : Declaration) → IsValid d → (n : ℕ) (node : Node) (b : Between) (step : CodeStep) → cell_of (network_of d) (machine_step step) ≡ AtNode n → IsOfSwitch step → NodeMakes (network_of d) n node b (machine_step step) false node b
+never d valid n node b step at one =
+    let net = network_of d in
+    let ok = are_networks d valid in
+    let m = machine_step step in
+    ⊎_elim
+    (λ e. nodes.no_grant net ok n node b m at e.0 e.1 (ap machine_step e.2))
+    (λ one. ⊎_elim (λ e. nodes.no_drop net ok n node b m at e.0 (ap machine_step e.1))
+    (λ one. ⊎_elim (λ e. nodes.no_forward net ok n node b m at e.0 (ap machine_step e.1)) (λ e. nodes.no_spill net ok n node b m at e.0 (ap machine_step e.1)) one) one)
+    one
+
+pub returns-in-Fct-clause-made : goal.returns-in-Fct-clause-made
+returns-in-Fct-clause-made c =
+    let d = c.args.network.now in
+    nodes.fct_at (network_of d) (are_networks d c.requires.cell.valid) c.args.n c.args.cell.now c.args.wires.now (machine_step c.args.step.now) c.requires.at c.requires.named c.in-Fct.field-0 c.fct.result c.fct.new.node c.fct.new.wires (ap machine_step c.in-Fct.is) c.fct.ensures.made
+
+pub returns-in-FctIn-clause-made : goal.returns-in-FctIn-clause-made
+returns-in-FctIn-clause-made c =
+    let d = c.args.network.now in
+    nodes.fct_in_at (network_of d) (are_networks d c.requires.cell.valid) c.args.n c.args.cell.now c.args.wires.now (machine_step c.args.step.now) c.requires.at c.requires.named c.in-FctIn.field-0 c.fct_in.result c.fct_in.new.node c.fct_in.new.wires (ap machine_step c.in-FctIn.is) c.fct_in.ensures.made
+
+pub returns-in-Arrive-clause-made : goal.returns-in-Arrive-clause-made
+returns-in-Arrive-clause-made c =
+    let d = c.args.network.now in
+    nodes.arrive_at (network_of d) (are_networks d c.requires.cell.valid) c.args.n c.args.cell.now c.args.wires.now (machine_step c.args.step.now) c.requires.at c.requires.named c.in-Arrive.field-0 c.arrive.result c.arrive.new.node c.arrive.new.wires (ap machine_step c.in-Arrive.is) c.arrive.ensures.made
+
+pub returns-in-Accept-clause-possible : goal.returns-in-Accept-clause-possible
+returns-in-Accept-clause-possible c =
+    let d = c.args.network.now in
+    let n = c.args.n in
+    let node = c.args.cell.now in
+    let is = ap machine_step c.in-Accept.is in
+    let same : n ≡ c.in-Accept.field-0 = nodes.node_of n c.in-Accept.field-0 (subst (λ k. cell_of (network_of d) k ≡ AtNode n) is c.requires.at) in
+    nodes.on_err c.accept.result
+    (λ can s state. let made = accept_made (network_of d) n (in_network d n node c.requires.cell) node c.args.wires.now (answers_as d n node c.requires.cell) can s state in
+    subst (IsPossible (network_of d) s) (ap Accept same ∙ sym is) (made.0, made.1))
+    c.accept.ensures.possible
+
+pub begin-requires-clause-declared : goal.begin-requires-clause-declared
+begin-requires-clause-declared c =
+    let d = c.args.network.now in
+    let net = network_of d in
+    let is = ap machine_step c.in-Begin.is in
+    let packet = subst (HasNamed net) is c.requires.named in
+    let at = subst (λ k. cell_of net k ≡ AtNode c.args.n) is c.requires.at in
+    record {
+      packet = (declared_are_declared d c.in-Begin.flow c.deref.result.now).1 (subst (IsDeclared net c.in-Begin.flow) (sym c.deref.ensures.value) packet);
+      from = sym (nodes.node_of c.args.n (net.flow c.in-Begin.flow).from at);
+    }
+
+pub returns-in-Begin-clause-possible : goal.returns-in-Begin-clause-possible
+returns-in-Begin-clause-possible c =
+    let d = c.args.network.now in
+    let net = network_of d in
+    let n = c.args.n in
+    let node = c.args.cell.now in
+    let cargo = c.deref.result.now in
+    let is = ap machine_step c.in-Begin.is in
+    let packet = subst (IsDeclared net c.in-Begin.flow) (sym c.deref.ensures.value) (subst (HasNamed net) is c.requires.named) in
+    let at = subst (λ k. cell_of net k ≡ AtNode n) is c.requires.at in
+    let from = sym (nodes.node_of n (net.flow c.in-Begin.flow).from at) in
+    nodes.on_err c.begin.result
+    (λ can s state. let made = begin_made net n (in_network d n node c.requires.cell) node c.args.wires.now c.in-Begin.flow cargo c.in-Begin.end packet from can s state in
+    subst (IsPossible net s) (ap (λ k. Begin c.in-Begin.flow k c.in-Begin.end) c.deref.ensures.value ∙ sym is) (made.0, made.1))
+    c.begin.ensures.possible
+
+pub returns-in-Grant-3-clause-made : goal.returns-in-Grant-3-clause-made
+returns-in-Grant-3-clause-made c = never c.args.network.now c.requires.cell.valid c.args.n c.args.cell.now c.args.wires.now c.args.step.now c.requires.at c.in-Grant.is
+
+pub returns-in-Grant-4-clause-made : goal.returns-in-Grant-4-clause-made
+returns-in-Grant-4-clause-made c = never c.args.network.now c.requires.cell.valid c.args.n c.args.cell.now c.args.wires.now c.args.step.now c.requires.at c.in-Grant.is

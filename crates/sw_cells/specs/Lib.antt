@@ -1,5 +1,0 @@
-pub mod Parts
-pub mod Makes
-pub mod SwitchParts
-pub mod Picks
-pub mod Possible

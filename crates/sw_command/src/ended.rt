@@ -1,0 +1,69 @@
+//! How an engine ends.
+ghost use Rattle.std.specs.Prelude.{◌≡◌};
+ghost use Rattle.sw_command.specs.Ends.{IsMemoryTold, IsTold, IsUnreadTold};
+
+use std::io::Write;
+use sw_text::{ReadError, write_whole};
+
+/// The most bytes that an input text may have.
+pub const MAX_TEXT: usize = 67_108_864;
+
+/// How an engine ended.
+#[derive(Clone, Copy, Debug, PartialEq, Eq)]
+pub enum Ended {
+    /// The whole text was written; the program is to exit with this status.
+    Status(u8),
+    /// A read failed, and nothing was written.
+    ReadFailed,
+    /// A write failed: what was written is a beginning of the text.
+    WriteFailed,
+}
+
+impl Ended {
+    ghost use Rattle.sw_command.specs.Ends.{exit_status};
+
+    /// The status that the program exits with.
+    pub fn status(self) -> u8
+        ensures { result ≡ exit_status self }
+    {
+        match self {
+            Ended::Status(status) => status,
+            Ended::ReadFailed | Ended::WriteFailed => 6,
+        }
+    }
+}
+
+/// Writes an answer of these bytes.
+pub fn tell_bytes<W: Write>(writer: &mut W, text: &[u8], status: u8) -> Ended
+    ensures { IsTold (W.contents writer.old) (W.contents writer.new) text.now status result }
+{
+    match write_whole(writer, text) {
+        Ok(()) => Ended::Status(status),
+        Err(_) => Ended::WriteFailed,
+    }
+}
+
+/// Writes an answer.
+pub fn tell<W: Write>(writer: &mut W, text: &str, status: u8) -> Ended
+    ensures { IsTold (W.contents writer.old) (W.contents writer.new) text.now status result }
+{
+    tell_bytes(writer, text.as_bytes(), status)
+}
+
+/// Writes that memory was wanted.
+pub fn tell_memory<W: Write>(writer: &mut W) -> Ended
+    ensures { IsMemoryTold (W.contents writer.old) (W.contents writer.new) result }
+{
+    tell(writer, "fault memory\n", 5)
+}
+
+/// Tells why a text was not read: of a read that failed nothing is written.
+pub fn tell_unread<W: Write>(writer: &mut W, error: ReadError) -> Ended
+    ensures { IsUnreadTold error (W.contents writer.old) (W.contents writer.new) result }
+{
+    match error {
+        ReadError::TooLong => tell(writer, "fault A1 TooLong\n", 3),
+        ReadError::Memory => tell_memory(writer),
+        ReadError::Failed => Ended::ReadFailed,
+    }
+}

@@ -1,0 +1,59 @@
+//! The texts that an engine reads.
+ghost use Rattle.std.specs.Prelude.{◌≡◌, IfErr, IfOk, IfSome};
+ghost use Rattle.sw_command.specs.Ends.{AreReadInOrder, IsReadWhole, limited};
+ghost use Rattle.sw_command.specs.Inputs.{given};
+
+use crate::ended::MAX_TEXT;
+use std::alloc::Global;
+use std::io::Read;
+use sw_text::{ReadError, read_whole};
+
+/// A text that was read.
+#[derive(Drop)]
+pub enum InputText {
+    /// All its bytes.
+    Whole(Vec<u8>),
+    /// It has more than `MAX_TEXT` bytes.
+    TooLong,
+}
+
+/// Why a text was not read.
+#[derive(Clone, Copy, Debug, PartialEq, Eq)]
+pub enum InputError {
+    /// A read failed.
+    Failed,
+    /// A growth was refused.
+    Memory,
+}
+
+fn read_one<R: Read>(alloc: Global, reader: &mut R) -> Result<InputText, InputError>
+    ensures input { IfOk result (λ input. IfSome (R.remaining reader.old) (λ bytes. given input ≡ limited bytes)) }
+    ensures whole { IfOk result (λ _. IsReadWhole (R.remaining reader.old) (R.remaining reader.new)) }
+{
+    match read_whole(alloc, reader, MAX_TEXT) {
+        Ok(text) => Ok(InputText::Whole(text)),
+        Err(ReadError::TooLong) => Ok(InputText::TooLong),
+        Err(ReadError::Failed) => Err(InputError::Failed),
+        Err(ReadError::Memory) => Err(InputError::Memory),
+    }
+}
+
+/// Reads two texts, the first one first.
+///
+/// # Errors
+///
+/// `Failed`: a read failed. `Memory`: there is no memory for a text. Unless the first was read to
+/// its end, or found too long, nothing is taken from the second. What was taken is gone.
+pub fn read_two<A: Read, B: Read>(
+    alloc: Global,
+    first: &mut A,
+    second: &mut B,
+) -> Result<(InputText, InputText), InputError>
+    ensures first { IfOk result (λ inputs. IfSome (A.remaining first.old) (λ bytes. given inputs.0 ≡ limited bytes)) }
+    ensures second { IfOk result (λ inputs. IfSome (B.remaining second.old) (λ bytes. given inputs.1 ≡ limited bytes)) }
+    ensures order { AreReadInOrder (A.remaining first.old) (A.remaining first.new) (B.remaining second.old) (B.remaining second.new) }
+{
+    let text = read_one(alloc, first)?;
+    let other = read_one(alloc, second)?;
+    Ok((text, other))
+}

@@ -1,0 +1,137 @@
+-- Reply flows: how many there are, what they keep, their names; and the network with one flow more.
+use Rattle.std.proofs.Common.{◌≡◌, ℕ, zero, suc, ◌+◌, ◌*◌, ◌<◌, ◌≤◌, Bool, true, false, ◌||◌, List, [], ◌∷◌, ◌++◌, length, Option, Some, None, option_map, codes, refl, sym, subst, ap, ◌∙◌, inl, inr, arith, length-append, append_assoc, All}
+use Rattle.std.specs.Prelude.{slice_get, position}
+use Rattle.std.specs.List.{list_any}
+use Rattle.std.specs.Str.{bytes_eq}
+use Rattle.std.proofs.lemmas.Bool.{cases_Bool, false≢true}
+use Rattle.std.proofs.lemmas.Slice.Eq.{bytes_eq-Decides}
+use Rattle.std.proofs.lemmas.Option.{get_or_from_slice_get, slice_get_within}
+use Rattle.std.proofs.lemmas.List.{append_cancel_right, map_push, map-append, length-map, append-nil}
+use Rattle.std.proofs.lemmas.List.Elements.{All-push, All-append, All-cons, All-nil, All-head, All-tail, All-get_or}
+use Rattle.sw_topo.specs.Wiring.{Wiring}
+use Rattle.sw_topo.specs.Checked.{first_of}
+use Rattle.sw_config.specs.Entries.{NodeEntry, LinkEntry, ReplyEntry, FlowEntry, Declaration, flow_names, reply_flow, replies_of, reply_flows, all_flows, capacities}
+use Rattle.sw_config.specs.Valid.{IsReply, IsFlow}
+use Rattle.sw_config.specs.Building.{IsNetwork}
+use Rattle.sw_config.proofs.Positions.{position-append}
+use Rattle.sw_config.proofs.Steps.{named_more}
+
+-- what holds of each element holds of one that is read
+pub All-at : {X : Type 0} (P : X → Type 0) (xs : List X) (i : ℕ) (x : X) → slice_get xs i ≡ Some x → All P xs → P x
+All-at P xs i x at all = subst P (get_or_from_slice_get xs i x x at) (All-get_or P xs i x (slice_get_within xs i x at) all)
+
+few_replies : (f : FlowEntry) (r : Option ReplyEntry) → length (replies_of f r) ≤ 1
+few_replies f None = omega arith
+few_replies f (Some r) = omega arith
+
+-- there are at most as many reply flows as flows
+pub length-reply_flows : (fs : List FlowEntry) → length (reply_flows fs) ≤ length fs
+length-reply_flows [] = omega arith
+length-reply_flows (f ∷ fs) = rw length-append (omega (arith, few_replies f f.reply, length-reply_flows fs))
+
+pub reply_flows-push : (fs : List FlowEntry) (f : FlowEntry) → reply_flows (fs ++ f ∷ []) ≡ reply_flows fs ++ replies_of f f.reply
+reply_flows-push [] f = append-nil (replies_of f f.reply)
+reply_flows-push (g ∷ fs) f = rw (reply_flows-push fs f) (sym (append_assoc (replies_of g g.reply) (reply_flows fs) (replies_of f f.reply)))
+
+-- a reply flow of a flow is a flow
+pub is_reply_flow : (nodes : List NodeEntry) (f : FlowEntry) (r : ReplyEntry) → Some r ≡ f.reply → IsFlow nodes f → IsFlow nodes (reply_flow f r)
+is_reply_flow nodes f r same ok =
+    let shape : IsReply nodes f.to r = rw (← same) at ok.reply in
+    record {
+      from = ok.to;
+      to = ok.from;
+      address = rw length-append (omega (arith, shape.path));
+      left = rw length-append (omega arith);
+      reply = tt;
+    }
+
+replies_are_flows : (nodes : List NodeEntry) (f : FlowEntry) (r : Option ReplyEntry) → r ≡ f.reply → IsFlow nodes f → All (IsFlow nodes) (replies_of f r)
+replies_are_flows nodes f None same ok = All-nil (IsFlow nodes)
+replies_are_flows nodes f (Some r) same ok = All-cons (IsFlow nodes) (reply_flow f r) [] (is_reply_flow nodes f r same ok) (All-nil (IsFlow nodes))
+
+pub reply_flows_are_flows : (nodes : List NodeEntry) (fs : List FlowEntry) → All (IsFlow nodes) fs → All (IsFlow nodes) (reply_flows fs)
+reply_flows_are_flows nodes [] all = All-nil (IsFlow nodes)
+reply_flows_are_flows nodes (f ∷ fs) all =
+    All-append (IsFlow nodes) (replies_of f f.reply) (reply_flows fs) (replies_are_flows nodes f f.reply refl (All-head (IsFlow nodes) f fs all)) (reply_flows_are_flows nodes fs (All-tail (IsFlow nodes) f fs all))
+
+-- where a name is new among the flows, the name of its replies is new among the reply flows
+neither : (a b : Bool) → (a || b) ≡ false → (a ≡ false) × (b ≡ false)
+neither false b e = (refl, e)
+neither true b e = absurd (false≢true (sym e))
+
+unlike : (name other : List ℕ) → bytes_eq name other ≡ false → bytes_eq (name ++ codes "+reply") (other ++ codes "+reply") ≡ false
+unlike name other apart =
+    elim (cases_Bool (bytes_eq (name ++ codes "+reply") (other ++ codes "+reply"))) [
+      | inl same ↦
+          let e : name ≡ other = append_cancel_right name other (codes "+reply") ((bytes_eq-Decides (name ++ codes "+reply") (other ++ codes "+reply")).0 same) in
+          absurd (false≢true (sym apart ∙ (bytes_eq-Decides name other).1 e))
+      | inr other_name ↦ other_name
+    ]
+
+new_among : (name : List ℕ) (f : FlowEntry) (r : Option ReplyEntry) (fs : List FlowEntry) → bytes_eq name f.name ≡ false → list_any (bytes_eq (name ++ codes "+reply")) (flow_names (reply_flows fs)) ≡ false
+    → list_any (bytes_eq (name ++ codes "+reply")) (flow_names (replies_of f r ++ reply_flows fs)) ≡ false
+new_among name f None fs apart rest = rest
+new_among name f (Some r) fs apart rest = rw (unlike name f.name apart, rest) refl
+
+new_reply_name : (name : List ℕ) (fs : List FlowEntry) → list_any (bytes_eq name) (flow_names fs) ≡ false → list_any (bytes_eq (name ++ codes "+reply")) (flow_names (reply_flows fs)) ≡ false
+new_reply_name name [] new = refl
+new_reply_name name (f ∷ fs) new =
+    let both = neither (bytes_eq name f.name) (list_any (bytes_eq name) (flow_names fs)) new in
+    new_among name f f.reply fs both.0 (new_reply_name name fs both.1)
+
+reply_name : (f x : FlowEntry) (r : Option ReplyEntry) → x ∷ [] ≡ replies_of f r → x.name ≡ f.name ++ codes "+reply"
+reply_name f x None same = absurd cc
+reply_name f x (Some r) same = let e : x ≡ reply_flow f r = cc in ap (λ (y : FlowEntry). y.name) e
+
+pub new_reply : (fs : List FlowEntry) (f x : FlowEntry) → x ∷ [] ≡ replies_of f f.reply → list_any (bytes_eq f.name) (flow_names fs) ≡ false → list_any (bytes_eq x.name) (flow_names (reply_flows fs)) ≡ false
+new_reply fs f x same new = rw (reply_name f x f.reply same) (new_reply_name f.name fs new)
+
+-- a network with one flow more
+pub flow_more : (w : Wiring) (names : List (List ℕ)) (replies : List FlowEntry) (d : Declaration) (f : FlowEntry) (after : List FlowEntry) → IsNetwork w names replies d
+    → after ≡ replies ++ replies_of f f.reply → length d.flows < 4096 → list_any (bytes_eq f.name) (flow_names d.flows) ≡ false → IsFlow d.nodes f
+    → IsNetwork w names after (record d { flows = d.flows ++ f ∷ [] })
+flow_more w names replies d f after so_far same few new ok = record {
+  wired = so_far.wired;
+  named = so_far.named;
+  replied = same ∙ ap (λ x. x ++ replies_of f f.reply) so_far.replied ∙ sym (reply_flows-push d.flows f);
+  valid = record {
+    sound = so_far.valid.sound;
+    nodes = so_far.valid.nodes;
+    switches = so_far.valid.switches;
+    links = so_far.valid.links;
+    flows = All-push (IsFlow d.nodes) d.flows f so_far.valid.flows ok;
+    few_flows = rw length-append (omega arith);
+    parts_named = so_far.valid.parts_named;
+    flows_named = rw (map_push (λ (x : FlowEntry). x.name)) (named_more (flow_names d.flows) f.name so_far.valid.flows_named new);
+  };
+}
+
+-- where a flow's name is found, among the flows and then among the reply flows
+pub position-all_flows : (test : List ℕ → Bool) (d : Declaration)
+    → position test (flow_names (all_flows d)) ≡ first_of (position test (flow_names d.flows)) (option_map (λ i. length d.flows + i) (position test (flow_names (reply_flows d.flows))))
+position-all_flows test d =
+    ap (position test) (map-append (λ (x : FlowEntry). x.name) d.flows (reply_flows d.flows)) ∙ position-append test (flow_names d.flows) (flow_names (reply_flows d.flows)) ∙ rw length-map refl
+
+-- the capacities of a link's channels
+pub capacity_even : (links : List LinkEntry) (i c : ℕ) (l : LinkEntry) → c ≡ 2 * i → slice_get links i ≡ Some l → slice_get (capacities links) c ≡ Some l.buffer_b
+capacity_even [] i c l even at = absurd cc
+capacity_even (k ∷ links) zero c l even at = let e : c ≡ 0 = omega arith in let same : k ≡ l = cc in rw (e, same) refl
+capacity_even (k ∷ links) (suc i) c l even at = let e : c ≡ suc (suc (2 * i)) = omega arith in rw e (capacity_even links i (2 * i) l refl at)
+
+pub capacity_odd : (links : List LinkEntry) (i c : ℕ) (l : LinkEntry) → c ≡ 2 * i + 1 → slice_get links i ≡ Some l → slice_get (capacities links) c ≡ Some l.buffer_a
+capacity_odd [] i c l odd at = absurd cc
+capacity_odd (k ∷ links) zero c l odd at = let e : c ≡ suc 0 = omega arith in let same : k ≡ l = cc in rw (e, same) refl
+capacity_odd (k ∷ links) (suc i) c l odd at = let e : c ≡ suc (suc (2 * i + 1)) = omega arith in rw e (capacity_odd links i (2 * i + 1) l refl at)
+
+-- a network has at most as many reply flows as flows may be declared
+pub few_replies_in : {w : Wiring} {names : List (List ℕ)} {replies : List FlowEntry} {d : Declaration} → IsNetwork w names replies d → length replies ≤ 4096
+few_replies_in {d = d} network =
+    omega (arith, network.valid.few_flows, length-reply_flows d.flows, ap (λ (xs : List FlowEntry). length xs) network.replied)
+
+module _ (test : List ℕ → Bool) (d : Declaration) where
+  pub found_declared : (i : ℕ) → position test (flow_names d.flows) ≡ Some i → position test (flow_names (all_flows d)) ≡ Some i
+  found_declared i found = position-all_flows test d ∙ rw found refl
+
+  pub found_reply : (replies : List FlowEntry) (o : Option ℕ) → replies ≡ reply_flows d.flows → position test (flow_names d.flows) ≡ None → position test (flow_names replies) ≡ o
+      → position test (flow_names (all_flows d)) ≡ option_map (λ i. length d.flows + i) o
+  found_reply replies o same missed found = position-all_flows test d ∙ rw (missed, ← same, found) refl

@@ -1,0 +1,195 @@
+//! A network that is being put together.
+ghost use Rattle.std.specs.Prelude.{◌≡◌, ◌+◌, ◌<◌, ◌≤◌, ◌++◌, ◌∷◌, [], false, length, position, IfSome, OnOk, OnErr};
+ghost use Rattle.std.specs.List.{list_any};
+ghost use Rattle.std.specs.Str.{bytes_eq};
+ghost use Rattle.sw_topo.specs.Checked.{IsIn};
+ghost use Rattle.sw_rmap.specs.Config.{IsTargetConfig};
+
+use crate::entries::{Link, Node, Switch};
+use crate::names::NameTable;
+use crate::network::Network;
+use std::alloc::{AllocError, Global};
+use std::marker::Model;
+use sw_arb::Arbitration;
+use sw_rmap::TargetConfig;
+use sw_route::TableRoutes;
+use sw_topo::{Builder, MAX_NODES, MAX_SWITCHES, PlaceEnd, TopoError};
+
+/// The nodes, switches and links of a network so far: nodes come first, then switches.
+///
+/// Nodes and switches share one set of names.
+#[derive(Drop)]
+pub struct NetworkBuilder {
+    wiring: Builder,
+    names: NameTable,
+    nodes: Vec<Node>,
+    switches: Vec<Switch>,
+    links: Vec<Link>,
+}
+
+impl Model for NetworkBuilder {
+    ghost use Rattle.std.specs.Prelude.{[]};
+    ghost use Rattle.sw_config.specs.Entries.{Declaration};
+    ghost use Rattle.sw_config.specs.Building.{IsBuilder};
+
+    ghost Value = { Declaration };
+
+    ghost view = { λ b. record { nodes = b.nodes.items; switches = b.switches.items; links = b.links.items; flows = [] } };
+
+    ghost invariant = { λ b. IsBuilder b.wiring b.names (record { nodes = b.nodes.items; switches = b.switches.items; links = b.links.items; flows = [] }) };
+}
+
+impl NetworkBuilder {
+    ghost use Rattle.sw_config.specs.Entries.{empty, part_names};
+    ghost use Rattle.sw_config.specs.Building.{Wires};
+
+    /// Nothing.
+    pub fn new(alloc: Global) -> NetworkBuilder
+        ensures { result ≡ empty }
+    {
+        NetworkBuilder {
+            wiring: Builder::new(alloc),
+            names: NameTable::new(alloc),
+            nodes: Vec::new(alloc),
+            switches: Vec::new(alloc),
+            links: Vec::new(alloc),
+        }
+    }
+
+    /// How many nodes there are.
+    pub fn node_count(&self) -> u16
+        ensures count { result ≡ length self.now.nodes }
+        ensures few { result ≤ MAX_NODES }
+    {
+        self.nodes.len() as u16
+    }
+
+    /// How many switches there are.
+    pub fn switch_count(&self) -> u16
+        ensures count { result ≡ length self.now.switches }
+        ensures few { result ≤ MAX_SWITCHES }
+    {
+        self.switches.len() as u16
+    }
+
+    /// Has a node or a switch that name?
+    pub fn has_name(&self, name: &str) -> bool
+        ensures { result ≡ list_any (bytes_eq name.now) (part_names self.now) }
+    {
+        self.names.contains(name)
+    }
+
+    /// The number of the node or switch of that name: nodes count from 0, and switches count on from the nodes.
+    pub fn part_named(&self, name: &str) -> Option<usize>
+        ensures part { result ≡ position (bytes_eq name.now) (part_names self.now) }
+        ensures within { IfSome result (λ i. i < length self.now.nodes + length self.now.switches) }
+    {
+        self.names.place_of(name)
+    }
+
+    /// Adds a node of a new name, which is an RMAP target if `target` says how it answers.
+    ///
+    /// # Errors
+    ///
+    /// There is no memory for it: then the builder is as it was.
+    pub fn add_node(
+        &mut self,
+        alloc: Global,
+        name: &str,
+        target: Option<TargetConfig>,
+    ) -> Result<(), AllocError>
+        requires few { length self.old.nodes < MAX_NODES }
+        requires nodes_first { self.old.switches ≡ [] }
+        requires new_name { list_any (bytes_eq name.now) (part_names self.old) ≡ false }
+        requires target { IfSome target IsTargetConfig }
+        ensures ok { OnOk result (self.new ≡ record self.old { nodes = self.old.nodes ++ record { name = name.now; target = target } ∷ [] }) }
+        ensures err { OnErr result (self.new ≡ self.old) }
+    {
+        let node = Node {
+            name: String::from_str(alloc, name)?,
+            target,
+        };
+        self.nodes.reserve(1)?;
+        self.names.add(alloc, name)?;
+        self.nodes.push(node).unwrap();
+        self.wiring.node();
+        Ok(())
+    }
+
+    /// Adds a routing switch of a new name.
+    ///
+    /// # Errors
+    ///
+    /// There is no memory for it: then the builder is as it was, and the table is gone.
+    pub fn add_switch(
+        &mut self,
+        alloc: Global,
+        name: &str,
+        arbitration: Arbitration,
+        table: TableRoutes,
+    ) -> Result<(), AllocError>
+        requires few { length self.old.switches < MAX_SWITCHES }
+        requires new_name { list_any (bytes_eq name.now) (part_names self.old) ≡ false }
+        ensures ok { OnOk result (self.new ≡ record self.old { switches = self.old.switches ++ record { name = name.now; arbitration = arbitration; routes = table } ∷ [] }) }
+        ensures err { OnErr result (self.new ≡ self.old) }
+    {
+        let entry = Switch::new(alloc, name, arbitration, table)?;
+        self.switches.reserve(1)?;
+        self.names.add(alloc, name)?;
+        self.switches.push(entry).unwrap();
+        self.wiring.switch();
+        Ok(())
+    }
+
+    /// Adds a link between its end `a` and its end `b`. The receive buffer at each end holds 8 to 4,096 characters.
+    ///
+    /// # Errors
+    ///
+    /// There is no memory for it: then the builder is as it was.
+    pub fn add_link(
+        &mut self,
+        a: PlaceEnd,
+        b: PlaceEnd,
+        buffer_a: u16,
+        buffer_b: u16,
+    ) -> Result<(), AllocError>
+        requires a_inside { IsIn (length self.old.nodes) (length self.old.switches) a }
+        requires b_inside { IsIn (length self.old.nodes) (length self.old.switches) b }
+        requires low_a { 8 ≤ buffer_a }
+        requires high_a { buffer_a ≤ 4096 }
+        requires low_b { 8 ≤ buffer_b }
+        requires high_b { buffer_b ≤ 4096 }
+        ensures ok { OnOk result (self.new ≡ record self.old { links = self.old.links ++ record { a = a; b = b; buffer_a = buffer_a; buffer_b = buffer_b } ∷ [] }) }
+        ensures err { OnErr result (self.new ≡ self.old) }
+    {
+        let link = Link {
+            a,
+            b,
+            buffer_a,
+            buffer_b,
+        };
+        self.links.reserve(1)?;
+        self.wiring.link(link.a, link.b)?;
+        self.links.push(link).unwrap();
+        Ok(())
+    }
+
+    /// The network, still without flows. The builder is given up either way.
+    ///
+    /// # Errors
+    ///
+    /// The first fault of the wiring, or there is no memory for the network.
+    pub fn wire(self, alloc: Global) -> Result<Network, TopoError>
+        ensures { Wires result self }
+    {
+        let NetworkBuilder {
+            wiring,
+            names,
+            nodes,
+            switches,
+            links,
+        } = self;
+        let topology = wiring.finish(alloc)?;
+        Ok(Network::new(alloc, topology, names, nodes, switches, links))
+    }
+}

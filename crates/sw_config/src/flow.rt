@@ -1,0 +1,155 @@
+//! Flows of packets.
+ghost use Rattle.std.specs.Prelude.{◌≡◌, IfOk, option_map};
+
+use std::alloc::{AllocError, Global};
+use std::marker::Model;
+
+/// Where the replies to a flow's commands go.
+#[derive(Drop)]
+pub struct Reply {
+    path: Vec<u8>,
+    initiator: u8,
+}
+
+impl Model for Reply {
+    ghost use Rattle.sw_config.specs.Entries.{ReplyEntry};
+
+    ghost Value = { ReplyEntry };
+
+    ghost view = { λ r. record { path = r.path.items; initiator = r.initiator } };
+}
+
+impl Reply {
+    /// Replies that begin with these path addresses, at most 12, and then the initiator logical address, 32 to 254
+    /// (ECSS-E-ST-50-52C, the reply address field of a command).
+    pub fn new(path: Vec<u8>, initiator: u8) -> Reply
+        ensures { result ≡ record { path = path.items; initiator = initiator } }
+    {
+        Reply { path, initiator }
+    }
+
+    /// The path addresses that a reply begins with.
+    pub fn path(&self) -> &[u8]
+        ensures { result.now ≡ self.now.path }
+    {
+        &self.path
+    }
+
+    /// The initiator logical address, which follows the path.
+    pub fn initiator(&self) -> u8
+        ensures { result ≡ self.now.initiator }
+    {
+        self.initiator
+    }
+}
+
+/// A flow of packets from one node to another.
+#[derive(Drop)]
+pub struct Flow {
+    name: String,
+    from: u16,
+    to: u16,
+    address: Vec<u8>,
+    left: u8,
+    reply: Option<Reply>,
+}
+
+impl Model for Flow {
+    ghost use Rattle.std.specs.Prelude.{string_bytes};
+    ghost use Rattle.sw_config.specs.Entries.{FlowEntry};
+
+    ghost Value = { FlowEntry };
+
+    ghost view = { λ f. record { name = string_bytes f.name; from = f.from; to = f.to; address = f.address.items; left = f.left; reply = f.reply } };
+}
+
+impl Flow {
+    ghost use Rattle.std.specs.Prelude.{string_bytes};
+    ghost use Rattle.std.specs.Option.{option_to_list};
+    ghost use Rattle.sw_config.specs.Entries.{replies_of};
+
+    /// A flow of this name: `left` of the address bytes are left where its packets end, and replies go as `reply` says.
+    pub fn new(
+        name: String,
+        from: u16,
+        to: u16,
+        address: Vec<u8>,
+        left: u8,
+        reply: Option<Reply>,
+    ) -> Flow
+        ensures { result ≡ record { name = string_bytes name; from = from; to = to; address = address.items; left = left; reply = reply } }
+    {
+        Flow {
+            name,
+            from,
+            to,
+            address,
+            left,
+            reply,
+        }
+    }
+
+    /// The name; that of a reply flow ends in `+reply`.
+    pub fn name(&self) -> &str
+        ensures { result.now ≡ self.now.name }
+    {
+        self.name.as_str()
+    }
+
+    /// The node at which its packets begin.
+    pub fn from(&self) -> u16
+        ensures { result ≡ self.now.from }
+    {
+        self.from
+    }
+
+    /// The node at which they are to end.
+    pub fn to(&self) -> u16
+        ensures { result ≡ self.now.to }
+    {
+        self.to
+    }
+
+    /// The address bytes that its packets begin with (ECSS-E-ST-50-12C, network layer: packet addressing).
+    pub fn address(&self) -> &[u8]
+        ensures { result.now ≡ self.now.address }
+    {
+        &self.address
+    }
+
+    /// How many of the address bytes are left at the end.
+    pub fn left(&self) -> u8
+        ensures { result ≡ self.now.left }
+    {
+        self.left
+    }
+
+    /// Where its replies go, if it has any.
+    pub fn reply(&self) -> Option<&Reply>
+        ensures { option_map (λ r. r.now) result ≡ self.now.reply }
+    {
+        self.reply.as_ref()
+    }
+
+    /// The flow of the replies, if there are any.
+    pub(crate) fn reply_flow(&self, alloc: Global) -> Result<Option<Flow>, AllocError>
+        ensures { IfOk result (λ f. option_to_list f ≡ replies_of self.now self.now.reply) }
+    {
+        let reply = match &self.reply {
+            Some(reply) => reply,
+            None => return Ok(None),
+        };
+        let mut name = String::from_str(alloc, self.name())?;
+        name.push_str("+reply")?;
+        let mut address = Vec::from_slice(alloc, reply.path())?;
+        address.push(reply.initiator)?;
+        Ok(Some(Flow {
+            name,
+            from: self.to,
+            to: self.from,
+            address,
+            left: 1,
+            reply: None,
+        }))
+    }
+}

@@ -1,0 +1,302 @@
+//! A network, valid by its type.
+ghost use Rattle.std.specs.Prelude.{◌≡◌, ◌+◌, ◌*◌, ◌<◌, ◌≤◌, ◌++◌, ◌∷◌, [], Some, false, length, map, position, slice_get, option_map, is_some, IfSome, OnOk, OnErr};
+ghost use Rattle.std.specs.List.{list_any};
+ghost use Rattle.std.specs.Str.{bytes_eq};
+ghost use Rattle.sw_rmap.specs.Config.{IsTargetConfig};
+
+use crate::entries::{Link, Node, Switch};
+use crate::flow::Flow;
+use crate::flow_table::FlowTable;
+use crate::names::NameTable;
+use either::Either;
+use std::alloc::{AllocError, Global};
+use std::marker::Model;
+use sw_arb::Arbitration;
+use sw_rmap::TargetConfig;
+use sw_route::{IntervalRoutes, Look, Route, TableRoutes};
+use sw_topo::{Chan, MAX_LINKS, MAX_NODES, MAX_SWITCHES, Topology};
+
+/// How many flows may be declared.
+pub const MAX_FLOWS: u16 = 4096;
+
+/// A network: nodes and switches rightly joined by links, and the flows of packets between its nodes.
+///
+/// Nodes, switches, links and flows are numbered from 0, in the order in which they were added. After the declared flows come
+/// their reply flows, in the order of their flows.
+#[derive(Drop)]
+pub struct Network {
+    topology: Topology,
+    names: NameTable,
+    nodes: Vec<Node>,
+    switches: Vec<Switch>,
+    links: Vec<Link>,
+    flows: FlowTable,
+    replies: FlowTable,
+}
+
+impl Model for Network {
+    ghost use Rattle.sw_config.specs.Entries.{Declaration};
+    ghost use Rattle.sw_config.specs.Building.{IsNetwork};
+
+    ghost Value = { Declaration };
+
+    ghost view = { λ n. record { nodes = n.nodes.items; switches = n.switches.items; links = n.links.items; flows = n.flows } };
+
+    ghost invariant = { λ n. IsNetwork n.topology n.names n.replies (record { nodes = n.nodes.items; switches = n.switches.items; links = n.links.items; flows = n.flows }) };
+}
+
+impl Network {
+    ghost use Rattle.sw_route.specs.Looks.{IsTable};
+    ghost use Rattle.sw_config.specs.Entries.{target_of, routes_of, look_at, wiring_of, capacities, all_flows, flow_names};
+    ghost use Rattle.sw_config.specs.Valid.{IsValid, IsFlow};
+    ghost use Rattle.sw_config.specs.Routings.{AnswersAs};
+    ghost use Rattle.sw_config.specs.Building.{IsNetwork};
+
+    /// A network without flows.
+    pub(crate) fn new(
+        alloc: Global,
+        topology: Topology,
+        names: NameTable,
+        nodes: Vec<Node>,
+        switches: Vec<Switch>,
+        links: Vec<Link>,
+    ) -> Network
+        requires { IsNetwork topology names [] (record { nodes = nodes.items; switches = switches.items; links = links.items; flows = [] }) }
+        ensures { result ≡ record { nodes = nodes.items; switches = switches.items; links = links.items; flows = [] } }
+    {
+        Network {
+            topology,
+            names,
+            nodes,
+            switches,
+            links,
+            flows: FlowTable::new(alloc),
+            replies: FlowTable::new(alloc),
+        }
+    }
+
+    /// Adds a declared flow of a new name, and its reply flow if it has replies.
+    ///
+    /// # Errors
+    ///
+    /// There is no memory for them: then the network is as it was, and the flow is gone.
+    pub fn add_flow(&mut self, alloc: Global, flow: Flow) -> Result<(), AllocError>
+        requires few { length self.old.flows < MAX_FLOWS }
+        requires new_name { list_any (bytes_eq flow.name) (flow_names self.old.flows) ≡ false }
+        requires flow { IsFlow self.old.nodes flow }
+        ensures ok { OnOk result (self.new ≡ record self.old { flows = self.old.flows ++ flow ∷ [] }) }
+        ensures err { OnErr result (self.new ≡ self.old) }
+    {
+        let replies_before = self.replies.len();
+        if let Some(reply) = flow.reply_flow(alloc)? {
+            self.replies.add(alloc, reply)?;
+        }
+        if let Err(refused) = self.flows.add(alloc, flow) {
+            self.replies.truncate(replies_before);
+            return Err(refused);
+        }
+        Ok(())
+    }
+
+    /// How its parts are joined.
+    pub fn topology(&self) -> &Topology
+        ensures wiring { result.now ≡ wiring_of self.now }
+        ensures valid { IsValid self.now }
+    {
+        &self.topology
+    }
+
+    /// How many nodes there are.
+    pub fn nodes(&self) -> u16
+        ensures count { result ≡ length self.now.nodes }
+        ensures few { result ≤ MAX_NODES }
+    {
+        self.topology.nodes()
+    }
+
+    /// How many switches there are.
+    pub fn switches(&self) -> u16
+        ensures count { result ≡ length self.now.switches }
+        ensures few { result ≤ MAX_SWITCHES }
+    {
+        self.topology.switches()
+    }
+
+    /// How many links there are.
+    pub fn links(&self) -> u16
+        ensures count { result ≡ length self.now.links }
+        ensures few { result ≤ MAX_LINKS }
+    {
+        self.topology.links()
+    }
+
+    /// How many channels there are: two a link.
+    pub fn channels(&self) -> u16
+        ensures count { result ≡ 2 * length self.now.links }
+        ensures ends { result ≡ length (wiring_of self.now).ends }
+        ensures few { result ≤ 2048 }
+    {
+        self.topology.channels()
+    }
+
+    /// How many characters the receive buffer where the channel ends holds: 8 to 4,096.
+    pub fn capacity(&self, channel: Chan) -> u16
+        requires { channel < 2 * length self.now.links }
+        ensures capacity { slice_get (capacities self.now.links) channel ≡ Some result }
+        ensures low { 8 ≤ result }
+        ensures high { result ≤ 4096 }
+    {
+        let link = &self.links[channel.number() as usize / 2];
+        if channel.number() % 2 == 0 {
+            link.buffer_b
+        } else {
+            link.buffer_a
+        }
+    }
+
+    /// The node's name.
+    pub fn node_name(&self, node: u16) -> &str
+        requires { node < length self.now.nodes }
+        ensures { option_map (λ e. e.name) (slice_get self.now.nodes node) ≡ Some result.now }
+    {
+        let node = &self.nodes[node as usize];
+        node.name.as_str()
+    }
+
+    /// The switch's name.
+    pub fn switch_name(&self, switch: u16) -> &str
+        requires { switch < length self.now.switches }
+        ensures { option_map (λ e. e.name) (slice_get self.now.switches switch) ≡ Some result.now }
+    {
+        let switch = &self.switches[switch as usize];
+        switch.name()
+    }
+
+    /// The node of that name.
+    pub fn node_named(&self, name: &str) -> Option<u16>
+        ensures node { result ≡ position (bytes_eq name.now) (map (λ e. e.name) self.now.nodes) }
+        ensures within { IfSome result (λ n. n < length self.now.nodes) }
+    {
+        let place = self.names.place_of(name)?;
+        if place < self.nodes.len() {
+            Some(place as u16)
+        } else {
+            None
+        }
+    }
+
+    /// What the node answers by, if it is an RMAP target.
+    pub fn target(&self, node: u16) -> Option<TargetConfig>
+        requires { node < length self.now.nodes }
+        ensures target { result ≡ target_of self.now.nodes node }
+        ensures valid { IfSome result IsTargetConfig }
+    {
+        let node = &self.nodes[node as usize];
+        node.target
+    }
+
+    /// Is the node an RMAP target?
+    pub fn is_target(&self, node: u16) -> bool
+        requires { node < length self.now.nodes }
+        ensures { result ≡ is_some (target_of self.now.nodes node) }
+    {
+        self.target(node).is_some()
+    }
+
+    /// How the switch chooses among inputs that ask for one output (ECSS-E-ST-50-12C, network layer: arbitration).
+    pub fn arbitration(&self, switch: u16) -> Arbitration
+        requires { switch < length self.now.switches }
+        ensures { option_map (λ e. e.arbitration) (slice_get self.now.switches switch) ≡ Some result }
+    {
+        let switch = &self.switches[switch as usize];
+        switch.arbitration()
+    }
+
+    /// The switch's routing table.
+    pub fn routes(&self, switch: u16) -> &[Route]
+        requires { switch < length self.now.switches }
+        ensures routes { result.now ≡ routes_of self.now.switches switch }
+        ensures table { IsTable result.now }
+    {
+        let switch = &self.switches[switch as usize];
+        switch.routes()
+    }
+
+    /// What the leading byte of a packet names at the switch (ECSS-E-ST-50-12C, network layer: packet addressing).
+    pub fn look(&self, switch: u16, byte: u8) -> Look
+        requires { switch < length self.now.switches }
+        ensures { result ≡ look_at self.now.switches switch byte }
+    {
+        let switch = &self.switches[switch as usize];
+        switch.look(byte)
+    }
+
+    /// The switch's routing table, by its entries where they are few, and by intervals of addresses where they are many.
+    pub fn routing(&self, switch: u16) -> &Either<TableRoutes, IntervalRoutes>
+        requires { switch < length self.now.switches }
+        ensures { AnswersAs (routes_of self.now.switches switch) result.now }
+    {
+        let switch = &self.switches[switch as usize];
+        switch.routing()
+    }
+
+    /// How many flows there are, reply flows too.
+    pub fn flows(&self) -> u16
+        ensures count { result ≡ length (all_flows self.now) }
+        ensures few { result ≤ 8192 }
+        ensures valid { IsValid self.now }
+    {
+        (self.flows.len() + self.replies.len()) as u16
+    }
+
+    /// How many flows are declared.
+    pub fn declared_flows(&self) -> u16
+        ensures count { result ≡ length self.now.flows }
+        ensures few { result ≤ MAX_FLOWS }
+    {
+        self.flows.len() as u16
+    }
+
+    /// Has a declared flow that name?
+    pub fn has_flow_name(&self, name: &str) -> bool
+        ensures { result ≡ list_any (bytes_eq name.now) (flow_names self.now.flows) }
+    {
+        self.flows.contains(name)
+    }
+
+    /// The flow of that number.
+    pub fn flow(&self, number: u16) -> &Flow
+        requires { number < length (all_flows self.now) }
+        ensures flow { slice_get (all_flows self.now) number ≡ Some result.now }
+        ensures valid { IsFlow self.now.nodes result.now }
+    {
+        let declared = self.flows.len();
+        let number = number as usize;
+        if number < declared {
+            self.flows.get(number)
+        } else {
+            self.replies.get(number - declared)
+        }
+    }
+
+    /// The number of the declared flow of that name.
+    pub fn declared_flow_named(&self, name: &str) -> Option<u16>
+        ensures number { result ≡ position (bytes_eq name.now) (flow_names self.now.flows) }
+        ensures within { IfSome result (λ i. i < length self.now.flows) }
+    {
+        let number = self.flows.number_of(name)?;
+        Some(number as u16)
+    }
+
+    /// The number of the flow of that name; a reply flow's name ends in `+reply`.
+    pub fn flow_named(&self, name: &str) -> Option<u16>
+        ensures number { result ≡ position (bytes_eq name.now) (flow_names (all_flows self.now)) }
+        ensures within { IfSome result (λ i. i < length (all_flows self.now)) }
+    {
+        if let Some(number) = self.flows.number_of(name) {
+            return Some(number as u16);
+        }
+        let number = self.replies.number_of(name)?;
+        Some((self.flows.len() + number) as u16)
+    }
+}

@@ -1,0 +1,34 @@
+use Rattle.std.proofs.Common.{◌≡◌, ◌<◌, ℕ, Some, length, ap, sym, ◌∙◌, subst}
+use Rattle.std.specs.Prelude.{slice_get}
+use Rattle.sw_topo.specs.declared.place.PlaceEnd.TheVariants.{Node, Switch}
+use Rattle.sw_topo.specs.Wiring.{Wiring, partner}
+use Rattle.sw_cycle.specs.Cycles.{IsTargetCause}
+use Rattle.sw_cycle.proofs.Found.{missing}
+use Rattle.sw_cycle.proofs.Between.{between}
+use Rattle.sw_cycle.proofs.choose.cause_for.Goals as goal
+
+pub end_of-requires : goal.end_of-requires
+end_of-requires c =
+    let d = c.args.network.now in
+    let none = missing d c.args.from c.args.to c.args.first c.in_default.is c.requires.first in
+    let b = between d c.topology.ensures.valid c.args.from c.args.to c.requires.dependency none in
+    subst (λ (w : Wiring). c.args.from < length w.ends) (sym c.topology.ensures.wiring) b.within
+
+pub unreachable-requires : goal.unreachable-requires
+unreachable-requires c =
+    let d = c.args.network.now in
+    let none = missing d c.args.from c.args.to c.args.first c.in_default.is c.requires.first in
+    let b = between d c.topology.ensures.valid c.args.from c.args.to c.requires.dependency none in
+    let there = ap (λ (w : Wiring). slice_get w.ends (partner c.args.from)) (sym c.topology.ensures.wiring) ∙ c.end_of.ensures.place ∙ ap Some c.in-Switch.is in
+    let two : Some (Node b.node) ≡ Some (Switch c.in-Switch.field-0 c.in-Switch.field-1) = sym b.ends ∙ there in
+    cc
+
+pub returns : goal.returns
+returns c =
+    let d = c.args.network.now in
+    let none = missing d c.args.from c.args.to c.args.first c.in_default.is c.requires.first in
+    let b = between d c.topology.ensures.valid c.args.from c.args.to c.requires.dependency none in
+    let there = ap (λ (w : Wiring). slice_get w.ends (partner c.args.from)) (sym c.topology.ensures.wiring) ∙ c.end_of.ensures.place ∙ ap Some c.in-Node.is in
+    let two : Some (Node b.node) ≡ Some (Node c.in-Node.node) = sym b.ends ∙ there in
+    let same : b.node ≡ c.in-Node.node = cc in
+    record { shows = subst (λ (n : ℕ). IsTargetCause d n c.args.from c.args.to) same b.cause; first = none }

@@ -1,0 +1,14 @@
+pub mod Numbers
+pub mod Walking
+pub mod Parents
+pub mod Counts
+pub mod Listed
+pub mod Backs
+pub mod Pigeons
+pub mod Peels
+pub mod Cycles
+pub mod Turns
+pub mod Transfers
+pub mod Rings
+pub mod Existence
+pub mod RelationSteps

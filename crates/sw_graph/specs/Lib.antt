@@ -1,0 +1,12 @@
+pub mod Reached
+pub mod Walks
+pub mod Ways
+pub mod Parents
+pub mod Levels
+pub mod Cycles
+pub mod Rows
+pub mod Answers
+pub mod Laws
+pub mod Reversing
+pub mod Rounds
+pub mod Walking

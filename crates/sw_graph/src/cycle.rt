@@ -1,0 +1,114 @@
+//! The walk back from the least member that is left, and the cycle that it closes.
+ghost use Rattle.std.specs.Prelude.{◌≡◌, ℕ, ◌<◌, ◌==◌, ◌≤◌, IfOk, List, MatchOption, false, length, position, true};
+ghost use Rattle.sw_graph.specs.Cycles.{IsShownCycle};
+ghost use Rattle.sw_graph.specs.Levels.{HasCycle};
+ghost use Rattle.sw_graph.specs.Rounds.{IsPeeled, is_done};
+ghost use Rattle.sw_graph.specs.Rows.{IsGraph, Precedes};
+ghost use Rattle.sw_graph.specs.Walking.{GoesOn, IsFirstLeft, IsLeastOf, IsSince, IsWalk, lesser, times};
+
+use crate::marks::is_marked;
+use crate::turn::turned;
+use std::alloc::{AllocError, Global};
+
+/// The first member that is not done.
+pub fn first_left(done: &[bool]) -> Option<u16>
+    requires { length done.now ≤ 65535 }
+    ensures { MatchOption result ((d : ℕ) → d < length done.now → is_done done.now d ≡ true) (IsFirstLeft done.now) }
+{
+    for (c, peeled) in done.iter().enumerate() {
+        if !*peeled {
+            return Some(c as u16);
+        }
+    }
+    None
+}
+
+/// The lesser number of what there is and c.
+fn lesser_of(least: Option<u16>, c: u16) -> u16
+    ensures { result ≡ lesser least c }
+{
+    match least {
+        Some(other) => other.min(c),
+        None => c,
+    }
+}
+
+/// The least of the members that is not done.
+fn least_left(members: &[u16], done: &[bool]) -> Option<u16>
+    ensures { IsLeastOf members.now done.now result }
+{
+    let mut least = None;
+    for c in members {
+        if !is_marked(done, *c) {
+            least = Some(lesser_of(least, *c));
+        }
+    }
+    least
+}
+
+/// A walk, and the member of it that comes again.
+#[derive(Drop)]
+struct Walk {
+    path: Vec<u16>,
+    again: u16,
+}
+
+/// Walks back from start until a member comes again.
+fn walk_back(
+    alloc: Global,
+    start: u16,
+    predecessors: &[Vec<u16>],
+    done: &[bool],
+) -> Result<Walk, AllocError>
+    requires graph { IsGraph predecessors.now }
+    requires inside { start < length predecessors.now }
+    requires left { is_done done.now start ≡ false }
+    requires goes_on { GoesOn predecessors.now done.now }
+    ensures { IfOk result (λ w. IsWalk predecessors.now done.now start w.path.items w.again) }
+{
+    let mut seen = vec![in alloc; false; predecessors.len()]?;
+    let mut path = Vec::new(alloc);
+    let mut now = start;
+    while !seen[usize::from(now)] {
+        seen[usize::from(now)] = true;
+        path.push(now)?;
+        now = least_left(&predecessors[usize::from(now)], done).unwrap();
+    }
+    Ok(Walk { path, again: now })
+}
+
+/// Where a member stands in a list.
+fn place_of(path: &[u16], c: u16) -> Option<usize>
+    ensures { result ≡ position (λ x. x == c) path.now }
+{
+    path.iter().position(|x| *x == c)
+}
+
+/// The part of a walk since the member that comes again.
+fn since(path: &[u16], again: u16) -> &[u16]
+    requires { 0 < times path.now again }
+    ensures { IsSince path.now again result.now }
+{
+    let from = place_of(path, again).unwrap();
+    &path[from..]
+}
+
+/// The cycle to show, where the first member that is not done is start.
+///
+/// # Errors
+///
+/// There is no memory for the walk or the cycle.
+pub fn shown_cycle(
+    alloc: Global,
+    predecessors: &[Vec<u16>],
+    done: &[bool],
+    start: u16,
+) -> Result<Vec<u16>, AllocError>
+    requires graph { IsGraph predecessors.now }
+    requires peeled { (levels : List ℕ) × IsPeeled predecessors.now levels done.now }
+    requires first { IsFirstLeft done.now start }
+    ensures { IfOk result (λ v. HasCycle (Precedes predecessors.now) × IsShownCycle (Precedes predecessors.now) v.items) }
+{
+    let walk = walk_back(alloc, start, predecessors, done)?;
+    turned(alloc, since(&walk.path, walk.again))
+}

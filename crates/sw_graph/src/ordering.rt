@@ -1,0 +1,50 @@
+//! The order of a relation.
+ghost use Rattle.std.specs.Prelude.{IfOk, length, ◌≤◌};
+ghost use Rattle.sw_graph.specs.Answers.{Answers};
+ghost use Rattle.sw_graph.specs.Rows.{IsGraph, Leads, Precedes};
+
+use crate::answer::Order;
+use crate::cycle::{first_left, shown_cycle};
+use crate::predecessors::predecessors_of;
+use crate::rounds::peel;
+use std::alloc::{AllocError, Global};
+use std::thread::Threads;
+
+/// The levels of the members where the relation has no cycle, and else the cycle to show.
+///
+/// The members are the numbers below the count of rows, at most 65,535, and `successors[c]` lists
+/// the members to which a step leads from `c`, in any order, also more than once.
+///
+/// # Errors
+///
+/// There is no memory for the levels or the cycle.
+pub fn order<R: Threads + Sync>(
+    rt: &R,
+    alloc: Global,
+    successors: &[Vec<u16>],
+) -> Result<Order, AllocError>
+    requires few { length successors.now ≤ 65535 }
+    requires graph { IsGraph successors.now }
+    ensures { IfOk result (Answers (Leads successors.now) (length successors.now)) }
+{
+    let predecessors = predecessors_of(alloc, successors)?;
+    answer(rt, alloc, &predecessors)
+}
+
+/// The same of a relation that is given by the predecessors of each member.
+fn answer<R: Threads + Sync>(
+    rt: &R,
+    alloc: Global,
+    predecessors: &[Vec<u16>],
+) -> Result<Order, AllocError>
+    requires few { length predecessors.now ≤ 65535 }
+    requires graph { IsGraph predecessors.now }
+    ensures { IfOk result (Answers (Precedes predecessors.now) (length predecessors.now)) }
+{
+    let peeled = peel(rt, alloc, predecessors)?;
+    let Some(start) = first_left(&peeled.done) else {
+        return Ok(Order::Levels(peeled.levels));
+    };
+    let cycle = shown_cycle(alloc, predecessors, &peeled.done, start)?;
+    Ok(Order::Cycle(cycle))
+}

@@ -1,0 +1,55 @@
+//! From the successors of each member to its predecessors.
+ghost use Rattle.std.specs.Prelude.{◌≡◌, ℕ, ◌<◌, ◌≤◌, ◌∷◌, All, IfOk, OnOk, [], length};
+ghost use Rattle.sw_graph.specs.Reversing.{AreAdded};
+ghost use Rattle.sw_graph.specs.Rows.{IsGraph, IsReversed, row};
+
+use std::alloc::{AllocError, Global};
+
+/// As many empty rows.
+fn empty_rows(alloc: Global, count: usize) -> Result<Vec<Vec<u16>>, AllocError>
+    ensures size { IfOk result (λ v. length v.items ≡ count) }
+    ensures empty { IfOk result (λ v. (c : ℕ) → row v.items c ≡ []) }
+{
+    let mut rows = Vec::new(alloc);
+    for _ in 0..count {
+        rows.push(Vec::new(alloc))?;
+    }
+    Ok(rows)
+}
+
+/// Adds c to the row of the member d.
+fn add_to(rows: &mut [Vec<u16>], d: u16, c: u16) -> Result<(), AllocError>
+    requires { d < length rows.old }
+    ensures { OnOk result (AreAdded (d ∷ []) c rows.old rows.new) }
+{
+    rows[usize::from(d)].push(c)?;
+    Ok(())
+}
+
+/// Adds c to the row of each of the members.
+fn add_to_each(rows: &mut [Vec<u16>], members: &[u16], c: u16) -> Result<(), AllocError>
+    requires { All (λ d. d < length rows.old) members.now }
+    ensures { OnOk result (AreAdded members.now c rows.old rows.new) }
+{
+    for d in members {
+        add_to(rows, *d, c)?;
+    }
+    Ok(())
+}
+
+/// The predecessors of each member.
+///
+/// # Errors
+///
+/// There is no memory for the rows.
+pub fn predecessors_of(alloc: Global, successors: &[Vec<u16>]) -> Result<Vec<Vec<u16>>, AllocError>
+    requires few { length successors.now ≤ 65535 }
+    requires graph { IsGraph successors.now }
+    ensures { IfOk result (λ v. IsReversed successors.now v.items) }
+{
+    let mut predecessors = empty_rows(alloc, successors.len())?;
+    for (c, members) in successors.iter().enumerate() {
+        add_to_each(&mut predecessors, members, c as u16)?;
+    }
+    Ok(predecessors)
+}

@@ -1,0 +1,116 @@
+//! The levels of the members that are not behind a cycle, found in rounds.
+ghost use Rattle.std.specs.Prelude.{◌≡◌, ◌↔◌, ◌<◌, ◌≤◌, All, IfOk, IsTrue, filter, length, not};
+ghost use Rattle.std.specs.List.{range_with_len};
+ghost use Rattle.sw_graph.specs.Rounds.{AllDone, AreFree, AreTaken, IsPeeled, is_done};
+ghost use Rattle.sw_graph.specs.Rows.{IsGraph, row};
+
+use crate::marks::is_marked;
+use rayon::prelude::*;
+use std::alloc::{AllocError, Global};
+use std::thread::Threads;
+
+/// The fewest members that a thread is started for. Below twice as many a round goes through one
+/// thread: to look at a member's predecessors takes some hundred nanoseconds, and a thread some ten
+/// microseconds to start.
+const LEAST_PIECE: usize = 1024;
+
+/// Whether all of the members are done.
+fn all_done(members: &[u16], done: &[bool]) -> bool
+    ensures { IsTrue result ↔ AllDone done.now members.now }
+{
+    members.iter().all(|c| is_marked(done, *c))
+}
+
+/// The members that are left of which all predecessors are done.
+fn free_members<R: Threads + Sync>(
+    rt: &R,
+    alloc: Global,
+    predecessors: &[Vec<u16>],
+    done: &[bool],
+    left: &[u16],
+) -> Result<Vec<u16>, AllocError>
+    requires { All (λ c. c < length predecessors.now) left.now }
+    ensures { IfOk result (λ v. AreFree predecessors.now done.now left.now v.items) }
+{
+    left.par_iter()
+        .copied()
+        .with_min_len(LEAST_PIECE)
+        .filter(
+            |c: &u16| -> bool
+                requires { c.now < length predecessors.now }
+                ensures { IsTrue result ↔ AllDone done.entry.now (row predecessors.entry.now c.now) }
+            { all_done(&predecessors[usize::from(*c)], done) },
+        )
+        .collect(rt, alloc)
+}
+
+/// Makes the round the level of the members, and marks them as done.
+fn take_all(members: &[u16], round: u16, levels: &mut [u16], done: &mut [bool])
+    requires size { length levels.old ≡ length done.old }
+    requires inside { All (λ c. c < length done.old) members.now }
+    ensures { AreTaken round members.now levels.old levels.new done.old done.new }
+{
+    for c in members {
+        levels[usize::from(*c)] = round;
+        done[usize::from(*c)] = true;
+    }
+}
+
+/// Leaves out the members that are done.
+fn drop_done(left: &mut Vec<u16>, done: &[bool])
+    ensures { left.new.items ≡ filter (λ c. not (is_done done.now c)) left.old.items }
+{
+    left.retain(
+        |c: &u16| -> bool
+            ensures { result ≡ not (is_done done.entry.now c.now) }
+        { !is_marked(done, *c) },
+    );
+}
+
+/// The numbers below `count`.
+fn numbers(alloc: Global, count: usize) -> Result<Vec<u16>, AllocError>
+    requires { count ≤ 65535 }
+    ensures { IfOk result (λ v. v.items ≡ range_with_len 0 count) }
+{
+    let mut numbers = Vec::new(alloc);
+    for number in 0..count as u16 {
+        numbers.push(number)?;
+    }
+    Ok(numbers)
+}
+
+/// The levels of the members that are done, and which are done.
+#[derive(Drop)]
+pub struct Peeled {
+    pub levels: Vec<u16>,
+    pub done: Vec<bool>,
+}
+
+/// Peels members off in rounds: each takes those that are left of which all predecessors were taken
+/// in earlier rounds, and the number of the round is their level.
+///
+/// # Errors
+///
+/// There is no memory for the levels or for a round.
+pub fn peel<R: Threads + Sync>(
+    rt: &R,
+    alloc: Global,
+    predecessors: &[Vec<u16>],
+) -> Result<Peeled, AllocError>
+    requires few { length predecessors.now ≤ 65535 }
+    requires graph { IsGraph predecessors.now }
+    ensures { IfOk result (λ p. IsPeeled predecessors.now p.levels.items p.done.items) }
+{
+    let mut levels = vec![in alloc; 0u16; predecessors.len()]?;
+    let mut done = vec![in alloc; false; predecessors.len()]?;
+    let mut left = numbers(alloc, predecessors.len())?;
+    let mut round = 0;
+    let mut free = free_members(rt, alloc, predecessors, &done, &left)?;
+    while !free.is_empty() {
+        take_all(&free, round, &mut levels, &mut done);
+        drop_done(&mut left, &done);
+        round += 1;
+        free = free_members(rt, alloc, predecessors, &done, &left)?;
+    }
+    Ok(Peeled { levels, done })
+}

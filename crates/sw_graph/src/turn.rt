@@ -1,0 +1,46 @@
+//! A walk turned round, from its least member on.
+ghost use Rattle.std.specs.Prelude.{◌≡◌, ◌<◌, ◌++◌, IfOk, OnOk, length, reverse};
+ghost use Rattle.sw_graph.specs.Cycles.{IsTurned};
+ghost use Rattle.sw_graph.specs.Walking.{IsLowest};
+
+use std::alloc::{AllocError, Global};
+
+/// Where the least number stands.
+fn lowest_at(xs: &[u16]) -> usize
+    requires { 0 < length xs.now }
+    ensures { IsLowest xs.now result }
+{
+    let mut lowest = 0;
+    for i in 0..xs.len() {
+        if xs[i] < xs[lowest] {
+            lowest = i;
+        }
+    }
+    lowest
+}
+
+/// Adds numbers in the other direction.
+fn push_reversed(list: &mut Vec<u16>, xs: &[u16]) -> Result<(), AllocError>
+    ensures { OnOk result (list.new.items ≡ list.old.items ++ reverse xs.now) }
+{
+    for x in xs.iter().rev().copied() {
+        list.push(x)?;
+    }
+    Ok(())
+}
+
+/// The walk in the other direction, from its least number on.
+///
+/// # Errors
+///
+/// There is no memory for the turned walk.
+pub fn turned(alloc: Global, walked: &[u16]) -> Result<Vec<u16>, AllocError>
+    requires { 0 < length walked.now }
+    ensures { IfOk result (λ v. IsTurned walked.now v.items) }
+{
+    let split = lowest_at(walked) + 1;
+    let mut cycle = Vec::new(alloc);
+    push_reversed(&mut cycle, &walked[..split])?;
+    push_reversed(&mut cycle, &walked[split..])?;
+    Ok(cycle)
+}

@@ -1,0 +1,111 @@
+//! The numbers that a walk has found.
+ghost use Rattle.std.specs.Prelude.{◌≡◌, ◌<◌, ◌≤◌, length, slice_index, All, Contains, IfOk, IfNone, IfSome, OnOk, OnErr, []};
+ghost use Rattle.std.specs.List.Sorted.{IsPermutation, IsStrictlyIncreasing};
+ghost use Rattle.sw_graph.specs.Walks.{Found, with_number, with_all};
+
+use std::alloc::{AllocError, Global};
+use std::marker::Model;
+
+/// Numbers below a bound, each once, in the order in which they were found.
+#[derive(Drop)]
+pub struct Walk {
+    is_found: Vec<bool>,
+    numbers: Vec<usize>,
+}
+
+impl Model for Walk {
+    ghost use Rattle.std.specs.Prelude.{length};
+    ghost use Rattle.sw_graph.specs.Walks.{Found, IsWalk};
+
+    ghost Value = { Found };
+
+    ghost view = { λ w. record { bound = length w.is_found.items; numbers = w.numbers.items } };
+
+    ghost invariant = { λ w. IsWalk w.is_found.items w.numbers.items };
+}
+
+impl Walk {
+    /// No numbers yet, of those below the bound.
+    ///
+    /// # Errors
+    ///
+    /// There is no memory for a mark for each number below the bound.
+    pub fn new(alloc: Global, bound: usize) -> Result<Walk, AllocError>
+        ensures { IfOk result (λ w. w ≡ record { bound = bound; numbers = [] }) }
+    {
+        Ok(Walk {
+            is_found: vec![in alloc; false; bound]?,
+            numbers: Vec::new(alloc),
+        })
+    }
+
+    /// How many numbers there are.
+    pub fn len(&self) -> usize
+        ensures len { result ≡ length self.now.numbers }
+        ensures few { result ≤ self.now.bound }
+    {
+        self.numbers.len()
+    }
+
+    /// The number at this place of the list.
+    pub fn at(&self, place: usize) -> usize
+        requires { place < length self.now.numbers }
+        ensures number { result ≡ slice_index self.now.numbers place }
+        ensures below { result < self.now.bound }
+    {
+        self.numbers[place]
+    }
+
+    /// The place of a number in the list.
+    pub fn place_of(&self, number: usize) -> Option<usize>
+        ensures found { IfSome result (λ place. (place < length self.now.numbers) × (slice_index self.now.numbers place ≡ number)) }
+        ensures none { IfNone result (Contains self.now.numbers number → ⊥) }
+    {
+        self.numbers.iter().position(|n| *n == number)
+    }
+
+    /// Adds a number, if it is new.
+    ///
+    /// # Errors
+    ///
+    /// There is no memory for it: then the walk is as it was.
+    pub fn add(&mut self, number: usize) -> Result<(), AllocError>
+        requires { number < self.old.bound }
+        ensures bound { self.new.bound ≡ self.old.bound }
+        ensures ok { OnOk result (self.new.numbers ≡ with_number self.old.numbers number) }
+        ensures err { OnErr result (self.new.numbers ≡ self.old.numbers) }
+    {
+        if self.is_found[number] {
+            return Ok(());
+        }
+        self.numbers.push(number)?;
+        self.is_found[number] = true;
+        Ok(())
+    }
+
+    /// Adds those of the numbers that are new.
+    ///
+    /// # Errors
+    ///
+    /// There is no memory for all of them: some may have been added then.
+    pub fn add_all(&mut self, numbers: &[usize]) -> Result<(), AllocError>
+        requires { All (λ n. n < self.old.bound) numbers.now }
+        ensures bound { self.new.bound ≡ self.old.bound }
+        ensures ok { OnOk result (self.new.numbers ≡ with_all self.old.numbers numbers.now) }
+    {
+        for number in numbers {
+            self.add(*number)?;
+        }
+        Ok(())
+    }
+
+    /// The numbers in rising order.
+    pub fn into_sorted(self) -> Vec<usize>
+        ensures rising { IsStrictlyIncreasing result.items }
+        ensures same { IsPermutation self.numbers result.items }
+    {
+        let Walk { mut numbers, .. } = self;
+        numbers.sort_unstable();
+        numbers
+    }
+}

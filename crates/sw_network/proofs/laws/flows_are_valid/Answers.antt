@@ -1,5 +1,0 @@
-use Rattle.sw_network.proofs.FlowLaws.{valid_flows}
-use Rattle.sw_network.proofs.laws.flows_are_valid.Goals as goal
-
-pub returns : goal.returns
-returns c = valid_flows

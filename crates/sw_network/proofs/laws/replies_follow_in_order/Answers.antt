@@ -1,5 +1,0 @@
-use Rattle.sw_network.proofs.FlowLaws.{follow_in_order}
-use Rattle.sw_network.proofs.laws.replies_follow_in_order.Goals as goal
-
-pub returns : goal.returns
-returns c = follow_in_order

@@ -1,6 +1,0 @@
-use Rattle.std.proofs.Common.{◌≡◌, ℕ, ◌<◌, true}
-use Rattle.sw_order.specs.Rounds.{is_done}
-use Rattle.sw_order.proofs.cycle.first_left.Given as goal
-
-abbrev pub invariant-loop-c : goal.invariant-loop-c
-invariant-loop-c l = (d : ℕ) → d < l.c → is_done l.done d ≡ true

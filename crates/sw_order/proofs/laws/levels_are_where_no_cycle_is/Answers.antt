@@ -1,5 +1,0 @@
-use Rattle.sw_order.proofs.Existence.{levels_are_where_no_cycle_is}
-use Rattle.sw_order.proofs.laws.levels_are_where_no_cycle_is.Goals as goal
-
-pub returns : goal.returns
-returns g c = levels_are_where_no_cycle_is g.D.Relation.dep

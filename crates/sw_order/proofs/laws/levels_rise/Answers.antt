@@ -1,5 +1,0 @@
-use Rattle.sw_order.proofs.Existence.{levels_rise}
-use Rattle.sw_order.proofs.laws.levels_rise.Goals as goal
-
-pub returns : goal.returns
-returns g c = levels_rise g.D.Relation.dep

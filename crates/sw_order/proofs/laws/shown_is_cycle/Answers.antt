@@ -1,5 +1,0 @@
-use Rattle.sw_order.proofs.Rings.{shown_is_cycle}
-use Rattle.sw_order.proofs.laws.shown_is_cycle.Goals as goal
-
-pub returns : goal.returns
-returns g c = shown_is_cycle g.D.Relation.dep

@@ -1,5 +1,0 @@
-use Rattle.sw_order.specs.Reversing.{AreBegun}
-use Rattle.sw_order.proofs.predecessors.predecessors_of.Given as goal
-
-abbrev pub invariant-loop-c : goal.invariant-loop-c
-invariant-loop-c l = AreBegun l.successors l.c l.predecessors.items

@@ -1,0 +1,5 @@
+pub mod PairedLines
+pub mod NodeLines
+pub mod Order
+pub mod Counts
+mod Sums

@@ -1,0 +1,70 @@
+//! The lines of all nodes.
+ghost use Rattle.std.specs.Prelude.{◌≡◌, ◌<◌, IfOk, length, map, string_bytes};
+ghost use Rattle.sw_output.specs.ChannelTexts.{node_name};
+ghost use Rattle.sw_output.specs.PacketTexts.{by_node, node_line, packet_lines};
+ghost use Rattle.sw_output.specs.Tallies.{counted_lines};
+
+use crate::counted_lines::counted_lines;
+use crate::packet_lines::{node_line, packet_lines};
+use std::alloc::{AllocError, Global};
+use sw_char::Packet;
+use sw_config::Network;
+
+/// A line for each node.
+///
+/// # Errors
+///
+/// There is no memory for the text.
+pub fn all_node_lines(
+    alloc: Global,
+    network: &Network,
+    all: &[Vec<Packet>],
+) -> Result<String, AllocError>
+    requires { length all.now ≡ length network.now.nodes }
+    ensures { IfOk result (λ s. string_bytes s ≡ by_node node_line network.now (map (λ packets. packets.items) all.now)) }
+{
+    let mut text = String::new(alloc);
+    for n in 0..network.nodes() {
+        let name = network.node_name(n);
+        text.push_str(node_line(alloc, name, &all[n as usize])?.as_str())?;
+    }
+    Ok(text)
+}
+
+/// A line for each packet, node by node.
+///
+/// # Errors
+///
+/// There is no memory for the text.
+pub fn all_packet_lines(
+    alloc: Global,
+    network: &Network,
+    all: &[Vec<Packet>],
+) -> Result<String, AllocError>
+    requires { length all.now ≡ length network.now.nodes }
+    ensures { IfOk result (λ s. string_bytes s ≡ by_node packet_lines network.now (map (λ packets. packets.items) all.now)) }
+{
+    let mut text = String::new(alloc);
+    for n in 0..network.nodes() {
+        let name = network.node_name(n);
+        text.push_str(packet_lines(alloc, name, &all[n as usize])?.as_str())?;
+    }
+    Ok(text)
+}
+
+/// A line for each of the different packets of a node, node by node.
+pub(crate) fn all_counted_lines(
+    alloc: Global,
+    network: &Network,
+    all: &[Vec<Packet>],
+) -> Result<String, AllocError>
+    requires { length all.now ≡ length network.now.nodes }
+    ensures { IfOk result (λ s. string_bytes s ≡ by_node counted_lines network.now (map (λ packets. packets.items) all.now)) }
+{
+    let mut text = String::new(alloc);
+    for n in 0..network.nodes() {
+        let name = network.node_name(n);
+        text.push_str(counted_lines(alloc, name, &all[n as usize])?.as_str())?;
+    }
+    Ok(text)
+}

@@ -1,0 +1,68 @@
+//! The lines of packets.
+ghost use Rattle.std.specs.Prelude.{◌≡◌, IfOk, flat_map, length, string_bytes};
+ghost use Rattle.sw_output.specs.PacketTexts.{bytes_text, end_text, node_line, packet_line, packet_lines, undelivered_line};
+
+use hex::encode_upper;
+use std::alloc::{AllocError, Global};
+use sw_char::{End, Packet};
+
+/// How many characters are undelivered.
+///
+/// # Errors
+///
+/// There is no memory for the text.
+pub fn undelivered_line(alloc: Global, count: u64) -> Result<String, AllocError>
+    ensures { IfOk result (λ s. string_bytes s ≡ undelivered_line count) }
+{
+    format!(in alloc; "undelivered {count}\n")
+}
+
+pub(crate) fn end_text(end: End) -> &'static str
+    ensures { result.now ≡ end_text end }
+{
+    match end {
+        End::Eop => "EOP",
+        End::Eep => "EEP",
+    }
+}
+
+/// Pairs of hexadecimal digits, with upper case letters; `-` for no bytes.
+pub(crate) fn bytes_text(alloc: Global, bytes: &[u8]) -> Result<String, AllocError>
+    ensures { IfOk result (λ s. string_bytes s ≡ bytes_text bytes.now) }
+{
+    match bytes {
+        [] => String::from_str(alloc, "-"),
+        bytes => encode_upper(alloc, bytes),
+    }
+}
+
+/// How many packets came out at a node.
+pub(crate) fn node_line(alloc: Global, name: &str, packets: &[Packet]) -> Result<String, AllocError>
+    ensures { IfOk result (λ s. string_bytes s ≡ node_line name.now packets.now) }
+{
+    let count = packets.len();
+    format!(in alloc; "node {name} packets {count}\n")
+}
+
+fn packet_line(alloc: Global, name: &str, packet: &Packet) -> Result<String, AllocError>
+    ensures { IfOk result (λ s. string_bytes s ≡ packet_line name.now packet.now) }
+{
+    let bytes = bytes_text(alloc, &packet.bytes)?;
+    let end = end_text(packet.end);
+    format!(in alloc; "packet {name} {bytes} {end}\n")
+}
+
+/// A line for each packet that came out at a node.
+pub(crate) fn packet_lines(
+    alloc: Global,
+    name: &str,
+    packets: &[Packet],
+) -> Result<String, AllocError>
+    ensures { IfOk result (λ s. string_bytes s ≡ packet_lines name.now packets.now) }
+{
+    let mut text = String::new(alloc);
+    for packet in packets {
+        text.push_str(packet_line(alloc, name, packet)?.as_str())?;
+    }
+    Ok(text)
+}

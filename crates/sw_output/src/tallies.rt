@@ -1,0 +1,92 @@
+//! How often packets came out.
+ghost use Rattle.std.specs.Prelude.{◌≡◌, ◌<◌, ◌^◌, ◌+◌, All, IfOk, length};
+ghost use Rattle.std.specs.List.Sorted.{IsBinarySearchResult, IsSearchInRange};
+ghost use Rattle.sw_output.specs.Tallies.{IsRising, counted, end_rank, packet_order, tallies};
+
+use std::alloc::{AllocError, Global};
+use std::cmp::Ordering;
+use std::marker::Model;
+use sw_char::{End, Packet};
+
+/// A packet, and how often it came out.
+#[derive(Drop)]
+pub(crate) struct Tally<'a> {
+    pub(crate) packet: &'a Packet,
+    pub(crate) count: u64,
+}
+
+impl<'a> Model for Tally<'a> {
+    ghost use Rattle.sw_output.specs.Tallies.{TallyView};
+
+    ghost Value = { TallyView };
+
+    ghost view = { λ t. record { packet = t.packet.now; count = t.count } };
+}
+
+impl<'a> Tally<'a> {
+    // The packet came out once more.
+    fn raise(&mut self)
+        requires { self.old.count + 1 < 2 ^ 64 }
+        ensures { self.new ≡ record self.old { count = self.old.count + 1 } }
+    {
+        self.count += 1;
+    }
+}
+
+fn end_rank(end: End) -> u8
+    ensures { result ≡ end_rank end }
+{
+    match end {
+        End::Eop => 0,
+        End::Eep => 1,
+    }
+}
+
+fn order(packet: &Packet, other: &Packet) -> Ordering
+    ensures { result ≡ packet_order packet.now other.now }
+{
+    let ends = end_rank(packet.end).cmp(&end_rank(other.end));
+    packet
+        .bytes
+        .as_slice()
+        .cmp(other.bytes.as_slice())
+        .then(ends)
+}
+
+// Where the packet stands, or where it has to be put.
+fn place(tallies: &[Tally<'_>], packet: &Packet) -> Result<usize, usize>
+    ensures bound { IsSearchInRange result (length tallies.now) }
+    ensures position { IsBinarySearchResult (λ t. packet_order t.packet packet.now) tallies.now result }
+{
+    tallies.binary_search_by(
+        |tally: &Tally<'_>| -> Ordering
+            ensures { result ≡ packet_order tally.now.packet packet.entry.now }
+        { order(tally.packet, packet) },
+    )
+}
+
+fn add<'a>(tallies: &mut Vec<Tally<'a>>, packet: &'a Packet) -> Result<(), AllocError>
+    requires rising { IsRising tallies.old.items }
+    requires few { All (λ t. t.count + 1 < 2 ^ 64) tallies.old.items }
+    ensures { IfOk result (λ _. tallies.new.items ≡ counted packet.now tallies.old.items) }
+{
+    match place(tallies, packet) {
+        Ok(i) => tallies[i].raise(),
+        Err(i) => tallies.insert(i, Tally { packet, count: 1 })?,
+    }
+    Ok(())
+}
+
+/// The different packets in rising order, each with how often it is listed.
+pub(crate) fn tallies<'a>(
+    alloc: Global,
+    packets: &'a [Packet],
+) -> Result<Vec<Tally<'a>>, AllocError>
+    ensures { IfOk result (λ all. all.items ≡ tallies packets.now) }
+{
+    let mut all = Vec::new(alloc);
+    for packet in packets {
+        add(&mut all, packet)?;
+    }
+    Ok(all)
+}

@@ -1,0 +1,186 @@
+//! How a verdict is written.
+ghost use Rattle.std.specs.Prelude.{◌≡◌, ◌<◌, ◌∷◌, ◌++◌, [], All, IfOk, length, map, max, string_bytes};
+ghost use Rattle.std.specs.List.{reduce};
+ghost use Rattle.sw_config.specs.Entries.{wiring_of};
+ghost use Rattle.sw_cycle.specs.Cycles.{cause_of};
+ghost use Rattle.sw_output.specs.ChannelTexts.{node_name};
+ghost use Rattle.sw_output.specs.Lines.{line};
+ghost use Rattle.sw_output.specs.VerdictTexts.{cause_words, cycle_line, cycle_lines, cycle_text, cyclic_words, free_words, height, misrouted_words};
+
+use crate::channel_texts::channel_text;
+use crate::flow_texts::{flow_name, place_words, route_fault_text};
+use std::alloc::{AllocError, Global};
+use sw_config::Network;
+use sw_cycle::{Cause, Cycle};
+use sw_flow::{Place, RouteFault};
+use sw_topo::Chan;
+
+// The node's name, which is empty where there is no such node.
+fn node_name(network: &Network, node: u16) -> &str
+    ensures { result.now ≡ node_name network.now node }
+{
+    if node < network.nodes() {
+        network.node_name(node)
+    } else {
+        ""
+    }
+}
+
+fn cause_words(alloc: Global, network: &Network, cause: &Cause) -> Result<String, AllocError>
+    ensures { IfOk result (λ s. string_bytes s ≡ cause_words network.now (cause_of cause.now)) }
+{
+    match cause {
+        Cause::Target(node) => {
+            let name = node_name(network, *node);
+            format!(in alloc; "target {name}")
+        }
+        Cause::Flow(flow, _) => {
+            let name = flow_name(network, *flow);
+            format!(in alloc; "flow {name}")
+        }
+    }
+}
+
+fn cycle_line(
+    alloc: Global,
+    network: &Network,
+    channel: Chan,
+    cause: &Cause,
+) -> Result<String, AllocError>
+    requires { channel < length (wiring_of network.now).ends }
+    ensures { IfOk result (λ s. string_bytes s ≡ cycle_line network.now channel (cause_of cause.now)) }
+{
+    let ends = channel_text(alloc, network, channel)?;
+    let words = cause_words(alloc, network, cause)?;
+    let channel = channel.number();
+    format!(in alloc; "channel {channel} {ends} by {words}\n")
+}
+
+// Adds the line of a channel and its cause.
+fn add_cycle_line(
+    alloc: Global,
+    network: &Network,
+    channel: Chan,
+    cause: &Cause,
+    text: &mut String,
+) -> Result<(), AllocError>
+    requires { channel < length (wiring_of network.now).ends }
+    ensures { IfOk result (λ _. string_bytes text.new ≡ string_bytes text.old ++ cycle_line network.now channel (cause_of cause.now)) }
+{
+    let line = cycle_line(alloc, network, channel, cause)?;
+    text.push_str(line.as_str())
+}
+
+// A line for each channel, with its cause.
+fn cycle_lines(
+    alloc: Global,
+    network: &Network,
+    channels: &[Chan],
+    causes: &[Cause],
+) -> Result<String, AllocError>
+    requires { All (λ c. c < length (wiring_of network.now).ends) channels.now }
+    ensures { IfOk result (λ s. string_bytes s ≡ cycle_lines network.now channels.now (map cause_of causes.now)) }
+{
+    let mut text = String::new(alloc);
+    for (channel, cause) in channels.iter().zip(causes) {
+        add_cycle_line(alloc, network, *channel, cause, &mut text)?;
+    }
+    Ok(text)
+}
+
+/// How many channels a cycle has.
+///
+/// # Errors
+///
+/// There is no memory for the text.
+pub fn cyclic_words(alloc: Global, channels: &[Chan]) -> Result<String, AllocError>
+    ensures { IfOk result (λ s. string_bytes s ≡ cyclic_words (length channels.now)) }
+{
+    let count = channels.len();
+    format!(in alloc; "cyclic {count}")
+}
+
+// A line of these words.
+fn words_line(alloc: Global, words: &str) -> Result<String, AllocError>
+    ensures { IfOk result (λ s. string_bytes s ≡ line (words.now ∷ [])) }
+{
+    format!(in alloc; "{words}\n")
+}
+
+/// How many channels a cycle has, and a line for each, with what makes it wait for the next.
+///
+/// # Errors
+///
+/// There is no memory for the text.
+pub fn cycle_text(alloc: Global, network: &Network, cycle: &Cycle) -> Result<String, AllocError>
+    requires { All (λ c. c < length (wiring_of network.now).ends) cycle.now.channels }
+    ensures { IfOk result (λ s. string_bytes s ≡ cycle_text network.now cycle.now) }
+{
+    let words = cyclic_words(alloc, &cycle.channels)?;
+    let head = words_line(alloc, words.as_str())?;
+    let lines = cycle_lines(alloc, network, &cycle.channels, &cycle.causes)?;
+    format!(in alloc; "{head}{lines}")
+}
+
+/// The flow, its place with a fault, and the fault.
+///
+/// # Errors
+///
+/// There is no memory for the text.
+pub fn misrouted_words(
+    alloc: Global,
+    network: &Network,
+    flow: u16,
+    place: Place,
+    fault: RouteFault,
+) -> Result<String, AllocError>
+    ensures { IfOk result (λ s. string_bytes s ≡ misrouted_words network.now flow place fault) }
+{
+    let place = place_words(alloc, network, flow, place)?;
+    let fault = route_fault_text(fault);
+    format!(in alloc; "misrouted {place} {fault}")
+}
+
+/// The line in which `misrouted_words` stands alone.
+///
+/// # Errors
+///
+/// There is no memory for the text.
+pub fn misrouted_text(
+    alloc: Global,
+    network: &Network,
+    flow: u16,
+    place: Place,
+    fault: RouteFault,
+) -> Result<String, AllocError>
+    ensures { IfOk result (λ s. string_bytes s ≡ line (misrouted_words network.now flow place fault ∷ [])) }
+{
+    let words = misrouted_words(alloc, network, flow, place, fault)?;
+    words_line(alloc, words.as_str())
+}
+
+// The greatest of the numbers, if there is one.
+fn greatest(numbers: &[u16]) -> Option<u16>
+    ensures { result ≡ reduce max numbers.now }
+{
+    numbers.iter().copied().max()
+}
+
+// The greatest of the numbers, 0 where there is none.
+fn height(numbers: &[u16]) -> u16
+    ensures { result ≡ height numbers.now }
+{
+    greatest(numbers).unwrap_or(0)
+}
+
+/// The greatest number of a certificate's channels.
+///
+/// # Errors
+///
+/// There is no memory for the text.
+pub fn free_words(alloc: Global, numbers: &[u16]) -> Result<String, AllocError>
+    ensures { IfOk result (λ s. string_bytes s ≡ free_words numbers.now) }
+{
+    let height = height(numbers);
+    format!(in alloc; "free height {height}")
+}

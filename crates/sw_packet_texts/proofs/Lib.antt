@@ -1,4 +1,0 @@
-pub mod NodeLines
-pub mod Order
-pub mod Counts
-mod Sums

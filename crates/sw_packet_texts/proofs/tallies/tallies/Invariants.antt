@@ -1,6 +1,0 @@
-use Rattle.std.proofs.Common.{◌≡◌, take}
-use Rattle.sw_packet_texts.specs.Tallies.{tallies}
-use Rattle.sw_packet_texts.proofs.tallies.tallies.Given as goal
-
-abbrev pub invariant-loop-packet : goal.invariant-loop-packet
-invariant-loop-packet l = l.all.items ≡ tallies (take l.packet-index l.packets)

@@ -1,2 +1,0 @@
-pub mod PacketTexts
-pub mod Tallies

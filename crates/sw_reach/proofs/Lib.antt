@@ -1,3 +1,0 @@
-pub mod Numbers
-pub mod Walking
-pub mod Parents

@@ -1,4 +1,0 @@
-pub mod Reached
-pub mod Walks
-pub mod Ways
-pub mod Parents

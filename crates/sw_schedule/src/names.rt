@@ -1,0 +1,86 @@
+//! What single words of a schedule's line name.
+ghost use Rattle.std.specs.Prelude.{◌≡◌, ◌<◌, ◌≤◌, ◌*◌, false, true, length, map, position, IfNone, IfSome};
+ghost use Rattle.std.specs.Str.{bytes_eq, is_utf8};
+ghost use Rattle.sw_config.specs.Entries.{flow_names};
+ghost use Rattle.sw_schedule.specs.Lines.{channel_of, count_of, end_of, flow_of, node_of};
+
+use std::str;
+use sw_char::End;
+use sw_config::Network;
+use sw_text::number;
+use sw_topo::Chan;
+
+/// A line has its step at most this many times.
+const MAX_COUNT: u32 = 100_000;
+
+/// The channel of that number, if the network has one.
+pub(crate) fn channel_of(network: &Network, word: &[u8]) -> Option<Chan>
+    ensures { result ≡ channel_of network.now word.now }
+{
+    let number = number(word, 65535)? as u16;
+    if number < network.channels() {
+        Some(Chan::new(number))
+    } else {
+        None
+    }
+}
+
+/// The word, if it is UTF-8.
+fn text_of<'a>(word: &'a [u8]) -> Option<&'a str>
+    ensures same { IfSome result (λ s. s.now ≡ word.entry.now) }
+    ensures some { IfSome result (λ s. is_utf8 word.entry.now ≡ true) }
+    ensures none { IfNone result (is_utf8 word.entry.now ≡ false) }
+{
+    match str::from_utf8(word) {
+        Ok(text) => Some(text),
+        Err(_) => None,
+    }
+}
+
+/// The node of that name.
+pub(crate) fn node_of(network: &Network, word: &[u8]) -> Option<u16>
+    ensures { result ≡ node_of network.now word.now }
+{
+    network.node_named(text_of(word)?)
+}
+
+/// The number of the declared flow of that name.
+fn declared_flow(network: &Network, name: &str) -> Option<u16>
+    ensures { result ≡ position (bytes_eq name.now) (flow_names network.now.flows) }
+{
+    let flow = network.flow_named(name)?;
+    if flow < network.declared_flows() {
+        Some(flow)
+    } else {
+        None
+    }
+}
+
+/// The declared flow of that name.
+pub(crate) fn flow_of(network: &Network, word: &[u8]) -> Option<u16>
+    ensures { result ≡ flow_of network.now word.now }
+{
+    declared_flow(network, text_of(word)?)
+}
+
+/// The end marker of that name.
+pub(crate) fn end_of(word: &[u8]) -> Option<End>
+    ensures { result ≡ end_of word.now }
+{
+    if word == b"EOP".as_slice() {
+        Some(End::Eop)
+    } else if word == b"EEP".as_slice() {
+        Some(End::Eep)
+    } else {
+        None
+    }
+}
+
+/// How often a step is made, if the word says it: 1 to 100,000.
+pub(crate) fn count_of(word: &[u8]) -> Option<u32>
+    ensures count { result ≡ count_of word.now }
+    ensures few { IfSome result (λ n. n ≤ 100000) }
+{
+    let count = number(word, MAX_COUNT)?;
+    if count == 0 { None } else { Some(count) }
+}

@@ -1,0 +1,145 @@
+//! Schedules, and their text.
+ghost use Rattle.std.specs.Prelude.{◌≡◌, ◌+◌, ◌++◌, ◌≤◌, [], OnOk, length, replicate};
+ghost use Rattle.sw_schedule.specs.Schedule.{Reads, steps_of, steps_of_text, with_line};
+ghost use Rattle.sw_schedule.specs.declared.schedule.ScheduleFault.TheVariants.{Memory};
+
+use crate::entry::ScheduleEntry;
+use crate::line::{entry_of, is_skipped};
+use std::alloc::{AllocError, AllocFailed, Global};
+use std::marker::Model;
+use sw_config::Network;
+use sw_text::cut;
+use thiserror::Error;
+
+/// A schedule has at most this many steps in all.
+pub const MAX_STEPS: u32 = 1_000_000;
+
+/// Why a text is no schedule.
+#[derive(Debug, Drop, Error)]
+pub enum ScheduleFault {
+    /// This line, counted from 1, is the first that is not as it has to be.
+    #[error("line {0} is wrong")]
+    BadLine(u64),
+    #[error("out of memory")]
+    Memory,
+}
+
+impl From<AllocError> for ScheduleFault {
+    ghost from_gives = { λ _ e. e ≡ Memory };
+
+    fn from(_error: AllocError) -> ScheduleFault {
+        ScheduleFault::Memory
+    }
+}
+
+impl<T: Drop> From<AllocFailed<T>> for ScheduleFault {
+    ghost from_gives = { λ _ e. e ≡ Memory };
+
+    fn from(_error: AllocFailed<T>) -> ScheduleFault {
+        ScheduleFault::Memory
+    }
+}
+
+/// Steps to be made, in order; at most 1,000,000.
+///
+/// A clause sees the whole list of steps. It is kept as the lines wrote it, each step once with how many times it is made, and
+/// cargo of one repeated byte as that byte and a count: so a schedule takes no more memory than a few times its text, where the
+/// steps with their cargo written out could take gigabytes.
+#[derive(Debug, Drop)]
+pub struct Schedule {
+    entries: Vec<ScheduleEntry>,
+    total: u32,
+}
+
+impl Model for Schedule {
+    ghost use Rattle.std.specs.Prelude.{List};
+    ghost use Rattle.sw_machine.specs.Steps.{Step};
+    ghost use Rattle.sw_schedule.specs.Schedule.{IsTotal, steps_of};
+
+    ghost Value = { List Step };
+
+    ghost view = { λ s. steps_of s.entries.items };
+
+    ghost invariant = { λ s. IsTotal s.entries.items s.total };
+}
+
+impl Schedule {
+    ghost use Rattle.sw_schedule.specs.Lines.{Repeated};
+
+    pub(crate) fn new(alloc: Global) -> Schedule
+        ensures { result ≡ [] }
+    {
+        Schedule {
+            entries: Vec::new(alloc),
+            total: 0,
+        }
+    }
+
+    /// The steps, in order, each with how many times it is made before the next.
+    pub fn entries(&self) -> &[ScheduleEntry]
+        ensures { steps_of result.now ≡ self.now }
+    {
+        &self.entries
+    }
+
+    /// How many steps there are in all.
+    pub fn total(&self) -> u32
+        ensures count { result ≡ length self.now }
+        ensures few { result ≤ MAX_STEPS }
+    {
+        self.total
+    }
+
+    /// Adds a step at the end, as many times as it is made.
+    pub(crate) fn add(&mut self, entry: ScheduleEntry) -> Result<(), AllocError>
+        requires { length self.old + entry.count ≤ MAX_STEPS }
+        ensures { OnOk result (self.new ≡ self.old ++ replicate entry.count entry.step) }
+    {
+        let count = entry.count();
+        self.entries.push(entry)?;
+        self.total += count;
+        Ok(())
+    }
+}
+
+/// Adds the steps of line `number`.
+#[tactic(auto, unfolding(crate::specs::Lines::steps_of_line))]
+fn add_line(
+    alloc: Global,
+    network: &Network,
+    line: &[u8],
+    number: u64,
+    schedule: &mut Schedule,
+) -> Result<(), ScheduleFault>
+    ensures { Reads (λ _. schedule.new) result (with_line network.now number schedule.old line.now) }
+{
+    let before = schedule.total();
+    if is_skipped(line) {
+        return Ok(());
+    }
+    match entry_of(alloc, network, line)? {
+        Some(entry) if before + entry.count() <= MAX_STEPS => Ok(schedule.add(entry)?),
+        _ => Err(ScheduleFault::BadLine(number)),
+    }
+}
+
+/// Reads the text of a schedule: the steps that it lists for the network.
+///
+/// # Errors
+///
+/// A line is wrong: the number of the first such line, counted from 1. Or there is no memory for the steps.
+#[tactic(auto, unfolding(crate::specs::Schedule::steps_of_text))]
+pub fn read_steps(alloc: Global, network: &Network, text: &[u8]) -> Result<Schedule, ScheduleFault>
+    ensures { Reads (λ steps. steps) result (steps_of_text network.now text.now) }
+{
+    let mut schedule = Schedule::new(alloc);
+    let mut rest = text;
+    let mut number: u64 = 1;
+    while let Some((line, more)) = cut(rest, b'\n') {
+        add_line(alloc, network, line, number, &mut schedule)?;
+        rest = more;
+        number += 1;
+    }
+    add_line(alloc, network, rest, number, &mut schedule)?;
+    Ok(schedule)
+}

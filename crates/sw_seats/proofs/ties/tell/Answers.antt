@@ -1,5 +1,0 @@
-use Rattle.sw_seats.proofs.Moves.{changes_by}
-use Rattle.sw_seats.proofs.ties.tell.Goals as goal
-
-pub compare_exchange_with-requires : goal.compare_exchange_with-requires
-compare_exchange_with-requires c = (c.requires.seat.0, c.requires.table, changes_by _ _ _ c.args.at c.args.numbers c.requires.seat.1 c.requires.seat.2)

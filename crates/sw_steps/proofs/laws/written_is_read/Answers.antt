@@ -1,5 +1,0 @@
-use Rattle.sw_steps.proofs.Written.{written_read}
-use Rattle.sw_steps.proofs.laws.written_is_read.Goals as goal
-
-pub returns : goal.returns
-returns c = λ d steps lines h few. written_read d steps lines h few

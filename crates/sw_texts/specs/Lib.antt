@@ -1,5 +1,0 @@
-pub mod Lines
-pub mod ChannelTexts
-pub mod FlowTexts
-pub mod VerdictTexts
-pub mod ReportTexts

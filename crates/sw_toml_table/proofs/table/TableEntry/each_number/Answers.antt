@@ -1,0 +1,17 @@
+use Rattle.std.proofs.Common.{rules}
+use Rattle.std.proofs.lemmas.Result.{err_from_is_err_and}
+use Rattle.toml.specs.View.{view}
+use Rattle.sw_toml_table.specs.Table.{number_value}
+use Rattle.sw_toml_table.proofs.Walks.{each_more, each_fails}
+use Rattle.sw_toml_table.proofs.table.TableEntry.each_number.Goals as goal
+
+pub returns-in_err-number-clause-gives : goal.returns-in_err-number-clause-gives
+returns-in_err-number-clause-gives c =
+    let p = err_from_is_err_and c.from_residual.result c.from_residual.ensures.1 in
+    rw (p.1, p.2) (each_fails (number_value c.args.self.now.section c.args.key 0 c.args.high) view c.args.values.now c.loop-value.value-index c.loop-value.numbers.items c.value-item.result c.in_err-number.field-0.0 c.loop-value.invariant.so_far c.loop-value-test.true c.value-item.is c.in_err-number.ensures.gives)
+
+pub loop-value-preserved : goal.loop-value-preserved
+loop-value-preserved c = record {
+  so_far = rw c.in_ok-push.ensures.items (each_more (number_value c.args.self.now.section c.args.key 0 c.args.high) view c.args.values.now c.loop-value.value-index c.loop-value.numbers.items c.in_ok-number.number c.value-item.result c.loop-value.invariant.so_far c.loop-value-test.true c.value-item.is c.in_ok-number.ensures.gives);
+  within = search rules;
+}
