@@ -8,9 +8,9 @@ use Rattle.sw_topo.specs.declared.place.PlaceEnd.TheVariants.{Node}
 use Rattle.sw_topo.proofs.Ends.{node_starts}
 use Rattle.sw_config.specs.Entries.{FlowEntry, Declaration, wiring_of}
 use Rattle.sw_flow.specs.declared.place.Place.{Place}
-use Rattle.sw_flow.specs.Places.{ends_of, IsPlace}
-use Rattle.sw_flow.specs.Places.IsPlace.{start, next}
-use Rattle.sw_flow.specs.Ways.{GoesFromStart, GoesOver, GoesTo, IsStart}
+use Rattle.sw_flow.specs.Places.{ends_of}
+use Rattle.sw_flow.specs.Ways.{GoesFromStart}
+use Rattle.sw_cycle.proofs.Shown.{last_step}
 use Rattle.sw_cycle.specs.Cycles.{CauseEntry, ByFlow, ByTarget, IsFlowCause}
 use Rattle.sw_cycle.specs.Causes.{GoesOn, IsChosenCause}
 use Rattle.std.specs.Fmt.{decimal}
@@ -19,25 +19,13 @@ use Rattle.sw_output.specs.Lines.{line}
 use Rattle.sw_output.specs.VerdictTexts.{cause_words, cycle_lines}
 
 module _ (d : Declaration) where
-  started : (f : FlowEntry) (p : Place) → IsStart d f p → IsPlace d f p.channel p.deleted
-  started f p h = subst (λ (k : ℕ). IsPlace d f p.channel k) (sym h.1) (start h.0)
-
-  -- over places that end with x and y, from a place on
-  goes_over : (f : FlowEntry) (p : Place) (before : List Place) (x y : Place) → IsPlace d f p.channel p.deleted → GoesOver d f p (before ++ x ∷ y ∷ []) → IsPlace d f x.channel x.deleted × GoesTo d f x y
-  goes_over f p [] x y here g = (next here g.0, g.1.0)
-  goes_over f p (q ∷ qs) x y here g = goes_over f q qs x y (next here g.0) g.1
-
-  last_step : (f : FlowEntry) (before : List Place) (x y : Place) → GoesFromStart d f (before ++ x ∷ y ∷ []) → IsPlace d f x.channel x.deleted × GoesTo d f x y
-  last_step f [] x y g = (started f x g.0, g.1.0)
-  last_step f (p ∷ ps) x y g = goes_over f p ps x y (started f p g.0) g.1
-
   -- the flow of a cause goes on
   goes_on : (i : ℕ) (places : List Place) (c e : ℕ) → IsFlowCause d i places c e → GoesOn d i c e
   goes_on i places c e h =
       let x : Place = h.ends_on.last in
       let y : Place = h.ends_on.next in
       let g : GoesFromStart d h.flow (h.ends_on.before ++ x ∷ y ∷ []) = subst (λ (ps : List Place). GoesFromStart d h.flow ps) h.ends_on.listed h.goes in
-      let l = last_step h.flow h.ends_on.before x y g in
+      let l = last_step d h.flow h.ends_on.before x y g in
       (x, y, record { flow = h.flow; numbered = h.numbered; place = l.0; goes = l.1; from = h.ends_on.from; to = h.ends_on.to })
 
   -- a channel starts at one node

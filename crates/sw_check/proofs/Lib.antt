@@ -1,5 +1,6 @@
 pub mod Headline
 pub mod Lists
+pub mod ListedPlaces
 pub mod Ranks
 pub mod Ranged
 pub mod Leasts

@@ -35,7 +35,7 @@ module _ (d : Declaration) where
   goes_over f p [] x y here g = (next here g.0, g.1.0)
   goes_over f p (q ∷ qs) x y here g = goes_over f q qs x y (next here g.0) g.1
 
-  last_step : (f : FlowEntry) (before : List Place) (x y : Place) → GoesFromStart d f (before ++ x ∷ y ∷ []) → IsPlace d f x.channel x.deleted × GoesTo d f x y
+  pub last_step : (f : FlowEntry) (before : List Place) (x y : Place) → GoesFromStart d f (before ++ x ∷ y ∷ []) → IsPlace d f x.channel x.deleted × GoesTo d f x y
   last_step f [] x y g = (started f x g.0, g.1.0)
   last_step f (p ∷ ps) x y g = goes_over f p ps x y (started f p g.0) g.1
 
@@ -79,10 +79,10 @@ chain : (net : Network) (first e : ℕ) (es : List ℕ) → ((i : ℕ) → i < l
 chain net first e [] h = h 0 (omega arith)
 chain net first e (x ∷ xs) h = (h 0 (omega arith), chain net first x xs (λ i lt. h (suc i) (omega arith)))
 
-round_here : (xs : List ℕ) (i : ℕ) → i < length xs → round xs i ≡ get_or xs i 0
+pub round_here : (xs : List ℕ) (i : ℕ) → i < length xs → round xs i ≡ get_or xs i 0
 round_here xs i lt = ap (λ k. get_or xs k 0) (mod-eq_of_lt lt)
 
-round_next : (c : ℕ) (cs : List ℕ) (i : ℕ) → i < suc (length cs) → round (c ∷ cs) (i + 1) ≡ get_or (cs ++ c ∷ []) i 0
+pub round_next : (c : ℕ) (cs : List ℕ) (i : ℕ) → i < suc (length cs) → round (c ∷ cs) (i + 1) ≡ get_or (cs ++ c ∷ []) i 0
 round_next c cs i lt = by (cases_lt i (length cs))
   where
     by : (i < length cs) ⊎ (length cs ≤ i) → round (c ∷ cs) (i + 1) ≡ get_or (cs ++ c ∷ []) i 0

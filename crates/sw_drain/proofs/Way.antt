@@ -3,7 +3,9 @@ use Rattle.std.proofs.Common.{Bool, List, Ok, Some, [], ap, arith, false, length
 use Rattle.std.proofs.lemmas.Bool.{false≢true}
 use Rattle.std.proofs.lemmas.Option.{slice_get_within}
 use Rattle.std.specs.Prelude.{if◌then◌else◌, not, slice_get}
-use Rattle.sw_drain.proofs.Counts.{IsCounted, begin_counted, none_counted}
+use Rattle.sw_history.proofs.Adds.{begin_counted, none_counted}
+use Rattle.sw_history.proofs.Follows.{no_begin_next}
+use Rattle.sw_history.specs.History.{IsCounted}
 use Rattle.sw_drain.specs.Way.{HasBegun, HasMoved, IsNext, IsOnTheWay}
 use Rattle.sw_limit.proofs.Grown.{grows}
 use Rattle.sw_limit.specs.History.{BeginsNext, IsHistory, packets_at, packets_of}
@@ -15,19 +17,6 @@ use Rattle.sw_machine.specs.Steps.{Accept, Arrive, Begin, Drop, Emit, Fct, FctIn
 use Rattle.sw_model.specs.Model.{network_of}
 use Rattle.sw_net.specs.Net.{NetAnswers, NetView}
 use Rattle.sw_config.specs.Entries.{Declaration}
-
-no_begin_next : (net : Network) (packets : List Begun) (steps : List Step) (step : Step) → is_begin step ≡ false → BeginsNext net packets steps step
-no_begin_next net packets steps (Begin f cargo end) e = absurd (false≢true (sym e))
-no_begin_next net packets steps (Fct c) e = tt
-no_begin_next net packets steps (FctIn c) e = tt
-no_begin_next net packets steps (Arrive c) e = tt
-no_begin_next net packets steps (Grant d c) e = tt
-no_begin_next net packets steps (Drop c) e = tt
-no_begin_next net packets steps (Forward c) e = tt
-no_begin_next net packets steps (Spill c) e = tt
-no_begin_next net packets steps (Emit n) e = tt
-no_begin_next net packets steps (Accept n) e = tt
-no_begin_next net packets steps (Reply n) e = tt
 
 one_longer : (steps : List Step) (step : Step) (long : ℕ) → length steps ≡ long → length (steps ++ step ∷ []) ≡ long + 1
 one_longer steps step long e = let a = length-append steps (step ∷ []) in omega arith

@@ -1,5 +1,5 @@
 -- What a history keeps when a step is added.
-use Rattle.std.proofs.Common.{◌≡◌, ◌++◌, ◌+◌, ◌<◌, ◌∷◌, ◌∙◌, ⊎_elim, [], ℕ, List, None, Ok, Some, drop, length, map, set, take, refl, sym, ap, subst, arith, append-nil, length-append}
+use Rattle.std.proofs.Common.{◌≡◌, ◌++◌, ◌+◌, ◌<◌, ◌∷◌, ◌∙◌, ⊎_elim, [], ℕ, List, None, Ok, Some, drop, false, length, map, set, take, refl, sym, ap, subst, arith, append-nil, length-append}
 use Rattle.std.proofs.Math.ListN.{drop_of_length-le}
 use Rattle.std.proofs.lemmas.List.{map-append, take_all}
 use Rattle.std.specs.Prelude.{slice_get}
@@ -13,11 +13,25 @@ use Rattle.sw_limit.specs.History.{BeginsNext, packets_at, packets_of}
 use Rattle.sw_load.specs.Load.{LoadEntry}
 use Rattle.sw_machine.specs.Begun.{Begun, beginning, beginnings}
 use Rattle.sw_machine.specs.Network.{Network}
-use Rattle.sw_machine.specs.Steps.{Accept, Arrive, Begin, Drop, Emit, Fct, FctIn, Forward, Grant, Leads, Reply, Spill, Step}
+use Rattle.sw_machine.specs.Steps.{Accept, Arrive, Begin, Drop, Emit, Fct, FctIn, Forward, Grant, Leads, Reply, Spill, Step, is_begin}
 use Rattle.sw_model.specs.Model.{network_of}
 use Rattle.sw_net.specs.Net.{NetAnswers, NetView}
 use Rattle.sw_net.proofs.Steps.{get_set_other, get_set_same}
 use Rattle.sw_config.specs.Entries.{Declaration}
+
+-- a step that no node begins is no beginning
+pub no_beginner : (net : Network) (step : Step) → beginner_of net step ≡ None → is_begin step ≡ false
+no_beginner net (Begin f cargo end) h = absurd cc
+no_beginner net (Fct c) h = refl
+no_beginner net (FctIn c) h = refl
+no_beginner net (Arrive c) h = refl
+no_beginner net (Grant e c) h = refl
+no_beginner net (Drop c) h = refl
+no_beginner net (Forward c) h = refl
+no_beginner net (Spill c) h = refl
+no_beginner net (Emit m) h = refl
+no_beginner net (Accept m) h = refl
+no_beginner net (Reply m) h = refl
 
 module _ (d : Declaration) (steps : List Step) (begun : List ℕ) (counted : IsCounted d steps begun) where
   abbrev net : Network
@@ -29,7 +43,7 @@ module _ (d : Declaration) (steps : List Step) (begun : List ℕ) (counted : IsC
   counted_by : (step : Step) → ((n : ℕ) → packets_at net n (beginning step) ≡ []) → IsCounted d (steps ++ step ∷ []) begun
   counted_by step none n count h = counted n count h ∙ sym (nothing_more step n (none n))
 
-  pub none_counted : (step : Step) → beginner_of net step ≡ None → IsCounted d (steps ++ step ∷ []) begun
+  pub none_counted : (step : Step) → is_begin step ≡ false → IsCounted d (steps ++ step ∷ []) begun
   none_counted (Begin f cargo end) h = absurd cc
   none_counted (Fct c) h = counted_by (Fct c) (λ n. refl)
   none_counted (FctIn c) h = counted_by (FctIn c) (λ n. refl)
@@ -42,7 +56,7 @@ module _ (d : Declaration) (steps : List Step) (begun : List ℕ) (counted : IsC
   none_counted (Accept m) h = counted_by (Accept m) (λ n. refl)
   none_counted (Reply m) h = counted_by (Reply m) (λ n. refl)
 
-  begin_counted : (f : ℕ) (cargo : List ℕ) (end : End) (before : ℕ) → slice_get begun (net.flow f).from ≡ Some before → (net.flow f).from < length begun
+  pub begin_counted : (f : ℕ) (cargo : List ℕ) (end : End) (before : ℕ) → slice_get begun (net.flow f).from ≡ Some before → (net.flow f).from < length begun
       → IsCounted d (steps ++ Begin f cargo end ∷ []) (set begun (net.flow f).from (before + 1))
   begin_counted f cargo end before at lt n count h =
       let m = (net.flow f).from in

@@ -3,7 +3,7 @@ use Rattle.std.proofs.Common.{◌≡◌, ◌++◌, ◌+◌, ◌<◌, ◌≤◌, 
 use Rattle.std.specs.Prelude.{IfSome, nat_eq, slice_get, slice_index}
 use Rattle.std.proofs.lemmas.List.Sums.{count_by-le-length, length-filter}
 use Rattle.std.proofs.lemmas.Option.{slice_get-get_or, slice_get_within}
-use Rattle.sw_history.proofs.Adds.{none_counted, some_counted}
+use Rattle.sw_history.proofs.Adds.{no_beginner, none_counted, some_counted}
 use Rattle.sw_history.specs.History.{IsCounted}
 use Rattle.sw_history.specs.Makes.{counted_with}
 use Rattle.sw_history.specs.Next.{beginner_of}
@@ -50,7 +50,7 @@ module _ (d : Declaration) (load : List LoadEntry) (steps : List Step) (begun : 
       omega arith
 
   pub counted_more : (step : Step) (who : Option ℕ) (nodes : ℕ) → length begun ≡ nodes → who ≡ beginner_of (network_of d) step → IfSome who (λ n. n < nodes) → IsCounted d (steps ++ step ∷ []) (counted_with begun who)
-  counted_more step None nodes all is inside = none_counted d steps begun counted step (sym is)
+  counted_more step None nodes all is inside = none_counted d steps begun counted step (no_beginner (network_of d) step (sym is))
   counted_more step (Some n) nodes all is inside = some_counted d steps begun counted step n (slice_index begun n) (sym is) (slice_get-get_or begun n 0 (omega arith)) (omega arith)
 
 pub length-counted : (begun : List ℕ) (who : Option ℕ) → length (counted_with begun who) ≡ length begun

@@ -1,5 +1,5 @@
 -- What may follow a history.
-use Rattle.std.proofs.Common.{◌≡◌, ◌++◌, ◌∷◌, ◌∙◌, [], ℕ, List, Some, length, refl, sym, ap, subst}
+use Rattle.std.proofs.Common.{◌≡◌, ◌++◌, ◌∷◌, ◌∙◌, [], ℕ, List, Some, false, length, refl, sym, ap, subst}
 use Rattle.std.specs.Prelude.{slice_get}
 use Rattle.sw_history.specs.Laws.{FollowsWherePossible, OneStateAfter}
 use Rattle.sw_limit.proofs.Grown.{begun_at_last, grows, its_own}
@@ -9,7 +9,7 @@ use Rattle.sw_machine.specs.Begun.{Begun, beginnings}
 use Rattle.sw_machine.specs.Network.{Network}
 use Rattle.sw_machine.specs.Runs.{Run}
 use Rattle.sw_machine.specs.State.{State, empty}
-use Rattle.sw_machine.specs.Steps.{Accept, Arrive, Begin, Drop, Emit, Fct, FctIn, Forward, Grant, IsPossible, Leads, Reply, Spill, Step}
+use Rattle.sw_machine.specs.Steps.{Accept, Arrive, Begin, Drop, Emit, Fct, FctIn, Forward, Grant, IsPossible, Leads, Reply, Spill, Step, is_begin}
 
 run_determined : (net : Network) (steps : List Step) (s t u : State) → Run net s steps t → Run net s steps u → u ≡ t
 run_determined net [] s t u r q = q ∙ sym r
@@ -65,3 +65,17 @@ follows_where_possible net packets steps s h step = (
   λ may. (possible_of net packets steps s h step may.0 may.1, next_of net packets steps s h step may.0 may.1),
   λ is. (is.0.0, grows net packets steps s h step is.0.0 is.0.1 is.1),
 )
+
+-- a step that begins no packet asks for nothing of the packets
+pub no_begin_next : (net : Network) (packets : List Begun) (steps : List Step) (step : Step) → is_begin step ≡ false → BeginsNext net packets steps step
+no_begin_next net packets steps (Begin f cargo end) h = absurd cc
+no_begin_next net packets steps (Fct c) h = tt
+no_begin_next net packets steps (FctIn c) h = tt
+no_begin_next net packets steps (Arrive c) h = tt
+no_begin_next net packets steps (Grant e c) h = tt
+no_begin_next net packets steps (Drop c) h = tt
+no_begin_next net packets steps (Forward c) h = tt
+no_begin_next net packets steps (Spill c) h = tt
+no_begin_next net packets steps (Emit m) h = tt
+no_begin_next net packets steps (Accept m) h = tt
+no_begin_next net packets steps (Reply m) h = tt

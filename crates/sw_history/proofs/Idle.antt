@@ -7,7 +7,7 @@ use Rattle.std.proofs.lemmas.List.Concat.{flat_map-cons}
 use Rattle.std.proofs.lemmas.Option.{get_or_from_slice_get, slice_get_within}
 use Rattle.sw_cell.specs.Makes.{IsDeclaredAt}
 use Rattle.sw_cell.specs.Possible.{CanStepAt}
-use Rattle.sw_history.proofs.Follows.{follows_where_possible}
+use Rattle.sw_history.proofs.Follows.{follows_where_possible, no_begin_next}
 use Rattle.sw_history.specs.History.{HistoryView, IsKept, IsNext, IsNextAt}
 use Rattle.sw_history.specs.Next.{BeginsOne, begin_of, IsIdle}
 use Rattle.sw_limit.specs.History.{BeginsNext, next_packet, packet_of, packets_at, packets_of}
@@ -78,19 +78,6 @@ none_mapped f P None m e none = none (sym e)
 none_mapped f P (Some x) m e none = tt
 
 -- ---- what may follow
-
-no_begin_next : (net : Network) (packets : List Begun) (steps : List Step) (step : Step) → is_begin step ≡ false → BeginsNext net packets steps step
-no_begin_next net packets steps (Begin f cargo end) h = absurd cc
-no_begin_next net packets steps (Fct c) h = tt
-no_begin_next net packets steps (FctIn c) h = tt
-no_begin_next net packets steps (Arrive c) h = tt
-no_begin_next net packets steps (Grant e c) h = tt
-no_begin_next net packets steps (Drop c) h = tt
-no_begin_next net packets steps (Forward c) h = tt
-no_begin_next net packets steps (Spill c) h = tt
-no_begin_next net packets steps (Emit m) h = tt
-no_begin_next net packets steps (Accept m) h = tt
-no_begin_next net packets steps (Reply m) h = tt
 
 -- whether a node begins a packet, by the packet
 pub begins_by : (h : HistoryView) (n : ℕ) {X : Type 0} (f : X → Begun) (o : Option X) → IfSome o (λ x. IsNext h (begin_of (f x))) → IfSome o (λ x. ((network_of h.declared).flow (f x).flow).from ≡ n)

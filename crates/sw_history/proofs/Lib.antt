@@ -1,5 +1,5 @@
 pub mod Follows
-mod Adds
+pub mod Adds
 mod Counts
 mod Idle
 mod Kept

@@ -4,7 +4,7 @@ use Rattle.atomic_table.specs.Table.{Me}
 use Rattle.std.proofs.lemmas.Bool.{eq-eqb, false≢true, ne_eqb}
 use Rattle.std.proofs.lemmas.List.{length-set}
 use Rattle.std.specs.Prelude.{nat_eq, slice_get, slice_set}
-use Rattle.sw_history.proofs.Follows.{follows_where_possible}
+use Rattle.sw_history.proofs.Follows.{follows_where_possible, no_begin_next}
 use Rattle.sw_history.specs.Next.{IsIdle, MayFollow}
 use Rattle.sw_journal.proofs.Commit.{possible_of}
 use Rattle.sw_journal.specs.Asked.{IsStill, IsStuck, IsUndelivered}
@@ -83,19 +83,6 @@ kept_mark j me e place count is idle there now =
 
 -- ---- a journal that is stuck
 
-begins_none : (net : Network) (packets : List Begun) (steps : List Step) (step : Step) → is_begin step ≡ false → BeginsNext net packets steps step
-begins_none net packets steps (Begin f cargo end) e = absurd cc
-begins_none net packets steps (Fct c) e = tt
-begins_none net packets steps (FctIn c) e = tt
-begins_none net packets steps (Arrive c) e = tt
-begins_none net packets steps (Grant d c) e = tt
-begins_none net packets steps (Drop c) e = tt
-begins_none net packets steps (Forward c) e = tt
-begins_none net packets steps (Spill c) e = tt
-begins_none net packets steps (Emit n) e = tt
-begins_none net packets steps (Accept n) e = tt
-begins_none net packets steps (Reply n) e = tt
-
 some_left : (r : ℕ) → (r ≡ 0 → ⊥) → 0 < r
 some_left zero apart = absurd (apart refl)
 some_left (suc r) apart = omega arith
@@ -110,7 +97,7 @@ pub stuck_by : (j : JournalView) (count : ℕ) → IsUndelivered j count → (co
 stuck_by j count left some still = record {
   still = still;
   locked_up = λ s leads. record {
-    quiet = λ step none p. still step ((follows_where_possible (network_of j.declared) (packets_of j.load) j.history s leads step).1 (p, begins_none (network_of j.declared) (packets_of j.load) j.history step none));
+    quiet = λ step none p. still step ((follows_where_possible (network_of j.declared) (packets_of j.load) j.history s leads step).1 (p, no_begin_next (network_of j.declared) (packets_of j.load) j.history step none));
     holds = (let here = left s leads in let lt = some_left count some in omega (arith, here, lt));
   };
 }

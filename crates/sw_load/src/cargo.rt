@@ -29,8 +29,8 @@ fn hex_value(c: u8) -> Option<u8>
     }
 }
 
-/// The byte that two hexadecimal digits write.
-fn hex_pair(high: u8, low: u8) -> Option<u8>
+/// The byte that two hexadecimal digits write, in either case.
+pub fn hex_pair(high: u8, low: u8) -> Option<u8>
     ensures { result ≡ hex_pair high low }
 {
     let high = hex_value(high)?;
@@ -65,8 +65,8 @@ fn is_well_begun(digits: &[u8]) -> bool
     }
 }
 
-/// How many times a pair stands, by the digits behind `*`.
-fn count_of(text: &[u8]) -> Option<u16>
+/// How many times a pair stands, 1 to 4,096, by the digits behind `*`.
+pub fn count_of(text: &[u8]) -> Option<u16>
     ensures value { result ≡ count_of text.now }
     ensures few { IfSome result (λ n. n ≤ 4096) }
 {
@@ -100,7 +100,12 @@ fn pairs(alloc: Global, text: &[u8]) -> Result<Option<Vec<u8>>, AllocError>
     }
 }
 
-fn pairs_of(alloc: Global, text: &[u8]) -> Result<Option<Vec<u8>>, AllocError>
+/// The bytes whose pairs the text is: 1 to 4,096 of them, each two hexadecimal digits.
+///
+/// # Errors
+///
+/// There is no memory for the bytes.
+pub fn pairs_of(alloc: Global, text: &[u8]) -> Result<Option<Vec<u8>>, AllocError>
     ensures { IfOk result (λ o. option_map (λ v. v.items) o ≡ pairs_of text.now) }
 {
     match pairs(alloc, text)? {

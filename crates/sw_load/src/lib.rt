@@ -6,5 +6,6 @@ pub mod laws;
 mod load;
 mod reading;
 
+pub use cargo::{count_of, hex_pair, pairs_of};
 pub use load::{Load, LoadPacket, MAX_PACKETS};
 pub use reading::read_load;

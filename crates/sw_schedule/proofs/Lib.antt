@@ -1,4 +1,3 @@
-mod Pairs
 mod Named
 mod Reading
 mod Parts

@@ -1,32 +1,13 @@
 -- The channels of a shown cycle, one after the other.
 use Rattle.std.proofs.Common.{◌≡◌, ℕ, zero, suc, ◌+◌, ◌%◌, ◌<◌, ◌≤◌, ◌⊎◌, List, [], ◌∷◌, ◌++◌, length, get_or, sym, ap, ◌∙◌, subst, inl, inr, arith}
-use Rattle.std.proofs.Math.Nat.{mod-eq_of_lt, mod_self}
-use Rattle.std.proofs.lemmas.Bool.{cases_lt}
-use Rattle.std.proofs.lemmas.List.{get_or_append_left, get_or_push}
 use Rattle.sw_config.specs.Entries.{Declaration}
 use Rattle.sw_graph.specs.Cycles.{IsShownCycle}
 use Rattle.sw_graph.specs.Laws.{IsChain, IsCycle}
 use Rattle.sw_graph.proofs.Rings.{shown_is_cycle}
+use Rattle.sw_cycle.proofs.Shown.{round_here, round_next}
 use Rattle.sw_cycle.specs.Cycles.{round}
 use Rattle.sw_cycle.specs.Causes.{IsRound}
 use Rattle.sw_search.specs.Verdicts.{depends}
-
-round_here : (xs : List ℕ) (i : ℕ) → i < length xs → round xs i ≡ get_or xs i 0
-round_here xs i lt = ap (λ k. get_or xs k 0) (mod-eq_of_lt lt)
-
-round_next : (c : ℕ) (cs : List ℕ) (i : ℕ) → i < suc (length cs) → round (c ∷ cs) (i + 1) ≡ get_or (cs ++ c ∷ []) i 0
-round_next c cs i lt = by (cases_lt i (length cs))
-  where
-    by : (i < length cs) ⊎ (length cs ≤ i) → round (c ∷ cs) (i + 1) ≡ get_or (cs ++ c ∷ []) i 0
-    by (inl here) =
-        let more : i + 1 < suc (length cs) = omega arith in
-        let at : (i + 1) % suc (length cs) ≡ suc i = mod-eq_of_lt more ∙ omega arith in
-        ap (λ k. get_or (c ∷ cs) k 0) at ∙ sym (get_or_append_left cs (c ∷ []) 0 i here)
-    by (inr past) =
-        let end : length cs ≡ i = omega arith in
-        let all : i + 1 ≡ suc (length cs) = omega arith in
-        let at : (i + 1) % suc (length cs) ≡ 0 = ap (λ k. k % suc (length cs)) all ∙ mod_self (suc (length cs)) in
-        ap (λ k. get_or (c ∷ cs) k 0) at ∙ sym (get_or_push cs c 0 i end)
 
 module _ (dep : ℕ → ℕ → Type 0) where
   step_at : (c : ℕ) (cs : List ℕ) (e : ℕ) → IsChain dep c cs e → (i : ℕ) → i < suc (length cs) → dep (get_or (c ∷ cs) i 0) (get_or (cs ++ e ∷ []) i 0)

@@ -27,13 +27,20 @@ fn small<R: Print + AllocGlobal>(rt: &R) -> Result<()> {
     Ok(())
 }
 
-/// A network, and what is read and found for it.
-fn large<R: Print + AllocGlobal + Threads + Wait + Sync>(rt: &R) -> Result<()> {
+/// What is read and found for a network.
+fn found<R: Print + AllocGlobal + Threads + Wait + Sync>(rt: &R, network: &Network) -> Result<()> {
     let alloc = rt.alloc();
-    let network = flows::network(alloc)?;
-    println!(rt; "places {}", flows::route(alloc, &network, 1)?)?;
-    println!(rt; "schedule of {}", texts::schedule(alloc, &network)?)?;
-    loaded(rt, &network)
+    println!(rt; "places {}", flows::route(alloc, network, 1)?)?;
+    println!(rt; "schedule of {}", texts::schedule(alloc, network)?)?;
+    loaded(rt, network)
+}
+
+// Owns the network at no `?`: each costs the proof a path more that drops it.
+fn large<R: Print + AllocGlobal + Threads + Wait + Sync>(rt: &R) -> Result<()> {
+    match flows::network(rt.alloc()) {
+        Ok(network) => found(rt, &network),
+        Err(refused) => Err(refused),
+    }
 }
 
 /// What is done for a load.

@@ -7,6 +7,7 @@ use anyhow::{Result, bail, ensure};
 use std::alloc::{AllocError, Global};
 use sw_arb::Policy;
 use sw_cell::NetFault;
+use sw_config::Network;
 use sw_model::Step;
 use sw_net::{Net, SwitchRoutes};
 use sw_schedule::ScheduleEntry;
@@ -56,11 +57,27 @@ fn make_all(alloc: Global, net: &mut Core<'_>, entries: &[ScheduleEntry]) -> Res
     Ok(())
 }
 
+fn undelivered_after(alloc: Global, net: &mut Core<'_>, entries: &[ScheduleEntry]) -> Result<u64> {
+    make_all(alloc, net, entries)?;
+    Ok(net.undelivered())
+}
+
+fn undelivered_on(alloc: Global, network: &Network, entries: &[ScheduleEntry]) -> Result<u64> {
+    let mut net = empty_net(alloc, network)?;
+    undelivered_after(alloc, &mut net, entries)
+}
+
+fn undelivered(alloc: Global, network: &Network) -> Result<u64> {
+    match read_schedule(alloc, network, SCHEDULE) {
+        Ok(schedule) => undelivered_on(alloc, network, schedule.entries()),
+        Err(refused) => Err(refused),
+    }
+}
+
 /// How many characters are undelivered after a command was taken: those of its reply.
 pub fn answered(alloc: Global) -> Result<u64> {
-    let network = read(alloc, FILE)?;
-    let schedule = read_schedule(alloc, &network, SCHEDULE)?;
-    let mut net = empty_net(alloc, &network)?;
-    make_all(alloc, &mut net, schedule.entries())?;
-    Ok(net.undelivered())
+    match read(alloc, FILE) {
+        Ok(network) => undelivered(alloc, &network),
+        Err(refused) => Err(refused),
+    }
 }
