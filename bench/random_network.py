@@ -9,10 +9,10 @@ PORTS = 20
 class Draft:
     """A network in the making, by one random generator."""
 
-    def __init__(self, random):
+    def __init__(self, random, nodes, switches):
         self.random = random
-        self.nodes = [(f"N{i}", random.random() < 0.5) for i in range(random.randint(2, 6))]
-        self.switches = [(f"S{i}", {}) for i in range(random.randint(1, 5))]
+        self.nodes = [(f"N{i}", random.random() < 0.5) for i in range(random.randint(2, nodes))]
+        self.switches = [(f"S{i}", {}) for i in range(random.randint(1, switches))]
         self.free = [random.sample(range(32), PORTS) for _ in self.switches]
         self.links = []
 
@@ -127,9 +127,10 @@ class Draft:
         return {"name": f"f{number}", "source": source, "target": target, "address": address, "left": left, "reply": reply}
 
 
-def random_network(random):
-    draft = Draft(random)
+def random_network(random, nodes=6, switches=5, flows=7):
+    """A network of at most so many parts."""
+    draft = Draft(random, nodes, switches)
     draft.wire()
     draft.add_tables()
-    flows = [draft.flow(number) for number in range(random.randint(0, 7))]
+    flows = [draft.flow(number) for number in range(random.randint(0, flows))]
     return Network(draft.nodes, draft.switches, draft.links, flows)
