@@ -1,6 +1,6 @@
 -- What is written with status 0 is an accepted certificate of a network that never locks up.
 use Rattle.std.proofs.Common.{◌≡◌, ◌∙◌, ℕ, ◌≤◌, List, [], ◌∷◌, arith, length, subst, sym}
-use Rattle.std.specs.Prelude.{IfSome, None, Option, Some}
+use Rattle.std.specs.Prelude.{Option}
 use Rattle.std.specs.Io.KnownBytes.{Appends}
 use Rattle.std.specs.List.{AllByRecursion, AllZip}
 use Rattle.std.proofs.lemmas.List.Elements.{recursion_from_All}
@@ -75,9 +75,8 @@ unread_not_zero TooLong old new ended is zero = not_zero old new _ 3 ended (λ b
 unread_not_zero Memory old new ended is zero = memory_not_zero old new ended is zero
 unread_not_zero Failed old new ended is zero = let bad : ReadFailed ≡ Status 0 = sym is.0 ∙ zero in cc
 
-pub writes_accepted : (input old new : Option (List ℕ)) (read text : List ℕ) (status : ℕ) (ended : Ended) → IfSome input (λ bytes. read ≡ bytes)
-    → (status ≡ 0 → AreShownFree read text) → IsTold old new text status ended → ended ≡ Status 0 → IfSome input (λ bytes. WritesAccepted bytes old new)
-writes_accepted None old new read text status ended whole shown is zero = tt
-writes_accepted (Some bytes) old new read text status ended whole shown is zero =
+pub writes_accepted : (old new : Option (List ℕ)) (read text : List ℕ) (status : ℕ) (ended : Ended) → (status ≡ 0 → AreShownFree read text)
+    → IsTold old new text status ended → ended ≡ Status 0 → WritesAccepted read old new
+writes_accepted old new read text status ended shown is zero =
     let told = told_zero old new text status ended is zero in
-    (text, subst (λ (b : List ℕ). AreShownFree b text) whole (shown told.0), told.1)
+    (text, shown told.0, told.1)

@@ -7,12 +7,12 @@ use Rattle.sw_cert.specs.Reading.{State}
 use Rattle.sw_cert.specs.Text as certificate
 use Rattle.sw_cert.specs.Text.{Contents, contents_of, read_text}
 use Rattle.sw_machine.specs.Certificate.{IsAccepted}
-use Rattle.sw_machine.specs.Headline.{IsDeadlockFree}
+use Rattle.sw_machine.specs.DeadlockFreedom.{IsDeadlockFree}
 use Rattle.sw_model.specs.Model.{network_of}
 use Rattle.sw_check.specs.declared.refusal.Refusal.{Refusal}
 use Rattle.sw_check.specs.Contents.{certificate_of}
 use Rattle.sw_check.specs.Refusals.{refusal_of}
-use Rattle.sw_command.specs.Ends.{Answers, IfLimited, Says}
+use Rattle.sw_command.specs.Ends.{Answers, GivesAll, IfLimited, Says}
 use Rattle.sw_command.specs.FaultTexts.{fault_text}
 use Rattle.sw_output.specs.Lines.{line}
 use Rattle.sw_app.specs.CheckTexts.{accepted_line, grammar_line, refusal_line}
@@ -48,3 +48,9 @@ pub record AreShownFree (bytes others : List ℕ) : Type 0 where
   pub network : Declaration
   pub declared : network_text bytes ≡ Ok network
   pub shown : IsShownFree network others
+
+-- both readers were read to their ends, the first gave a network file, and the second a certificate file that shows that the network
+-- never locks up
+abbrev pub ChecksFree : Option (List ℕ) → Option (List ℕ) → Option (List ℕ) → Option (List ℕ) → Type 0
+ChecksFree first first_after second second_after =
+    (bytes : List ℕ) × GivesAll first first_after bytes × ((others : List ℕ) × GivesAll second second_after others × AreShownFree bytes others)

@@ -3,7 +3,7 @@ ghost use Rattle.std.specs.Prelude.{◌≡◌, IfOk, IsSomeAnd, string_bytes};
 ghost use Rattle.sw_file.specs.Network.{network_text};
 ghost use Rattle.sw_cert.specs.Text.{read_text};
 ghost use Rattle.sw_machine.specs.Certificate.{IsAccepted};
-ghost use Rattle.sw_machine.specs.Headline.{IsDeadlockFree};
+ghost use Rattle.sw_machine.specs.DeadlockFreedom.{IsDeadlockFree};
 ghost use Rattle.sw_model.specs.Model.{network_of};
 ghost use Rattle.sw_check.specs.Contents.{certificate_of};
 ghost use Rattle.sw_check.specs.Refusals.{refusal_of};
@@ -17,6 +17,7 @@ use std::alloc::{AllocError, Global};
 use std::thread::Threads;
 use sw_cert::{Certificate, CertificateFault};
 use sw_check::check;
+use sw_command::statuses::{BAD, GOOD};
 use sw_command::{Answer, InputText};
 use sw_config::Network;
 use sw_file::read_network;
@@ -37,11 +38,11 @@ fn judgement<R: Threads + Sync>(
     match check(rt, network, certificate) {
         Ok(_) => {
             let text = String::from_str(alloc, "accepted\n")?;
-            Ok(Answer { text, status: 0 })
+            Ok(Answer { text, status: GOOD })
         }
         Err(refusal) => {
             let text = refusal_line(alloc, network, refusal)?;
-            Ok(Answer { text, status: 1 })
+            Ok(Answer { text, status: BAD })
         }
     }
 }
@@ -60,7 +61,7 @@ fn certificate_answer<R: Threads + Sync>(
         Ok(certificate) => judgement(rt, alloc, network, &certificate),
         Err(CertificateFault::Grammar(number)) => {
             let text = grammar_line(alloc, number)?;
-            Ok(Answer { text, status: 1 })
+            Ok(Answer { text, status: BAD })
         }
         Err(CertificateFault::Memory) => Err(AllocError),
     }

@@ -1,9 +1,9 @@
 //! The engines: each reads its texts whole, and writes one text.
-ghost use Rattle.std.specs.Prelude.{◌≡◌, IfSome};
-ghost use Rattle.sw_app.specs.CheckAnswers.{AreShownFree, IsCheckAnswer};
+ghost use Rattle.std.specs.Prelude.{◌≡◌};
+ghost use Rattle.sw_app.specs.CheckAnswers.{ChecksFree, IsCheckAnswer};
 ghost use Rattle.sw_command.specs.Ends.{AreReadInOrder, EndsBy, EndsByTwo};
 ghost use Rattle.sw_app.specs.RouteAnswers.{IsRouteAnswer};
-ghost use Rattle.sw_app.specs.VerdictAnswers.{IsDecideAnswer, IsReportAnswer, WritesAccepted};
+ghost use Rattle.sw_app.specs.VerdictAnswers.{DecidesFree, IsDecideAnswer, IsReportAnswer};
 
 use crate::check_answer::check_answer;
 use crate::endings::{tell_answer, tell_byte_answer};
@@ -19,7 +19,7 @@ use sw_text::read_whole;
 ///
 /// `flow` is the name of a declared flow, or that of its replies.
 pub fn route<R: Read, W: Write>(alloc: Global, reader: &mut R, flow: &str, writer: &mut W) -> Ended
-    ensures { EndsBy (IsRouteAnswer flow.now) (R.remaining reader.old) (W.contents writer.old) (W.contents writer.new) result }
+    ensures { EndsBy (IsRouteAnswer flow.now) (R.remaining reader.old) (R.remaining reader.new) (W.contents writer.old) (W.contents writer.new) result }
 {
     let input = match read_whole(alloc, reader, MAX_TEXT) {
         Ok(input) => input,
@@ -37,9 +37,9 @@ pub fn check<T: Threads + Sync, N: Read, C: Read, W: Write>(
     certificate: &mut C,
     writer: &mut W,
 ) -> Ended
-    ensures answer { EndsByTwo IsCheckAnswer (N.remaining network.old) (C.remaining certificate.old) (W.contents writer.old) (W.contents writer.new) result }
+    ensures answer { EndsByTwo IsCheckAnswer (N.remaining network.old) (N.remaining network.new) (C.remaining certificate.old) (C.remaining certificate.new) (W.contents writer.old) (W.contents writer.new) result }
     ensures order { AreReadInOrder (N.remaining network.old) (N.remaining network.new) (C.remaining certificate.old) (C.remaining certificate.new) }
-    ensures shown { result ≡ Ended.Status 0 → IfSome (N.remaining network.old) (λ bytes. IfSome (C.remaining certificate.old) (AreShownFree bytes)) }
+    ensures shown { result ≡ Ended.Status 0 → ChecksFree (N.remaining network.old) (N.remaining network.new) (C.remaining certificate.old) (C.remaining certificate.new) }
 {
     let (first, second) = match read_two(alloc, network, certificate) {
         Ok(inputs) => inputs,
@@ -57,8 +57,8 @@ pub fn decide<T: Threads + Sync, R: Read, W: Write>(
     reader: &mut R,
     writer: &mut W,
 ) -> Ended
-    ensures answer { EndsBy IsDecideAnswer (R.remaining reader.old) (W.contents writer.old) (W.contents writer.new) result }
-    ensures shown { result ≡ Ended.Status 0 → IfSome (R.remaining reader.old) (λ bytes. WritesAccepted bytes (W.contents writer.old) (W.contents writer.new)) }
+    ensures answer { EndsBy IsDecideAnswer (R.remaining reader.old) (R.remaining reader.new) (W.contents writer.old) (W.contents writer.new) result }
+    ensures shown { result ≡ Ended.Status 0 → DecidesFree (R.remaining reader.old) (R.remaining reader.new) (W.contents writer.old) (W.contents writer.new) }
 {
     let input = match read_whole(alloc, reader, MAX_TEXT) {
         Ok(input) => input,
@@ -75,7 +75,7 @@ pub fn report<T: Threads + Sync, R: Read, W: Write>(
     reader: &mut R,
     writer: &mut W,
 ) -> Ended
-    ensures { EndsBy IsReportAnswer (R.remaining reader.old) (W.contents writer.old) (W.contents writer.new) result }
+    ensures { EndsBy IsReportAnswer (R.remaining reader.old) (R.remaining reader.new) (W.contents writer.old) (W.contents writer.new) result }
 {
     let input = match read_whole(alloc, reader, MAX_TEXT) {
         Ok(input) => input,

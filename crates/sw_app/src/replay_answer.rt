@@ -9,6 +9,7 @@ ghost use Rattle.sw_app.specs.ReplayAnswers.{IsReplayAnswer, IsReplayOf, IsSched
 use crate::endings::fault_answer;
 use crate::replay_texts::{replay_status, replay_text};
 use std::alloc::{AllocError, Global};
+use sw_command::statuses::FAULTY;
 use sw_command::{Answer, InputText};
 use sw_config::Network;
 use sw_file::read_network;
@@ -30,7 +31,10 @@ fn bad_line_answer(alloc: Global, number: u64) -> Result<Answer, AllocError>
     ensures { IfOk result (λ a. Says (bad_line number) 3 (string_bytes a.text) a.status) }
 {
     let text = format!(in alloc; "fault S1 BadLine {number}\n")?;
-    Ok(Answer { text, status: 3 })
+    Ok(Answer {
+        text,
+        status: FAULTY,
+    })
 }
 
 // The answer for the text of a schedule.

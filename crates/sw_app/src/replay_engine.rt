@@ -17,7 +17,7 @@ pub fn replay<N: Read, S: Read, W: Write>(
     schedule: &mut S,
     writer: &mut W,
 ) -> Ended
-    ensures answer { EndsByTwo IsReplayAnswer (N.remaining network.old) (S.remaining schedule.old) (W.contents writer.old) (W.contents writer.new) result }
+    ensures answer { EndsByTwo IsReplayAnswer (N.remaining network.old) (N.remaining network.new) (S.remaining schedule.old) (S.remaining schedule.new) (W.contents writer.old) (W.contents writer.new) result }
     ensures order { AreReadInOrder (N.remaining network.old) (N.remaining network.new) (S.remaining schedule.old) (S.remaining schedule.new) }
 {
     let (first, second) = match read_two(alloc, network, schedule) {

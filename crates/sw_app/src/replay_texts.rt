@@ -4,6 +4,7 @@ ghost use Rattle.sw_replay.specs.Reports.{report_of};
 ghost use Rattle.sw_app.specs.ReplayTexts.{made_line, refusal_text, replay_status, replay_text, state_lines, stuck_line};
 
 use std::alloc::{AllocError, Global};
+use sw_command::statuses::{BAD, GOOD, LOCKED_UP};
 use sw_config::Network;
 use sw_output::{all_node_lines, all_packet_lines, undelivered_line};
 use sw_replay::{ReplayEnd, Replayed, StepRefusal};
@@ -70,7 +71,7 @@ pub(crate) fn replay_status(replayed: &Replayed) -> u8
     ensures { result ≡ replay_status replayed.now.outcome replayed.now.stuck }
 {
     match replayed.outcome {
-        ReplayEnd::Refused(_, _) => 1,
-        ReplayEnd::Made(_) => { if replayed.stuck { 4 } else { 0 } }
+        ReplayEnd::Refused(_, _) => BAD,
+        ReplayEnd::Made(_) => { if replayed.stuck { LOCKED_UP } else { GOOD } }
     }
 }

@@ -8,6 +8,7 @@ use crate::endings::fault_answer;
 use crate::route_texts::route_text;
 use std::alloc::{AllocError, Global};
 use sw_command::Answer;
+use sw_command::statuses::{BAD, FAULTY, GOOD};
 use sw_config::Network;
 use sw_file::read_network;
 use sw_flow::{Place, RouteFault, first_fault, places};
@@ -16,8 +17,8 @@ fn status_of(fault: &Option<(Place, RouteFault)>) -> u8
     ensures { result ≡ outcome_status fault.now }
 {
     match fault {
-        None => 0,
-        Some(_) => 1,
+        None => GOOD,
+        Some(_) => BAD,
     }
 }
 
@@ -43,7 +44,10 @@ fn named_answer(alloc: Global, network: &Network, name: &str) -> Result<Answer, 
         Some(number) => flow_answer(alloc, network, number),
         None => {
             let text = String::from_str(alloc, "fault F7 UnknownName argument\n")?;
-            Ok(Answer { text, status: 3 })
+            Ok(Answer {
+                text,
+                status: FAULTY,
+            })
         }
     }
 }

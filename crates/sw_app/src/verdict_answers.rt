@@ -7,6 +7,7 @@ use crate::endings::fault_answer;
 use crate::verdict_texts::{verdict_status, verdict_text, verdict_words};
 use std::alloc::{AllocError, Global};
 use std::thread::Threads;
+use sw_command::statuses::GOOD;
 use sw_command::{Answer, ByteAnswer};
 use sw_config::Network;
 use sw_file::read_network;
@@ -65,7 +66,7 @@ fn told_findings(
         findings.dependencies,
         words.as_str(),
     )?;
-    Ok(Answer { text, status: 0 })
+    Ok(Answer { text, status: GOOD })
 }
 
 // The answer of `report` to a network.

@@ -8,7 +8,9 @@ ghost use Rattle.sw_output.specs.VerdictTexts.{cycle_text};
 ghost use Rattle.sw_app.specs.VerdictAnswers.{SaysCertificate, verdict_status, verdict_text, verdict_words};
 
 use std::alloc::{AllocError, Global};
-use sw_cert::{Certificate, one_text};
+use sw_cert::Certificate;
+use sw_cert::laws::one_text;
+use sw_command::statuses::{BAD, GOOD};
 use sw_config::Network;
 use sw_cycle::Cycle;
 use sw_output::{cycle_text, cyclic_words, free_words, misrouted_text, misrouted_words};
@@ -72,8 +74,8 @@ pub(crate) fn verdict_status(verdict: &Verdict) -> u8
     ensures { result ≡ verdict_status verdict.now }
 {
     match verdict {
-        Verdict::Misrouted(_, _, _) | Verdict::Cyclic(_) => 1,
-        Verdict::Free(_) => 0,
+        Verdict::Misrouted(_, _, _) | Verdict::Cyclic(_) => BAD,
+        Verdict::Free(_) => GOOD,
     }
 }
 

@@ -23,7 +23,7 @@ pub fn run<N: Read, L: Read, W: Write, G: Gate + Sync, T: Threads + Wait + Sync>
     gate: &G,
 ) -> Ended
     requires { 0 < options.workers }
-    ensures answer { EndsByTwo (IsRunAnswer options.limit) (N.remaining network.old) (L.remaining load.old) (W.contents writer.old) (W.contents writer.new) result }
+    ensures answer { EndsByTwo (IsRunAnswer options.limit) (N.remaining network.old) (N.remaining network.new) (L.remaining load.old) (L.remaining load.new) (W.contents writer.old) (W.contents writer.new) result }
     ensures order { AreReadInOrder (N.remaining network.old) (N.remaining network.new) (L.remaining load.old) (L.remaining load.new) }
 {
     let (first, second) = match read_two(alloc, network, load) {

@@ -3,6 +3,7 @@ ghost use Rattle.std.specs.Prelude.{◌≡◌, IfOk, length, map, string_bytes};
 ghost use Rattle.sw_app_run.specs.RunTexts.{outcome_text, stop_status, stop_word};
 
 use std::alloc::{AllocError, Global};
+use sw_command::statuses::{GOOD, LOCKED_UP, NO_ROOM};
 use sw_config::Network;
 use sw_output::sent_text;
 use sw_run::{Outcome, Stop};
@@ -23,9 +24,9 @@ pub(crate) fn stop_status(stop: Stop) -> u8
     ensures { result ≡ stop_status stop }
 {
     match stop {
-        Stop::Drained => 0,
-        Stop::Stuck => 4,
-        Stop::JournalFull | Stop::Memory => 5,
+        Stop::Drained => GOOD,
+        Stop::Stuck => LOCKED_UP,
+        Stop::JournalFull | Stop::Memory => NO_ROOM,
     }
 }
 

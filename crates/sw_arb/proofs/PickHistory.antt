@@ -3,7 +3,7 @@ use Rattle.std.specs.Prelude.{IsBitSet, count_ones, nat_lt, if◌then◌else◌}
 use Rattle.std.proofs.Common.{◌≡◌, ◌≢◌, inl, inr, ℕ, ◌-◌, ◌<◌, ◌≤◌, List, [], ◌∷◌, length, refl, sym, ap, arith, eq-eqb, ne_eqb}
 use Rattle.std.proofs.lemmas.Bool.{cases_eq, cases_lt, lt-ltb, le-ltb}
 use Rattle.sw_arb.specs.PortCounts.{ports_below-rises}
-use Rattle.sw_arb.specs.LongestAgo.{rank, last_picked, IsLongerAgo, HasPicked, nothing, more, LongestAgoIsPicked, least_recent_below}
+use Rattle.sw_arb.specs.LeastRecent.{rank, last_picked, IsLongerAgo, HasPicked, nothing, more, LongestAgoIsPicked, least_recent_below}
 use Rattle.sw_arb.specs.declared.least_recent.LeastRecent.{LeastRecent}
 
 last_picked-le : (picks : List ℕ) (port : ℕ) → last_picked picks port ≤ length picks

@@ -1,8 +1,8 @@
 -- One of the three policies.
 use Rattle.std.specs.Prelude.{◌≡◌, ℕ, IsBitSet}
-use Rattle.sw_arb.specs.Lowest.{FixedPicks, fixed_picks_asking, fixed_keeps_ports}
-use Rattle.sw_arb.specs.InTurn.{RoundRobinPicks, round_robin_picks_asking, round_robin_keeps_ports}
-use Rattle.sw_arb.specs.LongestAgo.{LeastRecentPicks, least_recent_picks_asking, least_recent_keeps_ports, IsNewLeastRecent}
+use Rattle.sw_arb.specs.Fixed.{FixedPicks, fixed_picks_asking, fixed_keeps_ports}
+use Rattle.sw_arb.specs.RoundRobin.{RoundRobinPicks, round_robin_picks_asking, round_robin_keeps_ports}
+use Rattle.sw_arb.specs.LeastRecent.{LeastRecentPicks, least_recent_picks_asking, least_recent_keeps_ports, IsNewLeastRecent}
 use Rattle.sw_arb.specs.declared.arbitration.Arbitration.{Arbitration}
 use Rattle.sw_arb.specs.declared.policy.Policy.{Policy}
 use Rattle.sw_arb.specs.declared.policy.Policy.TheVariants.{Fixed, RoundRobin, LeastRecent}

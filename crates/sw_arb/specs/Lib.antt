@@ -1,7 +1,7 @@
 pub mod PortCounts
 pub mod Arbiters
 pub mod Ranks
-pub mod Lowest
-pub mod InTurn
-pub mod LongestAgo
+pub mod Fixed
+pub mod RoundRobin
+pub mod LeastRecent
 pub mod Chosen

@@ -21,7 +21,7 @@ impl Fixed {
 }
 
 impl Arbiter for Fixed {
-    ghost use Rattle.sw_arb.specs.Lowest.{FixedPicks, fixed_picks_asking, fixed_keeps_ports};
+    ghost use Rattle.sw_arb.specs.Fixed.{FixedPicks, fixed_picks_asking, fixed_keeps_ports};
 
     ghost ports = { λ a. a.ports };
 

@@ -1,6 +1,6 @@
 //! What holds of lists of picks.
 ghost use Rattle.sw_arb.specs.Arbiters.{PassesOverFewerTimesThanPorts};
-ghost use Rattle.sw_arb.specs.LongestAgo.{LongestAgoIsPicked};
+ghost use Rattle.sw_arb.specs.LeastRecent.{LongestAgoIsPicked};
 
 use crate::arbiter::FairArbiter;
 

@@ -19,7 +19,7 @@ pub struct LeastRecent {
 }
 
 impl LeastRecent {
-    ghost use Rattle.sw_arb.specs.LongestAgo.{IsNewLeastRecent};
+    ghost use Rattle.sw_arb.specs.LeastRecent.{IsNewLeastRecent};
 
     /// An arbiter of those ports that picked none yet.
     pub fn new(ports: PortSet) -> LeastRecent
@@ -88,7 +88,7 @@ fn moved_to(ranks: [u8; 32], number: u8, rank: u8) -> [u8; 32]
 }
 
 impl Arbiter for LeastRecent {
-    ghost use Rattle.sw_arb.specs.LongestAgo.{LeastRecentPicks, least_recent_picks_asking, least_recent_keeps_ports};
+    ghost use Rattle.sw_arb.specs.LeastRecent.{LeastRecentPicks, least_recent_picks_asking, least_recent_keeps_ports};
 
     ghost ports = { λ a. a.ports };
 
@@ -107,7 +107,7 @@ impl Arbiter for LeastRecent {
 }
 
 impl FairArbiter for LeastRecent {
-    ghost use Rattle.sw_arb.specs.LongestAgo.{rank, least_recent_below, least_recent_falls};
+    ghost use Rattle.sw_arb.specs.LeastRecent.{rank, least_recent_below, least_recent_falls};
 
     ghost ahead_of = { rank };
 

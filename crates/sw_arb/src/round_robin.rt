@@ -26,7 +26,7 @@ impl RoundRobin {
 }
 
 impl Arbiter for RoundRobin {
-    ghost use Rattle.sw_arb.specs.InTurn.{RoundRobinPicks, round_robin_picks_asking, round_robin_keeps_ports};
+    ghost use Rattle.sw_arb.specs.RoundRobin.{RoundRobinPicks, round_robin_picks_asking, round_robin_keeps_ports};
 
     ghost ports = { λ a. a.ports };
 
@@ -47,7 +47,7 @@ impl Arbiter for RoundRobin {
 }
 
 impl FairArbiter for RoundRobin {
-    ghost use Rattle.sw_arb.specs.InTurn.{round_robin_ahead, round_robin_below, round_robin_falls};
+    ghost use Rattle.sw_arb.specs.RoundRobin.{round_robin_ahead, round_robin_below, round_robin_falls};
 
     ghost ahead_of = { round_robin_ahead };
 

@@ -1,9 +1,9 @@
 //! A cell of a network, a node or a switch, and each of the machine's steps at it.
 #![tactic(auto)]
 
-mod between;
 mod cell;
 mod fault;
+mod in_flight;
 pub mod node;
 mod node_steps;
 mod place;

@@ -10,7 +10,7 @@ ghost use Rattle.sw_model.specs.Model.{network_of};
 ghost use Rattle.sw_config.specs.Entries.{Declaration};
 ghost use Rattle.sw_node.specs.Conditions.{CanAccept, CanBegin};
 
-use crate::between::{character_comes, fct_comes};
+use crate::in_flight::{character_comes, fct_comes};
 use std::alloc::{AllocError, Global};
 use sw_char::End;
 use sw_config::Network;

@@ -10,7 +10,7 @@ ghost use Rattle.sw_machine.specs.Steps.{Arrive, Drop, Fct, FctIn, Forward, Gran
 ghost use Rattle.sw_model.specs.Model.{network_of};
 ghost use Rattle.sw_link.specs.Between.{Between};
 
-use crate::between::{character_comes, fct_comes};
+use crate::in_flight::{character_comes, fct_comes};
 use sw_arb::Arbiter;
 use sw_config::Network;
 use sw_link::Wires;

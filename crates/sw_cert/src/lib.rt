@@ -3,12 +3,11 @@
 
 mod certificate;
 mod draft;
-mod laws;
+pub mod laws;
 mod lines;
 mod make;
 mod write;
 
 pub use certificate::{Certificate, CertificateFault};
-pub use laws::{field_spelling, one_text};
 pub use sw_flow::Place;
 pub use sw_text::laws::one_spelling;

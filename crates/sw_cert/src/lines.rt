@@ -5,6 +5,7 @@ ghost use Rattle.sw_cert.specs.Grammar.{after_word, field, is_line, moved, place
 use sw_flow::Place;
 use sw_text::number;
 use sw_topo::Chan;
+use sw_topo::limits::{MAX_ADDRESS, MAX_CHANNELS, MAX_PLACES, MAX_WAYS};
 
 /// What the next line has to be.
 #[derive(Clone, Copy, Debug, PartialEq, Eq)]
@@ -85,7 +86,7 @@ fn place_at(bytes: &[u8], at: usize) -> Option<Place>
     ensures { result ≡ place_at bytes.now at }
 {
     let channel = number(&bytes[..at], 65535)?;
-    let deleted = number(&bytes[at + 1..], 32)?;
+    let deleted = number(&bytes[at + 1..], MAX_ADDRESS as u32)?;
     Some(Place {
         channel: Chan::new(channel as u16),
         deleted: deleted as u8,
@@ -123,11 +124,11 @@ pub(crate) fn said_by(expected: Expected, last: Option<Place>, line: &[u8]) -> O
 {
     match expected {
         Expected::Title => is_line(b"swcert 1", line).then_some(Said::Begun),
-        Expected::Channels => Some(Said::ChannelCount(field(b"channels ", 2048, line)?)),
-        Expected::Numbers(0) => Some(Said::FlowCount(field(b"flows ", 8192, line)?)),
+        Expected::Channels => Some(Said::ChannelCount(field(b"channels ", MAX_CHANNELS, line)?)),
+        Expected::Numbers(0) => Some(Said::FlowCount(field(b"flows ", MAX_WAYS, line)?)),
         Expected::Numbers(_) => Some(Said::Number(field(b"number ", 65535, line)? as u16)),
         Expected::Flows(0) => is_line(b"end", line).then_some(Said::Ended),
-        Expected::Flows(_) => Some(Said::PlaceCount(field(b"flow ", 67584, line)?)),
+        Expected::Flows(_) => Some(Said::PlaceCount(field(b"flow ", MAX_PLACES, line)?)),
         Expected::Places(..) => if_rising(last, place_of(after_word(b"place ", line)?)?),
         Expected::Nothing => None,
     }

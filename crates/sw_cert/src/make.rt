@@ -7,18 +7,7 @@ ghost use Rattle.sw_cert.specs.Reading.{items_of};
 use crate::certificate::Certificate;
 use crate::lines::stands_before;
 use sw_flow::Place;
-
-/// How many channels a text may number.
-const MAX_CHANNELS: usize = 2048;
-
-/// How many flows a text may have.
-const MAX_FLOWS: usize = 8192;
-
-/// How many places a flow may have in a text.
-const MAX_PLACES: usize = 67584;
-
-/// How many deleted bytes a place may have in a text.
-const MAX_DELETED: u8 = 32;
+use sw_topo::limits::{MAX_ADDRESS, MAX_CHANNELS, MAX_PLACES, MAX_WAYS};
 
 /// Has no place too many deleted bytes?
 fn fit(places: &[Place]) -> bool
@@ -27,7 +16,7 @@ fn fit(places: &[Place]) -> bool
     for place in places {
         // A channel's number has a text, whatever it is: the proof reads its range here.
         let _channel = place.channel.number();
-        if place.deleted > MAX_DELETED {
+        if place.deleted > MAX_ADDRESS {
             return false;
         }
     }
@@ -51,7 +40,7 @@ fn rise(places: &[Place]) -> bool
 fn is_block(places: &[Place]) -> bool
     ensures { IsTrue result ↔ IsBlock places.now }
 {
-    places.len() <= MAX_PLACES && fit(places) && rise(places)
+    places.len() <= MAX_PLACES as usize && fit(places) && rise(places)
 }
 
 fn are_blocks(flows: &[Vec<Place>]) -> bool
@@ -69,7 +58,7 @@ fn are_blocks(flows: &[Vec<Place>]) -> bool
 fn have_text(numbers: &[u16], flows: &[Vec<Place>]) -> bool
     ensures { IsTrue result ↔ HasText numbers.now (map items_of flows.now) }
 {
-    numbers.len() <= MAX_CHANNELS && flows.len() <= MAX_FLOWS && are_blocks(flows)
+    numbers.len() <= MAX_CHANNELS as usize && flows.len() <= MAX_WAYS as usize && are_blocks(flows)
 }
 
 impl Certificate {

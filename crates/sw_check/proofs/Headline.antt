@@ -1,6 +1,6 @@
 -- The main theorem, of a declared network.
 use Rattle.sw_machine.specs.Certificate.{Certificate, IsAccepted}
-use Rattle.sw_machine.specs.Headline.{IsDeadlockFree}
+use Rattle.sw_machine.specs.DeadlockFreedom.{IsDeadlockFree}
 use Rattle.sw_machine.proofs.Free as machine
 use Rattle.sw_config.specs.Entries.{Declaration}
 use Rattle.sw_config.specs.Valid.{IsValid}

@@ -1,14 +1,15 @@
 //! The check of a certificate.
 ghost use Rattle.std.specs.Prelude.{◌≡◌, IfOk, MatchResult, Some, None};
-ghost use Rattle.sw_machine.specs.Headline.{IsDeadlockFree};
+ghost use Rattle.sw_machine.specs.Certificate.{IsAccepted};
+ghost use Rattle.sw_machine.specs.DeadlockFreedom.{IsDeadlockFree};
 ghost use Rattle.sw_model.specs.Model.{network_of};
 ghost use Rattle.sw_check.specs.Contents.{certificate_of};
 ghost use Rattle.sw_check.specs.Refusals.{refusal_of};
 
 use crate::counts::is_of_the_network;
+use crate::parallel::{not_rising_along_flows, refusal_of_flows};
 use crate::passed::Passed;
 use crate::refusal::Refusal;
-use crate::spread::{not_rising_along_flows, refusal_of_flows};
 use crate::targets::not_rising_at_targets;
 use std::thread::Threads;
 use sw_cert::Certificate;
@@ -52,6 +53,7 @@ pub fn check<'a, R: Threads + Sync>(
     certificate: &Certificate,
 ) -> Result<Passed<'a>, Refusal>
     ensures exact { MatchResult result (λ passed. (passed ≡ network.entry.now) × (refusal_of network.entry.now certificate.now ≡ None)) (λ refusal. refusal_of network.entry.now certificate.now ≡ Some refusal) }
+    ensures accepted { MatchResult result (λ _. IsAccepted (network_of network.entry.now) (certificate_of certificate.now)) (λ _. IsAccepted (network_of network.entry.now) (certificate_of certificate.now) → ⊥) }
     ensures deadlock_free { IfOk result (λ passed. IsDeadlockFree (network_of network.entry.now) (certificate_of certificate.now)) }
 {
     // Names the network, which is valid by its type.

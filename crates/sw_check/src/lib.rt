@@ -4,15 +4,14 @@
 mod checker;
 mod closed;
 mod counts;
-mod laws;
+pub mod laws;
 mod listed;
+mod parallel;
 mod passed;
 mod refusal;
 mod rising;
-mod spread;
 mod targets;
 
 pub use checker::check;
-pub use laws::{least_is_least, not_refused_is_accepted};
 pub use passed::Passed;
 pub use refusal::Refusal;

@@ -25,7 +25,7 @@ impl<'a> Model for Passed<'a> {
 impl<'a> Passed<'a> {
     ghost use Rattle.std.specs.Prelude.{◌≡◌};
     ghost use Rattle.sw_machine.specs.Certificate.{IsAccepted};
-    ghost use Rattle.sw_machine.specs.Headline.{IsDeadlockFree};
+    ghost use Rattle.sw_machine.specs.DeadlockFreedom.{IsDeadlockFree};
     ghost use Rattle.sw_model.specs.Model.{network_of};
     ghost use Rattle.sw_check.specs.Contents.{certificate_of};
     ghost use Rattle.sw_machine.specs.Certificate as machine;
@@ -44,9 +44,9 @@ impl<'a> Passed<'a> {
         self.network
     }
 
-    /// The network can't lock up: all that an accepted certificate shows of it, over every run, for some certificate.
+    /// Some certificate is accepted for the network, and so it can't lock up: all that the certificate shows of it, over every run.
     pub fn is_deadlock_free(&self)
-        ensures { (certificate : machine.Certificate) × IsDeadlockFree (network_of self.now) certificate }
+        ensures { (certificate : machine.Certificate) × IsAccepted (network_of self.now) certificate × IsDeadlockFree (network_of self.now) certificate }
     {
         // Names the network, which is valid by its type.
         let _flows = self.network.flows();

@@ -1,6 +1,6 @@
 -- How an engine ends (this project's choice).
 use Rattle.std.specs.Prelude.{◌≡◌, ◌⊎◌, ℕ, ◌+◌, ◌<◌, List, [], ◌∷◌, Option, Some, None, IfSome, MatchBool, codes, if◌then◌else◌, length, nat_le, take}
-use Rattle.std.specs.Io.KnownBytes.{Appends, IsAtEnd, Keeps}
+use Rattle.std.specs.Io.KnownBytes.{Appends, Consumes, IsAtEnd, Keeps}
 use Rattle.sw_text.specs.Reading.{Takes}
 use Rattle.sw_text.specs.declared.reading.ReadError.{ReadError}
 use Rattle.sw_text.specs.declared.reading.ReadError.TheVariants.{TooLong, Failed, Memory}
@@ -65,21 +65,47 @@ IsUnreadTold Failed old new ended = (ended ≡ ReadFailed) × Keeps old new
 abbrev pub Tells : Option (List ℕ) → Option (List ℕ) → Answers → Ended → Type 0
 Tells old new P ended = (text : List ℕ) × (status : ℕ) × OrMemory P text status × IsTold old new text status ended
 
--- An engine that reads one text: what it tells is an answer to the bytes that the reader had, and where a read failed nothing is
--- written.
-abbrev pub EndsBy : (List ℕ → Answers) → Option (List ℕ) → Option (List ℕ) → Option (List ℕ) → Ended → Type 0
-EndsBy P input old new (Status n) = IfSome input (λ bytes. Tells old new (IfShort bytes (P bytes)) (Status n))
-EndsBy P input old new WriteFailed = IfSome input (λ bytes. Tells old new (IfShort bytes (P bytes)) WriteFailed)
-EndsBy P input old new ReadFailed = Keeps old new
+-- A reader was read to its end, or to one byte past the most that a text may have, and gave these bytes. Of a reader whose bytes
+-- are not known, as that of a file, any bytes may be these.
+abbrev pub Gives : Option (List ℕ) → Option (List ℕ) → List ℕ → Type 0
+Gives before after bytes = Consumes before after bytes × (IsAtEnd after ⊎ (length bytes ≡ most_bytes + 1))
 
--- An engine that reads two texts, both before it looks at either: what it tells is an answer to the two, and where a read failed
--- nothing is written.
-abbrev pub EndsByTwo : (Option (List ℕ) → Option (List ℕ) → Answers) → Option (List ℕ) → Option (List ℕ) → Option (List ℕ) → Option (List ℕ) → Ended → Type 0
-EndsByTwo P first second old new (Status n) =
-    IfSome first (λ bytes. IfSome second (λ others. Tells old new (P (limited bytes) (limited others)) (Status n)))
-EndsByTwo P first second old new WriteFailed =
-    IfSome first (λ bytes. IfSome second (λ others. Tells old new (P (limited bytes) (limited others)) WriteFailed))
-EndsByTwo P first second old new ReadFailed = Keeps old new
+-- a reader was read to its end, and gave these bytes
+abbrev pub GivesAll : Option (List ℕ) → Option (List ℕ) → List ℕ → Type 0
+GivesAll before after bytes = Consumes before after bytes × IsAtEnd after
+
+-- the text that a reader gave, None where it is too long
+abbrev pub GivesText : Option (List ℕ) → Option (List ℕ) → Option (List ℕ) → Type 0
+GivesText before after text = (bytes : List ℕ) × Gives before after bytes × (text ≡ limited bytes)
+
+-- the answers to the bytes that the reader gave
+abbrev pub AnswersBy : (List ℕ → Answers) → Option (List ℕ) → Option (List ℕ) → Answers
+AnswersBy P before after text status = (bytes : List ℕ) × Gives before after bytes × IfShort bytes (P bytes) text status
+
+-- An engine that reads one text: what it tells is an answer to the bytes that the reader gave, or that memory was wanted; where a
+-- read failed nothing is written.
+abbrev pub EndsBy : (List ℕ → Answers) → Option (List ℕ) → Option (List ℕ) → Option (List ℕ) → Option (List ℕ) → Ended → Type 0
+EndsBy P before after old new (Status n) = Tells old new (AnswersBy P before after) (Status n)
+EndsBy P before after old new WriteFailed = Tells old new (AnswersBy P before after) WriteFailed
+EndsBy P before after old new ReadFailed = Keeps old new
+
+-- which of two texts, None where one is too long, each with a status, may answer
+abbrev pub AnswersToTwo : Type 1
+AnswersToTwo = Option (List ℕ) → Option (List ℕ) → Answers
+
+-- the answers to the two texts that the readers gave
+abbrev pub AnswersByTwo : AnswersToTwo → Option (List ℕ) → Option (List ℕ) → Option (List ℕ) → Option (List ℕ) → Answers
+AnswersByTwo P first first_after second second_after text status =
+    (one : Option (List ℕ)) × (other : Option (List ℕ)) × GivesText first first_after one × GivesText second second_after other × P one other text status
+
+-- An engine that reads two texts, both before it looks at either: what it tells is an answer to the two, or that memory was wanted;
+-- where a read failed nothing is written.
+abbrev pub EndsByTwo : AnswersToTwo → Option (List ℕ) → Option (List ℕ) → Option (List ℕ) → Option (List ℕ) → Option (List ℕ) → Option (List ℕ) → Ended → Type 0
+EndsByTwo P first first_after second second_after old new (Status n) =
+    Tells old new (AnswersByTwo P first first_after second second_after) (Status n)
+EndsByTwo P first first_after second second_after old new WriteFailed =
+    Tells old new (AnswersByTwo P first first_after second second_after) WriteFailed
+EndsByTwo P first first_after second second_after old new ReadFailed = Keeps old new
 
 -- a reader was read to its end, or to one byte past the most that a text may have
 abbrev pub IsReadWhole : Option (List ℕ) → Option (List ℕ) → Type 0

@@ -4,11 +4,9 @@ ghost use Rattle.sw_command.specs.FaultTexts.{fault_text};
 ghost use Rattle.sw_output.specs.Lines.{line};
 
 use crate::fault_texts::fault_text;
+use crate::statuses::FAULTY;
 use std::alloc::{AllocError, Global};
 use sw_toml_table::TextFault;
-
-/// The status that says that a text has a fault.
-const FAULTY: u8 = 3;
 
 /// What an engine writes, and the status that says what it is.
 #[derive(Drop)]

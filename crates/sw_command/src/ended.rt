@@ -2,6 +2,7 @@
 ghost use Rattle.std.specs.Prelude.{◌≡◌};
 ghost use Rattle.sw_command.specs.Ends.{IsMemoryTold, IsTold, IsUnreadTold};
 
+use crate::statuses::{FAULTY, NO_ROOM, UNREAD_OR_UNWRITTEN};
 use std::io::Write;
 use sw_text::{ReadError, write_whole};
 
@@ -28,7 +29,7 @@ impl Ended {
     {
         match self {
             Ended::Status(status) => status,
-            Ended::ReadFailed | Ended::WriteFailed => 6,
+            Ended::ReadFailed | Ended::WriteFailed => UNREAD_OR_UNWRITTEN,
         }
     }
 }
@@ -54,7 +55,7 @@ pub fn tell<W: Write>(writer: &mut W, text: &str, status: u8) -> Ended
 pub fn tell_memory<W: Write>(writer: &mut W) -> Ended
     ensures { IsMemoryTold (W.contents writer.old) (W.contents writer.new) result }
 {
-    tell(writer, "fault memory\n", 5)
+    tell(writer, "fault memory\n", NO_ROOM)
 }
 
 /// Tells why a text was not read: of a read that failed nothing is written.
@@ -62,7 +63,7 @@ pub fn tell_unread<W: Write>(writer: &mut W, error: ReadError) -> Ended
     ensures { IsUnreadTold error (W.contents writer.old) (W.contents writer.new) result }
 {
     match error {
-        ReadError::TooLong => tell(writer, "fault A1 TooLong\n", 3),
+        ReadError::TooLong => tell(writer, "fault A1 TooLong\n", FAULTY),
         ReadError::Memory => tell_memory(writer),
         ReadError::Failed => Ended::ReadFailed,
     }

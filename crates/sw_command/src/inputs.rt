@@ -1,6 +1,6 @@
 //! The texts that an engine reads.
-ghost use Rattle.std.specs.Prelude.{◌≡◌, IfErr, IfOk, IfSome};
-ghost use Rattle.sw_command.specs.Ends.{AreReadInOrder, IsReadWhole, limited};
+ghost use Rattle.std.specs.Prelude.{IfOk};
+ghost use Rattle.sw_command.specs.Ends.{AreReadInOrder, GivesText, IsReadWhole};
 ghost use Rattle.sw_command.specs.Inputs.{given};
 
 use crate::ended::MAX_TEXT;
@@ -27,7 +27,7 @@ pub enum InputError {
 }
 
 fn read_one<R: Read>(alloc: Global, reader: &mut R) -> Result<InputText, InputError>
-    ensures input { IfOk result (λ input. IfSome (R.remaining reader.old) (λ bytes. given input ≡ limited bytes)) }
+    ensures input { IfOk result (λ input. GivesText (R.remaining reader.old) (R.remaining reader.new) (given input)) }
     ensures whole { IfOk result (λ _. IsReadWhole (R.remaining reader.old) (R.remaining reader.new)) }
 {
     match read_whole(alloc, reader, MAX_TEXT) {
@@ -49,8 +49,8 @@ pub fn read_two<A: Read, B: Read>(
     first: &mut A,
     second: &mut B,
 ) -> Result<(InputText, InputText), InputError>
-    ensures first { IfOk result (λ inputs. IfSome (A.remaining first.old) (λ bytes. given inputs.0 ≡ limited bytes)) }
-    ensures second { IfOk result (λ inputs. IfSome (B.remaining second.old) (λ bytes. given inputs.1 ≡ limited bytes)) }
+    ensures first { IfOk result (λ inputs. GivesText (A.remaining first.old) (A.remaining first.new) (given inputs.0)) }
+    ensures second { IfOk result (λ inputs. GivesText (B.remaining second.old) (B.remaining second.new) (given inputs.1)) }
     ensures order { AreReadInOrder (A.remaining first.old) (A.remaining first.new) (B.remaining second.old) (B.remaining second.new) }
 {
     let text = read_one(alloc, first)?;

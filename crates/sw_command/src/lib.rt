@@ -5,6 +5,7 @@ mod answer;
 mod ended;
 mod fault_texts;
 mod inputs;
+pub mod statuses;
 
 pub use answer::{Answer, ByteAnswer};
 pub use ended::{Ended, MAX_TEXT, tell, tell_bytes, tell_memory, tell_unread};

@@ -2,7 +2,7 @@
 use Rattle.std.specs.Prelude.{◌≡◌, ℕ, ◌≤◌, List, length, All, AllPairs, ◌≢◌, Result, Ok, Err, Some, None}
 use Rattle.sw_topo.specs.declared.fault.TopoError.{TopoError}
 use Rattle.sw_topo.specs.declared.fault.TopoError.TheVariants as errors
-use Rattle.sw_topo.specs.declared.check.TheConstants.{MAX_NODES, MAX_SWITCHES}
+use Rattle.sw_topo.specs.declared.limits.TheConstants.{MAX_NODES, MAX_SWITCHES}
 use Rattle.sw_topo.specs.Wiring.{Wiring}
 use Rattle.sw_topo.specs.Checked.{IsIn, fault_of}
 use Rattle.sw_config.specs.Entries.{FlowEntry, Declaration, part_names, link_ends, wiring_of, reply_flows}

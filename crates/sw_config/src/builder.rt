@@ -13,7 +13,8 @@ use std::marker::Model;
 use sw_arb::Arbitration;
 use sw_rmap::TargetConfig;
 use sw_route::TableRoutes;
-use sw_topo::{Builder, MAX_NODES, MAX_SWITCHES, PlaceEnd, TopoError};
+use sw_topo::limits::{MAX_NODES, MAX_SWITCHES};
+use sw_topo::{Builder, PlaceEnd, TopoError};
 
 /// The nodes, switches and links of a network so far: nodes come first, then switches.
 ///

@@ -14,10 +14,8 @@ use std::marker::Model;
 use sw_arb::Arbitration;
 use sw_rmap::TargetConfig;
 use sw_route::{IntervalRoutes, Look, Route, TableRoutes};
-use sw_topo::{Chan, MAX_LINKS, MAX_NODES, MAX_SWITCHES, Topology};
-
-/// How many flows may be declared.
-pub const MAX_FLOWS: u16 = 4096;
+use sw_topo::limits::{MAX_FLOWS, MAX_LINKS, MAX_NODES, MAX_SWITCHES};
+use sw_topo::{Chan, Topology};
 
 /// A network: nodes and switches rightly joined by links, and the flows of packets between its nodes.
 ///

@@ -2,9 +2,9 @@
 #![tactic(auto)]
 
 mod answering;
-mod entry;
+mod dependency_rows;
 mod named;
+mod parallel;
 mod rows;
-mod spread;
 
-pub use entry::dependencies;
+pub use dependency_rows::dependencies;

@@ -19,7 +19,7 @@ use Rattle.sw_machine.proofs.Balance.{count_cons}
 use Rattle.sw_machine.proofs.RunLists.{all_moves}
 use Rattle.sw_machine.specs.Begun.{Begun, beginnings, length_with_reply, moves}
 use Rattle.sw_machine.specs.Certificate.{Certificate}
-use Rattle.sw_machine.specs.Headline.{IsDeadlockFree}
+use Rattle.sw_machine.specs.DeadlockFreedom.{IsDeadlockFree}
 use Rattle.sw_machine.specs.Network.{PendingReply, form}
 use Rattle.sw_machine.specs.Runs.{length_pending, total, undelivered}
 use Rattle.sw_machine.specs.State.{State, after_begin, reply_packet}

@@ -11,7 +11,7 @@ use Rattle.sw_limit.specs.Limit.{AreDeclared, enough_limit}
 use Rattle.sw_load.specs.Load.{LoadEntry}
 use Rattle.sw_machine.proofs.RunLists.{all_moves}
 use Rattle.sw_machine.specs.Certificate.{Certificate}
-use Rattle.sw_machine.specs.Headline.{IsDeadlockFree}
+use Rattle.sw_machine.specs.DeadlockFreedom.{IsDeadlockFree}
 use Rattle.sw_machine.specs.State.{empty}
 use Rattle.sw_model.specs.Model.{network_of}
 use Rattle.sw_net.specs.Asked.{IsQuietNet}

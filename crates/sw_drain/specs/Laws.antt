@@ -1,7 +1,7 @@
 -- Where nothing more can happen in a network that can't lock up.
 use Rattle.std.specs.Prelude.{ℕ, ◌<◌, ◌≡◌}
 use Rattle.sw_cell.specs.Possible.{CanStepAt}
-use Rattle.sw_machine.specs.Headline.{OfAccepted}
+use Rattle.sw_machine.specs.DeadlockFreedom.{OfAccepted}
 use Rattle.sw_machine.specs.Network.{Network}
 use Rattle.sw_machine.specs.Runs.{IsReached, undelivered}
 use Rattle.sw_machine.specs.State.{State}

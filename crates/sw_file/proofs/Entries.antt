@@ -5,12 +5,11 @@ use Rattle.std.specs.Prelude.{if◌then◌else◌}
 use Rattle.std.proofs.lemmas.Bool.{cases_Bool}
 use Rattle.std.proofs.lemmas.List.{append-nil}
 use Rattle.toml.specs.Data.{Members}
-use Rattle.sw_topo.specs.declared.check.TheConstants.{MAX_NODES, MAX_SWITCHES, MAX_LINKS}
+use Rattle.sw_topo.specs.declared.limits.TheConstants.{MAX_NODES, MAX_SWITCHES, MAX_LINKS, MAX_FLOWS}
 use Rattle.sw_topo.specs.declared.fault.Limit.TheVariants.{Nodes, Switches, Links}
 use Rattle.sw_topo.specs.declared.fault.TopoFault.{TopoFault}
 use Rattle.sw_topo.specs.declared.fault.TopoFault.TheVariants.{TooMany}
 use Rattle.sw_topo.specs.Checked.{fault_of}
-use Rattle.sw_config.specs.declared.network.TheConstants.{MAX_FLOWS}
 use Rattle.sw_config.specs.Entries.{NodeEntry, SwitchEntry, LinkEntry, FlowEntry, Declaration, empty, part_names, flow_names, wiring_of}
 use Rattle.sw_toml_table.specs.declared.keys.Key.{Key}
 use Rattle.sw_toml_table.specs.declared.keys.Key.TheVariants.{Node, Switch, Link, Flow}

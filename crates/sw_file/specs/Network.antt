@@ -2,12 +2,11 @@
 -- the switches and the links, list by list and each list's length before its entries, then how they are joined, and then the flows.
 use Rattle.std.specs.Prelude.{ℕ, nat_le, ◌==◌, List, length, Option, Some, None, Result, Ok, Err, if◌then◌else◌}
 use Rattle.toml.specs.Data.{Members}
-use Rattle.sw_topo.specs.declared.check.TheConstants.{MAX_NODES, MAX_SWITCHES, MAX_LINKS}
+use Rattle.sw_topo.specs.declared.limits.TheConstants.{MAX_NODES, MAX_SWITCHES, MAX_LINKS, MAX_FLOWS}
 use Rattle.sw_topo.specs.declared.fault.Limit.TheVariants.{Nodes, Switches, Links}
 use Rattle.sw_topo.specs.declared.fault.TopoFault.{TopoFault}
 use Rattle.sw_topo.specs.declared.fault.TopoFault.TheVariants.{TooMany}
 use Rattle.sw_topo.specs.Checked.{fault_of}
-use Rattle.sw_config.specs.declared.network.TheConstants.{MAX_FLOWS}
 use Rattle.sw_config.specs.Entries.{Declaration, empty, wiring_of}
 use Rattle.sw_toml_table.specs.declared.keys.Key.{Key}
 use Rattle.sw_toml_table.specs.declared.keys.Key.TheVariants.{Version as VersionKey, Node, Switch, Link, Flow}

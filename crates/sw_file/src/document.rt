@@ -16,11 +16,12 @@ use crate::nodes::add_node;
 use crate::switches::add_switch;
 use std::alloc::Global;
 use std::marker::Model;
-use sw_config::{MAX_FLOWS, Network, NetworkBuilder};
+use sw_config::{Network, NetworkBuilder};
 use sw_toml_table::{
     FileFault, Key, KeyFault, Section, TableEntry, TextFault, Version, read_document,
 };
-use sw_topo::{Limit, MAX_LINKS, MAX_NODES, MAX_SWITCHES, TopoError, TopoFault};
+use sw_topo::limits::{MAX_FLOWS, MAX_LINKS, MAX_NODES, MAX_SWITCHES};
+use sw_topo::{Limit, TopoError, TopoFault};
 use toml::Table;
 
 #[tactic(auto, unfolding(crate::specs::Network::version_of))]

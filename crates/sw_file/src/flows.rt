@@ -13,8 +13,9 @@ ghost use Rattle.sw_file.specs.FlowTables.{node_names, address_at, addressed, re
 use crate::keys::{flow_keys, reply_keys};
 use std::alloc::Global;
 use std::marker::Model;
-use sw_config::{Flow, MAX_FLOWS, Network, Reply};
+use sw_config::{Flow, Network, Reply};
 use sw_toml_table::{FileFault, Key, KeyFault, Section, TableEntry, TextFault};
+use sw_topo::limits::{MAX_ADDRESS, MAX_FLOWS};
 use toml::Table;
 
 /// The name of a flow, which none before it has.
@@ -49,7 +50,7 @@ fn address_at(alloc: Global, index: usize, flow: &TableEntry) -> Result<Vec<u8>,
     ensures few { IfOk result (λ v. vec_len v ≤ 32) }
 {
     let address = flow.numbers_or_none(alloc, Key::Address, 255)?;
-    if address.len() > 32 {
+    if address.len() > MAX_ADDRESS as usize {
         return Err(flow.fault(KeyFault::OutOfRange, Key::Address));
     }
     Ok(address)

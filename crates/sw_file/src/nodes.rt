@@ -15,7 +15,7 @@ use std::marker::Model;
 use sw_config::NetworkBuilder;
 use sw_rmap::TargetConfig;
 use sw_toml_table::{FileFault, Key, KeyFault, Section, TableEntry, Version};
-use sw_topo::MAX_NODES;
+use sw_topo::limits::MAX_NODES;
 use toml::Table;
 
 /// One more than the greatest address of a target's memory.

@@ -14,7 +14,8 @@ use sw_arb::Arbitration;
 use sw_config::NetworkBuilder;
 use sw_route::{Route, RouteError, TableRoutes};
 use sw_toml_table::{FileFault, Key, KeyFault, Section, TableEntry, TextFault, Version};
-use sw_topo::{MAX_SWITCHES, Port, PortSet};
+use sw_topo::limits::MAX_SWITCHES;
+use sw_topo::{Port, PortSet};
 use toml::Table;
 
 fn arbitration_named(name: &str) -> Option<Arbitration>

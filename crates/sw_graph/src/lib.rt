@@ -4,7 +4,7 @@
 
 mod answer;
 mod cycle;
-mod laws;
+pub mod laws;
 mod least;
 mod marks;
 mod ordering;
@@ -16,7 +16,6 @@ mod walk;
 mod ways;
 
 pub use answer::Order;
-pub use laws::{answers_carry_over, levels_are_where_no_cycle_is, levels_rise, shown_is_cycle};
 pub use least::reached;
 pub use ordering::order;
 pub use steps::Steps;

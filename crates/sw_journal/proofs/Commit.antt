@@ -16,7 +16,7 @@ use Rattle.sw_journal.specs.Adding.{AddsAt, IsAtCell, IsWithSteps}
 use Rattle.sw_journal.proofs.Told.{at_its_cell, known_after, known_at, placed}
 use Rattle.sw_journal.specs.Cells.{all_known, cells_of, ends_at, numbered}
 use Rattle.sw_journal.specs.Marks.{IsTrueMark}
-use Rattle.sw_journal.specs.Record.{JournalView, CellView, Commits, IsAccount, IsKept, IsNowCell, LeadsTo, with_step}
+use Rattle.sw_journal.specs.Record.{JournalView, CellView, Commits, IsTrueView, IsKept, IsNowCell, LeadsTo, with_step}
 use Rattle.sw_journal.specs.Renewal.{AreRenewedAfter, renewed}
 use Rattle.sw_journal.specs.declared.fault.JournalFault.{JournalFault}
 use Rattle.sw_journal.specs.declared.fault.JournalFault.TheVariants as journal
@@ -45,9 +45,9 @@ pub record IsMet (j : JournalView) (s : State) (number : ℕ) (id : CellId) (end
   pub ends_are : ends ≡ numbered (network_of j.declared) s id
 
 pub met : (j : JournalView) (me theirs : Me Change View) (number : ℕ) (id : CellId) (ends : List (ℕ × Numbers)) → (k : IsKept j me) → theirs ≡ (holder number (known id ends), [])
-    → (theirs.0.claims ≡ true → slice_get me.0.all theirs.0.cell ≡ Some theirs.0.known) → IsMet j k.account.state number id ends
+    → (theirs.0.claims ≡ true → slice_get me.0.all theirs.0.cell ≡ Some theirs.0.known) → IsMet j k.true_view.state number id ends
 met j me theirs number id ends k is same =
-    let s = k.account.state in
+    let s = k.true_view.state in
     let claims : theirs.0.claims ≡ true = ap (λ (m : Me Change View). m.0.claims) is in
     let read : slice_get (all_known j.declared s) number ≡ Some (known id ends) =
     ap (λ (m : Me Change View). slice_get m.0.all number) (sym k.seat)
@@ -87,9 +87,9 @@ ends_within net s id n ends ok count is = subst (λ (l : List (ℕ × Numbers)).
 pub kept_same : (j k : JournalView) (before met parted theirs : Me Change View) → k ≡ j → IsKept j before → met ≡ (shown before.0 theirs.0, before.1) → parted ≡ (kept_of met.0, met.1) → IsKept k parted
 kept_same j k before met parted theirs same is meets parts =
     let split : Me Change View → Me Change View = λ m. (kept_of m.0, m.1) in
-    let seat : parted ≡ (knower (all_known j.declared is.account.state), []) =
+    let seat : parted ≡ (knower (all_known j.declared is.true_view.state), []) =
     parts ∙ ap split meets ∙ (λ i. (kept_of (is.seat i).0, (is.seat i).1)) in
-    subst (λ (a : JournalView). IsKept a parted) (sym same) (record { account = is.account; channels = is.channels; seat = seat })
+    subst (λ (a : JournalView). IsKept a parted) (sym same) (record { true_view = is.true_view; channels = is.channels; seat = seat })
 
 mark_more : (net : Network) (packets : List Begun) (steps : List Step) (step : Step) (e k : ℕ) → IsTrueMark net packets steps e k → IsTrueMark net packets (steps ++ step ∷ []) e k
 mark_more net packets steps step e k m = record {
@@ -101,7 +101,7 @@ map_renewed : (net : Network) (s t : State) (es : List ℕ) → map (renewed net
 map_renewed net s t [] = refl
 map_renewed net s t (e ∷ es) = ap (λ l. (e, numbers_at net t e) ∷ l) (map_renewed net s t es)
 
-module _ (j : JournalView) (before : Me Change View) (is : IsKept j before) (number : ℕ) (id : CellId) (ends : List (ℕ × Numbers)) (cell_is : IsMet j is.account.state number id ends)
+module _ (j : JournalView) (before : Me Change View) (is : IsKept j before) (number : ℕ) (id : CellId) (ends : List (ℕ × Numbers)) (cell_is : IsMet j is.true_view.state number id ends)
     (step : Step) (here : cell_of (network_of j.declared) step ≡ machine_cell id) (next : MayFollow (network_of j.declared) (packets_of j.load) j.history step) where
   abbrev net : Network
   net = network_of j.declared
@@ -109,29 +109,29 @@ module _ (j : JournalView) (before : Me Change View) (is : IsKept j before) (num
   abbrev t : State
   t = next.0
 
-  leads : Leads net is.account.state step t
+  leads : Leads net is.true_view.state step t
   leads =
       let last = split_last net j.history step (empty net) t next.1.run in
-      let same = one_state_after net (packets_of j.load) j.history is.account.state last.0 is.account.history (record { run = last.1; in_order = is.account.history.in_order }) in
+      let same = one_state_after net (packets_of j.load) j.history is.true_view.state last.0 is.true_view.history (record { run = last.1; in_order = is.true_view.history.in_order }) in
       subst (λ (m : State). Leads net m step t) same last.2
 
   -- the numbers after the step
   pub after_step : (more : List (ℕ × Numbers)) → more ≡ map (renewed net t) ends → more ≡ numbered net t id
-  after_step more renew = renew ∙ ap (map (renewed net t)) cell_is.ends_are ∙ map_renewed net is.account.state t (ends_at net id)
+  after_step more renew = renew ∙ ap (map (renewed net t)) cell_is.ends_are ∙ map_renewed net is.true_view.state t (ends_at net id)
 
-  known_then : (more : List (ℕ × Numbers)) → more ≡ map (renewed net t) ends → slice_set (all_known j.declared is.account.state) number (known id more) ≡ all_known j.declared t
+  known_then : (more : List (ℕ × Numbers)) → more ≡ map (renewed net t) ends → slice_set (all_known j.declared is.true_view.state) number (known id more) ≡ all_known j.declared t
   known_then more renew =
-      ap (λ (l : List (ℕ × Numbers)). slice_set (all_known j.declared is.account.state) number (known id l)) (after_step more renew)
-      ∙ sym (known_after j.declared is.account.network is.account.state t (j.history, is.account.history.run) step leads number id cell_is.at here)
+      ap (λ (l : List (ℕ × Numbers)). slice_set (all_known j.declared is.true_view.state) number (known id l)) (after_step more renew)
+      ∙ sym (known_after j.declared is.true_view.network is.true_view.state t (j.history, is.true_view.history.run) step leads number id cell_is.at here)
 
-  pub account_after : length j.history < j.limit → IsAccount (with_step j step)
+  pub account_after : length j.history < j.limit → IsTrueView (with_step j step)
   account_after room = record {
-    network = is.account.network;
+    network = is.true_view.network;
     state = t;
     history = next.1;
     within = omega (arith, length-append j.history (step ∷ []), room);
-    places = is.account.places;
-    true_marks = λ e k at. mark_more net (packets_of j.load) j.history step e k (is.account.true_marks e k at);
+    places = is.true_view.places;
+    true_marks = λ e k at. mark_more net (packets_of j.load) j.history step e k (is.true_view.true_marks e k at);
   }
 
   -- what the journal keeps after the step
@@ -140,14 +140,14 @@ module _ (j : JournalView) (before : Me Change View) (is : IsKept j before) (num
       → renewed_seat ≡ (with_known shown_seat.0 (known shown_seat.0.known.id more), shown_seat.1) → parted ≡ (kept_of renewed_seat.0, renewed_seat.1) → IsKept k parted
   unfolding account_after
   kept_after k theirs shown_seat renewed_seat parted more same room renew cell meets renews parts =
-      let all = all_known j.declared is.account.state in
+      let all = all_known j.declared is.true_view.state in
       let split : Me Change View → Me Change View = λ m. (kept_of m.0, m.1) in
       let change : Me Change View → Me Change View = λ m. (with_known m.0 (known m.0.known.id more), m.1) in
       let met_is : shown_seat ≡ (shown (knower all) (holder number (known id ends)), []) = meets ∙ (λ i. (shown (is.seat i).0 (cell i).0, (is.seat i).1)) in
       let seat : parted ≡ (knower (all_known j.declared t), []) =
       parts ∙ ap split (renews ∙ ap change met_is)
       ∙ ap (λ (l : List Known). let m : Me Change View = (knower l, []) in m) (known_then more renew) in
-      subst (λ (a : JournalView). IsKept a parted) (sym same) (record { account = account_after room; channels = is.channels; seat = seat })
+      subst (λ (a : JournalView). IsKept a parted) (sym same) (record { true_view = account_after room; channels = is.channels; seat = seat })
 
   -- and the cell
   pub same_cell_after : (k : JournalView) (cell : CellView) (more : List (ℕ × Numbers)) → k ≡ with_step j step → cell.id ≡ id → cell.ends ≡ more → more ≡ map (renewed net t) ends → IsNowCell k cell
@@ -190,8 +190,8 @@ possible_of n packets steps step next =
 
 -- ---- the answers of a history
 
-abbrev pub account : TableId → HistoryView → ℕ → List (Option ℕ) → JournalView
-account name h limit marks = record { name = name; declared = h.declared; load = h.load; limit = limit; history = h.steps; marks = marks }
+abbrev pub view_of : TableId → HistoryView → ℕ → List (Option ℕ) → JournalView
+view_of name h limit marks = record { name = name; declared = h.declared; load = h.load; limit = limit; history = h.steps; marks = marks }
 
 pub refused_same : (h k : HistoryView) (at : CellId) (limit : ℕ) (step : Step) (fault : JournalFault) → AddsAt h at limit step (Err fault) k → IsWithSteps h h.steps k
 refused_same h k at limit step journal.NotEnabled adds = adds.1
@@ -199,7 +199,7 @@ refused_same h k at limit step journal.Full adds = adds.2
 refused_same h k at limit step journal.Memory adds = adds.2
 
 pub account_same : (name : TableId) (h k : HistoryView) (limit : ℕ) (marks : List (Option ℕ)) (steps : List Step) → IsWithSteps h steps k
-    → account name k limit marks ≡ record { name = name; declared = h.declared; load = h.load; limit = limit; history = steps; marks = marks }
+    → view_of name k limit marks ≡ record { name = name; declared = h.declared; load = h.load; limit = limit; history = steps; marks = marks }
 account_same name h k limit marks steps w = λ i. record { name = name; declared = w.declared i; load = w.load i; limit = limit; history = w.steps i; marks = marks }
 
 pub renewed_then : (h k : HistoryView) (steps : List Step) (t : State) (ends more : List (ℕ × Numbers)) → IsWithSteps h steps k → IsHistory (network_of h.declared) (packets_of h.load) steps t

@@ -9,7 +9,7 @@ use Rattle.sw_history.specs.Next.{IsIdle, MayFollow}
 use Rattle.sw_journal.proofs.Commit.{possible_of}
 use Rattle.sw_journal.specs.Asked.{IsStill, IsStuck, IsUndelivered}
 use Rattle.sw_journal.specs.Marks.{IsTrueMark}
-use Rattle.sw_journal.specs.Record.{JournalView, IsAccount, IsKept, with_marks}
+use Rattle.sw_journal.specs.Record.{JournalView, IsTrueView, IsKept, with_marks}
 use Rattle.sw_limit.specs.History.{BeginsNext, packets_of}
 use Rattle.sw_machine.proofs.Parts.{link_ends}
 use Rattle.sw_machine.specs.Begun.{Begun}
@@ -67,14 +67,14 @@ kept_mark j me e place count is idle there now =
     let one : Some count ≡ Some k = get_same j.marks place (Some count) (Some k) (ap (slice_get marks) (sym same) ∙ at) in
     let k_is : count ≡ k = cc in
     subst (λ (p : ℕ × ℕ). IsTrueMark net packets j.history p.0 p.1) (λ i. (sym (same ∙ there) i, (sym now ∙ k_is) i)) (whole_mark net packets j.history e idle))
-    (λ apart. is.account.true_marks d k (sym (get_other j.marks place d (Some count) apart) ∙ at)) in
+    (λ apart. is.true_view.true_marks d k (sym (get_other j.marks place d (Some count) apart) ∙ at)) in
     record {
-      account = record {
-        network = is.account.network;
-        state = is.account.state;
-        history = is.account.history;
-        within = is.account.within;
-        places = length-set j.marks place (Some count) ∙ is.account.places;
+      true_view = record {
+        network = is.true_view.network;
+        state = is.true_view.state;
+        history = is.true_view.history;
+        within = is.true_view.within;
+        places = length-set j.marks place (Some count) ∙ is.true_view.places;
         true_marks = marked;
       };
       channels = is.channels;
@@ -102,7 +102,7 @@ stuck_by j count left some still = record {
   };
 }
 
-pub stuck_left : (j : JournalView) (count : ℕ) → IsAccount j → IsUndelivered j count → IsStuck j → not (nat_eq count 0) ≡ true
+pub stuck_left : (j : JournalView) (count : ℕ) → IsTrueView j → IsUndelivered j count → IsStuck j → not (nat_eq count 0) ≡ true
 stuck_left j count is left stuck =
     let here = left is.state is.history in
     let holds = (stuck.locked_up is.state is.history).holds in

@@ -10,7 +10,7 @@ use Rattle.std.specs.Prelude.{slice_get}
 use Rattle.sw_cell.specs.Places.{machine_cell}
 use Rattle.sw_cell.specs.declared.cell.CellId.{CellId}
 use Rattle.sw_history.specs.History.{HistoryView}
-use Rattle.sw_journal.proofs.Commit.{account}
+use Rattle.sw_journal.proofs.Commit.{view_of}
 use Rattle.sw_journal.proofs.Told.{is_same_cell}
 use Rattle.sw_journal.specs.Cells.{all_known, same_cell}
 use Rattle.sw_journal.specs.Opening.{numbered_of}
@@ -96,22 +96,22 @@ no_mark zero e k h = cc
 no_mark (suc n) zero k h = cc
 no_mark (suc n) (suc e) k h = no_mark n e k h
 
-abbrev pub first_account : TableId → Declaration → List LoadEntry → ℕ → JournalView
-first_account name d load limit = record { name = name; declared = d; load = load; limit = limit; history = []; marks = replicate (network_of d).channels None }
+abbrev pub first_view : TableId → Declaration → List LoadEntry → ℕ → JournalView
+first_view name d load limit = record { name = name; declared = d; load = load; limit = limit; history = []; marks = replicate (network_of d).channels None }
 
 pub account_first : (name : TableId) (d : Declaration) (h : HistoryView) (load : List LoadEntry) (limit n : ℕ) (marks : List (Option ℕ)) → n ≡ 2 * length d.links → h.declared ≡ d → h.load ≡ load → h.steps ≡ []
-    → marks ≡ replicate n None → account name h limit marks ≡ first_account name d load limit
+    → marks ≡ replicate n None → view_of name h limit marks ≡ first_view name d load limit
 account_first name d h load limit n marks count declared packets steps none =
     let channels : n ≡ (network_of d).channels = count ∙ sym (channel_count d) in
     let all : marks ≡ replicate (network_of d).channels None = none ∙ ap (λ k. replicate k None) channels in
     λ i. record { name = name; declared = declared i; load = packets i; limit = limit; history = steps i; marks = all i }
 
 pub kept_first : (name : TableId) (d : Declaration) (h : HistoryView) (limit n : ℕ) (marks : List (Option ℕ)) (me : Me Change View) → IsValid d → n ≡ 2 * length d.links → h.declared ≡ d → h.steps ≡ []
-    → marks ≡ replicate n None → me ≡ (knower (all_known d (empty (network_of d))), []) → IsKept (account name h limit marks) me
+    → marks ≡ replicate n None → me ≡ (knower (all_known d (empty (network_of d))), []) → IsKept (view_of name h limit marks) me
 kept_first name d h limit n marks me valid count declared steps none seat =
     let net = network_of d in
-    let first : IsKept (first_account name d h.load limit) me = record {
-      account = record {
+    let first : IsKept (first_view name d h.load limit) me = record {
+      true_view = record {
         network = are_networks d valid;
         state = empty net;
         history = record { run = refl; in_order = λ m. (packets_at net m (packets_of h.load), refl) };

@@ -91,7 +91,7 @@ abbrev pub new_cells : Declaration → TableId → List CellView
 new_cells d name = map (new_cell d name) (cells_of d)
 
 -- the history is one of the load's, within the limit, and each mark is true
-pub record IsAccount (j : JournalView) : Type 0 where
+pub record IsTrueView (j : JournalView) : Type 0 where
   pub network : IsNetwork (network_of j.declared)
   pub state : State
   pub history : LeadsTo j state
@@ -101,6 +101,6 @@ pub record IsAccount (j : JournalView) : Type 0 where
 
 -- and the journal's seat knows what all cells know
 pub record IsKept (j : JournalView) (me : Me Change View) : Type 0 where
-  pub account : IsAccount j
+  pub true_view : IsTrueView j
   pub channels : (network_of j.declared).channels ≡ 2 * length j.declared.links
-  pub seat : me ≡ (knower (all_known j.declared account.state), [])
+  pub seat : me ≡ (knower (all_known j.declared true_view.state), [])

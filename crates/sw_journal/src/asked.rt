@@ -3,7 +3,7 @@ ghost use Rattle.std.specs.Prelude.{◌≡◌, ◌↔◌, ◌<◌, ◌*◌, IfOk
 ghost use Rattle.sw_history.specs.Next.{IsIdle, MayFollow};
 ghost use Rattle.sw_journal.specs.Asked.{BroughtOut, IsDrained, IsStuck, IsStill, IsUndelivered};
 ghost use Rattle.sw_journal.specs.Cells.{end_numbers};
-ghost use Rattle.sw_journal.specs.Record.{Declares, IsAccount, with_marks};
+ghost use Rattle.sw_journal.specs.Record.{Declares, IsTrueView, with_marks};
 ghost use Rattle.sw_limit.specs.History.{IsWhole, packets_of};
 ghost use Rattle.sw_machine.specs.Steps.{Step as MachineStep};
 ghost use Rattle.sw_model.specs.Model.{network_of};
@@ -66,7 +66,7 @@ impl<'n> Journal<'n> {
     /// and of replies that wait, their end markers counted.
     pub fn undelivered(&self) -> u64
         ensures count { IsUndelivered self.now result }
-        ensures account { IsAccount self.now }
+        ensures true_view { IsTrueView self.now }
     {
         self.history.net().undelivered()
     }
@@ -112,7 +112,7 @@ impl<'n> Journal<'n> {
     /// The history.
     pub fn into_history(self) -> Vec<Step>
         ensures steps { map machine_step result.items ≡ self.entry.history }
-        ensures account { IsAccount self.entry }
+        ensures true_view { IsTrueView self.entry }
     {
         let Journal {
             history,

@@ -59,7 +59,7 @@ impl<'n> Model for Journal<'n> {
 
 impl<'n> Journal<'n> {
     ghost use Rattle.std.specs.Prelude.{IfOk};
-    ghost use Rattle.sw_journal.specs.Record.{Commits, IsAccount, IsNew, IsNowCell, new_cells};
+    ghost use Rattle.sw_journal.specs.Record.{Commits, IsTrueView, IsNew, IsNowCell, new_cells};
     ghost use Rattle.sw_limit.specs.Limit.{AreDeclared};
     ghost use Rattle.sw_model.specs.Steps.{machine_step};
 
@@ -98,7 +98,7 @@ impl<'n> Journal<'n> {
     /// How many steps there are.
     pub fn len(&self) -> usize
         ensures len { result ≡ length self.now.history }
-        ensures account { IsAccount self.now }
+        ensures true_view { IsTrueView self.now }
     {
         self.history.len()
     }

@@ -4,7 +4,7 @@ use Rattle.sw_limit.specs.History.{IsHistory}
 use Rattle.sw_load.specs.Load.{LoadEntry, load_text}
 use Rattle.sw_model.specs.Packets.{IsDeclaredPacket}
 use Rattle.sw_machine.specs.Begun.{Begun, length_with_reply}
-use Rattle.sw_machine.specs.Headline.{OfAccepted}
+use Rattle.sw_machine.specs.DeadlockFreedom.{OfAccepted}
 use Rattle.sw_machine.specs.Network.{Network}
 use Rattle.sw_machine.specs.State.{State}
 use Rattle.sw_machine.specs.Steps.{Step}

@@ -1,7 +1,7 @@
 //! What holds of loads and histories. These functions do nothing: each is the proof of what its clause says.
 ghost use Rattle.sw_limit.specs.Limit.{AcceptedHistoriesEnd, ListedAreDeclared};
 
-use sw_model::declared_packets_pass;
+use sw_model::laws::declared_packets_pass;
 
 /// Where a certificate is accepted for a network, each history of a load has fewer steps than the
 /// limit that is enough for it.

@@ -1,6 +1,7 @@
 //! The receiving end of a channel.
 ghost use Rattle.std.specs.Prelude.{◌≡◌, ℕ, ◌<◌, ◌≤◌, ◌+◌, [], ◌∷◌, length, IfOk, IsTrue, slice_get};
 
+use crate::flow_control::{ASKED_BY_FCT, MAX_BEFORE_FCT};
 use circular_buffer::HeapCircularBuffer;
 use std::alloc::{AllocError, Global};
 use std::marker::Model;
@@ -77,8 +78,8 @@ impl RxEnd {
     pub fn can_issue(&self) -> bool
         ensures { result ≡ may_issue self.now }
     {
-        self.ring.len() + self.outstanding as usize + 8 <= self.ring.capacity()
-            && self.outstanding <= 48
+        let asked = self.outstanding as usize + ASKED_BY_FCT as usize;
+        self.ring.len() + asked <= self.ring.capacity() && self.outstanding <= MAX_BEFORE_FCT
     }
 
     /// An FCT leaves: eight more N-Chars are asked for (ECSS-E-ST-50-12C, data link layer: flow
@@ -87,7 +88,7 @@ impl RxEnd {
         requires { IsTrue (may_issue self.old) }
         ensures { self.new ≡ asked self.old }
     {
-        self.outstanding += 8;
+        self.outstanding += ASKED_BY_FCT;
     }
 
     /// An N-Char arrives from the wire and goes to the end of the buffer (ECSS-E-ST-50-12C, data link

@@ -1,6 +1,7 @@
 //! The transmitting end of a channel.
 ghost use Rattle.std.specs.Prelude.{◌≡◌, ℕ, ◌<◌, ◌≤◌, ◌+◌, ◌-◌};
 
+use crate::flow_control::ASKED_BY_FCT;
 use std::marker::Model;
 
 /// The transmitting end of a channel, seen as its credit: how many N-Chars it may still send
@@ -50,6 +51,6 @@ impl TxEnd {
         requires { self.old ≤ 48 }
         ensures { self.new ≡ granted self.old }
     {
-        self.credit += 8;
+        self.credit += ASKED_BY_FCT;
     }
 }

@@ -3,15 +3,12 @@ ghost use Rattle.std.specs.Prelude.{◌≡◌, ◌<◌, ◌≤◌, ◌+◌, ◌-
 ghost use Rattle.circular_buffer.specs.Buffer.{buffer};
 ghost use Rattle.sw_link.specs.Between.{IsBetween, empty_between, fcts_at, wire_at, with_fcts, with_wire};
 
+use crate::flow_control::MAX_OUTSTANDING;
 use circular_buffer::HeapCircularBuffer;
 use std::alloc::{AllocError, Global};
 use std::marker::Model;
 use sw_char::NChar;
 use sw_topo::Chan;
-
-/// How many N-Chars are on a wire at most: as many as seven FCTs ask for (ECSS-E-ST-50-12C, data
-/// link layer: flow control).
-pub const MAX_ON_WIRE: usize = 56;
 
 /// The wires of a network's channels, each with room for 56 N-Chars, and for each channel how many
 /// FCTs are under way to its start (ECSS-E-ST-50-12C, data link layer: flow control).
@@ -37,7 +34,7 @@ fn rings(alloc: Global, channels: usize) -> Result<Vec<HeapCircularBuffer<NChar>
 {
     let mut rings = Vec::new(alloc);
     for _ in 0..channels {
-        rings.push(HeapCircularBuffer::with_capacity(alloc, MAX_ON_WIRE)?)?;
+        rings.push(HeapCircularBuffer::with_capacity(alloc, MAX_OUTSTANDING as usize)?)?;
     }
     Ok(rings)
 }

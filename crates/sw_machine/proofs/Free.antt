@@ -9,7 +9,7 @@ use Rattle.sw_machine.proofs.RunLists.{all_moves, cost, run_of, run_of_append}
 use Rattle.sw_machine.proofs.Runs.{always_goes_on, empty_inv, none, reached_inv, run_begins}
 use Rattle.sw_machine.proofs.Whole.{all_comes_out, comes_out_whole}
 use Rattle.sw_machine.specs.Certificate.{Certificate, IsAccepted, IsListed, number}
-use Rattle.sw_machine.specs.Headline.{EndsEmpty, IsDeadlockFree, QuietIsEmpty}
+use Rattle.sw_machine.specs.DeadlockFreedom.{EndsEmpty, IsDeadlockFree, QuietIsEmpty}
 use Rattle.sw_machine.specs.Network.{IsNetwork, Network}
 use Rattle.sw_machine.specs.Places.{ByFlow, ByTarget, Goes, IsChain, IsCycle, IsPlace, IsRising, Start}
 use Rattle.sw_machine.specs.Runs.{undelivered}

@@ -15,7 +15,7 @@ use Rattle.sw_machine.proofs.Moves.{accept_keeps, arrive_keeps, begin_keeps, emi
 use Rattle.sw_machine.proofs.Progress.{goes_on}
 use Rattle.sw_machine.specs.Begun.{Begins, Begun, RunOf}
 use Rattle.sw_machine.specs.Certificate.{Certificate, IsAccepted, IsListed}
-use Rattle.sw_machine.specs.Headline.{AlwaysGoesOn}
+use Rattle.sw_machine.specs.DeadlockFreedom.{AlwaysGoesOn}
 use Rattle.sw_machine.specs.Network.{AnsweredBy, AtNode, AtSwitch, Cell, IsNetwork, Network, PendingReply, left_bytes}
 use Rattle.sw_machine.specs.Packets.{IsCut, Packet, is_marker, marker_of}
 use Rattle.sw_machine.specs.Runs.{IsReached, Run}

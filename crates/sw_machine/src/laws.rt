@@ -9,7 +9,7 @@ ghost use Rattle.sw_machine.specs.Sample.{certificate, misrouted, of_capacity, s
 ghost use Rattle.sw_machine.specs.Witnesses.{IsAnswered, IsDiscarded, IsDropped, SendsFcts};
 ghost use Rattle.std.specs.Prelude.{◌≤◌, ℕ};
 ghost use Rattle.sw_machine.specs.Begun.{AllComesOut, AllIsAnswered, ComesOutWhole, EachRunIsCounted, IsBounded, IsBoundedByLoad, RepliesAreAsked};
-ghost use Rattle.sw_machine.specs.Headline.{AcceptedIsDeadlockFree, AlwaysGoesOn, EndsEmpty, IsNeverLockedUp, OfAccepted, QuietIsEmpty};
+ghost use Rattle.sw_machine.specs.DeadlockFreedom.{AcceptedIsDeadlockFree, AlwaysGoesOn, EndsEmpty, IsNeverLockedUp, OfAccepted, QuietIsEmpty};
 ghost use Rattle.sw_machine.specs.OneSlot.{OneSlotIsOneReply};
 ghost use Rattle.sw_machine.specs.Owed.{EmitSettles, NodesOweReplies, OnlyAskedOwe};
 ghost use Rattle.sw_machine.specs.Parts.{LinkEndsAreAtCells, OutputsAreHeldOnce, StepsAreLocal, StepsChangeOneCell};

@@ -1,9 +1,9 @@
 //! RMAP: commands, replies and targets (ECSS-E-ST-50-52C).
 #![tactic(auto)]
 
-mod cases;
 mod checksum;
 mod command;
+mod command_status;
 mod config;
 mod instruction;
 pub mod laws;

@@ -3,8 +3,8 @@ ghost use Rattle.std.specs.Prelude.{◌≡◌, ◌<◌, ◌≤◌, ◌+◌, ◌-
 ghost use Rattle.sw_rmap.specs.Config.{IsTargetConfig};
 ghost use Rattle.sw_rmap.specs.Answers.{IsInWindow, answer, answer_to, found_by, is_success, stored};
 
-use crate::cases::status;
 use crate::command::Command;
+use crate::command_status::status;
 use crate::config::TargetConfig;
 use crate::reply::reply;
 use crate::status::Status;

@@ -1,22 +1,36 @@
 -- From the journal at the end of a run to the outcome.
 use Rattle.std.proofs.Common.{List, ap, arith, length, subst, sym, ℕ, ◌∙◌, ◌≡◌, ◌≤◌}
 use Rattle.std.proofs.lemmas.List.{length-map}
+use Rattle.sw_history.proofs.Follows.{one_state_after}
 use Rattle.sw_journal.specs.Asked.{IsUndelivered}
 use Rattle.sw_journal.specs.Record.{JournalView, LeadsTo}
 use Rattle.sw_limit.specs.History.{IsHistory, IsWhole, packets_of}
 use Rattle.sw_load.specs.Load.{LoadEntry}
+use Rattle.sw_machine.specs.Runs.{IsLockedUp}
 use Rattle.sw_machine.specs.State.{State}
 use Rattle.sw_machine.specs.Steps.{Step}
 use Rattle.sw_model.specs.Model.{network_of}
 use Rattle.sw_config.specs.Entries.{Declaration}
-use Rattle.sw_run.specs.Ends.{AreOutBy, EndsBy}
-use Rattle.sw_run.specs.Outcomes.{IsOutcome, NothingFollows, came_out_of, steps_of}
+use Rattle.sw_run.specs.Ends.{AreOutBy, EndsBy, IsOpen}
+use Rattle.sw_run.specs.Outcomes.{IsOutcome, IsUnfinished, NothingFollows, came_out_of, steps_of}
 use Rattle.sw_run.specs.declared.outcome.Outcome.{Outcome}
 use Rattle.sw_model.specs.Steps.{machine_step}
 
 module _ (j : JournalView) (s : State) (o : Outcome) (leads : LeadsTo j s) (within : length j.history ≤ j.limit) (steps : steps_of o ≡ j.history) where
   as_long : length o.history.items ≡ length j.history
   as_long = let a = length-map o.history.items machine_step in let b = ap (λ (l : List Step). length l) steps in omega arith
+
+  unfinished : IsOpen j → IsUndelivered j o.undelivered → IsUnfinished j.declared j.load o s
+  unfinished goes_on left = record {
+    not_drained = λ whole none. goes_on.0 (record {
+      whole = subst (IsWhole (network_of j.declared) (packets_of j.load)) steps whole;
+      delivered = λ t to. sym none ∙ left t to;
+    });
+    not_stuck = λ locked still. goes_on.1 (record {
+      still = subst (NothingFollows (network_of j.declared) (packets_of j.load)) steps still;
+      locked_up = λ t to. subst (IsLockedUp (network_of j.declared)) (sym (one_state_after (network_of j.declared) (packets_of j.load) j.history s t leads to)) locked;
+    });
+  }
 
   by_journal : EndsBy j o.stop → AreOutBy j (length j.declared.nodes) (came_out_of o) → IsUndelivered j o.undelivered → IsOutcome j.declared j.load j.limit o
   by_journal ends out left = record {
@@ -27,7 +41,8 @@ module _ (j : JournalView) (s : State) (o : Outcome) (leads : LeadsTo j s) (with
     undelivered = left s leads;
     drained = λ e. let t = subst (EndsBy j) e ends in (subst (IsWhole (network_of j.declared) (packets_of j.load)) (sym steps) t.whole, left s leads ∙ sym (t.delivered s leads));
     stuck = λ e. let t = subst (EndsBy j) e ends in (t.locked_up s leads, subst (NothingFollows (network_of j.declared) (packets_of j.load)) (sym steps) t.still);
-    full = λ e. let t = subst (EndsBy j) e ends in as_long ∙ t;
+    full = λ e. let t = subst (EndsBy j) e ends in (as_long ∙ t.0, unfinished t.1 left);
+    memory = λ e. unfinished (subst (EndsBy j) e ends) left;
   }
 
   -- the same of the network, load and limit that the journal is of

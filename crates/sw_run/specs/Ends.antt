@@ -12,9 +12,13 @@ use Rattle.sw_run.specs.declared.outcome.Stop.TheVariants.{Drained, JournalFull,
 abbrev pub AreOutBy : JournalView → ℕ → List (List Packet) → Type 0
 AreOutBy j nodes lists = (s : State) → LeadsTo j s → AreOut nodes s lists
 
+-- neither drained nor stuck
+abbrev pub IsOpen : JournalView → Type 0
+IsOpen j = (IsDrained j → ⊥) × (IsStuck j → ⊥)
+
 -- why a run ends with this journal
 abbrev pub EndsBy : JournalView → Stop → Type 0
 EndsBy j Drained = IsDrained j
 EndsBy j Stuck = IsStuck j
-EndsBy j JournalFull = length j.history ≡ j.limit
-EndsBy j Memory = Unit {0}
+EndsBy j JournalFull = (length j.history ≡ j.limit) × IsOpen j
+EndsBy j Memory = IsOpen j

@@ -1,4 +1,5 @@
 pub mod Picked
 pub mod Outcomes
 pub mod Ends
+pub mod Wanted
 pub mod Laws

@@ -12,7 +12,7 @@ use Rattle.sw_machine.specs.Steps as machine
 use Rattle.sw_model.specs.Model.{network_of}
 use Rattle.sw_config.specs.Entries.{Declaration}
 use Rattle.sw_run.specs.declared.outcome.Outcome.{Outcome}
-use Rattle.sw_run.specs.declared.outcome.Stop.TheVariants.{Drained, JournalFull, Stuck}
+use Rattle.sw_run.specs.declared.outcome.Stop.TheVariants.{Drained, JournalFull, Memory, Stuck}
 use Rattle.sw_model.specs.Steps.{machine_step}
 
 -- the steps of the history, as steps of the machine
@@ -32,9 +32,15 @@ pub record AreOut (nodes : ℕ) (s : State) (lists : List (List Packet)) : Type 
   pub all_nodes : length lists ≡ nodes
   pub out : (n : ℕ) (packets : List Packet) → slice_get lists n ≡ Some packets → CameOut s n packets
 
+-- The run is not over: something of the load is to be begun or delivered, and some step may follow or the network is not locked up.
+pub record IsUnfinished (d : Declaration) (load : List LoadEntry) (o : Outcome) (s : State) : Type 0 where
+  pub not_drained : IsWhole (network_of d) (packets_of load) (steps_of o) → o.undelivered ≡ 0 → ⊥
+  pub not_stuck : IsLockedUp (network_of d) s → NothingFollows (network_of d) (packets_of load) (steps_of o) → ⊥
+
 -- The history is one of the load, no longer than the limit, and what the outcome tells is so in the state after it: what came out at each
 -- node, and how many characters are undelivered. Drained: the whole load was begun, and nothing is undelivered. Stuck: the network is locked
--- up, and no step may follow. JournalFull: the history is as long as the limit.
+-- up, and no step may follow. JournalFull: the history is as long as the limit. Both that and Memory are told only of a run that is neither
+-- drained nor stuck.
 pub record IsOutcome (d : Declaration) (load : List LoadEntry) (limit : ℕ) (o : Outcome) : Type 0 where
   pub state : State
   pub history : IsHistory (network_of d) (packets_of load) (steps_of o) state
@@ -43,4 +49,5 @@ pub record IsOutcome (d : Declaration) (load : List LoadEntry) (limit : ℕ) (o 
   pub undelivered : o.undelivered ≡ undelivered (network_of d) state
   pub drained : o.stop ≡ Drained → IsWhole (network_of d) (packets_of load) (steps_of o) × (o.undelivered ≡ 0)
   pub stuck : o.stop ≡ Stuck → IsLockedUp (network_of d) state × NothingFollows (network_of d) (packets_of load) (steps_of o)
-  pub full : o.stop ≡ JournalFull → length o.history.items ≡ limit
+  pub full : o.stop ≡ JournalFull → (length o.history.items ≡ limit) × IsUnfinished d load o state
+  pub memory : o.stop ≡ Memory → IsUnfinished d load o state

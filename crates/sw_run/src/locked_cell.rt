@@ -1,18 +1,15 @@
 //! A cell under its lock.
 ghost use Rattle.std.specs.Prelude.{◌≡◌};
+ghost use Rattle.sw_journal.specs.Cells.{end_numbers};
+ghost use Rattle.sw_run.specs.Wanted.{wanted_fct};
 
 use crate::run_identity::RunIdentity;
 use std::marker::PhantomData;
 use sw_cell::CellId;
 use sw_journal::Cell;
+use sw_link::flow_control::{ASKED_BY_FCT, MAX_BEFORE_FCT};
 use sw_model::Step;
 use sw_topo::LinkEnd;
-
-/// An FCT asks for so many characters (ECSS-E-ST-50-12C, data link layer: flow control).
-const ASKED: u16 = 8;
-
-/// Another may be sent while at most so many are outstanding.
-const MOST_OUTSTANDING: u8 = 48;
 
 /// A cell of one run.
 #[derive(Drop)]
@@ -41,9 +38,11 @@ impl<W: RunIdentity> LockedCell<W> {
 
     /// The FCT that the link end is to send, if there is room for what it asks for: the cell's own
     /// numbers tell.
-    pub(crate) fn wanted(&self, end: LinkEnd) -> Option<Step> {
+    pub(crate) fn wanted(&self, end: LinkEnd) -> Option<Step>
+        ensures { result ≡ wanted_fct end (end_numbers self.now.cell.ends end) }
+    {
         let numbers = self.cell.numbers(end)?;
-        if numbers.room >= ASKED && numbers.outstanding <= MOST_OUTSTANDING {
+        if numbers.room >= ASKED_BY_FCT as u16 && numbers.outstanding <= MAX_BEFORE_FCT {
             Some(Step::Fct(end.receives()))
         } else {
             None

@@ -34,7 +34,7 @@ pub(crate) struct LockedJournal<'a, W: RunIdentity> {
     awake: u16,
     stop: Option<Stop>,
     of: PhantomData<W>,
-    ghost account_is: { (journal.name ≡ W.name) × (journal.declared ≡ W.declared) × (journal.load ≡ W.load) × (journal.limit ≡ W.limit) },
+    ghost identity_is: { (journal.name ≡ W.name) × (journal.declared ≡ W.declared) × (journal.load ≡ W.load) × (journal.limit ≡ W.limit) },
     ghost limit_is: { limit ≡ W.limit },
     ghost nodes_is: { nodes ≡ length W.declared.nodes },
 }
@@ -48,7 +48,7 @@ impl<'a, W: RunIdentity> LockedJournal<'a, W> {
         nodes: u16,
         ends: u16,
     ) -> LockedJournal<'a, W>
-        requires account { (journal.name ≡ W.name) × (journal.declared ≡ W.declared) × (journal.load ≡ W.load) × (journal.limit ≡ W.limit) }
+        requires identity { (journal.name ≡ W.name) × (journal.declared ≡ W.declared) × (journal.load ≡ W.load) × (journal.limit ≡ W.limit) }
         requires limit { limit ≡ W.limit }
         requires nodes { nodes ≡ length W.declared.nodes }
     {

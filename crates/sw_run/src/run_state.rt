@@ -1,5 +1,7 @@
 //! What the workers of a run share.
-ghost use Rattle.std.specs.Prelude.{◌≡◌, ◌*◌, ◌<◌, All, IfOk, length};
+ghost use Rattle.std.specs.Prelude.{◌≡◌, ◌*◌, ◌<◌, All, IfOk, IfSome, length, slice_get};
+ghost use Rattle.sw_config.specs.Entries.{wiring_of};
+ghost use Rattle.sw_run.specs.Wanted.{cell_place};
 
 use crate::gate::Gate;
 use crate::locked_cell::LockedCell;
@@ -29,6 +31,7 @@ pub(crate) struct RunState<'a, W: RunIdentity> {
 /// The place of the cell at which the link end stands: the nodes come first.
 fn place_of(network: &Network, end: LinkEnd) -> usize
     requires { end < 2 * length network.now.links }
+    ensures { IfSome (slice_get (wiring_of network.now).ends end) (λ place. result ≡ cell_place (length network.now.nodes) place) }
 {
     // Names how many link ends there are.
     let _ = network.channels();
@@ -63,7 +66,7 @@ impl<'a, W: RunIdentity> RunState<'a, W> {
         limit: usize,
     ) -> Result<RunState<'a, W>, AllocError>
         requires network { network.now ≡ W.declared }
-        requires account { (journal.name ≡ W.name) × (journal.declared ≡ W.declared) × (journal.load ≡ W.load) × (journal.limit ≡ W.limit) }
+        requires identity { (journal.name ≡ W.name) × (journal.declared ≡ W.declared) × (journal.load ≡ W.load) × (journal.limit ≡ W.limit) }
         requires cells { All (λ c. c.name ≡ W.name) cells.items }
         requires limit { limit ≡ W.limit }
     {

@@ -28,7 +28,7 @@ fn run_named<'a, W: RunIdentity + Send + Sync, G: Gate + Sync, R: Threads + Wait
     gate: &G,
 ) -> Result<Outcome, AllocError>
     requires network { network.now ≡ W.declared }
-    requires account { (journal.name ≡ W.name) × (journal.declared ≡ W.declared) × (journal.load ≡ W.load) × (journal.limit ≡ W.limit) }
+    requires identity { (journal.name ≡ W.name) × (journal.declared ≡ W.declared) × (journal.load ≡ W.load) × (journal.limit ≡ W.limit) }
     requires cells { All (λ c. c.name ≡ W.name) cells.items }
     requires limit { limit ≡ W.limit }
     requires some { 0 < workers }

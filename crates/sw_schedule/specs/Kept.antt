@@ -3,8 +3,8 @@ use Rattle.std.specs.Prelude.{ℕ, List, replicate}
 use Rattle.sw_machine.specs.Steps as machine
 use Rattle.sw_schedule.specs.declared.cargo.Cargo.{Cargo}
 use Rattle.sw_schedule.specs.declared.cargo.Cargo.TheVariants as cargo
-use Rattle.sw_schedule.specs.declared.entry.Kept.{Kept}
-use Rattle.sw_schedule.specs.declared.entry.Kept.TheVariants.{Whole, OneByte}
+use Rattle.sw_schedule.specs.declared.schedule_entry.Kept.{Kept}
+use Rattle.sw_schedule.specs.declared.schedule_entry.Kept.TheVariants.{Whole, OneByte}
 use Rattle.sw_model.specs.Steps.{machine_step}
 
 abbrev pub cargo_bytes : Cargo → List ℕ

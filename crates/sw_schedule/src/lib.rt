@@ -2,12 +2,12 @@
 #![tactic(auto)]
 
 mod cargo;
-mod entry;
 pub mod laws;
 mod line;
 mod names;
 mod schedule;
+mod schedule_entry;
 
-pub use entry::ScheduleEntry;
 pub use schedule::{MAX_STEPS, Schedule, ScheduleFault, read_steps};
+pub use schedule_entry::ScheduleEntry;
 pub use sw_model::Step;

@@ -6,8 +6,8 @@ ghost use Rattle.sw_schedule.specs.Lines.{at_channel, at_node, begin_of, channel
 ghost use Rattle.sw_config.specs.Entries.{Declaration};
 
 use crate::cargo::cargo_of;
-use crate::entry::{Kept, ScheduleEntry, begin};
 use crate::names::{channel_of, count_of, end_of, flow_of, node_of};
+use crate::schedule_entry::{Kept, ScheduleEntry, begin};
 use std::alloc::{AllocError, Global};
 use sw_config::Network;
 use sw_model::Step;

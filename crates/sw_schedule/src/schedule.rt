@@ -3,8 +3,8 @@ ghost use Rattle.std.specs.Prelude.{◌≡◌, ◌+◌, ◌++◌, ◌≤◌, [],
 ghost use Rattle.sw_schedule.specs.Schedule.{Reads, steps_of, steps_of_text, with_line};
 ghost use Rattle.sw_schedule.specs.declared.schedule.ScheduleFault.TheVariants.{Memory};
 
-use crate::entry::ScheduleEntry;
 use crate::line::{entry_of, is_skipped};
+use crate::schedule_entry::ScheduleEntry;
 use std::alloc::{AllocError, AllocFailed, Global};
 use std::marker::Model;
 use sw_config::Network;

@@ -3,16 +3,12 @@
 
 mod counts;
 mod cyclic;
-mod entry;
+mod deciding;
 mod free;
-mod laws;
+pub mod laws;
 mod misrouted;
 mod order;
 mod verdict;
 
-pub use entry::{decide, survey};
-pub use laws::{
-    cyclic_is_shown, free_is_accepted, one_verdict_holds, rising_is_where_no_cycle_is,
-    verdicts_are_determined,
-};
+pub use deciding::{decide, survey};
 pub use verdict::{Findings, Verdict};

@@ -4,11 +4,10 @@
 mod cell;
 mod conditions;
 mod input;
-mod laws;
+pub mod laws;
 mod make;
 mod part;
 mod steps;
 
 pub use cell::SwitchCell;
 pub use input::Input;
-pub use laws::waiting_is_bounded;

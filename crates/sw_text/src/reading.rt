@@ -1,6 +1,6 @@
 //! Reading a whole text.
 ghost use Rattle.std.specs.Prelude.{◌≡◌, ℕ, ◌+◌, ◌<◌, ◌≤◌, ◌≢◌, ◌++◌, take, IfSome, IfOk, IfErr, Ok, Err, length};
-ghost use Rattle.std.specs.Io.KnownBytes.{Consumes, IsAtEnd};
+ghost use Rattle.std.specs.Io.KnownBytes.{Consumes, IsAtEnd, Keeps};
 ghost use Rattle.sw_text.specs.declared.reading.ReadError.TheVariants.{Memory};
 ghost use Rattle.sw_text.specs.Reading.{Takes};
 
@@ -51,6 +51,7 @@ fn read_more<R: Read>(
     ensures read { IfOk result (λ count. Consumes (R.remaining reader.old) (R.remaining reader.new) (take count room.new)) }
     ensures end { IfOk result (λ count. count ≡ 0 → 0 < length room.old → IsAtEnd (R.remaining reader.new)) }
     ensures none { IfErr result (λ e. e ≢ ReadError.TooLong) }
+    ensures kept { result ≡ Err ReadError.Failed → Keeps (R.remaining reader.old) (R.remaining reader.new) }
     ensures failed { IfErr result (λ _. (count : ℕ) × (count ≤ length room.old) × Takes (R.remaining reader.old) (R.remaining reader.new) count) }
 {
     let Ok(count) = reader.read(room) else {
@@ -73,10 +74,12 @@ pub fn read_whole<R: Read>(
     limit: usize,
 ) -> Result<Vec<u8>, ReadError>
     ensures whole { IfOk result (λ text. IfSome (R.remaining reader.old) (λ bytes. text.items ≡ bytes)) }
+    ensures given { IfOk result (λ text. Consumes (R.remaining reader.old) (R.remaining reader.new) text.items) }
     ensures within { IfOk result (λ text. length text.items ≤ limit) }
     ensures end { IfOk result (λ _. IsAtEnd (R.remaining reader.new)) }
     ensures long { result ≡ Err ReadError.TooLong → Takes (R.remaining reader.old) (R.remaining reader.new) (limit + 1) }
     ensures failed { IfErr result (λ _. (count : ℕ) × (count ≤ limit + 1) × Takes (R.remaining reader.old) (R.remaining reader.new) count) }
+    ensures short { result ≡ Err ReadError.Failed → (count : ℕ) × (count ≤ limit) × Takes (R.remaining reader.old) (R.remaining reader.new) count }
 {
     let mut buffer = buffer_of(alloc)?;
     let chunk = buffer.as_mut_slice();

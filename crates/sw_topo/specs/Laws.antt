@@ -2,7 +2,7 @@
 use Rattle.std.specs.Prelude.{◌≡◌, ◌≢◌, ◌↔◌, ℕ, ◌*◌, ◌<◌, ◌≤◌, Bool, true, false, length, slice_get, Some, None}
 use Rattle.sw_topo.specs.declared.place.PlaceEnd.{PlaceEnd}
 use Rattle.sw_topo.specs.declared.place.PlaceEnd.TheVariants.{Node, Switch}
-use Rattle.sw_topo.specs.declared.check.TheConstants.{MAX_NODES, MAX_SWITCHES, MAX_LINKS}
+use Rattle.sw_topo.specs.declared.limits.TheConstants.{MAX_NODES, MAX_SWITCHES, MAX_LINKS}
 use Rattle.sw_topo.specs.Wiring.{Wiring, out, out_of, partner}
 use Rattle.sw_topo.specs.Checked.{IsWiring, IsSound, first_below, fault_of}
 

@@ -1,4 +1,5 @@
 //! The dependencies between the channels of small networks.
+use crate::asked::{Asked, ask_of};
 use crate::samples::{answered, two_ways};
 use std::alloc::Global;
 use std::process::Abort;
@@ -20,18 +21,30 @@ fn are_rows(rt: &impl Abort, rows: &[Vec<u16>], wanted: &[&[u16]]) {
     }
 }
 
-fn leads<R: Abort + Threads + Sync>(rt: &R, alloc: Global, network: Network, wanted: &[&[u16]]) {
-    let rows = rows_of(rt, alloc, &network);
+pub(crate) fn leads<R: Abort + Threads + Sync>(
+    rt: &R,
+    alloc: Global,
+    network: &Network,
+    wanted: &[&[u16]],
+) {
+    let rows = rows_of(rt, alloc, network);
     are_rows(rt, &rows, wanted);
 }
 
 #[test]
 fn each_port_of_a_group_leads_on(rt: HostRuntime) {
     let wanted: [&[u16]; 8] = [&[2, 4], &[], &[6], &[], &[6], &[], &[], &[]];
-    leads(&rt, rt.alloc(), two_ways(&rt, rt.alloc(), &[40]), &wanted);
+    let network = two_ways(&rt, rt.alloc(), &[40]);
+    ask_of(&rt, rt.alloc(), network, Asked::Leads(&wanted));
 }
 
 #[test]
 fn a_target_leads_from_in_to_out(rt: HostRuntime) {
-    leads(&rt, rt.alloc(), answered(&rt, rt.alloc()), &[&[1], &[]]);
+    let wanted: [&[u16]; 2] = [&[1], &[]];
+    ask_of(
+        &rt,
+        rt.alloc(),
+        answered(&rt, rt.alloc()),
+        Asked::Leads(&wanted),
+    );
 }

@@ -1,4 +1,5 @@
 //! The places of flows.
+use crate::asked::{Asked, ask_of};
 use crate::samples::two_ways;
 use std::alloc::Global;
 use std::process::Abort;
@@ -15,7 +16,7 @@ fn at(channel: u16, deleted: u8) -> Place {
 }
 
 // Has flow 0 these places?
-fn reaches(rt: &impl Abort, alloc: Global, network: &Network, wanted: &[Place]) {
+pub(crate) fn reaches(rt: &impl Abort, alloc: Global, network: &Network, wanted: &[Place]) {
     assert!(rt; network.flows() > 0);
     let found = places(alloc, network, 0).expect(rt, "places");
     assert!(rt; found.as_slice() == wanted);
@@ -25,11 +26,11 @@ fn reaches(rt: &impl Abort, alloc: Global, network: &Network, wanted: &[Place]) 
 fn goes_every_way_of_a_group(rt: HostRuntime) {
     let network = two_ways(&rt, rt.alloc(), &[40]);
     let wanted = [at(0, 0), at(2, 0), at(4, 0), at(6, 0)];
-    reaches(&rt, rt.alloc(), &network, &wanted);
+    ask_of(&rt, rt.alloc(), network, Asked::Reaches(&wanted));
 }
 
 // Of one flow alone, all places are those of one flow.
-fn has_one_flow<R: Abort + Threads + Sync>(rt: &R, alloc: Global, network: &Network) {
+pub(crate) fn has_one_flow<R: Abort + Threads + Sync>(rt: &R, alloc: Global, network: &Network) {
     let all = all_places(rt, alloc, network).expect(rt, "all places");
     assert!(rt; all.len() == 1);
 }
@@ -37,6 +38,6 @@ fn has_one_flow<R: Abort + Threads + Sync>(rt: &R, alloc: Global, network: &Netw
 #[test]
 fn deletes_path_addresses(rt: HostRuntime) {
     let network = two_ways(&rt, rt.alloc(), &[3, 4]);
-    reaches(&rt, rt.alloc(), &network, &[at(0, 0), at(4, 1), at(6, 2)]);
-    has_one_flow(&rt, rt.alloc(), &network);
+    let wanted = [at(0, 0), at(4, 1), at(6, 2)];
+    ask_of(&rt, rt.alloc(), network, Asked::HasOneFlow(&wanted));
 }

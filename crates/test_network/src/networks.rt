@@ -1,4 +1,5 @@
 //! A network made by hand, and what it tells.
+use crate::asked::{Asked, ask_of};
 use crate::building::{add_link, add_node, add_switch, one_route, port};
 use std::alloc::{AllocError, Global};
 use std::process::Abort;
@@ -43,7 +44,7 @@ fn star(rt: &impl Abort, alloc: Global) -> Network {
     builder.wire(alloc).expect(rt, "network")
 }
 
-fn check_parts(rt: &impl Abort, network: &Network) {
+pub(crate) fn check_parts(rt: &impl Abort, network: &Network) {
     assert!(rt; network.nodes() == 2);
     assert!(rt; network.node_name(1) == "T");
     assert!(rt; network.target(1) == Some(MEMORY));
@@ -51,7 +52,7 @@ fn check_parts(rt: &impl Abort, network: &Network) {
     assert!(rt; network.node_named("S").is_none());
 }
 
-fn check_buffers(rt: &impl Abort, network: &Network) {
+pub(crate) fn check_buffers(rt: &impl Abort, network: &Network) {
     assert!(rt; network.links() == 2);
     assert!(rt; network.capacity(Chan::new(0)) == 64);
     assert!(rt; network.capacity(Chan::new(1)) == 8);
@@ -59,9 +60,7 @@ fn check_buffers(rt: &impl Abort, network: &Network) {
 
 #[test]
 fn tells_its_parts_and_buffers(rt: HostRuntime) {
-    let network = star(&rt, rt.alloc());
-    check_parts(&rt, &network);
-    check_buffers(&rt, &network);
+    ask_of(&rt, rt.alloc(), star(&rt, rt.alloc()), Asked::Parts);
 }
 
 // Commands from node 0 to node 1 that are answered by way of port 1.
@@ -81,12 +80,12 @@ fn answered(rt: &impl Abort, alloc: Global) -> Network {
     network
 }
 
-fn check_numbers(rt: &impl Abort, network: &Network) {
+pub(crate) fn check_numbers(rt: &impl Abort, network: &Network) {
     assert!(rt; network.declared_flows() == 1);
     assert!(rt; network.flow_named("w+reply") == Some(1));
 }
 
-fn check_reply_flow(rt: &impl Abort, network: &Network) {
+pub(crate) fn check_reply_flow(rt: &impl Abort, network: &Network) {
     assert!(rt; network.flows() == 2);
     let back = network.flow(1);
     assert!(rt; back.name() == "w+reply");
@@ -97,9 +96,7 @@ fn check_reply_flow(rt: &impl Abort, network: &Network) {
 
 #[test]
 fn sends_replies_back_by_a_flow_after_the_declared(rt: HostRuntime) {
-    let network = answered(&rt, rt.alloc());
-    check_numbers(&rt, &network);
-    check_reply_flow(&rt, &network);
+    ask_of(&rt, rt.alloc(), answered(&rt, rt.alloc()), Asked::Replies);
 }
 
 // Why a network of one node alone is refused.

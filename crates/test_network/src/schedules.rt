@@ -1,7 +1,9 @@
 //! Schedules as texts.
+use crate::asked::{Asked, ask_of};
 use crate::samples::line;
 use std::alloc::{AllocError, Global};
 use std::process::Abort;
+use std::thread::Threads;
 use sw_char::End;
 use sw_config::Network;
 use sw_model::Step;
@@ -100,16 +102,21 @@ fn wrong_line(alloc: Global, network: &Network, text: &[u8]) -> Option<u64> {
     }
 }
 
-fn are_wrong_for(rt: &impl Abort, alloc: Global, network: &Network, texts: &[&[u8]], wanted: u64) {
+pub(crate) fn are_wrong_for(
+    rt: &impl Abort,
+    alloc: Global,
+    network: &Network,
+    texts: &[&[u8]],
+    wanted: u64,
+) {
     for text in texts {
         assert!(rt; wrong_line(alloc, network, text) == Some(wanted));
     }
 }
 
 // For the line, this is the first wrong line of each text.
-fn are_wrong(rt: &impl Abort, alloc: Global, texts: &[&[u8]], wanted: u64) {
-    let network = line(rt, alloc);
-    are_wrong_for(rt, alloc, &network, texts, wanted);
+fn are_wrong<R: Abort + Threads + Sync>(rt: &R, alloc: Global, texts: &[&[u8]], wanted: u64) {
+    ask_of(rt, alloc, line(rt, alloc), Asked::AreWrong(texts, wanted));
 }
 
 #[test]

@@ -1,16 +1,21 @@
 //! Runs loads, and prints what came of them, as far as that does not hang on the order of the threads: through journals in one
-//! thread, by the threads of `sw_run`, and by the engine of `swcheck run`.
+//! thread, by the threads of `sw_run`, and by the engine of `swcheck run` with a gate. Then it calls engines on streams that fail, and
+//! reads loads.
 #![tactic(auto)]
 
 mod calls;
 mod files;
 mod journals;
+mod loads;
 mod runs;
+mod streams;
 mod work;
 
-use crate::calls::show_calls;
+use crate::calls::gated::show_gated;
 use crate::journals::show_journals;
+use crate::loads::show_loads;
 use crate::runs::show_runs;
+use crate::streams::show_streams;
 use std::io;
 
 fn main(rt: HostRuntime) -> io::Result<()> {
@@ -19,5 +24,9 @@ fn main(rt: HostRuntime) -> io::Result<()> {
     println!(rt; "# runs by threads")?;
     show_runs(&rt)?;
     println!(rt; "# the engine of run")?;
-    show_calls(&rt)
+    show_gated(&rt, "turn.toml", "turn.load")?;
+    println!(rt; "# streams that fail")?;
+    show_streams(&rt)?;
+    println!(rt; "# loads")?;
+    show_loads(&rt)
 }

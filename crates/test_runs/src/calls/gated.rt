@@ -1,7 +1,7 @@
 //! A run whose workers wait for one another.
 
+use crate::calls::ENOUGH;
 use crate::calls::files::ended_of;
-use crate::calls::open_gate::ENOUGH;
 use crate::calls::show::show_end;
 use std::io;
 use std::rt::Files;

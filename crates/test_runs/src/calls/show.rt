@@ -10,7 +10,3 @@ pub(crate) fn show_end(rt: &impl Print, ended: Ended) -> io::Result<()> {
         Ended::WriteFailed => println!(rt; "write failed"),
     }
 }
-
-pub(crate) fn word_of(holds: bool) -> &'static str {
-    if holds { "yes" } else { "no" }
-}

@@ -5,14 +5,14 @@ use Rattle.sw_app.proofs.Told.{answered_of_two, shown_of_two}
 use Rattle.sw_app.proofs.engines.check.Goals as goal
 
 pub returns-in-Err-Memory-clause-answer : goal.returns-in-Err-Memory-clause-answer
-returns-in-Err-Memory-clause-answer g c = told_memory_of_two IsCheckAnswer _ _ _ _ _ c.tell_memory.ensures
+returns-in-Err-Memory-clause-answer g c = told_memory_of_two IsCheckAnswer _ _ _ _ _ _ _ c.tell_memory.ensures
 
 pub returns-clause-answer : goal.returns-clause-answer
 returns-clause-answer g c =
-    answered_of_two IsCheckAnswer _ _ _ _ _ (given c.in-Ok.inputs.0) (given c.in-Ok.inputs.1) c.check_answer.result c.in-Ok.ensures.first
+    answered_of_two IsCheckAnswer _ _ _ _ _ _ _ (given c.in-Ok.inputs.0) (given c.in-Ok.inputs.1) c.check_answer.result c.in-Ok.ensures.first
     c.in-Ok.ensures.second c.check_answer.ensures.answer c.tell_answer.ensures
 
 pub returns-clause-shown : goal.returns-clause-shown
 returns-clause-shown g c =
-    shown_of_two _ _ _ _ (given c.in-Ok.inputs.0) (given c.in-Ok.inputs.1) AreShownFree c.check_answer.result _ c.in-Ok.ensures.first c.in-Ok.ensures.second
+    shown_of_two _ _ _ _ _ _ (given c.in-Ok.inputs.0) (given c.in-Ok.inputs.1) AreShownFree c.check_answer.result _ c.in-Ok.ensures.first c.in-Ok.ensures.second
     c.check_answer.ensures.shown c.tell_answer.ensures

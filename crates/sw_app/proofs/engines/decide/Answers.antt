@@ -13,10 +13,10 @@ returns-in-Err-clause-shown g c = λ zero. absurd (unread_not_zero _ _ _ _ c.tel
 
 pub returns-clause-answer : goal.returns-clause-answer
 returns-clause-answer g c =
-    answered_bytes IsDecideAnswer _ _ _ _ c.deref.result.now c.decide_answer.result (rw c.deref.ensures.value c.in-Ok.ensures.whole)
+    answered_bytes IsDecideAnswer _ _ _ _ _ c.deref.result.now c.decide_answer.result (rw c.deref.ensures.value c.in-Ok.ensures.given) c.in-Ok.ensures.end
     (rw c.deref.ensures.value c.in-Ok.ensures.within) c.decide_answer.ensures.answer c.tell_byte_answer.ensures
 
 pub returns-clause-shown : goal.returns-clause-shown
 returns-clause-shown g c =
-    accepted_written _ _ _ c.deref.result.now c.decide_answer.result _ (rw c.deref.ensures.value c.in-Ok.ensures.whole) c.decide_answer.ensures.shown
+    accepted_written _ _ _ _ c.deref.result.now c.decide_answer.result _ (rw c.deref.ensures.value c.in-Ok.ensures.given) c.in-Ok.ensures.end c.decide_answer.ensures.shown
     c.tell_byte_answer.ensures

@@ -9,5 +9,5 @@ returns-in-Err g c = told_unread IsReportAnswer _ _ _ _ _ _ (λ long. c.in-Err.e
 
 pub returns : goal.returns
 returns g c =
-    answered IsReportAnswer _ _ _ _ c.deref.result.now c.report_answer.result (rw c.deref.ensures.value c.in-Ok.ensures.whole)
+    answered IsReportAnswer _ _ _ _ _ c.deref.result.now c.report_answer.result (rw c.deref.ensures.value c.in-Ok.ensures.given) c.in-Ok.ensures.end
     (rw c.deref.ensures.value c.in-Ok.ensures.within) c.report_answer.ensures c.tell_answer.ensures

@@ -9,5 +9,5 @@ returns-in-Err g c = told_unread (IsRouteAnswer c.args.flow.now) _ _ _ _ _ _ (λ
 
 pub returns : goal.returns
 returns g c =
-    answered (IsRouteAnswer c.args.flow.now) _ _ _ _ c.deref.result.now c.route_answer.result (rw c.deref.ensures.value c.in-Ok.ensures.whole)
+    answered (IsRouteAnswer c.args.flow.now) _ _ _ _ _ c.deref.result.now c.route_answer.result (rw c.deref.ensures.value c.in-Ok.ensures.given) c.in-Ok.ensures.end
     (rw c.deref.ensures.value c.in-Ok.ensures.within) c.route_answer.ensures c.tell_answer.ensures

@@ -5,9 +5,9 @@ use Rattle.sw_app.proofs.Told.{answered_of_two}
 use Rattle.sw_app.proofs.replay_engine.replay.Goals as goal
 
 pub returns-in-Err-Memory-clause-answer : goal.returns-in-Err-Memory-clause-answer
-returns-in-Err-Memory-clause-answer g c = told_memory_of_two IsReplayAnswer _ _ _ _ _ c.tell_memory.ensures
+returns-in-Err-Memory-clause-answer g c = told_memory_of_two IsReplayAnswer _ _ _ _ _ _ _ c.tell_memory.ensures
 
 pub returns-clause-answer : goal.returns-clause-answer
 returns-clause-answer g c =
-    answered_of_two IsReplayAnswer _ _ _ _ _ (given c.in-Ok.inputs.0) (given c.in-Ok.inputs.1) c.replay_answer.result c.in-Ok.ensures.first
+    answered_of_two IsReplayAnswer _ _ _ _ _ _ _ (given c.in-Ok.inputs.0) (given c.in-Ok.inputs.1) c.replay_answer.result c.in-Ok.ensures.first
     c.in-Ok.ensures.second c.replay_answer.ensures c.tell_answer.ensures

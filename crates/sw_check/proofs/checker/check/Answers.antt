@@ -1,4 +1,5 @@
-use Rattle.std.proofs.Common.{sym}
+use Rattle.std.proofs.Common.{sym, ◌≡◌, ◌∙◌}
+use Rattle.std.specs.Prelude.{None, Option, Some}
 use Rattle.sw_check.specs.Contents.{certificate_of}
 use Rattle.sw_check.proofs.Headline.{is_deadlock_free}
 use Rattle.sw_check.proofs.Accepted.{not_refused_is_accepted}
@@ -10,3 +11,11 @@ new-requires g c = (not_refused_is_accepted c.args.network.now c.args.certificat
 pub returns-in-None-clause-deadlock_free : goal.returns-in-None-clause-deadlock_free
 returns-in-None-clause-deadlock_free g c =
     is_deadlock_free c.args.network.now (certificate_of c.args.certificate.now) c.flows-flows.ensures.valid ((not_refused_is_accepted c.args.network.now c.args.certificate.now c.flows-flows.ensures.valid).0 (sym c.in-None.ensures))
+
+pub returns-in-None-clause-accepted : goal.returns-in-None-clause-accepted
+returns-in-None-clause-accepted g c = (not_refused_is_accepted c.args.network.now c.args.certificate.now c.flows-flows.ensures.valid).0 (sym c.in-None.ensures)
+
+pub returns-in-Some-clause-accepted : goal.returns-in-Some-clause-accepted
+returns-in-Some-clause-accepted g c = λ accepted.
+    let none = (not_refused_is_accepted c.args.network.now c.args.certificate.now c.flows-flows.ensures.valid).1 accepted in
+    absurd (let same : Some c.in-Some.refusal ≡ None = c.in-Some.ensures ∙ none in cc)

@@ -4,7 +4,7 @@ use Rattle.sw_drain.proofs.whole.drain.Goals as goal
 use Rattle.sw_drain.specs.Way.{BeginsOne, IsOnTheWay, MovesOne}
 use Rattle.sw_limit.specs.History.{packets_of}
 use Rattle.sw_limit.specs.Limit.{enough_limit}
-use Rattle.sw_machine.specs.Headline.{IsDeadlockFree}
+use Rattle.sw_machine.specs.DeadlockFreedom.{IsDeadlockFree}
 use Rattle.sw_model.specs.Model.{network_of}
 use Rattle.sw_config.specs.Entries.{Declaration}
 
@@ -20,7 +20,7 @@ returns-then-not-branch-clause-drained g c =
     let d = c.args.net.now.declared in
     let valid = c.network-network.ensures.sound.valid in
     let cert = c.is_deadlock_free.ensures.0 in
-    let free = subst (λ (e : Declaration). IsDeadlockFree (network_of e) cert) c.requires.passed c.is_deadlock_free.ensures.1 in
+    let free = subst (λ (e : Declaration). IsDeadlockFree (network_of e) cert) c.requires.passed c.is_deadlock_free.ensures.2 in
     let v = c.loop.net in
     let u = c.begin_one.new.net in
     let none = subst (λ k. BeginsOne load v c.as_mut_slice.result.now k u c.begin_one.new.begun) c.if-branch.false (rw c.in_ok-senders.ensures.load at c.in_ok-begin_one.ensures.begins) in
@@ -51,7 +51,7 @@ unreachable-requires g c =
     let d = c.args.net.now.declared in
     let valid = c.network-network.ensures.sound.valid in
     let cert = c.is_deadlock_free.ensures.0 in
-    let free = subst (λ (e : Declaration). IsDeadlockFree (network_of e) cert) c.requires.passed c.is_deadlock_free.ensures.1 in
+    let free = subst (λ (e : Declaration). IsDeadlockFree (network_of e) cert) c.requires.passed c.is_deadlock_free.ensures.2 in
     let past = c.loop-test.false in
     let end = c.loop.auto.counter-end in
     let over : c.loop.counter ≡ c.enough_limit-end.result = omega arith in

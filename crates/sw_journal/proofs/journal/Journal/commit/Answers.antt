@@ -17,13 +17,13 @@ pub returns-in-Err-clause-numbers : goal.returns-in-Err-clause-numbers
 returns-in-Err-clause-numbers c =
     let i = c.self.invariant in
     let m = met _ c.self.inside.seat.me c.cell.inside.seat.me c.cell.inside.number c.cell.inside.id c.cell.inside.ends.items i.0 c.cell.invariant c.meet.ensures.same in
-    now_same _ _ _ _ c.self.view_is c.cell.view_is (now_cell _ i.0.account.state c.cell.inside.number _ i.0.account.history m)
+    now_same _ _ _ _ c.self.view_is c.cell.view_is (now_cell _ i.0.true_view.state c.cell.inside.number _ i.0.true_view.history m)
 
 pub renew_after-requires-clause-within : goal.renew_after-requires-clause-within
 renew_after-requires-clause-within c =
     let i = c.self.invariant in
     let m = met _ c.self.inside.seat.me c.cell.inside.seat.me c.cell.inside.number c.cell.inside.id c.cell.inside.ends.items i.0 c.cell.invariant c.meet.ensures.same in
-    rw (c.in_default.ensures.adds.2.declared) (ends_within (network_of c.self.inside.history.declared) i.0.account.state c.cell.inside.id _ c.cell.inside.ends.items i.0.account.network i.0.channels m.ends_are)
+    rw (c.in_default.ensures.adds.2.declared) (ends_within (network_of c.self.inside.history.declared) i.0.true_view.state c.cell.inside.id _ c.cell.inside.ends.items i.0.true_view.network i.0.channels m.ends_are)
 
 pub invariant_of-self-2 : goal.invariant_of-self-2
 invariant_of-self-2 c =
@@ -57,4 +57,4 @@ pub returns-clause-numbers : goal.returns-clause-numbers
 returns-clause-numbers c =
     let i = c.self.invariant in
     let m = met _ c.self.inside.seat.me c.cell.inside.seat.me c.cell.inside.number c.cell.inside.id c.cell.inside.ends.items i.0 c.cell.invariant c.meet.ensures.same in
-    now_same _ _ _ _ c.self.view_is c.cell.view_is (now_cell _ i.0.account.state c.cell.inside.number _ i.0.account.history m)
+    now_same _ _ _ _ c.self.view_is c.cell.view_is (now_cell _ i.0.true_view.state c.cell.inside.number _ i.0.true_view.history m)

@@ -16,7 +16,7 @@ returns-then-number-channels c =
     let number = c.number.ensures in
     let test = c.if-number-channels.true in
     let past : 2 * length h.declared.links ≤ c.args.end = omega (arith, links, count, number, test) in
-    let idle = beyond_idle (network_of h.declared) i.account.network (packets_of h.load) h.steps c.args.end (2 * length h.declared.links) i.channels past in (
+    let idle = beyond_idle (network_of h.declared) i.true_view.network (packets_of h.load) h.steps c.args.end (2 * length h.declared.links) i.channels past in (
       (λ _. subst (λ (a : JournalView). IsIdle (network_of a.declared) (packets_of a.load) a.history c.args.end) c.self.view_is idle),
       (λ _. refl),
     )

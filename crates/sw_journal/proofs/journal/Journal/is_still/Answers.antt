@@ -18,7 +18,7 @@ pub returns : goal.returns
 returns c =
     let i = c.self.invariant.0 in
     let a = c.args.self.now in
-    let ok = subst (λ (k : JournalView). IsNetwork (network_of k.declared)) c.self.view_is i.account.network in
+    let ok = subst (λ (k : JournalView). IsNetwork (network_of k.declared)) c.self.view_is i.true_view.network in
     let channels = subst (λ (k : JournalView). (network_of k.declared).channels ≡ 2 * length k.declared.links) c.self.view_is i.channels in
     let own = ap (λ (k : JournalView). length k.declared.links) c.self.view_is in
     let links = ap (λ (d : Declaration). length d.links) c.network.ensures.network in

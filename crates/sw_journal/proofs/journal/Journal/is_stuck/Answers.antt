@@ -10,5 +10,5 @@ returns-then-undelivered-ne0 c = (
 pub returns-else-undelivered-ne0 : goal.returns-else-undelivered-ne0
 returns-else-undelivered-ne0 c = (
   (λ some. absurd (none_left c.undelivered.result c.if-undelivered-ne0.false some)),
-  (λ stuck. stuck_left c.args.self.now c.undelivered.result c.undelivered.ensures.account c.undelivered.ensures.count stuck),
+  (λ stuck. stuck_left c.args.self.now c.undelivered.result c.undelivered.ensures.true_view c.undelivered.ensures.count stuck),
 )

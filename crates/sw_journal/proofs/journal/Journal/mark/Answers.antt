@@ -5,7 +5,7 @@ use Rattle.sw_journal.specs.Record.{JournalView}
 pub index-requires : goal.index-requires
 index-requires c =
     let i = c.self.invariant.0 in
-    let places = i.account.places in
+    let places = i.true_view.places in
     let channels = i.channels in
     let own = ap (λ (a : JournalView). length a.declared.links) c.self.view_is in
     let r = c.requires in
