@@ -28,7 +28,7 @@ use Rattle.sw_route.specs.declared.look.Look.{Look}
 use Rattle.sw_switch.specs.Cell.{Cell, HasArbiter, HaveArbiters, new_cell, new_end}
 use Rattle.sw_switch.specs.declared.input.Input.TheVariants as ports
 use Rattle.sw_topo.proofs.Ends.{one_port, partner_back, port_found, port_starts}
-use Rattle.sw_topo.proofs.PortBits.{clear_zero, one_set, set_below, set_one}
+use Rattle.sw_topo.proofs.PortBits.{clear_zero, one_set, set_one}
 use Rattle.sw_topo.specs.Wiring.{out_of, partner}
 use Rattle.sw_topo.specs.declared.place.PlaceEnd.TheVariants.{Node as AtNode, Switch}
 use Rattle.sw_link.specs.Between.{Between, empty_between}
@@ -212,9 +212,9 @@ channel_capacity : (d : Declaration) (c : ℕ) → (network_of d).capacity c ≡
 unfolding network_of
 channel_capacity d c = refl
 
-module _ {R A : Type 0} (answer : R → ℕ → Look) (arbiter_ports : A → ℕ) (d : Declaration) (valid : IsValid d) (w : ℕ) (linked : ℕ) (small : linked < 2 ^ 32) (is_linked : (p : ℕ) → p < 32 → IsBitSet linked p ↔ IsSome (out_of (ends_of d) w p)) where
+module _ {R A : Type 0} (answer : R → ℕ → Look) (arbiter_ports : A → ℕ) (d : Declaration) (valid : IsValid d) (w : ℕ) (linked : ℕ) (small : linked < 2 ^ 32) (is_linked : (p : ℕ) → IsBitSet linked p ↔ IsSome (out_of (ends_of d) w p)) where
   same_set : (a : ℕ) → IsLinkedSet d w a → a ≡ linked
-  same_set a is = same_from_bits_below 32 a linked is.within small (λ p lt. same_bit a linked p (λ s. (is_linked p lt).1 ((is.linked p lt).0 s)) (λ s. (is.linked p lt).1 ((is_linked p lt).0 s)))
+  same_set a is = same_from_bits_below 32 a linked is.within small (λ p lt. same_bit a linked p (λ s. (is_linked p).1 ((is.linked p lt).0 s)) (λ s. (is.linked p lt).1 ((is_linked p).0 s)))
 
   placed_has : (o : Option (Option A)) → IsPlaced arbiter_ports d w o → HasArbiter arbiter_ports linked o
   placed_has None h = absurd h
@@ -223,7 +223,7 @@ module _ {R A : Type 0} (answer : R → ℕ → Look) (arbiter_ports : A → ℕ
 
   pub have_arbiters : (arbiters : List (Option A)) → IsRow arbiter_ports d (length (ends_of d)) w arbiters → HaveArbiters arbiter_ports linked arbiters
   have_arbiters arbiters row port lt is_set =
-      let c = some_of (out_of (ends_of d) w port) ((is_linked port lt).0 is_set) in
+      let c = some_of (out_of (ends_of d) w port) ((is_linked port).0 is_set) in
       let at = port_starts (wiring_of d) w port c.0 c.1 in
       placed_has (slice_get arbiters port) (row.placed c.0 port (slice_get_within (ends_of d) c.0 (Switch w port) at) at)
 
@@ -240,10 +240,7 @@ module _ {R A : Type 0} (answer : R → ℕ → Look) (arbiter_ports : A → ℕ
         all_arbiters = row.whole;
         arbiter_ports = have_arbiters arbiters row;
       };
-      linked = λ port. (
-        λ is_set. (is_linked port (set_below linked port small is_set)).0 is_set,
-        λ some. let c = some_of (out_of (ends_of d) w port) some in (is_linked port (port_small d valid c.0 w port (port_starts (wiring_of d) w port c.0 c.1))).1 some,
-      );
+      linked = is_linked;
       routes = answers;
       capacity = λ c port at.
           let lp = port_small d valid (partner c) w port at in

@@ -9,7 +9,7 @@ use sw_topo::{PortSet, Topology};
 /// The ports of the switch, among those that the look names, at which a channel starts.
 pub fn outputs(topology: &Topology, switch: u16, look: Look) -> PortSet
     requires { switch < topology.now.switches }
-    ensures ports { (p : ℕ) → p < 32 → (IsBitSet result p ↔ (IsBitSet look.ports p × IsSome (out_of topology.now.ends switch p))) }
+    ensures ports { (p : ℕ) → (IsBitSet result p ↔ (IsBitSet look.ports p × IsSome (out_of topology.now.ends switch p))) }
     ensures channels { (d : ℕ) → (NamesOutput topology.now.ends switch look d ↔ ((p : ℕ) × (p < 32) × IsBitSet result p × (out_of topology.now.ends switch p ≡ Some d))) }
 {
     look.ports.meet(topology.linked(switch))

@@ -7,7 +7,7 @@ use Rattle.std.proofs.lemmas.List.Elements.{All-get_or}
 use Rattle.sw_topo.specs.declared.place.PlaceEnd.{PlaceEnd}
 use Rattle.sw_topo.specs.declared.place.PlaceEnd.TheVariants.{Node, Switch}
 use Rattle.sw_topo.specs.Wiring.{Wiring, is_node, is_port, is_at_switch, out, out_of, partner}
-use Rattle.sw_topo.specs.Checked.{IsIn, IsSound, is_taken}
+use Rattle.sw_topo.specs.Checked.{IsIn, IsWiring, IsSound, is_taken}
 use Rattle.sw_topo.specs.Laws.{StartsAt, IsOnly, IsLinkedBy}
 use Rattle.sw_topo.proofs.Faultless.{kept}
 use Rattle.sw_topo.proofs.Found.{Passes, counted, one_place, found_before, any_place, place_passes}
@@ -73,6 +73,12 @@ partner_back c = grind arith
 neither_yes : (a b : Bool) → a || b ≡ false → (a ≡ false) × (b ≡ false)
 neither_yes true b e = absurd (false≢true (sym e))
 neither_yes false b e = (refl, e)
+
+-- a port at which a channel starts is one of 0 to 31
+pub port_within : (w : Wiring) → IsWiring w.nodes w.switches w.ends → (s p : ℕ) → IsSome (out_of w.ends s p) → p < 32
+port_within w wiring s p some =
+    let first = position_at (is_port s p) w.ends some in
+    port_in w.nodes w.switches w.ends first.0 s p wiring.inside (port_starts w s p first.0 first.1)
 
 module _ (w : Wiring) (sound : IsSound w) where
   whole : length w.ends ≡ 2 * (length w.ends / 2)

@@ -6,4 +6,4 @@ use Rattle.sw_topo.specs.Wiring.{out_of}
 
 -- the set has those ports of the switch below n at which a channel starts
 abbrev pub IsLinkedBelow : List PlaceEnd → ℕ → ℕ → ℕ → Type 0
-IsLinkedBelow ends s n set = (p : ℕ) → p < 32 → (IsBitSet set p ↔ ((p < n) × IsSome (out_of ends s p)))
+IsLinkedBelow ends s n set = (p : ℕ) → (IsBitSet set p ↔ ((p < n) × IsSome (out_of ends s p)))

@@ -20,8 +20,8 @@ returns-in_ok-push-in-Switch c =
     let w = c.in-Switch.w in
     let starts = subst (λ (k : Wiring). slice_get k.ends c.args.channel ≡ Some (Switch w c.in-Switch.field-1)) c.topology.ensures.wiring (c.in-Switch.ensures.place) in
     let small : c.linked-linked.result < 2 ^ 32 = search rules in
-    let linked = subst (λ (k : Wiring). (p : ℕ) → p < 32 → IsBitSet c.linked-linked.result p ↔ IsSome (out_of k.ends w p)) c.topology-in-Switch.ensures.wiring c.linked-linked.ensures in
-    let set : IsLinkedSet d w c.linked-linked.result = record { within = small; linked = linked } in
+    let linked = subst (λ (k : Wiring). (p : ℕ) → IsBitSet c.linked-linked.result p ↔ IsSome (out_of k.ends w p)) c.topology-in-Switch.ensures.wiring c.linked-linked.ensures in
+    let set : IsLinkedSet d w c.linked-linked.result = record { within = small; linked = λ p lt. linked p } in
     let is = subst (IsLinkedSet d w) (sym (ports_are c.arbitration.result c.linked-linked.result c.new.result c.new.ensures)) set in
     let pushed : c.push.new.self.items ≡ c.args.all.now.items ++ c.new.result ∷ [] = search rules in
     switch_next policy_ports d (ends_of d) c.args.channel w c.in-Switch.field-1 c.new.result c.args.all.now.items c.push.new.self.items starts pushed is c.requires.so_far
