@@ -17,7 +17,7 @@ use Rattle.sw_topo.proofs.Found.{Passes, one_counted, place_any, before_found}
 use Rattle.sw_topo.proofs.Ends.{node_is, port_is, one_port, node_only, switch_linked}
 
 -- where all numbers below n fail, none is found
-none_first : (test : ℕ → Bool) (n : ℕ) → ((k : ℕ) → k < n → test k ≡ false) → first_below test n ≡ None
+pub none_first : (test : ℕ → Bool) (n : ℕ) → ((k : ℕ) → k < n → test k ≡ false) → first_below test n ≡ None
 none_first test zero fails = refl
 none_first test (suc n) fails = rw (none_first test n (λ k lt. fails k (omega arith)), fails n (omega arith)) refl
 
@@ -49,7 +49,7 @@ first_is_least test n k = (
 
 -- ---- no fault
 
-not_true : (b : Bool) → (b ≡ true → ⊥) → b ≡ false
+pub not_true : (b : Bool) → (b ≡ true → ⊥) → b ≡ false
 not_true true fails = absurd (fails refl)
 not_true false fails = refl
 

@@ -1,6 +1,6 @@
 -- What the channels of a wiring without fault start and end at.
 use Rattle.std.proofs.Common.{◌≡◌, ℕ, ◌+◌, ◌*◌, ◌/◌, ◌%◌, ◌<◌, Bool, true, false, eqb, List, length, Some, None, Option, refl, sym, ap, ap₂, ◌∙◌, subst, inl, inr, arith, eq-eqb, All, IsSome, ◌||◌}
-use Rattle.std.specs.Prelude.{slice_get, position}
+use Rattle.std.specs.Prelude.{slice_get, position, count_by}
 use Rattle.std.proofs.lemmas.Bool.{cases_Bool, cases_eq, cases_lt, eqb-true, false≢true}
 use Rattle.std.proofs.lemmas.Option.{slice_get_within, get_or_from_slice_get}
 use Rattle.std.proofs.lemmas.List.Elements.{All-get_or}
@@ -51,10 +51,10 @@ pub switch_is : (s : ℕ) (e : PlaceEnd) → is_at_switch s e ≡ true → AtSwi
 switch_is s (Node m) is = absurd (false≢true is)
 switch_is s (Switch t q) is = record { port = q; is = ap (λ t. Switch t q) (eqb-true t s is) }
 
-node_passes : (w : Wiring) (n c : ℕ) → StartsAt w c (Node n) → Passes (is_node n) w.ends c
+pub node_passes : (w : Wiring) (n c : ℕ) → StartsAt w c (Node n) → Passes (is_node n) w.ends c
 node_passes w n c starts = record { element = Node n; at = starts; passes = eq-eqb n n refl }
 
-port_passes : (w : Wiring) (s p c : ℕ) → StartsAt w c (Switch s p) → Passes (is_port s p) w.ends c
+pub port_passes : (w : Wiring) (s p c : ℕ) → StartsAt w c (Switch s p) → Passes (is_port s p) w.ends c
 port_passes w s p c starts = record { element = Switch s p; at = starts; passes = is_port_yes s p }
 
 pub node_starts : (w : Wiring) (n c : ℕ) → out w.ends n ≡ Some c → StartsAt w c (Node n)
@@ -67,6 +67,21 @@ port_starts w s p c e = let here = place_passes (is_port s p) w.ends (Node 0) c 
 
 pub partner_back : (c : ℕ) → partner (partner c) ≡ c
 partner_back c = grind arith
+
+-- where one end is at a node, one channel starts there
+pub node_once : (w : Wiring) (n : ℕ) → count_by (is_node n) w.ends ≡ 1 → (c : ℕ) × IsLinkedBy w n c
+node_once w n one =
+    let first = position_at (is_node n) w.ends (position_some (is_node n) w.ends one) in
+    let starts = node_starts w n first.0 first.1 in
+    let alone : (d : ℕ) → StartsAt w d (Node n) → d ≡ first.0 = λ d at_d. one_place (is_node n) w.ends one d first.0 (node_passes w n d at_d) (node_passes w n first.0 starts) in
+    let back = partner_back first.0 in (
+      first.0,
+      record {
+        first = first.1;
+        starts = record { here = starts; alone = alone };
+        ends = record { here = rw back starts; alone = λ d at_d. sym (partner_back d) ∙ ap partner (alone (partner d) at_d) };
+      },
+    )
 
 -- ---- ports
 
@@ -119,16 +134,4 @@ module _ (w : Wiring) (sound : IsSound w) where
       (here.port, some.0, port_in w.nodes w.switches w.ends some.0 s here.port sound.wiring.inside starts, starts)
 
   pub node_only : (n : ℕ) → n < w.nodes → (c : ℕ) × IsLinkedBy w n c
-  node_only n lt =
-      let one = (kept w sound.faultless).once n lt in
-      let first = position_at (is_node n) w.ends (position_some (is_node n) w.ends one) in
-      let starts = node_starts w n first.0 first.1 in
-      let alone : (d : ℕ) → StartsAt w d (Node n) → d ≡ first.0 = λ d at_d. one_place (is_node n) w.ends one d first.0 (node_passes w n d at_d) (node_passes w n first.0 starts) in
-      let back = partner_back first.0 in (
-        first.0,
-        record {
-          first = first.1;
-          starts = record { here = starts; alone = alone };
-          ends = record { here = rw back starts; alone = λ d at_d. sym (partner_back d) ∙ ap partner (alone (partner d) at_d) };
-        },
-      )
+  node_only n lt = node_once w n ((kept w sound.faultless).once n lt)

@@ -1,5 +1,6 @@
 //! What holds of every wiring without fault. These functions do nothing: each is the proof of what its clause says.
 ghost use Rattle.sw_topo.specs.Ports.{PortSetHasThePorts, PortsAreListed};
+ghost use Rattle.sw_topo.specs.FirstFault.{FaultsInWords};
 ghost use Rattle.sw_topo.specs.Laws.{NodesHaveOneLink, PortsHaveOneLink, SwitchesAreLinked, ChannelsArePaired, FirstIsLeast, NoFaultMeansFaultless};
 
 /// Each node has one link.
@@ -31,6 +32,12 @@ pub fn first_is_least()
 /// some at each switch.
 pub fn no_fault_means_faultless()
     ensures { NoFaultMeansFaultless }
+{}
+
+/// A wiring has the fault that is told, and none that would be told before it: a limit that is passed, a link with an end at a
+/// port that an earlier end has, a node with no link or several, a switch with no link.
+pub fn faults_in_words()
+    ensures { FaultsInWords }
 {}
 
 /// The set of a list of port numbers has the ports that the list names, and no others.

@@ -1,5 +1,4 @@
-use Rattle.std.proofs.Common.{◌<◌, IsSome, arith}
-use Rattle.sw_topo.specs.Wiring.{out_of}
+use Rattle.std.proofs.Common.{arith}
 use Rattle.sw_topo.proofs.Ends.{port_within}
 use Rattle.sw_topo.proofs.topology.Topology.linked.Goals as goal
 
