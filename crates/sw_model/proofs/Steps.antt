@@ -25,7 +25,7 @@ use Rattle.sw_machine.specs.Network.{AtNode, AtSwitch}
 use Rattle.sw_machine.specs.Places as machine
 use Rattle.sw_machine.specs.Places.IsPlace.{Start, Goes}
 use Rattle.sw_model.specs.Model.{cell_of, network_of}
-use Rattle.sw_model.specs.Laws.{IsFlowAt, FlowAgrees, StepsOfFlowsAgree}
+use Rattle.sw_model.specs.Laws.{IsFlowAt, FlowAgrees, LooksAgree, StepsOfFlowsAgree}
 use Rattle.sw_model.proofs.Flows.{flow_at, some_at}
 use Rattle.sw_model.proofs.Topology.{cell_node, partner_within}
 
@@ -34,6 +34,10 @@ switch_of : (o : Option PlaceEnd) (s : ℕ) → cell_of o ≡ AtSwitch s → (p 
 switch_of None s h = absurd cc
 switch_of (Some (Node n)) s h = absurd cc
 switch_of (Some (Switch t p)) s h = let same : t ≡ s = cc in (p, ap (λ (x : ℕ). Some (Switch x p)) same)
+
+pub looks_agree : LooksAgree
+unfolding network_of
+looks_agree d s byte = record { named = outputs_are (ends_of d) s (look_at d.switches s byte); deleted = refl }
 
 nothing_in : (xs : List ℕ) → ((x : ℕ) → Contains xs x → ⊥) → xs ≡ []
 nothing_in [] none = refl

@@ -1,7 +1,8 @@
 -- What holds of the machine's network of a network that a file declares.
-use Rattle.std.specs.Prelude.{◌≡◌, ◌↔◌, ℕ, ◌<◌, ◌≤◌, List, length, slice_get, Some, None, true}
+use Rattle.std.specs.Prelude.{◌≡◌, ◌↔◌, ℕ, ◌<◌, ◌≤◌, List, length, slice_get, Contains, Some, None, true}
 use Rattle.sw_rmap.specs.declared.config.TargetConfig.{TargetConfig}
-use Rattle.sw_config.specs.Entries.{FlowEntry, Declaration, all_flows, target_of}
+use Rattle.sw_route.specs.Looks.{NamesOutput}
+use Rattle.sw_config.specs.Entries.{FlowEntry, Declaration, all_flows, look_at, target_of}
 use Rattle.sw_config.specs.Valid.{IsValid}
 use Rattle.sw_flow.specs.Places as declared
 use Rattle.sw_flow.specs.Faults as declared_faults
@@ -31,6 +32,16 @@ pub record FlowAgrees (d : Declaration) (i : ℕ) (f : FlowEntry) : Type 0 where
 -- each flow of a valid network, declared or of replies, has the same steps, places and faults in the machine as by its entry
 abbrev pub StepsOfFlowsAgree : Type 0
 StepsOfFlowsAgree = (d : Declaration) → IsValid d → (i : ℕ) (f : FlowEntry) → IsFlowAt d i f → FlowAgrees d i f
+
+-- at a switch a byte, and so one of a misrouted packet's cargo too, names in the machine the channels that the switch's routes
+-- name, and is deleted where they say so
+pub record LookAgrees (d : Declaration) (s byte : ℕ) : Type 0 where
+  pub named : (c : ℕ) → Contains ((network_of d).look s byte) c ↔ NamesOutput (declared.ends_of d) s (look_at d.switches s byte) c
+  pub deleted : (network_of d).deletes s byte ≡ (look_at d.switches s byte).delete
+
+-- each byte at each switch
+abbrev pub LooksAgree : Type 0
+LooksAgree = (d : Declaration) (s byte : ℕ) → LookAgrees d s byte
 
 -- in each reached state a target's memory has as many bytes as its window
 abbrev pub MemoriesKeepTheirLength : Type 0

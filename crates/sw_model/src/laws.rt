@@ -1,5 +1,5 @@
 //! What holds of the machine's network of a declared network. These functions do nothing: each is the proof of what its clause says.
-ghost use Rattle.sw_model.specs.Laws.{DeclaredNetworksAreNetworks, DeclaredPacketsAgree, DeclaredPacketsPass, MemoriesKeepTheirLength, StepsOfFlowsAgree};
+ghost use Rattle.sw_model.specs.Laws.{DeclaredNetworksAreNetworks, DeclaredPacketsAgree, DeclaredPacketsPass, LooksAgree, MemoriesKeepTheirLength, StepsOfFlowsAgree};
 
 /// Each valid network is one of the machine's.
 pub fn declared_networks_are_networks()
@@ -9,6 +9,11 @@ pub fn declared_networks_are_networks()
 /// Each flow of a valid network has the same steps, places and faults in the machine.
 pub fn steps_of_flows_agree()
     ensures { StepsOfFlowsAgree }
+{}
+
+/// Each byte, of an address or of a cargo, names the same channels at a switch as by its routes.
+pub fn looks_agree()
+    ensures { LooksAgree }
 {}
 
 /// In each state that a declared network reaches, each target's memory has as many bytes as its
