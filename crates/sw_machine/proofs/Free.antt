@@ -1,15 +1,16 @@
 -- What an accepted certificate shows.
-use Rattle.std.proofs.Common.{List, [], arith, ℕ, ⊎_elim, ◌++◌, ◌<◌, ◌∷◌}
+use Rattle.std.proofs.Common.{List, [], arith, subst, ℕ, ⊎_elim, ◌++◌, ◌<◌, ◌∷◌}
 use Rattle.std.proofs.lemmas.Bool.{cases_lt}
 use Rattle.std.proofs.lemmas.List.Sums.{sum_by-append}
 use Rattle.sw_machine.proofs.Answered.{replies_at_most, replies_exactly}
 use Rattle.sw_machine.proofs.Bound.{is_bounded}
 use Rattle.sw_machine.proofs.Load.{is_bounded_by_load}
 use Rattle.sw_machine.proofs.RunLists.{all_moves, cost, run_of, run_of_append}
-use Rattle.sw_machine.proofs.Runs.{always_goes_on, empty_inv, none, reached_inv, run_begins}
+use Rattle.sw_machine.proofs.Ghost.{InputIs}
+use Rattle.sw_machine.proofs.Runs.{always_goes_on, empty_inv, never_drops, none, reached_inv, run_begins}
 use Rattle.sw_machine.proofs.Whole.{all_comes_out, comes_out_whole}
 use Rattle.sw_machine.specs.Certificate.{Certificate, IsAccepted, IsListed, number}
-use Rattle.sw_machine.specs.DeadlockFreedom.{EndsEmpty, IsDeadlockFree, QuietIsEmpty}
+use Rattle.sw_machine.specs.DeadlockFreedom.{EndsEmpty, IsDeadlockFree, NothingIsDropped, QuietIsEmpty}
 use Rattle.sw_machine.specs.Network.{IsNetwork, Network}
 use Rattle.sw_machine.specs.Places.{ByFlow, ByTarget, Goes, IsChain, IsCycle, IsPlace, IsRising, Start}
 use Rattle.sw_machine.specs.Runs.{undelivered}
@@ -48,6 +49,14 @@ module _ (net : Network) (cert : Certificate) (ok : IsNetwork net) (acc : IsAcce
       let l = all_moves more in
       (empties t (steps ++ more, run_of net (steps ++ more) (begun ++ replies) (empty net) t whole) quiet, omega arith)
 
+  -- an input that drops would wait with no header, and none spills
+  undropped : NothingIsDropped net
+  undropped s r c =
+      let kept = reached_inv net cert ok acc s r in (
+        λ drop. let h = drop.1 in never_drops net cert ok acc s kept.0 c h.switch h.first h.rest drop.0 h.in_net h.at h.idle h.front h.after kept.1,
+        λ spill. let h = spill.1 in subst (InputIs net cert (kept.0).rest (kept.0).coming c) h.spilling ((kept.1).inputs c h.in_net),
+      )
+
   pub is_deadlock_free : IsDeadlockFree net cert
   is_deadlock_free = record {
     well_routed = λ i lt c k p. acc.faultless i c k lt (listed i c k lt p);
@@ -56,6 +65,7 @@ module _ (net : Network) (cert : Certificate) (ok : IsNetwork net) (acc : IsAcce
     always_goes_on = always_goes_on net cert ok acc;
     never_locked_up = λ s r locked. let g = always_goes_on net cert ok acc s r locked.holds in locked.quiet g.step g.no_begin g.possible;
     quiet_is_empty = empties;
+    nothing_is_dropped = undropped;
     each_run_is_counted = λ steps s r. run_begins net cert ok acc steps (empty net) (none net cert ok acc) s r (empty_inv net cert ok acc);
     comes_out_whole = comes_out_whole net cert ok acc;
     all_comes_out = all_comes_out net cert ok acc;

@@ -7,7 +7,7 @@ use Rattle.sw_machine.specs.Owed.{OnlyAskedOwe}
 use Rattle.sw_machine.specs.Places.{IsCycle, IsRising, IsWellRouted}
 use Rattle.sw_machine.specs.Runs.{GoesOn, IsLockedUp, IsQuiet, IsReached, undelivered}
 use Rattle.sw_machine.specs.State.{State, empty}
-use Rattle.sw_machine.specs.Steps.{Step, is_begin}
+use Rattle.sw_machine.specs.Steps.{Drop, IsPossible, Spill, Step, is_begin}
 
 -- each reached state that holds an undelivered character has a possible step other than a beginning
 abbrev pub AlwaysGoesOn : Network → Type 0
@@ -19,6 +19,10 @@ IsNeverLockedUp net = (s : State) → IsReached net s → IsLockedUp net s → �
 -- in a quiet reached state nothing is undelivered
 abbrev pub QuietIsEmpty : Network → Type 0
 QuietIsEmpty net = (s : State) → IsReached net s → IsQuiet net s → undelivered net s ≡ 0
+
+-- in no reached state is a step possible that drops or spills: no character is lost in any run
+abbrev pub NothingIsDropped : Network → Type 0
+NothingIsDropped net = (s : State) → IsReached net s → (c : ℕ) → (IsPossible net s (Drop c) → ⊥) × (IsPossible net s (Spill c) → ⊥)
 
 -- from a reached state, steps other than beginnings that can't go on end within the bound, with nothing undelivered
 abbrev pub EndsEmpty : Network → Type 0
@@ -32,6 +36,7 @@ pub record IsDeadlockFree (net : Network) (cert : Certificate) : Type 0 where
   pub always_goes_on : AlwaysGoesOn net
   pub never_locked_up : IsNeverLockedUp net
   pub quiet_is_empty : QuietIsEmpty net
+  pub nothing_is_dropped : NothingIsDropped net
   pub each_run_is_counted : EachRunIsCounted net
   pub comes_out_whole : ComesOutWhole net
   pub all_comes_out : AllComesOut net

@@ -9,7 +9,7 @@ ghost use Rattle.sw_machine.specs.Sample.{certificate, misrouted, of_capacity, s
 ghost use Rattle.sw_machine.specs.Witnesses.{IsAnswered, IsDiscarded, IsDropped, SendsFcts};
 ghost use Rattle.std.specs.Prelude.{◌≤◌, ℕ};
 ghost use Rattle.sw_machine.specs.Begun.{AllComesOut, AllIsAnswered, ComesOutWhole, EachRunIsCounted, IsBounded, IsBoundedByLoad, RepliesAreAsked};
-ghost use Rattle.sw_machine.specs.DeadlockFreedom.{AcceptedIsDeadlockFree, AlwaysGoesOn, EndsEmpty, IsNeverLockedUp, OfAccepted, QuietIsEmpty};
+ghost use Rattle.sw_machine.specs.DeadlockFreedom.{AcceptedIsDeadlockFree, AlwaysGoesOn, EndsEmpty, IsNeverLockedUp, NothingIsDropped, OfAccepted, QuietIsEmpty};
 ghost use Rattle.sw_machine.specs.OneSlot.{OneSlotIsOneReply};
 ghost use Rattle.sw_machine.specs.Owed.{EmitSettles, NodesOweReplies, OnlyAskedOwe};
 ghost use Rattle.sw_machine.specs.Parts.{LinkEndsAreAtCells, OutputsAreHeldOnce, StepsAreLocal, StepsChangeOneCell};
@@ -77,8 +77,9 @@ pub fn accepted_is_never_locked_up()
 
 /// Over each run of an accepted network the packets that come out at a node are packets begun to it,
 /// unchanged but for deleted address bytes and no oftener than begun; where nothing is undelivered
-/// they came out exactly as often. Each run has begun packets.
+/// they came out exactly as often. Each run has begun packets. No step drops or spills a character.
 pub fn accepted_comes_out_whole()
+    ensures dropped { OfAccepted NothingIsDropped }
     ensures counted { OfAccepted EachRunIsCounted }
     ensures whole { OfAccepted ComesOutWhole }
     ensures all { OfAccepted AllComesOut }
