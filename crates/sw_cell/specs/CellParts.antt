@@ -1,5 +1,5 @@
 -- The part of the machine's state that a cell has.
-use Rattle.std.specs.Prelude.{ℕ}
+use Rattle.std.specs.Prelude.{ℕ, List, [], Option}
 use Rattle.sw_cell.specs.declared.cell.CellId.{CellId}
 use Rattle.sw_cell.specs.declared.cell.CellId.TheVariants as place
 use Rattle.sw_cell.specs.declared.cell.CellState.{CellState}
@@ -29,3 +29,8 @@ IsCellState d (place.Switch w) (Switch cell) b s = IsSwitchState d w cell b s
 -- there is a reached state whose parts these are
 abbrev pub HasCellState : {R A : Type 0} → Declaration → CellId → CellState R A → Between → Type 0
 HasCellState d at cell b = ∥ ((s : State) × IsCellState d at cell b s) ∥₁
+
+-- the arbiters of a switch's outputs; a node has none
+abbrev pub arbiters_of : {R A : Type 0} → CellState R A → List (Option A)
+arbiters_of (Node node) = []
+arbiters_of (Switch cell) = cell.arbiters

@@ -1,7 +1,7 @@
 //! Any step at any cell.
 ghost use Rattle.std.specs.Prelude.{◌≡◌, OnErr};
 ghost use Rattle.sw_cell.specs.Answers.{Answers, AnswersAt, done};
-ghost use Rattle.sw_cell.specs.CellParts.{HasCellState, IsCellFor, IsCellState};
+ghost use Rattle.sw_cell.specs.CellParts.{HasCellState, IsCellFor, IsCellState, arbiters_of};
 ghost use Rattle.sw_cell.specs.Places.{IsAt};
 ghost use Rattle.sw_model.specs.Model.{network_of};
 ghost use Rattle.sw_model.specs.Steps.{machine_step};
@@ -46,6 +46,7 @@ fn make<R: Routing, A: Arbiter>(
     requires reached { HasCellState network.now at cell.old wires.old }
     requires at { IsAt network.now (machine_step step.now) at }
     ensures cell { IsCellFor R.answer A.ports network.now at cell.new }
+    ensures arbiters { arbiters_of cell.new ≡ arbiters_of cell.old }
     ensures answers { Answers (network_of network.now) (IsCellState network.now at cell.old wires.old) (machine_step step.now) result (IsCellState network.now at cell.new wires.new) }
     ensures refused_cell { OnErr result (cell.new ≡ cell.old) }
     ensures refused_wires { OnErr result (wires.new ≡ wires.old) }
@@ -69,6 +70,8 @@ fn make<R: Routing, A: Arbiter>(
 /// `NotInFlow`: the step begins a packet that no flow declares. `NotEnabled`: it begins none such,
 /// and is a step of another cell or is not possible. `Memory`: it is one of this cell and possible,
 /// and there is no memory for what it stores. After a refusal nothing has changed.
+///
+/// A grant asks no arbiter: the step names the input.
 pub fn step_cell<R: Routing, A: Arbiter>(
     alloc: Global,
     network: &Network,
@@ -80,6 +83,7 @@ pub fn step_cell<R: Routing, A: Arbiter>(
     requires cell { IsCellFor R.answer A.ports network.now at cell.old }
     requires reached { HasCellState network.now at cell.old wires.old }
     ensures cell { IsCellFor R.answer A.ports network.now at cell.new }
+    ensures arbiters { arbiters_of cell.new ≡ arbiters_of cell.old }
     ensures answers { AnswersAt (network_of network.now) at (IsCellState network.now at cell.old wires.old) (machine_step step.now) result (IsCellState network.now at cell.new wires.new) }
     ensures refused_cell { OnErr result (cell.new ≡ cell.old) }
     ensures refused_wires { OnErr result (wires.new ≡ wires.old) }
