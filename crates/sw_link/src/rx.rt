@@ -1,5 +1,5 @@
 //! The receiving end of a channel.
-ghost use Rattle.std.specs.Prelude.{◌≡◌, ℕ, ◌<◌, ◌≤◌, ◌+◌, [], ◌∷◌, length, IfOk, IsTrue, slice_get};
+ghost use Rattle.std.specs.Prelude.{◌≡◌, ℕ, ◌<◌, ◌≤◌, ◌+◌, [], ◌∷◌, ◌++◌, length, IfOk, IsTrue, slice_get};
 
 use crate::flow_control::{ASKED_BY_FCT, MAX_BEFORE_FCT};
 use circular_buffer::HeapCircularBuffer;
@@ -53,15 +53,12 @@ impl RxEnd {
         self.ring.len()
     }
 
-    /// A copy of the buffer: the N-Chars that arrived and were not taken, the oldest first.
-    ///
-    /// # Errors
-    ///
-    /// There is no memory for the copy.
-    pub fn buffer(&self, alloc: Global) -> Result<Vec<NChar>, AllocError>
-        ensures { IfOk result (λ buffer. buffer.items ≡ self.now.buffer) }
+    /// The N-Chars that arrived and were not taken, the oldest first: those of the first slice, then
+    /// those of the second.
+    pub fn buffer(&self) -> (&[NChar], &[NChar])
+        ensures { result.0.now ++ result.1.now ≡ self.now.buffer }
     {
-        self.ring.to_vec(alloc)
+        self.ring.as_slices()
     }
 
     /// How many N-Chars were asked for and did not arrive yet: 0 to 56 (ECSS-E-ST-50-12C, data link

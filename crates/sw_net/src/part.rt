@@ -1,5 +1,5 @@
 //! What a cell has of a network's state.
-ghost use Rattle.std.specs.Prelude.{◌≡◌, ◌<◌, IfOk, length, map};
+ghost use Rattle.std.specs.Prelude.{◌≡◌, ◌<◌, ◌++◌, IfOk, length, map};
 ghost use Rattle.sw_cell.specs.Places.{IsIn};
 ghost use Rattle.sw_machine.specs.State.{State};
 ghost use Rattle.sw_model.specs.Model.{network_of};
@@ -97,10 +97,20 @@ pub enum Part {
     Switch(Vec<PortPart>),
 }
 
+/// A copy of both slices, the first before the second.
+fn joined(alloc: Global, first: &[NChar], second: &[NChar]) -> Result<Vec<NChar>, AllocError>
+    ensures { IfOk result (λ all. all.items ≡ first.now ++ second.now) }
+{
+    let mut all = Vec::from_slice(alloc, first)?;
+    all.extend_from_slice(second)?;
+    Ok(all)
+}
+
 /// What the node keeps.
 fn node_part(alloc: Global, node: &NodeCell) -> Result<NodePart, AllocError>
     ensures { IfOk result (λ part. part ≡ kept_by_node node.now) }
 {
+    let (first, second) = node.buffer();
     Ok(NodePart {
         to_send: node.to_send(alloc)?,
         pending: node.pending(alloc)?,
@@ -108,7 +118,7 @@ fn node_part(alloc: Global, node: &NodeCell) -> Result<NodePart, AllocError>
         taken: node.taken(alloc)?,
         memory: node.memory(alloc)?,
         credit: node.credit(),
-        buffer: node.buffer(alloc)?,
+        buffer: joined(alloc, first, second)?,
         outstanding: node.outstanding(),
     })
 }
@@ -121,11 +131,12 @@ fn port_part<R: Routing, A: Arbiter>(
 ) -> Result<PortPart, AllocError>
     ensures { IfOk result (λ part. part ≡ kept_at_port switch.now port) }
 {
+    let (first, second) = switch.buffer(port);
     Ok(PortPart {
         port,
         input: switch.input(port),
         credit: switch.credit(port),
-        buffer: switch.buffer(alloc, port)?,
+        buffer: joined(alloc, first, second)?,
         outstanding: switch.outstanding(port),
     })
 }

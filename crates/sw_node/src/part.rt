@@ -1,4 +1,4 @@
-//! What a node has, copied.
+//! What a node has; all but its receive buffer is copied.
 ghost use Rattle.std.specs.Prelude.{◌≡◌, ◌++◌, IfOk, OnOk};
 ghost use Rattle.sw_node.specs.Node.{memory_of, taken};
 
@@ -98,14 +98,11 @@ impl NodeCell {
         }
     }
 
-    /// The N-Chars in its receive buffer, the oldest first.
-    ///
-    /// # Errors
-    ///
-    /// There is no memory for the copy.
-    pub fn buffer(&self, alloc: Global) -> Result<Vec<NChar>, AllocError>
-        ensures { IfOk result (λ buffer. buffer.items ≡ self.now.received.buffer) }
+    /// The N-Chars in its receive buffer, the oldest first: those of the first slice, then those of
+    /// the second. They are not copied.
+    pub fn buffer(&self) -> (&[NChar], &[NChar])
+        ensures { result.0.now ++ result.1.now ≡ self.now.received.buffer }
     {
-        self.received.buffer(alloc)
+        self.received.buffer()
     }
 }

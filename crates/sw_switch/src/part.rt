@@ -1,8 +1,7 @@
-//! What a switch has at a port, copied.
-ghost use Rattle.std.specs.Prelude.{◌≡◌, IfOk};
+//! What a switch has at a port.
+ghost use Rattle.std.specs.Prelude.{◌≡◌, ◌++◌};
 
 use crate::cell::SwitchCell;
-use std::alloc::{AllocError, Global};
 use sw_arb::Arbiter;
 use sw_char::NChar;
 use sw_route::Routing;
@@ -11,15 +10,12 @@ use sw_topo::Port;
 impl<R: Routing, A: Arbiter> SwitchCell<R, A> {
     ghost use Rattle.sw_switch.specs.Cell.{end_at};
 
-    /// The N-Chars in the port's receive buffer, the oldest first.
-    ///
-    /// # Errors
-    ///
-    /// There is no memory for the copy.
-    pub fn buffer(&self, alloc: Global, input: Port) -> Result<Vec<NChar>, AllocError>
-        ensures { IfOk result (λ buffer. buffer.items ≡ (end_at self.now input).buffer) }
+    /// The N-Chars in the port's receive buffer, the oldest first: those of the first slice, then
+    /// those of the second.
+    pub fn buffer(&self, input: Port) -> (&[NChar], &[NChar])
+        ensures { result.0.now ++ result.1.now ≡ (end_at self.now input).buffer }
     {
         let index = input.number() as usize;
-        self.received[index].buffer(alloc)
+        self.received[index].buffer()
     }
 }
