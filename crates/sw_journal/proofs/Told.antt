@@ -108,12 +108,12 @@ two_cells d j k a b at bt apart same = apart ((placed d j a at).1 ∙ ap (place_
 
 -- ---- numbers
 
-reverse_back : (c : ℕ) → reverse_of (reverse_of c) ≡ c
+pub reverse_back : (c : ℕ) → reverse_of (reverse_of c) ≡ c
 reverse_back c = grind arith
 
 module _ (net : Network) (ok : IsNetwork net) where
   -- what is received at a link end ends at its cell
-  received_ends : (e : ℕ) → e < net.channels → (reverse_of e < net.channels) × (net.end_of (reverse_of e) ≡ net.start_of e)
+  pub received_ends : (e : ℕ) → e < net.channels → (reverse_of e < net.channels) × (net.end_of (reverse_of e) ≡ net.start_of e)
   received_ends e lt =
       let there = (ok.reversed e lt).0 in
       (there, sym (ok.reversed (reverse_of e) there).1 ∙ ap net.start_of (reverse_back e))

@@ -7,4 +7,5 @@ pub mod Adding
 pub mod Opening
 pub mod Asked
 pub mod Choices
+pub mod Laws
 pub use Rattle.sw_history.specs.Next

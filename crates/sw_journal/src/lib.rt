@@ -7,6 +7,7 @@ mod cell_table;
 mod choice;
 mod fault;
 mod journal;
+pub mod laws;
 mod opening;
 mod renewal;
 mod seats;
