@@ -14,6 +14,13 @@ use Rattle.sw_net.specs.Net.{IsNetState, NetView}
 abbrev pub most_moves : Network → List Begun → ℕ
 most_moves net packets = net.channels * (14 + 5 * sum_by (length_with_reply net) packets)
 
+-- the net is in the state that a history of the load leads to
+pub record IsUnderWay {R A : Type 0} (load : List LoadEntry) (v : NetView R A) : Type 0 where
+  pub steps : List Step
+  pub state : State
+  pub history : IsHistory (network_of v.declared) (packets_of load) steps state
+  pub in_net : IsNetState v state
+
 -- The net is in the state that a history of the load leads to, in which all is begun. The history has so many steps other than beginnings,
 -- and nothing is undelivered.
 pub record IsDrained {R A : Type 0} (load : List LoadEntry) (v : NetView R A) (count : ℕ) : Type 0 where

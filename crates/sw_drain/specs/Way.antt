@@ -1,6 +1,6 @@
 -- A network on the way, while it sends a load.
-use Rattle.std.specs.Prelude.{Bool, List, None, Ok, Some, false, length, slice_get, true, ℕ, ◌+◌, ◌≡◌, ◌⊎◌}
-use Rattle.sw_drain.specs.Enabled.{IsChosen}
+use Rattle.std.specs.Prelude.{Bool, List, None, Ok, Some, false, length, slice_get, suc, true, zero, ℕ, ◌*◌, ◌+◌, ◌≡◌, ◌⊎◌}
+use Rattle.sw_drain.specs.Enabled.{CanStepBelow, IsChosen}
 use Rattle.sw_limit.specs.History.{IsHistory, packets_at, packets_of}
 use Rattle.sw_load.specs.Load.{LoadEntry}
 use Rattle.sw_machine.specs.Begun.{Begun, beginnings, moves}
@@ -56,3 +56,16 @@ BeginsOne load v begun false w after = (w ≡ v) × (after ≡ begun) × NoneIsR
 abbrev pub MovesOne : {R A : Type 0} → NetView R A → ℕ → Bool → NetView R A → Type 0
 MovesOne v index true w = (e : ℕ) × IsChosen v index e × HasMoved v e w
 MovesOne v index false w = (w ≡ v) × IsQuietNet v true
+
+-- pick answers with the index where it is asked how many can step; where none can, it is not asked
+abbrev pub Asks : {F : Type 0} → (F → ℕ → ℕ → F → Type 0) → F → ℕ → ℕ → F → Type 0
+Asks step f zero index g = g ≡ f
+Asks step f (suc n) index g = step f (suc n) index g
+
+-- pick is asked how many link ends can step, and its answer is the index that chooses the one of which a step is made
+pub record MovesPicked {R A F : Type 0} (step : F → ℕ → ℕ → F → Type 0) (v : NetView R A) (f : F) (made : Bool) (w : NetView R A) (g : F) : Type 0 where
+  pub count : ℕ
+  pub counted : CanStepBelow v (2 * length v.declared.links) count
+  pub index : ℕ
+  pub asked : Asks step f count index g
+  pub moved : MovesOne v index made w

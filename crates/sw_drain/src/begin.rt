@@ -1,5 +1,5 @@
 //! The nodes begin their packets.
-ghost use Rattle.std.specs.Prelude.{◌≡◌, ◌<◌, IfNone, IfOk, IfSome, Ok, OnOk, length, slice_index, true};
+ghost use Rattle.std.specs.Prelude.{◌≡◌, ◌<◌, IfNone, IfOk, IfSome, Ok, OnErr, OnOk, length, slice_index, true};
 ghost use Rattle.sw_drain.specs.Way.{BeginsOne, HasBegun, IsReady, NoneIsReady};
 ghost use Rattle.sw_limit.specs.Limit.{AreDeclared};
 ghost use Rattle.sw_machine.specs.Steps.{Begin};
@@ -54,7 +54,8 @@ fn find_ready<R: Routing, A: Arbiter>(
     None
 }
 
-/// The node where the packet's flow starts begins it, which has to be possible.
+/// The node where the packet's flow starts begins it, which has to be possible. Where there is no
+/// memory for it, nothing has changed.
 fn begin_packet<R: Routing, A: Arbiter>(
     alloc: Global,
     net: &mut Net<'_, R, A>,
@@ -63,6 +64,7 @@ fn begin_packet<R: Routing, A: Arbiter>(
     requires { Tells net.old (Begin packet.now.flow packet.now.cargo packet.now.marker) true }
     ensures network { net.new.declared ≡ net.old.declared }
     ensures made { OnOk result (NetAnswers net.old (Begin packet.now.flow packet.now.cargo packet.now.marker) (Ok tt) net.new) }
+    ensures refused { OnErr result (net.new ≡ net.old) }
 {
     let _network = net.network();
     let step = Step::Begin {
@@ -96,6 +98,7 @@ fn begin_at<R: Routing, A: Arbiter>(
     ensures network { net.new.declared ≡ net.old.declared }
     ensures nodes { length begun.new ≡ length begun.old }
     ensures begun { OnOk result (HasBegun senders.now.load net.old begun.old net.new begun.new) }
+    ensures refused { OnErr result (net.new ≡ net.old) }
 {
     // Names the total, which bounds what a node begins.
     let _total = senders.load().total();
@@ -122,6 +125,7 @@ pub(crate) fn begin_one<R: Routing, A: Arbiter>(
     ensures network { net.new.declared ≡ net.old.declared }
     ensures nodes { length begun.new ≡ length begun.old }
     ensures begins { IfOk result (λ made. BeginsOne senders.now.load net.old begun.old made net.new begun.new) }
+    ensures refused { OnErr result (net.new ≡ net.old) }
 {
     let Some(node) = find_ready(net, senders, begun) else {
         return Ok(false);

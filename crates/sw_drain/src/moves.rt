@@ -1,5 +1,5 @@
 //! The steps other than beginnings.
-ghost use Rattle.std.specs.Prelude.{◌≡◌, ◌<◌, ◌*◌, IfNone, IfOk, IfSome, OnOk, length, true};
+ghost use Rattle.std.specs.Prelude.{◌≡◌, ◌<◌, ◌*◌, IfNone, IfOk, IfSome, OnErr, OnOk, length, true};
 ghost use Rattle.sw_drain.specs.Enabled.{CanStepBelow, IsChosen, IsNth};
 ghost use Rattle.sw_drain.specs.Way.{HasMoved, MovesOne};
 ghost use Rattle.sw_net.specs.Asked.{CanStep, IsQuietNet};
@@ -64,6 +64,7 @@ fn move_at<R: Routing, A: Arbiter>(
     requires enabled { CanStep net.old end true }
     ensures network { net.new.declared ≡ net.old.declared }
     ensures moved { OnOk result (HasMoved net.old end net.new) }
+    ensures refused { OnErr result (net.new ≡ net.old) }
 {
     let _network = net.network();
     match net.step_of(alloc, end)? {
@@ -81,6 +82,7 @@ pub(crate) fn move_one<R: Routing, A: Arbiter>(
 ) -> Result<bool, AllocError>
     ensures network { net.new.declared ≡ net.old.declared }
     ensures moves { IfOk result (λ made. MovesOne net.old index made net.new) }
+    ensures refused { OnErr result (net.new ≡ net.old) }
 {
     let Some(end) = enabled_at(net, index) else {
         return Ok(false);

@@ -1,6 +1,7 @@
 //! A whole load, sent until nothing is left.
-ghost use Rattle.std.specs.Prelude.{◌≡◌, IfOk};
-ghost use Rattle.sw_drain.specs.Drained.{IsDrained};
+ghost use Rattle.std.specs.Prelude.{◌≡◌, IfOk, OnErr};
+ghost use Rattle.sw_drain.specs.Drained.{IsDrained, IsUnderWay};
+ghost use Rattle.sw_drain.specs.Way.{MovesPicked};
 ghost use Rattle.sw_limit.specs.Limit.{AreDeclared};
 ghost use Rattle.sw_machine.specs.State.{empty};
 ghost use Rattle.sw_model.specs.Model.{network_of};
@@ -16,6 +17,23 @@ use sw_load::Load;
 use sw_net::Net;
 use sw_route::Routing;
 
+/// One of the link ends that can step makes a step: that one which `pick` says, which is asked where
+/// some can. The answer is no where none can.
+fn move_picked<R: Routing, A: Arbiter, F: FnMut(usize) -> usize>(
+    alloc: Global,
+    net: &mut Net<'_, R, A>,
+    pick: &mut F,
+) -> Result<bool, AllocError>
+    requires pick { (state : F) (count : _) → F.pre state count }
+    ensures network { net.new.declared ≡ net.old.declared }
+    ensures moves { IfOk result (λ made. MovesPicked F.step net.old pick.old made net.new pick.new) }
+    ensures refused { OnErr result (net.new ≡ net.old) }
+{
+    let count = count_enabled(net);
+    let index = if count == 0 { 0 } else { pick(count) };
+    move_one(alloc, net, index)
+}
+
 /// Sends the whole load through a network for which a certificate was accepted, from its empty state
 /// until nothing is undelivered: each node begins its packets in their order, each as soon as it can,
 /// and else one of the link ends that can step makes a step. Which one `pick` says: it is passed how
@@ -26,8 +44,8 @@ use sw_route::Routing;
 ///
 /// # Errors
 ///
-/// There is no memory for what a step stores. The network is then in the state after some of the
-/// steps.
+/// There is no memory for what a step stores. The network is then as before that step: in the state
+/// that some history of the load leads to.
 pub fn drain<'n, R: Routing, A: Arbiter, F: FnMut(usize) -> usize>(
     alloc: Global,
     net: &mut Net<'n, R, A>,
@@ -41,6 +59,7 @@ pub fn drain<'n, R: Routing, A: Arbiter, F: FnMut(usize) -> usize>(
     requires pick { (state : F) (count : _) → F.pre state count }
     ensures network { net.new.declared ≡ net.old.declared }
     ensures drained { IfOk result (λ count. IsDrained load.now net.new count) }
+    ensures refused { OnErr result (IsUnderWay load.now net.new) }
 {
     passed.is_deadlock_free();
     let network = net.network();
@@ -51,9 +70,7 @@ pub fn drain<'n, R: Routing, A: Arbiter, F: FnMut(usize) -> usize>(
         if begin_one(alloc, net, &senders, begun.as_mut_slice())? {
             continue;
         }
-        let count = count_enabled(net);
-        let index = if count == 0 { 0 } else { pick(count) };
-        if !move_one(alloc, net, index)? {
+        if !move_picked(alloc, net, &mut pick)? {
             return Ok(moves);
         }
         moves += 1;

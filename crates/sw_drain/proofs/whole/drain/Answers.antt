@@ -25,9 +25,10 @@ returns-then-not-branch-clause-drained g c =
     let u = c.begin_one.new.net in
     let none = subst (λ k. BeginsOne load v c.as_mut_slice.result.now k u c.begin_one.new.begun) c.if-branch.false (rw c.in_ok-senders.ensures.load at c.in_ok-begin_one.ensures.begins) in
     let begins = subst (λ l. BeginsOne load v l false u c.begin_one.new.begun) c.as_mut_slice.ensures.value none in
-    let no : c.in_ok-move_one.field-0 ≡ false = search rules in
-    let stops = subst (λ k. MovesOne u c.if-count-eq0.index k c.move_one.new.net) no c.in_ok-move_one.ensures.moves in
-    finished load v u c.move_one.new.net c.loop.begun.items c.begin_one.new.begun c.loop.counter c.loop.moves begins c.loop.invariant.1 d c.loop.invariant.0 valid c.requires.packets cert free c.if-count-eq0.index stops
+    let no : c.in_ok-move_picked.field-0 ≡ false = search rules in
+    let picked = c.in_ok-move_picked.ensures.moves in
+    let stops = subst (λ k. MovesOne u picked.index k c.move_picked.new.net) no picked.moved in
+    finished load v u c.move_picked.new.net c.loop.begun.items c.begin_one.new.begun c.loop.counter c.loop.moves begins c.loop.invariant.1 d c.loop.invariant.0 valid c.requires.packets cert free picked.index stops
 
 pub loop-preserved : goal.loop-preserved
 loop-preserved g c =
@@ -36,13 +37,14 @@ loop-preserved g c =
     let u = c.begin_one.new.net in
     let none = subst (λ k. BeginsOne load v c.as_mut_slice.result.now k u c.begin_one.new.begun) c.if-branch.false (rw c.in_ok-senders.ensures.load at c.in_ok-begin_one.ensures.begins) in
     let begins = subst (λ l. BeginsOne load v l false u c.begin_one.new.begun) c.as_mut_slice.ensures.value none in
-    let yes : c.in_ok-move_one.field-0 ≡ true = search rules in
-    let moves = subst (λ k. MovesOne u c.if-count-eq0.index k c.move_one.new.net) yes c.in_ok-move_one.ensures.moves in
-    let there = one_moved load v u c.move_one.new.net c.loop.begun.items c.begin_one.new.begun c.loop.counter c.loop.moves begins c.loop.invariant.1 c.if-count-eq0.index moves c.move_one.ensures.network in
+    let yes : c.in_ok-move_picked.field-0 ≡ true = search rules in
+    let picked = c.in_ok-move_picked.ensures.moves in
+    let moves = subst (λ k. MovesOne u picked.index k c.move_picked.new.net) yes picked.moved in
+    let there = one_moved load v u c.move_picked.new.net c.loop.begun.items c.begin_one.new.begun c.loop.counter c.loop.moves begins c.loop.invariant.1 picked.index moves c.move_picked.ensures.network in
     let same : length c.begin_one.new.begun ≡ length c.loop.begun.items = c.begin_one.ensures.nodes ∙ ap length c.as_mut_slice.ensures.value in
     let all : c.loop.begun.len ≡ length c.loop.begun.items = search rules in (
-      c.move_one.ensures.network ∙ c.begin_one.ensures.network ∙ c.loop.invariant.0,
-      subst (λ l. IsOnTheWay load c.move_one.new.net l (c.loop.counter + 1) (c.loop.moves + 1)) (sym (written c.begin_one.new.begun c.loop.begun.items c.loop.begun.len same all)) there,
+      c.move_picked.ensures.network ∙ c.begin_one.ensures.network ∙ c.loop.invariant.0,
+      subst (λ l. IsOnTheWay load c.move_picked.new.net l (c.loop.counter + 1) (c.loop.moves + 1)) (sym (written c.begin_one.new.begun c.loop.begun.items c.loop.begun.len same all)) there,
     )
 
 pub unreachable-requires : goal.unreachable-requires
