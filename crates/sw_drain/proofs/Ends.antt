@@ -7,7 +7,7 @@ use Rattle.std.specs.Prelude.{slice_get, sum_by}
 use Rattle.sw_cell.proofs.Network.{nodes_are}
 use Rattle.sw_char.specs.declared.nchar.NChar.TheVariants.{Data, Eop}
 use Rattle.sw_drain.proofs.Begun.{declared_at}
-use Rattle.sw_drain.specs.Drained.{IsDrained, most_moves}
+use Rattle.sw_drain.specs.Drained.{IsDrained, most_moves, most_moves_of}
 use Rattle.sw_drain.specs.Way.{IsOnTheWay, NoneIsReady}
 use Rattle.sw_limit.proofs.Fronts.{histories_end, no-more}
 use Rattle.sw_limit.proofs.Grown.{slice_get-behind}
@@ -17,12 +17,12 @@ use Rattle.sw_model.proofs.Declares.{declared_are_declared}
 use Rattle.sw_load.specs.Load.{LoadEntry}
 use Rattle.sw_machine.proofs.Balance.{count_cons}
 use Rattle.sw_machine.proofs.RunLists.{all_moves}
-use Rattle.sw_machine.specs.Begun.{Begun, beginnings, length_with_reply, moves}
+use Rattle.sw_machine.specs.Begun.{Begun, RunOf, beginnings, length_with_reply, moves}
 use Rattle.sw_machine.specs.Certificate.{Certificate}
 use Rattle.sw_machine.specs.DeadlockFreedom.{IsDeadlockFree}
 use Rattle.sw_machine.specs.Network.{PendingReply, form}
 use Rattle.sw_machine.specs.Runs.{length_pending, total, undelivered}
-use Rattle.sw_machine.specs.State.{State, after_begin, reply_packet}
+use Rattle.sw_machine.specs.State.{State, after_begin, empty, reply_packet}
 use Rattle.sw_machine.specs.Steps.{Accept, Arrive, Begin, Drop, Emit, Fct, FctIn, Forward, Grant, IsPossible, Reply, Spill, Step, is_begin}
 use Rattle.sw_model.proofs.Flows.{some_at}
 use Rattle.sw_model.proofs.Networks.{are_networks}
@@ -129,6 +129,9 @@ module _ {R A : Type 0} (load : List LoadEntry) (v : NetView R A) (valid : IsVal
     all_begun : IsWhole (network_of v.declared) (packets_of load) way.steps
     all_begun n = let front = (way.history).in_order n in whole_by n front.0 front.1
 
+    begins : (begun : List Begun) × RunOf (network_of v.declared) (empty (network_of v.declared)) way.steps begun way.state
+    begins = free.each_run_is_counted way.steps way.state (way.history).run
+
     pub is_drained : IsDrained load v count
     is_drained = record {
       steps = way.steps;
@@ -139,4 +142,7 @@ module _ {R A : Type 0} (load : List LoadEntry) (v : NetView R A) (valid : IsVal
       empty = is_empty;
       counted = sym way.moves_are;
       few = subst (λ k. k ≤ most_moves (network_of v.declared) (packets_of load)) way.moves_are (few_moves all_begun);
+      begun = begins.0;
+      begins = begins.1;
+      few_of_begun = subst (λ k. k ≤ most_moves_of (network_of v.declared) begins.0) way.moves_are (free.bounded way.steps begins.0 way.state begins.1);
     }

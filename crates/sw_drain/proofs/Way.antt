@@ -1,6 +1,5 @@
 -- What is known on the way, when a step is made.
-use Rattle.std.proofs.Common.{Bool, List, Ok, Some, [], ap, arith, false, length, length-append, length-set, set, subst, sym, ℕ, ◌+◌, ◌++◌, ◌∙◌, ◌∷◌, ◌≡◌}
-use Rattle.std.proofs.lemmas.Bool.{false≢true}
+use Rattle.std.proofs.Common.{Bool, List, Ok, Some, [], ap, arith, length, length-append, length-set, set, subst, sym, ℕ, ◌+◌, ◌++◌, ◌∙◌, ◌∷◌, ◌≡◌}
 use Rattle.std.proofs.lemmas.Option.{slice_get_within}
 use Rattle.std.specs.Prelude.{if◌then◌else◌, not, slice_get}
 use Rattle.sw_history.proofs.Adds.{begin_counted, none_counted}
@@ -8,12 +7,11 @@ use Rattle.sw_history.proofs.Follows.{no_begin_next}
 use Rattle.sw_history.specs.History.{IsCounted}
 use Rattle.sw_drain.specs.Way.{HasBegun, HasMoved, IsNext, IsOnTheWay}
 use Rattle.sw_limit.proofs.Grown.{grows}
-use Rattle.sw_limit.specs.History.{BeginsNext, IsHistory, packets_at, packets_of}
+use Rattle.sw_limit.specs.History.{IsHistory, packets_at, packets_of}
 use Rattle.sw_load.specs.Load.{LoadEntry}
 use Rattle.sw_machine.proofs.RunLists.{moves_append, moves_cons}
 use Rattle.sw_machine.specs.Begun.{Begun, beginnings, moves}
-use Rattle.sw_machine.specs.Network.{Network}
-use Rattle.sw_machine.specs.Steps.{Accept, Arrive, Begin, Drop, Emit, Fct, FctIn, Forward, Grant, Reply, Spill, Step, is_begin}
+use Rattle.sw_machine.specs.Steps.{Begin, Step, is_begin}
 use Rattle.sw_model.specs.Model.{network_of}
 use Rattle.sw_net.specs.Net.{NetAnswers, NetView}
 use Rattle.sw_config.specs.Entries.{Declaration}

@@ -39,8 +39,8 @@ fn move_picked<R: Routing, A: Arbiter, F: FnMut(usize) -> usize>(
 /// and else one of the link ends that can step makes a step. Which one `pick` says: it is passed how
 /// many can step, and answers how many of these, in the order of their numbers, come before it; an
 /// answer out of range counts as 0. Answers the number of steps other than beginnings: at most 14 for
-/// each channel, and 5 for each channel and each character of the packets and of the longest replies
-/// to those that are answered.
+/// each channel, and 5 for each channel and each character of the packets that were begun, replies
+/// included; and so of the load's packets and of the longest replies to those that are answered.
 ///
 /// # Errors
 ///
