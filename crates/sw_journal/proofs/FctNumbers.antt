@@ -1,17 +1,16 @@
 -- Which FCTs may follow, by the numbers of a cell.
 use Rattle.std.proofs.Common.{◌≡◌, ◌∙◌, ℕ, zero, suc, ◌+◌, ◌-◌, ◌<◌, ◌≤◌, Some, List, length, [], ◌∷◌, map, filter, Bool, true, false, refl, sym, ap, subst, arith, cond}
 use Rattle.std.specs.List.{range_with_len}
-use Rattle.std.specs.Prelude.{IsSome, Option, find, nat_eq, option_map, slice_get}
+use Rattle.std.specs.Prelude.{IsSome, find, nat_eq, option_map, slice_get}
 use Rattle.std.proofs.lemmas.Bool.{eq-eqb, eqb-true}
 use Rattle.sw_cell.specs.Places.{machine_cell}
 use Rattle.sw_cell.specs.declared.cell.CellId.{CellId}
 use Rattle.sw_history.proofs.Follows.{follows_where_possible}
 use Rattle.sw_journal.proofs.Told.{at_its_cell, received_ends, reverse_back}
-use Rattle.sw_journal.specs.Cells.{end_numbers, ends_at, numbered, same_cell}
+use Rattle.sw_journal.specs.Cells.{end_numbers, ends_at, same_cell}
 use Rattle.sw_journal.specs.Laws.{HasNumbers, IsByNumbers, OfNowCells}
-use Rattle.sw_journal.specs.Record.{JournalView, CellView, IsNowCell, IsTrueView}
 use Rattle.sw_limit.specs.History.{packets_of}
-use Rattle.sw_machine.specs.Network.{AtNode, AtSwitch, Cell, IsNetwork, Network, reverse_of}
+use Rattle.sw_machine.specs.Network.{AtNode, AtSwitch, Cell, Network, reverse_of}
 use Rattle.sw_machine.specs.State.{State, after_fct}
 use Rattle.sw_machine.specs.Steps.{Fct}
 use Rattle.sw_model.specs.Model.{network_of}

@@ -2,7 +2,7 @@ pub mod Moves
 pub mod Told
 mod Renewed
 mod Commit
-mod FctNumbers
+pub mod FctNumbers
 mod Opened
 mod Idle
 mod Chosen
