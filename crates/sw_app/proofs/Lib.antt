@@ -5,7 +5,6 @@ pub mod FlowAnswers
 pub mod OneListing
 pub mod OneAnswer
 pub mod CycleChannels
-pub mod SameCauses
 pub mod OneVerdict
 pub mod ShownFree
 pub mod Told

@@ -33,8 +33,8 @@ words_once d (Cyclic cycle) (Free contents) h k = absurd (determined d (Cyclic c
 words_once d (Free contents) (Misrouted i p fault) h k = absurd (determined d (Free contents) (Misrouted i p fault) h k)
 words_once d (Free contents) (Cyclic cycle) h k = absurd (determined d (Free contents) (Cyclic cycle) h k)
 words_once d (Cyclic cycle) (Cyclic other) h k =
-    let same : cycle.channels ≡ other.channels = determined d (Cyclic cycle) (Cyclic other) h k in
-    ap (λ (cs : List ℕ). cyclic_words (length cs)) same
+    let same = determined d (Cyclic cycle) (Cyclic other) h k in
+    ap (λ (cs : List ℕ). cyclic_words (length cs)) same.channels
 words_once d (Free contents) (Free other) h k =
     let same = determined d (Free contents) (Free other) h k in
     ap (λ (c : Contents). free_words c.numbers) same

@@ -1,30 +1,35 @@
 -- `decide` has one answer.
-use Rattle.std.proofs.Common.{◌≡◌, ◌∙◌, ℕ, ◌+◌, List, [], ◌∷◌, ◌++◌, ap, length, refl, subst, sym}
+use Rattle.std.proofs.Common.{◌≡◌, ◌∙◌, ℕ, ◌+◌, List, [], ◌∷◌, ◌++◌, ap, length, map, refl, sym}
 use Rattle.std.specs.Prelude.{Err, Ok, Result}
 use Rattle.sw_config.specs.Entries.{Declaration}
 use Rattle.sw_toml_table.specs.declared.fault.TextFault.{TextFault}
 use Rattle.sw_file.specs.Network.{network_text}
 use Rattle.sw_cert.specs.Grammar.{spelling}
 use Rattle.sw_cert.specs.Text.{Contents}
-use Rattle.sw_cycle.specs.Cycles.{CauseEntry, round}
-use Rattle.sw_cycle.specs.Causes.{AreChosen}
+use Rattle.sw_cycle.specs.Cycles.{ByFlow, ByTarget, CauseEntry, CycleEntry}
+use Rattle.sw_search.specs.Laws.{IsSameCycle, without_places}
 use Rattle.sw_search.specs.declared.verdict.Verdict.{Verdict}
 use Rattle.sw_search.specs.declared.verdict.Verdict.TheVariants.{Misrouted, Cyclic, Free}
 use Rattle.sw_search.specs.Verdicts.{IsVerdict}
 use Rattle.sw_search.proofs.Determined.{determined}
-use Rattle.sw_output.specs.VerdictTexts.{cycle_text, cyclic_words, misrouted_words}
+use Rattle.sw_output.specs.VerdictTexts.{cycle_line, cycle_lines, cycle_text, cyclic_words, misrouted_words}
 use Rattle.sw_output.specs.Lines.{line}
 use Rattle.sw_app.specs.Laws.{DecideHasOneAnswer}
 use Rattle.sw_app.specs.VerdictAnswers.{IsVerdictAnswer, OfNetwork, verdict_status, verdict_text}
 use Rattle.sw_app.proofs.OneAnswer.{says_once}
-use Rattle.sw_app.proofs.SameCauses.{same_lines, same_words}
 
--- cycles of the same channels, each with its chosen causes, have one text
-cycles_once : (d : Declaration) (channels : List ℕ) (xs ys : List CauseEntry) → AreChosen d channels xs → AreChosen d channels ys
-    → cycle_text d (record { channels = channels; causes = xs }) ≡ cycle_text d (record { channels = channels; causes = ys })
-cycles_once d channels xs ys p q =
-    ap (λ (lines : List ℕ). line (cyclic_words (length channels) ∷ []) ++ lines)
-    (same_lines d channels xs ys (p.one_each ∙ sym q.one_each) (λ i a b x y. same_words d a b (round channels i) (round channels (i + 1)) (p.chosen i a x) (q.chosen i b y)))
+-- a cycle's text says nothing of the places that show its causes
+without : (d : Declaration) (channels : List ℕ) (causes : List CauseEntry) → cycle_lines d channels causes ≡ cycle_lines d channels (map without_places causes)
+without d [] xs = refl
+without d (c ∷ cs) [] = refl
+without d (c ∷ cs) (ByTarget t ∷ xs) = ap (λ (lines : List ℕ). cycle_line d c (ByTarget t) ++ lines) (without d cs xs)
+without d (c ∷ cs) (ByFlow i places ∷ xs) = ap (λ (lines : List ℕ). cycle_line d c (ByFlow i places) ++ lines) (without d cs xs)
+
+same_text : (d : Declaration) (cycle other : CycleEntry) → IsSameCycle cycle other → cycle_text d cycle ≡ cycle_text d other
+same_text d cycle other same =
+    let lines : cycle_lines d cycle.channels cycle.causes ≡ cycle_lines d other.channels other.causes =
+    without d cycle.channels cycle.causes ∙ (λ i. cycle_lines d (same.channels i) (same.causes i)) ∙ sym (without d other.channels other.causes) in
+    λ i. line (cyclic_words (length (same.channels i)) ∷ []) ++ lines i
 
 verdict_once : (d : Declaration) (v w : Verdict) → IsVerdict d v → IsVerdict d w → (verdict_text d v ≡ verdict_text d w) × (verdict_status v ≡ verdict_status w)
 verdict_once d (Misrouted i p fault) (Misrouted j q other) h k =
@@ -40,9 +45,7 @@ verdict_once d (Free contents) (Free other) h k =
     let same = determined d (Free contents) (Free other) h k in
     (ap (λ (c : Contents). spelling c.numbers c.places) same, refl)
 verdict_once d (Cyclic cycle) (Cyclic other) h k =
-    let same : cycle.channels ≡ other.channels = determined d (Cyclic cycle) (Cyclic other) h k in
-    let chosen : AreChosen d other.channels cycle.causes = subst (λ (cs : List ℕ). AreChosen d cs cycle.causes) same h.caused in
-    (ap (λ (cs : List ℕ). cycle_text d (record { channels = cs; causes = cycle.causes })) same ∙ cycles_once d other.channels cycle.causes other.causes chosen k.caused, refl)
+    (same_text d cycle other (determined d (Cyclic cycle) (Cyclic other) h k), refl)
 
 read_once : (r : Result Declaration TextFault) (text other : List ℕ) (status number : ℕ) → OfNetwork IsVerdictAnswer r text status → OfNetwork IsVerdictAnswer r other number
     → (text ≡ other) × (status ≡ number)

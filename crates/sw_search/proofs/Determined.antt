@@ -1,5 +1,5 @@
 -- Any two verdicts on a network say the same.
-use Rattle.std.proofs.Common.{◌≡◌, ℕ, length, Option, Some, None, sym, ap, ◌∙◌, subst, inl, inr, arith}
+use Rattle.std.proofs.Common.{◌≡◌, ℕ, List, length, Option, Some, None, sym, ap, ◌∙◌, subst, inl, inr, arith}
 use Rattle.std.specs.Prelude.{slice_get}
 use Rattle.std.proofs.lemmas.Bool.{cases_lt}
 use Rattle.std.proofs.lemmas.List.Elements.{All-contains}
@@ -10,10 +10,12 @@ use Rattle.sw_flow.specs.Places.{ends_of, IsPlaceList}
 use Rattle.sw_flow.specs.Faults.{first_fault_of, IsWellRouted}
 use Rattle.sw_flow.proofs.WellRouted.{well_routed_by_list}
 use Rattle.sw_check.proofs.Lists.{Contains-at}
+use Rattle.sw_cycle.specs.Causes.{AreChosen}
 use Rattle.sw_search.specs.declared.verdict.Verdict.TheVariants.{Misrouted, Cyclic, Free}
 use Rattle.sw_search.specs.Laws.{VerdictsAreDetermined}
 use Rattle.sw_search.specs.Verdicts.{AllWellRouted, depends, IsMisrouted}
 use Rattle.sw_search.proofs.Cycles.{same_cycle}
+use Rattle.sw_search.proofs.SameCauses.{same_causes}
 use Rattle.sw_search.proofs.Levels.{has_cycle, same_levels}
 use Rattle.sw_search.proofs.Sorted.{same_places}
 use Rattle.sw_search.proofs.Zips.{zip_determined}
@@ -64,7 +66,10 @@ determined d (Misrouted i p fault) (Misrouted j q other) h k = same_fault d i j 
 determined d (Misrouted i p fault) (Cyclic cycle) h k = not_routed d i p fault h k.routed
 determined d (Misrouted i p fault) (Free contents) h k = not_routed d i p fault h k.routed
 determined d (Cyclic cycle) (Misrouted i p fault) h k = not_routed d i p fault k h.routed
-determined d (Cyclic cycle) (Cyclic other) h k = same_cycle (depends d) cycle.channels other.channels h.shown k.shown
+determined d (Cyclic cycle) (Cyclic other) h k =
+    let same : cycle.channels ≡ other.channels = same_cycle (depends d) cycle.channels other.channels h.shown k.shown in
+    let chosen : AreChosen d other.channels cycle.causes = subst (λ (cs : List ℕ). AreChosen d cs cycle.causes) same h.caused in
+    record { channels = same; causes = same_causes d other.channels cycle.causes other.causes chosen k.caused }
 determined d (Cyclic cycle) (Free contents) h k = k.no_cycle (has_cycle (depends d) cycle.channels h.shown)
 determined d (Free contents) (Misrouted i p fault) h k = not_routed d i p fault k h.routed
 determined d (Free contents) (Cyclic cycle) h k = h.no_cycle (has_cycle (depends d) cycle.channels k.shown)

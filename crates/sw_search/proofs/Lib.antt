@@ -9,6 +9,7 @@ pub mod Rounds
 pub mod Accepted
 pub mod Sorted
 pub mod Cycles
+pub mod SameCauses
 pub mod Determined
 pub mod Entered
 pub mod Paths

@@ -1,5 +1,5 @@
 -- What a verdict says, that it is determined, and that exactly one holds.
-use Rattle.std.specs.Prelude.{◌≡◌, ◌↔◌, ◌⊎◌, ℕ, Contains, None}
+use Rattle.std.specs.Prelude.{◌≡◌, ◌↔◌, ◌⊎◌, ℕ, Contains, None, [], map}
 use Rattle.sw_config.specs.Entries.{FlowEntry, Declaration, all_flows}
 use Rattle.sw_config.specs.Valid.{IsValid}
 use Rattle.sw_flow.specs.Faults.{IsWellRouted}
@@ -7,7 +7,7 @@ use Rattle.sw_machine.specs.Certificate.{IsAccepted}
 use Rattle.sw_machine.specs.Places.{IsRising}
 use Rattle.sw_model.specs.Model.{network_of}
 use Rattle.sw_graph.specs.Levels.{HasCycle}
-use Rattle.sw_cycle.specs.Cycles.{CycleEntry, IsShown}
+use Rattle.sw_cycle.specs.Cycles.{ByFlow, ByTarget, CauseEntry, CycleEntry, IsShown}
 use Rattle.sw_cert.specs.Text.{Contents}
 use Rattle.sw_check.specs.Contents.{certificate_of}
 use Rattle.sw_check.specs.Refusals.{refusal_of}
@@ -15,12 +15,21 @@ use Rattle.sw_search.specs.declared.verdict.Verdict.{Verdict}
 use Rattle.sw_search.specs.declared.verdict.Verdict.TheVariants.{Misrouted, Cyclic, Free}
 use Rattle.sw_search.specs.Verdicts.{AllWellRouted, IsCyclic, IsFree, IsVerdict, depends}
 
--- Two verdicts say the same: of one kind, with the same flow, place and fault, with cycles of the same channels, or with the same
--- certificate. Only the places that show a cause may differ.
+-- the same target or flow, with no places that show it
+abbrev pub without_places : CauseEntry → CauseEntry
+without_places (ByTarget node) = ByTarget node
+without_places (ByFlow flow places) = ByFlow flow []
+
+-- the same channels, each with the same cause; only the places that show a cause may differ
+pub record IsSameCycle (cycle other : CycleEntry) : Type 0 where
+  pub channels : cycle.channels ≡ other.channels
+  pub causes : map without_places cycle.causes ≡ map without_places other.causes
+
+-- Two verdicts say the same: of one kind, with the same flow, place and fault, with the same cycle, or with the same certificate.
 abbrev pub SaysTheSame : Verdict → Verdict → Type 0
 SaysTheSame (Misrouted i p fault) (Misrouted j q other) = (i ≡ j) × (p ≡ q) × (fault ≡ other)
 SaysTheSame (Misrouted i p fault) v = ⊥
-SaysTheSame (Cyclic cycle) (Cyclic other) = cycle.channels ≡ other.channels
+SaysTheSame (Cyclic cycle) (Cyclic other) = IsSameCycle cycle other
 SaysTheSame (Cyclic cycle) v = ⊥
 SaysTheSame (Free contents) (Free other) = contents ≡ other
 SaysTheSame (Free contents) v = ⊥
