@@ -1,5 +1,6 @@
 mod Counts
 mod Delivered
+mod Wanted
 mod Ended
 mod Named
 mod Out

@@ -1,7 +1,7 @@
 //! A cell under its lock.
 ghost use Rattle.std.specs.Prelude.{◌≡◌};
 ghost use Rattle.sw_journal.specs.Cells.{end_numbers};
-ghost use Rattle.sw_run.specs.Wanted.{wanted_fct};
+ghost use Rattle.sw_run.specs.Wanted.{TellsWhatMayFollow, wanted_fct};
 
 use crate::run_identity::RunIdentity;
 use std::marker::PhantomData;
@@ -9,6 +9,7 @@ use sw_cell::CellId;
 use sw_journal::Cell;
 use sw_link::flow_control::{ASKED_BY_FCT, MAX_BEFORE_FCT};
 use sw_model::Step;
+use sw_net::Numbers;
 use sw_topo::LinkEnd;
 
 /// A cell of one run.
@@ -17,6 +18,18 @@ pub(crate) struct LockedCell<W: RunIdentity> {
     pub(crate) cell: Cell,
     of: PhantomData<W>,
     ghost name_is: { cell.name ≡ W.name },
+}
+
+/// The FCT that the link end with these numbers is to send, if there is room for what it asks for.
+fn fct_by(numbers: Option<Numbers>, end: LinkEnd) -> Option<Step>
+    ensures { result ≡ wanted_fct end numbers }
+{
+    let numbers = numbers?;
+    if numbers.room >= ASKED_BY_FCT as u16 && numbers.outstanding <= MAX_BEFORE_FCT {
+        Some(Step::Fct(end.receives()))
+    } else {
+        None
+    }
 }
 
 impl<W: RunIdentity> LockedCell<W> {
@@ -37,15 +50,11 @@ impl<W: RunIdentity> LockedCell<W> {
     }
 
     /// The FCT that the link end is to send, if there is room for what it asks for: the cell's own
-    /// numbers tell.
+    /// numbers tell, and they tell what a commit of it answers (`sw_journal::laws::fct_by_numbers`).
     pub(crate) fn wanted(&self, end: LinkEnd) -> Option<Step>
-        ensures { result ≡ wanted_fct end (end_numbers self.now.cell.ends end) }
+        ensures exact { result ≡ wanted_fct end (end_numbers self.now.cell.ends end) }
+        ensures may_follow { TellsWhatMayFollow self.now.cell end result }
     {
-        let numbers = self.cell.numbers(end)?;
-        if numbers.room >= ASKED_BY_FCT as u16 && numbers.outstanding <= MAX_BEFORE_FCT {
-            Some(Step::Fct(end.receives()))
-        } else {
-            None
-        }
+        fct_by(self.cell.numbers(end), end)
     }
 }

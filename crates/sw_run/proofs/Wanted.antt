@@ -1,0 +1,45 @@
+-- What is wanted may follow.
+use Rattle.std.proofs.Common.{Bool, None, Option, Some, ap, arith, false, le-leb, leb-true, nat_le, refl, sym, true, ℕ, ◌∙◌, ◌≡◌, ◌≤◌}
+use Rattle.std.specs.Prelude.{IsSome, if◌then◌else◌, ◌&&◌}
+use Rattle.sw_journal.proofs.FctNumbers.{decided, known}
+use Rattle.sw_journal.specs.Cells.{end_numbers}
+use Rattle.sw_journal.specs.Record.{CanCommit, CellView, IsNowCell, IsTrueView, JournalView}
+use Rattle.sw_machine.specs.Network.{reverse_of}
+use Rattle.sw_machine.specs.Steps as machine
+use Rattle.sw_model.specs.declared.step.Step.TheVariants.{Fct}
+use Rattle.sw_net.specs.declared.numbers.Numbers.{Numbers}
+use Rattle.sw_run.specs.Wanted.{TellsOf, TellsWhatMayFollow, wanted_fct}
+use Rattle.sw_topo.specs.Wiring.{partner}
+
+reverse_back : (e : ℕ) → reverse_of (partner e) ≡ e
+reverse_back e = grind arith
+
+module _ (cell : CellView) (end : ℕ) (j : JournalView) (ok : IsTrueView j) (now : IsNowCell j cell) where
+  abbrev May : Type 0
+  May = CanCommit j cell.id (machine.Fct (partner end))
+
+  by_tests : (n : Numbers) → (May → (8 ≤ n.room) × (n.outstanding ≤ 48)) → ((8 ≤ n.room) × (n.outstanding ≤ 48) → May) → (a b : Bool) → nat_le 8 n.room ≡ a → nat_le n.outstanding 48 ≡ b
+      → TellsOf j cell end (if a && b then Some (Fct (partner end)) else None)
+  by_tests n there back true true room few = back (leb-true 8 n.room room, leb-true n.outstanding 48 few)
+  by_tests n there back true false room few = λ may.
+      let bad : false ≡ true = sym few ∙ le-leb n.outstanding 48 (there may).1 in
+      absurd cc
+  by_tests n there back false b room few = λ may.
+      let bad : false ≡ true = sym room ∙ le-leb 8 n.room (there may).0 in
+      absurd cc
+
+  by_numbers : (o : Option Numbers) → end_numbers cell.ends end ≡ o → TellsOf j cell end (wanted_fct end o)
+  by_numbers None is = λ may.
+      let some : IsSome (end_numbers cell.ends (reverse_of (partner end))) = known j ok cell now (partner end) may in
+      let none = ap (end_numbers cell.ends) (reverse_back end) ∙ is in
+      absurd (no_some (end_numbers cell.ends (reverse_of (partner end))) none some)
+    where
+      no_some : (o : Option Numbers) → o ≡ None → IsSome o → ⊥
+      no_some None e h = absurd cc
+      no_some (Some n) e h = absurd cc
+  by_numbers (Some n) is =
+      let may = decided j ok cell now (partner end) n (ap (end_numbers cell.ends) (reverse_back end) ∙ is) in
+      by_tests n may.0 may.1 (nat_le 8 n.room) (nat_le n.outstanding 48) refl refl
+
+pub tells : (cell : CellView) (end : ℕ) → TellsWhatMayFollow cell end (wanted_fct end (end_numbers cell.ends end))
+tells cell end = λ j ok now. by_numbers cell end j ok now (end_numbers cell.ends end) refl
