@@ -2,7 +2,7 @@
 use Rattle.std.proofs.Common.{All, Bool, List, None, [], ap, arith, cond, count_by, eq-eqb, false, filter, length, nat_eq, nat_le, ne_eqb, refl, subst, sym, true, ℕ, ⊎_elim, ◌++◌, ◌+◌, ◌<◌, ◌∙◌, ◌∷◌, ◌≡◌, ◌≤◌}
 use Rattle.std.proofs.lemmas.Bool.{cases_eq}
 use Rattle.std.proofs.lemmas.Bool.Decides.{nat_tests}
-use Rattle.std.proofs.lemmas.List.Elements.{All-cons, All-nil, filter-append}
+use Rattle.std.proofs.lemmas.List.Elements.{All-append, All-cons, All-head, All-nil, All-tail, filter-append}
 use Rattle.std.specs.Option.{option_map_or}
 use Rattle.std.specs.Prelude.{◌&&◌}
 use Rattle.sw_limit.specs.History.{packets_at}
@@ -21,7 +21,7 @@ use Rattle.sw_machine.specs.Steps.{Accept, Arrive, Begin, Drop, Emit, Fct, FctIn
 use Rattle.sw_model.specs.Model.{network_of}
 use Rattle.sw_config.specs.Entries.{Declaration}
 use Rattle.sw_run.proofs.Counts.{count_filter, same_counts}
-use Rattle.sw_run.specs.Laws.{IsDelivered}
+use Rattle.sw_run.specs.Laws.{IsDelivered, IsOfReplies}
 use Rattle.sw_run.specs.Outcomes.{AreOut}
 
 is_below : (a b : ℕ) → a < b → nat_le b a ≡ false
@@ -40,12 +40,12 @@ module _ (net : Network) where
   abbrev replies_of : List Begun → List Begun
   replies_of begun = filter is_reply begun
 
-  all_replies : (begun : List Begun) → All (λ b. net.declared_flows ≤ b.flow) (replies_of begun)
-  all_replies [] = All-nil (λ b. net.declared_flows ≤ b.flow)
-  all_replies (b ∷ begun) = by (is_reply b) refl (all_replies begun)
+  all_replies : (begun : List Begun) → All (λ b. b.flow < net.flows) begun → All (λ b. IsOfReplies net b.flow) (replies_of begun)
+  all_replies [] within = All-nil (λ b. IsOfReplies net b.flow)
+  all_replies (b ∷ begun) within = by (is_reply b) refl (all_replies begun (All-tail (λ b. b.flow < net.flows) b begun within))
     where
-      by : (a : Bool) → is_reply b ≡ a → All (λ b. net.declared_flows ≤ b.flow) (replies_of begun) → All (λ b. net.declared_flows ≤ b.flow) (cond a (b ∷ replies_of begun) (replies_of begun))
-      by true is h = All-cons (λ b. net.declared_flows ≤ b.flow) b (replies_of begun) (within_is net.declared_flows b.flow is) h
+      by : (a : Bool) → is_reply b ≡ a → All (λ b. IsOfReplies net b.flow) (replies_of begun) → All (λ b. IsOfReplies net b.flow) (cond a (b ∷ replies_of begun) (replies_of begun))
+      by true is h = All-cons (λ b. IsOfReplies net b.flow) b (replies_of begun) (record { in_flows = All-head (λ b. b.flow < net.flows) b begun within; after_declared = within_is net.declared_flows b.flow is }) h
       by false is h = h
 
   none_split : (t : Begun → Bool) (begun : List Begun) → begun ≡ [] → count_by t begun ≡ 0 + count_by t (replies_of begun)
@@ -97,6 +97,37 @@ module _ (net : Network) where
         let g = count_append t (replies_of r.1) (replies_of r.2) in
         omega arith
 
+    -- what is begun goes by the network's flows
+    abbrev InFlows : Begun → Type 0
+    InFlows b = b.flow < net.flows
+
+    no_flows : (begun : List Begun) → begun ≡ [] → All InFlows begun
+    no_flows begun e = subst (All InFlows) (sym e) (All-nil InFlows)
+
+    first_in_flows : (s : State) (step : Step) (u : State) (begun : List Begun) → Leads net s step u → Begins net s step begun → All InFlows begun
+    first_in_flows s (Begin f cargo end) u begun h b =
+        let x : Begun = record { flow = f; cargo = cargo; end = end } in
+        let small : f < net.declared_flows = h.declared.declared in
+        let few : net.declared_flows ≤ net.flows = ok.flows_declared in
+        subst (All InFlows) (sym b) (All-cons InFlows x [] (omega (arith, small, few)) (All-nil InFlows))
+    first_in_flows s (Reply n) u begun h b =
+        let r = b.1 in
+        subst (All InFlows) (sym b.2) (All-cons InFlows b.0 [] (ok.reply_flow r.asked (b.0).flow r.in_flows r.by).in_flows (All-nil InFlows))
+    first_in_flows s (Fct c) u begun h b = no_flows begun b
+    first_in_flows s (FctIn c) u begun h b = no_flows begun b
+    first_in_flows s (Arrive c) u begun h b = no_flows begun b
+    first_in_flows s (Grant d c) u begun h b = no_flows begun b
+    first_in_flows s (Drop c) u begun h b = no_flows begun b
+    first_in_flows s (Forward c) u begun h b = no_flows begun b
+    first_in_flows s (Spill c) u begun h b = no_flows begun b
+    first_in_flows s (Emit n) u begun h b = no_flows begun b
+    first_in_flows s (Accept n) u begun h b = no_flows begun b
+
+    all_in_flows : (steps : List Step) (s u : State) (begun : List Begun) → RunOf net s steps begun u → All InFlows begun
+    all_in_flows [] s u begun r = no_flows begun r.0
+    all_in_flows (step ∷ steps) s u begun r =
+        subst (All InFlows) (sym r.5) (All-append InFlows r.1 r.2 (first_in_flows s step r.0 r.1 r.3 r.4) (all_in_flows steps r.0 u r.2 r.6))
+
     -- replies are not answered
     nothing_first : (n : ℕ) (test : List ℕ → Bool) (begun : List Begun) → begun ≡ [] → count_by (is_answered_at net n test) (replies_of begun) ≡ 0
     nothing_first n test begun e = ap (λ l. count_by (is_answered_at net n test) (replies_of l)) e
@@ -147,7 +178,7 @@ module _ (net : Network) where
         let same : (t : Begun → Bool) → count_by t (beginnings steps) ≡ count_by t packets = λ t. same_counts (λ b. (net.flow b.flow).from) t (beginnings steps) packets whole in
         record {
           replies = replies_of begun;
-          of_reply_flows = all_replies begun;
+          of_reply_flows = all_replies begun (all_in_flows steps (empty net) s begun b.1);
           out = λ n ps ln at test.
               let a = free.all_comes_out steps begun s b.1 all n ln ps (out.out n ps at) test in
               let c = count_sent net n test begun in

@@ -1,5 +1,8 @@
 mod Counts
 mod Delivered
+mod SameWays
+mod SameCounts
+mod OneCount
 mod Wanted
 mod Ended
 mod Named

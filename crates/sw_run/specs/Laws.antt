@@ -1,5 +1,5 @@
 -- What holds of outcomes where a certificate is accepted for the network.
-use Rattle.std.specs.Prelude.{All, Bool, List, Some, count_by, slice_get, ℕ, ◌++◌, ◌<◌, ◌≡◌, ◌≤◌}
+use Rattle.std.specs.Prelude.{All, Bool, List, Some, count_by, length, map, slice_get, ℕ, ◌++◌, ◌<◌, ◌≡◌, ◌≤◌}
 use Rattle.sw_limit.specs.History.{packets_of}
 use Rattle.sw_limit.specs.Limit.{enough_limit}
 use Rattle.sw_load.specs.Load.{LoadEntry}
@@ -21,16 +21,26 @@ OfAcceptedOutcomes P = (d : Declaration) (cert : Certificate) → IsValid d → 
 abbrev pub IsNotStuck : Declaration → List LoadEntry → ℕ → Outcome → Type 0
 IsNotStuck d load limit o = o.stop ≡ Stuck → ⊥
 
+-- the flow is one of those of replies
+pub record IsOfReplies (net : Network) (flow : ℕ) : Type 0 where
+  pub in_flows : flow < net.flows
+  pub after_declared : net.declared_flows ≤ flow
+
 -- At each node came out, exactly as often, the left forms of these packets and of the replies to them that go there; and each node replied
 -- exactly once, to the address asked for, to each of these packets that it has to answer.
 pub record IsDelivered (net : Network) (packets : List Begun) (came_out : List (List Packet)) : Type 0 where
   pub replies : List Begun
-  pub of_reply_flows : All (λ b. net.declared_flows ≤ b.flow) replies
+  pub of_reply_flows : All (λ b. IsOfReplies net b.flow) replies
   pub out : (n : ℕ) (ps : List Packet) → n < net.nodes → slice_get came_out n ≡ Some ps → AsOften ps (sent_to net n (packets ++ replies))
   pub answered : (n : ℕ) → n < net.nodes → (test : List ℕ → Bool) → count_by (is_reply_at net n test) replies ≡ count_by (is_answered_at net n test) packets
 
 abbrev pub IsDeliveredWhereDrained : Declaration → List LoadEntry → ℕ → Outcome → Type 0
 IsDeliveredWhereDrained d load limit o = o.stop ≡ Drained → IsDelivered (network_of d) (packets_of load) (came_out_of o)
+
+-- Any other outcome of the load that is drained too has as many packets at each node, whatever the number of workers, their order and the
+-- limit.
+abbrev pub HasOneCount : Declaration → List LoadEntry → ℕ → Outcome → Type 0
+HasOneCount d load limit o = o.stop ≡ Drained → (other_limit : ℕ) (other : Outcome) → IsOutcome d load other_limit other → other.stop ≡ Drained → map length (came_out_of o) ≡ map length (came_out_of other)
 
 -- with a limit that is enough for the load, the journal is not full
 abbrev pub IsNotFull : Declaration → List LoadEntry → ℕ → Outcome → Type 0

@@ -1,5 +1,5 @@
 //! What holds of outcomes where a certificate is accepted for the network. These functions do nothing: each is the proof of what its clause says.
-ghost use Rattle.sw_run.specs.Laws.{IsDeliveredWhereDrained, IsNotFull, IsNotStuck, OfAcceptedOutcomes};
+ghost use Rattle.sw_run.specs.Laws.{HasOneCount, IsDeliveredWhereDrained, IsNotFull, IsNotStuck, OfAcceptedOutcomes};
 
 use sw_limit::laws::accepted_histories_end;
 use sw_machine::laws::accepted_is_never_locked_up;
@@ -18,6 +18,15 @@ pub fn accepted_is_not_stuck()
 pub fn accepted_is_delivered()
     ensures { OfAcceptedOutcomes IsDeliveredWhereDrained }
 {
+    declared_networks_are_networks();
+}
+
+/// Runs of one load that end drained bring as many packets to each node, whatever the number of
+/// workers, their order and the limit.
+pub fn accepted_counts_are_one()
+    ensures { OfAcceptedOutcomes HasOneCount }
+{
+    accepted_is_delivered();
     declared_networks_are_networks();
 }
 
