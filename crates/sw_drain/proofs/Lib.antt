@@ -1,5 +1,6 @@
 pub mod Begun
 pub mod Way
+mod Turned
 pub mod Ends
 pub mod Idle
 pub mod Steps

@@ -1,6 +1,7 @@
 //! A whole load, sent until nothing is left.
 ghost use Rattle.std.specs.Prelude.{◌≡◌, IfOk, OnErr};
 ghost use Rattle.sw_drain.specs.Drained.{IsDrained, IsUnderWay};
+ghost use Rattle.sw_drain.specs.Turns.{TurnsLead};
 ghost use Rattle.sw_drain.specs.Way.{MovesPicked};
 ghost use Rattle.sw_limit.specs.Limit.{AreDeclared};
 ghost use Rattle.sw_machine.specs.State.{empty};
@@ -44,8 +45,8 @@ fn move_picked<R: Routing, A: Arbiter, F: FnMut(usize) -> usize>(
 ///
 /// # Errors
 ///
-/// There is no memory for what a step stores. The network is then as before that step: in the state
-/// that some history of the load leads to.
+/// There is no memory for what a step stores. The network is then as before that step, after some
+/// turns: in the state that a history of the load leads to.
 pub fn drain<'n, R: Routing, A: Arbiter, F: FnMut(usize) -> usize>(
     alloc: Global,
     net: &mut Net<'n, R, A>,
@@ -60,6 +61,7 @@ pub fn drain<'n, R: Routing, A: Arbiter, F: FnMut(usize) -> usize>(
     ensures network { net.new.declared ≡ net.old.declared }
     ensures drained { IfOk result (λ count. IsDrained load.now net.new count) }
     ensures refused { OnErr result (IsUnderWay load.now net.new) }
+    ensures turns { (last : F) × TurnsLead F.step net.old pick net.new last }
 {
     passed.is_deadlock_free();
     let network = net.network();

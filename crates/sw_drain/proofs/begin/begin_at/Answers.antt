@@ -39,3 +39,6 @@ returns-clause-begun g c =
     let next = subst (λ (d : Declaration). slice_get (packets_at (network_of d) c.args.node (packets_of load)) k ≡ Some b) c.requires.network (sym c.in-Some.ensures) in
     let here = declared_at v.declared load c.requires.packets c.args.node k b next in
     begun_on load v c.begin_packet.new.net c.begin_packet.ensures.network c.args.begun.now c.args.node k b (slice_get-get_or c.args.begun.now c.args.node 0 c.requires.node) next here.from c.in_ok-begin_packet-in-Some.ensures.made
+
+pub returns-clause-one : goal.returns-clause-one
+returns-clause-one g c = record { packet = packet_of c.in-Some.packet.now; made = c.in_ok-begin_packet-in-Some.ensures.made }
