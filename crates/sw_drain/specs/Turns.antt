@@ -19,6 +19,6 @@ abbrev pub AreTurns : {R A F : Type 0} → (F → ℕ → ℕ → F → Type 0) 
 AreTurns step v f zero w g = (w ≡ v) × (g ≡ f)
 AreTurns {R} {A} {F} step v f (suc n) w g = (u : NetView R A) × (h : F) × AreTurns step v f n u h × IsTurn step u h w g
 
--- some turns do
+-- a number of turns leads from the first to the second
 abbrev pub TurnsLead : {R A F : Type 0} → (F → ℕ → ℕ → F → Type 0) → NetView R A → F → NetView R A → F → Type 0
 TurnsLead step v f w g = (count : ℕ) × AreTurns step v f count w g

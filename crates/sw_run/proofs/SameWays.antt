@@ -6,7 +6,7 @@ use Rattle.sw_machine.specs.Certificate.{Certificate, IsAccepted, IsListed, numb
 use Rattle.sw_machine.specs.Network.{AtNode, AtSwitch, Cell, Network}
 use Rattle.sw_machine.specs.Places.{Follows, deleted_after, header}
 
--- no number of a list is greater
+-- the sum of a list, which none of its numbers exceeds
 abbrev most : List ℕ → ℕ
 most [] = 0
 most (x ∷ xs) = x + most xs
