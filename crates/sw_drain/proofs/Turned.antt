@@ -1,19 +1,20 @@
 -- One turn more.
-use Rattle.std.proofs.Common.{Bool, inl, inr, refl, subst, suc, sym, true, ℕ, ◌≡◌}
-use Rattle.sw_drain.specs.Turns.{HasBegunOne, TurnsLead}
-use Rattle.sw_drain.specs.Way.{MovesPicked}
+use Rattle.std.proofs.Common.{Bool, List, inl, inr, length, refl, subst, suc, sym, true, ℕ, ◌≡◌}
+use Rattle.std.specs.Prelude.{replicate}
+use Rattle.sw_drain.specs.Turns.{TurnsLead}
+use Rattle.sw_drain.specs.Way.{HasBegunNext, MovesPicked, NoneIsReady}
+use Rattle.sw_load.specs.Load.{LoadEntry}
 use Rattle.sw_net.specs.Net.{NetView}
 
-module _ {R A F : Type 0} (step : F → ℕ → ℕ → F → Type 0) (v : NetView R A) (f : F) where
-  pub no_turn : TurnsLead step v f v f
-  no_turn = (0, (refl, refl))
+module _ {R A F : Type 0} (load : List LoadEntry) (step : F → ℕ → ℕ → F → Type 0) (v : NetView R A) (f : F) where
+  pub no_turn : (begun : List ℕ) → begun ≡ replicate (length v.declared.nodes) 0 → TurnsLead load step v f v begun f
+  no_turn begun none = (0, (refl, none, refl))
 
-  -- the network is the same
-  pub same_turns : (u w : NetView R A) (g : F) → w ≡ u → TurnsLead step v f u g → TurnsLead step v f w g
-  same_turns u w g same turns = subst (λ (k : NetView R A). TurnsLead step v f k g) (sym same) turns
+  pub begun_turn : (u w : NetView R A) (before after begun : List ℕ) (g : F) → TurnsLead load step v f u before g → HasBegunNext load u before w after → begun ≡ after → TurnsLead load step v f w begun g
+  begun_turn u w before after begun g turns one same =
+      (suc turns.0, (u, before, g, turns.1, inl (subst (λ (l : List ℕ). HasBegunNext load u before w l) (sym same) one, refl)))
 
-  pub begun_turn : (u w : NetView R A) (g : F) → TurnsLead step v f u g → HasBegunOne u w → TurnsLead step v f w g
-  begun_turn u w g turns one = (suc turns.0, (u, g, turns.1, inl (one, refl)))
-
-  pub moved_turn : (u w : NetView R A) (g h : F) (made : Bool) → made ≡ true → TurnsLead step v f u g → MovesPicked step u g made w h → TurnsLead step v f w h
-  moved_turn u w g h made is turns moved = (suc turns.0, (u, g, turns.1, inr (subst (λ (k : Bool). MovesPicked step u g k w h) is moved)))
+  pub moved_turn : (t u w : NetView R A) (before begun : List ℕ) (g h : F) (made : Bool) → made ≡ true → TurnsLead load step v f t before g → u ≡ t → begun ≡ before → NoneIsReady load t before → MovesPicked step u g made w h
+      → TurnsLead load step v f w begun h
+  moved_turn t u w before begun g h made is turns same also none moved =
+      (suc turns.0, (t, before, g, turns.1, inr (none, also, subst (λ (k : NetView R A). MovesPicked step k g true w h) same (subst (λ (k : Bool). MovesPicked step u g k w h) is moved))))

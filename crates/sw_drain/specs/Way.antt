@@ -1,12 +1,12 @@
 -- A network on the way, while it sends a load.
-use Rattle.std.specs.Prelude.{Bool, List, None, Ok, Some, false, length, slice_get, suc, true, zero, ℕ, ◌*◌, ◌+◌, ◌≡◌, ◌⊎◌}
+use Rattle.std.specs.Prelude.{Bool, List, None, Ok, Some, false, length, slice_get, slice_set, suc, true, zero, ℕ, ◌*◌, ◌+◌, ◌≡◌, ◌⊎◌}
 use Rattle.sw_drain.specs.Enabled.{CanStepBelow, IsChosen}
 use Rattle.sw_limit.specs.History.{IsHistory, packets_at, packets_of}
 use Rattle.sw_load.specs.Load.{LoadEntry}
 use Rattle.sw_machine.specs.Begun.{Begun, beginnings, moves}
 use Rattle.sw_machine.specs.Parts.{link_end_of}
 use Rattle.sw_machine.specs.State.{State}
-use Rattle.sw_machine.specs.Steps.{Step, is_begin}
+use Rattle.sw_machine.specs.Steps.{Begin, Step, is_begin}
 use Rattle.sw_model.specs.Model.{network_of}
 use Rattle.sw_net.specs.Asked.{IsQuietNet}
 use Rattle.sw_net.specs.Net.{IsNetState, NetAnswers, NetView}
@@ -47,9 +47,19 @@ pub record HasMoved {R A : Type 0} (v : NetView R A) (e : ℕ) (w : NetView R A)
 abbrev pub HasBegun : {R A : Type 0} → List LoadEntry → NetView R A → List ℕ → NetView R A → List ℕ → Type 0
 HasBegun load v begun w after = (long count : ℕ) → IsOnTheWay load v begun long count → IsOnTheWay load w after (long + 1) count
 
+-- a node that has begun so many of its packets of the load began the next, and that is counted
+pub record HasBegunNext {R A : Type 0} (load : List LoadEntry) (v : NetView R A) (begun : List ℕ) (w : NetView R A) (after : List ℕ) : Type 0 where
+  pub node : ℕ
+  pub count : ℕ
+  pub counted : slice_get begun node ≡ Some count
+  pub packet : Begun
+  pub next : IsNext load v node count packet
+  pub made : NetAnswers v (Begin packet.flow packet.cargo packet.end) (Ok tt) w
+  pub counts : after ≡ slice_set begun node (count + 1)
+
 -- true: some node began its next packet; false: none can, and nothing changed
 abbrev pub BeginsOne : {R A : Type 0} → List LoadEntry → NetView R A → List ℕ → Bool → NetView R A → List ℕ → Type 0
-BeginsOne load v begun true w after = HasBegun load v begun w after
+BeginsOne load v begun true w after = HasBegun load v begun w after × HasBegunNext load v begun w after
 BeginsOne load v begun false w after = (w ≡ v) × (after ≡ begun) × NoneIsReady load v begun
 
 -- true: a step other than a beginning was made, of the link end that the index chooses; false: none is possible, and nothing changed

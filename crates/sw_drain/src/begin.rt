@@ -1,7 +1,6 @@
 //! The nodes begin their packets.
 ghost use Rattle.std.specs.Prelude.{◌≡◌, ◌<◌, IfNone, IfOk, IfSome, Ok, OnErr, OnOk, length, slice_index, true};
-ghost use Rattle.sw_drain.specs.Turns.{HasBegunOne};
-ghost use Rattle.sw_drain.specs.Way.{BeginsOne, HasBegun, IsReady, NoneIsReady};
+ghost use Rattle.sw_drain.specs.Way.{BeginsOne, HasBegun, HasBegunNext, IsReady, NoneIsReady};
 ghost use Rattle.sw_limit.specs.Limit.{AreDeclared};
 ghost use Rattle.sw_machine.specs.Steps.{Begin};
 ghost use Rattle.sw_net.specs.Net.{NetAnswers};
@@ -99,7 +98,7 @@ fn begin_at<R: Routing, A: Arbiter>(
     ensures network { net.new.declared ≡ net.old.declared }
     ensures nodes { length begun.new ≡ length begun.old }
     ensures begun { OnOk result (HasBegun senders.now.load net.old begun.old net.new begun.new) }
-    ensures one { OnOk result (HasBegunOne net.old net.new) }
+    ensures next { OnOk result (HasBegunNext senders.now.load net.old begun.old net.new begun.new) }
     ensures refused { OnErr result (net.new ≡ net.old) }
 {
     // Names the total, which bounds what a node begins.
@@ -127,7 +126,6 @@ pub(crate) fn begin_one<R: Routing, A: Arbiter>(
     ensures network { net.new.declared ≡ net.old.declared }
     ensures nodes { length begun.new ≡ length begun.old }
     ensures begins { IfOk result (λ made. BeginsOne senders.now.load net.old begun.old made net.new begun.new) }
-    ensures one { IfOk result (λ made. made ≡ true → HasBegunOne net.old net.new) }
     ensures refused { OnErr result (net.new ≡ net.old) }
 {
     let Some(node) = find_ready(net, senders, begun) else {

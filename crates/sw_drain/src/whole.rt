@@ -1,5 +1,5 @@
 //! A whole load, sent until nothing is left.
-ghost use Rattle.std.specs.Prelude.{◌≡◌, IfOk, OnErr};
+ghost use Rattle.std.specs.Prelude.{◌≡◌, ℕ, IfOk, List, OnErr};
 ghost use Rattle.sw_drain.specs.Drained.{IsDrained, IsUnderWay};
 ghost use Rattle.sw_drain.specs.Turns.{TurnsLead};
 ghost use Rattle.sw_drain.specs.Way.{MovesPicked};
@@ -61,7 +61,7 @@ pub fn drain<'n, R: Routing, A: Arbiter, F: FnMut(usize) -> usize>(
     ensures network { net.new.declared ≡ net.old.declared }
     ensures drained { IfOk result (λ count. IsDrained load.now net.new count) }
     ensures refused { OnErr result (IsUnderWay load.now net.new) }
-    ensures turns { (last : F) × TurnsLead F.step net.old pick net.new last }
+    ensures turns { (begun : List ℕ) × (last : F) × TurnsLead load.now F.step net.old pick net.new begun last }
 {
     passed.is_deadlock_free();
     let network = net.network();

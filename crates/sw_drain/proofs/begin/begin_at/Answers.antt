@@ -1,4 +1,4 @@
-use Rattle.std.proofs.Common.{Some, ap, arith, subst, sym, ◌∙◌, ◌≡◌}
+use Rattle.std.proofs.Common.{Some, ap, arith, refl, subst, sym, ◌∙◌, ◌≡◌}
 use Rattle.std.proofs.lemmas.Option.{slice_get-get_or}
 use Rattle.std.specs.Prelude.{slice_get, slice_index}
 use Rattle.sw_drain.proofs.Begun.{declared_at, few_packets}
@@ -40,5 +40,18 @@ returns-clause-begun g c =
     let here = declared_at v.declared load c.requires.packets c.args.node k b next in
     begun_on load v c.begin_packet.new.net c.begin_packet.ensures.network c.args.begun.now c.args.node k b (slice_get-get_or c.args.begun.now c.args.node 0 c.requires.node) next here.from c.in_ok-begin_packet-in-Some.ensures.made
 
-pub returns-clause-one : goal.returns-clause-one
-returns-clause-one g c = record { packet = packet_of c.in-Some.packet.now; made = c.in_ok-begin_packet-in-Some.ensures.made }
+pub returns-clause-next : goal.returns-clause-next
+returns-clause-next g c =
+    let load = c.args.senders.now.load in
+    let k = slice_index c.args.begun.now c.args.node in
+    let b = packet_of c.in-Some.packet.now in
+    let next = subst (λ (d : Declaration). slice_get (packets_at (network_of d) c.args.node (packets_of load)) k ≡ Some b) c.requires.network (sym c.in-Some.ensures) in
+    record {
+      node = c.args.node;
+      count = k;
+      counted = slice_get-get_or c.args.begun.now c.args.node 0 c.requires.node;
+      packet = b;
+      next = next;
+      made = c.in_ok-begin_packet-in-Some.ensures.made;
+      counts = refl;
+    }

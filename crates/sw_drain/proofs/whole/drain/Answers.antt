@@ -1,6 +1,7 @@
-use Rattle.std.proofs.Common.{ap, arith, false, length, refl, rules, subst, sym, true, ◌+◌, ◌∙◌, ◌≡◌}
+use Rattle.std.proofs.Common.{ap, arith, false, length, refl, rules, subst, sym, true, ℕ, ◌+◌, ◌∙◌, ◌≡◌}
+use Rattle.std.specs.Prelude.{replicate}
 use Rattle.sw_drain.proofs.Loop.{finished, never_over, new_way, one_moved, written}
-use Rattle.sw_drain.proofs.Turned.{begun_turn, moved_turn, no_turn, same_turns}
+use Rattle.sw_drain.proofs.Turned.{begun_turn, moved_turn, no_turn}
 use Rattle.sw_drain.proofs.whole.drain.Goals as goal
 use Rattle.sw_drain.specs.Way.{BeginsOne, IsOnTheWay, MovesOne}
 use Rattle.sw_limit.specs.History.{packets_of}
@@ -13,13 +14,17 @@ pub loop-init : goal.loop-init
 loop-init g c =
     let begun = c.in_ok-begun.ensures.items_if_clones_equal (λ y same. same) in
     let all = c.nodes.ensures.count ∙ ap (λ (d : Declaration). length d.nodes) c.network-network.ensures.network in
-    (refl, new_way c.args.load.now c.args.net.now c.in_ok-begun.begun.items c.nodes.result begun c.requires.empty all, no_turn _ c.args.net.now c.args.pick)
+    (refl, new_way c.args.load.now c.args.net.now c.in_ok-begun.begun.items c.nodes.result begun c.requires.empty all, no_turn c.args.load.now _ c.args.net.now c.args.pick c.in_ok-begun.begun.items (begun ∙ ap (λ (n : ℕ). replicate n 0) all))
 
 pub returns-in_err-begun-clause-turns : goal.returns-in_err-begun-clause-turns
-returns-in_err-begun-clause-turns g c = (c.args.pick, no_turn _ c.args.net.now c.args.pick)
+returns-in_err-begun-clause-turns g c =
+    let none = replicate (length c.args.net.now.declared.nodes) 0 in
+    (none, c.args.pick, no_turn c.args.load.now _ c.args.net.now c.args.pick none refl)
 
 pub returns-in_err-senders-clause-turns : goal.returns-in_err-senders-clause-turns
-returns-in_err-senders-clause-turns g c = (c.args.pick, no_turn _ c.args.net.now c.args.pick)
+returns-in_err-senders-clause-turns g c =
+    let none = replicate (length c.args.net.now.declared.nodes) 0 in
+    (none, c.args.pick, no_turn c.args.load.now _ c.args.net.now c.args.pick none refl)
 
 pub loop-preserved-then-branch : goal.loop-preserved-then-branch
 loop-preserved-then-branch g c =
@@ -28,13 +33,12 @@ loop-preserved-then-branch g c =
     let u = c.begin_one.new.net in
     let some = subst (λ k. BeginsOne load v c.as_mut_slice.result.now k u c.begin_one.new.begun) c.if-branch.true (rw c.in_ok-senders.ensures.load at c.in_ok-begin_one.ensures.begins) in
     let begins = subst (λ l. BeginsOne load v l true u c.begin_one.new.begun) c.as_mut_slice.ensures.value some in
-    let there = begins c.loop.counter c.loop.moves c.loop.invariant.1 in
-    let made : c.in_ok-begin_one.field-0 ≡ true = search rules in
+    let there = begins.0 c.loop.counter c.loop.moves c.loop.invariant.1 in
     let same : length c.begin_one.new.begun ≡ length c.loop.begun.items = c.begin_one.ensures.nodes ∙ ap length c.as_mut_slice.ensures.value in
     let all : c.loop.begun.len ≡ length c.loop.begun.items = search rules in (
       c.begin_one.ensures.network ∙ c.loop.invariant.0,
       subst (λ l. IsOnTheWay load u l (c.loop.counter + 1) c.loop.moves) (sym (written c.begin_one.new.begun c.loop.begun.items c.loop.begun.len same all)) there,
-      begun_turn _ c.args.net.now c.args.pick v u c.loop.pick c.loop.invariant.2 (c.in_ok-begin_one.ensures.one made),
+      begun_turn load _ c.args.net.now c.args.pick v u c.loop.begun.items c.begin_one.new.begun _ c.loop.pick c.loop.invariant.2 begins.1 (written c.begin_one.new.begun c.loop.begun.items c.loop.begun.len same all),
     )
 
 pub returns-then-not-branch-clause-drained : goal.returns-then-not-branch-clause-drained
@@ -68,7 +72,8 @@ loop-preserved g c =
     let all : c.loop.begun.len ≡ length c.loop.begun.items = search rules in (
       c.move_picked.ensures.network ∙ c.begin_one.ensures.network ∙ c.loop.invariant.0,
       subst (λ l. IsOnTheWay load c.move_picked.new.net l (c.loop.counter + 1) (c.loop.moves + 1)) (sym (written c.begin_one.new.begun c.loop.begun.items c.loop.begun.len same all)) there,
-      moved_turn _ c.args.net.now c.args.pick u c.move_picked.new.net c.loop.pick _ c.in_ok-move_picked.field-0 yes (same_turns _ c.args.net.now c.args.pick v u c.loop.pick begins.0 c.loop.invariant.2) picked,
+      moved_turn load _ c.args.net.now c.args.pick v u c.move_picked.new.net c.loop.begun.items _ c.loop.pick _ c.in_ok-move_picked.field-0 yes c.loop.invariant.2 begins.0
+          (written c.begin_one.new.begun c.loop.begun.items c.loop.begun.len same all ∙ begins.1) begins.2 picked,
     )
 
 pub unreachable-requires : goal.unreachable-requires

@@ -4,4 +4,4 @@ use Rattle.sw_drain.specs.Turns.{TurnsLead}
 use Rattle.sw_drain.specs.Way.{IsOnTheWay}
 
 abbrev pub invariant-loop : goal.invariant-loop
-invariant-loop g l = (l.net.declared ≡ l.fn.net.declared) × IsOnTheWay l.load l.net l.begun.items l.counter l.moves × TurnsLead (goal.F-step g) l.fn.net l.fn.pick l.net l.pick
+invariant-loop g l = (l.net.declared ≡ l.fn.net.declared) × IsOnTheWay l.load l.net l.begun.items l.counter l.moves × TurnsLead l.load (goal.F-step g) l.fn.net l.fn.pick l.net l.begun.items l.pick
