@@ -29,12 +29,12 @@ use Rattle.sw_file.proofs.Grown.{bind_ok}
 use Rattle.sw_file.proofs.Entries.{reads_each_entry}
 
 -- a part of what went well went well
-well : {A B : Type 0} {P : Type 0} (r : Result A TextFault) (y : B) → ((f : TextFault) → r ≡ Err f → Err f ≡ Ok y) → ((x : A) → r ≡ Ok x → P) → P
+pub well : {A B : Type 0} {P : Type 0} (r : Result A TextFault) (y : B) → ((f : TextFault) → r ≡ Err f → Err f ≡ Ok y) → ((x : A) → r ≡ Ok x → P) → P
 well (Ok x) y failed rest = rest x refl
 well (Err f) y failed rest = let bad = failed f refl in absurd cc
 
 -- a table that passes has its keys alone
-passed : (s : Section) (keys : List Key) (ms : Members) (u : Unit {0}) → only_known s keys ms ≡ Ok u → HasOnly keys ms
+pub passed : (s : Section) (keys : List Key) (ms : Members) (u : Unit {0}) → only_known s keys ms ≡ Ok u → HasOnly keys ms
 passed s keys ms u fine = (refuses_least_unknown s keys ms).0.0 fine
 
 -- where a step of a walk went well, each of its steps is as P says, if those that go well are

@@ -1,3 +1,10 @@
 pub mod Entries
 pub mod Grown
 pub mod Known
+pub mod Values
+pub mod Walked
+pub mod Tables
+pub mod SwitchTables
+pub mod LinkTables
+pub mod FlowTables
+pub mod Documents

@@ -1,5 +1,5 @@
 -- What reading a network file comes to.
-use Rattle.std.specs.Prelude.{◌≡◌, ℕ, List, [], length, take, slice_get, Some, Result, Ok}
+use Rattle.std.specs.Prelude.{◌≡◌, ◌↔◌, ℕ, List, [], length, take, slice_get, Some, Result, Ok}
 use Rattle.toml.specs.Data.{Members}
 use Rattle.sw_config.specs.Entries.{Declaration, part_names, flow_names}
 use Rattle.sw_toml_table.specs.declared.keys.Key.{Key}
@@ -14,7 +14,8 @@ use Rattle.sw_file.specs.Nodes.{node_of}
 use Rattle.sw_file.specs.Switches.{switch_of}
 use Rattle.sw_file.specs.Links.{link_of}
 use Rattle.sw_file.specs.FlowTables.{flow_of}
-use Rattle.sw_file.specs.Network.{version_of, network_of}
+use Rattle.sw_file.specs.Network.{version_of, network_of, network_text}
+use Rattle.sw_file.specs.Tables.{IsNetworkText}
 
 -- the document's list at the key has one table for each entry, and entry i is what table i declares
 pub record Declares {A : Type 0} (key : Key) (ms : Members) (declared : ℕ → Members → Result A TextFault) (entries : List A) : Type 0 where
@@ -72,3 +73,7 @@ pub record IsKnownDocument (version : Version) (ms : Members) : Type 0 where
 -- an unknown key anywhere in the document refuses the text
 abbrev pub RefusesUnknownKeys : Type 0
 RefusesUnknownKeys = (ms : Members) (d : Declaration) → network_of ms ≡ Ok d → (version : Version) × IsKnownDocument version ms
+
+-- a text is a network exactly where it is one by its words: known keys, counts, ranges, names and references, and a wiring without a fault
+abbrev pub NetworksAreReadExactly : Type 0
+NetworksAreReadExactly = (bytes : List ℕ) (d : Declaration) → (network_text bytes ≡ Ok d) ↔ IsNetworkText bytes d

@@ -5,4 +5,6 @@ pub mod Switches
 pub mod Links
 pub mod FlowTables
 pub mod Network
+pub mod Values
+pub mod Tables
 pub mod Laws

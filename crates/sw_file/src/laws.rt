@@ -1,5 +1,5 @@
 //! What reading a network file comes to.
-ghost use Rattle.sw_file.specs.Laws.{ReadsEachEntry, RefusesUnknownKeys};
+ghost use Rattle.sw_file.specs.Laws.{ReadsEachEntry, RefusesUnknownKeys, NetworksAreReadExactly};
 
 /// Each entry of a network that is read is what the table of its number declares.
 pub fn each_entry_is_read()
@@ -9,4 +9,11 @@ pub fn each_entry_is_read()
 /// An unknown key anywhere in the document refuses the text.
 pub fn unknown_keys_are_refused()
     ensures { RefusesUnknownKeys }
+{}
+
+/// A text is a network exactly where it is a document whose tables have known keys alone, with values
+/// of their types in their ranges, names that differ and references to them, and whose parts are
+/// rightly joined; and the network is the one that these tables say.
+pub fn networks_are_read_exactly()
+    ensures { NetworksAreReadExactly }
 {}
