@@ -8,3 +8,4 @@ pub mod SwitchTables
 pub mod LinkTables
 pub mod FlowTables
 pub mod Documents
+pub mod Valid

@@ -2,6 +2,7 @@
 use Rattle.std.specs.Prelude.{◌≡◌, ◌↔◌, ℕ, List, [], length, take, slice_get, Some, Result, Ok}
 use Rattle.toml.specs.Data.{Members}
 use Rattle.sw_config.specs.Entries.{Declaration, part_names, flow_names}
+use Rattle.sw_config.specs.Valid.{IsValid}
 use Rattle.sw_toml_table.specs.declared.keys.Key.{Key}
 use Rattle.sw_toml_table.specs.declared.keys.Key.TheVariants.{Node, Switch, Link, Flow, Target, Route, Reply}
 use Rattle.sw_toml_table.specs.declared.keys.Section.TheVariants as section
@@ -77,3 +78,7 @@ RefusesUnknownKeys = (ms : Members) (d : Declaration) → network_of ms ≡ Ok d
 -- a text is a network exactly where it is one by its words: known keys, counts, ranges, names and references, and a wiring without a fault
 abbrev pub NetworksAreReadExactly : Type 0
 NetworksAreReadExactly = (bytes : List ℕ) (d : Declaration) → (network_text bytes ≡ Ok d) ↔ IsNetworkText bytes d
+
+-- what is read is a valid network: this follows from the reading alone
+abbrev pub ReadNetworksAreValid : Type 0
+ReadNetworksAreValid = (bytes : List ℕ) (d : Declaration) → network_text bytes ≡ Ok d → IsValid d

@@ -1,5 +1,5 @@
 //! What reading a network file comes to.
-ghost use Rattle.sw_file.specs.Laws.{ReadsEachEntry, RefusesUnknownKeys, NetworksAreReadExactly};
+ghost use Rattle.sw_file.specs.Laws.{ReadsEachEntry, RefusesUnknownKeys, NetworksAreReadExactly, ReadNetworksAreValid};
 
 /// Each entry of a network that is read is what the table of its number declares.
 pub fn each_entry_is_read()
@@ -16,4 +16,9 @@ pub fn unknown_keys_are_refused()
 /// rightly joined; and the network is the one that these tables say.
 pub fn networks_are_read_exactly()
     ensures { NetworksAreReadExactly }
+{}
+
+/// A text that is a network gives a valid one: this follows from the reading alone.
+pub fn read_networks_are_valid()
+    ensures { ReadNetworksAreValid }
 {}
