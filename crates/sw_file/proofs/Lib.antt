@@ -9,3 +9,4 @@ pub mod LinkTables
 pub mod FlowTables
 pub mod Documents
 pub mod Valid
+pub mod Named

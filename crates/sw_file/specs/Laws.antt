@@ -1,7 +1,7 @@
 -- What reading a network file comes to.
-use Rattle.std.specs.Prelude.{◌≡◌, ◌↔◌, ℕ, List, [], length, take, slice_get, Some, Result, Ok}
+use Rattle.std.specs.Prelude.{◌≡◌, ◌≢◌, ◌↔◌, ℕ, true, All, AllPairs, List, [], length, take, slice_get, Some, Result, Ok}
 use Rattle.toml.specs.Data.{Members}
-use Rattle.sw_config.specs.Entries.{Declaration, part_names, flow_names}
+use Rattle.sw_config.specs.Entries.{Declaration, part_names, flow_names, all_flows}
 use Rattle.sw_config.specs.Valid.{IsValid}
 use Rattle.sw_toml_table.specs.declared.keys.Key.{Key}
 use Rattle.sw_toml_table.specs.declared.keys.Key.TheVariants.{Node, Switch, Link, Flow, Target, Route, Reply}
@@ -9,6 +9,7 @@ use Rattle.sw_toml_table.specs.declared.keys.Section.TheVariants as section
 use Rattle.sw_toml_table.specs.declared.keys.Version.{Version}
 use Rattle.sw_toml_table.specs.declared.fault.TextFault.{TextFault}
 use Rattle.sw_toml_table.specs.Table.{tables_or_none, table_or_none}
+use Rattle.sw_toml_table.specs.Names.{is_name}
 use Rattle.sw_toml_table.specs.Laws.{HasOnly}
 use Rattle.sw_file.specs.Keys.{document_keys, node_keys, target_keys, switch_keys, route_keys, link_keys, flow_keys, reply_keys}
 use Rattle.sw_file.specs.Nodes.{node_of}
@@ -82,3 +83,13 @@ NetworksAreReadExactly = (bytes : List ℕ) (d : Declaration) → (network_text 
 -- what is read is a valid network: this follows from the reading alone
 abbrev pub ReadNetworksAreValid : Type 0
 ReadNetworksAreValid = (bytes : List ℕ) (d : Declaration) → network_text bytes ≡ Ok d → IsValid d
+
+-- each name is 1 to 32 letters, digits, `_`, `-` and `.`; and no two of all flows have one name, reply flows among them, whose names end in `+reply`
+pub record HasNames (d : Declaration) : Type 0 where
+  pub parts : All (λ name. is_name name ≡ true) (part_names d)
+  pub flows : All (λ name. is_name name ≡ true) (flow_names d.flows)
+  pub apart : AllPairs (λ x y. x ≢ y) (flow_names (all_flows d))
+
+-- so it is in each network that is read
+abbrev pub ReadNamesAreNames : Type 0
+ReadNamesAreNames = (bytes : List ℕ) (d : Declaration) → network_text bytes ≡ Ok d → HasNames d

@@ -1,5 +1,5 @@
 //! What reading a network file comes to.
-ghost use Rattle.sw_file.specs.Laws.{ReadsEachEntry, RefusesUnknownKeys, NetworksAreReadExactly, ReadNetworksAreValid};
+ghost use Rattle.sw_file.specs.Laws.{ReadsEachEntry, RefusesUnknownKeys, NetworksAreReadExactly, ReadNetworksAreValid, ReadNamesAreNames};
 
 /// Each entry of a network that is read is what the table of its number declares.
 pub fn each_entry_is_read()
@@ -21,4 +21,10 @@ pub fn networks_are_read_exactly()
 /// A text that is a network gives a valid one: this follows from the reading alone.
 pub fn read_networks_are_valid()
     ensures { ReadNetworksAreValid }
+{}
+
+/// The names of a network that is read are 1 to 32 letters, digits, `_`, `-` and `.`; so no two of all
+/// its flows, the reply flows too, have one name.
+pub fn read_names_are_names()
+    ensures { ReadNamesAreNames }
 {}
