@@ -1,18 +1,13 @@
 -- How long the histories of a load are.
-use Rattle.std.specs.Prelude.{All, List, Ok, length, sum_by, ℕ, ◌*◌, ◌+◌, ◌<◌, ◌≡◌}
+use Rattle.std.specs.Prelude.{List, length, sum_by, ℕ, ◌*◌, ◌+◌, ◌<◌}
 use Rattle.sw_limit.specs.History.{IsHistory}
-use Rattle.sw_load.specs.Load.{LoadEntry, load_text}
-use Rattle.sw_model.specs.Packets.{IsDeclaredPacket}
 use Rattle.sw_machine.specs.Begun.{Begun, length_with_reply}
 use Rattle.sw_machine.specs.DeadlockFreedom.{OfAccepted}
 use Rattle.sw_machine.specs.Network.{Network}
 use Rattle.sw_machine.specs.State.{State}
 use Rattle.sw_machine.specs.Steps.{Step}
-use Rattle.sw_config.specs.Entries.{Declaration}
-
--- each packet of the load is one that its flow declares
-abbrev pub AreDeclared : Declaration → List LoadEntry → Type 0
-AreDeclared d load = All (λ p. IsDeclaredPacket d p.flow p.cargo) load
+-- (a load of declared packets, for the crates above)
+pub use Rattle.sw_load.specs.Laws.{AreDeclared, ListedAreDeclared}
 
 -- one more than the steps that a network can make which begins these packets: a beginning for each, and for each channel 14 and 5 for each
 -- character of the packets and of the longest replies to those that are answered
@@ -26,7 +21,3 @@ HistoriesEnd net = (packets : List Begun) (steps : List Step) (s : State) → Is
 -- so it is wherever a certificate is accepted
 abbrev pub AcceptedHistoriesEnd : Type 0
 AcceptedHistoriesEnd = OfAccepted HistoriesEnd
-
--- the packets that a load file lists are those that the network's flows declare
-abbrev pub ListedAreDeclared : Type 0
-ListedAreDeclared = (d : Declaration) (bytes : List ℕ) (load : List LoadEntry) → load_text d bytes ≡ Ok load → AreDeclared d load

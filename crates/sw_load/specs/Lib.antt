@@ -1,2 +1,3 @@
 pub mod Cargo
 pub mod Load
+pub mod Laws
