@@ -35,9 +35,19 @@ module _ {K : Type 0} (R : K → K → Type 0) where
 module _ {S A X K : Type 0} (step : ℕ → S → X → Result S TextFault) (read : ℕ → List A → X → Result A TextFault) (state : List A → S) (Is : X → A → Type 0) (key : A → K) (taken : List A → List K) (R : K → K → Type 0)
     (steps : (i : ℕ) (es : List A) (x : X) → step i (state es) x ≡ (read i es x >>= λ e. Ok (state (es ++ e ∷ []))))
     (more : (es : List A) (e : A) → taken (es ++ e ∷ []) ≡ taken es ++ key e ∷ []) where
+  -- the entries from these on
+  abbrev Rest : List A → List X → S → Type 0
+  Rest es xs t = (rest : List A) × (t ≡ state (es ++ rest)) × AllZip Is xs rest × AllPairs R (taken (es ++ rest))
+
+  -- one more in front of them
+  one_longer : (es : List A) (x : X) (xs : List X) (t : S) (e : A) → Is x e → Rest (es ++ e ∷ []) xs t → Rest es (x ∷ xs) t
+  one_longer es x xs t e is rest =
+      let joined : (es ++ e ∷ []) ++ rest.0 ≡ es ++ e ∷ rest.0 = append_assoc es (e ∷ []) rest.0 in
+      (e ∷ rest.0, rest.1 ∙ ap state joined, (is, rest.2), subst (λ l. AllPairs R (taken l)) joined rest.3)
+
   pub walked : ((i : ℕ) (es : List A) (x : X) (e : A) → read i es x ≡ Ok e → Is x e × All (λ k. R k (key e)) (taken es))
       → (k : ℕ) (es : List A) (xs : List X) (t : S) → walk_from step k (state es) xs ≡ Ok t → AllPairs R (taken es)
-      → (rest : List A) × (t ≡ state (es ++ rest)) × AllZip Is xs rest × AllPairs R (taken (es ++ rest))
+      → Rest es xs t
   walked reads k es [] t h pairs = let here : state es ≡ t = cc in ([], sym here ∙ ap state (sym (append-nil es)), tt, rw append-nil pairs)
   walked reads k es (x ∷ xs) t h pairs =
       let a = bind_ok (step k (state es) x) (λ u. walk_from step (suc k) u xs) t h in
@@ -47,9 +57,7 @@ module _ {S A X K : Type 0} (step : ℕ → S → X → Result S TextFault) (rea
       let fine = reads k es x b.0 b.1 in
       let pushed : AllPairs R (taken (es ++ b.0 ∷ [])) = rw (more es b.0) (all_pairs_push R (taken es) (key b.0) pairs fine.1) in
       let onward : walk_from step (suc k) (state (es ++ b.0 ∷ [])) xs ≡ Ok t = rw here a.2 in
-      let rest = walked reads (suc k) (es ++ b.0 ∷ []) xs t onward pushed in
-      let joined : (es ++ b.0 ∷ []) ++ rest.0 ≡ es ++ b.0 ∷ rest.0 = append_assoc es (b.0 ∷ []) rest.0 in
-      (b.0 ∷ rest.0, rest.1 ∙ ap state joined, (fine.0, rest.2), subst (λ l. AllPairs R (taken l)) joined rest.3)
+      one_longer es x xs t b.0 fine.0 (walked reads (suc k) (es ++ b.0 ∷ []) xs t onward pushed)
 
   taken_more : (es rest : List A) → taken (es ++ rest) ≡ taken es ++ map key rest
   taken_more es [] = ap taken (append-nil es) ∙ sym (append-nil (taken es))
