@@ -59,7 +59,7 @@ number_of_version n version least most is =
           subst (λ v. n ≡ version_number v) second two
     ]
 
-has_version : (ms : Members) (version : Version) → version_of ms ≡ Ok version → HasOnly document_keys ms × Has (IsNumber 1 2) VersionKey ms (version_number version)
+pub has_version : (ms : Members) (version : Version) → version_of ms ≡ Ok version → HasOnly document_keys ms × Has (IsNumber 1 2) VersionKey ms (version_number version)
 unfolding version_of
 has_version ms version h =
     well (only_known section.Document document_keys ms) version (λ f is. rw is at h) (λ u keys.
@@ -69,7 +69,7 @@ has_version ms version h =
     let is = has_number section.Document VersionKey ms 1 2 n at_n in
     (passed section.Document document_keys ms u keys, subst (Has (IsNumber 1 2) VersionKey ms) (number_of_version n version is.is.least is.is.most same) is)))
 
-version_is : (ms : Members) (version : Version) → HasOnly document_keys ms → Has (IsNumber 1 2) VersionKey ms (version_number version) → version_of ms ≡ Ok version
+pub version_is : (ms : Members) (version : Version) → HasOnly document_keys ms → Has (IsNumber 1 2) VersionKey ms (version_number version) → version_of ms ≡ Ok version
 unfolding version_of
 version_is ms One keys is = rw (passes section.Document document_keys ms keys, has_number_it section.Document VersionKey ms 1 2 1 is) refl
 version_is ms Two keys is = rw (passes section.Document document_keys ms keys, has_number_it section.Document VersionKey ms 1 2 2 is) refl
@@ -280,7 +280,7 @@ parts_are version ms d is =
       switches_are version d.nodes ms d.switches is.switches is.few_switches is.parts_named,
     ) (links_are version d.nodes d.switches ms d.links is.links is.few_links)
 
-document_is : (version : Version) (ms : Members) (d : Declaration) → IsNetworkTable version ms d → network_of ms ≡ Ok d
+pub document_is : (version : Version) (ms : Members) (d : Declaration) → IsNetworkTable version ms d → network_of ms ≡ Ok d
 unfolding network_of
 document_is version ms d is =
     rw (version_is ms version is.keys is.versioned, parts_are version ms d is, is.joined) (flows_are d.nodes d.switches d.links ms d.flows is.flows is.few_flows is.flows_named)

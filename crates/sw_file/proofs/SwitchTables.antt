@@ -70,7 +70,7 @@ ports_is s ms p is =
     rw (numbers_is s Ports ms 31 is.numbers is.listed, le-leb 1 (length is.numbers) is.some, le-leb (length is.numbers) 32 is.few) (ap Ok (sym is.set))
 
 -- an entry of a routing table
-is_route : (version : Version) (s : Section) (ms : Members) (r : RouteEntry) → route_of version s ms ≡ Ok r → IsRouteTable version ms r
+pub is_route : (version : Version) (s : Section) (ms : Members) (r : RouteEntry) → route_of version s ms ≡ Ok r → IsRouteTable version ms r
 unfolding route_of
 is_route version s ms r h =
     well (only_known s (route_keys version) ms) r (λ f is. rw is at h) (λ u keys.
@@ -88,7 +88,7 @@ is_route version s ms r h =
       delete = has_flag s Delete ms delete at_delete;
     }))))))
 
-route_is : (version : Version) (s : Section) (ms : Members) (r : RouteEntry) → IsRouteTable version ms r → route_of version s ms ≡ Ok r
+pub route_is : (version : Version) (s : Section) (ms : Members) (r : RouteEntry) → IsRouteTable version ms r → route_of version s ms ≡ Ok r
 unfolding route_of
 route_is version s ms r is =
     rw (
@@ -151,7 +151,7 @@ new_route_is : (version : Version) (i j : ℕ) (es : List RouteEntry) (ms : Memb
 unfolding new_route
 new_route_is version i j es ms e is free = rw (route_is version (section.Route i j) ms e is, apart_is es e free) refl
 
-has_routes : (version : Version) (i : ℕ) (ms : Members) (rs : List RouteEntry) → routes_at version i ms ≡ Ok rs → HasTables (IsRouteTable version) Route ms rs × AllPairs Apart rs
+pub has_routes : (version : Version) (i : ℕ) (ms : Members) (rs : List RouteEntry) → routes_at version i ms ≡ Ok rs → HasTables (IsRouteTable version) Route ms rs × AllPairs Apart rs
 unfolding routes_at
 has_routes version i ms rs h =
     let ts = bind_ok (tables_or_none (section.Switch i) Route ms) (λ tables. walk (next_route version i) [] tables) rs h in
@@ -160,7 +160,7 @@ has_routes version i ms rs h =
     subst (λ l. HasTables (IsRouteTable version) Route ms l × AllPairs Apart l) (sym w.1)
     (joined (section.Switch i) Route ms (IsRouteTable version) ts.0 w.0 (has_tables (section.Switch i) Route ms ts.0 ts.1) w.2, w.3)
 
-routes_is : (version : Version) (i : ℕ) (ms : Members) (rs : List RouteEntry) → HasTables (IsRouteTable version) Route ms rs → AllPairs Apart rs → routes_at version i ms ≡ Ok rs
+pub routes_is : (version : Version) (i : ℕ) (ms : Members) (rs : List RouteEntry) → HasTables (IsRouteTable version) Route ms rs → AllPairs Apart rs → routes_at version i ms ≡ Ok rs
 unfolding routes_at
 routes_is version i ms rs is pairs =
     let ts = parted (section.Switch i) Route ms (IsRouteTable version) rs is in

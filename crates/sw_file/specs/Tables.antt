@@ -48,6 +48,7 @@ pub record IsTargetTable (version : Version) (ms : Members) (c : TargetConfig) :
   pub window : c.start + c.size ≤ 1099511627776
   pub slots : HasOr (IsNumber 1 8) 1 Slots ms c.slots
 
+-- a node, which is a target where it has a table `target`
 pub record IsNodeTable (version : Version) (ms : Members) (node : NodeEntry) : Type 0 where
   pub keys : HasOnly node_keys ms
   pub named : IsNamed ms node.name
@@ -67,6 +68,7 @@ pub record HasPorts (ms : Members) (ports : ℕ) : Type 0 where
   pub few : length numbers ≤ 32
   pub set : ports ≡ port_set numbers
 
+-- an entry of a routing table: its first and last address, its ports, and whether the address is deleted there
 pub record IsRouteTable (version : Version) (ms : Members) (route : RouteEntry) : Type 0 where
   pub keys : HasOnly (route_keys version) ms
   pub first : Has (IsNumber 32 254) Address ms route.first
@@ -74,7 +76,7 @@ pub record IsRouteTable (version : Version) (ms : Members) (route : RouteEntry) 
   pub ports : HasPorts ms route.ports
   pub delete : HasOr IsFlag false Delete ms route.delete
 
--- no two entries of its routing table are for an address in common
+-- a switch; no two entries of its routing table are for an address in common
 pub record IsSwitchTable (version : Version) (ms : Members) (switch : SwitchEntry) : Type 0 where
   pub keys : HasOnly switch_keys ms
   pub named : IsNamed ms switch.name
@@ -87,7 +89,7 @@ abbrev pub HasEnd : Key → Key → ℕ → List (List ℕ) → Members → Plac
 HasEnd key port nodes names ms (places.Node n) = Refers names key ms n × (n < nodes) × Lacks port ms
 HasEnd key port nodes names ms (places.Switch s p) = Refers names key ms (nodes + s) × Has (IsNumber 0 31) port ms p
 
--- the buffers at both ends have what `buffer` says, where their own keys don't say another
+-- a link; the buffers at both ends have what `buffer` says, where their own keys don't say another
 pub record IsLinkTable (version : Version) (nodes : ℕ) (names : List (List ℕ)) (ms : Members) (link : LinkEntry) : Type 0 where
   pub keys : HasOnly (link_keys version) ms
   pub a : HasEnd A APort nodes names ms link.a
@@ -101,12 +103,13 @@ pub record IsLinkTable (version : Version) (nodes : ℕ) (names : List (List ℕ
 abbrev pub HasBytes : Key → Members → List ℕ → Type 0
 HasBytes key ms bytes = HasOr (IsListOf (IsNumber 0 255)) [] key ms bytes
 
+-- where the replies of a flow go
 pub record IsReplyTable (ms : Members) (reply : ReplyEntry) : Type 0 where
   pub keys : HasOnly reply_keys ms
   pub path : HasBytes Path ms reply.path
   pub initiator : Has (IsNumber 0 255) Initiator ms reply.initiator
 
--- replies, if there are any, can come back from the node `to`
+-- a flow; replies, if there are any, can come back from the node `to`
 pub record IsFlowTable (nodes : List NodeEntry) (ms : Members) (flow : FlowEntry) : Type 0 where
   pub keys : HasOnly flow_keys ms
   pub named : IsNamed ms flow.name
@@ -118,6 +121,7 @@ pub record IsFlowTable (nodes : List NodeEntry) (ms : Members) (flow : FlowEntry
   pub reply : HasIfAny (IsTableOf IsReplyTable) Reply ms flow.reply
   pub way : IfSome flow.reply (IsReply nodes flow.to)
 
+-- how a file writes its version
 abbrev pub version_number : Version → ℕ
 version_number One = 1
 version_number Two = 2
