@@ -1,6 +1,5 @@
 //! Runs loads, and prints what came of them, as far as that does not hang on the order of the threads: through journals in one
-//! thread, by the threads of `sw_run`, and by the engine of `swcheck run` with a gate. Then it calls engines on streams that fail, and
-//! reads loads.
+//! thread, by the threads of `sw_run`, and by the engine of `swcheck run` with a gate. Then it reads loads.
 #![tactic(auto)]
 
 mod calls;
@@ -8,14 +7,12 @@ mod files;
 mod journals;
 mod loads;
 mod runs;
-mod streams;
 mod work;
 
 use crate::calls::gated::show_gated;
 use crate::journals::show_journals;
 use crate::loads::show_loads;
 use crate::runs::show_runs;
-use crate::streams::show_streams;
 use std::io;
 
 fn main(rt: HostRuntime) -> io::Result<()> {
@@ -25,8 +22,6 @@ fn main(rt: HostRuntime) -> io::Result<()> {
     show_runs(&rt)?;
     println!(rt; "# the engine of run")?;
     show_gated(&rt, "turn.toml", "turn.load")?;
-    println!(rt; "# streams that fail")?;
-    show_streams(&rt)?;
     println!(rt; "# loads")?;
     show_loads(&rt)
 }

@@ -10,6 +10,7 @@ use sw_char::End;
 use sw_config::Network;
 use sw_journal::{Cell, Journal};
 use sw_model::Step;
+use sw_net::Numbers;
 use sw_topo::{Chan, LinkEnd};
 
 // Tries the step at the cell of that place, and prints what came of it.
@@ -40,7 +41,13 @@ fn show_mark<R: Print>(rt: &R, number: u16, idle: bool, mark: Option<u64>) -> io
     }
 }
 
-// Asks at the cell of that place whether the link end is idle, and prints the answer and the mark.
+fn show_numbers<R: Print>(rt: &R, number: u16, numbers: Numbers) -> io::Result<()> {
+    let (credit, outstanding, room) = (numbers.credit, numbers.outstanding, numbers.room);
+    println!(rt; "link end {number}: credit {credit}, outstanding {outstanding}, room {room}")
+}
+
+// Asks at the cell of that place whether the link end is idle, and prints its numbers, the answer and
+// the mark.
 fn ask<R: Print>(
     rt: &R,
     network: &Network,
@@ -56,9 +63,10 @@ fn ask<R: Print>(
     if place >= cells.len() || number >= network.channels() {
         return println!(rt; "no such link end");
     }
-    if cells[place].numbers(LinkEnd::new(number)).is_none() {
+    let Some(numbers) = cells[place].numbers(LinkEnd::new(number)) else {
         return println!(rt; "not a link end of the cell");
-    }
+    };
+    show_numbers(rt, number, numbers)?;
     let idle = journal.declare_idle(LinkEnd::new(number), &cells[place]);
     show_mark(rt, number, idle, journal.mark(LinkEnd::new(number)))
 }
@@ -132,6 +140,8 @@ fn try_both<R: Print + AllocGlobal>(
     requires network { journal.old.declared ≡ network.now }
 {
     try_fcts(rt, network, journal, cells)?;
+    attempt(rt, journal, cells, 0, Step::FctIn(Chan::new(0)))?;
+    ask(rt, network, journal, cells, 0, 0)?;
     begin(rt, journal, cells)?;
     begin(rt, journal, cells)?;
     tell(rt, network, journal, 0)
