@@ -7,3 +7,4 @@ pub mod Laws
 pub mod VerdictAnswers
 pub mod ReplayTexts
 pub mod ReplayAnswers
+pub mod MigrateAnswers

@@ -2,11 +2,13 @@
 ghost use Rattle.std.specs.Prelude.{◌≡◌};
 ghost use Rattle.sw_app.specs.CheckAnswers.{ChecksFree, IsCheckAnswer};
 ghost use Rattle.sw_command.specs.Ends.{AreReadInOrder, EndsBy, EndsByTwo};
+ghost use Rattle.sw_app.specs.MigrateAnswers.{IsMigrateAnswer};
 ghost use Rattle.sw_app.specs.RouteAnswers.{IsRouteAnswer};
 ghost use Rattle.sw_app.specs.VerdictAnswers.{DecidesFree, IsDecideAnswer, IsReportAnswer};
 
 use crate::check_answer::check_answer;
 use crate::endings::{tell_answer, tell_byte_answer};
+use crate::migrate_answer::migrate_answer;
 use crate::route_answer::route_answer;
 use crate::verdict_answers::{decide_answer, report_answer};
 use std::alloc::Global;
@@ -82,4 +84,15 @@ pub fn report<T: Threads + Sync, R: Read, W: Write>(
         Err(error) => return tell_unread(writer, error),
     };
     tell_answer(writer, report_answer(rt, alloc, &input))
+}
+
+/// The network file of version 1 as one of version 2: with status 0 a text of version 2 that declares the same network.
+pub fn migrate<R: Read, W: Write>(alloc: Global, reader: &mut R, writer: &mut W) -> Ended
+    ensures { EndsBy IsMigrateAnswer (R.remaining reader.old) (R.remaining reader.new) (W.contents writer.old) (W.contents writer.new) result }
+{
+    let input = match read_whole(alloc, reader, MAX_TEXT) {
+        Ok(input) => input,
+        Err(error) => return tell_unread(writer, error),
+    };
+    tell_byte_answer(writer, migrate_answer(alloc, &input))
 }

@@ -6,6 +6,7 @@ mod check_texts;
 mod endings;
 mod engines;
 pub mod laws;
+mod migrate_answer;
 mod replay_answer;
 mod replay_engine;
 mod replay_texts;
@@ -14,6 +15,6 @@ mod route_texts;
 mod verdict_answers;
 mod verdict_texts;
 
-pub use engines::{check, decide, report, route};
+pub use engines::{check, decide, migrate, report, route};
 pub use replay_engine::replay;
 pub use sw_command::{Ended, MAX_TEXT, fault_text};

@@ -1,13 +1,10 @@
 -- What clap's matches say of the words.
 use Rattle.std.proofs.Common.{◌≡◌, List, ℕ, [], Option, refl, sym, ap, ◌∙◌, subst, true, false, inl, inr}
-use Rattle.std.specs.Prelude.{IfOk, IfSome, Ok, Result, ok_or, option_map, Some, None}
-use Rattle.std.specs.Str.Parse.{ParsesUnsigned, digits_value, without_leading_plus}
-use Rattle.clap.proofs.WalkLemmas.{one_text-rows}
+use Rattle.std.specs.Prelude.{IfOk, IfSome, Result, ok_or, Some, None}
 use Rattle.clap.specs.Built.{AddsSubcommand}
 use Rattle.std.specs.declared.alloc.AllocError.{AllocError}
-use Rattle.clap.specs.declared.parser.matches.Found.{Found}
 use Rattle.clap.specs.Simple.{with_subcommand}
-use Rattle.clap.specs.Words.{App, ReadsOne, app_of, HasKind, HasMatchesOf, fault_of, is_simple, is_simple_and_free, kind_of, one_text, rows_of, subcommand_of, subcommand_rows_of}
+use Rattle.clap.specs.Words.{App, app_of, HasKind, HasMatchesOf, fault_of, is_simple, is_simple_and_free, kind_of, subcommand_of, subcommand_rows_of}
 use Rattle.clap.specs.declared.builder.Command.{Command}
 use Rattle.clap.specs.declared.builder.Command.TheViews.{out-Command}
 use Rattle.clap.specs.declared.parser.matches.ArgMatches.{ArgMatches}
@@ -15,7 +12,7 @@ use Rattle.clap.specs.declared.error.Error.{Error}
 use Rattle.sw_args.specs.declared.command_line.Call.{Call}
 use Rattle.sw_args.specs.declared.command_line.WordsFault.{WordsFault}
 use Rattle.sw_args.specs.declared.command_line.WordsFault.TheVariants.{Help, Refused, Memory}
-use Rattle.sw_args.specs.CommandLine.{swcheck_app, Gives, IsMatched, Refuses, SaysNumber, ShowsKind, WithMade}
+use Rattle.sw_args.specs.CommandLine.{swcheck_app, Gives, IsMatched, Refuses, ShowsKind, WithMade}
 
 swcheck_simple : is_simple swcheck_app ≡ true
 swcheck_simple = refl
@@ -68,17 +65,3 @@ pub with_made : (old new : Command) (made : Result Command AllocError) (a b : Ap
     → IfOk made (λ c. (app_of c ≡ b) × ((out-Command c).has_globals ≡ false)) → WithMade old made new → app_of new ≡ with_subcommand a b.top
 with_made old new made a b first each (sub, is, adds) =
     with_added old sub new a b first (subst (λ (m : Result Command AllocError). IfOk m (λ c. (app_of c ≡ b) × ((out-Command c).has_globals ≡ false))) is each) adds
-
--- a number that was read is the one that the text says
-pub says_number : (E : Type 0) (G : List ℕ → Result ℕ E → Type 0) (width : ℕ) (m : Found) (name : List ℕ) (o : Option ℕ)
-    → ((t : List ℕ) (r : Result ℕ E) → G t r → ParsesUnsigned width 10 t r)
-    → (one_text m name ≡ None → o ≡ None) → ((t : List ℕ) → one_text m name ≡ Some t → ReadsOne G t o)
-    → IfSome o (SaysNumber name (rows_of m))
-says_number E G width m name None only none value = tt
-says_number E G width m name (Some v) only none value = go (one_text m name) refl
-  where
-    go : (t : Option (List ℕ)) → one_text m name ≡ t → SaysNumber name (rows_of m) v
-    go None is = let empty : Some v ≡ None = none is in absurd cc
-    go (Some t) is =
-        let parsed = only t (Ok v) (value t is) in
-        ap (option_map (λ (text : List ℕ). digits_value 10 (without_leading_plus text))) (sym (one_text-rows m name) ∙ is) ∙ ap Some (sym parsed.1)

@@ -1,2 +1,4 @@
 mod CommandLines
+mod Numbers
+mod Uncalled
 pub mod Workers

@@ -1,15 +1,15 @@
 -- The words that the program takes.
-use Rattle.std.specs.Prelude.{◌≡◌, ◌≢◌, ◌≤◌, ◌<◌, ◌⊎◌, ℕ, List, [], ◌∷◌, Option, Some, codes, option_map, pos, true, Result, Ok}
+use Rattle.std.specs.Prelude.{◌≡◌, ◌≢◌, ◌≤◌, ◌<◌, ◌⊎◌, ℕ, List, [], ◌∷◌, Option, Some, codes, pos, true, Result, Ok}
 use Rattle.std.specs.declared.alloc.AllocError.{AllocError}
 use Rattle.clap.specs.Built.{AddsSubcommand}
 use Rattle.clap.specs.declared.builder.command.Command.{Command}
-use Rattle.std.specs.Str.Parse.{digits_value, without_leading_plus}
+use Rattle.std.specs.Str.Parse.{IsNumeral, digits_value, without_leading_plus}
 use Rattle.clap.specs.Words.{App, Row, Rule, IsAmong, fault_of, first_of, new_app, new_rule, one_of, subcommand_of, with_rule, with_subcommand}
 use Rattle.clap.specs.declared.builder.value_parser.ValueParser.TheVariants.{Signed}
 use Rattle.clap.specs.declared.error.kind.ErrorKind.{ErrorKind}
 use Rattle.clap.specs.declared.error.kind.ErrorKind.TheVariants.{DisplayHelp, DisplayVersion, OutOfMemory}
 use Rattle.sw_args.specs.declared.command_line.Call.{Call}
-use Rattle.sw_args.specs.declared.command_line.Call.TheVariants.{Route, Decide, Check, Report, Replay, Run}
+use Rattle.sw_args.specs.declared.command_line.Call.TheVariants.{Route, Decide, Check, Report, Replay, Run, Migrate}
 use Rattle.sw_args.specs.declared.command_line.WordsFault.{WordsFault}
 use Rattle.sw_args.specs.declared.command_line.WordsFault.TheVariants.{Help, Refused, Memory}
 
@@ -58,6 +58,10 @@ run_app = with_rule (with_rule (with_rule (with_rule (new_app (codes "run")) (re
     (count_rule (codes "workers") (codes "4") most_workers))
     (count_rule (codes "limit") (codes "1000000") most_steps)
 
+-- `migrate FILE`
+abbrev pub migrate_app : App
+migrate_app = with_rule (new_app (codes "migrate")) (required_value (codes "FILE"))
+
 -- `swcheck`, which asks for a subcommand
 abbrev pub top_app : App
 top_app = let a = new_app (codes "swcheck") in record a { top = record a.top { subcommand_required = true } }
@@ -65,21 +69,23 @@ top_app = let a = new_app (codes "swcheck") in record a { top = record a.top { s
 -- the whole command line: each subcommand stands in a line of its own
 abbrev pub swcheck_app : App
 swcheck_app =
-    with_subcommand (with_subcommand (with_subcommand (with_subcommand (with_subcommand (with_subcommand top_app
+    with_subcommand (with_subcommand (with_subcommand (with_subcommand (with_subcommand (with_subcommand (with_subcommand top_app
     route_app.top)
     decide_app.top)
     check_app.top)
     report_app.top)
     replay_app.top)
-    run_app.top
+    run_app.top)
+    migrate_app.top
 
 -- the command has a subcommand that was made
 abbrev pub WithMade : Command → Result Command AllocError → Command → Type 0
 WithMade command made new = (subcommand : Command) × (made ≡ Ok subcommand) × AddsSubcommand command subcommand new
 
--- the option's value says this number, in decimal digits
+-- the option's value is this number, written in decimal digits
 abbrev pub SaysNumber : List ℕ → List Row → ℕ → Type 0
-SaysNumber name values number = option_map (λ text. digits_value 10 (without_leading_plus text)) (one_of name values) ≡ Some number
+SaysNumber name values number = (text : List ℕ) × (one_of name values ≡ Some text)
+    × IsNumeral 10 (without_leading_plus text) × (digits_value 10 (without_leading_plus text) ≡ number)
 
 -- and the number is 1 or more, and not over the most
 abbrev pub IsCount : ℕ → List ℕ → List Row → ℕ → Type 0
@@ -103,6 +109,7 @@ IsCallOf name values (Run file load workers limit) = (name ≡ codes "run")
     × (first_of (codes "LOAD") values ≡ Some load.now)
     × IsCount most_workers (codes "workers") values workers
     × IsCount most_steps (codes "limit") values limit
+IsCallOf name values (Migrate file) = (name ≡ codes "migrate") × (first_of (codes "FILE") values ≡ Some file.now)
 
 -- a run has a worker
 abbrev pub HasWorkers : Call → Type 0
@@ -112,6 +119,7 @@ HasWorkers (Decide file) = Unit {0}
 HasWorkers (Check file certificate) = Unit {0}
 HasWorkers (Report file) = Unit {0}
 HasWorkers (Replay file schedule) = Unit {0}
+HasWorkers (Migrate file) = Unit {0}
 
 -- the subcommand that was met, with its values, is this call
 abbrev pub IsMatched : Option (List ℕ × List Row) → Call → Type 0

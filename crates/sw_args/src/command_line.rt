@@ -1,9 +1,10 @@
 //! The words of the command line.
-ghost use Rattle.std.specs.Prelude.{◌≡◌, ℕ, map, option_map, true, false, IfOk, IfErr, IfSome};
+ghost use Rattle.std.specs.Prelude.{◌≡◌, ◌<◌, ◌^◌, ℕ, map, option_map, true, false, IfOk, IfErr, IfNone, IfSome};
 ghost use Rattle.clap.specs.Words.{app_of, first_of, found_of, kind_of, rows_of, rule_of, subcommand_rows_of};
 ghost use Rattle.clap.specs.declared.builder.Command.TheViews.{out-Command};
+ghost use Rattle.sw_args.specs.declared.command_line.Call.{Call};
 ghost use Rattle.sw_args.specs.declared.command_line.WordsFault.TheVariants.{Memory};
-ghost use Rattle.sw_args.specs.CommandLine.{check_app, count_rule, decide_app, replay_app, report_app, required_value, route_app, run_app, swcheck_app, top_app, Gives, IsCallOf, IsCount, IsMatched, Refuses, SaysNumber, ShowsKind, WithMade};
+ghost use Rattle.sw_args.specs.CommandLine.{check_app, count_rule, decide_app, migrate_app, replay_app, report_app, required_value, route_app, run_app, swcheck_app, top_app, Gives, IsCallOf, IsCount, IsMatched, Refuses, SaysNumber, ShowsKind, WithMade};
 
 use clap::error::ErrorKind;
 use clap::{Arg, ArgMatches, Command};
@@ -42,6 +43,10 @@ pub enum Call<'a> {
         load: &'a str,
         workers: u32,
         limit: u32,
+    },
+    /// A network file of version 1 as one of version 2.
+    Migrate {
+        file: &'a str,
     },
 }
 
@@ -188,6 +193,16 @@ fn run_command<'a>(alloc: Global) -> Result<Command<'a>, AllocError>
     run.arg(count_arg(alloc, "limit", "1000000", MOST_STEPS, help))
 }
 
+fn migrate_command<'a>(alloc: Global) -> Result<Command<'a>, AllocError>
+    ensures { IfOk result (λ c. (app_of c ≡ migrate_app) × ((out-Command c).has_globals ≡ false)) }
+{
+    let file = value_arg(alloc, "FILE", "A network file");
+    let migrate = Command::new(alloc, "migrate").about(
+        "Print a network file of version 1 as one of version 2",
+    );
+    migrate.arg(file)
+}
+
 fn top_command<'a>(alloc: Global) -> Command<'a>
     ensures { app_of result ≡ top_app }
 {
@@ -214,7 +229,8 @@ fn swcheck_command<'a>(alloc: Global) -> Result<Command<'a>, AllocError>
     let command = with_made(command, check_command(alloc))?;
     let command = with_made(command, report_command(alloc))?;
     let command = with_made(command, replay_command(alloc))?;
-    with_made(command, run_command(alloc))
+    let command = with_made(command, run_command(alloc))?;
+    with_made(command, migrate_command(alloc))
 }
 
 fn fault_of(alloc: Global, error: &clap::Error) -> WordsFault
@@ -241,14 +257,16 @@ fn value_of<'a>(values: &ArgMatches<'a>, name: &str) -> Option<&'a str>
 
 // The number that an option's value says.
 fn number_of(values: &ArgMatches<'_>, name: &str) -> Option<u32>
-    ensures { IfSome result (SaysNumber name.now (rows_of (found_of values.now))) }
+    ensures says { IfSome result (SaysNumber name.now (rows_of (found_of values.now))) }
+    ensures none { IfNone result ((number : ℕ) → SaysNumber name.now (rows_of (found_of values.now)) number → number < 2 ^ 32 → ⊥) }
 {
     values.get_one(name)
 }
 
 // The same, if it is 1 or more and not over the most; clap gives no other.
 fn count_of(values: &ArgMatches<'_>, name: &str, most: u32) -> Option<u32>
-    ensures { IfSome result (IsCount most name.now (rows_of (found_of values.now))) }
+    ensures counts { IfSome result (IsCount most name.now (rows_of (found_of values.now))) }
+    ensures none { IfNone result ((number : ℕ) → IsCount most name.now (rows_of (found_of values.now)) number → ⊥) }
 {
     let number = number_of(values, name)?;
     if number < 1 {
@@ -262,39 +280,41 @@ fn count_of(values: &ArgMatches<'_>, name: &str, most: u32) -> Option<u32>
 
 // The call of a subcommand. clap gives each value that the subcommand requires.
 fn call_of<'a>(name: &str, values: &ArgMatches<'a>) -> Option<Call<'a>>
-    ensures { IfSome result (IsCallOf name.now (rows_of (found_of values.now))) }
+    ensures calls { IfSome result (IsCallOf name.now (rows_of (found_of values.now))) }
+    ensures none { IfNone result ((call : Call) → IsCallOf name.now (rows_of (found_of values.now)) call → ⊥) }
 {
+    let file = value_of(values, "FILE")?;
     match name {
         "route" => Some(Call::Route {
-            file: value_of(values, "FILE")?,
+            file,
             flow: value_of(values, "FLOW")?,
         }),
-        "decide" => Some(Call::Decide {
-            file: value_of(values, "FILE")?,
-        }),
-        "report" => Some(Call::Report {
-            file: value_of(values, "FILE")?,
-        }),
+        "decide" => Some(Call::Decide { file }),
+        "report" => Some(Call::Report { file }),
         "check" => Some(Call::Check {
-            file: value_of(values, "FILE")?,
+            file,
             certificate: value_of(values, "CERT")?,
         }),
         "replay" => Some(Call::Replay {
-            file: value_of(values, "FILE")?,
+            file,
             schedule: value_of(values, "SCHEDULE")?,
         }),
         "run" => Some(Call::Run {
-            file: value_of(values, "FILE")?,
+            file,
             load: value_of(values, "LOAD")?,
             workers: count_of(values, "workers", MOST_WORKERS)?,
             limit: count_of(values, "limit", MOST_STEPS)?,
+        }),
+        "migrate" => Some(Call::Migrate {
+            file: value_of(values, "FILE")?,
         }),
         _ => None,
     }
 }
 
 fn matched_call<'a>(matches: &ArgMatches<'a>) -> Option<Call<'a>>
-    ensures { IfSome result (IsMatched (subcommand_rows_of matches.now)) }
+    ensures matched { IfSome result (IsMatched (subcommand_rows_of matches.now)) }
+    ensures none { IfNone result ((call : Call) → IsMatched (subcommand_rows_of matches.now) call → ⊥) }
 {
     let (name, values) = matches.subcommand()?;
     call_of(name, values)

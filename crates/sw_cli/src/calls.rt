@@ -7,7 +7,7 @@ use std::rt::Files;
 use std::sync::Wait;
 use std::thread::Threads;
 use std::{fs, io};
-use sw_app::{check, decide, replay, report, route};
+use sw_app::{check, decide, migrate, replay, report, route};
 use sw_app_run::{Open, Options};
 use sw_args::{Call, WordsFault, words};
 use sw_command::Ended;
@@ -54,6 +54,7 @@ fn run_call<R: Files + Print + AllocGlobal + Threads + Wait + Sync>(rt: &R, call
                 limit: limit as usize,
             },
         ),
+        Call::Migrate { file } => run_migrate(rt, file),
     }
 }
 
@@ -105,6 +106,14 @@ fn run_replay<R: Files + Print + AllocGlobal>(rt: &R, file: &str, schedule: &str
     };
     let mut writer = io::writer(rt);
     replay(rt.alloc(), &mut network, &mut schedule, &mut writer)
+}
+
+fn run_migrate<R: Files + Print + AllocGlobal>(rt: &R, file: &str) -> Ended {
+    let Ok(mut reader) = fs::open(rt, file) else {
+        return Ended::ReadFailed;
+    };
+    let mut writer = io::writer(rt);
+    migrate(rt.alloc(), &mut reader, &mut writer)
 }
 
 fn run_load<R: Files + Print + AllocGlobal + Threads + Wait + Sync>(

@@ -239,6 +239,36 @@ fn network_of(alloc: Global, document: &TableEntry) -> Result<Network, FileFault
     with_flows(alloc, document, network)
 }
 
+/// The version of the file whose document has this table.
+///
+/// # Errors
+///
+/// `Text`: the document has a key that it may not have, or its version is none of 1 and 2. `Memory`: there is no memory for a name.
+pub fn declared_version(alloc: Global, table: &Table) -> Result<Version, FileFault>
+    ensures { Gives (λ v. v) result (version_of (table_view table.now)) }
+{
+    let document = TableEntry {
+        section: Section::Document,
+        table,
+    };
+    version_of(alloc, &document)
+}
+
+/// The network that the table of a document declares.
+///
+/// # Errors
+///
+/// `Text`: the first fault that is met in it. `Memory`: there is no memory for what is read; this tells nothing of the table.
+pub fn declared_network(alloc: Global, table: &Table) -> Result<Network, FileFault>
+    ensures { Gives (λ n. n) result (network_of (table_view table.now)) }
+{
+    let document = TableEntry {
+        section: Section::Document,
+        table,
+    };
+    network_of(alloc, &document)
+}
+
 /// Reads a network file of version 1 or 2: the network that it declares.
 ///
 /// # Errors
@@ -248,9 +278,5 @@ pub fn read_network(alloc: Global, bytes: &[u8]) -> Result<Network, FileFault>
     ensures { Gives (λ n. n) result (network_text bytes.now) }
 {
     let table = read_document(alloc, bytes)?;
-    let document = TableEntry {
-        section: Section::Document,
-        table: &table,
-    };
-    network_of(alloc, &document)
+    declared_network(alloc, &table)
 }

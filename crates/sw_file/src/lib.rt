@@ -9,4 +9,4 @@ mod links;
 mod nodes;
 mod switches;
 
-pub use document::read_network;
+pub use document::{declared_network, declared_version, read_network};

@@ -1,0 +1,17 @@
+pub mod Puts
+pub mod RowSteps
+pub mod Longest
+pub mod Looks
+pub mod Apart
+pub mod Members
+pub mod Entries
+pub mod Routes
+pub mod Tables
+pub mod Switches
+pub mod Parts
+pub mod Network
+pub mod Plain
+pub mod PlainReaders
+pub mod PlainEntries
+pub mod PlainTree
+pub mod Whole

@@ -1,0 +1,5 @@
+pub mod Rows
+pub mod Tree
+pub mod Migration
+pub mod Laws
+pub mod Seen
