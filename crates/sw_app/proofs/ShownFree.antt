@@ -4,8 +4,8 @@ use Rattle.std.specs.Prelude.{Option}
 use Rattle.std.specs.Io.KnownBytes.{Appends}
 use Rattle.std.specs.List.{AllByRecursion, AllZip}
 use Rattle.std.proofs.lemmas.List.Elements.{recursion_from_All}
-use Rattle.sw_text.specs.declared.reading.ReadError.{ReadError}
-use Rattle.sw_text.specs.declared.reading.ReadError.TheVariants.{TooLong, Failed, Memory}
+use Rattle.sw_text.specs.declared.read_stream.ReadError.{ReadError}
+use Rattle.sw_text.specs.declared.read_stream.ReadError.TheVariants.{TooLong, Failed, Memory}
 use Rattle.sw_config.specs.Entries.{FlowEntry, Declaration, all_flows}
 use Rattle.sw_config.specs.Valid.{IsFlow, IsValid}
 use Rattle.sw_flow.specs.declared.place.Place.{Place}
@@ -21,9 +21,9 @@ use Rattle.sw_search.specs.Laws.{IsChecked}
 use Rattle.sw_search.specs.Verdicts.{IsFree}
 use Rattle.sw_search.proofs.Blocks.{all_are_flows, is_block}
 use Rattle.sw_search.proofs.Zips.{zip_length}
-use Rattle.sw_command.specs.declared.ended.Ended.{Ended}
-use Rattle.sw_command.specs.declared.ended.Ended.TheVariants.{Status, ReadFailed, WriteFailed}
-use Rattle.sw_app.specs.CheckAnswers.{AreShownFree, IsShownFree}
+use Rattle.sw_command.specs.declared.write_answer.Ended.{Ended}
+use Rattle.sw_command.specs.declared.write_answer.Ended.TheVariants.{Status, ReadFailed, WriteFailed}
+use Rattle.sw_app.specs.CheckAnswers.{AreShownDeadlockFree, IsShownDeadlockFree}
 use Rattle.sw_command.specs.Ends.{IsMemoryTold, IsTold, IsUnreadTold}
 use Rattle.sw_app.specs.VerdictAnswers.{SaysCertificate, WritesAccepted, verdict_status}
 
@@ -50,7 +50,7 @@ has_text d contents valid few few_flows fit free =
 
 -- ---- a verdict with status 0
 
-pub shown_free : (d : Declaration) (v : Verdict) (text : List ℕ) → IsValid d → IsChecked d v → SaysCertificate text v → verdict_status v ≡ 0 → IsShownFree d text
+pub shown_free : (d : Declaration) (v : Verdict) (text : List ℕ) → IsValid d → IsChecked d v → SaysCertificate text v → verdict_status v ≡ 0 → IsShownDeadlockFree d text
 shown_free d (Misrouted i p fault) text valid checked said none = absurd (let bad : 1 ≡ 0 = none in omega (arith, bad))
 shown_free d (Cyclic cycle) text valid checked said none = absurd (let bad : 1 ≡ 0 = none in omega (arith, bad))
 shown_free d (Free contents) text valid checked said none =
@@ -75,7 +75,7 @@ unread_not_zero TooLong old new ended is zero = not_zero old new _ 3 ended (λ b
 unread_not_zero Memory old new ended is zero = memory_not_zero old new ended is zero
 unread_not_zero Failed old new ended is zero = let bad : ReadFailed ≡ Status 0 = sym is.0 ∙ zero in cc
 
-pub writes_accepted : (old new : Option (List ℕ)) (read text : List ℕ) (status : ℕ) (ended : Ended) → (status ≡ 0 → AreShownFree read text)
+pub writes_accepted : (old new : Option (List ℕ)) (read text : List ℕ) (status : ℕ) (ended : Ended) → (status ≡ 0 → AreShownDeadlockFree read text)
     → IsTold old new text status ended → ended ≡ Status 0 → WritesAccepted read old new
 writes_accepted old new read text status ended shown is zero =
     let told = told_zero old new text status ended is zero in

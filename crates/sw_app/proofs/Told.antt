@@ -6,13 +6,13 @@ use Rattle.std.proofs.lemmas.Bool.Decides.{nat_tests}
 use Rattle.std.specs.declared.alloc.AllocError.{AllocError}
 use Rattle.sw_command.specs.declared.answer.Answer.{Answer}
 use Rattle.sw_command.specs.declared.answer.ByteAnswer.{ByteAnswer}
-use Rattle.sw_command.specs.declared.ended.Ended.{Ended}
-use Rattle.sw_command.specs.declared.ended.Ended.TheVariants.{Status}
+use Rattle.sw_command.specs.declared.write_answer.Ended.{Ended}
+use Rattle.sw_command.specs.declared.write_answer.Ended.TheVariants.{Status}
 use Rattle.sw_command.specs.Ends.{Answers, AnswersToTwo, EndsBy, EndsByTwo, GivesAll, GivesText}
 use Rattle.sw_command.proofs.Endings.{told_answer, told_answer_of_two, told_memory, told_memory_of_two}
-use Rattle.sw_app.specs.CheckAnswers.{AreShownFree}
+use Rattle.sw_app.specs.CheckAnswers.{AreShownDeadlockFree}
 use Rattle.sw_app.specs.Endings.{IsAnswerTold, IsByteAnswerTold}
-use Rattle.sw_app.specs.VerdictAnswers.{DecidesFree}
+use Rattle.sw_app.specs.VerdictAnswers.{DecidesDeadlockFree}
 use Rattle.sw_app.proofs.ShownFree.{memory_not_zero, told_zero, writes_accepted}
 
 -- ---- what was told is an answer
@@ -43,8 +43,8 @@ answered_of_two P first first_after second second_after old new ended one other 
 -- ---- what status 0 shows
 
 pub accepted_written : (before after old new : Option (List ℕ)) (read : List ℕ) (answer : Result ByteAnswer AllocError) (ended : Ended) → Consumes before after read
-    → IsAtEnd after → IfOk answer (λ a. a.status ≡ 0 → AreShownFree read a.text.items) → IsByteAnswerTold answer old new ended → ended ≡ Status 0
-    → DecidesFree before after old new
+    → IsAtEnd after → IfOk answer (λ a. a.status ≡ 0 → AreShownDeadlockFree read a.text.items) → IsByteAnswerTold answer old new ended → ended ≡ Status 0
+    → DecidesDeadlockFree before after old new
 accepted_written before after old new read (Ok a) ended given end shown is zero =
     (read, (given, end), writes_accepted old new read a.text.items a.status ended shown is zero)
 accepted_written before after old new read (Err none) ended given end shown is zero = absurd (memory_not_zero old new ended is zero)

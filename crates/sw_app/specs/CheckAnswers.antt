@@ -37,20 +37,20 @@ abbrev pub IsCheckAnswer : Option (List ℕ) → Option (List ℕ) → Answers
 IsCheckAnswer first second = IfLimited first (λ bytes. IsNetworkAnswer second (network_text bytes))
 
 -- the certificate that the text says is accepted for the network, and that network never locks up, over every run
-pub record IsShownFree (d : Declaration) (bytes : List ℕ) : Type 0 where
+pub record IsShownDeadlockFree (d : Declaration) (bytes : List ℕ) : Type 0 where
   pub contents : Contents
   pub said : certificate.Says bytes contents
   pub accepted : IsAccepted (network_of d) (certificate_of contents)
   pub deadlock_free : IsDeadlockFree (network_of d) (certificate_of contents)
 
 -- the first file declares a network, and the second file's certificate shows that it never locks up
-pub record AreShownFree (bytes others : List ℕ) : Type 0 where
+pub record AreShownDeadlockFree (bytes others : List ℕ) : Type 0 where
   pub network : Declaration
   pub declared : network_text bytes ≡ Ok network
-  pub shown : IsShownFree network others
+  pub shown : IsShownDeadlockFree network others
 
 -- both readers were read to their ends, the first gave a network file, and the second a certificate file that shows that the network
 -- never locks up
-abbrev pub ChecksFree : Option (List ℕ) → Option (List ℕ) → Option (List ℕ) → Option (List ℕ) → Type 0
-ChecksFree first first_after second second_after =
-    (bytes : List ℕ) × GivesAll first first_after bytes × ((others : List ℕ) × GivesAll second second_after others × AreShownFree bytes others)
+abbrev pub ChecksDeadlockFree : Option (List ℕ) → Option (List ℕ) → Option (List ℕ) → Option (List ℕ) → Type 0
+ChecksDeadlockFree first first_after second second_after =
+    (bytes : List ℕ) × GivesAll first first_after bytes × ((others : List ℕ) × GivesAll second second_after others × AreShownDeadlockFree bytes others)

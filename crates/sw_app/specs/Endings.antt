@@ -5,7 +5,7 @@ use Rattle.sw_toml_table.specs.declared.fault.FileFault.{FileFault}
 use Rattle.sw_toml_table.specs.declared.fault.FileFault.TheVariants.{Text, Memory}
 use Rattle.sw_command.specs.declared.answer.Answer.{Answer}
 use Rattle.sw_command.specs.declared.answer.ByteAnswer.{ByteAnswer}
-use Rattle.sw_command.specs.declared.ended.Ended.{Ended}
+use Rattle.sw_command.specs.declared.write_answer.Ended.{Ended}
 use Rattle.sw_command.specs.Ends.{Answers, IsMemoryTold, IsTold, Says}
 use Rattle.sw_command.specs.FaultTexts.{fault_text}
 use Rattle.sw_output.specs.Lines.{line}

@@ -14,7 +14,7 @@ use Rattle.sw_search.specs.Verdicts.{IsVerdict}
 use Rattle.sw_output.specs.Lines.{line}
 use Rattle.sw_output.specs.ReportTexts.{report_text}
 use Rattle.sw_output.specs.VerdictTexts.{cycle_text, cyclic_words, free_words, misrouted_words}
-use Rattle.sw_app.specs.CheckAnswers.{AreShownFree}
+use Rattle.sw_app.specs.CheckAnswers.{AreShownDeadlockFree}
 use Rattle.sw_command.specs.Ends.{Answers, GivesAll, Says}
 use Rattle.sw_command.specs.FaultTexts.{fault_text}
 
@@ -69,9 +69,9 @@ IsReportAnswer bytes = OfNetwork IsFindingsAnswer (network_text bytes)
 -- what was written is a certificate that is accepted for the network that the bytes declare, and that network never locks up, over
 -- every run
 abbrev pub WritesAccepted : List ℕ → Option (List ℕ) → Option (List ℕ) → Type 0
-WritesAccepted bytes old new = (text : List ℕ) × AreShownFree bytes text × Appends old new text
+WritesAccepted bytes old new = (text : List ℕ) × AreShownDeadlockFree bytes text × Appends old new text
 
 -- the reader was read to its end, and what was written is a certificate that is accepted for the network that its bytes declare; that
 -- network never locks up, over every run
-abbrev pub DecidesFree : Option (List ℕ) → Option (List ℕ) → Option (List ℕ) → Option (List ℕ) → Type 0
-DecidesFree before after old new = (bytes : List ℕ) × GivesAll before after bytes × WritesAccepted bytes old new
+abbrev pub DecidesDeadlockFree : Option (List ℕ) → Option (List ℕ) → Option (List ℕ) → Option (List ℕ) → Type 0
+DecidesDeadlockFree before after old new = (bytes : List ℕ) × GivesAll before after bytes × WritesAccepted bytes old new

@@ -9,7 +9,7 @@ ghost use Rattle.sw_check.specs.Contents.{certificate_of};
 ghost use Rattle.sw_check.specs.Refusals.{refusal_of};
 ghost use Rattle.sw_command.specs.Ends.{IfLimited};
 ghost use Rattle.sw_command.specs.Inputs.{given};
-ghost use Rattle.sw_app.specs.CheckAnswers.{AreShownFree, IsCertificateAnswer, IsCheckAnswer, IsJudgement, IsNetworkAnswer, IsShownFree};
+ghost use Rattle.sw_app.specs.CheckAnswers.{AreShownDeadlockFree, IsCertificateAnswer, IsCheckAnswer, IsJudgement, IsNetworkAnswer, IsShownDeadlockFree};
 
 use crate::check_texts::{grammar_line, refusal_line};
 use crate::endings::fault_answer;
@@ -55,7 +55,7 @@ fn certificate_answer<R: Threads + Sync>(
     text: &[u8],
 ) -> Result<Answer, AllocError>
     ensures answer { IfOk result (λ a. IsCertificateAnswer network.now (read_text text.now) (string_bytes a.text) a.status) }
-    ensures shown { IfOk result (λ a. a.status ≡ 0 → IsShownFree network.now text.now) }
+    ensures deadlock_free { IfOk result (λ a. a.status ≡ 0 → IsShownDeadlockFree network.now text.now) }
 {
     match Certificate::read(alloc, text) {
         Ok(certificate) => judgement(rt, alloc, network, &certificate),
@@ -75,7 +75,7 @@ fn network_answer<R: Threads + Sync>(
     second: &InputText,
 ) -> Result<Answer, AllocError>
     ensures answer { IfOk result (λ a. IfLimited (given second.now) (λ bytes. IsCertificateAnswer network.now (read_text bytes)) (string_bytes a.text) a.status) }
-    ensures shown { IfOk result (λ a. a.status ≡ 0 → IsSomeAnd (given second.now) (IsShownFree network.now)) }
+    ensures deadlock_free { IfOk result (λ a. a.status ≡ 0 → IsSomeAnd (given second.now) (IsShownDeadlockFree network.now)) }
 {
     match second {
         InputText::Whole(text) => certificate_answer(rt, alloc, network, text),
@@ -91,7 +91,7 @@ fn file_answer<R: Threads + Sync>(
     second: &InputText,
 ) -> Result<Answer, AllocError>
     ensures answer { IfOk result (λ a. IsNetworkAnswer (given second.now) (network_text first.now) (string_bytes a.text) a.status) }
-    ensures shown { IfOk result (λ a. a.status ≡ 0 → IsSomeAnd (given second.now) (AreShownFree first.now)) }
+    ensures deadlock_free { IfOk result (λ a. a.status ≡ 0 → IsSomeAnd (given second.now) (AreShownDeadlockFree first.now)) }
 {
     match read_network(alloc, first) {
         Ok(network) => {
@@ -111,7 +111,7 @@ pub(crate) fn check_answer<R: Threads + Sync>(
     second: &InputText,
 ) -> Result<Answer, AllocError>
     ensures answer { IfOk result (λ a. IsCheckAnswer (given first.now) (given second.now) (string_bytes a.text) a.status) }
-    ensures shown { IfOk result (λ a. a.status ≡ 0 → IsSomeAnd (given first.now) (λ bytes. IsSomeAnd (given second.now) (AreShownFree bytes))) }
+    ensures deadlock_free { IfOk result (λ a. a.status ≡ 0 → IsSomeAnd (given first.now) (λ bytes. IsSomeAnd (given second.now) (AreShownDeadlockFree bytes))) }
 {
     match first {
         InputText::Whole(text) => file_answer(rt, alloc, text, second),

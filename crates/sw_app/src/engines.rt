@@ -1,10 +1,10 @@
 //! The engines: each reads its texts whole, and writes one text.
 ghost use Rattle.std.specs.Prelude.{◌≡◌};
-ghost use Rattle.sw_app.specs.CheckAnswers.{ChecksFree, IsCheckAnswer};
+ghost use Rattle.sw_app.specs.CheckAnswers.{ChecksDeadlockFree, IsCheckAnswer};
 ghost use Rattle.sw_command.specs.Ends.{AreReadInOrder, EndsBy, EndsByTwo};
 ghost use Rattle.sw_app.specs.MigrateAnswers.{IsMigrateAnswer};
 ghost use Rattle.sw_app.specs.RouteAnswers.{IsRouteAnswer};
-ghost use Rattle.sw_app.specs.VerdictAnswers.{DecidesFree, IsDecideAnswer, IsReportAnswer};
+ghost use Rattle.sw_app.specs.VerdictAnswers.{DecidesDeadlockFree, IsDecideAnswer, IsReportAnswer};
 
 use crate::check_answer::check_answer;
 use crate::endings::{tell_answer, tell_byte_answer};
@@ -41,7 +41,7 @@ pub fn check<T: Threads + Sync, N: Read, C: Read, W: Write>(
 ) -> Ended
     ensures answer { EndsByTwo IsCheckAnswer (N.remaining network.old) (N.remaining network.new) (C.remaining certificate.old) (C.remaining certificate.new) (W.contents writer.old) (W.contents writer.new) result }
     ensures order { AreReadInOrder (N.remaining network.old) (N.remaining network.new) (C.remaining certificate.old) (C.remaining certificate.new) }
-    ensures shown { result ≡ Ended.Status 0 → ChecksFree (N.remaining network.old) (N.remaining network.new) (C.remaining certificate.old) (C.remaining certificate.new) }
+    ensures deadlock_free { result ≡ Ended.Status 0 → ChecksDeadlockFree (N.remaining network.old) (N.remaining network.new) (C.remaining certificate.old) (C.remaining certificate.new) }
 {
     let (first, second) = match read_two(alloc, network, certificate) {
         Ok(inputs) => inputs,
@@ -60,7 +60,7 @@ pub fn decide<T: Threads + Sync, R: Read, W: Write>(
     writer: &mut W,
 ) -> Ended
     ensures answer { EndsBy IsDecideAnswer (R.remaining reader.old) (R.remaining reader.new) (W.contents writer.old) (W.contents writer.new) result }
-    ensures shown { result ≡ Ended.Status 0 → DecidesFree (R.remaining reader.old) (R.remaining reader.new) (W.contents writer.old) (W.contents writer.new) }
+    ensures deadlock_free { result ≡ Ended.Status 0 → DecidesDeadlockFree (R.remaining reader.old) (R.remaining reader.new) (W.contents writer.old) (W.contents writer.new) }
 {
     let input = match read_whole(alloc, reader, MAX_TEXT) {
         Ok(input) => input,

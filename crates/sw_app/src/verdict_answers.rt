@@ -1,6 +1,6 @@
 //! What `decide` and `report` answer.
 ghost use Rattle.std.specs.Prelude.{◌≡◌, IfOk, string_bytes};
-ghost use Rattle.sw_app.specs.CheckAnswers.{AreShownFree, IsShownFree};
+ghost use Rattle.sw_app.specs.CheckAnswers.{AreShownDeadlockFree, IsShownDeadlockFree};
 ghost use Rattle.sw_app.specs.VerdictAnswers.{IsDecideAnswer, IsFindingsAnswer, IsReportAnswer, IsVerdictAnswer, SaysFindings};
 
 use crate::endings::fault_answer;
@@ -21,7 +21,7 @@ fn verdict_answer<R: Threads + Sync>(
     network: &Network,
 ) -> Result<ByteAnswer, AllocError>
     ensures answer { IfOk result (λ a. IsVerdictAnswer network.now a.text.items a.status) }
-    ensures shown { IfOk result (λ a. a.status ≡ 0 → IsShownFree network.now a.text.items) }
+    ensures deadlock_free { IfOk result (λ a. a.status ≡ 0 → IsShownDeadlockFree network.now a.text.items) }
 {
     // Names the network, which is valid by its type.
     let _topology = network.topology();
@@ -38,7 +38,7 @@ pub(crate) fn decide_answer<R: Threads + Sync>(
     input: &[u8],
 ) -> Result<ByteAnswer, AllocError>
     ensures answer { IfOk result (λ a. IsDecideAnswer input.now a.text.items a.status) }
-    ensures shown { IfOk result (λ a. a.status ≡ 0 → AreShownFree input.now a.text.items) }
+    ensures deadlock_free { IfOk result (λ a. a.status ≡ 0 → AreShownDeadlockFree input.now a.text.items) }
 {
     match read_network(alloc, input) {
         Ok(network) => {

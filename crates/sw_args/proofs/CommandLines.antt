@@ -1,6 +1,7 @@
 -- What clap's matches say of the words.
 use Rattle.std.proofs.Common.{◌≡◌, List, ℕ, [], Option, refl, sym, ap, ◌∙◌, subst, true, false, inl, inr}
-use Rattle.std.specs.Prelude.{IfOk, IfSome, Result, ok_or, Some, None}
+use Rattle.std.specs.Prelude.{IfErr, IfOk, IfSome, Result, Ok, Err, Some, None}
+use Rattle.std.specs.Option.{unwrap_or}
 use Rattle.clap.specs.Built.{AddsSubcommand}
 use Rattle.std.specs.declared.alloc.AllocError.{AllocError}
 use Rattle.clap.specs.Simple.{with_subcommand}
@@ -12,13 +13,22 @@ use Rattle.clap.specs.declared.error.Error.{Error}
 use Rattle.sw_args.specs.declared.command_line.Call.{Call}
 use Rattle.sw_args.specs.declared.command_line.WordsFault.{WordsFault}
 use Rattle.sw_args.specs.declared.command_line.WordsFault.TheVariants.{Help, Refused, Memory}
-use Rattle.sw_args.specs.CommandLine.{swcheck_app, Gives, IsMatched, Refuses, ShowsKind, WithMade}
+use Rattle.sw_args.specs.CommandLine.{swcheck_app, Gives, IsMatched, Refuses, ShowsKind, Tells, WithMade}
 
 swcheck_simple : is_simple swcheck_app ≡ true
 swcheck_simple = refl
 
 swcheck_free : is_simple_and_free swcheck_app ≡ true
 swcheck_free = refl
+
+-- the matches have the words' subcommand, where clap's fault of the words is none
+pub matched_rows : (app : App) (words : List (List ℕ)) (m : ArgMatches) → app ≡ swcheck_app → HasMatchesOf app words m
+    → (is_simple_and_free app ≡ true → fault_of app words ≡ []) → (subcommand_rows_of m ≡ subcommand_of swcheck_app words) × (fault_of swcheck_app words ≡ [])
+matched_rows app words m is found free =
+    let simple : is_simple app ≡ true = ap is_simple is ∙ swcheck_simple in (
+      (found simple).1 ∙ ap (λ (a : App). subcommand_of a words) is,
+      ap (λ (a : App). fault_of a words) (sym is) ∙ free (ap is_simple_and_free is ∙ swcheck_free),
+    )
 
 -- a call of the matches is one of the words
 pub gives : (app : App) (words : List (List ℕ)) (m : ArgMatches) (call : Call) → app ≡ swcheck_app
@@ -34,16 +44,26 @@ among : (app : App) (words : List (List ℕ)) (e : Error) → app ≡ swcheck_ap
 among app words e is has =
     subst (λ (a : App). HasKind (fault_of a words) e) is (has (ap is_simple_and_free is ∙ swcheck_free))
 
--- a call that was matched, or want of memory
-pub gives_or_memory : (words : List (List ℕ)) (P : Call → Type 0) (found : Option Call) → IfSome found P → ((call : Call) → P call → Gives words call)
-    → IfOk (ok_or found Memory) (Gives words)
-gives_or_memory words P None h given = tt
-gives_or_memory words P (Some call) h given = given call h
+-- what was told is the call, or the fault
+pub calls : (words : List (List ℕ)) (told : Result Call WordsFault) → Tells words told → IfOk told (Gives words)
+calls words (Ok call) tells = tells
+calls words (Err f) tells = tt
+
+pub faults : (words : List (List ℕ)) (told : Result Call WordsFault) → Tells words told → IfErr told (Refuses words)
+faults words (Ok call) tells = tt
+faults words (Err (Help text)) tells = tells
+faults words (Err (Refused text)) tells = tells
+faults words (Err Memory) tells = tt
+
+-- the call of an option that has one
+pub is_call : (P : Call → Type 0) (o : Option Call) (call : Call) → IfSome o P → o ≡ Some call → P call
+is_call P None call each is = absurd cc
+is_call P (Some x) call each is = subst P (ap (λ (o : Option Call). unwrap_or o x) is) each
 
 -- the fault that tells of an error of clap's tells of one that the words have
 pub refuses : (app : App) (words : List (List ℕ)) (e : Error) (f : WordsFault) → app ≡ swcheck_app
-    → (is_simple_and_free app ≡ true → HasKind (fault_of app words) e) → ShowsKind (kind_of e) f → Refuses words f
-refuses app words e Memory is has shows = tt
+    → (is_simple_and_free app ≡ true → HasKind (fault_of app words) e) → ShowsKind (kind_of e) f → Tells words (Err f)
+refuses app words e Memory is has shows = shows
 refuses app words e (Help text) is has shows =
     elim (among app words e is has) [
       | inl memory ↦ absurd (elim shows [ inl help ↦ cc | inr version ↦ cc ])

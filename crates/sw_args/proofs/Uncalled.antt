@@ -1,5 +1,5 @@
 -- When the values of a run are no call.
-use Rattle.std.proofs.Common.{◌≡◌, Bor, List, ℕ, Option, refl, sym, ap, ◌∙◌, true, false, true≢false, codes}
+use Rattle.std.proofs.Common.{◌≡◌, Bor, List, ℕ, Option, refl, sym, ap, ◌∙◌, false, true≢false, codes}
 use Rattle.std.specs.Prelude.{IfNone, Some, None}
 use Rattle.std.specs.Str.{bytes_eq}
 use Rattle.clap.specs.Words.{Row}

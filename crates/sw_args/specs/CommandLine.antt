@@ -1,5 +1,5 @@
 -- The words that the program takes.
-use Rattle.std.specs.Prelude.{◌≡◌, ◌≢◌, ◌≤◌, ◌<◌, ◌⊎◌, ℕ, List, [], ◌∷◌, Option, Some, codes, pos, true, Result, Ok}
+use Rattle.std.specs.Prelude.{◌≡◌, ◌≢◌, ◌≤◌, ◌<◌, ◌⊎◌, ℕ, List, [], ◌∷◌, Option, Some, codes, pos, true, Result, Ok, Err}
 use Rattle.std.specs.declared.alloc.AllocError.{AllocError}
 use Rattle.clap.specs.Built.{AddsSubcommand}
 use Rattle.clap.specs.declared.builder.command.Command.{Command}
@@ -135,9 +135,9 @@ words_status (Help text) = 0
 words_status (Refused text) = 2
 words_status Memory = 5
 
--- how an error of clap's is told: help goes to standard output, and each other text to standard error
+-- how an error of clap's is told: help goes to standard output, and each other text to standard error; none is told as want of memory
 abbrev pub ShowsKind : ErrorKind → WordsFault → Type 0
-ShowsKind kind Memory = Unit {0}
+ShowsKind kind Memory = ⊥
 ShowsKind kind (Help text) = (kind ≡ DisplayHelp) ⊎ (kind ≡ DisplayVersion)
 ShowsKind kind (Refused text) = (kind ≢ OutOfMemory) × (kind ≢ DisplayHelp) × (kind ≢ DisplayVersion)
 
@@ -146,3 +146,10 @@ abbrev pub Refuses : List (List ℕ) → WordsFault → Type 0
 Refuses words Memory = Unit {0}
 Refuses words (Help text) = (kind : ErrorKind) × IsAmong kind (fault_of swcheck_app words) × ShowsKind kind (Help text)
 Refuses words (Refused text) = (kind : ErrorKind) × IsAmong kind (fault_of swcheck_app words) × ShowsKind kind (Refused text)
+
+-- what the words come to where no growth was refused: a call, or a fault that is none of memory
+abbrev pub Tells : List (List ℕ) → Result Call WordsFault → Type 0
+Tells words (Ok call) = Gives words call
+Tells words (Err (Help text)) = Refuses words (Help text)
+Tells words (Err (Refused text)) = Refuses words (Refused text)
+Tells words (Err Memory) = ⊥

@@ -4,7 +4,7 @@ ghost use Rattle.clap.specs.Words.{app_of, first_of, found_of, kind_of, rows_of,
 ghost use Rattle.clap.specs.declared.builder.Command.TheViews.{out-Command};
 ghost use Rattle.sw_args.specs.declared.command_line.Call.{Call};
 ghost use Rattle.sw_args.specs.declared.command_line.WordsFault.TheVariants.{Memory};
-ghost use Rattle.sw_args.specs.CommandLine.{check_app, count_rule, decide_app, migrate_app, replay_app, report_app, required_value, route_app, run_app, swcheck_app, top_app, Gives, IsCallOf, IsCount, IsMatched, Refuses, SaysNumber, ShowsKind, WithMade};
+ghost use Rattle.sw_args.specs.CommandLine.{check_app, count_rule, decide_app, migrate_app, replay_app, report_app, required_value, route_app, run_app, swcheck_app, top_app, Gives, IsCallOf, IsCount, IsMatched, Refuses, SaysNumber, ShowsKind, Tells, WithMade};
 
 use clap::error::ErrorKind;
 use clap::{Arg, ArgMatches, Command};
@@ -233,19 +233,18 @@ fn swcheck_command<'a>(alloc: Global) -> Result<Command<'a>, AllocError>
     with_made(command, migrate_command(alloc))
 }
 
-fn fault_of(alloc: Global, error: &clap::Error) -> WordsFault
-    ensures { ShowsKind (kind_of error.now) result }
+// How an error of clap's is told. That of a growth that was refused is told as any other such.
+fn fault_of(alloc: Global, error: &clap::Error) -> Result<WordsFault, AllocError>
+    ensures { IfOk result (ShowsKind (kind_of error.now)) }
 {
     if error.kind() == ErrorKind::OutOfMemory {
-        return WordsFault::Memory;
+        return Err(AllocError);
     }
-    let Ok(text) = error.to_string(alloc) else {
-        return WordsFault::Memory;
-    };
+    let text = error.to_string(alloc)?;
     if error.use_stderr() {
-        WordsFault::Refused(text)
+        Ok(WordsFault::Refused(text))
     } else {
-        WordsFault::Help(text)
+        Ok(WordsFault::Help(text))
     }
 }
 
@@ -320,18 +319,25 @@ fn matched_call<'a>(matches: &ArgMatches<'a>) -> Option<Call<'a>>
     call_of(name, values)
 }
 
+// What the words come to. Only a growth that was refused leaves that open.
+fn told<'a>(alloc: Global, words: &'a [&'a str]) -> Result<Result<Call<'a>, WordsFault>, AllocError>
+    ensures { IfOk result (Tells (map (λ s. s.now) words.entry.now)) }
+{
+    let command = swcheck_command(alloc)?;
+    match command.try_get_matches_from(words) {
+        Ok(matches) => Ok(Ok(matched_call(&matches).unwrap())),
+        Err(error) => Ok(Err(fault_of(alloc, &error)?)),
+    }
+}
+
 /// The call that the words ask for; they begin with the program's name.
 ///
 /// # Errors
 ///
-/// Help was asked for, or the words are refused, each with the text to print; or there is no memory.
+/// Help was asked for, or the words are refused, each with the text to print; or a growth was refused.
 pub fn words<'a>(alloc: Global, words: &'a [&'a str]) -> Result<Call<'a>, WordsFault>
     ensures call { IfOk result (Gives (map (λ s. s.now) words.entry.now)) }
     ensures fault { IfErr result (Refuses (map (λ s. s.now) words.entry.now)) }
 {
-    let command = swcheck_command(alloc)?;
-    match command.try_get_matches_from(words) {
-        Ok(matches) => matched_call(&matches).ok_or(WordsFault::Memory),
-        Err(error) => Err(fault_of(alloc, &error)),
-    }
+    told(alloc, words)?
 }

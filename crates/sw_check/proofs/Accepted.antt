@@ -1,6 +1,6 @@
 -- A certificate is not refused exactly where it is accepted.
-use Rattle.std.proofs.Common.{◌≡◌, ℕ, ◌+◌, ◌<◌, ◌≤◌, ◌==◌, true, false, List, [], ◌∷◌, zero, suc, length, map, Option, Some, None, option_map, is_some, Contains, refl, sym, ap, ◌∙◌, subst, arith}
-use Rattle.std.specs.Prelude.{slice_get, slice_index, unwrap_or, if◌then◌else◌}
+use Rattle.std.proofs.Common.{◌≡◌, ℕ, ◌+◌, ◌<◌, ◌≤◌, ◌==◌, true, false, List, length, map, Some, None, option_map, is_some, Contains, refl, sym, ◌∙◌, subst, arith}
+use Rattle.std.specs.Prelude.{slice_get, slice_index, if◌then◌else◌}
 use Rattle.std.specs.List.{list_all}
 use Rattle.std.proofs.lemmas.Bool.{eqb-true, eq-eqb, leb-false, lt-leb}
 use Rattle.std.proofs.lemmas.List.{length-map}
@@ -14,7 +14,6 @@ use Rattle.sw_flow.specs.Followers.{followers_of}
 use Rattle.sw_flow.proofs.Listed.{Contains-map, Contains-from_map}
 use Rattle.sw_flow.proofs.Walked.{followers_are_listed}
 use Rattle.sw_cert.specs.Text.{Contents}
-use Rattle.sw_machine.specs.Network as machine_network
 use Rattle.sw_machine.specs.Places as machine
 use Rattle.sw_machine.specs.Certificate.{IsListed, IsAccepted}
 use Rattle.sw_model.specs.Model.{reply_number, network_of}

@@ -8,3 +8,4 @@ pub mod Parts
 pub mod Answering
 pub mod Accepted
 pub mod Firsts
+pub mod Followed

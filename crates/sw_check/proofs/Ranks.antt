@@ -1,5 +1,5 @@
 -- The ranks of places in a block rise, and where a search by ranks ends.
-use Rattle.std.proofs.Common.{◌≡◌, ℕ, zero, suc, ◌+◌, ◌<◌, ◌≤◌, true, false, List, [], ◌∷◌, length, get_or, Option, Some, None, Contains, refl, sym, ap, ◌∙◌, subst, ◌⊎◌, inl, inr, arith}
+use Rattle.std.proofs.Common.{◌≡◌, ℕ, zero, suc, ◌+◌, ◌<◌, ◌≤◌, Bool, ◌||◌, true, false, List, [], ◌∷◌, length, get_or, Option, Some, None, Contains, refl, sym, ap, ◌∙◌, subst, ◌⊎◌, inl, inr, arith}
 use Rattle.std.specs.Prelude.{slice_get}
 use Rattle.std.specs.List.{AllByRecursion}
 use Rattle.std.proofs.lemmas.Bool.{cases_Bool, cases_eq, cases_lt, eq-eqb, ne_eqb, le-ltb}
@@ -136,3 +136,13 @@ module _ (xs : List Place) (p : Place) (block : IsBlock xs) (low : ℕ) (so : Is
               let eq : p ≡ get_or xs low p = same_place p (get_or xs low p) same in
               let listed = place_listed xs p (Contains-at xs low p (found_there xs low p inside ∙ ap Some (sym eq))) in
               absurd (let bad : true ≡ false = sym listed ∙ none in cc)
+
+-- what is at an index is listed
+pub at_listed : (xs : List Place) (i : ℕ) (p : Place) → is_at xs i p ≡ true → is_listed xs p ≡ true
+at_listed [] i p h = absurd (let bad : false ≡ true = h in cc)
+at_listed (x ∷ xs) zero p h = rw h refl
+at_listed (x ∷ xs) (suc i) p h = later (is_same p x) (at_listed xs i p h)
+  where
+    later : (b : Bool) → is_listed xs p ≡ true → (b || is_listed xs p) ≡ true
+    later true h = refl
+    later false h = h

@@ -46,7 +46,7 @@ fn refusal_of<R: Threads + Sync>(
 ///
 /// Threads share the work, flow by flow, as many as there are processors. It takes no memory that it cannot do without: where no
 /// thread can be started, the one that there is does the work, and no answer tells of want of memory. The time is linear in the
-/// places and in what follows them, but for a search of a flow's list for each.
+/// places and in what follows them, but for a search of a flow's list for each that does not stand behind the one found last.
 pub fn check<'a, R: Threads + Sync>(
     rt: &R,
     network: &'a Network,

@@ -22,10 +22,10 @@ fn is_at(listed: &[Place], index: usize, place: &Place) -> bool
     }
 }
 
-/// Is the place listed? The search halves the list at each turn.
-pub(crate) fn is_listed(listed: &[Place], place: &Place) -> bool
+/// Where a search for the place ends, which halves the list at each turn: the place stands there or nowhere.
+fn place_in(listed: &[Place], place: &Place) -> usize
     requires { IsBlock listed.now }
-    ensures { result ≡ is_listed listed.now place.now }
+    ensures { is_at listed.now result place.now ≡ is_listed listed.now place.now }
 {
     let wanted = rank(*place);
     let mut low = 0;
@@ -38,5 +38,29 @@ pub(crate) fn is_listed(listed: &[Place], place: &Place) -> bool
             high = middle;
         }
     }
-    is_at(listed, low, place)
+    low
+}
+
+/// Is the place listed? It is looked for at the index `next` and two before, and else searched for; where it is found, `next` is
+/// the index behind it.
+///
+/// What follows the listed places, taken in order, mostly stands in order too: behind what followed the place before, or, where
+/// two channels lead to one switch, once more where that stands. So few places are searched for, and any index gives the answer.
+#[tactic(auto, using(crate::proofs::Ranks::at_listed))]
+pub(crate) fn is_listed(listed: &[Place], next: &mut usize, place: &Place) -> bool
+    requires { IsBlock listed.now }
+    ensures { result ≡ is_listed listed.now place.now }
+{
+    if is_at(listed, *next, place) {
+        *next = next.saturating_add(1);
+        return true;
+    }
+    let before = next.saturating_sub(2);
+    if is_at(listed, before, place) {
+        *next = before.saturating_add(1);
+        return true;
+    }
+    let found = place_in(listed, place);
+    *next = found.saturating_add(1);
+    is_at(listed, found, place)
 }

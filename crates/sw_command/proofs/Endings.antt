@@ -4,10 +4,10 @@ use Rattle.std.specs.Prelude.{Option, Some, nat_le}
 use Rattle.std.specs.Io.KnownBytes.{Consumes, IsAtEnd}
 use Rattle.std.proofs.lemmas.Bool.Decides.{nat_tests}
 use Rattle.sw_text.specs.Reading.{Takes}
-use Rattle.sw_text.specs.declared.reading.ReadError.{ReadError}
-use Rattle.sw_text.specs.declared.reading.ReadError.TheVariants.{TooLong, Failed, Memory}
-use Rattle.sw_command.specs.declared.ended.Ended.{Ended}
-use Rattle.sw_command.specs.declared.ended.Ended.TheVariants.{Status, ReadFailed, WriteFailed}
+use Rattle.sw_text.specs.declared.read_stream.ReadError.{ReadError}
+use Rattle.sw_text.specs.declared.read_stream.ReadError.TheVariants.{TooLong, Failed, Memory}
+use Rattle.sw_command.specs.declared.write_answer.Ended.{Ended}
+use Rattle.sw_command.specs.declared.write_answer.Ended.TheVariants.{Status, ReadFailed, WriteFailed}
 use Rattle.sw_command.specs.Ends.{Answers, AnswersBy, AnswersByTwo, AnswersToTwo, EndsBy, EndsByTwo, GivesText, IfShort, IsMemoryTold, IsTold, IsUnreadTold, OrMemory}
 use Rattle.sw_output.specs.Lines.{line}
 

@@ -2,10 +2,10 @@
 use Rattle.std.specs.Prelude.{◌≡◌, ◌⊎◌, ℕ, ◌+◌, ◌<◌, List, [], ◌∷◌, Option, Some, None, IfSome, MatchBool, codes, if◌then◌else◌, length, nat_le, take}
 use Rattle.std.specs.Io.KnownBytes.{Appends, Consumes, IsAtEnd, Keeps}
 use Rattle.sw_text.specs.Reading.{Takes}
-use Rattle.sw_text.specs.declared.reading.ReadError.{ReadError}
-use Rattle.sw_text.specs.declared.reading.ReadError.TheVariants.{TooLong, Failed, Memory}
-use Rattle.sw_command.specs.declared.ended.Ended.{Ended}
-use Rattle.sw_command.specs.declared.ended.Ended.TheVariants.{Status, ReadFailed, WriteFailed}
+use Rattle.sw_text.specs.declared.read_stream.ReadError.{ReadError}
+use Rattle.sw_text.specs.declared.read_stream.ReadError.TheVariants.{TooLong, Failed, Memory}
+use Rattle.sw_command.specs.declared.write_answer.Ended.{Ended}
+use Rattle.sw_command.specs.declared.write_answer.Ended.TheVariants.{Status, ReadFailed, WriteFailed}
 use Rattle.sw_output.specs.Lines.{line}
 
 -- the status that the program exits with: 6 where a read or a write failed

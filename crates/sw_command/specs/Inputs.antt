@@ -1,7 +1,7 @@
 -- Texts that were read.
 use Rattle.std.specs.Prelude.{ℕ, List, Option, Some, None}
-use Rattle.sw_command.specs.declared.inputs.InputText.{InputText}
-use Rattle.sw_command.specs.declared.inputs.InputText.TheVariants.{Whole, TooLong}
+use Rattle.sw_command.specs.declared.read_texts.InputText.{InputText}
+use Rattle.sw_command.specs.declared.read_texts.InputText.TheVariants.{Whole, TooLong}
 
 -- the text, if it is not too long
 abbrev pub given : InputText → Option (List ℕ)

@@ -2,12 +2,12 @@
 #![tactic(auto)]
 
 mod answer;
-mod ended;
+mod write_answer;
 mod fault_texts;
-mod inputs;
+mod read_texts;
 pub mod statuses;
 
 pub use answer::{Answer, ByteAnswer};
-pub use ended::{Ended, MAX_TEXT, tell, tell_bytes, tell_memory, tell_unread};
+pub use write_answer::{Ended, MAX_TEXT, tell, tell_bytes, tell_memory, tell_unread};
 pub use fault_texts::fault_text;
-pub use inputs::{InputError, InputText, read_two};
+pub use read_texts::{InputError, InputText, read_two};

@@ -1,8 +1,9 @@
 -- What a commit keeps.
-use Rattle.std.proofs.Common.{All, Bool, Err, IsTrue, List, Ok, Option, Some, [], ap, arith, get_or, length, map, refl, subst, sym, ℕ, ◌++◌, ◌<◌, ◌∙◌, ◌∷◌, ◌≡◌}
+use Rattle.std.proofs.Common.{All, Bool, Err, IsTrue, List, Ok, Option, Some, [], ap, arith, eq-eqb, get_or, length, map, refl, subst, sym, ℕ, ◌++◌, ◌<◌, ◌∙◌, ◌∷◌, ◌≡◌}
+use Rattle.std.proofs.lemmas.Bool.{false≢true}
 use Rattle.std.proofs.lemmas.Option.{get_or_from_slice_get, slice_get-get_or, slice_get-map}
 use Rattle.std.proofs.lemmas.List.{length-append, length-map, take-append-le}
-use Rattle.std.specs.Prelude.{false, option_map, slice_get, slice_set, true, ◌↔◌}
+use Rattle.std.specs.Prelude.{false, option_map, slice_get, slice_set, true, ◌||◌, ◌↔◌}
 use Rattle.atomic_table.specs.Seated.{TableId}
 use Rattle.atomic_table.specs.Table.{Me}
 use Rattle.sw_cell.specs.Places.{IsAt, IsDoneAt, IsUndeclared, machine_cell}
@@ -14,10 +15,11 @@ use Rattle.sw_history.specs.History.{HistoryView}
 use Rattle.sw_history.specs.Next.{IsIdle, MayFollow}
 use Rattle.sw_journal.specs.Adding.{AddsAt, IsAtCell, IsWithSteps}
 use Rattle.sw_journal.proofs.Told.{at_its_cell, known_after, known_at, placed}
+use Rattle.sw_journal.proofs.Renewed.{if_false, if_true}
 use Rattle.sw_journal.specs.Cells.{all_known, cells_of, ends_at, numbered}
 use Rattle.sw_journal.specs.Marks.{IsTrueMark}
 use Rattle.sw_journal.specs.Record.{JournalView, CellView, Commits, IsTrueView, IsKept, IsNowCell, LeadsTo, with_step}
-use Rattle.sw_journal.specs.Renewal.{AreRenewedAfter, renewed}
+use Rattle.sw_journal.specs.Renewal.{AreRenewedAfter, is_it, is_one_of, renewed}
 use Rattle.sw_journal.specs.declared.fault.JournalFault.{JournalFault}
 use Rattle.sw_journal.specs.declared.fault.JournalFault.TheVariants as journal
 use Rattle.sw_load.specs.Load.{LoadEntry}
@@ -97,12 +99,31 @@ mark_more net packets steps step e k m = record {
   idle = subst (λ l. IsIdle net packets l e) (sym (take-append-le k steps (step ∷ []) m.within)) m.idle;
 }
 
-map_renewed : (net : Network) (s t : State) (es : List ℕ) → map (renewed net t) (map (λ e. (e, numbers_at net s e)) es) ≡ map (λ e. (e, numbers_at net t e)) es
-map_renewed net s t [] = refl
-map_renewed net s t (e ∷ es) = ap (λ l. (e, numbers_at net t e) ∷ l) (map_renewed net s t es)
+named : (o : Option ℕ) (e : ℕ) → o ≡ Some e → is_it o e ≡ true
+named o e h = ap (λ (x : Option ℕ). is_it x e) h ∙ eq-eqb e e refl
+
+or_true : (b : Bool) → b || true ≡ true
+or_true true = refl
+or_true false = refl
+
+-- a step that changes only the numbers of these link ends
+module _ (net : Network) (s t : State) (these : Option ℕ × Option ℕ) (only : (e : ℕ) → (these.0 ≡ Some e → ⊥) → (these.1 ≡ Some e → ⊥) → numbers_at net t e ≡ numbers_at net s e) where
+  then_by : (e : ℕ) (b : Bool) → is_one_of these e ≡ b → renewed these net t (e, numbers_at net s e) ≡ (e, numbers_at net t e)
+  then_by e true one = if_true (is_one_of these e) (e, numbers_at net t e) (e, numbers_at net s e) one
+  then_by e false none =
+      let first : these.0 ≡ Some e → ⊥ = λ h. false≢true (sym none ∙ ap (λ b. b || is_it these.1 e) (named these.0 e h)) in
+      let second : these.1 ≡ Some e → ⊥ = λ h. false≢true (sym none ∙ ap (λ b. is_it these.0 e || b) (named these.1 e h) ∙ or_true (is_it these.0 e)) in
+      let same = only e first second in
+      if_false (is_one_of these e) (e, numbers_at net t e) (e, numbers_at net s e) none ∙ (λ i. (e, sym same i))
+
+  map_renewed : (es : List ℕ) → map (renewed these net t) (map (λ e. (e, numbers_at net s e)) es) ≡ map (λ e. (e, numbers_at net t e)) es
+  map_renewed [] = refl
+  map_renewed (e ∷ es) = λ i. then_by e (is_one_of these e) refl i ∷ map_renewed es i
 
 module _ (j : JournalView) (before : Me Change View) (is : IsKept j before) (number : ℕ) (id : CellId) (ends : List (ℕ × Numbers)) (cell_is : IsMet j is.true_view.state number id ends)
-    (step : Step) (here : cell_of (network_of j.declared) step ≡ machine_cell id) (next : MayFollow (network_of j.declared) (packets_of j.load) j.history step) where
+    (step : Step) (here : cell_of (network_of j.declared) step ≡ machine_cell id) (next : MayFollow (network_of j.declared) (packets_of j.load) j.history step)
+    (these : Option ℕ × Option ℕ)
+    (only : (s t : State) → LeadsTo j s → Leads (network_of j.declared) s step t → (e : ℕ) → (these.0 ≡ Some e → ⊥) → (these.1 ≡ Some e → ⊥) → numbers_at (network_of j.declared) t e ≡ numbers_at (network_of j.declared) s e) where
   abbrev net : Network
   net = network_of j.declared
 
@@ -116,10 +137,10 @@ module _ (j : JournalView) (before : Me Change View) (is : IsKept j before) (num
       subst (λ (m : State). Leads net m step t) same last.2
 
   -- the numbers after the step
-  pub after_step : (more : List (ℕ × Numbers)) → more ≡ map (renewed net t) ends → more ≡ numbered net t id
-  after_step more renew = renew ∙ ap (map (renewed net t)) cell_is.ends_are ∙ map_renewed net is.true_view.state t (ends_at net id)
+  pub after_step : (more : List (ℕ × Numbers)) → more ≡ map (renewed these net t) ends → more ≡ numbered net t id
+  after_step more renew = renew ∙ ap (map (renewed these net t)) cell_is.ends_are ∙ map_renewed net is.true_view.state t these (only is.true_view.state t is.true_view.history leads) (ends_at net id)
 
-  known_then : (more : List (ℕ × Numbers)) → more ≡ map (renewed net t) ends → slice_set (all_known j.declared is.true_view.state) number (known id more) ≡ all_known j.declared t
+  known_then : (more : List (ℕ × Numbers)) → more ≡ map (renewed these net t) ends → slice_set (all_known j.declared is.true_view.state) number (known id more) ≡ all_known j.declared t
   known_then more renew =
       ap (λ (l : List (ℕ × Numbers)). slice_set (all_known j.declared is.true_view.state) number (known id l)) (after_step more renew)
       ∙ sym (known_after j.declared is.true_view.network is.true_view.state t (j.history, is.true_view.history.run) step leads number id cell_is.at here)
@@ -136,7 +157,7 @@ module _ (j : JournalView) (before : Me Change View) (is : IsKept j before) (num
 
   -- what the journal keeps after the step
   pub kept_after : (k : JournalView) (theirs shown_seat renewed_seat parted : Me Change View) (more : List (ℕ × Numbers)) → k ≡ with_step j step → length j.history < j.limit
-      → more ≡ map (renewed net t) ends → theirs ≡ (holder number (known id ends), []) → shown_seat ≡ (shown before.0 theirs.0, before.1)
+      → more ≡ map (renewed these net t) ends → theirs ≡ (holder number (known id ends), []) → shown_seat ≡ (shown before.0 theirs.0, before.1)
       → renewed_seat ≡ (with_known shown_seat.0 (known shown_seat.0.known.id more), shown_seat.1) → parted ≡ (kept_of renewed_seat.0, renewed_seat.1) → IsKept k parted
   unfolding account_after
   kept_after k theirs shown_seat renewed_seat parted more same room renew cell meets renews parts =
@@ -150,7 +171,7 @@ module _ (j : JournalView) (before : Me Change View) (is : IsKept j before) (num
       subst (λ (a : JournalView). IsKept a parted) (sym same) (record { true_view = account_after room; channels = is.channels; seat = seat })
 
   -- and the cell
-  pub same_cell_after : (k : JournalView) (cell : CellView) (more : List (ℕ × Numbers)) → k ≡ with_step j step → cell.id ≡ id → cell.ends ≡ more → more ≡ map (renewed net t) ends → IsNowCell k cell
+  pub same_cell_after : (k : JournalView) (cell : CellView) (more : List (ℕ × Numbers)) → k ≡ with_step j step → cell.id ≡ id → cell.ends ≡ more → more ≡ map (renewed these net t) ends → IsNowCell k cell
   same_cell_after k cell more same which ends_are renew =
       let here : IsMet (with_step j step) t number cell.id cell.ends = record {
         at = cell_is.at ∙ ap (λ (i : CellId). Some i) (sym which);
@@ -202,12 +223,12 @@ pub account_same : (name : TableId) (h k : HistoryView) (limit : ℕ) (marks : L
     → view_of name k limit marks ≡ record { name = name; declared = h.declared; load = h.load; limit = limit; history = steps; marks = marks }
 account_same name h k limit marks steps w = λ i. record { name = name; declared = w.declared i; load = w.load i; limit = limit; history = w.steps i; marks = marks }
 
-pub renewed_then : (h k : HistoryView) (steps : List Step) (t : State) (ends more : List (ℕ × Numbers)) → IsWithSteps h steps k → IsHistory (network_of h.declared) (packets_of h.load) steps t
-    → AreRenewedAfter k ends more → more ≡ map (renewed (network_of h.declared) t) ends
-renewed_then h k steps t ends more w leads renew =
-    let P : HistoryView → Type 0 = λ v. AreRenewedAfter v ends more in
+pub renewed_then : (h k : HistoryView) (steps : List Step) (t : State) (these : Option ℕ × Option ℕ) (ends more : List (ℕ × Numbers)) → IsWithSteps h steps k → IsHistory (network_of h.declared) (packets_of h.load) steps t
+    → AreRenewedAfter k these ends more → more ≡ map (renewed these (network_of h.declared) t) ends
+renewed_then h k steps t these ends more w leads renew =
+    let P : HistoryView → Type 0 = λ v. AreRenewedAfter v these ends more in
     let then : IsHistory (network_of k.declared) (packets_of k.load) k.steps t = subst (λ (v : Declaration × (List LoadEntry × List Step)). IsHistory (network_of v.0) (packets_of v.1.0) v.1.1 t) (λ i. (sym w.declared i, (sym w.load i, sym w.steps i))) leads in
-    renew t then ∙ ap (λ (d : Declaration). map (renewed (network_of d) t) ends) w.declared
+    renew t then ∙ ap (λ (d : Declaration). map (renewed these (network_of d) t) ends) w.declared
 
 pub now_same : (j k : JournalView) (cell after : CellView) → j ≡ k → cell ≡ after → IsNowCell j cell → IsNowCell k after
 now_same j k cell after same also is = subst (λ (v : JournalView × CellView). IsNowCell v.0 v.1) (λ i. (same i, also i)) is

@@ -1,9 +1,10 @@
 -- Link ends whose numbers are renewed one after another.
-use Rattle.std.proofs.Common.{All, List, Some, [], ap, arith, get_or, length, map, refl, subst, suc, sym, zero, ℕ, ◌+◌, ◌<◌, ◌∙◌, ◌∷◌, ◌≡◌}
+use Rattle.std.proofs.Common.{All, Bool, List, Option, Some, [], ap, arith, false, get_or, length, map, refl, subst, suc, sym, true, zero, ℕ, ◌+◌, ◌<◌, ◌∙◌, ◌∷◌, ◌≡◌}
+use Rattle.std.proofs.lemmas.Bool.{false≢true}
 use Rattle.std.proofs.lemmas.List.{get_or-map, length-map}
-use Rattle.std.specs.Prelude.{slice_get, slice_set}
+use Rattle.std.specs.Prelude.{if◌then◌else◌, slice_get, slice_set}
 use Rattle.atomic_table.specs.Table.{Me}
-use Rattle.sw_journal.specs.Renewal.{renewed, renewed_at}
+use Rattle.sw_journal.specs.Renewal.{is_one_of, renewed, renewed_at}
 use Rattle.sw_machine.specs.Network.{Network}
 use Rattle.sw_machine.specs.State.{State}
 use Rattle.sw_net.specs.Numbers.{numbers_at}
@@ -19,45 +20,58 @@ set_back [] (suc k) x e = refl
 set_back (y ∷ xs) zero x e = let same : x ≡ y = cc in λ i. same i ∷ xs
 set_back (y ∷ xs) (suc k) x e = ap (λ l. y ∷ l) (set_back xs k x e)
 
-module _ (net : Network) (s : State) where
+pub if_true : {X : Type 0} (b : Bool) (x y : X) → b ≡ true → (if b then x else y) ≡ x
+if_true true x y e = refl
+if_true false x y e = absurd (false≢true e)
+
+pub if_false : {X : Type 0} (b : Bool) (x y : X) → b ≡ false → (if b then x else y) ≡ y
+if_false true x y e = absurd (false≢true (sym e))
+if_false false x y e = refl
+
+module _ (these : Option ℕ × Option ℕ) (net : Network) (s : State) where
   -- the first k are renewed
   abbrev pub first_renewed : ℕ → List (ℕ × Numbers) → List (ℕ × Numbers)
   first_renewed zero ends = ends
   first_renewed (suc k) [] = []
-  first_renewed (suc k) (p ∷ ends) = renewed net s p ∷ first_renewed k ends
+  first_renewed (suc k) (p ∷ ends) = renewed these net s p ∷ first_renewed k ends
 
-  next_renewed : (k : ℕ) (ends : List (ℕ × Numbers)) → renewed_at net s k (first_renewed k ends) ≡ first_renewed (suc k) ends
+  next_renewed : (k : ℕ) (ends : List (ℕ × Numbers)) → renewed_at these net s k (first_renewed k ends) ≡ first_renewed (suc k) ends
   next_renewed zero [] = refl
   next_renewed zero (p ∷ ends) = refl
   next_renewed (suc k) [] = refl
-  next_renewed (suc k) (p ∷ ends) = ap (λ l. renewed net s p ∷ l) (next_renewed k ends)
+  next_renewed (suc k) (p ∷ ends) = ap (λ l. renewed these net s p ∷ l) (next_renewed k ends)
 
-  pub more_renewed : (k : ℕ) (ends before after : List (ℕ × Numbers)) → before ≡ first_renewed k ends → after ≡ renewed_at net s k before → after ≡ first_renewed (k + 1) ends
+  pub more_renewed : (k : ℕ) (ends before after : List (ℕ × Numbers)) → before ≡ first_renewed k ends → after ≡ renewed_at these net s k before → after ≡ first_renewed (k + 1) ends
   more_renewed k ends before after is next =
       let same : suc k ≡ k + 1 = omega arith in
-      next ∙ ap (renewed_at net s k) is ∙ next_renewed k ends ∙ ap (λ n. first_renewed n ends) same
+      next ∙ ap (renewed_at these net s k) is ∙ next_renewed k ends ∙ ap (λ n. first_renewed n ends) same
 
-  pub all_renewed : (k : ℕ) (ends : List (ℕ × Numbers)) → k ≡ length ends → first_renewed k ends ≡ map (renewed net s) ends
+  pub all_renewed : (k : ℕ) (ends : List (ℕ × Numbers)) → k ≡ length ends → first_renewed k ends ≡ map (renewed these net s) ends
   all_renewed zero [] e = refl
   all_renewed zero (p ∷ ends) e = absurd (omega arith)
   all_renewed (suc k) [] e = absurd (omega arith)
-  all_renewed (suc k) (p ∷ ends) e = ap (λ l. renewed net s p ∷ l) (all_renewed k ends (omega arith))
+  all_renewed (suc k) (p ∷ ends) e = ap (λ l. renewed these net s p ∷ l) (all_renewed k ends (omega arith))
 
-  -- a link end of the list with its numbers
-  pub set_renewed : (k : ℕ) (ends : List (ℕ × Numbers)) (p : ℕ × Numbers) (numbers : Numbers) → slice_get ends k ≡ Some p → numbers ≡ numbers_at net s p.0 → slice_set ends k (p.0, numbers) ≡ renewed_at net s k ends
-  set_renewed zero [] p numbers e is = refl
-  set_renewed (suc k) [] p numbers e is = refl
-  set_renewed zero (q ∷ ends) p numbers e is =
+  -- a link end of the list, renewed
+  pub set_renewed : (k : ℕ) (ends : List (ℕ × Numbers)) (p x : ℕ × Numbers) → slice_get ends k ≡ Some p → x ≡ renewed these net s p → slice_set ends k x ≡ renewed_at these net s k ends
+  set_renewed zero [] p x e is = refl
+  set_renewed (suc k) [] p x e is = refl
+  set_renewed zero (q ∷ ends) p x e is =
       let same : q ≡ p = cc in
-      let own : numbers ≡ numbers_at net s q.0 = is ∙ ap (λ (r : ℕ × Numbers). numbers_at net s r.0) (sym same) in
-      λ i. ((sym same i).0, own i) ∷ ends
-  set_renewed (suc k) (q ∷ ends) p numbers e is = ap (λ l. q ∷ l) (set_renewed k ends p numbers e is)
+      λ i. (is ∙ ap (renewed these net s) (sym same)) i ∷ ends
+  set_renewed (suc k) (q ∷ ends) p x e is = ap (λ l. q ∷ l) (set_renewed k ends p x e is)
 
-  -- a link end that has them already
-  pub same_renewed : (k : ℕ) (ends : List (ℕ × Numbers)) (p : ℕ × Numbers) (numbers : Numbers) → slice_get ends k ≡ Some p → numbers ≡ numbers_at net s p.0 → numbers ≡ p.1 → ends ≡ renewed_at net s k ends
-  same_renewed k ends p numbers at is same =
-      let here : slice_get ends k ≡ Some (p.0, numbers) = at ∙ ap (λ (n : Numbers). Some (p.0, n)) (sym same) in
-      sym (set_back ends k (p.0, numbers) here) ∙ set_renewed k ends p numbers at is
+  -- one that stays as it is
+  pub same_renewed : (k : ℕ) (ends : List (ℕ × Numbers)) (p : ℕ × Numbers) → slice_get ends k ≡ Some p → p ≡ renewed these net s p → ends ≡ renewed_at these net s k ends
+  same_renewed k ends p at is = sym (set_back ends k p at) ∙ set_renewed k ends p p at is
+
+  -- it is none of these
+  pub other_renewed : (p : ℕ × Numbers) → is_one_of these p.0 ≡ false → p ≡ renewed these net s p
+  other_renewed p none = sym (if_false (is_one_of these p.0) (p.0, numbers_at net s p.0) p none)
+
+  -- it is one of these, with its numbers
+  pub one_renewed : (p : ℕ × Numbers) (numbers : Numbers) → is_one_of these p.0 ≡ true → numbers ≡ numbers_at net s p.0 → (p.0, numbers) ≡ renewed these net s p
+  one_renewed p numbers one is = (λ i. (p.0, is i)) ∙ sym (if_true (is_one_of these p.0) (p.0, numbers_at net s p.0) p one)
 
 -- ---- what the journal's seat knows of them
 

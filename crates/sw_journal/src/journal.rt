@@ -7,7 +7,7 @@ use crate::cell::Cell;
 use crate::cell_table::{CellSeat, CellTable};
 use crate::fault::JournalFault;
 use crate::opening::opening;
-use crate::renewal::renew_after;
+use crate::renewal::{changing, renew_after};
 use crate::seats::{begin, meet, part};
 use std::alloc::{AllocError, Global};
 use std::marker::Model;
@@ -125,11 +125,12 @@ impl<'n> Journal<'n> {
             seat,
         } = self;
         meet(table, seat, &mut cell.seat);
+        let these = changing(history, &step);
         if let Err(fault) = add_at(history, alloc, cell.id, *limit, step) {
             cell.seat = part(table, seat);
             return Err(fault);
         }
-        renew_after(history, table, seat, &mut cell.ends);
+        renew_after(history, table, seat, &mut cell.ends, &these);
         cell.seat = part(table, seat);
         Ok(())
     }

@@ -5,9 +5,11 @@ pub mod Told
 pub mod Sizes
 pub mod Few
 pub mod Delivered
+pub mod Outputs
 pub mod Policies
 pub mod Possibles
 pub mod LinkNumbers
 pub mod Asks
 pub mod Parts
 pub mod Making
+mod ChangedNumbers

@@ -6,6 +6,9 @@ pub mod Delivery
 pub mod Making
 pub mod Kept
 pub mod Numbers
+pub mod Outputs
 pub mod Parts
+pub mod Policies
 pub mod Possible
 pub mod Switches
+pub mod Changing

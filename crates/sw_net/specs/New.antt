@@ -1,13 +1,14 @@
 -- What a new network is made of, and its cells at first.
 use Rattle.std.specs.Global.{Vec}
 use Rattle.std.specs.Option.{option_map_or}
-use Rattle.std.specs.Prelude.{IsBitSet, IsSome, List, None, Ok, Option, Result, Some, [], length, slice_get, slice_index, ℕ, ◌+◌, ◌++◌, ◌<◌, ◌^◌, ◌∷◌, ◌↔◌, ◌≡◌}
+use Rattle.std.specs.Prelude.{IsBitSet, IsSome, List, None, Ok, Option, Result, Some, [], length, map, slice_get, slice_index, take, ℕ, ◌+◌, ◌++◌, ◌<◌, ◌^◌, ◌∷◌, ◌↔◌, ◌≡◌}
 use Rattle.sw_cell.specs.Parts.{IsNodeFor, IsNodePart}
 use Rattle.sw_cell.specs.SwitchParts.{IsSwitchFor, IsSwitchPart}
 use Rattle.sw_flow.specs.Places.{ends_of}
 use Rattle.sw_machine.specs.State.{empty}
 use Rattle.sw_model.specs.Model.{network_of}
 use Rattle.sw_net.specs.Net.{IsNetState, NetView}
+use Rattle.sw_net.specs.Outputs.{AreByOutput, StandsAt}
 use Rattle.sw_config.specs.Entries.{Declaration, capacities, look_at}
 use Rattle.sw_node.specs.Node.{Node}
 use Rattle.sw_route.specs.declared.look.Look.{Look}
@@ -28,11 +29,7 @@ pub record IsLinkedSet (d : Declaration) (w set : ℕ) : Type 0 where
 
 -- there is one for each of these channels that starts at a switch, in their order, made with the linked ports of that switch
 abbrev pub AreArbiters : {A : Type 0} → (A → ℕ) → Declaration → List PlaceEnd → List A → Type 0
-AreArbiters ports d [] [] = Unit {0}
-AreArbiters ports d [] (a ∷ more) = ⊥
-AreArbiters ports d (place.Node n ∷ ends) arbiters = AreArbiters ports d ends arbiters
-AreArbiters ports d (place.Switch w port ∷ ends) [] = ⊥
-AreArbiters ports d (place.Switch w port ∷ ends) (a ∷ more) = IsLinkedSet d w (ports a) × AreArbiters ports d ends more
+AreArbiters ports d ends arbiters = AreByOutput (λ w port a. IsLinkedSet d w (ports a)) ends arbiters
 
 -- the net is of this network, in the empty state
 pub record IsNewNet {R A : Type 0} (d : Declaration) (v : NetView R A) : Type 0 where
@@ -63,6 +60,16 @@ IsPlaced ports d w (Some (Some a)) = IsLinkedSet d w (ports a)
 pub record IsRow {A : Type 0} (ports : A → ℕ) (d : Declaration) (channels w : ℕ) (row : List (Option A)) : Type 0 where
   pub whole : length row ≡ 32
   pub placed : (c port : ℕ) → c < channels → slice_get (ends_of d) c ≡ Some (place.Switch w port) → IsPlaced ports d w (slice_get row port)
+
+-- rows as lists
+abbrev pub rows_of : {A : Type 0} → List (Vec (Option A)) → List (List (Option A))
+rows_of {A} rows = map (λ (row : Vec (Option A)). row.items) rows
+
+-- of all arbiters, those of the first channels stand in their rows, and the rest follow
+pub record ArePlaced {A : Type 0} (d : Declaration) (channels : ℕ) (all rest : List A) (rows : List (List (Option A))) : Type 0 where
+  pub placed : List A
+  pub whole : all ≡ placed ++ rest
+  pub stand : AreByOutput (StandsAt rows) (take channels (ends_of d)) placed
 
 -- a value was made, and stands at the end
 abbrev pub IsOneMore : {X E : Type 0} → List X → Result X E → List X → Type 0

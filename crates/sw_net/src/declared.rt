@@ -1,9 +1,11 @@
 //! What a new network is made of, as its file declares it.
 ghost use Rattle.std.specs.Prelude.{◌+◌, ◌<◌, IfOk, OnOk, length, take};
-ghost use Rattle.sw_arb.specs.Chosen.{policy_ports};
 ghost use Rattle.sw_flow.specs.Places.{ends_of};
 ghost use Rattle.sw_net.specs.Switches.{switch_look};
-ghost use Rattle.sw_net.specs.New.{AreArbiters, AreRoutes, IsNewNet};
+ghost use Rattle.sw_net.specs.Net.{arbiters_of};
+ghost use Rattle.sw_net.specs.New.{AreRoutes, IsNewNet};
+ghost use Rattle.sw_net.specs.Outputs.{AreByOutput};
+ghost use Rattle.sw_net.specs.Policies.{AreDeclaredPolicies, IsNewFor};
 
 use crate::net::Net;
 use either::Either;
@@ -52,8 +54,8 @@ fn declared_routes<'n>(
 /// The arbiter of the channel's output is the next, if the channel starts at a switch.
 fn push_policy(network: &Network, channel: Chan, all: &mut Vec<Policy>) -> Result<(), AllocError>
     requires channel { channel < length (ends_of network.now) }
-    requires so_far { AreArbiters policy_ports network.now (take channel (ends_of network.now)) all.old.items }
-    ensures { OnOk result (AreArbiters policy_ports network.now (take (channel + 1) (ends_of network.now)) all.new.items) }
+    requires so_far { AreByOutput (λ w _ a. IsNewFor network.now w a) (take channel (ends_of network.now)) all.old.items }
+    ensures { OnOk result (AreByOutput (λ w _ a. IsNewFor network.now w a) (take (channel + 1) (ends_of network.now)) all.new.items) }
 {
     match network.topology().start_of(channel) {
         PlaceEnd::Node(_) => Ok(()),
@@ -67,7 +69,7 @@ fn push_policy(network: &Network, channel: Chan, all: &mut Vec<Policy>) -> Resul
 
 /// The arbiters of all outputs.
 fn declared_policies(alloc: Global, network: &Network) -> Result<Vec<Policy>, AllocError>
-    ensures { IfOk result (λ v. AreArbiters policy_ports network.now (ends_of network.now) v.items) }
+    ensures { IfOk result (λ v. AreByOutput (λ w _ a. IsNewFor network.now w a) (ends_of network.now) v.items) }
 {
     let mut all = Vec::new(alloc);
     for number in 0..network.channels() {
@@ -86,7 +88,8 @@ pub fn declared_net<'n>(
     alloc: Global,
     network: &'n Network,
 ) -> Result<Net<'n, SwitchRoutes<'n>, Policy>, AllocError>
-    ensures { IfOk result (IsNewNet network.entry.now) }
+    ensures new { IfOk result (IsNewNet network.entry.now) }
+    ensures policies { IfOk result (λ net. AreDeclaredPolicies network.entry.now (arbiters_of net.switches)) }
 {
     let routes = declared_routes(alloc, network)?;
     let arbiters = declared_policies(alloc, network)?;

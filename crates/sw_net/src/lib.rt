@@ -3,6 +3,7 @@
 
 mod asked;
 mod asking;
+mod changing;
 mod choice;
 mod declared;
 mod delivery;

@@ -1,10 +1,12 @@
 //! A new network.
-ghost use Rattle.std.specs.Prelude.{◌≡◌, ◌<◌, ◌+◌, ℕ, All, Option, IfOk, Ok, OnOk, Some, drop, length, slice_get};
+ghost use Rattle.std.specs.Prelude.{◌≡◌, ◌<◌, ◌+◌, ◌++◌, ℕ, All, List, Option, IfOk, Ok, OnOk, Some, drop, length, slice_get};
 ghost use Rattle.std.specs.Global.{Vec};
 ghost use Rattle.std.specs.Vec.Iter.{into_iter_items};
 ghost use Rattle.sw_flow.specs.Places.{ends_of};
 ghost use Rattle.sw_link.specs.Ends.{IsCapacity};
-ghost use Rattle.sw_net.specs.New.{AreArbiters, AreLeft, AreRoutes, IsNewNet, IsNewNode, IsNewSwitch, IsOneMore, IsRow, port_capacity};
+ghost use Rattle.sw_net.specs.Net.{arbiters_of};
+ghost use Rattle.sw_net.specs.New.{AreArbiters, AreLeft, ArePlaced, AreRoutes, IsNewNet, IsNewNode, IsNewSwitch, IsOneMore, IsRow, port_capacity, rows_of};
+ghost use Rattle.sw_net.specs.Outputs.{AreByOutput, StandsAt};
 ghost use Rattle.sw_config.specs.Entries.{look_at};
 ghost use Rattle.sw_node.specs.Node.{Node};
 ghost use Rattle.sw_switch.specs.Cell.{Cell};
@@ -138,6 +140,7 @@ fn place<A: Arbiter + Drop>(
     ensures arbiters { AreArbiters A.ports network.now (drop (channel + 1) (ends_of network.now)) (into_iter_items arbiters.new) }
     ensures all { length rows.new.items ≡ length network.now.switches }
     ensures each { (w : ℕ) (row : Vec (Option A)) → slice_get rows.new.items w ≡ Some row → IsRow A.ports network.now (channel + 1) w row.items }
+    ensures placed { (all : List A) → ArePlaced network.now channel all (into_iter_items arbiters.old) (rows_of rows.old.items) → ArePlaced network.now (channel + 1) all (into_iter_items arbiters.new) (rows_of rows.new.items) }
 {
     match network.topology().start_of(channel) {
         PlaceEnd::Node(_) => {}
@@ -160,6 +163,7 @@ fn placed<A: Arbiter + Drop>(
     requires { AreArbiters A.ports network.now (ends_of network.now) arbiters.items }
     ensures all { IfOk result (λ rows. length rows.items ≡ length network.now.switches) }
     ensures each { IfOk result (λ rows. (w : ℕ) (row : Vec (Option A)) → slice_get rows.items w ≡ Some row → IsRow A.ports network.now (length (ends_of network.now)) w row.items) }
+    ensures stand { IfOk result (λ rows. AreByOutput (StandsAt (rows_of rows.items)) (ends_of network.now) arbiters.items) }
 {
     let mut rows = empty_rows(alloc, network)?;
     let mut rest = arbiters.into_iter();
@@ -183,7 +187,8 @@ fn new_switch<R: Routing + Drop, A: Arbiter + Drop>(
     requires each { (port capacity : ℕ) → slice_get capacities.now port ≡ Some capacity → capacity ≡ port_capacity network.now w port }
     requires routes { (byte : ℕ) → R.answer routes byte ≡ look_at network.now.switches w byte }
     requires arbiters { IsRow A.ports network.now (length (ends_of network.now)) w arbiters.items }
-    ensures { IfOk result (IsNewSwitch R.answer A.ports network.now w) }
+    ensures new { IfOk result (IsNewSwitch R.answer A.ports network.now w) }
+    ensures arbiters { IfOk result (λ cell. cell.arbiters ≡ arbiters.items) }
 {
     let linked = network.topology().linked(w);
     SwitchCell::new(alloc, routes, linked, capacities, arbiters)
@@ -200,7 +205,8 @@ fn push_switch<R: Routing + Drop, A: Arbiter + Drop>(
 ) -> Result<(), AllocError>
     requires switch { w < length network.now.switches }
     requires left { AreLeft R.answer A.ports network.now w (into_iter_items tables.old) (into_iter_items rows.old) switches.old.items }
-    ensures { OnOk result (AreLeft R.answer A.ports network.now (w + 1) (into_iter_items tables.new) (into_iter_items rows.new) switches.new.items) }
+    ensures left { OnOk result (AreLeft R.answer A.ports network.now (w + 1) (into_iter_items tables.new) (into_iter_items rows.new) switches.new.items) }
+    ensures rows { OnOk result (arbiters_of switches.new.items ++ rows_of (into_iter_items rows.new) ≡ arbiters_of switches.old.items ++ rows_of (into_iter_items rows.old)) }
 {
     let capacities = capacities(alloc, network, w)?;
     let table = tables.next().unwrap();
@@ -217,7 +223,8 @@ fn push_switches<R: Routing + Drop, A: Arbiter + Drop>(
     switches: &mut Vec<SwitchCell<R, A>>,
 ) -> Result<(), AllocError>
     requires { AreLeft R.answer A.ports network.now 0 (into_iter_items tables.old) (into_iter_items rows.old) switches.old.items }
-    ensures { OnOk result (AreLeft R.answer A.ports network.now (length network.now.switches) (into_iter_items tables.new) (into_iter_items rows.new) switches.new.items) }
+    ensures left { OnOk result (AreLeft R.answer A.ports network.now (length network.now.switches) (into_iter_items tables.new) (into_iter_items rows.new) switches.new.items) }
+    ensures rows { OnOk result (arbiters_of switches.new.items ++ rows_of (into_iter_items rows.new) ≡ arbiters_of switches.old.items ++ rows_of (into_iter_items rows.old)) }
 {
     for w in 0..network.switches() {
         push_switch(alloc, network, w, tables, rows, switches)?;
@@ -236,6 +243,7 @@ fn new_switches<R: Routing + Drop, A: Arbiter + Drop>(
     requires each { (w : ℕ) (row : Vec (Option A)) → slice_get rows.items w ≡ Some row → IsRow A.ports network.now (length (ends_of network.now)) w row.items }
     ensures all { IfOk result (λ v. length v.items ≡ length network.now.switches) }
     ensures each { IfOk result (λ v. (w : ℕ) (cell : Cell R A) → slice_get v.items w ≡ Some cell → IsNewSwitch R.answer A.ports network.now w cell) }
+    ensures rows { IfOk result (λ v. arbiters_of v.items ≡ rows_of rows.items) }
 {
     let mut switches = Vec::new(alloc);
     let mut tables = routes.into_iter();
@@ -247,7 +255,8 @@ fn new_switches<R: Routing + Drop, A: Arbiter + Drop>(
 impl<'n, R: Routing + Drop, A: Arbiter + Drop> Net<'n, R, A> {
     /// The network in its empty state: no credit, no character, no output held. There is one
     /// routing for each switch, and one arbiter for each channel that starts at a switch, in their
-    /// order. All that it keeps of its wires, buffers and memories is made here.
+    /// order: that of the output there. All that it keeps of its wires, buffers and memories is made
+    /// here.
     ///
     /// # Errors
     ///
@@ -260,7 +269,8 @@ impl<'n, R: Routing + Drop, A: Arbiter + Drop> Net<'n, R, A> {
     ) -> Result<Net<'n, R, A>, AllocError>
         requires routes { AreRoutes R.answer network.now routes.items }
         requires arbiters { AreArbiters A.ports network.now (ends_of network.now) arbiters.items }
-        ensures { IfOk result (IsNewNet network.entry.now) }
+        ensures new { IfOk result (IsNewNet network.entry.now) }
+        ensures arbiters { IfOk result (λ net. AreByOutput (StandsAt (arbiters_of net.switches)) (ends_of network.entry.now) arbiters.items) }
     {
         let rows = placed(alloc, network, arbiters)?;
         let cells = both(

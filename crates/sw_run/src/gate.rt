@@ -4,10 +4,12 @@ use sw_cell::CellId;
 
 /// Is told of each decision and of each step. A call may wait, and the run waits with it.
 pub trait Gate {
-    /// A worker holds the lock of the cell, and is about to choose what the cell does next.
+    /// A worker holds the lock of the cell, and is about to choose what the cell does next: one step
+    /// or several, or none where another worker has the journal then.
     fn deciding(&self, cell: CellId);
 
-    /// A step of the cell was committed, and the worker holds no lock.
+    /// A step of the cell was committed, and the worker holds no lock. It is called once for each step
+    /// of a turn, after all of them.
     fn committed(&self, cell: CellId);
 }
 

@@ -6,11 +6,12 @@ mod gate;
 pub mod laws;
 mod locked_cell;
 mod locked_journal;
+mod naps;
 mod outcome;
 mod run_identity;
 mod run_state;
 mod running;
-mod work;
+mod workers;
 
 pub use gate::{Gate, Open};
 pub use outcome::{Outcome, Stop};

@@ -49,6 +49,28 @@ impl<W: RunIdentity> LockedCell<W> {
         self.cell.id()
     }
 
+    /// The link end at that place of the cell's list, if there is one.
+    pub(crate) fn end_at(&self, place: usize) -> Option<LinkEnd> {
+        let (end, _) = self.cell.ends().get(place)?;
+        Some(*end)
+    }
+
+    /// How many link ends the cell has.
+    pub(crate) fn ends(&self) -> usize {
+        self.cell.ends().len()
+    }
+
+    /// The first of its link ends that is to send an FCT, with the FCT.
+    pub(crate) fn first_wanted(&self) -> Option<(LinkEnd, Step)> {
+        for place in 0..self.ends() {
+            let end = self.end_at(place)?;
+            if let Some(step) = self.wanted(end) {
+                return Some((end, step));
+            }
+        }
+        None
+    }
+
     /// The FCT that the link end is to send, if there is room for what it asks for: the cell's own
     /// numbers tell, and they tell what a commit of it answers (`sw_journal::laws::fct_by_numbers`).
     pub(crate) fn wanted(&self, end: LinkEnd) -> Option<Step>

@@ -12,12 +12,14 @@ use sw_journal::{Journal, JournalFault};
 use sw_model::Step;
 use sw_topo::LinkEnd;
 
-/// What one turn of a link end did.
+/// What a link end did.
 #[derive(Clone, Copy, Debug, PartialEq, Eq)]
 pub(crate) enum Turn {
-    /// It made a step.
+    /// It made a step that no other cell can see.
     Moved,
-    /// It had none to make.
+    /// It made a step that sent something over the link of this link end.
+    Sent(LinkEnd),
+    /// It had no step to make.
     Idle,
     /// The run is over.
     Over,
@@ -33,10 +35,13 @@ pub(crate) struct LockedJournal<'a, W: RunIdentity> {
     /// So many link ends at least have no mark at the present length.
     awake: u16,
     stop: Option<Stop>,
+    /// By link end, to which link end the output was granted last that its input holds.
+    outputs: Vec<LinkEnd>,
     of: PhantomData<W>,
     ghost identity_is: { (journal.name ≡ W.name) × (journal.declared ≡ W.declared) × (journal.load ≡ W.load) × (journal.limit ≡ W.limit) },
     ghost limit_is: { limit ≡ W.limit },
     ghost nodes_is: { nodes ≡ length W.declared.nodes },
+    ghost ends_is: { ends ≡ 2 * length W.declared.links },
 }
 
 impl<'a, W: RunIdentity> LockedJournal<'a, W> {
@@ -47,10 +52,12 @@ impl<'a, W: RunIdentity> LockedJournal<'a, W> {
         limit: usize,
         nodes: u16,
         ends: u16,
+        outputs: Vec<LinkEnd>,
     ) -> LockedJournal<'a, W>
         requires identity { (journal.name ≡ W.name) × (journal.declared ≡ W.declared) × (journal.load ≡ W.load) × (journal.limit ≡ W.limit) }
         requires limit { limit ≡ W.limit }
         requires nodes { nodes ≡ length W.declared.nodes }
+        requires ends { ends ≡ 2 * length W.declared.links }
     {
         LockedJournal {
             journal,
@@ -59,6 +66,7 @@ impl<'a, W: RunIdentity> LockedJournal<'a, W> {
             ends,
             awake: ends,
             stop: None,
+            outputs,
             of: PhantomData,
         }
     }
@@ -69,12 +77,42 @@ impl<'a, W: RunIdentity> LockedJournal<'a, W> {
         Turn::Over
     }
 
-    /// Makes the step at the cell, if it may be the next.
-    fn commit(&mut self, alloc: Global, locked: &mut LockedCell<W>, step: Step) -> Turn {
+    /// Over the link of which link end the step of this link end sends something, if it does: an FCT,
+    /// or a character.
+    fn sends_over(&self, end: LinkEnd, step: &Step) -> Option<LinkEnd> {
+        match step {
+            Step::Fct(_) | Step::Emit(_) => Some(end),
+            Step::Forward(_) => self.outputs.get(end.number() as usize).copied(),
+            _ => None,
+        }
+    }
+
+    /// Remembers the output that an input is granted.
+    fn note(&mut self, step: &Step) {
+        if let Step::Grant(output, input) = step {
+            if let Some(granted) = self.outputs.get_mut(input.partner().number() as usize) {
+                *granted = LinkEnd::new(output.number());
+            }
+        }
+    }
+
+    /// Makes the step of this link end at the cell, if it may be the next.
+    fn commit(
+        &mut self,
+        alloc: Global,
+        locked: &mut LockedCell<W>,
+        end: LinkEnd,
+        step: Step,
+    ) -> Turn {
+        self.note(&step);
+        let sent = self.sends_over(end, &step);
         match self.journal.commit(alloc, &mut locked.cell, step) {
             Ok(()) => {
                 self.awake = self.ends;
-                Turn::Moved
+                match sent {
+                    Some(at) => Turn::Sent(at),
+                    None => Turn::Moved,
+                }
             }
             Err(JournalFault::NotEnabled) => Turn::Idle,
             Err(JournalFault::Full) => self.end(Stop::JournalFull),
@@ -100,9 +138,18 @@ impl<'a, W: RunIdentity> LockedJournal<'a, W> {
 
     /// Makes a step of this link end of the cell, whatever the journal chooses, or marks the link
     /// end as idle.
-    fn advance(&mut self, alloc: Global, locked: &mut LockedCell<W>, end: LinkEnd) -> Turn
-        requires { end < 2 * length W.declared.links }
-    {
+    pub(crate) fn advance(
+        &mut self,
+        alloc: Global,
+        locked: &mut LockedCell<W>,
+        end: LinkEnd,
+    ) -> Turn {
+        if self.stop.is_some() {
+            return Turn::Over;
+        }
+        if end.number() >= self.ends {
+            return Turn::Idle;
+        }
         if self.is_marked(end) {
             return Turn::Idle;
         }
@@ -110,32 +157,26 @@ impl<'a, W: RunIdentity> LockedJournal<'a, W> {
             return Turn::Idle;
         }
         match self.journal.choose_or_mark(alloc, end, &locked.cell) {
-            Ok(Some(step)) => self.commit(alloc, locked, step),
+            Ok(Some(step)) => self.commit(alloc, locked, end, step),
             Ok(None) => self.rest(),
             Err(_) => self.end(Stop::Memory),
         }
     }
 
-    /// One turn of this link end of the cell: the step that it wants, or another one, or a mark.
-    pub(crate) fn serve(
+    /// Makes the step that was chosen before the journal was locked, if it may be the next.
+    pub(crate) fn begin(
         &mut self,
         alloc: Global,
         locked: &mut LockedCell<W>,
-        end: LinkEnd,
-        wanted: Option<Step>,
-    ) -> Turn
-        requires { end < 2 * length W.declared.links }
-    {
+        first: Option<(LinkEnd, Step)>,
+    ) -> Turn {
         if self.stop.is_some() {
             return Turn::Over;
         }
-        if let Some(step) = wanted {
-            let turn = self.commit(alloc, locked, step);
-            if turn != Turn::Idle {
-                return turn;
-            }
+        match first {
+            Some((end, step)) => self.commit(alloc, locked, end, step),
+            None => Turn::Idle,
         }
-        self.advance(alloc, locked, end)
     }
 
     /// Why the run ended, by what the journal tells of the state in which it did.

@@ -6,25 +6,105 @@ ghost use Rattle.sw_run.specs.Wanted.{cell_place};
 use crate::gate::Gate;
 use crate::locked_cell::LockedCell;
 use crate::locked_journal::{LockedJournal, Turn};
+use crate::naps::Naps;
 use crate::outcome::{Outcome, Stop};
 use crate::run_identity::RunIdentity;
 use std::alloc::{AllocError, Global};
 use std::sync::atomic::{AtomicBool, AtomicU64, Ordering};
 use std::sync::{Mutex, Wait};
-use std::thread;
 use sw_config::Network;
 use sw_journal::{Cell, Journal};
+use sw_model::Step;
 use sw_topo::{LinkEnd, PlaceEnd};
 
-/// The cells and the journal of one run, each under a lock of its own. The rest spares locks: a
-/// worker that has nothing to do looks there whether anything has changed.
+/// In one turn, so many steps are made at each link end before the next has its own; a cell that
+/// has made as many in all is done, and has its next turn after the other cells.
+const MOST_STEPS: usize = 256;
+
+/// A cell, and whether it may have a step.
+///
+/// The flag is raised where a step at another cell sent something over a link to this one, and
+/// where a turn of the cell ended before it was idle. It is lowered by the worker that has the
+/// cell's lock and the journal's, before it makes all steps that the cell has: what was sent until
+/// then is among what it finds.
+#[derive(Drop)]
+struct Slot<W: RunIdentity> {
+    cell: Mutex<LockedCell<W>>,
+    ready: AtomicBool,
+}
+
+impl<W: RunIdentity> Slot<W> {
+    fn new(cell: Cell) -> Slot<W>
+        requires { cell.name ≡ W.name }
+    {
+        Slot {
+            cell: Mutex::new(LockedCell::new(cell)),
+            ready: AtomicBool::new(true),
+        }
+    }
+
+    fn is_ready(&self) -> bool {
+        self.ready.load(Ordering::SeqCst)
+    }
+
+    /// Raises the flag. Where it stands raised it is not written: others read it all the time.
+    fn raise(&self) {
+        if !self.is_ready() {
+            self.ready.store(true, Ordering::SeqCst);
+        }
+    }
+
+    fn lower(&self) {
+        self.ready.store(false, Ordering::SeqCst);
+    }
+}
+
+/// What came of a turn, or of turns of several cells.
+#[derive(Clone, Copy, Debug, PartialEq, Eq)]
+pub(crate) enum Found {
+    /// A cell had its turn.
+    Work,
+    /// No cell has a step, as far as the flags tell.
+    Nothing,
+    /// A cell may have a step, but other workers hold the locks.
+    Held,
+    /// The run is over.
+    Over,
+}
+
+/// How many steps were made, and how it ended.
+#[derive(Clone, Copy)]
+struct Made {
+    steps: usize,
+    end: End,
+}
+
+/// How a turn ended.
+#[derive(Clone, Copy, PartialEq, Eq)]
+enum End {
+    /// No step is left.
+    Idle,
+    /// Steps may be left.
+    More,
+    /// The run is over.
+    Over,
+}
+
+/// The cells and the journal of one run, each under a lock of its own, and which cells may have a
+/// step.
+///
+/// When no flag is raised and no worker has a turn, all are raised once more: then each link end is
+/// marked in the journal, and where all are marked at one length the run is over. So a flag that is
+/// wrong costs time, and never ends a run: and since each such round makes a step or ends the run, it
+/// does not hang one either.
 #[derive(Drop)]
 pub(crate) struct RunState<'a, W: RunIdentity> {
     network: &'a Network,
-    cells: Vec<Mutex<LockedCell<W>>>,
+    slots: Vec<Slot<W>>,
     journal: Mutex<LockedJournal<'a, W>>,
-    moves: AtomicU64,
-    over: AtomicBool,
+    /// How many workers have a turn.
+    turns: AtomicU64,
+    naps: Naps,
     ghost network_is: { network.now ≡ W.declared },
 }
 
@@ -42,15 +122,12 @@ fn place_of(network: &Network, end: LinkEnd) -> usize
 }
 
 /// Each cell behind a lock of its own.
-fn locked<W: RunIdentity>(
-    alloc: Global,
-    cells: Vec<Cell>,
-) -> Result<Vec<Mutex<LockedCell<W>>>, AllocError>
+fn locked<W: RunIdentity>(alloc: Global, cells: Vec<Cell>) -> Result<Vec<Slot<W>>, AllocError>
     requires { All (λ c. c.name ≡ W.name) cells.items }
 {
-    let mut all: Vec<Mutex<LockedCell<W>>> = Vec::with_capacity(alloc, cells.len())?;
+    let mut all: Vec<Slot<W>> = Vec::with_capacity(alloc, cells.len())?;
     for cell in cells {
-        all.push(Mutex::new(LockedCell::new(cell)))?;
+        all.push(Slot::new(cell))?;
     }
     Ok(all)
 }
@@ -70,14 +147,16 @@ impl<'a, W: RunIdentity> RunState<'a, W> {
         requires cells { All (λ c. c.name ≡ W.name) cells.items }
         requires limit { limit ≡ W.limit }
     {
-        let cells = locked::<W>(alloc, cells)?;
-        let journal = LockedJournal::new(journal, limit, network.nodes(), network.channels());
+        let outputs = vec![in alloc; LinkEnd::new(0); network.channels() as usize]?;
+        let slots = locked::<W>(alloc, cells)?;
+        let (nodes, ends) = (network.nodes(), network.channels());
+        let journal = LockedJournal::new(journal, limit, nodes, ends, outputs);
         Ok(RunState {
             network,
-            cells,
+            slots,
             journal: Mutex::new(journal),
-            moves: AtomicU64::new(0),
-            over: AtomicBool::new(false),
+            turns: AtomicU64::new(0),
+            naps: Naps::new(),
         })
     }
 
@@ -88,63 +167,186 @@ impl<'a, W: RunIdentity> RunState<'a, W> {
         self.network.channels()
     }
 
-    /// The place of the cell at which the link end stands.
-    fn place(&self, end: LinkEnd) -> usize
-        requires { end < 2 * length W.declared.links }
-    {
-        place_of(self.network, end)
+    /// How many cells there are.
+    pub(crate) fn cells(&self) -> usize {
+        self.slots.len()
     }
 
-    /// One turn of the link end: what it wants is chosen under the lock of its cell, before the
-    /// journal's is taken; the gate is told of a step when both are free.
-    pub(crate) fn turn<G: Gate, R: Wait>(
+    /// Where workers sleep and are woken.
+    pub(crate) fn naps(&self) -> &Naps {
+        &self.naps
+    }
+
+    /// Something was sent over the link of this link end: the cell at the other end may have a step.
+    fn raise_over(&self, end: LinkEnd) {
+        let other = LinkEnd::new(end.receives().number());
+        if other.number() >= self.ends() {
+            return;
+        }
+        if let Some(slot) = self.slots.get(place_of(self.network, other)) {
+            slot.raise();
+        }
+    }
+
+    /// Steps of one link end, until it has none.
+    fn serve_end(
         &self,
-        rt: &R,
         alloc: Global,
-        gate: &G,
+        journal: &mut LockedJournal<'a, W>,
+        locked: &mut LockedCell<W>,
         end: LinkEnd,
-    ) -> Turn
-        requires { end < 2 * length W.declared.links }
-    {
-        let Some(slot) = self.cells.get(self.place(end)) else {
-            return Turn::Over;
+    ) -> Made {
+        for steps in 0..MOST_STEPS {
+            match journal.advance(alloc, locked, end) {
+                Turn::Moved => {}
+                Turn::Sent(at) => self.raise_over(at),
+                Turn::Idle => {
+                    return Made {
+                        steps,
+                        end: End::Idle,
+                    };
+                }
+                Turn::Over => {
+                    return Made {
+                        steps,
+                        end: End::Over,
+                    };
+                }
+            }
+        }
+        Made {
+            steps: MOST_STEPS,
+            end: End::More,
+        }
+    }
+
+    /// Steps of each link end of the cell in turn.
+    fn serve_ends(
+        &self,
+        alloc: Global,
+        journal: &mut LockedJournal<'a, W>,
+        locked: &mut LockedCell<W>,
+    ) -> Made {
+        let mut all = Made {
+            steps: 0,
+            end: End::Idle,
         };
-        let mut locked = slot.lock(rt);
-        let cell = locked.id();
-        gate.deciding(cell);
-        let wanted = locked.wanted(end);
-        let turn = self.journal.lock(rt).serve(alloc, &mut locked, end, wanted);
-        drop(locked);
-        match turn {
-            Turn::Moved => {
-                self.moves.fetch_add(1, Ordering::SeqCst);
-                gate.committed(cell);
+        for place in 0..locked.ends() {
+            let Some(end) = locked.end_at(place) else {
+                return all;
+            };
+            let made = self.serve_end(alloc, journal, locked, end);
+            all.steps = all.steps.saturating_add(made.steps);
+            if made.end == End::Over {
+                all.end = End::Over;
+                return all;
+            }
+        }
+        if all.steps != 0 {
+            all.end = End::More;
+        }
+        all
+    }
+
+    /// The step that was chosen, and then steps of the cell until it has none, or has made many.
+    fn serve(
+        &self,
+        alloc: Global,
+        journal: &mut LockedJournal<'a, W>,
+        locked: &mut LockedCell<W>,
+        first: Option<(LinkEnd, Step)>,
+    ) -> Made {
+        let mut all = Made {
+            steps: 0,
+            end: End::More,
+        };
+        match journal.begin(alloc, locked, first) {
+            Turn::Moved => all.steps = 1,
+            Turn::Sent(at) => {
+                self.raise_over(at);
+                all.steps = 1;
             }
             Turn::Idle => {}
-            Turn::Over => self.over.store(true, Ordering::SeqCst),
-        }
-        turn
-    }
-
-    /// How many steps the workers know of.
-    pub(crate) fn moves(&self) -> u64 {
-        self.moves.load(Ordering::SeqCst)
-    }
-
-    /// Waits until there are other steps than these, or the run is over.
-    pub(crate) fn wait<R: Wait>(&self, rt: &R, moves: u64) {
-        for _ in rt.forever() {
-            if self.moves() != moves || self.over.load(Ordering::SeqCst) {
-                return;
+            Turn::Over => {
+                all.end = End::Over;
+                return all;
             }
-            thread::yield_now();
         }
+        for _ in 0..MOST_STEPS {
+            let made = self.serve_ends(alloc, journal, locked);
+            all.steps = all.steps.saturating_add(made.steps);
+            all.end = made.end;
+            if made.end != End::More || all.steps >= MOST_STEPS {
+                return all;
+            }
+        }
+        all
+    }
+
+    /// What the cell does next is chosen under its own lock, before the journal's is taken. None where
+    /// another worker has the journal.
+    fn decide<G: Gate>(
+        &self,
+        alloc: Global,
+        gate: &G,
+        slot: &Slot<W>,
+        locked: &mut LockedCell<W>,
+    ) -> Option<Made> {
+        gate.deciding(locked.id());
+        let first = locked.first_wanted();
+        let mut journal = self.journal.try_lock()?;
+        slot.lower();
+        let made = self.serve(alloc, &mut journal, locked, first);
+        if made.end == End::More {
+            slot.raise();
+        }
+        Some(made)
+    }
+
+    /// A turn of the cell at that place: the gate is told of the steps when both locks are free.
+    pub(crate) fn turn<G: Gate>(&self, alloc: Global, gate: &G, place: usize) -> Found {
+        let Some(slot) = self.slots.get(place) else {
+            return Found::Nothing;
+        };
+        if !slot.is_ready() {
+            return Found::Nothing;
+        }
+        let Some(mut locked) = slot.cell.try_lock() else {
+            return Found::Held;
+        };
+        let cell = locked.id();
+        self.turns.fetch_add(1, Ordering::SeqCst);
+        self.naps.call();
+        let made = self.decide(alloc, gate, slot, &mut locked);
+        drop(locked);
+        self.turns.fetch_sub(1, Ordering::SeqCst);
+        let Some(made) = made else {
+            return Found::Held;
+        };
+        for _ in 0..made.steps {
+            gate.committed(cell);
+        }
+        match made.end {
+            End::Over => Found::Over,
+            _ => Found::Work,
+        }
+    }
+
+    /// Where no worker has a turn, each cell is to have one more. Says whether it is so.
+    pub(crate) fn raise_all(&self) -> bool {
+        if self.turns.load(Ordering::SeqCst) != 0 {
+            return false;
+        }
+        for slot in &self.slots {
+            slot.raise();
+        }
+        true
     }
 
     /// Ends the run, since there was no memory for a worker.
     pub(crate) fn refuse<R: Wait>(&self, rt: &R) {
         self.journal.lock(rt).end(Stop::Memory);
-        self.over.store(true, Ordering::SeqCst);
+        self.naps.end();
     }
 
     /// The outcome, when no worker is left.
@@ -153,10 +355,10 @@ impl<'a, W: RunIdentity> RunState<'a, W> {
     {
         let RunState {
             network: _,
-            cells: _,
+            slots: _,
             journal,
-            moves: _,
-            over: _,
+            turns: _,
+            naps: _,
         } = self;
         journal.into_inner().outcome(alloc)
     }

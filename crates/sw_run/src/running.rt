@@ -7,7 +7,7 @@ use crate::gate::Gate;
 use crate::outcome::Outcome;
 use crate::run_identity::RunIdentity;
 use crate::run_state::RunState;
-use crate::work::start_all;
+use crate::workers::start_all;
 use std::alloc::{AllocError, Global};
 use std::marker::Brand;
 use std::sync::Wait;

@@ -5,10 +5,10 @@
 mod bytes;
 mod decimal;
 pub mod laws;
-mod reading;
-mod writing;
+mod read_stream;
+mod write_stream;
 
 pub use bytes::cut;
 pub use decimal::number;
-pub use reading::{ReadError, read_whole};
-pub use writing::{WriteError, write_whole};
+pub use read_stream::{ReadError, read_whole};
+pub use write_stream::{WriteError, write_whole};

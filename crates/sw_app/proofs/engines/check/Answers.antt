@@ -1,4 +1,4 @@
-use Rattle.sw_app.specs.CheckAnswers.{AreShownFree, IsCheckAnswer}
+use Rattle.sw_app.specs.CheckAnswers.{AreShownDeadlockFree, IsCheckAnswer}
 use Rattle.sw_command.specs.Inputs.{given}
 use Rattle.sw_command.proofs.Endings.{told_memory_of_two}
 use Rattle.sw_app.proofs.Told.{answered_of_two, shown_of_two}
@@ -12,7 +12,7 @@ returns-clause-answer g c =
     answered_of_two IsCheckAnswer _ _ _ _ _ _ _ (given c.in-Ok.inputs.0) (given c.in-Ok.inputs.1) c.check_answer.result c.in-Ok.ensures.first
     c.in-Ok.ensures.second c.check_answer.ensures.answer c.tell_answer.ensures
 
-pub returns-clause-shown : goal.returns-clause-shown
-returns-clause-shown g c =
-    shown_of_two _ _ _ _ _ _ (given c.in-Ok.inputs.0) (given c.in-Ok.inputs.1) AreShownFree c.check_answer.result _ c.in-Ok.ensures.first c.in-Ok.ensures.second
-    c.check_answer.ensures.shown c.tell_answer.ensures
+pub returns-clause-deadlock_free : goal.returns-clause-deadlock_free
+returns-clause-deadlock_free g c =
+    shown_of_two _ _ _ _ _ _ (given c.in-Ok.inputs.0) (given c.in-Ok.inputs.1) AreShownDeadlockFree c.check_answer.result _ c.in-Ok.ensures.first c.in-Ok.ensures.second
+    c.check_answer.ensures.deadlock_free c.tell_answer.ensures

@@ -1,5 +1,5 @@
 use Rattle.std.proofs.Common.{sym, ◌≡◌, ◌∙◌}
-use Rattle.std.specs.Prelude.{None, Option, Some}
+use Rattle.std.specs.Prelude.{None, Some}
 use Rattle.sw_check.specs.Contents.{certificate_of}
 use Rattle.sw_check.proofs.Headline.{is_deadlock_free}
 use Rattle.sw_check.proofs.Accepted.{not_refused_is_accepted}

@@ -1,10 +1,10 @@
-use Rattle.std.proofs.Common.{IsBitSet, IsSome, Some, [], rules, subst, sym, ℕ, ◌<◌, ◌^◌, ◌++◌, ◌∷◌, ◌↔◌, ◌≡◌}
+use Rattle.std.proofs.Common.{IsBitSet, IsSome, Some, [], rules, subst, ℕ, ◌<◌, ◌^◌, ◌++◌, ◌∷◌, ◌↔◌, ◌≡◌}
 use Rattle.std.specs.Prelude.{slice_get}
-use Rattle.sw_arb.specs.Chosen.{policy_ports}
 use Rattle.sw_flow.specs.Places.{ends_of}
-use Rattle.sw_net.proofs.Policies.{node_next, ports_are, switch_next}
+use Rattle.sw_net.proofs.Outputs.{node_next, switch_next}
 use Rattle.sw_net.proofs.declared.push_policy.Goals as goal
 use Rattle.sw_net.specs.New.{IsLinkedSet}
+use Rattle.sw_net.specs.Policies.{IsNewFor}
 use Rattle.sw_topo.specs.Wiring.{Wiring, out_of}
 use Rattle.sw_topo.specs.declared.place.PlaceEnd.TheVariants.{Node, Switch}
 
@@ -12,7 +12,7 @@ pub returns-in-Node : goal.returns-in-Node
 returns-in-Node c =
     let d = c.args.network.now in
     let starts = subst (λ (k : Wiring). slice_get k.ends c.args.channel ≡ Some (Node c.in-Node.field-0)) c.topology.ensures.wiring (c.in-Node.ensures.place) in
-    node_next policy_ports d (ends_of d) c.args.channel c.in-Node.field-0 c.args.all.now.items starts c.requires.so_far
+    node_next (λ w _ a. IsNewFor d w a) (ends_of d) c.args.channel c.in-Node.field-0 c.args.all.now.items starts c.requires.so_far
 
 pub returns-in_ok-push-in-Switch : goal.returns-in_ok-push-in-Switch
 returns-in_ok-push-in-Switch c =
@@ -22,6 +22,6 @@ returns-in_ok-push-in-Switch c =
     let small : c.linked-linked.result < 2 ^ 32 = search rules in
     let linked = subst (λ (k : Wiring). (p : ℕ) → IsBitSet c.linked-linked.result p ↔ IsSome (out_of k.ends w p)) c.topology-in-Switch.ensures.wiring c.linked-linked.ensures in
     let set : IsLinkedSet d w c.linked-linked.result = record { within = small; linked = λ p lt. linked p } in
-    let is = subst (IsLinkedSet d w) (sym (ports_are c.arbitration.result c.linked-linked.result c.new.result c.new.ensures)) set in
+    let new : IsNewFor d w c.new.result = record { kind = c.arbitration.result; declared = c.arbitration.ensures; ports = c.linked-linked.result; linked = set; new = c.new.ensures } in
     let pushed : c.push.new.self.items ≡ c.args.all.now.items ++ c.new.result ∷ [] = search rules in
-    switch_next policy_ports d (ends_of d) c.args.channel w c.in-Switch.field-1 c.new.result c.args.all.now.items c.push.new.self.items starts pushed is c.requires.so_far
+    switch_next (λ w _ a. IsNewFor d w a) (ends_of d) c.args.channel w c.in-Switch.field-1 c.new.result c.args.all.now.items c.push.new.self.items starts pushed new c.requires.so_far

@@ -11,8 +11,8 @@ new-requires-clause-arbiter_ports g c =
     let is_linked = subst (λ (k : Wiring). (p : ℕ) → IsBitSet c.linked-linked.result p ↔ IsSome (out_of k.ends c.args.w p)) c.topology.ensures.wiring c.linked-linked.ensures in
     have_arbiters g.R.Routing.answer g.A.Arbiter.ports d c.topology.ensures.valid c.args.w c.linked-linked.result small is_linked c.args.arbiters.items c.requires.arbiters
 
-pub returns : goal.returns
-returns g c =
+pub returns-clause-new : goal.returns-clause-new
+returns-clause-new g c =
     let d = c.args.network.now in
     let small : c.linked-linked.result < 2 ^ 32 = search rules in
     let is_linked = subst (λ (k : Wiring). (p : ℕ) → IsBitSet c.linked-linked.result p ↔ IsSome (out_of k.ends c.args.w p)) c.topology.ensures.wiring c.linked-linked.ensures in

@@ -10,4 +10,4 @@ returns c =
     let w = c.make_all.new.net in
     let o = c.in_ok-outcome.outcome in
     let ends = subst (λ (l : List Step). NetEnds v l o w) c.entries.ensures c.in_ok-outcome.ensures.ends in
-    replayed_if c.args.network.now v w c.args.schedule.now o c.report.result c.in_ok-net.ensures c.in_ok-outcome.ensures.network ends c.report.ensures.outcome c.report.ensures.report
+    replayed_if c.args.network.now v w c.args.schedule.now o c.report.result c.in_ok-net.ensures.new c.in_ok-outcome.ensures.network ends c.report.ensures.outcome c.report.ensures.report

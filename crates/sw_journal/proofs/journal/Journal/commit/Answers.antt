@@ -32,8 +32,8 @@ invariant_of-self-2 c =
     let adds = c.in_default.ensures.adds in
     let m = met _ c.self.inside.seat.me c.cell.inside.seat.me c.cell.inside.number c.cell.inside.id c.cell.inside.ends.items i.0 c.cell.invariant c.meet.ensures.same in
     let same = account_same c.self.inside.table.shared.table_id h c.add_at.new.history c.self.inside.limit c.self.inside.marks.items (h.steps ++ machine_step c.args.step ∷ []) adds.2 in
-    let renew = renewed_then h c.add_at.new.history (h.steps ++ machine_step c.args.step ∷ []) adds.0.1.0 c.cell.inside.ends.items c.renew_after.new.ends.items adds.2 adds.0.1.1 c.renew_after.ensures.numbers in (
-      kept_after _ c.self.inside.seat.me i.0 c.cell.inside.number c.cell.inside.id c.cell.inside.ends.items m (machine_step c.args.step) adds.0.0 adds.0.1
+    let renew = renewed_then h c.add_at.new.history (h.steps ++ machine_step c.args.step ∷ []) adds.0.1.0 c.changing-these.result c.cell.inside.ends.items c.renew_after.new.ends.items adds.2 adds.0.1.1 c.renew_after.ensures.numbers in (
+      kept_after _ c.self.inside.seat.me i.0 c.cell.inside.number c.cell.inside.id c.cell.inside.ends.items m (machine_step c.args.step) adds.0.0 adds.0.1 c.changing-these.result c.changing-these.ensures
           _ c.cell.inside.seat.me c.meet.new.seat.me c.renew_after.new.seat.me c.part-2.new.seat.me c.renew_after.new.ends.items same adds.1 renew c.cell.invariant c.meet.ensures.seat c.renew_after.ensures.seat c.part-2.ensures.seat.1,
       c.part-2.ensures.seat.0 ∙ c.renew_after.ensures.table ∙ c.meet.ensures.table.0 ∙ i.1,
       i.2,
@@ -46,10 +46,10 @@ returns-clause-commits c =
     let adds = c.in_default.ensures.adds in
     let m = met _ c.self.inside.seat.me c.cell.inside.seat.me c.cell.inside.number c.cell.inside.id c.cell.inside.ends.items i.0 c.cell.invariant c.meet.ensures.same in
     let same = account_same c.self.inside.table.shared.table_id h c.add_at.new.history c.self.inside.limit c.self.inside.marks.items (h.steps ++ machine_step c.args.step ∷ []) adds.2 in
-    let renew = renewed_then h c.add_at.new.history (h.steps ++ machine_step c.args.step ∷ []) adds.0.1.0 c.cell.inside.ends.items c.renew_after.new.ends.items adds.2 adds.0.1.1 c.renew_after.ensures.numbers in
+    let renew = renewed_then h c.add_at.new.history (h.steps ++ machine_step c.args.step ∷ []) adds.0.1.0 c.changing-these.result c.cell.inside.ends.items c.renew_after.new.ends.items adds.2 adds.0.1.1 c.renew_after.ensures.numbers in
     let own = ap (λ (v : CellView). v.name) c.cell.view_is ∙ c.requires ∙ sym (ap (λ (a : JournalView). a.name) c.self.view_is) in
     let name = c.part-2.ensures.new.0 ∙ c.renew_after.ensures.table ∙ c.meet.ensures.table.0 ∙ i.1 ∙ sym own in
-    let now = same_cell_after _ c.self.inside.seat.me i.0 c.cell.inside.number c.cell.inside.id c.cell.inside.ends.items m (machine_step c.args.step) adds.0.0 adds.0.1
+    let now = same_cell_after _ c.self.inside.seat.me i.0 c.cell.inside.number c.cell.inside.id c.cell.inside.ends.items m (machine_step c.args.step) adds.0.0 adds.0.1 c.changing-these.result c.changing-these.ensures
     _ _ c.renew_after.new.ends.items same refl refl renew in
     commits_same _ _ _ _ _ _ (machine_step c.args.step) c.self.view_is c.cell.view_is ((adds.0.0, adds.0.1), adds.1, same, record { name = name; id = refl; now = now })
 

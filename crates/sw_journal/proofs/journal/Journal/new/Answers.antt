@@ -16,7 +16,7 @@ invariant_of-journal c =
 
 pub returns-clause-journal : goal.returns-clause-journal
 returns-clause-journal c =
-    let own = c.in_ok-net.ensures.network in
+    let own = c.in_ok-net.ensures.new.network in
     let links = c.channels-channels.ensures.count ∙ ap (λ (d : Declaration). 2 * length d.links) (c.network.ensures.network ∙ own) in
     let none : c.in_ok-marks.marks.items ≡ replicate c.channels-channels.result None = search rules in
     account_first _ c.args.network.now c.in_ok-history.history c.args.load.now c.args.limit c.channels-channels.result _ links (c.in_ok-history.ensures.network ∙ own) c.in_ok-history.ensures.load c.in_ok-history.ensures.steps none

@@ -1,0 +1,21 @@
+use Rattle.std.proofs.Common.{List, ℕ, map, Bor}
+use Rattle.sw_args.proofs.Called.{matched}
+use Rattle.sw_args.proofs.CommandLines.{gives, is_call, matched_rows, refuses}
+use Rattle.sw_args.proofs.command_line.told.Goals as goal
+
+pub unwrap-requires : goal.unwrap-requires
+unwrap-requires c =
+    let texts = map (λ (s : Bor (List ℕ)). s.now) c.args.words.now in
+    let seen = matched_rows _ texts c.in-Ok.matches c.in_ok-command.ensures c.in-Ok.ensures.matches c.in-Ok.ensures.kinds in
+    matched _ texts c.matched_call.result seen.0 seen.1 c.matched_call.ensures.none
+
+pub returns-in-Ok : goal.returns-in-Ok
+returns-in-Ok c =
+    let texts = map (λ (s : Bor (List ℕ)). s.now) c.args.words.now in
+    gives _ texts c.in-Ok.matches _ c.in_ok-command.ensures c.in-Ok.ensures.matches c.in-Ok.ensures.kinds
+    (is_call _ c.matched_call.result _ c.matched_call.ensures.matched c.unwrap.ensures)
+
+pub returns-in_ok-fault_of-in-Err : goal.returns-in_ok-fault_of-in-Err
+returns-in_ok-fault_of-in-Err c =
+    let texts = map (λ (s : Bor (List ℕ)). s.now) c.args.words.now in
+    refuses _ texts c.in-Err.error _ c.in_ok-command.ensures c.in-Err.ensures.kinds c.in_ok-fault_of-in-Err.ensures

@@ -1,0 +1,104 @@
+//! Whose numbers a step changes.
+ghost use Rattle.std.specs.Prelude.{◌≡◌, ◌<◌, ◌≤◌, ℕ, IfNone, IfSome, Some, length};
+ghost use Rattle.sw_flow.specs.Places.{end_of, ends_of};
+ghost use Rattle.sw_machine.specs.State.{State};
+ghost use Rattle.sw_machine.specs.declared.input.InputState.TheVariants.{Held};
+ghost use Rattle.sw_model.specs.Model.{network_of};
+ghost use Rattle.sw_model.specs.Steps.{machine_step};
+ghost use Rattle.sw_topo.specs.Wiring.{out_of, partner};
+
+use crate::net::Net;
+use sw_arb::Arbiter;
+use sw_config::Network;
+use sw_model::Step;
+use sw_route::Routing;
+use sw_switch::Input;
+use sw_topo::{Chan, LinkEnd, PlaceEnd, Port};
+
+/// The link end that receives on the channel.
+fn receiver(channel: Chan) -> LinkEnd
+    ensures { result ≡ partner channel }
+{
+    LinkEnd::new(channel.partner().number())
+}
+
+/// The link end that sends at the port of the switch, if it has a link.
+fn starter(network: &Network, w: u16, port: Port) -> Option<LinkEnd>
+    requires { w < length network.now.switches }
+    ensures { result ≡ out_of (ends_of network.now) w port }
+{
+    match network.topology().out_of(w, port) {
+        Some(out) => Some(LinkEnd::new(out.number())),
+        None => None,
+    }
+}
+
+impl<'n, R: Routing, A: Arbiter> Net<'n, R, A> {
+    ghost use Rattle.sw_net.specs.Changing.{ChangesOnly};
+    ghost use Rattle.sw_net.specs.Net.{IsNetState};
+
+    /// The link end of the node of that number, if there is one.
+    fn node_end(&self, node: u16) -> Option<LinkEnd>
+        ensures none { IfNone result ((network_of self.now.declared).nodes ≤ node) }
+        ensures out { IfSome result (λ e. (network_of self.now.declared).out node ≡ e) }
+        ensures into { IfSome result (λ e. (network_of self.now.declared).into node ≡ partner e) }
+    {
+        let network = self.network();
+        if node >= network.nodes() {
+            return None;
+        }
+        let out = network.topology().out(node);
+        Some(LinkEnd::new(out.number()))
+    }
+
+    /// The output that the input of that port holds, if it holds one (ECSS-E-ST-50-12C, network
+    /// layer: wormhole routing).
+    fn held_at(&self, w: u16, port: Port) -> Option<LinkEnd>
+        requires { w < length self.now.declared.switches }
+        ensures { (s : State) → IsNetState self.now s → (c : ℕ) → end_of self.now.declared c ≡ Some (PlaceEnd.Switch w port) → (d : ℕ) → s.input c ≡ Held d → result ≡ Some d }
+    {
+        let network = self.network();
+        match self.switch(w).input(port) {
+            Input::Held(held) => starter(network, w, held),
+            Input::Idle => None,
+            Input::Spilling => None,
+        }
+    }
+
+    /// The output that the input of the channel holds, if it holds one.
+    fn held_output(&self, channel: Chan) -> Option<LinkEnd>
+        ensures { (s : State) → IsNetState self.now s → channel < (network_of self.now.declared).channels → (d : ℕ) → s.input channel ≡ Held d → result ≡ Some d }
+    {
+        let network = self.network();
+        if channel.number() >= network.channels() {
+            return None;
+        }
+        match network.topology().end_of(channel) {
+            PlaceEnd::Node(_) => None,
+            PlaceEnd::Switch(w, port) => self.held_at(w, port),
+        }
+    }
+
+    /// The link ends whose numbers the step changes, if it is possible: those of no others change.
+    /// A character that is passed on changes the credit of the output, and the room of the input;
+    /// each other step the numbers of one link end at most (ECSS-E-ST-50-12C, data link layer: flow
+    /// control).
+    #[tactic(auto, using(crate::proofs::ChangedNumbers::fct_only, crate::proofs::ChangedNumbers::fct_in_only, crate::proofs::ChangedNumbers::arrive_only, crate::proofs::ChangedNumbers::grant_only, crate::proofs::ChangedNumbers::drop_only, crate::proofs::ChangedNumbers::spill_only, crate::proofs::ChangedNumbers::forward_only, crate::proofs::ChangedNumbers::emit_only, crate::proofs::ChangedNumbers::accept_only, crate::proofs::ChangedNumbers::begin_only, crate::proofs::ChangedNumbers::reply_only))]
+    pub fn changing(&self, step: &Step) -> (Option<LinkEnd>, Option<LinkEnd>)
+        ensures { ChangesOnly self.now (machine_step step.now) result }
+    {
+        match step {
+            Step::FctIn(channel) => (Some(LinkEnd::new(channel.number())), None),
+            Step::Fct(channel) => (Some(receiver(*channel)), None),
+            Step::Arrive(channel) => (Some(receiver(*channel)), None),
+            Step::Grant(_, channel) => (Some(receiver(*channel)), None),
+            Step::Drop(channel) => (Some(receiver(*channel)), None),
+            Step::Spill(channel) => (Some(receiver(*channel)), None),
+            Step::Forward(channel) => (Some(receiver(*channel)), self.held_output(*channel)),
+            Step::Emit(node) => (self.node_end(*node), None),
+            Step::Accept(node) => (self.node_end(*node), None),
+            Step::Begin { .. } => (None, None),
+            Step::Reply(_) => (None, None),
+        }
+    }
+}
