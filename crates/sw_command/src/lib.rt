@@ -2,12 +2,12 @@
 #![tactic(auto)]
 
 mod answer;
-mod write_answer;
 mod fault_texts;
 mod read_texts;
 pub mod statuses;
+mod write_answer;
 
 pub use answer::{Answer, ByteAnswer};
-pub use write_answer::{Ended, MAX_TEXT, tell, tell_bytes, tell_memory, tell_unread};
 pub use fault_texts::fault_text;
 pub use read_texts::{InputError, InputText, read_two};
+pub use write_answer::{Ended, MAX_TEXT, tell, tell_bytes, tell_memory, tell_unread};
