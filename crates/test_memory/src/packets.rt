@@ -1,8 +1,11 @@
 //! Packets, commands and targets.
+ghost use Rattle.sw_rmap.specs.Config.{IsTargetConfig};
 
 use anyhow::{Result, bail, ensure};
-use std::alloc::Global;
+use std::alloc::{AllocError, Global};
 use sw_char::{End, NChar, packets};
+use sw_config::Network;
+use sw_load::Load;
 use sw_rmap::{Command, Target, TargetConfig, reply_to, write_command};
 
 /// Characters of three packets.
@@ -25,16 +28,11 @@ pub fn cut(alloc: Global) -> Result<u64> {
     Ok(used as u64)
 }
 
-const CONFIG: TargetConfig = TargetConfig {
-    logical: 254,
-    key: 0x20,
-    start: 0,
-    size: 64,
-    slots: 1,
-};
+/// What the write command of the load carries.
+const DATA: &[u8; 16] = b"\x01\x23\x45\x67\x89\xAB\xCD\xEF\x10\x11\x12\x13\x14\x15\x16\x17";
 
-fn written(alloc: Global, data: &[u8; 64]) -> Result<Vec<u8>> {
-    let Some(command) = Command::new(254, 0x7D, 0x20, &[0, 0, 7, 8], 103, 7, 0, 64) else {
+fn written(alloc: Global, data: &[u8; 16]) -> Result<Vec<u8>> {
+    let Some(command) = Command::new(254, 0x6C, 0, &[], 103, 0, 0xA000_0000, 16) else {
         bail!("no command");
     };
     match write_command(alloc, &command, data) {
@@ -43,37 +41,75 @@ fn written(alloc: Global, data: &[u8; 64]) -> Result<Vec<u8>> {
     }
 }
 
-fn way(alloc: Global, bytes: &[u8]) -> Result<Option<Vec<u8>>> {
+/// The bytes of the write command.
+pub fn command(alloc: Global) -> Result<Vec<u8>> {
+    written(alloc, DATA)
+}
+
+fn way(alloc: Global, bytes: &[u8]) -> Result<Option<Vec<u8>>, AllocError> {
     match reply_to(alloc, bytes) {
         Ok(way) => Ok(way),
-        Err(_) => Ok(reply_to(alloc, bytes)?),
+        Err(_) => reply_to(alloc, bytes),
+    }
+}
+
+fn copied(alloc: Global, bytes: &[u8]) -> Result<Vec<u8>, AllocError> {
+    match Vec::from_slice(alloc, bytes) {
+        Ok(copy) => Ok(copy),
+        Err(_) => Vec::from_slice(alloc, bytes),
     }
 }
 
 fn answer(alloc: Global, target: &mut Target, bytes: &[u8]) -> Result<Option<Vec<u8>>> {
-    let before = target.memory().first().copied();
+    let before = copied(alloc, target.memory())?;
     match target.answer(alloc, bytes, End::Eop) {
         Ok(reply) => return Ok(reply),
         Err(_) => ensure!(
-            target.memory().first().copied() == before,
+            target.memory() == before.as_slice(),
             "the memory has changed"
         ),
     }
     Ok(target.answer(alloc, bytes, End::Eop)?)
 }
 
-/// The answer of a target to a write.
-pub fn answered(alloc: Global) -> Result<u64> {
-    let bytes = written(alloc, &[9; 64])?;
-    ensure!(
-        way(alloc, &bytes)?.map_or(0, |way| way.len()) == 3,
-        "another way"
-    );
-    let mut target = match Target::new(alloc, CONFIG) {
-        Ok(target) => target,
-        Err(_) => Target::new(alloc, CONFIG)?,
+fn target_of(alloc: Global, config: TargetConfig) -> Result<Target, AllocError>
+    requires { IsTargetConfig config }
+{
+    match Target::new(alloc, config) {
+        Ok(target) => Ok(target),
+        Err(_) => Target::new(alloc, config),
+    }
+}
+
+/// Prints a name and these bytes.
+pub fn show_bytes<R: Print>(rt: &R, name: &str, bytes: &[u8]) -> Result<()> {
+    print!(rt; "{name} ")?;
+    for byte in bytes {
+        print!(rt; "{byte:02X}")?;
+    }
+    Ok(println!(rt;)?)
+}
+
+fn show_answer<R: Print + AllocGlobal>(rt: &R, target: &mut Target, bytes: &[u8]) -> Result<()> {
+    let way = way(rt.alloc(), bytes)?;
+    let reply = answer(rt.alloc(), target, bytes)?;
+    show_bytes(rt, "way", &way.unwrap_or(Vec::new(rt.alloc())))?;
+    show_bytes(rt, "reply", &reply.unwrap_or(Vec::new(rt.alloc())))
+}
+
+fn show_target<R: Print + AllocGlobal>(rt: &R, target: &mut Target, load: &Load) -> Result<()> {
+    for packet in load.packets() {
+        show_answer(rt, target, packet.cargo())?;
+    }
+    show_bytes(rt, "memory", target.memory())
+}
+
+/// Prints what the network's second node answers to the packets of the load, and its memory then.
+pub fn show_answers<R: Print + AllocGlobal>(rt: &R, network: &Network, load: &Load) -> Result<()> {
+    ensure!(network.nodes() == 2, "other nodes");
+    let Some(config) = network.target(1) else {
+        bail!("no target");
     };
-    let reply = answer(alloc, &mut target, &bytes)?;
-    ensure!(target.memory().get(63) == Some(&9), "nothing is stored");
-    Ok(reply.map_or(0, |reply| reply.len() as u64))
+    let mut target = target_of(rt.alloc(), config)?;
+    show_target(rt, &mut target, load)
 }

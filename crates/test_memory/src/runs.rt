@@ -3,25 +3,24 @@ ghost use Rattle.std.specs.Prelude.{◌<◌, IfOk, OnOk};
 ghost use Rattle.sw_limit.specs.Limit.{AreDeclared};
 ghost use Rattle.sw_net.specs.New.{IsNewNet};
 
+use crate::steps::{Core, parts_of, text_of};
 use anyhow::{Result, bail, ensure};
 use std::alloc::{AllocError, Global};
 use std::sync::Wait;
 use std::thread::Threads;
 use sw_arb::Policy;
-use sw_char::End;
+use sw_char::{End, Packet};
 use sw_config::Network;
 use sw_history::{History, StepFault};
 use sw_journal::Journal;
 use sw_load::Load;
 use sw_model::Step;
 use sw_net::{Net, SwitchRoutes, declared_net};
+use sw_output::sent_text;
 use sw_run::{Open, Outcome, Stop, run};
 
-/// The cargo of the load's first packet.
-const CARGO: &[u8] = &[0x01, 0xAA, 0xBB];
-
-/// More steps than the load needs.
-const LIMIT: usize = 1_000;
+/// More steps than a load here needs.
+const LIMIT: usize = 100_000;
 
 /// The network in its empty state.
 pub fn empty_net<'n>(
@@ -36,11 +35,13 @@ pub fn empty_net<'n>(
     }
 }
 
+type Steps<'n> = History<'n, SwitchRoutes<'n>, Policy>;
+
 fn no_steps<'n>(
     alloc: Global,
     network: &'n Network,
     load: &'n Load,
-) -> Result<History<'n, SwitchRoutes<'n>, Policy>, AllocError>
+) -> Result<Steps<'n>, AllocError>
     requires { AreDeclared network.now load.now }
 {
     match History::new(alloc, empty_net(alloc, network)?, load) {
@@ -49,7 +50,7 @@ fn no_steps<'n>(
     }
 }
 
-fn reserve(history: &mut History<'_, SwitchRoutes<'_>, Policy>) -> Result<(), AllocError>
+fn reserve(history: &mut Steps<'_>) -> Result<(), AllocError>
     ensures { OnOk result (0 < history.new.room) }
 {
     match history.reserve() {
@@ -58,40 +59,46 @@ fn reserve(history: &mut History<'_, SwitchRoutes<'_>, Policy>) -> Result<(), Al
     }
 }
 
-fn cargo(alloc: Global) -> Result<Vec<u8>, AllocError> {
-    let mut cargo = Vec::new(alloc);
-    if cargo.extend_from_slice(CARGO).is_err() {
-        cargo.extend_from_slice(CARGO)?;
-    }
-    Ok(cargo)
-}
-
 fn first_step(alloc: Global) -> Result<Step, AllocError> {
+    let cargo = match Vec::from_slice(alloc, &[0xA0]) {
+        Ok(cargo) => cargo,
+        Err(_) => Vec::from_slice(alloc, &[0xA0])?,
+    };
     Ok(Step::Begin {
-        flow: 1,
-        cargo: cargo(alloc)?,
+        flow: 0,
+        cargo,
         end: End::Eop,
     })
 }
 
-fn add(alloc: Global, history: &mut History<'_, SwitchRoutes<'_>, Policy>) -> Result<()> {
+fn add(alloc: Global, history: &mut Steps<'_>) -> Result<()> {
+    let before = text_of(alloc, history.net())?;
     reserve(history)?;
     match history.add(alloc, first_step(alloc)?) {
         Ok(()) => return Ok(()),
-        Err(StepFault::Memory) => ensure!(history.len() == 0, "the history has changed"),
+        Err(StepFault::Memory) => {}
         Err(StepFault::NotEnabled) => bail!("a refusal"),
     }
+    ensure!(history.steps().is_empty(), "the history has changed");
+    ensure!(
+        parts_of(alloc, history.net())? == before,
+        "the network has changed"
+    );
     reserve(history)?;
     Ok(history.add(alloc, first_step(alloc)?)?)
 }
 
-/// A history of one step.
-pub fn history(alloc: Global, network: &Network, load: &Load) -> Result<u64>
+fn added(alloc: Global, history: &mut Steps<'_>) -> Result<String> {
+    add(alloc, history)?;
+    Ok(text_of(alloc, history.net())?)
+}
+
+/// All that the network has come to after a history of one step.
+pub fn history(alloc: Global, network: &Network, load: &Load) -> Result<String>
     requires { AreDeclared network.now load.now }
 {
     let mut history = no_steps(alloc, network, load)?;
-    add(alloc, &mut history)?;
-    Ok(history.len() as u64)
+    added(alloc, &mut history)
 }
 
 /// A journal and its cells.
@@ -106,32 +113,80 @@ pub fn journal(alloc: Global, network: &Network, load: &Load) -> Result<u64>
     Ok(cells.len() as u64)
 }
 
+fn text_at(
+    alloc: Global,
+    network: &Network,
+    undelivered: u64,
+    came_out: &[Vec<Packet>],
+) -> Result<String> {
+    ensure!(came_out.len() == network.nodes() as usize, "other nodes");
+    match sent_text(alloc, network, undelivered, came_out) {
+        Ok(text) => Ok(text),
+        Err(_) => Ok(sent_text(alloc, network, undelivered, came_out)?),
+    }
+}
+
+fn come_out(alloc: Global, net: &Core<'_>) -> Result<Vec<Vec<Packet>>, AllocError> {
+    let mut all = Vec::new(alloc);
+    for node in 0..net.network().nodes() {
+        all.push(net.came_out(alloc, node)?)?;
+    }
+    Ok(all)
+}
+
+fn make_all(alloc: Global, net: &mut Core<'_>, steps: &[Step]) -> Result<()> {
+    for step in steps {
+        net.step(alloc, step)?;
+    }
+    Ok(())
+}
+
+// What the steps come to.
+fn text_after(alloc: Global, net: &mut Core<'_>, steps: &[Step]) -> Result<String> {
+    make_all(alloc, net, steps)?;
+    let came_out = come_out(alloc, net)?;
+    text_at(alloc, net.network(), net.undelivered(), &came_out)
+}
+
+// Whether the outcome tells what its history comes to.
+fn compare(alloc: Global, network: &Network, outcome: &Outcome) -> Result<()> {
+    let told = text_at(alloc, network, outcome.undelivered, &outcome.came_out)?;
+    let mut net = empty_net(alloc, network)?;
+    ensure!(
+        text_after(alloc, &mut net, &outcome.history)? == told,
+        "it is not so"
+    );
+    Ok(())
+}
+
 fn ended<R: AllocGlobal + Threads + Wait + Sync>(
     rt: &R,
     network: &Network,
     load: &Load,
-) -> Result<Outcome, AllocError>
-    requires { AreDeclared network.now load.now }
+    workers: usize,
+) -> Result<Outcome>
+    requires packets { AreDeclared network.now load.now }
+    requires some { 0 < workers }
 {
-    match run(rt, rt.alloc(), network, load, 1, LIMIT, &Open) {
-        Ok(outcome) if outcome.stop != Stop::Memory => Ok(outcome),
-        _ => run(rt, rt.alloc(), network, load, 1, LIMIT, &Open),
+    match run(rt, rt.alloc(), network, load, workers, LIMIT, &Open) {
+        Ok(outcome) if outcome.stop != Stop::Memory => return Ok(outcome),
+        Ok(outcome) => compare(rt.alloc(), network, &outcome)?,
+        Err(_) => {}
     }
+    Ok(run(rt, rt.alloc(), network, load, workers, LIMIT, &Open)?)
 }
 
-/// How many packets come out where the load is run.
-pub fn came_out<R: AllocGlobal + Threads + Wait + Sync>(
+/// What a run of the load comes to.
+pub fn sent<R: AllocGlobal + Threads + Wait + Sync>(
     rt: &R,
     network: &Network,
     load: &Load,
-) -> Result<u64>
-    requires { AreDeclared network.now load.now }
+    workers: usize,
+) -> Result<String>
+    requires packets { AreDeclared network.now load.now }
+    requires some { 0 < workers }
 {
-    let outcome = ended(rt, network, load)?;
+    let outcome = ended(rt, network, load, workers)?;
     ensure!(outcome.stop == Stop::Drained, "another end");
-    let mut count: u64 = 0;
-    for packets in &outcome.came_out {
-        count = count.saturating_add(packets.len() as u64);
-    }
-    Ok(count)
+    text_at(rt.alloc(), network, outcome.undelivered, &outcome.came_out)
 }

@@ -1,40 +1,47 @@
-//! Steps of the core.
+//! Steps of the core, and all that its cells have.
 
-use crate::flows::read;
 use crate::runs::empty_net;
-use crate::texts::read_schedule;
+use crate::texts::schedule_of;
 use anyhow::{Result, bail, ensure};
 use std::alloc::{AllocError, Global};
 use sw_arb::Policy;
-use sw_cell::NetFault;
+use sw_cell::{CellId, NetFault};
 use sw_config::Network;
 use sw_model::Step;
 use sw_net::{Net, SwitchRoutes};
 use sw_schedule::ScheduleEntry;
 
-const FILE: &[u8] = b"version = 1
-node = [{ name = \"I\" }, { name = \"T\", target = { logical = 254, start = 2684354560, size = 64 } }]
-link = [{ a = \"I\", b = \"T\" }]
-flow = [{ name = \"w\", from = \"I\", to = \"T\", reply = { initiator = 103 } }]
-";
+/// The core of a network as its file declares it.
+pub type Core<'n> = Net<'n, SwitchRoutes<'n>, Policy>;
 
-/// A command that reads 16 bytes is sent and taken, and its reply begins.
-const SCHEDULE: &[u8] = b"begin w EOP FE014C0067000100A0000000000010C9
-3 fct 0
-3 fctin 0
-17 emit I
-17 arrive 0
-17 accept T
-reply T
-";
+/// All that each cell has, and how many characters are undelivered.
+pub fn parts_of(alloc: Global, net: &Core<'_>) -> Result<String, AllocError> {
+    let undelivered = net.undelivered();
+    let mut text = format!(in alloc; "undelivered {undelivered}\n")?;
+    for node in 0..net.network().nodes() {
+        let part = net.part(alloc, CellId::Node(node))?;
+        text.push_str(format!(in alloc; "{part:?}\n")?.as_str())?;
+    }
+    for switch in 0..net.network().switches() {
+        let part = net.part(alloc, CellId::Switch(switch))?;
+        text.push_str(format!(in alloc; "{part:?}\n")?.as_str())?;
+    }
+    Ok(text)
+}
 
-type Core<'n> = Net<'n, SwitchRoutes<'n>, Policy>;
+/// All that the network has come to.
+pub fn text_of(alloc: Global, net: &Core<'_>) -> Result<String, AllocError> {
+    match parts_of(alloc, net) {
+        Ok(text) => Ok(text),
+        Err(_) => parts_of(alloc, net),
+    }
+}
 
 fn make(alloc: Global, net: &mut Core<'_>, step: &Step) -> Result<()> {
-    let before = net.undelivered();
+    let before = text_of(alloc, net)?;
     match net.step(alloc, step) {
         Ok(()) => return Ok(()),
-        Err(NetFault::Memory) => ensure!(net.undelivered() == before, "the network has changed"),
+        Err(NetFault::Memory) => ensure!(text_of(alloc, net)? == before, "the network has changed"),
         Err(_) => bail!("a refusal"),
     }
     Ok(net.step(alloc, step)?)
@@ -57,27 +64,18 @@ fn make_all(alloc: Global, net: &mut Core<'_>, entries: &[ScheduleEntry]) -> Res
     Ok(())
 }
 
-fn undelivered_after(alloc: Global, net: &mut Core<'_>, entries: &[ScheduleEntry]) -> Result<u64> {
+fn replay(alloc: Global, net: &mut Core<'_>, entries: &[ScheduleEntry]) -> Result<String> {
     make_all(alloc, net, entries)?;
-    Ok(net.undelivered())
+    Ok(text_of(alloc, net)?)
 }
 
-fn undelivered_on(alloc: Global, network: &Network, entries: &[ScheduleEntry]) -> Result<u64> {
+fn replay_on(alloc: Global, network: &Network, entries: &[ScheduleEntry]) -> Result<String> {
     let mut net = empty_net(alloc, network)?;
-    undelivered_after(alloc, &mut net, entries)
+    replay(alloc, &mut net, entries)
 }
 
-fn undelivered(alloc: Global, network: &Network) -> Result<u64> {
-    match read_schedule(alloc, network, SCHEDULE) {
-        Ok(schedule) => undelivered_on(alloc, network, schedule.entries()),
-        Err(refused) => Err(refused),
-    }
-}
-
-/// How many characters are undelivered after a command was taken: those of its reply.
-pub fn answered(alloc: Global) -> Result<u64> {
-    match read(alloc, FILE) {
-        Ok(network) => undelivered(alloc, &network),
-        Err(refused) => Err(refused),
-    }
+/// All that the network has come to after the schedule's steps.
+pub fn replayed(alloc: Global, network: &Network, text: &[u8]) -> Result<String> {
+    let schedule = schedule_of(alloc, network, text)?;
+    replay_on(alloc, network, schedule.entries())
 }
