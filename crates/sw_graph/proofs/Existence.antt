@@ -29,12 +29,12 @@ greatest P dec first (suc m) bound = elim (dec (suc m)) [
 
 module _ (dep : ℕ → ℕ → Type 0) where
   -- the member of a chain that stands k steps before its end
-  abbrev stop : (n b c : ℕ) → Chain dep n b c → ℕ → ℕ
+  abbrev pub stop : (n b c : ℕ) → Chain dep n b c → ℕ → ℕ
   stop zero b c h k = c
   stop (suc n) b c h zero = c
   stop (suc n) b c h (suc k) = stop n b h.0 h.1 k
 
-  stop_first : (n b c : ℕ) (h : Chain dep n b c) (j : ℕ) → j ≤ n → Chain dep j (stop n b c h j) c
+  pub stop_first : (n b c : ℕ) (h : Chain dep n b c) (j : ℕ) → j ≤ n → Chain dep j (stop n b c h j) c
   stop_first zero b c h zero le = refl
   stop_first zero b c h (suc j) le = absurd (omega arith)
   stop_first (suc n) b c h zero le = refl
@@ -46,8 +46,13 @@ module _ (dep : ℕ → ℕ → Type 0) where
   stop_between (suc n) b c h (suc i) zero k le e = absurd (omega arith)
   stop_between (suc n) b c h (suc i) (suc j) k le e = stop_between n b h.0 h.1 i j k (omega arith) (omega arith)
 
+  pub stop_last : (n b c : ℕ) (h : Chain dep n b c) (j k : ℕ) → n ≡ k + j → Chain dep k b (stop n b c h j)
+  stop_last zero b c h j k e = let P : ℕ → Type 0 = λ x. Chain dep x b c in let z : 0 ≡ k = omega arith in subst P z h
+  stop_last (suc n) b c h zero k e = let P : ℕ → Type 0 = λ x. Chain dep x b c in let z : suc n ≡ k = omega arith in subst P z h
+  stop_last (suc n) b c h (suc j) k e = stop_last n b h.0 h.1 j k (omega arith)
+
   module _ (count : ℕ) (among : IsAmong dep count) where
-    stop_inside : (n b c : ℕ) (h : Chain dep n b c) (k : ℕ) → c < count → stop n b c h k < count
+    pub stop_inside : (n b c : ℕ) (h : Chain dep n b c) (k : ℕ) → c < count → stop n b c h k < count
     stop_inside zero b c h k lt = lt
     stop_inside (suc n) b c h zero lt = lt
     stop_inside (suc n) b c h (suc k) lt = stop_inside n b h.0 h.1 k (among h.0 c h.2).0

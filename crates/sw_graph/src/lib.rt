@@ -18,5 +18,6 @@ mod ways;
 pub use answer::Order;
 pub use least::reached;
 pub use ordering::order;
+pub use predecessors::predecessors_of;
 pub use steps::Steps;
 pub use ways::way;

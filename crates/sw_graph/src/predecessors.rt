@@ -37,7 +37,11 @@ fn add_to_each(rows: &mut [Vec<u16>], members: &[u16], c: u16) -> Result<(), All
     Ok(())
 }
 
-/// The predecessors of each member.
+/// The predecessors of each member, in rising order: the relation turned round.
+///
+/// The members are the numbers below the count of rows, at most 65,535, and `successors[c]` lists
+/// the members to which a step leads from `c`, in any order, also more than once; a predecessor is
+/// listed as often.
 ///
 /// # Errors
 ///

@@ -1,0 +1,9 @@
+pub mod Chains
+pub mod Adding
+pub mod Searching
+pub mod Leasts
+pub mod Going
+pub mod Bettering
+pub mod Parting
+pub mod Sought
+pub mod Lawful
