@@ -7,3 +7,4 @@ pub mod Bettering
 pub mod Parting
 pub mod Sought
 pub mod Lawful
+pub mod Carried

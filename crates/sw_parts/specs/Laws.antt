@@ -16,3 +16,7 @@ IsIn parts c i = (part : Part) × (slice_get parts i ≡ Some part) × Contains 
 abbrev pub CycleMembersAreInOnePart : (ℕ → ℕ → Type 0) → Type 0
 CycleMembersAreInOnePart dep =
     (parts : List Part) → AreParts dep parts → (c : ℕ) → (LeadsTo dep c c ↔ ((i : ℕ) × IsIn parts c i)) × ((i j : ℕ) → IsIn parts c i → IsIn parts c j → i ≡ j)
+
+-- the parts of a relation are those of each other one with the same steps
+abbrev pub PartsCarryOver : (ℕ → ℕ → Type 0) → (ℕ → ℕ → Type 0) → Type 0
+PartsCarryOver dep same = ((c d : ℕ) → dep c d ↔ same c d) → (parts : List Part) → AreParts dep parts → AreParts same parts
