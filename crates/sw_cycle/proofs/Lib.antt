@@ -5,4 +5,5 @@ pub mod Extended
 pub mod Between
 pub mod Chosen
 pub mod Found
+pub mod AllGoing
 pub mod Standing
