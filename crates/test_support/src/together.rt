@@ -48,6 +48,11 @@ impl Together {
         self.late.load(Ordering::SeqCst)
     }
 
+    /// Whether each of the cells was decided.
+    pub fn have_all_come(&self) -> bool {
+        self.raised.load(Ordering::SeqCst) == CELLS
+    }
+
     /// Raises the flag of the cell. Was it down?
     fn raise(&self, cell: CellId) -> bool {
         let flag = match cell {

@@ -26,9 +26,10 @@ fn gated<R: Files + Print + AllocGlobal + Threads + Wait + Sync>(
     ended_of(rt, network, load, options, &mut writer, gate)
 }
 
-fn show_late(rt: &impl Print, ended: Ended, late: bool) -> io::Result<()> {
+fn show_late(rt: &impl Print, ended: Ended, gate: &Together) -> io::Result<()> {
     show_end(rt, ended)?;
-    println!(rt; "late {late}")
+    let (late, all) = (gate.is_late(), gate.have_all_come());
+    println!(rt; "late {late}, all came {all}")
 }
 
 /// Runs with such a gate.
@@ -40,5 +41,5 @@ pub(crate) fn show_gated<R: Files + Print + AllocGlobal + Threads + Wait + Sync>
     println!(rt; "> {network} {load} together")?;
     let gate = Together::new();
     let ended = gated(rt, network, load, &gate)?;
-    show_late(rt, ended, gate.is_late())
+    show_late(rt, ended, &gate)
 }

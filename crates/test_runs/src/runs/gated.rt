@@ -9,8 +9,14 @@ use sw_config::Network;
 use sw_run::Outcome;
 use test_support::Together;
 
-fn show_late(rt: &impl Print, network: &Network, outcome: &Outcome, late: bool) -> io::Result<()> {
-    print!(rt; "late {late}: ")?;
+fn show_late(
+    rt: &impl Print,
+    network: &Network,
+    outcome: &Outcome,
+    gate: &Together,
+) -> io::Result<()> {
+    let (late, all) = (gate.is_late(), gate.have_all_come());
+    print!(rt; "late {late}, all came {all}: ")?;
     show_outcome(rt, network, outcome)
 }
 
@@ -22,5 +28,5 @@ pub(crate) fn show_gated<R: Print + AllocGlobal + Threads + Wait + Sync>(
 ) -> io::Result<()> {
     let gate = Together::new();
     let outcome = outcome_of(rt, network, load, 12, None, &gate)?;
-    show_late(rt, network, &outcome, gate.is_late())
+    show_late(rt, network, &outcome, &gate)
 }
