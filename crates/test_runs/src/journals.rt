@@ -1,11 +1,10 @@
-//! Loads through journals in one thread, and then steps that are tried one by one, and by two threads.
+//! Loads through journals in one thread, and then steps that are tried one by one.
 
 mod opened;
 pub(crate) mod show;
 mod told;
 mod tried;
 mod turns;
-mod two_threads;
 
 use crate::work::{Work, show_work};
 use std::io;
