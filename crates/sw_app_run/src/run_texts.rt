@@ -34,7 +34,7 @@ pub(crate) fn stop_status(stop: Stop) -> u8
 pub(crate) fn outcome_text(
     alloc: Global,
     network: &Network,
-    outcome: &Outcome,
+    outcome: &Outcome<'_>,
 ) -> Result<String, AllocError>
     requires { length outcome.now.came_out.items ≡ length network.now.nodes }
     ensures { IfOk result (λ s. string_bytes s ≡ outcome_text network.now outcome.now) }

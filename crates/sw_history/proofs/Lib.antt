@@ -6,3 +6,5 @@ mod Kept
 mod Refused
 mod Undeclared
 mod Whole
+mod Noting
+mod Asking

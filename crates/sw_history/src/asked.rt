@@ -1,5 +1,5 @@
 //! What can be asked of a history.
-ghost use Rattle.std.specs.Prelude.{◌≡◌, ◌↔◌, ◌<◌, ◌*◌, IsTrue, is_some, length, map};
+ghost use Rattle.std.specs.Prelude.{◌≡◌, ◌↔◌, ◌<◌, ◌*◌, IfOk, IsTrue, is_some, length, map};
 ghost use Rattle.sw_limit.specs.History.{IsWhole, next_packet, packets_of};
 ghost use Rattle.sw_machine.specs.State.{State};
 ghost use Rattle.sw_model.specs.Model.{network_of};
@@ -7,15 +7,18 @@ ghost use Rattle.sw_net.specs.Net.{IsNetState};
 ghost use Rattle.sw_model.specs.Steps.{machine_step};
 
 use crate::history::History;
+use crate::record::{Record, steps_of};
+use std::alloc::{AllocError, Global};
 use sw_arb::Arbiter;
 use sw_config::Network;
 use sw_load::Load;
 use sw_model::Step;
 use sw_net::Net;
 use sw_route::Routing;
-use sw_topo::{LinkEnd, PlaceEnd};
+use sw_topo::{LinkEnd, PlaceEnd, PortSet};
 
 impl<'n, R: Routing, A: Arbiter> History<'n, R, A> {
+    ghost use Rattle.sw_history.specs.Asking.{AreAsking};
     ghost use Rattle.sw_history.specs.History.{IsNext, IsSoundHistory, LeadsTo};
     ghost use Rattle.sw_history.specs.Next.{BeginsOne, IsIdle};
 
@@ -35,10 +38,14 @@ impl<'n, R: Routing, A: Arbiter> History<'n, R, A> {
     }
 
     /// The steps, in their order.
-    pub fn steps(&self) -> &[Step]
-        ensures { map machine_step result.now ≡ self.now.steps }
+    ///
+    /// # Errors
+    ///
+    /// There is no memory for the steps.
+    pub fn steps(&self, alloc: Global) -> Result<Vec<Step>, AllocError>
+        ensures { IfOk result (λ all. map machine_step all.items ≡ self.now.steps) }
     {
-        &self.steps
+        steps_of(alloc, &self.senders, &self.notes)
     }
 
     /// The network in the state after the steps.
@@ -47,6 +54,15 @@ impl<'n, R: Routing, A: Arbiter> History<'n, R, A> {
         ensures state { (s : State) → LeadsTo self.now s → IsNetState result.now s }
     {
         &self.net
+    }
+
+    /// The ports, 0 to 31, to whose inputs the output of the link end can be granted by the next
+    /// step: those where a packet waits whose leading byte names the output, while that is free
+    /// (ECSS-E-ST-50-12C, network layer: wormhole routing). There are none at a node.
+    pub fn asks(&self, end: LinkEnd) -> PortSet
+        ensures { AreAsking self.now.declared (packets_of self.now.load) self.now.steps end result }
+    {
+        self.net.asks(end)
     }
 
     /// Whether the node has a packet that it has not begun.
@@ -103,13 +119,18 @@ impl<'n, R: Routing, A: Arbiter> History<'n, R, A> {
 }
 
 impl<'n, R: Routing + Drop, A: Arbiter + Drop> History<'n, R, A> {
-    ghost use Rattle.std.specs.Prelude.{◌≡◌, map};
-    ghost use Rattle.sw_model.specs.Steps.{machine_step};
+    ghost use Rattle.std.specs.Prelude.{◌≡◌};
 
     /// The steps, and nothing else.
-    pub fn into_steps(self) -> Vec<Step>
-        ensures { map machine_step result.items ≡ self.entry.steps }
+    pub fn into_steps(self) -> Record<'n>
+        ensures { result ≡ self.entry.steps }
     {
-        self.steps
+        let History {
+            net: _,
+            senders,
+            notes,
+            begun: _,
+        } = self;
+        Record { senders, notes }
     }
 }

@@ -6,23 +6,13 @@ ghost use Rattle.sw_model.specs.Model.{network_of};
 ghost use Rattle.sw_model.specs.Steps.{machine_step};
 
 use crate::history::History;
+use crate::record::beginning;
 use std::alloc::{AllocError, Global};
 use sw_arb::Arbiter;
 use sw_load::LoadPacket;
 use sw_model::Step;
 use sw_route::Routing;
 use sw_topo::{LinkEnd, PlaceEnd};
-
-/// The step that begins the packet.
-fn beginning(alloc: Global, packet: &LoadPacket) -> Result<Step, AllocError>
-    ensures { IfOk result (λ step. machine_step step ≡ begin_of (packet_of packet.now)) }
-{
-    Ok(Step::Begin {
-        flow: packet.flow(),
-        cargo: Vec::from_slice(alloc, packet.cargo())?,
-        end: packet.end(),
-    })
-}
 
 impl<'n, R: Routing, A: Arbiter> History<'n, R, A> {
     ghost use Rattle.sw_history.specs.History.{IsNext, IsNextAt};

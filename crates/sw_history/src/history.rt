@@ -3,6 +3,7 @@
 use crate::fault::StepFault;
 use crate::making::make;
 use crate::packets::{count_begun, is_same};
+use crate::record::{Noted, plain};
 use std::alloc::{AllocError, Global};
 use std::marker::Model;
 use sw_arb::Arbiter;
@@ -19,27 +20,29 @@ use sw_route::Routing;
 pub struct History<'n, R: Routing, A: Arbiter> {
     pub(crate) net: Net<'n, R, A>,
     pub(crate) senders: Senders<'n>,
-    pub(crate) steps: Vec<Step>,
-    begun: Vec<u32>,
+    pub(crate) notes: Vec<Noted>,
+    pub(crate) begun: Vec<u32>,
 }
 
 impl<'n, R: Routing, A: Arbiter> Model for History<'n, R, A> {
-    ghost use Rattle.std.specs.Prelude.{map, ◌-◌, ◌≡◌, ◌*◌, vec_capacity, vec_len};
+    ghost use Rattle.std.specs.Prelude.{All, map, ◌-◌, ◌≡◌, ◌*◌, vec_capacity, vec_len};
     ghost use Rattle.sw_history.specs.History.{HistoryView, IsKept};
-    ghost use Rattle.sw_model.specs.Steps.{machine_step};
+    ghost use Rattle.sw_history.specs.Noted.{IsNoted, noted_step};
 
     ghost Value = { HistoryView };
 
-    ghost view = { λ h. record { declared = h.net.declared; load = h.senders.load; steps = map machine_step h.steps.items; room = vec_capacity h.steps - vec_len h.steps } };
+    ghost view = { λ h. record { declared = h.net.declared; load = h.senders.load; steps = map (noted_step h.senders) h.notes.items; room = vec_capacity h.notes - vec_len h.notes } };
 
-    ghost invariant = { λ h. IsKept h.net (record { declared = h.net.declared; load = h.senders.load; steps = map machine_step h.steps.items; room = vec_capacity h.steps - vec_len h.steps }) h.begun.items
-        × (h.senders.declared ≡ h.net.declared) };
+    ghost invariant = { λ h. IsKept h.net (record { declared = h.net.declared; load = h.senders.load; steps = map (noted_step h.senders) h.notes.items; room = vec_capacity h.notes - vec_len h.notes }) h.begun.items
+        × (h.senders.declared ≡ h.net.declared)
+        × All (IsNoted h.senders) h.notes.items };
 }
 
 impl<'n, R: Routing, A: Arbiter> History<'n, R, A> {
     ghost use Rattle.std.specs.Prelude.{◌≡◌, ◌<◌, IfErr, IfNone, IfOk, IfSome, OnErr, OnOk, length, option_map};
     ghost use Rattle.sw_history.specs.History.{Adds, IsNext};
     ghost use Rattle.sw_history.specs.Next.{beginner_of};
+    ghost use Rattle.sw_history.specs.Noted.{IsNoted, noted_step, senders_of};
     ghost use Rattle.sw_history.specs.declared.fault.StepFault.TheVariants.{NotEnabled};
     ghost use Rattle.sw_machine.specs.Steps.{Begin};
     ghost use Rattle.sw_model.specs.Steps.{machine_step};
@@ -50,7 +53,7 @@ impl<'n, R: Routing, A: Arbiter> History<'n, R, A> {
     pub fn len(&self) -> usize
         ensures { result ≡ length self.now.steps }
     {
-        self.steps.len()
+        self.notes.len()
     }
 
     /// The packet that the node is to begin next. None where it has begun all of its packets.
@@ -102,6 +105,22 @@ impl<'n, R: Routing, A: Arbiter> History<'n, R, A> {
         }
     }
 
+    /// The step as it is kept; this is the node that begins a packet by it, if it begins one.
+    fn note(&self, step: &Step, beginner: Option<u16>) -> Noted
+        requires next { BeginsNext (network_of self.now.declared) (packets_of self.now.load) self.now.steps (machine_step step.now) }
+        requires node { beginner ≡ beginner_of (network_of self.now.declared) (machine_step step.now) }
+        requires within { IfSome beginner (λ n. n < length self.now.declared.nodes) }
+        ensures step { noted_step (senders_of self.now) result ≡ machine_step step.now }
+        ensures sound { IsNoted (senders_of self.now) result }
+    {
+        // Names the total, which bounds what a node begins.
+        let _total = self.senders.load().total();
+        match beginner {
+            Some(node) => Noted::Begin(node, self.begun[node as usize] as u16),
+            None => plain(step),
+        }
+    }
+
     /// Makes room for one more step. Nothing else changes.
     ///
     /// # Errors
@@ -114,7 +133,7 @@ impl<'n, R: Routing, A: Arbiter> History<'n, R, A> {
         ensures load { self.new.load ≡ self.old.load }
         ensures refused { OnErr result (self.new ≡ self.old) }
     {
-        self.steps.reserve(1)
+        self.notes.reserve(1)
     }
 
     /// Adds the step, if it may be the next. There has to be room for it.
@@ -130,9 +149,10 @@ impl<'n, R: Routing, A: Arbiter> History<'n, R, A> {
         // Names the total, which bounds what a node begins.
         let _total = self.senders.load().total();
         let beginner = self.beginner(&step)?;
+        let note = self.note(&step, beginner);
         make(&mut self.net, alloc, &step)?;
         count_begun(self.begun.as_mut_slice(), beginner);
-        self.steps.push_reserved(step);
+        self.notes.push_reserved(note);
         Ok(())
     }
 }
@@ -166,7 +186,7 @@ impl<'n, R: Routing + Drop, A: Arbiter + Drop> History<'n, R, A> {
         Ok(History {
             net,
             senders,
-            steps: Vec::new(alloc),
+            notes: Vec::new(alloc),
             begun,
         })
     }

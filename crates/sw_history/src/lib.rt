@@ -8,6 +8,8 @@ mod history;
 pub mod laws;
 mod making;
 mod packets;
+mod record;
 
 pub use fault::StepFault;
 pub use history::History;
+pub use record::Record;

@@ -1,5 +1,5 @@
 //! What can be asked of a journal.
-ghost use Rattle.std.specs.Prelude.{◌≡◌, ◌↔◌, ◌<◌, ◌*◌, IfOk, IsSome, IsTrue, Some, length, map, slice_get, slice_set};
+ghost use Rattle.std.specs.Prelude.{◌≡◌, ◌↔◌, ◌<◌, ◌*◌, IfOk, IsSome, IsTrue, Some, length, slice_get, slice_set};
 ghost use Rattle.sw_history.specs.Next.{IsIdle, MayFollow};
 ghost use Rattle.sw_journal.specs.Asked.{BroughtOut, IsDrained, IsStuck, IsStill, IsUndelivered};
 ghost use Rattle.sw_journal.specs.Cells.{end_numbers};
@@ -7,13 +7,12 @@ ghost use Rattle.sw_journal.specs.Record.{Declares, IsTrueView, with_marks};
 ghost use Rattle.sw_limit.specs.History.{IsWhole, packets_of};
 ghost use Rattle.sw_machine.specs.Steps.{Step as MachineStep};
 ghost use Rattle.sw_model.specs.Model.{network_of};
-ghost use Rattle.sw_model.specs.Steps.{machine_step};
 
 use crate::cell::Cell;
 use crate::journal::Journal;
 use std::alloc::{AllocError, Global};
 use sw_char::Packet;
-use sw_model::Step;
+use sw_history::Record;
 use sw_topo::LinkEnd;
 
 impl<'n> Journal<'n> {
@@ -110,8 +109,8 @@ impl<'n> Journal<'n> {
     }
 
     /// The history.
-    pub fn into_history(self) -> Vec<Step>
-        ensures steps { map machine_step result.items ≡ self.entry.history }
+    pub fn into_history(self) -> Record<'n>
+        ensures steps { result ≡ self.entry.history }
         ensures true_view { IsTrueView self.entry }
     {
         let Journal {

@@ -1,15 +1,25 @@
 //! The choice of a step.
 ghost use Rattle.std.specs.Prelude.{◌≡◌, ◌<◌, ◌*◌, IfOk, IsSome, length};
+ghost use Rattle.sw_history.specs.Asking.{AreAsking};
 ghost use Rattle.sw_journal.specs.Cells.{end_numbers};
 ghost use Rattle.sw_journal.specs.Choices.{Chooses, ChoosesOrMarks};
+ghost use Rattle.sw_limit.specs.History.{packets_of};
 
 use crate::cell::Cell;
 use crate::journal::Journal;
 use std::alloc::{AllocError, Global};
 use sw_model::Step;
-use sw_topo::LinkEnd;
+use sw_topo::{LinkEnd, PortSet};
 
 impl<'n> Journal<'n> {
+    /// The ports, 0 to 31, to whose inputs the output of the link end can be granted by the next
+    /// step (ECSS-E-ST-50-12C, network layer: wormhole routing). There are none at a node.
+    pub fn asks(&self, end: LinkEnd) -> PortSet
+        ensures { AreAsking self.now.declared (packets_of self.now.load) self.now.history end result }
+    {
+        self.history.asks(end)
+    }
+
     /// A step of the link end that may be the next, the beginning of its node's next packet included.
     /// None where the link end is idle.
     ///

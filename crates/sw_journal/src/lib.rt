@@ -16,4 +16,5 @@ mod state;
 pub use cell::Cell;
 pub use fault::JournalFault;
 pub use journal::Journal;
+pub use sw_history::Record;
 pub use sw_net::{Input, NodePart, Part, PendingReply, PortPart};

@@ -1,6 +1,5 @@
 -- From the journal at the end of a run to the outcome.
 use Rattle.std.proofs.Common.{List, ap, arith, length, subst, sym, ℕ, ◌∙◌, ◌≡◌, ◌≤◌}
-use Rattle.std.proofs.lemmas.List.{length-map}
 use Rattle.sw_history.proofs.Follows.{one_state_after}
 use Rattle.sw_journal.specs.Asked.{IsUndelivered}
 use Rattle.sw_journal.specs.Record.{JournalView, LeadsTo}
@@ -14,11 +13,10 @@ use Rattle.sw_config.specs.Entries.{Declaration}
 use Rattle.sw_run.specs.Ends.{AreOutBy, EndsBy, IsOpen}
 use Rattle.sw_run.specs.Outcomes.{IsOutcome, IsUnfinished, NothingFollows, came_out_of, steps_of}
 use Rattle.sw_run.specs.declared.outcome.Outcome.{Outcome}
-use Rattle.sw_model.specs.Steps.{machine_step}
 
 module _ (j : JournalView) (s : State) (o : Outcome) (leads : LeadsTo j s) (within : length j.history ≤ j.limit) (steps : steps_of o ≡ j.history) where
-  as_long : length o.history.items ≡ length j.history
-  as_long = let a = length-map o.history.items machine_step in let b = ap (λ (l : List Step). length l) steps in omega arith
+  as_long : length o.history ≡ length j.history
+  as_long = ap (λ (l : List Step). length l) steps
 
   unfinished : IsOpen j → IsUndelivered j o.undelivered → IsUnfinished j.declared j.load o s
   unfinished goes_on left = record {

@@ -13,11 +13,10 @@ use Rattle.sw_model.specs.Model.{network_of}
 use Rattle.sw_config.specs.Entries.{Declaration}
 use Rattle.sw_run.specs.declared.outcome.Outcome.{Outcome}
 use Rattle.sw_run.specs.declared.outcome.Stop.TheVariants.{Drained, JournalFull, Memory, Stuck}
-use Rattle.sw_model.specs.Steps.{machine_step}
 
 -- the steps of the history, as steps of the machine
 abbrev pub steps_of : Outcome → List machine.Step
-steps_of o = map machine_step o.history.items
+steps_of o = o.history
 
 -- the packets that came out, a list for each node
 abbrev pub came_out_of : Outcome → List (List Packet)
@@ -44,10 +43,10 @@ pub record IsUnfinished (d : Declaration) (load : List LoadEntry) (o : Outcome) 
 pub record IsOutcome (d : Declaration) (load : List LoadEntry) (limit : ℕ) (o : Outcome) : Type 0 where
   pub state : State
   pub history : IsHistory (network_of d) (packets_of load) (steps_of o) state
-  pub within : length o.history.items ≤ limit
+  pub within : length o.history ≤ limit
   pub came_out : AreOut (length d.nodes) state (came_out_of o)
   pub undelivered : o.undelivered ≡ undelivered (network_of d) state
   pub drained : o.stop ≡ Drained → IsWhole (network_of d) (packets_of load) (steps_of o) × (o.undelivered ≡ 0)
   pub stuck : o.stop ≡ Stuck → IsLockedUp (network_of d) state × NothingFollows (network_of d) (packets_of load) (steps_of o)
-  pub full : o.stop ≡ JournalFull → (length o.history.items ≡ limit) × IsUnfinished d load o state
+  pub full : o.stop ≡ JournalFull → (length o.history ≡ limit) × IsUnfinished d load o state
   pub memory : o.stop ≡ Memory → IsUnfinished d load o state

@@ -195,7 +195,7 @@ impl<'a, W: RunIdentity> LockedJournal<'a, W> {
     }
 
     /// The outcome, at the end.
-    pub(crate) fn outcome(self, alloc: Global) -> Result<Outcome, AllocError>
+    pub(crate) fn outcome(self, alloc: Global) -> Result<Outcome<'a>, AllocError>
         ensures { IfOk result (IsOutcome W.declared W.load W.limit) }
     {
         let stop = self.why();

@@ -1,7 +1,7 @@
 //! How a run ends.
 
 use sw_char::Packet;
-use sw_model::Step;
+use sw_history::Record;
 
 /// Why a run ended.
 #[derive(Clone, Copy, Debug, PartialEq, Eq)]
@@ -18,11 +18,11 @@ pub enum Stop {
 
 /// What a run did.
 #[derive(Drop)]
-pub struct Outcome {
+pub struct Outcome<'a> {
     /// Why it ended.
     pub stop: Stop,
     /// The steps, in the order in which they were committed.
-    pub history: Vec<Step>,
+    pub history: Record<'a>,
     /// The packets that came out at each node, in their order.
     pub came_out: Vec<Vec<Packet>>,
     /// How many characters are undelivered.

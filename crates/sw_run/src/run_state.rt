@@ -350,7 +350,7 @@ impl<'a, W: RunIdentity> RunState<'a, W> {
     }
 
     /// The outcome, when no worker is left.
-    pub(crate) fn outcome(self, alloc: Global) -> Result<Outcome, AllocError>
+    pub(crate) fn outcome(self, alloc: Global) -> Result<Outcome<'a>, AllocError>
         ensures { IfOk result (IsOutcome W.declared W.load W.limit) }
     {
         let RunState {

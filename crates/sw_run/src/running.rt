@@ -26,7 +26,7 @@ fn run_named<'a, W: RunIdentity + Send + Sync, G: Gate + Sync, R: Threads + Wait
     workers: usize,
     limit: usize,
     gate: &G,
-) -> Result<Outcome, AllocError>
+) -> Result<Outcome<'a>, AllocError>
     requires network { network.now ≡ W.declared }
     requires identity { (journal.name ≡ W.name) × (journal.declared ≡ W.declared) × (journal.load ≡ W.load) × (journal.limit ≡ W.limit) }
     requires cells { All (λ c. c.name ≡ W.name) cells.items }
@@ -53,7 +53,7 @@ pub fn run<'a, G: Gate + Sync, R: Threads + Wait + Sync>(
     workers: usize,
     limit: usize,
     gate: &G,
-) -> Result<Outcome, AllocError>
+) -> Result<Outcome<'a>, AllocError>
     requires packets { AreDeclared network.now load.now }
     requires some { 0 < workers }
     ensures { IfOk result (IsOutcome network.now load.now limit) }

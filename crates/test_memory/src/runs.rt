@@ -79,7 +79,7 @@ fn add(alloc: Global, history: &mut Steps<'_>) -> Result<()> {
         Err(StepFault::Memory) => {}
         Err(StepFault::NotEnabled) => bail!("a refusal"),
     }
-    ensure!(history.steps().is_empty(), "the history has changed");
+    ensure!(history.len() == 0, "the history has changed");
     ensure!(
         parts_of(alloc, history.net())? == before,
         "the network has changed"
@@ -149,22 +149,20 @@ fn text_after(alloc: Global, net: &mut Core<'_>, steps: &[Step]) -> Result<Strin
 }
 
 // Whether the outcome tells what its history comes to.
-fn compare(alloc: Global, network: &Network, outcome: &Outcome) -> Result<()> {
+fn compare(alloc: Global, network: &Network, outcome: &Outcome<'_>) -> Result<()> {
     let told = text_at(alloc, network, outcome.undelivered, &outcome.came_out)?;
     let mut net = empty_net(alloc, network)?;
-    ensure!(
-        text_after(alloc, &mut net, &outcome.history)? == told,
-        "it is not so"
-    );
+    let steps = outcome.history.steps(alloc)?;
+    ensure!(text_after(alloc, &mut net, &steps)? == told, "it is not so");
     Ok(())
 }
 
-fn ended<R: AllocGlobal + Threads + Wait + Sync>(
+fn ended<'a, R: AllocGlobal + Threads + Wait + Sync>(
     rt: &R,
-    network: &Network,
-    load: &Load,
+    network: &'a Network,
+    load: &'a Load,
     workers: usize,
-) -> Result<Outcome>
+) -> Result<Outcome<'a>>
     requires packets { AreDeclared network.now load.now }
     requires some { 0 < workers }
 {

@@ -1,6 +1,6 @@
 //! A run whose workers wait for one another.
 
-use crate::runs::open_gate::outcome_of;
+use crate::runs::open_gate::{load_of, outcome_of};
 use crate::runs::show::show_outcome;
 use std::io;
 use std::sync::Wait;
@@ -12,7 +12,7 @@ use test_support::Together;
 fn show_late(
     rt: &impl Print,
     network: &Network,
-    outcome: &Outcome,
+    outcome: &Outcome<'_>,
     gate: &Together,
 ) -> io::Result<()> {
     let (late, all) = (gate.is_late(), gate.have_all_come());
@@ -27,6 +27,7 @@ pub(crate) fn show_gated<R: Print + AllocGlobal + Threads + Wait + Sync>(
     load: &[u8],
 ) -> io::Result<()> {
     let gate = Together::new();
-    let outcome = outcome_of(rt, network, load, 12, None, &gate)?;
+    let load = load_of(rt, network, load)?;
+    let outcome = outcome_of(rt, network, &load, 12, None, &gate)?;
     show_late(rt, network, &outcome, &gate)
 }

@@ -1,4 +1,6 @@
 //! Runs with an open gate.
+ghost use Rattle.std.specs.Prelude.{IfOk};
+ghost use Rattle.sw_limit.specs.Limit.{AreDeclared};
 
 use crate::files::no_text;
 use crate::runs::show::show_outcome;
@@ -8,28 +10,36 @@ use std::thread::Threads;
 use sw_config::Network;
 use sw_limit::enough_limit;
 use sw_limit::laws::listed_are_declared;
-use sw_load::read_load;
+use sw_load::{Load, read_load};
 use sw_run::{Gate, Open, Outcome, Stop, run};
 
 /// Numbers of workers.
 static WORKERS: &[usize] = &[1, 2, 4, 64];
 
+/// The load that the text declares.
+pub(crate) fn load_of(rt: &impl AllocGlobal, network: &Network, text: &[u8]) -> io::Result<Load>
+    ensures { IfOk result (AreDeclared network.now) }
+{
+    listed_are_declared();
+    read_load(rt.alloc(), network, text).map_err(|_| no_text())
+}
+
 /// The outcome of a run, with the limit if there is one, and else with one that is enough.
-pub(crate) fn outcome_of<G: Gate + Sync, R: AllocGlobal + Threads + Wait + Sync>(
+pub(crate) fn outcome_of<'a, G: Gate + Sync, R: AllocGlobal + Threads + Wait + Sync>(
     rt: &R,
-    network: &Network,
-    load: &[u8],
+    network: &'a Network,
+    load: &'a Load,
     workers: usize,
     limit: Option<usize>,
     gate: &G,
-) -> io::Result<Outcome> {
-    listed_are_declared();
+) -> io::Result<Outcome<'a>>
+    requires { AreDeclared network.now load.now }
+{
     if workers == 0 {
         return Err(no_text());
     }
-    let load = read_load(rt.alloc(), network, load).map_err(|_| no_text())?;
-    let limit = limit.unwrap_or(enough_limit(network, &load) as usize);
-    Ok(run(rt, rt.alloc(), network, &load, workers, limit, gate)?)
+    let limit = limit.unwrap_or(enough_limit(network, load) as usize);
+    Ok(run(rt, rt.alloc(), network, load, workers, limit, gate)?)
 }
 
 /// Runs with so many workers and a limit that is enough.
@@ -40,7 +50,8 @@ pub(crate) fn show_run<R: Print + AllocGlobal + Threads + Wait + Sync>(
     workers: usize,
 ) -> io::Result<()> {
     print!(rt; "workers {workers}: ")?;
-    let outcome = outcome_of(rt, network, load, workers, None, &Open)?;
+    let load = load_of(rt, network, load)?;
+    let outcome = outcome_of(rt, network, &load, workers, None, &Open)?;
     show_outcome(rt, network, &outcome)
 }
 
@@ -56,7 +67,7 @@ pub(crate) fn show_workers<R: Print + AllocGlobal + Threads + Wait + Sync>(
     Ok(())
 }
 
-fn show_full(rt: &impl Print, outcome: &Outcome) -> io::Result<()> {
+fn show_full(rt: &impl Print, outcome: &Outcome<'_>) -> io::Result<()> {
     let steps = outcome.history.len();
     let full = outcome.stop == Stop::JournalFull;
     println!(rt; "journal full {full}, steps {steps}")
@@ -69,6 +80,7 @@ pub(crate) fn show_limited<R: Print + AllocGlobal + Threads + Wait + Sync>(
     load: &[u8],
     limit: usize,
 ) -> io::Result<()> {
-    let outcome = outcome_of(rt, network, load, 4, Some(limit), &Open)?;
+    let load = load_of(rt, network, load)?;
+    let outcome = outcome_of(rt, network, &load, 4, Some(limit), &Open)?;
     show_full(rt, &outcome)
 }

@@ -14,7 +14,12 @@ fn name_of(stop: Stop) -> &'static str {
     }
 }
 
-fn show_count(rt: &impl Print, network: &Network, outcome: &Outcome, node: u16) -> io::Result<()>
+fn show_count(
+    rt: &impl Print,
+    network: &Network,
+    outcome: &Outcome<'_>,
+    node: u16,
+) -> io::Result<()>
     requires { node < length network.now.nodes }
 {
     if let Some(packets) = outcome.came_out.get(node as usize) {
@@ -30,7 +35,7 @@ fn show_count(rt: &impl Print, network: &Network, outcome: &Outcome, node: u16) 
 pub(crate) fn show_outcome(
     rt: &impl Print,
     network: &Network,
-    outcome: &Outcome,
+    outcome: &Outcome<'_>,
 ) -> io::Result<()> {
     let stop = name_of(outcome.stop);
     let undelivered = outcome.undelivered;

@@ -1,8 +1,10 @@
 use Rattle.std.proofs.Common.{◌≡◌, ◌∙◌, ◌++◌, ◌-◌, ◌<◌, ◌∷◌, [], ℕ, Err, List, ap, arith, length, map, rules, subst, sym}
 use Rattle.std.specs.Prelude.{IfSome, slice_index, vec_capacity, vec_len}
-use Rattle.sw_history.proofs.Adds.{add_is_kept, last_of_map, made_may_follow, same_view, written}
+use Rattle.sw_history.proofs.Adds.{add_is_kept, made_may_follow, same_view, written}
 use Rattle.sw_history.proofs.Counts.{counted_more, few_begun, length-counted}
+use Rattle.sw_history.proofs.Noting.{all_noted, noted_more, same_senders}
 use Rattle.sw_history.proofs.Refused.{refused}
+use Rattle.sw_history.specs.Noted.{noted_step}
 use Rattle.sw_history.proofs.history.History.add.Goals as goal
 use Rattle.sw_history.specs.History.{Adds, HistoryView, IsCounted, IsKept}
 use Rattle.sw_history.specs.Makes.{counted_with}
@@ -19,7 +21,7 @@ returns-in_err-make g c =
     let step = machine_step c.args.step in
     let kept = subst (λ (k : HistoryView). IsKept in_self.net k in_self.begun.items) c.self.view_is c.self.invariant.0 in
     let same : c.from_residual-in_err-make.result ≡ Err c.in_err-make.field-0.0 = search rules in
-    let view : NetView g.row.R.Denot g.row.A.Denot → HistoryView = λ n. record { declared = n.declared; load = in_self.senders.load; steps = map machine_step in_self.steps.items; room = vec_capacity in_self.steps - vec_len in_self.steps } in
+    let view : NetView g.row.R.Denot g.row.A.Denot → HistoryView = λ n. record { declared = n.declared; load = in_self.senders.load; steps = map (noted_step in_self.senders) in_self.notes.items; room = vec_capacity in_self.notes - vec_len in_self.notes } in
     let stays = ap view c.in_err-make.ensures.refused ∙ c.self.view_is in
     subst (λ r. Adds now step r (view c.make.new.net)) (sym same)
     (refused in_self.net c.make.new.net now (view c.make.new.net) in_self.begun.items step c.in_err-make.field-0.0 kept c.in_ok-beginner.ensures.next c.in_err-make.ensures.answers stays)
@@ -47,13 +49,15 @@ invariant_of-self-2 g c =
     let long = length-counted in_self.begun.items who in
     let size = ap (λ (l : List ℕ). length l) more ∙ long in
     let items = written in_self.begun.len in_self.begun.items c.count_begun.new.begun size in_self.begun.ok.0 ∙ more in
-    let last = last_of_map machine_step in_self.steps.items c.push_reserved.new.self.items c.args.step c.push_reserved.ensures.items in
+    let senders = same_senders in_self.senders in_self.net.declared now c.self.invariant.1.0 (ap (λ (k : HistoryView). k.declared) c.self.view_is) (ap (λ (k : HistoryView). k.load) c.self.view_is) in
+    let last = noted_more in_self.senders now in_self.notes.items c.push_reserved.new.self.items c.note-note.result step senders c.push_reserved.ensures.items c.note-note.ensures.step in
+    let sound = all_noted in_self.senders now in_self.notes.items c.push_reserved.new.self.items c.note-note.result senders c.push_reserved.ensures.items c.note-note.ensures.sound c.self.invariant.1.1 in
     let counted = counted_more now.declared now.load now.steps in_self.begun.items kept.counted step who (length now.declared.nodes) kept.all_nodes c.in_ok-beginner.ensures.node c.in_ok-beginner.ensures.within in
     let inside = subst (λ (k : HistoryView). IsCounted k.declared (k.steps ++ step ∷ []) (counted_with in_self.begun.items who)) (sym c.self.view_is) counted in
-    let room = vec_capacity in_self.steps - vec_len in_self.steps in
+    let room = vec_capacity in_self.notes - vec_len in_self.notes in
     let less = vec_capacity c.push_reserved.new.self - vec_len c.push_reserved.new.self in
-    let is = add_is_kept in_self.net c.make.new.net in_self.senders.load (map machine_step in_self.steps.items) step room less in_self.begun.items (counted_with in_self.begun.items who) c.make.ensures.network c.self.invariant.0 next c.in_ok-make.ensures.answers long inside in
-    rw (last, items) (is, c.self.invariant.1 ∙ sym c.make.ensures.network)
+    let is = add_is_kept in_self.net c.make.new.net in_self.senders.load (map (noted_step in_self.senders) in_self.notes.items) step room less in_self.begun.items (counted_with in_self.begun.items who) c.make.ensures.network c.self.invariant.0 next c.in_ok-make.ensures.answers long inside in
+    rw (last, items) (is, (c.self.invariant.1.0 ∙ sym c.make.ensures.network, sound))
 
 pub returns : goal.returns
 returns g c =
@@ -61,7 +65,8 @@ returns g c =
     let now = c.args.self.now in
     let step = machine_step c.args.step in
     let kept = subst (λ (k : HistoryView). IsKept in_self.net k in_self.begun.items) c.self.view_is c.self.invariant.0 in
-    let last = last_of_map machine_step in_self.steps.items c.push_reserved.new.self.items c.args.step c.push_reserved.ensures.items ∙ ap (λ (k : HistoryView). k.steps ++ step ∷ []) c.self.view_is in
+    let senders = same_senders in_self.senders in_self.net.declared now c.self.invariant.1.0 (ap (λ (k : HistoryView). k.declared) c.self.view_is) (ap (λ (k : HistoryView). k.load) c.self.view_is) in
+    let last = noted_more in_self.senders now in_self.notes.items c.push_reserved.new.self.items c.note-note.result step senders c.push_reserved.ensures.items c.note-note.ensures.step ∙ ap (λ (k : HistoryView). k.steps ++ step ∷ []) c.self.view_is in
     let declared = c.make.ensures.network ∙ ap (λ (k : HistoryView). k.declared) c.self.view_is in
     let load = ap (λ (k : HistoryView). k.load) c.self.view_is in
     let room = ap (λ (k : HistoryView). k.room) c.self.view_is in
@@ -69,5 +74,5 @@ returns g c =
     let len = c.push_reserved.ensures.len in
     let left : vec_capacity c.push_reserved.new.self - vec_len c.push_reserved.new.self ≡ now.room - 1 = omega arith in (
       made_may_follow in_self.net c.make.new.net now in_self.begun.items step kept c.in_ok-beginner.ensures.next c.in_ok-make.ensures.answers,
-      same_view now c.make.new.net.declared in_self.senders.load (map machine_step c.push_reserved.new.self.items) _ declared load (now.steps ++ step ∷ []) last (now.room - 1) left,
+      same_view now c.make.new.net.declared in_self.senders.load (map (noted_step in_self.senders) c.push_reserved.new.self.items) _ declared load (now.steps ++ step ∷ []) last (now.room - 1) left,
     )

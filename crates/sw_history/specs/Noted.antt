@@ -1,0 +1,44 @@
+-- The steps of a history, as they are kept.
+use Rattle.std.specs.Prelude.{IsSome, None, Option, Some, [], length, slice_get, ℕ, ◌*◌, ◌<◌}
+use Rattle.sw_char.specs.declared.nchar.End.TheVariants.{Eop}
+use Rattle.sw_history.specs.History.{HistoryView}
+use Rattle.sw_history.specs.Next.{begin_of}
+use Rattle.sw_history.specs.declared.record.Noted.{Noted}
+use Rattle.sw_history.specs.declared.record.Noted.TheVariants.{Accept, Arrive, Begin, Drop, Emit, Fct, FctIn, Forward, Grant, Reply, Spill}
+use Rattle.sw_limit.specs.History.{packets_at, packets_of}
+use Rattle.sw_limit.specs.Senders.{SendersView}
+use Rattle.sw_machine.specs.Begun.{Begun}
+use Rattle.sw_machine.specs.Steps as machine
+use Rattle.sw_model.specs.Model.{network_of}
+
+-- what the nodes send in a history
+abbrev pub senders_of : HistoryView → SendersView
+senders_of h = record { declared = h.declared; load = h.load }
+
+-- the packet of node n in the load that has so many of its packets before it
+abbrev pub packet_after : SendersView → ℕ → ℕ → Option Begun
+packet_after s n before = slice_get (packets_at (network_of s.declared) n (packets_of s.load)) before
+
+-- the beginning of the packet (where there is none, of an empty one)
+abbrev pub begin_or : Option Begun → machine.Step
+begin_or (Some b) = begin_of b
+begin_or None = machine.Begin 0 [] Eop
+
+-- the step that is kept so
+abbrev pub noted_step : SendersView → Noted → machine.Step
+noted_step s (Fct c) = machine.Fct c
+noted_step s (FctIn c) = machine.FctIn c
+noted_step s (Arrive c) = machine.Arrive c
+noted_step s (Grant d c) = machine.Grant d c
+noted_step s (Drop c) = machine.Drop c
+noted_step s (Forward c) = machine.Forward c
+noted_step s (Spill c) = machine.Spill c
+noted_step s (Begin n before) = begin_or (packet_after s n before)
+noted_step s (Emit n) = machine.Emit n
+noted_step s (Accept n) = machine.Accept n
+noted_step s (Reply n) = machine.Reply n
+
+-- a beginning is that of a packet of the load
+abbrev pub IsNoted : SendersView → Noted → Type 0
+IsNoted s (Begin n before) = (n < length s.declared.nodes) × IsSome (packet_after s n before)
+IsNoted s note = Unit {0}
