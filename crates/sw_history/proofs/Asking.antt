@@ -15,7 +15,7 @@ pub asks_then : {R A : Type 0} (v : NetView R A) (h : HistoryView) (begun : List
 asks_then v h begun kept e ports is = record {
   asks = λ port bit.
       let a = is.asks port bit in
-      (a.0, (subst (λ (d : Declaration). IsInput d e port a.0) kept.network a.1, (tells_next v h begun kept (Grant e a.0) true a.2 tt).0 refl));
+      (a.0, subst (λ (d : Declaration). IsInput d e port a.0) kept.network a.1, (tells_next v h begun kept (Grant e a.0) true a.2 tt).0 refl);
   no_others = λ port c input none next.
       let other = is.no_others port c (subst (λ (d : Declaration). IsInput d e port c) (sym kept.network) input) none in
       false≢true ((tells_next v h begun kept (Grant e c) false other tt).1 next);

@@ -1,7 +1,8 @@
 -- Steps as they are kept.
-use Rattle.std.proofs.Common.{All, List, None, Option, Some, [], ap, length, map, refl, subst, sym, ℕ, ◌++◌, ◌∙◌, ◌∷◌, ◌≡◌}
+use Rattle.std.proofs.Common.{All, List, None, Option, Some, [], ap, length, map, refl, subst, sym, ℕ, ◌++◌, ◌<◌, ◌∙◌, ◌∷◌, ◌≡◌}
 use Rattle.std.proofs.lemmas.List.Elements.{All-push}
-use Rattle.std.specs.Prelude.{IsSome, slice_get}
+use Rattle.std.proofs.lemmas.Option.{same_Some, slice_get-get_or, slice_get_within}
+use Rattle.std.specs.Prelude.{IfSome, IsSome, slice_get, slice_index}
 use Rattle.sw_config.specs.Entries.{Declaration}
 use Rattle.sw_history.proofs.Adds.{last_of_map}
 use Rattle.sw_history.specs.History.{HistoryView}
@@ -39,6 +40,13 @@ module _ (h : HistoryView) (n before : ℕ) (count : before ≡ length (packets_
   begin_noted (Emit m) who next = absurd cc
   begin_noted (Accept m) who next = absurd cc
   begin_noted (Reply m) who next = absurd cc
+
+-- what was read of a list is below what bounds it there
+pub read_below : (begun : List ℕ) (who : Option ℕ) (n x most : ℕ) → who ≡ Some n → slice_get begun n ≡ Some x → IfSome who (λ k. slice_index begun k < most) → x < most
+read_below begun who n x most is at less =
+    let lt = slice_get_within begun n x at in
+    let same : x ≡ slice_index begun n = same_Some x (slice_index begun n) (sym at ∙ slice_get-get_or begun n 0 lt) in
+    subst (λ (k : ℕ). k < most) (sym same) (subst (λ (o : Option ℕ). IfSome o (λ k. slice_index begun k < most)) is less)
 
 -- the senders of a history send what it declares
 pub same_senders : (s : SendersView) (d : Declaration) (h : HistoryView) → s.declared ≡ d → d ≡ h.declared → s.load ≡ h.load → s ≡ senders_of h

@@ -49,15 +49,15 @@ invariant_of-self-2 g c =
     let long = length-counted in_self.begun.items who in
     let size = ap (λ (l : List ℕ). length l) more ∙ long in
     let items = written in_self.begun.len in_self.begun.items c.count_begun.new.begun size in_self.begun.ok.0 ∙ more in
-    let senders = same_senders in_self.senders in_self.net.declared now c.self.invariant.1.0 (ap (λ (k : HistoryView). k.declared) c.self.view_is) (ap (λ (k : HistoryView). k.load) c.self.view_is) in
+    let senders = same_senders in_self.senders in_self.net.declared now c.self.invariant.1 (ap (λ (k : HistoryView). k.declared) c.self.view_is) (ap (λ (k : HistoryView). k.load) c.self.view_is) in
     let last = noted_more in_self.senders now in_self.notes.items c.push_reserved.new.self.items c.note-note.result step senders c.push_reserved.ensures.items c.note-note.ensures.step in
-    let sound = all_noted in_self.senders now in_self.notes.items c.push_reserved.new.self.items c.note-note.result senders c.push_reserved.ensures.items c.note-note.ensures.sound c.self.invariant.1.1 in
+    let sound = all_noted in_self.senders now in_self.notes.items c.push_reserved.new.self.items c.note-note.result senders c.push_reserved.ensures.items c.note-note.ensures.sound c.self.invariant.2 in
     let counted = counted_more now.declared now.load now.steps in_self.begun.items kept.counted step who (length now.declared.nodes) kept.all_nodes c.in_ok-beginner.ensures.node c.in_ok-beginner.ensures.within in
     let inside = subst (λ (k : HistoryView). IsCounted k.declared (k.steps ++ step ∷ []) (counted_with in_self.begun.items who)) (sym c.self.view_is) counted in
     let room = vec_capacity in_self.notes - vec_len in_self.notes in
     let less = vec_capacity c.push_reserved.new.self - vec_len c.push_reserved.new.self in
     let is = add_is_kept in_self.net c.make.new.net in_self.senders.load (map (noted_step in_self.senders) in_self.notes.items) step room less in_self.begun.items (counted_with in_self.begun.items who) c.make.ensures.network c.self.invariant.0 next c.in_ok-make.ensures.answers long inside in
-    rw (last, items) (is, (c.self.invariant.1.0 ∙ sym c.make.ensures.network, sound))
+    rw (last, items) (is, c.self.invariant.1 ∙ sym c.make.ensures.network, sound)
 
 pub returns : goal.returns
 returns g c =
@@ -65,7 +65,7 @@ returns g c =
     let now = c.args.self.now in
     let step = machine_step c.args.step in
     let kept = subst (λ (k : HistoryView). IsKept in_self.net k in_self.begun.items) c.self.view_is c.self.invariant.0 in
-    let senders = same_senders in_self.senders in_self.net.declared now c.self.invariant.1.0 (ap (λ (k : HistoryView). k.declared) c.self.view_is) (ap (λ (k : HistoryView). k.load) c.self.view_is) in
+    let senders = same_senders in_self.senders in_self.net.declared now c.self.invariant.1 (ap (λ (k : HistoryView). k.declared) c.self.view_is) (ap (λ (k : HistoryView). k.load) c.self.view_is) in
     let last = noted_more in_self.senders now in_self.notes.items c.push_reserved.new.self.items c.note-note.result step senders c.push_reserved.ensures.items c.note-note.ensures.step ∙ ap (λ (k : HistoryView). k.steps ++ step ∷ []) c.self.view_is in
     let declared = c.make.ensures.network ∙ ap (λ (k : HistoryView). k.declared) c.self.view_is in
     let load = ap (λ (k : HistoryView). k.load) c.self.view_is in

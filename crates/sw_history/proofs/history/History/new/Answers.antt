@@ -9,4 +9,4 @@ invariant_of-result g c =
     let begun = c.in_ok-begun.ensures.items_if_clones_equal (λ y same. same) in
     let all = c.nodes.ensures.count ∙ ap (λ (d : Declaration). length d.nodes) c.network-network.ensures.network in
     let is = new_is_kept c.args.net c.args.load.now _ c.nodes.result c.requires.state c.requires.packets all in
-    rw (c.new-2.ensures.items, begun, c.in_ok-senders.ensures.load) (is, (c.in_ok-senders.ensures.network ∙ c.network-network.ensures.network, All-nil _))
+    rw (c.new-2.ensures.items, begun, c.in_ok-senders.ensures.load) (is, c.in_ok-senders.ensures.network ∙ c.network-network.ensures.network, All-nil _)
