@@ -88,8 +88,16 @@ fn add(alloc: Global, history: &mut Steps<'_>) -> Result<()> {
     Ok(history.add(alloc, first_step(alloc)?)?)
 }
 
+fn steps_in(alloc: Global, history: &Steps<'_>) -> Result<usize, AllocError> {
+    match history.steps(alloc) {
+        Ok(steps) => Ok(steps.len()),
+        Err(_) => Ok(history.steps(alloc)?.len()),
+    }
+}
+
 fn added(alloc: Global, history: &mut Steps<'_>) -> Result<String> {
     add(alloc, history)?;
+    ensure!(steps_in(alloc, history)? == 1, "other steps");
     Ok(text_of(alloc, history.net())?)
 }
 

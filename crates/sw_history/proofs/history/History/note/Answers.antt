@@ -20,7 +20,8 @@ overflow_cast-result g c =
     let count = c.total-total.ensures.count ∙ ap packet_count c.load.ensures ∙ ap (λ (k : HistoryView). packet_count k.load) c.self.view_is in
     let few = c.total-total.ensures.few in
     let less = few_begun now.declared now.load now.steps begun kept.counted (machine_step c.args.step.now) c.args.beginner (length now.declared.nodes) 65536 kept.all_nodes (omega arith) c.requires.node c.requires.within c.requires.next in
-    read_below begun c.args.beginner c.in-Some.node c.index.result.now 65536 c.in-Some.is at less
+    let below = read_below begun c.args.beginner c.in-Some.node c.index.result.now 65536 c.in-Some.is at less in
+    omega (arith, below)
 
 pub returns-in-Some-clause-step : goal.returns-in-Some-clause-step
 returns-in-Some-clause-step g c =
