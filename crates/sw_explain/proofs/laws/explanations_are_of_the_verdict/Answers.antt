@@ -1,0 +1,5 @@
+use Rattle.sw_explain.proofs.Kinds.{of_the_verdict}
+use Rattle.sw_explain.proofs.laws.explanations_are_of_the_verdict.Goals as goal
+
+pub returns : goal.returns
+returns c = of_the_verdict

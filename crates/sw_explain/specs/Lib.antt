@@ -1,0 +1,3 @@
+pub mod Tangles
+pub mod Explanations
+pub mod Laws

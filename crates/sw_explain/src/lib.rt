@@ -1,0 +1,15 @@
+//! Why a network can lock up: the flow that is not well routed, or the tangles of its channels, each with a shortest cycle.
+#![tactic(auto)]
+
+mod explaining;
+mod explanation;
+mod flows;
+pub mod laws;
+mod misrouted;
+mod tangle;
+mod tangles;
+
+pub use explaining::explain;
+pub use explanation::Explanation;
+pub use tangle::Tangle;
+pub use tangles::tangles;

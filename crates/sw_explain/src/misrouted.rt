@@ -1,0 +1,56 @@
+//! The first flow that is not well routed, with a way to where its packets go wrong.
+ghost use Rattle.std.specs.Prelude.{◌<◌, IfOk, MatchOption, length};
+ghost use Rattle.sw_config.specs.Entries.{all_flows};
+ghost use Rattle.sw_search.specs.Lists.{AreListed, IsFirstFault};
+ghost use Rattle.sw_search.specs.Verdicts.{AllWellRouted, IsMisrouted};
+ghost use Rattle.sw_explain.specs.Explanations.{IsExplanation};
+
+use crate::explanation::Explanation;
+use std::alloc::{AllocError, Global};
+use sw_config::Network;
+use sw_flow::{Place, RouteFault, first_fault, way_to};
+
+/// The first of the flow's places that has a fault, with it.
+fn fault_of_flow(network: &Network, flow: u16, places: &[Vec<Place>]) -> Option<(Place, RouteFault)>
+    requires lists { AreListed network.now places.now }
+    requires inside { flow < length (all_flows network.now) }
+    ensures { IsFirstFault network.now flow result }
+{
+    first_fault(network, flow, &places[usize::from(flow)])
+}
+
+/// The first flow that is not well routed, with the first of its places that has a fault.
+pub(crate) fn first_misrouted(
+    network: &Network,
+    places: &[Vec<Place>],
+) -> Option<(u16, Place, RouteFault)>
+    requires { AreListed network.now places.now }
+    ensures { MatchOption result (AllWellRouted network.now) (λ found. IsMisrouted network.now found.0 found.1 found.2) }
+{
+    for flow in 0..network.flows() {
+        if let Some((place, fault)) = fault_of_flow(network, flow, places) {
+            return Some((flow, place, fault));
+        }
+    }
+    None
+}
+
+/// What is told of a network where this flow is the first that is not well routed.
+pub(crate) fn misrouted(
+    alloc: Global,
+    network: &Network,
+    flow: u16,
+    place: Place,
+    fault: RouteFault,
+) -> Result<Explanation, AllocError>
+    requires { IsMisrouted network.now flow place fault }
+    ensures { IfOk result (IsExplanation network.now) }
+{
+    let way = way_to(alloc, network, flow, place)?.unwrap();
+    Ok(Explanation::Misrouted {
+        flow,
+        place,
+        fault,
+        way,
+    })
+}
