@@ -1,3 +1,4 @@
 pub mod Told
 pub mod Lawful
-pub mod Kinds
+pub mod Verdicts
+pub mod Went

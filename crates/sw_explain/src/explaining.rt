@@ -6,7 +6,7 @@ ghost use Rattle.sw_explain.specs.Explanations.{IsExplanation};
 
 use crate::explanation::Explanation;
 use crate::misrouted::{first_misrouted, misrouted};
-use crate::tangles::tangles;
+use crate::tangling::tangles;
 use std::alloc::{AllocError, Global};
 use std::thread::Threads;
 use sw_config::Network;

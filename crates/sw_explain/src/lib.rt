@@ -7,9 +7,9 @@ mod flows;
 pub mod laws;
 mod misrouted;
 mod tangle;
-mod tangles;
+mod tangling;
 
 pub use explaining::explain;
 pub use explanation::Explanation;
 pub use tangle::Tangle;
-pub use tangles::tangles;
+pub use tangling::tangles;

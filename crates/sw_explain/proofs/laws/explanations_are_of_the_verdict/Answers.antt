@@ -1,4 +1,4 @@
-use Rattle.sw_explain.proofs.Kinds.{of_the_verdict}
+use Rattle.sw_explain.proofs.Verdicts.{of_the_verdict}
 use Rattle.sw_explain.proofs.laws.explanations_are_of_the_verdict.Goals as goal
 
 pub returns : goal.returns

@@ -8,7 +8,7 @@ use Rattle.sw_parts.proofs.Carried.{parts_carry_over}
 use Rattle.sw_search.specs.Verdicts.{depends}
 use Rattle.sw_explain.specs.Tangles.{IsTangle}
 use Rattle.sw_explain.proofs.Told.{zip_push}
-use Rattle.sw_explain.proofs.tangles.tangles.Goals as goal
+use Rattle.sw_explain.proofs.tangling.tangles.Goals as goal
 
 pub tangle-requires-clause-part : goal.tangle-requires-clause-part
 tangle-requires-clause-part g c =
