@@ -9,10 +9,11 @@ use Rattle.sw_graph.specs.Laws.{IsCycle}
 use Rattle.sw_parts.specs.declared.part.Part.{Part}
 use Rattle.sw_parts.specs.Parts.{AreParts, IsPart}
 use Rattle.sw_parts.proofs.Lawful.{parts_are_where_cycles_are}
-use Rattle.sw_search.specs.Verdicts.{depends}
+use Rattle.sw_search.specs.Verdicts.{AllWellRouted, depends}
 use Rattle.sw_explain.specs.declared.tangle.Tangle.{Tangle}
 use Rattle.sw_explain.specs.Laws.{TanglesAreShown, TanglesAreWhereCyclesAre}
-use Rattle.sw_explain.specs.Tangles.{IsTangle}
+use Rattle.sw_explain.specs.Explanations.{NeverWaits}
+use Rattle.sw_explain.specs.Tangles.{AreTangles, IsTangle}
 
 some_of : (dep : ℕ → ℕ → Type 0) (cycle : List ℕ) → IsCycle dep cycle → 0 < length cycle
 some_of dep [] h = absurd h
@@ -48,3 +49,9 @@ tangles_are_where_cycles_are d tangles h =
       λ none. law.0 (none_zip (IsTangle d) h.parts tangles h.told none),
       λ free. zip_none (IsTangle d) h.parts tangles h.told (law.1 free),
     )
+
+-- ---- what is told where each flow is well routed
+
+pub never_waits : (d : Declaration) (tangles : List Tangle) → AllWellRouted d → AreTangles d tangles → length tangles ≡ 0 → NeverWaits d
+never_waits d [] routed h none = record { routed = routed; no_cycle = (tangles_are_where_cycles_are d [] h).0 refl }
+never_waits d (t ∷ tangles) routed h none = absurd (omega arith)

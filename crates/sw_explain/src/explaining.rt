@@ -24,7 +24,8 @@ fn routed<R: Threads + Sync>(
     ensures { IfOk result (IsExplanation network.now) }
 {
     let found = tangles(rt, alloc, network, places)?;
-    if found.is_empty() {
+    let count = found.len();
+    if count == 0 {
         return Ok(Explanation::Free);
     }
     Ok(Explanation::Cyclic(found))

@@ -1,6 +1,6 @@
 //! The tangles of a network.
 ghost use Rattle.std.specs.Prelude.{◌≡◌, IfOk};
-ghost use Rattle.sw_parts.specs.Parts.{IsPart};
+ghost use Rattle.sw_parts.specs.Parts.{AreParts, IsPart};
 ghost use Rattle.sw_search.specs.Lists.{AreListed};
 ghost use Rattle.sw_search.specs.Verdicts.{depends};
 ghost use Rattle.sw_explain.specs.Tangles.{AreTangles, IsTangle};
@@ -48,6 +48,24 @@ fn tangle(
     })
 }
 
+/// The tangles of the parts of the dependencies.
+fn tangles_of(
+    alloc: Global,
+    network: &Network,
+    places: &[Vec<Place>],
+    parts: &[Part],
+) -> Result<Vec<Tangle>, AllocError>
+    requires lists { AreListed network.now places.now }
+    requires parts { AreParts (depends network.now) parts.now }
+    ensures { IfOk result (λ v. AreTangles network.now v.items) }
+{
+    let mut tangles = Vec::new(alloc);
+    for part in parts {
+        tangles.push(tangle(alloc, network, places, part)?)?;
+    }
+    Ok(tangles)
+}
+
 /// The tangles of the network's channels, in the order of the least channels in them, each with its
 /// shortest cycle; none where no channels can wait for one another in a circle. Whether the flows
 /// are well routed does not matter.
@@ -70,10 +88,6 @@ pub fn tangles<R: Threads + Sync>(
     // There are at most 2,048.
     let _channels = network.channels();
     let rows = dependencies(rt, alloc, network, places)?;
-    let parts = parts(alloc, &rows)?;
-    let mut tangles = Vec::new(alloc);
-    for part in &parts {
-        tangles.push(tangle(alloc, network, places, part)?)?;
-    }
-    Ok(tangles)
+    let found = parts(alloc, &rows)?;
+    tangles_of(alloc, network, places, &found)
 }
