@@ -1,6 +1,5 @@
 -- Tangles, one after another, and the flows of their steps.
-use Rattle.std.proofs.Common.{◌≡◌, ℕ, zero, suc, ◌+◌, ◌<◌, ◌≤◌, ◌⊎◌, List, [], ◌∷◌, ◌++◌, length, get_or, refl, sym, ap, ◌∙◌, subst, inl, inr, arith, ◌-◌, Vec, Global}
-use Rattle.std.specs.Prelude.{slice_get, Some}
+use Rattle.std.proofs.Common.{◌≡◌, ℕ, zero, suc, ◌+◌, ◌<◌, List, [], ◌∷◌, ◌++◌, length, get_or, refl, sym, ap, ◌∙◌, subst, inl, inr, arith, ◌-◌, Vec, Global}
 use Rattle.std.specs.List.{AllZip}
 use Rattle.std.proofs.lemmas.Bool.{cases_lt}
 use Rattle.std.proofs.lemmas.List.{get_or-append_right, get_or_append_left, length-append}
@@ -12,7 +11,6 @@ use Rattle.sw_cycle.specs.Cycles.{round}
 use Rattle.sw_graph.specs.Laws.{IsChain, IsCycle}
 use Rattle.sw_graph.specs.Reached.{IsListing}
 use Rattle.sw_graph.specs.Rows.{items_of, row}
-use Rattle.sw_graph.proofs.Listed.{row_read}
 use Rattle.sw_search.specs.Verdicts.{depends}
 use Rattle.sw_explain.specs.Tangles.{AreFlows}
 

@@ -1,20 +1,15 @@
 -- An explanation is of the kind of the verdict.
-use Rattle.std.proofs.Common.{◌≡◌, List, []}
-use Rattle.sw_search.specs.declared.verdict.Verdict.{Verdict}
 use Rattle.sw_search.specs.declared.verdict.Verdict.TheVariants.{Misrouted, Cyclic, Free}
 use Rattle.sw_search.specs.Laws.{SomeMisrouted}
-use Rattle.sw_search.specs.Verdicts.{AllWellRouted, IsMisrouted, IsVerdict, depends}
+use Rattle.sw_search.specs.Verdicts.{AllWellRouted, depends}
 use Rattle.sw_search.proofs.Determined.{determined}
 use Rattle.sw_search.proofs.Exactly.{verdicts_tell}
 use Rattle.sw_search.proofs.Levels.{has_cycle}
 use Rattle.sw_flow.specs.Faults.{IsWellRouted}
 use Rattle.sw_config.specs.Entries.{Declaration, all_flows}
 use Rattle.std.proofs.lemmas.List.Elements.{All-contains}
-use Rattle.sw_explain.specs.declared.explanation.Explanation.{Explanation}
 use Rattle.sw_explain.specs.declared.explanation.Explanation.TheVariants as told
-use Rattle.sw_explain.specs.declared.tangle.Tangle.{Tangle}
-use Rattle.sw_explain.specs.Laws.{ExplanationsAreOfTheVerdict, IsOfKind}
-use Rattle.sw_explain.specs.Tangles.{AreTangles}
+use Rattle.sw_explain.specs.Laws.{ExplanationsAreOfTheVerdict}
 use Rattle.sw_explain.proofs.Lawful.{tangles_are_where_cycles_are}
 
 not_routed : (d : Declaration) → SomeMisrouted d → AllWellRouted d → ⊥

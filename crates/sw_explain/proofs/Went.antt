@@ -7,7 +7,7 @@ use Rattle.sw_flow.specs.declared.fault.RouteFault.{RouteFault}
 use Rattle.sw_flow.specs.declared.place.Place.{Place}
 use Rattle.sw_flow.specs.Faults.{fault_of, first_fault_of}
 use Rattle.sw_flow.specs.Places.{IsPlace}
-use Rattle.sw_flow.specs.Ways.{IsWayIfPlace, IsWayTo}
+use Rattle.sw_flow.specs.Ways.{IsWayIfPlace}
 use Rattle.sw_flow.proofs.Listed.{Contains-head, Contains-later}
 use Rattle.sw_search.specs.Verdicts.{IsMisrouted}
 use Rattle.sw_explain.specs.Explanations.{GoesWrong}

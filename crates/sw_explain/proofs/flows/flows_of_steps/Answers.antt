@@ -1,4 +1,4 @@
-use Rattle.std.proofs.Common.{◌≡◌, ◌<◌, ◌++◌, ◌∷◌, [], length, sym, arith}
+use Rattle.std.proofs.Common.{◌<◌, length, arith}
 use Rattle.sw_cycle.specs.Causes.{GoesOn}
 use Rattle.sw_cycle.proofs.Chosen.{as_round}
 use Rattle.sw_graph.specs.Reached.{IsListing}

@@ -1,4 +1,3 @@
-use Rattle.std.proofs.Common.{◌∙◌}
 use Rattle.sw_explain.proofs.Told.{is_round}
 use Rattle.sw_explain.proofs.tangling.tangle.Goals as goal
 
