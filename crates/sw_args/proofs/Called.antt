@@ -11,9 +11,10 @@ use Rattle.clap.specs.Simple.{App, Shape, argument_words, built, entered, label_
 use Rattle.clap.specs.Walk.{Row, Text, answers_to, finished, nothing_held, rows_after, settled, stop_after, walk, walk_from}
 use Rattle.sw_args.specs.CommandLine.{IsCallOf, IsMatched, swcheck_app}
 use Rattle.sw_args.specs.declared.command_line.Call.{Call}
-use Rattle.sw_args.specs.declared.command_line.Call.TheVariants.{Route, Decide, Check, Report, Replay, Run, Migrate}
+use Rattle.sw_args.specs.declared.command_line.Call.TheVariants.{Route, Decide, Check, Report, Replay, Run, Migrate, Explain}
 use Rattle.sw_args.proofs.Kept.{Each, first_none, found_in, then_none}
-use Rattle.sw_args.proofs.Given.{file_given, file_rules, leaf, pair_given, pair_rules, run_given, run_rules}
+use Rattle.sw_args.proofs.Given.{file_given, file_rules, flag_given, flag_rules, leaf, pair_given, pair_rules, run_given, run_rules}
+use Rattle.sw_args.proofs.Flags.{some_flag}
 use Rattle.sw_args.proofs.Named.{NotAtHelp, not_at_help}
 
 abbrev HasCall : Text → List Row → Type 0
@@ -94,6 +95,12 @@ migrate_call name is other words e =
     let given = file_given (codes "migrate") words e in
     (Migrate (lent given.0), (refl, given.1))
 
+explain_call : GivesCall (leaf (codes "explain") (flag_rules (codes "all")))
+explain_call name is other words e =
+    let given = flag_given (codes "explain") (codes "all") words refl refl e in
+    let all = some_flag (codes "all") (rows_after (flag_rules (codes "all")) [] words) in
+    (Explain (lent given.0) all.0, (refl, given.1, all.1))
+
 run_call : GivesCall (leaf (codes "run") run_rules)
 run_call name is other words e =
     let given = run_given (codes "run") words e in
@@ -117,7 +124,7 @@ no_help s named none name is other words e = go s.aliases none is
 pub called : (words : List Text) → fault_of swcheck_app words ≡ [] → (call : Call) × IsMatched (subcommand_of swcheck_app words) call
 called words e =
     let found = found_call (built swcheck_app) (argument_words swcheck_app words) refl refl
-    (route_call, (decide_call, (check_call, (report_call, (replay_call, (run_call, (migrate_call, (no_help _ refl refl, tt)))))))) e in
+    (route_call, (decide_call, (check_call, (report_call, (replay_call, (run_call, (migrate_call, (explain_call, (no_help _ refl refl, tt))))))))) e in
     (found.3.0, (found.0, found.1, found.2, found.3.1))
 
 -- what was matched is a call where the words are one

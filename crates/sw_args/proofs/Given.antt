@@ -24,7 +24,7 @@ use Rattle.clap.specs.declared.builder.value_parser.ValueParser.TheVariants.{Sig
 use Rattle.clap.specs.declared.error.kind.ErrorKind.TheVariants as kind
 use Rattle.clap.specs.declared.parser.matches.ValueSource.{ValueSource}
 use Rattle.clap.specs.declared.parser.matches.ValueSource.TheVariants.{CommandLine, DefaultValue}
-use Rattle.sw_args.specs.CommandLine.{IsCount, count_rule, most_steps, most_workers, required_value}
+use Rattle.sw_args.specs.CommandLine.{IsCount, count_rule, flag_rule, most_steps, most_workers, required_value}
 use Rattle.sw_args.proofs.Kept.{Each, Keeps, KeepsDefault, defaults_keep, end_keeps, first_none, found_in, then_none, walk_keeps}
 
 -- the value is a number from 1 up to the most
@@ -77,6 +77,9 @@ required_at i id = with_index i (filled (required_value id))
 abbrev pub count_at : ℕ → Text → Text → ℕ → Rule
 count_at i name usual most = with_index i (filled (count_rule name usual most))
 
+abbrev pub flag_at : ℕ → Text → Rule
+flag_at i name = with_index i (filled (flag_rule name))
+
 abbrev pub help_at : ℕ → Rule
 help_at i = with_index i (filled help_rule)
 
@@ -109,6 +112,18 @@ count_default i name usual most counts rows e each = go (has_row name rows) e
         → Each Holds (cond b rows (with_values name WithoutMinus DefaultValue (usual ∷ []) rows))
     go true f = each
     go false f = values_hold name WithoutMinus DefaultValue usual [] rows (counts usual (accepted false (Signed (pos 1) (pos most)) usual (first_none (value_kinds false (Signed (pos 1) (pos most)) usual) [] f))) each
+
+flag_keeps : (again : Bool) (i : ℕ) (name : Text) → ((v : Text) → Counts name AsWritten v) → Keeps Holds again (flag_at i name)
+flag_keeps again i name counts [] rows e each =
+    values_hold name AsWritten CommandLine (codes "true") [] (without name rows) (counts (codes "true")) (without_holds name rows each)
+flag_keeps again i name counts (v ∷ vs) rows e each = values_hold name AsWritten CommandLine v vs (without name rows) (counts v) (without_holds name rows each)
+
+flag_default : (i : ℕ) (name : Text) → ((v : Text) → Counts name AsWritten v) → KeepsDefault Holds (flag_at i name)
+flag_default i name counts rows e each = go (has_row name rows)
+  where
+    go : (b : Bool) → Each Holds (cond b rows (with_values name AsWritten DefaultValue (codes "false" ∷ []) rows))
+    go true = each
+    go false = values_hold name AsWritten DefaultValue (codes "false") [] rows (counts (codes "false")) each
 
 help_keeps : (again : Bool) (i : ℕ) → Keeps Holds again (help_at i)
 help_keeps again i values rows e each =
@@ -296,6 +311,9 @@ level_gives name rules words keeps defaults e =
 abbrev pub file_rules : List Rule
 file_rules = required_at 1 (codes "FILE") ∷ help_at 2 ∷ []
 
+abbrev pub flag_rules : Text → List Rule
+flag_rules name = required_at 1 (codes "FILE") ∷ flag_at 2 name ∷ help_at 2 ∷ []
+
 abbrev pub pair_rules : Text → List Rule
 pair_rules second = required_at 1 (codes "FILE") ∷ required_at 2 second ∷ help_at 3 ∷ []
 
@@ -313,6 +331,15 @@ pub file_given : (name : Text) (words : List Text) → Level name file_rules wor
 file_given name words e =
     let level = level_gives name file_rules words (required_keeps false 1 (codes "FILE") file_counts, (help_keeps false 2, tt))
     (required_default 1 (codes "FILE"), (help_default 2, tt)) e in
+    given_value (codes "FILE") _ level.0 level.1.0
+
+pub flag_given : (name flag : Text) (words : List Text) → bytes_eq flag (codes "workers") ≡ false → bytes_eq flag (codes "limit") ≡ false
+    → Level name (flag_rules flag) words → HasFirst (codes "FILE") (rows_after (flag_rules flag) [] words)
+flag_given name flag words one two e =
+    let counts = counts_nothing flag AsWritten one two in
+    let level = level_gives name (flag_rules flag) words
+    (required_keeps false 1 (codes "FILE") file_counts, (flag_keeps false 2 flag counts, (help_keeps false 2, tt)))
+    (required_default 1 (codes "FILE"), (flag_default 2 flag counts, (help_default 2, tt))) e in
     given_value (codes "FILE") _ level.0 level.1.0
 
 pub pair_given : (name second : Text) (words : List Text) → bytes_eq second (codes "workers") ≡ false → bytes_eq second (codes "limit") ≡ false

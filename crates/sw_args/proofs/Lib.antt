@@ -1,5 +1,6 @@
 mod Called
 mod CommandLines
+mod Flags
 mod Given
 mod Kept
 mod Named

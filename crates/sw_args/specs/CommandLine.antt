@@ -1,15 +1,16 @@
 -- The words that the program takes.
-use Rattle.std.specs.Prelude.{◌≡◌, ◌≢◌, ◌≤◌, ◌<◌, ◌⊎◌, ℕ, List, [], ◌∷◌, Option, Some, codes, pos, true, Result, Ok, Err}
+use Rattle.std.specs.Prelude.{◌≡◌, ◌≢◌, ◌≤◌, ◌<◌, ◌⊎◌, ◌↔◌, ℕ, Bool, List, [], ◌∷◌, Option, Some, codes, pos, true, Result, Ok, Err}
 use Rattle.std.specs.declared.alloc.AllocError.{AllocError}
 use Rattle.clap.specs.Built.{AddsSubcommand}
 use Rattle.clap.specs.declared.builder.command.Command.{Command}
 use Rattle.std.specs.Str.Parse.{IsNumeral, digits_value, without_leading_plus}
 use Rattle.clap.specs.Words.{App, Row, Rule, IsAmong, fault_of, first_of, new_app, new_rule, one_of, subcommand_of, with_rule, with_subcommand}
+use Rattle.clap.specs.declared.builder.action.ArgAction.TheVariants.{SetTrue}
 use Rattle.clap.specs.declared.builder.value_parser.ValueParser.TheVariants.{Signed}
 use Rattle.clap.specs.declared.error.kind.ErrorKind.{ErrorKind}
 use Rattle.clap.specs.declared.error.kind.ErrorKind.TheVariants.{DisplayHelp, DisplayVersion, OutOfMemory}
 use Rattle.sw_args.specs.declared.command_line.Call.{Call}
-use Rattle.sw_args.specs.declared.command_line.Call.TheVariants.{Route, Decide, Check, Report, Replay, Run, Migrate}
+use Rattle.sw_args.specs.declared.command_line.Call.TheVariants.{Route, Decide, Check, Report, Replay, Run, Migrate, Explain}
 use Rattle.sw_args.specs.declared.command_line.WordsFault.{WordsFault}
 use Rattle.sw_args.specs.declared.command_line.WordsFault.TheVariants.{Help, Refused, Memory}
 
@@ -24,6 +25,10 @@ count_rule name usual most = record (new_rule name) {
   defaults = usual ∷ [];
   parser = Some (Signed (pos 1) (pos most));
 }
+
+-- an option `--NAME`, which is given or not
+abbrev pub flag_rule : List ℕ → Rule
+flag_rule name = record (new_rule name) { long = Some name; action = Some SetTrue }
 
 -- `route FILE FLOW`
 abbrev pub route_app : App
@@ -62,6 +67,10 @@ run_app = with_rule (with_rule (with_rule (with_rule (new_app (codes "run")) (re
 abbrev pub migrate_app : App
 migrate_app = with_rule (new_app (codes "migrate")) (required_value (codes "FILE"))
 
+-- `explain FILE [--all]`
+abbrev pub explain_app : App
+explain_app = with_rule (with_rule (new_app (codes "explain")) (required_value (codes "FILE"))) (flag_rule (codes "all"))
+
 -- `swcheck`, which asks for a subcommand
 abbrev pub top_app : App
 top_app = let a = new_app (codes "swcheck") in record a { top = record a.top { subcommand_required = true } }
@@ -69,14 +78,15 @@ top_app = let a = new_app (codes "swcheck") in record a { top = record a.top { s
 -- the whole command line: each subcommand stands in a line of its own
 abbrev pub swcheck_app : App
 swcheck_app =
-    with_subcommand (with_subcommand (with_subcommand (with_subcommand (with_subcommand (with_subcommand (with_subcommand top_app
+    with_subcommand (with_subcommand (with_subcommand (with_subcommand (with_subcommand (with_subcommand (with_subcommand (with_subcommand top_app
     route_app.top)
     decide_app.top)
     check_app.top)
     report_app.top)
     replay_app.top)
     run_app.top)
-    migrate_app.top
+    migrate_app.top)
+    explain_app.top
 
 -- the command has a subcommand that was made
 abbrev pub WithMade : Command → Result Command AllocError → Command → Type 0
@@ -90,6 +100,10 @@ SaysNumber name values number = (text : List ℕ) × (one_of name values ≡ Som
 -- and the number is 1 or more, and not over the most
 abbrev pub IsCount : ℕ → List ℕ → List Row → ℕ → Type 0
 IsCount most name values number = SaysNumber name values number × (1 ≤ number) × (number ≤ most)
+
+-- an option without a value was given, exactly where clap's own value of it is this word
+abbrev pub IsSet : List ℕ → List Row → Bool → Type 0
+IsSet name values given = (given ≡ true) ↔ (one_of name values ≡ Some (codes "true"))
 
 -- a subcommand with these values is this call
 abbrev pub IsCallOf : List ℕ → List Row → Call → Type 0
@@ -110,6 +124,9 @@ IsCallOf name values (Run file load workers limit) = (name ≡ codes "run")
     × IsCount most_workers (codes "workers") values workers
     × IsCount most_steps (codes "limit") values limit
 IsCallOf name values (Migrate file) = (name ≡ codes "migrate") × (first_of (codes "FILE") values ≡ Some file.now)
+IsCallOf name values (Explain file all) = (name ≡ codes "explain")
+    × (first_of (codes "FILE") values ≡ Some file.now)
+    × IsSet (codes "all") values all
 
 -- a run has a worker
 abbrev pub HasWorkers : Call → Type 0
@@ -120,6 +137,7 @@ HasWorkers (Check file certificate) = Unit {0}
 HasWorkers (Report file) = Unit {0}
 HasWorkers (Replay file schedule) = Unit {0}
 HasWorkers (Migrate file) = Unit {0}
+HasWorkers (Explain file all) = Unit {0}
 
 -- the subcommand that was met, with its values, is this call
 abbrev pub IsMatched : Option (List ℕ × List Row) → Call → Type 0

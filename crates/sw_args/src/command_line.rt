@@ -4,10 +4,10 @@ ghost use Rattle.clap.specs.Words.{app_of, first_of, found_of, kind_of, rows_of,
 ghost use Rattle.clap.specs.declared.builder.Command.TheViews.{out-Command};
 ghost use Rattle.sw_args.specs.declared.command_line.Call.{Call};
 ghost use Rattle.sw_args.specs.declared.command_line.WordsFault.TheVariants.{Memory};
-ghost use Rattle.sw_args.specs.CommandLine.{check_app, count_rule, decide_app, migrate_app, replay_app, report_app, required_value, route_app, run_app, swcheck_app, top_app, Gives, IsCallOf, IsCount, IsMatched, Refuses, SaysNumber, ShowsKind, Tells, WithMade};
+ghost use Rattle.sw_args.specs.CommandLine.{check_app, count_rule, decide_app, explain_app, flag_rule, migrate_app, replay_app, report_app, required_value, route_app, run_app, swcheck_app, top_app, Gives, IsCallOf, IsCount, IsMatched, IsSet, Refuses, SaysNumber, ShowsKind, Tells, WithMade};
 
 use clap::error::ErrorKind;
-use clap::{Arg, ArgMatches, Command};
+use clap::{Arg, ArgAction, ArgMatches, Command};
 use std::alloc::{AllocError, Global};
 use thiserror::Error;
 
@@ -47,6 +47,11 @@ pub enum Call<'a> {
     /// A network file of version 1 as one of version 2.
     Migrate {
         file: &'a str,
+    },
+    /// Why a network can lock up, or that it never does; with all flows of a step, or six and how many more there are.
+    Explain {
+        file: &'a str,
+        all: bool,
     },
 }
 
@@ -203,6 +208,31 @@ fn migrate_command<'a>(alloc: Global) -> Result<Command<'a>, AllocError>
     migrate.arg(file)
 }
 
+// An option that has no value: it is given or not.
+fn flag_arg<'a>(alloc: Global, name: &'static str, help: &'static str) -> Arg<'a>
+    ensures { (rule_of result ≡ flag_rule name.now) × (result.global ≡ false) }
+{
+    Arg::new(alloc, name)
+        .long(name)
+        .action(ArgAction::SetTrue)
+        .help(help)
+}
+
+fn explain_command<'a>(alloc: Global) -> Result<Command<'a>, AllocError>
+    ensures { IfOk result (λ c. (app_of c ≡ explain_app) × ((out-Command c).has_globals ≡ false)) }
+{
+    let file = value_arg(alloc, "FILE", "A network file");
+    let all = flag_arg(
+        alloc,
+        "all",
+        "Name each flow that makes a step, not just six of them",
+    );
+    let explain = Command::new(alloc, "explain")
+        .about("Print in words why a network can lock up, or that it never does")
+        .after_help("Example: swcheck explain examples/ring.toml");
+    explain.arg(file)?.arg(all)
+}
+
 fn top_command<'a>(alloc: Global) -> Command<'a>
     ensures { app_of result ≡ top_app }
 {
@@ -230,7 +260,8 @@ fn swcheck_command<'a>(alloc: Global) -> Result<Command<'a>, AllocError>
     let command = with_made(command, report_command(alloc))?;
     let command = with_made(command, replay_command(alloc))?;
     let command = with_made(command, run_command(alloc))?;
-    with_made(command, migrate_command(alloc))
+    let command = with_made(command, migrate_command(alloc))?;
+    with_made(command, explain_command(alloc))
 }
 
 // How an error of clap's is told. That of a growth that was refused is told as any other such.
@@ -277,6 +308,13 @@ fn count_of(values: &ArgMatches<'_>, name: &str, most: u32) -> Option<u32>
     Some(number)
 }
 
+// Whether an option without a value was given.
+fn is_set(values: &ArgMatches<'_>, name: &str) -> bool
+    ensures { IsSet name.now (rows_of (found_of values.now)) result }
+{
+    values.get_one::<bool>(name).unwrap_or(false)
+}
+
 // The call of a subcommand. clap gives each value that the subcommand requires.
 fn call_of<'a>(name: &str, values: &ArgMatches<'a>) -> Option<Call<'a>>
     ensures calls { IfSome result (IsCallOf name.now (rows_of (found_of values.now))) }
@@ -306,6 +344,10 @@ fn call_of<'a>(name: &str, values: &ArgMatches<'a>) -> Option<Call<'a>>
         }),
         "migrate" => Some(Call::Migrate {
             file: value_of(values, "FILE")?,
+        }),
+        "explain" => Some(Call::Explain {
+            file,
+            all: is_set(values, "all"),
         }),
         _ => None,
     }

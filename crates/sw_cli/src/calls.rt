@@ -8,6 +8,7 @@ use std::sync::Wait;
 use std::thread::Threads;
 use std::{fs, io};
 use sw_app::{check, decide, migrate, replay, report, route};
+use sw_app_explain::explain;
 use sw_app_run::{Open, Options};
 use sw_args::{Call, WordsFault, words};
 use sw_command::Ended;
@@ -55,6 +56,7 @@ fn run_call<R: Files + Print + AllocGlobal + Threads + Wait + Sync>(rt: &R, call
             },
         ),
         Call::Migrate { file } => run_migrate(rt, file),
+        Call::Explain { file, all } => run_explain(rt, file, all),
     }
 }
 
@@ -114,6 +116,18 @@ fn run_migrate<R: Files + Print + AllocGlobal>(rt: &R, file: &str) -> Ended {
     };
     let mut writer = io::writer(rt);
     migrate(rt.alloc(), &mut reader, &mut writer)
+}
+
+fn run_explain<R: Files + Print + AllocGlobal + Threads + Sync>(
+    rt: &R,
+    file: &str,
+    all: bool,
+) -> Ended {
+    let Ok(mut reader) = fs::open(rt, file) else {
+        return Ended::ReadFailed;
+    };
+    let mut writer = io::writer(rt);
+    explain(rt, rt.alloc(), &mut reader, all, &mut writer)
 }
 
 fn run_load<R: Files + Print + AllocGlobal + Threads + Wait + Sync>(

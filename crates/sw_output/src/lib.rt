@@ -17,4 +17,6 @@ pub use counted_lines::sent_text;
 pub use flow_texts::{flow_name, place_words, route_fault_text};
 pub use packet_lines::undelivered_line;
 pub use report_texts::report_text;
-pub use verdict_texts::{cycle_text, cyclic_words, free_words, misrouted_text, misrouted_words};
+pub use verdict_texts::{
+    cycle_text, cyclic_words, free_words, misrouted_text, misrouted_words, node_name,
+};

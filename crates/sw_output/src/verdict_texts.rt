@@ -15,8 +15,8 @@ use sw_cycle::{Cause, Cycle};
 use sw_flow::{Place, RouteFault};
 use sw_topo::Chan;
 
-// The node's name, which is empty where there is no such node.
-fn node_name(network: &Network, node: u16) -> &str
+/// The node's name, which is empty where there is no such node.
+pub fn node_name(network: &Network, node: u16) -> &str
     ensures { result.now ≡ node_name network.now node }
 {
     if node < network.nodes() {

@@ -1,0 +1,2 @@
+mod OnChannels
+mod WayLines

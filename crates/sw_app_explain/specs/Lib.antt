@@ -1,0 +1,2 @@
+pub mod ExplainTexts
+pub mod ExplainAnswers

@@ -1,0 +1,12 @@
+//! The engine of `swcheck explain`.
+#![tactic(auto)]
+
+mod engine;
+mod explain_answer;
+mod explain_texts;
+mod route_texts;
+mod step_texts;
+mod tangle_texts;
+mod words;
+
+pub use engine::explain;

@@ -1,0 +1,141 @@
+//! The text of tangles.
+ghost use Rattle.std.specs.Prelude.{◌≡◌, ◌<◌, ◌++◌, All, IfOk, codes, length, string_bytes};
+ghost use Rattle.std.specs.List.{flat_map};
+ghost use Rattle.std.specs.Fmt.{decimal};
+ghost use Rattle.sw_config.specs.Entries.{wiring_of};
+ghost use Rattle.sw_explain.specs.declared.tangle.Tangle.{Tangle};
+ghost use Rattle.sw_app_explain.specs.ExplainTexts.{counts_text, step_line, step_lines, tangle_text, tangles_text, total_line, IsOfChannels};
+
+use crate::step_texts::{flows_text, step_words};
+use crate::words::counted;
+use std::alloc::{AllocError, Global};
+use sw_config::Network;
+use sw_cycle::Cycle;
+use sw_explain::Tangle;
+
+// The step from that channel of the cycle to the next one.
+fn step_line(
+    alloc: Global,
+    network: &Network,
+    all: bool,
+    cycle: &Cycle,
+    flows: &[Vec<u16>],
+    i: usize,
+) -> Result<String, AllocError>
+    requires within { All (λ c. c < length (wiring_of network.now).ends) cycle.now.channels }
+    requires caused { length cycle.now.causes ≡ length cycle.now.channels }
+    requires made { length flows.now ≡ length cycle.now.channels }
+    requires inside { i < length cycle.now.channels }
+    ensures { IfOk result (λ s. string_bytes s ≡ step_line network.now all cycle.now flows.now i) }
+{
+    let channels = cycle.channels.as_slice();
+    let to = channels[(i + 1) % channels.len()];
+    let words = step_words(alloc, network, channels[i], to, &cycle.causes[i])?;
+    let flows = flows_text(alloc, network, &flows[i], all)?;
+    let number = i + 1;
+    format!(in alloc; "{number}. {words}{flows}\n")
+}
+
+// A line for each channel of the cycle.
+fn step_lines(
+    alloc: Global,
+    network: &Network,
+    all: bool,
+    cycle: &Cycle,
+    flows: &[Vec<u16>],
+) -> Result<String, AllocError>
+    requires within { All (λ c. c < length (wiring_of network.now).ends) cycle.now.channels }
+    requires caused { length cycle.now.causes ≡ length cycle.now.channels }
+    requires made { length flows.now ≡ length cycle.now.channels }
+    ensures { IfOk result (λ s. string_bytes s ≡ step_lines network.now all cycle.now flows.now) }
+{
+    let mut text = String::new(alloc);
+    for i in 0..cycle.channels.len() {
+        text.push_str(step_line(alloc, network, all, cycle, flows, i)?.as_str())?;
+    }
+    Ok(text)
+}
+
+// The shortest cycle of a tangle.
+fn tangle_text(
+    alloc: Global,
+    network: &Network,
+    all: bool,
+    tangle: &Tangle,
+) -> Result<String, AllocError>
+    requires { IsOfChannels network.now tangle.now }
+    ensures { IfOk result (λ s. string_bytes s ≡ tangle_text network.now all tangle.now) }
+{
+    let count = counted(alloc, tangle.cycle.channels.len(), "channel")?;
+    let lines = step_lines(alloc, network, all, &tangle.cycle, &tangle.flows)?;
+    format!(in alloc; "shortest cycle: {count}\n{lines}")
+}
+
+// How many channels each of more tangles has, each behind a comma.
+fn more_counts(alloc: Global, tangles: &[Tangle]) -> Result<String, AllocError>
+    ensures { IfOk result (λ s. string_bytes s ≡ flat_map (λ (u : Tangle). codes ", " ++ decimal u.channels) tangles.now) }
+{
+    let mut text = String::new(alloc);
+    for tangle in tangles {
+        let count = tangle.channels;
+        text.push_str(format!(in alloc; ", {count}")?.as_str())?;
+    }
+    Ok(text)
+}
+
+// How many channels each tangle has, with a comma between each two.
+fn counts_text(alloc: Global, tangles: &[Tangle]) -> Result<String, AllocError>
+    ensures { IfOk result (λ s. string_bytes s ≡ counts_text tangles.now) }
+{
+    match tangles {
+        [] => Ok(String::new(alloc)),
+        [first, rest @ ..] => {
+            let count = first.channels;
+            let more = more_counts(alloc, rest)?;
+            format!(in alloc; "{count}{more}")
+        }
+    }
+}
+
+// How many tangles there are, and of how many channels each.
+fn total_line(alloc: Global, tangles: &[Tangle]) -> Result<String, AllocError>
+    ensures { IfOk result (λ s. string_bytes s ≡ total_line tangles.now) }
+{
+    let total = counted(alloc, tangles.len(), "tangle")?;
+    let counts = counts_text(alloc, tangles)?;
+    format!(in alloc;
+        "{total} of {counts} channels; buffers, slots and arbiters do not change this\n"
+    )
+}
+
+// The shortest cycle of each tangle.
+fn cycles_text(
+    alloc: Global,
+    network: &Network,
+    all: bool,
+    tangles: &[Tangle],
+) -> Result<String, AllocError>
+    requires { All (IsOfChannels network.now) tangles.now }
+    ensures { IfOk result (λ s. string_bytes s ≡ flat_map (tangle_text network.now all) tangles.now) }
+{
+    let mut text = String::new(alloc);
+    for tangle in tangles {
+        text.push_str(tangle_text(alloc, network, all, tangle)?.as_str())?;
+    }
+    Ok(text)
+}
+
+/// The shortest cycle of each tangle, and how many tangles there are.
+pub(crate) fn tangles_text(
+    alloc: Global,
+    network: &Network,
+    all: bool,
+    tangles: &[Tangle],
+) -> Result<String, AllocError>
+    requires { All (IsOfChannels network.now) tangles.now }
+    ensures { IfOk result (λ s. string_bytes s ≡ tangles_text network.now all tangles.now) }
+{
+    let cycles = cycles_text(alloc, network, all, tangles)?;
+    let total = total_line(alloc, tangles)?;
+    format!(in alloc; "{cycles}{total}")
+}
