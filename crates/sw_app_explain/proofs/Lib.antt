@@ -1,2 +1,3 @@
 mod OnChannels
 mod WayLines
+mod Steps

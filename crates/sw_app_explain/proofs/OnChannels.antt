@@ -1,5 +1,5 @@
 -- The channels that are named are the network's.
-use Rattle.std.proofs.Common.{◌≡◌, ℕ, zero, suc, ◌<◌, ◌∙◌, List, [], ◌∷◌, ◌++◌, All, length, refl, sym, ap, subst, arith, Vec, Global}
+use Rattle.std.proofs.Common.{ℕ, ◌<◌, List, [], ◌∷◌, All, length, sym, subst}
 use Rattle.std.specs.List.{AllZip}
 use Rattle.std.proofs.lemmas.List.Elements.{All-cons, All-head, All-nil, All-tail}
 use Rattle.sw_config.specs.Entries.{Declaration, FlowEntry, all_flows, wiring_of}
@@ -10,7 +10,7 @@ use Rattle.sw_explain.specs.declared.tangle.Tangle.{Tangle}
 use Rattle.sw_flow.proofs.Stepping.{places_are_in}
 use Rattle.sw_flow.specs.Places.{IsPlace, ends_of}
 use Rattle.sw_flow.specs.Places.IsPlace.{start, next}
-use Rattle.sw_flow.specs.Ways.{GoesFromStart, GoesOver, IsStart}
+use Rattle.sw_flow.specs.Ways.{GoesFromStart, GoesOver}
 use Rattle.sw_flow.specs.declared.fault.RouteFault.{RouteFault}
 use Rattle.sw_flow.specs.declared.place.Place.{Place}
 use Rattle.sw_graph.specs.Laws.{IsChain, IsCycle}

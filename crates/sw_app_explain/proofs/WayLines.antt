@@ -21,7 +21,7 @@ pub way_lines_more : (d : Declaration) (flow i : ℕ) (ps : List Place) (p : Pla
     → after ≡ way_lines_from d flow 0 (take (i + 1) ps)
 way_lines_more d flow i ps p before line after lt at so_far is more =
     let cut : take (i + 1) ps ≡ take i ps ++ p ∷ [] = take_more ps i p lt ∙ ap (λ q. take i ps ++ q ∷ []) (sym at) in
-    let size : 0 + length (take i ps) ≡ i = length-take-le i ps (omega arith) in
+    let size : 0 + length (take i ps) ≡ i = omega (arith, length-take-le i ps (omega arith)) in
     more ∙ ap (λ l. l ++ line) so_far ∙ ap (λ l. way_lines_from d flow 0 (take i ps) ++ l) is
     ∙ sym (way_lines_push d flow 0 i (take i ps) p size) ∙ ap (way_lines_from d flow 0) (sym cut)
 

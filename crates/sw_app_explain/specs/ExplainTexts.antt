@@ -1,5 +1,5 @@
 -- The text of `explain` (this project's choice).
-use Rattle.std.specs.Prelude.{◌≡◌, ◌<◌, ◌+◌, ◌-◌, ◌==◌, ℕ, Bool, true, false, All, List, Vec, [], ◌∷◌, ◌++◌, codes, flat_map, if◌then◌else◌, length, map, nat_lt, slice_get, take}
+use Rattle.std.specs.Prelude.{◌≡◌, ◌<◌, ◌+◌, ◌-◌, ◌==◌, ℕ, Bool, All, List, Vec, [], ◌∷◌, ◌++◌, codes, flat_map, if◌then◌else◌, length, nat_lt, slice_get, take}
 use Rattle.std.specs.Option.{option_map_or}
 use Rattle.std.specs.Fmt.{decimal}
 use Rattle.std.specs.List.{range_with_len}
@@ -33,10 +33,18 @@ numbered before = decimal (before + 1) ++ codes "."
 
 -- ---- a flow that is not well routed
 
+-- a channel, and what is deleted there
+abbrev pub deleting_words : List ℕ → List ℕ → List ℕ
+deleting_words channel deleted = channel ++ (codes ", with " ++ (deleted ++ codes " deleted"))
+
+-- the channel of a place, and how many address bytes are deleted there
+abbrev pub place_words : Declaration → Place → List ℕ
+place_words d p = deleting_words (channel_text d p.channel) (counted p.deleted (codes "address byte"))
+
 -- a place that packets of the flow go over, behind so many others
 abbrev pub way_line : Declaration → ℕ → ℕ → Place → List ℕ
-way_line d flow before p = line (numbered before ∷ codes "a packet of" ∷ flow_name d flow ∷ codes "goes on" ∷ (channel_text d p.channel ++ codes ",")
-    ∷ codes "with" ∷ counted p.deleted (codes "address byte") ∷ codes "deleted" ∷ [])
+way_line d flow before p =
+    line (numbered before ∷ codes "a packet of" ∷ flow_name d flow ∷ codes "goes on" ∷ place_words d p ∷ [])
 
 -- a line for each place, those behind so many others
 abbrev pub way_lines_from : Declaration → ℕ → ℕ → List Place → List ℕ
@@ -56,19 +64,28 @@ fault_words WrongLeft = codes "the flow's 'to' is reached with another number of
 abbrev pub fault_line : RouteFault → List ℕ
 fault_line fault = line ((route_fault_text fault ++ codes ":") ∷ fault_words fault ∷ [])
 
+-- the flow
+abbrev pub misrouted_line : Declaration → ℕ → List ℕ
+misrouted_line d flow = line (codes "misrouted" ∷ flow_name d flow ∷ [])
+
 -- the flow, the places that its packets go over, and what is wrong at the last of them
 abbrev pub misrouted_text : Declaration → ℕ → RouteFault → List Place → List ℕ
-misrouted_text d flow fault way = line (codes "misrouted" ∷ flow_name d flow ∷ []) ++ (way_lines d flow way ++ fault_line fault)
+misrouted_text d flow fault way = misrouted_line d flow ++ (way_lines d flow way ++ fault_line fault)
 
 -- ---- channels that may wait for one another
 
--- why a packet on one channel may wait for the next one: a flow's packet holds the one until it gets the other, or a target takes nothing
--- while it answers
+-- a flow's packet holds one channel until it gets another
+abbrev pub holding_words : List ℕ → List ℕ → List ℕ → List ℕ
+holding_words flow from to = spaced (codes "a packet of" ∷ flow ∷ codes "holds" ∷ from ∷ codes "and waits for" ∷ to ∷ [])
+
+-- a target takes nothing from one channel while it answers on another
+abbrev pub answering_words : List ℕ → List ℕ → List ℕ → List ℕ
+answering_words node from to = spaced (node ∷ codes "takes nothing from" ∷ from ∷ codes "until its reply has left on" ∷ to ∷ [])
+
+-- why a packet on one channel may wait for the next one
 abbrev pub step_words : Declaration → ℕ → ℕ → CauseEntry → List ℕ
-step_words d c e (ByFlow flow places) =
-    spaced (codes "a packet of" ∷ flow_name d flow ∷ codes "holds" ∷ channel_text d c ∷ codes "and waits for" ∷ channel_text d e ∷ [])
-step_words d c e (ByTarget node) =
-    spaced (node_name d node ∷ codes "takes nothing from" ∷ channel_text d c ∷ codes "until its reply has left on" ∷ channel_text d e ∷ [])
+step_words d c e (ByFlow flow places) = holding_words (flow_name d flow) (channel_text d c) (channel_text d e)
+step_words d c e (ByTarget node) = answering_words (node_name d node) (channel_text d c) (channel_text d e)
 
 -- the flows that are named: all of them, or the first six
 abbrev pub named : Bool → List ℕ → List ℕ
@@ -89,20 +106,29 @@ flows_text d all flows =
     if nat_lt (length flows) 2 then []
     else codes " (flows " ++ (names_text d (named all flows) ++ (more_text (length flows - length (named all flows)) ++ codes ")"))
 
--- the step from channel i of the cycle to the next one: its cause, and the flows that make it
+-- the step from channel i of the cycle to the next one, by its cause
+abbrev pub step_text : Declaration → CycleEntry → ℕ → List ℕ
+step_text d cycle i = option_map_or (step_words d (round cycle.channels i) (round cycle.channels (i + 1))) (slice_get cycle.causes i) []
+
+-- a step with its number and the flows that make it
+abbrev pub numbered_line : List ℕ → List ℕ → List ℕ → List ℕ
+numbered_line number step flows = number ++ (codes " " ++ (step ++ (flows ++ codes "\n")))
+
+-- the line of channel i of the cycle
 abbrev pub step_line : Declaration → Bool → CycleEntry → List (Vec ℕ Global) → ℕ → List ℕ
-step_line d all cycle flows i = option_map_or
-    (λ cause. line (numbered i ∷ (step_words d (round cycle.channels i) (round cycle.channels (i + 1)) cause ++ flows_text d all (row flows i)) ∷ []))
-    (slice_get cycle.causes i) []
+step_line d all cycle flows i = numbered_line (numbered i) (step_text d cycle i) (flows_text d all (row flows i))
 
 -- a line for each channel of the cycle
 abbrev pub step_lines : Declaration → Bool → CycleEntry → List (Vec ℕ Global) → List ℕ
 step_lines d all cycle flows = flat_map (step_line d all cycle flows) (range_with_len 0 (length cycle.channels))
 
+-- how many channels a shortest cycle has
+abbrev pub cycle_line : ℕ → List ℕ
+cycle_line count = line (codes "shortest cycle:" ∷ counted count (codes "channel") ∷ [])
+
 -- a tangle's shortest cycle
 abbrev pub tangle_text : Declaration → Bool → Tangle → List ℕ
-tangle_text d all t =
-    line (codes "shortest cycle:" ∷ counted (length t.cycle.channels) (codes "channel") ∷ []) ++ step_lines d all t.cycle t.flows.items
+tangle_text d all t = cycle_line (length t.cycle.channels) ++ step_lines d all t.cycle t.flows.items
 
 -- how many channels each tangle has, with a comma between each two
 abbrev pub counts_text : List Tangle → List ℕ

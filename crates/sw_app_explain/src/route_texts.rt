@@ -1,13 +1,30 @@
 //! The text of a flow that is not well routed.
 ghost use Rattle.std.specs.Prelude.{◌≡◌, ◌<◌, ◌+◌, ◌^◌, All, IfOk, length, string_bytes};
 ghost use Rattle.sw_config.specs.Entries.{wiring_of};
-ghost use Rattle.sw_app_explain.specs.ExplainTexts.{fault_line, fault_words, misrouted_text, way_line, way_lines};
+ghost use Rattle.sw_app_explain.specs.ExplainTexts.{deleting_words, fault_line, fault_words, misrouted_line, misrouted_text, place_words, way_line, way_lines};
 
-use crate::words::counted;
+use crate::words::{counted, numbered};
 use std::alloc::{AllocError, Global};
 use sw_config::Network;
 use sw_flow::{Place, RouteFault};
 use sw_output::{channel_text, flow_name, route_fault_text};
+
+// A channel, and what is deleted there.
+fn deleting_words(alloc: Global, channel: &str, deleted: &str) -> Result<String, AllocError>
+    ensures { IfOk result (λ s. string_bytes s ≡ deleting_words channel.now deleted.now) }
+{
+    format!(in alloc; "{channel}, with {deleted} deleted")
+}
+
+// The channel of the place, and how many address bytes are deleted there.
+fn place_words(alloc: Global, network: &Network, place: Place) -> Result<String, AllocError>
+    requires { place.channel < length (wiring_of network.now).ends }
+    ensures { IfOk result (λ s. string_bytes s ≡ place_words network.now place) }
+{
+    let channel = channel_text(alloc, network, place.channel)?;
+    let deleted = counted(alloc, place.deleted as usize, "address byte")?;
+    deleting_words(alloc, channel.as_str(), deleted.as_str())
+}
 
 // The line of the place that comes behind so many others.
 fn way_line(
@@ -21,11 +38,10 @@ fn way_line(
     requires few { before + 1 < 2 ^ 64 }
     ensures { IfOk result (λ s. string_bytes s ≡ way_line network.now flow before place) }
 {
-    let number = before + 1;
+    let number = numbered(alloc, before)?;
     let name = flow_name(network, flow);
-    let channel = channel_text(alloc, network, place.channel)?;
-    let deleted = counted(alloc, usize::from(place.deleted), "address byte")?;
-    format!(in alloc; "{number}. a packet of {name} goes on {channel}, with {deleted} deleted\n")
+    let words = place_words(alloc, network, place)?;
+    format!(in alloc; "{number} a packet of {name} goes on {words}\n")
 }
 
 // A line for each place.
@@ -67,6 +83,13 @@ fn fault_line(alloc: Global, fault: RouteFault) -> Result<String, AllocError>
     format!(in alloc; "{name}: {words}\n")
 }
 
+fn misrouted_line(alloc: Global, network: &Network, flow: u16) -> Result<String, AllocError>
+    ensures { IfOk result (λ s. string_bytes s ≡ misrouted_line network.now flow) }
+{
+    let name = flow_name(network, flow);
+    format!(in alloc; "misrouted {name}\n")
+}
+
 /// The flow, the places that its packets go over, and what is wrong at the last of them.
 pub(crate) fn misrouted_text(
     alloc: Global,
@@ -78,8 +101,8 @@ pub(crate) fn misrouted_text(
     requires { All (λ p. p.channel < length (wiring_of network.now).ends) way.now }
     ensures { IfOk result (λ s. string_bytes s ≡ misrouted_text network.now flow fault way.now) }
 {
-    let name = flow_name(network, flow);
+    let head = misrouted_line(alloc, network, flow)?;
     let lines = way_lines(alloc, network, flow, way)?;
     let fault = fault_line(alloc, fault)?;
-    format!(in alloc; "misrouted {name}\n{lines}{fault}")
+    format!(in alloc; "{head}{lines}{fault}")
 }

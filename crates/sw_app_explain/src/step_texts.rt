@@ -4,7 +4,7 @@ ghost use Rattle.std.specs.List.{flat_map};
 ghost use Rattle.sw_config.specs.Entries.{wiring_of};
 ghost use Rattle.sw_cycle.specs.Cycles.{cause_of};
 ghost use Rattle.sw_output.specs.FlowTexts.{flow_name};
-ghost use Rattle.sw_app_explain.specs.ExplainTexts.{flows_text, more_text, names_text, named, step_words};
+ghost use Rattle.sw_app_explain.specs.ExplainTexts.{answering_words, flows_text, holding_words, more_text, names_text, named, step_words};
 
 use std::alloc::{AllocError, Global};
 use sw_config::Network;
@@ -14,6 +14,20 @@ use sw_topo::Chan;
 
 /// How many of the flows that make a step are named, unless all are.
 const MOST_NAMED: usize = 6;
+
+// A flow's packet holds one channel until it gets another.
+fn holding_words(alloc: Global, flow: &str, from: &str, to: &str) -> Result<String, AllocError>
+    ensures { IfOk result (λ s. string_bytes s ≡ holding_words flow.now from.now to.now) }
+{
+    format!(in alloc; "a packet of {flow} holds {from} and waits for {to}")
+}
+
+// A target takes nothing from one channel while it answers on another.
+fn answering_words(alloc: Global, node: &str, from: &str, to: &str) -> Result<String, AllocError>
+    ensures { IfOk result (λ s. string_bytes s ≡ answering_words node.now from.now to.now) }
+{
+    format!(in alloc; "{node} takes nothing from {from} until its reply has left on {to}")
+}
 
 /// Why a packet on one channel may wait for the next one.
 pub(crate) fn step_words(
@@ -32,11 +46,11 @@ pub(crate) fn step_words(
     match cause {
         Cause::Flow(flow, _) => {
             let name = flow_name(network, *flow);
-            format!(in alloc; "a packet of {name} holds {from} and waits for {to}")
+            holding_words(alloc, name, from.as_str(), to.as_str())
         }
         Cause::Target(node) => {
             let name = node_name(network, *node);
-            format!(in alloc; "{name} takes nothing from {from} until its reply has left on {to}")
+            answering_words(alloc, name, from.as_str(), to.as_str())
         }
     }
 }

@@ -4,16 +4,45 @@ ghost use Rattle.std.specs.List.{flat_map};
 ghost use Rattle.std.specs.Fmt.{decimal};
 ghost use Rattle.sw_config.specs.Entries.{wiring_of};
 ghost use Rattle.sw_explain.specs.declared.tangle.Tangle.{Tangle};
-ghost use Rattle.sw_app_explain.specs.ExplainTexts.{counts_text, step_line, step_lines, tangle_text, tangles_text, total_line, IsOfChannels};
+ghost use Rattle.sw_app_explain.specs.ExplainTexts.{counts_text, cycle_line, numbered_line, step_line, step_lines, step_text, tangle_text, tangles_text, total_line, IsOfChannels};
 
 use crate::step_texts::{flows_text, step_words};
-use crate::words::counted;
+use crate::words::{counted, numbered};
 use std::alloc::{AllocError, Global};
 use sw_config::Network;
 use sw_cycle::Cycle;
 use sw_explain::Tangle;
 
-// The step from that channel of the cycle to the next one.
+// The step from that channel of the cycle to the next one, by its cause.
+fn step_text(
+    alloc: Global,
+    network: &Network,
+    cycle: &Cycle,
+    i: usize,
+) -> Result<String, AllocError>
+    requires within { All (λ c. c < length (wiring_of network.now).ends) cycle.now.channels }
+    requires caused { length cycle.now.causes ≡ length cycle.now.channels }
+    requires inside { i < length cycle.now.channels }
+    ensures { IfOk result (λ s. string_bytes s ≡ step_text network.now cycle.now i) }
+{
+    let channels = cycle.channels.as_slice();
+    let to = channels[(i + 1) % channels.len()];
+    step_words(alloc, network, channels[i], to, &cycle.causes[i])
+}
+
+// A step with its number and the flows that make it.
+fn numbered_line(
+    alloc: Global,
+    number: &str,
+    step: &str,
+    flows: &str,
+) -> Result<String, AllocError>
+    ensures { IfOk result (λ s. string_bytes s ≡ numbered_line number.now step.now flows.now) }
+{
+    format!(in alloc; "{number} {step}{flows}\n")
+}
+
+// The line of that channel of the cycle.
 fn step_line(
     alloc: Global,
     network: &Network,
@@ -28,12 +57,10 @@ fn step_line(
     requires inside { i < length cycle.now.channels }
     ensures { IfOk result (λ s. string_bytes s ≡ step_line network.now all cycle.now flows.now i) }
 {
-    let channels = cycle.channels.as_slice();
-    let to = channels[(i + 1) % channels.len()];
-    let words = step_words(alloc, network, channels[i], to, &cycle.causes[i])?;
+    let number = numbered(alloc, i)?;
+    let step = step_text(alloc, network, cycle, i)?;
     let flows = flows_text(alloc, network, &flows[i], all)?;
-    let number = i + 1;
-    format!(in alloc; "{number}. {words}{flows}\n")
+    numbered_line(alloc, number.as_str(), step.as_str(), flows.as_str())
 }
 
 // A line for each channel of the cycle.
@@ -56,6 +83,14 @@ fn step_lines(
     Ok(text)
 }
 
+// How many channels a shortest cycle has.
+fn cycle_line(alloc: Global, count: usize) -> Result<String, AllocError>
+    ensures { IfOk result (λ s. string_bytes s ≡ cycle_line count) }
+{
+    let count = counted(alloc, count, "channel")?;
+    format!(in alloc; "shortest cycle: {count}\n")
+}
+
 // The shortest cycle of a tangle.
 fn tangle_text(
     alloc: Global,
@@ -66,9 +101,9 @@ fn tangle_text(
     requires { IsOfChannels network.now tangle.now }
     ensures { IfOk result (λ s. string_bytes s ≡ tangle_text network.now all tangle.now) }
 {
-    let count = counted(alloc, tangle.cycle.channels.len(), "channel")?;
+    let head = cycle_line(alloc, tangle.cycle.channels.len())?;
     let lines = step_lines(alloc, network, all, &tangle.cycle, &tangle.flows)?;
-    format!(in alloc; "shortest cycle: {count}\n{lines}")
+    format!(in alloc; "{head}{lines}")
 }
 
 // How many channels each of more tangles has, each behind a comma.

@@ -1,6 +1,6 @@
 //! Numbers in words.
-ghost use Rattle.std.specs.Prelude.{◌≡◌, IfOk, string_bytes};
-ghost use Rattle.sw_app_explain.specs.ExplainTexts.{counted, ending};
+ghost use Rattle.std.specs.Prelude.{◌≡◌, ◌<◌, ◌+◌, ◌^◌, IfOk, string_bytes};
+ghost use Rattle.sw_app_explain.specs.ExplainTexts.{counted, ending, numbered};
 
 use std::alloc::{AllocError, Global};
 
@@ -17,4 +17,13 @@ pub(crate) fn counted(alloc: Global, count: usize, noun: &str) -> Result<String,
 {
     let ending = ending(count);
     format!(in alloc; "{count} {noun}{ending}")
+}
+
+/// The number of a line that comes behind so many others.
+pub(crate) fn numbered(alloc: Global, before: usize) -> Result<String, AllocError>
+    requires { before + 1 < 2 ^ 64 }
+    ensures { IfOk result (λ s. string_bytes s ≡ numbered before) }
+{
+    let number = before + 1;
+    format!(in alloc; "{number}.")
 }

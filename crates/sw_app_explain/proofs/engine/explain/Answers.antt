@@ -12,5 +12,5 @@ returns-in-Ok-explain_answer g c =
     (rw c.deref.ensures.value c.in-Ok.ensures.given) c.in-Ok.ensures.end (rw c.deref.ensures.value c.in-Ok.ensures.within)
     (rw c.as_str.ensures.value c.in-Ok-explain_answer.ensures) c.tell.ensures
 
-pub returns-in-Err-explain_answer : goal.returns-in-Err-explain_answer
-returns-in-Err-explain_answer g c = told_memory (IsExplainAnswer c.args.all) _ _ _ _ _ c.tell_memory.ensures
+pub returns : goal.returns
+returns g c = told_memory (IsExplainAnswer c.args.all) _ _ _ _ _ c.tell_memory.ensures
