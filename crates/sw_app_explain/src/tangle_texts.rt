@@ -31,12 +31,7 @@ fn step_text(
 }
 
 // A step with its number and the flows that make it.
-fn numbered_line(
-    alloc: Global,
-    number: &str,
-    step: &str,
-    flows: &str,
-) -> Result<String, AllocError>
+fn numbered_line(alloc: Global, number: &str, step: &str, flows: &str) -> Result<String, AllocError>
     ensures { IfOk result (λ s. string_bytes s ≡ numbered_line number.now step.now flows.now) }
 {
     format!(in alloc; "{number} {step}{flows}\n")
