@@ -1,10 +1,11 @@
-//! Loads through journals in one thread, and then steps that are tried one by one.
+//! Loads through journals in one thread, and then steps that are tried one by one, and by two threads.
 
 mod opened;
 pub(crate) mod show;
 mod told;
 mod tried;
 mod turns;
+mod two_threads;
 
 use crate::work::{Work, show_work};
 use std::io;

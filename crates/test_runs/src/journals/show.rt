@@ -5,7 +5,10 @@ ghost use Rattle.sw_limit.specs.Limit.{AreDeclared};
 use crate::journals::opened::open;
 use crate::journals::tried::{try_full, try_line};
 use crate::journals::turns::play;
+use crate::journals::two_threads::show_two_threads;
 use std::io;
+use std::sync::Wait;
+use std::thread::Threads;
 use sw_config::Network;
 use sw_journal::{Cell, Journal};
 use sw_limit::laws::listed_are_declared;
@@ -121,12 +124,31 @@ fn show_full<R: Print + AllocGlobal>(rt: &R, network: &Network, load: &Load) -> 
     }
 }
 
-fn show_both<R: Print + AllocGlobal>(rt: &R, network: &Network, load: &Load) -> io::Result<()>
+fn show_shared<R: Print + AllocGlobal + Threads + Wait + Sync>(
+    rt: &R,
+    network: &Network,
+    load: &Load,
+) -> io::Result<()>
+    requires { AreDeclared network.now load.now }
+{
+    match open(rt.alloc(), network, load, 1000) {
+        Ok((journal, cells)) => show_two_threads(rt, journal, cells),
+        Err(_) => println!(rt; "no journal"),
+    }
+}
+
+fn show_all<R: Print + AllocGlobal + Threads + Wait + Sync>(
+    rt: &R,
+    network: &Network,
+    load: &Load,
+) -> io::Result<()>
     requires { AreDeclared network.now load.now }
 {
     show_tried(rt, network, load)?;
     println!(rt; "> with a limit of 1")?;
-    show_full(rt, network, load)
+    show_full(rt, network, load)?;
+    println!(rt; "> by two threads")?;
+    show_shared(rt, network, load)
 }
 
 /// Runs the load, and prints what came of it.
@@ -144,14 +166,14 @@ pub(crate) fn show_load<R: Print + AllocGlobal>(
 }
 
 /// Tries steps of the load, and prints what came of each.
-pub(crate) fn show_steps<R: Print + AllocGlobal>(
+pub(crate) fn show_steps<R: Print + AllocGlobal + Threads + Wait + Sync>(
     rt: &R,
     network: &Network,
     text: &[u8],
 ) -> io::Result<()> {
     listed_are_declared();
     match read_load(rt.alloc(), network, text) {
-        Ok(load) => show_both(rt, network, &load),
+        Ok(load) => show_all(rt, network, &load),
         Err(_) => println!(rt; "no load"),
     }
 }

@@ -41,7 +41,8 @@ fn show_mark<R: Print>(rt: &R, number: u16, idle: bool, mark: Option<u64>) -> io
     }
 }
 
-fn show_numbers<R: Print>(rt: &R, number: u16, numbers: Numbers) -> io::Result<()> {
+/// Prints the numbers of a link end.
+pub(crate) fn show_numbers<R: Print>(rt: &R, number: u16, numbers: Numbers) -> io::Result<()> {
     let (credit, outstanding, room) = (numbers.credit, numbers.outstanding, numbers.room);
     println!(rt; "link end {number}: credit {credit}, outstanding {outstanding}, room {room}")
 }
