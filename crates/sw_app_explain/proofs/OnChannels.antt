@@ -2,7 +2,7 @@
 use Rattle.std.proofs.Common.{ℕ, ◌<◌, List, [], ◌∷◌, All, length, sym, subst}
 use Rattle.std.specs.List.{AllZip}
 use Rattle.std.proofs.lemmas.List.Elements.{All-cons, All-head, All-nil, All-tail}
-use Rattle.sw_config.specs.Entries.{Declaration, FlowEntry, all_flows, wiring_of}
+use Rattle.sw_config.specs.Entries.{Declaration, FlowEntry}
 use Rattle.sw_config.specs.Valid.{IsValid}
 use Rattle.sw_explain.specs.Explanations.{GoesWrong, IsTangled}
 use Rattle.sw_explain.specs.Tangles.{IsTangle}
@@ -14,15 +14,10 @@ use Rattle.sw_flow.specs.Ways.{GoesFromStart, GoesOver}
 use Rattle.sw_flow.specs.declared.fault.RouteFault.{RouteFault}
 use Rattle.sw_flow.specs.declared.place.Place.{Place}
 use Rattle.sw_graph.specs.Laws.{IsChain, IsCycle}
-use Rattle.sw_machine.specs.Places.{IsDependency}
-use Rattle.sw_machine.specs.Places.IsDependency.{ByFlow, ByTarget}
-use Rattle.sw_model.specs.Model.{network_of}
-use Rattle.sw_model.proofs.Flows.{flow_at, flow_ends, some_at}
-use Rattle.sw_model.proofs.Steps.{steps_agree}
-use Rattle.sw_model.proofs.Topology.{into_ends}
 use Rattle.sw_parts.specs.Parts.{IsPart}
 use Rattle.sw_parts.specs.declared.part.Part.{Part}
 use Rattle.sw_search.specs.Verdicts.{depends}
+use Rattle.sw_search.proofs.Waits.{waits_within}
 use Rattle.sw_app_explain.specs.ExplainTexts.{AreOnChannels, IsOfChannels}
 
 module _ (d : Declaration) where
@@ -45,20 +40,12 @@ module _ (d : Declaration) where
   way_within i place fault ps h = from_start h.misrouted.flow ps h.way.goes
 
   module _ (valid : IsValid d) where
-    waits_within : (c e : ℕ) → IsDependency (network_of d) c e → c < length (ends_of d)
-    unfolding network_of
-    waits_within x y (ByFlow i c k e m lt place follows) =
-        let f = some_at (all_flows d) i lt in
-        let p = ((steps_agree d valid i f.0 f.1).place c k).0 place in
-        (places_are_in d f.0 c k p).0
-    waits_within x y (ByTarget i j lt reply) = (into_ends (wiring_of d) valid.sound (flow_at d i).to (flow_ends d valid i lt).1).0
-
     abbrev Inside : ℕ → Type 0
     Inside c = c < length (ends_of d)
 
     chain_within : (c : ℕ) (cs : List ℕ) (e : ℕ) → IsChain (depends d) c cs e → All Inside (c ∷ cs)
-    chain_within c [] e h = All-cons Inside c [] (waits_within c e h) (All-nil Inside)
-    chain_within c (x ∷ xs) e h = All-cons Inside c (x ∷ xs) (waits_within c x h.0) (chain_within x xs e h.1)
+    chain_within c [] e h = All-cons Inside c [] (waits_within d valid c e h) (All-nil Inside)
+    chain_within c (x ∷ xs) e h = All-cons Inside c (x ∷ xs) (waits_within d valid c x h.0) (chain_within x xs e h.1)
 
     cycle_within : (cycle : List ℕ) → IsCycle (depends d) cycle → All Inside cycle
     cycle_within [] h = absurd h

@@ -15,10 +15,6 @@ use Rattle.sw_explain.specs.Laws.{TanglesAreShown, TanglesAreWhereCyclesAre}
 use Rattle.sw_explain.specs.Explanations.{NeverWaits}
 use Rattle.sw_explain.specs.Tangles.{AreTangles, IsTangle}
 
-some_of : (dep : ℕ → ℕ → Type 0) (cycle : List ℕ) → IsCycle dep cycle → 0 < length cycle
-some_of dep [] h = absurd h
-some_of dep (c ∷ cs) h = omega arith
-
 zip_all : {A B : Type 0} (R : A → B → Type 0) (P : A → Type 0) (Q : B → Type 0) → ((x : A) (y : B) → P x → R x y → Q y) → (xs : List A) (ys : List B) → AllZip R xs ys → All P xs → All Q ys
 zip_all R P Q f [] [] h all = All-nil Q
 zip_all R P Q f [] (y ∷ ys) h all = absurd h

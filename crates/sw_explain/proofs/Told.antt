@@ -5,26 +5,14 @@ use Rattle.std.proofs.lemmas.Bool.{cases_lt}
 use Rattle.std.proofs.lemmas.List.{get_or-append_right, get_or_append_left, length-append}
 use Rattle.std.proofs.lemmas.Option.{slice_get-get_or}
 use Rattle.sw_config.specs.Entries.{Declaration}
-use Rattle.sw_cycle.proofs.Shown.{round_here, round_next}
 use Rattle.sw_cycle.specs.Causes.{GoesOn, IsRound}
 use Rattle.sw_cycle.specs.Cycles.{round}
-use Rattle.sw_graph.specs.Laws.{IsChain, IsCycle}
+use Rattle.sw_graph.specs.Laws.{IsCycle}
 use Rattle.sw_graph.specs.Reached.{IsListing}
 use Rattle.sw_graph.specs.Rows.{items_of, row}
 use Rattle.sw_search.specs.Verdicts.{depends}
+use Rattle.sw_search.proofs.Rounds.{goes_round}
 use Rattle.sw_explain.specs.Tangles.{AreFlows}
-
-module _ (dep : ℕ → ℕ → Type 0) where
-  step_at : (c : ℕ) (cs : List ℕ) (e : ℕ) → IsChain dep c cs e → (i : ℕ) → i < suc (length cs) → dep (get_or (c ∷ cs) i 0) (get_or (cs ++ e ∷ []) i 0)
-  step_at c [] e h zero lt = h
-  step_at c [] e h (suc i) lt = absurd (omega arith)
-  step_at c (x ∷ xs) e h zero lt = h.0
-  step_at c (x ∷ xs) e h (suc i) lt = step_at x xs e h.1 i (omega arith)
-
-  goes_round : (cycle : List ℕ) → IsCycle dep cycle → (i : ℕ) → i < length cycle → dep (round cycle i) (round cycle (i + 1))
-  goes_round [] h i lt = absurd h
-  goes_round (c ∷ cs) h i lt =
-      subst (λ (x : ℕ). dep x (round (c ∷ cs) (i + 1))) (sym (round_here (c ∷ cs) i lt)) (subst (λ (y : ℕ). dep (get_or (c ∷ cs) i 0) y) (sym (round_next c cs i lt)) (step_at c cs c h i lt))
 
 -- each channel of a cycle may wait for the next one
 pub is_round : (d : Declaration) (cycle : List ℕ) → IsCycle (depends d) cycle → IsRound d cycle

@@ -15,3 +15,4 @@ pub mod Entered
 pub mod Paths
 pub mod Decided
 pub mod Exactly
+pub mod Waits

@@ -9,6 +9,7 @@ use Rattle.sw_cycle.specs.Cycles.{round}
 use Rattle.sw_cycle.specs.Causes.{IsRound}
 use Rattle.sw_search.specs.Verdicts.{depends}
 
+-- over any relation, so for cycles however they were found
 module _ (dep : ℕ → ℕ → Type 0) where
   step_at : (c : ℕ) (cs : List ℕ) (e : ℕ) → IsChain dep c cs e → (i : ℕ) → i < suc (length cs) → dep (get_or (c ∷ cs) i 0) (get_or (cs ++ e ∷ []) i 0)
   step_at c [] e h zero lt = h
@@ -16,12 +17,12 @@ module _ (dep : ℕ → ℕ → Type 0) where
   step_at c (x ∷ xs) e h zero lt = h.0
   step_at c (x ∷ xs) e h (suc i) lt = step_at x xs e h.1 i (omega arith)
 
-  goes_round : (cycle : List ℕ) → IsCycle dep cycle → (i : ℕ) → i < length cycle → dep (round cycle i) (round cycle (i + 1))
+  pub goes_round : (cycle : List ℕ) → IsCycle dep cycle → (i : ℕ) → i < length cycle → dep (round cycle i) (round cycle (i + 1))
   goes_round [] h i lt = absurd h
   goes_round (c ∷ cs) h i lt =
       subst (λ (x : ℕ). dep x (round (c ∷ cs) (i + 1))) (sym (round_here (c ∷ cs) i lt)) (subst (λ (y : ℕ). dep (get_or (c ∷ cs) i 0) y) (sym (round_next c cs i lt)) (step_at c cs c h i lt))
 
-  some_of : (cycle : List ℕ) → IsCycle dep cycle → 0 < length cycle
+  pub some_of : (cycle : List ℕ) → IsCycle dep cycle → 0 < length cycle
   some_of [] h = absurd h
   some_of (c ∷ cs) h = omega arith
 
