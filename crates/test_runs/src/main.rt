@@ -1,17 +1,15 @@
 //! Runs loads, and prints what came of them, as far as that does not hang on the order of the threads: through journals in one
-//! thread, by the threads of `sw_run`, and by the engine of `swcheck run` with a gate. Then it reads loads.
+//! thread, by the threads of `sw_run`, and by the engine of `swcheck run` with a gate.
 #![tactic(auto)]
 
 mod calls;
 mod files;
 mod journals;
-mod loads;
 mod runs;
 mod work;
 
 use crate::calls::gated::show_gated;
 use crate::journals::show_journals;
-use crate::loads::show_loads;
 use crate::runs::show_runs;
 use std::io;
 
@@ -21,7 +19,5 @@ fn main(rt: HostRuntime) -> io::Result<()> {
     println!(rt; "# runs by threads")?;
     show_runs(&rt)?;
     println!(rt; "# the engine of run")?;
-    show_gated(&rt, "turn.toml", "turn.load")?;
-    println!(rt; "# loads")?;
-    show_loads(&rt)
+    show_gated(&rt, "turn.toml", "turn.load")
 }
