@@ -24,7 +24,7 @@ use Rattle.clap.specs.declared.builder.value_parser.ValueParser.TheVariants.{Sig
 use Rattle.clap.specs.declared.error.kind.ErrorKind.TheVariants as kind
 use Rattle.clap.specs.declared.parser.matches.ValueSource.{ValueSource}
 use Rattle.clap.specs.declared.parser.matches.ValueSource.TheVariants.{CommandLine, DefaultValue}
-use Rattle.sw_args.specs.CommandLine.{IsCount, count_rule, flag_rule, most_steps, most_workers, required_value}
+use Rattle.sw_args.specs.CommandLine.{IsCount, count_rule, flag_rule, most_steps, most_workers, option_rule, required_value}
 use Rattle.sw_args.proofs.Kept.{Each, Keeps, KeepsDefault, defaults_keep, end_keeps, first_none, found_in, then_none, walk_keeps}
 
 -- the value is a number from 1 up to the most
@@ -80,6 +80,9 @@ count_at i name usual most = with_index i (filled (count_rule name usual most))
 abbrev pub flag_at : ℕ → Text → Rule
 flag_at i name = with_index i (filled (flag_rule name))
 
+abbrev pub option_at : ℕ → Text → Rule
+option_at i name = with_index i (filled (option_rule name))
+
 abbrev pub help_at : ℕ → Rule
 help_at i = with_index i (filled help_rule)
 
@@ -124,6 +127,17 @@ flag_default i name counts rows e each = go (has_row name rows)
     go : (b : Bool) → Each Holds (cond b rows (with_values name AsWritten DefaultValue (codes "false" ∷ []) rows))
     go true = each
     go false = values_hold name AsWritten DefaultValue (codes "false") [] rows (counts (codes "false")) each
+
+option_keeps : (again : Bool) (i : ℕ) (name : Text) → ((v : Text) → Counts name AsWritten v) → Keeps Holds again (option_at i name)
+option_keeps again i name counts [] rows e each = absurd cc
+option_keeps again i name counts (v ∷ vs) rows e each = values_hold name AsWritten CommandLine v vs (without name rows) (counts v) (without_holds name rows each)
+
+option_default : (i : ℕ) (name : Text) → KeepsDefault Holds (option_at i name)
+option_default i name rows e each = go (has_row name rows)
+  where
+    go : (b : Bool) → Each Holds (cond b rows rows)
+    go true = each
+    go false = each
 
 help_keeps : (again : Bool) (i : ℕ) → Keeps Holds again (help_at i)
 help_keeps again i values rows e each =
@@ -314,6 +328,9 @@ file_rules = required_at 1 (codes "FILE") ∷ help_at 2 ∷ []
 abbrev pub flag_rules : Text → List Rule
 flag_rules name = required_at 1 (codes "FILE") ∷ flag_at 2 name ∷ help_at 2 ∷ []
 
+abbrev pub draw_rules : List Rule
+draw_rules = required_at 1 (codes "FILE") ∷ option_at 2 (codes "flow") ∷ flag_at 2 (codes "cycle") ∷ flag_at 2 (codes "numbers") ∷ help_at 2 ∷ []
+
 abbrev pub pair_rules : Text → List Rule
 pair_rules second = required_at 1 (codes "FILE") ∷ required_at 2 second ∷ help_at 3 ∷ []
 
@@ -340,6 +357,44 @@ flag_given name flag words one two e =
     let level = level_gives name (flag_rules flag) words
     (required_keeps false 1 (codes "FILE") file_counts, (flag_keeps false 2 flag counts, (help_keeps false 2, tt)))
     (required_default 1 (codes "FILE"), (flag_default 2 flag counts, (help_default 2, tt))) e in
+    given_value (codes "FILE") _ level.0 level.1.0
+
+-- a use of the argument, and its default, keep what the rows hold
+abbrev Sound : Rule → Type 0
+Sound a = Keeps Holds false a × KeepsDefault Holds a
+
+required_sound : (i : ℕ) (id : Text) → bytes_eq id (codes "workers") ≡ false → bytes_eq id (codes "limit") ≡ false → Sound (required_at i id)
+required_sound i id one two = (required_keeps false i id (counts_nothing id AsWritten one two), required_default i id)
+
+flag_sound : (i : ℕ) (name : Text) → bytes_eq name (codes "workers") ≡ false → bytes_eq name (codes "limit") ≡ false → Sound (flag_at i name)
+flag_sound i name one two =
+    let counts = counts_nothing name AsWritten one two in
+    (flag_keeps false i name counts, flag_default i name counts)
+
+option_sound : (i : ℕ) (name : Text) → bytes_eq name (codes "workers") ≡ false → bytes_eq name (codes "limit") ≡ false → Sound (option_at i name)
+option_sound i name one two = (option_keeps false i name (counts_nothing name AsWritten one two), option_default i name)
+
+help_sound : (i : ℕ) → Sound (help_at i)
+help_sound i = (help_keeps false i, help_default i)
+
+all_keep : (rules : List Rule) → Each Sound rules → Each (Keeps Holds false) rules
+all_keep [] each = tt
+all_keep (a ∷ rest) each = (each.0.0, all_keep rest each.1)
+
+all_default : (rules : List Rule) → Each Sound rules → Each (KeepsDefault Holds) rules
+all_default [] each = tt
+all_default (a ∷ rest) each = (each.0.1, all_default rest each.1)
+
+sound_gives : (name : Text) (rules : List Rule) (words : List Text) → Each Sound rules → Level name rules words
+    → Each Holds (rows_after rules [] words) × Each (λ a. (a.required && not (is_given a.id (rows_after rules [] words))) ≡ false) rules
+sound_gives name rules words each e = level_gives name rules words (all_keep rules each) (all_default rules each) e
+
+pub draw_given : (name : Text) (words : List Text) → Level name draw_rules words → HasFirst (codes "FILE") (rows_after draw_rules [] words)
+draw_given name words e =
+    let level = sound_gives name draw_rules words (
+      required_sound 1 (codes "FILE") refl refl,
+      (option_sound 2 (codes "flow") refl refl, (flag_sound 2 (codes "cycle") refl refl, (flag_sound 2 (codes "numbers") refl refl, (help_sound 2, tt)))),
+    ) e in
     given_value (codes "FILE") _ level.0 level.1.0
 
 pub pair_given : (name second : Text) (words : List Text) → bytes_eq second (codes "workers") ≡ false → bytes_eq second (codes "limit") ≡ false

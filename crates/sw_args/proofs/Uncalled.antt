@@ -5,7 +5,7 @@ use Rattle.std.specs.Str.{bytes_eq}
 use Rattle.clap.specs.Words.{Row}
 use Rattle.sw_args.specs.CommandLine.{IsCallOf, IsCount, most_steps, most_workers}
 use Rattle.sw_args.specs.declared.command_line.Call.{Call}
-use Rattle.sw_args.specs.declared.command_line.Call.TheVariants.{Route, Decide, Check, Report, Replay, Run, Migrate, Explain}
+use Rattle.sw_args.specs.declared.command_line.Call.TheVariants.{Route, Decide, Check, Report, Replay, Run, Migrate, Explain, Draw}
 
 -- a run goes by no other name
 other : (a name : List ℕ) → bytes_eq a (codes "run") ≡ false → name ≡ codes "run" → name ≡ a → ⊥
@@ -22,6 +22,7 @@ runs_only name values run none (Report file) is = other _ name refl run is.0
 runs_only name values run none (Replay file schedule) is = other _ name refl run is.0
 runs_only name values run none (Migrate file) is = other _ name refl run is.0
 runs_only name values run none (Explain file all) is = other _ name refl run is.0
+runs_only name values run none (Draw file flow cycle numbers) is = other _ name refl run is.0
 runs_only name values run none (Run file load workers limit) is = none file load workers limit is
 
 if_none : {A : Type 0} {P : Type 0} (o : Option A) → P → IfNone o P

@@ -4,7 +4,7 @@ ghost use Rattle.clap.specs.Words.{app_of, first_of, found_of, kind_of, rows_of,
 ghost use Rattle.clap.specs.declared.builder.Command.TheViews.{out-Command};
 ghost use Rattle.sw_args.specs.declared.command_line.Call.{Call};
 ghost use Rattle.sw_args.specs.declared.command_line.WordsFault.TheVariants.{Memory};
-ghost use Rattle.sw_args.specs.CommandLine.{check_app, count_rule, decide_app, explain_app, flag_rule, migrate_app, replay_app, report_app, required_value, route_app, run_app, swcheck_app, top_app, Gives, IsCallOf, IsCount, IsMatched, IsSet, Refuses, SaysNumber, ShowsKind, Tells, WithMade};
+ghost use Rattle.sw_args.specs.CommandLine.{check_app, count_rule, decide_app, draw_app, explain_app, flag_rule, migrate_app, option_rule, replay_app, report_app, required_value, route_app, run_app, swcheck_app, top_app, Gives, IsCallOf, IsCount, IsMatched, IsOption, IsSet, Refuses, SaysNumber, ShowsKind, Tells, WithMade};
 
 use clap::error::ErrorKind;
 use clap::{Arg, ArgAction, ArgMatches, Command};
@@ -52,6 +52,13 @@ pub enum Call<'a> {
     Explain {
         file: &'a str,
         all: bool,
+    },
+    /// A drawing of a network file: with the places of a flow, with the shortest cycle, with the channels' numbers.
+    Draw {
+        file: &'a str,
+        flow: Option<&'a str>,
+        cycle: bool,
+        numbers: bool,
     },
 }
 
@@ -233,6 +240,28 @@ fn explain_command<'a>(alloc: Global) -> Result<Command<'a>, AllocError>
     explain.arg(file)?.arg(all)
 }
 
+// An option whose value is any text, which may be left out.
+fn option_arg<'a>(alloc: Global, name: &'static str, help: &'static str) -> Arg<'a>
+    ensures { (rule_of result ≡ option_rule name.now) × (result.global ≡ false) }
+{
+    Arg::new(alloc, name).long(name).help(help)
+}
+
+fn draw_command<'a>(alloc: Global) -> Result<Command<'a>, AllocError>
+    ensures { IfOk result (λ c. (app_of c ≡ draw_app) × ((out-Command c).has_globals ≡ false)) }
+{
+    let draw = Command::new(alloc, "draw")
+        .about("Print a drawing of a network, in the language DOT of Graphviz")
+        .after_help("Example: swcheck draw examples/ring.toml --cycle");
+    let draw = draw.arg(value_arg(alloc, "FILE", "A network file"))?;
+    let help = "A flow whose places are drawn bold";
+    let draw = draw.arg(option_arg(alloc, "flow", help))?;
+    let help = "Draw the first shortest cycle red, its steps numbered";
+    let draw = draw.arg(flag_arg(alloc, "cycle", help))?;
+    let help = "Write the numbers of the channels, where the network never locks up";
+    draw.arg(flag_arg(alloc, "numbers", help))
+}
+
 fn top_command<'a>(alloc: Global) -> Command<'a>
     ensures { app_of result ≡ top_app }
 {
@@ -261,7 +290,8 @@ fn swcheck_command<'a>(alloc: Global) -> Result<Command<'a>, AllocError>
     let command = with_made(command, replay_command(alloc))?;
     let command = with_made(command, run_command(alloc))?;
     let command = with_made(command, migrate_command(alloc))?;
-    with_made(command, explain_command(alloc))
+    let command = with_made(command, explain_command(alloc))?;
+    with_made(command, draw_command(alloc))
 }
 
 // How an error of clap's is told. That of a growth that was refused is told as any other such.
@@ -283,6 +313,13 @@ fn value_of<'a>(values: &ArgMatches<'a>, name: &str) -> Option<&'a str>
     ensures { option_map (λ s. s.now) result ≡ first_of name.now (rows_of (found_of values.now)) }
 {
     values.get_str(name)
+}
+
+// The value of an option that may be left out.
+fn option_of<'a>(values: &ArgMatches<'a>, name: &str) -> Option<&'a str>
+    ensures { IsOption name.now (rows_of (found_of values.now)) result }
+{
+    value_of(values, name)
 }
 
 // The number that an option's value says.
@@ -348,6 +385,12 @@ fn call_of<'a>(name: &str, values: &ArgMatches<'a>) -> Option<Call<'a>>
         "explain" => Some(Call::Explain {
             file,
             all: is_set(values, "all"),
+        }),
+        "draw" => Some(Call::Draw {
+            file,
+            flow: option_of(values, "flow"),
+            cycle: is_set(values, "cycle"),
+            numbers: is_set(values, "numbers"),
         }),
         _ => None,
     }
