@@ -8,12 +8,12 @@ use Rattle.std.proofs.lemmas.Slice.Eq.{bytes_eq-Decides}
 use Rattle.clap.specs.Faults.{built_fault, check_fault, defaults_fault, entered_fault, fault_of, level_fault, settle_fault, walk_fault}
 use Rattle.clap.specs.Kinds.{check_kinds}
 use Rattle.clap.specs.Simple.{App, Shape, argument_words, built, entered, label_of, names_of, rows_at, subcommand_of}
-use Rattle.clap.specs.Walk.{Row, Text, answers_to, finished, nothing_held, rows_after, settled, stop_after, walk, walk_from}
+use Rattle.clap.specs.Walk.{Row, Text, answers_to, finished, first_of, nothing_held, rows_after, settled, stop_after, walk, walk_from}
 use Rattle.sw_args.specs.CommandLine.{IsCallOf, IsMatched, swcheck_app}
 use Rattle.sw_args.specs.declared.command_line.Call.{Call}
-use Rattle.sw_args.specs.declared.command_line.Call.TheVariants.{Route, Decide, Check, Report, Replay, Run, Migrate, Explain}
+use Rattle.sw_args.specs.declared.command_line.Call.TheVariants.{Route, Decide, Check, Report, Replay, Run, Migrate, Explain, Draw, Rmap, Witness}
 use Rattle.sw_args.proofs.Kept.{Each, first_none, found_in, then_none}
-use Rattle.sw_args.proofs.Given.{file_given, file_rules, flag_given, flag_rules, leaf, pair_given, pair_rules, run_given, run_rules}
+use Rattle.sw_args.proofs.Given.{draw_given, draw_rules, file_given, file_rules, flag_given, flag_rules, leaf, pair_given, pair_rules, rmap_given, rmap_rules, run_given, run_rules, witness_given, witness_rules}
 use Rattle.sw_args.proofs.Flags.{some_flag}
 use Rattle.sw_args.proofs.Named.{NotAtHelp, not_at_help}
 
@@ -67,17 +67,17 @@ lent v = record { ref_ptr = (0, 0); now = v }
 
 route_call : GivesCall (leaf (codes "route") (pair_rules (codes "FLOW")))
 route_call name is other words e =
-    let given = pair_given (codes "route") (codes "FLOW") words refl refl e in
+    let given = pair_given (codes "route") (codes "FLOW") words (refl, refl, refl, refl) e in
     (Route (lent given.0.0) (lent given.1.0), (refl, given.0.1, given.1.1))
 
 check_call : GivesCall (leaf (codes "check") (pair_rules (codes "CERT")))
 check_call name is other words e =
-    let given = pair_given (codes "check") (codes "CERT") words refl refl e in
+    let given = pair_given (codes "check") (codes "CERT") words (refl, refl, refl, refl) e in
     (Check (lent given.0.0) (lent given.1.0), (refl, given.0.1, given.1.1))
 
 replay_call : GivesCall (leaf (codes "replay") (pair_rules (codes "SCHEDULE")))
 replay_call name is other words e =
-    let given = pair_given (codes "replay") (codes "SCHEDULE") words refl refl e in
+    let given = pair_given (codes "replay") (codes "SCHEDULE") words (refl, refl, refl, refl) e in
     (Replay (lent given.0.0) (lent given.1.0), (refl, given.0.1, given.1.1))
 
 decide_call : GivesCall (leaf (codes "decide") file_rules)
@@ -97,9 +97,38 @@ migrate_call name is other words e =
 
 explain_call : GivesCall (leaf (codes "explain") (flag_rules (codes "all")))
 explain_call name is other words e =
-    let given = flag_given (codes "explain") (codes "all") words refl refl e in
+    let given = flag_given (codes "explain") (codes "all") words (refl, refl, refl, refl) e in
     let all = some_flag (codes "all") (rows_after (flag_rules (codes "all")) [] words) in
     (Explain (lent given.0) all.0, (refl, given.1, all.1))
+
+-- a value that may be left out, as it is lent
+some_option : (o : Option Text) → (given : Option (Bor Text)) × (option_map (λ text. text.now) given ≡ o)
+some_option None = (None, refl)
+some_option (Some v) = (Some (lent v), refl)
+
+draw_call : GivesCall (leaf (codes "draw") draw_rules)
+draw_call name is other words e =
+    let rows = rows_after draw_rules [] words in
+    let given = draw_given (codes "draw") words e in
+    let flow = some_option (first_of (codes "flow") rows) in
+    let cycle = some_flag (codes "cycle") rows in
+    let numbers = some_flag (codes "numbers") rows in
+    (Draw (lent given.0) flow.0 cycle.0 numbers.0, (refl, given.1, flow.1, cycle.1, numbers.1))
+
+rmap_call : GivesCall (leaf (codes "rmap") rmap_rules)
+rmap_call name is other words e =
+    let rows = rows_after rmap_rules [] words in
+    let given = rmap_given (codes "rmap") words e in
+    let unacknowledged = some_flag (codes "no-ack") rows in
+    let transaction = some_option (first_of (codes "transaction") rows) in (
+      Rmap (lent given.0.0) (lent given.1.0) (lent given.2.0) (lent given.3.0) (lent given.4.0) unacknowledged.0 transaction.0,
+      (refl, given.0.1, given.1.1, given.2.1, given.3.1, given.4.1, unacknowledged.1, transaction.1),
+    )
+
+witness_call : GivesCall (leaf (codes "witness") witness_rules)
+witness_call name is other words e =
+    let given = witness_given (codes "witness") words e in
+    (Witness (lent given.0.0) given.1.0 given.2.0, (refl, given.0.1, given.1.1, given.2.1))
 
 run_call : GivesCall (leaf (codes "run") run_rules)
 run_call name is other words e =
@@ -124,7 +153,7 @@ no_help s named none name is other words e = go s.aliases none is
 pub called : (words : List Text) → fault_of swcheck_app words ≡ [] → (call : Call) × IsMatched (subcommand_of swcheck_app words) call
 called words e =
     let found = found_call (built swcheck_app) (argument_words swcheck_app words) refl refl
-    (route_call, (decide_call, (check_call, (report_call, (replay_call, (run_call, (migrate_call, (explain_call, (no_help _ refl refl, tt))))))))) e in
+    (route_call, (decide_call, (check_call, (report_call, (replay_call, (run_call, (migrate_call, (explain_call, (draw_call, (rmap_call, (witness_call, (no_help _ refl refl, tt)))))))))))) e in
     (found.3.0, (found.0, found.1, found.2, found.3.1))
 
 -- what was matched is a call where the words are one

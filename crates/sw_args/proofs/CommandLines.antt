@@ -1,13 +1,15 @@
 -- What clap's matches say of the words.
-use Rattle.std.proofs.Common.{◌≡◌, List, ℕ, [], Option, refl, sym, ap, ◌∙◌, subst, true, false, inl, inr}
+use Rattle.std.proofs.Common.{◌≡◌, ◌||◌, Bor, List, ℕ, [], Option, refl, sym, ap, ◌∙◌, subst, true, false, inl, inr}
 use Rattle.std.specs.Prelude.{IfErr, IfOk, IfSome, Result, Ok, Err, Some, None}
 use Rattle.std.specs.Option.{unwrap_or}
-use Rattle.clap.specs.Built.{AddsSubcommand}
+use Rattle.clap.specs.Built.{AddsArg, AddsSubcommand}
 use Rattle.std.specs.declared.alloc.AllocError.{AllocError}
-use Rattle.clap.specs.Simple.{with_subcommand}
-use Rattle.clap.specs.Words.{App, app_of, HasKind, HasMatchesOf, fault_of, is_simple, is_simple_and_free, kind_of, subcommand_of, subcommand_rows_of}
+use Rattle.clap.specs.Simple.{app_of_fields, with_rule, with_subcommand}
+use Rattle.clap.specs.Words.{App, Rule, app_of, rule_of, HasKind, HasMatchesOf, fault_of, is_simple, is_simple_and_free, kind_of, subcommand_of, subcommand_rows_of}
+use Rattle.clap.specs.declared.builder.Arg.{Arg}
 use Rattle.clap.specs.declared.builder.Command.{Command}
 use Rattle.clap.specs.declared.builder.Command.TheViews.{out-Command}
+use Rattle.clap.specs.declared.builder.command.Command.TheOpen.{Command-F}
 use Rattle.clap.specs.declared.parser.matches.ArgMatches.{ArgMatches}
 use Rattle.clap.specs.declared.error.Error.{Error}
 use Rattle.sw_args.specs.declared.command_line.Call.{Call}
@@ -74,6 +76,25 @@ refuses app words e (Refused text) is has shows =
       | inl memory ↦ absurd (shows.0 memory)
       | inr known ↦ (kind_of e, known, shows)
     ]
+
+-- the command is that of the app, and none of its arguments is global
+abbrev pub IsMade : App → Command → Type 0
+IsMade a c = (app_of c ≡ a) × ((out-Command c).has_globals ≡ false)
+
+-- a command that says what it is for, with an example
+pub described : (new about shown : Command) (a : App) (what example : Bor (List ℕ)) → app_of new ≡ a → (out-Command new).has_globals ≡ false
+    → out-Command about ≡ record (out-Command new) { about = Some what } → out-Command shown ≡ record (out-Command about) { after_help = Some example }
+    → IsMade a shown
+described new about shown a what example is local says shows = (
+  ap app_of_fields shows ∙ ap app_of_fields says ∙ is,
+  ap (λ (f : Command-F Command). f.has_globals) shows ∙ ap (λ (f : Command-F Command). f.has_globals) says ∙ local,
+)
+
+-- a command with one more argument
+pub with_argument : (old : Command) (arg : Arg) (new : Command) (a : App) (r : Rule) → IsMade a old → (rule_of arg ≡ r) × (arg.global ≡ false) → AddsArg old arg new
+    → IsMade (with_rule a r) new
+with_argument old arg new a r made is adds =
+    (adds.shape is.1 ∙ (λ i. with_rule (made.0 i) (is.0 i)), adds.globals ∙ (λ i. made.1 i || is.1 i))
 
 -- a command with one more subcommand
 pub with_added : (old sub new : Command) (a b : App) → app_of old ≡ a → (app_of sub ≡ b) × ((out-Command sub).has_globals ≡ false) → AddsSubcommand old sub new

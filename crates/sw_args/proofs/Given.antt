@@ -24,7 +24,7 @@ use Rattle.clap.specs.declared.builder.value_parser.ValueParser.TheVariants.{Sig
 use Rattle.clap.specs.declared.error.kind.ErrorKind.TheVariants as kind
 use Rattle.clap.specs.declared.parser.matches.ValueSource.{ValueSource}
 use Rattle.clap.specs.declared.parser.matches.ValueSource.TheVariants.{CommandLine, DefaultValue}
-use Rattle.sw_args.specs.CommandLine.{IsCount, count_rule, flag_rule, most_steps, most_workers, required_value}
+use Rattle.sw_args.specs.CommandLine.{IsCount, count_rule, flag_rule, most_seed, most_steps, most_tries, most_workers, option_rule, required_value}
 use Rattle.sw_args.proofs.Kept.{Each, Keeps, KeepsDefault, defaults_keep, end_keeps, first_none, found_in, then_none, walk_keeps}
 
 -- the value is a number from 1 up to the most
@@ -34,6 +34,12 @@ IsNumberIn most how v = (how ≡ WithoutMinus) × IsSignedIn (pos 1) (pos most) 
 -- so it is of an option that counts
 abbrev Counts : Text → Reading → Text → Type 0
 Counts id how v = (id ≡ codes "workers" → IsNumberIn most_workers how v) × (id ≡ codes "limit" → IsNumberIn most_steps how v)
+    × (id ≡ codes "tries" → IsNumberIn most_tries how v) × (id ≡ codes "seed" → IsNumberIn most_seed how v)
+
+-- no option that counts has this name
+abbrev pub IsPlain : Text → Type 0
+IsPlain id = (bytes_eq id (codes "workers") ≡ false) × (bytes_eq id (codes "limit") ≡ false)
+    × (bytes_eq id (codes "tries") ≡ false) × (bytes_eq id (codes "seed") ≡ false)
 
 -- the row has a value, and its first is of its argument's kind
 abbrev Holds : Row → Type 0
@@ -80,6 +86,9 @@ count_at i name usual most = with_index i (filled (count_rule name usual most))
 abbrev pub flag_at : ℕ → Text → Rule
 flag_at i name = with_index i (filled (flag_rule name))
 
+abbrev pub option_at : ℕ → Text → Rule
+option_at i name = with_index i (filled (option_rule name))
+
 abbrev pub help_at : ℕ → Rule
 help_at i = with_index i (filled help_rule)
 
@@ -125,6 +134,17 @@ flag_default i name counts rows e each = go (has_row name rows)
     go true = each
     go false = values_hold name AsWritten DefaultValue (codes "false") [] rows (counts (codes "false")) each
 
+option_keeps : (again : Bool) (i : ℕ) (name : Text) → ((v : Text) → Counts name AsWritten v) → Keeps Holds again (option_at i name)
+option_keeps again i name counts [] rows e each = absurd cc
+option_keeps again i name counts (v ∷ vs) rows e each = values_hold name AsWritten CommandLine v vs (without name rows) (counts v) (without_holds name rows each)
+
+option_default : (i : ℕ) (name : Text) → KeepsDefault Holds (option_at i name)
+option_default i name rows e each = go (has_row name rows)
+  where
+    go : (b : Bool) → Each Holds (cond b rows rows)
+    go true = each
+    go false = each
+
 help_keeps : (again : Bool) (i : ℕ) → Keeps Holds again (help_at i)
 help_keeps again i values rows e each =
     let asked : kind.DisplayHelp ∷ [] ≡ [] = then_none (range_kinds 0 0 (length values)) _ e in
@@ -141,14 +161,45 @@ no_name : (a b : Text) → bytes_eq a b ≡ false → a ≡ b → ⊥
 no_name a b differ is = true≢false (sym ((bytes_eq-Decides a b).1 is) ∙ differ)
 
 -- an argument of another name counts nothing
-pub counts_nothing : (id : Text) (how : Reading) → bytes_eq id (codes "workers") ≡ false → bytes_eq id (codes "limit") ≡ false → (v : Text) → Counts id how v
-counts_nothing id how first second v = (λ is. absurd (no_name id _ first is), λ is. absurd (no_name id _ second is))
+pub counts_nothing : (id : Text) (how : Reading) → IsPlain id → (v : Text) → Counts id how v
+counts_nothing id how plain v = (
+  λ is. absurd (no_name id _ plain.0 is),
+  λ is. absurd (no_name id _ plain.1 is),
+  λ is. absurd (no_name id _ plain.2 is),
+  λ is. absurd (no_name id _ plain.3 is),
+)
 
 workers_count : (v : Text) → IsSignedIn (pos 1) (pos most_workers) v → Counts (codes "workers") WithoutMinus v
-workers_count v number = (λ is. (refl, number), λ is. absurd (no_name (codes "workers") (codes "limit") refl is))
+workers_count v number = (
+  λ is. (refl, number),
+  λ is. absurd (no_name (codes "workers") (codes "limit") refl is),
+  λ is. absurd (no_name (codes "workers") (codes "tries") refl is),
+  λ is. absurd (no_name (codes "workers") (codes "seed") refl is),
+)
 
 limit_counts : (v : Text) → IsSignedIn (pos 1) (pos most_steps) v → Counts (codes "limit") WithoutMinus v
-limit_counts v number = (λ is. absurd (no_name (codes "limit") (codes "workers") refl is), λ is. (refl, number))
+limit_counts v number = (
+  λ is. absurd (no_name (codes "limit") (codes "workers") refl is),
+  λ is. (refl, number),
+  λ is. absurd (no_name (codes "limit") (codes "tries") refl is),
+  λ is. absurd (no_name (codes "limit") (codes "seed") refl is),
+)
+
+tries_count : (v : Text) → IsSignedIn (pos 1) (pos most_tries) v → Counts (codes "tries") WithoutMinus v
+tries_count v number = (
+  λ is. absurd (no_name (codes "tries") (codes "workers") refl is),
+  λ is. absurd (no_name (codes "tries") (codes "limit") refl is),
+  λ is. (refl, number),
+  λ is. absurd (no_name (codes "tries") (codes "seed") refl is),
+)
+
+seed_counts : (v : Text) → IsSignedIn (pos 1) (pos most_seed) v → Counts (codes "seed") WithoutMinus v
+seed_counts v number = (
+  λ is. absurd (no_name (codes "seed") (codes "workers") refl is),
+  λ is. absurd (no_name (codes "seed") (codes "limit") refl is),
+  λ is. absurd (no_name (codes "seed") (codes "tries") refl is),
+  λ is. (refl, number),
+)
 
 -- ---- what the rows say
 
@@ -314,71 +365,139 @@ file_rules = required_at 1 (codes "FILE") ∷ help_at 2 ∷ []
 abbrev pub flag_rules : Text → List Rule
 flag_rules name = required_at 1 (codes "FILE") ∷ flag_at 2 name ∷ help_at 2 ∷ []
 
+abbrev pub draw_rules : List Rule
+draw_rules = required_at 1 (codes "FILE") ∷ option_at 2 (codes "flow") ∷ flag_at 2 (codes "cycle") ∷ flag_at 2 (codes "numbers") ∷ help_at 2 ∷ []
+
 abbrev pub pair_rules : Text → List Rule
 pair_rules second = required_at 1 (codes "FILE") ∷ required_at 2 second ∷ help_at 3 ∷ []
+
+abbrev pub rmap_rules : List Rule
+rmap_rules = required_at 1 (codes "FILE") ∷ required_at 2 (codes "FLOW") ∷ required_at 3 (codes "ACTION") ∷ required_at 4 (codes "ADDRESS")
+    ∷ required_at 5 (codes "VALUE") ∷ flag_at 6 (codes "no-ack") ∷ option_at 6 (codes "transaction") ∷ help_at 6 ∷ []
 
 abbrev pub run_rules : List Rule
 run_rules = required_at 1 (codes "FILE") ∷ required_at 2 (codes "LOAD") ∷ count_at 3 (codes "workers") (codes "4") most_workers
     ∷ count_at 3 (codes "limit") (codes "1000000") most_steps ∷ help_at 3 ∷ []
 
-file_counts : (v : Text) → Counts (codes "FILE") AsWritten v
-file_counts = counts_nothing (codes "FILE") AsWritten refl refl
+abbrev pub witness_rules : List Rule
+witness_rules = required_at 1 (codes "FILE") ∷ count_at 2 (codes "tries") (codes "200") most_tries
+    ∷ count_at 2 (codes "seed") (codes "1") most_seed ∷ help_at 2 ∷ []
+
+-- a use of the argument, and its default, keep what the rows hold
+abbrev Sound : Rule → Type 0
+Sound a = Keeps Holds false a × KeepsDefault Holds a
+
+required_sound : (i : ℕ) (id : Text) → IsPlain id → Sound (required_at i id)
+required_sound i id plain = (required_keeps false i id (counts_nothing id AsWritten plain), required_default i id)
+
+flag_sound : (i : ℕ) (name : Text) → IsPlain name → Sound (flag_at i name)
+flag_sound i name plain =
+    let counts = counts_nothing name AsWritten plain in
+    (flag_keeps false i name counts, flag_default i name counts)
+
+option_sound : (i : ℕ) (name : Text) → IsPlain name → Sound (option_at i name)
+option_sound i name plain = (option_keeps false i name (counts_nothing name AsWritten plain), option_default i name)
+
+count_sound : (i : ℕ) (name usual : Text) (most : ℕ) → ((v : Text) → IsSignedIn (pos 1) (pos most) v → Counts name WithoutMinus v) → Sound (count_at i name usual most)
+count_sound i name usual most counts = (count_keeps false i name usual most counts, count_default i name usual most counts)
+
+help_sound : (i : ℕ) → Sound (help_at i)
+help_sound i = (help_keeps false i, help_default i)
+
+file_sound : Sound (required_at 1 (codes "FILE"))
+file_sound = required_sound 1 (codes "FILE") (refl, refl, refl, refl)
+
+all_keep : (rules : List Rule) → Each Sound rules → Each (Keeps Holds false) rules
+all_keep [] each = tt
+all_keep (a ∷ rest) each = (each.0.0, all_keep rest each.1)
+
+all_default : (rules : List Rule) → Each Sound rules → Each (KeepsDefault Holds) rules
+all_default [] each = tt
+all_default (a ∷ rest) each = (each.0.1, all_default rest each.1)
+
+sound_gives : (name : Text) (rules : List Rule) (words : List Text) → Each Sound rules → Level name rules words
+    → Each Holds (rows_after rules [] words) × Each (λ a. (a.required && not (is_given a.id (rows_after rules [] words))) ≡ false) rules
+sound_gives name rules words each e = level_gives name rules words (all_keep rules each) (all_default rules each) e
 
 abbrev HasFirst : Text → List Row → Type 0
 HasFirst id rows = (v : Text) × (first_of id rows ≡ Some v)
 
 pub file_given : (name : Text) (words : List Text) → Level name file_rules words → HasFirst (codes "FILE") (rows_after file_rules [] words)
 file_given name words e =
-    let level = level_gives name file_rules words (required_keeps false 1 (codes "FILE") file_counts, (help_keeps false 2, tt))
-    (required_default 1 (codes "FILE"), (help_default 2, tt)) e in
+    let level = sound_gives name file_rules words (file_sound, (help_sound 2, tt)) e in
     given_value (codes "FILE") _ level.0 level.1.0
 
-pub flag_given : (name flag : Text) (words : List Text) → bytes_eq flag (codes "workers") ≡ false → bytes_eq flag (codes "limit") ≡ false
-    → Level name (flag_rules flag) words → HasFirst (codes "FILE") (rows_after (flag_rules flag) [] words)
-flag_given name flag words one two e =
-    let counts = counts_nothing flag AsWritten one two in
-    let level = level_gives name (flag_rules flag) words
-    (required_keeps false 1 (codes "FILE") file_counts, (flag_keeps false 2 flag counts, (help_keeps false 2, tt)))
-    (required_default 1 (codes "FILE"), (flag_default 2 flag counts, (help_default 2, tt))) e in
+pub flag_given : (name flag : Text) (words : List Text) → IsPlain flag → Level name (flag_rules flag) words
+    → HasFirst (codes "FILE") (rows_after (flag_rules flag) [] words)
+flag_given name flag words plain e =
+    let level = sound_gives name (flag_rules flag) words (file_sound, (flag_sound 2 flag plain, (help_sound 2, tt))) e in
     given_value (codes "FILE") _ level.0 level.1.0
 
-pub pair_given : (name second : Text) (words : List Text) → bytes_eq second (codes "workers") ≡ false → bytes_eq second (codes "limit") ≡ false
-    → Level name (pair_rules second) words
+pub draw_given : (name : Text) (words : List Text) → Level name draw_rules words → HasFirst (codes "FILE") (rows_after draw_rules [] words)
+draw_given name words e =
+    let level = sound_gives name draw_rules words (
+      file_sound,
+      (
+        option_sound 2 (codes "flow") (refl, refl, refl, refl),
+        (flag_sound 2 (codes "cycle") (refl, refl, refl, refl), (flag_sound 2 (codes "numbers") (refl, refl, refl, refl), (help_sound 2, tt))),
+      ),
+    ) e in
+    given_value (codes "FILE") _ level.0 level.1.0
+
+pub pair_given : (name second : Text) (words : List Text) → IsPlain second → Level name (pair_rules second) words
     → HasFirst (codes "FILE") (rows_after (pair_rules second) [] words) × HasFirst second (rows_after (pair_rules second) [] words)
-pair_given name second words one two e =
-    let counts = counts_nothing second AsWritten one two in
-    let level = level_gives name (pair_rules second) words
-    (required_keeps false 1 (codes "FILE") file_counts, (required_keeps false 2 second counts, (help_keeps false 3, tt)))
-    (required_default 1 (codes "FILE"), (required_default 2 second, (help_default 3, tt))) e in
+pair_given name second words plain e =
+    let level = sound_gives name (pair_rules second) words (file_sound, (required_sound 2 second plain, (help_sound 3, tt))) e in
     (given_value (codes "FILE") _ level.0 level.1.0, given_value second _ level.0 level.1.1.0)
+
+pub rmap_given : (name : Text) (words : List Text) → Level name rmap_rules words
+    → HasFirst (codes "FILE") (rows_after rmap_rules [] words) × HasFirst (codes "FLOW") (rows_after rmap_rules [] words)
+    × HasFirst (codes "ACTION") (rows_after rmap_rules [] words) × HasFirst (codes "ADDRESS") (rows_after rmap_rules [] words)
+    × HasFirst (codes "VALUE") (rows_after rmap_rules [] words)
+rmap_given name words e =
+    let level = sound_gives name rmap_rules words (
+      file_sound,
+      (
+        required_sound 2 (codes "FLOW") (refl, refl, refl, refl),
+        (
+          required_sound 3 (codes "ACTION") (refl, refl, refl, refl),
+          (
+            required_sound 4 (codes "ADDRESS") (refl, refl, refl, refl),
+            (
+              required_sound 5 (codes "VALUE") (refl, refl, refl, refl),
+              (
+                flag_sound 6 (codes "no-ack") (refl, refl, refl, refl),
+                (option_sound 6 (codes "transaction") (refl, refl, refl, refl), (help_sound 6, tt)),
+              ),
+            ),
+          ),
+        ),
+      ),
+    ) e in (
+      given_value (codes "FILE") _ level.0 level.1.0,
+      given_value (codes "FLOW") _ level.0 level.1.1.0,
+      given_value (codes "ACTION") _ level.0 level.1.1.1.0,
+      given_value (codes "ADDRESS") _ level.0 level.1.1.1.1.0,
+      given_value (codes "VALUE") _ level.0 level.1.1.1.1.1.0,
+    )
 
 pub run_given : (name : Text) (words : List Text) → Level name run_rules words
     → HasFirst (codes "FILE") (rows_after run_rules [] words) × HasFirst (codes "LOAD") (rows_after run_rules [] words)
     × ((n : ℕ) × IsCount most_workers (codes "workers") (rows_after run_rules [] words) n)
     × ((n : ℕ) × IsCount most_steps (codes "limit") (rows_after run_rules [] words) n)
 run_given name words e =
-    let load = counts_nothing (codes "LOAD") AsWritten refl refl in
     let one = required_at 1 (codes "FILE") in
     let two = required_at 2 (codes "LOAD") in
     let three = count_at 3 (codes "workers") (codes "4") most_workers in
     let four = count_at 3 (codes "limit") (codes "1000000") most_steps in
     let start = (settled run_rules (walk run_rules [] nothing_held words).held).rows in
-    let level = level_gives name run_rules words (
-      required_keeps false 1 (codes "FILE") file_counts,
+    let level = sound_gives name run_rules words (
+      file_sound,
       (
-        required_keeps false 2 (codes "LOAD") load,
+        required_sound 2 (codes "LOAD") (refl, refl, refl, refl),
         (
-          count_keeps false 3 (codes "workers") (codes "4") most_workers workers_count,
-          (count_keeps false 3 (codes "limit") (codes "1000000") most_steps limit_counts, (help_keeps false 3, tt)),
-        ),
-      ),
-    ) (
-      required_default 1 (codes "FILE"),
-      (
-        required_default 2 (codes "LOAD"),
-        (
-          count_default 3 (codes "workers") (codes "4") most_workers workers_count,
-          (count_default 3 (codes "limit") (codes "1000000") most_steps limit_counts, (help_default 3, tt)),
+          count_sound 3 (codes "workers") (codes "4") most_workers workers_count,
+          (count_sound 3 (codes "limit") (codes "1000000") most_steps limit_counts, (help_sound 3, tt)),
         ),
       ),
     ) e in (
@@ -388,4 +507,27 @@ run_given name words e =
           (count_there (one ∷ two ∷ []) (four ∷ help_at 3 ∷ []) 3 (codes "workers") (codes "4") most_workers start) (λ id how v is counts. counts.0 is),
       given_count (codes "limit") most_steps _ level.0
           (count_there (one ∷ two ∷ three ∷ []) (help_at 3 ∷ []) 3 (codes "limit") (codes "1000000") most_steps start) (λ id how v is counts. counts.1 is),
+    )
+
+pub witness_given : (name : Text) (words : List Text) → Level name witness_rules words
+    → HasFirst (codes "FILE") (rows_after witness_rules [] words)
+    × ((n : ℕ) × IsCount most_tries (codes "tries") (rows_after witness_rules [] words) n)
+    × ((n : ℕ) × IsCount most_seed (codes "seed") (rows_after witness_rules [] words) n)
+witness_given name words e =
+    let one = required_at 1 (codes "FILE") in
+    let two = count_at 2 (codes "tries") (codes "200") most_tries in
+    let three = count_at 2 (codes "seed") (codes "1") most_seed in
+    let start = (settled witness_rules (walk witness_rules [] nothing_held words).held).rows in
+    let level = sound_gives name witness_rules words (
+      file_sound,
+      (
+        count_sound 2 (codes "tries") (codes "200") most_tries tries_count,
+        (count_sound 2 (codes "seed") (codes "1") most_seed seed_counts, (help_sound 2, tt)),
+      ),
+    ) e in (
+      given_value (codes "FILE") _ level.0 level.1.0,
+      given_count (codes "tries") most_tries _ level.0
+          (count_there (one ∷ []) (three ∷ help_at 2 ∷ []) 2 (codes "tries") (codes "200") most_tries start) (λ id how v is counts. counts.2 is),
+      given_count (codes "seed") most_seed _ level.0
+          (count_there (one ∷ two ∷ []) (help_at 2 ∷ []) 2 (codes "seed") (codes "1") most_seed start) (λ id how v is counts. counts.3 is),
     )

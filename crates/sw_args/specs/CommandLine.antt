@@ -1,5 +1,6 @@
 -- The words that the program takes.
-use Rattle.std.specs.Prelude.{◌≡◌, ◌≢◌, ◌≤◌, ◌<◌, ◌⊎◌, ◌↔◌, ℕ, Bool, List, [], ◌∷◌, Option, Some, codes, pos, true, Result, Ok, Err}
+use Rattle.std.specs.Prelude.{◌≡◌, ◌≢◌, ◌≤◌, ◌<◌, ◌⊎◌, ◌↔◌, ℕ, Bool, List, [], ◌∷◌, Option, Some, codes, option_map, pos, true, Result, Ok, Err}
+use Rattle.std.specs.Borrow.{Bor}
 use Rattle.std.specs.declared.alloc.AllocError.{AllocError}
 use Rattle.clap.specs.Built.{AddsSubcommand}
 use Rattle.clap.specs.declared.builder.command.Command.{Command}
@@ -10,7 +11,7 @@ use Rattle.clap.specs.declared.builder.value_parser.ValueParser.TheVariants.{Sig
 use Rattle.clap.specs.declared.error.kind.ErrorKind.{ErrorKind}
 use Rattle.clap.specs.declared.error.kind.ErrorKind.TheVariants.{DisplayHelp, DisplayVersion, OutOfMemory}
 use Rattle.sw_args.specs.declared.command_line.Call.{Call}
-use Rattle.sw_args.specs.declared.command_line.Call.TheVariants.{Route, Decide, Check, Report, Replay, Run, Migrate, Explain}
+use Rattle.sw_args.specs.declared.command_line.Call.TheVariants.{Route, Decide, Check, Report, Replay, Run, Migrate, Explain, Draw, Rmap, Witness}
 use Rattle.sw_args.specs.declared.command_line.WordsFault.{WordsFault}
 use Rattle.sw_args.specs.declared.command_line.WordsFault.TheVariants.{Help, Refused, Memory}
 
@@ -29,6 +30,10 @@ count_rule name usual most = record (new_rule name) {
 -- an option `--NAME`, which is given or not
 abbrev pub flag_rule : List ℕ → Rule
 flag_rule name = record (new_rule name) { long = Some name; action = Some SetTrue }
+
+-- an option `--NAME VALUE`, which may be left out
+abbrev pub option_rule : List ℕ → Rule
+option_rule name = record (new_rule name) { long = Some name }
 
 -- `route FILE FLOW`
 abbrev pub route_app : App
@@ -71,6 +76,36 @@ migrate_app = with_rule (new_app (codes "migrate")) (required_value (codes "FILE
 abbrev pub explain_app : App
 explain_app = with_rule (with_rule (new_app (codes "explain")) (required_value (codes "FILE"))) (flag_rule (codes "all"))
 
+-- `draw FILE [--flow VALUE] [--cycle] [--numbers]`
+abbrev pub draw_app : App
+draw_app = with_rule (with_rule (with_rule (with_rule (new_app (codes "draw")) (required_value (codes "FILE")))
+    (option_rule (codes "flow")))
+    (flag_rule (codes "cycle")))
+    (flag_rule (codes "numbers"))
+
+-- `rmap FILE FLOW ACTION ADDRESS VALUE [--no-ack] [--transaction VALUE]`
+abbrev pub rmap_app : App
+rmap_app = with_rule (with_rule (with_rule (with_rule (with_rule (with_rule (with_rule (new_app (codes "rmap")) (required_value (codes "FILE")))
+    (required_value (codes "FLOW")))
+    (required_value (codes "ACTION")))
+    (required_value (codes "ADDRESS")))
+    (required_value (codes "VALUE")))
+    (flag_rule (codes "no-ack")))
+    (option_rule (codes "transaction"))
+
+-- the most tries of a search, and the greatest number that it may begin with (this project's choice)
+abbrev pub most_tries : ℕ
+most_tries = 1000000
+
+abbrev pub most_seed : ℕ
+most_seed = 4294967295
+
+-- `witness FILE [--tries NUMBER] [--seed NUMBER]`: 200 tries, and 1 to begin with, if they are left out
+abbrev pub witness_app : App
+witness_app = with_rule (with_rule (with_rule (new_app (codes "witness")) (required_value (codes "FILE")))
+    (count_rule (codes "tries") (codes "200") most_tries))
+    (count_rule (codes "seed") (codes "1") most_seed)
+
 -- `swcheck`, which asks for a subcommand
 abbrev pub top_app : App
 top_app = let a = new_app (codes "swcheck") in record a { top = record a.top { subcommand_required = true } }
@@ -78,7 +113,7 @@ top_app = let a = new_app (codes "swcheck") in record a { top = record a.top { s
 -- the whole command line: each subcommand stands in a line of its own
 abbrev pub swcheck_app : App
 swcheck_app =
-    with_subcommand (with_subcommand (with_subcommand (with_subcommand (with_subcommand (with_subcommand (with_subcommand (with_subcommand top_app
+    with_subcommand (with_subcommand (with_subcommand (with_subcommand (with_subcommand (with_subcommand (with_subcommand (with_subcommand (with_subcommand (with_subcommand (with_subcommand top_app
     route_app.top)
     decide_app.top)
     check_app.top)
@@ -86,7 +121,10 @@ swcheck_app =
     replay_app.top)
     run_app.top)
     migrate_app.top)
-    explain_app.top
+    explain_app.top)
+    draw_app.top)
+    rmap_app.top)
+    witness_app.top
 
 -- the command has a subcommand that was made
 abbrev pub WithMade : Command → Result Command AllocError → Command → Type 0
@@ -104,6 +142,10 @@ IsCount most name values number = SaysNumber name values number × (1 ≤ number
 -- an option without a value was given, exactly where clap's own value of it is this word
 abbrev pub IsSet : List ℕ → List Row → Bool → Type 0
 IsSet name values given = (given ≡ true) ↔ (one_of name values ≡ Some (codes "true"))
+
+-- the option's value, where it was given
+abbrev pub IsOption : List ℕ → List Row → Option (Bor (List ℕ)) → Type 0
+IsOption name values given = option_map (λ text. text.now) given ≡ first_of name values
 
 -- a subcommand with these values is this call
 abbrev pub IsCallOf : List ℕ → List Row → Call → Type 0
@@ -127,6 +169,23 @@ IsCallOf name values (Migrate file) = (name ≡ codes "migrate") × (first_of (c
 IsCallOf name values (Explain file all) = (name ≡ codes "explain")
     × (first_of (codes "FILE") values ≡ Some file.now)
     × IsSet (codes "all") values all
+IsCallOf name values (Draw file flow cycle numbers) = (name ≡ codes "draw")
+    × (first_of (codes "FILE") values ≡ Some file.now)
+    × IsOption (codes "flow") values flow
+    × IsSet (codes "cycle") values cycle
+    × IsSet (codes "numbers") values numbers
+IsCallOf name values (Rmap file flow action address value unacknowledged transaction) = (name ≡ codes "rmap")
+    × (first_of (codes "FILE") values ≡ Some file.now)
+    × (first_of (codes "FLOW") values ≡ Some flow.now)
+    × (first_of (codes "ACTION") values ≡ Some action.now)
+    × (first_of (codes "ADDRESS") values ≡ Some address.now)
+    × (first_of (codes "VALUE") values ≡ Some value.now)
+    × IsSet (codes "no-ack") values unacknowledged
+    × IsOption (codes "transaction") values transaction
+IsCallOf name values (Witness file tries seed) = (name ≡ codes "witness")
+    × (first_of (codes "FILE") values ≡ Some file.now)
+    × IsCount most_tries (codes "tries") values tries
+    × IsCount most_seed (codes "seed") values seed
 
 -- a run has a worker
 abbrev pub HasWorkers : Call → Type 0
@@ -138,6 +197,9 @@ HasWorkers (Report file) = Unit {0}
 HasWorkers (Replay file schedule) = Unit {0}
 HasWorkers (Migrate file) = Unit {0}
 HasWorkers (Explain file all) = Unit {0}
+HasWorkers (Draw file flow cycle numbers) = Unit {0}
+HasWorkers (Rmap file flow action address value unacknowledged transaction) = Unit {0}
+HasWorkers (Witness file tries seed) = Unit {0}
 
 -- the subcommand that was met, with its values, is this call
 abbrev pub IsMatched : Option (List ℕ × List Row) → Call → Type 0

@@ -4,7 +4,7 @@ ghost use Rattle.clap.specs.Words.{app_of, first_of, found_of, kind_of, rows_of,
 ghost use Rattle.clap.specs.declared.builder.Command.TheViews.{out-Command};
 ghost use Rattle.sw_args.specs.declared.command_line.Call.{Call};
 ghost use Rattle.sw_args.specs.declared.command_line.WordsFault.TheVariants.{Memory};
-ghost use Rattle.sw_args.specs.CommandLine.{check_app, count_rule, decide_app, explain_app, flag_rule, migrate_app, replay_app, report_app, required_value, route_app, run_app, swcheck_app, top_app, Gives, IsCallOf, IsCount, IsMatched, IsSet, Refuses, SaysNumber, ShowsKind, Tells, WithMade};
+ghost use Rattle.sw_args.specs.CommandLine.{check_app, count_rule, decide_app, draw_app, explain_app, flag_rule, migrate_app, option_rule, replay_app, report_app, required_value, rmap_app, route_app, run_app, swcheck_app, top_app, witness_app, Gives, IsCallOf, IsCount, IsMatched, IsOption, IsSet, Refuses, SaysNumber, ShowsKind, Tells, WithMade};
 
 use clap::error::ErrorKind;
 use clap::{Arg, ArgAction, ArgMatches, Command};
@@ -53,6 +53,30 @@ pub enum Call<'a> {
         file: &'a str,
         all: bool,
     },
+    /// A drawing of a network file: with the places of a flow, with the shortest cycle, with the channels' numbers.
+    Draw {
+        file: &'a str,
+        flow: Option<&'a str>,
+        cycle: bool,
+        numbers: bool,
+    },
+    /// The entry of a load for an RMAP command of a flow: what it does (`read` or `write`), from which address on, how many bytes or
+    /// which ones, whether it asks for no reply, and its transaction identifier.
+    Rmap {
+        file: &'a str,
+        flow: &'a str,
+        action: &'a str,
+        address: &'a str,
+        value: &'a str,
+        unacknowledged: bool,
+        transaction: Option<&'a str>,
+    },
+    /// A schedule that locks a network up, by so many tries, the first with this number.
+    Witness {
+        file: &'a str,
+        tries: u32,
+        seed: u32,
+    },
 }
 
 /// The most threads that `run` may be asked for.
@@ -60,6 +84,12 @@ const MOST_WORKERS: u32 = 64;
 
 /// The most steps that `run` may be asked for.
 const MOST_STEPS: u32 = 16_777_216;
+
+/// The most tries of a search.
+const MOST_TRIES: u32 = 1_000_000;
+
+/// The greatest number that a search may begin with.
+const MOST_SEED: u32 = 4_294_967_295;
 
 /// Why the words give no call, with the text to print.
 #[derive(Debug, Drop, Error)]
@@ -233,6 +263,59 @@ fn explain_command<'a>(alloc: Global) -> Result<Command<'a>, AllocError>
     explain.arg(file)?.arg(all)
 }
 
+// An option whose value is any text, which may be left out.
+fn option_arg<'a>(alloc: Global, name: &'static str, help: &'static str) -> Arg<'a>
+    ensures { (rule_of result ≡ option_rule name.now) × (result.global ≡ false) }
+{
+    Arg::new(alloc, name).long(name).help(help)
+}
+
+fn draw_command<'a>(alloc: Global) -> Result<Command<'a>, AllocError>
+    ensures { IfOk result (λ c. (app_of c ≡ draw_app) × ((out-Command c).has_globals ≡ false)) }
+{
+    let draw = Command::new(alloc, "draw")
+        .about("Print a drawing of a network, in the language DOT of Graphviz")
+        .after_help("Example: swcheck draw examples/ring.toml --cycle");
+    let draw = draw.arg(value_arg(alloc, "FILE", "A network file"))?;
+    let help = "A flow whose places are drawn bold";
+    let draw = draw.arg(option_arg(alloc, "flow", help))?;
+    let help = "Draw the first shortest cycle red, its steps numbered";
+    let draw = draw.arg(flag_arg(alloc, "cycle", help))?;
+    let help = "Write the numbers of the channels, where the network never locks up";
+    draw.arg(flag_arg(alloc, "numbers", help))
+}
+
+fn rmap_command<'a>(alloc: Global) -> Result<Command<'a>, AllocError>
+    ensures { IfOk result (λ c. (app_of c ≡ rmap_app) × ((out-Command c).has_globals ≡ false)) }
+{
+    let rmap = Command::new(alloc, "rmap")
+        .about("Print the entry of a load for an RMAP command of a flow")
+        .after_help("Example: swcheck rmap examples/rmap.toml FLOW read 0x10 4");
+    let rmap = rmap.arg(value_arg(alloc, "FILE", "A network file"))?;
+    let rmap = rmap.arg(value_arg(alloc, "FLOW", "The name of a flow to a target"))?;
+    let rmap = rmap.arg(value_arg(alloc, "ACTION", "read or write"))?;
+    let help = "The first address, decimal or 0x and hexadecimal";
+    let rmap = rmap.arg(value_arg(alloc, "ADDRESS", help))?;
+    let help = "How many bytes are read, or the bytes that are written, as hexadecimal pairs";
+    let rmap = rmap.arg(value_arg(alloc, "VALUE", help))?;
+    let rmap = rmap.arg(flag_arg(alloc, "no-ack", "Ask for no reply to a write"))?;
+    let help = "The transaction identifier, 0 to 65535; 0 if left out";
+    rmap.arg(option_arg(alloc, "transaction", help))
+}
+
+fn witness_command<'a>(alloc: Global) -> Result<Command<'a>, AllocError>
+    ensures { IfOk result (λ c. (app_of c ≡ witness_app) × ((out-Command c).has_globals ≡ false)) }
+{
+    let witness = Command::new(alloc, "witness")
+        .about("Look for a schedule of steps that locks a network up, and print it")
+        .after_help("Example: swcheck witness examples/ring.toml");
+    let witness = witness.arg(value_arg(alloc, "FILE", "A network file"))?;
+    let help = "How often to try, 1 to 1000000";
+    let witness = witness.arg(count_arg(alloc, "tries", "200", MOST_TRIES, help))?;
+    let help = "Where the choices begin, 1 to 4294967295";
+    witness.arg(count_arg(alloc, "seed", "1", MOST_SEED, help))
+}
+
 fn top_command<'a>(alloc: Global) -> Command<'a>
     ensures { app_of result ≡ top_app }
 {
@@ -261,7 +344,10 @@ fn swcheck_command<'a>(alloc: Global) -> Result<Command<'a>, AllocError>
     let command = with_made(command, replay_command(alloc))?;
     let command = with_made(command, run_command(alloc))?;
     let command = with_made(command, migrate_command(alloc))?;
-    with_made(command, explain_command(alloc))
+    let command = with_made(command, explain_command(alloc))?;
+    let command = with_made(command, draw_command(alloc))?;
+    let command = with_made(command, rmap_command(alloc))?;
+    with_made(command, witness_command(alloc))
 }
 
 // How an error of clap's is told. That of a growth that was refused is told as any other such.
@@ -283,6 +369,13 @@ fn value_of<'a>(values: &ArgMatches<'a>, name: &str) -> Option<&'a str>
     ensures { option_map (λ s. s.now) result ≡ first_of name.now (rows_of (found_of values.now)) }
 {
     values.get_str(name)
+}
+
+// The value of an option that may be left out.
+fn option_of<'a>(values: &ArgMatches<'a>, name: &str) -> Option<&'a str>
+    ensures { IsOption name.now (rows_of (found_of values.now)) result }
+{
+    value_of(values, name)
 }
 
 // The number that an option's value says.
@@ -348,6 +441,26 @@ fn call_of<'a>(name: &str, values: &ArgMatches<'a>) -> Option<Call<'a>>
         "explain" => Some(Call::Explain {
             file,
             all: is_set(values, "all"),
+        }),
+        "draw" => Some(Call::Draw {
+            file,
+            flow: option_of(values, "flow"),
+            cycle: is_set(values, "cycle"),
+            numbers: is_set(values, "numbers"),
+        }),
+        "rmap" => Some(Call::Rmap {
+            file,
+            flow: value_of(values, "FLOW")?,
+            action: value_of(values, "ACTION")?,
+            address: value_of(values, "ADDRESS")?,
+            value: value_of(values, "VALUE")?,
+            unacknowledged: is_set(values, "no-ack"),
+            transaction: option_of(values, "transaction"),
+        }),
+        "witness" => Some(Call::Witness {
+            file,
+            tries: count_of(values, "tries", MOST_TRIES)?,
+            seed: count_of(values, "seed", MOST_SEED)?,
         }),
         _ => None,
     }
