@@ -448,15 +448,18 @@ fn call_of<'a>(name: &str, values: &ArgMatches<'a>) -> Option<Call<'a>>
             cycle: is_set(values, "cycle"),
             numbers: is_set(values, "numbers"),
         }),
-        "rmap" => Some(Call::Rmap {
-            file,
-            flow: value_of(values, "FLOW")?,
-            action: value_of(values, "ACTION")?,
-            address: value_of(values, "ADDRESS")?,
-            value: value_of(values, "VALUE")?,
-            unacknowledged: is_set(values, "no-ack"),
-            transaction: option_of(values, "transaction"),
-        }),
+        "rmap" => {
+            let flow = value_of(values, "FLOW")?;
+            Some(Call::Rmap {
+                file,
+                flow,
+                action: value_of(values, "ACTION")?,
+                address: value_of(values, "ADDRESS")?,
+                value: value_of(values, "VALUE")?,
+                unacknowledged: is_set(values, "no-ack"),
+                transaction: option_of(values, "transaction"),
+            })
+        }
         "witness" => Some(Call::Witness {
             file,
             tries: count_of(values, "tries", MOST_TRIES)?,
