@@ -1,30 +1,28 @@
 -- A packet that is made is one that its flow declares, and its target does what is asked for.
-use Rattle.std.proofs.Common.{◌≡◌, ℕ, ◌<◌, ◌≤◌, Bool, true, false, not, ◌&&◌, List, [], ◌∷◌, ◌++◌, length, take, drop, get_or, map, Option, Some, None, refl, sym, ap, ◌∙◌, subst, inl, inr, arith, length-drop, take-append-drop}
-use Rattle.std.specs.Prelude.{is_some, nat_lt, option_and_then, option_map, position, slice_get, Ok, zero, suc, if◌then◌else◌, IfSome, All}
+use Rattle.std.proofs.Common.{◌≡◌, ℕ, ◌<◌, ◌≤◌, Bool, true, false, not, ◌&&◌, List, [], ◌∷◌, ◌++◌, length, take, drop, get_or, Option, Some, None, refl, sym, ap, ◌∙◌, subst, inl, inr, arith, length-drop, take-append-drop}
+use Rattle.std.specs.Prelude.{is_some, nat_lt, option_and_then, position, slice_get, Ok, zero, suc, if◌then◌else◌}
 use Rattle.std.specs.Str.{bytes_eq}
 use Rattle.std.proofs.lemmas.Bool.{and_parts, ltb-true, ltb-false}
 use Rattle.std.proofs.lemmas.List.Quantifiers.{position-Some}
 use Rattle.std.proofs.lemmas.Slice.Eq.{bytes_eq-Decides}
-use Rattle.sw_char.specs.declared.nchar.End.TheVariants.{Eop}
 use Rattle.sw_config.specs.Entries.{Declaration, FlowEntry, NodeEntry, ReplyEntry, flow_names, target_of}
 use Rattle.sw_config.specs.Valid.{IsFlow, IsValid}
 use Rattle.sw_config.proofs.Flows.{All-at}
-use Rattle.sw_model.specs.Packets.{IsAnsweredRightly, IsDeclaredPacket, IsRightWay, left_bytes, reply_address, reply_from}
+use Rattle.sw_model.specs.Packets.{IsAnsweredRightly, IsDeclaredPacket, IsRightWay, left_bytes, reply_from}
 use Rattle.sw_rmap.specs.declared.config.TargetConfig.{TargetConfig}
 use Rattle.sw_rmap.specs.CommandView.{CommandView}
 use Rattle.sw_rmap.specs.Commands.{read}
-use Rattle.sw_rmap.specs.Answers.{answer}
-use Rattle.sw_rmap.specs.Replies.{is_answered, path_of, reply_to, way_back}
+use Rattle.sw_rmap.specs.Replies.{reply_to, way_back}
 use Rattle.sw_rmap.proofs.Parts.{written_is_read}
 use Rattle.sw_app_rmap.specs.declared.request.Request.{Request}
 use Rattle.sw_app_rmap.specs.FlowCommands.{bytes_to, command_to, initiator_of, path_back}
-use Rattle.sw_app_rmap.specs.Laws.{IsAsked, PacketsAreAsked, carried_out}
-use Rattle.sw_app_rmap.specs.Orders.{Order, data_of, wants_reply}
-use Rattle.sw_app_rmap.specs.Packets.{FlowPacket, begins_with, packet_of}
-use Rattle.sw_app_rmap.proofs.Bounds.{IsSmall, is_small}
+use Rattle.sw_app_rmap.specs.Laws.{PacketsAreAsked}
+use Rattle.sw_app_rmap.specs.Orders.{IsSmall, Order, data_of, wants_reply}
+use Rattle.sw_app_rmap.specs.Packets.{FlowPacket, packet_of}
+use Rattle.sw_app_rmap.proofs.Bounds.{is_small}
 use Rattle.sw_app_rmap.proofs.Built.{IsPath, answered_where_wanted, is_command, is_path, path_of_command}
 use Rattle.sw_app_rmap.proofs.Answered.{carries_out}
-use Rattle.sw_app_rmap.proofs.Parts.{IsCarried, IsMade, has_target, is_made}
+use Rattle.sw_app_rmap.proofs.Parts.{IsCarried, has_target, is_made}
 
 -- the address bytes that are left and the cargo are the command
 pub whole_command : (t : TargetConfig) (f : FlowEntry) (o : Order) (cargo : List ℕ) → IsCarried t f o cargo → left_bytes f ++ cargo ≡ bytes_to t f.reply o
@@ -65,13 +63,13 @@ answered_rightly t nodes f o cargo at path small is =
     subst (λ (w : Option (List ℕ)). IsRightWay w f.reply) (sym from) right
 
 is_valid_flow : (d : Declaration) (i : ℕ) (f : FlowEntry) → IsValid d → slice_get d.flows i ≡ Some f → IsFlow d.nodes f
-is_valid_flow d i f valid at = All-at (IsFlow d.nodes) d.flows i f valid.flows at
+is_valid_flow d i f valid at = All-at (IsFlow d.nodes) d.flows i f at valid.flows
 
 -- the flow of that place has that name
 named_at : (flows : List FlowEntry) (name : List ℕ) (i : ℕ) (f : FlowEntry) → position (bytes_eq name) (flow_names flows) ≡ Some i → slice_get flows i ≡ Some f → f.name ≡ name
 named_at flows name i f found at =
     let p = position-Some (bytes_eq name) (flow_names flows) i [] found in
-    let same : name ≡ get_or (flow_names flows) i [] = (bytes_eq-Decides name (get_or (flow_names flows) i [])).0 p.1.0 in
+    let same : name ≡ get_or (flow_names flows) i [] = (bytes_eq-Decides name (get_or (flow_names flows) i [])).0 p.1 in
     sym (same ∙ name_at flows i f at)
   where
     name_at : (flows : List FlowEntry) (i : ℕ) (f : FlowEntry) → slice_get flows i ≡ Some f → get_or (flow_names flows) i [] ≡ f.name

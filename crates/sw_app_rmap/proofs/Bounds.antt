@@ -1,13 +1,14 @@
 -- How large the numbers of an order are.
-use Rattle.std.proofs.Common.{◌≡◌, ℕ, ◌+◌, ◌*◌, ◌≤◌, Bool, true, false, ◌&&◌, List, [], ◌∷◌, length, drop, Option, Some, None, Result, Ok, refl, sym, ap, inl, inr, arith}
-use Rattle.std.specs.Prelude.{nat_le, nat_lt, option_and_then, if◌then◌else◌}
-use Rattle.std.proofs.lemmas.Bool.{cases_Bool, and_parts, leb-true}
+use Rattle.std.proofs.Common.{◌≡◌, ℕ, ◌+◌, ◌*◌, ◌≤◌, Bool, true, false, ◌&&◌, List, [], ◌∷◌, length, drop, Option, Some, None, Ok, refl, arith}
+use Rattle.std.specs.Prelude.{nat_le, option_and_then, option_map, if◌then◌else◌}
+use Rattle.std.specs.Char.{digit_value}
+use Rattle.std.proofs.lemmas.Bool.{and_parts, leb-true}
 use Rattle.sw_load.specs.Cargo.{bytes_after, if_some_and_few, pairs_of}
 use Rattle.sw_app_rmap.specs.declared.fault.RmapFault.TheVariants.{BadData, BadLength}
 use Rattle.sw_app_rmap.specs.declared.request.Access.{Access}
 use Rattle.sw_app_rmap.specs.declared.request.Access.TheVariants as access
 use Rattle.sw_app_rmap.specs.declared.request.Request.{Request}
-use Rattle.sw_app_rmap.specs.Orders.{Action, Order, action_of, length_of, order_of, reads, transaction_of, writes}
+use Rattle.sw_app_rmap.specs.Orders.{Action, IsSmall, Order, action_of, length_of, order_of, reads, transaction_of, writes}
 use Rattle.sw_app_rmap.specs.Told.{ok_or}
 use Rattle.sw_app_rmap.specs.Words.{digits_of, goes_on, is_hexadecimal, number_of}
 use Rattle.sw_app_rmap.proofs.Parts.{goes_on as parts_of, is_read, is_there}
@@ -23,7 +24,7 @@ goes_within : (base limit n m : ℕ) (cs : List ℕ) → n ≤ limit → goes_on
 goes_within base limit n m [] few e = let same : n ≡ m = cc in omega (arith, same, few)
 goes_within base limit n m (c ∷ cs) few e =
     let passes = only_if _ _ m e in
-    goes_within base limit _ m cs (leb-true _ limit (and_parts _ _ passes.0).1) passes.1
+    goes_within base limit (base * n + digit_value c) m cs (leb-true _ limit (and_parts _ _ passes.0).1) passes.1
 
 digits_within : (base limit m : ℕ) (cs : List ℕ) → digits_of base limit cs ≡ Some m → m ≤ limit
 digits_within base limit m [] e = absurd (none_some m e)
@@ -66,17 +67,12 @@ action_within (access.Write pairs acknowledged) action h =
     let within : length bytes.0 ≤ 16777215 = omega (arith, few) in
     rw (← same) within
 
--- an order's address has 40 bits, its transaction identifier 16, and its length 24
-pub record IsSmall (o : Order) : Type 0 where
-  pub address : o.address ≤ 1099511627775
-  pub transaction : o.transaction ≤ 65535
-  pub length : length_of o.action ≤ 16777215
-
+-- the numbers of an order that was read fit
 pub is_small : (r : Request) (o : Order) → order_of r ≡ Ok o → IsSmall o
 is_small r o h =
     let is = is_read r o h in
     record {
       address = number_within 1099511627775 o.address r.address.now is.address;
-      transaction = transaction_within _ o.transaction is.transaction;
-      length = action_within r.access o.action is.action;
+      transaction = transaction_within (option_map (λ w. w.now) r.transaction) o.transaction is.transaction;
+      count = action_within r.access o.action is.action;
     }

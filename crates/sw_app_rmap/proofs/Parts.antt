@@ -1,19 +1,15 @@
 -- The parts of a packet that is made.
-use Rattle.std.proofs.Common.{◌≡◌, ℕ, Bool, true, false, not, ◌&&◌, List, length, drop, Option, Some, None, Result, Ok, Err, refl, sym, inl, inr}
+use Rattle.std.proofs.Common.{◌≡◌, ℕ, Bool, true, false, not, ◌&&◌, List, length, drop, Option, Some, None, Result, Ok, Err, refl, sym}
 use Rattle.std.specs.Prelude.{is_some, nat_lt, position, slice_get, option_map, if◌then◌else◌}
 use Rattle.std.specs.Str.{bytes_eq}
-use Rattle.std.proofs.lemmas.Bool.{cases_Bool, not-true}
 use Rattle.sw_config.specs.Entries.{Declaration, FlowEntry, NodeEntry, flow_names, target_of}
-use Rattle.sw_load.specs.Cargo.{pairs_of}
 use Rattle.sw_model.specs.Packets.{left_bytes}
 use Rattle.sw_rmap.specs.declared.config.TargetConfig.{TargetConfig}
 use Rattle.sw_app_rmap.specs.declared.fault.RmapFault.{RmapFault}
-use Rattle.sw_app_rmap.specs.declared.fault.RmapFault.TheVariants.{UnknownFlow, BadAddress, BadLength, BadData, BadTransaction, NoTarget, NoReply, OutsideWindow, WrongLeft, TooLong}
-use Rattle.sw_app_rmap.specs.declared.request.Access.{Access}
-use Rattle.sw_app_rmap.specs.declared.request.Access.TheVariants as access
+use Rattle.sw_app_rmap.specs.declared.fault.RmapFault.TheVariants.{UnknownFlow, BadAddress, BadTransaction, NoTarget, NoReply, OutsideWindow, WrongLeft, TooLong}
 use Rattle.sw_app_rmap.specs.declared.request.Request.{Request}
 use Rattle.sw_app_rmap.specs.FlowCommands.{bytes_to}
-use Rattle.sw_app_rmap.specs.Orders.{Action, Order, action_of, order_of, reads, transaction_of, wants_reply, writes}
+use Rattle.sw_app_rmap.specs.Orders.{Action, Order, action_of, order_of, transaction_of, wants_reply}
 use Rattle.sw_app_rmap.specs.Packets.{FlowPacket, begins_with, behind_left, cargo_of, cargo_to, is_in_window, packet_of}
 use Rattle.sw_app_rmap.specs.Told.{◌>>=◌, ok_or}
 use Rattle.sw_app_rmap.specs.Words.{number_of}

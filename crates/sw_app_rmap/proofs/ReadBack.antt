@@ -1,20 +1,17 @@
 -- The table of a packet's entry is read back as a load of that packet.
-use Rattle.std.proofs.Common.{◌≡◌, ℕ, ◌+◌, ◌*◌, ◌/◌, ◌%◌, ◌<◌, ◌≤◌, Bool, true, false, not, ◌&&◌, List, [], ◌∷◌, length, map, Option, Some, None, Ok, refl, sym, ap, ◌∙◌, inl, inr, arith, suc}
-use Rattle.std.specs.Prelude.{◌==◌, slice_index, unwrap_or, option_and_then, option_map, position}
+use Rattle.std.proofs.Common.{◌≡◌, ℕ, ◌+◌, ◌*◌, ◌/◌, ◌%◌, ◌<◌, ◌≤◌, Bool, true, false, not, ◌&&◌, List, [], ◌∷◌, length, Option, Some, None, refl, ap, inl, arith, suc}
+use Rattle.std.specs.Prelude.{Result, Ok, Err, IfOk, ◌==◌, slice_index, unwrap_or, position}
 use Rattle.std.specs.Str.{bytes_eq}
 use Rattle.std.proofs.lemmas.Bool.{agree_below_at, and_parts, eqb-true, not-true}
 use Rattle.hex.specs.Hex.{encode_upper, encode_with, upper_digits}
 use Rattle.sw_char.specs.declared.nchar.End.TheVariants.{Eop}
 use Rattle.sw_config.specs.Entries.{Declaration, flow_names}
-use Rattle.sw_toml_table.specs.declared.keys.Section.TheVariants as section
 use Rattle.sw_toml_table.specs.Document.{document_of}
 use Rattle.sw_model.specs.Packets.{IsDeclaredPacket, is_declared_packet}
 use Rattle.sw_model.proofs.Declared.{declared_packets_pass}
-use Rattle.sw_load.specs.Cargo.{ArePairs, cargo_of, hex_pair, hex_value, without_spaces}
-use Rattle.sw_load.proofs.Spelled.{cargo_is_read}
+use Rattle.sw_load.specs.Cargo.{ArePairs, CargoIsRead, cargo_of, hex_pair, hex_value, without_spaces}
 use Rattle.sw_load.specs.Load.{LoadEntry, cargo_at, count_at, flow_at, load_of, load_text, marker_at, next_packet, packet_of}
 use Rattle.sw_app_rmap.specs.EntryTexts.{entry_table, load_table}
-use Rattle.sw_app_rmap.specs.Packets.{FlowPacket}
 use Rattle.sw_app_rmap.specs.RmapAnswers as answers
 
 -- ---- the digits of a byte
@@ -66,8 +63,8 @@ spaceless (b ∷ bytes) h =
     rw (high.no_space, low.no_space, spaceless bytes h.1) refl
 
 -- the text of a cargo is read as its bytes
-cargo_read : (cargo : List ℕ) → IsBytes cargo → 1 ≤ length cargo → length cargo ≤ 4096 → cargo_of (encode_upper cargo) ≡ Some cargo
-cargo_read cargo h some few = (cargo_is_read (encode_upper cargo) cargo).1 (inl (rw (spaceless cargo h) (record { pairs = are_pairs cargo h; some = some; few = few })))
+cargo_read : CargoIsRead → (cargo : List ℕ) → IsBytes cargo → 1 ≤ length cargo → length cargo ≤ 4096 → cargo_of (encode_upper cargo) ≡ Some cargo
+cargo_read cargo_is_read cargo h some few = (cargo_is_read (encode_upper cargo) cargo).1 (inl (rw (spaceless cargo h) (record { pairs = are_pairs cargo h; some = some; few = few })))
 
 -- ---- the entry
 
@@ -104,11 +101,11 @@ module _ (d : Declaration) (name : List ℕ) (i : ℕ) (cargo : List ℕ) where
   load_read next = rw next refl
 
 -- a text of the entry's table is read back
-pub reads_back : (d : Declaration) (name : List ℕ) (i : ℕ) (cargo text : List ℕ) → position (bytes_eq name) (flow_names d.flows) ≡ Some i → IsDeclaredPacket d i cargo → IsBytes cargo → length cargo ≤ 4096
+pub reads_back : CargoIsRead → (d : Declaration) (name : List ℕ) (i : ℕ) (cargo text : List ℕ) → position (bytes_eq name) (flow_names d.flows) ≡ Some i → IsDeclaredPacket d i cargo → IsBytes cargo → length cargo ≤ 4096
     → document_of text ≡ Ok (load_table name cargo) → load_text d text ≡ Ok (answers.load_of (record { flow = i; cargo = cargo }))
-reads_back d name i cargo text named declared bytes few document =
+reads_back cargo_is_read d name i cargo text named declared bytes few document =
     let flow = flow_read d name i cargo named in
-    let cargo_text = text_read d name i cargo (cargo_read cargo bytes declared.some few) in
+    let cargo_text = text_read d name i cargo (cargo_read cargo_is_read cargo bytes declared.some few) in
     let packet = packet_read d name i cargo flow cargo_text ((declared_packets_pass d i cargo).1 declared) in
     let load = load_read d name i cargo (next_read d name i cargo packet) in
     rw document load
@@ -117,3 +114,8 @@ reads_back d name i cargo text named declared bytes few document =
 pub are_bytes : (bytes : List ℕ) → ((k : ℕ) → slice_index bytes k < 256) → IsBytes bytes
 are_bytes [] h = tt
 are_bytes (b ∷ bytes) h = (h 0, are_bytes bytes (λ k. h (suc k)))
+
+-- what holds of a value that has both
+pub if_both : {A E : Type 0} {P Q R : A → Type 0} (r : Result A E) → IfOk r P → IfOk r Q → ((x : A) → P x → Q x → R x) → IfOk r R
+if_both (Ok x) p q f = f x p q
+if_both (Err e) p q f = tt

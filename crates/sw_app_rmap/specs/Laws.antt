@@ -5,8 +5,7 @@ use Rattle.sw_config.specs.Entries.{Declaration, FlowEntry, ReplyEntry, target_o
 use Rattle.sw_config.specs.Valid.{IsValid}
 use Rattle.sw_model.specs.Packets.{IsDeclaredPacket, left_bytes}
 use Rattle.sw_rmap.specs.declared.config.TargetConfig.{TargetConfig}
-use Rattle.sw_rmap.specs.declared.status.Status.TheVariants.{Success}
-use Rattle.sw_rmap.specs.Answers.{answer, stored}
+use Rattle.sw_rmap.specs.Answers.{answer, first_of, stored}
 use Rattle.sw_rmap.specs.Replies.{reply_of}
 use Rattle.sw_app_rmap.specs.declared.request.Request.{Request}
 use Rattle.sw_app_rmap.specs.FlowCommands.{command_to}
@@ -23,10 +22,11 @@ abbrev pub held : TargetConfig → ℕ → Action → List ℕ → List ℕ
 held t address (reads count) memory = memory
 held t address (writes bytes acknowledged) memory = stored memory (address - t.start) bytes
 
--- the target carries the command out: it replies with success, where a reply is wanted, and reads or writes what was asked for
+-- the target carries the command out: it replies with the status of none of the cases, success, where a reply is wanted, and reads or
+-- writes what was asked for
 abbrev pub carried_out : TargetConfig → Option ReplyEntry → Order → List ℕ → Option (List ℕ) × List ℕ
 carried_out t reply o memory =
-    ((if wants_reply o.action then Some (reply_of (command_to t reply o) Success (found t o.address o.action memory)) else None), held t o.address o.action memory)
+    ((if wants_reply o.action then Some (reply_of (command_to t reply o) (first_of []) (found t o.address o.action memory)) else None), held t o.address o.action memory)
 
 -- The packet is one that the flow of that name declares. Whatever its window holds, the target that it comes to carries out what the words
 -- ask for.

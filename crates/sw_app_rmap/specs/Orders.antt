@@ -1,5 +1,5 @@
 -- What is asked for, as numbers and bytes (this project's choice).
-use Rattle.std.specs.Prelude.{ℕ, Bool, true, false, List, [], length, Option, Some, None, Result, Ok, Err, option_map}
+use Rattle.std.specs.Prelude.{◌≤◌, ℕ, Bool, true, false, List, [], length, Option, Some, None, Result, Ok, option_map}
 use Rattle.sw_load.specs.Cargo.{pairs_of}
 use Rattle.sw_app_rmap.specs.declared.fault.RmapFault.{RmapFault}
 use Rattle.sw_app_rmap.specs.declared.fault.RmapFault.TheVariants.{BadAddress, BadLength, BadData, BadTransaction}
@@ -63,6 +63,12 @@ order_of r = do
   action ← action_of r.access
   transaction ← ok_or (transaction_of (option_map (λ w. w.now) r.transaction)) BadTransaction
   Ok (record { address = address; action = action; transaction = transaction })
+
+-- its numbers fit the fields of a command: the address has 40 bits, the transaction identifier 16, and the length 24
+pub record IsSmall (o : Order) : Type 0 where
+  pub address : o.address ≤ 1099511627775
+  pub transaction : o.transaction ≤ 65535
+  pub count : length_of o.action ≤ 16777215
 
 -- what the program's own values say
 abbrev pub action_view : code.Action → Action

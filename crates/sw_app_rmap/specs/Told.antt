@@ -1,5 +1,5 @@
 -- Making a packet, which stops at the first fault, and what a function of the program says of it.
-use Rattle.std.specs.Prelude.{◌≡◌, Bool, true, false, Option, Some, None, Result, Ok, Err}
+use Rattle.std.specs.Prelude.{◌≡◌, Option, Some, None, Result, Ok, Err}
 use Rattle.sw_app_rmap.specs.declared.fault.RmapFault.{RmapFault}
 use Rattle.sw_app_rmap.specs.declared.fault.RmapError.{RmapError}
 use Rattle.sw_app_rmap.specs.declared.fault.RmapError.TheVariants.{Fault, Memory}

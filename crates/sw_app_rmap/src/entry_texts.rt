@@ -16,6 +16,7 @@ use hex::encode_upper;
 use std::alloc::{AllocError, Global};
 use std::marker::Model;
 use sw_config::Network;
+use sw_load::laws::cargo_is_read;
 use sw_toml_table::Key;
 use toml::{Table, Value};
 
@@ -45,19 +46,20 @@ fn pairs_value(alloc: Global, bytes: &[u8]) -> Result<Value, AllocError>
 fn entry_table(alloc: Global, name: &str, cargo: &[u8]) -> Result<Table, AllocError>
     ensures { IfOk result (λ t. table_view t ≡ entry_table name.now cargo.now) }
 {
-    let mut table = one_member(alloc, Key::Cargo, pairs_value(alloc, cargo)?)?;
+    let pairs = pairs_value(alloc, cargo)?;
+    let mut table = one_member(alloc, Key::Cargo, pairs)?;
     let key = String::from_str(alloc, Key::Flow.text())?;
-    let name = text_value(alloc, name)?;
-    table.insert(key, name)?;
+    let value = text_value(alloc, name)?;
+    table.insert(key, value)?;
     Ok(table)
 }
 
 // The table as the one element of an array.
-fn one_item(alloc: Global, table: Table) -> Result<Value, AllocError>
-    ensures { IfOk result (λ v. view v ≡ array (item (table (table_view table)) no_items)) }
+fn one_item(alloc: Global, only: Table) -> Result<Value, AllocError>
+    ensures { IfOk result (λ v. view v ≡ array (item (table (table_view only)) no_items)) }
 {
     let mut items = Vec::new(alloc);
-    items.push(Value::Table(table))?;
+    items.push(Value::Table(only))?;
     Ok(Value::Array(items))
 }
 
@@ -97,5 +99,7 @@ pub(crate) fn entry_text(
     requires few { length cargo.now ≤ 4096 }
     ensures { IfOk result (λ s. IsLoadText network.now name.now (record { flow = flow; cargo = cargo.now }) (string_bytes s)) }
 {
+    // Names what holds of a cargo's text.
+    cargo_is_read();
     text_of(alloc, name, cargo)
 }

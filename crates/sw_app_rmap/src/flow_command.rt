@@ -1,7 +1,7 @@
 //! The command of a flow to its target.
-ghost use Rattle.std.specs.Prelude.{◌≡◌, ◌<◌, ◌≤◌, ◌^◌, IfOk, length, option_map};
+ghost use Rattle.std.specs.Prelude.{◌≡◌, ◌≤◌, IfOk, length, option_map};
 ghost use Rattle.sw_app_rmap.specs.FlowCommands.{bytes_to, command_to, initiator_of, instruction, padded, path_back, units};
-ghost use Rattle.sw_app_rmap.specs.Orders.{data_of, length_of, order_view};
+ghost use Rattle.sw_app_rmap.specs.Orders.{IsSmall, order_view};
 
 use crate::order::Order;
 use std::alloc::{AllocError, Global};
@@ -64,9 +64,8 @@ fn command_to(
     reply: Option<&Reply>,
     order: &Order,
 ) -> Result<Command, AllocError>
-    requires path { length (path_back (option_map (λ r. r.now) reply.entry)) ≤ 12 }
-    requires address { order.now.address < 2 ^ 40 }
-    requires length { length_of (order_view order.now).action < 2 ^ 24 }
+    requires path { length (path_back (option_map (λ r. r.now) reply)) ≤ 12 }
+    requires small { IsSmall (order_view order.now) }
     ensures { IfOk result (λ c. c ≡ command_to target (option_map (λ r. r.now) reply.entry) (order_view order.now)) }
 {
     let path = path_back(reply);
@@ -97,9 +96,8 @@ pub(crate) fn bytes_to(
     reply: Option<&Reply>,
     order: &Order,
 ) -> Result<Vec<u8>, AllocError>
-    requires path { length (path_back (option_map (λ r. r.now) reply.entry)) ≤ 12 }
-    requires address { order.now.address < 2 ^ 40 }
-    requires length { length_of (order_view order.now).action < 2 ^ 24 }
+    requires path { length (path_back (option_map (λ r. r.now) reply)) ≤ 12 }
+    requires small { IsSmall (order_view order.now) }
     ensures { IfOk result (λ v. v.items ≡ bytes_to target (option_map (λ r. r.now) reply.entry) (order_view order.now)) }
 {
     let command = command_to(alloc, target, reply, order)?;

@@ -92,7 +92,7 @@ fn action_of(alloc: Global, access: &Access<'_>) -> Result<Action, RmapError>
 
 // The transaction identifier; 0 where none is given.
 fn transaction_of(word: Option<&str>) -> Option<u64>
-    ensures value { result ≡ transaction_of (option_map (λ w. w.now) word) }
+    ensures value { result ≡ transaction_of (option_map (λ w. w.now) word.entry) }
     ensures within { IfSome result (λ n. n ≤ MAX_TRANSACTION) }
 {
     match word {
@@ -111,7 +111,7 @@ fn address_at(word: &str) -> Result<u64, RmapError>
 }
 
 fn transaction_at(word: Option<&str>) -> Result<u16, RmapError>
-    ensures { Gives (λ n. n) result (ok_or (transaction_of (option_map (λ w. w.now) word)) RmapFault.BadTransaction) }
+    ensures { Gives (λ n. n) result (ok_or (transaction_of (option_map (λ w. w.now) word.entry)) RmapFault.BadTransaction) }
 {
     match transaction_of(word) {
         Some(transaction) => Ok(transaction as u16),

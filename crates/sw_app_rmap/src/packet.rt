@@ -1,11 +1,11 @@
 //! The packet of a flow that brings its target a command.
-ghost use Rattle.std.specs.Prelude.{◌≡◌, ◌<◌, ◌≤◌, ◌^◌, length, slice_get, Some};
-ghost use Rattle.sw_config.specs.Entries.{target_of};
+ghost use Rattle.std.specs.Prelude.{◌≡◌, ◌≤◌, length};
 ghost use Rattle.sw_config.specs.Valid.{IsFlow};
 ghost use Rattle.sw_rmap.specs.Config.{IsTargetConfig};
 ghost use Rattle.sw_model.specs.Packets.{left_bytes};
 ghost use Rattle.sw_app_rmap.specs.Told.{Gives};
-ghost use Rattle.sw_app_rmap.specs.Orders.{order_view};
+ghost use Rattle.sw_app_rmap.specs.FlowCommands.{path_back};
+ghost use Rattle.sw_app_rmap.specs.Orders.{IsSmall, order_view};
 ghost use Rattle.sw_app_rmap.specs.Packets.{begins_with, behind_left, cargo_of, cargo_to, is_in_window, packet_of};
 
 use crate::fault::{RmapError, RmapFault};
@@ -46,7 +46,7 @@ fn left_bytes(flow: &Flow) -> &[u8]
 
 fn is_in_window(target: TargetConfig, order: &Order) -> bool
     requires target { IsTargetConfig target }
-    requires address { order.now.address < 2 ^ 40 }
+    requires small { IsSmall (order_view order.now) }
     ensures { result ≡ is_in_window target (order_view order.now) }
 {
     target.start <= order.address
@@ -81,6 +81,8 @@ fn cargo_to(
 ) -> Result<Vec<u8>, RmapError>
     requires target { IsTargetConfig target }
     requires left { flow.now.left ≤ length flow.now.address }
+    requires path { length (path_back flow.now.reply) ≤ 12 }
+    requires small { IsSmall (order_view order.now) }
     ensures { Gives (λ v. v.items) result (cargo_to target flow.now (order_view order.now)) }
 {
     if order.action.wants_reply() && flow.reply().is_none() {
@@ -100,7 +102,8 @@ fn cargo_of(
     flow: &Flow,
     order: &Order,
 ) -> Result<Vec<u8>, RmapError>
-    requires { IsFlow network.now.nodes flow.now }
+    requires flow { IsFlow network.now.nodes flow.now }
+    requires small { IsSmall (order_view order.now) }
     ensures { Gives (λ v. v.items) result (cargo_of network.now.nodes flow.now (order_view order.now)) }
 {
     match network.target(flow.to()) {

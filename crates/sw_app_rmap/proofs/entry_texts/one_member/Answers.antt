@@ -8,4 +8,4 @@ pub returns : goal.returns
 returns c =
     let named : string_bytes c.in_ok-name.name ≡ key_text c.args.key = search rules in
     let es : c.insert.new.self.entries ≡ _ = c.in_ok-insert.ensures.entries in
-    ap members_view es ∙ first_put c.new.result.entries c.in_ok-name.name c.args.value (key_text c.args.key) c.new.ensures.empty named
+    ap members_view es ∙ first_put c.new-table.result.entries c.in_ok-name.name c.args.value (key_text c.args.key) c.new-table.ensures.empty named

@@ -1,7 +1,6 @@
-use Rattle.std.proofs.Common.{string_bytes, ap, arith}
+use Rattle.std.proofs.Common.{string_bytes, arith}
 use Rattle.std.proofs.lemmas.Str.{IsUtf8-string_bytes}
 use Rattle.sw_toml_table.proofs.Documents.{document_is}
-use Rattle.sw_app_rmap.specs.EntryTexts.{load_table}
 use Rattle.sw_app_rmap.proofs.entry_texts.text_of.Goals as goal
 
 pub returns-in-Ok-clause-reads_back : goal.returns-in-Ok-clause-reads_back
