@@ -9,6 +9,7 @@ use std::thread::Threads;
 use std::{fs, io};
 use sw_app::{check, decide, migrate, replay, report, route};
 use sw_app_explain::explain;
+use sw_app_rmap::{Access, Request, rmap};
 use sw_app_run::{Open, Options};
 use sw_args::{Call, WordsFault, words};
 use sw_command::Ended;

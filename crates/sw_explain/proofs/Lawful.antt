@@ -5,11 +5,11 @@ use Rattle.std.proofs.lemmas.List.Elements.{All-cons, All-head, All-nil, All-tai
 use Rattle.sw_config.specs.Entries.{Declaration}
 use Rattle.sw_cycle.specs.Cycles.{IsShown}
 use Rattle.sw_cycle.proofs.Chosen.{chosen_show}
-use Rattle.sw_graph.specs.Laws.{IsCycle}
 use Rattle.sw_parts.specs.declared.part.Part.{Part}
 use Rattle.sw_parts.specs.Parts.{IsPart}
 use Rattle.sw_parts.proofs.Lawful.{parts_are_where_cycles_are}
 use Rattle.sw_search.specs.Verdicts.{AllWellRouted, depends}
+use Rattle.sw_search.proofs.Rounds.{some_of}
 use Rattle.sw_explain.specs.declared.tangle.Tangle.{Tangle}
 use Rattle.sw_explain.specs.Laws.{TanglesAreShown, TanglesAreWhereCyclesAre}
 use Rattle.sw_explain.specs.Explanations.{NeverWaits}

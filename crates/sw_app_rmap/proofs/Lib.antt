@@ -1,0 +1,7 @@
+mod Parts
+mod Bounds
+mod Built
+mod Answered
+mod Asked
+mod Tables
+mod ReadBack

@@ -1,0 +1,74 @@
+//! Why there is no packet.
+ghost use Rattle.std.specs.Prelude.{◌≡◌, IfOk, string_bytes};
+ghost use Rattle.sw_app_rmap.specs.declared.fault.RmapError.TheVariants.{Memory};
+ghost use Rattle.sw_app_rmap.specs.EntryTexts.{fault_line, fault_words};
+
+use std::alloc::{AllocError, Global};
+use thiserror::Error;
+
+/// Why a flow has no such packet.
+#[derive(Clone, Copy, Debug, PartialEq, Eq)]
+pub(crate) enum RmapFault {
+    /// No declared flow has that name.
+    UnknownFlow,
+    /// The word is no number of at most 40 bits.
+    BadAddress,
+    /// The word is no number of at most 24 bits.
+    BadLength,
+    /// The word is not 1 to 4,096 hexadecimal pairs.
+    BadData,
+    /// The word is no number of at most 16 bits.
+    BadTransaction,
+    /// The flow ends at a node that is no RMAP target.
+    NoTarget,
+    /// The flow has no replies, and the command asks for one.
+    NoReply,
+    /// The target's window has not all that is read or written.
+    OutsideWindow,
+    /// The address bytes that are left are not what the command begins with.
+    WrongLeft,
+    /// The cargo has more bytes than a load can say.
+    TooLong,
+}
+
+/// Why there is no packet, or want of memory.
+#[derive(Clone, Copy, Debug, PartialEq, Eq, Error)]
+pub(crate) enum RmapError {
+    #[error("there is no such packet")]
+    Fault(RmapFault),
+    #[error("out of memory")]
+    Memory,
+}
+
+impl From<AllocError> for RmapError {
+    ghost from_gives = { λ _ e. e ≡ Memory };
+
+    fn from(_error: AllocError) -> RmapError {
+        RmapError::Memory
+    }
+}
+
+fn fault_words(fault: RmapFault) -> &'static str
+    ensures { result.now ≡ fault_words fault }
+{
+    match fault {
+        RmapFault::UnknownFlow => "F7 UnknownName argument",
+        RmapFault::BadAddress => "R1 BadAddress",
+        RmapFault::BadLength => "R2 BadLength",
+        RmapFault::BadData => "R3 BadData",
+        RmapFault::BadTransaction => "R4 BadTransaction",
+        RmapFault::NoTarget => "R5 NoTarget",
+        RmapFault::NoReply => "R6 NoReply",
+        RmapFault::OutsideWindow => "R7 OutsideWindow",
+        RmapFault::WrongLeft => "R8 WrongLeft",
+        RmapFault::TooLong => "R9 TooLong",
+    }
+}
+
+/// What is printed of a fault.
+pub(crate) fn fault_line(alloc: Global, fault: RmapFault) -> Result<String, AllocError>
+    ensures { IfOk result (λ s. string_bytes s ≡ fault_line fault) }
+{
+    let words = fault_words(fault);
+    format!(in alloc; "fault {words}\n")
+}

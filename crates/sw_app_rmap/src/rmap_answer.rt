@@ -1,0 +1,79 @@
+//! What `rmap` answers.
+ghost use Rattle.std.specs.Prelude.{◌≡◌, ◌≤◌, IfOk, Ok, Some, length, position, string_bytes};
+ghost use Rattle.std.specs.Str.{bytes_eq};
+ghost use Rattle.sw_config.specs.Entries.{flow_names};
+ghost use Rattle.sw_model.specs.Packets.{IsDeclaredPacket};
+ghost use Rattle.sw_app_rmap.specs.Packets.{packet_of};
+ghost use Rattle.sw_app_rmap.specs.RmapAnswers.{IsPacketAnswer, IsRmapAnswer};
+ghost use Rattle.sw_app_rmap.specs.EntryTexts.{fault_line};
+ghost use Rattle.sw_command.specs.Ends.{Says};
+
+use crate::entry_texts::entry_text;
+use crate::fault::{RmapError, RmapFault, fault_line};
+use crate::packet::{FlowPacket, packet_of};
+use crate::request::Request;
+use std::alloc::{AllocError, Global};
+use std::marker::Model;
+use sw_command::Answer;
+use sw_command::statuses::{FAULTY, GOOD};
+use sw_config::Network;
+use sw_file::read_network;
+use sw_toml_table::FileFault;
+
+fn fault_answer(alloc: Global, fault: RmapFault) -> Result<Answer, AllocError>
+    ensures { IfOk result (λ a. Says (fault_line fault) 3 (string_bytes a.text) a.status) }
+{
+    let text = fault_line(alloc, fault)?;
+    Ok(Answer {
+        text,
+        status: FAULTY,
+    })
+}
+
+// The answer of the flow's packet.
+fn packet_answer(
+    alloc: Global,
+    network: &Network,
+    name: &str,
+    packet: &FlowPacket,
+) -> Result<Answer, AllocError>
+    requires named { position (bytes_eq name.now) (flow_names network.now.flows) ≡ Some packet.now.flow }
+    requires declared { IsDeclaredPacket network.now packet.now.flow packet.now.cargo }
+    requires few { length packet.now.cargo ≤ 4096 }
+    ensures { IfOk result (λ a. IsPacketAnswer network.now name.now (Ok packet.now) (string_bytes a.text) a.status) }
+{
+    let text = entry_text(alloc, network, name, packet.flow, &packet.cargo)?;
+    Ok(Answer { text, status: GOOD })
+}
+
+// The answer for a network.
+fn network_answer(
+    alloc: Global,
+    network: &Network,
+    request: &Request<'_>,
+) -> Result<Answer, AllocError>
+    ensures { IfOk result (λ a. IsPacketAnswer network.now request.now.flow.now (packet_of network.now request.now) (string_bytes a.text) a.status) }
+{
+    // Names the network, which is valid by its type.
+    let _flows = network.flows();
+    match packet_of(alloc, network, request) {
+        Ok(packet) => packet_answer(alloc, network, request.flow, &packet),
+        Err(RmapError::Fault(fault)) => fault_answer(alloc, fault),
+        Err(RmapError::Memory) => Err(AllocError),
+    }
+}
+
+/// The answer to the bytes of a network file.
+pub(crate) fn rmap_answer(
+    alloc: Global,
+    input: &[u8],
+    request: &Request<'_>,
+) -> Result<Answer, AllocError>
+    ensures { IfOk result (λ a. IsRmapAnswer request.now input.now (string_bytes a.text) a.status) }
+{
+    match read_network(alloc, input) {
+        Ok(network) => network_answer(alloc, &network, request),
+        Err(FileFault::Text(fault)) => Answer::of_fault(alloc, &fault),
+        Err(FileFault::Memory) => Err(AllocError),
+    }
+}
