@@ -91,6 +91,9 @@ const MOST_TRIES: u32 = 1_000_000;
 /// The greatest number that a search may begin with.
 const MOST_SEED: u32 = 4_294_967_295;
 
+/// The status of words that are refused.
+pub const REFUSED: u8 = 2;
+
 /// Why the words give no call, with the text to print.
 #[derive(Debug, Drop, Error)]
 pub enum WordsFault {
@@ -114,7 +117,7 @@ impl WordsFault {
     {
         match self {
             WordsFault::Help(_) => 0,
-            WordsFault::Refused(_) => 2,
+            WordsFault::Refused(_) => REFUSED,
             WordsFault::Memory => 5,
         }
     }

@@ -3,4 +3,4 @@
 
 mod command_line;
 
-pub use command_line::{Call, WordsFault, words};
+pub use command_line::{Call, REFUSED, WordsFault, words};

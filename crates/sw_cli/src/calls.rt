@@ -1,8 +1,10 @@
 //! The call that the words ask for, on the files that they name.
-ghost use Rattle.std.specs.Prelude.{◌<◌, IfErr, IfOk, map};
+ghost use Rattle.std.specs.Prelude.{◌<◌, IfErr, IfNone, IfOk, IfSome, map};
 ghost use Rattle.sw_args.specs.CommandLine.{Gives, HasWorkers, Refuses};
 ghost use Rattle.sw_args.specs.declared.command_line.Call.{Call};
+ghost use Rattle.sw_cli.specs.Accesses.{IsAccess, IsNoAccess};
 
+use crate::told::no_access;
 use std::rt::Files;
 use std::sync::Wait;
 use std::thread::Threads;
@@ -20,7 +22,7 @@ use sw_command::Ended;
 ///
 /// `Help`: the words ask for help. `Refused`: something is wrong with them. Both have the text to print. `Memory`: there is no
 /// memory to read the words; this tells nothing of them. No call is made.
-pub fn run_words<'a, R: Files + Print + AllocGlobal + Threads + Wait + Sync>(
+pub fn run_words<'a, R: Files + Print + Eprint + AllocGlobal + Threads + Wait + Sync>(
     rt: &R,
     given: &'a [&'a str],
 ) -> Result<Ended, WordsFault>
@@ -33,7 +35,10 @@ pub fn run_words<'a, R: Files + Print + AllocGlobal + Threads + Wait + Sync>(
     }
 }
 
-fn run_call<R: Files + Print + AllocGlobal + Threads + Wait + Sync>(rt: &R, call: Call<'_>) -> Ended
+fn run_call<R: Files + Print + Eprint + AllocGlobal + Threads + Wait + Sync>(
+    rt: &R,
+    call: Call<'_>,
+) -> Ended
     requires { HasWorkers call }
 {
     match call {
@@ -58,6 +63,27 @@ fn run_call<R: Files + Print + AllocGlobal + Threads + Wait + Sync>(rt: &R, call
         ),
         Call::Migrate { file } => run_migrate(rt, file),
         Call::Explain { file, all } => run_explain(rt, file, all),
+        Call::Rmap {
+            file,
+            flow,
+            action,
+            address,
+            value,
+            unacknowledged,
+            transaction,
+        } => match access_of(action, value, unacknowledged) {
+            Some(access) => run_rmap(
+                rt,
+                file,
+                &Request {
+                    flow,
+                    access,
+                    address,
+                    transaction,
+                },
+            ),
+            None => no_access(rt),
+        },
     }
 }
 
@@ -129,6 +155,34 @@ fn run_explain<R: Files + Print + AllocGlobal + Threads + Sync>(
     };
     let mut writer = io::writer(rt);
     explain(rt, rt.alloc(), &mut reader, all, &mut writer)
+}
+
+// What an RMAP command does: it reads so many bytes, or writes these. A read without its reply brings nothing, and there is no third.
+fn access_of<'a>(action: &str, value: &'a str, unacknowledged: bool) -> Option<Access<'a>>
+    ensures some { IfSome result (IsAccess action.now value.entry.now unacknowledged) }
+    ensures none { IfNone result (IsNoAccess action.now unacknowledged) }
+{
+    if action == "write" {
+        return Some(Access::Write {
+            data: value,
+            acknowledged: !unacknowledged,
+        });
+    }
+    if action != "read" {
+        return None;
+    }
+    if unacknowledged {
+        return None;
+    }
+    Some(Access::Read { length: value })
+}
+
+fn run_rmap<R: Files + Print + AllocGlobal>(rt: &R, file: &str, request: &Request<'_>) -> Ended {
+    let Ok(mut reader) = fs::open(rt, file) else {
+        return Ended::ReadFailed;
+    };
+    let mut writer = io::writer(rt);
+    rmap(rt.alloc(), &mut reader, request, &mut writer)
 }
 
 fn run_load<R: Files + Print + AllocGlobal + Threads + Wait + Sync>(

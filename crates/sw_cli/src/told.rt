@@ -3,7 +3,7 @@ ghost use Rattle.std.specs.Prelude.{◌≡◌, ◌⊎◌};
 ghost use Rattle.sw_args.specs.CommandLine.{words_status};
 ghost use Rattle.sw_command.specs.Ends.{exit_status};
 
-use sw_args::WordsFault;
+use sw_args::{REFUSED, WordsFault};
 use sw_command::Ended;
 
 /// Tells of a read or a write that failed.
@@ -36,10 +36,18 @@ pub(crate) fn refused<R: Print + Eprint>(rt: &R, fault: &WordsFault) -> u8
     }
 }
 
+/// Tells that the words of `rmap` ask for no command.
+pub(crate) fn no_access(rt: &impl Eprint) -> Ended
+    ensures { result ≡ Ended.Status 2 }
+{
+    let _ = eprint!(rt; "error: ACTION is read or write, and --no-ack goes with write alone\n");
+    Ended::Status(REFUSED)
+}
+
 /// Tells that a word is no text.
 pub(crate) fn not_text(rt: &impl Eprint) -> u8
     ensures { result ≡ 2 }
 {
     let _ = eprint!(rt; "error: the words are no UTF-8 text\n");
-    2
+    REFUSED
 }
