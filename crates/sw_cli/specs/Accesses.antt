@@ -6,7 +6,7 @@ use Rattle.sw_app_rmap.specs.declared.request.Access.TheVariants.{Read, Write}
 -- a read with its reply, or a write with one or without
 abbrev pub IsAccess : List ℕ → List ℕ → Bool → Access → Type 0
 IsAccess action value unacknowledged (Read length) = (action ≡ codes "read") × (unacknowledged ≡ false) × (length.now ≡ value)
-IsAccess action value unacknowledged (Write data acknowledged) = (action ≡ codes "write") × (data.now ≡ value) × (acknowledged ≡ not unacknowledged)
+IsAccess action value unacknowledged (Write bytes acknowledged) = (action ≡ codes "write") × (bytes.now ≡ value) × (acknowledged ≡ not unacknowledged)
 
 -- neither of them
 abbrev pub IsNoAccess : List ℕ → Bool → Type 0
