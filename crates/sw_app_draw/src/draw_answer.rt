@@ -1,7 +1,7 @@
 //! What `draw` answers.
-ghost use Rattle.std.specs.Prelude.{◌≡◌, ◌<◌, Some, IfOk, IfSome, length, slice_get, string_bytes};
+ghost use Rattle.std.specs.Prelude.{◌<◌, Some, IfOk, length, string_bytes};
 ghost use Rattle.sw_config.specs.Entries.{all_flows};
-ghost use Rattle.sw_app_draw.specs.DrawAnswers.{IsDrawAnswer, IsDrawnAnswer, IsFoundAnswer, IsWishedAnswer};
+ghost use Rattle.sw_app_draw.specs.DrawAnswers.{IsDrawAnswer, IsDrawnAnswer, IsFlowAnswer, IsNamedAnswer};
 ghost use Rattle.sw_app_draw.specs.Drawings.{IsCycleDrawn};
 
 use crate::draw_text::draw_text;
@@ -62,7 +62,7 @@ fn flow_answer<T: Threads + Sync>(
     number: u16,
 ) -> Result<Answer, AllocError>
     requires { number < length (all_flows network.now) }
-    ensures { IfOk result (λ a. IfSome (slice_get (all_flows network.now) number) (λ f. IsFoundAnswer options.now network.now (Some f) (string_bytes a.text) a.status)) }
+    ensures { IfOk result (λ a. IsFlowAnswer options.now network.now (Some number) (string_bytes a.text) a.status) }
 {
     let places = places(alloc, network, number)?;
     drawn_answer(rt, alloc, network, options, &places)
@@ -76,7 +76,7 @@ fn named_answer<T: Threads + Sync>(
     options: &DrawOptions<'_>,
     name: &str,
 ) -> Result<Answer, AllocError>
-    ensures { IfOk result (λ a. IsWishedAnswer options.now network.now (Some name.now) (string_bytes a.text) a.status) }
+    ensures { IfOk result (λ a. IsNamedAnswer options.now network.now (Some name.now) (string_bytes a.text) a.status) }
 {
     match network.flow_named(name) {
         Some(number) => flow_answer(rt, alloc, network, options, number),
@@ -97,7 +97,7 @@ fn network_answer<T: Threads + Sync>(
     network: &Network,
     options: &DrawOptions<'_>,
 ) -> Result<Answer, AllocError>
-    ensures { IfOk result (λ a. IsWishedAnswer options.now network.now options.now.flow (string_bytes a.text) a.status) }
+    ensures { IfOk result (λ a. IsNamedAnswer options.now network.now options.now.flow (string_bytes a.text) a.status) }
 {
     match options.flow {
         Some(name) => named_answer(rt, alloc, network, options, name),

@@ -1,0 +1,2 @@
+mod EachLine
+mod NotFree
