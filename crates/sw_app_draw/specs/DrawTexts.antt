@@ -33,9 +33,13 @@ field_text port = codes "|<" ++ (decimal port ++ (codes ">" ++ decimal port))
 abbrev pub port_field : Declaration → ℕ → ℕ → List ℕ
 port_field d s port = if is_some (out_of (wiring_of d).ends s port) then field_text port else []
 
+-- the fields of the first so many ports, as far as they have a link
+unfoldable pub port_fields : Declaration → ℕ → ℕ → List ℕ
+port_fields d s ports = flat_map (port_field d s) (range_with_len 0 ports)
+
 -- a switch's name, and then its ports that have a link
 abbrev pub record_text : Declaration → ℕ → List ℕ
-record_text d s = switch_name d s ++ flat_map (port_field d s) (range_with_len 0 32)
+record_text d s = switch_name d s ++ port_fields d s 32
 
 abbrev pub switch_attributes : Declaration → ℕ → List AttributeText
 switch_attributes d s = attribute (codes "shape") (codes "record") ∷ attribute (codes "label") (record_text d s) ∷ []

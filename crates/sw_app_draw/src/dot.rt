@@ -13,6 +13,7 @@ pub(crate) struct Attribute {
 }
 
 impl Model for Attribute {
+    ghost use Rattle.std.specs.Prelude.{string_bytes};
     ghost use Rattle.sw_app_draw.specs.Dot.{AttributeText};
 
     ghost Value = { AttributeText };

@@ -14,8 +14,8 @@ use sw_command::statuses::{FAULTY, GOOD};
 use sw_config::Network;
 use sw_file::read_network;
 use sw_flow::{Place, places};
-use sw_topo::Chan;
 use sw_toml_table::FileFault;
+use sw_topo::Chan;
 
 // With these places of a flow, this cycle, and the numbers if they are asked for.
 fn numbered_answer<T: Threads + Sync>(

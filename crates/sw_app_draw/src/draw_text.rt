@@ -16,11 +16,7 @@ fn head_text() -> &'static str
 }
 
 // A line for each node, each switch and each channel.
-fn parts_text(
-    alloc: Global,
-    network: &Network,
-    drawing: &Drawing<'_>,
-) -> Result<String, AllocError>
+fn parts_text(alloc: Global, network: &Network, drawing: &Drawing<'_>) -> Result<String, AllocError>
     ensures { IfOk result (λ s. string_bytes s ≡ parts_text network.now drawing.now) }
 {
     let nodes = node_statements(alloc, network)?;

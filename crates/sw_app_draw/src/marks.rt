@@ -56,11 +56,7 @@ fn add_flow(
 }
 
 // A step of the cycle is red, and has its number.
-fn add_step(
-    alloc: Global,
-    attributes: &mut Vec<Attribute>,
-    before: usize,
-) -> Result<(), AllocError>
+fn add_step(alloc: Global, attributes: &mut Vec<Attribute>, before: usize) -> Result<(), AllocError>
     requires { before + 1 < 2 ^ 64 }
     ensures { OnOk result (attributes.new.items ≡ attributes.old.items ++ step_attributes before) }
 {

@@ -1,8 +1,8 @@
 //! Nodes and switches in DOT.
-ghost use Rattle.std.specs.Prelude.{◌≡◌, ◌<◌, IfOk, flat_map, length, string_bytes};
+ghost use Rattle.std.specs.Prelude.{◌≡◌, ◌<◌, ◌≤◌, IfOk, flat_map, length, string_bytes};
 ghost use Rattle.std.specs.List.{range_with_len};
 ghost use Rattle.sw_output.specs.ChannelTexts.{switch_name};
-ghost use Rattle.sw_app_draw.specs.DrawTexts.{field_text, node_attributes, node_statement, port_field, record_text, switch_attributes, switch_statement};
+ghost use Rattle.sw_app_draw.specs.DrawTexts.{field_text, node_attributes, node_statement, port_field, port_fields, record_text, switch_attributes, switch_statement};
 
 use crate::dot::{Attribute, quoted, statement};
 use std::alloc::{AllocError, Global};
@@ -62,12 +62,7 @@ fn field_text(alloc: Global, port: u8) -> Result<String, AllocError>
 }
 
 // The port's field, if it has a link.
-fn port_field(
-    alloc: Global,
-    network: &Network,
-    switch: u16,
-    port: u8,
-) -> Result<String, AllocError>
+fn port_field(alloc: Global, network: &Network, switch: u16, port: u8) -> Result<String, AllocError>
     requires switch { switch < length network.now.switches }
     requires port { port < 32 }
     ensures { IfOk result (λ s. string_bytes s ≡ port_field network.now switch port) }
@@ -79,7 +74,8 @@ fn port_field(
     Ok(String::new(alloc))
 }
 
-// The fields of the ports that have a link.
+// The fields of the first so many ports, as far as they have a link.
+#[tactic(auto, unfolding(crate::specs::DrawTexts::port_fields))]
 fn port_fields(
     alloc: Global,
     network: &Network,
@@ -88,7 +84,7 @@ fn port_fields(
 ) -> Result<String, AllocError>
     requires switch { switch < length network.now.switches }
     requires ports { ports ≤ 32 }
-    ensures { IfOk result (λ s. string_bytes s ≡ flat_map (port_field network.now switch) (range_with_len 0 ports)) }
+    ensures { IfOk result (λ s. string_bytes s ≡ port_fields network.now switch ports) }
 {
     let mut text = String::new(alloc);
     for port in 0..ports {
