@@ -1,2 +1,3 @@
 mod EachLine
 mod NotFree
+mod Numbers

@@ -8,7 +8,7 @@ use Rattle.sw_search.proofs.Determined.{determined}
 use Rattle.sw_search.specs.declared.verdict.Verdict.{Verdict}
 use Rattle.sw_search.specs.declared.verdict.Verdict.TheVariants.{Misrouted, Cyclic, Free}
 use Rattle.sw_search.specs.Verdicts.{IsFree, IsVerdict}
-use Rattle.sw_app_draw.specs.Drawings.{IsCycleDrawn, IsNumbering, first_cycle, numbers_of}
+use Rattle.sw_app_draw.specs.Drawings.{AreNumbersDrawn, IsCycleDrawn, IsNumbering, first_cycle, numbers_of}
 
 -- where a cycle is drawn the network is not free
 not_free : (d : Declaration) (drawn : Bool) (cycle : List ℕ) → IsCycleDrawn d drawn cycle → 0 < length cycle → (contents : Contents) → IsFree d contents → ⊥
@@ -20,12 +20,21 @@ not_free d false cycle h some contents free =
     let size : length cycle ≡ 0 = ap length h in
     absurd (omega (arith, size, some))
 
--- then there are no numbers
-pub none_numbered : (d : Declaration) (drawn : Bool) (cycle : List ℕ) → IsCycleDrawn d drawn cycle → 0 < length cycle → IsNumbering d []
+-- so there are no numbers
+none_numbered : (d : Declaration) (drawn : Bool) (cycle : List ℕ) → IsCycleDrawn d drawn cycle → 0 < length cycle → IsNumbering d []
 none_numbered d drawn cycle h some = inr (not_free d drawn cycle h some, refl)
 
 -- the numbers of a verdict
-pub numbered : (d : Declaration) (v : Verdict) → IsVerdict d v → IsNumbering d (numbers_of (Some v))
+numbered : (d : Declaration) (v : Verdict) → IsVerdict d v → IsNumbering d (numbers_of (Some v))
 numbered d (Misrouted i place fault) h = inr (λ contents free. determined d (Misrouted i place fault) (Free contents) h free, refl)
 numbered d (Cyclic cycle) h = inr (λ contents free. determined d (Cyclic cycle) (Free contents) h free, refl)
 numbered d (Free contents) h = inl (contents, h, refl)
+
+-- where they are asked for
+pub none_drawn : (d : Declaration) (drawn asked : Bool) (cycle : List ℕ) → IsCycleDrawn d drawn cycle → 0 < length cycle → AreNumbersDrawn d asked []
+none_drawn d drawn true cycle h some = none_numbered d drawn cycle h some
+none_drawn d drawn false cycle h some = refl
+
+pub numbers_drawn : (d : Declaration) (asked : Bool) (v : Verdict) → asked ≡ true → IsVerdict d v → AreNumbersDrawn d asked (numbers_of (Some v))
+numbers_drawn d true v is h = numbered d v h
+numbers_drawn d false v is h = absurd cc
