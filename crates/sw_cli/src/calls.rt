@@ -10,6 +10,7 @@ use std::sync::Wait;
 use std::thread::Threads;
 use std::{fs, io};
 use sw_app::{check, decide, migrate, replay, report, route};
+use sw_app_draw::{DrawOptions, draw};
 use sw_app_explain::explain;
 use sw_app_rmap::{Access, Request, rmap};
 use sw_app_run::{Open, Options};
@@ -63,6 +64,20 @@ fn run_call<R: Files + Print + Eprint + AllocGlobal + Threads + Wait + Sync>(
         ),
         Call::Migrate { file } => run_migrate(rt, file),
         Call::Explain { file, all } => run_explain(rt, file, all),
+        Call::Draw {
+            file,
+            flow,
+            cycle,
+            numbers,
+        } => run_draw(
+            rt,
+            file,
+            &DrawOptions {
+                flow,
+                cycle,
+                numbers,
+            },
+        ),
         Call::Rmap {
             file,
             flow,
@@ -155,6 +170,18 @@ fn run_explain<R: Files + Print + AllocGlobal + Threads + Sync>(
     };
     let mut writer = io::writer(rt);
     explain(rt, rt.alloc(), &mut reader, all, &mut writer)
+}
+
+fn run_draw<R: Files + Print + AllocGlobal + Threads + Sync>(
+    rt: &R,
+    file: &str,
+    options: &DrawOptions<'_>,
+) -> Ended {
+    let Ok(mut reader) = fs::open(rt, file) else {
+        return Ended::ReadFailed;
+    };
+    let mut writer = io::writer(rt);
+    draw(rt, rt.alloc(), &mut reader, options, &mut writer)
 }
 
 // What an RMAP command does: it reads so many bytes, or writes these. A read without its reply brings nothing, and there is no third.

@@ -1,0 +1,3 @@
+mod EachLine
+mod NotFree
+mod Numbers

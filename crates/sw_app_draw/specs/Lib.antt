@@ -1,0 +1,4 @@
+pub mod Dot
+pub mod Drawings
+pub mod DrawTexts
+pub mod DrawAnswers

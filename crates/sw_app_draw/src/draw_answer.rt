@@ -1,0 +1,122 @@
+//! What `draw` answers.
+ghost use Rattle.std.specs.Prelude.{◌<◌, Some, IfOk, length, string_bytes};
+ghost use Rattle.sw_config.specs.Entries.{all_flows};
+ghost use Rattle.sw_app_draw.specs.DrawAnswers.{IsDrawAnswer, IsDrawnAnswer, IsFlowAnswer, IsNamedAnswer};
+ghost use Rattle.sw_app_draw.specs.Drawings.{IsCycleDrawn};
+
+use crate::draw_text::draw_text;
+use crate::drawing::{Drawing, first_cycle, numbers_of, tangles_if, verdict_if};
+use crate::options::DrawOptions;
+use std::alloc::{AllocError, Global};
+use std::thread::Threads;
+use sw_command::Answer;
+use sw_command::statuses::{FAULTY, GOOD};
+use sw_config::Network;
+use sw_file::read_network;
+use sw_flow::{Place, places};
+use sw_toml_table::FileFault;
+use sw_topo::Chan;
+
+// With these places of a flow, this cycle, and the numbers if they are asked for.
+fn numbered_answer<T: Threads + Sync>(
+    rt: &T,
+    alloc: Global,
+    network: &Network,
+    options: &DrawOptions<'_>,
+    places: &[Place],
+    cycle: &[Chan],
+) -> Result<Answer, AllocError>
+    requires { IsCycleDrawn network.now options.now.cycle cycle.now }
+    ensures { IfOk result (λ a. IsDrawnAnswer options.now network.now places.now (string_bytes a.text) a.status) }
+{
+    let verdict = verdict_if(rt, alloc, network, cycle, options.cycle, options.numbers)?;
+    let drawing = Drawing {
+        places,
+        cycle,
+        numbers: numbers_of(&verdict),
+    };
+    let text = draw_text(alloc, network, &drawing)?;
+    Ok(Answer { text, status: GOOD })
+}
+
+// With these places of a flow, and what else is asked for.
+fn drawn_answer<T: Threads + Sync>(
+    rt: &T,
+    alloc: Global,
+    network: &Network,
+    options: &DrawOptions<'_>,
+    places: &[Place],
+) -> Result<Answer, AllocError>
+    ensures { IfOk result (λ a. IsDrawnAnswer options.now network.now places.now (string_bytes a.text) a.status) }
+{
+    let tangles = tangles_if(rt, alloc, network, options.cycle)?;
+    numbered_answer(rt, alloc, network, options, places, first_cycle(&tangles))
+}
+
+// With the places of the flow of that number.
+fn flow_answer<T: Threads + Sync>(
+    rt: &T,
+    alloc: Global,
+    network: &Network,
+    options: &DrawOptions<'_>,
+    number: u16,
+) -> Result<Answer, AllocError>
+    requires { number < length (all_flows network.now) }
+    ensures { IfOk result (λ a. IsFlowAnswer options.now network.now (Some number) (string_bytes a.text) a.status) }
+{
+    let places = places(alloc, network, number)?;
+    drawn_answer(rt, alloc, network, options, &places)
+}
+
+// With the places of the flow of that name, if there is one.
+fn named_answer<T: Threads + Sync>(
+    rt: &T,
+    alloc: Global,
+    network: &Network,
+    options: &DrawOptions<'_>,
+    name: &str,
+) -> Result<Answer, AllocError>
+    ensures { IfOk result (λ a. IsNamedAnswer options.now network.now (Some name.now) (string_bytes a.text) a.status) }
+{
+    match network.flow_named(name) {
+        Some(number) => flow_answer(rt, alloc, network, options, number),
+        None => {
+            let text = String::from_str(alloc, "fault F7 UnknownName argument\n")?;
+            Ok(Answer {
+                text,
+                status: FAULTY,
+            })
+        }
+    }
+}
+
+// The answer for a network.
+fn network_answer<T: Threads + Sync>(
+    rt: &T,
+    alloc: Global,
+    network: &Network,
+    options: &DrawOptions<'_>,
+) -> Result<Answer, AllocError>
+    ensures { IfOk result (λ a. IsNamedAnswer options.now network.now options.now.flow (string_bytes a.text) a.status) }
+{
+    match options.flow {
+        Some(name) => named_answer(rt, alloc, network, options, name),
+        None => drawn_answer(rt, alloc, network, options, &[]),
+    }
+}
+
+/// The answer to the bytes of a network file.
+pub(crate) fn draw_answer<T: Threads + Sync>(
+    rt: &T,
+    alloc: Global,
+    input: &[u8],
+    options: &DrawOptions<'_>,
+) -> Result<Answer, AllocError>
+    ensures { IfOk result (λ a. IsDrawAnswer options.now input.now (string_bytes a.text) a.status) }
+{
+    match read_network(alloc, input) {
+        Ok(network) => network_answer(rt, alloc, &network, options),
+        Err(FileFault::Text(fault)) => Answer::of_fault(alloc, &fault),
+        Err(FileFault::Memory) => Err(AllocError),
+    }
+}

@@ -1,0 +1,34 @@
+//! The engine: it reads its text whole, and writes one text.
+ghost use Rattle.sw_command.specs.Ends.{EndsBy};
+ghost use Rattle.sw_app_draw.specs.DrawAnswers.{IsDrawAnswer};
+
+use crate::draw_answer::draw_answer;
+use crate::options::DrawOptions;
+use std::alloc::Global;
+use std::io::{Read, Write};
+use std::thread::Threads;
+use sw_command::{Ended, MAX_TEXT, tell, tell_memory, tell_unread};
+use sw_text::read_whole;
+
+/// The network of a file in DOT, for Graphviz, with status 0 whatever the verdict on it: nodes as boxes, targets with two lines round them,
+/// switches as records of their ports, and an edge for each channel. Threads share the work, as many as there are processors.
+///
+/// Where `flow` names no flow, that is told, with status 3.
+pub fn draw<T: Threads + Sync, R: Read, W: Write>(
+    rt: &T,
+    alloc: Global,
+    reader: &mut R,
+    options: &DrawOptions<'_>,
+    writer: &mut W,
+) -> Ended
+    ensures { EndsBy (IsDrawAnswer options.now) (R.remaining reader.old) (R.remaining reader.new) (W.contents writer.old) (W.contents writer.new) result }
+{
+    let input = match read_whole(alloc, reader, MAX_TEXT) {
+        Ok(input) => input,
+        Err(error) => return tell_unread(writer, error),
+    };
+    match draw_answer(rt, alloc, &input, options) {
+        Ok(answer) => tell(writer, answer.text.as_str(), answer.status),
+        Err(_) => tell_memory(writer),
+    }
+}
