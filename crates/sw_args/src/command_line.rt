@@ -293,7 +293,7 @@ fn rmap_command<'a>(alloc: Global) -> Result<Command<'a>, AllocError>
 {
     let rmap = Command::new(alloc, "rmap")
         .about("Print the entry of a load for an RMAP command of a flow")
-        .after_help("Example: swcheck rmap examples/rmap.toml FLOW read 0x10 4");
+        .after_help("Example: swcheck rmap examples/rmap.toml w read 0xA0000000 16");
     let rmap = rmap.arg(value_arg(alloc, "FILE", "A network file"))?;
     let rmap = rmap.arg(value_arg(alloc, "FLOW", "The name of a flow to a target"))?;
     let rmap = rmap.arg(value_arg(alloc, "ACTION", "read or write"))?;
