@@ -21,10 +21,12 @@ use Rattle.sw_search.specs.Laws.{IsChecked}
 use Rattle.sw_search.specs.Verdicts.{IsFree}
 use Rattle.sw_search.proofs.Blocks.{all_are_flows, is_block}
 use Rattle.sw_search.proofs.Zips.{zip_length}
+use Rattle.sw_command.specs.declared.read_texts.InputError.{InputError}
+use Rattle.sw_command.specs.declared.read_texts.InputError.TheVariants as input
 use Rattle.sw_command.specs.declared.write_answer.Ended.{Ended}
 use Rattle.sw_command.specs.declared.write_answer.Ended.TheVariants.{Status, ReadFailed, WriteFailed}
 use Rattle.sw_app.specs.CheckAnswers.{AreShownDeadlockFree, IsShownDeadlockFree}
-use Rattle.sw_command.specs.Ends.{IsMemoryTold, IsTold, IsUnreadTold}
+use Rattle.sw_command.specs.Ends.{AreUnreadTold, IsMemoryTold, IsTold, IsUnreadTold}
 use Rattle.sw_app.specs.VerdictAnswers.{SaysCertificate, WritesAccepted, verdict_status}
 
 -- ---- a free network's certificate has a text
@@ -74,6 +76,10 @@ pub unread_not_zero : (error : ReadError) (old new : Option (List ℕ)) (ended :
 unread_not_zero TooLong old new ended is zero = not_zero old new _ 3 ended (λ bad. omega (arith, bad)) is zero
 unread_not_zero Memory old new ended is zero = memory_not_zero old new ended is zero
 unread_not_zero Failed old new ended is zero = let bad : ReadFailed ≡ Status 0 = sym is.0 ∙ zero in cc
+
+pub two_unread_not_zero : (error : InputError) (old new : Option (List ℕ)) (ended : Ended) → AreUnreadTold error old new ended → ended ≡ Status 0 → ⊥
+two_unread_not_zero input.Memory old new ended is zero = memory_not_zero old new ended is zero
+two_unread_not_zero input.Failed old new ended is zero = let bad : ReadFailed ≡ Status 0 = sym is.0 ∙ zero in cc
 
 pub writes_accepted : (old new : Option (List ℕ)) (read text : List ℕ) (status : ℕ) (ended : Ended) → (status ≡ 0 → AreShownDeadlockFree read text)
     → IsTold old new text status ended → ended ≡ Status 0 → WritesAccepted read old new

@@ -14,7 +14,7 @@ use crate::verdict_answers::{decide_answer, report_answer};
 use std::alloc::Global;
 use std::io::{Read, Write};
 use std::thread::Threads;
-use sw_command::{Ended, InputError, MAX_TEXT, read_two, tell_memory, tell_unread};
+use sw_command::{Ended, MAX_TEXT, read_two, tell_two_unread, tell_unread};
 use sw_text::read_whole;
 
 /// The places of a flow of a network file: 0 where packets arrive rightly, and 1 where a place has a fault.
@@ -45,8 +45,7 @@ pub fn check<T: Threads + Sync, N: Read, C: Read, W: Write>(
 {
     let (first, second) = match read_two(alloc, network, certificate) {
         Ok(inputs) => inputs,
-        Err(InputError::Failed) => return Ended::ReadFailed,
-        Err(InputError::Memory) => return tell_memory(writer),
+        Err(error) => return tell_two_unread(writer, error),
     };
     tell_answer(writer, check_answer(rt, alloc, &first, &second))
 }

@@ -6,7 +6,7 @@ use crate::endings::tell_answer;
 use crate::replay_answer::replay_answer;
 use std::alloc::Global;
 use std::io::{Read, Write};
-use sw_command::{Ended, InputError, read_two, tell_memory};
+use sw_command::{Ended, read_two, tell_two_unread};
 
 /// What comes of the steps of the second text's schedule, made one after another on the network of the first text from its empty
 /// state on: 0 where all are made and the network is not locked up then, 1 where one is refused, and 4 where the network is locked
@@ -22,8 +22,7 @@ pub fn replay<N: Read, S: Read, W: Write>(
 {
     let (first, second) = match read_two(alloc, network, schedule) {
         Ok(inputs) => inputs,
-        Err(InputError::Failed) => return Ended::ReadFailed,
-        Err(InputError::Memory) => return tell_memory(writer),
+        Err(error) => return tell_two_unread(writer, error),
     };
     tell_answer(writer, replay_answer(alloc, &first, &second))
 }

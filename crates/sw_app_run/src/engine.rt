@@ -8,7 +8,7 @@ use std::alloc::Global;
 use std::io::{Read, Write};
 use std::sync::Wait;
 use std::thread::Threads;
-use sw_command::{Ended, InputError, read_two, tell, tell_memory};
+use sw_command::{Ended, read_two, tell, tell_memory, tell_two_unread};
 use sw_run::Gate;
 
 /// What comes of a run of the second text's load on the network of the first text, by so many workers and in at most so many steps:
@@ -28,8 +28,7 @@ pub fn run<N: Read, L: Read, W: Write, G: Gate + Sync, T: Threads + Wait + Sync>
 {
     let (first, second) = match read_two(alloc, network, load) {
         Ok(inputs) => inputs,
-        Err(InputError::Failed) => return Ended::ReadFailed,
-        Err(InputError::Memory) => return tell_memory(writer),
+        Err(error) => return tell_two_unread(writer, error),
     };
     match run_answer(rt, alloc, &first, &second, options, gate) {
         Ok(answer) => tell(writer, answer.text.as_str(), answer.status),

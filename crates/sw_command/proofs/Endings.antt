@@ -6,9 +6,11 @@ use Rattle.std.proofs.lemmas.Bool.Decides.{nat_tests}
 use Rattle.sw_text.specs.Reading.{Takes}
 use Rattle.sw_text.specs.declared.read_stream.ReadError.{ReadError}
 use Rattle.sw_text.specs.declared.read_stream.ReadError.TheVariants.{TooLong, Failed, Memory}
+use Rattle.sw_command.specs.declared.read_texts.InputError.{InputError}
+use Rattle.sw_command.specs.declared.read_texts.InputError.TheVariants as input
 use Rattle.sw_command.specs.declared.write_answer.Ended.{Ended}
 use Rattle.sw_command.specs.declared.write_answer.Ended.TheVariants.{Status, ReadFailed, WriteFailed}
-use Rattle.sw_command.specs.Ends.{Answers, AnswersBy, AnswersByTwo, AnswersToTwo, EndsBy, EndsByTwo, GivesText, IfShort, IsMemoryTold, IsTold, IsUnreadTold, OrMemory}
+use Rattle.sw_command.specs.Ends.{Answers, AreUnreadTold, AnswersBy, AnswersByTwo, AnswersToTwo, EndsBy, EndsByTwo, GivesText, IfShort, IsMemoryTold, IsTold, IsUnreadTold, OrMemory}
 use Rattle.sw_output.specs.Lines.{line}
 
 -- a text that may be told was told
@@ -62,6 +64,13 @@ pub told_memory_of_two : (P : AnswersToTwo) (first first_after second second_aft
     → IsMemoryTold old new ended → EndsByTwo P first first_after second second_after old new ended
 told_memory_of_two P first first_after second second_after old new ended is =
     told_of_two P first first_after second second_after old new ended (line (codes "fault memory" ∷ [])) 5 (inr (refl, refl)) is
+
+-- why the two were not read
+pub told_unread_of_two : (P : AnswersToTwo) (first first_after second second_after old new : Option (List ℕ)) (error : InputError) (ended : Ended)
+    → AreUnreadTold error old new ended → EndsByTwo P first first_after second second_after old new ended
+told_unread_of_two P first first_after second second_after old new input.Memory ended is = told_memory_of_two P first first_after second second_after old new ended is
+told_unread_of_two P first first_after second second_after old new input.Failed ended is =
+    subst (λ (e : Ended). EndsByTwo P first first_after second second_after old new e) (sym is.0) is.1
 
 -- an answer to two texts, as they were given
 pub told_answer_of_two : (P : AnswersToTwo) (first first_after second second_after old new : Option (List ℕ)) (ended : Ended) (one other : Option (List ℕ))

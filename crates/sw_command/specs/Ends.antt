@@ -4,6 +4,8 @@ use Rattle.std.specs.Io.KnownBytes.{Appends, Consumes, IsAtEnd, Keeps}
 use Rattle.sw_text.specs.Reading.{Takes}
 use Rattle.sw_text.specs.declared.read_stream.ReadError.{ReadError}
 use Rattle.sw_text.specs.declared.read_stream.ReadError.TheVariants.{TooLong, Failed, Memory}
+use Rattle.sw_command.specs.declared.read_texts.InputError.{InputError}
+use Rattle.sw_command.specs.declared.read_texts.InputError.TheVariants as input
 use Rattle.sw_command.specs.declared.write_answer.Ended.{Ended}
 use Rattle.sw_command.specs.declared.write_answer.Ended.TheVariants.{Status, ReadFailed, WriteFailed}
 use Rattle.sw_output.specs.Lines.{line}
@@ -60,6 +62,11 @@ abbrev pub IsUnreadTold : ReadError → Option (List ℕ) → Option (List ℕ) 
 IsUnreadTold TooLong old new ended = IsTold old new (line (codes "fault A1 TooLong" ∷ [])) 3 ended
 IsUnreadTold Memory old new ended = IsMemoryTold old new ended
 IsUnreadTold Failed old new ended = (ended ≡ ReadFailed) × Keeps old new
+
+-- why two texts were not read was told, and of a read that failed nothing
+abbrev pub AreUnreadTold : InputError → Option (List ℕ) → Option (List ℕ) → Ended → Type 0
+AreUnreadTold input.Memory old new ended = IsMemoryTold old new ended
+AreUnreadTold input.Failed old new ended = (ended ≡ ReadFailed) × Keeps old new
 
 -- one of the answers was told, and nothing else
 abbrev pub Tells : Option (List ℕ) → Option (List ℕ) → Answers → Ended → Type 0

@@ -1,11 +1,11 @@
 //! The texts that an engine reads.
 ghost use Rattle.std.specs.Prelude.{◌≡◌, Err, IfOk, Ok};
-ghost use Rattle.sw_command.specs.Ends.{AreReadInOrder, GivesText, IsReadWhole};
+ghost use Rattle.sw_command.specs.Ends.{AreReadInOrder, AreUnreadTold, GivesText, IsReadWhole};
 ghost use Rattle.sw_command.specs.Inputs.{given};
 
-use crate::write_answer::MAX_TEXT;
+use crate::write_answer::{Ended, MAX_TEXT, tell_memory};
 use std::alloc::Global;
-use std::io::Read;
+use std::io::{Read, Write};
 use sw_text::{ReadError, read_whole};
 
 /// A text that was read.
@@ -20,7 +20,7 @@ pub enum InputText {
 /// Why a text was not read.
 #[derive(Clone, Copy, Debug, PartialEq, Eq)]
 pub enum InputError {
-    /// A read failed.
+    /// A read failed. No contract of std's readers says when one does, so this is tested.
     Failed,
     /// A growth was refused.
     Memory,
@@ -66,4 +66,14 @@ pub fn read_two<A: Read, B: Read>(
     let text = read_one(alloc, first)?;
     let other = read_one(alloc, second)?;
     Ok((text, other))
+}
+
+/// Tells why two texts were not read: of a read that failed nothing is written.
+pub fn tell_two_unread<W: Write>(writer: &mut W, error: InputError) -> Ended
+    ensures { AreUnreadTold error (W.contents writer.old) (W.contents writer.new) result }
+{
+    match error {
+        InputError::Failed => Ended::ReadFailed,
+        InputError::Memory => tell_memory(writer),
+    }
 }

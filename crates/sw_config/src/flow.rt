@@ -20,15 +20,16 @@ impl Model for Reply {
 }
 
 impl Reply {
-    /// Replies that begin with these path addresses, at most 12, and then the initiator logical address, 32 to 254
-    /// (ECSS-E-ST-50-52C, the reply address field of a command).
+    /// Replies that begin with these address bytes, as a rule path addresses, and then the initiator logical address
+    /// (ECSS-E-ST-50-52C, the reply address field of a command). In a valid network there are at most 12, each 0 to 255
+    /// and the first not 0, and the initiator is 32 to 254.
     pub fn new(path: Vec<u8>, initiator: u8) -> Reply
         ensures { result ≡ record { path = path.items; initiator = initiator } }
     {
         Reply { path, initiator }
     }
 
-    /// The path addresses that a reply begins with.
+    /// The address bytes that a reply begins with.
     pub fn path(&self) -> &[u8]
         ensures { result.now ≡ self.now.path }
     {

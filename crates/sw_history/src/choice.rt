@@ -31,8 +31,8 @@ impl<'n, R: Routing, A: Arbiter> History<'n, R, A> {
         self.next(node)
     }
 
-    /// A step that belongs to the link end and may be the next; the beginning of its node's next
-    /// packet comes after its other steps. None where the link end is idle.
+    /// A step that belongs to the link end and may be the next. Which one, where there are several, is
+    /// left open. None where the link end is idle.
     ///
     /// # Errors
     ///

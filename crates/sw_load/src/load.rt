@@ -1,5 +1,5 @@
 //! Packets to be sent.
-ghost use Rattle.std.specs.Prelude.{◌≡◌, ◌+◌, ◌≤◌, ◌++◌, ◌∷◌, [], OnOk};
+ghost use Rattle.std.specs.Prelude.{◌≡◌, ◌+◌, ◌≤◌, ◌++◌, ◌∷◌, [], OnErr, OnOk};
 
 use std::alloc::{AllocError, Global};
 use std::marker::Model;
@@ -114,7 +114,8 @@ impl Load {
     /// Adds an entry. After want of memory the load is as it was.
     pub(crate) fn add(&mut self, packet: LoadPacket) -> Result<(), AllocError>
         requires { packet_count self.old + packet.count ≤ MAX_PACKETS }
-        ensures { OnOk result (self.new ≡ self.old ++ packet ∷ []) }
+        ensures added { OnOk result (self.new ≡ self.old ++ packet ∷ []) }
+        ensures refused { OnErr result (self.new ≡ self.old) }
     {
         let count = packet.count;
         self.packets.push(packet)?;

@@ -13,7 +13,7 @@ use sw_topo::Port;
 /// The logical addresses up to `last` that no interval before it has, and what they name.
 #[derive(Clone, Copy, Debug, PartialEq, Eq)]
 pub struct Interval {
-    /// 32 to 254.
+    /// 32 to 254 in the intervals of a table.
     pub last: u8,
     pub look: Look,
 }
@@ -60,7 +60,7 @@ fn interval_look(intervals: &[Interval], address: u8) -> Look
 }
 
 impl IntervalRoutes {
-    /// The intervals of a table, as few as there can be. They answer every byte as the table.
+    /// The intervals of a table: no two neighbours have one look. They answer every byte as the table.
     ///
     /// # Errors
     ///

@@ -2,7 +2,8 @@
 
 use sw_cell::CellId;
 
-/// Is told of each decision and of each step. A call may wait, and the run waits with it.
+/// Is told of each decision and of each step. A call may wait, and the run waits with it. Which
+/// locks a worker holds then no clause can say: it is tested.
 pub trait Gate {
     /// A worker holds the lock of the cell, and is about to choose what the cell does next: one step
     /// or several, or none where another worker has the journal then.

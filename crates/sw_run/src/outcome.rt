@@ -12,7 +12,8 @@ pub enum Stop {
     Stuck,
     /// The history is as long as it may be, and the run is not at its end.
     JournalFull,
-    /// There was no memory for a step or for a worker.
+    /// Memory was wanted, for a step or for a worker. Clauses say that the run is at no other end, and
+    /// not that memory was refused.
     Memory,
 }
 

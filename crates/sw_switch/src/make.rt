@@ -37,7 +37,8 @@ fn empty_ends(alloc: Global, capacities: &[usize]) -> Result<Vec<RxEnd>, AllocEr
 
 impl<R: Routing + Drop, A: Arbiter + Drop> SwitchCell<R, A> {
     /// A switch with links at those ports. The capacities, each 8 to 4,096, and the arbiters go by
-    /// port, 0 to 31. A port without a link needs no arbiter, and its capacity is not used.
+    /// port, 0 to 31. A port without a link needs no arbiter; its capacity has to be in range all the
+    /// same, and its buffer is made and never used.
     ///
     /// # Errors
     ///

@@ -1,10 +1,11 @@
 //! Reading a whole text.
-ghost use Rattle.std.specs.Prelude.{◌≡◌, ℕ, ◌+◌, ◌<◌, ◌≤◌, ◌≢◌, ◌++◌, take, IfSome, IfOk, IfErr, Ok, Err, length};
+ghost use Rattle.std.specs.Prelude.{◌≡◌, ℕ, ◌+◌, ◌<◌, ◌≤◌, ◌≢◌, ◌++◌, take, IfSome, IfOk, IfErr, IsErr, Ok, Err, length};
 ghost use Rattle.std.specs.Io.KnownBytes.{Consumes, IsAtEnd, Keeps};
 ghost use Rattle.sw_text.specs.declared.read_stream.ReadError.TheVariants.{Memory};
 ghost use Rattle.sw_text.specs.Reading.{Takes};
 
 use std::alloc::{AllocError, Global};
+use std::io;
 use std::io::Read;
 use thiserror::Error;
 
@@ -40,6 +41,17 @@ fn buffer_of(alloc: Global) -> Result<Vec<u8>, AllocError>
     vec![in alloc; 0; CHUNK]
 }
 
+// What a read gave. One that failed is told as that, and as nothing else.
+fn count_of(read: io::Result<usize>) -> Result<usize, ReadError>
+    ensures given { IfOk result (λ count. read ≡ Ok count) }
+    ensures failed { IfErr result (λ error. (error ≡ ReadError.Failed) × IsErr read) }
+{
+    match read {
+        Ok(count) => Ok(count),
+        Err(_) => Err(ReadError::Failed),
+    }
+}
+
 // Adds what one read gives to a text, and says how many bytes these are.
 fn read_more<R: Read>(
     reader: &mut R,
@@ -54,9 +66,7 @@ fn read_more<R: Read>(
     ensures kept { result ≡ Err ReadError.Failed → Keeps (R.remaining reader.old) (R.remaining reader.new) }
     ensures failed { IfErr result (λ _. (count : ℕ) × (count ≤ length room.old) × Takes (R.remaining reader.old) (R.remaining reader.new) count) }
 {
-    let Ok(count) = reader.read(room) else {
-        return Err(ReadError::Failed);
-    };
+    let count = count_of(reader.read(room))?;
     text.extend_from_slice(&room[..count])?;
     Ok(count)
 }
@@ -65,9 +75,10 @@ fn read_more<R: Read>(
 ///
 /// # Errors
 ///
-/// The reader has more: then it is read to one byte past the limit. Or a read fails, which isn't
-/// tried again, or there is no memory for the bytes: then what was read, at most one byte past the
-/// limit, is lost.
+/// The reader has more: then it is read to one byte past the limit. Or a read fails, or there is no
+/// memory for the bytes: then what was read, at most one byte past the limit, is lost. A read that
+/// failed is not tried again, which no contract can say, since none of std's tells when one fails:
+/// it is tested.
 pub fn read_whole<R: Read>(
     alloc: Global,
     reader: &mut R,

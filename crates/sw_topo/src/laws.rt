@@ -1,7 +1,13 @@
 //! What holds of every wiring without fault. These functions do nothing: each is the proof of what its clause says.
 ghost use Rattle.sw_topo.specs.Ports.{PortSetHasThePorts, PortsAreListed};
 ghost use Rattle.sw_topo.specs.FirstFault.{FaultsInWords};
+ghost use Rattle.sw_topo.specs.Limits.{AreTheLimits};
 ghost use Rattle.sw_topo.specs.Laws.{NodesHaveOneLink, PortsHaveOneLink, SwitchesAreLinked, ChannelsArePaired, FirstIsLeast, NoFaultMeansFaultless};
+
+/// The limits that the code and the definitions name are these numbers.
+pub fn limits_are_these()
+    ensures { AreTheLimits }
+{}
 
 /// Each node has one link.
 pub fn nodes_have_one_link()

@@ -1,11 +1,15 @@
 use Rattle.sw_app.specs.CheckAnswers.{AreShownDeadlockFree, IsCheckAnswer}
 use Rattle.sw_command.specs.Inputs.{given}
-use Rattle.sw_command.proofs.Endings.{told_memory_of_two}
+use Rattle.sw_command.proofs.Endings.{told_unread_of_two}
+use Rattle.sw_app.proofs.ShownFree.{two_unread_not_zero}
 use Rattle.sw_app.proofs.Told.{answered_of_two, shown_of_two}
 use Rattle.sw_app.proofs.engines.check.Goals as goal
 
-pub returns-in-Err-Memory-clause-answer : goal.returns-in-Err-Memory-clause-answer
-returns-in-Err-Memory-clause-answer g c = told_memory_of_two IsCheckAnswer _ _ _ _ _ _ _ c.tell_memory.ensures
+pub returns-in-Err-clause-answer : goal.returns-in-Err-clause-answer
+returns-in-Err-clause-answer g c = told_unread_of_two IsCheckAnswer _ _ _ _ _ _ _ _ c.tell_two_unread.ensures
+
+pub returns-in-Err-clause-deadlock_free : goal.returns-in-Err-clause-deadlock_free
+returns-in-Err-clause-deadlock_free g c = λ zero. absurd (two_unread_not_zero _ _ _ _ c.tell_two_unread.ensures zero)
 
 pub returns-clause-answer : goal.returns-clause-answer
 returns-clause-answer g c =
