@@ -1,2 +1,3 @@
 pub mod RunTexts
 pub mod RunAnswers
+pub mod Laws

@@ -2,6 +2,7 @@
 #![tactic(auto)]
 
 mod engine;
+pub mod laws;
 mod run_answer;
 mod run_texts;
 

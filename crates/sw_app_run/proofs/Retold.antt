@@ -1,0 +1,60 @@
+-- A replay of the steps of a run's history ends in the state after it.
+use Rattle.std.proofs.Common.{◌≡◌, ℕ, ◌<◌, Bool, true, false, IsTrue, ◌↔◌, List, [], length, get_or, Some, refl, sym, ap, subst, ◌∙◌, inl, inr, arith}
+use Rattle.std.specs.Prelude.{slice_get, slice_index_or}
+use Rattle.std.proofs.lemmas.Option.{get_or_from_slice_get}
+use Rattle.sw_config.specs.Entries.{Declaration}
+use Rattle.sw_load.specs.Load.{LoadEntry}
+use Rattle.sw_machine.specs.Network.{Network}
+use Rattle.sw_machine.specs.Packets.{Packet}
+use Rattle.sw_machine.specs.Runs.{CameOut, IsLockedUp, undelivered}
+use Rattle.sw_machine.specs.State.{State, empty}
+use Rattle.sw_model.specs.Model.{network_of}
+use Rattle.sw_model.proofs.Flows.{some_at}
+use Rattle.sw_replay.specs.declared.replayed.ReplayEnd.TheVariants.{Made}
+use Rattle.sw_replay.specs.Replays.{Ends, IsReplayed}
+use Rattle.sw_replay.specs.Reports.{AreOutputs, IsTrueOf, Report}
+use Rattle.sw_replay.proofs.OneReport.{replays_are_determined}
+use Rattle.sw_replay.proofs.Stops.{one_end}
+use Rattle.sw_run.specs.Outcomes.{AreOut, IsOutcome, came_out_of, steps_of}
+use Rattle.sw_run.specs.declared.outcome.Outcome.{Outcome}
+use Rattle.sw_app_run.specs.Laws.{ReplaysAreAsTold, TellsAs}
+
+-- a list for each node, by its number
+are_outputs : (d : Declaration) (s : State) (lists : List (List Packet)) → AreOut (length d.nodes) s lists → AreOutputs (network_of d) s lists
+unfolding network_of
+are_outputs d s lists out = record {
+  each_node = out.all_nodes;
+  packets = λ n lt.
+      let within : n < length lists = subst (λ (k : ℕ). n < k) (sym out.all_nodes) lt in
+      let at = some_at lists n within in
+      subst (CameOut s n) (sym (get_or_from_slice_get lists n at.0 [] at.1)) (out.out n at.0 at.1);
+}
+
+none_undelivered : (net : Network) (s : State) (left : ℕ) → left ≡ undelivered net s → left ≡ 0 → IsLockedUp net s → ⊥
+none_undelivered net s left is none locked = let holds = locked.holds in let zero_left : undelivered net s ≡ 0 = sym is ∙ none in omega (arith, holds, zero_left)
+
+not_so : (b : Bool) (P : Type 0) → (IsTrue b ↔ P) → (P → ⊥) → b ≡ false
+not_so true P so never = absurd (never (so.0 refl))
+not_so false P so never = refl
+
+pub replays_are_as_told : ReplaysAreAsTold
+replays_are_as_told d load limit o r is replayed =
+    let net = network_of d in
+    let steps = steps_of o in
+    let made : Ends net (empty net) steps (Made (length steps)) is.state = (refl, is.history.run) in
+    let one = one_end net (empty net) replayed.state is.state steps r.outcome (Made (length steps)) replayed.ends made in
+    let locked : IsTrue r.stuck ↔ IsLockedUp net is.state = subst (λ (s : State). IsTrue r.stuck ↔ IsLockedUp net s) one.1 replayed.report.locked_up in
+    let q : Report = record { outcome = Made (length steps); remaining = o.undelivered; stuck = r.stuck; came_out = came_out_of o } in
+    let told : IsReplayed d steps q = record {
+      state = is.state;
+      ends = made;
+      report = record { counted = is.undelivered; locked_up = locked; outputs = are_outputs d is.state (came_out_of o) is.came_out };
+    } in
+    let same : r ≡ q = replays_are_determined d steps r q replayed told in
+    record {
+      made = one.0;
+      undelivered = ap (λ (x : Report). x.remaining) same;
+      came_out = ap (λ (x : Report). x.came_out) same;
+      stuck = λ e. locked.1 (is.stuck e).0;
+      drained = λ e. not_so r.stuck (IsLockedUp net is.state) locked (none_undelivered net is.state o.undelivered is.undelivered (is.drained e).1);
+    }

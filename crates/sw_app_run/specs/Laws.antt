@@ -1,0 +1,23 @@
+-- What a replay of a run's steps tells.
+use Rattle.std.specs.Prelude.{◌≡◌, ℕ, true, false, List, length}
+use Rattle.sw_config.specs.Entries.{Declaration}
+use Rattle.sw_load.specs.Load.{LoadEntry}
+use Rattle.sw_replay.specs.declared.replayed.ReplayEnd.TheVariants.{Made}
+use Rattle.sw_replay.specs.Replays.{IsReplayed}
+use Rattle.sw_replay.specs.Reports.{Report}
+use Rattle.sw_run.specs.Outcomes.{IsOutcome, came_out_of, steps_of}
+use Rattle.sw_run.specs.declared.outcome.Outcome.{Outcome}
+use Rattle.sw_run.specs.declared.outcome.Stop.TheVariants.{Drained, Stuck}
+
+-- all steps are made; as much is undelivered, and the same packets came out, in their order; the network is locked up where the run was
+-- stuck, and is not where it was drained
+pub record TellsAs (o : Outcome) (r : Report) : Type 0 where
+  pub made : r.outcome ≡ Made (length (steps_of o))
+  pub undelivered : r.remaining ≡ o.undelivered
+  pub came_out : r.came_out ≡ came_out_of o
+  pub stuck : o.stop ≡ Stuck → r.stuck ≡ true
+  pub drained : o.stop ≡ Drained → r.stuck ≡ false
+
+-- so it is of each outcome of a run, and of each replay of its steps
+abbrev pub ReplaysAreAsTold : Type 0
+ReplaysAreAsTold = (d : Declaration) (load : List LoadEntry) (limit : ℕ) (o : Outcome) (r : Report) → IsOutcome d load limit o → IsReplayed d (steps_of o) r → TellsAs o r
