@@ -7,3 +7,5 @@ mod Wanted
 mod Ended
 mod Named
 mod Out
+mod Policies
+mod Grants

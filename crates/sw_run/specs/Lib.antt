@@ -1,4 +1,7 @@
 pub mod Picked
+pub mod Cells
+pub mod Arbiters
+pub mod Grants
 pub mod Outcomes
 pub mod Ends
 pub mod Wanted

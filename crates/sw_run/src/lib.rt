@@ -2,6 +2,7 @@
 //! comes out is a history that one thread could have made.
 #![tactic(auto)]
 
+mod arbiters;
 mod gate;
 pub mod laws;
 mod locked_cell;
@@ -11,6 +12,7 @@ mod outcome;
 mod run_identity;
 mod run_state;
 mod running;
+mod turn;
 mod workers;
 
 pub use gate::{Gate, Open};

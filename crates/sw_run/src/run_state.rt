@@ -1,20 +1,21 @@
 //! What the workers of a run share.
 ghost use Rattle.std.specs.Prelude.{◌≡◌, ◌*◌, ◌<◌, All, IfOk, IfSome, length, slice_get};
 ghost use Rattle.sw_config.specs.Entries.{wiring_of};
+ghost use Rattle.sw_run.specs.Cells.{IsCellOf};
 ghost use Rattle.sw_run.specs.Wanted.{cell_place};
 
 use crate::gate::Gate;
 use crate::locked_cell::LockedCell;
-use crate::locked_journal::{LockedJournal, Turn};
+use crate::locked_journal::LockedJournal;
 use crate::naps::Naps;
 use crate::outcome::{Outcome, Stop};
 use crate::run_identity::RunIdentity;
+use crate::turn::Turn;
 use std::alloc::{AllocError, Global};
 use std::sync::atomic::{AtomicBool, AtomicU64, Ordering};
 use std::sync::{Mutex, Wait};
 use sw_config::Network;
 use sw_journal::{Cell, Journal};
-use sw_model::Step;
 use sw_topo::{LinkEnd, PlaceEnd};
 
 /// In one turn, so many steps are made at each link end before the next has its own; a cell that
@@ -34,13 +35,14 @@ struct Slot<W: RunIdentity> {
 }
 
 impl<W: RunIdentity> Slot<W> {
-    fn new(cell: Cell) -> Slot<W>
-        requires { cell.name ≡ W.name }
+    fn new(alloc: Global, network: &Network, cell: Cell) -> Result<Slot<W>, AllocError>
+        requires network { network.now ≡ W.declared }
+        requires cell { IsCellOf W.declared W.name cell }
     {
-        Slot {
-            cell: Mutex::new(LockedCell::new(cell)),
+        Ok(Slot {
+            cell: Mutex::new(LockedCell::new(alloc, network, cell)?),
             ready: AtomicBool::new(true),
-        }
+        })
     }
 
     fn is_ready(&self) -> bool {
@@ -122,12 +124,17 @@ fn place_of(network: &Network, end: LinkEnd) -> usize
 }
 
 /// Each cell behind a lock of its own.
-fn locked<W: RunIdentity>(alloc: Global, cells: Vec<Cell>) -> Result<Vec<Slot<W>>, AllocError>
-    requires { All (λ c. c.name ≡ W.name) cells.items }
+fn locked<W: RunIdentity>(
+    alloc: Global,
+    network: &Network,
+    cells: Vec<Cell>,
+) -> Result<Vec<Slot<W>>, AllocError>
+    requires network { network.now ≡ W.declared }
+    requires cells { All (IsCellOf W.declared W.name) cells.items }
 {
     let mut all: Vec<Slot<W>> = Vec::with_capacity(alloc, cells.len())?;
     for cell in cells {
-        all.push(Slot::new(cell))?;
+        all.push(Slot::new(alloc, network, cell)?)?;
     }
     Ok(all)
 }
@@ -144,13 +151,13 @@ impl<'a, W: RunIdentity> RunState<'a, W> {
     ) -> Result<RunState<'a, W>, AllocError>
         requires network { network.now ≡ W.declared }
         requires identity { (journal.name ≡ W.name) × (journal.declared ≡ W.declared) × (journal.load ≡ W.load) × (journal.limit ≡ W.limit) }
-        requires cells { All (λ c. c.name ≡ W.name) cells.items }
+        requires cells { All (IsCellOf W.declared W.name) cells.items }
         requires limit { limit ≡ W.limit }
     {
         let outputs = vec![in alloc; LinkEnd::new(0); network.channels() as usize]?;
-        let slots = locked::<W>(alloc, cells)?;
+        let slots = locked::<W>(alloc, network, cells)?;
         let (nodes, ends) = (network.nodes(), network.channels());
-        let journal = LockedJournal::new(journal, limit, nodes, ends, outputs);
+        let journal = LockedJournal::new(network, journal, limit, nodes, ends, outputs);
         Ok(RunState {
             network,
             slots,
@@ -254,7 +261,7 @@ impl<'a, W: RunIdentity> RunState<'a, W> {
         alloc: Global,
         journal: &mut LockedJournal<'a, W>,
         locked: &mut LockedCell<W>,
-        first: Option<(LinkEnd, Step)>,
+        first: Option<LinkEnd>,
     ) -> Made {
         let mut all = Made {
             steps: 0,

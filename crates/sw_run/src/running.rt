@@ -1,6 +1,7 @@
 //! The run of a load.
 ghost use Rattle.std.specs.Prelude.{◌≡◌, ◌<◌, All, IfOk};
 ghost use Rattle.sw_limit.specs.Limit.{AreDeclared};
+ghost use Rattle.sw_run.specs.Cells.{IsCellOf};
 ghost use Rattle.sw_run.specs.Outcomes.{IsOutcome};
 
 use crate::gate::Gate;
@@ -29,7 +30,7 @@ fn run_named<'a, W: RunIdentity + Send + Sync, G: Gate + Sync, R: Threads + Wait
 ) -> Result<Outcome<'a>, AllocError>
     requires network { network.now ≡ W.declared }
     requires identity { (journal.name ≡ W.name) × (journal.declared ≡ W.declared) × (journal.load ≡ W.load) × (journal.limit ≡ W.limit) }
-    requires cells { All (λ c. c.name ≡ W.name) cells.items }
+    requires cells { All (IsCellOf W.declared W.name) cells.items }
     requires limit { limit ≡ W.limit }
     requires some { 0 < workers }
     ensures { IfOk result (IsOutcome W.declared W.load W.limit) }

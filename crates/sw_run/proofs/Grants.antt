@@ -1,0 +1,106 @@
+-- Grants by arbiters.
+use Rattle.std.proofs.Common.{IsBitSet, IsSome, List, Option, Some, ap, false, length, refl, subst, sym, true, ℕ, ◌<◌, ◌∙◌, ◌≡◌}
+use Rattle.std.specs.Prelude.{slice_get}
+use Rattle.sw_arb.specs.declared.policy.Policy.{Policy}
+use Rattle.sw_cell.proofs.Switches.{ends_at, one_end, port_small}
+use Rattle.sw_cell.specs.Places.{machine_cell}
+use Rattle.sw_cell.specs.declared.cell.CellId.{CellId}
+use Rattle.sw_config.proofs.Flows.{All-at}
+use Rattle.sw_config.specs.Entries.{Declaration, wiring_of}
+use Rattle.sw_config.specs.Valid.{IsValid}
+use Rattle.sw_flow.specs.Places.{end_of, ends_of}
+use Rattle.sw_journal.specs.Choices.{IsNext, IsStepOf}
+use Rattle.sw_journal.specs.Record.{CanCommit, JournalView, with_step}
+use Rattle.sw_machine.specs.Network.{AtSwitch}
+use Rattle.sw_machine.specs.Parts.{link_end_of}
+use Rattle.sw_machine.specs.Steps as steps
+use Rattle.sw_model.specs.Model.{network_of}
+use Rattle.sw_net.specs.Asking.{IsInput}
+use Rattle.sw_run.specs.Arbiters.{PicksAt}
+use Rattle.sw_run.specs.Grants.{Advances, AreAskers, Grants, HasGranted, HasMoved, IsDecided, IsPicked, Takes, is_grant}
+use Rattle.sw_run.specs.declared.turn.Turn.{Turn}
+use Rattle.sw_run.specs.declared.turn.Turn.TheVariants.{Idle, Moved, Over, Sent}
+use Rattle.sw_topo.proofs.Ends.{partner_back, port_found, port_starts}
+use Rattle.sw_topo.specs.Checked.{IsIn}
+use Rattle.sw_topo.specs.Wiring.{out_of, partner}
+use Rattle.sw_topo.specs.declared.place.PlaceEnd.TheVariants.{Switch}
+
+same_switch : (w v p q : ℕ) → Some (Switch w p) ≡ Some (Switch v q) → v ≡ w
+same_switch w v p q e = cc
+
+some_of_found : (o : Option ℕ) (c : ℕ) → o ≡ Some c → IsSome o
+some_of_found o c e = rw e refl
+
+module _ (j : JournalView) (valid : IsValid j.declared) (e w out asking : ℕ) (starts : slice_get (ends_of j.declared) e ≡ Some (Switch w out)) (ask : AreAskers j e asking) where
+  -- an input that asks is one of the switch's
+  at_port : (port c : ℕ) → IsInput j.declared e port c → end_of j.declared c ≡ Some (Switch w port)
+  at_port port c is = is.ends ∙ ap (λ k. Some (Switch k port)) (same_switch w is.switch out is.output (sym starts ∙ is.starts))
+
+  pub linked : (port : ℕ) → IsBitSet asking port → (port < 32) × IsSome (out_of (ends_of j.declared) w port)
+  linked port asks =
+      let is = ask.asks port asks in
+      let at = at_port port is.0 is.1 in (
+        port_small j.declared valid (partner is.0) w port at,
+        some_of_found (out_of (ends_of j.declared) w port) (partner is.0) (port_found (wiring_of j.declared) valid.sound w port (partner is.0) at),
+      )
+
+  -- the channel that comes to the port
+  pub comes_to : (port back : ℕ) → out_of (ends_of j.declared) w port ≡ Some back → end_of j.declared (partner back) ≡ Some (Switch w port)
+  comes_to port back goes = ap (slice_get (ends_of j.declared)) (partner_back back) ∙ port_starts (wiring_of j.declared) w port back goes
+
+  -- is the one to whose input the output may be granted
+  next : (port back : ℕ) → IsBitSet asking port → out_of (ends_of j.declared) w port ≡ Some back → IsNext j (steps.Grant e (partner back))
+  next port back asks goes =
+      let is = ask.asks port asks in
+      let one : is.0 ≡ partner back = one_end j.declared valid (partner back) is.0 w port (comes_to port back goes) (at_port port is.0 is.1) in
+      subst (λ c. IsNext j (steps.Grant e c)) one is.2
+
+  pub can_commit : (id : CellId) (port back : ℕ) → machine_cell id ≡ AtSwitch w → IsBitSet asking port → out_of (ends_of j.declared) w port ≡ Some back → CanCommit j id (steps.Grant e (partner back))
+  can_commit id port back at asks goes = (ends_at j.declared (partner back) w port (comes_to port back goes) ∙ sym at, next port back asks goes)
+
+  pub is_picked : (arbiters after : List Policy) (port back : ℕ) → out_of (ends_of j.declared) w port ≡ Some back → PicksAt arbiters out asking port after → IsPicked j arbiters e (partner back) after
+  is_picked arbiters after port back goes picks =
+      record { asking = asking; ask = ask; port = port; input = record { switch = w; output = out; starts = starts; ends = comes_to port back goes }; picks = picks }
+
+-- a switch that a link end stands at is one of the network's
+pub switch_inside : (d : Declaration) → IsValid d → (c w p : ℕ) → slice_get (ends_of d) c ≡ Some (Switch w p) → w < length d.switches
+switch_inside d valid c w p starts = (All-at (IsIn (length d.nodes) (length d.switches)) (ends_of d) c (Switch w p) starts valid.sound.wiring.inside).0
+
+pub granted : (j k : JournalView) (id : CellId) (arbiters picked after : List Policy) (e c : ℕ) (turn : Turn) → Takes j id (steps.Grant e c) turn k → CanCommit j id (steps.Grant e c)
+    → IsPicked j arbiters e c picked → after ≡ picked → (length j.history ≡ j.limit → ⊥) → Grants j id arbiters e turn k after
+granted j k id arbiters picked after e c Moved takes can is same room = record { channel = c; next = can.1; made = takes.1; picked = subst (IsPicked j arbiters e c) (sym same) is }
+granted j k id arbiters picked after e c (Sent at) takes can is same room = record { channel = c; next = can.1; made = takes.1; picked = subst (IsPicked j arbiters e c) (sym same) is }
+granted j k id arbiters picked after e c Idle takes can is same room = absurd (takes.0 can)
+granted j k id arbiters picked after e c Over takes can is same room = (takes, λ full. absurd (room full))
+
+same_history : (j k : JournalView) → k ≡ j → k.history ≡ j.history
+same_history j k e = ap (λ (v : JournalView). v.history) e
+
+pub by_grant : (j k : JournalView) (id : CellId) (arbiters after : List Policy) (e : ℕ) (turn : Turn) → Grants j id arbiters e turn k after → Advances j arbiters e turn k after
+by_grant j k id arbiters after e Moved g = record { step = steps.Grant e g.channel; of_end = record { belongs = refl; next = g.next }; made = g.made; decided = g.picked }
+by_grant j k id arbiters after e (Sent at) g = record { step = steps.Grant e g.channel; of_end = record { belongs = refl; next = g.next }; made = g.made; decided = g.picked }
+by_grant j k id arbiters after e Idle g = (same_history j k g.1, g.2)
+by_grant j k id arbiters after e Over g = same_history j k g.0
+
+no_grant : (j : JournalView) (arbiters after : List Policy) (step : steps.Step) → is_grant step ≡ false → after ≡ arbiters → IsDecided j arbiters step after
+no_grant j arbiters after (steps.Fct c) plain same = same
+no_grant j arbiters after (steps.FctIn c) plain same = same
+no_grant j arbiters after (steps.Arrive c) plain same = same
+no_grant j arbiters after (steps.Grant e c) plain same = absurd cc
+no_grant j arbiters after (steps.Drop c) plain same = same
+no_grant j arbiters after (steps.Forward c) plain same = same
+no_grant j arbiters after (steps.Spill c) plain same = same
+no_grant j arbiters after (steps.Begin flow cargo end) plain same = same
+no_grant j arbiters after (steps.Emit n) plain same = same
+no_grant j arbiters after (steps.Accept n) plain same = same
+no_grant j arbiters after (steps.Reply n) plain same = same
+
+module _ (j k : JournalView) (id : CellId) (arbiters after : List Policy) (e : ℕ) (step : steps.Step) (of_end : link_end_of (network_of j.declared) step ≡ e) (plain : is_grant step ≡ false) (same : after ≡ arbiters) where
+  moved : CanCommit j id step → k ≡ with_step j step → HasMoved j arbiters e k after
+  moved can made = record { step = step; of_end = record { belongs = of_end; next = can.1 }; made = made; decided = no_grant j arbiters after step plain same }
+
+  pub by_step : (turn : Turn) → Takes j id step turn k → Advances j arbiters e turn k after
+  by_step Moved takes = moved takes.0 takes.1
+  by_step (Sent at) takes = moved takes.0 takes.1
+  by_step Idle takes = (same_history j k takes.1, same)
+  by_step Over takes = same_history j k takes
