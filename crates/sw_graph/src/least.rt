@@ -35,5 +35,6 @@ pub fn reached<S: Steps>(
         walk.add_all(&next)?;
         done += 1;
     }
-    Ok(walk.into_sorted())
+    let sorted = walk.into_sorted()?;
+    Ok(sorted)
 }
