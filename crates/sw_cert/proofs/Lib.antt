@@ -6,3 +6,4 @@ pub mod Writes
 pub mod Written
 pub mod Made
 pub mod Blocks
+pub mod Numbered

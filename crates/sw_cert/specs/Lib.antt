@@ -1,4 +1,5 @@
 pub mod Grammar
+pub mod Pieces
 pub mod Reading
 pub mod Sound
 pub mod Text

@@ -3,18 +3,62 @@ ghost use Rattle.std.specs.Prelude.{◌≡◌, ◌++◌, length, map, OnOk, IfOk
 ghost use Rattle.std.specs.List.{flat_map};
 ghost use Rattle.std.specs.Fmt.{decimal};
 ghost use Rattle.sw_cert.specs.Grammar.{with_lf, place_line, block, spelling};
+ghost use Rattle.sw_cert.specs.Pieces.{AreHeads, ArePieces, AreTails, piece};
 ghost use Rattle.sw_cert.specs.Reading.{items_of};
 
 use std::alloc::{AllocError, Global};
 use std::fmt::Write;
 use sw_flow::Place;
+use sw_topo::limits::MAX_ADDRESS;
 
-fn add_place(text: &mut String, place: Place) -> Result<(), AllocError>
+/// The numbers below `count`, each between the two words.
+fn pieces(alloc: Global, before: &str, after: &str, count: usize) -> Result<Vec<String>, AllocError>
+    ensures { IfOk result (λ v. ArePieces before.now after.now v.items) }
+{
+    let mut pieces = Vec::new(alloc);
+    for number in 0..count {
+        pieces.push(format!(in alloc; "{before}{number}{after}")?)?;
+    }
+    Ok(pieces)
+}
+
+/// Adds the number between the two words: the piece of that number where there is one.
+fn add_piece(
+    text: &mut String,
+    pieces: &[String],
+    before: &str,
+    number: usize,
+    after: &str,
+) -> Result<(), AllocError>
+    requires { ArePieces before.now after.now pieces.now }
+    ensures { OnOk result (string_bytes text.new ≡ string_bytes text.old ++ piece before.now after.now number) }
+{
+    match pieces.get(number) {
+        Some(piece) => text.push_str(piece.as_str())?,
+        None => write!(text, "{before}{number}{after}")?,
+    }
+    Ok(())
+}
+
+/// Adds the line of a place, of a piece for its channel and one for its deleted bytes: a certificate has them in thousands of lines.
+fn add_place(
+    text: &mut String,
+    heads: &[String],
+    tails: &[String],
+    place: Place,
+) -> Result<(), AllocError>
+    requires heads { AreHeads heads.now }
+    requires tails { AreTails tails.now }
     ensures { OnOk result (string_bytes text.new ≡ string_bytes text.old ++ with_lf (place_line place)) }
 {
-    let channel = place.channel.number();
-    let deleted = place.deleted;
-    write!(text, "place {channel} {deleted}\n")
+    add_piece(
+        text,
+        heads,
+        "place ",
+        usize::from(place.channel.number()),
+        " ",
+    )?;
+    add_piece(text, tails, "", usize::from(place.deleted), "\n")
 }
 
 fn add_field(text: &mut String, word: &str, value: usize) -> Result<(), AllocError>
@@ -23,20 +67,34 @@ fn add_field(text: &mut String, word: &str, value: usize) -> Result<(), AllocErr
     write!(text, "{word}{value}\n")
 }
 
-fn add_places(text: &mut String, places: &[Place]) -> Result<(), AllocError>
+fn add_places(
+    text: &mut String,
+    heads: &[String],
+    tails: &[String],
+    places: &[Place],
+) -> Result<(), AllocError>
+    requires heads { AreHeads heads.now }
+    requires tails { AreTails tails.now }
     ensures { OnOk result (string_bytes text.new ≡ string_bytes text.old ++ flat_map (λ p. with_lf (place_line p)) places.now) }
 {
     for place in places {
-        add_place(text, *place)?;
+        add_place(text, heads, tails, *place)?;
     }
     Ok(())
 }
 
-fn add_block(text: &mut String, places: &[Place]) -> Result<(), AllocError>
+fn add_block(
+    text: &mut String,
+    heads: &[String],
+    tails: &[String],
+    places: &[Place],
+) -> Result<(), AllocError>
+    requires heads { AreHeads heads.now }
+    requires tails { AreTails tails.now }
     ensures { OnOk result (string_bytes text.new ≡ string_bytes text.old ++ (with_lf (codes "flow " ++ decimal (length places.now)) ++ flat_map (λ p. with_lf (place_line p)) places.now)) }
 {
     add_field(text, "flow ", places.len())?;
-    add_places(text, places)
+    add_places(text, heads, tails, places)
 }
 
 fn add_numbers(text: &mut String, numbers: &[u16]) -> Result<(), AllocError>
@@ -48,13 +106,34 @@ fn add_numbers(text: &mut String, numbers: &[u16]) -> Result<(), AllocError>
     Ok(())
 }
 
-fn add_blocks(text: &mut String, flows: &[Vec<Place>]) -> Result<(), AllocError>
+fn add_lists(
+    text: &mut String,
+    heads: &[String],
+    tails: &[String],
+    flows: &[Vec<Place>],
+) -> Result<(), AllocError>
+    requires heads { AreHeads heads.now }
+    requires tails { AreTails tails.now }
     ensures { OnOk result (string_bytes text.new ≡ string_bytes text.old ++ flat_map (λ f. with_lf (codes "flow " ++ decimal (length f.items)) ++ flat_map (λ p. with_lf (place_line p)) f.items) flows.now) }
 {
     for places in flows {
-        add_block(text, places)?;
+        add_block(text, heads, tails, places)?;
     }
     Ok(())
+}
+
+/// Adds the lists of the flows, in a network of so many channels.
+fn add_blocks(
+    alloc: Global,
+    text: &mut String,
+    channels: usize,
+    flows: &[Vec<Place>],
+) -> Result<(), AllocError>
+    ensures { OnOk result (string_bytes text.new ≡ string_bytes text.old ++ flat_map (λ f. with_lf (codes "flow " ++ decimal (length f.items)) ++ flat_map (λ p. with_lf (place_line p)) f.items) flows.now) }
+{
+    let heads = pieces(alloc, "place ", " ", channels)?;
+    let tails = pieces(alloc, "", "\n", usize::from(MAX_ADDRESS) + 1)?;
+    add_lists(text, &heads, &tails, flows)
 }
 
 /// The text of a certificate with these numbers and places.
@@ -69,7 +148,7 @@ pub(crate) fn spelled(
     add_field(&mut text, "channels ", numbers.len())?;
     add_numbers(&mut text, numbers)?;
     add_field(&mut text, "flows ", flows.len())?;
-    add_blocks(&mut text, flows)?;
+    add_blocks(alloc, &mut text, numbers.len(), flows)?;
     text.push_str("end\n")?;
     Ok(text)
 }

@@ -12,3 +12,4 @@ pub mod Transfers
 pub mod Rings
 pub mod Existence
 pub mod RelationSteps
+pub mod Marked

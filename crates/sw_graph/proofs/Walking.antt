@@ -1,10 +1,9 @@
 -- A walk along the steps: what it keeps, and what it has found at its end.
-use Rattle.std.proofs.Common.{◌≡◌, ℕ, ◌+◌, ◌<◌, ◌≤◌, List, [], ◌∷◌, length, get_or, All, sym, ap, ◌∙◌, subst, arith, below_more}
+use Rattle.std.proofs.Common.{◌≡◌, ℕ, ◌+◌, ◌<◌, ◌≤◌, ◌↔◌, List, [], ◌∷◌, length, get_or, All, sym, ap, ◌∙◌, subst, arith, below_more}
 use Rattle.std.specs.Prelude.{Contains}
-use Rattle.std.specs.List.Sorted.{IsPermutation, IsStrictlyIncreasing}
+use Rattle.std.specs.List.Sorted.{IsStrictlyIncreasing}
 use Rattle.std.proofs.lemmas.List.{length-append, get_or_default}
 use Rattle.std.proofs.lemmas.List.Elements.{All-weaker, All-contains, All-push, All-nil, Contains-push, Contains-get_or}
-use Rattle.std.proofs.lemmas.List.Sorted.{Contains-permutation, IsPermutation-sym}
 use Rattle.sw_graph.specs.Reached.{Reached, IsListing}
 use Rattle.sw_graph.specs.Reached.Reached.{begin, step}
 use Rattle.sw_graph.specs.Walks.{with_all}
@@ -59,12 +58,12 @@ module _ (next : ℕ → List ℕ) (start : ℕ) where
       let e : get_or numbers c.0 0 ≡ m = get_or_default numbers c.0 0 m c.1 ∙ c.2 in
       All-contains (Contains numbers) (next m) n (subst (λ (x : ℕ). All (Contains numbers) (next x)) e (w.closed c.0 (omega (arith, c.1)))) h
 
-  pub listing : (numbers sorted : List ℕ) (done : ℕ) → Walks next start numbers done → length numbers ≤ done → IsPermutation numbers sorted → IsStrictlyIncreasing sorted → IsListing (Reached next start) sorted
+  pub listing : (numbers sorted : List ℕ) (done : ℕ) → Walks next start numbers done → length numbers ≤ done → ((n : ℕ) → Contains numbers n ↔ Contains sorted n) → IsStrictlyIncreasing sorted → IsListing (Reached next start) sorted
   listing numbers sorted done w all same rising = record {
     rising = rising;
     member = λ n. (
-      λ h. All-contains (Reached next start) numbers n w.sound (Contains-permutation sorted numbers n (IsPermutation-sym numbers sorted same) h),
-      λ r. Contains-permutation numbers sorted n same (complete numbers done w all n r),
+      λ h. All-contains (Reached next start) numbers n w.sound ((same n).1 h),
+      λ r. (same n).0 (complete numbers done w all n r),
     );
   }
 

@@ -1,7 +1,7 @@
 //! The numbers that a walk has found.
-ghost use Rattle.std.specs.Prelude.{◌≡◌, ◌<◌, ◌≤◌, length, slice_index, All, Contains, IfOk, IfNone, IfSome, OnOk, OnErr, []};
-ghost use Rattle.std.specs.List.Sorted.{IsPermutation, IsStrictlyIncreasing};
-ghost use Rattle.sw_graph.specs.Walks.{Found, with_number, with_all};
+ghost use Rattle.std.specs.Prelude.{◌≡◌, ◌<◌, ◌≤◌, ◌↔◌, ◌++◌, ◌∷◌, ℕ, if◌then◌else◌, length, slice_index, All, Contains, IfOk, IfNone, IfSome, OnOk, OnErr, []};
+ghost use Rattle.std.specs.List.Sorted.{IsStrictlyIncreasing};
+ghost use Rattle.sw_graph.specs.Walks.{Found, marked, with_number, with_all};
 
 use std::alloc::{AllocError, Global};
 use std::marker::Model;
@@ -22,6 +22,29 @@ impl Model for Walk {
     ghost view = { λ w. record { bound = length w.is_found.items; numbers = w.numbers.items } };
 
     ghost invariant = { λ w. IsWalk w.is_found.items w.numbers.items };
+}
+
+/// Numbers are sorted where there are more marks than so many for each of them, and else read off the marks, which is quicker.
+const MARKS_A_NUMBER: usize = 16;
+
+/// Adds the number, if it is marked.
+fn push_if(numbers: &mut Vec<usize>, number: usize, is_marked: bool) -> Result<(), AllocError>
+    ensures { OnOk result (numbers.new.items ≡ numbers.old.items ++ (if is_marked then number ∷ [] else [])) }
+{
+    if is_marked {
+        numbers.push(number)?;
+    }
+    Ok(())
+}
+
+/// Adds the numbers of the marks that are set, in rising order.
+fn push_marked(marks: &[bool], numbers: &mut Vec<usize>) -> Result<(), AllocError>
+    ensures { OnOk result (numbers.new.items ≡ numbers.old.items ++ marked marks.now) }
+{
+    for number in 0..marks.len() {
+        push_if(numbers, number, marks[number])?;
+    }
+    Ok(())
 }
 
 impl Walk {
@@ -100,12 +123,24 @@ impl Walk {
     }
 
     /// The numbers in rising order.
-    pub fn into_sorted(self) -> Vec<usize>
-        ensures rising { IsStrictlyIncreasing result.items }
-        ensures same { IsPermutation self.numbers result.items }
+    ///
+    /// # Errors
+    ///
+    /// There is no memory for them.
+    pub fn into_sorted(self) -> Result<Vec<usize>, AllocError>
+        ensures rising { IfOk result (λ v. IsStrictlyIncreasing v.items) }
+        ensures same { IfOk result (λ v. (n : ℕ) → Contains self.numbers n ↔ Contains v.items n) }
     {
-        let Walk { mut numbers, .. } = self;
-        numbers.sort_unstable();
-        numbers
+        let Walk {
+            is_found,
+            mut numbers,
+        } = self;
+        if numbers.len() < is_found.len() / MARKS_A_NUMBER {
+            numbers.sort_unstable();
+            return Ok(numbers);
+        }
+        numbers.clear();
+        push_marked(&is_found, &mut numbers)?;
+        Ok(numbers)
     }
 }

@@ -5,6 +5,10 @@ use Rattle.sw_schedule.specs.declared.cargo.Cargo.{Cargo}
 use Rattle.sw_schedule.specs.declared.cargo.Cargo.TheVariants as cargo
 use Rattle.sw_schedule.specs.declared.schedule_entry.Kept.{Kept}
 use Rattle.sw_schedule.specs.declared.schedule_entry.Kept.TheVariants.{Whole, OneByte}
+use Rattle.sw_schedule.specs.declared.schedule_entry.Plain.{Plain}
+use Rattle.sw_schedule.specs.declared.schedule_entry.Plain.TheVariants as plain
+use Rattle.sw_schedule.specs.declared.schedule_entry.Packed.{Packed}
+use Rattle.sw_schedule.specs.declared.schedule_entry.Packed.TheVariants as packed
 use Rattle.sw_model.specs.Steps.{machine_step}
 
 abbrev pub cargo_bytes : Cargo → List ℕ
@@ -14,3 +18,31 @@ cargo_bytes (cargo.Repeated byte times) = replicate times byte
 abbrev pub kept_step : Kept → machine.Step
 kept_step (Whole step) = machine_step step
 kept_step (OneByte flow byte times end) = machine.Begin flow (replicate times byte) end
+
+-- the step begins a packet
+abbrev pub Begins : machine.Step → Type 0
+Begins (machine.Begin flow cargo end) = Unit {0}
+Begins step = ⊥
+
+-- the step without cargo
+abbrev pub plain_step : Plain → machine.Step
+plain_step (plain.Fct c) = machine.Fct c
+plain_step (plain.FctIn c) = machine.FctIn c
+plain_step (plain.Arrive c) = machine.Arrive c
+plain_step (plain.Grant o i) = machine.Grant o i
+plain_step (plain.Drop c) = machine.Drop c
+plain_step (plain.Forward c) = machine.Forward c
+plain_step (plain.Spill c) = machine.Spill c
+plain_step (plain.Emit n) = machine.Emit n
+plain_step (plain.Accept n) = machine.Accept n
+plain_step (plain.Reply n) = machine.Reply n
+
+-- how many times the step is made
+abbrev pub packed_count : Packed → ℕ
+packed_count (packed.Plain count step) = count
+packed_count (packed.WithCargo count step) = count
+
+-- the step
+abbrev pub packed_step : Packed → machine.Step
+packed_step (packed.Plain count step) = plain_step step
+packed_step (packed.WithCargo count step) = kept_step step.value

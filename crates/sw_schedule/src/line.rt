@@ -149,10 +149,13 @@ fn counted<'a>(line: &'a [u8]) -> Option<(u32, &'a [u8])>
     Some((count_of(word)?, rest))
 }
 
-fn entry(count: u32, step: Option<Kept>) -> Option<ScheduleEntry>
-    ensures { result ≡ option_map (λ s. record { count = count; step = kept_step s }) step }
+fn entry(alloc: Global, count: u32, step: Option<Kept>) -> Result<Option<ScheduleEntry>, AllocError>
+    ensures { IfOk result (λ o. o ≡ option_map (λ s. record { count = count; step = kept_step s }) step) }
 {
-    Some(ScheduleEntry::new(count, step?))
+    match step {
+        Some(step) => Ok(Some(ScheduleEntry::new(alloc, count, step)?)),
+        None => Ok(None),
+    }
 }
 
 /// The step of a line, and how many times it is made.
@@ -165,7 +168,7 @@ pub(crate) fn entry_of(
     ensures few { IfOk result (λ o. IfSome o (λ e. e.count ≤ 100000)) }
 {
     match counted(line) {
-        Some((count, rest)) => Ok(entry(count, step_of(alloc, network, rest)?)),
-        None => Ok(entry(1, step_of(alloc, network, line)?)),
+        Some((count, rest)) => entry(alloc, count, step_of(alloc, network, rest)?),
+        None => entry(alloc, 1, step_of(alloc, network, line)?),
     }
 }

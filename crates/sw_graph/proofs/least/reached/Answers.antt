@@ -26,7 +26,7 @@ pub returns : goal.returns
 returns g c =
     let next = g.S.Steps.next c.args.steps.now in
     let start = c.args.start in
-    let found = listing next start _ _ c.loop-done.done c.loop-done.invariant.walks (omega arith) c.into_sorted.ensures.same c.into_sorted.ensures.rising in
+    let found = listing next start _ _ c.loop-done.done c.loop-done.invariant.walks (omega arith) c.in_ok-sorted.ensures.same c.in_ok-sorted.ensures.rising in
     record {
       listing = found;
       below = all_below next start c.args.bound c.requires.start c.requires.inside _ found;
