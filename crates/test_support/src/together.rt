@@ -13,13 +13,16 @@ const CELLS: usize = 6;
 
 /// Lets the first decision on each cell wait until there is one on each of the six cells: so each
 /// cell is decided under a lock of its own, by a thread of its own. That on switch 0 then waits
-/// for a step of switch 1. It is for networks of three nodes and three switches.
+/// for a step of switch 1; and who tells of the first step of switch 1 waits until that cell is
+/// decided once more, which takes another thread and a cell whose lock is free. It is for networks
+/// of three nodes and three switches.
 #[derive(Drop)]
 pub struct Together {
     nodes: [AtomicBool; 3],
     switches: [AtomicBool; 3],
     raised: AtomicUsize,
     stepped: AtomicBool,
+    decided_again: AtomicBool,
     late: AtomicBool,
 }
 
@@ -39,6 +42,7 @@ impl Together {
             ],
             raised: AtomicUsize::new(0),
             stepped: AtomicBool::new(false),
+            decided_again: AtomicBool::new(false),
             late: AtomicBool::new(false),
         }
     }
@@ -83,10 +87,24 @@ impl Together {
         }
         self.late.store(true, Ordering::SeqCst);
     }
+
+    /// Waits until switch 1 was decided once more. Once one worker gave up none waits.
+    fn wait_for_another(&self) {
+        for _ in 0..LOOKS {
+            if self.is_late() || self.decided_again.load(Ordering::SeqCst) {
+                return;
+            }
+            thread::yield_now();
+        }
+        self.late.store(true, Ordering::SeqCst);
+    }
 }
 
 impl Gate for Together {
     fn deciding(&self, cell: CellId) {
+        if cell == CellId::Switch(1) && self.stepped.load(Ordering::SeqCst) {
+            self.decided_again.store(true, Ordering::SeqCst);
+        }
         if self.raise(cell) {
             self.raised.fetch_add(1, Ordering::SeqCst);
             self.wait(cell);
@@ -94,8 +112,8 @@ impl Gate for Together {
     }
 
     fn committed(&self, cell: CellId) {
-        if cell == CellId::Switch(1) {
-            self.stepped.store(true, Ordering::SeqCst);
+        if cell == CellId::Switch(1) && !self.stepped.swap(true, Ordering::SeqCst) {
+            self.wait_for_another();
         }
     }
 }
