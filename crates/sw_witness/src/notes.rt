@@ -1,0 +1,42 @@
+//! Lines of a schedule that a replay passes over: what its packets are sent for.
+
+use std::alloc::{AllocError, Global};
+use sw_config::Network;
+use sw_output::{channel_text, flow_name, node_name};
+use sw_topo::Chan;
+
+/// The ends of the channel; nothing where the network has no such channel.
+fn channel_words(alloc: Global, network: &Network, channel: Chan) -> Result<String, AllocError> {
+    if channel.number() >= network.channels() {
+        return Ok(String::new(alloc));
+    }
+    channel_text(alloc, network, channel)
+}
+
+/// That packets of the flow are to hold the one channel and to wait for the other.
+pub(crate) fn flow_note(
+    alloc: Global,
+    network: &Network,
+    flow: u16,
+    from: Chan,
+    to: Chan,
+) -> Result<String, AllocError> {
+    let name = flow_name(network, flow);
+    let from = channel_words(alloc, network, from)?;
+    let to = channel_words(alloc, network, to)?;
+    format!(in alloc; "# a packet of {name} is to hold {from} and to wait for {to}\n")
+}
+
+/// That the target is to take nothing from the one channel until a reply has left on the other.
+pub(crate) fn target_note(
+    alloc: Global,
+    network: &Network,
+    node: u16,
+    from: Chan,
+    to: Chan,
+) -> Result<String, AllocError> {
+    let name = node_name(network, node);
+    let from = channel_words(alloc, network, from)?;
+    let to = channel_words(alloc, network, to)?;
+    format!(in alloc; "# {name} is to take nothing from {from} until its reply has left on {to}\n")
+}

@@ -1,0 +1,178 @@
+//! A network whose steps are written down.
+
+use crate::line::step_line;
+use std::alloc::{AllocError, Global};
+use sw_arb::Policy;
+use sw_cell::NetFault;
+use sw_config::Network;
+use sw_flow::Place;
+use sw_model::Step;
+use sw_net::{Net, SwitchRoutes, declared_net};
+use sw_topo::{Chan, LinkEnd};
+
+/// A schedule has at most so many steps.
+const MOST_STEPS: u32 = 1_000_000;
+
+/// How often the channels of a way are gone over to place a packet, at most.
+const MOST_ROUNDS: u32 = 20_000;
+
+/// A network in some state, and the schedule of the steps that led there.
+#[derive(Drop)]
+pub(crate) struct Trial<'n> {
+    net: Net<'n, SwitchRoutes<'n>, Policy>,
+    text: String,
+    steps: u32,
+}
+
+impl<'n> Trial<'n> {
+    /// The network in its empty state.
+    pub(crate) fn new(alloc: Global, network: &'n Network) -> Result<Trial<'n>, AllocError> {
+        Ok(Trial {
+            net: declared_net(alloc, network)?,
+            text: String::new(alloc),
+            steps: 0,
+        })
+    }
+
+    /// Adds a line that a replay passes over.
+    pub(crate) fn note(&mut self, line: &str) -> Result<(), AllocError> {
+        self.text.push_str(line)?;
+        Ok(())
+    }
+
+    /// Makes the step, if it is possible and the schedule may have one more.
+    pub(crate) fn attempt(&mut self, alloc: Global, step: &Step) -> Result<bool, AllocError> {
+        if self.steps >= MOST_STEPS {
+            return Ok(false);
+        }
+        match self.net.step(alloc, step) {
+            Ok(()) => {}
+            Err(NetFault::Memory) => return Err(AllocError),
+            Err(NetFault::NotEnabled | NetFault::NotInFlow) => return Ok(false),
+        }
+        let line = step_line(alloc, self.net.network(), step)?;
+        self.text.push_str(line.as_str())?;
+        self.steps += 1;
+        Ok(true)
+    }
+
+    /// Makes the step as often as it is possible, at most so many times; whether it made any.
+    pub(crate) fn repeat(
+        &mut self,
+        alloc: Global,
+        step: &Step,
+        most: u32,
+    ) -> Result<bool, AllocError> {
+        let mut moved = false;
+        for _ in 0..most {
+            if !self.attempt(alloc, step)? {
+                break;
+            }
+            moved = true;
+        }
+        Ok(moved)
+    }
+
+    /// Moves characters into a channel: from the channel before it, or from the node where it starts.
+    fn enter(
+        &mut self,
+        alloc: Global,
+        node: u16,
+        before: Option<Chan>,
+        channel: Chan,
+    ) -> Result<bool, AllocError> {
+        match before {
+            None => self.repeat(alloc, &Step::Emit(node), 64),
+            Some(input) => {
+                let granted = self.attempt(alloc, &Step::Grant(channel, input))?;
+                let moved = self.repeat(alloc, &Step::Forward(input), 64)?;
+                Ok(granted || moved)
+            }
+        }
+    }
+
+    /// Moves characters into a channel and to its end.
+    fn fill(
+        &mut self,
+        alloc: Global,
+        node: u16,
+        before: Option<Chan>,
+        channel: Chan,
+    ) -> Result<bool, AllocError> {
+        let asked = self.repeat(alloc, &Step::Fct(channel), 8)?;
+        let answered = self.repeat(alloc, &Step::FctIn(channel), 8)?;
+        let entered = self.enter(alloc, node, before, channel)?;
+        let arrived = self.repeat(alloc, &Step::Arrive(channel), 64)?;
+        Ok(asked || answered || entered || arrived)
+    }
+
+    /// Moves characters from a node along a way, and no further; whether any moved.
+    pub(crate) fn advance(
+        &mut self,
+        alloc: Global,
+        node: u16,
+        way: &[Place],
+    ) -> Result<bool, AllocError> {
+        let mut moved = false;
+        let mut before = None;
+        for place in way {
+            if self.fill(alloc, node, before, place.channel)? {
+                moved = true;
+            }
+            before = Some(place.channel);
+        }
+        Ok(moved)
+    }
+
+    /// Moves characters from a node along a way, and no further, as far as they get.
+    pub(crate) fn place(
+        &mut self,
+        alloc: Global,
+        node: u16,
+        way: &[Place],
+    ) -> Result<(), AllocError> {
+        for _ in 0..MOST_ROUNDS {
+            if !self.advance(alloc, node, way)? {
+                break;
+            }
+        }
+        Ok(())
+    }
+
+    /// Makes a step of that link end, if one is possible other than to begin a packet.
+    fn move_at(&mut self, alloc: Global, number: u16) -> Result<bool, AllocError> {
+        if number >= self.net.network().channels() {
+            return Ok(false);
+        }
+        match self.net.possible_at(LinkEnd::new(number)) {
+            Some(step) => self.attempt(alloc, &step),
+            None => Ok(false),
+        }
+    }
+
+    /// Lets each link end make a step, those from a number on first; whether any did.
+    pub(crate) fn sweep(&mut self, alloc: Global, first: u16) -> Result<bool, AllocError> {
+        let channels = self.net.network().channels();
+        let mut moved = false;
+        for number in first..channels {
+            if self.move_at(alloc, number)? {
+                moved = true;
+            }
+        }
+        for number in 0..first {
+            if self.move_at(alloc, number)? {
+                moved = true;
+            }
+        }
+        Ok(moved)
+    }
+
+    /// The schedule, if the network is locked up.
+    pub(crate) fn locked_up(self) -> Option<String> {
+        if self.net.quiet() && self.net.undelivered() > 0 {
+            Some(self.text)
+        } else {
+            None
+        }
+    }
+}

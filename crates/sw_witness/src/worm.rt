@@ -1,0 +1,108 @@
+//! Packets that are placed so that they hold one channel and wait for another.
+
+use crate::random::Random;
+use crate::trial::Trial;
+use std::alloc::{AllocError, Global};
+use sw_char::End;
+use sw_config::Network;
+use sw_flow::Place;
+use sw_model::Step;
+
+/// A cargo that a schedule writes has at most so many bytes.
+const MOST_CARGO: usize = 4096;
+
+/// How many long packets follow one another, at most.
+const MOST_PACKETS: u32 = 40;
+
+/// How many characters the channel of the place holds, in whole tokens of flow control (ECSS-E-ST-50-12C, data link layer: flow
+/// control).
+fn room(network: &Network, place: Place) -> usize {
+    if place.channel.number() >= network.channels() {
+        return 8;
+    }
+    usize::from(network.capacity(place.channel) / 8) * 8
+}
+
+/// How much cargo fills all the way and more, as far as one packet can.
+fn long_cargo(network: &Network, way: &[Place]) -> usize {
+    let mut all: usize = 8;
+    for place in way {
+        all = all.saturating_add(room(network, *place));
+    }
+    all.min(MOST_CARGO)
+}
+
+/// How much cargo fills the last channel of the way just so, behind what is left there of that much address.
+fn short_cargo(network: &Network, address: usize, way: &[Place]) -> usize {
+    let Some(last) = way.last() else {
+        return 1;
+    };
+    let left = address.saturating_sub(usize::from(last.deleted));
+    let taken = left.saturating_add(1);
+    room(network, *last)
+        .saturating_sub(taken)
+        .clamp(1, MOST_CARGO)
+}
+
+/// So many bytes that are no command.
+fn plain(alloc: Global, count: usize) -> Result<Vec<u8>, AllocError> {
+    vec![in alloc; 0; count]
+}
+
+/// Begins a packet of the flow with plain cargo.
+fn begin(
+    alloc: Global,
+    trial: &mut Trial<'_>,
+    flow: u16,
+    count: usize,
+) -> Result<bool, AllocError> {
+    let step = Step::Begin {
+        flow,
+        cargo: plain(alloc, count)?,
+        end: End::Eop,
+    };
+    trial.attempt(alloc, &step)
+}
+
+/// Sends long packets of the flow from the node along the way until one is held up at its source.
+fn place_long(
+    alloc: Global,
+    trial: &mut Trial<'_>,
+    flow: u16,
+    node: u16,
+    count: usize,
+    way: &[Place],
+) -> Result<(), AllocError> {
+    for _ in 0..MOST_PACKETS {
+        if !begin(alloc, trial, flow, count)? {
+            break;
+        }
+        trial.place(alloc, node, way)?;
+    }
+    Ok(())
+}
+
+/// Places a packet of the declared flow at the end of the way: a long one, whose tail is held up at its source, or a short one,
+/// which fills the last channel of the way.
+pub(crate) fn place_worm(
+    alloc: Global,
+    network: &Network,
+    trial: &mut Trial<'_>,
+    random: &mut Random,
+    flow: u16,
+    way: &[Place],
+) -> Result<(), AllocError> {
+    if flow >= network.flows() {
+        return Ok(());
+    }
+    let entry = network.flow(flow);
+    let node = entry.from();
+    if random.below(3) > 0 {
+        return place_long(alloc, trial, flow, node, long_cargo(network, way), way);
+    }
+    let count = short_cargo(network, entry.address().len(), way);
+    if begin(alloc, trial, flow, count)? {
+        trial.place(alloc, node, way)?;
+    }
+    Ok(())
+}
