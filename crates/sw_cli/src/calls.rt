@@ -14,6 +14,7 @@ use sw_app_draw::{DrawOptions, draw};
 use sw_app_explain::explain;
 use sw_app_rmap::{Access, Request, rmap};
 use sw_app_run::{Open, Options};
+use sw_app_witness::witness;
 use sw_args::{Call, WordsFault, words};
 use sw_command::Ended;
 
@@ -99,6 +100,7 @@ fn run_call<R: Files + Print + Eprint + AllocGlobal + Threads + Wait + Sync>(
             ),
             None => no_access(rt),
         },
+        Call::Witness { file, tries, seed } => run_witness(rt, file, tries, seed),
     }
 }
 
@@ -210,6 +212,19 @@ fn run_rmap<R: Files + Print + AllocGlobal>(rt: &R, file: &str, request: &Reques
     };
     let mut writer = io::writer(rt);
     rmap(rt.alloc(), &mut reader, request, &mut writer)
+}
+
+fn run_witness<R: Files + Print + AllocGlobal + Threads + Sync>(
+    rt: &R,
+    file: &str,
+    tries: u32,
+    seed: u32,
+) -> Ended {
+    let Ok(mut reader) = fs::open(rt, file) else {
+        return Ended::ReadFailed;
+    };
+    let mut writer = io::writer(rt);
+    witness(rt, rt.alloc(), &mut reader, tries, seed, &mut writer)
 }
 
 fn run_load<R: Files + Print + AllocGlobal + Threads + Wait + Sync>(

@@ -1,5 +1,5 @@
-//! A call of the program swcheck: it opens the files that the words name, hands them on to the engines of `sw_app`, `sw_app_run` and
-//! `sw_app_explain`, and tells of words that give no call, and of a read or a write that failed.
+//! A call of the program swcheck: it opens the files that the words name, hands them on to the engines of `sw_app` and of the other crates
+//! whose names begin so, and tells of words that give no call, and of a read or a write that failed.
 #![tactic(auto)]
 
 mod calls;
