@@ -48,8 +48,8 @@ pub record HasMoved (j : JournalView) (arbiters : List Policy) (e : ℕ) (k : Jo
   pub made : k ≡ with_step j step
   pub decided : IsDecided j arbiters step after
 
--- What a turn of a link end does to the journal and to the arbiters of its cell. Moved, Sent: it made a step; Idle: it made none, and no
--- arbiter has changed; Over: it made none, and the run is over.
+-- What a turn of a link end does to the history and to the arbiters of its cell. Moved, Sent: it made a step; Idle: it made none, and no
+-- arbiter has changed; Over, which is told where the run is over: it made none.
 abbrev pub Advances : JournalView → List Policy → ℕ → Turn → JournalView → List Policy → Type 0
 Advances j arbiters e Moved k after = HasMoved j arbiters e k after
 Advances j arbiters e (Sent at) k after = HasMoved j arbiters e k after
@@ -67,16 +67,16 @@ pub record HasGranted (j : JournalView) (arbiters : List Policy) (e : ℕ) (k : 
 abbrev pub IsOutputOf : Declaration → CellId → ℕ → Type 0
 IsOutputOf d id e = (w out : ℕ) → slice_get (ends_of d) e ≡ Some (Switch w out) → machine_cell id ≡ AtSwitch w
 
--- What a grant of an output of the cell does. Moved, Sent: it is granted; Idle: no input asks, and nothing has changed; Over: it is not
--- granted, and the run is over: no arbiter has changed if that is since the journal is full.
+-- What a grant of an output of the cell does. Moved, Sent: it is granted; Idle: no input asks, and nothing has changed; Over, which is told
+-- where the run is over: it is not granted, and where the journal is full, no arbiter has changed.
 abbrev pub Grants : JournalView → CellId → List Policy → ℕ → Turn → JournalView → List Policy → Type 0
 Grants j id arbiters e Moved k after = HasGranted j arbiters e k after
 Grants j id arbiters e (Sent at) k after = HasGranted j arbiters e k after
 Grants j id arbiters e Idle k after = (IsOutputOf j.declared id e → AreAskers j e 0) × (k ≡ j) × (after ≡ arbiters)
 Grants j id arbiters e Over k after = (k ≡ j) × (length j.history ≡ j.limit → after ≡ arbiters)
 
--- What a call does that is to make a step at the cell. Moved, Sent: it is made; Idle: it may not be the next there, and nothing has changed;
--- Over: it is not made, and the run is over.
+-- What a call does that is to make a step at the cell. Moved, Sent: it is made; Idle: it may not be the next there, and the journal is the
+-- same; Over, which is told where the run is over: it is not made.
 abbrev pub Takes : JournalView → CellId → Step → Turn → JournalView → Type 0
 Takes j id step Moved k = CanCommit j id step × (k ≡ with_step j step)
 Takes j id step (Sent at) k = CanCommit j id step × (k ≡ with_step j step)
