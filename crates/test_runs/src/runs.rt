@@ -1,6 +1,7 @@
 //! Runs of loads on their networks, by one worker and by several, and how they ended.
 
 pub(crate) mod gated;
+pub(crate) mod grants;
 pub(crate) mod open_gate;
 mod show;
 
@@ -19,6 +20,9 @@ static DETERMINED: &[(&str, &str)] = &[
     ("rmap.toml", "rmap.load"),
     ("bad.toml", "bad.load"),
 ];
+
+/// Networks that differ in the kind of their switch's arbiters alone.
+static ARBITRATIONS: &[&str] = &["fixed.toml", "round_robin.toml", "least_recent.toml"];
 
 fn show_each<R: Files + Print + AllocGlobal + Threads + Wait + Sync>(
     rt: &R,
@@ -46,12 +50,24 @@ fn show_cyclic<R: Files + Print + AllocGlobal + Threads + Wait + Sync>(rt: &R) -
     show_work(rt, "duel.toml", "duel.load", Work::OneWorker)
 }
 
+/// Three inputs of a switch ask for one output.
+fn show_arbitrations<R: Files + Print + AllocGlobal + Threads + Wait + Sync>(
+    rt: &R,
+) -> io::Result<()> {
+    for &network in ARBITRATIONS {
+        println!(rt; "> {network} grants.load")?;
+        show_work(rt, network, "grants.load", Work::Order)?;
+    }
+    Ok(())
+}
+
 /// Prints how each run ended.
 pub(crate) fn show_runs<R: Files + Print + AllocGlobal + Threads + Wait + Sync>(
     rt: &R,
 ) -> io::Result<()> {
     show_determined(rt)?;
     show_cyclic(rt)?;
+    show_arbitrations(rt)?;
     println!(rt; "> turn.toml turn.load limit 100")?;
     show_work(rt, "turn.toml", "turn.load", Work::Limited(100))?;
     println!(rt; "> turn.toml turn.load together")?;
