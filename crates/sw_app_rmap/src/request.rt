@@ -1,7 +1,7 @@
 //! What is asked for, in words.
 
 /// What is done at the address.
-#[derive(Clone, Copy, Debug)]
+#[derive(Clone, Copy)]
 pub enum Access<'a> {
     /// Reads so many bytes: 0 to 16777215, decimal, or hexadecimal behind `0x`.
     Read { length: &'a str },
@@ -10,7 +10,7 @@ pub enum Access<'a> {
 }
 
 /// The command that is asked for. Numbers are decimal, or hexadecimal behind `0x`.
-#[derive(Clone, Copy, Debug)]
+#[derive(Clone, Copy)]
 pub struct Request<'a> {
     /// The name of a declared flow.
     pub flow: &'a str,

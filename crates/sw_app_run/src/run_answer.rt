@@ -20,7 +20,7 @@ use sw_run::{Gate, run};
 use sw_toml_table::FileFault;
 
 /// How a run is made.
-#[derive(Clone, Copy, Debug, PartialEq, Eq)]
+#[derive(Clone, Copy, PartialEq, Eq)]
 pub struct Options {
     /// How many threads work.
     pub workers: usize,

@@ -2,7 +2,7 @@
 
 /// How a switch chooses among the inputs that ask for one output (ECSS-E-ST-50-12C, network layer:
 /// arbitration).
-#[derive(Clone, Copy, Debug, PartialEq, Eq)]
+#[derive(Clone, Copy, PartialEq, Eq)]
 pub enum Arbitration {
     /// The lowest port.
     Fixed,

@@ -6,7 +6,7 @@ use crate::count::lowest;
 use sw_topo::{Port, PortSet};
 
 /// Picks the lowest asking port.
-#[derive(Debug, Drop)]
+#[derive(Drop)]
 pub struct Fixed {
     ports: PortSet,
 }

@@ -9,7 +9,7 @@ use sw_topo::{Port, PortSet};
 
 /// Picks the asking port whose last pick is longest ago, and of those that were not picked yet the
 /// lowest.
-#[derive(Debug, Drop)]
+#[derive(Drop)]
 pub struct LeastRecent {
     ports: PortSet,
     /// For each port, how many of the arbiter's ports were last picked before it was.

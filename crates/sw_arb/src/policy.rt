@@ -9,7 +9,7 @@ use crate::round_robin::RoundRobin;
 use sw_topo::{Port, PortSet};
 
 /// An arbiter of one of the three kinds.
-#[derive(Debug, Drop)]
+#[derive(Drop)]
 pub enum Policy {
     /// The lowest asking port.
     Fixed(Fixed),

@@ -7,7 +7,7 @@ use sw_topo::{Port, PortSet};
 
 /// Picks the first asking port after the last that was picked, in a circle, and at first the
 /// lowest.
-#[derive(Debug, Drop)]
+#[derive(Drop)]
 pub struct RoundRobin {
     ports: PortSet,
     /// The circle begins here: one more than the last port that was picked.

@@ -7,7 +7,7 @@ use sw_route::Routing;
 use sw_switch::SwitchCell;
 
 /// Which cell of a network: the node, or the switch, of that number.
-#[derive(Clone, Copy, Debug, PartialEq, Eq)]
+#[derive(Clone, Copy, PartialEq, Eq)]
 pub enum CellId {
     /// A node.
     Node(u16),

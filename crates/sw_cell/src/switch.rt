@@ -247,7 +247,7 @@ pub fn arbitrate<R: Routing, A: Arbiter>(
 }
 
 /// A step at the link end of a port of a switch, other than to grant its output.
-#[derive(Clone, Copy, Debug, PartialEq, Eq)]
+#[derive(Clone, Copy, PartialEq, Eq)]
 pub enum PortStep {
     /// An FCT leaves for the channel that comes to the port.
     Fct,

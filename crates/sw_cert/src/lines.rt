@@ -8,7 +8,7 @@ use sw_topo::Chan;
 use sw_topo::limits::{MAX_ADDRESS, MAX_CHANNELS, MAX_PLACES, MAX_WAYS};
 
 /// What the next line has to be.
-#[derive(Clone, Copy, Debug, PartialEq, Eq)]
+#[derive(Clone, Copy, PartialEq, Eq)]
 pub enum Expected {
     Title,
     Channels,
@@ -22,7 +22,7 @@ pub enum Expected {
 }
 
 /// What a line says.
-#[derive(Clone, Copy, Debug, PartialEq, Eq)]
+#[derive(Clone, Copy, PartialEq, Eq)]
 pub enum Said {
     Begun,
     ChannelCount(u32),

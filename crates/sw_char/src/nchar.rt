@@ -1,7 +1,7 @@
 //! N-Chars and end markers.
 
 /// A normal character (N-Char): the characters that carry packets (ECSS-E-ST-50-12C, data link layer).
-#[derive(Clone, Copy, Debug, PartialEq, Eq)]
+#[derive(Clone, Copy, PartialEq, Eq)]
 pub enum NChar {
     /// A data character of 8 bits.
     Data(u8),
@@ -12,7 +12,7 @@ pub enum NChar {
 }
 
 /// How a packet ends: the end markers (ECSS-E-ST-50-12C, data link layer).
-#[derive(Clone, Copy, Debug, PartialEq, Eq)]
+#[derive(Clone, Copy, PartialEq, Eq)]
 pub enum End {
     /// The normal end of a packet.
     Eop,

@@ -9,7 +9,7 @@ use std::marker::Model;
 use std::mem;
 
 /// A packet (ECSS-E-ST-50-12C, network layer): its bytes, and how it ends.
-#[derive(Debug, Drop)]
+#[derive(Drop)]
 pub struct Packet {
     /// The address bytes, and then the cargo.
     pub bytes: Vec<u8>,

@@ -10,7 +10,7 @@ use sw_text::{ReadError, write_whole};
 pub const MAX_TEXT: usize = 67_108_864;
 
 /// How an engine ended.
-#[derive(Clone, Copy, Debug, PartialEq, Eq)]
+#[derive(Clone, Copy, PartialEq, Eq)]
 pub enum Ended {
     /// The whole text was written; the program is to exit with this status.
     Status(u8),

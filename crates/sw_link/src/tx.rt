@@ -6,7 +6,7 @@ use std::marker::Model;
 
 /// The transmitting end of a channel, seen as its credit: how many N-Chars it may still send
 /// (ECSS-E-ST-50-12C, data link layer: flow control).
-#[derive(Debug, Drop)]
+#[derive(Drop)]
 pub struct TxEnd {
     credit: u8,
 }

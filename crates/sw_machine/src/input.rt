@@ -1,7 +1,7 @@
 //! What a switch does with the packets of one input.
 
 /// The state of a switch's input port (ECSS-E-ST-50-12C, network layer: wormhole routing).
-#[derive(Clone, Copy, Debug, PartialEq, Eq)]
+#[derive(Clone, Copy, PartialEq, Eq)]
 pub enum InputState {
     /// It waits for a packet's header.
     Idle,

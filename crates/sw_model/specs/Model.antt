@@ -1,5 +1,5 @@
 -- The machine's network of a network that a file declares.
-use Rattle.std.specs.Prelude.{ℕ, ◌+◌, List, [], length, drop, replicate, slice_get, slice_index, Option, Some, None, option_map, unwrap_or}
+use Rattle.std.specs.Prelude.{ℕ, ◌+◌, List, [], length, drop, replicate, slice_get, slice_index, Option, Some, None, option_and_then, option_map, unwrap_or}
 use Rattle.sw_topo.specs.declared.place.PlaceEnd.{PlaceEnd}
 use Rattle.sw_topo.specs.declared.place.PlaceEnd.TheVariants.{Node, Switch}
 use Rattle.sw_topo.specs.Wiring.{out, partner}
@@ -29,18 +29,15 @@ flow_of reply (Some f) = record { from = f.from; to = f.to; address = f.address;
 
 -- where the replies to a packet go, at a node that is a target
 abbrev pub answered_to : Option TargetConfig → List ℕ → Option (List ℕ)
-answered_to None bytes = None
-answered_to (Some t) bytes = reply_to bytes
+answered_to target bytes = option_and_then (λ t. reply_to bytes) target
 
 -- a reply's bytes, parted into the address that it goes to and what follows
 abbrev pub parted : Option (List ℕ) → Option (List ℕ) → Option PendingReply
-parted None reply = None
-parted (Some address) reply = option_map (λ bytes. record { address = address; cargo = drop (length address) bytes }) reply
+parted address reply = option_and_then (λ a. option_map (λ bytes. record { address = a; cargo = drop (length a) bytes }) reply) address
 
 -- the reply to a packet, at a node that is a target (ECSS-E-ST-50-52C)
 abbrev pub answer_of : Option TargetConfig → List ℕ → List ℕ → End → Option PendingReply
-answer_of None memory bytes end = None
-answer_of (Some t) memory bytes end = parted (reply_to bytes) (answer t memory bytes end).0
+answer_of target memory bytes end = option_and_then (λ t. parted (reply_to bytes) (answer t memory bytes end).0) target
 
 abbrev pub memory_after : Option TargetConfig → List ℕ → List ℕ → End → List ℕ
 memory_after None memory bytes end = memory
@@ -58,8 +55,7 @@ longest_reply (Some t) = 12 + t.size
 
 -- a plain node takes what comes: it never owes a reply
 abbrev pub slots_of : Option TargetConfig → ℕ
-slots_of None = 1
-slots_of (Some t) = t.slots
+slots_of target = unwrap_or (option_map (λ t. t.slots) target) 1
 
 -- the network of the machine
 unfoldable pub network_of : Declaration → Network

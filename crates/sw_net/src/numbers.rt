@@ -8,7 +8,7 @@ use sw_topo::{LinkEnd, PlaceEnd};
 
 /// The numbers of a link end, which decide what may be sent there and asked for
 /// (ECSS-E-ST-50-12C, data link layer: flow control).
-#[derive(Clone, Copy, Debug, PartialEq, Eq)]
+#[derive(Clone, Copy, PartialEq, Eq)]
 pub struct Numbers {
     /// How many N-Chars may still be sent on the channel that starts there: 0 to 56.
     pub credit: u8,

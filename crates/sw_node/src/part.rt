@@ -10,7 +10,7 @@ use std::marker::Model;
 use sw_char::NChar;
 
 /// A reply that waits to be sent (ECSS-E-ST-50-52C, reply fields).
-#[derive(Debug, Drop)]
+#[derive(Drop)]
 pub struct PendingReply {
     /// The address bytes that it begins with.
     pub address: Vec<u8>,

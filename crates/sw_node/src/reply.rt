@@ -15,7 +15,7 @@ use sw_rmap::{Target, reply_to};
 
 /// A reply (ECSS-E-ST-50-52C, reply fields), and how many of its bytes are the address that it
 /// goes to.
-#[derive(Debug, Drop)]
+#[derive(Drop)]
 pub(crate) struct Reply {
     bytes: Vec<u8>,
     address: usize,

@@ -9,7 +9,7 @@ use std::marker::Model;
 use sw_char::{End, NChar};
 
 /// The characters of a packet that are still to be sent.
-#[derive(Debug, Drop)]
+#[derive(Drop)]
 pub(crate) struct Sending {
     bytes: Vec<u8>,
     end: End,

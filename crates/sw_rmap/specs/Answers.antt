@@ -9,7 +9,7 @@ use Rattle.sw_rmap.specs.Crc.{crc_of}
 use Rattle.sw_rmap.specs.Instruction.{is_write, increments, is_read_modify_write, is_known}
 use Rattle.sw_rmap.specs.CommandView.{CommandView}
 use Rattle.sw_rmap.specs.Commands.{read, body_of}
-use Rattle.sw_rmap.specs.Replies.{is_answered, reply_of}
+use Rattle.sw_rmap.specs.Replies.{code_of, is_answered, reply_of}
 
 abbrev pub is_error_end : End → Bool
 is_error_end ends.Eop = false
@@ -52,15 +52,7 @@ unfoldable pub status_of : TargetConfig → CommandView → List ℕ → End →
 status_of t c body end = first_of (cases_of t c body end)
 
 abbrev pub is_success : Status → Bool
-is_success Success = true
-is_success UnusedCode = false
-is_success InvalidKey = false
-is_success InvalidDataCrc = false
-is_success EarlyEop = false
-is_success TooMuchData = false
-is_success Eep = false
-is_success NotAuthorised = false
-is_success InvalidTarget = false
+is_success status = code_of status == 0
 
 -- all that the command is about lies in the window
 pub record IsInWindow (t : TargetConfig) (c : CommandView) : Type 0 where

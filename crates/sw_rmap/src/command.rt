@@ -16,7 +16,7 @@ pub(crate) const PROTOCOL: u8 = 1;
 
 /// A command's header, which is no reply's and whose fields are in their ranges
 /// (ECSS-E-ST-50-52C, the fields of a command).
-#[derive(Debug, Drop)]
+#[derive(Drop)]
 pub struct Command {
     logical: u8,
     instruction: Instruction,

@@ -13,7 +13,7 @@ use std::marker::Model;
 use sw_char::End;
 
 /// An RMAP target (ECSS-E-ST-50-52C): its configuration, and what its window holds.
-#[derive(Debug, Drop)]
+#[derive(Drop)]
 pub struct Target {
     config: TargetConfig,
     memory: Vec<u8>,

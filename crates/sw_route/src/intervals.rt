@@ -11,7 +11,7 @@ use std::marker::Model;
 use sw_topo::Port;
 
 /// The logical addresses up to `last` that no interval before it has, and what they name.
-#[derive(Clone, Copy, Debug, PartialEq, Eq)]
+#[derive(Clone, Copy, PartialEq, Eq)]
 pub struct Interval {
     /// 32 to 254 in the intervals of a table.
     pub last: u8,

@@ -5,7 +5,7 @@ use sw_topo::{Port, PortSet};
 
 /// What a byte names at a switch (ECSS-E-ST-50-12C, network layer: packet addressing): the ports, and whether the byte is deleted
 /// there.
-#[derive(Clone, Copy, Debug, PartialEq, Eq)]
+#[derive(Clone, Copy, PartialEq, Eq)]
 pub struct Look {
     pub ports: PortSet,
     pub delete: bool,
@@ -37,7 +37,7 @@ impl Look {
 
 /// An entry of a routing table: the logical addresses from `first` to `last` name these ports (ECSS-E-ST-50-12C, network layer:
 /// packet addressing).
-#[derive(Clone, Copy, Debug, PartialEq, Eq)]
+#[derive(Clone, Copy, PartialEq, Eq)]
 pub struct Route {
     /// 32 to 254.
     pub first: u8,

@@ -4,7 +4,7 @@ use sw_char::Packet;
 use sw_history::Record;
 
 /// Why a run ended.
-#[derive(Clone, Copy, Debug, PartialEq, Eq)]
+#[derive(Clone, Copy, PartialEq, Eq)]
 pub enum Stop {
     /// The whole load was begun, and nothing is undelivered.
     Drained,

@@ -62,7 +62,7 @@ impl<W: RunIdentity> Slot<W> {
 }
 
 /// What came of a turn, or of turns of several cells.
-#[derive(Clone, Copy, Debug, PartialEq, Eq)]
+#[derive(Clone, Copy, PartialEq, Eq)]
 pub(crate) enum Found {
     /// A cell had its turn.
     Work,

@@ -7,7 +7,7 @@ use std::alloc::{AllocError, Global};
 use sw_load::{count_of, hex_pair};
 
 /// Cargo in no more memory than a few times its text.
-#[derive(Debug, Drop)]
+#[derive(Drop)]
 pub(crate) enum Cargo {
     Bytes(Vec<u8>),
     /// One byte, so many times.

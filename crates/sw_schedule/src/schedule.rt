@@ -45,7 +45,7 @@ impl<T: Drop> From<AllocFailed<T>> for ScheduleFault {
 /// A clause sees the whole list of steps. It is kept as the lines wrote it, each step once with how many times it is made, and
 /// cargo of one repeated byte as that byte and a count: so a schedule takes no more memory than a few times its text, where the
 /// steps with their cargo written out could take gigabytes.
-#[derive(Debug, Drop)]
+#[derive(Drop)]
 pub struct Schedule {
     entries: Vec<ScheduleEntry>,
     total: u32,

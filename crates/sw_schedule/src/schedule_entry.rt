@@ -12,7 +12,7 @@ use sw_model::Step;
 use sw_topo::Chan;
 
 /// A step in no more memory than a few times its text: cargo of one repeated byte is written out for each caller.
-#[derive(Debug, Drop)]
+#[derive(Drop)]
 pub(crate) enum Kept {
     Whole(Step),
     OneByte {
@@ -39,7 +39,7 @@ pub(crate) fn begin(flow: u16, cargo: Cargo, end: End) -> Kept
 }
 
 /// A step without cargo.
-#[derive(Clone, Copy, Debug)]
+#[derive(Clone, Copy)]
 pub(crate) enum Plain {
     Fct(Chan),
     FctIn(Chan),
@@ -122,14 +122,14 @@ fn whole_step(alloc: Global, kept: &Kept) -> Result<Step, AllocError>
 }
 
 /// How many times a step is made, and the step, in 16 bytes: what has cargo stands elsewhere.
-#[derive(Debug, Drop)]
+#[derive(Drop)]
 pub(crate) enum Packed {
     Plain(u32, Plain),
     WithCargo(u32, Box<Kept>),
 }
 
 /// A step, and how many times it is made, one after another.
-#[derive(Debug, Drop)]
+#[derive(Drop)]
 pub struct ScheduleEntry {
     packed: Packed,
 }

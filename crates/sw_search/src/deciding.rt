@@ -19,7 +19,7 @@ use sw_dependency::dependencies;
 use sw_flow::{Place, all_places};
 use sw_graph::Order;
 
-/// For each channel those that depend on it, each once.
+/// For each channel those on which it depends, each once.
 fn rows_of<R: Threads + Sync>(
     rt: &R,
     alloc: Global,

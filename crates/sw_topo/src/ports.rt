@@ -4,7 +4,7 @@ use crate::port::{Port, PortSet};
 use std::marker::Model;
 
 /// The ports of a set that are still to come, in rising order.
-#[derive(Clone, Copy, Debug)]
+#[derive(Clone, Copy)]
 pub struct Ports {
     rest: PortSet,
 }

@@ -1,7 +1,7 @@
 //! Numbers that look random, for the search.
 
 /// The state of a generator, one step of which is a linear congruence modulo 2^64.
-#[derive(Clone, Copy, Debug)]
+#[derive(Clone, Copy)]
 pub(crate) struct Random {
     state: u64,
 }

@@ -61,13 +61,3 @@ pub(crate) fn step_first(alloc: Global, net: &mut Core<'_>) -> Result<bool, Allo
     let step = net.step_of(alloc, end)?;
     Ok(step.is_some())
 }
-
-/// Makes steps of the first link end that can make one, until none can.
-pub(crate) fn run_out(alloc: Global, net: &mut Core<'_>) -> Result<(), AllocError> {
-    for _ in 0..MANY {
-        if !step_first(alloc, net)? {
-            break;
-        }
-    }
-    Ok(())
-}

@@ -1,7 +1,7 @@
 //! Loads whose packets each begin as soon as they can.
 
 use crate::files::{no_text, with_network};
-use crate::show::show_first;
+use crate::show::{show_first, show_parts};
 use crate::stepping::{Core, MANY, attempt_begin, step_first, with_core};
 use std::alloc::{AllocError, Global};
 use std::rt::Files;
@@ -10,8 +10,9 @@ use sw_config::Network;
 use sw_load::{Load, LoadPacket, read_load};
 
 /// Networks, each with a load.
-static LOADS: [(&str, &str); 11] = [
+static LOADS: [(&str, &str); 12] = [
     ("line.toml", "line.load"),
+    ("line8.toml", "long.load"),
     ("star.toml", "star.load"),
     ("region.toml", "region.load"),
     ("group.toml", "group.load"),
@@ -83,22 +84,12 @@ fn make_steps(
     Ok(made)
 }
 
-// How many packets came out.
-fn count_packets(alloc: Global, net: &Core<'_>) -> Result<usize, AllocError> {
-    let mut packets: usize = 0;
-    for node in 0..net.network().nodes() {
-        packets = packets.saturating_add(net.came_out(alloc, node)?.len());
-    }
-    Ok(packets)
-}
-
 fn show_steps<R: Print + AllocGlobal>(rt: &R, net: &mut Core<'_>, load: &Load) -> io::Result<()> {
     let mut left = counts(rt.alloc(), load)?;
     let made = make_steps(rt.alloc(), net, load, &mut left)?;
-    let packets = count_packets(rt.alloc(), net)?;
-    let undelivered = net.undelivered();
-    print!(rt; "made {made}, packets {packets}, undelivered {undelivered}, ")?;
-    show_first(rt, net)
+    print!(rt; "made {made}, ")?;
+    show_first(rt, net)?;
+    show_parts(rt, net)
 }
 
 fn show_load<R: Files + Print + AllocGlobal>(
@@ -122,7 +113,7 @@ fn show_waiting<R: Files + Print + AllocGlobal>(
     with_network(rt, network, |network| show_load(rt, network, load))
 }
 
-/// Prints for each load how many steps were made, how many packets came out, and what is left.
+/// Prints for each load how many steps were made, what is left, and what came out.
 pub(crate) fn show_waitings<R: Files + Print + AllocGlobal>(rt: &R) -> io::Result<()> {
     println!(rt; "> packets that begin as soon as they can")?;
     for (network, load) in LOADS {

@@ -9,7 +9,7 @@ use sw_arb::Arbitration;
 use sw_config::{Flow, Network, NetworkBuilder, Reply};
 use sw_rmap::TargetConfig;
 use sw_route::TableRoutes;
-use sw_topo::{PlaceEnd, Port, PortSet};
+use sw_topo::{PlaceEnd, Port};
 
 pub fn port(rt: &impl Abort, number: u8) -> Port {
     Port::new(number).expect(rt, "port")
@@ -29,16 +29,6 @@ pub fn add_node(
     assert!(rt; builder.node_count() < 1024);
     assert!(rt; !builder.has_name(name));
     builder.add_node(alloc, name, target)
-}
-
-/// A table by which the logical address, 32 to 254, names the ports.
-pub fn one_route(rt: &impl Abort, alloc: Global, address: u8, ports: PortSet) -> TableRoutes
-    requires low { 32 ≤ address }
-    requires high { address ≤ 254 }
-{
-    let mut table = TableRoutes::new(alloc);
-    table.add(address, ports, false).expect(rt, "route");
-    table
 }
 
 pub fn add_switch(

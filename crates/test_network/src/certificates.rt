@@ -1,7 +1,7 @@
-//! Certificates and their texts.
+//! Certificates that are made.
 use std::alloc::Global;
 use std::process::Abort;
-use sw_cert::{Certificate, CertificateFault};
+use sw_cert::Certificate;
 use sw_flow::Place;
 use sw_topo::Chan;
 
@@ -11,36 +11,6 @@ const TEXT: &[u8] =
 fn writes(rt: &impl Abort, alloc: Global, certificate: &Certificate, wanted: &[u8]) {
     let text = certificate.write(alloc).expect(rt, "text");
     assert!(rt; text.as_slice() == wanted);
-}
-
-fn is_read_and_written_back(rt: &impl Abort, alloc: Global, text: &[u8]) {
-    let certificate = Certificate::read(alloc, text).expect(rt, "certificate");
-    writes(rt, alloc, &certificate, text);
-}
-
-#[test]
-fn a_text_is_read_and_written_back(rt: HostRuntime) {
-    is_read_and_written_back(&rt, rt.alloc(), TEXT);
-}
-
-fn refused_line(alloc: Global, text: &[u8]) -> Option<usize> {
-    match Certificate::read(alloc, text) {
-        Err(CertificateFault::Grammar(line)) => Some(line),
-        _ => None,
-    }
-}
-
-#[test]
-fn the_first_wrong_line_is_told(rt: HostRuntime) {
-    let texts: [(&[u8], usize); 4] = [
-        (b"", 1),
-        (b"swcert 1\nchannels 1", 2),
-        (b"swcert 1\nchannels 2049\n", 2),
-        (b"swcert 1\nchannels 1\nnumber 07\n", 3),
-    ];
-    for (text, line) in texts {
-        assert!(rt; refused_line(rt.alloc(), text) == Some(line));
-    }
 }
 
 fn start() -> Place {

@@ -1,9 +1,7 @@
 //! Cycles, and what is none.
-use crate::asked::{Asked, ask_of};
 use crate::samples::{duel, turn};
 use std::alloc::{AllocError, Global};
 use std::process::Abort;
-use std::thread::Threads;
 use sw_config::Network;
 use sw_cycle::{Cause, Cycle, check_cycle};
 use sw_flow::Place;
@@ -33,20 +31,19 @@ fn cycle_of_targets(rt: &impl Abort, alloc: Global, numbers: &[u16], targets: &[
     }
 }
 
-pub(crate) fn is_cycle(rt: &impl Abort, network: &Network, cycle: &Cycle, wanted: bool) {
+fn check(rt: &impl Abort, network: &Network, cycle: &Cycle, wanted: bool) {
     assert!(rt; check_cycle(network, cycle) == wanted);
 }
 
+// Is it a cycle of the network, as is said? One function alone owns a network: to let one go is dear to prove.
+fn is_cycle(rt: &impl Abort, network: Network, cycle: &Cycle, wanted: bool) {
+    check(rt, &network, cycle, wanted)
+}
+
 // In the duel, are these targets the causes of a cycle over these channels?
-fn duel_waits<R: Abort + Threads + Sync>(
-    rt: &R,
-    alloc: Global,
-    numbers: &[u16],
-    targets: &[u16],
-    wanted: bool,
-) {
+fn duel_waits(rt: &impl Abort, alloc: Global, numbers: &[u16], targets: &[u16], wanted: bool) {
     let cycle = cycle_of_targets(rt, alloc, numbers, targets);
-    ask_of(rt, alloc, duel(rt, alloc), Asked::IsCycle(&cycle, wanted));
+    is_cycle(rt, duel(rt, alloc), &cycle, wanted);
 }
 
 #[test]
@@ -96,9 +93,9 @@ fn cycle_of_flow(rt: &impl Abort, alloc: Global, way: &[Place]) -> Cycle {
     }
 }
 
-fn turn_waits<R: Abort + Threads + Sync>(rt: &R, alloc: Global, way: &[Place], wanted: bool) {
+fn turn_waits(rt: &impl Abort, alloc: Global, way: &[Place], wanted: bool) {
     let cycle = cycle_of_flow(rt, alloc, way);
-    ask_of(rt, alloc, turn(rt, alloc), Asked::IsCycle(&cycle, wanted));
+    is_cycle(rt, turn(rt, alloc), &cycle, wanted);
 }
 
 #[test]
