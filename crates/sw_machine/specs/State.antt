@@ -24,10 +24,7 @@ pub record State : Type 0 where
 
 -- no credit, no character, nothing held, at any channel; nothing to send and nothing taken, at any node
 abbrev pub empty : Network → State
-empty net = record {
-  credit = λ c. 0; wire = λ c. []; fcts = λ c. 0; buffer = λ c. []; outstanding = λ c. 0; input = λ c. Idle;
-  to_send = λ n. []; pending = λ n. []; owed = λ n. 0; taken = λ n. []; memory = net.memory_at_first;
-}
+empty net = record { credit = λ c. 0; wire = λ c. []; fcts = λ c. 0; buffer = λ c. []; outstanding = λ c. 0; input = λ c. Idle; to_send = λ n. []; pending = λ n. []; owed = λ n. 0; taken = λ n. []; memory = net.memory_at_first }
 
 -- f, but x at c
 abbrev pub put : {A : Type 0} → (ℕ → A) → ℕ → A → ℕ → A
