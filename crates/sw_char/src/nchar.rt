@@ -1,7 +1,7 @@
 //! N-Chars and end markers.
 
 /// A normal character (N-Char): the characters that carry packets (ECSS-E-ST-50-12C, data link layer).
-#[derive(Clone, Copy, PartialEq, Eq)]
+#[derive(Clone, Copy, Debug, PartialEq, Eq)]
 pub enum NChar {
     /// A data character of 8 bits.
     Data(u8),

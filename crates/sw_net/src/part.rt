@@ -18,7 +18,7 @@ use sw_switch::{Input, SwitchCell};
 use sw_topo::Port;
 
 /// What a node has of a network's state.
-#[derive(Drop)]
+#[derive(Debug, Drop)]
 pub struct NodePart {
     /// The characters that it has still to send of the packet under way, the next first.
     pub to_send: Vec<NChar>,
@@ -58,7 +58,7 @@ impl Model for NodePart {
 }
 
 /// What a switch has of a network's state at a port with a link.
-#[derive(Drop)]
+#[derive(Debug, Drop)]
 pub struct PortPart {
     /// The port.
     pub port: Port,
@@ -89,7 +89,7 @@ impl Model for PortPart {
 }
 
 /// What a cell has of a network's state.
-#[derive(Drop)]
+#[derive(Debug, Drop)]
 pub enum Part {
     /// What a node has.
     Node(NodePart),

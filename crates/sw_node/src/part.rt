@@ -10,7 +10,7 @@ use std::marker::Model;
 use sw_char::NChar;
 
 /// A reply that waits to be sent (ECSS-E-ST-50-52C, reply fields).
-#[derive(Drop)]
+#[derive(Debug, Drop)]
 pub struct PendingReply {
     /// The address bytes that it begins with.
     pub address: Vec<u8>,

@@ -4,7 +4,7 @@ ghost use Rattle.std.specs.Prelude.{◌≡◌};
 use sw_topo::Port;
 
 /// The state of an input of a switch (ECSS-E-ST-50-12C, network layer: wormhole routing).
-#[derive(Clone, Copy, PartialEq, Eq)]
+#[derive(Clone, Copy, Debug, PartialEq, Eq)]
 pub enum Input {
     /// It waits for a packet's leading byte.
     Idle,
