@@ -1,0 +1,69 @@
+# Completions of swcheck for bash. Made by tools/share: change that.
+
+# Sets COMPREPLY to the files that begin as the word at the cursor does and end so, with folders; to any files where there are none.
+_swcheck_files() {
+    compopt -o filenames 2> /dev/null
+    mapfile -t COMPREPLY < <(compgen -f -X "!*$2" -- "$1"; [ -z "$2" ] || compgen -d -- "$1")
+    [ ${#COMPREPLY[@]} != 0 ] || mapfile -t COMPREPLY < <(compgen -f -- "$1")
+}
+
+_swcheck() {
+    local word=${COMP_WORDS[COMP_CWORD]} command='' last='' at=0 plain='' it options valued kinds kind
+    COMPREPLY=()
+    for it in "${COMP_WORDS[@]:1:COMP_CWORD-1}"; do
+        if [ -z "$command" ]; then
+            case $it in
+                route) command=$it options='-h --help' valued='' kinds=('file .toml' 'none') ;;
+                decide) command=$it options='-h --help' valued='' kinds=('file .toml') ;;
+                check) command=$it options='-h --help' valued='' kinds=('file .toml' 'file .cert') ;;
+                report) command=$it options='-h --help' valued='' kinds=('file .toml') ;;
+                replay) command=$it options='-h --help' valued='' kinds=('file .toml' 'file .schedule') ;;
+                run) command=$it options='--workers --limit -h --help' valued='--workers --limit' kinds=('file .toml' 'file .load') ;;
+                migrate) command=$it options='-h --help' valued='' kinds=('file .toml') ;;
+                explain) command=$it options='--all -h --help' valued='' kinds=('file .toml') ;;
+                draw) command=$it options='--flow --cycle --numbers -h --help' valued='--flow' kinds=('file .toml') ;;
+                rmap) command=$it options='--no-ack --transaction -h --help' valued='--transaction' kinds=('file .toml' 'none' 'texts read write' 'none' 'none') ;;
+                witness) command=$it options='--tries --seed -h --help' valued='--tries --seed' kinds=('file .toml') ;;
+                help) command=$it options='-h --help' valued='' kinds=('texts route decide check report replay run migrate explain draw rmap witness help') ;;
+                -*) ;;
+                *) return ;;
+            esac
+        elif [ "$it" = = ]; then
+            :
+        elif [ -n "$last" ]; then
+            last=''
+        elif [ -z "$plain" ] && [ "$it" = -- ]; then
+            plain=yes
+        elif [ -z "$plain" ] && [[ $it == -* ]]; then
+            [[ " $valued " != *" $it "* ]] || last=$it
+        else
+            at=$((at + 1))
+        fi
+    done
+    [ "$word" != = ] || word=''
+    if [ -z "$command" ]; then
+        kind='texts route decide check report replay run migrate explain draw rmap witness help'
+        options='-h --help'
+    elif [ -n "$last" ]; then
+        kind=none
+        options=''
+        case $command$last in
+            *) ;;
+        esac
+    else
+        it=${#kinds[@]}
+        [ "$at" -lt "$it" ] || [ "$it" = 0 ] || [[ ${kinds[it - 1]} != again\ * ]] || at=$((it - 1))
+        kind=${kinds[at]-none}
+        kind=${kind#again }
+    fi
+    if [ -z "$last$plain" ] && [[ $word == -* ]]; then
+        mapfile -t COMPREPLY < <(compgen -W "$options" -- "$word")
+        return
+    fi
+    case $kind in
+        texts\ *) mapfile -t COMPREPLY < <(compgen -W "${kind#* }" -- "$word") ;;
+        file*) it=${kind#file}; _swcheck_files "$word" "${it# }" ;;
+    esac
+}
+
+complete -F _swcheck swcheck
