@@ -1,23 +1,14 @@
 //! The first flow that is not well routed, with a way to where its packets go wrong.
-ghost use Rattle.std.specs.Prelude.{◌<◌, IfOk, MatchOption, length};
-ghost use Rattle.sw_config.specs.Entries.{all_flows};
-ghost use Rattle.sw_search.specs.Lists.{AreListed, IsFirstFault};
+ghost use Rattle.std.specs.Prelude.{IfOk, MatchOption};
+ghost use Rattle.sw_search.specs.Lists.{AreListed};
 ghost use Rattle.sw_search.specs.Verdicts.{AllWellRouted, IsMisrouted};
 ghost use Rattle.sw_explain.specs.Explanations.{IsExplanation};
 
 use crate::explanation::Explanation;
 use std::alloc::{AllocError, Global};
 use sw_config::Network;
-use sw_flow::{Place, RouteFault, first_fault, way_to};
-
-/// The first of the flow's places that has a fault, with it.
-fn fault_of_flow(network: &Network, flow: u16, places: &[Vec<Place>]) -> Option<(Place, RouteFault)>
-    requires lists { AreListed network.now places.now }
-    requires inside { flow < length (all_flows network.now) }
-    ensures { IsFirstFault network.now flow result }
-{
-    first_fault(network, flow, &places[usize::from(flow)])
-}
+use sw_flow::{Place, RouteFault, way_to};
+use sw_search::fault_of_flow;
 
 /// The first flow that is not well routed, with the first of its places that has a fault.
 pub(crate) fn first_misrouted(

@@ -11,4 +11,5 @@ mod order;
 mod verdict;
 
 pub use deciding::{decide, survey};
+pub use misrouted::fault_of_flow;
 pub use verdict::{Findings, Verdict};

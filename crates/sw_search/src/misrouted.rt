@@ -14,8 +14,13 @@ use sw_flow::{Place, RouteFault, first_fault};
 /// as long to start as some thousand places to look at.
 const LEAST_PIECE: usize = 64;
 
-/// The first of the flow's places that has a fault, with it.
-fn fault_of_flow(network: &Network, flow: u16, places: &[Vec<Place>]) -> Option<(Place, RouteFault)>
+/// The first of the flow's places that has a fault, with it. `places` are those of all flows, by their
+/// numbers, as `sw_flow::all_places` gives them.
+pub fn fault_of_flow(
+    network: &Network,
+    flow: u16,
+    places: &[Vec<Place>],
+) -> Option<(Place, RouteFault)>
     requires lists { AreListed network.now places.now }
     requires inside { flow < length (all_flows network.now) }
     ensures { IsFirstFault network.now flow result }
