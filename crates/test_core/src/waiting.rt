@@ -10,12 +10,13 @@ use sw_config::Network;
 use sw_load::{Load, LoadPacket, read_load};
 
 /// Networks, each with a load.
-static LOADS: [(&str, &str); 11] = [
+static LOADS: [(&str, &str); 12] = [
     ("line.toml", "line.load"),
     ("star.toml", "star.load"),
     ("region.toml", "region.load"),
     ("group.toml", "group.load"),
     ("bad.toml", "faults.load"),
+    ("turn.toml", "one_each.load"),
     ("turn.toml", "turn.load"),
     ("ring.toml", "turn.load"),
     ("duel.toml", "answers.load"),
