@@ -10,13 +10,14 @@ use sw_config::Network;
 use sw_load::{Load, LoadPacket, read_load};
 
 /// Networks, each with a load.
-static LOADS: [(&str, &str); 12] = [
+static LOADS: [(&str, &str); 13] = [
     ("line.toml", "line.load"),
     ("line8.toml", "long.load"),
     ("star.toml", "star.load"),
     ("region.toml", "region.load"),
     ("group.toml", "group.load"),
     ("bad.toml", "faults.load"),
+    ("turn.toml", "one_each.load"),
     ("turn.toml", "turn.load"),
     ("ring.toml", "turn.load"),
     ("duel.toml", "answers.load"),

@@ -5,7 +5,7 @@ ghost use Rattle.sw_limit.specs.Limit.{AreDeclared};
 use crate::journals::opened::open;
 use crate::journals::tried::{try_full, try_line};
 use crate::journals::turns::play;
-use crate::journals::two_threads::show_two_threads;
+use crate::journals::two_threads::{TwoThreads, show_two_threads};
 use std::io;
 use std::sync::Wait;
 use std::thread::Threads;
@@ -128,11 +128,12 @@ fn show_shared<R: Print + AllocGlobal + Threads + Wait + Sync>(
     rt: &R,
     network: &Network,
     load: &Load,
+    work: TwoThreads,
 ) -> io::Result<()>
     requires { AreDeclared network.now load.now }
 {
     match open(rt.alloc(), network, load, 1000) {
-        Ok((journal, cells)) => show_two_threads(rt, journal, cells),
+        Ok((journal, cells)) => show_two_threads(rt, journal, cells, work),
         Err(_) => println!(rt; "no journal"),
     }
 }
@@ -148,7 +149,9 @@ fn show_all<R: Print + AllocGlobal + Threads + Wait + Sync>(
     println!(rt; "> with a limit of 1")?;
     show_full(rt, network, load)?;
     println!(rt; "> by two threads")?;
-    show_shared(rt, network, load)
+    show_shared(rt, network, load, TwoThreads::SendAndTake)?;
+    println!(rt; "> by two threads, the numbers read before the other sends")?;
+    show_shared(rt, network, load, TwoThreads::ReadAndSend)
 }
 
 /// Runs the load, and prints what came of it.
