@@ -2,9 +2,10 @@
 ghost use Rattle.std.specs.Prelude.{◌≡◌, ◌<◌, ◌^◌, ℕ, map, option_map, true, false, IfOk, IfErr, IfNone, IfSome};
 ghost use Rattle.clap.specs.Words.{app_of, first_of, found_of, kind_of, rows_of, rule_of, subcommand_rows_of};
 ghost use Rattle.clap.specs.declared.builder.Command.TheViews.{out-Command};
+ghost use Rattle.sw_args.specs.declared.command_line.Asked.{Asked};
 ghost use Rattle.sw_args.specs.declared.command_line.Call.{Call};
 ghost use Rattle.sw_args.specs.declared.command_line.WordsFault.TheVariants.{Memory};
-ghost use Rattle.sw_args.specs.CommandLine.{check_app, count_rule, decide_app, draw_app, explain_app, flag_rule, migrate_app, option_rule, replay_app, report_app, required_value, rmap_app, route_app, run_app, swcheck_app, top_app, witness_app, Gives, IsCallOf, IsCount, IsMatched, IsOption, IsSet, Refuses, SaysNumber, ShowsKind, Tells, WithMade};
+ghost use Rattle.sw_args.specs.CommandLine.{check_app, count_rule, decide_app, draw_app, explain_app, flag_rule, migrate_app, option_rule, replay_app, report_app, required_value, rmap_app, route_app, run_app, swcheck_app, top_app, witness_app, hints_rule, Gives, IsCallOf, IsCount, IsMatched, IsOption, IsSet, Refuses, SaysNumber, ShowsKind, Tells, WithHints, WithMade};
 
 use clap::error::ErrorKind;
 use clap::{Arg, ArgAction, ArgMatches, Command};
@@ -77,6 +78,13 @@ pub enum Call<'a> {
         tries: u32,
         seed: u32,
     },
+}
+
+/// What the words ask for: a call, and what was given at `--hints`.
+#[derive(Clone, Copy, Debug)]
+pub struct Asked<'a> {
+    pub call: Call<'a>,
+    pub hints: Option<&'a str>,
 }
 
 /// The most threads that `run` may be asked for.
@@ -327,6 +335,27 @@ fn top_command<'a>(alloc: Global) -> Command<'a>
         .subcommand_required(true)
 }
 
+// The option that each subcommand has.
+fn hints_arg<'a>(alloc: Global) -> Arg<'a>
+    ensures { (rule_of result ≡ hints_rule) × (result.global ≡ false) }
+{
+    option_arg(
+        alloc,
+        "hints",
+        "auto: tell on standard error how to mend a network file; never: do not",
+    )
+}
+
+// A subcommand that was made, with that option.
+fn with_hints<'a>(
+    alloc: Global,
+    subcommand: Result<Command<'a>, AllocError>,
+) -> Result<Command<'a>, AllocError>
+    ensures { IfOk result (WithHints subcommand.entry) }
+{
+    subcommand?.arg(hints_arg(alloc))
+}
+
 // A command with a subcommand that was made, if there was memory for both.
 fn with_made<'a>(
     command: Command<'a>,
@@ -340,17 +369,17 @@ fn with_made<'a>(
 fn swcheck_command<'a>(alloc: Global) -> Result<Command<'a>, AllocError>
     ensures { IfOk result (λ c. app_of c ≡ swcheck_app) }
 {
-    let command = with_made(top_command(alloc), route_command(alloc))?;
-    let command = with_made(command, decide_command(alloc))?;
-    let command = with_made(command, check_command(alloc))?;
-    let command = with_made(command, report_command(alloc))?;
-    let command = with_made(command, replay_command(alloc))?;
-    let command = with_made(command, run_command(alloc))?;
-    let command = with_made(command, migrate_command(alloc))?;
-    let command = with_made(command, explain_command(alloc))?;
-    let command = with_made(command, draw_command(alloc))?;
-    let command = with_made(command, rmap_command(alloc))?;
-    with_made(command, witness_command(alloc))
+    let command = with_made(top_command(alloc), with_hints(alloc, route_command(alloc)))?;
+    let command = with_made(command, with_hints(alloc, decide_command(alloc)))?;
+    let command = with_made(command, with_hints(alloc, check_command(alloc)))?;
+    let command = with_made(command, with_hints(alloc, report_command(alloc)))?;
+    let command = with_made(command, with_hints(alloc, replay_command(alloc)))?;
+    let command = with_made(command, with_hints(alloc, run_command(alloc)))?;
+    let command = with_made(command, with_hints(alloc, migrate_command(alloc)))?;
+    let command = with_made(command, with_hints(alloc, explain_command(alloc)))?;
+    let command = with_made(command, with_hints(alloc, draw_command(alloc)))?;
+    let command = with_made(command, with_hints(alloc, rmap_command(alloc)))?;
+    with_made(command, with_hints(alloc, witness_command(alloc)))
 }
 
 // How an error of clap's is told. That of a growth that was refused is told as any other such.
@@ -472,16 +501,20 @@ fn call_of<'a>(name: &str, values: &ArgMatches<'a>) -> Option<Call<'a>>
     }
 }
 
-fn matched_call<'a>(matches: &ArgMatches<'a>) -> Option<Call<'a>>
+fn matched_call<'a>(matches: &ArgMatches<'a>) -> Option<Asked<'a>>
     ensures matched { IfSome result (IsMatched (subcommand_rows_of matches.now)) }
-    ensures none { IfNone result ((call : Call) → IsMatched (subcommand_rows_of matches.now) call → ⊥) }
+    ensures none { IfNone result ((asked : Asked) → IsMatched (subcommand_rows_of matches.now) asked → ⊥) }
 {
     let (name, values) = matches.subcommand()?;
-    call_of(name, values)
+    let call = call_of(name, values)?;
+    Some(Asked {
+        call,
+        hints: option_of(values, "hints"),
+    })
 }
 
 // What the words come to. Only a growth that was refused leaves that open.
-fn told<'a>(alloc: Global, words: &'a [&'a str]) -> Result<Result<Call<'a>, WordsFault>, AllocError>
+fn told<'a>(alloc: Global, words: &'a [&'a str]) -> Result<Result<Asked<'a>, WordsFault>, AllocError>
     ensures { IfOk result (Tells (map (λ s. s.now) words.entry.now)) }
 {
     let command = swcheck_command(alloc)?;
@@ -491,12 +524,12 @@ fn told<'a>(alloc: Global, words: &'a [&'a str]) -> Result<Result<Call<'a>, Word
     }
 }
 
-/// The call that the words ask for; they begin with the program's name.
+/// What the words ask for; they begin with the program's name.
 ///
 /// # Errors
 ///
 /// Help was asked for, or the words are refused, each with the text to print; or a growth was refused.
-pub fn words<'a>(alloc: Global, words: &'a [&'a str]) -> Result<Call<'a>, WordsFault>
+pub fn words<'a>(alloc: Global, words: &'a [&'a str]) -> Result<Asked<'a>, WordsFault>
     ensures call { IfOk result (Gives (map (λ s. s.now) words.entry.now)) }
     ensures fault { IfErr result (Refuses (map (λ s. s.now) words.entry.now)) }
 {

@@ -3,4 +3,4 @@
 
 mod command_line;
 
-pub use command_line::{Call, REFUSED, WordsFault, words};
+pub use command_line::{Asked, Call, REFUSED, WordsFault, words};
