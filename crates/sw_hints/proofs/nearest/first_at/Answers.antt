@@ -1,4 +1,4 @@
-use Rattle.std.proofs.Common.{◌≡◌, ◌<◌, Bor, false, get_or, length, rules}
+use Rattle.std.proofs.Common.{◌≡◌, ◌<◌, [], false, get_or, length, rules}
 use Rattle.sw_hints.specs.Nearest.{is_near}
 use Rattle.sw_hints.proofs.Firsts.{none_still}
 use Rattle.sw_hints.proofs.nearest.first_at.Goals as goal

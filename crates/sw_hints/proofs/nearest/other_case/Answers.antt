@@ -1,4 +1,4 @@
-use Rattle.std.proofs.Common.{◌≡◌, ◌<◌, Bor, false, get_or, length, rules, sym, true}
+use Rattle.std.proofs.Common.{◌≡◌, ◌<◌, [], false, get_or, length, rules, sym, true}
 use Rattle.std.specs.Str.{str_eq_ignore_ascii_case}
 use Rattle.sw_hints.proofs.Firsts.{first_here, none_still}
 use Rattle.sw_hints.proofs.nearest.other_case.Goals as goal

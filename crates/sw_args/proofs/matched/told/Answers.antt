@@ -1,7 +1,7 @@
 use Rattle.std.proofs.Common.{List, ℕ, map, Bor}
 use Rattle.sw_args.proofs.Called.{matched}
 use Rattle.sw_args.proofs.CommandLines.{gives, is_asked, matched_rows, refuses}
-use Rattle.sw_args.proofs.command_line.told.Goals as goal
+use Rattle.sw_args.proofs.matched.told.Goals as goal
 
 pub unwrap-requires : goal.unwrap-requires
 unwrap-requires c =
