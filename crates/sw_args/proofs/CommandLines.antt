@@ -110,5 +110,5 @@ with_made old new made a b first each (sub, is, adds) =
 -- a subcommand that was made, with the option `--hints`
 pub hinted : (made new : Result Command AllocError) (b : App) → IfOk made (IsMade b) → IfOk new (WithHints made) → IfOk new (IsMade (with_hints b))
 hinted made (Err e) b is adds = tt
-hinted made (Ok new) b is (old, arg, made_is, rule, local, adds) =
-    with_argument old arg new b hints_rule (subst (λ (m : Result Command AllocError). IfOk m (IsMade b)) made_is is) (rule, local) adds
+hinted made (Ok new) b is (old, made_is, adds) =
+    with_argument old adds.arg new b hints_rule (subst (λ (m : Result Command AllocError). IfOk m (IsMade b)) made_is is) (adds.rule, adds.local) adds.adds

@@ -135,9 +135,16 @@ swcheck_app =
     (with_hints rmap_app).top)
     (with_hints witness_app).top
 
--- the command was made, and has the option `--hints`
+-- a command with the option `--hints` besides
+pub record AddsHints (old new : Command) : Type 0 where
+  pub arg : Arg
+  pub rule : rule_of arg ≡ hints_rule
+  pub local : arg.global ≡ false
+  pub adds : AddsArg old arg new
+
+-- the command was made, and has that option besides
 abbrev pub WithHints : Result Command AllocError → Command → Type 0
-WithHints made new = (command : Command) × (arg : Arg) × (made ≡ Ok command) × (rule_of arg ≡ hints_rule) × (arg.global ≡ false) × AddsArg command arg new
+WithHints made new = (command : Command) × (made ≡ Ok command) × AddsHints command new
 
 -- the command has a subcommand that was made
 abbrev pub WithMade : Command → Result Command AllocError → Command → Type 0

@@ -3,7 +3,7 @@ ghost use Rattle.std.specs.Prelude.{◌≡◌, ◌<◌, ◌^◌, ℕ, option_map
 ghost use Rattle.clap.specs.Words.{app_of, first_of, found_of, kind_of, rows_of, rule_of};
 ghost use Rattle.clap.specs.declared.builder.Command.TheViews.{out-Command};
 ghost use Rattle.sw_args.specs.declared.command_line.WordsFault.TheVariants.{Memory};
-ghost use Rattle.sw_args.specs.CommandLine.{check_app, count_rule, decide_app, draw_app, explain_app, flag_rule, migrate_app, option_rule, replay_app, report_app, required_value, rmap_app, route_app, run_app, swcheck_app, top_app, witness_app, hints_rule, IsCount, IsOption, IsSet, SaysNumber, ShowsKind, WithHints, WithMade};
+ghost use Rattle.sw_args.specs.CommandLine.{check_app, count_rule, decide_app, draw_app, explain_app, flag_rule, migrate_app, option_rule, replay_app, report_app, required_value, rmap_app, route_app, run_app, swcheck_app, top_app, witness_app, hints_rule, AddsHints, IsCount, IsOption, IsSet, SaysNumber, ShowsKind, WithHints, WithMade};
 
 use clap::error::ErrorKind;
 use clap::{Arg, ArgAction, ArgMatches, Command};
@@ -344,14 +344,21 @@ fn hints_arg<'a>(alloc: Global) -> Arg<'a>
     )
 }
 
-// A subcommand that was made, with that option.
+// A subcommand with that option.
+fn with_hints_arg<'a>(alloc: Global, subcommand: Command<'a>) -> Result<Command<'a>, AllocError>
+    ensures { IfOk result (AddsHints subcommand.entry) }
+{
+    subcommand.arg(hints_arg(alloc))
+}
+
+// The same, if there was memory for the subcommand.
 fn with_hints<'a>(
     alloc: Global,
     subcommand: Result<Command<'a>, AllocError>,
 ) -> Result<Command<'a>, AllocError>
     ensures { IfOk result (WithHints subcommand.entry) }
 {
-    subcommand?.arg(hints_arg(alloc))
+    with_hints_arg(alloc, subcommand?)
 }
 
 // A command with a subcommand that was made, if there was memory for both.

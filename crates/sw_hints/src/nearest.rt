@@ -6,11 +6,17 @@ ghost use Rattle.sw_hints.specs.Nearest.{is_near, like, nearest};
 use std::alloc::{AllocError, Global};
 use strsim::levenshtein;
 
+/// The most bytes of a name that is compared: no key and no name has so many.
+const MOST_COMPARED: usize = 64;
+
 // Whether so many single changes lead from one text to the other, and not all of the text is changed.
 fn is_near(alloc: Global, name: &str, count: usize, text: &str) -> Result<bool, AllocError>
     ensures { IfOk result (λ b. b ≡ is_near name.now count text.now) }
 {
     if count >= name.len() {
+        return Ok(false);
+    }
+    if name.len() > MOST_COMPARED {
         return Ok(false);
     }
     Ok(levenshtein(alloc, name, text)? == count)
