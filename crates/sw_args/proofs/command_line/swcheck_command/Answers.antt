@@ -1,5 +1,5 @@
 use Rattle.std.proofs.lemmas.Result.{IfOk-weaker}
-use Rattle.sw_args.specs.CommandLine.{check_app, decide_app, draw_app, explain_app, migrate_app, replay_app, report_app, rmap_app, route_app, run_app, top_app, witness_app}
+use Rattle.sw_args.specs.CommandLine.{check_app, decide_app, draw_app, explain_app, migrate_app, replay_app, report_app, rmap_app, route_app, run_app, top_app, with_hints, witness_app}
 use Rattle.sw_args.proofs.CommandLines.{hinted, with_made}
 use Rattle.sw_args.proofs.command_line.swcheck_command.Goals as goal
 
