@@ -13,17 +13,17 @@ _swcheck() {
     for it in "${COMP_WORDS[@]:1:COMP_CWORD-1}"; do
         if [ -z "$command" ]; then
             case $it in
-                route) command=$it options='-h --help' valued='' kinds=('file .toml' 'none') ;;
-                decide) command=$it options='-h --help' valued='' kinds=('file .toml') ;;
-                check) command=$it options='-h --help' valued='' kinds=('file .toml' 'file .cert') ;;
-                report) command=$it options='-h --help' valued='' kinds=('file .toml') ;;
-                replay) command=$it options='-h --help' valued='' kinds=('file .toml' 'file .schedule') ;;
-                run) command=$it options='--workers --limit -h --help' valued='--workers --limit' kinds=('file .toml' 'file .load') ;;
+                route) command=$it options='--hints -h --help' valued='--hints' kinds=('file .toml' 'none') ;;
+                decide) command=$it options='--hints -h --help' valued='--hints' kinds=('file .toml') ;;
+                check) command=$it options='--hints -h --help' valued='--hints' kinds=('file .toml' 'file .cert') ;;
+                report) command=$it options='--hints -h --help' valued='--hints' kinds=('file .toml') ;;
+                replay) command=$it options='--hints -h --help' valued='--hints' kinds=('file .toml' 'file .schedule') ;;
+                run) command=$it options='--workers --limit --hints -h --help' valued='--workers --limit --hints' kinds=('file .toml' 'file .load') ;;
                 migrate) command=$it options='-h --help' valued='' kinds=('file .toml') ;;
-                explain) command=$it options='--all -h --help' valued='' kinds=('file .toml') ;;
-                draw) command=$it options='--flow --cycle --numbers -h --help' valued='--flow' kinds=('file .toml') ;;
-                rmap) command=$it options='--no-ack --transaction -h --help' valued='--transaction' kinds=('file .toml' 'none' 'texts read write' 'none' 'none') ;;
-                witness) command=$it options='--tries --seed -h --help' valued='--tries --seed' kinds=('file .toml') ;;
+                explain) command=$it options='--all --hints -h --help' valued='--hints' kinds=('file .toml') ;;
+                draw) command=$it options='--flow --cycle --numbers --hints -h --help' valued='--flow --hints' kinds=('file .toml') ;;
+                rmap) command=$it options='--no-ack --transaction --hints -h --help' valued='--transaction --hints' kinds=('file .toml' 'none' 'texts read write' 'none' 'none') ;;
+                witness) command=$it options='--tries --seed --hints -h --help' valued='--tries --seed --hints' kinds=('file .toml') ;;
                 help) command=$it options='-h --help' valued='' kinds=('texts route decide check report replay run migrate explain draw rmap witness help') ;;
                 -*) ;;
                 *) return ;;
@@ -48,6 +48,16 @@ _swcheck() {
         kind=none
         options=''
         case $command$last in
+            route--hints) kind='file' ;;
+            decide--hints) kind='file' ;;
+            check--hints) kind='file' ;;
+            report--hints) kind='file' ;;
+            replay--hints) kind='file' ;;
+            run--hints) kind='file' ;;
+            explain--hints) kind='file' ;;
+            draw--hints) kind='file' ;;
+            rmap--hints) kind='file' ;;
+            witness--hints) kind='file' ;;
             *) ;;
         esac
     else

@@ -10,6 +10,7 @@ use Rattle.clap.specs.Kinds.{check_kinds}
 use Rattle.clap.specs.Simple.{App, Shape, argument_words, built, entered, label_of, names_of, rows_at, subcommand_of}
 use Rattle.clap.specs.Walk.{Row, Text, answers_to, finished, first_of, nothing_held, rows_after, settled, stop_after, walk, walk_from}
 use Rattle.sw_args.specs.CommandLine.{IsCallOf, IsMatched, swcheck_app}
+use Rattle.sw_args.specs.declared.command_line.Asked.{Asked}
 use Rattle.sw_args.specs.declared.command_line.Call.{Call}
 use Rattle.sw_args.specs.declared.command_line.Call.TheVariants.{Route, Decide, Check, Report, Replay, Run, Migrate, Explain, Draw, Rmap, Witness}
 use Rattle.sw_args.proofs.Kept.{Each, first_none, found_in, then_none}
@@ -150,16 +151,17 @@ no_help s named none name is other words e = go s.aliases none is
     go [] empty f = either (bytes_eq s.name name) refl f
     go (x ∷ xs) empty f = absurd cc
 
-pub called : (words : List Text) → fault_of swcheck_app words ≡ [] → (call : Call) × IsMatched (subcommand_of swcheck_app words) call
+pub called : (words : List Text) → fault_of swcheck_app words ≡ [] → (asked : Asked) × IsMatched (subcommand_of swcheck_app words) asked
 called words e =
     let found = found_call (built swcheck_app) (argument_words swcheck_app words) refl refl
     (route_call, (decide_call, (check_call, (report_call, (replay_call, (run_call, (migrate_call, (explain_call, (draw_call, (rmap_call, (witness_call, (no_help _ refl refl, tt)))))))))))) e in
-    (found.3.0, (found.0, found.1, found.2, found.3.1))
+    let hints = some_option (first_of (codes "hints") found.1) in
+    (record { call = found.3.0; hints = hints.0 }, (found.0, found.1, found.2, found.3.1, hints.1))
 
 -- what was matched is a call where the words are one
-pub matched : (found : Option (Text × List Row)) (words : List Text) (o : Option Call) → found ≡ subcommand_of swcheck_app words → fault_of swcheck_app words ≡ []
-    → IfNone o ((call : Call) → IsMatched found call → ⊥) → IsSome o
-matched found words (Some call) same e none = refl
+pub matched : (found : Option (Text × List Row)) (words : List Text) (o : Option Asked) → found ≡ subcommand_of swcheck_app words → fault_of swcheck_app words ≡ []
+    → IfNone o ((asked : Asked) → IsMatched found asked → ⊥) → IsSome o
+matched found words (Some asked) same e none = refl
 matched found words None same e none =
-    let call = called words e in
-    absurd (none call.0 (rw same call.1))
+    let asked = called words e in
+    absurd (none asked.0 (rw same asked.1))

@@ -12,10 +12,10 @@ use Rattle.clap.specs.declared.builder.Command.TheViews.{out-Command}
 use Rattle.clap.specs.declared.builder.command.Command.TheOpen.{Command-F}
 use Rattle.clap.specs.declared.parser.matches.ArgMatches.{ArgMatches}
 use Rattle.clap.specs.declared.error.Error.{Error}
-use Rattle.sw_args.specs.declared.command_line.Call.{Call}
+use Rattle.sw_args.specs.declared.command_line.Asked.{Asked}
 use Rattle.sw_args.specs.declared.command_line.WordsFault.{WordsFault}
 use Rattle.sw_args.specs.declared.command_line.WordsFault.TheVariants.{Help, Refused, Memory}
-use Rattle.sw_args.specs.CommandLine.{swcheck_app, Gives, IsMatched, Refuses, ShowsKind, Tells, WithMade}
+use Rattle.sw_args.specs.CommandLine.{hints_rule, swcheck_app, with_hints, Gives, IsMatched, Refuses, ShowsKind, Tells, WithHints, WithMade}
 
 swcheck_simple : is_simple swcheck_app ≡ true
 swcheck_simple = refl
@@ -33,13 +33,13 @@ matched_rows app words m is found free =
     )
 
 -- a call of the matches is one of the words
-pub gives : (app : App) (words : List (List ℕ)) (m : ArgMatches) (call : Call) → app ≡ swcheck_app
+pub gives : (app : App) (words : List (List ℕ)) (m : ArgMatches) (asked : Asked) → app ≡ swcheck_app
     → HasMatchesOf app words m → (is_simple_and_free app ≡ true → fault_of app words ≡ [])
-    → IsMatched (subcommand_rows_of m) call → Gives words call
-gives app words m call is found free (name, values, met, is_call) =
+    → IsMatched (subcommand_rows_of m) asked → Gives words asked
+gives app words m asked is found free (name, values, met, is_call, is_hints) =
     let simple : is_simple app ≡ true = ap is_simple is ∙ swcheck_simple in
     let same = ap (λ (a : App). subcommand_of a words) (sym is) ∙ sym (found simple).1 in
-    (ap (λ (a : App). fault_of a words) (sym is) ∙ free (ap is_simple_and_free is ∙ swcheck_free), (name, values, same ∙ met, is_call))
+    (ap (λ (a : App). fault_of a words) (sym is) ∙ free (ap is_simple_and_free is ∙ swcheck_free), (name, values, same ∙ met, is_call, is_hints))
 
 among : (app : App) (words : List (List ℕ)) (e : Error) → app ≡ swcheck_app
     → (is_simple_and_free app ≡ true → HasKind (fault_of app words) e) → HasKind (fault_of swcheck_app words) e
@@ -47,20 +47,20 @@ among app words e is has =
     subst (λ (a : App). HasKind (fault_of a words) e) is (has (ap is_simple_and_free is ∙ swcheck_free))
 
 -- what was told is the call, or the fault
-pub calls : (words : List (List ℕ)) (told : Result Call WordsFault) → Tells words told → IfOk told (Gives words)
-calls words (Ok call) tells = tells
+pub calls : (words : List (List ℕ)) (told : Result Asked WordsFault) → Tells words told → IfOk told (Gives words)
+calls words (Ok asked) tells = tells
 calls words (Err f) tells = tt
 
-pub faults : (words : List (List ℕ)) (told : Result Call WordsFault) → Tells words told → IfErr told (Refuses words)
-faults words (Ok call) tells = tt
+pub faults : (words : List (List ℕ)) (told : Result Asked WordsFault) → Tells words told → IfErr told (Refuses words)
+faults words (Ok asked) tells = tt
 faults words (Err (Help text)) tells = tells
 faults words (Err (Refused text)) tells = tells
 faults words (Err Memory) tells = tt
 
--- the call of an option that has one
-pub is_call : (P : Call → Type 0) (o : Option Call) (call : Call) → IfSome o P → o ≡ Some call → P call
-is_call P None call each is = absurd cc
-is_call P (Some x) call each is = subst P (ap (λ (o : Option Call). unwrap_or o x) is) each
+-- what the words of an option ask for, where it has some
+pub is_asked : (P : Asked → Type 0) (o : Option Asked) (asked : Asked) → IfSome o P → o ≡ Some asked → P asked
+is_asked P None asked each is = absurd cc
+is_asked P (Some x) asked each is = subst P (ap (λ (o : Option Asked). unwrap_or o x) is) each
 
 -- the fault that tells of an error of clap's tells of one that the words have
 pub refuses : (app : App) (words : List (List ℕ)) (e : Error) (f : WordsFault) → app ≡ swcheck_app
@@ -106,3 +106,9 @@ pub with_made : (old new : Command) (made : Result Command AllocError) (a b : Ap
     → IfOk made (λ c. (app_of c ≡ b) × ((out-Command c).has_globals ≡ false)) → WithMade old made new → app_of new ≡ with_subcommand a b.top
 with_made old new made a b first each (sub, is, adds) =
     with_added old sub new a b first (subst (λ (m : Result Command AllocError). IfOk m (λ c. (app_of c ≡ b) × ((out-Command c).has_globals ≡ false))) is each) adds
+
+-- a subcommand that was made, with the option `--hints`
+pub hinted : (made new : Result Command AllocError) (b : App) → IfOk made (IsMade b) → IfOk new (WithHints made) → IfOk new (IsMade (with_hints b))
+hinted made (Err e) b is adds = tt
+hinted made (Ok new) b is (old, made_is, adds) =
+    with_argument old adds.arg new b hints_rule (subst (λ (m : Result Command AllocError). IfOk m (IsMade b)) made_is is) (adds.rule, adds.local) adds.adds

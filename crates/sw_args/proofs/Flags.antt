@@ -1,5 +1,5 @@
 -- Whether an option without a value was given.
-use Rattle.std.proofs.Common.{◌≡◌, ◌↔◌, ◌∙◌, Bool, List, ℕ, Option, Some, None, true, false, true≢false, refl, sym, ap, codes}
+use Rattle.std.proofs.Common.{◌≡◌, ◌∙◌, Bool, List, ℕ, Option, Some, None, true, false, true≢false, refl, sym, ap, codes}
 use Rattle.std.specs.Prelude.{Ok, Err, Result}
 use Rattle.std.specs.Option.{unwrap_or}
 use Rattle.std.specs.Str.{bytes_eq}

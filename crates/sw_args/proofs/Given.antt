@@ -89,6 +89,9 @@ flag_at i name = with_index i (filled (flag_rule name))
 abbrev pub option_at : ℕ → Text → Rule
 option_at i name = with_index i (filled (option_rule name))
 
+abbrev pub hints_at : ℕ → Rule
+hints_at i = option_at i (codes "hints")
+
 abbrev pub help_at : ℕ → Rule
 help_at i = with_index i (filled help_rule)
 
@@ -360,28 +363,28 @@ level_gives name rules words keeps defaults e =
 -- ---- each form of a subcommand
 
 abbrev pub file_rules : List Rule
-file_rules = required_at 1 (codes "FILE") ∷ help_at 2 ∷ []
+file_rules = required_at 1 (codes "FILE") ∷ hints_at 2 ∷ help_at 2 ∷ []
 
 abbrev pub flag_rules : Text → List Rule
-flag_rules name = required_at 1 (codes "FILE") ∷ flag_at 2 name ∷ help_at 2 ∷ []
+flag_rules name = required_at 1 (codes "FILE") ∷ flag_at 2 name ∷ hints_at 2 ∷ help_at 2 ∷ []
 
 abbrev pub draw_rules : List Rule
-draw_rules = required_at 1 (codes "FILE") ∷ option_at 2 (codes "flow") ∷ flag_at 2 (codes "cycle") ∷ flag_at 2 (codes "numbers") ∷ help_at 2 ∷ []
+draw_rules = required_at 1 (codes "FILE") ∷ option_at 2 (codes "flow") ∷ flag_at 2 (codes "cycle") ∷ flag_at 2 (codes "numbers") ∷ hints_at 2 ∷ help_at 2 ∷ []
 
 abbrev pub pair_rules : Text → List Rule
-pair_rules second = required_at 1 (codes "FILE") ∷ required_at 2 second ∷ help_at 3 ∷ []
+pair_rules second = required_at 1 (codes "FILE") ∷ required_at 2 second ∷ hints_at 3 ∷ help_at 3 ∷ []
 
 abbrev pub rmap_rules : List Rule
 rmap_rules = required_at 1 (codes "FILE") ∷ required_at 2 (codes "FLOW") ∷ required_at 3 (codes "ACTION") ∷ required_at 4 (codes "ADDRESS")
-    ∷ required_at 5 (codes "VALUE") ∷ flag_at 6 (codes "no-ack") ∷ option_at 6 (codes "transaction") ∷ help_at 6 ∷ []
+    ∷ required_at 5 (codes "VALUE") ∷ flag_at 6 (codes "no-ack") ∷ option_at 6 (codes "transaction") ∷ hints_at 6 ∷ help_at 6 ∷ []
 
 abbrev pub run_rules : List Rule
 run_rules = required_at 1 (codes "FILE") ∷ required_at 2 (codes "LOAD") ∷ count_at 3 (codes "workers") (codes "4") most_workers
-    ∷ count_at 3 (codes "limit") (codes "1000000") most_steps ∷ help_at 3 ∷ []
+    ∷ count_at 3 (codes "limit") (codes "1000000") most_steps ∷ hints_at 3 ∷ help_at 3 ∷ []
 
 abbrev pub witness_rules : List Rule
 witness_rules = required_at 1 (codes "FILE") ∷ count_at 2 (codes "tries") (codes "200") most_tries
-    ∷ count_at 2 (codes "seed") (codes "1") most_seed ∷ help_at 2 ∷ []
+    ∷ count_at 2 (codes "seed") (codes "1") most_seed ∷ hints_at 2 ∷ help_at 2 ∷ []
 
 -- a use of the argument, and its default, keep what the rows hold
 abbrev Sound : Rule → Type 0
@@ -400,6 +403,9 @@ option_sound i name plain = (option_keeps false i name (counts_nothing name AsWr
 
 count_sound : (i : ℕ) (name usual : Text) (most : ℕ) → ((v : Text) → IsSignedIn (pos 1) (pos most) v → Counts name WithoutMinus v) → Sound (count_at i name usual most)
 count_sound i name usual most counts = (count_keeps false i name usual most counts, count_default i name usual most counts)
+
+hints_sound : (i : ℕ) → Sound (hints_at i)
+hints_sound i = option_sound i (codes "hints") (refl, refl, refl, refl)
 
 help_sound : (i : ℕ) → Sound (help_at i)
 help_sound i = (help_keeps false i, help_default i)
@@ -424,13 +430,13 @@ HasFirst id rows = (v : Text) × (first_of id rows ≡ Some v)
 
 pub file_given : (name : Text) (words : List Text) → Level name file_rules words → HasFirst (codes "FILE") (rows_after file_rules [] words)
 file_given name words e =
-    let level = sound_gives name file_rules words (file_sound, (help_sound 2, tt)) e in
+    let level = sound_gives name file_rules words (file_sound, (hints_sound 2, (help_sound 2, tt))) e in
     given_value (codes "FILE") _ level.0 level.1.0
 
 pub flag_given : (name flag : Text) (words : List Text) → IsPlain flag → Level name (flag_rules flag) words
     → HasFirst (codes "FILE") (rows_after (flag_rules flag) [] words)
 flag_given name flag words plain e =
-    let level = sound_gives name (flag_rules flag) words (file_sound, (flag_sound 2 flag plain, (help_sound 2, tt))) e in
+    let level = sound_gives name (flag_rules flag) words (file_sound, (flag_sound 2 flag plain, (hints_sound 2, (help_sound 2, tt)))) e in
     given_value (codes "FILE") _ level.0 level.1.0
 
 pub draw_given : (name : Text) (words : List Text) → Level name draw_rules words → HasFirst (codes "FILE") (rows_after draw_rules [] words)
@@ -439,7 +445,7 @@ draw_given name words e =
       file_sound,
       (
         option_sound 2 (codes "flow") (refl, refl, refl, refl),
-        (flag_sound 2 (codes "cycle") (refl, refl, refl, refl), (flag_sound 2 (codes "numbers") (refl, refl, refl, refl), (help_sound 2, tt))),
+        (flag_sound 2 (codes "cycle") (refl, refl, refl, refl), (flag_sound 2 (codes "numbers") (refl, refl, refl, refl), (hints_sound 2, (help_sound 2, tt)))),
       ),
     ) e in
     given_value (codes "FILE") _ level.0 level.1.0
@@ -447,7 +453,7 @@ draw_given name words e =
 pub pair_given : (name second : Text) (words : List Text) → IsPlain second → Level name (pair_rules second) words
     → HasFirst (codes "FILE") (rows_after (pair_rules second) [] words) × HasFirst second (rows_after (pair_rules second) [] words)
 pair_given name second words plain e =
-    let level = sound_gives name (pair_rules second) words (file_sound, (required_sound 2 second plain, (help_sound 3, tt))) e in
+    let level = sound_gives name (pair_rules second) words (file_sound, (required_sound 2 second plain, (hints_sound 3, (help_sound 3, tt)))) e in
     (given_value (codes "FILE") _ level.0 level.1.0, given_value second _ level.0 level.1.1.0)
 
 pub rmap_given : (name : Text) (words : List Text) → Level name rmap_rules words
@@ -467,7 +473,7 @@ rmap_given name words e =
               required_sound 5 (codes "VALUE") (refl, refl, refl, refl),
               (
                 flag_sound 6 (codes "no-ack") (refl, refl, refl, refl),
-                (option_sound 6 (codes "transaction") (refl, refl, refl, refl), (help_sound 6, tt)),
+                (option_sound 6 (codes "transaction") (refl, refl, refl, refl), (hints_sound 6, (help_sound 6, tt))),
               ),
             ),
           ),
@@ -497,16 +503,16 @@ run_given name words e =
         required_sound 2 (codes "LOAD") (refl, refl, refl, refl),
         (
           count_sound 3 (codes "workers") (codes "4") most_workers workers_count,
-          (count_sound 3 (codes "limit") (codes "1000000") most_steps limit_counts, (help_sound 3, tt)),
+          (count_sound 3 (codes "limit") (codes "1000000") most_steps limit_counts, (hints_sound 3, (help_sound 3, tt))),
         ),
       ),
     ) e in (
       given_value (codes "FILE") _ level.0 level.1.0,
       given_value (codes "LOAD") _ level.0 level.1.1.0,
       given_count (codes "workers") most_workers _ level.0
-          (count_there (one ∷ two ∷ []) (four ∷ help_at 3 ∷ []) 3 (codes "workers") (codes "4") most_workers start) (λ id how v is counts. counts.0 is),
+          (count_there (one ∷ two ∷ []) (four ∷ hints_at 3 ∷ help_at 3 ∷ []) 3 (codes "workers") (codes "4") most_workers start) (λ id how v is counts. counts.0 is),
       given_count (codes "limit") most_steps _ level.0
-          (count_there (one ∷ two ∷ three ∷ []) (help_at 3 ∷ []) 3 (codes "limit") (codes "1000000") most_steps start) (λ id how v is counts. counts.1 is),
+          (count_there (one ∷ two ∷ three ∷ []) (hints_at 3 ∷ help_at 3 ∷ []) 3 (codes "limit") (codes "1000000") most_steps start) (λ id how v is counts. counts.1 is),
     )
 
 pub witness_given : (name : Text) (words : List Text) → Level name witness_rules words
@@ -522,12 +528,12 @@ witness_given name words e =
       file_sound,
       (
         count_sound 2 (codes "tries") (codes "200") most_tries tries_count,
-        (count_sound 2 (codes "seed") (codes "1") most_seed seed_counts, (help_sound 2, tt)),
+        (count_sound 2 (codes "seed") (codes "1") most_seed seed_counts, (hints_sound 2, (help_sound 2, tt))),
       ),
     ) e in (
       given_value (codes "FILE") _ level.0 level.1.0,
       given_count (codes "tries") most_tries _ level.0
-          (count_there (one ∷ []) (three ∷ help_at 2 ∷ []) 2 (codes "tries") (codes "200") most_tries start) (λ id how v is counts. counts.2 is),
+          (count_there (one ∷ []) (three ∷ hints_at 2 ∷ help_at 2 ∷ []) 2 (codes "tries") (codes "200") most_tries start) (λ id how v is counts. counts.2 is),
       given_count (codes "seed") most_seed _ level.0
-          (count_there (one ∷ two ∷ []) (help_at 2 ∷ []) 2 (codes "seed") (codes "1") most_seed start) (λ id how v is counts. counts.3 is),
+          (count_there (one ∷ two ∷ []) (hints_at 2 ∷ help_at 2 ∷ []) 2 (codes "seed") (codes "1") most_seed start) (λ id how v is counts. counts.3 is),
     )

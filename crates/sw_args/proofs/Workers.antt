@@ -1,21 +1,25 @@
 -- A run that the words ask for has a worker.
 use Rattle.std.proofs.Common.{List, Option, arith, ℕ}
 use Rattle.clap.specs.Words.{Row}
-use Rattle.sw_args.specs.CommandLine.{HasWorkers, IsMatched}
+use Rattle.sw_args.specs.CommandLine.{HasWorkers, IsCallOf, IsMatched}
+use Rattle.sw_args.specs.declared.command_line.Asked.{Asked}
 use Rattle.sw_args.specs.declared.command_line.Call.{Call}
 use Rattle.sw_args.specs.declared.command_line.Call.TheVariants.{Route, Decide, Check, Report, Replay, Run, Migrate, Explain, Draw, Rmap, Witness}
 
-pub matched_workers : (found : Option (List ℕ × List Row)) (call : Call) → IsMatched found call → HasWorkers call
-matched_workers found (Run file load workers limit) (name, values, met, (called, is_file, is_load, is_workers, is_limit)) =
+call_workers : (name : List ℕ) (values : List Row) (call : Call) → IsCallOf name values call → HasWorkers call
+call_workers name values (Run file load workers limit) (called, is_file, is_load, is_workers, is_limit) =
     let least = is_workers.1 in
     omega (arith, least)
-matched_workers found (Route file flow) matched = tt
-matched_workers found (Decide file) matched = tt
-matched_workers found (Check file certificate) matched = tt
-matched_workers found (Report file) matched = tt
-matched_workers found (Replay file schedule) matched = tt
-matched_workers found (Migrate file) matched = tt
-matched_workers found (Explain file all) matched = tt
-matched_workers found (Draw file flow cycle numbers) matched = tt
-matched_workers found (Rmap file flow action address value unacknowledged transaction) matched = tt
-matched_workers found (Witness file tries seed) matched = tt
+call_workers name values (Route file flow) is = tt
+call_workers name values (Decide file) is = tt
+call_workers name values (Check file certificate) is = tt
+call_workers name values (Report file) is = tt
+call_workers name values (Replay file schedule) is = tt
+call_workers name values (Migrate file) is = tt
+call_workers name values (Explain file all) is = tt
+call_workers name values (Draw file flow cycle numbers) is = tt
+call_workers name values (Rmap file flow action address value unacknowledged transaction) is = tt
+call_workers name values (Witness file tries seed) is = tt
+
+pub matched_workers : (found : Option (List ℕ × List Row)) (asked : Asked) → IsMatched found asked → HasWorkers asked.call
+matched_workers found asked (name, values, met, is_call, is_hints) = call_workers name values asked.call is_call

@@ -1,15 +1,17 @@
 -- The words that the program takes.
-use Rattle.std.specs.Prelude.{◌≡◌, ◌≢◌, ◌≤◌, ◌<◌, ◌⊎◌, ◌↔◌, ℕ, Bool, List, [], ◌∷◌, Option, Some, codes, option_map, pos, true, Result, Ok, Err}
+use Rattle.std.specs.Prelude.{◌≡◌, ◌≢◌, ◌≤◌, ◌<◌, ◌⊎◌, ◌↔◌, ℕ, Bool, List, [], ◌∷◌, Option, Some, codes, false, option_map, pos, true, Result, Ok, Err}
 use Rattle.std.specs.Borrow.{Bor}
 use Rattle.std.specs.declared.alloc.AllocError.{AllocError}
-use Rattle.clap.specs.Built.{AddsSubcommand}
+use Rattle.clap.specs.Built.{AddsArg, AddsSubcommand}
+use Rattle.clap.specs.declared.builder.arg.Arg.{Arg}
 use Rattle.clap.specs.declared.builder.command.Command.{Command}
 use Rattle.std.specs.Str.Parse.{IsNumeral, digits_value, without_leading_plus}
-use Rattle.clap.specs.Words.{App, Row, Rule, IsAmong, fault_of, first_of, new_app, new_rule, one_of, subcommand_of, with_rule, with_subcommand}
+use Rattle.clap.specs.Words.{App, Row, Rule, IsAmong, fault_of, first_of, new_app, new_rule, one_of, rule_of, subcommand_of, with_rule, with_subcommand}
 use Rattle.clap.specs.declared.builder.action.ArgAction.TheVariants.{SetTrue}
 use Rattle.clap.specs.declared.builder.value_parser.ValueParser.TheVariants.{Signed}
 use Rattle.clap.specs.declared.error.kind.ErrorKind.{ErrorKind}
 use Rattle.clap.specs.declared.error.kind.ErrorKind.TheVariants.{DisplayHelp, DisplayVersion, OutOfMemory}
+use Rattle.sw_args.specs.declared.command_line.Asked.{Asked}
 use Rattle.sw_args.specs.declared.command_line.Call.{Call}
 use Rattle.sw_args.specs.declared.command_line.Call.TheVariants.{Route, Decide, Check, Report, Replay, Run, Migrate, Explain, Draw, Rmap, Witness}
 use Rattle.sw_args.specs.declared.command_line.WordsFault.{WordsFault}
@@ -106,6 +108,13 @@ witness_app = with_rule (with_rule (with_rule (new_app (codes "witness")) (requi
     (count_rule (codes "tries") (codes "200") most_tries))
     (count_rule (codes "seed") (codes "1") most_seed)
 
+-- `--hints VALUE`, of each subcommand
+abbrev pub hints_rule : Rule
+hints_rule = option_rule (codes "hints")
+
+abbrev pub with_hints : App → App
+with_hints app = with_rule app hints_rule
+
 -- `swcheck`, which asks for a subcommand
 abbrev pub top_app : App
 top_app = let a = new_app (codes "swcheck") in record a { top = record a.top { subcommand_required = true } }
@@ -114,17 +123,28 @@ top_app = let a = new_app (codes "swcheck") in record a { top = record a.top { s
 abbrev pub swcheck_app : App
 swcheck_app =
     with_subcommand (with_subcommand (with_subcommand (with_subcommand (with_subcommand (with_subcommand (with_subcommand (with_subcommand (with_subcommand (with_subcommand (with_subcommand top_app
-    route_app.top)
-    decide_app.top)
-    check_app.top)
-    report_app.top)
-    replay_app.top)
-    run_app.top)
-    migrate_app.top)
-    explain_app.top)
-    draw_app.top)
-    rmap_app.top)
-    witness_app.top
+    (with_hints route_app).top)
+    (with_hints decide_app).top)
+    (with_hints check_app).top)
+    (with_hints report_app).top)
+    (with_hints replay_app).top)
+    (with_hints run_app).top)
+    (with_hints migrate_app).top)
+    (with_hints explain_app).top)
+    (with_hints draw_app).top)
+    (with_hints rmap_app).top)
+    (with_hints witness_app).top
+
+-- a command with the option `--hints` besides
+pub record AddsHints (old new : Command) : Type 0 where
+  pub arg : Arg
+  pub rule : rule_of arg ≡ hints_rule
+  pub local : arg.global ≡ false
+  pub adds : AddsArg old arg new
+
+-- the command was made, and has that option besides
+abbrev pub WithHints : Result Command AllocError → Command → Type 0
+WithHints made new = (command : Command) × (made ≡ Ok command) × AddsHints command new
 
 -- the command has a subcommand that was made
 abbrev pub WithMade : Command → Result Command AllocError → Command → Type 0
@@ -201,13 +221,14 @@ HasWorkers (Draw file flow cycle numbers) = Unit {0}
 HasWorkers (Rmap file flow action address value unacknowledged transaction) = Unit {0}
 HasWorkers (Witness file tries seed) = Unit {0}
 
--- the subcommand that was met, with its values, is this call
-abbrev pub IsMatched : Option (List ℕ × List Row) → Call → Type 0
-IsMatched found call = (name : List ℕ) × (values : List Row) × (found ≡ Some (name, values)) × IsCallOf name values call
+-- the subcommand that was met, with its values, is this call, and what was given at `--hints`
+abbrev pub IsMatched : Option (List ℕ × List Row) → Asked → Type 0
+IsMatched found asked =
+    (name : List ℕ) × (values : List Row) × (found ≡ Some (name, values)) × IsCallOf name values asked.call × IsOption (codes "hints") values asked.hints
 
 -- clap's own matches of the words have no error, and the call's subcommand and values
-abbrev pub Gives : List (List ℕ) → Call → Type 0
-Gives words call = (fault_of swcheck_app words ≡ []) × IsMatched (subcommand_of swcheck_app words) call
+abbrev pub Gives : List (List ℕ) → Asked → Type 0
+Gives words asked = (fault_of swcheck_app words ≡ []) × IsMatched (subcommand_of swcheck_app words) asked
 
 -- the status that the program exits with
 abbrev pub words_status : WordsFault → ℕ
@@ -228,8 +249,8 @@ Refuses words (Help text) = (kind : ErrorKind) × IsAmong kind (fault_of swcheck
 Refuses words (Refused text) = (kind : ErrorKind) × IsAmong kind (fault_of swcheck_app words) × ShowsKind kind (Refused text)
 
 -- what the words come to where no growth was refused: a call, or a fault that is none of memory
-abbrev pub Tells : List (List ℕ) → Result Call WordsFault → Type 0
-Tells words (Ok call) = Gives words call
+abbrev pub Tells : List (List ℕ) → Result Asked WordsFault → Type 0
+Tells words (Ok asked) = Gives words asked
 Tells words (Err (Help text)) = Refuses words (Help text)
 Tells words (Err (Refused text)) = Refuses words (Refused text)
 Tells words (Err Memory) = ⊥

@@ -1,10 +1,9 @@
 //! The words of the command line.
-ghost use Rattle.std.specs.Prelude.{◌≡◌, ◌<◌, ◌^◌, ℕ, map, option_map, true, false, IfOk, IfErr, IfNone, IfSome};
-ghost use Rattle.clap.specs.Words.{app_of, first_of, found_of, kind_of, rows_of, rule_of, subcommand_rows_of};
+ghost use Rattle.std.specs.Prelude.{◌≡◌, ◌<◌, ◌^◌, ℕ, option_map, true, false, IfOk, IfNone, IfSome};
+ghost use Rattle.clap.specs.Words.{app_of, first_of, found_of, kind_of, rows_of, rule_of};
 ghost use Rattle.clap.specs.declared.builder.Command.TheViews.{out-Command};
-ghost use Rattle.sw_args.specs.declared.command_line.Call.{Call};
 ghost use Rattle.sw_args.specs.declared.command_line.WordsFault.TheVariants.{Memory};
-ghost use Rattle.sw_args.specs.CommandLine.{check_app, count_rule, decide_app, draw_app, explain_app, flag_rule, migrate_app, option_rule, replay_app, report_app, required_value, rmap_app, route_app, run_app, swcheck_app, top_app, witness_app, Gives, IsCallOf, IsCount, IsMatched, IsOption, IsSet, Refuses, SaysNumber, ShowsKind, Tells, WithMade};
+ghost use Rattle.sw_args.specs.CommandLine.{check_app, count_rule, decide_app, draw_app, explain_app, flag_rule, migrate_app, option_rule, replay_app, report_app, required_value, rmap_app, route_app, run_app, swcheck_app, top_app, witness_app, hints_rule, AddsHints, IsCount, IsOption, IsSet, SaysNumber, ShowsKind, WithHints, WithMade};
 
 use clap::error::ErrorKind;
 use clap::{Arg, ArgAction, ArgMatches, Command};
@@ -79,17 +78,24 @@ pub enum Call<'a> {
     },
 }
 
+/// What the words ask for: a call, and what was given at `--hints`.
+#[derive(Clone, Copy, Debug)]
+pub struct Asked<'a> {
+    pub call: Call<'a>,
+    pub hints: Option<&'a str>,
+}
+
 /// The most threads that `run` may be asked for.
-const MOST_WORKERS: u32 = 64;
+pub(crate) const MOST_WORKERS: u32 = 64;
 
 /// The most steps that `run` may be asked for.
-const MOST_STEPS: u32 = 16_777_216;
+pub(crate) const MOST_STEPS: u32 = 16_777_216;
 
 /// The most tries of a search.
-const MOST_TRIES: u32 = 1_000_000;
+pub(crate) const MOST_TRIES: u32 = 1_000_000;
 
 /// The greatest number that a search may begin with.
-const MOST_SEED: u32 = 4_294_967_295;
+pub(crate) const MOST_SEED: u32 = 4_294_967_295;
 
 /// The status of words that are refused.
 pub const REFUSED: u8 = 2;
@@ -327,6 +333,34 @@ fn top_command<'a>(alloc: Global) -> Command<'a>
         .subcommand_required(true)
 }
 
+// The option that each subcommand has.
+fn hints_arg<'a>(alloc: Global) -> Arg<'a>
+    ensures { (rule_of result ≡ hints_rule) × (result.global ≡ false) }
+{
+    option_arg(
+        alloc,
+        "hints",
+        "auto: tell on standard error how to mend a network file; never: do not",
+    )
+}
+
+// A subcommand with that option.
+fn with_hints_arg<'a>(alloc: Global, subcommand: Command<'a>) -> Result<Command<'a>, AllocError>
+    ensures { IfOk result (AddsHints subcommand.entry) }
+{
+    subcommand.arg(hints_arg(alloc))
+}
+
+// The same, if there was memory for the subcommand.
+fn with_hints<'a>(
+    alloc: Global,
+    subcommand: Result<Command<'a>, AllocError>,
+) -> Result<Command<'a>, AllocError>
+    ensures { IfOk result (WithHints subcommand.entry) }
+{
+    with_hints_arg(alloc, subcommand?)
+}
+
 // A command with a subcommand that was made, if there was memory for both.
 fn with_made<'a>(
     command: Command<'a>,
@@ -337,24 +371,24 @@ fn with_made<'a>(
     command.subcommand(subcommand?)
 }
 
-fn swcheck_command<'a>(alloc: Global) -> Result<Command<'a>, AllocError>
+pub(crate) fn swcheck_command<'a>(alloc: Global) -> Result<Command<'a>, AllocError>
     ensures { IfOk result (λ c. app_of c ≡ swcheck_app) }
 {
-    let command = with_made(top_command(alloc), route_command(alloc))?;
-    let command = with_made(command, decide_command(alloc))?;
-    let command = with_made(command, check_command(alloc))?;
-    let command = with_made(command, report_command(alloc))?;
-    let command = with_made(command, replay_command(alloc))?;
-    let command = with_made(command, run_command(alloc))?;
-    let command = with_made(command, migrate_command(alloc))?;
-    let command = with_made(command, explain_command(alloc))?;
-    let command = with_made(command, draw_command(alloc))?;
-    let command = with_made(command, rmap_command(alloc))?;
-    with_made(command, witness_command(alloc))
+    let command = with_made(top_command(alloc), with_hints(alloc, route_command(alloc)))?;
+    let command = with_made(command, with_hints(alloc, decide_command(alloc)))?;
+    let command = with_made(command, with_hints(alloc, check_command(alloc)))?;
+    let command = with_made(command, with_hints(alloc, report_command(alloc)))?;
+    let command = with_made(command, with_hints(alloc, replay_command(alloc)))?;
+    let command = with_made(command, with_hints(alloc, run_command(alloc)))?;
+    let command = with_made(command, with_hints(alloc, migrate_command(alloc)))?;
+    let command = with_made(command, with_hints(alloc, explain_command(alloc)))?;
+    let command = with_made(command, with_hints(alloc, draw_command(alloc)))?;
+    let command = with_made(command, with_hints(alloc, rmap_command(alloc)))?;
+    with_made(command, with_hints(alloc, witness_command(alloc)))
 }
 
 // How an error of clap's is told. That of a growth that was refused is told as any other such.
-fn fault_of(alloc: Global, error: &clap::Error) -> Result<WordsFault, AllocError>
+pub(crate) fn fault_of(alloc: Global, error: &clap::Error) -> Result<WordsFault, AllocError>
     ensures { IfOk result (ShowsKind (kind_of error.now)) }
 {
     if error.kind() == ErrorKind::OutOfMemory {
@@ -368,14 +402,14 @@ fn fault_of(alloc: Global, error: &clap::Error) -> Result<WordsFault, AllocError
     }
 }
 
-fn value_of<'a>(values: &ArgMatches<'a>, name: &str) -> Option<&'a str>
+pub(crate) fn value_of<'a>(values: &ArgMatches<'a>, name: &str) -> Option<&'a str>
     ensures { option_map (λ s. s.now) result ≡ first_of name.now (rows_of (found_of values.now)) }
 {
     values.get_str(name)
 }
 
 // The value of an option that may be left out.
-fn option_of<'a>(values: &ArgMatches<'a>, name: &str) -> Option<&'a str>
+pub(crate) fn option_of<'a>(values: &ArgMatches<'a>, name: &str) -> Option<&'a str>
     ensures { IsOption name.now (rows_of (found_of values.now)) result }
 {
     value_of(values, name)
@@ -390,7 +424,7 @@ fn number_of(values: &ArgMatches<'_>, name: &str) -> Option<u32>
 }
 
 // The same, if it is 1 or more and not over the most; clap gives no other.
-fn count_of(values: &ArgMatches<'_>, name: &str, most: u32) -> Option<u32>
+pub(crate) fn count_of(values: &ArgMatches<'_>, name: &str, most: u32) -> Option<u32>
     ensures counts { IfSome result (IsCount most name.now (rows_of (found_of values.now))) }
     ensures none { IfNone result ((number : ℕ) → IsCount most name.now (rows_of (found_of values.now)) number → ⊥) }
 {
@@ -405,100 +439,8 @@ fn count_of(values: &ArgMatches<'_>, name: &str, most: u32) -> Option<u32>
 }
 
 // Whether an option without a value was given.
-fn is_set(values: &ArgMatches<'_>, name: &str) -> bool
+pub(crate) fn is_set(values: &ArgMatches<'_>, name: &str) -> bool
     ensures { IsSet name.now (rows_of (found_of values.now)) result }
 {
     values.get_one::<bool>(name).unwrap_or(false)
-}
-
-// The call of a subcommand. clap gives each value that the subcommand requires.
-fn call_of<'a>(name: &str, values: &ArgMatches<'a>) -> Option<Call<'a>>
-    ensures calls { IfSome result (IsCallOf name.now (rows_of (found_of values.now))) }
-    ensures none { IfNone result ((call : Call) → IsCallOf name.now (rows_of (found_of values.now)) call → ⊥) }
-{
-    let file = value_of(values, "FILE")?;
-    match name {
-        "route" => Some(Call::Route {
-            file,
-            flow: value_of(values, "FLOW")?,
-        }),
-        "decide" => Some(Call::Decide { file }),
-        "report" => Some(Call::Report { file }),
-        "check" => Some(Call::Check {
-            file,
-            certificate: value_of(values, "CERT")?,
-        }),
-        "replay" => Some(Call::Replay {
-            file,
-            schedule: value_of(values, "SCHEDULE")?,
-        }),
-        "run" => Some(Call::Run {
-            file,
-            load: value_of(values, "LOAD")?,
-            workers: count_of(values, "workers", MOST_WORKERS)?,
-            limit: count_of(values, "limit", MOST_STEPS)?,
-        }),
-        "migrate" => Some(Call::Migrate {
-            file: value_of(values, "FILE")?,
-        }),
-        "explain" => Some(Call::Explain {
-            file,
-            all: is_set(values, "all"),
-        }),
-        "draw" => Some(Call::Draw {
-            file,
-            flow: option_of(values, "flow"),
-            cycle: is_set(values, "cycle"),
-            numbers: is_set(values, "numbers"),
-        }),
-        "rmap" => {
-            let flow = value_of(values, "FLOW")?;
-            Some(Call::Rmap {
-                file,
-                flow,
-                action: value_of(values, "ACTION")?,
-                address: value_of(values, "ADDRESS")?,
-                value: value_of(values, "VALUE")?,
-                unacknowledged: is_set(values, "no-ack"),
-                transaction: option_of(values, "transaction"),
-            })
-        }
-        "witness" => Some(Call::Witness {
-            file,
-            tries: count_of(values, "tries", MOST_TRIES)?,
-            seed: count_of(values, "seed", MOST_SEED)?,
-        }),
-        _ => None,
-    }
-}
-
-fn matched_call<'a>(matches: &ArgMatches<'a>) -> Option<Call<'a>>
-    ensures matched { IfSome result (IsMatched (subcommand_rows_of matches.now)) }
-    ensures none { IfNone result ((call : Call) → IsMatched (subcommand_rows_of matches.now) call → ⊥) }
-{
-    let (name, values) = matches.subcommand()?;
-    call_of(name, values)
-}
-
-// What the words come to. Only a growth that was refused leaves that open.
-fn told<'a>(alloc: Global, words: &'a [&'a str]) -> Result<Result<Call<'a>, WordsFault>, AllocError>
-    ensures { IfOk result (Tells (map (λ s. s.now) words.entry.now)) }
-{
-    let command = swcheck_command(alloc)?;
-    match command.try_get_matches_from(words) {
-        Ok(matches) => Ok(Ok(matched_call(&matches).unwrap())),
-        Err(error) => Ok(Err(fault_of(alloc, &error)?)),
-    }
-}
-
-/// The call that the words ask for; they begin with the program's name.
-///
-/// # Errors
-///
-/// Help was asked for, or the words are refused, each with the text to print; or a growth was refused.
-pub fn words<'a>(alloc: Global, words: &'a [&'a str]) -> Result<Call<'a>, WordsFault>
-    ensures call { IfOk result (Gives (map (λ s. s.now) words.entry.now)) }
-    ensures fault { IfErr result (Refuses (map (λ s. s.now) words.entry.now)) }
-{
-    told(alloc, words)?
 }

@@ -2,5 +2,7 @@
 #![tactic(auto)]
 
 mod command_line;
+mod matched;
 
-pub use command_line::{Call, REFUSED, WordsFault, words};
+pub use command_line::{Asked, Call, REFUSED, WordsFault};
+pub use matched::words;

@@ -1,10 +1,11 @@
 //! The call that the words ask for, on the files that they name.
 ghost use Rattle.std.specs.Prelude.{◌<◌, IfErr, IfNone, IfOk, IfSome, map};
 ghost use Rattle.sw_args.specs.CommandLine.{Gives, HasWorkers, Refuses};
-ghost use Rattle.sw_args.specs.declared.command_line.Call.{Call};
+ghost use Rattle.sw_args.specs.declared.command_line.Asked.{Asked};
 ghost use Rattle.sw_cli.specs.Accesses.{IsAccess, IsNoAccess};
 
-use crate::told::no_access;
+use crate::hints::{file_of, hinted, hints_of};
+use crate::told::{no_access, no_hints};
 use std::rt::Files;
 use std::sync::Wait;
 use std::thread::Threads;
@@ -15,7 +16,7 @@ use sw_app_explain::explain;
 use sw_app_rmap::{Access, Request, rmap};
 use sw_app_run::{Open, Options};
 use sw_app_witness::witness;
-use sw_args::{Call, WordsFault, words};
+use sw_args::{Asked, Call, WordsFault, words};
 use sw_command::Ended;
 
 /// Makes the call that the words ask for, and tells how it ended; they begin with the program's name.
@@ -28,12 +29,25 @@ pub fn run_words<'a, R: Files + Print + Eprint + AllocGlobal + Threads + Wait + 
     rt: &R,
     given: &'a [&'a str],
 ) -> Result<Ended, WordsFault>
-    ensures call { IfOk result (λ _. (call : Call) × Gives (map (λ s. s.now) given.entry.now) call) }
+    ensures call { IfOk result (λ _. (asked : Asked) × Gives (map (λ s. s.now) given.entry.now) asked) }
     ensures fault { IfErr result (Refuses (map (λ s. s.now) given.entry.now)) }
 {
     match words(rt.alloc(), given) {
-        Ok(call) => Ok(run_call(rt, call)),
+        Ok(asked) => Ok(run_asked(rt, asked)),
         Err(fault) => Err(fault),
+    }
+}
+
+fn run_asked<R: Files + Print + Eprint + AllocGlobal + Threads + Wait + Sync>(
+    rt: &R,
+    asked: Asked<'_>,
+) -> Ended
+    requires { HasWorkers asked.call }
+{
+    let call = asked.call;
+    match hints_of(asked.hints) {
+        Some(hints) => hinted(rt, file_of(&call), hints, run_call(rt, call)),
+        None => no_hints(rt),
     }
 }
 

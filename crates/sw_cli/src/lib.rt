@@ -1,8 +1,9 @@
 //! A call of the program swcheck: it opens the files that the words name, hands them on to the engines of `sw_app` and of the other crates
-//! whose names begin so, and tells of words that give no call, and of a read or a write that failed.
+//! whose names begin so, and tells of words that give no call, of a read or a write that failed, and how to mend a network file with a fault.
 #![tactic(auto)]
 
 mod calls;
+mod hints;
 mod program;
 mod told;
 

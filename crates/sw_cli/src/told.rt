@@ -44,6 +44,14 @@ pub(crate) fn no_access(rt: &impl Eprint) -> Ended
     Ended::Status(REFUSED)
 }
 
+/// Tells that `--hints` has no such value.
+pub(crate) fn no_hints(rt: &impl Eprint) -> Ended
+    ensures { result ≡ Ended.Status 2 }
+{
+    let _ = eprint!(rt; "error: --hints is auto or never\n");
+    Ended::Status(REFUSED)
+}
+
 /// Tells that a word is no text.
 pub(crate) fn not_text(rt: &impl Eprint) -> u8
     ensures { result ≡ 2 }

@@ -1,7 +1,7 @@
 use Rattle.std.proofs.Common.{List, ℕ, map, Bor}
 use Rattle.sw_args.proofs.Called.{matched}
-use Rattle.sw_args.proofs.CommandLines.{gives, is_call, matched_rows, refuses}
-use Rattle.sw_args.proofs.command_line.told.Goals as goal
+use Rattle.sw_args.proofs.CommandLines.{gives, is_asked, matched_rows, refuses}
+use Rattle.sw_args.proofs.matched.told.Goals as goal
 
 pub unwrap-requires : goal.unwrap-requires
 unwrap-requires c =
@@ -13,7 +13,7 @@ pub returns-in-Ok : goal.returns-in-Ok
 returns-in-Ok c =
     let texts = map (λ (s : Bor (List ℕ)). s.now) c.args.words.now in
     gives _ texts c.in-Ok.matches _ c.in_ok-command.ensures c.in-Ok.ensures.matches c.in-Ok.ensures.kinds
-    (is_call _ c.matched_call.result _ c.matched_call.ensures.matched c.unwrap.ensures)
+    (is_asked _ c.matched_call.result _ c.matched_call.ensures.matched c.unwrap.ensures)
 
 pub returns-in_ok-fault_of-in-Err : goal.returns-in_ok-fault_of-in-Err
 returns-in_ok-fault_of-in-Err c =

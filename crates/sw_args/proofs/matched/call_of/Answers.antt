@@ -1,6 +1,6 @@
 use Rattle.clap.specs.Words.{found_of, rows_of}
 use Rattle.sw_args.proofs.Uncalled.{without_limit, without_seed, without_tries, without_workers}
-use Rattle.sw_args.proofs.command_line.call_of.Goals as goal
+use Rattle.sw_args.proofs.matched.call_of.Goals as goal
 
 pub returns-in_err-count_of-in-run-clause-none : goal.returns-in_err-count_of-in-run-clause-none
 returns-in_err-count_of-in-run-clause-none c =

@@ -1,0 +1,35 @@
+-- What is told of a fault (this project's choice).
+use Rattle.std.specs.Prelude.{◌≡◌, ℕ, List, [], Option, Some, None, Result, Ok, Err, String, string_bytes}
+use Rattle.std.specs.declared.alloc.Global.{Global}
+use Rattle.toml.specs.Data.{Members}
+use Rattle.sw_config.specs.Entries.{Declaration}
+use Rattle.sw_file.specs.Network.{network_text}
+use Rattle.sw_toml_table.specs.declared.fault.TextFault.{TextFault}
+use Rattle.sw_toml_table.specs.Document.{document_of}
+use Rattle.sw_hints.specs.FaultPlaces.{IsFaultPlace}
+use Rattle.sw_hints.specs.FaultWords.{expected_text, what_text}
+use Rattle.sw_hints.specs.Helps.{help_text}
+use Rattle.sw_hints.specs.HintLines.{hint_lines}
+
+-- what to do about a fault, by the document that the text is; nothing where it is none
+abbrev pub help_by : Result Members TextFault → TextFault → List ℕ
+help_by (Ok document) fault = help_text document fault
+help_by (Err refused) fault = []
+
+abbrev pub IsHelp : List ℕ → TextFault → List ℕ → Type 0
+IsHelp text fault help = help ≡ help_by (document_of text) fault
+
+-- a fault of a text, told of a place that it has
+abbrev pub IsHint : List ℕ → List ℕ → TextFault → List ℕ → Type 0
+IsHint path text fault hint =
+    (place : Option ℕ) × IsFaultPlace text fault place
+    × (hint ≡ hint_lines path text place (what_text fault) (expected_text fault) (help_by (document_of text) fault))
+
+-- the hint of a network file's fault, and none of a network
+abbrev pub IsNetworkHint : List ℕ → List ℕ → Option (String Global) → Type 0
+IsNetworkHint path text hint = tells (network_text text) hint
+  where
+    tells : Result Declaration TextFault → Option (String Global) → Type 0
+    tells (Ok network) None = Unit {0}
+    tells (Err fault) (Some told) = IsHint path text fault (string_bytes told)
+    tells _ _ = ⊥

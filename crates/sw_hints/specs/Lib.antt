@@ -1,0 +1,9 @@
+pub mod Entries
+pub mod FaultPlaces
+pub mod FaultWords
+pub mod Helps
+pub mod HintLines
+pub mod Hints
+pub mod KeyWords
+pub mod Nearest
+pub mod Shown

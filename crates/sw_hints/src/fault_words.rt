@@ -1,0 +1,138 @@
+//! What is wrong, and what is right, in words.
+ghost use Rattle.std.specs.Prelude.{◌≡◌, ◌++◌, IfOk, codes, flat_map, map, string_bytes};
+ghost use Rattle.sw_toml_table.specs.Keys.{key_text};
+ghost use Rattle.sw_hints.specs.FaultWords.{expected_text, fault_words, joined, key_fault_words, one_of, topology_expected, topology_words, what_text};
+
+use crate::key_words::{keys_of, value_words};
+use std::alloc::{AllocError, Global};
+use sw_command::fault_text;
+use sw_toml_table::{Key, KeyFault, TextFault};
+use sw_topo::{Limit, TopoFault};
+
+fn key_fault_words(fault: KeyFault) -> &'static str
+    ensures { result.now ≡ key_fault_words fault }
+{
+    match fault {
+        KeyFault::MissingKey => "a key is missing here",
+        KeyFault::WrongType => "the value is of another type",
+        KeyFault::OutOfRange => "the value is not allowed",
+        KeyFault::DuplicateName => "the name is taken",
+        KeyFault::UnknownName => "there is no such name",
+    }
+}
+
+fn topology_words(fault: TopoFault) -> &'static str
+    ensures { result.now ≡ topology_words fault }
+{
+    match fault {
+        TopoFault::TooMany(_) => "the list is too long",
+        TopoFault::PortTaken(_) => "an end of the link is at a port that has a link already",
+        TopoFault::NodeLinks(_) => "the node has no link, or several",
+        TopoFault::PortUnlinked(_) => "the switch has no link",
+    }
+}
+
+fn fault_words(fault: &TextFault) -> &'static str
+    ensures { result.now ≡ fault_words fault.now }
+{
+    match fault {
+        TextFault::Syntax => "the text is no TOML",
+        TextFault::UnknownKey(_, _) => "a table has no such key",
+        TextFault::Key(fault, _, _) => key_fault_words(*fault),
+        TextFault::Topology(fault) => topology_words(*fault),
+        TextFault::DuplicateRoute(_, _) => "an entry before it is for one of the same addresses",
+        TextFault::ReplyShape(_) => "the replies can't come back",
+        TextFault::NotInFlow(_) => "the flow doesn't declare this packet",
+    }
+}
+
+/// The fault as it is printed, and in words.
+///
+/// # Errors
+///
+/// There is no memory for the text.
+pub(crate) fn what_text(alloc: Global, fault: &TextFault) -> Result<String, AllocError>
+    ensures { IfOk result (λ s. string_bytes s ≡ what_text fault.now) }
+{
+    let text = fault_text(alloc, fault)?;
+    let words = fault_words(fault);
+    format!(in alloc; "{text}: {words}")
+}
+
+// More keys, each behind a comma.
+fn more_keys(alloc: Global, keys: &[Key]) -> Result<String, AllocError>
+    ensures { IfOk result (λ s. string_bytes s ≡ flat_map (λ k. codes ", " ++ key_text k) keys.now) }
+{
+    let mut text = String::new(alloc);
+    for key in keys {
+        text.push_str(", ")?;
+        text.push_str(key.text())?;
+    }
+    Ok(text)
+}
+
+// The keys, with a comma between each two.
+fn joined(alloc: Global, keys: &[Key]) -> Result<String, AllocError>
+    ensures { IfOk result (λ s. string_bytes s ≡ joined keys.now) }
+{
+    match keys {
+        [] => Ok(String::new(alloc)),
+        [first, rest @ ..] => {
+            let key = first.text();
+            let more = more_keys(alloc, rest)?;
+            format!(in alloc; "{key}{more}")
+        }
+    }
+}
+
+fn one_of(alloc: Global, keys: &[Key]) -> Result<String, AllocError>
+    ensures { IfOk result (λ s. string_bytes s ≡ one_of keys.now) }
+{
+    let keys = joined(alloc, keys)?;
+    format!(in alloc; "one of {keys}")
+}
+
+fn topology_expected(fault: TopoFault) -> &'static str
+    ensures { result.now ≡ topology_expected fault }
+{
+    match fault {
+        TopoFault::TooMany(Limit::Nodes) => "at most 1024 nodes",
+        TopoFault::TooMany(Limit::Switches) => "at most 512 switches",
+        TopoFault::TooMany(Limit::Links) => "at most 1024 links",
+        TopoFault::PortTaken(_) => "at most one link at each port of a switch",
+        TopoFault::NodeLinks(_) => "exactly one link for each node",
+        TopoFault::PortUnlinked(_) => "a link at one port of each switch at least",
+    }
+}
+
+/// What would be right.
+///
+/// # Errors
+///
+/// There is no memory for the text.
+pub(crate) fn expected_text(alloc: Global, fault: &TextFault) -> Result<String, AllocError>
+    ensures { IfOk result (λ s. string_bytes s ≡ expected_text fault.now) }
+{
+    match fault {
+        TextFault::Syntax => String::from_str(alloc, "a TOML 1.1 text"),
+        TextFault::UnknownKey(section, _) => one_of(alloc, keys_of(*section)),
+        TextFault::Key(KeyFault::MissingKey, section, key) => {
+            let name = key.text();
+            let words = value_words(*section, *key);
+            format!(in alloc; "{name} = {words}")
+        }
+        TextFault::Key(_, section, key) => String::from_str(alloc, value_words(*section, *key)),
+        TextFault::Topology(fault) => String::from_str(alloc, topology_expected(*fault)),
+        TextFault::DuplicateRoute(_, _) => {
+            String::from_str(alloc, "one entry at most for each address of a switch")
+        }
+        TextFault::ReplyShape(_) => String::from_str(
+            alloc,
+            "a path of at most 12 numbers, the first not 0; an initiator from 32 to 254; 'to' a node with a target",
+        ),
+        TextFault::NotInFlow(_) => String::from_str(
+            alloc,
+            "no command that the target would answer, or one whose reply goes where the flow's 'reply' says",
+        ),
+    }
+}

@@ -1,0 +1,196 @@
+//! What to do about a fault.
+ghost use Rattle.std.specs.Prelude.{◌≡◌, IfOk, List, Option, map, option_map, string_bytes};
+ghost use Rattle.sw_toml_table.specs.Keys.{key_text};
+ghost use Rattle.sw_toml_table.specs.Table.{is_known};
+ghost use Rattle.toml.specs.View.{table_view};
+ghost use Rattle.sw_hints.specs.Helps.{help_text, key_help, key_fault_help, known_name_help, meant_help, name_help, node_help, still_words, topology_help};
+
+use crate::entries::{names_of, part_names, text_of};
+use crate::key_words::{keys_of, new_keys_of, outer_keys, port_keys};
+use crate::nearest::like;
+use std::alloc::{AllocError, Global};
+use sw_toml_table::{Key, KeyFault, Section, TextFault};
+use sw_topo::TopoFault;
+use toml::Table;
+
+fn is_one_of(keys: &[Key], name: &str) -> bool
+    ensures { result ≡ is_known keys.now name.now }
+{
+    keys.iter().any(|key| key.text() == name)
+}
+
+// How the keys are written.
+fn key_texts(alloc: Global, keys: &[Key]) -> Result<Vec<&'static str>, AllocError>
+    ensures { IfOk result (λ v. map (λ t. t.now) v.items ≡ map key_text keys.now) }
+{
+    let mut texts = Vec::new(alloc);
+    for key in keys {
+        texts.push(key.text())?;
+    }
+    Ok(texts)
+}
+
+// The word that was meant, maybe.
+fn meant_help(alloc: Global, meant: Option<&str>) -> Result<String, AllocError>
+    ensures { IfOk result (λ s. string_bytes s ≡ meant_help (option_map (λ t. t.now) meant.entry)) }
+{
+    match meant {
+        Some(text) => format!(in alloc; "is '{text}' meant?"),
+        None => Ok(String::new(alloc)),
+    }
+}
+
+// What to do about a key that a table may not have.
+fn key_help(alloc: Global, section: Section, name: &str) -> Result<String, AllocError>
+    ensures { IfOk result (λ s. string_bytes s ≡ key_help section name.now) }
+{
+    if is_one_of(new_keys_of(section), name) {
+        return String::from_str(alloc, "this key is of version 2 only: write version = 2");
+    }
+    if is_one_of(port_keys(section), name) {
+        return String::from_str(
+            alloc,
+            "a node has no ports: this key stands beside the name of a switch",
+        );
+    }
+    if is_one_of(outer_keys(section), name) {
+        return String::from_str(
+            alloc,
+            "a key that stands below a header, as [[switch]], belongs to that table: write it above the first header",
+        );
+    }
+    let texts = key_texts(alloc, keys_of(section))?;
+    meant_help(alloc, like(alloc, name, &texts)?)
+}
+
+// What to do about a name of no node, where there may be a switch of the name.
+fn node_help(
+    alloc: Global,
+    name: &str,
+    nodes: &[&str],
+    switches: &[&str],
+) -> Result<String, AllocError>
+    ensures { IfOk result (λ s. string_bytes s ≡ node_help name.now (map (λ t. t.now) nodes.now) (map (λ t. t.now) switches.now)) }
+{
+    if switches.iter().any(|switch| *switch == name) {
+        return format!(in alloc; "'{name}' is a switch: flows go from a node to a node");
+    }
+    meant_help(alloc, like(alloc, name, nodes)?)
+}
+
+// What to do about this name at this key.
+fn known_name_help(
+    alloc: Global,
+    document: &Table,
+    key: Key,
+    name: &str,
+) -> Result<String, AllocError>
+    ensures { IfOk result (λ s. string_bytes s ≡ known_name_help (table_view document.now) key name.now) }
+{
+    match key {
+        Key::A | Key::B => {
+            let parts = part_names(alloc, document)?;
+            meant_help(alloc, like(alloc, name, &parts)?)
+        }
+        Key::From | Key::To => {
+            let nodes = names_of(alloc, document, Key::Node)?;
+            let switches = names_of(alloc, document, Key::Switch)?;
+            node_help(alloc, name, &nodes, &switches)
+        }
+        _ => Ok(String::new(alloc)),
+    }
+}
+
+// What to do about the name at this key, which nothing suitable has.
+fn name_help(
+    alloc: Global,
+    document: &Table,
+    section: Section,
+    key: Key,
+) -> Result<String, AllocError>
+    ensures { IfOk result (λ s. string_bytes s ≡ name_help (table_view document.now) section key) }
+{
+    match text_of(document, section, key) {
+        Some(name) => known_name_help(alloc, document, key, name),
+        None => Ok(String::new(alloc)),
+    }
+}
+
+// What to do about a fault that hangs on nothing else in the text.
+fn still_words(fault: KeyFault) -> &'static str
+    ensures { result.now ≡ still_words fault }
+{
+    match fault {
+        KeyFault::MissingKey =>
+            "a key belongs to the header or the brace that stands above it last",
+        KeyFault::WrongType => {
+            "a text stands in quotes, a number and true or false do not; a list stands in [ ], a table in { }"
+        }
+        KeyFault::DuplicateName => {
+            "nodes and switches share one set of names; flows have their own"
+        }
+        KeyFault::OutOfRange | KeyFault::UnknownName => "",
+    }
+}
+
+fn key_fault_help(
+    alloc: Global,
+    document: &Table,
+    fault: KeyFault,
+    section: Section,
+    key: Key,
+) -> Result<String, AllocError>
+    ensures { IfOk result (λ s. string_bytes s ≡ key_fault_help (table_view document.now) fault section key) }
+{
+    match fault {
+        KeyFault::UnknownName => name_help(alloc, document, section, key),
+        fault => String::from_str(alloc, still_words(fault)),
+    }
+}
+
+fn topology_help(fault: TopoFault) -> &'static str
+    ensures { result.now ≡ topology_help fault }
+{
+    match fault {
+        TopoFault::TooMany(_) => "split the network where no flow goes over the cut",
+        TopoFault::PortTaken(_) => "each end of a link needs a port of its own",
+        TopoFault::NodeLinks(_) => {
+            "a unit with several links is several nodes, or one node behind a switch"
+        }
+        TopoFault::PortUnlinked(_) => "link the switch, or leave it out",
+    }
+}
+
+/// What to do about a fault of the text of this document; nothing where there is no more to say.
+///
+/// # Errors
+///
+/// There is no memory for the text.
+pub(crate) fn help_text(
+    alloc: Global,
+    document: &Table,
+    fault: &TextFault,
+) -> Result<String, AllocError>
+    ensures { IfOk result (λ s. string_bytes s ≡ help_text (table_view document.now) fault.now) }
+{
+    match fault {
+        TextFault::Syntax => Ok(String::new(alloc)),
+        TextFault::UnknownKey(section, name) => key_help(alloc, *section, name.as_str()),
+        TextFault::Key(fault, section, key) => {
+            key_fault_help(alloc, document, *fault, *section, *key)
+        }
+        TextFault::Topology(fault) => String::from_str(alloc, topology_help(*fault)),
+        TextFault::DuplicateRoute(_, _) => String::from_str(
+            alloc,
+            "several ports for one address stand in one entry's 'ports'",
+        ),
+        TextFault::ReplyShape(_) => String::from_str(
+            alloc,
+            "a reply begins with its path and then the initiator, and comes from a target",
+        ),
+        TextFault::NotInFlow(_) => String::from_str(
+            alloc,
+            "give the flow a 'reply' as the command's reply address and initiator say, or change the command",
+        ),
+    }
+}

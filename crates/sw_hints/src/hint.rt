@@ -1,0 +1,66 @@
+//! The hint of a fault.
+ghost use Rattle.std.specs.Prelude.{IfOk, IfSome, string_bytes};
+ghost use Rattle.sw_hints.specs.Hints.{IsHelp, IsHint, IsNetworkHint};
+
+use crate::fault_words::{expected_text, what_text};
+use crate::helps::help_text;
+use crate::hint_lines::hint_lines;
+use crate::places::fault_place;
+use std::alloc::{AllocError, Global};
+use sw_file::read_network;
+use sw_toml_table::{FileFault, TextFault, read_document};
+
+// What to do about a fault of a text.
+fn help_of(alloc: Global, text: &[u8], fault: &TextFault) -> Result<String, AllocError>
+    ensures { IfOk result (λ s. IsHelp text.now fault.now (string_bytes s)) }
+{
+    match read_document(alloc, text) {
+        Ok(document) => help_text(alloc, &document, fault),
+        Err(FileFault::Text(_)) => Ok(String::new(alloc)),
+        Err(FileFault::Memory) => Err(AllocError),
+    }
+}
+
+/// What is told of a fault of a text to who has to mend it: where it stands, what stands there, what would be right, and what to do.
+/// `path` is told as the text's name.
+///
+/// # Errors
+///
+/// There is no memory for the hint.
+pub fn hint_of(
+    alloc: Global,
+    path: &str,
+    text: &[u8],
+    fault: &TextFault,
+) -> Result<String, AllocError>
+    ensures { IfOk result (λ s. IsHint path.now text.now fault.now (string_bytes s)) }
+{
+    let place = fault_place(alloc, text, fault)?;
+    let what = what_text(alloc, fault)?;
+    let expected = expected_text(alloc, fault)?;
+    let help = help_of(alloc, text, fault)?;
+    hint_lines(
+        alloc,
+        path,
+        text,
+        place,
+        what.as_str(),
+        expected.as_str(),
+        help.as_str(),
+    )
+}
+
+/// The hint of the first fault of a network file; none where the text is a network.
+///
+/// # Errors
+///
+/// There is no memory for the hint, or to read the text.
+pub fn network_hint(alloc: Global, path: &str, text: &[u8]) -> Result<Option<String>, AllocError>
+    ensures { IfOk result (λ o. IsNetworkHint path.now text.now o) }
+{
+    match read_network(alloc, text) {
+        Ok(_) => Ok(None),
+        Err(FileFault::Text(fault)) => Ok(Some(hint_of(alloc, path, text, &fault)?)),
+        Err(FileFault::Memory) => Err(AllocError),
+    }
+}

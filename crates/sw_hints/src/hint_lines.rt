@@ -1,0 +1,135 @@
+//! The lines of a hint.
+ghost use Rattle.std.specs.Prelude.{◌≡◌, ◌≤◌, ◌==◌, IfOk, IfSome, drop, length, not, string_bytes, take};
+ghost use Rattle.std.specs.List.{prefix_len};
+ghost use Rattle.sw_hints.specs.HintLines.{first_line, found_line, found_part, head_line, hint_lines, place_text, told};
+
+use crate::shown::shown;
+use std::alloc::{AllocError, Global};
+use sw_position::position_at;
+
+/// The most bytes of a text's line that are shown.
+const MOST_FOUND: usize = 72;
+
+// Where the first line of a text ends.
+fn line_end(text: &[u8]) -> usize
+    ensures end { result ≡ prefix_len (λ b. not (b == 10)) text.now }
+    ensures within { result ≤ length text.now }
+{
+    text.iter().take_while(|byte| **byte != b'\n').count()
+}
+
+// What stands before the first LF.
+fn first_line(text: &[u8]) -> &[u8]
+    ensures { result.now ≡ first_line text.now }
+{
+    &text[..line_end(text)]
+}
+
+// The first bytes, as many as are shown.
+fn most(text: &[u8]) -> &[u8]
+    ensures { result.now ≡ take 72 text.now }
+{
+    &text[..MOST_FOUND.min(text.len())]
+}
+
+// What stands behind an offset.
+fn behind(text: &[u8], at: usize) -> &[u8]
+    requires { at ≤ length text.now }
+    ensures { result.now ≡ drop at text.now }
+{
+    &text[at..]
+}
+
+// The rest of a line of the text, from an offset on, but no more than are shown.
+fn found_part(text: &[u8], at: usize) -> &[u8]
+    requires { at ≤ length text.now }
+    ensures { result.now ≡ found_part text.now at }
+{
+    most(first_line(behind(text, at)))
+}
+
+// Where a byte of the text stands.
+fn place_text(
+    alloc: Global,
+    path: &str,
+    text: &[u8],
+    place: Option<usize>,
+) -> Result<String, AllocError>
+    requires { IfSome place (λ at. at ≤ length text.now) }
+    ensures { IfOk result (λ s. string_bytes s ≡ place_text path.now text.now place) }
+{
+    let path = shown(alloc, path.as_bytes())?;
+    match place {
+        None => Ok(path),
+        Some(at) => {
+            let position = position_at(text, at);
+            let line = position.line;
+            let column = position.column;
+            format!(in alloc; "{path}:{line}:{column}")
+        }
+    }
+}
+
+// Where the fault is, and what is wrong.
+fn head_line(
+    alloc: Global,
+    path: &str,
+    text: &[u8],
+    place: Option<usize>,
+    what: &str,
+) -> Result<String, AllocError>
+    requires { IfSome place (λ at. at ≤ length text.now) }
+    ensures { IfOk result (λ s. string_bytes s ≡ head_line path.now text.now place what.now) }
+{
+    let place = place_text(alloc, path, text, place)?;
+    let what = shown(alloc, what.as_bytes())?;
+    format!(in alloc; "{place}: {what}\n")
+}
+
+// An indented line of what is told, none where there is nothing to tell.
+fn told(alloc: Global, name: &str, words: &[u8]) -> Result<String, AllocError>
+    ensures { IfOk result (λ s. string_bytes s ≡ told name.now words.now) }
+{
+    match words {
+        [] => Ok(String::new(alloc)),
+        words => {
+            let words = shown(alloc, words)?;
+            format!(in alloc; "  {name}: {words}\n")
+        }
+    }
+}
+
+// What stands at the place.
+fn found_line(alloc: Global, text: &[u8], place: Option<usize>) -> Result<String, AllocError>
+    requires { IfSome place (λ at. at ≤ length text.now) }
+    ensures { IfOk result (λ s. string_bytes s ≡ found_line text.now place) }
+{
+    match place {
+        None => Ok(String::new(alloc)),
+        Some(at) => told(alloc, "found", found_part(text, at)),
+    }
+}
+
+/// The lines of a hint: where and what, what stands there, what would be right, and what to do.
+///
+/// # Errors
+///
+/// There is no memory for the text.
+pub(crate) fn hint_lines(
+    alloc: Global,
+    path: &str,
+    text: &[u8],
+    place: Option<usize>,
+    what: &str,
+    expected: &str,
+    help: &str,
+) -> Result<String, AllocError>
+    requires { IfSome place (λ at. at ≤ length text.now) }
+    ensures { IfOk result (λ s. string_bytes s ≡ hint_lines path.now text.now place what.now expected.now help.now) }
+{
+    let head = head_line(alloc, path, text, place, what)?;
+    let found = found_line(alloc, text, place)?;
+    let expected = told(alloc, "expected", expected.as_bytes())?;
+    let help = told(alloc, "help", help.as_bytes())?;
+    format!(in alloc; "{head}{found}{expected}{help}")
+}

@@ -1,0 +1,122 @@
+//! What may stand at the keys of a network file or a load file.
+ghost use Rattle.std.specs.Prelude.{◌≡◌};
+ghost use Rattle.sw_hints.specs.KeyWords.{keys_of, new_keys_of, outer_keys, port_keys, value_words};
+
+use sw_toml_table::{Key, Section};
+
+/// The keys of a table, those of version 2 too.
+pub(crate) fn keys_of(section: Section) -> &'static [Key]
+    ensures { result.now ≡ keys_of section }
+{
+    match section {
+        Section::Document => &[Key::Version, Key::Node, Key::Switch, Key::Link, Key::Flow],
+        Section::Node(_) => &[Key::Name, Key::Target],
+        Section::Target(_) => &[
+            Key::Logical,
+            Key::TargetKey,
+            Key::Start,
+            Key::Size,
+            Key::Slots,
+        ],
+        Section::Switch(_) => &[Key::Name, Key::Arbiter, Key::Route],
+        Section::Route(_, _) => &[Key::Address, Key::Last, Key::Ports, Key::Delete],
+        Section::Link(_) => &[
+            Key::A,
+            Key::APort,
+            Key::B,
+            Key::BPort,
+            Key::Buffer,
+            Key::BufferA,
+            Key::BufferB,
+        ],
+        Section::Flow(_) => &[
+            Key::Name,
+            Key::From,
+            Key::To,
+            Key::Address,
+            Key::Left,
+            Key::Reply,
+        ],
+        Section::Reply(_) => &[Key::Path, Key::Initiator],
+        Section::Packet(_) => &[Key::Flow, Key::Cargo, Key::End, Key::Count],
+    }
+}
+
+/// Those of version 2 alone.
+pub(crate) fn new_keys_of(section: Section) -> &'static [Key]
+    ensures { result.now ≡ new_keys_of section }
+{
+    match section {
+        Section::Target(_) => &[Key::Slots],
+        Section::Route(_, _) => &[Key::Last],
+        Section::Link(_) => &[Key::BufferA, Key::BufferB],
+        _ => &[],
+    }
+}
+
+/// Those that stand beside a switch alone.
+pub(crate) fn port_keys(section: Section) -> &'static [Key]
+    ensures { result.now ≡ port_keys section }
+{
+    match section {
+        Section::Link(_) => &[Key::APort, Key::BPort],
+        _ => &[],
+    }
+}
+
+/// The keys of the document, for a table that stands below it.
+pub(crate) fn outer_keys(section: Section) -> &'static [Key]
+    ensures { result.now ≡ outer_keys section }
+{
+    match section {
+        Section::Document => &[],
+        Section::Packet(_) => &[Key::Packet],
+        _ => &[Key::Version, Key::Node, Key::Switch, Key::Link, Key::Flow],
+    }
+}
+
+/// What may stand at a key of a table.
+pub(crate) fn value_words(section: Section, key: Key) -> &'static str
+    ensures { result.now ≡ value_words section key }
+{
+    match key {
+        Key::Version => "1 or 2",
+        Key::Node => "a list of at most 1024 tables",
+        Key::Switch => "a list of at most 512 tables",
+        Key::Link => "a list of at most 1024 tables",
+        Key::Flow => match section {
+            Section::Document => "a list of at most 4096 tables",
+            _ => "the name of a flow",
+        },
+        Key::Name => "a text of 1 to 32 letters, digits, '_', '-' and '.'",
+        Key::Target => "a table",
+        Key::Logical => "a number from 32 to 254",
+        Key::TargetKey => "a number from 0 to 255",
+        Key::Start => "a number from 0 to 1099511627775",
+        Key::Size => "a number from 1 to 65536, and 'start' + 'size' at most 1099511627776",
+        Key::Slots => "a number from 1 to 8",
+        Key::Arbiter => "\"fixed\", \"round-robin\" or \"least-recent\"",
+        Key::Route => "a list of tables",
+        Key::Address => match section {
+            Section::Route(_, _) => "a number from 32 to 254",
+            _ => "a list of at most 32 numbers from 0 to 255",
+        },
+        Key::Last => "a number from that of 'address' to 254",
+        Key::Ports => "a list of 1 to 32 numbers from 0 to 31",
+        Key::Delete => "true or false",
+        Key::A | Key::B => "the name of a node or a switch",
+        Key::APort | Key::BPort => "a number from 0 to 31",
+        Key::Buffer | Key::BufferA | Key::BufferB => "a number from 8 to 4096",
+        Key::From | Key::To => "the name of a node",
+        Key::Left => "a number from 0 to how many numbers 'address' has",
+        Key::Reply => "a table",
+        Key::Path => "a list of at most 12 numbers from 0 to 255, the first not 0",
+        Key::Initiator => "a number from 32 to 254",
+        Key::Packet => "a list of at most 4096 tables",
+        Key::Cargo => {
+            "1 to 4096 bytes: pairs of hexadecimal digits, or one pair, '*' and a number from 1 to 4096"
+        }
+        Key::End => "\"EOP\" or \"EEP\"",
+        Key::Count => "a number from 1 to 1000, and at most 65536 packets in all",
+    }
+}

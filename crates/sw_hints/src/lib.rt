@@ -1,0 +1,14 @@
+//! Hints: what to do about a fault of a text, for a person.
+#![tactic(auto)]
+
+mod entries;
+mod fault_words;
+mod helps;
+mod hint;
+mod hint_lines;
+mod key_words;
+mod nearest;
+mod places;
+mod shown;
+
+pub use hint::{hint_of, network_hint};

@@ -1,0 +1,3 @@
+pub mod LineColumn
+pub mod Lookup
+pub mod Places

@@ -1,0 +1,10 @@
+//! What is looked for in a text.
+use sw_toml_table::Section;
+
+/// What is looked for in the text of a network file or a load file: a table, or a key of it.
+#[derive(Clone, Copy, Debug)]
+pub struct Sought<'a> {
+    pub section: Section,
+    /// `None`: the table itself, which is an entry of a list.
+    pub key: Option<&'a str>,
+}
