@@ -79,7 +79,7 @@ pub enum Call<'a> {
 }
 
 /// What the words ask for: a call, and what was given at `--hints`.
-#[derive(Clone, Copy, Debug)]
+#[derive(Clone, Copy)]
 pub struct Asked<'a> {
     pub call: Call<'a>,
     pub hints: Option<&'a str>,

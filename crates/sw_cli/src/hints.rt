@@ -11,7 +11,7 @@ use sw_hints::network_hint;
 use sw_text::read_whole;
 
 /// Whether hints are wanted.
-#[derive(Clone, Copy, Debug)]
+#[derive(Clone, Copy)]
 pub(crate) enum Hints {
     /// Where the network file has a fault.
     Auto,

@@ -2,7 +2,7 @@
 use sw_toml_table::Section;
 
 /// How many headers of each list there were so far.
-#[derive(Clone, Copy, Debug)]
+#[derive(Clone, Copy)]
 pub(crate) struct Headers {
     nodes: usize,
     switches: usize,

@@ -2,7 +2,7 @@
 use sw_toml_table::Section;
 
 /// What is looked for in the text of a network file or a load file: a table, or a key of it.
-#[derive(Clone, Copy, Debug)]
+#[derive(Clone, Copy)]
 pub struct Sought<'a> {
     pub section: Section,
     /// `None`: the table itself, which is an entry of a list.

@@ -8,14 +8,14 @@ use toml_parser::text::{first, skip, skip_blank, skip_ws};
 use toml_parser::{Key, ParseError, dotted_key, quoted, unquoted};
 
 /// A bracket that is open, and the section of the table that it opened, or of the entry that stands next in its list.
-#[derive(Clone, Copy, Debug)]
+#[derive(Clone, Copy)]
 enum Frame {
     Table(Option<Section>),
     List(Option<Section>),
 }
 
 /// The piece that was begun: where, and how many brackets are open before it and at its end.
-#[derive(Clone, Copy, Debug)]
+#[derive(Clone, Copy)]
 struct Begun {
     from: usize,
     before: usize,
@@ -23,7 +23,7 @@ struct Begun {
 }
 
 /// What a walk knows beside the brackets that are open.
-#[derive(Clone, Copy, Debug)]
+#[derive(Clone, Copy)]
 struct Walk<'a> {
     sought: Sought<'a>,
     headers: Headers,
