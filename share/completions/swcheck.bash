@@ -19,7 +19,7 @@ _swcheck() {
                 report) command=$it options='--hints -h --help' valued='--hints' kinds=('file .toml') ;;
                 replay) command=$it options='--hints -h --help' valued='--hints' kinds=('file .toml' 'file .schedule') ;;
                 run) command=$it options='--workers --limit --hints -h --help' valued='--workers --limit --hints' kinds=('file .toml' 'file .load') ;;
-                migrate) command=$it options='-h --help' valued='' kinds=('file .toml') ;;
+                migrate) command=$it options='--hints -h --help' valued='--hints' kinds=('file .toml') ;;
                 explain) command=$it options='--all --hints -h --help' valued='--hints' kinds=('file .toml') ;;
                 draw) command=$it options='--flow --cycle --numbers --hints -h --help' valued='--flow --hints' kinds=('file .toml') ;;
                 rmap) command=$it options='--no-ack --transaction --hints -h --help' valued='--transaction --hints' kinds=('file .toml' 'none' 'texts read write' 'none' 'none') ;;
@@ -54,6 +54,7 @@ _swcheck() {
             report--hints) kind='file' ;;
             replay--hints) kind='file' ;;
             run--hints) kind='file' ;;
+            migrate--hints) kind='file' ;;
             explain--hints) kind='file' ;;
             draw--hints) kind='file' ;;
             rmap--hints) kind='file' ;;

@@ -10,7 +10,7 @@ function __swcheck_at --argument-names command count more
     test "$words[1]" = "$command"; or return 1
     set -e words[1]
     test -n "$count"; or return 0
-    set -l valued route--hints decide--hints check--hints report--hints replay--hints run--workers run--limit run--hints explain--hints draw--flow draw--hints rmap--transaction rmap--hints witness--tries witness--seed witness--hints
+    set -l valued route--hints decide--hints check--hints report--hints replay--hints run--workers run--limit run--hints migrate--hints explain--hints draw--flow draw--hints rmap--transaction rmap--hints witness--tries witness--seed witness--hints
     set -l at 0
     set -l plain no
     while set -q words[1]
@@ -63,6 +63,7 @@ complete -c swcheck -n '__swcheck_at run' -l hints -x -F -d 'auto: tell on stand
 complete -c swcheck -n '__swcheck_at run' -s h -l help -d 'Print help'
 complete -c swcheck -n '__swcheck_at run 0' -k -a '(__fish_complete_suffix .toml)' -d 'A network file'
 complete -c swcheck -n '__swcheck_at run 1' -k -a '(__fish_complete_suffix .load)' -d 'A load file'
+complete -c swcheck -n '__swcheck_at migrate' -l hints -x -F -d 'auto: tell on standard error how to mend a network file; never: do not'
 complete -c swcheck -n '__swcheck_at migrate' -s h -l help -d 'Print help'
 complete -c swcheck -n '__swcheck_at migrate 0' -k -a '(__fish_complete_suffix .toml)' -d 'A network file'
 complete -c swcheck -n '__swcheck_at explain' -l all -d 'Name each flow that makes a step, not just six of them'
