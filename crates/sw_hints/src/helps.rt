@@ -1,5 +1,7 @@
 //! What to do about a fault.
 ghost use Rattle.std.specs.Prelude.{◌≡◌, IfOk, List, Option, map, option_map, string_bytes};
+ghost use Rattle.std.specs.List.{list_any};
+ghost use Rattle.std.specs.Str.{bytes_eq};
 ghost use Rattle.sw_toml_table.specs.Keys.{key_text};
 ghost use Rattle.sw_toml_table.specs.Table.{is_known};
 ghost use Rattle.toml.specs.View.{table_view};
@@ -63,6 +65,20 @@ fn key_help(alloc: Global, section: Section, name: &str) -> Result<String, Alloc
     meant_help(alloc, like(alloc, name, &texts)?)
 }
 
+// Is the name one of these?
+fn is_among(names: &[&str], name: &str) -> bool
+    ensures { result ≡ list_any (λ t. bytes_eq t.now name.now) names.now }
+{
+    names.iter().any(|text| *text == name)
+}
+
+// The same, of what the names are.
+fn is_named(names: &[&str], name: &str) -> bool
+    ensures { result ≡ list_any (λ s. bytes_eq s name.now) (map (λ t. t.now) names.now) }
+{
+    is_among(names, name)
+}
+
 // What to do about a name of no node, where there may be a switch of the name.
 fn node_help(
     alloc: Global,
@@ -72,7 +88,7 @@ fn node_help(
 ) -> Result<String, AllocError>
     ensures { IfOk result (λ s. string_bytes s ≡ node_help name.now (map (λ t. t.now) nodes.now) (map (λ t. t.now) switches.now)) }
 {
-    if switches.iter().any(|switch| *switch == name) {
+    if is_named(switches, name) {
         return format!(in alloc; "'{name}' is a switch: flows go from a node to a node");
     }
     meant_help(alloc, like(alloc, name, nodes)?)
