@@ -1,1 +1,3 @@
+pub mod Firsts
 pub mod Named
+pub mod Pieces

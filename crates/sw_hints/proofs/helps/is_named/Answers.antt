@@ -1,4 +1,4 @@
-use Rattle.std.proofs.Common.{List, ℕ, ◌∙◌}
+use Rattle.std.proofs.Common.{◌∙◌}
 use Rattle.std.specs.Str.{bytes_eq}
 use Rattle.sw_hints.proofs.Named.{any_of_map}
 use Rattle.sw_hints.proofs.helps.is_named.Goals as goal
