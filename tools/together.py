@@ -69,10 +69,15 @@ def function_of(edit, crate):
     return around[-1] if around else None
 
 
+def functions_of(crate):
+    """The functions of the crate."""
+    files = [it for it in rt.rtlib.files_of(crate.folder) if it.endswith(".rt") and it.startswith(f"{crate.folder}/src/")]
+    return [it for file in files for it in functions_in(os.path.relpath(file, crate.folder), rt.rtlib.text_of(file))]
+
+
 def names_of(crate):
     """How often each name stands in the crate."""
-    files = [it for it in rt.rtlib.files_of(crate.folder) if it.endswith(".rt") and it.startswith(f"{crate.folder}/src/")]
-    return collections.Counter(it.name for file in files for it in functions_in(os.path.relpath(file, crate.folder), rt.rtlib.text_of(file)))
+    return collections.Counter(it.name for it in functions_of(crate))
 
 
 def text_of(edits):
@@ -119,6 +124,17 @@ def are_proved(crate, names, flags, kept):
     return ran.returncode == 0, ran.stdout
 
 
+def witness_of(batch, crate):
+    """The shortest function of the crate that no edit of the batch changes. It is checked with them, and has to be proved: else the check tells nothing."""
+    names, made = names_of(crate), functions_of(crate)
+    return min((it.end - it.begin, it.name) for it in made if names[it.name] == 1 and it.name not in batch)[1]
+
+
+def is_proved(name, lines):
+    """Whether the lines of a check say that the function is proved."""
+    return any(re.fullmatch(rf"fn \w+::(?:\w+::)*{re.escape(name)}: proved", it) for it in lines)
+
+
 def refused(batch, crate, flags, kept):
     """The edits of the batch that a check of its functions refuses, each by its own function, which are proved without them. Where a function calls
     another of them, the check tells perhaps only that: so what it does not tell is checked once more, each edit by itself."""
@@ -130,12 +146,14 @@ def refused(batch, crate, flags, kept):
 
 
 def refused_at_once(batch, crate, flags, kept):
-    """Those that one check refuses."""
+    """Those that one check refuses, in which a function without an edit is proved."""
     texts, why = rt.edited(text_of(batch.values()), crate.folder)
     if why:
         return set()
-    ran = rt.checked(crate, texts, [*flags, *only(batch)], kept)
+    witness = witness_of(batch, crate)
+    ran = rt.checked(crate, texts, [*flags, *only([*batch, witness])], kept)
     lines = ran.stdout.rstrip("\n").split("\n")
-    if ran.returncode != 1 or not lines[-1].startswith("only=") or rt.rtlib.STALE.search(ran.stdout) or any(rt.unread(it, texts) for it in lines):
+    is_read = lines[-1].startswith("only=") and not rt.rtlib.STALE.search(ran.stdout) and not any(rt.unread(it, texts) for it in lines)
+    if ran.returncode != 1 or not is_read or not is_proved(witness, lines):
         return set()
     return {edit for name, edit in batch.items() if is_refused(name, lines)}
