@@ -15,7 +15,7 @@ use Rattle.clap.specs.declared.error.Error.{Error}
 use Rattle.sw_args.specs.declared.command_line.Asked.{Asked}
 use Rattle.sw_args.specs.declared.command_line.WordsFault.{WordsFault}
 use Rattle.sw_args.specs.declared.command_line.WordsFault.TheVariants.{Help, Refused, Memory}
-use Rattle.sw_args.specs.CommandLine.{hints_rule, swcheck_app, with_hints, Gives, IsMatched, Refuses, ShowsKind, Tells, WithHints, WithMade}
+use Rattle.sw_args.specs.CommandLine.{swcheck_app, Gives, IsMade, IsMatched, Refuses, ShowsKind, Tells}
 
 swcheck_simple : is_simple swcheck_app ≡ true
 swcheck_simple = refl
@@ -77,18 +77,15 @@ refuses app words e (Refused text) is has shows =
       | inr known ↦ (kind_of e, known, shows)
     ]
 
--- the command is that of the app, and none of its arguments is global
-abbrev pub IsMade : App → Command → Type 0
-IsMade a c = (app_of c ≡ a) × ((out-Command c).has_globals ≡ false)
+-- a command that says what it is for
+pub described : (new about : Command) (a : App) (what : Bor (List ℕ)) → app_of new ≡ a → (out-Command new).has_globals ≡ false
+    → out-Command about ≡ record (out-Command new) { about = Some what } → IsMade a about
+described new about a what is local says = (ap app_of_fields says ∙ is, ap (λ (f : Command-F Command). f.has_globals) says ∙ local)
 
--- a command that says what it is for, with an example
-pub described : (new about shown : Command) (a : App) (what example : Bor (List ℕ)) → app_of new ≡ a → (out-Command new).has_globals ≡ false
-    → out-Command about ≡ record (out-Command new) { about = Some what } → out-Command shown ≡ record (out-Command about) { after_help = Some example }
-    → IsMade a shown
-described new about shown a what example is local says shows = (
-  ap app_of_fields shows ∙ ap app_of_fields says ∙ is,
-  ap (λ (f : Command-F Command). f.has_globals) shows ∙ ap (λ (f : Command-F Command). f.has_globals) says ∙ local,
-)
+-- a command that shows an example
+pub shown : (old new : Command) (a : App) (example : Bor (List ℕ)) → out-Command new ≡ record (out-Command old) { after_help = Some example }
+    → IsMade a old → IsMade a new
+shown old new a example shows (is, local) = (ap app_of_fields shows ∙ is, ap (λ (f : Command-F Command). f.has_globals) shows ∙ local)
 
 -- a command with one more argument
 pub with_argument : (old : Command) (arg : Arg) (new : Command) (a : App) (r : Rule) → IsMade a old → (rule_of arg ≡ r) × (arg.global ≡ false) → AddsArg old arg new
@@ -97,18 +94,5 @@ with_argument old arg new a r made is adds =
     (adds.shape is.1 ∙ (λ i. with_rule (made.0 i) (is.0 i)), adds.globals ∙ (λ i. made.1 i || is.1 i))
 
 -- a command with one more subcommand
-pub with_added : (old sub new : Command) (a b : App) → app_of old ≡ a → (app_of sub ≡ b) × ((out-Command sub).has_globals ≡ false) → AddsSubcommand old sub new
-    → app_of new ≡ with_subcommand a b.top
+pub with_added : (old sub new : Command) (a b : App) → app_of old ≡ a → IsMade b sub → AddsSubcommand old sub new → app_of new ≡ with_subcommand a b.top
 with_added old sub new a b first second adds = adds.shape second.1 ∙ (λ i. with_subcommand (first i) (second.0 i).top)
-
--- the same where the subcommand was made just before
-pub with_made : (old new : Command) (made : Result Command AllocError) (a b : App) → app_of old ≡ a
-    → IfOk made (λ c. (app_of c ≡ b) × ((out-Command c).has_globals ≡ false)) → WithMade old made new → app_of new ≡ with_subcommand a b.top
-with_made old new made a b first each (sub, is, adds) =
-    with_added old sub new a b first (subst (λ (m : Result Command AllocError). IfOk m (λ c. (app_of c ≡ b) × ((out-Command c).has_globals ≡ false))) is each) adds
-
--- a subcommand that was made, with the option `--hints`
-pub hinted : (made new : Result Command AllocError) (b : App) → IfOk made (IsMade b) → IfOk new (WithHints made) → IfOk new (IsMade (with_hints b))
-hinted made (Err e) b is adds = tt
-hinted made (Ok new) b is (old, made_is, adds) =
-    with_argument old adds.arg new b hints_rule (subst (λ (m : Result Command AllocError). IfOk m (IsMade b)) made_is is) (adds.rule, adds.local) adds.adds

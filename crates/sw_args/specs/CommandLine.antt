@@ -1,12 +1,11 @@
 -- The words that the program takes.
-use Rattle.std.specs.Prelude.{◌≡◌, ◌≢◌, ◌≤◌, ◌<◌, ◌⊎◌, ◌↔◌, ℕ, Bool, List, [], ◌∷◌, Option, Some, codes, false, option_map, pos, true, Result, Ok, Err}
+use Rattle.std.specs.Prelude.{◌≡◌, ◌≢◌, ◌≤◌, ◌<◌, ◌⊎◌, ◌↔◌, ℕ, Bool, List, [], ◌∷◌, Option, Some, codes, false, option_map, pos, true, Result, Ok, Err, IfOk}
 use Rattle.std.specs.Borrow.{Bor}
 use Rattle.std.specs.declared.alloc.AllocError.{AllocError}
-use Rattle.clap.specs.Built.{AddsArg, AddsSubcommand}
-use Rattle.clap.specs.declared.builder.arg.Arg.{Arg}
 use Rattle.clap.specs.declared.builder.command.Command.{Command}
+use Rattle.clap.specs.declared.builder.Command.TheViews.{out-Command}
 use Rattle.std.specs.Str.Parse.{IsNumeral, digits_value, without_leading_plus}
-use Rattle.clap.specs.Words.{App, Row, Rule, IsAmong, fault_of, first_of, new_app, new_rule, one_of, rule_of, subcommand_of, with_rule, with_subcommand}
+use Rattle.clap.specs.Words.{App, Row, Rule, IsAmong, app_of, fault_of, first_of, new_app, new_rule, one_of, subcommand_of, with_rule, with_subcommand}
 use Rattle.clap.specs.declared.builder.action.ArgAction.TheVariants.{SetTrue}
 use Rattle.clap.specs.declared.builder.value_parser.ValueParser.TheVariants.{Signed}
 use Rattle.clap.specs.declared.error.kind.ErrorKind.{ErrorKind}
@@ -135,20 +134,25 @@ swcheck_app =
     (with_hints rmap_app).top)
     (with_hints witness_app).top
 
--- a command with the option `--hints` besides
-pub record AddsHints (old new : Command) : Type 0 where
-  pub arg : Arg
-  pub rule : rule_of arg ≡ hints_rule
-  pub local : arg.global ≡ false
-  pub adds : AddsArg old arg new
+-- the command is that of the app
+abbrev pub IsOf : App → Command → Type 0
+IsOf app command = app_of command ≡ app
 
--- the command was made, and has that option besides
-abbrev pub WithHints : Result Command AllocError → Command → Type 0
-WithHints made new = (command : Command) × (made ≡ Ok command) × AddsHints command new
+-- and none of its arguments is one of its subcommands' too
+abbrev pub IsMade : App → Command → Type 0
+IsMade app command = IsOf app command × ((out-Command command).has_globals ≡ false)
 
--- the command has a subcommand that was made
-abbrev pub WithMade : Command → Result Command AllocError → Command → Type 0
-WithMade command made new = (subcommand : Command) × (made ≡ Ok subcommand) × AddsSubcommand command subcommand new
+-- whatever app the one command is of, the other, if it was made, is of that app with something more
+abbrev pub Makes : (App → App) → Result Command AllocError → Result Command AllocError → Type 0
+Makes more made new = (app : App) → IfOk made (IsMade app) → IfOk new (IsMade (more app))
+
+-- whatever app the subcommand is of, if it was made, the other command has it besides
+abbrev pub HasMade : Command → Result Command AllocError → Command → Type 0
+HasMade command subcommand new = (app below : App) → IsOf app command → IfOk subcommand (IsMade below) → IsOf (with_subcommand app below.top) new
+
+-- the same where the command was made too, and the subcommand has the option `--hints` in it
+abbrev pub Joins : Result Command AllocError → Result Command AllocError → Result Command AllocError → Type 0
+Joins made subcommand new = (app below : App) → IfOk made (IsOf app) → IfOk subcommand (IsMade below) → IfOk new (IsOf (with_subcommand app (with_hints below).top))
 
 -- the option's value is this number, written in decimal digits
 abbrev pub SaysNumber : List ℕ → List Row → ℕ → Type 0

@@ -1,9 +1,8 @@
 //! The words of the command line.
 ghost use Rattle.std.specs.Prelude.{◌≡◌, ◌<◌, ◌^◌, ℕ, option_map, true, false, IfOk, IfNone, IfSome};
-ghost use Rattle.clap.specs.Words.{app_of, first_of, found_of, kind_of, rows_of, rule_of};
-ghost use Rattle.clap.specs.declared.builder.Command.TheViews.{out-Command};
+ghost use Rattle.clap.specs.Words.{first_of, found_of, kind_of, new_app, rows_of, rule_of, with_rule};
 ghost use Rattle.sw_args.specs.declared.command_line.WordsFault.TheVariants.{Memory};
-ghost use Rattle.sw_args.specs.CommandLine.{check_app, count_rule, decide_app, draw_app, explain_app, flag_rule, migrate_app, option_rule, replay_app, report_app, required_value, rmap_app, route_app, run_app, swcheck_app, top_app, witness_app, hints_rule, AddsHints, IsCount, IsOption, IsSet, SaysNumber, ShowsKind, WithHints, WithMade};
+ghost use Rattle.sw_args.specs.CommandLine.{check_app, count_rule, decide_app, draw_app, explain_app, flag_rule, migrate_app, option_rule, replay_app, report_app, required_value, rmap_app, route_app, run_app, swcheck_app, top_app, witness_app, with_hints, HasMade, IsCount, IsMade, IsOf, IsOption, IsSet, Joins, Makes, SaysNumber, ShowsKind};
 
 use clap::error::ErrorKind;
 use clap::{Arg, ArgAction, ArgMatches, Command};
@@ -144,63 +143,6 @@ fn value_arg<'a>(alloc: Global, name: &'static str, help: &'static str) -> Arg<'
     Arg::new(alloc, name).required(true).help(help)
 }
 
-fn route_command<'a>(alloc: Global) -> Result<Command<'a>, AllocError>
-    ensures { IfOk result (λ c. (app_of c ≡ route_app) × ((out-Command c).has_globals ≡ false)) }
-{
-    let file = value_arg(alloc, "FILE", "A network file");
-    let flow = value_arg(
-        alloc,
-        "FLOW",
-        "The name of a flow, or NAME+reply of its replies",
-    );
-    let route = Command::new(alloc, "route").about(
-        "Print the places of a flow, and whether packets arrive rightly",
-    );
-    route.arg(file)?.arg(flow)
-}
-
-fn decide_command<'a>(alloc: Global) -> Result<Command<'a>, AllocError>
-    ensures { IfOk result (λ c. (app_of c ≡ decide_app) × ((out-Command c).has_globals ≡ false)) }
-{
-    let file = value_arg(alloc, "FILE", "A network file");
-    let decide = Command::new(alloc, "decide").about(
-        "Print a certificate that a network never locks up, or why there is none",
-    );
-    decide.arg(file)
-}
-
-fn report_command<'a>(alloc: Global) -> Result<Command<'a>, AllocError>
-    ensures { IfOk result (λ c. (app_of c ≡ report_app) × ((out-Command c).has_globals ≡ false)) }
-{
-    let file = value_arg(alloc, "FILE", "A network file");
-    let report = Command::new(alloc, "report").about(
-        "Print how many parts a network has, and the verdict on it",
-    );
-    report.arg(file)
-}
-
-fn check_command<'a>(alloc: Global) -> Result<Command<'a>, AllocError>
-    ensures { IfOk result (λ c. (app_of c ≡ check_app) × ((out-Command c).has_globals ≡ false)) }
-{
-    let file = value_arg(alloc, "FILE", "A network file");
-    let certificate = value_arg(alloc, "CERT", "A certificate file");
-    let check = Command::new(alloc, "check").about(
-        "Check a certificate that a network never locks up",
-    );
-    check.arg(file)?.arg(certificate)
-}
-
-fn replay_command<'a>(alloc: Global) -> Result<Command<'a>, AllocError>
-    ensures { IfOk result (λ c. (app_of c ≡ replay_app) × ((out-Command c).has_globals ≡ false)) }
-{
-    let file = value_arg(alloc, "FILE", "A network file");
-    let schedule = value_arg(alloc, "SCHEDULE", "A schedule file");
-    let replay = Command::new(alloc, "replay").about(
-        "Make the steps of a schedule, and print what comes of them",
-    );
-    replay.arg(file)?.arg(schedule)
-}
-
 // An option whose value is a number from 1 up to the most, the usual one if it is left out.
 fn count_arg<'a>(
     alloc: Global,
@@ -218,35 +160,6 @@ fn count_arg<'a>(
         .help(help)
 }
 
-fn run_command<'a>(alloc: Global) -> Result<Command<'a>, AllocError>
-    ensures { IfOk result (λ c. (app_of c ≡ run_app) × ((out-Command c).has_globals ≡ false)) }
-{
-    let run = Command::new(alloc, "run").about(
-        "Send the packets of a load through a network, and print what comes of them",
-    );
-    let run = run.arg(value_arg(alloc, "FILE", "A network file"))?;
-    let run = run.arg(value_arg(alloc, "LOAD", "A load file"))?;
-    let run = run.arg(count_arg(
-        alloc,
-        "workers",
-        "4",
-        MOST_WORKERS,
-        "How many threads work, 1 to 64",
-    ))?;
-    let help = "How many steps may be made, 1 to 16777216";
-    run.arg(count_arg(alloc, "limit", "1000000", MOST_STEPS, help))
-}
-
-fn migrate_command<'a>(alloc: Global) -> Result<Command<'a>, AllocError>
-    ensures { IfOk result (λ c. (app_of c ≡ migrate_app) × ((out-Command c).has_globals ≡ false)) }
-{
-    let file = value_arg(alloc, "FILE", "A network file");
-    let migrate = Command::new(alloc, "migrate").about(
-        "Print a network file of version 1 as one of version 2",
-    );
-    migrate.arg(file)
-}
-
 // An option that has no value: it is given or not.
 fn flag_arg<'a>(alloc: Global, name: &'static str, help: &'static str) -> Arg<'a>
     ensures { (rule_of result ≡ flag_rule name.now) × (result.global ≡ false) }
@@ -257,21 +170,6 @@ fn flag_arg<'a>(alloc: Global, name: &'static str, help: &'static str) -> Arg<'a
         .help(help)
 }
 
-fn explain_command<'a>(alloc: Global) -> Result<Command<'a>, AllocError>
-    ensures { IfOk result (λ c. (app_of c ≡ explain_app) × ((out-Command c).has_globals ≡ false)) }
-{
-    let file = value_arg(alloc, "FILE", "A network file");
-    let all = flag_arg(
-        alloc,
-        "all",
-        "Name each flow that makes a step, not just six of them",
-    );
-    let explain = Command::new(alloc, "explain")
-        .about("Print in words why a network can lock up, or that it never does")
-        .after_help("Example: swcheck explain examples/ring.toml");
-    explain.arg(file)?.arg(all)
-}
-
 // An option whose value is any text, which may be left out.
 fn option_arg<'a>(alloc: Global, name: &'static str, help: &'static str) -> Arg<'a>
     ensures { (rule_of result ≡ option_rule name.now) × (result.global ≡ false) }
@@ -279,112 +177,253 @@ fn option_arg<'a>(alloc: Global, name: &'static str, help: &'static str) -> Arg<
     Arg::new(alloc, name).long(name).help(help)
 }
 
-fn draw_command<'a>(alloc: Global) -> Result<Command<'a>, AllocError>
-    ensures { IfOk result (λ c. (app_of c ≡ draw_app) × ((out-Command c).has_globals ≡ false)) }
+// A subcommand without arguments, with what it does.
+fn subcommand<'a>(
+    alloc: Global,
+    name: &'static str,
+    about: &'static str,
+) -> Result<Command<'a>, AllocError>
+    ensures { IfOk result (IsMade (new_app name.now)) }
 {
-    let draw = Command::new(alloc, "draw")
-        .about("Print a drawing of a network, in the language DOT of Graphviz")
-        .after_help("Example: swcheck draw examples/ring.toml --cycle");
-    let draw = draw.arg(value_arg(alloc, "FILE", "A network file"))?;
+    Ok(Command::new(alloc, name).about(about))
+}
+
+// A command that was made, with an example of its use. So each of the next: they are made where there was memory for what was made before.
+fn with_example<'a>(
+    made: Result<Command<'a>, AllocError>,
+    example: &'static str,
+) -> Result<Command<'a>, AllocError>
+    ensures { Makes (λ a. a) made.entry result }
+{
+    Ok(made?.after_help(example))
+}
+
+// The same with a value that must be given.
+fn with_value<'a>(
+    alloc: Global,
+    made: Result<Command<'a>, AllocError>,
+    name: &'static str,
+    help: &'static str,
+) -> Result<Command<'a>, AllocError>
+    ensures { Makes (λ a. with_rule a (required_value name.now)) made.entry result }
+{
+    made?.arg(value_arg(alloc, name, help))
+}
+
+// The same with an option whose value is a number.
+fn with_count<'a>(
+    alloc: Global,
+    made: Result<Command<'a>, AllocError>,
+    name: &'static str,
+    usual: &'static str,
+    most: u32,
+    help: &'static str,
+) -> Result<Command<'a>, AllocError>
+    ensures { Makes (λ a. with_rule a (count_rule name.now usual.now most)) made.entry result }
+{
+    made?.arg(count_arg(alloc, name, usual, most, help))
+}
+
+// The same with an option that has no value.
+fn with_flag<'a>(
+    alloc: Global,
+    made: Result<Command<'a>, AllocError>,
+    name: &'static str,
+    help: &'static str,
+) -> Result<Command<'a>, AllocError>
+    ensures { Makes (λ a. with_rule a (flag_rule name.now)) made.entry result }
+{
+    made?.arg(flag_arg(alloc, name, help))
+}
+
+// The same with an option whose value is any text.
+fn with_option<'a>(
+    alloc: Global,
+    made: Result<Command<'a>, AllocError>,
+    name: &'static str,
+    help: &'static str,
+) -> Result<Command<'a>, AllocError>
+    ensures { Makes (λ a. with_rule a (option_rule name.now)) made.entry result }
+{
+    made?.arg(option_arg(alloc, name, help))
+}
+
+fn route_command<'a>(alloc: Global) -> Result<Command<'a>, AllocError>
+    ensures { IfOk result (IsMade route_app) }
+{
+    let about = "Print the places of a flow, and whether packets arrive rightly";
+    let help = "The name of a flow, or NAME+reply of its replies";
+    let route = subcommand(alloc, "route", about);
+    let route = with_value(alloc, route, "FILE", "A network file");
+    with_value(alloc, route, "FLOW", help)
+}
+
+fn decide_command<'a>(alloc: Global) -> Result<Command<'a>, AllocError>
+    ensures { IfOk result (IsMade decide_app) }
+{
+    let about = "Print a certificate that a network never locks up, or why there is none";
+    let decide = subcommand(alloc, "decide", about);
+    with_value(alloc, decide, "FILE", "A network file")
+}
+
+fn report_command<'a>(alloc: Global) -> Result<Command<'a>, AllocError>
+    ensures { IfOk result (IsMade report_app) }
+{
+    let about = "Print how many parts a network has, and the verdict on it";
+    let report = subcommand(alloc, "report", about);
+    with_value(alloc, report, "FILE", "A network file")
+}
+
+fn check_command<'a>(alloc: Global) -> Result<Command<'a>, AllocError>
+    ensures { IfOk result (IsMade check_app) }
+{
+    let about = "Check a certificate that a network never locks up";
+    let check = subcommand(alloc, "check", about);
+    let check = with_value(alloc, check, "FILE", "A network file");
+    with_value(alloc, check, "CERT", "A certificate file")
+}
+
+fn replay_command<'a>(alloc: Global) -> Result<Command<'a>, AllocError>
+    ensures { IfOk result (IsMade replay_app) }
+{
+    let about = "Make the steps of a schedule, and print what comes of them";
+    let replay = subcommand(alloc, "replay", about);
+    let replay = with_value(alloc, replay, "FILE", "A network file");
+    with_value(alloc, replay, "SCHEDULE", "A schedule file")
+}
+
+fn run_command<'a>(alloc: Global) -> Result<Command<'a>, AllocError>
+    ensures { IfOk result (IsMade run_app) }
+{
+    let about = "Send the packets of a load through a network, and print what comes of them";
+    let run = subcommand(alloc, "run", about);
+    let run = with_value(alloc, run, "FILE", "A network file");
+    let run = with_value(alloc, run, "LOAD", "A load file");
+    let help = "How many threads work, 1 to 64";
+    let run = with_count(alloc, run, "workers", "4", MOST_WORKERS, help);
+    let help = "How many steps may be made, 1 to 16777216";
+    with_count(alloc, run, "limit", "1000000", MOST_STEPS, help)
+}
+
+fn migrate_command<'a>(alloc: Global) -> Result<Command<'a>, AllocError>
+    ensures { IfOk result (IsMade migrate_app) }
+{
+    let about = "Print a network file of version 1 as one of version 2";
+    let migrate = subcommand(alloc, "migrate", about);
+    with_value(alloc, migrate, "FILE", "A network file")
+}
+
+fn explain_command<'a>(alloc: Global) -> Result<Command<'a>, AllocError>
+    ensures { IfOk result (IsMade explain_app) }
+{
+    let about = "Print in words why a network can lock up, or that it never does";
+    let explain = subcommand(alloc, "explain", about);
+    let explain = with_example(explain, "Example: swcheck explain examples/ring.toml");
+    let explain = with_value(alloc, explain, "FILE", "A network file");
+    let help = "Name each flow that makes a step, not just six of them";
+    with_flag(alloc, explain, "all", help)
+}
+
+fn draw_command<'a>(alloc: Global) -> Result<Command<'a>, AllocError>
+    ensures { IfOk result (IsMade draw_app) }
+{
+    let about = "Print a drawing of a network, in the language DOT of Graphviz";
+    let draw = subcommand(alloc, "draw", about);
+    let draw = with_example(draw, "Example: swcheck draw examples/ring.toml --cycle");
+    let draw = with_value(alloc, draw, "FILE", "A network file");
     let help = "A flow whose places are drawn bold";
-    let draw = draw.arg(option_arg(alloc, "flow", help))?;
+    let draw = with_option(alloc, draw, "flow", help);
     let help = "Draw the first shortest cycle red, its steps numbered";
-    let draw = draw.arg(flag_arg(alloc, "cycle", help))?;
+    let draw = with_flag(alloc, draw, "cycle", help);
     let help = "Write the numbers of the channels, where the network never locks up";
-    draw.arg(flag_arg(alloc, "numbers", help))
+    with_flag(alloc, draw, "numbers", help)
 }
 
 fn rmap_command<'a>(alloc: Global) -> Result<Command<'a>, AllocError>
-    ensures { IfOk result (λ c. (app_of c ≡ rmap_app) × ((out-Command c).has_globals ≡ false)) }
+    ensures { IfOk result (IsMade rmap_app) }
 {
-    let rmap = Command::new(alloc, "rmap")
-        .about("Print the entry of a load for an RMAP command of a flow")
-        .after_help("Example: swcheck rmap examples/rmap.toml w read 0xA0000000 16");
-    let rmap = rmap.arg(value_arg(alloc, "FILE", "A network file"))?;
-    let rmap = rmap.arg(value_arg(alloc, "FLOW", "The name of a flow to a target"))?;
-    let rmap = rmap.arg(value_arg(alloc, "ACTION", "read or write"))?;
+    let about = "Print the entry of a load for an RMAP command of a flow";
+    let example = "Example: swcheck rmap examples/rmap.toml w read 0xA0000000 16";
+    let rmap = with_example(subcommand(alloc, "rmap", about), example);
+    let rmap = with_value(alloc, rmap, "FILE", "A network file");
+    let rmap = with_value(alloc, rmap, "FLOW", "The name of a flow to a target");
+    let rmap = with_value(alloc, rmap, "ACTION", "read or write");
     let help = "The first address, decimal or 0x and hexadecimal";
-    let rmap = rmap.arg(value_arg(alloc, "ADDRESS", help))?;
+    let rmap = with_value(alloc, rmap, "ADDRESS", help);
     let help = "How many bytes are read, or the bytes that are written, as hexadecimal pairs";
-    let rmap = rmap.arg(value_arg(alloc, "VALUE", help))?;
-    let rmap = rmap.arg(flag_arg(alloc, "no-ack", "Ask for no reply to a write"))?;
+    let rmap = with_value(alloc, rmap, "VALUE", help);
+    let rmap = with_flag(alloc, rmap, "no-ack", "Ask for no reply to a write");
     let help = "The transaction identifier, 0 to 65535; 0 if left out";
-    rmap.arg(option_arg(alloc, "transaction", help))
+    with_option(alloc, rmap, "transaction", help)
 }
 
 fn witness_command<'a>(alloc: Global) -> Result<Command<'a>, AllocError>
-    ensures { IfOk result (λ c. (app_of c ≡ witness_app) × ((out-Command c).has_globals ≡ false)) }
+    ensures { IfOk result (IsMade witness_app) }
 {
-    let witness = Command::new(alloc, "witness")
-        .about("Look for a schedule of steps that locks a network up, and print it")
-        .after_help("Example: swcheck witness examples/ring.toml");
-    let witness = witness.arg(value_arg(alloc, "FILE", "A network file"))?;
+    let about = "Look for a schedule of steps that locks a network up, and print it";
+    let witness = subcommand(alloc, "witness", about);
+    let witness = with_example(witness, "Example: swcheck witness examples/ring.toml");
+    let witness = with_value(alloc, witness, "FILE", "A network file");
     let help = "How often to try, 1 to 1000000";
-    let witness = witness.arg(count_arg(alloc, "tries", "200", MOST_TRIES, help))?;
+    let witness = with_count(alloc, witness, "tries", "200", MOST_TRIES, help);
     let help = "Where the choices begin, 1 to 4294967295";
-    witness.arg(count_arg(alloc, "seed", "1", MOST_SEED, help))
+    with_count(alloc, witness, "seed", "1", MOST_SEED, help)
 }
 
-fn top_command<'a>(alloc: Global) -> Command<'a>
-    ensures { app_of result ≡ top_app }
+fn top_command<'a>(alloc: Global) -> Result<Command<'a>, AllocError>
+    ensures { IfOk result (IsOf top_app) }
 {
-    Command::new(alloc, "swcheck")
-        .about("Checks SpaceWire networks")
-        .subcommand_required(true)
+    let command = Command::new(alloc, "swcheck").about("Checks SpaceWire networks");
+    Ok(command.subcommand_required(true))
 }
 
-// The option that each subcommand has.
-fn hints_arg<'a>(alloc: Global) -> Arg<'a>
-    ensures { (rule_of result ≡ hints_rule) × (result.global ≡ false) }
-{
-    option_arg(
-        alloc,
-        "hints",
-        "auto: tell on standard error how to mend a network file; never: do not",
-    )
-}
-
-// A subcommand with that option.
-fn with_hints_arg<'a>(alloc: Global, subcommand: Command<'a>) -> Result<Command<'a>, AllocError>
-    ensures { IfOk result (AddsHints subcommand.entry) }
-{
-    subcommand.arg(hints_arg(alloc))
-}
-
-// The same, if there was memory for the subcommand.
+// A subcommand that was made, with the option that each has.
 fn with_hints<'a>(
     alloc: Global,
-    subcommand: Result<Command<'a>, AllocError>,
+    made: Result<Command<'a>, AllocError>,
 ) -> Result<Command<'a>, AllocError>
-    ensures { IfOk result (WithHints subcommand.entry) }
+    ensures { Makes with_hints made.entry result }
 {
-    with_hints_arg(alloc, subcommand?)
+    let help = "auto: tell on standard error how to mend a network file; never: do not";
+    with_option(alloc, made, "hints", help)
 }
 
-// A command with a subcommand that was made, if there was memory for both.
+// A command with a subcommand that was made, if there was memory for it.
 fn with_made<'a>(
     command: Command<'a>,
     subcommand: Result<Command<'a>, AllocError>,
 ) -> Result<Command<'a>, AllocError>
-    ensures { IfOk result (WithMade command.entry subcommand.entry) }
+    ensures { IfOk result (HasMade command.entry subcommand.entry) }
 {
     command.subcommand(subcommand?)
 }
 
-pub(crate) fn swcheck_command<'a>(alloc: Global) -> Result<Command<'a>, AllocError>
-    ensures { IfOk result (λ c. app_of c ≡ swcheck_app) }
+// A command that was made, with a subcommand that was made, which has the option `--hints` besides.
+fn with_subcommand<'a>(
+    alloc: Global,
+    made: Result<Command<'a>, AllocError>,
+    subcommand: Result<Command<'a>, AllocError>,
+) -> Result<Command<'a>, AllocError>
+    ensures { Joins made.entry subcommand.entry result }
 {
-    let command = with_made(top_command(alloc), with_hints(alloc, route_command(alloc)))?;
-    let command = with_made(command, with_hints(alloc, decide_command(alloc)))?;
-    let command = with_made(command, with_hints(alloc, check_command(alloc)))?;
-    let command = with_made(command, with_hints(alloc, report_command(alloc)))?;
-    let command = with_made(command, with_hints(alloc, replay_command(alloc)))?;
-    let command = with_made(command, with_hints(alloc, run_command(alloc)))?;
-    let command = with_made(command, with_hints(alloc, migrate_command(alloc)))?;
-    let command = with_made(command, with_hints(alloc, explain_command(alloc)))?;
-    let command = with_made(command, with_hints(alloc, draw_command(alloc)))?;
-    let command = with_made(command, with_hints(alloc, rmap_command(alloc)))?;
-    with_made(command, with_hints(alloc, witness_command(alloc)))
+    with_made(made?, with_hints(alloc, subcommand))
+}
+
+pub(crate) fn swcheck_command<'a>(alloc: Global) -> Result<Command<'a>, AllocError>
+    ensures { IfOk result (IsOf swcheck_app) }
+{
+    let command = top_command(alloc);
+    let command = with_subcommand(alloc, command, route_command(alloc));
+    let command = with_subcommand(alloc, command, decide_command(alloc));
+    let command = with_subcommand(alloc, command, check_command(alloc));
+    let command = with_subcommand(alloc, command, report_command(alloc));
+    let command = with_subcommand(alloc, command, replay_command(alloc));
+    let command = with_subcommand(alloc, command, run_command(alloc));
+    let command = with_subcommand(alloc, command, migrate_command(alloc));
+    let command = with_subcommand(alloc, command, explain_command(alloc));
+    let command = with_subcommand(alloc, command, draw_command(alloc));
+    let command = with_subcommand(alloc, command, rmap_command(alloc));
+    with_subcommand(alloc, command, witness_command(alloc))
 }
 
 // How an error of clap's is told. That of a growth that was refused is told as any other such.
