@@ -380,7 +380,7 @@ rmap_rules = required_at 1 (codes "FILE") ∷ required_at 2 (codes "FLOW") ∷ r
 
 abbrev pub run_rules : List Rule
 run_rules = required_at 1 (codes "FILE") ∷ required_at 2 (codes "LOAD") ∷ count_at 3 (codes "workers") (codes "4") most_workers
-    ∷ count_at 3 (codes "limit") (codes "1000000") most_steps ∷ hints_at 3 ∷ help_at 3 ∷ []
+    ∷ count_at 3 (codes "limit") (codes "1000000") most_steps ∷ option_at 3 (codes "schedule") ∷ hints_at 3 ∷ help_at 3 ∷ []
 
 abbrev pub witness_rules : List Rule
 witness_rules = required_at 1 (codes "FILE") ∷ count_at 2 (codes "tries") (codes "200") most_tries
@@ -496,6 +496,7 @@ run_given name words e =
     let two = required_at 2 (codes "LOAD") in
     let three = count_at 3 (codes "workers") (codes "4") most_workers in
     let four = count_at 3 (codes "limit") (codes "1000000") most_steps in
+    let five = option_at 3 (codes "schedule") in
     let start = (settled run_rules (walk run_rules [] nothing_held words).held).rows in
     let level = sound_gives name run_rules words (
       file_sound,
@@ -503,16 +504,19 @@ run_given name words e =
         required_sound 2 (codes "LOAD") (refl, refl, refl, refl),
         (
           count_sound 3 (codes "workers") (codes "4") most_workers workers_count,
-          (count_sound 3 (codes "limit") (codes "1000000") most_steps limit_counts, (hints_sound 3, (help_sound 3, tt))),
+          (
+            count_sound 3 (codes "limit") (codes "1000000") most_steps limit_counts,
+            (option_sound 3 (codes "schedule") (refl, refl, refl, refl), (hints_sound 3, (help_sound 3, tt))),
+          ),
         ),
       ),
     ) e in (
       given_value (codes "FILE") _ level.0 level.1.0,
       given_value (codes "LOAD") _ level.0 level.1.1.0,
       given_count (codes "workers") most_workers _ level.0
-          (count_there (one ∷ two ∷ []) (four ∷ hints_at 3 ∷ help_at 3 ∷ []) 3 (codes "workers") (codes "4") most_workers start) (λ id how v is counts. counts.0 is),
+          (count_there (one ∷ two ∷ []) (four ∷ five ∷ hints_at 3 ∷ help_at 3 ∷ []) 3 (codes "workers") (codes "4") most_workers start) (λ id how v is counts. counts.0 is),
       given_count (codes "limit") most_steps _ level.0
-          (count_there (one ∷ two ∷ three ∷ []) (hints_at 3 ∷ help_at 3 ∷ []) 3 (codes "limit") (codes "1000000") most_steps start) (λ id how v is counts. counts.1 is),
+          (count_there (one ∷ two ∷ three ∷ []) (five ∷ hints_at 3 ∷ help_at 3 ∷ []) 3 (codes "limit") (codes "1000000") most_steps start) (λ id how v is counts. counts.1 is),
     )
 
 pub witness_given : (name : Text) (words : List Text) → Level name witness_rules words

@@ -4,10 +4,10 @@ use Rattle.clap.specs.Words.{Row}
 use Rattle.sw_args.specs.CommandLine.{HasWorkers, IsCallOf, IsMatched}
 use Rattle.sw_args.specs.declared.command_line.Asked.{Asked}
 use Rattle.sw_args.specs.declared.command_line.Call.{Call}
-use Rattle.sw_args.specs.declared.command_line.Call.TheVariants.{Route, Decide, Check, Report, Replay, Run, Migrate, Explain, Draw, Rmap, Witness}
+use Rattle.sw_args.specs.declared.command_line.Call.TheVariants.{Route, Decide, Check, Report, Replay, Run, Migrate, Explain, Draw, Rmap, Mend, Witness}
 
 call_workers : (name : List ℕ) (values : List Row) (call : Call) → IsCallOf name values call → HasWorkers call
-call_workers name values (Run file load workers limit) (called, is_file, is_load, is_workers, is_limit) =
+call_workers name values (Run file load workers limit schedule) (called, is_file, is_load, is_workers, is_limit, is_schedule) =
     let least = is_workers.1 in
     omega (arith, least)
 call_workers name values (Route file flow) is = tt
@@ -19,6 +19,7 @@ call_workers name values (Migrate file) is = tt
 call_workers name values (Explain file all) is = tt
 call_workers name values (Draw file flow cycle numbers) is = tt
 call_workers name values (Rmap file flow action address value unacknowledged transaction) is = tt
+call_workers name values (Mend file) is = tt
 call_workers name values (Witness file tries seed) is = tt
 
 pub matched_workers : (found : Option (List ℕ × List Row)) (asked : Asked) → IsMatched found asked → HasWorkers asked.call

@@ -35,12 +35,14 @@ pub enum Call<'a> {
         file: &'a str,
         schedule: &'a str,
     },
-    /// What comes of a load of packets on a network file, by so many threads and in at most so many steps.
+    /// What comes of a load of packets on a network file, by so many threads and in at most so many steps, and in which file its steps are
+    /// to be written.
     Run {
         file: &'a str,
         load: &'a str,
         workers: u32,
         limit: u32,
+        schedule: Option<&'a str>,
     },
     /// A network file of version 1 as one of version 2.
     Migrate {
@@ -69,6 +71,10 @@ pub enum Call<'a> {
         unacknowledged: bool,
         transaction: Option<&'a str>,
     },
+    /// Which single change makes a network free.
+    Mend {
+        file: &'a str,
+    },
     /// A schedule that locks a network up, by so many tries, the first with this number.
     Witness {
         file: &'a str,
@@ -83,6 +89,9 @@ pub struct Asked<'a> {
     pub call: Call<'a>,
     pub hints: Option<&'a str>,
 }
+
+/// The program's version, and the toolchain that proves and builds it.
+const VERSION: &str = "0.9.0\nrattle-kit-13f logic dac8208d650f15bf";
 
 /// The most threads that `run` may be asked for.
 pub(crate) const MOST_WORKERS: u32 = 64;
@@ -254,6 +263,7 @@ fn route_command<'a>(alloc: Global) -> Result<Command<'a>, AllocError>
     let about = "Print the places of a flow, and whether packets arrive rightly";
     let help = "The name of a flow, or NAME+reply of its replies";
     let route = subcommand(alloc, "route", about);
+    let route = with_example(route, "Example: swcheck route examples/line.toml f");
     let route = with_value(alloc, route, "FILE", "A network file");
     with_value(alloc, route, "FLOW", help)
 }
@@ -263,6 +273,7 @@ fn decide_command<'a>(alloc: Global) -> Result<Command<'a>, AllocError>
 {
     let about = "Print a certificate that a network never locks up, or why there is none";
     let decide = subcommand(alloc, "decide", about);
+    let decide = with_example(decide, "Example: swcheck decide examples/ring.toml");
     with_value(alloc, decide, "FILE", "A network file")
 }
 
@@ -271,6 +282,7 @@ fn report_command<'a>(alloc: Global) -> Result<Command<'a>, AllocError>
 {
     let about = "Print how many parts a network has, and the verdict on it";
     let report = subcommand(alloc, "report", about);
+    let report = with_example(report, "Example: swcheck report examples/ring.toml");
     with_value(alloc, report, "FILE", "A network file")
 }
 
@@ -279,6 +291,10 @@ fn check_command<'a>(alloc: Global) -> Result<Command<'a>, AllocError>
 {
     let about = "Check a certificate that a network never locks up";
     let check = subcommand(alloc, "check", about);
+    let check = with_example(
+        check,
+        "Example: swcheck check examples/turn.toml examples/turn.cert",
+    );
     let check = with_value(alloc, check, "FILE", "A network file");
     with_value(alloc, check, "CERT", "A certificate file")
 }
@@ -288,6 +304,8 @@ fn replay_command<'a>(alloc: Global) -> Result<Command<'a>, AllocError>
 {
     let about = "Make the steps of a schedule, and print what comes of them";
     let replay = subcommand(alloc, "replay", about);
+    let example = "Example: swcheck replay examples/line.toml examples/line.schedule";
+    let replay = with_example(replay, example);
     let replay = with_value(alloc, replay, "FILE", "A network file");
     with_value(alloc, replay, "SCHEDULE", "A schedule file")
 }
@@ -297,12 +315,18 @@ fn run_command<'a>(alloc: Global) -> Result<Command<'a>, AllocError>
 {
     let about = "Send the packets of a load through a network, and print what comes of them";
     let run = subcommand(alloc, "run", about);
+    let run = with_example(
+        run,
+        "Example: swcheck run examples/turn.toml examples/turn.load",
+    );
     let run = with_value(alloc, run, "FILE", "A network file");
     let run = with_value(alloc, run, "LOAD", "A load file");
     let help = "How many threads work, 1 to 64";
     let run = with_count(alloc, run, "workers", "4", MOST_WORKERS, help);
     let help = "How many steps may be made, 1 to 16777216";
-    with_count(alloc, run, "limit", "1000000", MOST_STEPS, help)
+    let run = with_count(alloc, run, "limit", "1000000", MOST_STEPS, help);
+    let help = "A file to write the steps to, as a schedule";
+    with_option(alloc, run, "schedule", help)
 }
 
 fn migrate_command<'a>(alloc: Global) -> Result<Command<'a>, AllocError>
@@ -310,6 +334,7 @@ fn migrate_command<'a>(alloc: Global) -> Result<Command<'a>, AllocError>
 {
     let about = "Print a network file of version 1 as one of version 2";
     let migrate = subcommand(alloc, "migrate", about);
+    let migrate = with_example(migrate, "Example: swcheck migrate examples/ring.toml");
     with_value(alloc, migrate, "FILE", "A network file")
 }
 
@@ -357,6 +382,15 @@ fn rmap_command<'a>(alloc: Global) -> Result<Command<'a>, AllocError>
     with_option(alloc, rmap, "transaction", help)
 }
 
+fn mend_command<'a>(alloc: Global) -> Result<Command<'a>, AllocError>
+    ensures { IfOk result (IsMade mend_app) }
+{
+    let about = "Print each single change that makes a network free, or that there is none";
+    let mend = subcommand(alloc, "mend", about);
+    let mend = with_example(mend, "Example: swcheck mend examples/ring.toml");
+    with_value(alloc, mend, "FILE", "A network file")
+}
+
 fn witness_command<'a>(alloc: Global) -> Result<Command<'a>, AllocError>
     ensures { IfOk result (IsMade witness_app) }
 {
@@ -374,7 +408,7 @@ fn top_command<'a>(alloc: Global) -> Result<Command<'a>, AllocError>
     ensures { IfOk result (IsOf top_app) }
 {
     let command = Command::new(alloc, "swcheck").about("Checks SpaceWire networks");
-    Ok(command.subcommand_required(true))
+    Ok(command.version(VERSION).subcommand_required(true))
 }
 
 // A subcommand that was made, with the option that each has.
@@ -423,6 +457,7 @@ pub(crate) fn swcheck_command<'a>(alloc: Global) -> Result<Command<'a>, AllocErr
     let command = with_subcommand(alloc, command, explain_command(alloc));
     let command = with_subcommand(alloc, command, draw_command(alloc));
     let command = with_subcommand(alloc, command, rmap_command(alloc));
+    let command = with_subcommand(alloc, command, mend_command(alloc));
     with_subcommand(alloc, command, witness_command(alloc))
 }
 

@@ -38,10 +38,9 @@ fn call_of<'a>(name: &str, values: &ArgMatches<'a>) -> Option<Call<'a>>
             load: value_of(values, "LOAD")?,
             workers: count_of(values, "workers", MOST_WORKERS)?,
             limit: count_of(values, "limit", MOST_STEPS)?,
+            schedule: option_of(values, "schedule"),
         }),
-        "migrate" => Some(Call::Migrate {
-            file: value_of(values, "FILE")?,
-        }),
+        "migrate" => Some(Call::Migrate { file }),
         "explain" => Some(Call::Explain {
             file,
             all: is_set(values, "all"),
@@ -64,6 +63,7 @@ fn call_of<'a>(name: &str, values: &ArgMatches<'a>) -> Option<Call<'a>>
                 transaction: option_of(values, "transaction"),
             })
         }
+        "mend" => Some(Call::Mend { file }),
         "witness" => Some(Call::Witness {
             file,
             tries: count_of(values, "tries", MOST_TRIES)?,

@@ -9,6 +9,7 @@ use crate::told::{no_access, no_hints};
 use std::rt::Files;
 use std::sync::Wait;
 use std::thread::Threads;
+use std::time::Clock;
 use std::{fs, io};
 use sw_app::{check, decide, migrate, replay, report, route};
 use sw_app_draw::{DrawOptions, draw};
@@ -18,36 +19,55 @@ use sw_app_run::{Open, Options};
 use sw_app_witness::witness;
 use sw_args::{Asked, Call, WordsFault, words};
 use sw_command::Ended;
+use sw_run::with_progress;
 
-/// Makes the call that the words ask for, and tells how it ended; they begin with the program's name.
+/// Makes the call that the words ask for, and tells how it ended; they begin with the program's name. Where standard error is a terminal, a
+/// call of more than a second shows there for how long it has gone on.
 ///
 /// # Errors
 ///
 /// `Help`: the words ask for help. `Refused`: something is wrong with them. Both have the text to print. `Memory`: there is no
 /// memory to read the words; this tells nothing of them. No call is made.
-pub fn run_words<'a, R: Files + Print + Eprint + AllocGlobal + Threads + Wait + Sync>(
+pub fn run_words<'a, R: Files + Print + Eprint + AllocGlobal + Clock + Threads + Wait + Sync>(
     rt: &R,
     given: &'a [&'a str],
+    is_terminal: bool,
 ) -> Result<Ended, WordsFault>
     ensures call { IfOk result (λ _. (asked : Asked) × Gives (map (λ s. s.now) given.entry.now) asked) }
     ensures fault { IfErr result (Refuses (map (λ s. s.now) given.entry.now)) }
 {
     match words(rt.alloc(), given) {
-        Ok(asked) => Ok(run_asked(rt, asked)),
+        Ok(asked) => Ok(run_asked(rt, asked, is_terminal)),
         Err(fault) => Err(fault),
     }
 }
 
-fn run_asked<R: Files + Print + Eprint + AllocGlobal + Threads + Wait + Sync>(
+fn run_asked<R: Files + Print + Eprint + AllocGlobal + Clock + Threads + Wait + Sync>(
     rt: &R,
     asked: Asked<'_>,
+    is_terminal: bool,
 ) -> Ended
     requires { HasWorkers asked.call }
 {
     let call = asked.call;
     match hints_of(asked.hints) {
-        Some(hints) => hinted(rt, file_of(&call), hints, run_call(rt, call)),
+        Some(hints) => hinted(rt, file_of(&call), hints, run_shown(rt, call, is_terminal)),
         None => no_hints(rt),
+    }
+}
+
+// The call; on a terminal it shows, while it goes on, for how long it has.
+fn run_shown<R: Files + Print + Eprint + AllocGlobal + Clock + Threads + Wait + Sync>(
+    rt: &R,
+    call: Call<'_>,
+    is_terminal: bool,
+) -> Ended
+    requires { HasWorkers call }
+{
+    if is_terminal {
+        with_progress(rt, || run_call(rt, call))
+    } else {
+        run_call(rt, call)
     }
 }
 

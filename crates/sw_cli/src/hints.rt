@@ -52,6 +52,7 @@ pub(crate) fn file_of<'a>(call: &Call<'a>) -> &'a str
             load: _,
             workers: _,
             limit: _,
+            schedule: _,
         } => file,
         Call::Migrate { file } => file,
         Call::Explain { file, all: _ } => file,
@@ -70,6 +71,7 @@ pub(crate) fn file_of<'a>(call: &Call<'a>) -> &'a str
             unacknowledged: _,
             transaction: _,
         } => file,
+        Call::Mend { file } => file,
         Call::Witness {
             file,
             tries: _,

@@ -4,12 +4,14 @@ use crate::told::{finished, not_text, refused};
 use std::rt::{Env, Files};
 use std::sync::Wait;
 use std::thread::Threads;
+use std::time::Clock;
 use std::{env, io};
 use sw_args::WordsFault;
 
-/// Does what the words say that the program was given, and answers its status.
-pub fn run_program<R: Env + Files + Print + Eprint + AllocGlobal + Threads + Wait + Sync>(
+/// Does what the words say that the program was given, and answers its status. It is told whether standard error is a terminal.
+pub fn run_program<R: Env + Files + Print + Eprint + AllocGlobal + Clock + Threads + Wait + Sync>(
     rt: &R,
+    is_terminal: bool,
 ) -> u8 {
     let given = match env::args(rt) {
         Ok(given) => given,
@@ -22,18 +24,19 @@ pub fn run_program<R: Env + Files + Print + Eprint + AllocGlobal + Threads + Wai
     let Ok(texts) = given.collect::<Vec<String>>(rt.alloc()) else {
         return refused(rt, &WordsFault::Memory);
     };
-    run_texts(rt, texts.as_slice())
+    run_texts(rt, texts.as_slice(), is_terminal)
 }
 
-fn run_texts<R: Files + Print + Eprint + AllocGlobal + Threads + Wait + Sync>(
+fn run_texts<R: Files + Print + Eprint + AllocGlobal + Clock + Threads + Wait + Sync>(
     rt: &R,
     texts: &[String],
+    is_terminal: bool,
 ) -> u8 {
     let views = texts.iter().map(|text| text.as_str());
     let Ok(views) = views.collect::<Vec<&str>>(rt.alloc()) else {
         return refused(rt, &WordsFault::Memory);
     };
-    match run_words(rt, views.as_slice()) {
+    match run_words(rt, views.as_slice(), is_terminal) {
         Ok(ended) => finished(rt, ended),
         Err(fault) => refused(rt, &fault),
     }
