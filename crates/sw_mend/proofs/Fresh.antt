@@ -54,7 +54,7 @@ fresh_flow change flows i f now apart here is =
     ap (λ l. list_any (bytes_eq f.name) (flow_names l)) is ∙ left_without change 0 f.name (take i flows) before
 
 -- no more flows are left than there were
-few_left : (change : Change) (n : ℕ) (flows : List FlowEntry) → length (by_number (flow_after change) n flows) ≤ length flows
+pub few_left : (change : Change) (n : ℕ) (flows : List FlowEntry) → length (by_number (flow_after change) n flows) ≤ length flows
 few_left change n [] = omega arith
 few_left change n (f ∷ flows) =
     elim (cases_Bool (loses_flow change n f)) [

@@ -5,3 +5,5 @@ mod Linked
 mod OneMore
 mod Told
 mod Verdicts
+mod Determined
+mod Kept

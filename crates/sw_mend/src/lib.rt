@@ -3,6 +3,7 @@
 
 mod change;
 mod flows;
+pub mod laws;
 mod listing;
 mod mending;
 mod parts;
