@@ -33,11 +33,7 @@ fn told(alloc: Global, network: &Network, changes: &[Change]) -> Result<Answer, 
 }
 
 // The answer where channels can wait for one another.
-fn mended<T: Threads + Sync>(
-    rt: &T,
-    alloc: Global,
-    network: &Network,
-) -> Result<Answer, AllocError>
+fn mended<T: Threads + Sync>(rt: &T, alloc: Global, network: &Network) -> Result<Answer, AllocError>
     ensures { IfOk result (λ a. IsMended network.now (string_bytes a.text) a.status) }
 {
     let changes = mends(rt, alloc, network)?;

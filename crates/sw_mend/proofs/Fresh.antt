@@ -20,10 +20,10 @@ pub fresh : (names : List (List ℕ)) (i : ℕ) (name : List ℕ) → AllPairs (
 fresh names i name apart here =
     let within : i < length names = slice_get_within names i name here in
     list_any_none (bytes_eq name) (take i names) (λ k d lt.
-      let short : k < i = omega (arith, length-take-le i names (omega arith)) in
-      let at : get_or (take i names) k d ≡ get_or names k d = get_or-take i names k d short in
-      let mine : get_or names i d ≡ name = get_or_from_slice_get names i name d here in
-      differ name (get_or (take i names) k d) (λ same. apart k i d short within (sym at ∙ sym same ∙ sym mine)))
+    let short : k < i = omega (arith, length-take-le i names (omega arith)) in
+    let at : get_or (take i names) k d ≡ get_or names k d = get_or-take i names k d short in
+    let mine : get_or names i d ≡ name = get_or_from_slice_get names i name d here in
+    differ name (get_or (take i names) k d) (λ same. apart k i d short within (sym at ∙ sym same ∙ sym mine)))
 
 named_at : {A : Type 0} (f : A → List ℕ) (xs : List A) (i : ℕ) (x : A) → slice_get xs i ≡ Some x → slice_get (map f xs) i ≡ Some (f x)
 named_at f [] i x here = absurd cc

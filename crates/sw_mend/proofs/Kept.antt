@@ -75,7 +75,7 @@ table_left change switch routes table = record {
       0 routes table.valid;
   apart = pairs_made (route_after change switch) (λ r q. overlaps r q ≡ false) (λ r q. overlaps r q ≡ false)
       (λ k l r q is. all_if (λ u. All (λ v. overlaps u v ≡ false) (route_after change switch l q)) (loses_entry change switch k) (record r { ports = ports_after change switch k r.ports })
-        (all_if (λ v. overlaps r v ≡ false) (loses_entry change switch l) (record q { ports = ports_after change switch l q.ports }) is))
+      (all_if (λ v. overlaps r v ≡ false) (loses_entry change switch l) (record q { ports = ports_after change switch l q.ports }) is))
       (λ k r. pairs_if (λ u v. overlaps u v ≡ false) (loses_entry change switch k) (record r { ports = ports_after change switch k r.ports }))
       0 routes table.apart;
 }
@@ -104,10 +104,10 @@ names_left : (change : Change) (flows : List FlowEntry) → AllPairs (λ x y. x 
 names_left change flows named =
     pairs_mapped (λ (x y : List ℕ). x ≢ y) (λ (f : FlowEntry). f.name) (by_number (flow_after change) 0 flows)
     (pairs_made (flow_after change) (λ (f g : FlowEntry). f.name ≢ g.name) (λ (f g : FlowEntry). f.name ≢ g.name)
-      (λ k l f g is. all_if (λ (u : FlowEntry). All (λ (v : FlowEntry). u.name ≢ v.name) (flow_after change l g)) (loses_flow change k f) (flow_kept change k f)
-        (all_if (λ (v : FlowEntry). f.name ≢ v.name) (loses_flow change l g) (flow_kept change l g) is))
-      (λ k f. pairs_if (λ (u v : FlowEntry). u.name ≢ v.name) (loses_flow change k f) (flow_kept change k f))
-      0 flows (pairs_of_map (λ (x y : List ℕ). x ≢ y) (λ (f : FlowEntry). f.name) flows named))
+    (λ k l f g is. all_if (λ (u : FlowEntry). All (λ (v : FlowEntry). u.name ≢ v.name) (flow_after change l g)) (loses_flow change k f) (flow_kept change k f)
+    (all_if (λ (v : FlowEntry). f.name ≢ v.name) (loses_flow change l g) (flow_kept change l g) is))
+    (λ k f. pairs_if (λ (u v : FlowEntry). u.name ≢ v.name) (loses_flow change k f) (flow_kept change k f))
+    0 flows (pairs_of_map (λ (x y : List ℕ). x ≢ y) (λ (f : FlowEntry). f.name) flows named))
 
 -- ---- the whole
 

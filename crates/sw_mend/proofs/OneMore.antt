@@ -55,7 +55,7 @@ pub switch_more : (change : Change) (switches : List SwitchEntry) (i : ℕ) (nam
     → option_map (λ (e : SwitchEntry). e.arbitration) (slice_get switches i) ≡ Some arbitration
     → routes ≡ routes_of switches i → table ≡ by_number (route_after change i) 0 routes
     → by_number (switch_after change) 0 (take (i + 1) switches)
-      ≡ by_number (switch_after change) 0 (take i switches) ++ record { name = name; arbitration = arbitration; routes = table } ∷ []
+    ≡ by_number (switch_after change) 0 (take i switches) ++ record { name = name; arbitration = arbitration; routes = table } ∷ []
 switch_more change switches i name arbitration routes table lt named arbitrates has left =
     elim (slice_get_cases switches i).1 [
       | inl found ↦

@@ -9,11 +9,14 @@ use Rattle.sw_mend.specs.declared.change.Change.{Change}
 module _ (d : Declaration) (change : Change) where
   pub one_told : (changes told : List Change) → AreThoseThatFree d changes told → Frees d change → AreThoseThatFree d (changes ++ change ∷ []) (told ++ change ∷ [])
   one_told [] told those frees = ([], refl, inl (frees, ap (λ l. l ++ change ∷ []) those))
-  one_told (c ∷ changes) told those frees =
-      (those.0 ++ change ∷ [], one_told changes those.0 those.1 frees, elim those.2 [
-        | inl told_first ↦ inl (told_first.0, ap (λ l. l ++ change ∷ []) told_first.1)
-        | inr left ↦ inr (left.0, ap (λ l. l ++ change ∷ []) left.1)
-      ])
+  one_told (c ∷ changes) told those frees = (
+    those.0 ++ change ∷ [],
+    one_told changes those.0 those.1 frees,
+    elim those.2 [
+      | inl told_first ↦ inl (told_first.0, ap (λ l. l ++ change ∷ []) told_first.1)
+      | inr left ↦ inr (left.0, ap (λ l. l ++ change ∷ []) left.1)
+    ],
+  )
 
   pub none_told : (changes told : List Change) → AreThoseThatFree d changes told → (Frees d change → ⊥) → AreThoseThatFree d (changes ++ change ∷ []) told
   none_told [] told those never = ([], refl, inr (never, those))

@@ -19,7 +19,10 @@ pub enum Change {
         port: Port,
     },
     /// The entry of the switch's routing table is gone.
-    WithoutEntry { switch: u16, entry: usize },
+    WithoutEntry {
+        switch: u16,
+        entry: usize,
+    },
     /// All flows from and to the node are gone.
     WithoutFlowsOf(u16),
 }

@@ -78,12 +78,7 @@ fn with_reply(
 }
 
 // What is left of a flow that stays.
-fn kept_flow(
-    alloc: Global,
-    change: &Change,
-    number: u16,
-    flow: &Flow,
-) -> Result<Flow, AllocError>
+fn kept_flow(alloc: Global, change: &Change, number: u16, flow: &Flow) -> Result<Flow, AllocError>
     ensures { IfOk result (λ f. f ≡ flow_kept change.now number flow.now) }
 {
     with_reply(alloc, flow, kept_reply(alloc, change, number, flow))

@@ -114,11 +114,7 @@ fn add_group(
 }
 
 // One port of one group of these away.
-fn add_groups_of(
-    switch: u16,
-    routes: &[Route],
-    changes: &mut Vec<Change>,
-) -> Result<(), AllocError>
+fn add_groups_of(switch: u16, routes: &[Route], changes: &mut Vec<Change>) -> Result<(), AllocError>
     ensures { OnOk result (changes.new.items ≡ changes.old.items ++ by_number (ports_away switch) 0 routes.now) }
 {
     for (entry, route) in routes.iter().enumerate() {
@@ -128,11 +124,7 @@ fn add_groups_of(
 }
 
 // One port of one group of the switch's table away.
-fn add_groups(
-    network: &Network,
-    switch: u16,
-    changes: &mut Vec<Change>,
-) -> Result<(), AllocError>
+fn add_groups(network: &Network, switch: u16, changes: &mut Vec<Change>) -> Result<(), AllocError>
     requires { switch < length network.now.switches }
     ensures { OnOk result (changes.new.items ≡ changes.old.items ++ made_at group_ports_away network.now.switches switch) }
 {
@@ -164,11 +156,7 @@ fn add_entries_of(
 }
 
 // One entry of the switch's table away.
-fn add_entries(
-    network: &Network,
-    switch: u16,
-    changes: &mut Vec<Change>,
-) -> Result<(), AllocError>
+fn add_entries(network: &Network, switch: u16, changes: &mut Vec<Change>) -> Result<(), AllocError>
     requires { switch < length network.now.switches }
     ensures { OnOk result (changes.new.items ≡ changes.old.items ++ made_at entries_away network.now.switches switch) }
 {

@@ -19,5 +19,5 @@ returns c =
     let at_b = rw c.topology-topology.ensures.wiring at c.start_of-b.ensures.place in
     IfOk-weaker c.add_link.result _ _
     (λ _ e. link_built c.args.network.now.links c.args.link c.new-there.result c.new-back.result _ _ _ _ _ _ c.requires.within c.new-there.ensures c.new-back.ensures at_a at_b
-      c.capacity-buffer_a.ensures.capacity c.capacity-buffer_b.ensures.capacity c.requires.before e)
+    c.capacity-buffer_a.ensures.capacity c.capacity-buffer_b.ensures.capacity c.requires.before e)
     c.add_link.ensures.ok
