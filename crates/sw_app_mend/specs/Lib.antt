@@ -1,0 +1,2 @@
+pub mod MendTexts
+pub mod MendAnswers

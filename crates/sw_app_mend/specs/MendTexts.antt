@@ -1,0 +1,49 @@
+-- The text of `mend` (this project's choice).
+use Rattle.std.specs.Prelude.{ℕ, ◌==◌, List, [], ◌∷◌, codes, flat_map, if◌then◌else◌, slice_get}
+use Rattle.std.specs.Option.{option_map_or}
+use Rattle.std.specs.Fmt.{decimal}
+use Rattle.sw_config.specs.Entries.{Declaration, routes_of}
+use Rattle.sw_mend.specs.declared.change.Change.{Change}
+use Rattle.sw_mend.specs.declared.change.Change.TheVariants.{WithoutReply, WithoutFlow, WithoutAnswers, WithoutPort, WithoutEntry, WithoutFlowsOf}
+use Rattle.sw_output.specs.ChannelTexts.{node_name, switch_name}
+use Rattle.sw_output.specs.FlowTexts.{flow_name}
+use Rattle.sw_output.specs.Lines.{line, spaced}
+
+-- the addresses that a table entry is for
+abbrev pub addresses_words : ℕ → ℕ → List ℕ
+addresses_words first last =
+    if first == last then spaced (codes "address" ∷ decimal first ∷ [])
+    else spaced (codes "addresses" ∷ decimal first ∷ codes "to" ∷ decimal last ∷ [])
+
+-- those of the entry of that number of that switch's table
+abbrev pub entry_words : Declaration → ℕ → ℕ → List ℕ
+entry_words d switch entry = option_map_or (λ r. addresses_words r.first r.last) (slice_get (routes_of d.switches switch) entry) []
+
+-- that a network is free without this
+abbrev pub mend_line : Declaration → Change → List ℕ
+mend_line d (WithoutReply flow) = line (codes "free without the reply of" ∷ flow_name d flow ∷ [])
+mend_line d (WithoutFlow flow) = line (codes "free without the flow" ∷ flow_name d flow ∷ [])
+mend_line d (WithoutAnswers node) = line (codes "free without any reply of" ∷ node_name d node ∷ [])
+mend_line d (WithoutPort switch entry port) =
+    line (codes "free without port" ∷ decimal port ∷ codes "for" ∷ entry_words d switch entry ∷ codes "at" ∷ switch_name d switch ∷ [])
+mend_line d (WithoutEntry switch entry) =
+    line (codes "free without the entry for" ∷ entry_words d switch entry ∷ codes "at" ∷ switch_name d switch ∷ [])
+mend_line d (WithoutFlowsOf node) = line (codes "free without the flows from and to" ∷ node_name d node ∷ [])
+
+-- that no change does
+abbrev pub none_line : List ℕ
+none_line = line (codes "no single change frees it" ∷ [])
+
+-- a line for each change that frees the network, or that there is none
+abbrev pub mends_text : Declaration → List Change → List ℕ
+mends_text d [] = none_line
+mends_text d (change ∷ changes) = flat_map (mend_line d) (change ∷ changes)
+
+-- 0 where some change frees the network
+abbrev pub mends_status : List Change → ℕ
+mends_status [] = 1
+mends_status (change ∷ changes) = 0
+
+-- that there is nothing to mend
+abbrev pub free_line : List ℕ
+free_line = line (codes "free already" ∷ [])

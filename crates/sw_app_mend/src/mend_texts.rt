@@ -1,0 +1,174 @@
+//! The lines of `mend`.
+ghost use Rattle.std.specs.Prelude.{◌≡◌, IfOk, flat_map, string_bytes};
+ghost use Rattle.sw_output.specs.ChannelTexts.{switch_name};
+ghost use Rattle.sw_app_mend.specs.MendTexts.{addresses_words, entry_words, free_line, mend_line, mends_status, mends_text, none_line};
+
+use std::alloc::{AllocError, Global};
+use sw_command::statuses::{BAD, GOOD};
+use sw_config::Network;
+use sw_mend::Change;
+use sw_output::{flow_name, node_name};
+use sw_topo::Port;
+
+// The switch's name.
+fn switch_name(network: &Network, switch: u16) -> &str
+    ensures { result.now ≡ switch_name network.now switch }
+{
+    if switch < network.switches() {
+        network.switch_name(switch)
+    } else {
+        ""
+    }
+}
+
+// The addresses that a table entry is for.
+fn addresses_words(alloc: Global, first: u8, last: u8) -> Result<String, AllocError>
+    ensures { IfOk result (λ s. string_bytes s ≡ addresses_words first last) }
+{
+    if first == last {
+        format!(in alloc; "address {first}")
+    } else {
+        format!(in alloc; "addresses {first} to {last}")
+    }
+}
+
+// Those of the entry of that number of the switch's table.
+fn entry_words(
+    alloc: Global,
+    network: &Network,
+    switch: u16,
+    entry: usize,
+) -> Result<String, AllocError>
+    ensures { IfOk result (λ s. string_bytes s ≡ entry_words network.now switch entry) }
+{
+    if switch >= network.switches() {
+        return Ok(String::new(alloc));
+    }
+    match network.routes(switch).get(entry) {
+        Some(route) => addresses_words(alloc, route.first, route.last),
+        None => Ok(String::new(alloc)),
+    }
+}
+
+fn without_reply(alloc: Global, network: &Network, flow: u16) -> Result<String, AllocError>
+    ensures { IfOk result (λ s. string_bytes s ≡ mend_line network.now (Change.WithoutReply flow)) }
+{
+    let name = flow_name(network, flow);
+    format!(in alloc; "free without the reply of {name}\n")
+}
+
+fn without_flow(alloc: Global, network: &Network, flow: u16) -> Result<String, AllocError>
+    ensures { IfOk result (λ s. string_bytes s ≡ mend_line network.now (Change.WithoutFlow flow)) }
+{
+    let name = flow_name(network, flow);
+    format!(in alloc; "free without the flow {name}\n")
+}
+
+fn without_answers(alloc: Global, network: &Network, node: u16) -> Result<String, AllocError>
+    ensures { IfOk result (λ s. string_bytes s ≡ mend_line network.now (Change.WithoutAnswers node)) }
+{
+    let name = node_name(network, node);
+    format!(in alloc; "free without any reply of {name}\n")
+}
+
+fn without_port(
+    alloc: Global,
+    network: &Network,
+    switch: u16,
+    entry: usize,
+    port: Port,
+) -> Result<String, AllocError>
+    ensures { IfOk result (λ s. string_bytes s ≡ mend_line network.now (Change.WithoutPort switch entry port)) }
+{
+    let port = port.number();
+    let words = entry_words(alloc, network, switch, entry)?;
+    let name = switch_name(network, switch);
+    format!(in alloc; "free without port {port} for {words} at {name}\n")
+}
+
+fn without_entry(
+    alloc: Global,
+    network: &Network,
+    switch: u16,
+    entry: usize,
+) -> Result<String, AllocError>
+    ensures { IfOk result (λ s. string_bytes s ≡ mend_line network.now (Change.WithoutEntry switch entry)) }
+{
+    let words = entry_words(alloc, network, switch, entry)?;
+    let name = switch_name(network, switch);
+    format!(in alloc; "free without the entry for {words} at {name}\n")
+}
+
+fn without_flows_of(alloc: Global, network: &Network, node: u16) -> Result<String, AllocError>
+    ensures { IfOk result (λ s. string_bytes s ≡ mend_line network.now (Change.WithoutFlowsOf node)) }
+{
+    let name = node_name(network, node);
+    format!(in alloc; "free without the flows from and to {name}\n")
+}
+
+// The line of a change that frees the network.
+fn mend_line(alloc: Global, network: &Network, change: &Change) -> Result<String, AllocError>
+    ensures { IfOk result (λ s. string_bytes s ≡ mend_line network.now change.now) }
+{
+    match change {
+        Change::WithoutReply(flow) => without_reply(alloc, network, *flow),
+        Change::WithoutFlow(flow) => without_flow(alloc, network, *flow),
+        Change::WithoutAnswers(node) => without_answers(alloc, network, *node),
+        Change::WithoutPort {
+            switch,
+            entry,
+            port,
+        } => without_port(alloc, network, *switch, *entry, *port),
+        Change::WithoutEntry { switch, entry } => without_entry(alloc, network, *switch, *entry),
+        Change::WithoutFlowsOf(node) => without_flows_of(alloc, network, *node),
+    }
+}
+
+// The lines of the changes that free the network.
+fn mend_lines(alloc: Global, network: &Network, changes: &[Change]) -> Result<String, AllocError>
+    ensures { IfOk result (λ s. string_bytes s ≡ flat_map (mend_line network.now) changes.now) }
+{
+    let mut text = String::new(alloc);
+    for change in changes {
+        text.push_str(mend_line(alloc, network, change)?.as_str())?;
+    }
+    Ok(text)
+}
+
+// That no change frees the network.
+fn none_text(alloc: Global) -> Result<String, AllocError>
+    ensures { IfOk result (λ s. string_bytes s ≡ none_line) }
+{
+    String::from_str(alloc, "no single change frees it\n")
+}
+
+/// The lines of the changes that free the network, or that there is none.
+pub(crate) fn mends_text(
+    alloc: Global,
+    network: &Network,
+    changes: &[Change],
+) -> Result<String, AllocError>
+    ensures { IfOk result (λ s. string_bytes s ≡ mends_text network.now changes.now) }
+{
+    match changes {
+        [] => none_text(alloc),
+        _ => mend_lines(alloc, network, changes),
+    }
+}
+
+/// 0 where some change frees the network.
+pub(crate) fn mends_status(changes: &[Change]) -> u8
+    ensures { result ≡ mends_status changes.now }
+{
+    match changes {
+        [] => BAD,
+        _ => GOOD,
+    }
+}
+
+/// That there is nothing to mend.
+pub(crate) fn free_line(alloc: Global) -> Result<String, AllocError>
+    ensures { IfOk result (λ s. string_bytes s ≡ free_line) }
+{
+    String::from_str(alloc, "free already\n")
+}

@@ -1,0 +1,76 @@
+-- Names of a network that is built anew are new.
+use Rattle.std.proofs.Common.{◌≡◌, ◌≢◌, ℕ, zero, suc, ◌+◌, ◌<◌, ◌≤◌, ◌||◌, Bool, true, false, List, [], ◌∷◌, ◌++◌, length, map, take, get_or, Some, All, AllPairs, inl, inr, refl, sym, ap, ◌∙◌, arith, append-nil}
+use Rattle.std.specs.Prelude.{slice_get, option_map}
+use Rattle.std.specs.List.{list_any}
+use Rattle.std.specs.Str.{bytes_eq}
+use Rattle.std.proofs.lemmas.Bool.{cases_Bool}
+use Rattle.std.proofs.lemmas.List.{get_or-take, length-take-le, take-map}
+use Rattle.std.proofs.lemmas.List.Folds.{list_any_none, list_any-append}
+use Rattle.std.proofs.lemmas.Option.{get_or_from_slice_get, slice_get_within}
+use Rattle.std.proofs.lemmas.Slice.Eq.{bytes_eq-Decides}
+use Rattle.sw_config.specs.Entries.{FlowEntry, SwitchEntry, flow_names}
+use Rattle.sw_mend.specs.Changes.{by_number, flow_after, flow_kept, loses_flow, switch_after}
+use Rattle.sw_mend.specs.declared.change.Change.{Change}
+
+differ : (a b : List ℕ) → a ≢ b → bytes_eq a b ≡ false
+differ a b apart = elim (cases_Bool (bytes_eq a b)) [ inl same ↦ absurd (apart ((bytes_eq-Decides a b).0 same)) | inr other ↦ other ]
+
+-- of names that are apart none before the name is the name
+pub fresh : (names : List (List ℕ)) (i : ℕ) (name : List ℕ) → AllPairs (λ x y. x ≢ y) names → slice_get names i ≡ Some name → list_any (bytes_eq name) (take i names) ≡ false
+fresh names i name apart here =
+    let within : i < length names = slice_get_within names i name here in
+    list_any_none (bytes_eq name) (take i names) (λ k d lt.
+    let short : k < i = omega (arith, length-take-le i names (omega arith)) in
+    let at : get_or (take i names) k d ≡ get_or names k d = get_or-take i names k d short in
+    let mine : get_or names i d ≡ name = get_or_from_slice_get names i name d here in
+    differ name (get_or (take i names) k d) (λ same. apart k i d short within (sym at ∙ sym same ∙ sym mine)))
+
+named_at : {A : Type 0} (f : A → List ℕ) (xs : List A) (i : ℕ) (x : A) → slice_get xs i ≡ Some x → slice_get (map f xs) i ≡ Some (f x)
+named_at f [] i x here = absurd cc
+named_at f (y ∷ xs) zero x here = let same : y ≡ x = cc in ap (λ z. Some (f z)) same
+named_at f (y ∷ xs) (suc i) x here = named_at f xs i x here
+
+neither : (a b : Bool) → (a || b) ≡ false → (a ≡ false) × (b ≡ false)
+neither false b h = (refl, h)
+neither true b h = absurd cc
+
+-- a name that no flow has is no name of what is left of the flows
+left_without : (change : Change) (n : ℕ) (name : List ℕ) (flows : List FlowEntry) → list_any (bytes_eq name) (flow_names flows) ≡ false
+    → list_any (bytes_eq name) (flow_names (by_number (flow_after change) n flows)) ≡ false
+left_without change n name [] none = refl
+left_without change n name (f ∷ flows) none =
+    let parts = neither (bytes_eq name f.name) (list_any (bytes_eq name) (flow_names flows)) none in
+    elim (cases_Bool (loses_flow change n f)) [
+      | inl gone ↦ rw gone (left_without change (n + 1) name flows parts.1)
+      | inr stays ↦ rw (stays, parts.0) (left_without change (n + 1) name flows parts.1)
+    ]
+
+-- a flow's name is no name of what is left of the flows before it
+pub fresh_flow : (change : Change) (flows : List FlowEntry) (i : ℕ) (f : FlowEntry) (now : List FlowEntry) → AllPairs (λ x y. x ≢ y) (flow_names flows)
+    → slice_get flows i ≡ Some f → now ≡ by_number (flow_after change) 0 (take i flows) → list_any (bytes_eq f.name) (flow_names now) ≡ false
+fresh_flow change flows i f now apart here is =
+    let before : list_any (bytes_eq f.name) (flow_names (take i flows)) ≡ false =
+    ap (list_any (bytes_eq f.name)) (sym (take-map (λ (g : FlowEntry). g.name) i flows)) ∙ fresh (flow_names flows) i f.name apart (named_at (λ (g : FlowEntry). g.name) flows i f here) in
+    ap (λ l. list_any (bytes_eq f.name) (flow_names l)) is ∙ left_without change 0 f.name (take i flows) before
+
+-- no more flows are left than there were
+pub few_left : (change : Change) (n : ℕ) (flows : List FlowEntry) → length (by_number (flow_after change) n flows) ≤ length flows
+few_left change n [] = omega arith
+few_left change n (f ∷ flows) =
+    elim (cases_Bool (loses_flow change n f)) [
+      | inl gone ↦ rw gone (omega (arith, few_left change (n + 1) flows))
+      | inr stays ↦ rw stays (omega (arith, few_left change (n + 1) flows))
+    ]
+
+pub few_flows : (change : Change) (flows now : List FlowEntry) (i : ℕ) → i < length flows → length flows ≤ 4096 → now ≡ by_number (flow_after change) 0 (take i flows) → length now < 4096
+few_flows change flows now i lt few is = rw is (omega (arith, few_left change 0 (take i flows), length-take-le i flows (omega arith)))
+
+-- ---- nodes and switches
+
+pub same_names : (change : Change) (n : ℕ) (switches : List SwitchEntry) → map (λ (s : SwitchEntry). s.name) (by_number (switch_after change) n switches) ≡ map (λ (s : SwitchEntry). s.name) switches
+same_names change n [] = refl
+same_names change n (s ∷ switches) = ap (λ l. s.name ∷ l) (same_names change (n + 1) switches)
+
+pub as_many : (change : Change) (n : ℕ) (switches : List SwitchEntry) → length (by_number (switch_after change) n switches) ≡ length switches
+as_many change n [] = refl
+as_many change n (s ∷ switches) = ap suc (as_many change (n + 1) switches)

@@ -1,0 +1,131 @@
+-- Whatever is taken away, the network that is left is a valid one.
+use Rattle.std.proofs.Common.{◌≡◌, ◌≢◌, ℕ, ◌+◌, ◌<◌, ◌≤◌, suc, Bool, true, false, List, [], ◌∷◌, ◌++◌, All, AllPairs, Option, None, IfSome, length, map, ap, arith, subst, sym}
+use Rattle.std.specs.Prelude.{if◌then◌else◌}
+use Rattle.std.proofs.lemmas.List.Elements.{All-append, All-cons, All-head, All-map, All-nil, All-tail}
+use Rattle.std.proofs.lemmas.List.Kept.{AllPairs-cons}
+use Rattle.sw_route.specs.declared.look.Route.{Route}
+use Rattle.sw_route.specs.Looks.{IsRoute, IsTable, overlaps}
+use Rattle.sw_topo.specs.Checked.{IsSound}
+use Rattle.sw_topo.specs.Wiring.{Wiring}
+use Rattle.sw_config.specs.Entries.{NodeEntry, SwitchEntry, ReplyEntry, FlowEntry, Declaration, flow_names, link_ends, part_names, wiring_of}
+use Rattle.sw_config.specs.Valid.{IsFlow, IsReply, IsSwitch, IsValid}
+use Rattle.sw_mend.specs.Changes.{by_number, changed, flow_after, flow_kept, loses_entry, loses_flow, loses_reply, ports_after, route_after, switch_after}
+use Rattle.sw_mend.specs.Laws.{ChangesKeepValid}
+use Rattle.sw_mend.specs.declared.change.Change.{Change}
+use Rattle.sw_mend.proofs.Fresh.{as_many, few_left, same_names}
+
+-- ---- pairs of a list
+
+firsts : {X : Type 0} (R : X → X → Type 0) (x : X) (xs : List X) → AllPairs R (x ∷ xs) → All (R x) xs
+firsts R x xs pairs = λ k d lt. pairs 0 (suc k) d (omega arith) (omega arith)
+
+rests : {X : Type 0} (R : X → X → Type 0) (x : X) (xs : List X) → AllPairs R (x ∷ xs) → AllPairs R xs
+rests R x xs pairs = λ i j d lt low. pairs (suc i) (suc j) d (omega arith) (omega arith)
+
+joined : {X : Type 0} (R : X → X → Type 0) (xs ys : List X) → AllPairs R xs → AllPairs R ys → All (λ x. All (R x) ys) xs → AllPairs R (xs ++ ys)
+joined R [] ys p q across = q
+joined R (x ∷ xs) ys p q across =
+    AllPairs-cons R x (xs ++ ys) (All-append (R x) xs ys (firsts R x xs p) (All-head (λ z. All (R z) ys) x xs across))
+    (joined R xs ys (rests R x xs p) q (All-tail (λ z. All (R z) ys) x xs across))
+
+pairs_mapped : {X Y : Type 0} (R : Y → Y → Type 0) (f : X → Y) (xs : List X) → AllPairs (λ x y. R (f x) (f y)) xs → AllPairs R (map f xs)
+pairs_mapped R f [] p = λ i j d lt low. absurd (omega (arith, low))
+pairs_mapped R f (x ∷ xs) p =
+    AllPairs-cons R (f x) (map f xs) (All-map (R (f x)) f xs (firsts (λ a b. R (f a) (f b)) x xs p)) (pairs_mapped R f xs (rests (λ a b. R (f a) (f b)) x xs p))
+
+all_of_map : {X Y : Type 0} (P : Y → Type 0) (f : X → Y) (xs : List X) → All P (map f xs) → All (λ x. P (f x)) xs
+all_of_map P f [] all = All-nil (λ x. P (f x))
+all_of_map P f (x ∷ xs) all =
+    All-cons (λ z. P (f z)) x xs (All-head P (f x) (map f xs) all) (all_of_map P f xs (All-tail P (f x) (map f xs) all))
+
+pairs_of_map : {X Y : Type 0} (R : Y → Y → Type 0) (f : X → Y) (xs : List X) → AllPairs R (map f xs) → AllPairs (λ x y. R (f x) (f y)) xs
+pairs_of_map R f [] p = λ i j d lt low. absurd (omega (arith, low))
+pairs_of_map R f (x ∷ xs) p =
+    AllPairs-cons (λ a b. R (f a) (f b)) x xs (all_of_map (R (f x)) f xs (firsts R (f x) (map f xs) p)) (pairs_of_map R f xs (rests R (f x) (map f xs) p))
+
+-- ---- what is made of elements by their numbers
+
+all_if : {B : Type 0} (P : B → Type 0) (gone : Bool) (x : B) → P x → All P (if gone then [] else x ∷ [])
+all_if P true x is = All-nil P
+all_if P false x is = All-cons P x [] is (All-nil P)
+
+pairs_if : {B : Type 0} (R : B → B → Type 0) (gone : Bool) (x : B) → AllPairs R (if gone then [] else x ∷ [])
+pairs_if R true x = λ i j d lt low. absurd (omega (arith, low))
+pairs_if R false x = λ i j d lt low. absurd (omega (arith, lt, low))
+
+module _ {A B : Type 0} (make : ℕ → A → List B) where
+  all_made : (P : B → Type 0) (Q : A → Type 0) → ((k : ℕ) (x : A) → Q x → All P (make k x)) → (n : ℕ) (xs : List A) → All Q xs → All P (by_number make n xs)
+  all_made P Q each n [] all = All-nil P
+  all_made P Q each n (x ∷ xs) all =
+      All-append P (make n x) (by_number make (n + 1) xs) (each n x (All-head Q x xs all)) (all_made P Q each (n + 1) xs (All-tail Q x xs all))
+
+  pairs_made : (R : B → B → Type 0) (Q : A → A → Type 0) → ((k l : ℕ) (x y : A) → Q x y → All (λ u. All (R u) (make l y)) (make k x)) → ((k : ℕ) (x : A) → AllPairs R (make k x))
+      → (n : ℕ) (xs : List A) → AllPairs Q xs → AllPairs R (by_number make n xs)
+  pairs_made R Q each own n [] pairs = λ i j d lt low. absurd (omega (arith, low))
+  pairs_made R Q each own n (x ∷ xs) pairs =
+      joined R (make n x) (by_number make (n + 1) xs) (own n x) (pairs_made R Q each own (n + 1) xs (rests Q x xs pairs))
+      (λ k d lt. all_made (R _) (Q x) (λ l y is. each n l x y is k d lt) (n + 1) xs (firsts Q x xs pairs))
+
+-- ---- tables
+
+table_left : (change : Change) (switch : ℕ) (routes : List Route) → IsTable routes → IsTable (by_number (route_after change switch) 0 routes)
+table_left change switch routes table = record {
+  valid = all_made (route_after change switch) IsRoute IsRoute
+      (λ k r is. all_if IsRoute (loses_entry change switch k) (record r { ports = ports_after change switch k r.ports }) (record { first = is.first; rising = is.rising; last = is.last }))
+      0 routes table.valid;
+  apart = pairs_made (route_after change switch) (λ r q. overlaps r q ≡ false) (λ r q. overlaps r q ≡ false)
+      (λ k l r q is. all_if (λ u. All (λ v. overlaps u v ≡ false) (route_after change switch l q)) (loses_entry change switch k) (record r { ports = ports_after change switch k r.ports })
+      (all_if (λ v. overlaps r v ≡ false) (loses_entry change switch l) (record q { ports = ports_after change switch l q.ports }) is))
+      (λ k r. pairs_if (λ u v. overlaps u v ≡ false) (loses_entry change switch k) (record r { ports = ports_after change switch k r.ports }))
+      0 routes table.apart;
+}
+
+-- ---- flows
+
+reply_left : (P : ReplyEntry → Type 0) (gone : Bool) (reply : Option ReplyEntry) → IfSome reply P → IfSome (if gone then None else reply) P
+reply_left P true reply is = tt
+reply_left P false reply is = is
+
+flow_left : (change : Change) (nodes : List NodeEntry) (n : ℕ) (f : FlowEntry) → IsFlow nodes f → IsFlow nodes (flow_kept change n f)
+flow_left change nodes n f is = record {
+  from = is.from;
+  to = is.to;
+  address = is.address;
+  left = is.left;
+  reply = reply_left (IsReply nodes f.to) (loses_reply change n f) f.reply is.reply;
+}
+
+flows_left : (change : Change) (nodes : List NodeEntry) (flows : List FlowEntry) → All (IsFlow nodes) flows → All (IsFlow nodes) (by_number (flow_after change) 0 flows)
+flows_left change nodes flows all =
+    all_made (flow_after change) (IsFlow nodes) (IsFlow nodes)
+    (λ k f is. all_if (IsFlow nodes) (loses_flow change k f) (flow_kept change k f) (flow_left change nodes k f is)) 0 flows all
+
+names_left : (change : Change) (flows : List FlowEntry) → AllPairs (λ x y. x ≢ y) (flow_names flows) → AllPairs (λ x y. x ≢ y) (flow_names (by_number (flow_after change) 0 flows))
+names_left change flows named =
+    pairs_mapped (λ (x y : List ℕ). x ≢ y) (λ (f : FlowEntry). f.name) (by_number (flow_after change) 0 flows)
+    (pairs_made (flow_after change) (λ (f g : FlowEntry). f.name ≢ g.name) (λ (f g : FlowEntry). f.name ≢ g.name)
+    (λ k l f g is. all_if (λ (u : FlowEntry). All (λ (v : FlowEntry). u.name ≢ v.name) (flow_after change l g)) (loses_flow change k f) (flow_kept change k f)
+    (all_if (λ (v : FlowEntry). f.name ≢ v.name) (loses_flow change l g) (flow_kept change l g) is))
+    (λ k f. pairs_if (λ (u v : FlowEntry). u.name ≢ v.name) (loses_flow change k f) (flow_kept change k f))
+    0 flows (pairs_of_map (λ (x y : List ℕ). x ≢ y) (λ (f : FlowEntry). f.name) flows named))
+
+-- ---- the whole
+
+-- switches are as many, and nodes and links as they were
+pub same_wiring : (change : Change) (d : Declaration) → wiring_of (changed d change) ≡ wiring_of d
+same_wiring change d = ap (λ n. record { nodes = length d.nodes; switches = n; ends = link_ends d.links }) (as_many change 0 d.switches)
+
+pub same_part_names : (change : Change) (d : Declaration) → part_names (changed d change) ≡ part_names d
+same_part_names change d = ap (λ l. map (λ (n : NodeEntry). n.name) d.nodes ++ l) (same_names change 0 d.switches)
+
+pub changes_keep_valid : ChangesKeepValid
+changes_keep_valid d change valid = record {
+  sound = subst IsSound (sym (same_wiring change d)) valid.sound;
+  nodes = valid.nodes;
+  switches = all_made (switch_after change) IsSwitch IsSwitch (λ k s is. All-cons IsSwitch _ [] (table_left change k s.routes is) (All-nil IsSwitch)) 0 d.switches valid.switches;
+  links = valid.links;
+  flows = flows_left change d.nodes d.flows valid.flows;
+  few_flows = omega (arith, few_left change 0 d.flows, valid.few_flows);
+  parts_named = subst (λ (l : List (List ℕ)). AllPairs (λ x y. x ≢ y) l) (sym (same_part_names change d)) valid.parts_named;
+  flows_named = names_left change d.flows valid.flows_named;
+}

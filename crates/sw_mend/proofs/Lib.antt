@@ -1,0 +1,9 @@
+mod Numbered
+mod Fresh
+mod PortSets
+mod Linked
+mod OneMore
+mod Told
+mod Verdicts
+mod Determined
+mod Kept

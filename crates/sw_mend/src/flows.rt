@@ -1,0 +1,141 @@
+//! The flows that a change leaves.
+ghost use Rattle.std.specs.Prelude.{◌≡◌, ◌+◌, ◌<◌, ◌++◌, [], false, IfOk, OnOk, Ok, None, if◌then◌else◌, length, take};
+ghost use Rattle.std.specs.List.{list_any};
+ghost use Rattle.std.specs.Str.{bytes_eq};
+ghost use Rattle.sw_config.specs.Entries.{flow_names};
+ghost use Rattle.sw_config.specs.Valid.{IsFlow};
+ghost use Rattle.sw_mend.specs.Changes.{by_number, flow_after, flow_kept, loses_flow, loses_reply};
+
+use crate::change::Change;
+use std::alloc::{AllocError, Global};
+use std::marker::Model;
+use sw_config::{Flow, Network, Reply};
+use sw_topo::limits::MAX_FLOWS;
+
+// Is the flow taken away?
+fn loses_flow(change: &Change, number: u16, flow: &Flow) -> bool
+    ensures { result ≡ loses_flow change.now number flow.now }
+{
+    match change {
+        Change::WithoutFlow(gone) => number == *gone,
+        Change::WithoutFlowsOf(node) => flow.from() == *node || flow.to() == *node,
+        _ => false,
+    }
+}
+
+// Is the flow no longer answered?
+fn loses_reply(change: &Change, number: u16, flow: &Flow) -> bool
+    ensures { result ≡ loses_reply change.now number flow.now }
+{
+    match change {
+        Change::WithoutReply(unanswered) => number == *unanswered,
+        Change::WithoutAnswers(node) => flow.to() == *node,
+        _ => false,
+    }
+}
+
+// Where the replies of the flow go.
+fn copied_reply(alloc: Global, flow: &Flow) -> Result<Option<Reply>, AllocError>
+    ensures { IfOk result (λ r. r ≡ flow.now.reply) }
+{
+    match flow.reply() {
+        Some(reply) => {
+            let path = Vec::from_slice(alloc, reply.path())?;
+            Ok(Some(Reply::new(path, reply.initiator())))
+        }
+        None => Ok(None),
+    }
+}
+
+// Where the replies of the flow go, if they are left.
+fn kept_reply(
+    alloc: Global,
+    change: &Change,
+    number: u16,
+    flow: &Flow,
+) -> Result<Option<Reply>, AllocError>
+    ensures { IfOk result (λ r. r ≡ if loses_reply change.now number flow.now then None else flow.now.reply) }
+{
+    if loses_reply(change, number, flow) {
+        return Ok(None);
+    }
+    copied_reply(alloc, flow)
+}
+
+// A copy of the flow, with these replies.
+fn with_reply(
+    alloc: Global,
+    flow: &Flow,
+    reply: Result<Option<Reply>, AllocError>,
+) -> Result<Flow, AllocError>
+    ensures copied { IfOk result (λ f. f ≡ record flow.now { reply = f.reply }) }
+    ensures reply { IfOk result (λ f. reply ≡ Ok f.reply) }
+{
+    let reply = reply?;
+    let name = String::from_str(alloc, flow.name())?;
+    let address = Vec::from_slice(alloc, flow.address())?;
+    Ok(Flow::new(name, flow.from(), flow.to(), address, flow.left(), reply))
+}
+
+// What is left of a flow that stays.
+fn kept_flow(alloc: Global, change: &Change, number: u16, flow: &Flow) -> Result<Flow, AllocError>
+    ensures { IfOk result (λ f. f ≡ flow_kept change.now number flow.now) }
+{
+    with_reply(alloc, flow, kept_reply(alloc, change, number, flow))
+}
+
+// Adds what is left of the flow.
+fn add_left(
+    alloc: Global,
+    change: &Change,
+    number: u16,
+    flow: &Flow,
+    built: &mut Network,
+) -> Result<(), AllocError>
+    requires few { length built.old.flows < MAX_FLOWS }
+    requires new_name { list_any (bytes_eq flow.now.name) (flow_names built.old.flows) ≡ false }
+    requires valid { IsFlow built.old.nodes flow.now }
+    ensures { OnOk result (built.new ≡ record built.old { flows = built.old.flows ++ flow_after change.now number flow.now }) }
+{
+    if loses_flow(change, number, flow) {
+        return Ok(());
+    }
+    let kept = kept_flow(alloc, change, number, flow)?;
+    built.add_flow(alloc, kept)
+}
+
+// Adds what is left of the flow of that number.
+fn add_flow(
+    alloc: Global,
+    network: &Network,
+    change: &Change,
+    number: u16,
+    built: &mut Network,
+) -> Result<(), AllocError>
+    requires within { number < length network.now.flows }
+    requires nodes { built.old.nodes ≡ network.now.nodes }
+    requires before { built.old.flows ≡ by_number (flow_after change.now) 0 (take number network.now.flows) }
+    ensures { OnOk result (built.new ≡ record built.old { flows = by_number (flow_after change.now) 0 (take (number + 1) network.now.flows) }) }
+{
+    // Names the network, which is valid by its type.
+    let _topology = network.topology();
+    let flow = network.flow(number);
+    add_left(alloc, change, number, flow, built)
+}
+
+/// Adds what is left of each flow.
+pub(crate) fn add_flows(
+    alloc: Global,
+    network: &Network,
+    change: &Change,
+    built: &mut Network,
+) -> Result<(), AllocError>
+    requires nodes { built.old.nodes ≡ network.now.nodes }
+    requires none { built.old.flows ≡ [] }
+    ensures { OnOk result (built.new ≡ record built.old { flows = by_number (flow_after change.now) 0 network.now.flows }) }
+{
+    for number in 0..network.declared_flows() {
+        add_flow(alloc, network, change, number, built)?;
+    }
+    Ok(())
+}

@@ -1,0 +1,62 @@
+//! The changed network, built anew.
+ghost use Rattle.std.specs.Prelude.{◌≡◌, [], IfOk, OnOk};
+ghost use Rattle.sw_config.specs.Entries.{empty};
+ghost use Rattle.sw_mend.specs.Changes.{changed};
+
+use crate::change::Change;
+use crate::flows::add_flows;
+use crate::parts::{add_links, add_nodes, add_switches};
+use std::alloc::{AllocError, Global};
+use std::marker::Model;
+use sw_config::{Network, NetworkBuilder};
+
+// Adds the nodes, the switches and the links.
+fn add_parts(
+    alloc: Global,
+    network: &Network,
+    change: &Change,
+    builder: &mut NetworkBuilder,
+) -> Result<(), AllocError>
+    requires { builder.old ≡ empty }
+    ensures { OnOk result (builder.new ≡ record (changed network.now change.now) { flows = [] }) }
+{
+    add_nodes(alloc, network, builder)?;
+    add_switches(alloc, network, change, builder)?;
+    add_links(network, builder)
+}
+
+// The network that the builder has.
+fn wired(alloc: Global, builder: NetworkBuilder) -> Result<Network, AllocError>
+    ensures { IfOk result (λ n. n ≡ builder) }
+{
+    match builder.wire(alloc) {
+        Ok(network) => Ok(network),
+        Err(_) => Err(AllocError),
+    }
+}
+
+// The network that the change leaves, without flows.
+fn without_flows(alloc: Global, network: &Network, change: &Change) -> Result<Network, AllocError>
+    ensures { IfOk result (λ n. n ≡ record (changed network.now change.now) { flows = [] }) }
+{
+    let mut builder = NetworkBuilder::new(alloc);
+    add_parts(alloc, network, change, &mut builder)?;
+    wired(alloc, builder)
+}
+
+/// The network that the change leaves.
+///
+/// # Errors
+///
+/// There is no memory for it.
+pub fn network_with(
+    alloc: Global,
+    network: &Network,
+    change: &Change,
+) -> Result<Network, AllocError>
+    ensures { IfOk result (λ n. n ≡ changed network.now change.now) }
+{
+    let mut built = without_flows(alloc, network, change)?;
+    add_flows(alloc, network, change, &mut built)?;
+    Ok(built)
+}

@@ -1,0 +1,96 @@
+//! The routing tables that a change leaves.
+ghost use Rattle.std.specs.Prelude.{◌≡◌, ◌++◌, ◌∷◌, [], IfOk, OnOk};
+ghost use Rattle.sw_route.specs.Looks.{IsRoute, IsTable};
+ghost use Rattle.sw_mend.specs.Changes.{by_number, loses_entry, ports_after, ports_but, route_after};
+
+use crate::change::Change;
+use std::alloc::{AllocError, Global};
+use std::marker::Model;
+use sw_route::{Route, TableRoutes};
+use sw_topo::{Port, PortSet};
+
+// Is the entry taken out of the switch's table?
+fn loses_entry(change: &Change, switch: u16, entry: usize) -> bool
+    ensures { result ≡ loses_entry change.now switch entry }
+{
+    match change {
+        Change::WithoutEntry {
+            switch: at,
+            entry: gone,
+        } => switch == *at && entry == *gone,
+        _ => false,
+    }
+}
+
+// The ports of the set, but that one.
+fn ports_but(port: Port, set: PortSet) -> PortSet
+    ensures { result ≡ ports_but port set }
+{
+    set.without(port)
+}
+
+// The ports that the entry of the switch's table names.
+fn ports_after(change: &Change, switch: u16, entry: usize, set: PortSet) -> PortSet
+    ensures { result ≡ ports_after change.now switch entry set }
+{
+    match change {
+        Change::WithoutPort {
+            switch: at,
+            entry: group,
+            port,
+        } => {
+            if switch == *at && entry == *group {
+                ports_but(*port, set)
+            } else {
+                set
+            }
+        }
+        _ => set,
+    }
+}
+
+// Adds an entry with these ports for the addresses of another.
+fn add_entry(table: &mut TableRoutes, route: &Route, ports: PortSet) -> Result<(), AllocError>
+    requires { IsRoute route.now }
+    ensures { OnOk result (table.new ≡ table.old ++ record route.now { ports = ports } ∷ []) }
+{
+    match table.add_range(route.first, route.last, ports, route.delete) {
+        Ok(()) => Ok(()),
+        Err(_) => Err(AllocError),
+    }
+}
+
+// Adds what is left of the entry of the switch's table.
+fn add_route(
+    table: &mut TableRoutes,
+    change: &Change,
+    switch: u16,
+    entry: usize,
+    route: &Route,
+) -> Result<(), AllocError>
+    requires { IsRoute route.now }
+    ensures { OnOk result (table.new ≡ table.old ++ route_after change.now switch entry route.now) }
+{
+    if loses_entry(change, switch, entry) {
+        return Ok(());
+    }
+    let ports = ports_after(change, switch, entry, route.ports);
+    add_entry(table, route, ports)
+}
+
+/// What is left of the table of the switch of that number.
+pub(crate) fn table_after(
+    alloc: Global,
+    change: &Change,
+    switch: u16,
+    routes: &[Route],
+) -> Result<TableRoutes, AllocError>
+    requires { IsTable routes.now }
+    ensures { IfOk result (λ t. t ≡ by_number (route_after change.now switch) 0 routes.now) }
+{
+    let mut table = TableRoutes::new(alloc);
+    for (entry, route) in routes.iter().enumerate() {
+        add_route(&mut table, change, switch, entry, route)?;
+    }
+    Ok(table)
+}
