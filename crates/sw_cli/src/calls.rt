@@ -14,6 +14,7 @@ use std::{fs, io};
 use sw_app::{check, decide, migrate, replay, report, route};
 use sw_app_draw::{DrawOptions, draw};
 use sw_app_explain::explain;
+use sw_app_mend::mend;
 use sw_app_rmap::{Access, Request, rmap};
 use sw_app_run::{Open, Options};
 use sw_app_witness::witness;
@@ -134,6 +135,7 @@ fn run_call<R: Files + Print + Eprint + AllocGlobal + Threads + Wait + Sync>(
             ),
             None => no_access(rt),
         },
+        Call::Mend { file } => run_mend(rt, file),
         Call::Witness { file, tries, seed } => run_witness(rt, file, tries, seed),
     }
 }
@@ -246,6 +248,14 @@ fn run_rmap<R: Files + Print + AllocGlobal>(rt: &R, file: &str, request: &Reques
     };
     let mut writer = io::writer(rt);
     rmap(rt.alloc(), &mut reader, request, &mut writer)
+}
+
+fn run_mend<R: Files + Print + AllocGlobal + Threads + Sync>(rt: &R, file: &str) -> Ended {
+    let Ok(mut reader) = fs::open(rt, file) else {
+        return Ended::ReadFailed;
+    };
+    let mut writer = io::writer(rt);
+    mend(rt, rt.alloc(), &mut reader, &mut writer)
 }
 
 fn run_witness<R: Files + Print + AllocGlobal + Threads + Sync>(
