@@ -1,2 +1,3 @@
 pub mod MendTexts
 pub mod MendAnswers
+pub mod Laws

@@ -2,6 +2,7 @@
 #![tactic(auto)]
 
 mod engine;
+pub mod laws;
 mod mend_answer;
 mod mend_texts;
 

@@ -45,7 +45,7 @@ fn frees<R: Threads + Sync>(
 
 // The change, if it frees the network.
 fn add_mend(frees: bool, change: &Change, mends: &mut Vec<Change>) -> Result<(), AllocError>
-    ensures { OnOk result (mends.new.items ≡ mends.old.items ++ if frees then change.now ∷ [] else []) }
+    ensures { OnOk result (mends.new.items ≡ mends.old.items ++ (if frees then change.now ∷ [] else [])) }
 {
     if frees {
         mends.push(*change)?;
