@@ -7,10 +7,11 @@ ghost use Rattle.sw_toml_table.specs.Table.{is_known};
 ghost use Rattle.toml.specs.View.{table_view};
 ghost use Rattle.sw_hints.specs.Helps.{help_text, key_help, key_fault_help, known_name_help, meant_help, name_help, node_help, still_words, topology_help};
 
-use crate::entries::{names_of, part_names, text_of};
+use crate::entries::{names_of, part_names};
 use crate::key_words::{keys_of, new_keys_of, outer_keys, port_keys};
 use crate::nearest::like;
 use std::alloc::{AllocError, Global};
+use sw_notes::text_of;
 use sw_toml_table::{Key, KeyFault, Section, TextFault};
 use sw_topo::TopoFault;
 use toml::Table;
@@ -171,7 +172,7 @@ fn topology_help(fault: TopoFault) -> &'static str
         TopoFault::TooMany(_) => "split the network where no flow goes over the cut",
         TopoFault::PortTaken(_) => "each end of a link needs a port of its own",
         TopoFault::NodeLinks(_) => {
-            "a unit with several links is several nodes, or one node behind a switch"
+            "several links: several nodes, or a switch in front of one"
         }
         TopoFault::PortUnlinked(_) => "link the switch, or leave it out",
     }

@@ -8,6 +8,7 @@ mod hint;
 mod hint_lines;
 mod key_words;
 mod nearest;
+mod note_lines;
 mod places;
 mod shown;
 

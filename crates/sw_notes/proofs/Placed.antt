@@ -20,4 +20,5 @@ pub place_more : {T : Type 0} (test : Members → Bool) (f : T → Members) (ts 
     → places_from test 0 (map f (take (i + 1) ts)) ≡ places_from test 0 (map f (take i ts)) ++ cond (test (f (get_or ts i d))) (i ∷ []) []
 place_more test f ts i d within =
     let few : i ≤ length ts = omega (arith, within) in
-    ap (λ l. places_from test 0 (map f l)) (take_more ts i d within) ∙ place_with test f (take i ts) (get_or ts i d) 0 i (length-take-le i ts few)
+    let at : 0 + length (take i ts) ≡ i = omega (arith, length-take-le i ts few) in
+    ap (λ l. places_from test 0 (map f l)) (take_more ts i d within) ∙ place_with test f (take i ts) (get_or ts i d) 0 i at
