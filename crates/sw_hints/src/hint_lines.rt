@@ -18,8 +18,8 @@ fn line_end(text: &[u8]) -> usize
     text.iter().take_while(|byte| **byte != b'\n').count()
 }
 
-// What stands before the first LF.
-fn first_line(text: &[u8]) -> &[u8]
+/// What stands before the first LF.
+pub fn first_line(text: &[u8]) -> &[u8]
     ensures { result.now ≡ first_line text.now }
 {
     &text[..line_end(text)]
@@ -87,7 +87,11 @@ fn head_line(
 }
 
 /// An indented line of what is told, none where there is nothing to tell.
-pub(crate) fn told(alloc: Global, name: &str, words: &[u8]) -> Result<String, AllocError>
+///
+/// # Errors
+///
+/// There is no memory for the text.
+pub fn told(alloc: Global, name: &str, words: &[u8]) -> Result<String, AllocError>
     ensures { IfOk result (λ s. string_bytes s ≡ told name.now words.now) }
 {
     match words {
@@ -115,7 +119,7 @@ fn found_line(alloc: Global, text: &[u8], place: Option<usize>) -> Result<String
 /// # Errors
 ///
 /// There is no memory for the text.
-pub(crate) fn hint_lines(
+pub fn hint_lines(
     alloc: Global,
     path: &str,
     text: &[u8],

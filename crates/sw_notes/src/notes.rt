@@ -20,7 +20,11 @@ use toml::Table;
 const MOST_LINKS: usize = 8;
 
 /// The first entry of a list of the document that has this name.
-pub(crate) fn named(
+///
+/// # Errors
+///
+/// There is no memory for the search.
+pub fn named(
     alloc: Global,
     document: &Table,
     list: Key,
