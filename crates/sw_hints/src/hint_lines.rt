@@ -18,8 +18,8 @@ fn line_end(text: &[u8]) -> usize
     text.iter().take_while(|byte| **byte != b'\n').count()
 }
 
-/// What stands before the first LF.
-pub fn first_line(text: &[u8]) -> &[u8]
+// What stands before the first LF.
+fn first_line(text: &[u8]) -> &[u8]
     ensures { result.now ≡ first_line text.now }
 {
     &text[..line_end(text)]
@@ -103,8 +103,12 @@ pub fn told(alloc: Global, name: &str, words: &[u8]) -> Result<String, AllocErro
     }
 }
 
-// What stands at the place.
-fn found_line(alloc: Global, text: &[u8], place: Option<usize>) -> Result<String, AllocError>
+/// What stands at the place: the rest of its line, at most 72 bytes.
+///
+/// # Errors
+///
+/// There is no memory for the text.
+pub fn found_line(alloc: Global, text: &[u8], place: Option<usize>) -> Result<String, AllocError>
     requires { IfSome place (λ at. at ≤ length text.now) }
     ensures { IfOk result (λ s. string_bytes s ≡ found_line text.now place) }
 {
