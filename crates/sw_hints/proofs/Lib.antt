@@ -1,3 +1,4 @@
 pub mod Firsts
 pub mod Named
+pub mod Noted
 pub mod Pieces

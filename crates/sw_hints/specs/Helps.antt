@@ -14,7 +14,8 @@ use Rattle.sw_toml_table.specs.declared.fault.TextFault.{TextFault}
 use Rattle.sw_toml_table.specs.declared.fault.TextFault.TheVariants.{Syntax, UnknownKey, Key, Topology, DuplicateRoute, ReplyShape, NotInFlow}
 use Rattle.sw_toml_table.specs.Keys.{key_text}
 use Rattle.sw_toml_table.specs.Table.{is_known}
-use Rattle.sw_hints.specs.Entries.{names_of, part_names, text_of}
+use Rattle.sw_notes.specs.Entries.{text_of}
+use Rattle.sw_hints.specs.Entries.{names_of, part_names}
 use Rattle.sw_hints.specs.KeyWords.{keys_of, new_keys_of, outer_keys, port_keys}
 use Rattle.sw_hints.specs.Nearest.{like}
 
@@ -69,7 +70,7 @@ key_fault_help document fault section k = still_words fault
 abbrev pub topology_help : TopoFault → List ℕ
 topology_help (TooMany limit) = codes "split the network where no flow goes over the cut"
 topology_help (PortTaken link) = codes "each end of a link needs a port of its own"
-topology_help (NodeLinks node) = codes "a unit with several links is several nodes, or one node behind a switch"
+topology_help (NodeLinks node) = codes "several links: several nodes, or a switch in front of one"
 topology_help (PortUnlinked switch) = codes "link the switch, or leave it out"
 
 -- what to do about a fault of the text of this document

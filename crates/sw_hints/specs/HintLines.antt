@@ -32,7 +32,7 @@ abbrev pub found_line : List ℕ → Option ℕ → List ℕ
 found_line text None = []
 found_line text (Some at) = told (codes "found") (found_part text at)
 
--- where and what, what stands there, what would be right, and what to do
-abbrev pub hint_lines : List ℕ → List ℕ → Option ℕ → List ℕ → List ℕ → List ℕ → List ℕ
-hint_lines path text place what expected help =
-    head_line path text place what ++ (found_line text place ++ (told (codes "expected") expected ++ told (codes "help") help))
+-- where and what, what stands there, what would be right, what to do, and the lines of notes
+abbrev pub hint_lines : List ℕ → List ℕ → Option ℕ → List ℕ → List ℕ → List ℕ → List ℕ → List ℕ
+hint_lines path text place what expected help notes =
+    head_line path text place what ++ (found_line text place ++ (told (codes "expected") expected ++ (told (codes "help") help ++ notes)))

@@ -6,10 +6,13 @@ use Rattle.sw_config.specs.Entries.{Declaration}
 use Rattle.sw_file.specs.Network.{network_text}
 use Rattle.sw_toml_table.specs.declared.fault.TextFault.{TextFault}
 use Rattle.sw_toml_table.specs.Document.{document_of}
+use Rattle.sw_notes.specs.declared.note.Note.{Note}
+use Rattle.sw_notes.specs.Notes.{notes_of}
 use Rattle.sw_hints.specs.FaultPlaces.{IsFaultPlace}
 use Rattle.sw_hints.specs.FaultWords.{expected_text, what_text}
 use Rattle.sw_hints.specs.Helps.{help_text}
 use Rattle.sw_hints.specs.HintLines.{hint_lines}
+use Rattle.sw_hints.specs.NoteLines.{AreNoteLines}
 
 -- what to do about a fault, by the document that the text is; nothing where it is none
 abbrev pub help_by : Result Members TextFault → TextFault → List ℕ
@@ -19,11 +22,20 @@ help_by (Err refused) fault = []
 abbrev pub IsHelp : List ℕ → TextFault → List ℕ → Type 0
 IsHelp text fault help = help ≡ help_by (document_of text) fault
 
--- a fault of a text, told of a place that it has
+-- what there is to note of a fault, by the document that the text is; nothing where it is none
+abbrev pub notes_by : Result Members TextFault → TextFault → List Note
+notes_by (Ok document) fault = notes_of fault document
+notes_by (Err refused) fault = []
+
+-- the lines of what there is to note of a fault of a text
+abbrev pub AreNotes : List ℕ → TextFault → List ℕ → Type 0
+AreNotes text fault lines = AreNoteLines text (notes_by (document_of text) fault) lines
+
+-- a fault of a text, told of a place that it has, and with the lines of its notes
 abbrev pub IsHint : List ℕ → List ℕ → TextFault → List ℕ → Type 0
 IsHint path text fault hint =
-    (place : Option ℕ) × IsFaultPlace text fault place
-    × (hint ≡ hint_lines path text place (what_text fault) (expected_text fault) (help_by (document_of text) fault))
+    (place : Option ℕ) × IsFaultPlace text fault place × (notes : List ℕ) × AreNotes text fault notes
+    × (hint ≡ hint_lines path text place (what_text fault) (expected_text fault) (help_by (document_of text) fault) notes)
 
 -- the hint of a network file's fault, and none of a network
 abbrev pub IsNetworkHint : List ℕ → List ℕ → Option (String Global) → Type 0

@@ -6,4 +6,5 @@ pub mod HintLines
 pub mod Hints
 pub mod KeyWords
 pub mod Nearest
+pub mod NoteLines
 pub mod Shown

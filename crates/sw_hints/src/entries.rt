@@ -3,41 +3,12 @@ ghost use Rattle.std.specs.Prelude.{◌≡◌, ◌++◌, IfOk, flat_map, map, op
 ghost use Rattle.toml.specs.Data.{get_member};
 ghost use Rattle.sw_toml_table.specs.Keys.{key_text};
 ghost use Rattle.toml.specs.View.{table_view, view};
-ghost use Rattle.sw_hints.specs.Entries.{each_name, name_in, names_of, part_names, tables_of, text_of};
+ghost use Rattle.sw_hints.specs.Entries.{each_name, name_in, names_of, part_names};
 
 use std::alloc::{AllocError, Global};
-use sw_position::value_of;
-use sw_toml_table::{FileFault, Key, Section, TableEntry};
+use sw_notes::tables_of;
+use sw_toml_table::Key;
 use toml::{Table, Value};
-
-/// The text at a key of a table of the document.
-pub(crate) fn text_of(document: &Table, section: Section, key: Key) -> Option<&str>
-    ensures { option_map (λ t. t.now) result ≡ text_of section key (table_view document.now) }
-{
-    match value_of(document, section, key.text()) {
-        Some(value) => value.as_str(),
-        None => None,
-    }
-}
-
-// The tables of a list of the document.
-fn tables_of<'a>(
-    alloc: Global,
-    document: &'a Table,
-    list: Key,
-) -> Result<Vec<&'a Table>, AllocError>
-    ensures { IfOk result (λ v. map (λ t. table_view t.now) v.items ≡ tables_of list (table_view document.now)) }
-{
-    let entry = TableEntry {
-        section: Section::Document,
-        table: document,
-    };
-    match entry.tables_or_none(alloc, list) {
-        Ok(tables) => Ok(tables),
-        Err(FileFault::Text(_)) => Ok(Vec::new(alloc)),
-        Err(FileFault::Memory) => Err(AllocError),
-    }
-}
 
 // What stands at a table's key for its name.
 fn named_value(table: &Table) -> Option<&Value>
@@ -82,7 +53,7 @@ fn add_names<'a>(tables: &[&'a Table], names: &mut Vec<&'a str>) -> Result<(), A
 /// # Errors
 ///
 /// There is no memory for the list.
-pub(crate) fn names_of<'a>(
+pub fn names_of<'a>(
     alloc: Global,
     document: &'a Table,
     list: Key,

@@ -7,15 +7,17 @@ ghost use Rattle.sw_toml_table.specs.Table.{is_known};
 ghost use Rattle.toml.specs.View.{table_view};
 ghost use Rattle.sw_hints.specs.Helps.{help_text, key_help, key_fault_help, known_name_help, meant_help, name_help, node_help, still_words, topology_help};
 
-use crate::entries::{names_of, part_names, text_of};
+use crate::entries::{names_of, part_names};
 use crate::key_words::{keys_of, new_keys_of, outer_keys, port_keys};
 use crate::nearest::like;
 use std::alloc::{AllocError, Global};
+use sw_notes::text_of;
 use sw_toml_table::{Key, KeyFault, Section, TextFault};
 use sw_topo::TopoFault;
 use toml::Table;
 
-fn is_one_of(keys: &[Key], name: &str) -> bool
+/// Whether one of the keys is written so.
+pub fn is_one_of(keys: &[Key], name: &str) -> bool
     ensures { result ≡ is_known keys.now name.now }
 {
     keys.iter().any(|key| key.text() == name)
@@ -32,8 +34,12 @@ fn key_texts(alloc: Global, keys: &[Key]) -> Result<Vec<&'static str>, AllocErro
     Ok(texts)
 }
 
-// The word that was meant, maybe.
-fn meant_help(alloc: Global, meant: Option<&str>) -> Result<String, AllocError>
+/// The word that was meant, maybe.
+///
+/// # Errors
+///
+/// There is no memory for the text.
+pub fn meant_help(alloc: Global, meant: Option<&str>) -> Result<String, AllocError>
     ensures { IfOk result (λ s. string_bytes s ≡ meant_help (option_map (λ t. t.now) meant.entry)) }
 {
     match meant {
@@ -171,7 +177,7 @@ fn topology_help(fault: TopoFault) -> &'static str
         TopoFault::TooMany(_) => "split the network where no flow goes over the cut",
         TopoFault::PortTaken(_) => "each end of a link needs a port of its own",
         TopoFault::NodeLinks(_) => {
-            "a unit with several links is several nodes, or one node behind a switch"
+            "several links: several nodes, or a switch in front of one"
         }
         TopoFault::PortUnlinked(_) => "link the switch, or leave it out",
     }
@@ -182,7 +188,7 @@ fn topology_help(fault: TopoFault) -> &'static str
 /// # Errors
 ///
 /// There is no memory for the text.
-pub(crate) fn help_text(
+pub fn help_text(
     alloc: Global,
     document: &Table,
     fault: &TextFault,

@@ -1,13 +1,16 @@
 //! The hint of a fault.
-ghost use Rattle.std.specs.Prelude.{IfOk, IfSome, string_bytes};
-ghost use Rattle.sw_hints.specs.Hints.{IsHelp, IsHint, IsNetworkHint};
+ghost use Rattle.std.specs.Prelude.{◌≡◌, IfOk, IfSome, string_bytes};
+ghost use Rattle.sw_toml_table.specs.Document.{document_of};
+ghost use Rattle.sw_hints.specs.Hints.{AreNotes, IsHelp, IsHint, IsNetworkHint, notes_by};
 
 use crate::fault_words::{expected_text, what_text};
 use crate::helps::help_text;
 use crate::hint_lines::hint_lines;
+use crate::note_lines::note_lines;
 use crate::places::fault_place;
 use std::alloc::{AllocError, Global};
 use sw_file::read_network;
+use sw_notes::{Note, notes_of};
 use sw_toml_table::{FileFault, TextFault, read_document};
 
 // What to do about a fault of a text.
@@ -21,7 +24,27 @@ fn help_of(alloc: Global, text: &[u8], fault: &TextFault) -> Result<String, Allo
     }
 }
 
-/// What is told of a fault of a text to who has to mend it: where it stands, what stands there, what would be right, and what to do.
+// What there is to note of a fault of a text.
+fn notes_by(alloc: Global, text: &[u8], fault: &TextFault) -> Result<Vec<Note>, AllocError>
+    ensures { IfOk result (λ v. v.items ≡ notes_by (document_of text.now) fault.now) }
+{
+    match read_document(alloc, text) {
+        Ok(document) => notes_of(alloc, &document, fault),
+        Err(FileFault::Text(_)) => Ok(Vec::new(alloc)),
+        Err(FileFault::Memory) => Err(AllocError),
+    }
+}
+
+// The lines of it.
+fn note_lines_of(alloc: Global, text: &[u8], fault: &TextFault) -> Result<String, AllocError>
+    ensures { IfOk result (λ s. AreNotes text.now fault.now (string_bytes s)) }
+{
+    let notes = notes_by(alloc, text, fault)?;
+    note_lines(alloc, text, &notes)
+}
+
+/// What is told of a fault of a text to who has to mend it: where it stands, what stands there, what would be right, what to do, and
+/// what there is to note.
 /// `path` is told as the text's name.
 ///
 /// # Errors
@@ -39,6 +62,7 @@ pub fn hint_of(
     let what = what_text(alloc, fault)?;
     let expected = expected_text(alloc, fault)?;
     let help = help_of(alloc, text, fault)?;
+    let notes = note_lines_of(alloc, text, fault)?;
     hint_lines(
         alloc,
         path,
@@ -47,6 +71,7 @@ pub fn hint_of(
         what.as_str(),
         expected.as_str(),
         help.as_str(),
+        notes.as_str(),
     )
 }
 

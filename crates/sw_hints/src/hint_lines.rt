@@ -86,8 +86,12 @@ fn head_line(
     format!(in alloc; "{place}: {what}\n")
 }
 
-// An indented line of what is told, none where there is nothing to tell.
-fn told(alloc: Global, name: &str, words: &[u8]) -> Result<String, AllocError>
+/// An indented line of what is told, none where there is nothing to tell.
+///
+/// # Errors
+///
+/// There is no memory for the text.
+pub fn told(alloc: Global, name: &str, words: &[u8]) -> Result<String, AllocError>
     ensures { IfOk result (λ s. string_bytes s ≡ told name.now words.now) }
 {
     match words {
@@ -99,8 +103,12 @@ fn told(alloc: Global, name: &str, words: &[u8]) -> Result<String, AllocError>
     }
 }
 
-// What stands at the place.
-fn found_line(alloc: Global, text: &[u8], place: Option<usize>) -> Result<String, AllocError>
+/// What stands at the place: the rest of its line, at most 72 bytes.
+///
+/// # Errors
+///
+/// There is no memory for the text.
+pub fn found_line(alloc: Global, text: &[u8], place: Option<usize>) -> Result<String, AllocError>
     requires { IfSome place (λ at. at ≤ length text.now) }
     ensures { IfOk result (λ s. string_bytes s ≡ found_line text.now place) }
 {
@@ -110,12 +118,12 @@ fn found_line(alloc: Global, text: &[u8], place: Option<usize>) -> Result<String
     }
 }
 
-/// The lines of a hint: where and what, what stands there, what would be right, and what to do.
+/// The lines of a hint: where and what, what stands there, what would be right, what to do, and the lines of notes.
 ///
 /// # Errors
 ///
 /// There is no memory for the text.
-pub(crate) fn hint_lines(
+pub fn hint_lines(
     alloc: Global,
     path: &str,
     text: &[u8],
@@ -123,13 +131,14 @@ pub(crate) fn hint_lines(
     what: &str,
     expected: &str,
     help: &str,
+    notes: &str,
 ) -> Result<String, AllocError>
     requires { IfSome place (λ at. at ≤ length text.now) }
-    ensures { IfOk result (λ s. string_bytes s ≡ hint_lines path.now text.now place what.now expected.now help.now) }
+    ensures { IfOk result (λ s. string_bytes s ≡ hint_lines path.now text.now place what.now expected.now help.now notes.now) }
 {
     let head = head_line(alloc, path, text, place, what)?;
     let found = found_line(alloc, text, place)?;
     let expected = told(alloc, "expected", expected.as_bytes())?;
     let help = told(alloc, "help", help.as_bytes())?;
-    format!(in alloc; "{head}{found}{expected}{help}")
+    format!(in alloc; "{head}{found}{expected}{help}{notes}")
 }

@@ -68,7 +68,7 @@ fn other_case<'a>(name: &str, texts: &[&'a str]) -> Option<&'a str>
 /// # Errors
 ///
 /// There is no memory to compare them.
-pub(crate) fn like<'a>(
+pub fn like<'a>(
     alloc: Global,
     name: &str,
     texts: &[&'a str],

@@ -1,0 +1,140 @@
+//! The lines of what there is to note of a fault.
+ghost use Rattle.std.specs.Prelude.{◌≡◌, ◌≤◌, ◌++◌, IfOk, IfSome, codes, length, string_bytes};
+ghost use Rattle.sw_hints.specs.HintLines.{told};
+ghost use Rattle.sw_hints.specs.NoteLines.{AreNoteLines, IsNoteLine, IsNotePlace, entry_of, entry_text, note_words, subject};
+
+use crate::hint_lines::told;
+use std::alloc::{AllocError, Global};
+use sw_notes::Note;
+use sw_position::{Sought, place_of, position_at};
+use sw_toml_table::Section;
+
+// A table of a file, by its number.
+fn entry_text(alloc: Global, section: Section) -> Result<String, AllocError>
+    ensures { IfOk result (λ s. string_bytes s ≡ entry_text section) }
+{
+    match section {
+        Section::Document => String::from_str(alloc, "the document"),
+        Section::Node(i) => format!(in alloc; "node {i}"),
+        Section::Target(i) => format!(in alloc; "node {i} target"),
+        Section::Switch(i) => format!(in alloc; "switch {i}"),
+        Section::Route(i, j) => format!(in alloc; "switch {i} route {j}"),
+        Section::Link(i) => format!(in alloc; "link {i}"),
+        Section::Flow(i) => format!(in alloc; "flow {i}"),
+        Section::Reply(i) => format!(in alloc; "flow {i} reply"),
+        Section::Packet(i) => format!(in alloc; "packet {i}"),
+    }
+}
+
+// The entry that a note is of.
+fn entry_of(note: Note) -> Option<Section>
+    ensures { result ≡ entry_of note }
+{
+    match note {
+        Note::HasName(section) => Some(section),
+        Note::LinkHere(link) | Note::HasPort(link, _) => Some(Section::Link(link)),
+        Note::IsFor(switch, route, _, _) => Some(Section::Route(switch, route)),
+        Note::NoTarget(node) => Some(Section::Node(node)),
+        Note::Unlinked | Note::LongPath(_) | Note::LeadingZero | Note::NoInitiator(_) => None,
+    }
+}
+
+// What is noted.
+fn note_words(alloc: Global, note: Note) -> Result<String, AllocError>
+    ensures { IfOk result (λ s. string_bytes s ≡ note_words note) }
+{
+    match note {
+        Note::HasName(_) => String::from_str(alloc, "has the name already"),
+        Note::Unlinked => String::from_str(alloc, "no link is at this node"),
+        Note::LinkHere(_) => String::from_str(alloc, "is at this node"),
+        Note::HasPort(_, end) => {
+            let end = end.text();
+            format!(in alloc; "has the port of '{end}' already")
+        }
+        Note::IsFor(_, _, first, last) => {
+            format!(in alloc; "is for the addresses from {first} to {last}")
+        }
+        Note::LongPath(count) => format!(in alloc; "the path has {count} numbers"),
+        Note::LeadingZero => String::from_str(alloc, "the path begins with 0"),
+        Note::NoInitiator(initiator) => {
+            format!(in alloc; "the initiator is {initiator}, which is no logical address")
+        }
+        Note::NoTarget(_) => {
+            String::from_str(alloc, "is where the flow ends, and has no 'target'")
+        }
+    }
+}
+
+// An entry, and the line and column where it stands, if that was found.
+fn subject(
+    alloc: Global,
+    text: &[u8],
+    section: Option<Section>,
+    place: Option<usize>,
+) -> Result<String, AllocError>
+    requires { IfSome place (λ at. at ≤ length text.now) }
+    ensures { IfOk result (λ s. string_bytes s ≡ subject text.now section place) }
+{
+    let Some(section) = section else {
+        return Ok(String::new(alloc));
+    };
+    let entry = entry_text(alloc, section)?;
+    match place {
+        None => format!(in alloc; "{entry} "),
+        Some(at) => {
+            let position = position_at(text, at);
+            let line = position.line;
+            let column = position.column;
+            format!(in alloc; "{entry} at {line}:{column} ")
+        }
+    }
+}
+
+// Where the entry of a note stands, if that is found.
+fn note_place(alloc: Global, text: &[u8], note: Note) -> Result<Option<usize>, AllocError>
+    ensures place { IfOk result (λ o. IsNotePlace text.now note o) }
+    ensures within { IfOk result (λ o. IfSome o (λ at. at ≤ length text.now)) }
+{
+    match entry_of(note) {
+        Some(section) => place_of(alloc, text, Sought { section, key: None }),
+        None => Ok(None),
+    }
+}
+
+// A line of words.
+fn noted(
+    alloc: Global,
+    text: &[u8],
+    note: Note,
+    place: Option<usize>,
+) -> Result<String, AllocError>
+    requires { IfSome place (λ at. at ≤ length text.now) }
+    ensures { IfOk result (λ s. string_bytes s ≡ told (codes "note") (subject text.now (entry_of note) place ++ note_words note)) }
+{
+    let mut line = subject(alloc, text, entry_of(note), place)?;
+    line.push_str(note_words(alloc, note)?.as_str())?;
+    told(alloc, "note", line.as_bytes())
+}
+
+// The line of a note.
+fn note_line(alloc: Global, text: &[u8], note: Note) -> Result<String, AllocError>
+    ensures { IfOk result (λ s. IsNoteLine text.now note (string_bytes s)) }
+{
+    let place = note_place(alloc, text, note)?;
+    noted(alloc, text, note, place)
+}
+
+/// The lines of notes.
+///
+/// # Errors
+///
+/// There is no memory for the text.
+pub(crate) fn note_lines(alloc: Global, text: &[u8], notes: &[Note]) -> Result<String, AllocError>
+    ensures { IfOk result (λ s. AreNoteLines text.now notes.now (string_bytes s)) }
+{
+    let mut lines = String::new(alloc);
+    for note in notes {
+        lines.push_str(note_line(alloc, text, *note)?.as_str())?;
+    }
+    Ok(lines)
+}

@@ -1,0 +1,24 @@
+-- The places of those that pass, one after another.
+use Rattle.std.proofs.Common.{◌≡◌, ◌∙◌, ◌<◌, ◌≤◌, ◌+◌, ◌++◌, ℕ, suc, Bool, true, false, List, [], ◌∷◌, ap, arith, cond, get_or, length, map, refl, take}
+use Rattle.std.proofs.lemmas.List.{length-take-le, take_more}
+use Rattle.toml.specs.Data.{Members}
+use Rattle.sw_notes.specs.Finding.{places_from}
+
+onward : (passes : Bool) (n : ℕ) (all before last : List ℕ) → all ≡ before ++ last → cond passes (n ∷ all) all ≡ cond passes (n ∷ before) before ++ last
+onward true n all before last is = ap (λ l. n ∷ l) is
+onward false n all before last is = is
+
+place_with : {T : Type 0} (test : Members → Bool) (f : T → Members) (ts : List T) (t : T) (n m : ℕ) → n + length ts ≡ m
+    → places_from test n (map f (ts ++ t ∷ [])) ≡ places_from test n (map f ts) ++ cond (test (f t)) (m ∷ []) []
+place_with test f [] t n m is = ap (λ k. cond (test (f t)) (k ∷ []) []) (let same : n ≡ m = omega (arith, is) in same)
+place_with test f (x ∷ xs) t n m is =
+    onward (test (f x)) n (places_from test (suc n) (map f (xs ++ t ∷ []))) (places_from test (suc n) (map f xs)) (cond (test (f t)) (m ∷ []) [])
+    (place_with test f xs t (suc n) m (omega (arith, is)))
+
+-- those up to one more are those before it, and its own, if it passes
+pub place_more : {T : Type 0} (test : Members → Bool) (f : T → Members) (ts : List T) (i : ℕ) (d : T) → i < length ts
+    → places_from test 0 (map f (take (i + 1) ts)) ≡ places_from test 0 (map f (take i ts)) ++ cond (test (f (get_or ts i d))) (i ∷ []) []
+place_more test f ts i d within =
+    let few : i ≤ length ts = omega (arith, within) in
+    let at : 0 + length (take i ts) ≡ i = omega (arith, length-take-le i ts few) in
+    ap (λ l. places_from test 0 (map f l)) (take_more ts i d within) ∙ place_with test f (take i ts) (get_or ts i d) 0 i at

@@ -1,0 +1,5 @@
+pub mod Entries
+pub mod Finding
+pub mod Notes
+pub mod Passing
+pub mod ReplyNotes

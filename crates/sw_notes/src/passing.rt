@@ -1,0 +1,71 @@
+//! What is asked of an entry.
+ghost use Rattle.std.specs.Prelude.{◌≡◌};
+ghost use Rattle.toml.specs.View.{table_view};
+ghost use Rattle.sw_notes.specs.Passing.{has_end, has_number, has_text, overlaps, passes};
+
+use crate::entries::{number_in, range_in, text_in};
+use sw_toml_table::Key;
+use toml::Table;
+
+/// What is asked of an entry.
+#[derive(Clone, Copy)]
+pub(crate) enum Test<'a> {
+    /// Has it this name?
+    Named(&'a str),
+    /// Has the link an end at the unit of this name?
+    IsAt(&'a str),
+    /// Has the link an end at this port of the switch of this name?
+    HasPort(&'a str, u64),
+    /// Is the entry of a routing table for an address from the first to the last?
+    Overlaps(u64, u64),
+}
+
+// Whether this text stands at a key.
+fn has_text(table: &Table, key: Key, text: &str) -> bool
+    ensures { result ≡ has_text key text.now (table_view table.now) }
+{
+    match text_in(table, key) {
+        Some(found) => found == text,
+        None => false,
+    }
+}
+
+// Whether this port stands at a key.
+fn has_number(table: &Table, key: Key, port: u64) -> bool
+    ensures { result ≡ has_number key port (table_view table.now) }
+{
+    match number_in(table, key, 0, 31) {
+        Some(found) => found == port,
+        None => false,
+    }
+}
+
+// Whether an end of the link is at this port of the switch.
+fn has_end(link: &Table, name: &str, port: u64) -> bool
+    ensures { result ≡ has_end name.now port (table_view link.now) }
+{
+    (has_text(link, Key::A, name) && has_number(link, Key::APort, port))
+        || (has_text(link, Key::B, name) && has_number(link, Key::BPort, port))
+}
+
+// Whether an entry of a routing table is for one of these addresses.
+fn overlaps(route: &Table, first: u64, last: u64) -> bool
+    ensures { result ≡ overlaps first last (table_view route.now) }
+{
+    match range_in(route) {
+        Some((begin, end)) => first <= end && begin <= last,
+        None => false,
+    }
+}
+
+/// Whether an entry passes.
+pub(crate) fn passes(test: &Test<'_>, table: &Table) -> bool
+    ensures { result ≡ passes test.now (table_view table.now) }
+{
+    match test {
+        Test::Named(name) => has_text(table, Key::Name, name),
+        Test::IsAt(name) => has_text(table, Key::A, name) || has_text(table, Key::B, name),
+        Test::HasPort(name, port) => has_end(table, name, *port),
+        Test::Overlaps(first, last) => overlaps(table, *first, *last),
+    }
+}

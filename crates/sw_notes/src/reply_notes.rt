@@ -1,0 +1,129 @@
+//! Why the replies of a flow can't come back.
+ghost use Rattle.std.specs.Prelude.{◌≡◌, ◌++◌, IfOk, option_map};
+ghost use Rattle.toml.specs.View.{table_view};
+ghost use Rattle.sw_notes.specs.ReplyNotes.{end_node, initiator_notes, is_zero_led, node_note, path_notes, reply_notes, shape_notes, table_notes, target_notes};
+
+use crate::entries::{bytes_in, number_in, text_of};
+use crate::note::Note;
+use crate::notes::named;
+use std::alloc::{AllocError, Global};
+use sw_position::table_of;
+use sw_toml_table::{Key, Section};
+use toml::Table;
+
+/// The most numbers that a path of replies has.
+const MOST_STEPS: usize = 12;
+
+fn is_zero_led(path: &[u8]) -> bool
+    ensures { result ≡ is_zero_led path.now }
+{
+    match path {
+        [] => false,
+        [byte, ..] => *byte == 0,
+    }
+}
+
+// Adds what is wrong with the path.
+fn add_path(path: &[u8], notes: &mut Vec<Note>) -> Result<(), AllocError>
+    ensures { IfOk result (λ _. notes.new.items ≡ notes.old.items ++ path_notes path.now) }
+{
+    if path.len() > MOST_STEPS {
+        notes.push(Note::LongPath(path.len()))?;
+    }
+    if is_zero_led(path) {
+        notes.push(Note::LeadingZero)?;
+    }
+    Ok(())
+}
+
+// Adds what is wrong with the initiator.
+fn add_initiator(initiator: Option<u64>, notes: &mut Vec<Note>) -> Result<(), AllocError>
+    ensures { IfOk result (λ _. notes.new.items ≡ notes.old.items ++ initiator_notes initiator) }
+{
+    if let Some(initiator) = initiator {
+        if initiator < 32 || initiator > 254 {
+            notes.push(Note::NoInitiator(initiator))?;
+        }
+    }
+    Ok(())
+}
+
+// Adds what is wrong in the table of the replies.
+fn add_shape(alloc: Global, reply: &Table, notes: &mut Vec<Note>) -> Result<(), AllocError>
+    ensures { IfOk result (λ _. notes.new.items ≡ notes.old.items ++ shape_notes (table_view reply.now)) }
+{
+    let path = bytes_in(alloc, reply, Key::Path)?;
+    add_path(&path, notes)?;
+    add_initiator(number_in(reply, Key::Initiator, 0, 255), notes)
+}
+
+// Adds the same, where there is such a table.
+fn add_table(
+    alloc: Global,
+    reply: Option<&Table>,
+    notes: &mut Vec<Note>,
+) -> Result<(), AllocError>
+    ensures { IfOk result (λ _. notes.new.items ≡ notes.old.items ++ table_notes (option_map (λ t. table_view t.now) reply.entry)) }
+{
+    match reply {
+        Some(reply) => add_shape(alloc, reply, notes),
+        None => Ok(()),
+    }
+}
+
+// Adds that the node is no target, if it is none.
+fn add_node(document: &Table, node: usize, notes: &mut Vec<Note>) -> Result<(), AllocError>
+    ensures { IfOk result (λ _. notes.new.items ≡ notes.old.items ++ node_note node (table_view document.now)) }
+{
+    match table_of(document, Section::Target(node)) {
+        Some(_) => Ok(()),
+        None => Ok(notes.push(Note::NoTarget(node))?),
+    }
+}
+
+// The node that a flow goes to.
+fn end_node(alloc: Global, document: &Table, flow: usize) -> Result<Option<usize>, AllocError>
+    ensures { IfOk result (λ o. o ≡ end_node flow (table_view document.now)) }
+{
+    match text_of(document, Section::Flow(flow), Key::To) {
+        Some(name) => named(alloc, document, Key::Node, name),
+        None => Ok(None),
+    }
+}
+
+// Adds that the node that a flow goes to is no target, if it is none.
+fn add_target(
+    alloc: Global,
+    document: &Table,
+    flow: usize,
+    notes: &mut Vec<Note>,
+) -> Result<(), AllocError>
+    ensures { IfOk result (λ _. notes.new.items ≡ notes.old.items ++ target_notes flow (table_view document.now)) }
+{
+    match end_node(alloc, document, flow)? {
+        Some(node) => add_node(document, node, notes),
+        None => Ok(()),
+    }
+}
+
+/// Each condition that failed.
+///
+/// # Errors
+///
+/// There is no memory for the list.
+pub(crate) fn reply_notes(
+    alloc: Global,
+    document: &Table,
+    flow: usize,
+) -> Result<Vec<Note>, AllocError>
+    ensures { IfOk result (λ v. v.items ≡ reply_notes flow (table_view document.now)) }
+{
+    let mut notes = Vec::new(alloc);
+    add_table(
+        alloc,
+        table_of(document, Section::Reply(flow)),
+        &mut notes,
+    )?;
+    add_target(alloc, document, flow, &mut notes)?;
+    Ok(notes)
+}

@@ -1,0 +1,4 @@
+pub mod LoadHints
+pub mod ScheduleHints
+pub mod StepWords
+pub mod WrongWords
