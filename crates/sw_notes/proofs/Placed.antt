@@ -1,5 +1,5 @@
 -- The places of those that pass, one after another.
-use Rattle.std.proofs.Common.{◌≡◌, ◌∙◌, ◌<◌, ◌≤◌, ◌+◌, ◌++◌, ℕ, suc, Bool, true, false, List, [], ◌∷◌, ap, arith, cond, get_or, length, map, refl, take}
+use Rattle.std.proofs.Common.{◌≡◌, ◌∙◌, ◌<◌, ◌≤◌, ◌+◌, ◌++◌, ℕ, suc, Bool, true, false, List, [], ◌∷◌, ap, arith, cond, get_or, length, map, refl, sym, take}
 use Rattle.std.proofs.lemmas.List.{length-take-le, take_more}
 use Rattle.toml.specs.Data.{Members}
 use Rattle.sw_notes.specs.Finding.{places_from}
@@ -22,3 +22,13 @@ place_more test f ts i d within =
     let few : i ≤ length ts = omega (arith, within) in
     let at : 0 + length (take i ts) ≡ i = omega (arith, length-take-le i ts few) in
     ap (λ l. places_from test 0 (map f l)) (take_more ts i d within) ∙ place_with test f (take i ts) (get_or ts i d) 0 i at
+
+-- one more turn of a walk over them
+pub place_next : {T : Type 0} (test : Members → Bool) (f : T → Members) (ts : List T) (i place : ℕ) (item : T) (before after : List ℕ) → i < length ts
+    → item ≡ get_or ts i item → place ≡ i → before ≡ places_from test 0 (map f (take i ts)) → after ≡ before ++ cond (test (f item)) (place ∷ []) []
+    → after ≡ places_from test 0 (map f (take (i + 1) ts))
+place_next test f ts i place item before after within is at counted placed =
+    placed ∙ ap (λ l. l ++ cond (test (f item)) (place ∷ []) []) counted
+    ∙ ap (λ n. places_from test 0 (map f (take i ts)) ++ cond (test (f item)) (n ∷ []) []) at
+    ∙ ap (λ t. places_from test 0 (map f (take i ts)) ++ cond (test (f t)) (i ∷ []) []) is
+    ∙ sym (place_more test f ts i item within)

@@ -26,7 +26,6 @@ fn add_place(
 }
 
 // The places of the tables that pass.
-#[tactic(auto, using(crate::proofs::Placed::place_more))]
 fn places_in(
     alloc: Global,
     tables: &[&Table],
