@@ -9,6 +9,7 @@ mod locked_cell;
 mod locked_journal;
 mod naps;
 mod outcome;
+mod progress;
 mod run_identity;
 mod run_state;
 mod running;
@@ -17,4 +18,8 @@ mod workers;
 
 pub use gate::{Gate, Open};
 pub use outcome::{Outcome, Stop};
+pub use progress::with_progress;
 pub use running::run;
+pub use sw_config::Network;
+pub use sw_limit::laws::listed_are_declared;
+pub use sw_load::Load;
