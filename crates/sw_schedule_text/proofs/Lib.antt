@@ -6,4 +6,3 @@ mod Entries
 mod Lines
 mod Histories
 mod Texts
-mod Whole
