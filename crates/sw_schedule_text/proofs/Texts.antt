@@ -1,9 +1,9 @@
 -- A text of entries is read as their steps.
-use Rattle.std.proofs.Common.{◌≡◌, ℕ, ◌*◌, ◌≤◌, Bool, true, false, ◌&&◌, List, [], ◌∷◌, ◌++◌, length, map, replicate, Option, Some, None, refl, sym, ap, subst, ◌∙◌, inl, inr, arith, append_assoc, leb-true}
+use Rattle.std.proofs.Common.{◌≡◌, ℕ, ◌*◌, ◌≤◌, Bool, true, false, ◌&&◌, List, [], ◌∷◌, ◌++◌, length, map, replicate, Option, Some, None, refl, sym, ap, subst, ◌∙◌, inl, inr, arith, append_assoc}
 use Rattle.std.specs.Prelude.{◌==◌, Ok, flat_map, nat_le, if◌then◌else◌}
 use Rattle.std.specs.Fmt.{decimal}
 use Rattle.std.specs.List.{slice_split}
-use Rattle.std.proofs.lemmas.Bool.{and_parts, cases_Bool}
+use Rattle.std.proofs.lemmas.Bool.{cases_Bool, leb-true}
 use Rattle.std.proofs.lemmas.List.Splits.{slice_split_at}
 use Rattle.sw_config.specs.Entries.{Declaration, wiring_of}
 use Rattle.sw_config.specs.Valid.{IsValid}
@@ -16,7 +16,7 @@ use Rattle.sw_schedule.specs.Lines.{Repeated, steps_of_line}
 use Rattle.sw_schedule.specs.Schedule.{steps_of, steps_of_text}
 use Rattle.sw_schedule_text.specs.Laws.{HasNames, SchedulesAreRead}
 use Rattle.sw_schedule_text.specs.Lines.{step_line}
-use Rattle.sw_schedule_text.specs.Runs.{entries_of, entry_line, readable_text, schedule_text}
+use Rattle.sw_schedule_text.specs.Runs.{entries_of, entry_line, readable_text, schedule_text, short_text}
 use Rattle.sw_schedule_text.proofs.Entries.{Each, IsRight, entries_right, entries_steps}
 use Rattle.sw_schedule_text.proofs.Histories.{history_writable}
 use Rattle.sw_schedule_text.proofs.Lines.{IsWritable, Reads, Says, entry_says, entry_text, step_read}
@@ -81,19 +81,23 @@ record IsReadable (d : Declaration) (steps : List Step) (text : List ℕ) : Type
   few : length steps ≤ 1000000
   text : text ≡ schedule_text d steps
 
-readable : (d : Declaration) (steps : List Step) (text : List ℕ) → readable_text d steps ≡ Some text → IsReadable d steps text
-readable d steps text e = elim (cases_Bool (nat_le (length steps) 1000000 && nat_le (length (schedule_text d steps)) 67108864)) [
-  | inl t ↦
-      let same : Some (schedule_text d steps) ≡ Some text = rw t at e in
-      record { few = leb-true (length steps) 1000000 (and_parts (nat_le (length steps) 1000000) (nat_le (length (schedule_text d steps)) 67108864) t).0; text = some_same (schedule_text d steps) text same }
+none_some : (text : List ℕ) → ◌≡◌ {A = Option (List ℕ)} None (Some text) → ⊥
+none_some text e = cc
+
+short : (whole text : List ℕ) → short_text whole ≡ Some text → text ≡ whole
+short whole text e = elim (cases_Bool (nat_le (length whole) 67108864)) [
+  | inl t ↦ let same : Some whole ≡ Some text = rw t at e in some_same whole text same
   | inr f ↦ let none : ◌≡◌ {A = Option (List ℕ)} None (Some text) = rw f at e in absurd (none_some text none)
 ]
   where
-    none_some : (text : List ℕ) → ◌≡◌ {A = Option (List ℕ)} None (Some text) → ⊥
-    none_some text e = cc
-
     some_same : (a b : List ℕ) → Some a ≡ Some b → b ≡ a
     some_same a b e = cc
+
+readable : (d : Declaration) (steps : List Step) (text : List ℕ) → readable_text d steps ≡ Some text → IsReadable d steps text
+readable d steps text e = elim (cases_Bool (nat_le (length steps) 1000000)) [
+  | inl t ↦ let is : short_text (schedule_text d steps) ≡ Some text = rw t at e in record { few = leb-true (length steps) 1000000 t; text = short (schedule_text d steps) text is }
+  | inr f ↦ let none : ◌≡◌ {A = Option (List ℕ)} None (Some text) = rw f at e in absurd (none_some text none)
+]
 
 pub schedules_are_read : CargoIsRead → LinesAreRead → DeclaredNetworksAreNetworks → SchedulesAreRead
 schedules_are_read cargo_is_read lines_are_read are_networks d load steps s text valid names short history e =

@@ -62,7 +62,10 @@ entry_line d r = if r.count == 1 then line (step_line d r.step ∷ []) else line
 abbrev pub schedule_text : Declaration → List Step → List ℕ
 schedule_text d steps = flat_map (entry_line d) (entries_of steps)
 
--- the text, if it is no longer than a schedule may be: at most 1,000,000 steps, and 67,108,864 bytes
+-- the text, if it has at most 67,108,864 bytes
+abbrev pub short_text : List ℕ → Option (List ℕ)
+short_text text = if nat_le (length text) 67108864 then Some text else None
+
+-- the text, if it is one that a schedule may be, which has at most 1,000,000 steps
 abbrev pub readable_text : Declaration → List Step → Option (List ℕ)
-readable_text d steps =
-    if nat_le (length steps) 1000000 && nat_le (length (schedule_text d steps)) 67108864 then Some (schedule_text d steps) else None
+readable_text d steps = if nat_le (length steps) 1000000 then short_text (schedule_text d steps) else None

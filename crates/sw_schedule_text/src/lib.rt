@@ -6,4 +6,4 @@ mod line;
 mod parts;
 mod text;
 
-pub use text::{MAX_BYTES, write_steps};
+pub use text::write_steps;

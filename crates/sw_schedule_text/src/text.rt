@@ -1,7 +1,7 @@
 //! The text of steps.
 ghost use Rattle.std.specs.Prelude.{◌≡◌, ◌++◌, ◌==◌, IfOk, map, option_map, string_bytes, OnOk};
 ghost use Rattle.sw_model.specs.Steps.{machine_step};
-ghost use Rattle.sw_schedule_text.specs.Runs.{entry_line, readable_text, schedule_text};
+ghost use Rattle.sw_schedule_text.specs.Runs.{entry_line, readable_text, schedule_text, short_text};
 
 use crate::line::step_line;
 use crate::parts::is_same;
@@ -10,11 +10,11 @@ use sw_config::Network;
 use sw_model::Step;
 use sw_schedule::MAX_STEPS;
 
-/// A line has its step at most this many times.
+// A line has its step at most this many times.
 const MAX_COUNT: u32 = 100_000;
 
-/// The most bytes that the text of a schedule may have.
-pub const MAX_BYTES: usize = 67_108_864;
+// The most bytes that the text of a schedule may have.
+const MAX_BYTES: usize = 67_108_864;
 
 // The line of a step that is made so often.
 fn entry_line(
@@ -47,17 +47,17 @@ fn push_entry(
     text.push_str(line.as_str())
 }
 
-// The text of these steps.
-fn schedule_text(
+// The text of these steps, if it is no longer than a schedule's may be.
+fn short_text(
     alloc: Global,
     network: &Network,
     steps: &[Step],
-) -> Result<String, AllocError>
-    ensures { IfOk result (λ s. string_bytes s ≡ schedule_text network.now (map machine_step steps.now)) }
+) -> Result<Option<String>, AllocError>
+    ensures { IfOk result (λ o. option_map string_bytes o ≡ short_text (schedule_text network.now (map machine_step steps.now))) }
 {
     let mut text = String::new(alloc);
     let [first, rest @ ..] = steps else {
-        return Ok(text);
+        return Ok(Some(text));
     };
     let mut last = first;
     let mut count = 1;
@@ -66,12 +66,19 @@ fn schedule_text(
             count += 1;
         } else {
             push_entry(alloc, network, last, count, &mut text)?;
+            if text.len() > MAX_BYTES {
+                return Ok(None);
+            }
             last = step;
             count = 1;
         }
     }
     push_entry(alloc, network, last, count, &mut text)?;
-    Ok(text)
+    if text.len() > MAX_BYTES {
+        Ok(None)
+    } else {
+        Ok(Some(text))
+    }
 }
 
 /// The text of a schedule of these steps, equal neighbours as one line with their count. None where it would be longer than a
@@ -88,12 +95,8 @@ pub fn write_steps(
     ensures { IfOk result (λ o. option_map string_bytes o ≡ readable_text network.now (map machine_step steps.now)) }
 {
     if steps.len() > MAX_STEPS as usize {
-        return Ok(None);
-    }
-    let text = schedule_text(alloc, network, steps)?;
-    if text.len() > MAX_BYTES {
         Ok(None)
     } else {
-        Ok(Some(text))
+        short_text(alloc, network, steps)
     }
 }
