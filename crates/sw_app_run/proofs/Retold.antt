@@ -64,6 +64,7 @@ replays_are_as_told d load limit o r is replayed =
 pub schedules_are_retold : ReadNetworksAreValid → ReadNamesAreNames → ListedAreShort → SchedulesAreRead → SchedulesAreRetold
 schedules_are_retold are_valid are_names are_short are_read network_bytes load_bytes text d load limit o network listed is written =
     let names = are_names network_bytes d network in
-    let named : HasNames d = record { parts = names.parts; flows = names.flows } in
-    (are_read d load (steps_of o) is.state text (are_valid network_bytes d network) named (are_short d load_bytes load listed) is.history written,
-     λ r replayed. replays_are_as_told d load limit o r is replayed)
+    let named : HasNames d = record { parts = names.parts; flows = names.flows } in (
+      are_read d load (steps_of o) is.state text (are_valid network_bytes d network) named (are_short d load_bytes load listed) is.history written,
+      λ r replayed. replays_are_as_told d load limit o r is replayed,
+    )

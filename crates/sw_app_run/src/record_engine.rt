@@ -46,14 +46,7 @@ fn tell_recorded<W: Write, S: Write>(
 
 /// What comes of a run of the second text's load on the network of the first text, as `run` tells it, after the schedule of the
 /// run's steps was written. A schedule that was not written whole ends the call as a write that failed, and no answer is written.
-pub fn run_recorded<
-    N: Read,
-    L: Read,
-    W: Write,
-    S: Write,
-    G: Gate + Sync,
-    T: Threads + Wait + Sync,
->(
+pub fn run_recorded<N: Read, L: Read, W: Write, S: Write, G: Gate + Sync, T: Threads + Wait + Sync>(
     rt: &T,
     alloc: Global,
     network: &mut N,

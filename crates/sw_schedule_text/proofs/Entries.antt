@@ -79,7 +79,7 @@ pub entries_steps : (steps : List Step) → steps_of (entries_of steps) ≡ step
 entries_steps [] = refl
 entries_steps (step ∷ steps) = from_steps step 1 steps
 
-pub abbrev Each : {X : Type 0} → (X → Type 0) → List X → Type 0
+abbrev pub Each : {X : Type 0} → (X → Type 0) → List X → Type 0
 Each {X} P [] = Unit {0}
 Each {X} P (x ∷ xs) = P x × Each P xs
 

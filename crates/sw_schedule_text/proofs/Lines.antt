@@ -23,7 +23,7 @@ use Rattle.sw_schedule_text.proofs.Words.{ArePlain, Free, Plain, both_free, deci
 use Rattle.sw_text.proofs.Numbers.{spelled_read}
 
 -- the step is of channels, nodes and flows of the network, and its cargo is short
-pub abbrev IsWritable : Declaration → Step → Type 0
+abbrev pub IsWritable : Declaration → Step → Type 0
 IsWritable d (Fct c) = c < 2 * length d.links
 IsWritable d (FctIn c) = c < 2 * length d.links
 IsWritable d (Arrive c) = c < 2 * length d.links
@@ -106,7 +106,7 @@ module _ (is_read : CargoIsRead) (d : Declaration) (valid : IsValid d) (names : 
 -- ---- with a count
 
 -- the line of an entry, without its LF
-pub abbrev entry_text : Declaration → Repeated → List ℕ
+abbrev pub entry_text : Declaration → Repeated → List ℕ
 entry_text d r = if r.count == 1 then step_line d r.step else decimal r.count ++ (32 ∷ step_line d r.step)
 
 pub record Says (d : Declaration) (steps : List Step) (line : List ℕ) : Type 0 where

@@ -36,20 +36,20 @@ digit_small c v h = elim (cases_Bool (nat_le 48 c && nat_le c 57)) [
       let same = some_is (c - 48) v is in
       let low = leb-true 48 c parts.0 in let high = leb-true c 57 parts.1 in omega (arith, same, low, high)
   | inr f ↦ elim (cases_Bool (nat_le 65 c && nat_le c 70)) [
+    | inl t ↦
+        let parts = and_parts (nat_le 65 c) (nat_le c 70) t in
+        let is : Some (c - 55) ≡ Some v = rw (f, t) at h in
+        let same = some_is (c - 55) v is in
+        let low = leb-true 65 c parts.0 in let high = leb-true c 70 parts.1 in omega (arith, same, low, high)
+    | inr g ↦ elim (cases_Bool (nat_le 97 c && nat_le c 102)) [
       | inl t ↦
-          let parts = and_parts (nat_le 65 c) (nat_le c 70) t in
-          let is : Some (c - 55) ≡ Some v = rw (f, t) at h in
-          let same = some_is (c - 55) v is in
-          let low = leb-true 65 c parts.0 in let high = leb-true c 70 parts.1 in omega (arith, same, low, high)
-      | inr g ↦ elim (cases_Bool (nat_le 97 c && nat_le c 102)) [
-          | inl t ↦
-              let parts = and_parts (nat_le 97 c) (nat_le c 102) t in
-              let is : Some (c - 87) ≡ Some v = rw (f, g, t) at h in
-              let same = some_is (c - 87) v is in
-              let low = leb-true 97 c parts.0 in let high = leb-true c 102 parts.1 in omega (arith, same, low, high)
-          | inr k ↦ let is : ◌≡◌ {A = Option ℕ} None (Some v) = rw (f, g, k) at h in absurd (none_is v is)
-        ]
+          let parts = and_parts (nat_le 97 c) (nat_le c 102) t in
+          let is : Some (c - 87) ≡ Some v = rw (f, g, t) at h in
+          let same = some_is (c - 87) v is in
+          let low = leb-true 97 c parts.0 in let high = leb-true c 102 parts.1 in omega (arith, same, low, high)
+      | inr k ↦ let is : ◌≡◌ {A = Option ℕ} None (Some v) = rw (f, g, k) at h in absurd (none_is v is)
     ]
+  ]
 ]
 
 pair_small : (h l b : ℕ) → hex_pair h l ≡ Some b → b < 256

@@ -82,8 +82,8 @@ not_same x y apart = elim (cases_Bool (bytes_eq y x)) [
 found : (names : List (List ℕ)) (n : ℕ) (name : List ℕ) → AllPairs (λ x y. x ≢ y) names → n < length names → get_or names n [] ≡ name → position (bytes_eq name) names ≡ Some n
 found names n name apart lt is =
     let first = position_or_len_is (bytes_eq name) names n [] (omega (arith, lt))
-        (λ k below. not_same (get_or names k []) name (λ e. apart k n [] below lt (e ∙ sym is)))
-        (λ within. (bytes_eq-Decides name (get_or names n [])).1 (sym is)) in
+    (λ k below. not_same (get_or names k []) name (λ e. apart k n [] below lt (e ∙ sym is)))
+    (λ within. (bytes_eq-Decides name (get_or names n [])).1 (sym is)) in
     rw (first, lt-ltb n (length names) lt) refl
 
 node_at : (nodes : List NodeEntry) (n : ℕ) (others : List (List ℕ)) → n < length nodes → get_or (map (λ (e : NodeEntry). e.name) nodes ++ others) n [] ≡ option_map_or (λ (e : NodeEntry). e.name) (slice_get nodes n) []

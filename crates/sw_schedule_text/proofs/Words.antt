@@ -10,7 +10,7 @@ use Rattle.std.proofs.lemmas.List.Splits.{slice_split_at, slice_split_none}
 use Rattle.sw_output.specs.Lines.{spaced}
 use Rattle.sw_schedule.specs.Lines.{is_skipped, words_of}
 
-pub abbrev Free : ℕ → List ℕ → Type 0
+abbrev pub Free : ℕ → List ℕ → Type 0
 Free byte w = All (λ b. (b == byte) ≡ false) w
 
 digit_free : (byte d : ℕ) → byte < 48 → Free byte ((48 + d) ∷ [])
@@ -51,7 +51,7 @@ decimal_plain n lt = record { no_space = decimal_free 32 n (omega arith) lt; no_
 pub literal_plain : (w : List ℕ) → list_all (λ b. not (b == 32)) w ≡ true → list_all (λ b. not (b == 10)) w ≡ true → Plain w
 literal_plain w s l = record { no_space = word_free 32 w s; no_lf = word_free 10 w l }
 
-pub abbrev ArePlain : List (List ℕ) → Type 0
+abbrev pub ArePlain : List (List ℕ) → Type 0
 ArePlain [] = Unit {0}
 ArePlain (w ∷ ws) = Plain w × ArePlain ws
 

@@ -32,12 +32,7 @@ fn grant_line(alloc: Global, output: Chan, input: Chan) -> Result<String, AllocE
     format!(in alloc; "grant {output} {input}")
 }
 
-fn node_line(
-    alloc: Global,
-    network: &Network,
-    verb: &str,
-    node: u16,
-) -> Result<String, AllocError>
+fn node_line(alloc: Global, network: &Network, verb: &str, node: u16) -> Result<String, AllocError>
     ensures { IfOk result (λ s. string_bytes s ≡ spaced (verb.now ∷ node_name network.now node ∷ [])) }
 {
     let name = node_name(network, node);
@@ -98,11 +93,7 @@ fn begin_line(
 /// # Errors
 ///
 /// There is no memory for the text.
-pub(crate) fn step_line(
-    alloc: Global,
-    network: &Network,
-    step: &Step,
-) -> Result<String, AllocError>
+pub(crate) fn step_line(alloc: Global, network: &Network, step: &Step) -> Result<String, AllocError>
     ensures { IfOk result (λ s. string_bytes s ≡ step_line network.now (machine_step step.now)) }
 {
     match step {
