@@ -1,5 +1,5 @@
 -- What is written of a cargo is read as its bytes.
-use Rattle.std.proofs.Common.{◌≡◌, ℕ, ◌+◌, ◌-◌, ◌*◌, ◌/◌, ◌%◌, ◌^◌, ◌<◌, ◌≤◌, Bool, true, false, not, ◌&&◌, List, [], ◌∷◌, ◌++◌, length, replicate, Option, Some, None, refl, sym, ap, subst, ◌∙◌, ◌⊎◌, inl, inr, arith, suc, eqb-true}
+use Rattle.std.proofs.Common.{◌≡◌, ℕ, ◌+◌, ◌-◌, ◌*◌, ◌/◌, ◌%◌, ◌^◌, ◌<◌, ◌≤◌, Bool, true, false, not, ◌&&◌, List, [], ◌∷◌, ◌++◌, length, replicate, Option, Some, None, refl, sym, ap, subst, ◌∙◌, ◌⊎◌, inl, inr, arith, suc, eqb-true, ne_eqb}
 use Rattle.std.specs.Prelude.{◌==◌, All, fold, nat_le, slice_index, unwrap_or}
 use Rattle.std.specs.Fmt.{decimal}
 use Rattle.std.specs.List.{list_all}
@@ -73,7 +73,6 @@ record Counts (n : ℕ) (ds : List ℕ) : Type 0 where
   value : decimal_value ds ≡ n
   begun : 0 < n → is_well_begun ds ≡ true
 
-
 fold_more : (start c : ℕ) (ds : List ℕ) → fold (λ n c. 10 * n + (c - 48)) start (ds ++ c ∷ []) ≡ 10 * fold (λ n c. 10 * n + (c - 48)) start ds + (c - 48)
 fold_more start c [] = refl
 fold_more start c (d ∷ ds) = fold_more (10 * start + (d - 48)) c ds
@@ -91,32 +90,29 @@ begun_more c (d ∷ ds) h = h
 is_one_digit : (n : ℕ) → n < 10 → is_digit (48 + n) ≡ true
 is_one_digit n lt = and_from (nat_le 48 (48 + n)) (nat_le (48 + n) 57) (le-leb 48 (48 + n) (omega arith)) (le-leb (48 + n) 57 (omega arith))
 
-counts : (n : ℕ) → n < 2 ^ 30 → Counts n (decimal n)
-counts n lt = decimal_by_steps Counts one more n (omega arith)
-  where
-    one : (n : ℕ) → n < 10 → Counts n ((48 + n) ∷ [])
-    one n small = record {
-      digits = and_from (is_digit (48 + n)) true (is_one_digit n small) refl;
-      value = omega arith;
-      begun = λ pos. not_zero n pos;
-    }
-      where
-        not_zero : (n : ℕ) → 0 < n → not (48 + n == 48) ≡ true
-        not_zero n pos = let e : (48 + n == 48) ≡ false = ne n pos in rw e refl
-          where
-            ne : (n : ℕ) → 0 < n → (48 + n == 48) ≡ false
-            ne n pos = grind arith
+not_zero : (n : ℕ) → 0 < n → not (48 + n == 48) ≡ true
+not_zero n pos = let e : (48 + n == 48) ≡ false = ne_eqb (48 + n) 48 (λ same. omega (arith, pos, same)) in rw e refl
 
-    more : (n : ℕ) (ds : List ℕ) → 10 ≤ n → Counts (n / 10) ds → Counts n (ds ++ ((48 + n % 10) ∷ []))
-    more n ds big h =
-        let value = h.value in
-        let step = fold_more 0 (48 + n % 10) ds in
-        let lt : n % 10 < 10 = omega arith in
-        record {
-          digits = digits_more (48 + n % 10) ds h.digits (is_one_digit (n % 10) lt);
-          value = omega (arith, value, step);
-          begun = λ pos. begun_more (48 + n % 10) ds (h.begun (omega arith));
-        }
+counts_one : (n : ℕ) → n < 10 → Counts n ((48 + n) ∷ [])
+counts_one n small = record {
+  digits = and_from (is_digit (48 + n)) true (is_one_digit n small) refl;
+  value = omega arith;
+  begun = λ pos. not_zero n pos;
+}
+
+counts_more : (n : ℕ) (ds : List ℕ) → 10 ≤ n → Counts (n / 10) ds → Counts n (ds ++ ((48 + n % 10) ∷ []))
+counts_more n ds big h =
+    let value = h.value in
+    let step = fold_more 0 (48 + n % 10) ds in
+    let lt : n % 10 < 10 = omega arith in
+    record {
+      digits = digits_more (48 + n % 10) ds h.digits (is_one_digit (n % 10) lt);
+      value = omega (arith, value, step);
+      begun = λ pos. begun_more (48 + n % 10) ds (h.begun (omega arith));
+    }
+
+counts : (n : ℕ) → n < 2 ^ 30 → Counts n (decimal n)
+counts n lt = decimal_by_steps Counts counts_one counts_more n (omega arith)
 
 is_count : (n : ℕ) → 1 ≤ n → n ≤ 4096 → IsCount (decimal n) n
 is_count n some few = let c = counts n (omega arith) in record { begins = c.begun some; decimal = c.digits; value = c.value; few = few }
@@ -141,47 +137,50 @@ all_alike b (c ∷ bytes) h =
     let same : c ≡ b = eqb-true c b parts.0 in
     rw same (ap (λ bs. b ∷ bs) (all_alike b bytes parts.1))
 
-
-recursive : (cargo : List ℕ) → IsShort cargo → IsBytes cargo
-recursive cargo short = go cargo short.bytes
-  where
-    go : (cargo : List ℕ) → All (λ b. b < 256) cargo → IsBytes cargo
-    go [] h = tt
-    go (b ∷ bytes) h = (All-head (λ b. b < 256) b bytes h, go bytes (All-tail (λ b. b < 256) b bytes h))
+recursive : (cargo : List ℕ) → All (λ b. b < 256) cargo → IsBytes cargo
+recursive [] h = tt
+recursive (b ∷ bytes) h = (All-head (λ b. b < 256) b bytes h, recursive bytes (All-tail (λ b. b < 256) b bytes h))
 
 pub record Spells (text cargo : List ℕ) : Type 0 where
   pub plain : Plain text
   pub read : bytes_of text ≡ Some cargo
 
+repeated : CargoIsRead → (b : ℕ) (bytes : List ℕ) → IsBytes (b ∷ bytes) → length (b ∷ bytes) ≤ 4096 → list_all (λ c. c == b) bytes ≡ true
+    → Spells (encode_upper (b ∷ []) ++ (42 ∷ decimal (length (b ∷ bytes)))) (b ∷ bytes)
+unfolding encode_with
+repeated is_read b bytes h few t =
+    let n = length (b ∷ bytes) in
+    let low : n < 2 ^ 30 = omega (arith, few) in
+    let one = pairs_plain (b ∷ []) (h.0, tt) in
+    let number = decimal_plain n low in
+    let text = encode_upper (b ∷ []) ++ (42 ∷ decimal n) in
+    let plain : Plain text = record {
+      no_space = both_free 32 (encode_upper (b ∷ [])) (42 ∷ decimal n) one.no_space (All-cons (λ b. (b == 32) ≡ false) 42 (decimal n) refl number.no_space);
+      no_lf = both_free 10 (encode_upper (b ∷ [])) (42 ∷ decimal n) one.no_lf (All-cons (λ b. (b == 10) ≡ false) 42 (decimal n) refl number.no_lf);
+    } in
+    let same : b ∷ bytes ≡ replicate n b = ap (λ bs. b ∷ bs) (all_alike b bytes t) in
+    let spelled : IsRepeated text (b ∷ bytes) = record {
+      high = digit (b / 16);
+      low = digit (b % 16);
+      byte = b;
+      digits = decimal n;
+      count = n;
+      spelled = refl;
+      pair = pair b h.0;
+      counted = is_count n (omega arith) few;
+      repeated = same;
+    } in
+    record { plain = plain; read = read_from is_read text (b ∷ bytes) plain.no_space (inr spelled) }
+
 pub cargo_spelled : CargoIsRead → (cargo : List ℕ) → IsShort cargo → 1 ≤ length cargo → Spells (cargo_text cargo) cargo
 cargo_spelled is_read [] short some = absurd (omega (arith, some))
 cargo_spelled is_read (b ∷ bytes) short some =
-    let h = recursive (b ∷ bytes) short in
+    let h = recursive (b ∷ bytes) short.bytes in
     let few = short.few in
     elim (cases_Bool (list_all (λ c. c == b) bytes)) [
       | inl t ↦ rw t (repeated is_read b bytes h few t)
       | inr f ↦ rw f (let plain = pairs_plain (b ∷ bytes) h in record {
-          plain = plain;
-          read = read_from is_read (encode_upper (b ∷ bytes)) (b ∷ bytes) plain.no_space (inl (record { pairs = are_pairs (b ∷ bytes) h; some = some; few = few }));
-        })
+        plain = plain;
+        read = read_from is_read (encode_upper (b ∷ bytes)) (b ∷ bytes) plain.no_space (inl (record { pairs = are_pairs (b ∷ bytes) h; some = some; few = few }));
+      })
     ]
-  where
-    repeated : CargoIsRead → (b : ℕ) (bytes : List ℕ) → IsBytes (b ∷ bytes) → length (b ∷ bytes) ≤ 4096 → list_all (λ c. c == b) bytes ≡ true
-        → Spells (encode_upper (b ∷ []) ++ (42 ∷ decimal (length (b ∷ bytes)))) (b ∷ bytes)
-    unfolding encode_with
-    repeated is_read b bytes h few t =
-        let n = length (b ∷ bytes) in
-        let low : n < 2 ^ 30 = omega (arith, few) in
-        let one = pairs_plain (b ∷ []) (h.0, tt) in
-        let number = decimal_plain n low in
-        let text = encode_upper (b ∷ []) ++ (42 ∷ decimal n) in
-        let plain : Plain text = record {
-          no_space = both_free 32 (encode_upper (b ∷ [])) (42 ∷ decimal n) one.no_space (All-cons (λ b. (b == 32) ≡ false) 42 (decimal n) refl number.no_space);
-          no_lf = both_free 10 (encode_upper (b ∷ [])) (42 ∷ decimal n) one.no_lf (All-cons (λ b. (b == 10) ≡ false) 42 (decimal n) refl number.no_lf);
-        } in
-        let same : b ∷ bytes ≡ replicate n b = ap (λ bs. b ∷ bs) (all_alike b bytes t) in
-        let spelled : IsRepeated text (b ∷ bytes) = record {
-          high = digit (b / 16); low = digit (b % 16); byte = b; digits = decimal n; count = n;
-          spelled = refl; pair = pair b h.0; counted = is_count n (omega arith) few; repeated = same;
-        } in
-        record { plain = plain; read = read_from is_read text (b ∷ bytes) plain.no_space (inr spelled) }
