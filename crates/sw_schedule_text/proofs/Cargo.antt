@@ -62,8 +62,8 @@ pairs_plain (b ∷ bytes) h =
     let low = digit_right (b % 16) (omega arith) in
     let rest = pairs_plain bytes h.1 in
     record {
-      no_space = All-cons (λ b. (b == 32) ≡ false) _ _ high.no_space (All-cons (λ b. (b == 32) ≡ false) _ _ low.no_space rest.no_space);
-      no_lf = All-cons (λ b. (b == 10) ≡ false) _ _ high.no_lf (All-cons (λ b. (b == 10) ≡ false) _ _ low.no_lf rest.no_lf);
+      no_space = All-cons (λ b. (b == 32) ≡ false) (digit (b / 16)) (digit (b % 16) ∷ encode_upper bytes) high.no_space (All-cons (λ b. (b == 32) ≡ false) (digit (b % 16)) (encode_upper bytes) low.no_space rest.no_space);
+      no_lf = All-cons (λ b. (b == 10) ≡ false) (digit (b / 16)) (digit (b % 16) ∷ encode_upper bytes) high.no_lf (All-cons (λ b. (b == 10) ≡ false) (digit (b % 16)) (encode_upper bytes) low.no_lf rest.no_lf);
     }
 
 -- ---- the count of bytes that are alike

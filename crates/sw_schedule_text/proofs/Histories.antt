@@ -35,12 +35,12 @@ of_all_nodes net P (b ∷ bs) h =
       | inr f ↦ rw f at all
     ]
 
+front_rest : {X : Type 0} (P : X → Type 0) (xs rest : List X) → All P (xs ++ rest) → All P xs
+front_rest P [] rest all = All-nil P
+front_rest P (x ∷ xs) rest all = All-cons P x xs (All-head P x (xs ++ rest) all) (front_rest P xs rest (All-tail P x (xs ++ rest) all))
+
 front_all : {X : Type 0} (P : X → Type 0) (xs ys : List X) → IsFront xs ys → All P ys → All P xs
-front_all P xs ys front all = go xs front.0 (subst (All P) front.1 all)
-  where
-    go : (xs rest : List X) → All P (xs ++ rest) → All P xs
-    go [] rest all = All-nil P
-    go (x ∷ xs) rest all = All-cons P x xs (All-head P x (xs ++ rest) all) (go xs rest (All-tail P x (xs ++ rest) all))
+front_all P xs ys front all = front_rest P xs front.0 (subst (All P) front.1 all)
 
 abbrev ShortBegun : Begun → Type 0
 ShortBegun b = IsShort b.cargo
@@ -80,7 +80,7 @@ module _ (d : Declaration) (is : IsNetwork (network_of d)) where
   one s t (Drop c) steps l b = (in_links c l.in_net, b)
   one s t (Forward c) steps l b = (in_links c l.in_net, b)
   one s t (Spill c) steps l b = (in_links c l.in_net, b)
-  one s t (Begin f cargo e) steps l b = ((in_flows f l.declared.declared, (l.declared.some_cargo, b.0)), b.1)
+  one s t (Begin f cargo e) steps l b = ((in_flows f l.declared.declared, l.declared.some_cargo, b.0), b.1)
   one s t (Emit n) steps l b = (in_nodes n l.in_net, b)
   one s t (Accept n) steps l b = (in_nodes n l.in_net, b)
   one s t (Reply n) steps l b = (in_nodes n l.in_net, b)

@@ -11,6 +11,8 @@ use Rattle.sw_config.specs.Entries.{Declaration}
 use Rattle.sw_config.specs.Valid.{IsValid}
 use Rattle.sw_load.specs.Cargo.{CargoIsRead}
 use Rattle.sw_machine.specs.Steps.{Step, Fct, FctIn, Arrive, Grant, Drop, Forward, Spill, Begin, Emit, Accept, Reply}
+use Rattle.sw_output.specs.ChannelTexts.{node_name}
+use Rattle.sw_output.specs.FlowTexts.{flow_name}
 use Rattle.sw_output.specs.Lines.{spaced}
 use Rattle.sw_output.specs.PacketTexts.{end_text}
 use Rattle.sw_schedule.specs.Lines.{Repeated, at_channel, at_node, channel_of, count_of, end_of, is_skipped, node_of, repeated_of, step_of, steps_of_line, words_of}
@@ -97,11 +99,11 @@ module _ (is_read : CargoIsRead) (d : Declaration) (valid : IsValid d) (names : 
   step_read (Spill c) lt = words_said d (Spill c) (codes "spill") (decimal c ∷ []) (literal_plain (codes "spill") refl refl, (channel_plain c lt, tt)) refl refl (at_channel_said (codes "spill") c (Spill c) lt refl)
   step_read (Begin f cargo e) h =
       let spells = cargo_spelled is_read cargo h.2 h.1 in
-      words_said d (Begin f cargo e) (codes "begin") (_ ∷ end_text e ∷ cargo_text cargo ∷ []) (literal_plain (codes "begin") refl refl, (flow_plain d valid names f h.0, (end_plain e, (spells.plain, tt)))) refl refl
+      words_said d (Begin f cargo e) (codes "begin") (flow_name d f ∷ end_text e ∷ cargo_text cargo ∷ []) (literal_plain (codes "begin") refl refl, (flow_plain d valid names f h.0, (end_plain e, (spells.plain, tt)))) refl refl
       (rw (flow_found d valid names f h.0, end_read e, spells.read) refl)
-  step_read (Emit n) lt = words_said d (Emit n) (codes "emit") (_ ∷ []) (literal_plain (codes "emit") refl refl, (node_plain d valid names n lt, tt)) refl refl (at_node_said (codes "emit") _ n (Emit n) (λ c. refl) (node_found d valid names n lt) refl)
-  step_read (Accept n) lt = words_said d (Accept n) (codes "accept") (_ ∷ []) (literal_plain (codes "accept") refl refl, (node_plain d valid names n lt, tt)) refl refl (at_node_said (codes "accept") _ n (Accept n) (λ c. refl) (node_found d valid names n lt) refl)
-  step_read (Reply n) lt = words_said d (Reply n) (codes "reply") (_ ∷ []) (literal_plain (codes "reply") refl refl, (node_plain d valid names n lt, tt)) refl refl (at_node_said (codes "reply") _ n (Reply n) (λ c. refl) (node_found d valid names n lt) refl)
+  step_read (Emit n) lt = words_said d (Emit n) (codes "emit") (node_name d n ∷ []) (literal_plain (codes "emit") refl refl, (node_plain d valid names n lt, tt)) refl refl (at_node_said (codes "emit") (node_name d n) n (Emit n) (λ c. refl) (node_found d valid names n lt) refl)
+  step_read (Accept n) lt = words_said d (Accept n) (codes "accept") (node_name d n ∷ []) (literal_plain (codes "accept") refl refl, (node_plain d valid names n lt, tt)) refl refl (at_node_said (codes "accept") (node_name d n) n (Accept n) (λ c. refl) (node_found d valid names n lt) refl)
+  step_read (Reply n) lt = words_said d (Reply n) (codes "reply") (node_name d n ∷ []) (literal_plain (codes "reply") refl refl, (node_plain d valid names n lt, tt)) refl refl (at_node_said (codes "reply") (node_name d n) n (Reply n) (λ c. refl) (node_found d valid names n lt) refl)
 
 -- ---- with a count
 

@@ -79,7 +79,7 @@ few_links d valid =
 
 record IsReadable (d : Declaration) (steps : List Step) (text : List ℕ) : Type 0 where
   few : length steps ≤ 1000000
-  text : text ≡ schedule_text d steps
+  is : text ≡ schedule_text d steps
 
 none_some : (text : List ℕ) → ◌≡◌ {A = Option (List ℕ)} None (Some text) → ⊥
 none_some text e = cc
@@ -95,7 +95,7 @@ short whole text e = elim (cases_Bool (nat_le (length whole) 67108864)) [
 
 readable : (d : Declaration) (steps : List Step) (text : List ℕ) → readable_text d steps ≡ Some text → IsReadable d steps text
 readable d steps text e = elim (cases_Bool (nat_le (length steps) 1000000)) [
-  | inl t ↦ let is : short_text (schedule_text d steps) ≡ Some text = rw t at e in record { few = leb-true (length steps) 1000000 t; text = short (schedule_text d steps) text is }
+  | inl t ↦ let is : short_text (schedule_text d steps) ≡ Some text = rw t at e in record { few = leb-true (length steps) 1000000 t; is = short (schedule_text d steps) text is }
   | inr f ↦ let none : ◌≡◌ {A = Option (List ℕ)} None (Some text) = rw f at e in absurd (none_some text none)
 ]
 
@@ -107,4 +107,4 @@ schedules_are_read cargo_is_read lines_are_read are_networks d load steps s text
     let says = each_says d (step_read cargo_is_read d valid names (few_links d valid)) (entries_of steps) right in
     let same = entries_steps steps in
     let few : length (steps_of (entries_of steps)) ≤ 1000000 = subst (λ (ss : List Step). length ss ≤ 1000000) (sym same) is.few in
-    ap (steps_of_text d) is.text ∙ text_read lines_are_read d (entries_of steps) says few ∙ ap Ok same
+    ap (steps_of_text d) is.is ∙ text_read lines_are_read d (entries_of steps) says few ∙ ap Ok same

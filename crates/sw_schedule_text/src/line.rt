@@ -1,5 +1,5 @@
 //! The line of a step.
-ghost use Rattle.std.specs.Prelude.{◌≡◌, ◌∷◌, ◌==◌, [], IfOk, string_bytes};
+ghost use Rattle.std.specs.Prelude.{◌≡◌, ◌∷◌, ◌==◌, [], IfOk, codes, string_bytes};
 ghost use Rattle.std.specs.Fmt.{decimal};
 ghost use Rattle.std.specs.List.{list_all};
 ghost use Rattle.sw_model.specs.Steps.{machine_step};
@@ -25,7 +25,7 @@ fn channel_line(alloc: Global, verb: &str, channel: Chan) -> Result<String, Allo
 }
 
 fn grant_line(alloc: Global, output: Chan, input: Chan) -> Result<String, AllocError>
-    ensures { IfOk result (λ s. string_bytes s ≡ spaced ("grant" ∷ decimal output ∷ decimal input ∷ [])) }
+    ensures { IfOk result (λ s. string_bytes s ≡ spaced (codes "grant" ∷ decimal output ∷ decimal input ∷ [])) }
 {
     let output = output.number();
     let input = input.number();
@@ -80,7 +80,7 @@ fn begin_line(
     cargo: &[u8],
     end: End,
 ) -> Result<String, AllocError>
-    ensures { IfOk result (λ s. string_bytes s ≡ spaced ("begin" ∷ flow_name network.now flow ∷ end_text end ∷ cargo_text cargo.now ∷ [])) }
+    ensures { IfOk result (λ s. string_bytes s ≡ spaced (codes "begin" ∷ flow_name network.now flow ∷ end_text end ∷ cargo_text cargo.now ∷ [])) }
 {
     let name = flow_name(network, flow);
     let end = end_text(end);
