@@ -17,7 +17,9 @@ use Rattle.sw_replay.proofs.OneReport.{replays_are_determined}
 use Rattle.sw_replay.proofs.Stops.{one_end}
 use Rattle.sw_run.specs.Outcomes.{AreOut, IsOutcome, came_out_of, steps_of}
 use Rattle.sw_run.specs.declared.outcome.Outcome.{Outcome}
-use Rattle.sw_app_run.specs.Laws.{ReplaysAreAsTold, TellsAs}
+use Rattle.sw_file.specs.Laws.{ReadNamesAreNames, ReadNetworksAreValid}
+use Rattle.sw_schedule_text.specs.Laws.{HasNames, ListedAreShort, SchedulesAreRead}
+use Rattle.sw_app_run.specs.Laws.{ReplaysAreAsTold, SchedulesAreRetold, TellsAs}
 
 -- a list for each node, by its number
 are_outputs : (d : Declaration) (s : State) (lists : List (List Packet)) → AreOut (length d.nodes) s lists → AreOutputs (network_of d) s lists
@@ -58,3 +60,11 @@ replays_are_as_told d load limit o r is replayed =
       stuck = λ e. locked.1 (is.stuck e).0;
       drained = λ e. not_so r.stuck (IsLockedUp net is.state) locked (none_undelivered net is.state o.undelivered is.undelivered (is.drained e).1);
     }
+
+pub schedules_are_retold : ReadNetworksAreValid → ReadNamesAreNames → ListedAreShort → SchedulesAreRead → SchedulesAreRetold
+schedules_are_retold are_valid are_names are_short are_read network_bytes load_bytes text d load limit o network listed is written =
+    let names = are_names network_bytes d network in
+    let named : HasNames d = record { parts = names.parts; flows = names.flows } in (
+      are_read d load (steps_of o) is.state text (are_valid network_bytes d network) named (are_short d load_bytes load listed) is.history written,
+      λ r replayed. replays_are_as_told d load limit o r is replayed,
+    )

@@ -1,13 +1,16 @@
 -- What a replay of a run's steps tells.
-use Rattle.std.specs.Prelude.{◌≡◌, ℕ, true, false, List, length}
+use Rattle.std.specs.Prelude.{◌≡◌, ℕ, true, false, List, Ok, Some, length}
 use Rattle.sw_config.specs.Entries.{Declaration}
-use Rattle.sw_load.specs.Load.{LoadEntry}
+use Rattle.sw_file.specs.Network.{network_text}
+use Rattle.sw_load.specs.Load.{LoadEntry, load_text}
 use Rattle.sw_replay.specs.declared.replayed.ReplayEnd.TheVariants.{Made}
 use Rattle.sw_replay.specs.Replays.{IsReplayed}
 use Rattle.sw_replay.specs.Reports.{Report}
 use Rattle.sw_run.specs.Outcomes.{IsOutcome, came_out_of, steps_of}
 use Rattle.sw_run.specs.declared.outcome.Outcome.{Outcome}
 use Rattle.sw_run.specs.declared.outcome.Stop.TheVariants.{Drained, Stuck}
+use Rattle.sw_schedule.specs.Schedule.{steps_of_text}
+use Rattle.sw_schedule_text.specs.Runs.{readable_text}
 
 -- all steps are made; as much is undelivered, and the same packets came out, in their order; the network is locked up where the run was
 -- stuck, and is not where it was drained
@@ -21,3 +24,10 @@ pub record TellsAs (o : Outcome) (r : Report) : Type 0 where
 -- so it is of each outcome of a run, and of each replay of its steps
 abbrev pub ReplaysAreAsTold : Type 0
 ReplaysAreAsTold = (d : Declaration) (load : List LoadEntry) (limit : ℕ) (o : Outcome) (r : Report) → IsOutcome d load limit o → IsReplayed d (steps_of o) r → TellsAs o r
+
+-- The schedule of an outcome is read as its steps, and each replay of them tells what the outcome does: so it is of each run of a load file on
+-- a network file.
+abbrev pub SchedulesAreRetold : Type 0
+SchedulesAreRetold = (network_bytes load_bytes text : List ℕ) (d : Declaration) (load : List LoadEntry) (limit : ℕ) (o : Outcome)
+    → network_text network_bytes ≡ Ok d → load_text d load_bytes ≡ Ok load → IsOutcome d load limit o → readable_text d (steps_of o) ≡ Some text
+    → (steps_of_text d text ≡ Ok (steps_of o)) × ((r : Report) → IsReplayed d (steps_of o) r → TellsAs o r)

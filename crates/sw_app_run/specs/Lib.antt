@@ -1,3 +1,4 @@
 pub mod RunTexts
 pub mod RunAnswers
+pub mod Records
 pub mod Laws

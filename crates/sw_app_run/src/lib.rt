@@ -3,9 +3,12 @@
 
 mod engine;
 pub mod laws;
+mod record_answer;
+mod record_engine;
 mod run_answer;
 mod run_texts;
 
 pub use engine::run;
+pub use record_engine::{RecordEnd, run_recorded};
 pub use run_answer::Options;
 pub use sw_run::Open;

@@ -1,0 +1,172 @@
+//! What a run whose steps are written as a schedule comes to.
+ghost use Rattle.std.specs.Prelude.{◌≡◌, ◌<◌, IfOk, length, option_map, string_bytes};
+ghost use Rattle.sw_command.specs.Inputs.{given};
+ghost use Rattle.sw_file.specs.Network.{network_text};
+ghost use Rattle.sw_limit.specs.Limit.{AreDeclared};
+ghost use Rattle.sw_load.specs.Load.{load_text};
+ghost use Rattle.sw_run.specs.Outcomes.{IsOutcome, steps_of};
+ghost use Rattle.sw_schedule_text.specs.Runs.{readable_text};
+ghost use Rattle.sw_app_run.specs.Records.{IfGiven, IsFileRecord, IsLoadRecord, IsOutcomeRecord, IsRecord, IsRecordOf};
+
+use crate::run_answer::Options;
+use crate::run_texts::{outcome_text, stop_status};
+use std::alloc::{AllocError, Global};
+use std::sync::Wait;
+use std::thread::Threads;
+use sw_command::{Answer, InputText};
+use sw_config::Network;
+use sw_file::read_network;
+use sw_limit::laws::listed_are_declared;
+use sw_load::{Load, read_load};
+use sw_run::{Gate, Outcome, run};
+use sw_schedule::MAX_STEPS;
+use sw_schedule_text::write_steps;
+use sw_toml_table::FileFault;
+
+/// What is to be told of a run, and of its steps.
+#[derive(Drop)]
+pub(crate) enum Recorded {
+    /// A text has a fault, and no run was made.
+    Fault(Answer),
+    /// The answer, and the schedule of the run's steps.
+    Run(Answer, String),
+    /// The run's schedule is longer than a schedule may be.
+    TooLong,
+}
+
+// The schedule of the outcome's steps. None where it is longer than a schedule may be.
+fn schedule_of(
+    alloc: Global,
+    network: &Network,
+    outcome: &Outcome<'_>,
+) -> Result<Option<String>, AllocError>
+    ensures { IfOk result (λ o. option_map string_bytes o ≡ readable_text network.now (steps_of outcome.now)) }
+{
+    if outcome.history.len() > MAX_STEPS as usize {
+        return Ok(None);
+    }
+    let steps = outcome.history.steps(alloc)?;
+    write_steps(alloc, network, &steps)
+}
+
+// What is told of the outcome, and its schedule.
+fn recorded_outcome(
+    alloc: Global,
+    network: &Network,
+    outcome: &Outcome<'_>,
+) -> Result<Recorded, AllocError>
+    requires { length outcome.now.came_out.items ≡ length network.now.nodes }
+    ensures { IfOk result (IsRecordOf network.now outcome.now) }
+{
+    match schedule_of(alloc, network, outcome)? {
+        Some(schedule) => {
+            let text = outcome_text(alloc, network, outcome)?;
+            let status = stop_status(outcome.stop);
+            Ok(Recorded::Run(Answer { text, status }, schedule))
+        }
+        None => Ok(Recorded::TooLong),
+    }
+}
+
+// Of a load.
+fn outcome_record<'a, G: Gate + Sync, T: Threads + Wait + Sync>(
+    rt: &T,
+    alloc: Global,
+    network: &'a Network,
+    load: &'a Load,
+    options: Options,
+    gate: &G,
+) -> Result<Recorded, AllocError>
+    requires declared { AreDeclared network.now load.now }
+    requires workers { 0 < options.workers }
+    ensures { IfOk result (IsOutcomeRecord options.limit network.now load.now) }
+{
+    let outcome = run(
+        rt,
+        alloc,
+        network,
+        load,
+        options.workers,
+        options.limit,
+        gate,
+    )?;
+    recorded_outcome(alloc, network, &outcome)
+}
+
+// Of the text of a load.
+fn load_record<G: Gate + Sync, T: Threads + Wait + Sync>(
+    rt: &T,
+    alloc: Global,
+    network: &Network,
+    text: &[u8],
+    options: Options,
+    gate: &G,
+) -> Result<Recorded, AllocError>
+    requires { 0 < options.workers }
+    ensures { IfOk result (IsLoadRecord options.limit network.now (load_text network.now text.now)) }
+{
+    match read_load(alloc, network, text) {
+        Ok(load) => {
+            // Names what holds of a load that was read.
+            listed_are_declared();
+            outcome_record(rt, alloc, network, &load, options, gate)
+        }
+        Err(FileFault::Text(fault)) => Ok(Recorded::Fault(Answer::of_fault(alloc, &fault)?)),
+        Err(FileFault::Memory) => Err(AllocError),
+    }
+}
+
+// Of a network and the second text.
+fn network_record<G: Gate + Sync, T: Threads + Wait + Sync>(
+    rt: &T,
+    alloc: Global,
+    network: &Network,
+    second: &InputText,
+    options: Options,
+    gate: &G,
+) -> Result<Recorded, AllocError>
+    requires { 0 < options.workers }
+    ensures { IfOk result (IfGiven (given second.now) (λ bytes. IsLoadRecord options.limit network.now (load_text network.now bytes))) }
+{
+    match second {
+        InputText::Whole(text) => load_record(rt, alloc, network, text, options, gate),
+        InputText::TooLong => Ok(Recorded::Fault(Answer::of_long_text(alloc)?)),
+    }
+}
+
+// Of the bytes of a network file and the second text.
+fn file_record<G: Gate + Sync, T: Threads + Wait + Sync>(
+    rt: &T,
+    alloc: Global,
+    first: &[u8],
+    second: &InputText,
+    options: Options,
+    gate: &G,
+) -> Result<Recorded, AllocError>
+    requires { 0 < options.workers }
+    ensures { IfOk result (IsFileRecord options.limit (given second.now) (network_text first.now)) }
+{
+    match read_network(alloc, first) {
+        Ok(network) => network_record(rt, alloc, &network, second, options, gate),
+        Err(FileFault::Text(fault)) => Ok(Recorded::Fault(Answer::of_fault(alloc, &fault)?)),
+        Err(FileFault::Memory) => Err(AllocError),
+    }
+}
+
+/// Of the bytes of a network file and of a load file.
+pub(crate) fn record_answer<G: Gate + Sync, T: Threads + Wait + Sync>(
+    rt: &T,
+    alloc: Global,
+    first: &InputText,
+    second: &InputText,
+    options: Options,
+    gate: &G,
+) -> Result<Recorded, AllocError>
+    requires { 0 < options.workers }
+    ensures { IfOk result (IsRecord options.limit (given first.now) (given second.now)) }
+{
+    match first {
+        InputText::Whole(text) => file_record(rt, alloc, text, second, options, gate),
+        InputText::TooLong => Ok(Recorded::Fault(Answer::of_long_text(alloc)?)),
+    }
+}

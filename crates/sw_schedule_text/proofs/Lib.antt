@@ -1,0 +1,8 @@
+mod Words
+mod Cargo
+mod Names
+mod Listed
+mod Entries
+mod Lines
+mod Histories
+mod Texts
