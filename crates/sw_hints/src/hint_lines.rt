@@ -70,8 +70,12 @@ fn place_text(
     }
 }
 
-// Where the fault is, and what is wrong.
-fn head_line(
+/// Where the fault is, and what is wrong.
+///
+/// # Errors
+///
+/// There is no memory for the text.
+pub fn head_line(
     alloc: Global,
     path: &str,
     text: &[u8],
@@ -86,8 +90,12 @@ fn head_line(
     format!(in alloc; "{place}: {what}\n")
 }
 
-// An indented line of what is told, none where there is nothing to tell.
-fn told(alloc: Global, name: &str, words: &[u8]) -> Result<String, AllocError>
+/// An indented line of what is told, none where there is nothing to tell.
+///
+/// # Errors
+///
+/// There is no memory for the text.
+pub fn told(alloc: Global, name: &str, words: &[u8]) -> Result<String, AllocError>
     ensures { IfOk result (λ s. string_bytes s ≡ told name.now words.now) }
 {
     match words {

@@ -1,0 +1,2 @@
+pub mod RouteHints
+pub mod VerdictHints
