@@ -2,6 +2,7 @@
 ghost use Rattle.std.specs.Prelude.{◌≡◌, ◌<◌, All, IfOk, Option, length, string_bytes};
 ghost use Rattle.sw_topo.specs.Checked.{IsIn};
 ghost use Rattle.sw_config.specs.Entries.{wiring_of};
+ghost use Rattle.sw_flow.specs.Places.{end_of};
 ghost use Rattle.sw_verdict_hints.specs.RouteHints.{flow_head, flow_hint, found_words, last_lines, place_name};
 
 use crate::changes::{help_words, switch_name};
@@ -12,7 +13,7 @@ use sw_config::{Flow, Network};
 use sw_flow::{Place, RouteFault};
 use sw_hints::{head_line, told};
 use sw_output::node_name;
-use sw_topo::PlaceEnd;
+use sw_topo::{Chan, PlaceEnd};
 
 // The node or the switch that a channel ends at.
 fn place_name(network: &Network, end: PlaceEnd) -> &str
@@ -25,18 +26,31 @@ fn place_name(network: &Network, end: PlaceEnd) -> &str
     }
 }
 
-// What happens at the place.
-fn found_words(
+// The node or the switch at the end of a channel, as far as there is one.
+fn name_at(network: &Network, channel: Chan) -> &str
+    ensures { result.now ≡ place_name network.now (end_of network.now channel) }
+{
+    let topology = network.topology();
+    if channel.number() >= topology.channels() {
+        return "";
+    }
+    place_name(network, topology.end_of(channel))
+}
+
+/// What happens at the place.
+///
+/// # Errors
+///
+/// There is no memory for the text.
+pub(crate) fn found_words(
     alloc: Global,
     network: &Network,
     place: Place,
     fault: RouteFault,
 ) -> Result<String, AllocError>
-    requires { place.channel < length (wiring_of network.now).ends }
     ensures { IfOk result (λ s. string_bytes s ≡ found_words network.now place fault) }
 {
-    let end = network.topology().end_of(place.channel);
-    let name = place_name(network, end);
+    let name = name_at(network, place.channel);
     let words = fault_words(fault);
     format!(in alloc; "{name}: {words}")
 }
