@@ -1,1 +1,2 @@
 pub mod Firsts
+mod WayLines
