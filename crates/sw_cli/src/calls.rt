@@ -4,8 +4,8 @@ ghost use Rattle.sw_args.specs.CommandLine.{Gives, HasWorkers, Refuses};
 ghost use Rattle.sw_args.specs.declared.command_line.Asked.{Asked};
 ghost use Rattle.sw_cli.specs.Accesses.{IsAccess, IsNoAccess};
 
-use crate::hints::{file_of, hinted, hints_of};
-use crate::told::{no_access, no_hints};
+use crate::hints::{hinted, hints_of};
+use crate::told::{no_access, no_hints, told_end};
 use std::rt::Files;
 use std::sync::Wait;
 use std::thread::Threads;
@@ -46,7 +46,7 @@ fn run_asked<R: Files + Print + Eprint + AllocGlobal + Threads + Wait + Sync>(
 {
     let call = asked.call;
     match hints_of(asked.hints) {
-        Some(hints) => hinted(rt, file_of(&call), hints, run_call(rt, call)),
+        Some(hints) => hinted(rt, &call, hints, told_end(rt, run_call(rt, call))),
         None => no_hints(rt),
     }
 }

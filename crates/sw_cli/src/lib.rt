@@ -6,6 +6,7 @@ mod calls;
 mod hints;
 mod program;
 mod told;
+mod unread;
 
 pub use calls::run_words;
 pub use program::run_program;
