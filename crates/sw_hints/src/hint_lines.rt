@@ -107,8 +107,12 @@ pub fn told(alloc: Global, name: &str, words: &[u8]) -> Result<String, AllocErro
     }
 }
 
-// What stands at the place.
-fn found_line(alloc: Global, text: &[u8], place: Option<usize>) -> Result<String, AllocError>
+/// What stands at the place.
+///
+/// # Errors
+///
+/// There is no memory for the text.
+pub fn found_line(alloc: Global, text: &[u8], place: Option<usize>) -> Result<String, AllocError>
     requires { IfSome place (λ at. at ≤ length text.now) }
     ensures { IfOk result (λ s. string_bytes s ≡ found_line text.now place) }
 {

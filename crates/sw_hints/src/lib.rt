@@ -12,4 +12,4 @@ mod places;
 mod shown;
 
 pub use hint::{hint_of, network_hint};
-pub use hint_lines::{head_line, told};
+pub use hint_lines::{found_line, head_line, told};
