@@ -11,6 +11,7 @@ use sw_args::Call;
 use sw_command::statuses::{BAD, FAULTY};
 use sw_command::{Ended, MAX_TEXT};
 use sw_hints::network_hint;
+use sw_step_hints::schedule_hint;
 use sw_text::read_whole;
 use sw_verdict_hints::{certificate_hint, verdict_hint};
 
@@ -158,6 +159,10 @@ fn verdict_hint_of<R: Files + AllocGlobal + Threads + Sync>(
         } => {
             let other = text_of(rt, certificate)?;
             certificate_hint(rt, rt.alloc(), file, &text, certificate, &other).ok()?
+        }
+        Call::Replay { file: _, schedule } => {
+            let other = text_of(rt, schedule)?;
+            schedule_hint(rt.alloc(), &text, schedule, &other).ok()?
         }
         _ => None,
     }
