@@ -1,3 +1,3 @@
-mod OnChannels
+pub mod OnChannels
 mod WayLines
 mod Steps

@@ -10,3 +10,5 @@ mod tangle_texts;
 mod words;
 
 pub use engine::explain;
+pub use route_texts::fault_words;
+pub use words::numbered;

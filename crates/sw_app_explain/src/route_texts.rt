@@ -61,8 +61,8 @@ fn way_lines(
     Ok(text)
 }
 
-// What is wrong where packets go no further.
-fn fault_words(fault: RouteFault) -> &'static str
+/// What is wrong where packets go no further.
+pub fn fault_words(fault: RouteFault) -> &'static str
     ensures { result.now ≡ fault_words fault }
 {
     match fault {

@@ -1,10 +1,12 @@
 -- What the words ask for besides the call (this project's choice).
-use Rattle.std.specs.Prelude.{ℕ, Bool, List, Option, Some, None, ◌==◌, codes, false, if◌then◌else◌}
+use Rattle.std.specs.Prelude.{ℕ, List, Option, Some, None, ◌==◌, codes, if◌then◌else◌}
 use Rattle.std.specs.Str.{bytes_eq}
 use Rattle.sw_args.specs.declared.command_line.Call.{Call}
 use Rattle.sw_args.specs.declared.command_line.Call.TheVariants.{Route, Decide, Check, Report, Replay, Run, Migrate, Explain, Draw, Rmap, Mend, Witness}
 use Rattle.sw_command.specs.declared.write_answer.Ended.{Ended}
 use Rattle.sw_command.specs.declared.write_answer.Ended.TheVariants.{Status, ReadFailed, WriteFailed}
+use Rattle.sw_cli.specs.declared.hints.Due.{Due}
+use Rattle.sw_cli.specs.declared.hints.Due.TheVariants.{Fault, Verdict, Unread, Nothing}
 use Rattle.sw_cli.specs.declared.hints.Hints.{Hints}
 use Rattle.sw_cli.specs.declared.hints.Hints.TheVariants.{Auto, Never}
 
@@ -28,9 +30,28 @@ file_of (Rmap file flow action address value unacknowledged transaction) = file.
 file_of (Mend file) = file.now
 file_of (Witness file tries seed) = file.now
 
--- a call that ended so is followed by a hint: a text has a fault
-abbrev pub is_hint_due : Hints → Ended → Bool
-is_hint_due Auto (Status status) = status == 3
-is_hint_due Auto ReadFailed = false
-is_hint_due Auto WriteFailed = false
-is_hint_due Never ended = false
+-- the other file that a call reads, if it reads two
+abbrev pub second_of : Call → Option (List ℕ)
+second_of (Check file certificate) = Some certificate.now
+second_of (Replay file schedule) = Some schedule.now
+second_of (Run file load workers limit schedule) = Some load.now
+second_of (Route file flow) = None
+second_of (Decide file) = None
+second_of (Report file) = None
+second_of (Migrate file) = None
+second_of (Explain file all) = None
+second_of (Draw file flow cycle numbers) = None
+second_of (Rmap file flow action address value unacknowledged transaction) = None
+second_of (Mend file) = None
+second_of (Witness file tries seed) = None
+
+-- what a hint is of, after a status: a text has a fault, or a verdict is not free
+abbrev pub due_after : ℕ → Due
+due_after status = if status == 3 then Fault else if status == 1 then Verdict else Nothing
+
+-- what a hint is of, after a call that ended so
+abbrev pub due_of : Hints → Ended → Due
+due_of Auto (Status status) = due_after status
+due_of Auto ReadFailed = Unread
+due_of Auto WriteFailed = Nothing
+due_of Never ended = Nothing

@@ -4,8 +4,9 @@ ghost use Rattle.sw_args.specs.CommandLine.{Gives, HasWorkers, Refuses};
 ghost use Rattle.sw_args.specs.declared.command_line.Asked.{Asked};
 ghost use Rattle.sw_cli.specs.Accesses.{IsAccess, IsNoAccess};
 
-use crate::hints::{file_of, hinted, hints_of};
-use crate::told::{no_access, no_hints};
+use crate::hints::{hinted, hints_of};
+use crate::schedules::run_scheduled;
+use crate::told::{no_access, no_hints, told_end};
 use std::rt::Files;
 use std::sync::Wait;
 use std::thread::Threads;
@@ -52,7 +53,12 @@ fn run_asked<R: Files + Print + Eprint + AllocGlobal + Clock + Threads + Wait + 
 {
     let call = asked.call;
     match hints_of(asked.hints) {
-        Some(hints) => hinted(rt, file_of(&call), hints, run_shown(rt, call, is_terminal)),
+        Some(hints) => hinted(
+            rt,
+            &call,
+            hints,
+            told_end(rt, run_shown(rt, call, is_terminal)),
+        ),
         None => no_hints(rt),
     }
 }
@@ -89,15 +95,17 @@ fn run_call<R: Files + Print + Eprint + AllocGlobal + Threads + Wait + Sync>(
             load,
             workers,
             limit,
-        } => run_load(
-            rt,
-            file,
-            load,
-            Options {
+            schedule,
+        } => {
+            let options = Options {
                 workers: workers as usize,
                 limit: limit as usize,
-            },
-        ),
+            };
+            match schedule {
+                None => run_load(rt, file, load, options),
+                Some(schedule) => run_scheduled(rt, file, load, schedule, options),
+            }
+        }
         Call::Migrate { file } => run_migrate(rt, file),
         Call::Explain { file, all } => run_explain(rt, file, all),
         Call::Draw {

@@ -1,14 +1,18 @@
-//! Hints on standard error: how to mend a network file that has a fault. They decide nothing.
+//! Hints on standard error: how to mend a file that has a fault, what to change where a verdict is not free, why a file can't be read.
+//! They decide nothing.
 ghost use Rattle.std.specs.Prelude.{◌≡◌, option_map};
-ghost use Rattle.sw_cli.specs.Asked.{file_of, hints_of, is_hint_due};
+ghost use Rattle.sw_cli.specs.Asked.{due_after, due_of, file_of, hints_of, second_of};
 
+use crate::unread::tell_unread;
 use std::fs;
 use std::rt::Files;
+use std::thread::Threads;
 use sw_args::Call;
-use sw_command::statuses::FAULTY;
+use sw_command::statuses::{BAD, FAULTY};
 use sw_command::{Ended, MAX_TEXT};
 use sw_hints::network_hint;
 use sw_text::read_whole;
+use sw_verdict_hints::{certificate_hint, verdict_hint};
 
 /// Whether hints are wanted.
 #[derive(Clone, Copy)]
@@ -16,6 +20,31 @@ pub(crate) enum Hints {
     /// Where the network file has a fault.
     Auto,
     Never,
+}
+
+/// What a hint is of.
+#[derive(Clone, Copy)]
+enum Due {
+    /// A fault of the network file, or of the other that the call reads.
+    Fault,
+    /// A verdict that is not free, or a certificate that is refused.
+    Verdict,
+    /// A file that can't be read.
+    Unread,
+    Nothing,
+}
+
+// What a status is followed by.
+fn due_after(status: u8) -> Due
+    ensures { result ≡ due_after status }
+{
+    if status == FAULTY {
+        return Due::Fault;
+    }
+    if status == BAD {
+        return Due::Verdict;
+    }
+    Due::Nothing
 }
 
 /// What was given at `--hints`: `auto`, as where it is left out, or `never`. There is no third.
@@ -80,13 +109,24 @@ pub(crate) fn file_of<'a>(call: &Call<'a>) -> &'a str
     }
 }
 
-// Whether a call that ended so is followed by a hint: a text has a fault.
-fn is_hint_due(hints: Hints, ended: Ended) -> bool
-    ensures { result ≡ is_hint_due hints ended }
+/// The other file that a call reads, if it reads two.
+fn second_of<'a>(call: &Call<'a>) -> Option<&'a str>
+    ensures { option_map (λ s. s.now) result ≡ second_of call.now }
 {
-    match (hints, ended) {
-        (Hints::Auto, Ended::Status(status)) => status == FAULTY,
-        _ => false,
+    match call {
+        Call::Check {
+            file: _,
+            certificate,
+        } => Some(certificate),
+        Call::Replay { file: _, schedule } => Some(schedule),
+        Call::Run {
+            file: _,
+            load,
+            workers: _,
+            limit: _,
+            schedule: _,
+        } => Some(load),
+        _ => None,
     }
 }
 
@@ -100,29 +140,104 @@ fn text_of<R: Files + AllocGlobal>(rt: &R, file: &str) -> Option<Vec<u8>> {
     read_whole(rt.alloc(), &mut reader, MAX_TEXT).ok()
 }
 
-// What to tell of a network file's fault; nothing where it has none, and where it can't be read or there is no memory for it.
-fn hint_of<R: Files + AllocGlobal>(rt: &R, file: &str) -> Option<String> {
-    let text = text_of(rt, file)?;
-    network_hint(rt.alloc(), file, &text).ok()?
+// What to tell of a fault of a call's other text; nothing where it has none.
+fn other_fault_hint<R: Files + AllocGlobal>(
+    rt: &R,
+    call: &Call<'_>,
+    network: &[u8],
+) -> Option<String> {
+    match call {
+        Call::Run {
+            file: _,
+            load,
+            workers: _,
+            limit: _,
+            schedule: _,
+        } => {
+            let text = text_of(rt, load)?;
+            sw_text_hints::load_hint(rt.alloc(), load, network, &text).ok()?
+        }
+        Call::Replay { file: _, schedule } => {
+            let text = text_of(rt, schedule)?;
+            sw_text_hints::schedule_hint(rt.alloc(), schedule, network, &text).ok()?
+        }
+        _ => None,
+    }
 }
 
-fn tell_hint<R: Files + Eprint + AllocGlobal>(rt: &R, file: &str) {
-    if let Some(hint) = hint_of(rt, file) {
+// What to tell of a fault of the network file, or else of the other; nothing where they can't be read once more or there is no memory for it.
+fn fault_hint<R: Files + AllocGlobal>(rt: &R, call: &Call<'_>) -> Option<String> {
+    let file = file_of(call);
+    let text = text_of(rt, file)?;
+    match network_hint(rt.alloc(), file, &text).ok()? {
+        Some(hint) => Some(hint),
+        None => other_fault_hint(rt, call, &text),
+    }
+}
+
+// What to tell of a verdict that is not free, or of a refused certificate.
+fn verdict_hint_of<R: Files + AllocGlobal + Threads + Sync>(
+    rt: &R,
+    call: &Call<'_>,
+) -> Option<String> {
+    let file = file_of(call);
+    let text = text_of(rt, file)?;
+    match call {
+        Call::Decide { file: _ } => verdict_hint(rt, rt.alloc(), file, &text).ok()?,
+        Call::Check {
+            file: _,
+            certificate,
+        } => {
+            let other = text_of(rt, certificate)?;
+            certificate_hint(rt, rt.alloc(), file, &text, certificate, &other).ok()?
+        }
+        Call::Replay { file: _, schedule } => {
+            let other = text_of(rt, schedule)?;
+            sw_step_hints::schedule_hint(rt.alloc(), &text, schedule, &other).ok()?
+        }
+        _ => None,
+    }
+}
+
+fn tell(rt: &impl Eprint, hint: Option<String>) {
+    if let Some(hint) = hint {
         let _ = eprint!(rt; "{hint}");
     }
 }
 
-/// Tells of the network file's fault, if the call ended by one and hints are wanted. How it ended stays as it is.
-pub(crate) fn hinted<R: Files + Eprint + AllocGlobal>(
+// Tells which of the call's files can't be read, and why.
+fn tell_unread_files<R: Files + Eprint + AllocGlobal>(rt: &R, call: &Call<'_>) {
+    tell_unread(rt, file_of(call));
+    if let Some(second) = second_of(call) {
+        tell_unread(rt, second);
+    }
+}
+
+// What a call that ended so is followed by.
+fn due_of(hints: Hints, ended: Ended) -> Due
+    ensures { result ≡ due_of hints ended }
+{
+    match (hints, ended) {
+        (Hints::Auto, Ended::Status(status)) => due_after(status),
+        (Hints::Auto, Ended::ReadFailed) => Due::Unread,
+        _ => Due::Nothing,
+    }
+}
+
+/// Tells what to do about the way the call ended, if hints are wanted. How it ended stays as it is.
+pub(crate) fn hinted<R: Files + Eprint + AllocGlobal + Threads + Sync>(
     rt: &R,
-    file: &str,
+    call: &Call<'_>,
     hints: Hints,
     ended: Ended,
 ) -> Ended
     ensures { result ≡ ended }
 {
-    if is_hint_due(hints, ended) {
-        tell_hint(rt, file);
+    match due_of(hints, ended) {
+        Due::Fault => tell(rt, fault_hint(rt, call)),
+        Due::Verdict => tell(rt, verdict_hint_of(rt, call)),
+        Due::Unread => tell_unread_files(rt, call),
+        Due::Nothing => {}
     }
     ended
 }

@@ -5,7 +5,9 @@
 mod calls;
 mod hints;
 mod program;
+mod schedules;
 mod told;
+mod unread;
 
 pub use calls::run_words;
 pub use program::run_program;

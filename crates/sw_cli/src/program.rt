@@ -1,6 +1,6 @@
 //! The words that the program was given.
 use crate::calls::run_words;
-use crate::told::{finished, not_text, refused};
+use crate::told::{not_text, refused};
 use std::rt::{Env, Files};
 use std::sync::Wait;
 use std::thread::Threads;
@@ -37,7 +37,7 @@ fn run_texts<R: Files + Print + Eprint + AllocGlobal + Clock + Threads + Wait + 
         return refused(rt, &WordsFault::Memory);
     };
     match run_words(rt, views.as_slice(), is_terminal) {
-        Ok(ended) => finished(rt, ended),
+        Ok(ended) => ended.status(),
         Err(fault) => refused(rt, &fault),
     }
 }

@@ -6,16 +6,23 @@ ghost use Rattle.sw_command.specs.Ends.{exit_status};
 use sw_args::{REFUSED, WordsFault};
 use sw_command::Ended;
 
-/// Tells of a read or a write that failed.
-pub(crate) fn finished(rt: &impl Eprint, ended: Ended) -> u8
-    ensures { result ≡ exit_status ended }
+/// Tells of a read or a write that failed. How the call ended stays as it is.
+pub(crate) fn told_end(rt: &impl Eprint, ended: Ended) -> Ended
+    ensures { result ≡ ended }
 {
     let _ = match ended {
         Ended::Status(_) => Ok(()),
         Ended::ReadFailed => eprint!(rt; "swcheck: read failed\n"),
         Ended::WriteFailed => eprint!(rt; "swcheck: write failed\n"),
     };
-    ended.status()
+    ended
+}
+
+// The status of a write that failed, which is told.
+fn unwritten(rt: &impl Eprint) -> u8
+    ensures { result ≡ exit_status Ended.WriteFailed }
+{
+    told_end(rt, Ended::WriteFailed).status()
 }
 
 /// Tells why the words give no call.
@@ -32,7 +39,7 @@ pub(crate) fn refused<R: Print + Eprint>(rt: &R, fault: &WordsFault) -> u8
     };
     match written {
         Ok(()) => fault.status(),
-        Err(_) => finished(rt, Ended::WriteFailed),
+        Err(_) => unwritten(rt),
     }
 }
 

@@ -70,8 +70,12 @@ fn place_text(
     }
 }
 
-// Where the fault is, and what is wrong.
-fn head_line(
+/// Where the fault is, and what is wrong.
+///
+/// # Errors
+///
+/// There is no memory for the text.
+pub fn head_line(
     alloc: Global,
     path: &str,
     text: &[u8],

@@ -102,12 +102,7 @@ fn note_place(alloc: Global, text: &[u8], note: Note) -> Result<Option<usize>, A
 }
 
 // A line of words.
-fn noted(
-    alloc: Global,
-    text: &[u8],
-    note: Note,
-    place: Option<usize>,
-) -> Result<String, AllocError>
+fn noted(alloc: Global, text: &[u8], note: Note, place: Option<usize>) -> Result<String, AllocError>
     requires { IfSome place (λ at. at ≤ length text.now) }
     ensures { IfOk result (λ s. string_bytes s ≡ told (codes "note") (subject text.now (entry_of note) place ++ note_words note)) }
 {

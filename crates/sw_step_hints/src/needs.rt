@@ -1,0 +1,151 @@
+//! What a step needs, in words.
+ghost use Rattle.std.specs.Prelude.{◌≡◌, ◌++◌, IfOk, codes, string_bytes};
+ghost use Rattle.sw_model.specs.Steps.{machine_step};
+ghost use Rattle.sw_step_hints.specs.StepHints.{about, expected, needs, refused};
+
+use std::alloc::{AllocError, Global};
+use sw_config::Network;
+use sw_output::{flow_name, node_name};
+use sw_replay::StepRefusal;
+use sw_schedule::Step;
+use sw_topo::Chan;
+
+// Words, a channel's number, and words.
+fn about(alloc: Global, before: &str, channel: Chan, after: &str) -> Result<String, AllocError>
+    ensures { IfOk result (λ s. string_bytes s ≡ about before.now channel after.now) }
+{
+    let number = channel.number();
+    format!(in alloc; "{before}{number}{after}")
+}
+
+// Words, a name, and words.
+fn naming(alloc: Global, before: &str, name: &str, after: &str) -> Result<String, AllocError>
+    ensures { IfOk result (λ s. string_bytes s ≡ before.now ++ (name.now ++ after.now)) }
+{
+    format!(in alloc; "{before}{name}{after}")
+}
+
+fn grant_needs(alloc: Global, output: Chan, input: Chan) -> Result<String, AllocError>
+    ensures { IfOk result (λ s. string_bytes s ≡ about (codes "an input from channel ") input (about (codes " that holds nothing, with a header in front that names channel ") output (codes ", which no input holds"))) }
+{
+    let named = about(
+        alloc,
+        " that holds nothing, with a header in front that names channel ",
+        output,
+        ", which no input holds",
+    )?;
+    about(alloc, "an input from channel ", input, named.as_str())
+}
+
+// What the step needs to be possible.
+fn needs(alloc: Global, network: &Network, step: &Step) -> Result<String, AllocError>
+    ensures { IfOk result (λ s. string_bytes s ≡ needs network.now (machine_step step.now)) }
+{
+    match step {
+        Step::Fct(channel) => about(
+            alloc,
+            "room for eight characters more at the end of channel ",
+            *channel,
+            ", and at most 48 that were asked for and did not arrive",
+        ),
+        Step::FctIn(channel) => about(
+            alloc,
+            "an FCT for channel ",
+            *channel,
+            " that was sent and did not arrive: fct sends one",
+        ),
+        Step::Arrive(channel) => about(
+            alloc,
+            "a character on the wire of channel ",
+            *channel,
+            ": emit or forward sends one",
+        ),
+        Step::Grant(output, input) => grant_needs(alloc, *output, *input),
+        Step::Drop(channel) => about(
+            alloc,
+            "an input from channel ",
+            *channel,
+            " that holds nothing, with a byte in front that names no output, or with a packet's end",
+        ),
+        Step::Forward(channel) => about(
+            alloc,
+            "an input from channel ",
+            *channel,
+            " that holds an output, credit for that, and a character in front",
+        ),
+        Step::Spill(channel) => about(
+            alloc,
+            "an input from channel ",
+            *channel,
+            " that discards a packet, and a character in front",
+        ),
+        Step::Begin { flow, .. } => naming(
+            alloc,
+            "a node that sends nothing, with no reply that waits, where flow ",
+            flow_name(network, *flow),
+            " starts",
+        ),
+        Step::Emit(node) => naming(
+            alloc,
+            "a character that ",
+            node_name(network, *node),
+            " has still to send, and credit for it: fctin brings some",
+        ),
+        Step::Accept(node) => naming(
+            alloc,
+            "a character that came in at ",
+            node_name(network, *node),
+            ", which owes fewer replies than it has slots",
+        ),
+        Step::Reply(node) => naming(
+            alloc,
+            "a reply that waits at ",
+            node_name(network, *node),
+            ", which sends nothing",
+        ),
+    }
+}
+
+/// What is expected in place of the step.
+///
+/// # Errors
+///
+/// There is no memory for the text.
+pub(crate) fn expected(
+    alloc: Global,
+    network: &Network,
+    refusal: StepRefusal,
+    step: &Step,
+) -> Result<String, AllocError>
+    ensures { IfOk result (λ s. string_bytes s ≡ expected network.now refusal (machine_step step.now)) }
+{
+    match refusal {
+        StepRefusal::NotEnabled => needs(alloc, network, step),
+        StepRefusal::NotInFlow => String::from_str(
+            alloc,
+            "no command that the target would answer, or one whose reply goes where the flow's 'reply' says",
+        ),
+    }
+}
+
+/// Why the step of that number is refused.
+///
+/// # Errors
+///
+/// There is no memory for the text.
+pub(crate) fn refused(
+    alloc: Global,
+    number: u32,
+    refusal: StepRefusal,
+) -> Result<String, AllocError>
+    ensures { IfOk result (λ s. string_bytes s ≡ refused number refusal) }
+{
+    match refusal {
+        StepRefusal::NotEnabled => {
+            format!(in alloc; "step {number} is not possible when the steps before it are made")
+        }
+        StepRefusal::NotInFlow => {
+            format!(in alloc; "step {number} begins a packet that its flow does not declare")
+        }
+    }
+}

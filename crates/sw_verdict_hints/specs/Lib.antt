@@ -1,0 +1,3 @@
+pub mod RouteHints
+pub mod VerdictHints
+pub mod CertificateHints

@@ -1,0 +1,141 @@
+//! The hint of a certificate that is refused for a network.
+ghost use Rattle.std.specs.Prelude.{◌≡◌, IfOk, option_map, string_bytes};
+ghost use Rattle.sw_cert.specs.Text.{read_text};
+ghost use Rattle.sw_verdict_hints.specs.CertificateHints.{IsCertificateHint, certificate_head, certificate_help, contents_hint, hint_of_texts, refusal_hint, refusal_lines};
+
+use crate::certificate_numbers::not_rising_lines;
+use crate::certificate_places::{
+    faulty_lines, no_start_lines, not_closed_lines, wrong_count_lines,
+};
+use std::alloc::{AllocError, Global};
+use std::thread::Threads;
+use sw_cert::{Certificate, CertificateFault};
+use sw_check::{Refusal, check};
+use sw_config::Network;
+use sw_file::read_network;
+use sw_hints::{head_line, told};
+use sw_toml_table::FileFault;
+
+fn refusal_lines(
+    alloc: Global,
+    network: &Network,
+    certificate: &Certificate,
+    refusal: Refusal,
+) -> Result<String, AllocError>
+    ensures { IfOk result (λ s. string_bytes s ≡ refusal_lines network.now certificate.now refusal) }
+{
+    match refusal {
+        Refusal::WrongCount => wrong_count_lines(alloc, network, certificate),
+        Refusal::NoStart(flow) => no_start_lines(alloc, network, flow),
+        Refusal::NotClosed(flow, place) => {
+            not_closed_lines(alloc, network, certificate, flow, place)
+        }
+        Refusal::NotRising(channel, next) => {
+            not_rising_lines(alloc, network, certificate, channel, next)
+        }
+        Refusal::Faulty(flow, place, fault) => faulty_lines(alloc, network, flow, place, fault),
+    }
+}
+
+fn certificate_head(alloc: Global, certificate: &str, network: &str) -> Result<String, AllocError>
+    ensures { IfOk result (λ s. string_bytes s ≡ certificate_head certificate.now network.now) }
+{
+    let words = format!(in alloc; "the certificate is refused for {network}")?;
+    head_line(alloc, certificate, &[], None, words.as_str())
+}
+
+fn certificate_help(alloc: Global, network: &str) -> Result<String, AllocError>
+    ensures { IfOk result (λ s. string_bytes s ≡ certificate_help network.now) }
+{
+    let words = format!(in alloc;
+        "swcheck decide {network} writes a certificate where there is one"
+    )?;
+    told(alloc, "help", words.as_bytes())
+}
+
+/// The names of the two files.
+#[derive(Clone, Copy)]
+pub(crate) struct Names<'a> {
+    pub(crate) network: &'a str,
+    pub(crate) certificate: &'a str,
+}
+
+fn refusal_hint(
+    alloc: Global,
+    names: Names<'_>,
+    network: &Network,
+    certificate: &Certificate,
+    refusal: Refusal,
+) -> Result<String, AllocError>
+    ensures { IfOk result (λ s. string_bytes s ≡ refusal_hint names.certificate.now names.network.now network.now certificate.now refusal) }
+{
+    let head = certificate_head(alloc, names.certificate, names.network)?;
+    let lines = refusal_lines(alloc, network, certificate, refusal)?;
+    let help = certificate_help(alloc, names.network)?;
+    format!(in alloc; "{head}{lines}{help}")
+}
+
+// Of a certificate: none where it is accepted.
+fn contents_hint<R: Threads + Sync>(
+    rt: &R,
+    alloc: Global,
+    names: Names<'_>,
+    network: &Network,
+    certificate: &Certificate,
+) -> Result<Option<String>, AllocError>
+    ensures { IfOk result (λ o. option_map string_bytes o ≡ contents_hint names.certificate.now names.network.now network.now certificate.now) }
+{
+    match check(rt, network, certificate) {
+        Ok(_) => Ok(None),
+        Err(refusal) => {
+            let hint = refusal_hint(alloc, names, network, certificate, refusal)?;
+            Ok(Some(hint))
+        }
+    }
+}
+
+// Of a certificate's text: none where it is no certificate.
+fn text_hint<R: Threads + Sync>(
+    rt: &R,
+    alloc: Global,
+    names: Names<'_>,
+    network: &Network,
+    text: &[u8],
+) -> Result<Option<String>, AllocError>
+    ensures { IfOk result (λ o. option_map string_bytes o ≡ hint_of_texts names.certificate.now names.network.now (Ok network.now) (read_text text.now)) }
+{
+    match Certificate::read(alloc, text) {
+        Ok(certificate) => contents_hint(rt, alloc, names, network, &certificate),
+        Err(CertificateFault::Grammar(_)) => Ok(None),
+        Err(CertificateFault::Memory) => Err(AllocError),
+    }
+}
+
+/// The hint of a certificate that is refused for the network of a text: what was found, and what is expected in its place. None
+/// where it is accepted, and where one of the texts is no network or no certificate. Both texts' names are told.
+///
+/// Threads share the work, as many as there are processors.
+///
+/// # Errors
+///
+/// There is no memory for the hint, or to read the texts.
+pub fn certificate_hint<R: Threads + Sync>(
+    rt: &R,
+    alloc: Global,
+    path: &str,
+    text: &[u8],
+    certificate_path: &str,
+    certificate: &[u8],
+) -> Result<Option<String>, AllocError>
+    ensures { IfOk result (λ o. IsCertificateHint path.now text.now certificate_path.now certificate.now o) }
+{
+    let names = Names {
+        network: path,
+        certificate: certificate_path,
+    };
+    match read_network(alloc, text) {
+        Ok(network) => text_hint(rt, alloc, names, &network, certificate),
+        Err(FileFault::Text(_)) => Ok(None),
+        Err(FileFault::Memory) => Err(AllocError),
+    }
+}

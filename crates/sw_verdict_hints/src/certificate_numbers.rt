@@ -1,0 +1,151 @@
+//! Which numbers of a certificate do not rise, in words.
+ghost use Rattle.std.specs.Prelude.{◌≡◌, ◌≤◌, ◌==◌, ◌&&◌, IfOk, length, slice_index, string_bytes};
+ghost use Rattle.std.specs.List.{list_any};
+ghost use Rattle.sw_flow.specs.Followers.{followers_of};
+ghost use Rattle.sw_verdict_hints.specs.CertificateHints.{cause_words, channel_words, goer, goes_on, goes_on_at, not_rising_lines, number_words};
+
+use crate::certificate_places::{listed_for, two_lines};
+use std::alloc::{AllocError, Global};
+use sw_cert::Certificate;
+use sw_config::{Flow, Network};
+use sw_flow::{Followers, Place, followers_in};
+use sw_output::{channel_text, flow_name};
+use sw_topo::Chan;
+
+// A channel, with its ends if the network has it.
+fn channel_words(alloc: Global, network: &Network, channel: Chan) -> Result<String, AllocError>
+    ensures { IfOk result (λ s. string_bytes s ≡ channel_words network.now channel) }
+{
+    let number = channel.number();
+    if number >= network.channels() {
+        return format!(in alloc; "channel {number}");
+    }
+    let ends = channel_text(alloc, network, channel)?;
+    format!(in alloc; "channel {number} {ends}")
+}
+
+// The number of a channel in the certificate.
+fn number_of(numbers: &[u16], channel: Chan) -> u16
+    ensures { result ≡ slice_index numbers.now channel }
+{
+    match numbers.get(channel.number() as usize) {
+        Some(number) => *number,
+        None => 0,
+    }
+}
+
+fn number_words(
+    alloc: Global,
+    network: &Network,
+    numbers: &[u16],
+    channel: Chan,
+) -> Result<String, AllocError>
+    ensures { IfOk result (λ s. string_bytes s ≡ number_words network.now numbers.now channel) }
+{
+    let number = number_of(numbers, channel);
+    let words = channel_words(alloc, network, channel)?;
+    format!(in alloc; "number {number} at {words}")
+}
+
+// Is one of the places on the channel?
+fn is_one_on(followers: Followers<'_>, channel: Chan) -> bool
+    ensures { result ≡ list_any (λ q. q.channel == channel) followers.entry }
+{
+    for place in followers {
+        if place.channel == channel {
+            return true;
+        }
+    }
+    false
+}
+
+// Does the flow go on from this place, on the one channel, to the other?
+fn goes_from(network: &Network, flow: &Flow, place: &Place, from: Chan, to: Chan) -> bool
+    requires { length flow.now.address ≤ 32 }
+    ensures { result ≡ ((place.now.channel == from) && list_any (λ q. q.channel == to) (followers_of network.now flow.now place.now.channel place.now.deleted)) }
+{
+    if place.channel != from {
+        return false;
+    }
+    is_one_on(followers_in(network, flow, *place), to)
+}
+
+// Does the flow go on over its listed places from the one channel to the other?
+fn goes_on(network: &Network, flow: &Flow, listed: &[Place], from: Chan, to: Chan) -> bool
+    requires { length flow.now.address ≤ 32 }
+    ensures { result ≡ goes_on network.now flow.now listed.now from to }
+{
+    for place in listed {
+        if goes_from(network, flow, place, from, to) {
+            return true;
+        }
+    }
+    false
+}
+
+// The same, of the flow of that number.
+fn goes_on_at(
+    network: &Network,
+    certificate: &Certificate,
+    from: Chan,
+    to: Chan,
+    number: u16,
+) -> bool
+    ensures { result ≡ goes_on_at network.now certificate.now.places from to number }
+{
+    if number >= network.flows() {
+        return false;
+    }
+    let listed = listed_for(certificate, number);
+    goes_on(network, network.flow(number), listed, from, to)
+}
+
+// The first flow that goes on from the one channel to the other.
+#[tactic(auto, using(crate::proofs::Firsts::first_found))]
+fn goer(network: &Network, certificate: &Certificate, from: Chan, to: Chan) -> Option<u16>
+    ensures { result ≡ goer network.now certificate.now.places from to }
+{
+    for number in 0..network.flows() {
+        if goes_on_at(network, certificate, from, to, number) {
+            return Some(number);
+        }
+    }
+    None
+}
+
+fn cause_words(alloc: Global, network: &Network, flow: Option<u16>) -> Result<String, AllocError>
+    ensures { IfOk result (λ s. string_bytes s ≡ cause_words network.now flow) }
+{
+    match flow {
+        Some(number) => {
+            let name = flow_name(network, number);
+            format!(in alloc; "to which flow {name} goes on")
+        }
+        None => String::from_str(alloc, "on which its target answers"),
+    }
+}
+
+/// Of two channels, the second of which waits for the first and has no greater number.
+///
+/// # Errors
+///
+/// There is no memory for the text.
+pub(crate) fn not_rising_lines(
+    alloc: Global,
+    network: &Network,
+    certificate: &Certificate,
+    channel: Chan,
+    next: Chan,
+) -> Result<String, AllocError>
+    ensures { IfOk result (λ s. string_bytes s ≡ not_rising_lines network.now certificate.now channel next) }
+{
+    let numbers = certificate.numbers();
+    let first = number_words(alloc, network, numbers, channel)?;
+    let second = number_words(alloc, network, numbers, next)?;
+    let cause = cause_words(alloc, network, goer(network, certificate, channel, next))?;
+    let found = format!(in alloc; "{first}, and {second}, {cause}")?;
+    let least = number_of(numbers, channel);
+    let at = next.number();
+    let expected = format!(in alloc; "a number above {least} at channel {at}")?;
+    two_lines(alloc, found.as_str(), expected.as_str())
+}

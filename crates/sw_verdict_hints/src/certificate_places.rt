@@ -1,0 +1,296 @@
+//! What of the places that a certificate lists is wrong, in words.
+ghost use Rattle.std.specs.Prelude.{◌≡◌, ◌<◌, IfOk, find, is_some, length, not, string_bytes};
+ghost use Rattle.std.specs.Option.{option_map_or};
+ghost use Rattle.std.specs.List.{list_any};
+ghost use Rattle.sw_config.specs.Entries.{all_flows};
+ghost use Rattle.sw_check.specs.Refusals.{is_in_range, is_listed, start_of};
+ghost use Rattle.sw_flow.specs.Places.{ends_of};
+ghost use Rattle.sw_topo.specs.Checked.{first_below};
+ghost use Rattle.sw_verdict_hints.specs.CertificateHints.{count_words, faulty_lines, is_of_size, listed_for, missing, missing_lines, no_start_lines, not_closed_lines, outside, outside_at, outside_lines, outside_lines_at, place_words, range_lines, range_words, two_lines, wrong_count_lines};
+
+use crate::route_hints::found_words;
+use std::alloc::{AllocError, Global};
+use sw_cert::Certificate;
+use sw_config::{Flow, Network};
+use sw_flow::{Followers, Place, RouteFault, followers_in};
+use sw_hints::told;
+use sw_output::flow_name;
+
+// A place of a flow, as a certificate lists it.
+fn place_words(alloc: Global, place: Place, flow: &str) -> Result<String, AllocError>
+    ensures { IfOk result (λ s. string_bytes s ≡ place_words place flow.now) }
+{
+    let channel = place.channel.number();
+    let deleted = place.deleted;
+    format!(in alloc; "place {channel} {deleted} of flow {flow}")
+}
+
+/// What was found, and what is expected.
+pub(crate) fn two_lines(alloc: Global, found: &str, expected: &str) -> Result<String, AllocError>
+    ensures { IfOk result (λ s. string_bytes s ≡ two_lines found.now expected.now) }
+{
+    let found = told(alloc, "found", found.as_bytes())?;
+    let expected = told(alloc, "expected", expected.as_bytes())?;
+    format!(in alloc; "{found}{expected}")
+}
+
+// ---- wrong counts
+
+fn count_words(alloc: Global, channels: usize, flows: usize) -> Result<String, AllocError>
+    ensures { IfOk result (λ s. string_bytes s ≡ count_words channels flows) }
+{
+    format!(in alloc; "{channels} channels and {flows} flows")
+}
+
+/// What the certificate lists for the flow of that number.
+pub(crate) fn listed_for(certificate: &Certificate, number: u16) -> &[Place]
+    ensures { result.now ≡ listed_for certificate.now.places number }
+{
+    if (number as usize) < certificate.flows() {
+        certificate.places(number)
+    } else {
+        &[]
+    }
+}
+
+fn is_in_range(network: &Network, flow: &Flow, place: &Place) -> bool
+    ensures { result ≡ is_in_range network.now flow.now place.now }
+{
+    place.channel.number() < network.channels() && place.deleted as usize <= flow.address().len()
+}
+
+// The first place that is listed for the flow and that the network can't have.
+fn outside(network: &Network, flow: &Flow, listed: &[Place]) -> Option<Place>
+    ensures { result ≡ outside network.now flow.now listed.now }
+{
+    for place in listed {
+        if !is_in_range(network, flow, place) {
+            return Some(*place);
+        }
+    }
+    None
+}
+
+// The same, of the flow of that number.
+fn outside_at(network: &Network, certificate: &Certificate, number: u16) -> Option<Place>
+    ensures { result ≡ outside_at network.now certificate.now.places number }
+{
+    if number < network.flows() {
+        outside(network, network.flow(number), listed_for(certificate, number))
+    } else {
+        None
+    }
+}
+
+fn range_words(alloc: Global, network: &Network, flow: &Flow) -> Result<String, AllocError>
+    ensures { IfOk result (λ s. string_bytes s ≡ range_words network.now flow.now) }
+{
+    let channels = network.channels();
+    let bytes = flow.address().len();
+    format!(in alloc; "a channel below {channels}, and at most {bytes} deleted bytes")
+}
+
+// Of the flow of that number, with a place that the network can't have.
+fn outside_lines(
+    alloc: Global,
+    network: &Network,
+    number: u16,
+    place: Place,
+) -> Result<String, AllocError>
+    ensures { IfOk result (λ s. string_bytes s ≡ outside_lines network.now number place) }
+{
+    if number < network.flows() {
+        let flow = network.flow(number);
+        let found = place_words(alloc, place, flow.name())?;
+        let expected = range_words(alloc, network, flow)?;
+        two_lines(alloc, found.as_str(), expected.as_str())
+    } else {
+        Ok(String::new(alloc))
+    }
+}
+
+// The first flow with such a place.
+#[tactic(auto, using(crate::proofs::Firsts::first_found))]
+fn first_outside(network: &Network, certificate: &Certificate) -> Option<u16>
+    ensures { result ≡ first_below (λ i. is_some (outside_at network.now certificate.now.places i)) (length (all_flows network.now)) }
+{
+    for number in 0..network.flows() {
+        if outside_at(network, certificate, number).is_some() {
+            return Some(number);
+        }
+    }
+    None
+}
+
+fn outside_lines_at(
+    alloc: Global,
+    network: &Network,
+    certificate: &Certificate,
+    number: u16,
+) -> Result<String, AllocError>
+    ensures { IfOk result (λ s. string_bytes s ≡ outside_lines_at network.now certificate.now.places number) }
+{
+    match outside_at(network, certificate, number) {
+        Some(place) => outside_lines(alloc, network, number, place),
+        None => Ok(String::new(alloc)),
+    }
+}
+
+fn range_lines(
+    alloc: Global,
+    network: &Network,
+    certificate: &Certificate,
+) -> Result<String, AllocError>
+    ensures { IfOk result (λ s. string_bytes s ≡ range_lines network.now certificate.now.places) }
+{
+    match first_outside(network, certificate) {
+        Some(number) => outside_lines_at(alloc, network, certificate, number),
+        None => Ok(String::new(alloc)),
+    }
+}
+
+fn is_of_size(network: &Network, certificate: &Certificate) -> bool
+    ensures { result ≡ is_of_size network.now certificate.now }
+{
+    certificate.numbers().len() == network.channels() as usize
+        && certificate.flows() == network.flows() as usize
+}
+
+/// Of counts that are not the network's, or else of a place that it can't have.
+///
+/// # Errors
+///
+/// There is no memory for the text.
+pub(crate) fn wrong_count_lines(
+    alloc: Global,
+    network: &Network,
+    certificate: &Certificate,
+) -> Result<String, AllocError>
+    ensures { IfOk result (λ s. string_bytes s ≡ wrong_count_lines network.now certificate.now) }
+{
+    if is_of_size(network, certificate) {
+        return range_lines(alloc, network, certificate);
+    }
+    let found = count_words(alloc, certificate.numbers().len(), certificate.flows())?;
+    let expected = count_words(alloc, network.channels() as usize, network.flows() as usize)?;
+    two_lines(alloc, found.as_str(), expected.as_str())
+}
+
+// ---- places
+
+fn start_of(network: &Network, flow: &Flow) -> Place
+    requires { flow.now.from < length network.now.nodes }
+    ensures { result ≡ start_of network.now flow.now }
+{
+    Place {
+        channel: network.topology().out(flow.from()),
+        deleted: 0,
+    }
+}
+
+/// Of a flow whose start is not listed.
+///
+/// # Errors
+///
+/// There is no memory for the text.
+pub(crate) fn no_start_lines(
+    alloc: Global,
+    network: &Network,
+    number: u16,
+) -> Result<String, AllocError>
+    ensures { IfOk result (λ s. string_bytes s ≡ no_start_lines network.now number) }
+{
+    if number < network.flows() {
+        let flow = network.flow(number);
+        let place = place_words(alloc, start_of(network, flow), flow.name())?;
+        let words = format!(in alloc; "{place}, where it starts")?;
+        told(alloc, "expected", words.as_bytes())
+    } else {
+        Ok(String::new(alloc))
+    }
+}
+
+fn is_listed(listed: &[Place], place: &Place) -> bool
+    ensures { result ≡ is_listed listed.now place.now }
+{
+    listed.iter().any(|found| *place == *found)
+}
+
+// The first of the places that is not listed.
+fn first_unlisted(listed: &[Place], followers: Followers<'_>) -> Option<Place>
+    ensures { result ≡ find (λ q. not (is_listed listed.now q)) followers.entry }
+{
+    for place in followers {
+        if !is_listed(listed, &place) {
+            return Some(place);
+        }
+    }
+    None
+}
+
+// The first place that follows and is not listed.
+fn missing(network: &Network, flow: &Flow, listed: &[Place], place: Place) -> Option<Place>
+    requires { length flow.now.address ≤ 32 }
+    ensures { result ≡ missing network.now flow.now listed.now place }
+{
+    first_unlisted(listed, followers_in(network, flow, place))
+}
+
+fn missing_lines(
+    alloc: Global,
+    flow: &str,
+    place: Place,
+    next: Place,
+) -> Result<String, AllocError>
+    ensures { IfOk result (λ s. string_bytes s ≡ missing_lines flow.now place next) }
+{
+    let found = place_words(alloc, place, flow)?;
+    let next = place_words(alloc, next, flow)?;
+    let expected = format!(in alloc; "{next}, which follows it")?;
+    two_lines(alloc, found.as_str(), expected.as_str())
+}
+
+/// Of a place that another follows, which is not listed.
+///
+/// # Errors
+///
+/// There is no memory for the text.
+pub(crate) fn not_closed_lines(
+    alloc: Global,
+    network: &Network,
+    certificate: &Certificate,
+    number: u16,
+    place: Place,
+) -> Result<String, AllocError>
+    ensures { IfOk result (λ s. string_bytes s ≡ not_closed_lines network.now certificate.now.places number place) }
+{
+    if number >= network.flows() {
+        return Ok(String::new(alloc));
+    }
+    let flow = network.flow(number);
+    match missing(network, flow, listed_for(certificate, number), place) {
+        Some(next) => missing_lines(alloc, flow.name(), place, next),
+        None => Ok(String::new(alloc)),
+    }
+}
+
+/// Of a place with a fault.
+///
+/// # Errors
+///
+/// There is no memory for the text.
+pub(crate) fn faulty_lines(
+    alloc: Global,
+    network: &Network,
+    number: u16,
+    place: Place,
+    fault: RouteFault,
+) -> Result<String, AllocError>
+    ensures { IfOk result (λ s. string_bytes s ≡ faulty_lines network.now number place fault) }
+{
+    let name = flow_name(network, number);
+    let place_text = place_words(alloc, place, name)?;
+    let words = found_words(alloc, network, place, fault)?;
+    let found = format!(in alloc; "{place_text}, {words}")?;
+    two_lines(alloc, found.as_str(), "places of the flow alone, and none with a fault")
+}

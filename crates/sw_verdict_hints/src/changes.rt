@@ -1,0 +1,193 @@
+//! What to change, so that a flow is well routed.
+ghost use Rattle.std.specs.Prelude.{◌≡◌, ◌<◌, ◌≤◌, IfOk, Option, length, slice_index, string_bytes};
+ghost use Rattle.sw_topo.specs.Checked.{IsIn};
+ghost use Rattle.sw_output.specs.ChannelTexts.{switch_name};
+ghost use Rattle.sw_verdict_hints.specs.RouteHints.{address_words, ends_help, help_words, links_words, no_route_help, port_word, port_words, wrong_left_help, wrong_node_help};
+
+use crate::ways::number_word;
+use std::alloc::{AllocError, Global};
+use sw_config::{Flow, Network};
+use sw_flow::RouteFault;
+use sw_output::node_name;
+use sw_topo::{PlaceEnd, Port};
+
+/// The switch's name.
+pub(crate) fn switch_name(network: &Network, switch: u16) -> &str
+    requires { switch < length network.now.switches }
+    ensures { result.now ≡ switch_name network.now switch }
+{
+    network.switch_name(switch)
+}
+
+// The number of a port that has a link.
+fn port_word(alloc: Global, network: &Network, switch: u16, port: u8) -> Result<String, AllocError>
+    requires switch { switch < length network.now.switches }
+    requires port { port < 32 }
+    ensures { IfOk result (λ s. string_bytes s ≡ port_word network.now switch port) }
+{
+    let at = Port::new(port).unwrap();
+    if network.topology().out_of(switch, at).is_some() {
+        return number_word(alloc, port);
+    }
+    Ok(String::new(alloc))
+}
+
+// Those of the first so many ports that have a link.
+#[tactic(auto, unfolding(crate::specs::RouteHints::port_words))]
+fn port_words(
+    alloc: Global,
+    network: &Network,
+    switch: u16,
+    ports: u8,
+) -> Result<String, AllocError>
+    requires switch { switch < length network.now.switches }
+    requires ports { ports ≤ 32 }
+    ensures { IfOk result (λ s. string_bytes s ≡ port_words network.now switch ports) }
+{
+    let mut text = String::new(alloc);
+    for port in 0..ports {
+        text.push_str(port_word(alloc, network, switch, port)?.as_str())?;
+    }
+    Ok(text)
+}
+
+// Where a packet can go on to from the switch.
+fn links_words(alloc: Global, network: &Network, switch: u16) -> Result<String, AllocError>
+    requires { switch < length network.now.switches }
+    ensures { IfOk result (λ s. string_bytes s ≡ links_words network.now switch) }
+{
+    let name = switch_name(network, switch);
+    let ports = port_words(alloc, network, switch, 32)?;
+    format!(in alloc; "{name} has links at ports{ports}")
+}
+
+// Where the address bytes of the flow of this number stand.
+fn address_words(network: &Network, number: u16) -> &'static str
+    ensures { result.now ≡ address_words network.now number }
+{
+    if number < network.declared_flows() {
+        "'address'"
+    } else {
+        "the reply's 'path'"
+    }
+}
+
+fn ends_help(
+    alloc: Global,
+    network: &Network,
+    number: u16,
+    switch: u16,
+) -> Result<String, AllocError>
+    requires { switch < length network.now.switches }
+    ensures { IfOk result (λ s. string_bytes s ≡ ends_help network.now number switch) }
+{
+    let address = address_words(network, number);
+    let links = links_words(alloc, network, switch)?;
+    format!(in alloc; "add a byte to {address}; {links}")
+}
+
+fn no_route_help(
+    alloc: Global,
+    network: &Network,
+    number: u16,
+    switch: u16,
+    byte: u8,
+) -> Result<String, AllocError>
+    requires { switch < length network.now.switches }
+    ensures { IfOk result (λ s. string_bytes s ≡ no_route_help network.now number switch byte) }
+{
+    let address = address_words(network, number);
+    let links = links_words(alloc, network, switch)?;
+    if byte < 32 {
+        return format!(in alloc; "change byte {byte} of {address}; {links}");
+    }
+    if byte == 255 {
+        return format!(in alloc; "255 names no port: change it in {address}; {links}");
+    }
+    format!(in alloc; "a 'route' entry for address {byte} has to name a port with a link; {links}")
+}
+
+fn wrong_node_help(
+    alloc: Global,
+    network: &Network,
+    number: u16,
+    flow: &Flow,
+    node: u16,
+) -> Result<String, AllocError>
+    ensures { IfOk result (λ s. string_bytes s ≡ wrong_node_help network.now number flow.now node) }
+{
+    let reached = node_name(network, node);
+    let end = node_name(network, flow.to());
+    if number < network.declared_flows() {
+        return format!(in alloc;
+            "let 'to' be \"{reached}\", or change 'address' so that it leads to {end}"
+        );
+    }
+    format!(in alloc; "change the reply's 'path' so that it leads to {end}")
+}
+
+fn wrong_left_help(
+    alloc: Global,
+    network: &Network,
+    number: u16,
+    left: usize,
+) -> Result<String, AllocError>
+    ensures { IfOk result (λ s. string_bytes s ≡ wrong_left_help network.now number left) }
+{
+    if number < network.declared_flows() {
+        return format!(in alloc; "let 'left' be {left}, or change 'address'");
+    }
+    format!(in alloc;
+        "change the reply's 'path': the initiator alone is to be left, not {left} bytes"
+    )
+}
+
+// The address byte that leads a packet of which so many are deleted.
+fn byte_of(flow: &Flow, deleted: u8) -> u8
+    ensures { result ≡ slice_index flow.now.address deleted }
+{
+    match flow.address().get(deleted as usize) {
+        Some(byte) => *byte,
+        None => 0,
+    }
+}
+
+/// What to change, where packets of the flow of this number go wrong at this end of a channel, with so many address bytes deleted.
+///
+/// # Errors
+///
+/// There is no memory for the text.
+pub(crate) fn help_words(
+    alloc: Global,
+    network: &Network,
+    number: u16,
+    flow: &Flow,
+    deleted: u8,
+    fault: RouteFault,
+    end: PlaceEnd,
+) -> Result<String, AllocError>
+    requires { IsIn (length network.now.nodes) (length network.now.switches) end }
+    ensures { IfOk result (λ s. string_bytes s ≡ help_words network.now number flow.now deleted fault (Option.Some end)) }
+{
+    match (fault, end) {
+        (RouteFault::AddressEnds, PlaceEnd::Switch(switch, _)) => {
+            ends_help(alloc, network, number, switch)
+        }
+        (RouteFault::NoRoute, PlaceEnd::Switch(switch, _)) => {
+            no_route_help(alloc, network, number, switch, byte_of(flow, deleted))
+        }
+        (RouteFault::WrongNode, PlaceEnd::Node(node)) => {
+            wrong_node_help(alloc, network, number, flow, node)
+        }
+        (RouteFault::WrongLeft, PlaceEnd::Node(_)) => {
+            let left = flow.address().len().saturating_sub(deleted as usize);
+            wrong_left_help(alloc, network, number, left)
+        }
+        (RouteFault::AddressEnds | RouteFault::NoRoute, PlaceEnd::Node(_)) => {
+            Ok(String::new(alloc))
+        }
+        (RouteFault::WrongNode | RouteFault::WrongLeft, PlaceEnd::Switch(_, _)) => {
+            Ok(String::new(alloc))
+        }
+    }
+}

@@ -1,0 +1,13 @@
+//! Hints of verdicts: what to change in a network that is not free, for a person.
+#![tactic(auto)]
+
+mod certificate_hints;
+mod certificate_numbers;
+mod certificate_places;
+mod changes;
+mod route_hints;
+mod verdict_hints;
+mod ways;
+
+pub use certificate_hints::certificate_hint;
+pub use verdict_hints::verdict_hint;

@@ -1,0 +1,108 @@
+//! The hint of a flow that is not well routed.
+ghost use Rattle.std.specs.Prelude.{◌≡◌, ◌<◌, All, IfOk, Option, length, string_bytes};
+ghost use Rattle.sw_topo.specs.Checked.{IsIn};
+ghost use Rattle.sw_config.specs.Entries.{wiring_of};
+ghost use Rattle.sw_flow.specs.Places.{end_of};
+ghost use Rattle.sw_verdict_hints.specs.RouteHints.{flow_head, flow_hint, found_words, last_lines, place_name};
+
+use crate::changes::{help_words, switch_name};
+use crate::ways::way_lines;
+use std::alloc::{AllocError, Global};
+use sw_app_explain::fault_words;
+use sw_config::{Flow, Network};
+use sw_flow::{Place, RouteFault};
+use sw_hints::{head_line, told};
+use sw_output::node_name;
+use sw_topo::{Chan, PlaceEnd};
+
+// The node or the switch that a channel ends at.
+fn place_name(network: &Network, end: PlaceEnd) -> &str
+    requires { IsIn (length network.now.nodes) (length network.now.switches) end }
+    ensures { result.now ≡ place_name network.now (Option.Some end) }
+{
+    match end {
+        PlaceEnd::Node(node) => node_name(network, node),
+        PlaceEnd::Switch(switch, _) => switch_name(network, switch),
+    }
+}
+
+// The node or the switch at the end of a channel, as far as there is one.
+fn name_at(network: &Network, channel: Chan) -> &str
+    ensures { result.now ≡ place_name network.now (end_of network.now channel) }
+{
+    let topology = network.topology();
+    if channel.number() >= topology.channels() {
+        return "";
+    }
+    place_name(network, topology.end_of(channel))
+}
+
+/// What happens at the place.
+///
+/// # Errors
+///
+/// There is no memory for the text.
+pub(crate) fn found_words(
+    alloc: Global,
+    network: &Network,
+    place: Place,
+    fault: RouteFault,
+) -> Result<String, AllocError>
+    ensures { IfOk result (λ s. string_bytes s ≡ found_words network.now place fault) }
+{
+    let name = name_at(network, place.channel);
+    let words = fault_words(fault);
+    format!(in alloc; "{name}: {words}")
+}
+
+fn flow_head(alloc: Global, path: &str, name: &str) -> Result<String, AllocError>
+    ensures { IfOk result (λ s. string_bytes s ≡ flow_head path.now name.now) }
+{
+    let words = format!(in alloc; "flow {name} is misrouted")?;
+    head_line(alloc, path, &[], None, words.as_str())
+}
+
+// The lines behind the way: what happens at the place, and what to change.
+fn last_lines(
+    alloc: Global,
+    network: &Network,
+    number: u16,
+    flow: &Flow,
+    place: Place,
+    fault: RouteFault,
+) -> Result<String, AllocError>
+    requires { place.channel < length (wiring_of network.now).ends }
+    ensures { IfOk result (λ s. string_bytes s ≡ last_lines network.now number flow.now place fault) }
+{
+    let end = network.topology().end_of(place.channel);
+    let found = found_words(alloc, network, place, fault)?;
+    let help = help_words(alloc, network, number, flow, place.deleted, fault, end)?;
+    let found = told(alloc, "found", found.as_bytes())?;
+    let help = told(alloc, "help", help.as_bytes())?;
+    format!(in alloc; "{found}{help}")
+}
+
+/// What is told of a flow that is not well routed: the way to its place with a fault, what happens there, and what to change.
+///
+/// # Errors
+///
+/// There is no memory for the text.
+pub(crate) fn flow_hint(
+    alloc: Global,
+    path: &str,
+    network: &Network,
+    number: u16,
+    flow: &Flow,
+    place: Place,
+    fault: RouteFault,
+    way: &[Place],
+) -> Result<String, AllocError>
+    requires within { place.channel < length (wiring_of network.now).ends }
+    requires way { All (λ p. p.channel < length (wiring_of network.now).ends) way.now }
+    ensures { IfOk result (λ s. string_bytes s ≡ flow_hint path.now network.now number flow.now place fault way.now) }
+{
+    let head = flow_head(alloc, path, flow.name())?;
+    let lines = way_lines(alloc, network, flow, way)?;
+    let last = last_lines(alloc, network, number, flow, place, fault)?;
+    format!(in alloc; "{head}{lines}{last}")
+}

@@ -1,0 +1,105 @@
+//! The hint of a verdict that is not free.
+ghost use Rattle.std.specs.Prelude.{◌≡◌, IfOk, option_map, string_bytes};
+ghost use Rattle.sw_explain.specs.Explanations.{GoesWrong, IsExplanation};
+ghost use Rattle.sw_verdict_hints.specs.RouteHints.{misrouted_hint};
+ghost use Rattle.sw_verdict_hints.specs.VerdictHints.{IsHintFor, IsVerdictHint, cyclic_hint, hint_by};
+
+use crate::route_hints::flow_hint;
+use std::alloc::{AllocError, Global};
+use std::thread::Threads;
+use sw_config::Network;
+use sw_explain::{Explanation, explain};
+use sw_file::read_network;
+use sw_flow::{Place, RouteFault};
+use sw_hints::head_line;
+use sw_toml_table::FileFault;
+
+// Where to look at channels that can wait for one another in a circle.
+fn cyclic_hint(alloc: Global, path: &str) -> Result<String, AllocError>
+    ensures { IfOk result (λ s. string_bytes s ≡ cyclic_hint path.now) }
+{
+    let words = format!(in alloc;
+        "swcheck explain {path} shows the shortest cycle, swcheck witness {path} a schedule that locks up"
+    )?;
+    head_line(alloc, "help", &[], None, words.as_str())
+}
+
+// Of the flow that is the first one not well routed.
+fn misrouted_hint(
+    alloc: Global,
+    path: &str,
+    network: &Network,
+    number: u16,
+    place: Place,
+    fault: RouteFault,
+    way: &[Place],
+) -> Result<String, AllocError>
+    requires { GoesWrong network.now number place fault way.now }
+    ensures { IfOk result (λ s. string_bytes s ≡ misrouted_hint path.now network.now number place fault way.now) }
+{
+    // Names the network, which is valid by its type.
+    let _topology = network.topology();
+    let flow = network.flow(number);
+    flow_hint(alloc, path, network, number, flow, place, fault, way)
+}
+
+// Of what is told of a network.
+fn hint_by(
+    alloc: Global,
+    path: &str,
+    network: &Network,
+    explanation: &Explanation,
+) -> Result<Option<String>, AllocError>
+    requires { IsExplanation network.now explanation.now }
+    ensures { IfOk result (λ o. option_map string_bytes o ≡ hint_by path.now network.now explanation.now) }
+{
+    match explanation {
+        Explanation::Misrouted {
+            flow,
+            place,
+            fault,
+            way,
+        } => Ok(Some(misrouted_hint(
+            alloc, path, network, *flow, *place, *fault, way,
+        )?)),
+        Explanation::Cyclic(_) => Ok(Some(cyclic_hint(alloc, path)?)),
+        Explanation::Free => Ok(None),
+    }
+}
+
+// Of a network.
+fn network_hint<R: Threads + Sync>(
+    rt: &R,
+    alloc: Global,
+    path: &str,
+    network: &Network,
+) -> Result<Option<String>, AllocError>
+    ensures { IfOk result (λ o. IsHintFor path.now network.now (option_map string_bytes o)) }
+{
+    let explanation = explain(rt, alloc, network)?;
+    hint_by(alloc, path, network, &explanation)
+}
+
+/// The hint of the verdict on the network of a text: of a flow that is not well routed its way to where it goes wrong, and what to
+/// change; of channels that can wait for one another in a circle where to look at them; none where the network is free. `path` is
+/// told as the text's name. None too where the text has a fault: `sw_hints` tells of that.
+///
+/// Threads share the work, as many as there are processors.
+///
+/// # Errors
+///
+/// There is no memory for the hint, or for what finds it.
+pub fn verdict_hint<R: Threads + Sync>(
+    rt: &R,
+    alloc: Global,
+    path: &str,
+    text: &[u8],
+) -> Result<Option<String>, AllocError>
+    ensures { IfOk result (λ o. IsVerdictHint path.now text.now o) }
+{
+    match read_network(alloc, text) {
+        Ok(network) => network_hint(rt, alloc, path, &network),
+        Err(FileFault::Text(_)) => Ok(None),
+        Err(FileFault::Memory) => Err(AllocError),
+    }
+}
