@@ -45,7 +45,7 @@ pairs_of_map R f (x ∷ xs) p =
 
 -- ---- what is made of elements by their numbers
 
-all_if : {B : Type 0} (P : B → Type 0) (gone : Bool) (x : B) → P x → All P (if gone then [] else x ∷ [])
+pub all_if : {B : Type 0} (P : B → Type 0) (gone : Bool) (x : B) → P x → All P (if gone then [] else x ∷ [])
 all_if P true x is = All-nil P
 all_if P false x is = All-cons P x [] is (All-nil P)
 
@@ -54,7 +54,7 @@ pairs_if R true x = λ i j d lt low. absurd (omega (arith, low))
 pairs_if R false x = λ i j d lt low. absurd (omega (arith, lt, low))
 
 module _ {A B : Type 0} (make : ℕ → A → List B) where
-  all_made : (P : B → Type 0) (Q : A → Type 0) → ((k : ℕ) (x : A) → Q x → All P (make k x)) → (n : ℕ) (xs : List A) → All Q xs → All P (by_number make n xs)
+  pub all_made : (P : B → Type 0) (Q : A → Type 0) → ((k : ℕ) (x : A) → Q x → All P (make k x)) → (n : ℕ) (xs : List A) → All Q xs → All P (by_number make n xs)
   all_made P Q each n [] all = All-nil P
   all_made P Q each n (x ∷ xs) all =
       All-append P (make n x) (by_number make (n + 1) xs) (each n x (All-head Q x xs all)) (all_made P Q each (n + 1) xs (All-tail Q x xs all))

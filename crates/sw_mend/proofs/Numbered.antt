@@ -57,3 +57,8 @@ module _ {A B : Type 0} (make : ℕ → A → List B) where
         | inl found ↦ grown old before here after i xs found.0 found.2 so_far (is found.0) more
         | inr past ↦ absurd (omega (arith, past.0, lt))
       ]
+
+  -- the same where nothing was made before
+  pub made_more : (before after : List B) (i : ℕ) (xs : List A) (x : A) → i < length xs → x ≡ get_or xs i x → before ≡ by_number make 0 (take i xs)
+      → after ≡ before ++ make i x → after ≡ by_number make 0 (take (i + 1) xs)
+  made_more before after i xs x lt at so_far more = grown_read [] before (make i x) after i xs x lt at so_far refl more
