@@ -11,11 +11,11 @@ add_switch-requires-clause-few c =
     let switches = c.args.network.now.switches in
     let many = ap (λ (d : Declaration). length d.switches) c.requires.before ∙ as_many c.args.change.now 0 (take c.args.switch switches) in
     let short = length-take-le c.args.switch switches (omega (arith, c.requires.within)) in
-    omega (arith, many, short, c.requires.within, c.switches-_switches.ensures.count, c.switches-_switches.ensures.few)
+    omega (arith, many, short, c.requires.within, c.switches-switches.ensures.count, c.switches-switches.ensures.few)
 
 pub add_switch-requires-clause-new_name : goal.add_switch-requires-clause-new_name
 add_switch-requires-clause-new_name c =
-    fresh_switch c.args.change.now c.args.network.now _ c.args.switch _ c.topology-_topology.ensures.valid.parts_named c.requires.within c.switch_name-name.ensures c.requires.before
+    fresh_switch c.args.change.now c.args.network.now _ c.args.switch _ c.topology-topology.ensures.valid.parts_named c.requires.within c.switch_name-name.ensures c.requires.before
 
 pub returns : goal.returns
 returns c =
