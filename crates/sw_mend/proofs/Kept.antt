@@ -1,14 +1,13 @@
 -- Whatever is taken away, the network that is left is a valid one.
-use Rattle.std.proofs.Common.{◌≡◌, ◌≢◌, ℕ, ◌+◌, ◌<◌, ◌≤◌, suc, Bool, true, false, List, [], ◌∷◌, ◌++◌, All, AllPairs, Option, None, IfSome, length, map, ap, arith, subst, sym}
+use Rattle.std.proofs.Common.{◌≡◌, ◌≢◌, ℕ, ◌+◌, suc, Bool, true, false, List, [], ◌∷◌, ◌++◌, All, AllPairs, Option, None, IfSome, length, map, ap, arith, subst, sym}
 use Rattle.std.specs.Prelude.{if◌then◌else◌}
 use Rattle.std.proofs.lemmas.List.Elements.{All-append, All-cons, All-head, All-map, All-nil, All-tail}
 use Rattle.std.proofs.lemmas.List.Kept.{AllPairs-cons}
 use Rattle.sw_route.specs.declared.look.Route.{Route}
 use Rattle.sw_route.specs.Looks.{IsRoute, IsTable, overlaps}
 use Rattle.sw_topo.specs.Checked.{IsSound}
-use Rattle.sw_topo.specs.Wiring.{Wiring}
-use Rattle.sw_config.specs.Entries.{NodeEntry, SwitchEntry, ReplyEntry, FlowEntry, Declaration, flow_names, link_ends, part_names, wiring_of}
-use Rattle.sw_config.specs.Valid.{IsFlow, IsReply, IsSwitch, IsValid}
+use Rattle.sw_config.specs.Entries.{NodeEntry, ReplyEntry, FlowEntry, Declaration, flow_names, link_ends, part_names, wiring_of}
+use Rattle.sw_config.specs.Valid.{IsFlow, IsReply, IsSwitch}
 use Rattle.sw_mend.specs.Changes.{by_number, changed, flow_after, flow_kept, loses_entry, loses_flow, loses_reply, ports_after, route_after, switch_after}
 use Rattle.sw_mend.specs.Laws.{ChangesKeepValid}
 use Rattle.sw_mend.specs.declared.change.Change.{Change}

@@ -1,10 +1,10 @@
 -- Those of the changes that free the network, with one more change.
-use Rattle.std.proofs.Common.{◌≡◌, ◌⊎◌, ◌↔◌, ◌+◌, ◌<◌, ℕ, Bool, true, false, IsTrue, List, [], ◌∷◌, ◌++◌, append-nil, get_or, inl, inr, length, refl, sym, take, ap, ◌∙◌}
+use Rattle.std.proofs.Common.{◌≡◌, ◌↔◌, ◌+◌, ◌<◌, ℕ, Bool, true, false, IsTrue, List, [], ◌∷◌, ◌++◌, append-nil, get_or, inl, inr, length, refl, sym, take, ap, ◌∙◌}
 use Rattle.std.specs.Prelude.{if◌then◌else◌}
 use Rattle.std.proofs.lemmas.Bool.{false≢true}
 use Rattle.std.proofs.lemmas.List.{take_more}
 use Rattle.sw_config.specs.Entries.{Declaration}
-use Rattle.sw_mend.specs.Mends.{AreThoseThatFree, Frees, IsTold}
+use Rattle.sw_mend.specs.Mends.{AreThoseThatFree, Frees}
 use Rattle.sw_mend.specs.declared.change.Change.{Change}
 
 module _ (d : Declaration) (change : Change) where
