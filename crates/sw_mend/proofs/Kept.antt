@@ -1,14 +1,13 @@
 -- Whatever is taken away, the network that is left is a valid one.
-use Rattle.std.proofs.Common.{◌≡◌, ◌≢◌, ℕ, ◌+◌, ◌<◌, ◌≤◌, suc, Bool, true, false, List, [], ◌∷◌, ◌++◌, All, AllPairs, Option, None, IfSome, length, map, ap, arith, subst, sym}
+use Rattle.std.proofs.Common.{◌≡◌, ◌≢◌, ℕ, ◌+◌, suc, Bool, true, false, List, [], ◌∷◌, ◌++◌, All, AllPairs, Option, None, IfSome, length, map, ap, arith, subst, sym}
 use Rattle.std.specs.Prelude.{if◌then◌else◌}
 use Rattle.std.proofs.lemmas.List.Elements.{All-append, All-cons, All-head, All-map, All-nil, All-tail}
 use Rattle.std.proofs.lemmas.List.Kept.{AllPairs-cons}
 use Rattle.sw_route.specs.declared.look.Route.{Route}
 use Rattle.sw_route.specs.Looks.{IsRoute, IsTable, overlaps}
 use Rattle.sw_topo.specs.Checked.{IsSound}
-use Rattle.sw_topo.specs.Wiring.{Wiring}
-use Rattle.sw_config.specs.Entries.{NodeEntry, SwitchEntry, ReplyEntry, FlowEntry, Declaration, flow_names, link_ends, part_names, wiring_of}
-use Rattle.sw_config.specs.Valid.{IsFlow, IsReply, IsSwitch, IsValid}
+use Rattle.sw_config.specs.Entries.{NodeEntry, ReplyEntry, FlowEntry, Declaration, flow_names, link_ends, part_names, wiring_of}
+use Rattle.sw_config.specs.Valid.{IsFlow, IsReply, IsSwitch}
 use Rattle.sw_mend.specs.Changes.{by_number, changed, flow_after, flow_kept, loses_entry, loses_flow, loses_reply, ports_after, route_after, switch_after}
 use Rattle.sw_mend.specs.Laws.{ChangesKeepValid}
 use Rattle.sw_mend.specs.declared.change.Change.{Change}
@@ -45,7 +44,7 @@ pairs_of_map R f (x ∷ xs) p =
 
 -- ---- what is made of elements by their numbers
 
-all_if : {B : Type 0} (P : B → Type 0) (gone : Bool) (x : B) → P x → All P (if gone then [] else x ∷ [])
+pub all_if : {B : Type 0} (P : B → Type 0) (gone : Bool) (x : B) → P x → All P (if gone then [] else x ∷ [])
 all_if P true x is = All-nil P
 all_if P false x is = All-cons P x [] is (All-nil P)
 
@@ -54,7 +53,7 @@ pairs_if R true x = λ i j d lt low. absurd (omega (arith, low))
 pairs_if R false x = λ i j d lt low. absurd (omega (arith, lt, low))
 
 module _ {A B : Type 0} (make : ℕ → A → List B) where
-  all_made : (P : B → Type 0) (Q : A → Type 0) → ((k : ℕ) (x : A) → Q x → All P (make k x)) → (n : ℕ) (xs : List A) → All Q xs → All P (by_number make n xs)
+  pub all_made : (P : B → Type 0) (Q : A → Type 0) → ((k : ℕ) (x : A) → Q x → All P (make k x)) → (n : ℕ) (xs : List A) → All Q xs → All P (by_number make n xs)
   all_made P Q each n [] all = All-nil P
   all_made P Q each n (x ∷ xs) all =
       All-append P (make n x) (by_number make (n + 1) xs) (each n x (All-head Q x xs all)) (all_made P Q each (n + 1) xs (All-tail Q x xs all))

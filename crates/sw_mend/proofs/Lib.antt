@@ -7,3 +7,4 @@ mod Told
 mod Verdicts
 mod Determined
 mod Kept
+mod Apart

@@ -92,6 +92,7 @@ switch_names switches = map (λ (s : SwitchEntry). s.name) switches
 pub fresh_node : (d now : Declaration) (i : ℕ) (name : List ℕ) → AllPairs (λ x y. x ≢ y) (part_names d) → i < length d.nodes
     → option_map (λ (e : NodeEntry). e.name) (slice_get d.nodes i) ≡ Some name → now ≡ record empty { nodes = take i d.nodes }
     → list_any (bytes_eq name) (part_names now) ≡ false
+unfolding names switch_names
 fresh_node d now i name apart lt named is =
     let at : slice_get (part_names d) i ≡ Some name = at_front (names d.nodes) (switch_names d.switches) i name (slice_get-map (λ (n : NodeEntry). n.name) d.nodes i ∙ named) in
     let size : i ≤ length (names d.nodes) = omega (arith, length-map d.nodes (λ (n : NodeEntry). n.name)) in
@@ -104,6 +105,7 @@ pub fresh_switch : (change : Change) (d now : Declaration) (i : ℕ) (name : Lis
     → option_map (λ (e : SwitchEntry). e.name) (slice_get d.switches i) ≡ Some name
     → now ≡ record empty { nodes = d.nodes; switches = by_number (switch_after change) 0 (take i d.switches) }
     → list_any (bytes_eq name) (part_names now) ≡ false
+unfolding names switch_names
 fresh_switch change d now i name apart lt named is =
     let k : ℕ = length (names d.nodes) + i in
     let at : slice_get (part_names d) k ≡ Some name =

@@ -1,5 +1,5 @@
 -- A set of ports without one of them.
-use Rattle.std.proofs.Common.{◌≡◌, ◌≢◌, ℕ, ◌^◌, ◌<◌, ◌↔◌, Bool, true, false, List, [], ◌∷◌, inl, inr, refl, sym, ap, ◌∙◌, arith, filter}
+use Rattle.std.proofs.Common.{◌≡◌, ◌≢◌, ℕ, ◌^◌, ◌<◌, ◌↔◌, Bool, true, false, List, [], ◌∷◌, inl, inr, refl, sym, ◌∙◌, arith, filter}
 use Rattle.std.specs.Prelude.{IsBitSet, Contains, not, ◌==◌}
 use Rattle.std.specs.Int.{bit_at}
 use Rattle.std.proofs.lemmas.Bool.{cases_Bool, cases_eq, ne_eqb, eq-eqb, false≢true}
@@ -40,16 +40,19 @@ was_there : (port : ℕ) (xs : List ℕ) (x : ℕ) → Contains (filter (other_t
 was_there port xs x here = All-contains (λ y. Contains xs y) (filter (other_than port) xs) x (All-filter (other_than port) (λ y. Contains xs y) xs (All-contains_itself xs)) here
 
 is_other : (port : ℕ) (xs : List ℕ) (x : ℕ) → Contains (filter (other_than port) xs) x → x ≢ port
+unfolding other_than
 is_other port xs x here same =
     let passes : other_than port x ≡ true = All-contains (λ y. other_than port y ≡ true) (filter (other_than port) xs) x (filter_passes (other_than port) xs) here in
     let fails : other_than port x ≡ false = rw (eq-eqb x port same) refl in
     false≢true (sym fails ∙ passes)
 
 passes_other : (port x : ℕ) → x ≢ port → other_than port x ≡ true
+unfolding other_than
 passes_other port x other = rw (ne_eqb x port other) refl
 
 -- a set that lacks the port and has the others is the set of the others
 pub without_one : (set port r : ℕ) → set < 2 ^ 32 → ¬ IsBitSet r port → ((p : ℕ) → p ≢ port → (IsBitSet r p ↔ IsBitSet set p)) → r ≡ ports_but port set
+unfolding other_than
 without_one set port r small gone others =
     let left : List ℕ = filter (other_than port) (ports_of set) in
     same_ports r (port_set left) (λ p. (

@@ -1,9 +1,10 @@
 -- Those of the changes that free the network, with one more change.
-use Rattle.std.proofs.Common.{◌≡◌, ◌⊎◌, ◌↔◌, ◌+◌, ◌<◌, ℕ, Bool, true, false, IsTrue, List, [], ◌∷◌, ◌++◌, append-nil, get_or, inl, inr, length, refl, sym, take, ap, ◌∙◌}
+use Rattle.std.proofs.Common.{◌≡◌, ◌↔◌, ◌+◌, ◌<◌, ℕ, Bool, true, false, IsTrue, List, [], ◌∷◌, ◌++◌, append-nil, get_or, inl, inr, length, refl, sym, take, ap, ◌∙◌}
 use Rattle.std.specs.Prelude.{if◌then◌else◌}
+use Rattle.std.proofs.lemmas.Bool.{false≢true}
 use Rattle.std.proofs.lemmas.List.{take_more}
 use Rattle.sw_config.specs.Entries.{Declaration}
-use Rattle.sw_mend.specs.Mends.{AreThoseThatFree, Frees, IsTold}
+use Rattle.sw_mend.specs.Mends.{AreThoseThatFree, Frees}
 use Rattle.sw_mend.specs.declared.change.Change.{Change}
 
 module _ (d : Declaration) (change : Change) where
@@ -32,4 +33,4 @@ told_more d changes i change told after frees lt at those decided more =
   where
     by : (b : Bool) → (IsTrue b ↔ Frees d change) → after ≡ told ++ (if b then change ∷ [] else []) → AreThoseThatFree d (take i changes ++ change ∷ []) after
     by true is e = rw e (one_told d change (take i changes) told those (is.0 refl))
-    by false is e = rw (e, append-nil told) (none_told d change (take i changes) told those (λ frees. absurd (is.1 frees)))
+    by false is e = rw (e, append-nil told) (none_told d change (take i changes) told those (λ frees. absurd (false≢true (is.1 frees))))

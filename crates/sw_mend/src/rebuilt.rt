@@ -1,6 +1,7 @@
 //! The changed network, built anew.
-ghost use Rattle.std.specs.Prelude.{◌≡◌, [], IfOk, OnOk};
-ghost use Rattle.sw_config.specs.Entries.{empty};
+ghost use Rattle.std.specs.Prelude.{◌≡◌, [], None, IfOk, OnOk};
+ghost use Rattle.sw_topo.specs.Checked.{fault_of};
+ghost use Rattle.sw_config.specs.Entries.{empty, wiring_of};
 ghost use Rattle.sw_mend.specs.Changes.{changed};
 
 use crate::change::Change;
@@ -9,6 +10,7 @@ use crate::parts::{add_links, add_nodes, add_switches};
 use std::alloc::{AllocError, Global};
 use std::marker::Model;
 use sw_config::{Network, NetworkBuilder};
+use sw_topo::TopoError;
 
 // Adds the nodes, the switches and the links.
 fn add_parts(
@@ -27,11 +29,13 @@ fn add_parts(
 
 // The network that the builder has.
 fn wired(alloc: Global, builder: NetworkBuilder) -> Result<Network, AllocError>
+    requires { fault_of (wiring_of builder) ≡ None }
     ensures { IfOk result (λ n. n ≡ builder) }
 {
     match builder.wire(alloc) {
         Ok(network) => Ok(network),
-        Err(_) => Err(AllocError),
+        Err(TopoError::Fault(_)) => unreachable!(),
+        Err(TopoError::Memory) => Err(AllocError),
     }
 }
 
@@ -39,6 +43,8 @@ fn wired(alloc: Global, builder: NetworkBuilder) -> Result<Network, AllocError>
 fn without_flows(alloc: Global, network: &Network, change: &Change) -> Result<Network, AllocError>
     ensures { IfOk result (λ n. n ≡ record (changed network.now change.now) { flows = [] }) }
 {
+    // Names the network, which is valid by its type.
+    let _topology = network.topology();
     let mut builder = NetworkBuilder::new(alloc);
     add_parts(alloc, network, change, &mut builder)?;
     wired(alloc, builder)

@@ -1,12 +1,13 @@
 //! The routing tables that a change leaves.
-ghost use Rattle.std.specs.Prelude.{◌≡◌, ◌++◌, ◌∷◌, [], IfOk, OnOk};
-ghost use Rattle.sw_route.specs.Looks.{IsRoute, IsTable};
+ghost use Rattle.std.specs.Prelude.{◌≡◌, ◌++◌, ◌∷◌, [], false, IfOk, OnOk};
+ghost use Rattle.std.specs.List.{list_any};
+ghost use Rattle.sw_route.specs.Looks.{IsRoute, IsTable, overlaps};
 ghost use Rattle.sw_mend.specs.Changes.{by_number, loses_entry, ports_after, ports_but, route_after};
 
 use crate::change::Change;
 use std::alloc::{AllocError, Global};
 use std::marker::Model;
-use sw_route::{Route, TableRoutes};
+use sw_route::{Route, RouteError, TableRoutes};
 use sw_topo::{Port, PortSet};
 
 // Is the entry taken out of the switch's table?
@@ -51,12 +52,14 @@ fn ports_after(change: &Change, switch: u16, entry: usize, set: PortSet) -> Port
 
 // Adds an entry with these ports for the addresses of another.
 fn add_entry(table: &mut TableRoutes, route: &Route, ports: PortSet) -> Result<(), AllocError>
-    requires { IsRoute route.now }
+    requires route { IsRoute route.now }
+    requires apart { list_any (overlaps route.now) table.old ≡ false }
     ensures { OnOk result (table.new ≡ table.old ++ record route.now { ports = ports } ∷ []) }
 {
     match table.add_range(route.first, route.last, ports, route.delete) {
         Ok(()) => Ok(()),
-        Err(_) => Err(AllocError),
+        Err(RouteError::Duplicate) => unreachable!(),
+        Err(RouteError::Memory) => Err(AllocError),
     }
 }
 
@@ -68,7 +71,8 @@ fn add_route(
     entry: usize,
     route: &Route,
 ) -> Result<(), AllocError>
-    requires { IsRoute route.now }
+    requires route { IsRoute route.now }
+    requires apart { list_any (overlaps route.now) table.old ≡ false }
     ensures { OnOk result (table.new ≡ table.old ++ route_after change.now switch entry route.now) }
 {
     if loses_entry(change, switch, entry) {

@@ -12,4 +12,4 @@ returns c =
     let flows = c.args.network.now.flows in
     let here = in_front flows (reply_flows flows) c.args.number _ c.requires c.flow.ensures.flow in
     IfOk-weaker c.add_answered.result _ _
-    (λ _ e. e ∙ ap (λ (l : List Change). c.args.changes.old.items ++ l) (sym (at_number reply_away c.args.number flows _ here))) c.add_answered.ensures
+    (λ _ e. e ∙ ap (λ (l : List Change). c.args.changes.now.items ++ l) (sym (at_number reply_away c.args.number flows _ here))) c.add_answered.ensures

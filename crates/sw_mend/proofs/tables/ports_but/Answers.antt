@@ -1,4 +1,4 @@
-use Rattle.std.proofs.Common.{ℕ, ◌^◌, ◌<◌}
+use Rattle.std.proofs.Common.{◌^◌, ◌<◌, rules}
 use Rattle.sw_mend.proofs.PortSets.{without_one}
 use Rattle.sw_mend.proofs.tables.ports_but.Goals as goal
 
