@@ -1,6 +1,6 @@
 -- The entries of steps have these steps, each entry at most 100,000 times.
-use Rattle.std.proofs.Common.{◌≡◌, ℕ, zero, suc, ◌+◌, ◌<◌, ◌≤◌, Bool, true, false, ◌&&◌, List, [], ◌∷◌, ◌++◌, length, map, replicate, refl, sym, ap, subst, ◌∙◌, inl, inr, arith, append_assoc, append-nil, eqb-true, ltb-true}
-use Rattle.std.specs.Prelude.{◌==◌, flat_map, nat_lt, if◌then◌else◌}
+use Rattle.std.proofs.Common.{◌≡◌, ℕ, zero, suc, ◌+◌, ◌≤◌, true, ◌&&◌, List, [], ◌∷◌, ◌++◌, replicate, refl, sym, ap, ◌∙◌, inl, inr, arith, eqb-true, ltb-true}
+use Rattle.std.specs.Prelude.{◌==◌, nat_lt, if◌then◌else◌}
 use Rattle.std.specs.Str.{bytes_eq}
 use Rattle.std.proofs.lemmas.Bool.{and_parts, cases_Bool}
 use Rattle.std.proofs.lemmas.Slice.Eq.{bytes_eq-Decides}
@@ -53,10 +53,11 @@ made k l f g s t c e a b d h = rw (a, b, d, h) refl
 
 parts_same : (p q : Parts) → have_same_parts p q ≡ true → p ≡ q
 parts_same p q h =
-    let a = and_parts (p.kind == q.kind) ((p.first == q.first) && (p.second == q.second) && bytes_eq p.cargo q.cargo) h in
-    let b = and_parts (p.first == q.first) ((p.second == q.second) && bytes_eq p.cargo q.cargo) a.1 in
-    let c = and_parts (p.second == q.second) (bytes_eq p.cargo q.cargo) b.1 in
-    made p.kind q.kind p.first q.first p.second q.second p.cargo q.cargo (eqb-true p.kind q.kind a.0) (eqb-true p.first q.first b.0) (eqb-true p.second q.second c.0) ((bytes_eq-Decides p.cargo q.cargo).0 c.1)
+    let a = and_parts ((p.kind == q.kind) && (p.first == q.first) && (p.second == q.second)) (bytes_eq p.cargo q.cargo) h in
+    let b = and_parts ((p.kind == q.kind) && (p.first == q.first)) (p.second == q.second) a.0 in
+    let c = and_parts (p.kind == q.kind) (p.first == q.first) b.0 in
+    made p.kind q.kind p.first q.first p.second q.second p.cargo q.cargo (eqb-true p.kind q.kind c.0) (eqb-true p.first q.first c.1) (eqb-true p.second q.second b.1)
+    ((bytes_eq-Decides p.cargo q.cargo).0 a.1)
 
 steps_same : (s t : Step) → is_same s t ≡ true → s ≡ t
 steps_same s t h = sym (back s) ∙ ap step_from (parts_same (parts_of s) (parts_of t) h) ∙ back t

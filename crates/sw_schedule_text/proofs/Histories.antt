@@ -1,11 +1,9 @@
 -- The steps of a history can be written.
-use Rattle.std.proofs.Common.{◌≡◌, ℕ, ◌*◌, ◌<◌, ◌≤◌, Bool, true, false, List, [], ◌∷◌, ◌++◌, length, refl, sym, ap, subst, ◌∙◌, inl, inr, arith, eq-eqb, All}
-use Rattle.std.specs.Prelude.{filter, flat_map, nat_eq, replicate}
+use Rattle.std.proofs.Common.{ℕ, ◌*◌, ◌<◌, List, [], ◌∷◌, ◌++◌, length, refl, subst, inl, inr, arith, eq-eqb, All}
+use Rattle.std.specs.Prelude.{nat_eq, replicate}
 use Rattle.std.proofs.lemmas.Bool.{cases_Bool}
 use Rattle.std.proofs.lemmas.List.Elements.{All-append, All-cons, All-filter, All-head, All-nil, All-replicate, All-tail}
-use Rattle.sw_char.specs.declared.nchar.End.{End}
 use Rattle.sw_config.specs.Entries.{Declaration}
-use Rattle.sw_config.specs.Valid.{IsValid}
 use Rattle.sw_config.proofs.Steps.{length-link_ends}
 use Rattle.sw_limit.specs.History.{IsFront, IsHistory, packet_of, packets_at, packets_of}
 use Rattle.sw_load.specs.Load.{LoadEntry}

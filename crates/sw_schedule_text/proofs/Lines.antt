@@ -1,10 +1,9 @@
 -- The line of a step, with a count or without, is read as that step.
-use Rattle.std.proofs.Common.{◌≡◌, ℕ, ◌*◌, ◌^◌, ◌<◌, ◌≤◌, Bool, true, false, List, [], ◌∷◌, ◌++◌, length, replicate, Option, Some, None, refl, sym, ap, ◌∙◌, inl, inr, arith, ne_eqb, lt-ltb, eqb-true}
-use Rattle.std.specs.Prelude.{◌==◌, codes, option_and_then, option_map, if◌then◌else◌}
+use Rattle.std.proofs.Common.{◌≡◌, ℕ, ◌*◌, ◌^◌, ◌<◌, ◌≤◌, false, List, [], ◌∷◌, ◌++◌, length, replicate, Option, Some, None, refl, inl, inr, arith, ne_eqb, lt-ltb, eqb-true}
+use Rattle.std.specs.Prelude.{◌==◌, codes, option_and_then, if◌then◌else◌}
 use Rattle.std.specs.Fmt.{decimal}
-use Rattle.std.specs.Option.{option_map_or}
 use Rattle.std.proofs.lemmas.Bool.{cases_Bool}
-use Rattle.std.proofs.lemmas.List.Elements.{All-cons, All-nil}
+use Rattle.std.proofs.lemmas.List.Elements.{All-cons}
 use Rattle.sw_char.specs.declared.nchar.End.{End}
 use Rattle.sw_char.specs.declared.nchar.End.TheVariants.{Eop, Eep}
 use Rattle.sw_config.specs.Entries.{Declaration}
@@ -17,9 +16,8 @@ use Rattle.sw_output.specs.Lines.{spaced}
 use Rattle.sw_output.specs.PacketTexts.{end_text}
 use Rattle.sw_schedule.specs.Lines.{Repeated, at_channel, at_node, channel_of, count_of, end_of, is_skipped, node_of, repeated_of, step_of, steps_of_line, words_of}
 use Rattle.sw_schedule_text.specs.Laws.{HasNames, IsShort}
-use Rattle.sw_schedule_text.specs.Lines.{cargo_text, step_line, step_words}
-use Rattle.sw_schedule_text.proofs.Cargo.{Spells, cargo_spelled}
-use Rattle.sw_schedule_text.proofs.Entries.{IsRight}
+use Rattle.sw_schedule_text.specs.Lines.{cargo_text, step_line}
+use Rattle.sw_schedule_text.proofs.Cargo.{cargo_spelled}
 use Rattle.sw_schedule_text.proofs.Names.{flow_found, flow_plain, node_found, node_plain}
 use Rattle.sw_schedule_text.proofs.Words.{ArePlain, Free, Plain, both_free, decimal_plain, literal_plain, number_shown, spaced_free, word_and, words_read}
 use Rattle.sw_text.proofs.Numbers.{spelled_read}
@@ -37,9 +35,6 @@ IsWritable d (Begin flow cargo end) = (flow < length d.flows) × (1 ≤ length c
 IsWritable d (Emit n) = n < length d.nodes
 IsWritable d (Accept n) = n < length d.nodes
 IsWritable d (Reply n) = n < length d.nodes
-
-verb_plain : (w : List ℕ) → Plain w → (v : List ℕ) → Plain v → ArePlain (w ∷ v ∷ [])
-verb_plain w h v k = (h, (k, tt))
 
 -- a line that is read as this step
 pub record Reads (d : Declaration) (step : Step) (line : List ℕ) : Type 0 where

@@ -1,5 +1,5 @@
 -- The cargo of a load that was read.
-use Rattle.std.proofs.Common.{arith, zero, suc, ◌≡◌, ◌+◌, ◌-◌, ◌*◌, ◌<◌, ◌≤◌, ◌∙◌, ◌++◌, ◌∷◌, [], ℕ, Bool, true, false, ◌&&◌, List, All, get_or, length, replicate, take, refl, sym, ap, subst, ◌⊎◌, inl, inr}
+use Rattle.std.proofs.Common.{arith, zero, suc, ◌≡◌, ◌+◌, ◌-◌, ◌*◌, ◌<◌, ◌∷◌, [], ℕ, Bool, true, false, ◌&&◌, List, All, length, replicate, take, refl, sym, ap, subst, ◌⊎◌, inl, inr}
 use Rattle.std.specs.Prelude.{Err, Ok, Option, Some, None, Result, slice_get, option_and_then, option_map, nat_le, if◌then◌else◌}
 use Rattle.std.proofs.lemmas.Bool.{and_parts, cases_Bool, leb-true}
 use Rattle.std.proofs.lemmas.List.Elements.{All-nil, All-cons, All-replicate}
@@ -8,7 +8,7 @@ use Rattle.sw_char.specs.declared.nchar.End.{End}
 use Rattle.sw_config.specs.Entries.{Declaration}
 use Rattle.sw_load.specs.Cargo.{ArePairs, CargoIsRead, IsPairs, IsRepeated, cargo_of, hex_pair, hex_value, without_spaces}
 use Rattle.sw_load.specs.Laws.{IsListedBy, ReadsEachEntry}
-use Rattle.sw_load.specs.Load.{LoadEntry, cargo_at, count_at, flow_at, load_of, load_text, marker_at, packet_count, packet_keys, packet_of}
+use Rattle.sw_load.specs.Load.{LoadEntry, cargo_at, count_at, flow_at, load_of, marker_at, packet_count, packet_keys, packet_of}
 use Rattle.sw_model.specs.Packets.{is_declared_packet}
 use Rattle.sw_schedule_text.specs.Laws.{IsShort, ListedAreShort}
 use Rattle.sw_toml_table.specs.Document.{document_of}

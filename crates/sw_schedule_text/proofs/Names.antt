@@ -1,16 +1,16 @@
 -- Names are words, and are found again.
-use Rattle.std.proofs.Common.{◌≡◌, ◌≢◌, ℕ, zero, suc, ◌<◌, ◌≤◌, Bool, true, false, ◌&&◌, ◌||◌, List, [], ◌∷◌, ◌++◌, length, map, get_or, Option, Some, None, refl, sym, ap, subst, ◌∙◌, inl, inr, arith, ne_eqb, lt-ltb, length-append, All, AllPairs}
-use Rattle.std.specs.Prelude.{◌==◌, nat_le, position, slice_get, slice_index}
+use Rattle.std.proofs.Common.{◌≡◌, ◌≢◌, ℕ, zero, suc, ◌<◌, ◌≤◌, Bool, true, false, ◌&&◌, ◌||◌, List, [], ◌∷◌, ◌++◌, length, map, get_or, Some, refl, sym, ap, subst, ◌∙◌, inl, inr, arith, ne_eqb, lt-ltb, length-append, AllPairs}
+use Rattle.std.specs.Prelude.{◌==◌, nat_le, position, slice_get}
 use Rattle.std.specs.List.{list_all}
 use Rattle.std.specs.Option.{option_map_or}
 use Rattle.std.specs.Str.{IsAscii, bytes_eq, is_utf8}
 use Rattle.std.proofs.lemmas.Bool.{and_parts, cases_Bool, cases_lt, false≢true, lt-leb}
 use Rattle.std.proofs.lemmas.List.{length-map}
-use Rattle.std.proofs.lemmas.List.Elements.{All-nil, All-cons, All-get_or, All-head, All-tail}
+use Rattle.std.proofs.lemmas.List.Elements.{All-nil, All-cons, All-get_or}
 use Rattle.std.proofs.lemmas.List.Sums.{position_or_len_is}
 use Rattle.std.proofs.lemmas.Slice.Eq.{bytes_eq-Decides}
 use Rattle.std.proofs.lemmas.Str.{IsUtf8-from_ascii, is_utf8-from_IsUtf8}
-use Rattle.sw_config.specs.Entries.{Declaration, FlowEntry, NodeEntry, SwitchEntry, all_flows, flow_names, part_names, reply_flows}
+use Rattle.sw_config.specs.Entries.{Declaration, FlowEntry, NodeEntry, SwitchEntry, flow_names, part_names, reply_flows}
 use Rattle.sw_config.specs.Valid.{IsValid}
 use Rattle.sw_config.proofs.Positions.{position-in_first}
 use Rattle.sw_output.specs.ChannelTexts.{node_name}

@@ -1,6 +1,6 @@
 -- A text of entries is read as their steps.
-use Rattle.std.proofs.Common.{◌≡◌, ℕ, ◌*◌, ◌≤◌, Bool, true, false, ◌&&◌, List, [], ◌∷◌, ◌++◌, length, map, replicate, Option, Some, None, refl, sym, ap, subst, ◌∙◌, inl, inr, arith, append_assoc}
-use Rattle.std.specs.Prelude.{◌==◌, Ok, flat_map, nat_le, if◌then◌else◌}
+use Rattle.std.proofs.Common.{◌≡◌, ℕ, ◌≤◌, List, [], ◌∷◌, ◌++◌, length, map, replicate, Option, Some, None, refl, sym, ap, subst, ◌∙◌, inl, inr, arith, append_assoc}
+use Rattle.std.specs.Prelude.{◌==◌, Ok, flat_map, nat_le}
 use Rattle.std.specs.Fmt.{decimal}
 use Rattle.std.specs.List.{slice_split}
 use Rattle.std.proofs.lemmas.Bool.{cases_Bool, leb-true}
@@ -14,7 +14,7 @@ use Rattle.sw_model.specs.Laws.{DeclaredNetworksAreNetworks}
 use Rattle.sw_schedule.specs.Laws.{LinesAreRead}
 use Rattle.sw_schedule.specs.Lines.{Repeated, steps_of_line}
 use Rattle.sw_schedule.specs.Schedule.{steps_of, steps_of_text}
-use Rattle.sw_schedule_text.specs.Laws.{HasNames, SchedulesAreRead}
+use Rattle.sw_schedule_text.specs.Laws.{SchedulesAreRead}
 use Rattle.sw_schedule_text.specs.Lines.{step_line}
 use Rattle.sw_schedule_text.specs.Runs.{entries_of, entry_line, readable_text, schedule_text, short_text}
 use Rattle.sw_schedule_text.proofs.Entries.{Each, IsRight, entries_right, entries_steps}
