@@ -1,3 +1,4 @@
+pub mod CertificateHints
 pub mod LoadHints
 pub mod ScheduleHints
 pub mod StepWords
