@@ -176,9 +176,7 @@ fn topology_help(fault: TopoFault) -> &'static str
     match fault {
         TopoFault::TooMany(_) => "split the network where no flow goes over the cut",
         TopoFault::PortTaken(_) => "each end of a link needs a port of its own",
-        TopoFault::NodeLinks(_) => {
-            "several links: several nodes, or a switch in front of one"
-        }
+        TopoFault::NodeLinks(_) => { "several links: several nodes, or a switch in front of one" }
         TopoFault::PortUnlinked(_) => "link the switch, or leave it out",
     }
 }
@@ -188,11 +186,7 @@ fn topology_help(fault: TopoFault) -> &'static str
 /// # Errors
 ///
 /// There is no memory for the text.
-pub fn help_text(
-    alloc: Global,
-    document: &Table,
-    fault: &TextFault,
-) -> Result<String, AllocError>
+pub fn help_text(alloc: Global, document: &Table, fault: &TextFault) -> Result<String, AllocError>
     ensures { IfOk result (λ s. string_bytes s ≡ help_text (table_view document.now) fault.now) }
 {
     match fault {

@@ -102,12 +102,7 @@ fn note_place(alloc: Global, text: &[u8], note: Note) -> Result<Option<usize>, A
 }
 
 // A line of words.
-fn noted(
-    alloc: Global,
-    text: &[u8],
-    note: Note,
-    place: Option<usize>,
-) -> Result<String, AllocError>
+fn noted(alloc: Global, text: &[u8], note: Note, place: Option<usize>) -> Result<String, AllocError>
     requires { IfSome place (λ at. at ≤ length text.now) }
     ensures { IfOk result (λ s. string_bytes s ≡ told (codes "note") (subject text.now (entry_of note) place ++ note_words note)) }
 {
@@ -125,12 +120,7 @@ fn note_line(alloc: Global, text: &[u8], note: Note) -> Result<String, AllocErro
 }
 
 // Adds the line of a note.
-fn add_line(
-    alloc: Global,
-    text: &[u8],
-    note: Note,
-    lines: &mut String,
-) -> Result<(), AllocError>
+fn add_line(alloc: Global, text: &[u8], note: Note, lines: &mut String) -> Result<(), AllocError>
     ensures { IfOk result (λ _. AddsLine text.now note (string_bytes lines.old) (string_bytes lines.new)) }
 {
     let line = note_line(alloc, text, note)?;

@@ -283,11 +283,7 @@ fn topology_notes(
 /// # Errors
 ///
 /// There is no memory for the list.
-pub fn notes_of(
-    alloc: Global,
-    document: &Table,
-    fault: &TextFault,
-) -> Result<Vec<Note>, AllocError>
+pub fn notes_of(alloc: Global, document: &Table, fault: &TextFault) -> Result<Vec<Note>, AllocError>
     ensures { IfOk result (λ v. v.items ≡ notes_of fault.now (table_view document.now)) }
 {
     match fault {

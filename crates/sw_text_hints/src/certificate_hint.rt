@@ -103,7 +103,9 @@ fn rising_note(
     let flow = flows.saturating_sub(1);
     let (channel, deleted) = place;
     let (last_channel, last_deleted) = last;
-    format!(in alloc; "place {channel} {deleted} of flow {flow} stands behind place {last_channel} {last_deleted}")
+    format!(in alloc;
+        "place {channel} {deleted} of flow {flow} stands behind place {last_channel} {last_deleted}"
+    )
 }
 
 // The line before the one of this number; nothing before the first.
@@ -127,7 +129,9 @@ fn hint_at(alloc: Global, path: &str, text: &[u8], number: usize) -> Result<Stri
     let expected = told(alloc, "expected", expected_after(before).as_bytes())?;
     let note = rising_note(alloc, flows_before(text, number), before, line)?;
     let note = told(alloc, "note", note.as_bytes())?;
-    format!(in alloc; "{path}:{number}:1: refused C1 Grammar {number}: the line is not as the grammar asks\n{found}{expected}{note}")
+    format!(in alloc;
+        "{path}:{number}:1: refused C1 Grammar {number}: the line is not as the grammar asks\n{found}{expected}{note}"
+    )
 }
 
 // The number of the first line that is not as the grammar asks.

@@ -7,7 +7,10 @@ ghost use Rattle.sw_text_hints.specs.LoadHints.{IsFaultHint, IsLoadHint, expecte
 use std::alloc::{AllocError, Global};
 use sw_config::Network;
 use sw_file::read_network;
-use sw_hints::{expected_text, fault_place, help_text, hint_lines, is_one_of, like, meant_help, names_of, told, what_text};
+use sw_hints::{
+    expected_text, fault_place, help_text, hint_lines, is_one_of, like, meant_help, names_of, told,
+    what_text,
+};
 use sw_load::read_load;
 use sw_notes::{named, text_of};
 use sw_position::table_of;
@@ -15,11 +18,7 @@ use sw_toml_table::{FileFault, Key, KeyFault, Section, TextFault, read_document}
 use toml::Table;
 
 // The first fault of a load's text, for this network.
-fn fault_of(
-    alloc: Global,
-    network: &Network,
-    load: &[u8],
-) -> Result<Option<TextFault>, AllocError>
+fn fault_of(alloc: Global, network: &Network, load: &[u8]) -> Result<Option<TextFault>, AllocError>
     ensures { IfOk result (λ o. o ≡ fault_of (load_text network.now load.now)) }
 {
     match read_load(alloc, network, load) {
@@ -30,11 +29,7 @@ fn fault_of(
 }
 
 // The first fault of a load's text, for the network of the other text; none where that is none.
-fn fault_in(
-    alloc: Global,
-    network: &[u8],
-    load: &[u8],
-) -> Result<Option<TextFault>, AllocError>
+fn fault_in(alloc: Global, network: &[u8], load: &[u8]) -> Result<Option<TextFault>, AllocError>
     ensures { IfOk result (λ o. o ≡ fault_in network.now load.now) }
 {
     match read_network(alloc, network) {

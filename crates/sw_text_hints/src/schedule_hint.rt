@@ -54,7 +54,10 @@ fn expected(alloc: Global, network: &Network, wanted: Wanted) -> Result<String, 
             "1 to 4096 bytes: pairs of hexadecimal digits, or one pair, '*' and a number from 1 to 4096, without spaces",
         ),
         Wanted::Nothing => {
-            String::from_str(alloc, "the end of the line; one space stands between two words")
+            String::from_str(
+                alloc,
+                "the end of the line; one space stands between two words",
+            )
         }
     }
 }
@@ -124,11 +127,7 @@ fn word_help(
 }
 
 // The same, of the word that the rest of a line begins with, by the text of the network.
-fn help_of(
-    alloc: Global,
-    network: &[u8],
-    wrong: &Wrong<'_>,
-) -> Result<String, AllocError>
+fn help_of(alloc: Global, network: &[u8], wrong: &Wrong<'_>) -> Result<String, AllocError>
     ensures { IfOk result (λ s. string_bytes s ≡ help_of network.now (wrong_view wrong.now)) }
 {
     let Some(rest) = wrong.rest else {
@@ -188,12 +187,7 @@ fn word_lines(
 }
 
 // The lines of a hint of the line with which the steps are too many.
-fn total_lines(
-    alloc: Global,
-    path: &str,
-    number: u64,
-    line: &[u8],
-) -> Result<String, AllocError>
+fn total_lines(alloc: Global, path: &str, number: u64, line: &[u8]) -> Result<String, AllocError>
     ensures { IfOk result (λ s. string_bytes s ≡ total_lines path.now number line.now) }
 {
     let head = head_lines(
@@ -204,7 +198,11 @@ fn total_lines(
         0,
         "with this line there are too many steps",
     )?;
-    let expected = told(alloc, "expected", b"at most 1000000 steps in all".as_slice())?;
+    let expected = told(
+        alloc,
+        "expected",
+        b"at most 1000000 steps in all".as_slice(),
+    )?;
     format!(in alloc; "{head}{expected}")
 }
 

@@ -5,9 +5,9 @@ use Rattle.sw_text_hints.proofs.certificate_hint.flows_before.Given as goal
 
 abbrev pub invariant-loop-first : goal.invariant-loop-first
 invariant-loop-first l = record {
-    same : flows_before l.left l.flows (text_lines l.rest) ≡ flows_before l.line 0 (text_lines l.text);
-    few : l.flows + length l.rest ≤ length l.text;
-  }
+  same : flows_before l.left l.flows (text_lines l.rest) ≡ flows_before l.line 0 (text_lines l.text);
+  few : l.flows + length l.rest ≤ length l.text;
+}
 
 abbrev pub decreases-loop-first : goal.decreases-loop-first
 decreases-loop-first l = length l.rest
