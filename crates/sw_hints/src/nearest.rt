@@ -68,7 +68,11 @@ fn other_case<'a>(name: &str, texts: &[&'a str]) -> Option<&'a str>
 /// # Errors
 ///
 /// There is no memory to compare them.
-pub fn like<'a>(alloc: Global, name: &str, texts: &[&'a str]) -> Result<Option<&'a str>, AllocError>
+pub(crate) fn like<'a>(
+    alloc: Global,
+    name: &str,
+    texts: &[&'a str],
+) -> Result<Option<&'a str>, AllocError>
     ensures { IfOk result (λ o. option_map (λ t. t.now) o ≡ like name.now (map (λ t. t.now) texts.now)) }
 {
     match other_case(name, texts) {

@@ -20,11 +20,7 @@ use toml::Table;
 const MOST_LINKS: usize = 8;
 
 /// The first entry of a list of the document that has this name.
-///
-/// # Errors
-///
-/// There is no memory for the search.
-pub fn named(
+pub(crate) fn named(
     alloc: Global,
     document: &Table,
     list: Key,
