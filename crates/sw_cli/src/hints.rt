@@ -1,4 +1,4 @@
-//! Hints on standard error: how to mend a file that has a fault, what to change where a verdict is not free, why a file can't be read.
+//! Hints on standard error: how to mend a network file that has a fault, what to change where a verdict is not free, why a file can't be read.
 //! They decide nothing.
 ghost use Rattle.std.specs.Prelude.{◌≡◌, option_map};
 ghost use Rattle.sw_cli.specs.Asked.{due_after, due_of, file_of, hints_of, second_of};
@@ -11,6 +11,7 @@ use sw_args::Call;
 use sw_command::statuses::{BAD, FAULTY};
 use sw_command::{Ended, MAX_TEXT};
 use sw_hints::network_hint;
+use sw_step_hints::schedule_hint;
 use sw_text::read_whole;
 use sw_verdict_hints::{certificate_hint, verdict_hint};
 
@@ -25,7 +26,7 @@ pub(crate) enum Hints {
 /// What a hint is of.
 #[derive(Clone, Copy)]
 enum Due {
-    /// A fault of the network file, or of the other that the call reads.
+    /// A fault of the network file.
     Fault,
     /// A verdict that is not free, or a certificate that is refused.
     Verdict,
@@ -140,39 +141,10 @@ fn text_of<R: Files + AllocGlobal>(rt: &R, file: &str) -> Option<Vec<u8>> {
     read_whole(rt.alloc(), &mut reader, MAX_TEXT).ok()
 }
 
-// What to tell of a fault of a call's other text; nothing where it has none.
-fn other_fault_hint<R: Files + AllocGlobal>(
-    rt: &R,
-    call: &Call<'_>,
-    network: &[u8],
-) -> Option<String> {
-    match call {
-        Call::Run {
-            file: _,
-            load,
-            workers: _,
-            limit: _,
-            schedule: _,
-        } => {
-            let text = text_of(rt, load)?;
-            sw_text_hints::load_hint(rt.alloc(), load, network, &text).ok()?
-        }
-        Call::Replay { file: _, schedule } => {
-            let text = text_of(rt, schedule)?;
-            sw_text_hints::schedule_hint(rt.alloc(), schedule, network, &text).ok()?
-        }
-        _ => None,
-    }
-}
-
-// What to tell of a fault of the network file, or else of the other; nothing where they can't be read once more or there is no memory for it.
-fn fault_hint<R: Files + AllocGlobal>(rt: &R, call: &Call<'_>) -> Option<String> {
-    let file = file_of(call);
+// What to tell of a network file's fault; nothing where it has none, and where it can't be read or there is no memory for it.
+fn fault_hint<R: Files + AllocGlobal>(rt: &R, file: &str) -> Option<String> {
     let text = text_of(rt, file)?;
-    match network_hint(rt.alloc(), file, &text).ok()? {
-        Some(hint) => Some(hint),
-        None => other_fault_hint(rt, call, &text),
-    }
+    network_hint(rt.alloc(), file, &text).ok()?
 }
 
 // What to tell of a verdict that is not free, or of a refused certificate.
@@ -193,7 +165,7 @@ fn verdict_hint_of<R: Files + AllocGlobal + Threads + Sync>(
         }
         Call::Replay { file: _, schedule } => {
             let other = text_of(rt, schedule)?;
-            sw_step_hints::schedule_hint(rt.alloc(), &text, schedule, &other).ok()?
+            schedule_hint(rt.alloc(), &text, schedule, &other).ok()?
         }
         _ => None,
     }
@@ -234,7 +206,7 @@ pub(crate) fn hinted<R: Files + Eprint + AllocGlobal + Threads + Sync>(
     ensures { result ≡ ended }
 {
     match due_of(hints, ended) {
-        Due::Fault => tell(rt, fault_hint(rt, call)),
+        Due::Fault => tell(rt, fault_hint(rt, file_of(call))),
         Due::Verdict => tell(rt, verdict_hint_of(rt, call)),
         Due::Unread => tell_unread_files(rt, call),
         Due::Nothing => {}

@@ -58,6 +58,10 @@ abbrev pub IsNoteLine : List ℕ → Note → List ℕ → Type 0
 IsNoteLine text note line =
     (place : Option ℕ) × IsNotePlace text note place × (line ≡ told (codes "note") (subject text (entry_of note) place ++ note_words note))
 
+-- the line of a note stands behind what was there before
+abbrev pub AddsLine : List ℕ → Note → List ℕ → List ℕ → Type 0
+AddsLine text note before after = (line : List ℕ) × IsNoteLine text note line × (after ≡ before ++ line)
+
 -- the lines of notes, one after another
 abbrev pub AreNoteLines : List ℕ → List Note → List ℕ → Type 0
 AreNoteLines text [] lines = lines ≡ []

@@ -12,9 +12,6 @@ mod note_lines;
 mod places;
 mod shown;
 
-pub use entries::names_of;
-pub use fault_words::{expected_text, what_text};
-pub use helps::{help_text, is_one_of, meant_help};
 pub use hint::{hint_of, network_hint};
 pub use hint_lines::{found_line, head_line, hint_lines, told};
 pub use nearest::like;

@@ -1,7 +1,7 @@
 //! The lines of what there is to note of a fault.
 ghost use Rattle.std.specs.Prelude.{◌≡◌, ◌≤◌, ◌++◌, IfOk, IfSome, codes, length, string_bytes};
 ghost use Rattle.sw_hints.specs.HintLines.{told};
-ghost use Rattle.sw_hints.specs.NoteLines.{AreNoteLines, IsNoteLine, IsNotePlace, entry_of, entry_text, note_words, subject};
+ghost use Rattle.sw_hints.specs.NoteLines.{AddsLine, AreNoteLines, IsNoteLine, IsNotePlace, entry_of, entry_text, note_words, subject};
 
 use crate::hint_lines::told;
 use std::alloc::{AllocError, Global};
@@ -119,6 +119,14 @@ fn note_line(alloc: Global, text: &[u8], note: Note) -> Result<String, AllocErro
     noted(alloc, text, note, place)
 }
 
+// Adds the line of a note.
+fn add_line(alloc: Global, text: &[u8], note: Note, lines: &mut String) -> Result<(), AllocError>
+    ensures { IfOk result (λ _. AddsLine text.now note (string_bytes lines.old) (string_bytes lines.new)) }
+{
+    let line = note_line(alloc, text, note)?;
+    lines.push_str(line.as_str())
+}
+
 /// The lines of notes.
 ///
 /// # Errors
@@ -129,7 +137,7 @@ pub(crate) fn note_lines(alloc: Global, text: &[u8], notes: &[Note]) -> Result<S
 {
     let mut lines = String::new(alloc);
     for note in notes {
-        lines.push_str(note_line(alloc, text, *note)?.as_str())?;
+        add_line(alloc, text, *note, &mut lines)?;
     }
     Ok(lines)
 }

@@ -26,11 +26,7 @@ fn add_place(
 }
 
 // The places of the tables that pass.
-fn places_in(
-    alloc: Global,
-    tables: &[&Table],
-    test: &Test<'_>,
-) -> Result<Vec<usize>, AllocError>
+fn places_in(alloc: Global, tables: &[&Table], test: &Test<'_>) -> Result<Vec<usize>, AllocError>
     ensures { IfOk result (λ v. v.items ≡ places_from (passes test.now) 0 (map (λ t. table_view t.now) tables.now)) }
 {
     let mut places = Vec::new(alloc);

@@ -10,4 +10,4 @@ mod reply_notes;
 
 pub use entries::{tables_of, text_of};
 pub use note::Note;
-pub use notes::{named, notes_of};
+pub use notes::notes_of;

@@ -20,11 +20,7 @@ use toml::Table;
 const MOST_LINKS: usize = 8;
 
 /// The first entry of a list of the document that has this name.
-///
-/// # Errors
-///
-/// There is no memory for the search.
-pub fn named(
+pub(crate) fn named(
     alloc: Global,
     document: &Table,
     list: Key,
@@ -283,11 +279,7 @@ fn topology_notes(
 /// # Errors
 ///
 /// There is no memory for the list.
-pub fn notes_of(
-    alloc: Global,
-    document: &Table,
-    fault: &TextFault,
-) -> Result<Vec<Note>, AllocError>
+pub fn notes_of(alloc: Global, document: &Table, fault: &TextFault) -> Result<Vec<Note>, AllocError>
     ensures { IfOk result (λ v. v.items ≡ notes_of fault.now (table_view document.now)) }
 {
     match fault {

@@ -58,11 +58,7 @@ fn add_shape(alloc: Global, reply: &Table, notes: &mut Vec<Note>) -> Result<(), 
 }
 
 // Adds the same, where there is such a table.
-fn add_table(
-    alloc: Global,
-    reply: Option<&Table>,
-    notes: &mut Vec<Note>,
-) -> Result<(), AllocError>
+fn add_table(alloc: Global, reply: Option<&Table>, notes: &mut Vec<Note>) -> Result<(), AllocError>
     ensures { IfOk result (λ _. notes.new.items ≡ notes.old.items ++ table_notes (option_map (λ t. table_view t.now) reply.entry)) }
 {
     match reply {
@@ -119,11 +115,7 @@ pub(crate) fn reply_notes(
     ensures { IfOk result (λ v. v.items ≡ reply_notes flow (table_view document.now)) }
 {
     let mut notes = Vec::new(alloc);
-    add_table(
-        alloc,
-        table_of(document, Section::Reply(flow)),
-        &mut notes,
-    )?;
+    add_table(alloc, table_of(document, Section::Reply(flow)), &mut notes)?;
     add_target(alloc, document, flow, &mut notes)?;
     Ok(notes)
 }

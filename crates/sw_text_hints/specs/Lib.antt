@@ -1,4 +1,0 @@
-pub mod LoadHints
-pub mod ScheduleHints
-pub mod StepWords
-pub mod WrongWords
