@@ -1,5 +1,5 @@
 -- The search, level by level.
-use Rattle.std.proofs.Common.{◌≡◌, ℕ, zero, suc, ◌<◌, ◌≤◌, ◌⊎◌, List, [], ◌∷◌, Option, Some, None, replicate, sym, ap, ◌∙◌, subst, inl, inr, arith, true, false, get_or, eqb}
+use Rattle.std.proofs.Common.{◌≡◌, ℕ, zero, suc, length, refl, ◌<◌, ◌≤◌, ◌⊎◌, List, [], ◌∷◌, Option, Some, None, replicate, sym, ap, ◌∙◌, subst, inl, inr, arith, true, false, get_or, eqb}
 use Rattle.std.specs.Prelude.{Contains, Vec}
 use Rattle.std.specs.List.{flat_map, list_any}
 use Rattle.std.specs.declared.alloc.Global.{Global}
@@ -126,6 +126,37 @@ module _ (dep : ℕ → ℕ → Type 0) (start count : ℕ) (steps : List (Optio
         closed : (i : ℕ) → 0 < i → i ≤ count → Chain dep i start start → ⊥
         closed zero some le h = omega arith
         closed (suc i) some le h = s.none i (omega arith) h
+
+-- ---- a search that found nothing new
+
+nothing_added : (n : ℕ) (steps : List (Option ℕ)) → AreAdded [] n steps steps [] []
+nothing_added n steps = record {
+  size = refl;
+  kept = λ d j h. h;
+  all = λ d h. nothing_in d h;
+  from = λ d j h. inl h;
+  added = λ d h. inl h;
+  stays = λ d h. h;
+}
+
+still : (dep : ℕ → ℕ → Type 0) (start count : ℕ) (steps : List (Option ℕ)) → Searching dep start count steps [] → (most : ℕ) → (n : ℕ) × (most ≤ n) × Searching dep start n steps []
+still dep start count steps s zero = (count, omega arith, s)
+still dep start count steps s (suc most) =
+    let r = still dep start count steps s most in
+    let le = r.1 in (
+      suc r.0,
+      omega arith,
+      searching_more dep start r.0 steps [] r.2 (λ b h e. nothing_in b h) [] steps [] (nothing_added (suc r.0) steps)
+          (λ d h. nothing_in d h) (λ b d h e. nothing_in b h),
+    )
+
+-- no steps lead back, however many
+pub ended : (dep : ℕ → ℕ → Type 0) (start count most : ℕ) (steps : List (Option ℕ)) (level : List ℕ) → Searching dep start count steps level → length level ≡ 0 → NoRound dep start most
+ended dep start count most steps [] s empty = λ i lt h.
+    let r = still dep start count steps s most in
+    let le = r.1 in
+    r.2.none i (omega arith) h
+ended dep start count most steps (x ∷ xs) s empty = absurd cc
 
 -- ---- what leads on, as the search tests it
 

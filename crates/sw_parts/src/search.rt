@@ -95,8 +95,8 @@ fn none_known(alloc: Global, count: usize) -> Result<Vec<Option<u16>>, AllocErro
     vec![in alloc; None; count]
 }
 
-/// Searches for the numbers that steps lead to from the start, until they lead back to it, for at
-/// most so many steps.
+/// Searches for the numbers that steps lead to from the start, until they lead back to it or to no
+/// new number, for at most so many steps.
 pub(crate) fn search(
     alloc: Global,
     rows: &[Vec<u16>],
@@ -112,6 +112,9 @@ pub(crate) fn search(
     add_one(start, 0, &mut steps, &mut level)?;
     let mut count = 0;
     while count < most {
+        if level.is_empty() {
+            return Ok(Searched { steps, round: None });
+        }
         count += 1;
         if one_leads(rows, &level, start) {
             return Ok(Searched {

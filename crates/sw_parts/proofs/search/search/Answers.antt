@@ -1,8 +1,8 @@
-use Rattle.std.proofs.Common.{◌≡◌, ◌+◌, suc, length, sym, ap, ◌∙◌, arith}
+use Rattle.std.proofs.Common.{◌≡◌, ◌+◌, suc, length, sym, ap, ◌∙◌, arith, rules}
 use Rattle.std.proofs.lemmas.List.{length-replicate}
 use Rattle.sw_graph.specs.Rows.{Leads}
 use Rattle.sw_graph.proofs.RelationSteps.{whole}
-use Rattle.sw_parts.proofs.Searching.{round_on, searching_first, searching_on}
+use Rattle.sw_parts.proofs.Searching.{ended, round_on, searching_first, searching_on}
 use Rattle.sw_parts.proofs.Sought.{level_inside}
 use Rattle.sw_parts.proofs.search.search.Goals as goal
 
@@ -26,6 +26,10 @@ returns-then-one_leads c =
     let e : n + 1 ≡ suc n = omega arith in
     let one = rw c.deref.ensures.value at (sym c.one_leads.ensures ∙ c.if-one_leads.true) in
     round_on rows c.args.start n (n + 1) c.args.most c.loop-count.steps.items c.loop-count.level.items c.loop-count.invariant.searching e (omega arith) one
+
+pub returns-then-is_empty : goal.returns-then-is_empty
+returns-then-is_empty c =
+    ended (Leads c.args.rows.now) c.args.start c.loop-count.count c.args.most c.loop-count.steps.items c.loop-count.level.items c.loop-count.invariant.searching (search rules)
 
 pub add_next-requires-clause-inside : goal.add_next-requires-clause-inside
 add_next-requires-clause-inside c =
