@@ -1,5 +1,5 @@
 //! The hint of a step that can't be made.
-ghost use Rattle.std.specs.Prelude.{◌≡◌, IfOk, Ok, Option, option_map, string_bytes};
+ghost use Rattle.std.specs.Prelude.{◌≡◌, IfOk, Ok, option_map, string_bytes};
 ghost use Rattle.sw_model.specs.Steps.{machine_step};
 ghost use Rattle.sw_schedule.specs.Schedule.{steps_of_text};
 ghost use Rattle.sw_step_hints.specs.StepHints.{IsHintBy, IsScheduleHint, hint_by, step_expected, step_found, step_head, step_hint};

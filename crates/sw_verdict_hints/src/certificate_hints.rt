@@ -28,12 +28,12 @@ fn refusal_lines(
         Refusal::WrongCount => wrong_count_lines(alloc, network, certificate),
         Refusal::NoStart(flow) => no_start_lines(alloc, network, flow),
         Refusal::NotClosed(flow, place) => {
-            not_closed_lines(alloc, network, certificate, flow, place)
+            not_closed_lines(alloc, network, certificate, flow, &place)
         }
         Refusal::NotRising(channel, next) => {
             not_rising_lines(alloc, network, certificate, channel, next)
         }
-        Refusal::Faulty(flow, place, fault) => faulty_lines(alloc, network, flow, place, fault),
+        Refusal::Faulty(flow, place, fault) => faulty_lines(alloc, network, flow, &place, fault),
     }
 }
 
@@ -67,7 +67,7 @@ fn refusal_hint(
     certificate: &Certificate,
     refusal: Refusal,
 ) -> Result<String, AllocError>
-    ensures { IfOk result (λ s. string_bytes s ≡ refusal_hint names.certificate.now names.network.now network.now certificate.now refusal) }
+    ensures { IfOk result (λ s. string_bytes s ≡ refusal_hint names.entry.certificate.now names.entry.network.now network.now certificate.now refusal) }
 {
     let head = certificate_head(alloc, names.certificate, names.network)?;
     let lines = refusal_lines(alloc, network, certificate, refusal)?;
@@ -83,7 +83,7 @@ fn contents_hint<R: Threads + Sync>(
     network: &Network,
     certificate: &Certificate,
 ) -> Result<Option<String>, AllocError>
-    ensures { IfOk result (λ o. option_map string_bytes o ≡ contents_hint names.certificate.now names.network.now network.now certificate.now) }
+    ensures { IfOk result (λ o. option_map string_bytes o ≡ contents_hint names.entry.certificate.now names.entry.network.now network.now certificate.now) }
 {
     match check(rt, network, certificate) {
         Ok(_) => Ok(None),
@@ -102,7 +102,7 @@ fn text_hint<R: Threads + Sync>(
     network: &Network,
     text: &[u8],
 ) -> Result<Option<String>, AllocError>
-    ensures { IfOk result (λ o. option_map string_bytes o ≡ hint_of_texts names.certificate.now names.network.now (Ok network.now) (read_text text.now)) }
+    ensures { IfOk result (λ o. option_map string_bytes o ≡ hint_of_texts names.entry.certificate.now names.entry.network.now (Ok network.now) (read_text text.now)) }
 {
     match Certificate::read(alloc, text) {
         Ok(certificate) => contents_hint(rt, alloc, names, network, &certificate),

@@ -1,5 +1,5 @@
 //! What of the places that a certificate lists is wrong, in words.
-ghost use Rattle.std.specs.Prelude.{◌≡◌, ◌<◌, IfOk, find, is_some, length, not, string_bytes};
+ghost use Rattle.std.specs.Prelude.{◌≡◌, ◌<◌, ◌≤◌, IfOk, find, is_some, length, not, string_bytes};
 ghost use Rattle.std.specs.Option.{option_map_or};
 ghost use Rattle.std.specs.List.{list_any};
 ghost use Rattle.sw_config.specs.Entries.{all_flows};
@@ -17,8 +17,8 @@ use sw_hints::told;
 use sw_output::flow_name;
 
 // A place of a flow, as a certificate lists it.
-fn place_words(alloc: Global, place: Place, flow: &str) -> Result<String, AllocError>
-    ensures { IfOk result (λ s. string_bytes s ≡ place_words place flow.now) }
+fn place_words(alloc: Global, place: &Place, flow: &str) -> Result<String, AllocError>
+    ensures { IfOk result (λ s. string_bytes s ≡ place_words place.now flow.now) }
 {
     let channel = place.channel.number();
     let deleted = place.deleted;
@@ -95,9 +95,9 @@ fn outside_lines(
     alloc: Global,
     network: &Network,
     number: u16,
-    place: Place,
+    place: &Place,
 ) -> Result<String, AllocError>
-    ensures { IfOk result (λ s. string_bytes s ≡ outside_lines network.now number place) }
+    ensures { IfOk result (λ s. string_bytes s ≡ outside_lines network.now number place.now) }
 {
     if number < network.flows() {
         let flow = network.flow(number);
@@ -131,7 +131,7 @@ fn outside_lines_at(
     ensures { IfOk result (λ s. string_bytes s ≡ outside_lines_at network.now certificate.now.places number) }
 {
     match outside_at(network, certificate, number) {
-        Some(place) => outside_lines(alloc, network, number, place),
+        Some(place) => outside_lines(alloc, network, number, &place),
         None => Ok(String::new(alloc)),
     }
 }
@@ -202,7 +202,8 @@ pub(crate) fn no_start_lines(
 {
     if number < network.flows() {
         let flow = network.flow(number);
-        let place = place_words(alloc, start_of(network, flow), flow.name())?;
+        let start = start_of(network, flow);
+        let place = place_words(alloc, &start, flow.name())?;
         let words = format!(in alloc; "{place}, where it starts")?;
         told(alloc, "expected", words.as_bytes())
     } else {
@@ -229,20 +230,20 @@ fn first_unlisted(listed: &[Place], followers: Followers<'_>) -> Option<Place>
 }
 
 // The first place that follows and is not listed.
-fn missing(network: &Network, flow: &Flow, listed: &[Place], place: Place) -> Option<Place>
+fn missing(network: &Network, flow: &Flow, listed: &[Place], place: &Place) -> Option<Place>
     requires { length flow.now.address ≤ 32 }
-    ensures { result ≡ missing network.now flow.now listed.now place }
+    ensures { result ≡ missing network.now flow.now listed.now place.now }
 {
-    first_unlisted(listed, followers_in(network, flow, place))
+    first_unlisted(listed, followers_in(network, flow, *place))
 }
 
 fn missing_lines(
     alloc: Global,
     flow: &str,
-    place: Place,
-    next: Place,
+    place: &Place,
+    next: &Place,
 ) -> Result<String, AllocError>
-    ensures { IfOk result (λ s. string_bytes s ≡ missing_lines flow.now place next) }
+    ensures { IfOk result (λ s. string_bytes s ≡ missing_lines flow.now place.now next.now) }
 {
     let found = place_words(alloc, place, flow)?;
     let next = place_words(alloc, next, flow)?;
@@ -260,16 +261,16 @@ pub(crate) fn not_closed_lines(
     network: &Network,
     certificate: &Certificate,
     number: u16,
-    place: Place,
+    place: &Place,
 ) -> Result<String, AllocError>
-    ensures { IfOk result (λ s. string_bytes s ≡ not_closed_lines network.now certificate.now.places number place) }
+    ensures { IfOk result (λ s. string_bytes s ≡ not_closed_lines network.now certificate.now.places number place.now) }
 {
     if number >= network.flows() {
         return Ok(String::new(alloc));
     }
     let flow = network.flow(number);
     match missing(network, flow, listed_for(certificate, number), place) {
-        Some(next) => missing_lines(alloc, flow.name(), place, next),
+        Some(next) => missing_lines(alloc, flow.name(), place, &next),
         None => Ok(String::new(alloc)),
     }
 }
@@ -283,10 +284,10 @@ pub(crate) fn faulty_lines(
     alloc: Global,
     network: &Network,
     number: u16,
-    place: Place,
+    place: &Place,
     fault: RouteFault,
 ) -> Result<String, AllocError>
-    ensures { IfOk result (λ s. string_bytes s ≡ faulty_lines network.now number place fault) }
+    ensures { IfOk result (λ s. string_bytes s ≡ faulty_lines network.now number place.now fault) }
 {
     let name = flow_name(network, number);
     let place_text = place_words(alloc, place, name)?;

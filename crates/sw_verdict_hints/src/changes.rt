@@ -1,5 +1,5 @@
 //! What to change, so that a flow is well routed.
-ghost use Rattle.std.specs.Prelude.{◌≡◌, ◌<◌, ◌≤◌, IfOk, Option, length, slice_index, string_bytes};
+ghost use Rattle.std.specs.Prelude.{◌≡◌, ◌<◌, ◌≤◌, IfOk, Some, length, slice_index, string_bytes};
 ghost use Rattle.sw_topo.specs.Checked.{IsIn};
 ghost use Rattle.sw_output.specs.ChannelTexts.{switch_name};
 ghost use Rattle.sw_verdict_hints.specs.RouteHints.{address_words, ends_help, help_words, links_words, no_route_help, port_word, port_words, wrong_left_help, wrong_node_help};
@@ -167,7 +167,7 @@ pub(crate) fn help_words(
     end: PlaceEnd,
 ) -> Result<String, AllocError>
     requires { IsIn (length network.now.nodes) (length network.now.switches) end }
-    ensures { IfOk result (λ s. string_bytes s ≡ help_words network.now number flow.now deleted fault (Option.Some end)) }
+    ensures { IfOk result (λ s. string_bytes s ≡ help_words network.now number flow.now deleted fault (Some end)) }
 {
     match (fault, end) {
         (RouteFault::AddressEnds, PlaceEnd::Switch(switch, _)) => {

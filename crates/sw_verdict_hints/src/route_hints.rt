@@ -1,5 +1,5 @@
 //! The hint of a flow that is not well routed.
-ghost use Rattle.std.specs.Prelude.{◌≡◌, ◌<◌, All, IfOk, Option, length, string_bytes};
+ghost use Rattle.std.specs.Prelude.{◌≡◌, ◌<◌, All, IfOk, Some, length, string_bytes};
 ghost use Rattle.sw_topo.specs.Checked.{IsIn};
 ghost use Rattle.sw_config.specs.Entries.{wiring_of};
 ghost use Rattle.sw_flow.specs.Places.{end_of};
@@ -18,7 +18,7 @@ use sw_topo::{Chan, PlaceEnd};
 // The node or the switch that a channel ends at.
 fn place_name(network: &Network, end: PlaceEnd) -> &str
     requires { IsIn (length network.now.nodes) (length network.now.switches) end }
-    ensures { result.now ≡ place_name network.now (Option.Some end) }
+    ensures { result.now ≡ place_name network.now (Some end) }
 {
     match end {
         PlaceEnd::Node(node) => node_name(network, node),
@@ -45,10 +45,10 @@ fn name_at(network: &Network, channel: Chan) -> &str
 pub(crate) fn found_words(
     alloc: Global,
     network: &Network,
-    place: Place,
+    place: &Place,
     fault: RouteFault,
 ) -> Result<String, AllocError>
-    ensures { IfOk result (λ s. string_bytes s ≡ found_words network.now place fault) }
+    ensures { IfOk result (λ s. string_bytes s ≡ found_words network.now place.now fault) }
 {
     let name = name_at(network, place.channel);
     let words = fault_words(fault);
@@ -68,11 +68,11 @@ fn last_lines(
     network: &Network,
     number: u16,
     flow: &Flow,
-    place: Place,
+    place: &Place,
     fault: RouteFault,
 ) -> Result<String, AllocError>
-    requires { place.channel < length (wiring_of network.now).ends }
-    ensures { IfOk result (λ s. string_bytes s ≡ last_lines network.now number flow.now place fault) }
+    requires { place.now.channel < length (wiring_of network.now).ends }
+    ensures { IfOk result (λ s. string_bytes s ≡ last_lines network.now number flow.now place.now fault) }
 {
     let end = network.topology().end_of(place.channel);
     let found = found_words(alloc, network, place, fault)?;
@@ -93,13 +93,13 @@ pub(crate) fn flow_hint(
     network: &Network,
     number: u16,
     flow: &Flow,
-    place: Place,
+    place: &Place,
     fault: RouteFault,
     way: &[Place],
 ) -> Result<String, AllocError>
-    requires within { place.channel < length (wiring_of network.now).ends }
+    requires within { place.now.channel < length (wiring_of network.now).ends }
     requires way { All (λ p. p.channel < length (wiring_of network.now).ends) way.now }
-    ensures { IfOk result (λ s. string_bytes s ≡ flow_hint path.now network.now number flow.now place fault way.now) }
+    ensures { IfOk result (λ s. string_bytes s ≡ flow_hint path.now network.now number flow.now place.now fault way.now) }
 {
     let head = flow_head(alloc, path, flow.name())?;
     let lines = way_lines(alloc, network, flow, way)?;

@@ -30,12 +30,12 @@ fn misrouted_hint(
     path: &str,
     network: &Network,
     number: u16,
-    place: Place,
+    place: &Place,
     fault: RouteFault,
     way: &[Place],
 ) -> Result<String, AllocError>
-    requires { GoesWrong network.now number place fault way.now }
-    ensures { IfOk result (λ s. string_bytes s ≡ misrouted_hint path.now network.now number place fault way.now) }
+    requires { GoesWrong network.now number place.now fault way.now }
+    ensures { IfOk result (λ s. string_bytes s ≡ misrouted_hint path.now network.now number place.now fault way.now) }
 {
     // Names the network, which is valid by its type.
     let _topology = network.topology();
@@ -60,7 +60,7 @@ fn hint_by(
             fault,
             way,
         } => Ok(Some(misrouted_hint(
-            alloc, path, network, *flow, *place, *fault, way,
+            alloc, path, network, *flow, place, *fault, way,
         )?)),
         Explanation::Cyclic(_) => Ok(Some(cyclic_hint(alloc, path)?)),
         Explanation::Free => Ok(None),
