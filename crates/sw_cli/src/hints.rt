@@ -131,19 +131,22 @@ fn second_of<'a>(call: &Call<'a>) -> Option<&'a str>
     }
 }
 
-// The text of a file, if it can be read once more: a pipe can't.
-fn text_of<R: Files + AllocGlobal>(rt: &R, file: &str) -> Option<Vec<u8>> {
+/// The longest texts, in bytes, of which a verdict is explained: what is told of a longer one would take as long as the call itself.
+const MOST_EXPLAINED: usize = 262_144;
+
+// The text of a file of at most so many bytes, if it can be read once more: a pipe can't.
+fn text_of<R: Files + AllocGlobal>(rt: &R, file: &str, most: usize) -> Option<Vec<u8>> {
     let kind = fs::metadata(rt, file).ok()?;
     if !kind.is_file() {
         return None;
     }
     let mut reader = fs::open(rt, file).ok()?;
-    read_whole(rt.alloc(), &mut reader, MAX_TEXT).ok()
+    read_whole(rt.alloc(), &mut reader, most).ok()
 }
 
 // What to tell of a network file's fault; nothing where it has none, and where it can't be read or there is no memory for it.
 fn fault_hint<R: Files + AllocGlobal>(rt: &R, file: &str) -> Option<String> {
-    let text = text_of(rt, file)?;
+    let text = text_of(rt, file, MAX_TEXT)?;
     network_hint(rt.alloc(), file, &text).ok()?
 }
 
@@ -153,18 +156,18 @@ fn verdict_hint_of<R: Files + AllocGlobal + Threads + Sync>(
     call: &Call<'_>,
 ) -> Option<String> {
     let file = file_of(call);
-    let text = text_of(rt, file)?;
+    let text = text_of(rt, file, MOST_EXPLAINED)?;
     match call {
         Call::Decide { file: _ } => verdict_hint(rt, rt.alloc(), file, &text).ok()?,
         Call::Check {
             file: _,
             certificate,
         } => {
-            let other = text_of(rt, certificate)?;
+            let other = text_of(rt, certificate, MOST_EXPLAINED)?;
             certificate_hint(rt, rt.alloc(), file, &text, certificate, &other).ok()?
         }
         Call::Replay { file: _, schedule } => {
-            let other = text_of(rt, schedule)?;
+            let other = text_of(rt, schedule, MOST_EXPLAINED)?;
             schedule_hint(rt.alloc(), &text, schedule, &other).ok()?
         }
         _ => None,
