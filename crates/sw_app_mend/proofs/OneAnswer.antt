@@ -5,11 +5,9 @@ use Rattle.sw_command.specs.Ends.{Says}
 use Rattle.sw_config.specs.Entries.{Declaration}
 use Rattle.sw_file.specs.Network.{network_text}
 use Rattle.sw_mend.specs.Laws.{MendsAreDetermined}
-use Rattle.sw_mend.specs.declared.change.Change.{Change}
 use Rattle.sw_output.specs.Lines.{line}
 use Rattle.sw_output.specs.VerdictTexts.{misrouted_words}
 use Rattle.sw_search.specs.Laws.{SaysTheSame, VerdictsAreDetermined}
-use Rattle.sw_search.specs.Verdicts.{IsVerdict}
 use Rattle.sw_search.specs.declared.verdict.Verdict.{Verdict}
 use Rattle.sw_search.specs.declared.verdict.Verdict.TheVariants.{Misrouted, Cyclic, Free}
 use Rattle.sw_toml_table.specs.declared.fault.TextFault.{TextFault}
