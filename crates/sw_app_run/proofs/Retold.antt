@@ -1,9 +1,7 @@
 -- A replay of the steps of a run's history ends in the state after it.
-use Rattle.std.proofs.Common.{◌≡◌, ℕ, ◌<◌, Bool, true, false, IsTrue, ◌↔◌, List, [], length, get_or, Some, refl, sym, ap, subst, ◌∙◌, inl, inr, arith}
-use Rattle.std.specs.Prelude.{slice_get, slice_index_or}
+use Rattle.std.proofs.Common.{◌≡◌, ℕ, ◌<◌, Bool, true, false, IsTrue, ◌↔◌, List, [], length, refl, sym, ap, subst, ◌∙◌, arith}
 use Rattle.std.proofs.lemmas.Option.{get_or_from_slice_get}
 use Rattle.sw_config.specs.Entries.{Declaration}
-use Rattle.sw_load.specs.Load.{LoadEntry}
 use Rattle.sw_machine.specs.Network.{Network}
 use Rattle.sw_machine.specs.Packets.{Packet}
 use Rattle.sw_machine.specs.Runs.{CameOut, IsLockedUp, undelivered}
@@ -12,14 +10,13 @@ use Rattle.sw_model.specs.Model.{network_of}
 use Rattle.sw_model.proofs.Flows.{some_at}
 use Rattle.sw_replay.specs.declared.replayed.ReplayEnd.TheVariants.{Made}
 use Rattle.sw_replay.specs.Replays.{Ends, IsReplayed}
-use Rattle.sw_replay.specs.Reports.{AreOutputs, IsTrueOf, Report}
+use Rattle.sw_replay.specs.Reports.{AreOutputs, Report}
 use Rattle.sw_replay.proofs.OneReport.{replays_are_determined}
 use Rattle.sw_replay.proofs.Stops.{one_end}
-use Rattle.sw_run.specs.Outcomes.{AreOut, IsOutcome, came_out_of, steps_of}
-use Rattle.sw_run.specs.declared.outcome.Outcome.{Outcome}
+use Rattle.sw_run.specs.Outcomes.{AreOut, came_out_of, steps_of}
 use Rattle.sw_file.specs.Laws.{ReadNamesAreNames, ReadNetworksAreValid}
 use Rattle.sw_schedule_text.specs.Laws.{HasNames, ListedAreShort, SchedulesAreRead}
-use Rattle.sw_app_run.specs.Laws.{ReplaysAreAsTold, SchedulesAreRetold, TellsAs}
+use Rattle.sw_app_run.specs.Laws.{ReplaysAreAsTold, SchedulesAreRetold}
 
 -- a list for each node, by its number
 are_outputs : (d : Declaration) (s : State) (lists : List (List Packet)) → AreOut (length d.nodes) s lists → AreOutputs (network_of d) s lists
