@@ -91,7 +91,11 @@ pub fn head_line(
 }
 
 /// An indented line of what is told, none where there is nothing to tell.
-pub(crate) fn told(alloc: Global, name: &str, words: &[u8]) -> Result<String, AllocError>
+///
+/// # Errors
+///
+/// There is no memory for the text.
+pub fn told(alloc: Global, name: &str, words: &[u8]) -> Result<String, AllocError>
     ensures { IfOk result (λ s. string_bytes s ≡ told name.now words.now) }
 {
     match words {
@@ -103,8 +107,12 @@ pub(crate) fn told(alloc: Global, name: &str, words: &[u8]) -> Result<String, Al
     }
 }
 
-// What stands at the place.
-fn found_line(alloc: Global, text: &[u8], place: Option<usize>) -> Result<String, AllocError>
+/// What stands at the place: the rest of its line, at most 72 bytes.
+///
+/// # Errors
+///
+/// There is no memory for the text.
+pub fn found_line(alloc: Global, text: &[u8], place: Option<usize>) -> Result<String, AllocError>
     requires { IfSome place (λ at. at ≤ length text.now) }
     ensures { IfOk result (λ s. string_bytes s ≡ found_line text.now place) }
 {
@@ -119,7 +127,7 @@ fn found_line(alloc: Global, text: &[u8], place: Option<usize>) -> Result<String
 /// # Errors
 ///
 /// There is no memory for the text.
-pub(crate) fn hint_lines(
+pub fn hint_lines(
     alloc: Global,
     path: &str,
     text: &[u8],

@@ -90,7 +90,7 @@ fn syntax_place(alloc: Global, text: &[u8]) -> Result<Option<usize>, AllocError>
 /// # Errors
 ///
 /// There is no memory for the search.
-pub(crate) fn fault_place(
+pub fn fault_place(
     alloc: Global,
     text: &[u8],
     fault: &TextFault,

@@ -23,7 +23,7 @@ fn shown_byte(alloc: Global, byte: u8) -> Result<String, AllocError>
 /// # Errors
 ///
 /// There is no memory for the text.
-pub(crate) fn shown(alloc: Global, bytes: &[u8]) -> Result<String, AllocError>
+pub fn shown(alloc: Global, bytes: &[u8]) -> Result<String, AllocError>
     ensures { IfOk result (λ s. string_bytes s ≡ shown bytes.now) }
 {
     let mut text = String::new(alloc);
