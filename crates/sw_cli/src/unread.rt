@@ -23,15 +23,12 @@ fn reason_of(kind: ErrorKind) -> &'static str
         ErrorKind::StaleNetworkFileHandle => "the file is gone from its server",
         ErrorKind::TimedOut => "timed out",
         ErrorKind::Interrupted => "interrupted",
-        ErrorKind::ResourceBusy
-        | ErrorKind::ExecutableFileBusy => "in use",
+        ErrorKind::ResourceBusy | ErrorKind::ExecutableFileBusy => "in use",
         ErrorKind::WouldBlock => "nothing to read yet",
         ErrorKind::OutOfMemory => "out of memory",
-        ErrorKind::Unsupported
-        | ErrorKind::NotSeekable => "can't be read like a file",
+        ErrorKind::Unsupported | ErrorKind::NotSeekable => "can't be read like a file",
         ErrorKind::FileTooLarge => "too large",
-        ErrorKind::StorageFull
-        | ErrorKind::QuotaExceeded => "no room left",
+        ErrorKind::StorageFull | ErrorKind::QuotaExceeded => "no room left",
         ErrorKind::ReadOnlyFilesystem => "can't be written",
         ErrorKind::BrokenPipe => "nothing reads it",
         ErrorKind::WriteZero => "nothing was written",

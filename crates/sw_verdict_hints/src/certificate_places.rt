@@ -76,7 +76,11 @@ fn outside_at(network: &Network, certificate: &Certificate, number: u16) -> Opti
     ensures { result ≡ outside_at network.now certificate.now.places number }
 {
     if number < network.flows() {
-        outside(network, network.flow(number), listed_for(certificate, number))
+        outside(
+            network,
+            network.flow(number),
+            listed_for(certificate, number),
+        )
     } else {
         None
     }
@@ -293,5 +297,9 @@ pub(crate) fn faulty_lines(
     let place_text = place_words(alloc, place, name)?;
     let words = found_words(alloc, network, place, fault)?;
     let found = format!(in alloc; "{place_text}, {words}")?;
-    two_lines(alloc, found.as_str(), "places of the flow alone, and none with a fault")
+    two_lines(
+        alloc,
+        found.as_str(),
+        "places of the flow alone, and none with a fault",
+    )
 }

@@ -59,9 +59,7 @@ fn hint_by(
             place,
             fault,
             way,
-        } => Ok(Some(misrouted_hint(
-            alloc, path, network, *flow, place, *fault, way,
-        )?)),
+        } => Ok(Some(misrouted_hint(alloc, path, network, *flow, place, *fault, way)?)),
         Explanation::Cyclic(_) => Ok(Some(cyclic_hint(alloc, path)?)),
         Explanation::Free => Ok(None),
     }
