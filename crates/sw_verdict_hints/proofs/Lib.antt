@@ -1,2 +1,3 @@
 pub mod Firsts
+mod Ways
 mod WayLines
