@@ -1,3 +1,3 @@
 pub mod Firsts
-mod Ways
+mod PlacesWithin
 mod WayLines
