@@ -1,5 +1,5 @@
 -- What is told of a verdict that is not free (this project's choice).
-use Rattle.std.specs.Prelude.{◌≡◌, ℕ, List, [], ◌++◌, Option, Some, None, Result, Ok, Err, String, codes, option_map, string_bytes}
+use Rattle.std.specs.Prelude.{◌≡◌, ℕ, List, [], Option, Some, None, Result, Ok, Err, String, codes, option_map, string_bytes}
 use Rattle.std.specs.declared.alloc.Global.{Global}
 use Rattle.sw_config.specs.Entries.{Declaration}
 use Rattle.sw_explain.specs.declared.explanation.Explanation.{Explanation}
@@ -11,15 +11,14 @@ use Rattle.sw_toml_table.specs.declared.fault.TextFault.{TextFault}
 use Rattle.sw_verdict_hints.specs.RouteHints.{misrouted_hint}
 
 -- where to look at channels that can wait for one another in a circle
-abbrev pub cyclic_hint : List ℕ → List ℕ
-cyclic_hint path =
-    head_line (codes "help") [] None
-    (codes "swcheck explain " ++ (path ++ (codes " shows the shortest cycle, swcheck witness " ++ (path ++ codes " a schedule that locks up"))))
+abbrev pub cyclic_hint : List ℕ
+cyclic_hint =
+    head_line (codes "help") [] None (codes "swcheck explain shows the shortest cycle, mend what to change, witness a schedule that locks up")
 
 -- of what is told of a network: nothing where it is free
 abbrev pub hint_by : List ℕ → Declaration → Explanation → Option (List ℕ)
 hint_by path d (Misrouted i p fault way) = Some (misrouted_hint path d i p fault way.items)
-hint_by path d (Cyclic tangles) = Some (cyclic_hint path)
+hint_by path d (Cyclic tangles) = Some cyclic_hint
 hint_by path d Free = None
 
 abbrev pub IsHintFor : List ℕ → Declaration → Option (List ℕ) → Type 0

@@ -15,13 +15,12 @@ use sw_hints::head_line;
 use sw_toml_table::FileFault;
 
 // Where to look at channels that can wait for one another in a circle.
-fn cyclic_hint(alloc: Global, path: &str) -> Result<String, AllocError>
-    ensures { IfOk result (λ s. string_bytes s ≡ cyclic_hint path.now) }
+fn cyclic_hint(alloc: Global) -> Result<String, AllocError>
+    ensures { IfOk result (λ s. string_bytes s ≡ cyclic_hint) }
 {
-    let words = format!(in alloc;
-        "swcheck explain {path} shows the shortest cycle, swcheck witness {path} a schedule that locks up"
-    )?;
-    head_line(alloc, "help", &[], None, words.as_str())
+    let words =
+        "swcheck explain shows the shortest cycle, mend what to change, witness a schedule that locks up";
+    head_line(alloc, "help", &[], None, words)
 }
 
 // Of the flow that is the first one not well routed.
@@ -60,7 +59,7 @@ fn hint_by(
             fault,
             way,
         } => Ok(Some(misrouted_hint(alloc, path, network, *flow, place, *fault, way)?)),
-        Explanation::Cyclic(_) => Ok(Some(cyclic_hint(alloc, path)?)),
+        Explanation::Cyclic(_) => Ok(Some(cyclic_hint(alloc)?)),
         Explanation::Free => Ok(None),
     }
 }
