@@ -53,7 +53,7 @@ fn add_names<'a>(tables: &[&'a Table], names: &mut Vec<&'a str>) -> Result<(), A
 /// # Errors
 ///
 /// There is no memory for the list.
-pub(crate) fn names_of<'a>(
+pub fn names_of<'a>(
     alloc: Global,
     document: &'a Table,
     list: Key,

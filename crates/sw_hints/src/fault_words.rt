@@ -51,7 +51,7 @@ fn fault_words(fault: &TextFault) -> &'static str
 /// # Errors
 ///
 /// There is no memory for the text.
-pub(crate) fn what_text(alloc: Global, fault: &TextFault) -> Result<String, AllocError>
+pub fn what_text(alloc: Global, fault: &TextFault) -> Result<String, AllocError>
     ensures { IfOk result (λ s. string_bytes s ≡ what_text fault.now) }
 {
     let text = fault_text(alloc, fault)?;
@@ -110,7 +110,7 @@ fn topology_expected(fault: TopoFault) -> &'static str
 /// # Errors
 ///
 /// There is no memory for the text.
-pub(crate) fn expected_text(alloc: Global, fault: &TextFault) -> Result<String, AllocError>
+pub fn expected_text(alloc: Global, fault: &TextFault) -> Result<String, AllocError>
     ensures { IfOk result (λ s. string_bytes s ≡ expected_text fault.now) }
 {
     match fault {

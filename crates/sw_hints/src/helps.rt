@@ -16,7 +16,8 @@ use sw_toml_table::{Key, KeyFault, Section, TextFault};
 use sw_topo::TopoFault;
 use toml::Table;
 
-fn is_one_of(keys: &[Key], name: &str) -> bool
+/// Whether one of the keys is written so.
+pub fn is_one_of(keys: &[Key], name: &str) -> bool
     ensures { result ≡ is_known keys.now name.now }
 {
     keys.iter().any(|key| key.text() == name)
@@ -33,8 +34,12 @@ fn key_texts(alloc: Global, keys: &[Key]) -> Result<Vec<&'static str>, AllocErro
     Ok(texts)
 }
 
-// The word that was meant, maybe.
-fn meant_help(alloc: Global, meant: Option<&str>) -> Result<String, AllocError>
+/// The word that was meant, maybe.
+///
+/// # Errors
+///
+/// There is no memory for the text.
+pub fn meant_help(alloc: Global, meant: Option<&str>) -> Result<String, AllocError>
     ensures { IfOk result (λ s. string_bytes s ≡ meant_help (option_map (λ t. t.now) meant.entry)) }
 {
     match meant {

@@ -5,7 +5,7 @@ ghost use Rattle.sw_hints.specs.Hints.{AreNotes, IsHelp, IsHint, IsNetworkHint, 
 
 use crate::fault_words::{expected_text, what_text};
 use crate::helps::help_text;
-use crate::hint_lines::hint_lines;
+use crate::lines::hint_lines;
 use crate::note_lines::note_lines;
 use crate::places::fault_place;
 use std::alloc::{AllocError, Global};

@@ -2,18 +2,21 @@
 #![tactic(auto)]
 
 mod entries;
+mod escaped;
 mod fault_words;
 mod helps;
 mod hint;
-mod hint_lines;
 mod key_words;
+mod lines;
 mod nearest;
 mod note_lines;
 mod places;
-mod shown;
 
+pub use entries::names_of;
+pub use escaped::shown;
+pub use fault_words::{expected_text, what_text};
+pub use helps::{help_text, is_one_of, meant_help};
 pub use hint::{hint_of, network_hint};
-pub use hint_lines::{found_line, head_line, hint_lines, told};
+pub use lines::{found_line, head_line, hint_lines, told};
 pub use nearest::like;
 pub use places::fault_place;
-pub use shown::shown;

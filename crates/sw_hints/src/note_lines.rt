@@ -3,7 +3,7 @@ ghost use Rattle.std.specs.Prelude.{◌≡◌, ◌≤◌, ◌++◌, IfOk, IfSome
 ghost use Rattle.sw_hints.specs.HintLines.{told};
 ghost use Rattle.sw_hints.specs.NoteLines.{AddsLine, AreNoteLines, IsNoteLine, IsNotePlace, entry_of, entry_text, note_words, subject};
 
-use crate::hint_lines::told;
+use crate::lines::told;
 use std::alloc::{AllocError, Global};
 use sw_notes::Note;
 use sw_position::{Sought, place_of, position_at};

@@ -3,7 +3,7 @@ ghost use Rattle.std.specs.Prelude.{◌≡◌, ◌≤◌, ◌==◌, IfOk, IfSome
 ghost use Rattle.std.specs.List.{prefix_len};
 ghost use Rattle.sw_hints.specs.HintLines.{first_line, found_line, found_part, head_line, hint_lines, place_text, told};
 
-use crate::shown::shown;
+use crate::escaped::shown;
 use std::alloc::{AllocError, Global};
 use sw_position::position_at;
 
