@@ -1,3 +1,3 @@
 pub mod Firsts
-mod Ways
+mod LastPlace
 mod WayLines
