@@ -1,3 +1,3 @@
 pub mod Firsts
-mod PlacesWithin
+mod LastPlace
 mod WayLines

@@ -32,7 +32,7 @@ place_words p flow = codes "place " ++ (decimal p.channel ++ (codes " " ++ (deci
 -- a channel, with its ends if the network has it
 abbrev pub channel_words : Declaration → ℕ → List ℕ
 channel_words d c =
-    codes "channel " ++ (decimal c ++ (if nat_lt c (length (ends_of d)) then codes " " ++ channel_text d c else []))
+    if nat_lt c (length (ends_of d)) then codes "channel " ++ (decimal c ++ (codes " " ++ channel_text d c)) else codes "channel " ++ decimal c
 
 -- a channel and its number in the certificate
 abbrev pub number_words : Declaration → List ℕ → ℕ → List ℕ
@@ -59,10 +59,15 @@ outside d f listed = find (λ p. not (is_in_range d f p)) listed
 abbrev pub outside_at : Declaration → List (List Place) → ℕ → Option Place
 outside_at d lists i = option_map_or (λ f. outside d f (listed_for lists i)) (slice_get (all_flows d) i) None
 
--- how far the channels and the deleted bytes of the flow's places can go
+abbrev pub is_outside_at : Declaration → List (List Place) → ℕ → Bool
+is_outside_at d lists i = is_some (outside_at d lists i)
+
+-- how far the channels and the deleted bytes of a flow's places can go
+abbrev pub limits_words : ℕ → ℕ → List ℕ
+limits_words channels bytes = codes "a channel below " ++ (decimal channels ++ (codes ", and at most " ++ (decimal bytes ++ codes " deleted bytes")))
+
 abbrev pub range_words : Declaration → FlowEntry → List ℕ
-range_words d f =
-    codes "a channel below " ++ (decimal (length (ends_of d)) ++ (codes ", and at most " ++ (decimal (length f.address) ++ codes " deleted bytes")))
+range_words d f = limits_words (length (ends_of d)) (length f.address)
 
 -- of flow i, with a place that the network can't have
 abbrev pub outside_lines : Declaration → ℕ → Place → List ℕ
@@ -75,7 +80,7 @@ outside_lines_at d lists i = option_map_or (outside_lines d i) (outside_at d lis
 -- of the first flow with such a place
 abbrev pub range_lines : Declaration → List (List Place) → List ℕ
 range_lines d lists =
-    option_map_or (outside_lines_at d lists) (first_below (λ i. is_some (outside_at d lists i)) (length (all_flows d))) []
+    option_map_or (outside_lines_at d lists) (first_below (is_outside_at d lists) (length (all_flows d))) []
 
 -- as many channels and flows as the network has
 abbrev pub is_of_size : Declaration → Contents → Bool
@@ -97,8 +102,11 @@ no_start_lines d i = option_map_or (λ f. told (codes "expected") (place_words (
 abbrev pub missing : Declaration → FlowEntry → List Place → Place → Option Place
 missing d f listed p = find (λ q. not (is_listed listed q)) (followers_of d f p.channel p.deleted)
 
+abbrev pub followed_words : Place → List ℕ → List ℕ
+followed_words q flow = place_words q flow ++ codes ", which follows it"
+
 abbrev pub missing_lines : List ℕ → Place → Place → List ℕ
-missing_lines flow p q = two_lines (place_words p flow) (place_words q flow ++ codes ", which follows it")
+missing_lines flow p q = two_lines (place_words p flow) (followed_words q flow)
 
 abbrev pub not_closed_lines : Declaration → List (List Place) → ℕ → Place → List ℕ
 not_closed_lines d lists i p =

@@ -1,12 +1,12 @@
 //! What of the places that a certificate lists is wrong, in words.
-ghost use Rattle.std.specs.Prelude.{◌≡◌, ◌<◌, ◌≤◌, IfOk, find, is_some, length, not, string_bytes};
+ghost use Rattle.std.specs.Prelude.{◌≡◌, ◌<◌, ◌≤◌, IfOk, find, length, not, string_bytes};
 ghost use Rattle.std.specs.Option.{option_map_or};
 ghost use Rattle.std.specs.List.{list_any};
 ghost use Rattle.sw_config.specs.Entries.{all_flows};
 ghost use Rattle.sw_check.specs.Refusals.{is_in_range, is_listed, start_of};
 ghost use Rattle.sw_flow.specs.Places.{ends_of};
 ghost use Rattle.sw_topo.specs.Checked.{first_below};
-ghost use Rattle.sw_verdict_hints.specs.CertificateHints.{count_words, faulty_lines, is_of_size, listed_for, missing, missing_lines, no_start_lines, not_closed_lines, outside, outside_at, outside_lines, outside_lines_at, place_words, range_lines, range_words, two_lines, wrong_count_lines};
+ghost use Rattle.sw_verdict_hints.specs.CertificateHints.{count_words, faulty_lines, followed_words, is_of_size, is_outside_at, limits_words, listed_for, missing, missing_lines, no_start_lines, not_closed_lines, outside, outside_at, outside_lines, outside_lines_at, place_words, range_lines, range_words, two_lines, wrong_count_lines};
 
 use crate::route_hints::found_words;
 use std::alloc::{AllocError, Global};
@@ -86,12 +86,16 @@ fn outside_at(network: &Network, certificate: &Certificate, number: u16) -> Opti
     }
 }
 
+fn limits_words(alloc: Global, channels: usize, bytes: usize) -> Result<String, AllocError>
+    ensures { IfOk result (λ s. string_bytes s ≡ limits_words channels bytes) }
+{
+    format!(in alloc; "a channel below {channels}, and at most {bytes} deleted bytes")
+}
+
 fn range_words(alloc: Global, network: &Network, flow: &Flow) -> Result<String, AllocError>
     ensures { IfOk result (λ s. string_bytes s ≡ range_words network.now flow.now) }
 {
-    let channels = network.channels();
-    let bytes = flow.address().len();
-    format!(in alloc; "a channel below {channels}, and at most {bytes} deleted bytes")
+    limits_words(alloc, network.channels() as usize, flow.address().len())
 }
 
 // Of the flow of that number, with a place that the network can't have.
@@ -113,13 +117,19 @@ fn outside_lines(
     }
 }
 
+fn is_outside_at(network: &Network, certificate: &Certificate, number: u16) -> bool
+    ensures { result ≡ is_outside_at network.now certificate.now.places number }
+{
+    outside_at(network, certificate, number).is_some()
+}
+
 // The first flow with such a place.
 #[tactic(auto, using(crate::proofs::Firsts::first_found))]
 fn first_outside(network: &Network, certificate: &Certificate) -> Option<u16>
-    ensures { result ≡ first_below (λ i. is_some (outside_at network.now certificate.now.places i)) (length (all_flows network.now)) }
+    ensures { result ≡ first_below (is_outside_at network.now certificate.now.places) (length (all_flows network.now)) }
 {
     for number in 0..network.flows() {
-        if outside_at(network, certificate, number).is_some() {
+        if is_outside_at(network, certificate, number) {
             return Some(number);
         }
     }
@@ -241,6 +251,13 @@ fn missing(network: &Network, flow: &Flow, listed: &[Place], place: &Place) -> O
     first_unlisted(listed, followers_in(network, flow, *place))
 }
 
+fn followed_words(alloc: Global, next: &Place, flow: &str) -> Result<String, AllocError>
+    ensures { IfOk result (λ s. string_bytes s ≡ followed_words next.now flow.now) }
+{
+    let place = place_words(alloc, next, flow)?;
+    format!(in alloc; "{place}, which follows it")
+}
+
 fn missing_lines(
     alloc: Global,
     flow: &str,
@@ -250,8 +267,7 @@ fn missing_lines(
     ensures { IfOk result (λ s. string_bytes s ≡ missing_lines flow.now place.now next.now) }
 {
     let found = place_words(alloc, place, flow)?;
-    let next = place_words(alloc, next, flow)?;
-    let expected = format!(in alloc; "{next}, which follows it")?;
+    let expected = followed_words(alloc, next, flow)?;
     two_lines(alloc, found.as_str(), expected.as_str())
 }
 

@@ -1,5 +1,5 @@
 use Rattle.sw_app_explain.proofs.OnChannels.{way_within}
-use Rattle.sw_verdict_hints.proofs.PlacesWithin.{place_within}
+use Rattle.sw_verdict_hints.proofs.LastPlace.{place_within}
 use Rattle.sw_verdict_hints.proofs.verdict_hints.misrouted_hint.Goals as goal
 
 pub flow_hint-requires-clause-within : goal.flow_hint-requires-clause-within
