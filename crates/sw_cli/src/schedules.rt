@@ -1,6 +1,8 @@
 //! A run whose steps are written as a schedule.
 ghost use Rattle.std.specs.Prelude.{◌≡◌, ◌<◌};
 
+use crate::told::no_output;
+use std::os::unix::fs::MetadataExt;
 use std::rt::Files;
 use std::sync::Wait;
 use std::thread::Threads;
@@ -23,7 +25,22 @@ fn ended_of(rt: &impl Eprint, end: RecordEnd) -> Ended
     }
 }
 
-/// Runs the load, and writes the run's steps as a schedule to a file, which is made, or emptied, before the run.
+// The device and the number of a file, if there is one.
+fn identity_of<R: Files>(rt: &R, path: &str) -> Option<(u64, u64)> {
+    let known = fs::metadata(rt, path).ok()?;
+    Some((known.dev(), known.ino()))
+}
+
+// Whether both paths lead to one file.
+fn are_same<R: Files>(rt: &R, path: &str, other: &str) -> bool {
+    match (identity_of(rt, path), identity_of(rt, other)) {
+        (Some(identity), Some(other)) => identity == other,
+        _ => false,
+    }
+}
+
+/// Runs the load, and writes the run's steps as a schedule to a file, which is made, or emptied, before the run. It may be none of the
+/// files that are read.
 pub(crate) fn run_scheduled<R: Files + Print + Eprint + AllocGlobal + Threads + Wait + Sync>(
     rt: &R,
     file: &str,
@@ -33,6 +50,9 @@ pub(crate) fn run_scheduled<R: Files + Print + Eprint + AllocGlobal + Threads + 
 ) -> Ended
     requires { 0 < options.workers }
 {
+    if are_same(rt, schedule, file) || are_same(rt, schedule, load) {
+        return no_output(rt);
+    }
     let Ok(mut network) = fs::open(rt, file) else {
         return Ended::ReadFailed;
     };

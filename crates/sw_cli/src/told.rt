@@ -59,6 +59,14 @@ pub(crate) fn no_hints(rt: &impl Eprint) -> Ended
     Ended::Status(REFUSED)
 }
 
+/// Tells that the schedule would be written over a file that is read.
+pub(crate) fn no_output(rt: &impl Eprint) -> Ended
+    ensures { result ≡ Ended.Status 2 }
+{
+    let _ = eprint!(rt; "error: --schedule names a file that is read\n");
+    Ended::Status(REFUSED)
+}
+
 /// Tells that a word is no text.
 pub(crate) fn not_text(rt: &impl Eprint) -> u8
     ensures { result ≡ 2 }
