@@ -142,11 +142,10 @@ fn rising_found(
     format!(in alloc; "{first}, and {second}, {cause}")
 }
 
-fn above_words(alloc: Global, least: u16, channel: Chan) -> Result<String, AllocError>
+fn above_words(alloc: Global, least: u16, channel: u16) -> Result<String, AllocError>
     ensures { IfOk result (λ s. string_bytes s ≡ above_words least channel) }
 {
-    let number = channel.number();
-    format!(in alloc; "a number above {least} at channel {number}")
+    format!(in alloc; "a number above {least} at channel {channel}")
 }
 
 /// Of two channels, the second of which waits for the first and has no greater number.
@@ -165,6 +164,6 @@ pub(crate) fn not_rising_lines(
 {
     let found = rising_found(alloc, network, certificate, channel, next)?;
     let least = number_of(certificate.numbers(), channel);
-    let expected = above_words(alloc, least, next)?;
+    let expected = above_words(alloc, least, next.number())?;
     two_lines(alloc, found.as_str(), expected.as_str())
 }
