@@ -86,11 +86,18 @@ range_lines d lists =
 abbrev pub is_of_size : Declaration → Contents → Bool
 is_of_size d c = (length c.numbers == length (ends_of d)) && (length c.places == length (all_flows d))
 
+abbrev pub counts_of_contents : Contents → List ℕ
+counts_of_contents c = count_words (length c.numbers) (length c.places)
+
+abbrev pub counts_of_network : Declaration → List ℕ
+counts_of_network d = count_words (length (ends_of d)) (length (all_flows d))
+
+abbrev pub counts_lines : Declaration → Contents → List ℕ
+counts_lines d c = two_lines (counts_of_contents c) (counts_of_network d)
+
 -- counts that are not the network's, or else a place that it can't have
 abbrev pub wrong_count_lines : Declaration → Contents → List ℕ
-wrong_count_lines d c =
-    if is_of_size d c then range_lines d c.places
-    else two_lines (count_words (length c.numbers) (length c.places)) (count_words (length (ends_of d)) (length (all_flows d)))
+wrong_count_lines d c = if is_of_size d c then range_lines d c.places else counts_lines d c
 
 -- ---- places
 
@@ -135,11 +142,16 @@ abbrev pub cause_words : Declaration → Option ℕ → List ℕ
 cause_words d (Some i) = codes "to which flow " ++ (flow_name d i ++ codes " goes on")
 cause_words d None = codes "on which its target answers"
 
+-- both numbers, and what makes the one channel wait for the other
+abbrev pub rising_found : Declaration → Contents → ℕ → ℕ → List ℕ
+rising_found d k c e =
+    number_words d k.numbers c ++ (codes ", and " ++ (number_words d k.numbers e ++ (codes ", " ++ cause_words d (goer d k.places c e))))
+
+abbrev pub above_words : ℕ → ℕ → List ℕ
+above_words least e = codes "a number above " ++ (decimal least ++ (codes " at channel " ++ decimal e))
+
 abbrev pub not_rising_lines : Declaration → Contents → ℕ → ℕ → List ℕ
-not_rising_lines d k c e =
-    two_lines
-    (number_words d k.numbers c ++ (codes ", and " ++ (number_words d k.numbers e ++ (codes ", " ++ cause_words d (goer d k.places c e)))))
-    (codes "a number above " ++ (decimal (slice_index k.numbers c) ++ (codes " at channel " ++ decimal e)))
+not_rising_lines d k c e = two_lines (rising_found d k c e) (above_words (slice_index k.numbers c) e)
 
 -- ---- all together
 

@@ -2,7 +2,7 @@
 ghost use Rattle.std.specs.Prelude.{◌≡◌, ◌≤◌, ◌==◌, ◌&&◌, IfOk, length, slice_index, string_bytes};
 ghost use Rattle.std.specs.List.{list_any};
 ghost use Rattle.sw_flow.specs.Followers.{followers_of};
-ghost use Rattle.sw_verdict_hints.specs.CertificateHints.{cause_words, channel_words, goer, goes_on, goes_on_at, not_rising_lines, number_words};
+ghost use Rattle.sw_verdict_hints.specs.CertificateHints.{above_words, cause_words, channel_words, goer, goes_on, goes_on_at, not_rising_lines, number_words, rising_found};
 
 use crate::certificate_places::{listed_for, two_lines};
 use std::alloc::{AllocError, Global};
@@ -125,6 +125,29 @@ fn cause_words(alloc: Global, network: &Network, flow: Option<u16>) -> Result<St
     }
 }
 
+// Both numbers, and what makes the one channel wait for the other.
+fn rising_found(
+    alloc: Global,
+    network: &Network,
+    certificate: &Certificate,
+    channel: Chan,
+    next: Chan,
+) -> Result<String, AllocError>
+    ensures { IfOk result (λ s. string_bytes s ≡ rising_found network.now certificate.now channel next) }
+{
+    let numbers = certificate.numbers();
+    let first = number_words(alloc, network, numbers, channel)?;
+    let second = number_words(alloc, network, numbers, next)?;
+    let cause = cause_words(alloc, network, goer(network, certificate, channel, next))?;
+    format!(in alloc; "{first}, and {second}, {cause}")
+}
+
+fn above_words(alloc: Global, least: u16, channel: u16) -> Result<String, AllocError>
+    ensures { IfOk result (λ s. string_bytes s ≡ above_words least channel) }
+{
+    format!(in alloc; "a number above {least} at channel {channel}")
+}
+
 /// Of two channels, the second of which waits for the first and has no greater number.
 ///
 /// # Errors
@@ -139,13 +162,8 @@ pub(crate) fn not_rising_lines(
 ) -> Result<String, AllocError>
     ensures { IfOk result (λ s. string_bytes s ≡ not_rising_lines network.now certificate.now channel next) }
 {
-    let numbers = certificate.numbers();
-    let first = number_words(alloc, network, numbers, channel)?;
-    let second = number_words(alloc, network, numbers, next)?;
-    let cause = cause_words(alloc, network, goer(network, certificate, channel, next))?;
-    let found = format!(in alloc; "{first}, and {second}, {cause}")?;
-    let least = number_of(numbers, channel);
-    let at = next.number();
-    let expected = format!(in alloc; "a number above {least} at channel {at}")?;
+    let found = rising_found(alloc, network, certificate, channel, next)?;
+    let least = number_of(certificate.numbers(), channel);
+    let expected = above_words(alloc, least, next.number())?;
     two_lines(alloc, found.as_str(), expected.as_str())
 }

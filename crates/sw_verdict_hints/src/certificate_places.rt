@@ -6,7 +6,7 @@ ghost use Rattle.sw_config.specs.Entries.{all_flows};
 ghost use Rattle.sw_check.specs.Refusals.{is_in_range, is_listed, start_of};
 ghost use Rattle.sw_flow.specs.Places.{ends_of};
 ghost use Rattle.sw_topo.specs.Checked.{first_below};
-ghost use Rattle.sw_verdict_hints.specs.CertificateHints.{count_words, faulty_lines, followed_words, is_of_size, is_outside_at, limits_words, listed_for, missing, missing_lines, no_start_lines, not_closed_lines, outside, outside_at, outside_lines, outside_lines_at, place_words, range_lines, range_words, two_lines, wrong_count_lines};
+ghost use Rattle.sw_verdict_hints.specs.CertificateHints.{count_words, counts_lines, counts_of_contents, counts_of_network, faulty_lines, followed_words, is_of_size, is_outside_at, limits_words, listed_for, missing, missing_lines, no_start_lines, not_closed_lines, outside, outside_at, outside_lines, outside_lines_at, place_words, range_lines, range_words, two_lines, wrong_count_lines};
 
 use crate::route_hints::found_words;
 use std::alloc::{AllocError, Global};
@@ -170,6 +170,30 @@ fn is_of_size(network: &Network, certificate: &Certificate) -> bool
         && certificate.flows() == network.flows() as usize
 }
 
+fn counts_of_contents(alloc: Global, certificate: &Certificate) -> Result<String, AllocError>
+    ensures { IfOk result (λ s. string_bytes s ≡ counts_of_contents certificate.now) }
+{
+    count_words(alloc, certificate.numbers().len(), certificate.flows())
+}
+
+fn counts_of_network(alloc: Global, network: &Network) -> Result<String, AllocError>
+    ensures { IfOk result (λ s. string_bytes s ≡ counts_of_network network.now) }
+{
+    count_words(alloc, network.channels() as usize, network.flows() as usize)
+}
+
+fn counts_lines(
+    alloc: Global,
+    network: &Network,
+    certificate: &Certificate,
+) -> Result<String, AllocError>
+    ensures { IfOk result (λ s. string_bytes s ≡ counts_lines network.now certificate.now) }
+{
+    let found = counts_of_contents(alloc, certificate)?;
+    let expected = counts_of_network(alloc, network)?;
+    two_lines(alloc, found.as_str(), expected.as_str())
+}
+
 /// Of counts that are not the network's, or else of a place that it can't have.
 ///
 /// # Errors
@@ -183,11 +207,10 @@ pub(crate) fn wrong_count_lines(
     ensures { IfOk result (λ s. string_bytes s ≡ wrong_count_lines network.now certificate.now) }
 {
     if is_of_size(network, certificate) {
-        return range_lines(alloc, network, certificate);
+        range_lines(alloc, network, certificate)
+    } else {
+        counts_lines(alloc, network, certificate)
     }
-    let found = count_words(alloc, certificate.numbers().len(), certificate.flows())?;
-    let expected = count_words(alloc, network.channels() as usize, network.flows() as usize)?;
-    two_lines(alloc, found.as_str(), expected.as_str())
 }
 
 // ---- places
