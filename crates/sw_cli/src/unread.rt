@@ -62,8 +62,16 @@ fn unread_text(alloc: Global, path: &str, kind: ErrorKind) -> Result<String, All
     head_line(alloc, path, &[], None, reason_of(kind))
 }
 
-// Why a file can't be read, if it can't: it is opened once more, and a byte of it is read. A pipe is not asked: it would lose the byte.
+// Why a file or a folder can't be read, if it can't: it is opened once more, and a byte of it is read. A pipe is not asked: it would lose
+// the byte, or have none yet.
 fn kind_of<R: Files>(rt: &R, path: &str) -> Option<ErrorKind> {
+    let known = match fs::metadata(rt, path) {
+        Ok(known) => known,
+        Err(error) => return Some(error.kind()),
+    };
+    if !known.is_file() && !known.is_dir() {
+        return None;
+    }
     let mut reader = match fs::open(rt, path) {
         Ok(reader) => reader,
         Err(error) => return Some(error.kind()),
