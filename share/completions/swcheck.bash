@@ -18,13 +18,14 @@ _swcheck() {
                 check) command=$it options='--hints -h --help' valued='--hints' kinds=('file .toml' 'file .cert') ;;
                 report) command=$it options='--hints -h --help' valued='--hints' kinds=('file .toml') ;;
                 replay) command=$it options='--hints -h --help' valued='--hints' kinds=('file .toml' 'file .schedule') ;;
-                run) command=$it options='--workers --limit --hints -h --help' valued='--workers --limit --hints' kinds=('file .toml' 'file .load') ;;
+                run) command=$it options='--workers --limit --schedule --hints -h --help' valued='--workers --limit --schedule --hints' kinds=('file .toml' 'file .load') ;;
                 migrate) command=$it options='--hints -h --help' valued='--hints' kinds=('file .toml') ;;
                 explain) command=$it options='--all --hints -h --help' valued='--hints' kinds=('file .toml') ;;
                 draw) command=$it options='--flow --cycle --numbers --hints -h --help' valued='--flow --hints' kinds=('file .toml') ;;
                 rmap) command=$it options='--no-ack --transaction --hints -h --help' valued='--transaction --hints' kinds=('file .toml' 'none' 'texts read write' 'none' 'none') ;;
+                mend) command=$it options='--hints -h --help' valued='--hints' kinds=('file .toml') ;;
                 witness) command=$it options='--tries --seed --hints -h --help' valued='--tries --seed --hints' kinds=('file .toml') ;;
-                help) command=$it options='-h --help' valued='' kinds=('texts route decide check report replay run migrate explain draw rmap witness help') ;;
+                help) command=$it options='-h --help -V --version' valued='' kinds=('texts route decide check report replay run migrate explain draw rmap mend witness help') ;;
                 -*) ;;
                 *) return ;;
             esac
@@ -42,8 +43,8 @@ _swcheck() {
     done
     [ "$word" != = ] || word=''
     if [ -z "$command" ]; then
-        kind='texts route decide check report replay run migrate explain draw rmap witness help'
-        options='-h --help'
+        kind='texts route decide check report replay run migrate explain draw rmap mend witness help'
+        options='-h --help -V --version'
     elif [ -n "$last" ]; then
         kind=none
         options=''
@@ -53,11 +54,13 @@ _swcheck() {
             check--hints) kind='file' ;;
             report--hints) kind='file' ;;
             replay--hints) kind='file' ;;
+            run--schedule) kind='file .schedule' ;;
             run--hints) kind='file' ;;
             migrate--hints) kind='file' ;;
             explain--hints) kind='file' ;;
             draw--hints) kind='file' ;;
             rmap--hints) kind='file' ;;
+            mend--hints) kind='file' ;;
             witness--hints) kind='file' ;;
             *) ;;
         esac
