@@ -72,7 +72,12 @@ fn run_shown<R: Files + Print + Eprint + AllocGlobal + Clock + Threads + Wait + 
     requires { HasWorkers call }
 {
     if is_terminal {
-        with_progress(rt, || run_call(rt, call))
+        with_progress(
+            rt,
+            ||
+                requires { HasWorkers call }
+            { run_call(rt, call) },
+        )
     } else {
         run_call(rt, call)
     }
