@@ -100,17 +100,18 @@ def batches(edits, crate):
 
 
 def is_refused(name, lines):
-    """Whether the lines of a check say that the function is not proved, or one that it has within it, for what is wrong in itself. One that is not
-    proved since it calls such a function has no error of its own."""
+    """Whether the lines of a check say that the function is not proved, or one that it has within it, for what is wrong in itself: an error stands
+    before its line, or is one of its own answers. One that is not proved since it calls such a function has no error of its own."""
     module, _, last = name.rpartition("::")
     of_it = re.compile(rf"fn \w+::(?:\w+::)*(?:{re.escape(name)}|{module + '::' if module else ''}fn::{last}::[^:]+): (not proved|no proof: .* did not prove .*)")
+    own = re.compile(rf"\S*proofs/(?:\S+/)?{re.escape(name.replace('::', '/'))}/\w+\.antt:\d+:\d+: error:")
     has_error = False
     for line in lines:
         said = of_it.fullmatch(line)
         if said and (has_error or said[1] != "not proved"):
             return True
         has_error = not line.startswith("fn ") and (has_error or bool(LOCATED.match(line)))
-    return False
+    return any(own.match(it) for it in lines) and any(said and said[1] == "not proved" for said in map(of_it.fullmatch, lines))
 
 
 def only(names):
