@@ -1,12 +1,15 @@
 //! The call that the words ask for, on the files that they name.
-ghost use Rattle.std.specs.Prelude.{◌<◌, IfErr, IfNone, IfOk, IfSome, map};
+ghost use Rattle.std.specs.Prelude.{IfErr, IfNone, IfOk, IfSome, map};
 ghost use Rattle.sw_args.specs.CommandLine.{Gives, HasWorkers, Refuses};
-ghost use Rattle.sw_args.specs.declared.command_line.Asked.{Asked};
+ghost use Rattle.sw_args.specs.declared.call.Asked.{Asked};
 ghost use Rattle.sw_cli.specs.Accesses.{IsAccess, IsNoAccess};
 
-use crate::hints::{hinted, hints_of};
-use crate::schedules::run_scheduled;
+use crate::asked::hints_of;
+use crate::hints::hinted;
+use crate::noted::{Made, Noted};
+use crate::recorded::{Extras, run_load};
 use crate::told::{no_access, no_hints, told_end};
+use std::io::Write;
 use std::rt::Files;
 use std::sync::Wait;
 use std::thread::Threads;
@@ -15,9 +18,10 @@ use std::{fs, io};
 use sw_app::{check, decide, migrate, replay, report, route};
 use sw_app_draw::{DrawOptions, draw};
 use sw_app_explain::explain;
+use sw_app_margin::margin;
 use sw_app_mend::mend;
 use sw_app_rmap::{Access, Request, rmap};
-use sw_app_run::{Open, Options};
+use sw_app_run::Options;
 use sw_app_witness::witness;
 use sw_args::{Asked, Call, WordsFault, words};
 use sw_command::Ended;
@@ -53,22 +57,21 @@ fn run_asked<R: Files + Print + Eprint + AllocGlobal + Clock + Threads + Wait + 
 {
     let call = asked.call;
     match hints_of(asked.hints) {
-        Some(hints) => hinted(
-            rt,
-            &call,
-            hints,
-            told_end(rt, run_shown(rt, call, is_terminal)),
-        ),
+        Some(hints) => {
+            let made = run_shown(rt, call, is_terminal);
+            told_end(rt, made.ended);
+            hinted(rt, &call, hints, &made)
+        }
         None => no_hints(rt),
     }
 }
 
 // The call; on a terminal it shows, while it goes on, for how long it has.
-fn run_shown<R: Files + Print + Eprint + AllocGlobal + Clock + Threads + Wait + Sync>(
+fn run_shown<'a, R: Files + Print + Eprint + AllocGlobal + Clock + Threads + Wait + Sync>(
     rt: &R,
-    call: Call<'_>,
+    call: Call<'a>,
     is_terminal: bool,
-) -> Ended
+) -> Made<'a>
     requires { HasWorkers call }
 {
     if is_terminal {
@@ -83,36 +86,56 @@ fn run_shown<R: Files + Print + Eprint + AllocGlobal + Clock + Threads + Wait + 
     }
 }
 
-fn run_call<R: Files + Print + Eprint + AllocGlobal + Threads + Wait + Sync>(
+fn run_call<'a, R: Files + Print + Eprint + AllocGlobal + Threads + Wait + Sync>(
     rt: &R,
-    call: Call<'_>,
+    call: Call<'a>,
+) -> Made<'a>
+    requires { HasWorkers call }
+{
+    let mut writer = Noted::new("standard output", io::writer(rt));
+    let ended = run_into(rt, call, &mut writer);
+    Made {
+        ended,
+        unwritten: writer.unwritten(),
+    }
+}
+
+fn run_into<'a, R: Files + Eprint + AllocGlobal + Threads + Wait + Sync, W: Write>(
+    rt: &R,
+    call: Call<'a>,
+    writer: &mut Noted<'a, W>,
 ) -> Ended
     requires { HasWorkers call }
 {
     match call {
-        Call::Route { file, flow } => run_route(rt, file, flow),
-        Call::Decide { file } => run_decide(rt, file),
-        Call::Report { file } => run_report(rt, file),
-        Call::Check { file, certificate } => run_check(rt, file, certificate),
-        Call::Replay { file, schedule } => run_replay(rt, file, schedule),
+        Call::Route { file, flow } => run_route(rt, file, flow, writer),
+        Call::Decide { file } => run_decide(rt, file, writer),
+        Call::Report { file } => run_report(rt, file, writer),
+        Call::Check { file, certificate } => run_check(rt, file, certificate, writer),
+        Call::Replay { file, schedule } => run_replay(rt, file, schedule, writer),
         Call::Run {
             file,
             load,
             workers,
             limit,
             schedule,
+            summary,
         } => {
             let options = Options {
                 workers: workers as usize,
                 limit: limit as usize,
             };
-            match schedule {
-                None => run_load(rt, file, load, options),
-                Some(schedule) => run_scheduled(rt, file, load, schedule, options),
-            }
+            run_load(
+                rt,
+                file,
+                load,
+                options,
+                &Extras { schedule, summary },
+                writer,
+            )
         }
-        Call::Migrate { file } => run_migrate(rt, file),
-        Call::Explain { file, all } => run_explain(rt, file, all),
+        Call::Migrate { file } => run_migrate(rt, file, writer),
+        Call::Explain { file, all } => run_explain(rt, file, all, writer),
         Call::Draw {
             file,
             flow,
@@ -126,6 +149,7 @@ fn run_call<R: Files + Print + Eprint + AllocGlobal + Threads + Wait + Sync>(
                 cycle,
                 numbers,
             },
+            writer,
         ),
         Call::Rmap {
             file,
@@ -145,42 +169,55 @@ fn run_call<R: Files + Print + Eprint + AllocGlobal + Threads + Wait + Sync>(
                     address,
                     transaction,
                 },
+                writer,
             ),
             None => no_access(rt),
         },
-        Call::Mend { file } => run_mend(rt, file),
-        Call::Witness { file, tries, seed } => run_witness(rt, file, tries, seed),
+        Call::Mend { file } => run_mend(rt, file, writer),
+        Call::Margin { file } => run_margin(rt, file, writer),
+        Call::Witness { file, tries, seed } => run_witness(rt, file, tries, seed, writer),
     }
 }
 
-fn run_route<R: Files + Print + AllocGlobal>(rt: &R, file: &str, flow: &str) -> Ended {
+fn run_route<R: Files + AllocGlobal, W: Write>(
+    rt: &R,
+    file: &str,
+    flow: &str,
+    writer: &mut W,
+) -> Ended {
     let Ok(mut reader) = fs::open(rt, file) else {
         return Ended::ReadFailed;
     };
-    let mut writer = io::writer(rt);
-    route(rt.alloc(), &mut reader, flow, &mut writer)
+    route(rt.alloc(), &mut reader, flow, writer)
 }
 
-fn run_decide<R: Files + Print + AllocGlobal + Threads + Sync>(rt: &R, file: &str) -> Ended {
+fn run_decide<R: Files + AllocGlobal + Threads + Sync, W: Write>(
+    rt: &R,
+    file: &str,
+    writer: &mut W,
+) -> Ended {
     let Ok(mut reader) = fs::open(rt, file) else {
         return Ended::ReadFailed;
     };
-    let mut writer = io::writer(rt);
-    decide(rt, rt.alloc(), &mut reader, &mut writer)
+    decide(rt, rt.alloc(), &mut reader, writer)
 }
 
-fn run_report<R: Files + Print + AllocGlobal + Threads + Sync>(rt: &R, file: &str) -> Ended {
+fn run_report<R: Files + AllocGlobal + Threads + Sync, W: Write>(
+    rt: &R,
+    file: &str,
+    writer: &mut W,
+) -> Ended {
     let Ok(mut reader) = fs::open(rt, file) else {
         return Ended::ReadFailed;
     };
-    let mut writer = io::writer(rt);
-    report(rt, rt.alloc(), &mut reader, &mut writer)
+    report(rt, rt.alloc(), &mut reader, writer)
 }
 
-fn run_check<R: Files + Print + AllocGlobal + Threads + Sync>(
+fn run_check<R: Files + AllocGlobal + Threads + Sync, W: Write>(
     rt: &R,
     file: &str,
     certificate: &str,
+    writer: &mut W,
 ) -> Ended {
     let Ok(mut network) = fs::open(rt, file) else {
         return Ended::ReadFailed;
@@ -188,51 +225,53 @@ fn run_check<R: Files + Print + AllocGlobal + Threads + Sync>(
     let Ok(mut certificate) = fs::open(rt, certificate) else {
         return Ended::ReadFailed;
     };
-    let mut writer = io::writer(rt);
-    check(rt, rt.alloc(), &mut network, &mut certificate, &mut writer)
+    check(rt, rt.alloc(), &mut network, &mut certificate, writer)
 }
 
-fn run_replay<R: Files + Print + AllocGlobal>(rt: &R, file: &str, schedule: &str) -> Ended {
+fn run_replay<R: Files + AllocGlobal, W: Write>(
+    rt: &R,
+    file: &str,
+    schedule: &str,
+    writer: &mut W,
+) -> Ended {
     let Ok(mut network) = fs::open(rt, file) else {
         return Ended::ReadFailed;
     };
     let Ok(mut schedule) = fs::open(rt, schedule) else {
         return Ended::ReadFailed;
     };
-    let mut writer = io::writer(rt);
-    replay(rt.alloc(), &mut network, &mut schedule, &mut writer)
+    replay(rt.alloc(), &mut network, &mut schedule, writer)
 }
 
-fn run_migrate<R: Files + Print + AllocGlobal>(rt: &R, file: &str) -> Ended {
+fn run_migrate<R: Files + AllocGlobal, W: Write>(rt: &R, file: &str, writer: &mut W) -> Ended {
     let Ok(mut reader) = fs::open(rt, file) else {
         return Ended::ReadFailed;
     };
-    let mut writer = io::writer(rt);
-    migrate(rt.alloc(), &mut reader, &mut writer)
+    migrate(rt.alloc(), &mut reader, writer)
 }
 
-fn run_explain<R: Files + Print + AllocGlobal + Threads + Sync>(
+fn run_explain<R: Files + AllocGlobal + Threads + Sync, W: Write>(
     rt: &R,
     file: &str,
     all: bool,
+    writer: &mut W,
 ) -> Ended {
     let Ok(mut reader) = fs::open(rt, file) else {
         return Ended::ReadFailed;
     };
-    let mut writer = io::writer(rt);
-    explain(rt, rt.alloc(), &mut reader, all, &mut writer)
+    explain(rt, rt.alloc(), &mut reader, all, writer)
 }
 
-fn run_draw<R: Files + Print + AllocGlobal + Threads + Sync>(
+fn run_draw<R: Files + AllocGlobal + Threads + Sync, W: Write>(
     rt: &R,
     file: &str,
     options: &DrawOptions<'_>,
+    writer: &mut W,
 ) -> Ended {
     let Ok(mut reader) = fs::open(rt, file) else {
         return Ended::ReadFailed;
     };
-    let mut writer = io::writer(rt);
-    draw(rt, rt.alloc(), &mut reader, options, &mut writer)
+    draw(rt, rt.alloc(), &mut reader, options, writer)
 }
 
 // What an RMAP command does: it reads so many bytes, or writes these. A read without its reply brings nothing, and there is no third.
@@ -255,57 +294,49 @@ fn access_of<'a>(action: &str, value: &'a str, unacknowledged: bool) -> Option<A
     Some(Access::Read { length: value })
 }
 
-fn run_rmap<R: Files + Print + AllocGlobal>(rt: &R, file: &str, request: &Request<'_>) -> Ended {
-    let Ok(mut reader) = fs::open(rt, file) else {
-        return Ended::ReadFailed;
-    };
-    let mut writer = io::writer(rt);
-    rmap(rt.alloc(), &mut reader, request, &mut writer)
-}
-
-fn run_mend<R: Files + Print + AllocGlobal + Threads + Sync>(rt: &R, file: &str) -> Ended {
-    let Ok(mut reader) = fs::open(rt, file) else {
-        return Ended::ReadFailed;
-    };
-    let mut writer = io::writer(rt);
-    mend(rt, rt.alloc(), &mut reader, &mut writer)
-}
-
-fn run_witness<R: Files + Print + AllocGlobal + Threads + Sync>(
+fn run_rmap<R: Files + AllocGlobal, W: Write>(
     rt: &R,
     file: &str,
-    tries: u32,
-    seed: u32,
+    request: &Request<'_>,
+    writer: &mut W,
 ) -> Ended {
     let Ok(mut reader) = fs::open(rt, file) else {
         return Ended::ReadFailed;
     };
-    let mut writer = io::writer(rt);
-    witness(rt, rt.alloc(), &mut reader, tries, seed, &mut writer)
+    rmap(rt.alloc(), &mut reader, request, writer)
 }
 
-fn run_load<R: Files + Print + AllocGlobal + Threads + Wait + Sync>(
+fn run_mend<R: Files + AllocGlobal + Threads + Sync, W: Write>(
     rt: &R,
     file: &str,
-    load: &str,
-    options: Options,
-) -> Ended
-    requires { 0 < options.workers }
-{
-    let Ok(mut network) = fs::open(rt, file) else {
+    writer: &mut W,
+) -> Ended {
+    let Ok(mut reader) = fs::open(rt, file) else {
         return Ended::ReadFailed;
     };
-    let Ok(mut load) = fs::open(rt, load) else {
+    mend(rt, rt.alloc(), &mut reader, writer)
+}
+
+fn run_margin<R: Files + AllocGlobal + Threads + Sync, W: Write>(
+    rt: &R,
+    file: &str,
+    writer: &mut W,
+) -> Ended {
+    let Ok(mut reader) = fs::open(rt, file) else {
         return Ended::ReadFailed;
     };
-    let mut writer = io::writer(rt);
-    sw_app_run::run(
-        rt,
-        rt.alloc(),
-        &mut network,
-        &mut load,
-        options,
-        &mut writer,
-        &Open,
-    )
+    margin(rt, rt.alloc(), &mut reader, writer)
+}
+
+fn run_witness<R: Files + AllocGlobal + Threads + Sync, W: Write>(
+    rt: &R,
+    file: &str,
+    tries: u32,
+    seed: u32,
+    writer: &mut W,
+) -> Ended {
+    let Ok(mut reader) = fs::open(rt, file) else {
+        return Ended::ReadFailed;
+    };
+    witness(rt, rt.alloc(), &mut reader, tries, seed, writer)
 }

@@ -1,9 +1,12 @@
-//! Hints on standard error: how to mend a network file that has a fault, what to change where a verdict is not free, why a file can't be read.
+//! Hints on standard error: how to mend a text that has a fault, what to change where a verdict is not free, why a file can't be read or written.
 //! They decide nothing.
-ghost use Rattle.std.specs.Prelude.{◌≡◌, option_map};
-ghost use Rattle.sw_cli.specs.Asked.{due_after, due_of, file_of, hints_of, second_of};
+ghost use Rattle.std.specs.Prelude.{◌≡◌};
+ghost use Rattle.sw_cli.specs.Asked.{due_after, due_of};
 
-use crate::unread::tell_unread;
+use crate::asked::{Hints, file_of, flow_of, second_of};
+use crate::noted::Made;
+use crate::told::tell_text;
+use crate::unread::{tell_unread, tell_unwritten};
 use std::fs;
 use std::rt::Files;
 use std::thread::Threads;
@@ -13,15 +16,8 @@ use sw_command::{Ended, MAX_TEXT};
 use sw_hints::network_hint;
 use sw_step_hints::schedule_hint;
 use sw_text::read_whole;
-use sw_verdict_hints::{certificate_hint, verdict_hint};
-
-/// Whether hints are wanted.
-#[derive(Clone, Copy)]
-pub(crate) enum Hints {
-    /// Where the network file has a fault.
-    Auto,
-    Never,
-}
+use sw_text_hints::load_hint;
+use sw_verdict_hints::{certificate_hint, named_flow_hint, verdict_hint};
 
 /// What a hint is of.
 #[derive(Clone, Copy)]
@@ -32,6 +28,8 @@ enum Due {
     Verdict,
     /// A file that can't be read.
     Unread,
+    /// What could not be written.
+    Unwritten,
     Nothing,
 }
 
@@ -48,89 +46,6 @@ fn due_after(status: u8) -> Due
     Due::Nothing
 }
 
-/// What was given at `--hints`: `auto`, as where it is left out, or `never`. There is no third.
-pub(crate) fn hints_of(given: Option<&str>) -> Option<Hints>
-    ensures { result ≡ hints_of (option_map (λ s. s.now) given.entry) }
-{
-    let Some(word) = given else {
-        return Some(Hints::Auto);
-    };
-    if word == "auto" {
-        return Some(Hints::Auto);
-    }
-    if word == "never" {
-        return Some(Hints::Never);
-    }
-    None
-}
-
-/// The network file that a call reads.
-pub(crate) fn file_of<'a>(call: &Call<'a>) -> &'a str
-    ensures { result.now ≡ file_of call.now }
-{
-    match call {
-        Call::Route { file, flow: _ } => file,
-        Call::Decide { file } => file,
-        Call::Check {
-            file,
-            certificate: _,
-        } => file,
-        Call::Report { file } => file,
-        Call::Replay { file, schedule: _ } => file,
-        Call::Run {
-            file,
-            load: _,
-            workers: _,
-            limit: _,
-            schedule: _,
-        } => file,
-        Call::Migrate { file } => file,
-        Call::Explain { file, all: _ } => file,
-        Call::Draw {
-            file,
-            flow: _,
-            cycle: _,
-            numbers: _,
-        } => file,
-        Call::Rmap {
-            file,
-            flow: _,
-            action: _,
-            address: _,
-            value: _,
-            unacknowledged: _,
-            transaction: _,
-        } => file,
-        Call::Mend { file } => file,
-        Call::Witness {
-            file,
-            tries: _,
-            seed: _,
-        } => file,
-    }
-}
-
-/// The other file that a call reads, if it reads two.
-fn second_of<'a>(call: &Call<'a>) -> Option<&'a str>
-    ensures { option_map (λ s. s.now) result ≡ second_of call.now }
-{
-    match call {
-        Call::Check {
-            file: _,
-            certificate,
-        } => Some(certificate),
-        Call::Replay { file: _, schedule } => Some(schedule),
-        Call::Run {
-            file: _,
-            load,
-            workers: _,
-            limit: _,
-            schedule: _,
-        } => Some(load),
-        _ => None,
-    }
-}
-
 /// The longest texts, in bytes, of which a verdict is explained: what is told of a longer one would take as long as the call itself.
 const MOST_EXPLAINED: usize = 262_144;
 
@@ -144,13 +59,55 @@ fn text_of<R: Files + AllocGlobal>(rt: &R, file: &str, most: usize) -> Option<Ve
     read_whole(rt.alloc(), &mut reader, most).ok()
 }
 
-// What to tell of a network file's fault; nothing where it has none, and where it can't be read or there is no memory for it.
-fn fault_hint<R: Files + AllocGlobal>(rt: &R, file: &str) -> Option<String> {
-    let text = text_of(rt, file, MAX_TEXT)?;
-    network_hint(rt.alloc(), file, &text).ok()?
+// What to tell of a fault of the second text that a call reads.
+fn second_hint<R: Files + AllocGlobal>(rt: &R, call: &Call<'_>, network: &[u8]) -> Option<String> {
+    let path = second_of(call)?;
+    let text = text_of(rt, path, MAX_TEXT)?;
+    match call {
+        Call::Run { .. } => load_hint(rt.alloc(), path, network, &text).ok()?,
+        Call::Replay { .. } => sw_text_hints::schedule_hint(rt.alloc(), path, network, &text).ok()?,
+        _ => None,
+    }
 }
 
-// What to tell of a verdict that is not free, or of a refused certificate.
+// What to tell of the flow that a call names.
+fn flow_hint<R: AllocGlobal>(rt: &R, call: &Call<'_>, network: &[u8]) -> Option<String> {
+    named_flow_hint(rt.alloc(), file_of(call), network, flow_of(call)?).ok()?
+}
+
+// What to tell of a fault: of the network file, or else of the other text or of the flow that the call names. Nothing where none has one, and
+// where one can't be read or there is no memory for it.
+fn fault_hint<R: Files + AllocGlobal>(rt: &R, call: &Call<'_>) -> Option<String> {
+    let file = file_of(call);
+    let text = text_of(rt, file, MAX_TEXT)?;
+    match network_hint(rt.alloc(), file, &text).ok()? {
+        Some(hint) => Some(hint),
+        None if flow_of(call).is_some() => flow_hint(rt, call, &text),
+        None => second_hint(rt, call, &text),
+    }
+}
+
+// What to tell of a certificate that is refused: the line that can't be read, or else what it is refused for.
+fn refusal_hint<R: Files + AllocGlobal + Threads + Sync>(
+    rt: &R,
+    file: &str,
+    network: &[u8],
+    path: &str,
+) -> Option<String> {
+    let text = text_of(rt, path, MOST_EXPLAINED)?;
+    match sw_text_hints::certificate_hint(rt.alloc(), path, &text).ok()? {
+        Some(hint) => Some(hint),
+        None => certificate_hint(rt, rt.alloc(), file, network, path, &text).ok()?,
+    }
+}
+
+// What to tell of a step that is refused.
+fn step_hint<R: Files + AllocGlobal>(rt: &R, network: &[u8], path: &str) -> Option<String> {
+    let text = text_of(rt, path, MOST_EXPLAINED)?;
+    schedule_hint(rt.alloc(), network, path, &text).ok()?
+}
+
+// What to tell of a verdict that is not free, of a flow that goes wrong, of a refused certificate or step.
 fn verdict_hint_of<R: Files + AllocGlobal + Threads + Sync>(
     rt: &R,
     call: &Call<'_>,
@@ -158,25 +115,11 @@ fn verdict_hint_of<R: Files + AllocGlobal + Threads + Sync>(
     let file = file_of(call);
     let text = text_of(rt, file, MOST_EXPLAINED)?;
     match call {
-        Call::Decide { file: _ } => verdict_hint(rt, rt.alloc(), file, &text).ok()?,
-        Call::Check {
-            file: _,
-            certificate,
-        } => {
-            let other = text_of(rt, certificate, MOST_EXPLAINED)?;
-            certificate_hint(rt, rt.alloc(), file, &text, certificate, &other).ok()?
-        }
-        Call::Replay { file: _, schedule } => {
-            let other = text_of(rt, schedule, MOST_EXPLAINED)?;
-            schedule_hint(rt.alloc(), &text, schedule, &other).ok()?
-        }
+        Call::Route { .. } => flow_hint(rt, call, &text),
+        Call::Decide { .. } => verdict_hint(rt, rt.alloc(), file, &text).ok()?,
+        Call::Check { .. } => refusal_hint(rt, file, &text, second_of(call)?),
+        Call::Replay { .. } => step_hint(rt, &text, second_of(call)?),
         _ => None,
-    }
-}
-
-fn tell(rt: &impl Eprint, hint: Option<String>) {
-    if let Some(hint) = hint {
-        let _ = eprint!(rt; "{hint}");
     }
 }
 
@@ -193,9 +136,10 @@ fn due_of(hints: Hints, ended: Ended) -> Due
     ensures { result ≡ due_of hints ended }
 {
     match (hints, ended) {
+        (Hints::Never, _) => Due::Nothing,
         (Hints::Auto, Ended::Status(status)) => due_after(status),
         (Hints::Auto, Ended::ReadFailed) => Due::Unread,
-        _ => Due::Nothing,
+        (Hints::Auto, Ended::WriteFailed) => Due::Unwritten,
     }
 }
 
@@ -204,15 +148,16 @@ pub(crate) fn hinted<R: Files + Eprint + AllocGlobal + Threads + Sync>(
     rt: &R,
     call: &Call<'_>,
     hints: Hints,
-    ended: Ended,
+    made: &Made<'_>,
 ) -> Ended
-    ensures { result ≡ ended }
+    ensures { result ≡ made.now.ended }
 {
-    match due_of(hints, ended) {
-        Due::Fault => tell(rt, fault_hint(rt, file_of(call))),
-        Due::Verdict => tell(rt, verdict_hint_of(rt, call)),
+    match due_of(hints, made.ended) {
+        Due::Fault => tell_text(rt, fault_hint(rt, call)),
+        Due::Verdict => tell_text(rt, verdict_hint_of(rt, call)),
         Due::Unread => tell_unread_files(rt, call),
+        Due::Unwritten => tell_unwritten(rt, made.unwritten),
         Due::Nothing => {}
     }
-    ended
+    made.ended
 }

@@ -2,10 +2,12 @@
 //! whose names begin so, and tells of words that give no call, of a read or a write that failed, and how to mend a network file with a fault.
 #![tactic(auto)]
 
+mod asked;
 mod calls;
 mod hints;
+mod noted;
 mod program;
-mod schedules;
+mod recorded;
 mod told;
 mod unread;
 

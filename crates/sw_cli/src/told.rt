@@ -5,6 +5,7 @@ ghost use Rattle.sw_command.specs.Ends.{exit_status};
 
 use sw_args::{REFUSED, WordsFault};
 use sw_command::Ended;
+use sw_command::statuses::UNREAD_OR_UNWRITTEN;
 
 /// Tells of a read or a write that failed. How the call ended stays as it is.
 pub(crate) fn told_end(rt: &impl Eprint, ended: Ended) -> Ended
@@ -65,6 +66,21 @@ pub(crate) fn no_output(rt: &impl Eprint) -> Ended
 {
     let _ = eprint!(rt; "error: --schedule names a file that is read\n");
     Ended::Status(REFUSED)
+}
+
+/// Tells that a schedule is too long.
+pub(crate) fn tell_long(rt: &impl Eprint) -> Ended
+    ensures { result ≡ Ended.Status 6 }
+{
+    let _ = eprint!(rt; "swcheck: schedule too long\n");
+    Ended::Status(UNREAD_OR_UNWRITTEN)
+}
+
+/// Tells a text, if there is one.
+pub(crate) fn tell_text(rt: &impl Eprint, text: Option<String>) {
+    if let Some(text) = text {
+        let _ = eprint!(rt; "{text}");
+    }
 }
 
 /// Tells that a word is no text.

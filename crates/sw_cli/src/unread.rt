@@ -2,6 +2,8 @@
 ghost use Rattle.std.specs.Prelude.{◌≡◌, IfOk, string_bytes};
 ghost use Rattle.sw_cli.specs.Unread.{reason_of, unread_text};
 
+use crate::noted::Unwritten;
+use crate::told::tell_text;
 use std::alloc::{AllocError, Global};
 use std::fs;
 use std::io::{self, ErrorKind, Read};
@@ -90,7 +92,17 @@ fn text_of<R: Files + AllocGlobal>(rt: &R, path: &str) -> Option<String> {
 
 /// Tells why a file can't be read; nothing where it can.
 pub(crate) fn tell_unread<R: Files + Eprint + AllocGlobal>(rt: &R, path: &str) {
-    if let Some(text) = text_of(rt, path) {
-        let _ = eprint!(rt; "{text}");
+    tell_text(rt, text_of(rt, path));
+}
+
+// Why a write failed.
+fn unwritten_text<R: AllocGlobal>(rt: &R, unwritten: Unwritten<'_>) -> Option<String> {
+    unread_text(rt.alloc(), unwritten.path, unwritten.kind).ok()
+}
+
+/// Tells what could not be written, and why, as far as that is known.
+pub(crate) fn tell_unwritten<R: Eprint + AllocGlobal>(rt: &R, unwritten: Option<Unwritten<'_>>) {
+    if let Some(unwritten) = unwritten {
+        tell_text(rt, unwritten_text(rt, unwritten));
     }
 }

@@ -1,3 +1,4 @@
 pub mod RouteHints
+pub mod FlowHints
 pub mod VerdictHints
 pub mod CertificateHints

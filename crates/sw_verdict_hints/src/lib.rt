@@ -5,9 +5,11 @@ mod certificate_hints;
 mod certificate_numbers;
 mod certificate_places;
 mod changes;
+mod flow_hints;
 mod route_hints;
 mod verdict_hints;
 mod ways;
 
 pub use certificate_hints::certificate_hint;
+pub use flow_hints::named_flow_hint;
 pub use verdict_hints::verdict_hint;
