@@ -1,0 +1,5 @@
+pub mod CertificateHints
+pub mod LoadHints
+pub mod ScheduleHints
+pub mod StepWords
+pub mod WrongWords

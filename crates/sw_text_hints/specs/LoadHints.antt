@@ -1,0 +1,101 @@
+-- What is told of a load's fault (this project's choice).
+use Rattle.std.specs.Prelude.{◌≡◌, ℕ, Bool, true, false, List, [], ◌∷◌, Option, Some, None, Result, Ok, Err, String, codes, if◌then◌else◌, is_some, option_and_then, option_map, position, slice_get, string_bytes}
+use Rattle.std.specs.Option.{option_map_or}
+use Rattle.std.specs.Str.{bytes_eq}
+use Rattle.std.specs.declared.alloc.Global.{Global}
+use Rattle.toml.specs.Data.{Members}
+use Rattle.sw_config.specs.Entries.{Declaration, flow_names}
+use Rattle.sw_toml_table.specs.declared.keys.Key.TheVariants as key
+use Rattle.sw_toml_table.specs.declared.keys.Section.{Section}
+use Rattle.sw_toml_table.specs.declared.keys.Section.TheVariants as section
+use Rattle.sw_toml_table.specs.declared.fault.KeyFault.TheVariants.{UnknownName}
+use Rattle.sw_toml_table.specs.declared.fault.TextFault.{TextFault}
+use Rattle.sw_toml_table.specs.declared.fault.TextFault.TheVariants.{Key, NotInFlow, UnknownKey}
+use Rattle.sw_toml_table.specs.Document.{document_of}
+use Rattle.sw_toml_table.specs.Table.{is_known}
+use Rattle.sw_file.specs.Network.{network_text}
+use Rattle.sw_load.specs.Load.{LoadEntry, load_text}
+use Rattle.sw_notes.specs.Entries.{text_of}
+use Rattle.sw_hints.specs.Entries.{names_of}
+use Rattle.sw_hints.specs.FaultPlaces.{IsFaultPlace}
+use Rattle.sw_hints.specs.FaultWords.{expected_text, what_text}
+use Rattle.sw_hints.specs.Helps.{help_text, meant_help}
+use Rattle.sw_hints.specs.HintLines.{hint_lines, told}
+use Rattle.sw_hints.specs.Nearest.{like}
+
+-- what would be right
+abbrev pub expected : TextFault → List ℕ
+expected (UnknownKey section.Document name) = codes "packet, a list of tables"
+expected fault = expected_text fault
+
+-- a key that the document may not have: one of a packet, or one that is like `packet`
+abbrev pub key_help : List ℕ → List ℕ
+key_help name =
+    if is_known (key.Flow ∷ key.Cargo ∷ key.End ∷ key.Count ∷ []) name then codes "a key of a packet stands below a header [[packet]]"
+    else meant_help (like name (codes "packet" ∷ []))
+
+-- a name that no flow has: it may be like that of one
+abbrev pub flow_help : Section → Members → Members → List ℕ
+flow_help s network load = option_map_or (λ name. meant_help (like name (names_of key.Flow network))) (text_of s key.Flow load) []
+
+-- what to do about a fault of the load, for this network
+abbrev pub load_help : TextFault → Members → Members → List ℕ
+load_help (UnknownKey section.Document name) network load = key_help name
+load_help (Key UnknownName s k) network load = flow_help s network load
+load_help fault network load = help_text load fault
+
+-- the declared flow of a name has replies
+abbrev pub has_reply : Declaration → List ℕ → Option Bool
+has_reply d name = option_map (λ flow. is_some flow.reply) (option_and_then (slice_get d.flows) (position (bytes_eq name) (flow_names d.flows)))
+
+-- why a flow does not declare a command, where the flow has a `reply`, and where it has none
+abbrev pub way_words : Bool → List ℕ
+way_words true = codes "its target answers this command, and the reply does not go where the flow's 'reply' says"
+way_words false = codes "its target answers this command, and the flow has no 'reply'"
+
+-- which condition failed of a packet that its flow does not declare
+abbrev pub packet_note : ℕ → Declaration → Members → List ℕ
+packet_note packet d load = option_map_or way_words (option_and_then (has_reply d) (text_of (section.Packet packet) key.Flow load)) []
+
+-- what there is to note of a fault of the load, for this network
+abbrev pub load_note : TextFault → Declaration → Members → List ℕ
+load_note (NotInFlow packet) d load = packet_note packet d load
+load_note fault d load = []
+
+-- of the document that was read, or nothing
+abbrev pub of_document : (Members → List ℕ) → Result Members TextFault → List ℕ
+of_document f (Ok document) = f document
+of_document f (Err fault) = []
+
+abbrev pub help_in : TextFault → List ℕ → Members → List ℕ
+help_in fault load network = of_document (load_help fault network) (document_of load)
+
+abbrev pub help_of : TextFault → List ℕ → List ℕ → List ℕ
+help_of fault network load = of_document (help_in fault load) (document_of network)
+
+abbrev pub note_of : TextFault → Declaration → List ℕ → List ℕ
+note_of fault d load = of_document (load_note fault d) (document_of load)
+
+-- a fault of a load for this network, whose text is the first one, told of a place that it has
+abbrev pub IsFaultHint : List ℕ → List ℕ → Declaration → List ℕ → TextFault → List ℕ → Type 0
+IsFaultHint path network d load fault hint =
+    (place : Option ℕ) × IsFaultPlace load fault place
+    × (hint ≡ hint_lines path load place (what_text fault) (expected fault) (help_of fault network load) (told (codes "note") (note_of fault d load)))
+
+-- the hint of a load's first fault, and none of a load
+abbrev pub IsHintFor : List ℕ → List ℕ → Declaration → List ℕ → Option (String Global) → Type 0
+IsHintFor path network d load hint = tells (load_text d load) hint
+  where
+    tells : Result (List LoadEntry) TextFault → Option (String Global) → Type 0
+    tells (Ok entries) None = Unit {0}
+    tells (Err fault) (Some lines) = IsFaultHint path network d load fault (string_bytes lines)
+    tells _ _ = ⊥
+
+-- the same for the network of a text, and none where the text has a fault itself
+abbrev pub IsLoadHint : List ℕ → List ℕ → List ℕ → Option (String Global) → Type 0
+IsLoadHint path network load hint = for_network (network_text network) hint
+  where
+    for_network : Result Declaration TextFault → Option (String Global) → Type 0
+    for_network (Ok d) hint = IsHintFor path network d load hint
+    for_network (Err fault) None = Unit {0}
+    for_network (Err fault) (Some lines) = ⊥

@@ -1,0 +1,183 @@
+//! The hint of a certificate that can't be read.
+ghost use Rattle.std.specs.Prelude.{◌≡◌, ◌==◌, ◌<◌, IfOk, IfSome, length, option_copied, option_map, position, string_bytes};
+ghost use Rattle.sw_cert.specs.Grammar.{after_word};
+ghost use Rattle.sw_cert.specs.Text.{read_text};
+ghost use Rattle.sw_schedule.specs.Schedule.{text_lines};
+ghost use Rattle.sw_text_hints.specs.CertificateHints.{begins, certificate_hint, expected_after, flows_before, hint_at, line_before, numbers_at, numbers_of, place_numbers, rises, rising_note, wrong_line};
+
+use crate::wrong_word::nth_line;
+use std::alloc::{AllocError, Global};
+use sw_cert::{Certificate, CertificateFault};
+use sw_hints::{found_line, shown, told};
+use sw_text::{cut, number};
+
+fn begins(line: &[u8], word: &[u8]) -> bool
+    ensures { result ≡ begins word.now line.now }
+{
+    line.starts_with(word)
+}
+
+// What may stand behind this line.
+fn expected_after(before: &[u8]) -> &'static str
+    ensures { result.now ≡ expected_after before.now }
+{
+    if before.is_empty() {
+        "swcert 1"
+    } else if begins(before, b"swcert") {
+        "channels N, N from 0 to 2048"
+    } else if begins(before, b"channels") {
+        "number V, V from 0 to 65535, for each channel, and then flows M, M from 0 to 8192"
+    } else if begins(before, b"number") {
+        "number V, V from 0 to 65535, for each channel, and then flows M, M from 0 to 8192"
+    } else if begins(before, b"end") {
+        "nothing behind the line 'end'"
+    } else {
+        "for each flow flow P, P from 0 to 67584, and P lines place C K, C from 0 to 65535, K from 0 to 32, rising by C and then by K; then end"
+    }
+}
+
+// What follows a word.
+fn after_word<'a>(word: &[u8], line: &'a [u8]) -> Option<&'a [u8]>
+    ensures { option_copied result ≡ after_word word.now line.entry.now }
+{
+    line.strip_prefix(word)
+}
+
+fn space_in(words: &[u8]) -> Option<usize>
+    ensures exact { result ≡ position (λ b. b == 32) words.now }
+    ensures within { IfSome result (λ at. at < length words.now) }
+{
+    words.iter().position(|b| *b == b' ')
+}
+
+// Two numbers with a space between them, at this place.
+fn numbers_at(words: &[u8], at: usize) -> Option<(u32, u32)>
+    requires { at < length words.now }
+    ensures { result ≡ numbers_at words.now at }
+{
+    let channel = number(&words[..at], 65535)?;
+    let deleted = number(&words[at + 1..], 32)?;
+    Some((channel, deleted))
+}
+
+fn numbers_of(words: &[u8]) -> Option<(u32, u32)>
+    ensures { result ≡ numbers_of words.now }
+{
+    numbers_at(words, space_in(words)?)
+}
+
+// The numbers of a line of a place.
+fn place_numbers(line: &[u8]) -> Option<(u32, u32)>
+    ensures { result ≡ place_numbers line.now }
+{
+    numbers_of(after_word(b"place ", line)?)
+}
+
+fn rises(before: (u32, u32), place: (u32, u32)) -> bool
+    ensures { result ≡ rises before place }
+{
+    before.0 < place.0 || (before.0 == place.0 && before.1 < place.1)
+}
+
+// How many of the lines before this one begin a flow.
+fn flows_before(text: &[u8], line: usize) -> usize
+    ensures { result ≡ flows_before line 0 (text_lines text.now) }
+{
+    let mut rest = text;
+    let mut left = line;
+    let mut flows: usize = 0;
+    while let Some((first, more)) = cut(rest, b'\n') {
+        if left <= 1 {
+            return flows;
+        }
+        if begins(first, b"flow ") {
+            flows += 1;
+        }
+        rest = more;
+        left -= 1;
+    }
+    if left > 1 && begins(rest, b"flow ") {
+        flows + 1
+    } else {
+        flows
+    }
+}
+
+// Both places, and the flow, where the place of a line does not rise above the one before it; else nothing.
+fn rising_note(
+    alloc: Global,
+    flows: usize,
+    before: &[u8],
+    line: &[u8],
+) -> Result<String, AllocError>
+    ensures { IfOk result (λ s. string_bytes s ≡ rising_note flows before.now line.now) }
+{
+    let (Some(last), Some(place)) = (place_numbers(before), place_numbers(line)) else {
+        return Ok(String::new(alloc));
+    };
+    if rises(last, place) {
+        return Ok(String::new(alloc));
+    }
+    let flow = flows.saturating_sub(1);
+    let (channel, deleted) = place;
+    let (last_channel, last_deleted) = last;
+    format!(in alloc;
+        "place {channel} {deleted} of flow {flow} stands behind place {last_channel} {last_deleted}"
+    )
+}
+
+// The line before the one of this number; nothing before the first.
+fn line_before(text: &[u8], number: usize) -> &[u8]
+    ensures { result.now ≡ line_before number (text_lines text.now) }
+{
+    if number <= 1 {
+        return &[];
+    }
+    nth_line(text, (number - 1) as u64)
+}
+
+// The lines of the hint of a line.
+fn hint_at(alloc: Global, path: &str, text: &[u8], number: usize) -> Result<String, AllocError>
+    ensures { IfOk result (λ s. string_bytes s ≡ hint_at path.now text.now number) }
+{
+    let line = nth_line(text, number as u64);
+    let before = line_before(text, number);
+    let path = shown(alloc, path.as_bytes())?;
+    let found = found_line(alloc, line, Some(0))?;
+    let expected = told(alloc, "expected", expected_after(before).as_bytes())?;
+    let note = rising_note(alloc, flows_before(text, number), before, line)?;
+    let note = told(alloc, "note", note.as_bytes())?;
+    format!(in alloc;
+        "{path}:{number}:1: refused C1 Grammar {number}: the line is not as the grammar asks\n{found}{expected}{note}"
+    )
+}
+
+// The number of the first line that is not as the grammar asks.
+fn wrong_line(alloc: Global, text: &[u8]) -> Result<Option<usize>, AllocError>
+    ensures { IfOk result (λ o. o ≡ wrong_line (read_text text.now)) }
+{
+    match Certificate::read(alloc, text) {
+        Ok(_) => Ok(None),
+        Err(CertificateFault::Grammar(line)) => Ok(Some(line)),
+        Err(CertificateFault::Memory) => Err(AllocError),
+    }
+}
+
+/// The hint of the first line of a text that is not as the grammar of certificates asks; none where each is. `path` is told as the text's
+/// name.
+///
+/// # Errors
+///
+/// There is no memory for the hint, or to read the text.
+pub fn certificate_hint(
+    alloc: Global,
+    path: &str,
+    text: &[u8],
+) -> Result<Option<String>, AllocError>
+    ensures { IfOk result (λ o. option_map string_bytes o ≡ certificate_hint path.now text.now) }
+{
+    match wrong_line(alloc, text)? {
+        Some(number) => Ok(Some(hint_at(alloc, path, text, number)?)),
+        None => Ok(None),
+    }
+}

@@ -1,0 +1,280 @@
+//! The hint of a schedule's fault.
+ghost use Rattle.std.specs.Prelude.{◌≡◌, ◌≤◌, IfOk, length, map, option_map, string_bytes};
+ghost use Rattle.toml.specs.View.{table_view};
+ghost use Rattle.sw_schedule.specs.Schedule.{steps_of_text};
+ghost use Rattle.sw_text_hints.specs.ScheduleHints.{expected, head_lines, help_of, hint_for, like_help, line_hint, offset_of, rest_of, schedule_hint, total_lines, verbs, what_words, word_help, word_lines, wrong_number};
+ghost use Rattle.sw_text_hints.specs.WrongWords.{wrong_view};
+
+use crate::step_words::{Wanted, text_of};
+use crate::wrong_word::{Wrong, first_word, nth_line, wrong_of};
+use std::alloc::{AllocError, Global};
+use sw_config::Network;
+use sw_file::read_network;
+use sw_hints::{found_line, like, meant_help, names_of, shown, told};
+use sw_schedule::{ScheduleFault, read_steps};
+use sw_toml_table::{FileFault, Key, read_document};
+use toml::Table;
+
+// What is wrong with a word.
+fn what_words(wrong: &Wrong<'_>) -> &'static str
+    ensures { result.now ≡ what_words (wrong_view wrong.now) }
+{
+    if wrong.rest.is_none() {
+        return "a word is missing";
+    }
+    match wrong.wanted {
+        Wanted::Verb => "no step begins so",
+        Wanted::Channel => "this is no channel of the network",
+        Wanted::Node => "this is no node",
+        Wanted::Flow => "this is no declared flow",
+        Wanted::End => "this is no end marker",
+        Wanted::Cargo => "this is no cargo",
+        Wanted::Nothing => "this is one word too many",
+    }
+}
+
+// What would be right.
+fn expected(alloc: Global, network: &Network, wanted: Wanted) -> Result<String, AllocError>
+    ensures { IfOk result (λ s. string_bytes s ≡ expected network.now wanted) }
+{
+    match wanted {
+        Wanted::Verb => String::from_str(
+            alloc,
+            "one of fct, fctin, arrive, grant, drop, spill, forward, begin, emit, accept, reply, or a count from 1 to 100000 before it",
+        ),
+        Wanted::Channel => {
+            let channels = network.channels();
+            format!(in alloc; "the number of a channel, below {channels}")
+        }
+        Wanted::Node => String::from_str(alloc, "the name of a node"),
+        Wanted::Flow => String::from_str(alloc, "the name of a declared flow"),
+        Wanted::End => String::from_str(alloc, "EOP or EEP"),
+        Wanted::Cargo => String::from_str(
+            alloc,
+            "1 to 4096 bytes: pairs of hexadecimal digits, or one pair, '*' and a number from 1 to 4096, without spaces",
+        ),
+        Wanted::Nothing => {
+            String::from_str(
+                alloc,
+                "the end of the line; one space stands between two words",
+            )
+        }
+    }
+}
+
+// The rest of the line from the wrong word on.
+fn rest_of<'a>(wrong: &Wrong<'a>) -> &'a [u8]
+    ensures { result.now ≡ rest_of (wrong_view wrong.now) }
+{
+    match wrong.rest {
+        Some(rest) => rest,
+        None => &[],
+    }
+}
+
+// Where in the line the wrong word begins.
+fn offset_of(line: &[u8], wrong: &Wrong<'_>) -> usize
+    ensures { result ≡ offset_of line.now (wrong_view wrong.now) }
+{
+    line.len().saturating_sub(rest_of(wrong).len())
+}
+
+// What to do about a word that is none of these.
+fn like_help(alloc: Global, word: &[u8], names: &[&str]) -> Result<String, AllocError>
+    ensures { IfOk result (λ s. string_bytes s ≡ like_help word.now (map (λ t. t.now) names.now)) }
+{
+    match text_of(word) {
+        Some(word) => meant_help(alloc, like(alloc, word, names)?),
+        None => Ok(String::new(alloc)),
+    }
+}
+
+// What to do about a word that no step begins with.
+fn verb_help(alloc: Global, word: &[u8]) -> Result<String, AllocError>
+    ensures { IfOk result (λ s. string_bytes s ≡ like_help word.now verbs) }
+{
+    like_help(
+        alloc,
+        word,
+        &[
+            "fct", "fctin", "arrive", "grant", "drop", "spill", "forward", "begin", "emit",
+            "accept", "reply",
+        ],
+    )
+}
+
+// What to do about a wrong word.
+fn word_help(
+    alloc: Global,
+    network: &Table,
+    wanted: Wanted,
+    word: &[u8],
+) -> Result<String, AllocError>
+    ensures { IfOk result (λ s. string_bytes s ≡ word_help (table_view network.now) wanted word.now) }
+{
+    match wanted {
+        Wanted::Verb => verb_help(alloc, word),
+        Wanted::Node => {
+            let names = names_of(alloc, network, Key::Node)?;
+            like_help(alloc, word, &names)
+        }
+        Wanted::Flow => {
+            let names = names_of(alloc, network, Key::Flow)?;
+            like_help(alloc, word, &names)
+        }
+        _ => Ok(String::new(alloc)),
+    }
+}
+
+// The same, of the word that the rest of a line begins with, by the text of the network.
+fn help_of(alloc: Global, network: &[u8], wrong: &Wrong<'_>) -> Result<String, AllocError>
+    ensures { IfOk result (λ s. string_bytes s ≡ help_of network.now (wrong_view wrong.now)) }
+{
+    let Some(rest) = wrong.rest else {
+        return Ok(String::new(alloc));
+    };
+    let (word, _) = first_word(rest);
+    match read_document(alloc, network) {
+        Ok(document) => word_help(alloc, &document, wrong.wanted, word),
+        Err(FileFault::Text(_)) => Ok(String::new(alloc)),
+        Err(FileFault::Memory) => Err(AllocError),
+    }
+}
+
+// The first two lines: where the fault is and what is wrong, and what stands there.
+fn head_lines(
+    alloc: Global,
+    path: &str,
+    number: u64,
+    line: &[u8],
+    offset: usize,
+    what: &str,
+) -> Result<String, AllocError>
+    requires { offset ≤ length line.now }
+    ensures { IfOk result (λ s. string_bytes s ≡ head_lines path.now number line.now offset what.now) }
+{
+    let path = shown(alloc, path.as_bytes())?;
+    let column = offset + 1;
+    let found = found_line(alloc, line, Some(offset))?;
+    format!(in alloc; "{path}:{number}:{column}: fault S1 BadLine {number}: {what}\n{found}")
+}
+
+// The lines of a hint of a line with a wrong word.
+fn word_lines(
+    alloc: Global,
+    path: &str,
+    text: &[u8],
+    network: &Network,
+    number: u64,
+    line: &[u8],
+    wrong: &Wrong<'_>,
+) -> Result<String, AllocError>
+    ensures { IfOk result (λ s. string_bytes s ≡ word_lines path.now text.now network.now number line.now (wrong_view wrong.now)) }
+{
+    let head = head_lines(
+        alloc,
+        path,
+        number,
+        line,
+        offset_of(line, wrong),
+        what_words(wrong),
+    )?;
+    let expected = expected(alloc, network, wrong.wanted)?;
+    let expected = told(alloc, "expected", expected.as_bytes())?;
+    let help = help_of(alloc, text, wrong)?;
+    let help = told(alloc, "help", help.as_bytes())?;
+    format!(in alloc; "{head}{expected}{help}")
+}
+
+// The lines of a hint of the line with which the steps are too many.
+fn total_lines(alloc: Global, path: &str, number: u64, line: &[u8]) -> Result<String, AllocError>
+    ensures { IfOk result (λ s. string_bytes s ≡ total_lines path.now number line.now) }
+{
+    let head = head_lines(
+        alloc,
+        path,
+        number,
+        line,
+        0,
+        "with this line there are too many steps",
+    )?;
+    let expected = told(
+        alloc,
+        "expected",
+        b"at most 1000000 steps in all".as_slice(),
+    )?;
+    format!(in alloc; "{head}{expected}")
+}
+
+// The lines of a hint of a line.
+fn line_hint(
+    alloc: Global,
+    path: &str,
+    text: &[u8],
+    network: &Network,
+    number: u64,
+    line: &[u8],
+) -> Result<String, AllocError>
+    ensures { IfOk result (λ s. string_bytes s ≡ line_hint path.now text.now network.now number line.now) }
+{
+    match wrong_of(alloc, network, line)? {
+        Some(wrong) => word_lines(alloc, path, text, network, number, line, &wrong),
+        None => total_lines(alloc, path, number, line),
+    }
+}
+
+// The number of the first wrong line of a schedule.
+fn wrong_number(
+    alloc: Global,
+    network: &Network,
+    schedule: &[u8],
+) -> Result<Option<u64>, AllocError>
+    ensures { IfOk result (λ o. o ≡ wrong_number (steps_of_text network.now schedule.now)) }
+{
+    match read_steps(alloc, network, schedule) {
+        Ok(_) => Ok(None),
+        Err(ScheduleFault::BadLine(number)) => Ok(Some(number)),
+        Err(ScheduleFault::Memory) => Err(AllocError),
+    }
+}
+
+// The hint of a schedule for this network.
+fn hint_for(
+    alloc: Global,
+    path: &str,
+    text: &[u8],
+    network: &Network,
+    schedule: &[u8],
+) -> Result<Option<String>, AllocError>
+    ensures { IfOk result (λ o. option_map string_bytes o ≡ hint_for path.now text.now network.now schedule.now) }
+{
+    match wrong_number(alloc, network, schedule)? {
+        Some(number) => {
+            let line = nth_line(schedule, number);
+            let lines = line_hint(alloc, path, text, network, number, line)?;
+            Ok(Some(lines))
+        }
+        None => Ok(None),
+    }
+}
+
+/// The hint of the first wrong line of a schedule for the network of a network file; none where the text is a schedule, and none where
+/// the network file has a fault. `path` is told as the schedule's name.
+///
+/// # Errors
+///
+/// There is no memory for the hint, or to read the texts.
+pub fn schedule_hint(
+    alloc: Global,
+    path: &str,
+    network: &[u8],
+    schedule: &[u8],
+) -> Result<Option<String>, AllocError>
+    ensures { IfOk result (λ o. option_map string_bytes o ≡ schedule_hint path.now network.now schedule.now) }
+{
+    match read_network(alloc, network) {
+        Ok(read) => hint_for(alloc, path, network, &read, schedule),
+        Err(FileFault::Text(_)) => Ok(None),
+        Err(FileFault::Memory) => Err(AllocError),
+    }
+}
