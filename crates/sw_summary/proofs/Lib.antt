@@ -1,0 +1,4 @@
+pub mod Order
+pub mod Counted
+pub mod Taken
+pub mod Lists

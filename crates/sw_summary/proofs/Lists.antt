@@ -1,0 +1,51 @@
+-- Lists that loops make.
+use Rattle.std.proofs.Common.{List, [], ap, arith, get_or, length, map, refl, suc, sym, zero, ℕ, ◌++◌, ◌+◌, ◌<◌, ◌∙◌, ◌∷◌, ◌≡◌}
+use Rattle.std.proofs.lemmas.List.{flat_map_more, get_or-map, length-map}
+use Rattle.std.proofs.lemmas.List.Folds.{flat_map-map}
+use Rattle.std.specs.Global.{Vec}
+use Rattle.std.specs.List.{flat_map, fold, range_with_len}
+use Rattle.sw_char.specs.PacketView.{PacketView}
+use Rattle.sw_machine.specs.Begun.{beginning, beginnings}
+use Rattle.sw_model.specs.Steps.{machine_step}
+use Rattle.sw_model.specs.declared.step.Step.{Step}
+use Rattle.sw_summary.specs.Counts.{statuses, statuses_of}
+use Rattle.sw_summary.specs.Tallies.{Item, TallyView, taken, taken_all}
+
+pub beginnings_are : (steps : List Step) → flat_map (λ step. beginning (machine_step step)) steps ≡ beginnings (map machine_step steps)
+beginnings_are steps = sym (flat_map-map beginning machine_step steps)
+
+abbrev items_in : Vec PacketView → List PacketView
+items_in v = v.items
+
+pub statuses_are : (out : List (Vec PacketView)) → flat_map (λ v. statuses_of v.items) out ≡ statuses (map (λ v. v.items) out)
+statuses_are out = sym (flat_map-map statuses_of items_in out)
+
+pub range_more : (a n m k : ℕ) → m ≡ suc n → a + n ≡ k → range_with_len a m ≡ range_with_len a n ++ k ∷ []
+range_more a zero m k next is = let same : a ≡ k = omega arith in rw next (ap (λ (j : ℕ). j ∷ []) same)
+range_more a (suc n) m k next is = rw next (ap (λ (l : List ℕ). a ∷ l) (range_more (a + 1) n (suc n) k refl (omega arith)))
+
+-- one number more
+pub next_more : {A : Type 0} (f : ℕ → List A) (n : ℕ) → flat_map f (range_with_len 0 n) ++ f n ≡ flat_map f (range_with_len 0 (n + 1))
+next_more f n = flat_map_more f [] (range_with_len 0 n) n ∙ ap (flat_map f) (sym (range_more 0 n (n + 1) n (omega arith) (omega arith)))
+
+-- one node more
+pub node_more : (text : ℕ → List PacketView → List Item) (all : List (Vec PacketView)) (n : ℕ) (before here after : List Item) (q : Vec PacketView)
+    → before ≡ flat_map (λ k. text k (get_or (map items_in all) k [])) (range_with_len 0 n) → here ≡ text n q.items → n < length all → q ≡ get_or all n q
+    → after ≡ before ++ here → after ≡ flat_map (λ k. text k (get_or (map items_in all) k [])) (range_with_len 0 (n + 1))
+node_more text all n before here after q so_far line lt at is =
+    let there : q.items ≡ get_or (map items_in all) n [] = ap items_in at ∙ sym (get_or-map items_in all n q [] lt) in
+    let same : here ≡ text n (get_or (map items_in all) n []) = line ∙ ap (text n) there in
+    is ∙ ap (λ (l : List Item). l ++ here) so_far
+    ∙ ap (λ (l : List Item). flat_map (λ k. text k (get_or (map items_in all) k [])) (range_with_len 0 n) ++ l) same
+    ∙ next_more (λ k. text k (get_or (map items_in all) k [])) n
+
+pub taken_append : (xs ys : List Item) (ts : List TallyView) → taken_all ts (xs ++ ys) ≡ taken_all (taken_all ts xs) ys
+taken_append [] ys ts = refl
+taken_append (x ∷ xs) ys ts = taken_append xs ys (taken x ts)
+
+-- the items of one flow more
+pub flow_more : (f : ℕ → List Item) (n : ℕ) (start before after : List TallyView) → before ≡ taken_all start (flat_map f (range_with_len 0 n)) → after ≡ taken_all before (f n)
+    → after ≡ taken_all start (flat_map f (range_with_len 0 (n + 1)))
+flow_more f n start before after so_far is =
+    is ∙ ap (λ (ts : List TallyView). taken_all ts (f n)) so_far
+    ∙ sym (taken_append (flat_map f (range_with_len 0 n)) (f n) start) ∙ ap (taken_all start) (next_more f n)

@@ -1,0 +1,95 @@
+-- What is left where items take one each.
+use Rattle.std.proofs.Common.{◌≡◌, ◌∙◌, ◌<◌, ◌≤◌, ◌+◌, ◌-◌, ℕ, suc, zero, List, [], ◌∷◌, ◌++◌, ap, arith, get_or, length, map, refl, slice_set, subst, sym}
+use Rattle.std.specs.Prelude.{if◌then◌else◌, nat_lt}
+use Rattle.std.specs.Cmp.{tied_back}
+use Rattle.std.specs.List.{HoldsAt}
+use Rattle.std.specs.List.Sorted.{IsNonDecreasingBy, IsPartitionPoint, IsStrictlySortedBy}
+use Rattle.std.specs.Ordering.{ordering_index, ordering_reverse}
+use Rattle.std.specs.declared.cmp.Ordering.{Ordering}
+use Rattle.std.specs.declared.cmp.Ordering.TheVariants.{Less, Equal, Greater}
+use Rattle.sw_summary.specs.Tallies.{IsRising, Item, TallyView, found, item_order, left, left_at, taken, taken_all, taken_at}
+use Rattle.sw_summary.proofs.Order.{answers_rise, item_order_total, less_before, rises}
+
+abbrev IsLess : Item → Item → Type 0
+IsLess p q = item_order p q ≡ Less
+
+turned : (p q : Item) (r : Ordering) → item_order q p ≡ r → item_order p q ≡ ordering_reverse r
+turned p q r is = item_order_total.antisymm p q ∙ ap ordering_reverse is
+
+abbrev lowered : TallyView → TallyView
+lowered t = record t { count = t.count - 1 }
+
+-- an item that stands at i
+taken_there : (p : Item) (ts : List TallyView) (i : ℕ) (d : TallyView) → i < length ts
+    → ((k : ℕ) → k < i → IsLess (get_or ts k d).item p) → item_order (get_or ts i d).item p ≡ Equal
+    → (taken p ts ≡ slice_set ts i (lowered (get_or ts i d))) × (left p ts ≡ (get_or ts i d).count)
+taken_there p [] i d within below here = absurd (omega (arith, within))
+taken_there p (t ∷ ts) zero d within below here =
+    let first = tied_back item_order_total t.item p here in
+    (ap (λ (r : Ordering). taken_at p r t ts (taken p ts)) first, ap (λ (r : Ordering). left_at p r t (left p ts)) first)
+taken_there p (t ∷ ts) (suc i) d within below here =
+    let first : IsLess t.item p = below 0 (omega arith) in
+    let rest = taken_there p ts i d (omega (arith, within)) (λ k less. below (suc k) (omega (arith, less))) here in (
+      ap (λ (r : Ordering). taken_at p r t ts (taken p ts)) (turned p t.item Less first) ∙ ap (λ (l : List TallyView). t ∷ l) rest.0,
+      ap (λ (r : Ordering). left_at p r t (left p ts)) (turned p t.item Less first) ∙ rest.1,
+    )
+
+-- an item that stands nowhere
+taken_nowhere : (p : Item) (ts : List TallyView) (i : ℕ) (d : TallyView) → i ≤ length ts
+    → ((k : ℕ) → k < i → IsLess (get_or ts k d).item p) → ((k : ℕ) → i ≤ k → k < length ts → item_order (get_or ts k d).item p ≡ Greater)
+    → (taken p ts ≡ ts) × (left p ts ≡ 0)
+taken_nowhere p [] i d within below above = (refl, refl)
+taken_nowhere p (t ∷ ts) zero d within below above =
+    let first : item_order t.item p ≡ Greater = above 0 (omega arith) (omega arith) in
+    (ap (λ (r : Ordering). taken_at p r t ts (taken p ts)) (turned p t.item Greater first), ap (λ (r : Ordering). left_at p r t (left p ts)) (turned p t.item Greater first))
+taken_nowhere p (t ∷ ts) (suc i) d within below above =
+    let first : IsLess t.item p = below 0 (omega arith) in
+    let rest = taken_nowhere p ts i d (omega (arith, within)) (λ k less. below (suc k) (omega (arith, less))) (λ k more less. above (suc k) (omega (arith, more)) (omega (arith, less))) in (
+      ap (λ (r : Ordering). taken_at p r t ts (taken p ts)) (turned p t.item Less first) ∙ ap (λ (l : List TallyView). t ∷ l) rest.0,
+      ap (λ (r : Ordering). left_at p r t (left p ts)) (turned p t.item Less first) ∙ rest.1,
+    )
+
+-- an item that a search found
+pub found_taken : (p : Item) (ts : List TallyView) (i : ℕ) (t new : TallyView) → IsRising ts → i < length ts
+    → HoldsAt (λ (u : TallyView). item_order u.item p ≡ Equal) ts i → t ≡ get_or ts i t → new ≡ lowered t
+    → (slice_set ts i new ≡ taken p ts) × (t.count ≡ left p ts)
+found_taken p ts i t new h within is at after =
+    let here : item_order (get_or ts i t).item p ≡ Equal = is t in
+    let there = taken_there p ts i t within (λ k less. less_before (get_or ts k t).item (get_or ts i t).item p Equal (rises ts k i t h less within) here (omega arith)) here in
+    (ap (slice_set ts i) (after ∙ ap lowered at) ∙ sym there.0, ap (λ (u : TallyView). u.count) at ∙ sym there.1)
+
+-- an item that it did not find
+pub missing_taken : (p : Item) (ts : List TallyView) (i : ℕ) → IsRising ts → i ≤ length ts
+    → (IsNonDecreasingBy (λ (u : TallyView). ordering_index (item_order u.item p)) ts
+    → IsPartitionPoint (λ (u : TallyView). item_order u.item p ≡ Less) (λ (u : TallyView). item_order u.item p ≡ Greater) ts i)
+    → (taken p ts ≡ ts) × (left p ts ≡ 0)
+missing_taken p ts i h within found_by =
+    let parted = found_by (answers_rise p ts h) in
+    let d : TallyView = record { item = p; count = 0 } in
+    taken_nowhere p ts i d within (λ k less. parted.0 k d (omega arith) less) (λ k more less. parted.1 k d more less)
+
+taken_items : (p : Item) (ts : List TallyView) → map (λ (t : TallyView). t.item) (taken p ts) ≡ map (λ (t : TallyView). t.item) ts
+taken_items p [] = refl
+taken_items p (t ∷ ts) = go (item_order p t.item) (taken_items p ts)
+  where
+    go : (r : Ordering) → map (λ (t : TallyView). t.item) (taken p ts) ≡ map (λ (t : TallyView). t.item) ts
+        → map (λ (t : TallyView). t.item) (taken_at p r t ts (taken p ts)) ≡ map (λ (t : TallyView). t.item) (t ∷ ts)
+    go Less h = refl
+    go Equal h = refl
+    go Greater h = ap (λ (l : List Item). t.item ∷ l) h
+
+pub taken_rises : (p : Item) (ts : List TallyView) → IsRising ts → IsRising (taken p ts)
+taken_rises p ts h = subst (IsStrictlySortedBy item_order) (sym (taken_items p ts)) h
+
+pub taken_all_rises : (items : List Item) (ts : List TallyView) → IsRising ts → IsRising (taken_all ts items)
+taken_all_rises [] ts h = h
+taken_all_rises (p ∷ ps) ts h = taken_all_rises ps (taken p ts) (taken_rises p ts h)
+
+-- one item more
+pub found_more : (ts : List TallyView) (ps : List Item) (p : Item) → found ts (ps ++ p ∷ []) ≡ found ts ps + (if nat_lt 0 (left p (taken_all ts ps)) then 1 else 0)
+found_more ts [] p = omega arith
+found_more ts (q ∷ qs) p = let rest = found_more (taken q ts) qs p in omega (arith, rest)
+
+pub taken_more : (ts : List TallyView) (ps : List Item) (p : Item) → taken_all ts (ps ++ p ∷ []) ≡ taken p (taken_all ts ps)
+taken_more ts [] p = refl
+taken_more ts (q ∷ qs) p = taken_more (taken q ts) qs p

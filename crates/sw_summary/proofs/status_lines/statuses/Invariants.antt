@@ -1,0 +1,7 @@
+use Rattle.std.proofs.Common.{◌≡◌, take}
+use Rattle.std.specs.List.{flat_map}
+use Rattle.sw_summary.specs.Counts.{statuses_of}
+use Rattle.sw_summary.proofs.status_lines.statuses.Given as goal
+
+abbrev pub invariant-loop-packets : goal.invariant-loop-packets
+invariant-loop-packets l = l.all.items ≡ flat_map (λ packets. statuses_of packets.items) (take l.packets-index l.out)

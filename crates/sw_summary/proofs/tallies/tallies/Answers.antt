@@ -1,0 +1,12 @@
+use Rattle.std.proofs.Common.{rules, take, ◌<◌, length}
+use Rattle.sw_summary.proofs.Counted.{tallies_fit, tallies_rise}
+use Rattle.sw_summary.proofs.tallies.tallies.Goals as goal
+
+pub add-requires-clause-rising : goal.add-requires-clause-rising
+add-requires-clause-rising c = rw c.loop-key.invariant (tallies_rise (take c.loop-key.key-index c.args.keys.now))
+
+pub add-requires-clause-few : goal.add-requires-clause-few
+add-requires-clause-few c =
+    let within : c.loop-key.key-index < length c.args.keys.now = search rules in
+    let fits : length c.args.keys.now < 18446744073709551616 = search rules in
+    rw c.loop-key.invariant (tallies_fit c.args.keys.now c.loop-key.key-index 18446744073709551616 within fits)

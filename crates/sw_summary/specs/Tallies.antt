@@ -1,0 +1,70 @@
+-- What came out of a network and is not counted yet (this project's choice).
+use Rattle.std.specs.Prelude.{List, [], if◌then◌else◌, map, nat_lt, ℕ, ◌+◌, ◌-◌, ◌∷◌}
+use Rattle.std.specs.List.{fold}
+use Rattle.std.specs.List.Sorted.{IsStrictlySortedBy}
+use Rattle.std.specs.Ordering.{nat_cmp, ordering_then}
+use Rattle.std.specs.declared.cmp.Ordering.{Ordering}
+use Rattle.std.specs.declared.cmp.Ordering.TheVariants.{Less, Equal, Greater}
+use Rattle.sw_char.specs.PacketView.{PacketView}
+use Rattle.sw_output.specs.Tallies.{packet_order}
+
+-- a node, and a packet there
+pub record Item : Type 0 where
+  pub node : ℕ
+  pub packet : PacketView
+
+-- by node, and then as packets are
+abbrev pub item_order : Item → Item → Ordering
+item_order a b = ordering_then (nat_cmp a.node b.node) (packet_order a.packet b.packet)
+
+-- an item, and how often it is there
+pub record TallyView : Type 0 where
+  pub item : Item
+  pub count : ℕ
+
+-- one more
+abbrev pub counted_at : Item → Ordering → TallyView → List TallyView → List TallyView → List TallyView
+counted_at p Less t ts rest = record { item = p; count = 1 } ∷ t ∷ ts
+counted_at p Equal t ts rest = record t { count = t.count + 1 } ∷ ts
+counted_at p Greater t ts rest = t ∷ rest
+
+abbrev pub counted : Item → List TallyView → List TallyView
+counted p [] = record { item = p; count = 1 } ∷ []
+counted p (t ∷ ts) = counted_at p (item_order p t.item) t ts (counted p ts)
+
+-- the different items of a list in rising order, each with how often it is listed
+abbrev pub tallies : List Item → List TallyView
+tallies items = fold (λ ts p. counted p ts) [] items
+
+-- each item comes before those after it
+abbrev pub IsRising : List TallyView → Type 0
+IsRising ts = IsStrictlySortedBy item_order (map (λ t. t.item) ts)
+
+-- how many there still are
+abbrev pub left_at : Item → Ordering → TallyView → ℕ → ℕ
+left_at p Less t rest = 0
+left_at p Equal t rest = t.count
+left_at p Greater t rest = rest
+
+abbrev pub left : Item → List TallyView → ℕ
+left p [] = 0
+left p (t ∷ ts) = left_at p (item_order p t.item) t (left p ts)
+
+-- one fewer, where there is one
+abbrev pub taken_at : Item → Ordering → TallyView → List TallyView → List TallyView → List TallyView
+taken_at p Less t ts rest = t ∷ ts
+taken_at p Equal t ts rest = record t { count = t.count - 1 } ∷ ts
+taken_at p Greater t ts rest = t ∷ rest
+
+abbrev pub taken : Item → List TallyView → List TallyView
+taken p [] = []
+taken p (t ∷ ts) = taken_at p (item_order p t.item) t ts (taken p ts)
+
+-- what is left where each of these items takes one
+abbrev pub taken_all : List TallyView → List Item → List TallyView
+taken_all ts items = fold (λ us p. taken p us) ts items
+
+-- how many of these items find one
+abbrev pub found : List TallyView → List Item → ℕ
+found ts [] = 0
+found ts (p ∷ ps) = (if nat_lt 0 (left p ts) then 1 else 0) + found (taken p ts) ps

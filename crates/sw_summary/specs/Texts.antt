@@ -1,0 +1,93 @@
+-- The text of a summary (this project's choice).
+use Rattle.std.specs.Prelude.{Bool, List, None, Option, Some, [], ◌∷◌, ◌++◌, codes, flat_map, if◌then◌else◌, is_some, length, nat_lt, slice_get, ℕ}
+use Rattle.std.specs.Fmt.{decimal}
+use Rattle.std.specs.List.{range_with_len}
+use Rattle.std.specs.Option.{option_map_or}
+use Rattle.sw_char.specs.PacketView.{PacketView}
+use Rattle.sw_config.specs.Entries.{Declaration, FlowEntry, target_of}
+use Rattle.sw_load.specs.Load.{LoadEntry}
+use Rattle.sw_machine.specs.Begun.{Begun, beginnings}
+use Rattle.sw_machine.specs.Steps.{Step}
+use Rattle.sw_output.specs.Lines.{line, spaced}
+use Rattle.sw_summary.specs.Counts.{all_items, all_replies, with_status, answered, delivered, fated, forms, loaded, of_flow}
+use Rattle.sw_summary.specs.Fates.{reason_text}
+use Rattle.sw_summary.specs.Replies.{status_name}
+use Rattle.sw_summary.specs.Tallies.{TallyView, tallies}
+use Rattle.sw_summary.specs.declared.fate.Fate.{Fate}
+use Rattle.sw_summary.specs.declared.fate.Fate.TheVariants.{TooShort, OtherProtocol, WrongCrc, IsReply, NotAsked, NoWay}
+
+-- how many steps there are
+abbrev pub steps_line : ℕ → List ℕ
+steps_line count = line (codes "steps" ∷ decimal count ∷ [])
+
+-- how many commands of a flow are answered; nothing of a flow without replies
+abbrev pub answered_words : Option ℕ → List ℕ
+answered_words None = []
+answered_words (Some count) = codes " answered " ++ decimal count
+
+-- of a flow: how many of how many packets were begun, how many came out at its end, and how many were answered
+abbrev pub flow_line : List ℕ → ℕ → ℕ → ℕ → Option ℕ → List ℕ
+flow_line name begun of_them came_out replies =
+    spaced (codes "flow" ∷ name ∷ codes "begun" ∷ decimal begun ∷ codes "of" ∷ decimal of_them ∷ codes "delivered" ∷ decimal came_out ∷ [])
+    ++ (answered_words replies ++ codes "\n")
+
+abbrev pub replies_told : FlowEntry → ℕ → Option ℕ
+replies_told f count = if is_some f.reply then Some count else None
+
+-- of flow i, if the load has a packet of it, of which so many came out and so many were answered
+abbrev pub flow_text_of : List LoadEntry → List Begun → ℕ → ℕ → ℕ → FlowEntry → List ℕ
+flow_text_of load begun i came_out replies f =
+    if nat_lt 0 (loaded i load) then flow_line f.name (length (of_flow i begun)) (loaded i load) came_out (replies_told f replies) else []
+
+abbrev pub flow_text : Declaration → List LoadEntry → List Begun → ℕ → ℕ → ℕ → List ℕ
+flow_text d load begun came_out replies i = option_map_or (flow_text_of load begun i came_out replies) (slice_get d.flows i) []
+
+-- of all flows, where this came out and these replies did
+abbrev pub flow_texts_from : Declaration → List LoadEntry → List Begun → List TallyView → List TallyView → List ℕ
+flow_texts_from d load begun packets replies = flat_map (λ i. flow_text d load begun (delivered d begun packets i) (answered d begun replies i) i) (range_with_len 0 (length d.flows))
+
+abbrev pub flow_texts : Declaration → List LoadEntry → List Begun → List (List PacketView) → List ℕ
+flow_texts d load begun out = flow_texts_from d load begun (tallies (all_items out)) (tallies (all_replies out))
+
+-- how many replies with a status came out, if any
+abbrev pub status_line : ℕ → ℕ → List ℕ
+status_line status count =
+    if nat_lt 0 count
+    then codes "replies with status " ++ (decimal status ++ (codes " (" ++ (status_name status ++ (codes "): " ++ (decimal count ++ codes "\n")))))
+    else []
+
+-- each status but 0
+abbrev pub status_lines : List (List PacketView) → List ℕ
+status_lines out = flat_map (λ s. status_line s (with_status out s)) (range_with_len 1 255)
+
+-- how many packets of a flow to a target nobody answers, for this reason, if any
+abbrev pub unanswered_line : List ℕ → List PacketView → Fate → List ℕ
+unanswered_line name packets fate =
+    if nat_lt 0 (fated fate packets)
+    then codes "commands of " ++ (name ++ (codes " that nobody answers: " ++ (decimal (fated fate packets) ++ (codes " (" ++ (reason_text fate ++ codes ")\n")))))
+    else []
+
+abbrev pub reasons : List Fate
+reasons = TooShort ∷ OtherProtocol ∷ WrongCrc ∷ IsReply ∷ NotAsked ∷ NoWay ∷ []
+
+abbrev pub unanswered_text : List ℕ → List PacketView → List ℕ
+unanswered_text name packets = flat_map (unanswered_line name packets) reasons
+
+-- of flow i, if it ends at a target
+abbrev pub unanswered_of : Declaration → List Begun → ℕ → FlowEntry → List ℕ
+unanswered_of d begun i f = if is_some (target_of d.nodes f.to) then unanswered_text f.name (forms f i begun) else []
+
+abbrev pub unanswered_texts : Declaration → List Begun → List ℕ
+unanswered_texts d begun = flat_map (λ i. option_map_or (unanswered_of d begun i) (slice_get d.flows i) []) (range_with_len 0 (length d.flows))
+
+-- what the run does not show: how long anything takes, and what other runs do
+abbrev pub caveats : Bool → List ℕ
+caveats shows_nothing =
+    line (codes "time is not modelled" ∷ [])
+    ++ (if shows_nothing then line (codes "the network is not free: that this run drained shows nothing of other runs" ∷ []) else [])
+
+-- the summary of these steps of a load and of what came out, line by line
+abbrev pub summary_text : Declaration → List LoadEntry → List Step → List (List PacketView) → Bool → List ℕ
+summary_text d load steps out shows_nothing =
+    steps_line (length steps)
+    ++ (flow_texts d load (beginnings steps) out ++ (status_lines out ++ (unanswered_texts d (beginnings steps) ++ caveats shows_nothing)))

@@ -1,0 +1,138 @@
+//! The packets that a history begins.
+ghost use Rattle.std.specs.Prelude.{◌≡◌, ◌≤◌, ◌++◌, IfOk, length, map, option_to_list};
+ghost use Rattle.sw_machine.specs.Begun.{beginning, beginnings};
+ghost use Rattle.sw_model.specs.Packets.{left_bytes};
+ghost use Rattle.sw_model.specs.Steps.{machine_step};
+ghost use Rattle.sw_summary.specs.Counts.{form_of, forms, loaded, of_entry, of_flow};
+
+use std::alloc::{AllocError, Global};
+use std::marker::Model;
+use sw_char::{End, Packet};
+use sw_config::Flow;
+use sw_load::{Load, LoadPacket};
+use sw_model::Step;
+
+/// A packet that a history begins.
+#[derive(Drop)]
+pub(crate) struct Begun<'a> {
+    pub(crate) flow: u16,
+    pub(crate) cargo: &'a [u8],
+    pub(crate) end: End,
+}
+
+impl<'a> Model for Begun<'a> {
+    ghost use Rattle.sw_machine.specs.Begun as machine;
+
+    ghost Value = { machine.Begun };
+
+    ghost view = { λ b. record { flow = b.flow; cargo = b.cargo.now; end = b.end } };
+}
+
+// The packet that the step begins.
+fn beginning(step: &Step) -> Option<Begun<'_>>
+    ensures { option_to_list result ≡ beginning (machine_step step.now) }
+{
+    match step {
+        Step::Begin { flow, cargo, end } => Some(Begun {
+            flow: *flow,
+            cargo: cargo.as_slice(),
+            end: *end,
+        }),
+        _ => None,
+    }
+}
+
+// One packet more, if there is one.
+fn push_some<'a>(all: &mut Vec<Begun<'a>>, begun: Option<Begun<'a>>) -> Result<(), AllocError>
+    ensures { IfOk result (λ _. all.new.items ≡ all.old.items ++ option_to_list begun.entry) }
+{
+    if let Some(begun) = begun {
+        all.push(begun)?;
+    }
+    Ok(())
+}
+
+/// The packets that the steps begin.
+#[tactic(auto, using(crate::proofs::Lists::beginnings_are))]
+pub(crate) fn beginnings<'a>(alloc: Global, steps: &'a [Step]) -> Result<Vec<Begun<'a>>, AllocError>
+    ensures { IfOk result (λ all. all.items ≡ beginnings (map machine_step steps.now)) }
+{
+    let mut all = Vec::new(alloc);
+    for step in steps {
+        push_some(&mut all, beginning(step))?;
+    }
+    Ok(all)
+}
+
+/// How many of the packets are the flow's.
+pub(crate) fn begun_of(flow: u16, begun: &[Begun<'_>]) -> usize
+    ensures { result ≡ length (of_flow flow begun.now) }
+{
+    begun.iter().filter(|packet| packet.flow == flow).count()
+}
+
+// How many packets the entry has of the flow.
+fn count_of(flow: u16, entry: &LoadPacket) -> u64
+    ensures count { result ≡ of_entry flow entry.now }
+    ensures few { result ≤ entry.now.count }
+{
+    if entry.flow() == flow {
+        u64::from(entry.count())
+    } else {
+        0
+    }
+}
+
+/// How many packets of the flow the load has.
+pub(crate) fn loaded(flow: u16, load: &Load) -> u64
+    ensures { result ≡ loaded flow load.now }
+{
+    // Names the total, which bounds each entry's count.
+    let _total = load.total();
+    let mut sum = 0;
+    for entry in load.packets() {
+        sum += count_of(flow, entry);
+    }
+    sum
+}
+
+// The last bytes of the flow's address, which are left where its packets end.
+fn left_bytes(flow: &Flow) -> &[u8]
+    requires { flow.now.left ≤ length flow.now.address }
+    ensures { result.now ≡ left_bytes flow.now }
+{
+    let address = flow.address();
+    &address[address.len() - flow.left() as usize..]
+}
+
+// The packet as the node at the end of its flow gets it.
+fn form_of(alloc: Global, flow: &Flow, begun: &Begun<'_>) -> Result<Packet, AllocError>
+    requires { flow.now.left ≤ length flow.now.address }
+    ensures { IfOk result (λ p. p ≡ form_of flow.now begun.now) }
+{
+    let mut bytes = Vec::from_slice(alloc, left_bytes(flow))?;
+    bytes.extend_from_slice(begun.cargo)?;
+    Ok(Packet {
+        bytes,
+        end: begun.end,
+    })
+}
+
+/// The packets of the flow of that number, as the node at its end gets them.
+pub(crate) fn forms(
+    alloc: Global,
+    flow: &Flow,
+    number: u16,
+    begun: &[Begun<'_>],
+) -> Result<Vec<Packet>, AllocError>
+    requires { flow.now.left ≤ length flow.now.address }
+    ensures { IfOk result (λ all. all.items ≡ forms flow.now number begun.now) }
+{
+    let mut all = Vec::new(alloc);
+    for packet in begun {
+        if packet.flow == number {
+            all.push(form_of(alloc, flow, packet)?)?;
+        }
+    }
+    Ok(all)
+}

@@ -1,0 +1,62 @@
+//! Which statuses the replies that came out have.
+ghost use Rattle.std.specs.Prelude.{◌≡◌, ◌++◌, ◌==◌, IfOk, count_by, map, string_bytes};
+ghost use Rattle.sw_summary.specs.Counts.{statuses, statuses_of};
+ghost use Rattle.sw_summary.specs.Texts.{status_line, status_lines};
+
+use crate::replies::{is_reply, status_name, status_of};
+use std::alloc::{AllocError, Global};
+use sw_char::Packet;
+
+// The statuses of the replies among the packets.
+fn push_statuses(all: &mut Vec<u8>, packets: &[Packet]) -> Result<(), AllocError>
+    ensures { IfOk result (λ _. all.new.items ≡ all.old.items ++ statuses_of packets.now) }
+{
+    for packet in packets {
+        if is_reply(&packet.bytes) {
+            all.push(status_of(&packet.bytes))?;
+        }
+    }
+    Ok(())
+}
+
+// The statuses of all replies that came out.
+#[tactic(auto, using(crate::proofs::Lists::statuses_are))]
+fn statuses(alloc: Global, out: &[Vec<Packet>]) -> Result<Vec<u8>, AllocError>
+    ensures { IfOk result (λ all. all.items ≡ statuses (map (λ packets. packets.items) out.now)) }
+{
+    let mut all = Vec::new(alloc);
+    for packets in out {
+        push_statuses(&mut all, packets)?;
+    }
+    Ok(all)
+}
+
+// How many of the statuses are this one.
+fn with_status(statuses: &[u8], status: u8) -> usize
+    ensures { result ≡ count_by (λ s. s == status) statuses.now }
+{
+    statuses.iter().filter(|other| **other == status).count()
+}
+
+fn status_line(alloc: Global, status: u8, count: usize) -> Result<String, AllocError>
+    ensures { IfOk result (λ s. string_bytes s ≡ status_line status count) }
+{
+    if count == 0 {
+        return Ok(String::new(alloc));
+    }
+    let name = status_name(status);
+    format!(in alloc; "replies with status {status} ({name}): {count}\n")
+}
+
+/// A line for each status but 0 that a reply has.
+pub(crate) fn status_lines(alloc: Global, out: &[Vec<Packet>]) -> Result<String, AllocError>
+    ensures { IfOk result (λ s. string_bytes s ≡ status_lines (map (λ packets. packets.items) out.now)) }
+{
+    let all = statuses(alloc, out)?;
+    let mut text = String::new(alloc);
+    for status in 1..256u16 {
+        let count = with_status(&all, status as u8);
+        text.push_str(status_line(alloc, status as u8, count)?.as_str())?;
+    }
+    Ok(text)
+}

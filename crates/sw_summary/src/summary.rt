@@ -1,0 +1,50 @@
+//! The text of a summary.
+ghost use Rattle.std.specs.Prelude.{◌≡◌, ◌≤◌, IfOk, length, map, string_bytes};
+ghost use Rattle.sw_model.specs.Steps.{machine_step};
+ghost use Rattle.sw_summary.specs.Texts.{caveats, summary_text};
+
+use crate::begun::beginnings;
+use crate::flow_lines::flow_texts;
+use crate::status_lines::status_lines;
+use crate::unanswered::unanswered_texts;
+use std::alloc::{AllocError, Global};
+use sw_char::Packet;
+use sw_config::Network;
+use sw_load::Load;
+use sw_model::Step;
+
+fn caveats(shows_nothing: bool) -> &'static str
+    ensures { result.now ≡ caveats shows_nothing }
+{
+    if shows_nothing {
+        "time is not modelled\nthe network is not free: that this run drained shows nothing of other runs\n"
+    } else {
+        "time is not modelled\n"
+    }
+}
+
+/// The summary of these steps of the load and of the packets that came out. Whether it ends by saying that a run that drained shows
+/// nothing of other runs is what the caller says.
+///
+/// # Errors
+///
+/// There is no memory for the text.
+pub fn summary_of(
+    alloc: Global,
+    network: &Network,
+    load: &Load,
+    steps: &[Step],
+    out: &[Vec<Packet>],
+    shows_nothing: bool,
+) -> Result<String, AllocError>
+    requires { length out.now ≤ 1024 }
+    ensures { IfOk result (λ s. string_bytes s ≡ summary_text network.now load.now (map machine_step steps.now) (map (λ packets. packets.items) out.now) shows_nothing) }
+{
+    let count = steps.len();
+    let begun = beginnings(alloc, steps)?;
+    let flows = flow_texts(alloc, network, load, &begun, out)?;
+    let statuses = status_lines(alloc, out)?;
+    let unanswered = unanswered_texts(alloc, network, &begun)?;
+    let caveats = caveats(shows_nothing);
+    format!(in alloc; "steps {count}\n{flows}{statuses}{unanswered}{caveats}")
+}
