@@ -1,0 +1,82 @@
+-- Nodes that take nothing while they want to send, and flows that are answered: what then waits, and whether the network stays free.
+use Rattle.std.specs.Prelude.{◌≡◌, ◌↔◌, ℕ, zero, suc, ◌==◌, ◌&&◌, Bool, false, not, IsTrue, is_some, List, [], ◌∷◌, filter, map, length, slice_get}
+use Rattle.std.specs.List.{AllZip, list_any, range_with_len}
+use Rattle.std.specs.Option.{option_map_or}
+use Rattle.sw_topo.specs.Wiring.{out, partner}
+use Rattle.sw_config.specs.Entries.{FlowEntry, Declaration}
+use Rattle.sw_flow.specs.declared.place.Place.{Place}
+use Rattle.sw_flow.specs.Places.{ends_of}
+use Rattle.sw_flow.specs.Followers.{followers_of}
+use Rattle.sw_margin.specs.declared.bend.Bend.{Bend}
+use Rattle.sw_margin.specs.Waits.{StaysFree}
+
+-- ---- nodes
+
+-- the flow has a reply, and ends at that node
+abbrev pub is_answered_at : ℕ → FlowEntry → Bool
+is_answered_at n f = is_some f.reply && f.to == n
+
+-- the nodes at which no flow with a reply ends, in order
+abbrev pub quiet_nodes : Declaration → List ℕ
+quiet_nodes d = filter (λ n. not (list_any (is_answered_at n) d.flows)) (range_with_len 0 (length d.nodes))
+
+-- the node takes nothing while it wants to send: what comes to it waits for what goes from it
+abbrev pub stall : Declaration → ℕ → List (ℕ × ℕ)
+stall d n = option_map_or (λ c. (partner c, c) ∷ []) (out (ends_of d) n) []
+
+-- ---- flows
+
+abbrev pub is_unanswered : FlowEntry → Bool
+is_unanswered f = not (is_some f.reply)
+
+-- the flows without a reply, in order
+abbrev pub unanswered : Declaration → List ℕ
+unanswered d = filter (λ i. option_map_or is_unanswered (slice_get d.flows i) false) (range_with_len 0 (length d.flows))
+
+-- from a place on, again and again by the first of the places that follow, so many times at most
+abbrev pub first_way : Declaration → FlowEntry → ℕ → Place → List Place
+first_way d f zero p = []
+first_way d f (suc n) p = option_map_or (λ q. q ∷ first_way d f n q) (slice_get (followers_of d f p.channel p.deleted) 0) []
+
+-- the place of the flow's start, on that channel
+abbrev pub start_on : ℕ → Place
+start_on c = record { channel = c; deleted = 0 }
+
+-- from the flow's start on so; nothing where there is no such channel
+abbrev pub way_of : Declaration → FlowEntry → List Place
+way_of d f = option_map_or (λ c. start_on c ∷ first_way d f (length (ends_of d)) (start_on c)) (out (ends_of d) f.from) []
+
+-- Replies go back over the links of a way of these channels: what is on its last channel waits for the other channel of that link,
+-- and what is on the other channel of each link for that of the link before.
+abbrev pub waits_back : List ℕ → List (ℕ × ℕ)
+waits_back [] = []
+waits_back (c ∷ []) = (c, partner c) ∷ []
+waits_back (c ∷ e ∷ cs) = (partner e, partner c) ∷ waits_back (e ∷ cs)
+
+-- the flow is answered, and its replies go back over the links of its way
+abbrev pub answering : Declaration → FlowEntry → List (ℕ × ℕ)
+answering d f = waits_back (map (λ p. p.channel) (way_of d f))
+
+-- the flow of that number is answered so
+abbrev pub answering_at : Declaration → ℕ → List (ℕ × ℕ)
+answering_at d i = option_map_or (answering d) (slice_get d.flows i) []
+
+-- ---- what is told
+
+-- it is of that number, and says whether the network stays free with these further waits
+abbrev pub IsBend : Declaration → List (ℕ × ℕ) → ℕ → Bend → Type 0
+IsBend d more n b = (b.number ≡ n) × (IsTrue b.stays_free ↔ StaysFree d more)
+
+abbrev pub IsStall : Declaration → ℕ → Bend → Type 0
+IsStall d n b = IsBend d (stall d n) n b
+
+abbrev pub IsAnswer : Declaration → ℕ → Bend → Type 0
+IsAnswer d i b = IsBend d (answering_at d i) i b
+
+-- of each node at which no flow with a reply ends: whether the network stays free if it takes nothing while it wants to send
+abbrev pub AreStalls : Declaration → List Bend → Type 0
+AreStalls d told = AllZip (IsStall d) (quiet_nodes d) told
+
+-- of each flow without a reply: whether the network stays free if it is answered, the replies going back over the links of its way
+abbrev pub AreAnswers : Declaration → List Bend → Type 0
+AreAnswers d told = AllZip (IsAnswer d) (unanswered d) told

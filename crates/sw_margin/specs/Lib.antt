@@ -1,0 +1,5 @@
+pub mod Waits
+pub mod Bends
+pub mod Losses
+pub mod Needs
+pub mod Laws

@@ -1,0 +1,23 @@
+//! What is told of a network.
+
+/// Whether a network stays free of deadlocks where something more may wait.
+#[derive(Clone, Copy)]
+pub struct Bend {
+    /// Of which node, or of which flow.
+    pub number: u16,
+    pub stays_free: bool,
+}
+
+/// How far the premises of a network bend. Nodes, flows and links are told by their numbers, reply flows counted on from the declared
+/// ones.
+#[derive(Drop)]
+pub struct Margins {
+    /// Of each node at which no flow with a reply ends, in order: whether the network stays free if the node takes nothing while it
+    /// wants to send.
+    pub stalls: Vec<Bend>,
+    /// Of each flow without a reply, in order: whether the network stays free if the flow is answered, the replies going back over the
+    /// links of its way.
+    pub answers: Vec<Bend>,
+    /// For each link the flows that are lost without it, in order.
+    pub losses: Vec<Vec<u16>>,
+}

@@ -1,0 +1,54 @@
+//! Flows that are answered.
+ghost use Rattle.std.specs.Prelude.{◌<◌, IfOk, length};
+ghost use Rattle.sw_margin.specs.Bends.{AreAnswers, IsAnswer};
+ghost use Rattle.sw_margin.specs.Waits.{AreDependencies};
+
+use crate::bend::Bend;
+use crate::chosen::unanswered;
+use crate::trial::bend;
+use crate::way::answering;
+use std::alloc::{AllocError, Global};
+use std::thread::Threads;
+use sw_config::Network;
+
+// What is told of the flow of that number.
+fn told_of<R: Threads + Sync>(
+    rt: &R,
+    alloc: Global,
+    network: &Network,
+    rows: &[Vec<u16>],
+    flow: u16,
+) -> Result<Bend, AllocError>
+    requires rows { AreDependencies network.now rows.now }
+    requires flow { flow < length network.now.flows }
+    ensures { IfOk result (IsAnswer network.now flow) }
+{
+    let waits = answering(alloc, network, network.flow(flow))?;
+    bend(rt, alloc, network, rows, flow, &waits)
+}
+
+/// Of each flow without a reply: whether the network stays free if the flow is answered, the replies going back over the links of its
+/// way, which goes on each time to the first of the places that follow.
+///
+/// `rows` has for each channel those for which a packet on it may wait, as `sw_dependency::dependencies` gives them. Threads share
+/// the work of each trial, as many as there are processors.
+///
+/// # Errors
+///
+/// There is no memory for a trial, or for what is told.
+pub fn answers<R: Threads + Sync>(
+    rt: &R,
+    alloc: Global,
+    network: &Network,
+    rows: &[Vec<u16>],
+) -> Result<Vec<Bend>, AllocError>
+    requires { AreDependencies network.now rows.now }
+    ensures { IfOk result (λ v. AreAnswers network.now v.items) }
+{
+    let flows = unanswered(alloc, network)?;
+    let mut told = Vec::new(alloc);
+    for flow in &flows {
+        told.push(told_of(rt, alloc, network, rows, *flow)?)?;
+    }
+    Ok(told)
+}

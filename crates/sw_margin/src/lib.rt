@@ -1,0 +1,20 @@
+//! How far the premises of a free network bend: nodes that take nothing while they want to send, flows that are answered, links that
+//! are not there.
+#![tactic(auto)]
+
+mod bend;
+mod chosen;
+mod flows;
+pub mod laws;
+mod losing;
+mod nodes;
+mod rows;
+mod telling;
+mod trial;
+mod way;
+
+pub use bend::{Bend, Margins};
+pub use flows::answers;
+pub use losing::losses;
+pub use nodes::stalls;
+pub use telling::margins;

@@ -1,0 +1,62 @@
+//! Nodes that take nothing while they want to send.
+ghost use Rattle.std.specs.Prelude.{◌≡◌, ◌<◌, ◌∷◌, [], IfOk, length};
+ghost use Rattle.sw_flow.specs.Places.{ends_of};
+ghost use Rattle.sw_margin.specs.Bends.{AreStalls, IsStall, stall};
+ghost use Rattle.sw_margin.specs.Waits.{AreDependencies, IsWithin};
+
+use crate::bend::Bend;
+use crate::chosen::quiet_nodes;
+use crate::trial::bend;
+use std::alloc::{AllocError, Global};
+use std::thread::Threads;
+use sw_config::Network;
+
+// What waits for what where the node takes nothing while it wants to send.
+fn stall(network: &Network, node: u16) -> (u16, u16)
+    requires { node < length network.now.nodes }
+    ensures stall { stall network.now node ≡ result ∷ [] }
+    ensures within { IsWithin (length (ends_of network.now)) result }
+{
+    let out = network.topology().out(node);
+    (out.partner().number(), out.number())
+}
+
+// What is told of the node of that number.
+fn told_of<R: Threads + Sync>(
+    rt: &R,
+    alloc: Global,
+    network: &Network,
+    rows: &[Vec<u16>],
+    node: u16,
+) -> Result<Bend, AllocError>
+    requires rows { AreDependencies network.now rows.now }
+    requires node { node < length network.now.nodes }
+    ensures { IfOk result (IsStall network.now node) }
+{
+    bend(rt, alloc, network, rows, node, &[stall(network, node)])
+}
+
+/// Of each node at which no flow with a reply ends: whether the network stays free if the node takes nothing while it wants to send.
+///
+/// `rows` has for each channel those for which a packet on it may wait, as `sw_dependency::dependencies` gives them. Threads share
+/// the work of each trial, as many as there are processors.
+///
+/// # Errors
+///
+/// There is no memory for a trial, or for what is told.
+pub fn stalls<R: Threads + Sync>(
+    rt: &R,
+    alloc: Global,
+    network: &Network,
+    rows: &[Vec<u16>],
+) -> Result<Vec<Bend>, AllocError>
+    requires { AreDependencies network.now rows.now }
+    ensures { IfOk result (λ v. AreStalls network.now v.items) }
+{
+    let nodes = quiet_nodes(alloc, network)?;
+    let mut told = Vec::new(alloc);
+    for node in &nodes {
+        told.push(told_of(rt, alloc, network, rows, *node)?)?;
+    }
+    Ok(told)
+}

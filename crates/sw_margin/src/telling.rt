@@ -1,0 +1,57 @@
+//! How far the premises of a network bend.
+ghost use Rattle.std.specs.Prelude.{IfOk};
+ghost use Rattle.sw_search.specs.Lists.{AreListed};
+ghost use Rattle.sw_margin.specs.Bends.{AreAnswers, AreStalls};
+ghost use Rattle.sw_margin.specs.Losses.{AreLosses};
+ghost use Rattle.sw_margin.specs.Waits.{AreDependencies};
+
+use crate::bend::Margins;
+use crate::flows::answers;
+use crate::losing::losses;
+use crate::nodes::stalls;
+use std::alloc::{AllocError, Global};
+use std::thread::Threads;
+use sw_config::Network;
+use sw_dependency::dependencies;
+use sw_flow::{Place, all_places};
+
+// For each channel those for which a packet on it may wait.
+fn rows_of<R: Threads + Sync>(
+    rt: &R,
+    alloc: Global,
+    network: &Network,
+    places: &[Vec<Place>],
+) -> Result<Vec<Vec<u16>>, AllocError>
+    requires { AreListed network.now places.now }
+    ensures { IfOk result (λ v. AreDependencies network.now v.items) }
+{
+    dependencies(rt, alloc, network, places)
+}
+
+/// How far the premises of a network bend: of each node at which no flow with a reply ends, whether the network stays free if it takes
+/// nothing while it wants to send; of each flow without a reply, whether it stays free if the flow is answered along its own way; and for
+/// each link the flows that are lost without it. Threads share the work, as many as there are processors.
+///
+/// # Errors
+///
+/// There is no memory for the places, the dependencies, a trial or what is told.
+pub fn margins<R: Threads + Sync>(
+    rt: &R,
+    alloc: Global,
+    network: &Network,
+) -> Result<Margins, AllocError>
+    ensures stalls { IfOk result (λ m. AreStalls network.now m.stalls.items) }
+    ensures answers { IfOk result (λ m. AreAnswers network.now m.answers.items) }
+    ensures losses { IfOk result (λ m. AreLosses network.now m.losses.items) }
+{
+    let places = all_places(rt, alloc, network)?;
+    let rows = rows_of(rt, alloc, network, &places)?;
+    let stalls = stalls(rt, alloc, network, &rows)?;
+    let answers = answers(rt, alloc, network, &rows)?;
+    let losses = losses(alloc, network, &places)?;
+    Ok(Margins {
+        stalls,
+        answers,
+        losses,
+    })
+}
