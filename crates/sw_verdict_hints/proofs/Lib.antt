@@ -1,3 +1,4 @@
 pub mod Firsts
 mod LastPlace
+mod FlowWays
 mod WayLines

@@ -1,0 +1,14 @@
+use Rattle.std.proofs.Common.{refl}
+use Rattle.std.proofs.lemmas.Option.{slice_get_within}
+use Rattle.sw_config.specs.Entries.{all_flows}
+use Rattle.sw_verdict_hints.proofs.FlowWays.{place_on_channel, way_found, way_is, way_on_channels}
+use Rattle.sw_verdict_hints.proofs.flow_hints.hint_to.Goals as goal
+
+pub way_to-requires : goal.way_to-requires
+way_to-requires c = slice_get_within (all_flows c.args.network.now) c.args.number c.args.flow.now c.requires.numbered
+
+pub unwrap-way-requires : goal.unwrap-way-requires
+unwrap-way-requires c = way_found c.args.network.now c.args.number c.args.flow.now c.requires.numbered c.args.place c.in_ok-way_to.field-0 c.in_ok-way_to.ensures c.requires.place
+
+pub flow_hint-requires-clause-within : goal.flow_hint-requires-clause-within
+flow_hint-requires-clause-within c = place_on_channel c.args.network.now c.args.flow.now c.args.place c.requires.place
