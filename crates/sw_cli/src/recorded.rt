@@ -20,14 +20,16 @@ pub(crate) struct Extras<'a> {
     pub(crate) summary: bool,
 }
 
-// How the call ends that ended so. That a schedule is too long is told, and so is a summary.
+// How the call ends that ended so. That a schedule is too long is told, and so is a summary, but where a write failed.
 fn ended_of(rt: &impl Eprint, end: RecordEnd) -> Ended
     ensures told { (ended : Ended) (summary : Option (String Global)) → end ≡ RecordEnd.Told ended summary → result ≡ ended }
     ensures too_long { end ≡ RecordEnd.TooLong → result ≡ Ended.Status 6 }
 {
     match end {
         RecordEnd::Told { ended, summary } => {
-            tell_text(rt, summary);
+            if matches!(ended, Ended::Status(_)) {
+                tell_text(rt, summary);
+            }
             ended
         }
         RecordEnd::TooLong => tell_long(rt),
