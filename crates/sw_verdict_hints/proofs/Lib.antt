@@ -1,4 +1,5 @@
 pub mod Firsts
 mod LastPlace
 mod FlowWays
+mod FlowNames
 mod WayLines
