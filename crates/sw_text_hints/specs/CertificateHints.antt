@@ -53,16 +53,17 @@ flows_before n flows (line ∷ lines) =
 abbrev pub line_before : ℕ → List (List ℕ) → List ℕ
 line_before n lines = if nat_le n 1 then [] else nth_line (n - 1) lines
 
+-- the place stands behind another one, in this flow
+abbrev pub place_note : ℕ → ℕ × ℕ → ℕ × ℕ → List ℕ
+place_note flow last place =
+    codes "place " ++ (decimal place.0 ++ (codes " " ++ (decimal place.1 ++ (codes " of flow " ++ (decimal flow ++ (codes " stands behind place " ++ (decimal last.0 ++ (codes " " ++ decimal last.1))))))))
+
 -- both places, and the flow, where the place of a line does not rise above the one before it; else nothing
 abbrev pub rising_note : ℕ → List ℕ → List ℕ → List ℕ
 rising_note flows before line = by_places flows (place_numbers before) (place_numbers line)
   where
-    note : ℕ → ℕ × ℕ → ℕ × ℕ → List ℕ
-    note flows last place =
-        codes "place " ++ (decimal place.0 ++ (codes " " ++ (decimal place.1 ++ (codes " of flow " ++ (decimal (flows - 1) ++ (codes " stands behind place " ++ (decimal last.0 ++ (codes " " ++ decimal last.1))))))))
-
     by_places : ℕ → Option (ℕ × ℕ) → Option (ℕ × ℕ) → List ℕ
-    by_places flows (Some last) (Some place) = if rises last place then [] else note flows last place
+    by_places flows (Some last) (Some place) = if rises last place then [] else place_note (flows - 1) last place
     by_places flows _ _ = []
 
 -- the lines of the hint of a line

@@ -3,7 +3,7 @@ ghost use Rattle.std.specs.Prelude.{◌≡◌, ◌==◌, ◌<◌, IfOk, IfSome, 
 ghost use Rattle.sw_cert.specs.Grammar.{after_word};
 ghost use Rattle.sw_cert.specs.Text.{read_text};
 ghost use Rattle.sw_schedule.specs.Schedule.{text_lines};
-ghost use Rattle.sw_text_hints.specs.CertificateHints.{begins, certificate_hint, expected_after, flows_before, hint_at, line_before, numbers_at, numbers_of, place_numbers, rises, rising_note, wrong_line};
+ghost use Rattle.sw_text_hints.specs.CertificateHints.{begins, certificate_hint, expected_after, flows_before, hint_at, line_before, numbers_at, numbers_of, place_note, place_numbers, rises, rising_note, wrong_line};
 
 use crate::wrong_word::nth_line;
 use std::alloc::{AllocError, Global};
@@ -103,6 +103,22 @@ fn flows_before(text: &[u8], line: usize) -> usize
     }
 }
 
+// That a place stands behind another one.
+fn place_note(
+    alloc: Global,
+    flow: usize,
+    last: (u32, u32),
+    place: (u32, u32),
+) -> Result<String, AllocError>
+    ensures { IfOk result (λ s. string_bytes s ≡ place_note flow last place) }
+{
+    let (channel, deleted) = place;
+    let (last_channel, last_deleted) = last;
+    format!(in alloc;
+        "place {channel} {deleted} of flow {flow} stands behind place {last_channel} {last_deleted}"
+    )
+}
+
 // Both places, and the flow, where the place of a line does not rise above the one before it; else nothing.
 fn rising_note(
     alloc: Global,
@@ -118,12 +134,7 @@ fn rising_note(
     if rises(last, place) {
         return Ok(String::new(alloc));
     }
-    let flow = flows.saturating_sub(1);
-    let (channel, deleted) = place;
-    let (last_channel, last_deleted) = last;
-    format!(in alloc;
-        "place {channel} {deleted} of flow {flow} stands behind place {last_channel} {last_deleted}"
-    )
+    place_note(alloc, flows.saturating_sub(1), last, place)
 }
 
 // The line before the one of this number; nothing before the first.
