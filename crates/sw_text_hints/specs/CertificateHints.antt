@@ -66,12 +66,16 @@ rising_note flows before line = by_places flows (place_numbers before) (place_nu
     by_places flows (Some last) (Some place) = if rises last place then [] else place_note (flows - 1) last place
     by_places flows _ _ = []
 
+-- a line of a text, that it is not as the grammar asks, and the lines of what stands there and what is told of it
+abbrev pub hint_by : List ℕ → ℕ → List ℕ → List ℕ → List ℕ → List ℕ
+hint_by path n found expected note =
+    path ++ (codes ":" ++ (decimal n ++ (codes ":1: refused C1 Grammar " ++ (decimal n ++ (codes ": the line is not as the grammar asks\n" ++ (found ++ (expected ++ note)))))))
+
 -- the lines of the hint of a line
 abbrev pub hint_at : List ℕ → List ℕ → ℕ → List ℕ
 hint_at path text n =
-    shown path ++ (codes ":" ++ (decimal n ++ (codes ":1: refused C1 Grammar " ++ (decimal n ++ (codes ": the line is not as the grammar asks\n"
-    ++ (found_line (nth_line n (text_lines text)) (Some 0) ++ (told (codes "expected") (expected_after (line_before n (text_lines text)))
-    ++ told (codes "note") (rising_note (flows_before n 0 (text_lines text)) (line_before n (text_lines text)) (nth_line n (text_lines text))))))))))
+    hint_by (shown path) n (found_line (nth_line n (text_lines text)) (Some 0)) (told (codes "expected") (expected_after (line_before n (text_lines text))))
+    (told (codes "note") (rising_note (flows_before n 0 (text_lines text)) (line_before n (text_lines text)) (nth_line n (text_lines text))))
 
 -- the number of the first line that is not as the grammar asks
 abbrev pub wrong_line : Result State ℕ → Option ℕ

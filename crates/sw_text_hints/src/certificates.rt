@@ -3,7 +3,7 @@ ghost use Rattle.std.specs.Prelude.{◌≡◌, ◌==◌, ◌<◌, IfOk, IfSome, 
 ghost use Rattle.sw_cert.specs.Grammar.{after_word};
 ghost use Rattle.sw_cert.specs.Text.{read_text};
 ghost use Rattle.sw_schedule.specs.Schedule.{text_lines};
-ghost use Rattle.sw_text_hints.specs.CertificateHints.{begins, certificate_hint, expected_after, flows_before, hint_at, line_before, numbers_at, numbers_of, place_note, place_numbers, rises, rising_note, wrong_line};
+ghost use Rattle.sw_text_hints.specs.CertificateHints.{begins, certificate_hint, expected_after, flows_before, hint_at, hint_by, line_before, numbers_at, numbers_of, place_note, place_numbers, rises, rising_note, wrong_line};
 
 use crate::wrong_word::nth_line;
 use std::alloc::{AllocError, Global};
@@ -147,6 +147,22 @@ fn line_before(text: &[u8], number: usize) -> &[u8]
     nth_line(text, (number - 1) as u64)
 }
 
+// A line of a text, that it is not as the grammar asks, and the lines of what stands there and what is told of it.
+fn hint_by(
+    alloc: Global,
+    path: &str,
+    number: usize,
+    found: &str,
+    expected: &str,
+    note: &str,
+) -> Result<String, AllocError>
+    ensures { IfOk result (λ s. string_bytes s ≡ hint_by path.now number found.now expected.now note.now) }
+{
+    format!(in alloc;
+        "{path}:{number}:1: refused C1 Grammar {number}: the line is not as the grammar asks\n{found}{expected}{note}"
+    )
+}
+
 // The lines of the hint of a line.
 fn hint_at(alloc: Global, path: &str, text: &[u8], number: usize) -> Result<String, AllocError>
     ensures { IfOk result (λ s. string_bytes s ≡ hint_at path.now text.now number) }
@@ -158,8 +174,13 @@ fn hint_at(alloc: Global, path: &str, text: &[u8], number: usize) -> Result<Stri
     let expected = told(alloc, "expected", expected_after(before).as_bytes())?;
     let note = rising_note(alloc, flows_before(text, number), before, line)?;
     let note = told(alloc, "note", note.as_bytes())?;
-    format!(in alloc;
-        "{path}:{number}:1: refused C1 Grammar {number}: the line is not as the grammar asks\n{found}{expected}{note}"
+    hint_by(
+        alloc,
+        path.as_str(),
+        number,
+        found.as_str(),
+        expected.as_str(),
+        note.as_str(),
     )
 }
 

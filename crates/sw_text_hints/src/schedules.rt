@@ -2,7 +2,7 @@
 ghost use Rattle.std.specs.Prelude.{◌≡◌, ◌≤◌, IfOk, length, map, option_map, string_bytes};
 ghost use Rattle.toml.specs.View.{table_view};
 ghost use Rattle.sw_schedule.specs.Schedule.{steps_of_text};
-ghost use Rattle.sw_text_hints.specs.ScheduleHints.{expected, head_lines, help_of, hint_for, like_help, line_hint, offset_of, rest_of, schedule_hint, total_lines, verbs, what_words, word_help, word_lines, wrong_number};
+ghost use Rattle.sw_text_hints.specs.ScheduleHints.{expected, head_by, head_lines, help_of, hint_for, like_help, line_hint, offset_of, rest_of, schedule_hint, total_lines, verbs, wanted_words, what_words, word_help, word_lines, wrong_number};
 ghost use Rattle.sw_text_hints.specs.WrongWords.{wrong_view};
 
 use crate::step_words::{Wanted, text_of};
@@ -15,14 +15,11 @@ use sw_schedule::{ScheduleFault, read_steps};
 use sw_toml_table::{FileFault, Key, read_document};
 use toml::Table;
 
-// What is wrong with a word.
-fn what_words(wrong: &Wrong<'_>) -> &'static str
-    ensures { result.now ≡ what_words (wrong_view wrong.now) }
+// What is wrong with a word that is none of what is wanted.
+fn wanted_words(wanted: Wanted) -> &'static str
+    ensures { result.now ≡ wanted_words wanted }
 {
-    if wrong.rest.is_none() {
-        return "a word is missing";
-    }
-    match wrong.wanted {
+    match wanted {
         Wanted::Verb => "no step begins so",
         Wanted::Channel => "this is no channel of the network",
         Wanted::Node => "this is no node",
@@ -30,6 +27,16 @@ fn what_words(wrong: &Wrong<'_>) -> &'static str
         Wanted::End => "this is no end marker",
         Wanted::Cargo => "this is no cargo",
         Wanted::Nothing => "this is one word too many",
+    }
+}
+
+// What is wrong with a word.
+fn what_words(wrong: &Wrong<'_>) -> &'static str
+    ensures { result.now ≡ what_words (wrong_view wrong.now) }
+{
+    match wrong.rest {
+        Some(_rest) => wanted_words(wrong.wanted),
+        None => "a word is missing",
     }
 }
 
@@ -141,6 +148,20 @@ fn help_of(alloc: Global, network: &[u8], wrong: &Wrong<'_>) -> Result<String, A
     }
 }
 
+// A place in a text, what is wrong there, and the line of what stands there.
+fn head_by(
+    alloc: Global,
+    path: &str,
+    number: u64,
+    column: usize,
+    what: &str,
+    found: &str,
+) -> Result<String, AllocError>
+    ensures { IfOk result (λ s. string_bytes s ≡ head_by path.now number column what.now found.now) }
+{
+    format!(in alloc; "{path}:{number}:{column}: fault S1 BadLine {number}: {what}\n{found}")
+}
+
 // The first two lines: where the fault is and what is wrong, and what stands there.
 fn head_lines(
     alloc: Global,
@@ -154,9 +175,15 @@ fn head_lines(
     ensures { IfOk result (λ s. string_bytes s ≡ head_lines path.now number line.now offset what.now) }
 {
     let path = shown(alloc, path.as_bytes())?;
-    let column = offset + 1;
     let found = found_line(alloc, line, Some(offset))?;
-    format!(in alloc; "{path}:{number}:{column}: fault S1 BadLine {number}: {what}\n{found}")
+    head_by(
+        alloc,
+        path.as_str(),
+        number,
+        offset + 1,
+        what,
+        found.as_str(),
+    )
 }
 
 // The lines of a hint of a line with a wrong word.
