@@ -30,7 +30,7 @@ module _ (d : Declaration) where
       let there : IsPlace d f q.channel q.deleted = next here g.0 in
       All-cons OnChannel q qs (places_are_in d f q.channel q.deleted there).0 (goes_over f q qs there g.1)
 
-  from_start : (f : FlowEntry) (ps : List Place) → GoesFromStart d f ps → All OnChannel ps
+  pub from_start : (f : FlowEntry) (ps : List Place) → GoesFromStart d f ps → All OnChannel ps
   from_start f [] g = absurd g
   from_start f (p ∷ ps) g =
       let here : IsPlace d f p.channel p.deleted = subst (λ (k : ℕ). IsPlace d f p.channel k) (sym g.0.1) (start g.0.0) in

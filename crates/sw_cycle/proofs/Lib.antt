@@ -6,4 +6,5 @@ pub mod Between
 pub mod Chosen
 pub mod Found
 pub mod AllGoing
+pub mod OnChannel
 pub mod Standing

@@ -1,8 +1,10 @@
 //! All flows that go on from a channel to another.
-ghost use Rattle.std.specs.Prelude.{◌≡◌, ◌≤◌, ◌↔◌, IfOk, IsTrue, Some, length, slice_get};
+ghost use Rattle.std.specs.Prelude.{◌≡◌, ◌<◌, ◌≤◌, ◌↔◌, AllPairs, Contains, IfOk, IsTrue, Some, length, nat_lt, slice_get};
 ghost use Rattle.std.specs.List.{AllZip};
+ghost use Rattle.std.specs.List.Sorted.{IsPartitionPoint};
 ghost use Rattle.sw_config.specs.Entries.{all_flows};
-ghost use Rattle.sw_flow.specs.Places.{IsPlaceList};
+ghost use Rattle.sw_flow.specs.declared.place.Place.{Place};
+ghost use Rattle.sw_flow.specs.Places.{IsBefore, IsPlaceList};
 ghost use Rattle.sw_graph.specs.Reached.{IsListing};
 ghost use Rattle.sw_cycle.specs.Causes.{GoesOn};
 
@@ -11,6 +13,46 @@ use std::alloc::{AllocError, Global};
 use sw_config::{Flow, Network};
 use sw_flow::Place;
 use sw_topo::Chan;
+
+/// Where the first place stands that is on the channel or on one after it.
+fn first_from(places: &[Place], channel: Chan) -> usize
+    requires { AllPairs IsBefore places.now }
+    ensures bound { result ≤ length places.now }
+    ensures parted { IsPartitionPoint (λ p. p.channel < channel) (λ p. channel ≤ p.channel) places.now result }
+{
+    places.partition_point(
+        |place: &Place| -> bool
+            ensures { result ≡ nat_lt place.now.channel channel }
+        { place.channel.number() < channel.number() },
+    )
+}
+
+/// Where the first place stands that is on a channel after this one. `first` is where the first one
+/// stands that is on this channel or on one after it.
+fn first_after(places: &[Place], first: usize, channel: Chan) -> usize
+    requires order { AllPairs IsBefore places.now }
+    requires bound { first ≤ length places.now }
+    requires parted { IsPartitionPoint (λ p. p.channel < channel) (λ p. channel ≤ p.channel) places.now first }
+    ensures bound { first ≤ result × (result ≤ length places.now) }
+    ensures parted { IsPartitionPoint (λ p. p.channel ≤ channel) (λ p. channel < p.channel) places.now result }
+{
+    for after in first..places.len() {
+        if places[after].channel != channel {
+            return after;
+        }
+    }
+    places.len()
+}
+
+/// The places on the channel.
+fn places_on(places: &[Place], channel: Chan) -> &[Place]
+    requires { AllPairs IsBefore places.now }
+    ensures { (p : Place) → Contains result.now p ↔ (Contains places.now p × (p.channel ≡ channel)) }
+{
+    let first = first_from(places, channel);
+    let after = first_after(places, first, channel);
+    &places[first..after]
+}
 
 /// Does the flow of that number, which has these places, go on from the one channel to the other?
 fn goes_on(
@@ -26,7 +68,7 @@ fn goes_on(
     requires places { IsPlaceList network.now flow.now places.now }
     ensures { IsTrue result ↔ GoesOn network.now number from to }
 {
-    for place in places {
+    for place in places_on(places, from) {
         if follower_between(network, flow, *place, from, to).is_some() {
             return true;
         }
@@ -37,7 +79,8 @@ fn goes_on(
 /// The numbers of all flows that go on from the one channel to the other, in rising order. `places`
 /// has the places of each flow, by the flows' numbers, as `all_places` gives them.
 ///
-/// The time is linear in the places of all flows.
+/// For each flow, the time is that of a search by halving among its places, and of a look at those
+/// that are on the first channel.
 ///
 /// # Errors
 ///

@@ -13,7 +13,7 @@ use Rattle.sw_search.specs.Verdicts.{IsMisrouted}
 use Rattle.sw_explain.specs.Explanations.{GoesWrong}
 
 -- the first place with a fault is one of the places
-faulty_listed : (d : Declaration) (f : FlowEntry) (p : Place) (fault : RouteFault) (places : List Place) → first_fault_of d f places ≡ Some (p, fault) → Contains places p
+pub faulty_listed : (d : Declaration) (f : FlowEntry) (p : Place) (fault : RouteFault) (places : List Place) → first_fault_of d f places ≡ Some (p, fault) → Contains places p
 faulty_listed d f p fault [] e = absurd cc
 faulty_listed d f p fault (q ∷ places) e = by (fault_of d f q.channel q.deleted) e (faulty_listed d f p fault places)
   where

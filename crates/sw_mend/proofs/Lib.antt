@@ -4,7 +4,6 @@ mod PortSets
 mod Linked
 mod OneMore
 mod Told
-mod Verdicts
 mod Determined
 mod Kept
 mod Apart

@@ -1,16 +1,9 @@
 -- Which single changes make a network free.
-use Rattle.std.specs.Prelude.{◌≡◌, ◌⊎◌, Bool, true, false, List, [], ◌∷◌}
+use Rattle.std.specs.Prelude.{◌≡◌, ◌⊎◌, List, [], ◌∷◌}
 use Rattle.sw_config.specs.Entries.{Declaration}
 use Rattle.sw_search.specs.Laws.{RoutedAndFree}
-use Rattle.sw_search.specs.declared.verdict.Verdict.{Verdict}
-use Rattle.sw_search.specs.declared.verdict.Verdict.TheVariants.{Free}
 use Rattle.sw_mend.specs.Changes.{changed, single_changes}
 use Rattle.sw_mend.specs.declared.change.Change.{Change}
-
--- the verdict is that the network is free
-abbrev pub says_free : Verdict → Bool
-says_free (Free contents) = true
-says_free verdict = false
 
 -- In the changed network each flow is well routed, and no channels can wait for one another in a circle.
 abbrev pub Frees : Declaration → Change → Type 0

@@ -1,7 +1,6 @@
 //! The single changes that free a network.
 ghost use Rattle.std.specs.Prelude.{◌≡◌, ◌↔◌, ◌++◌, ◌∷◌, [], IfOk, IsTrue, OnOk, if◌then◌else◌};
-ghost use Rattle.sw_search.specs.Laws.{RoutedAndFree};
-ghost use Rattle.sw_mend.specs.Mends.{AreMends, AreThoseThatFree, Frees, says_free};
+ghost use Rattle.sw_mend.specs.Mends.{AreMends, AreThoseThatFree, Frees};
 
 use crate::change::Change;
 use crate::listing::single_changes;
@@ -9,26 +8,7 @@ use crate::rebuilt::network_with;
 use std::alloc::{AllocError, Global};
 use std::thread::Threads;
 use sw_config::Network;
-use sw_search::laws::one_verdict_holds;
-use sw_search::{Verdict, decide};
-
-// Is it the verdict on a free network?
-fn says_free(verdict: &Verdict) -> bool
-    ensures { result ≡ says_free verdict.now }
-{
-    matches!(verdict, Verdict::Free(_))
-}
-
-// Is the network free?
-fn is_free<R: Threads + Sync>(rt: &R, alloc: Global, network: &Network) -> Result<bool, AllocError>
-    ensures { IfOk result (λ b. IsTrue b ↔ RoutedAndFree network.now) }
-{
-    // Names the network, which is valid by its type.
-    let _topology = network.topology();
-    one_verdict_holds();
-    let verdict = decide(rt, alloc, network)?;
-    Ok(says_free(&verdict))
-}
+use sw_search::is_free;
 
 // Does the change free the network?
 fn frees<R: Threads + Sync>(

@@ -16,3 +16,4 @@ pub mod Paths
 pub mod Decided
 pub mod Exactly
 pub mod Waits
+mod Said

@@ -1,5 +1,5 @@
 -- What is found of a network: a flow that is not well routed, else a cycle of dependencies, else a certificate that there is none.
-use Rattle.std.specs.Prelude.{◌≡◌, ℕ, ◌<◌, All, List, length, slice_get, Some}
+use Rattle.std.specs.Prelude.{◌≡◌, ℕ, ◌<◌, All, Bool, true, false, List, length, slice_get, Some}
 use Rattle.std.specs.List.{AllZip}
 use Rattle.sw_config.specs.Entries.{FlowEntry, Declaration, all_flows}
 use Rattle.sw_flow.specs.declared.fault.RouteFault.{RouteFault}
@@ -50,3 +50,8 @@ abbrev pub IsVerdict : Declaration → Verdict → Type 0
 IsVerdict d (Misrouted i place fault) = IsMisrouted d i place fault
 IsVerdict d (Cyclic cycle) = IsCyclic d cycle
 IsVerdict d (Free contents) = IsFree d contents
+
+-- the verdict is that the network is free
+abbrev pub says_free : Verdict → Bool
+says_free (Free contents) = true
+says_free verdict = false

@@ -5,11 +5,13 @@ mod counts;
 mod cyclic;
 mod deciding;
 mod free;
+mod freedom;
 pub mod laws;
 mod misrouted;
 mod order;
 mod verdict;
 
 pub use deciding::{decide, survey};
+pub use freedom::is_free;
 pub use misrouted::fault_of_flow;
 pub use verdict::{Findings, Verdict};

@@ -15,7 +15,9 @@ pub returns-then-is_some : goal.returns-then-is_some
 returns-then-is_some c =
     let d = c.args.network.now in
     let p = c.place-item.result in
-    let listed = subst (λ (q : Place). Contains c.args.places.now q) (sym c.place-item.is) (Contains-get_or c.args.places.now c.loop-place.place-index p c.loop-place-test.true) in
+    let xs = c.places_on-place-items.result.now in
+    let on = subst (λ (q : Place). Contains xs q) (sym c.place-item.is) (Contains-get_or xs c.loop-place.place-index p c.loop-place-test.true) in
+    let listed = ((c.places_on-place-items.ensures p).0 on).0 in
     let f = c.follower_between.ensures in
     let goes = found_on d c.args.number c.args.flow.now p c.args.from c.args.to c.follower_between.result (sym c.is_some.ensures ∙ c.if-is_some.true) f.from f.to f.goes c.requires.numbered ((c.requires.places.member p).0 listed) in
     (λ t. goes, λ g. refl)
@@ -24,7 +26,7 @@ pub loop-place-preserved : goal.loop-place-preserved
 loop-place-preserved c =
     let d = c.args.network.now in
     let i = c.loop-place.place-index in
-    let xs = c.args.places.now in
+    let xs = c.places_on-place-items.result.now in
     let p = c.place-item.result in
     let more : take (i + 1) xs ≡ take i xs ++ p ∷ [] = take_more xs i p c.loop-place-test.true ∙ ap (λ q. take i xs ++ q ∷ []) (sym c.place-item.is) in
     rw more (none_from_more d c.args.number c.args.flow.now p c.args.from c.args.to (take i xs) c.follower_between.result (sym c.is_some.ensures ∙ c.if-is_some.false) c.follower_between.ensures.none c.loop-place.invariant)
@@ -33,6 +35,7 @@ pub returns : goal.returns
 returns c =
     let d = c.args.network.now in
     let f = c.args.flow.now in
-    let xs = c.args.places.now in
-    let none = rw (take_all c.loop-place.place-index xs (omega (arith, c.loop-place-test.false))) at c.loop-place.invariant in
-    (λ t. absurd (false≢true t), λ g. absurd (no_step d c.args.number f xs c.requires.numbered c.requires.places c.args.from c.args.to none g))
+    let xs = c.places_on-place-items.result.now in
+    let on : NoneFrom d f xs c.args.from c.args.to = rw (take_all c.loop-place.place-index xs (omega (arith, c.loop-place-test.false))) at c.loop-place.invariant in
+    let none : NoneFrom d f c.args.places.now c.args.from c.args.to = λ p m at is. on p m ((c.places_on-place-items.ensures p).1 (at, is)) is in
+    (λ t. absurd (false≢true t), λ g. absurd (no_step d c.args.number f c.args.places.now c.requires.numbered c.requires.places c.args.from c.args.to none g))

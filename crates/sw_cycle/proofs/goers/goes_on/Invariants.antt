@@ -3,4 +3,4 @@ use Rattle.sw_cycle.specs.Firsts.{NoneFrom}
 use Rattle.sw_cycle.proofs.goers.goes_on.Given as goal
 
 abbrev pub invariant-loop-place : goal.invariant-loop-place
-invariant-loop-place l = NoneFrom l.network l.flow (take l.place-index l.places) l.from l.to
+invariant-loop-place l = NoneFrom l.network l.flow (take l.place-index l.place-items) l.from l.to

@@ -1,5 +1,5 @@
-use Rattle.sw_mend.proofs.Verdicts.{is_free}
-use Rattle.sw_mend.proofs.mending.is_free.Goals as goal
+use Rattle.sw_search.proofs.Said.{is_free}
+use Rattle.sw_search.proofs.freedom.is_free.Goals as goal
 
 pub returns : goal.returns
 returns g c =
