@@ -71,11 +71,14 @@ abbrev pub hint_by : List ℕ → ℕ → List ℕ → List ℕ → List ℕ →
 hint_by path n found expected note =
     path ++ (codes ":" ++ (decimal n ++ (codes ":1: refused C1 Grammar " ++ (decimal n ++ (codes ": the line is not as the grammar asks\n" ++ (found ++ (expected ++ note)))))))
 
+-- of a line with the one before it, and with how many lines before it begin a flow
+unfoldable pub line_hint : List ℕ → ℕ → ℕ → List ℕ → List ℕ → List ℕ
+line_hint path n flows before line =
+    hint_by (shown path) n (found_line line (Some 0)) (told (codes "expected") (expected_after before)) (told (codes "note") (rising_note flows before line))
+
 -- the lines of the hint of a line
 abbrev pub hint_at : List ℕ → List ℕ → ℕ → List ℕ
-hint_at path text n =
-    hint_by (shown path) n (found_line (nth_line n (text_lines text)) (Some 0)) (told (codes "expected") (expected_after (line_before n (text_lines text))))
-    (told (codes "note") (rising_note (flows_before n 0 (text_lines text)) (line_before n (text_lines text)) (nth_line n (text_lines text))))
+hint_at path text n = line_hint path n (flows_before n 0 (text_lines text)) (line_before n (text_lines text)) (nth_line n (text_lines text))
 
 -- the number of the first line that is not as the grammar asks
 abbrev pub wrong_line : Result State ℕ → Option ℕ

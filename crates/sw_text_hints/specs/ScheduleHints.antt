@@ -88,7 +88,7 @@ head_by path number column what found =
     path ++ (codes ":" ++ (decimal number ++ (codes ":" ++ (decimal column ++ (codes ": fault S1 BadLine " ++ (decimal number ++ (codes ": " ++ (what ++ (codes "\n" ++ found)))))))))
 
 -- where the fault is and what is wrong, and what stands there
-abbrev pub head_lines : List ℕ → ℕ → List ℕ → ℕ → List ℕ → List ℕ
+unfoldable pub head_lines : List ℕ → ℕ → List ℕ → ℕ → List ℕ → List ℕ
 head_lines path number line offset what = head_by (shown path) number (offset + 1) what (found_line line (Some offset))
 
 -- the lines of a hint of a line with a wrong word

@@ -1,7 +1,8 @@
 //! The hint of a schedule's fault.
-ghost use Rattle.std.specs.Prelude.{◌≡◌, ◌≤◌, IfOk, length, map, option_map, string_bytes};
+ghost use Rattle.std.specs.Prelude.{◌≡◌, ◌≤◌, IfOk, codes, length, map, option_map, string_bytes};
 ghost use Rattle.toml.specs.View.{table_view};
 ghost use Rattle.sw_schedule.specs.Schedule.{steps_of_text};
+ghost use Rattle.sw_hints.specs.HintLines.{told};
 ghost use Rattle.sw_text_hints.specs.ScheduleHints.{expected, head_by, head_lines, help_of, hint_for, like_help, line_hint, offset_of, rest_of, schedule_hint, total_lines, verbs, wanted_words, what_words, word_help, word_lines, wrong_number};
 ghost use Rattle.sw_text_hints.specs.WrongWords.{wrong_view};
 
@@ -163,6 +164,7 @@ fn head_by(
 }
 
 // The first two lines: where the fault is and what is wrong, and what stands there.
+#[tactic(auto, unfolding(crate::specs::ScheduleHints::head_lines))]
 fn head_lines(
     alloc: Global,
     path: &str,
@@ -186,6 +188,22 @@ fn head_lines(
     )
 }
 
+// What would be right, as a line of a hint.
+fn expected_line(alloc: Global, network: &Network, wanted: Wanted) -> Result<String, AllocError>
+    ensures { IfOk result (λ s. string_bytes s ≡ told (codes "expected") (expected network.now wanted)) }
+{
+    let words = expected(alloc, network, wanted)?;
+    told(alloc, "expected", words.as_bytes())
+}
+
+// What to do, as a line of a hint.
+fn help_line(alloc: Global, network: &[u8], wrong: &Wrong<'_>) -> Result<String, AllocError>
+    ensures { IfOk result (λ s. string_bytes s ≡ told (codes "help") (help_of network.now (wrong_view wrong.now))) }
+{
+    let help = help_of(alloc, network, wrong)?;
+    told(alloc, "help", help.as_bytes())
+}
+
 // The lines of a hint of a line with a wrong word.
 fn word_lines(
     alloc: Global,
@@ -206,10 +224,8 @@ fn word_lines(
         offset_of(line, wrong),
         what_words(wrong),
     )?;
-    let expected = expected(alloc, network, wrong.wanted)?;
-    let expected = told(alloc, "expected", expected.as_bytes())?;
-    let help = help_of(alloc, text, wrong)?;
-    let help = told(alloc, "help", help.as_bytes())?;
+    let expected = expected_line(alloc, network, wrong.wanted)?;
+    let help = help_line(alloc, text, wrong)?;
     format!(in alloc; "{head}{expected}{help}")
 }
 
