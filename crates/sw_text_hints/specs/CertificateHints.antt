@@ -53,24 +53,32 @@ flows_before n flows (line ∷ lines) =
 abbrev pub line_before : ℕ → List (List ℕ) → List ℕ
 line_before n lines = if nat_le n 1 then [] else nth_line (n - 1) lines
 
+-- the place stands behind another one, in this flow
+abbrev pub place_note : ℕ → ℕ × ℕ → ℕ × ℕ → List ℕ
+place_note flow last place =
+    codes "place " ++ (decimal place.0 ++ (codes " " ++ (decimal place.1 ++ (codes " of flow " ++ (decimal flow ++ (codes " stands behind place " ++ (decimal last.0 ++ (codes " " ++ decimal last.1))))))))
+
 -- both places, and the flow, where the place of a line does not rise above the one before it; else nothing
 abbrev pub rising_note : ℕ → List ℕ → List ℕ → List ℕ
 rising_note flows before line = by_places flows (place_numbers before) (place_numbers line)
   where
-    note : ℕ → ℕ × ℕ → ℕ × ℕ → List ℕ
-    note flows last place =
-        codes "place " ++ (decimal place.0 ++ (codes " " ++ (decimal place.1 ++ (codes " of flow " ++ (decimal (flows - 1) ++ (codes " stands behind place " ++ (decimal last.0 ++ (codes " " ++ decimal last.1))))))))
-
     by_places : ℕ → Option (ℕ × ℕ) → Option (ℕ × ℕ) → List ℕ
-    by_places flows (Some last) (Some place) = if rises last place then [] else note flows last place
+    by_places flows (Some last) (Some place) = if rises last place then [] else place_note (flows - 1) last place
     by_places flows _ _ = []
+
+-- a line of a text, that it is not as the grammar asks, and the lines of what stands there and what is told of it
+abbrev pub hint_by : List ℕ → ℕ → List ℕ → List ℕ → List ℕ → List ℕ
+hint_by path n found expected note =
+    path ++ (codes ":" ++ (decimal n ++ (codes ":1: refused C1 Grammar " ++ (decimal n ++ (codes ": the line is not as the grammar asks\n" ++ (found ++ (expected ++ note)))))))
+
+-- of a line with the one before it, and with how many lines before it begin a flow
+unfoldable pub line_hint : List ℕ → ℕ → ℕ → List ℕ → List ℕ → List ℕ
+line_hint path n flows before line =
+    hint_by (shown path) n (found_line line (Some 0)) (told (codes "expected") (expected_after before)) (told (codes "note") (rising_note flows before line))
 
 -- the lines of the hint of a line
 abbrev pub hint_at : List ℕ → List ℕ → ℕ → List ℕ
-hint_at path text n =
-    shown path ++ (codes ":" ++ (decimal n ++ (codes ":1: refused C1 Grammar " ++ (decimal n ++ (codes ": the line is not as the grammar asks\n"
-    ++ (found_line (nth_line n (text_lines text)) (Some 0) ++ (told (codes "expected") (expected_after (line_before n (text_lines text)))
-    ++ told (codes "note") (rising_note (flows_before n 0 (text_lines text)) (line_before n (text_lines text)) (nth_line n (text_lines text))))))))))
+hint_at path text n = line_hint path n (flows_before n 0 (text_lines text)) (line_before n (text_lines text)) (nth_line n (text_lines text))
 
 -- the number of the first line that is not as the grammar asks
 abbrev pub wrong_line : Result State ℕ → Option ℕ

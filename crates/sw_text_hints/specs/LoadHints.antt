@@ -28,15 +28,19 @@ abbrev pub expected : TextFault → List ℕ
 expected (UnknownKey section.Document name) = codes "packet, a list of tables"
 expected fault = expected_text fault
 
+-- the one of the texts that was meant, maybe
+unfoldable pub meant : List ℕ → List (List ℕ) → List ℕ
+meant name texts = meant_help (like name texts)
+
 -- a key that the document may not have: one of a packet, or one that is like `packet`
 abbrev pub key_help : List ℕ → List ℕ
 key_help name =
     if is_known (key.Flow ∷ key.Cargo ∷ key.End ∷ key.Count ∷ []) name then codes "a key of a packet stands below a header [[packet]]"
-    else meant_help (like name (codes "packet" ∷ []))
+    else meant name (codes "packet" ∷ [])
 
 -- a name that no flow has: it may be like that of one
 abbrev pub flow_help : Section → Members → Members → List ℕ
-flow_help s network load = option_map_or (λ name. meant_help (like name (names_of key.Flow network))) (text_of s key.Flow load) []
+flow_help s network load = option_map_or (λ name. meant name (names_of key.Flow network)) (text_of s key.Flow load) []
 
 -- what to do about a fault of the load, for this network
 abbrev pub load_help : TextFault → Members → Members → List ℕ

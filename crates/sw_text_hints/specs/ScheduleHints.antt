@@ -82,10 +82,14 @@ rest_of wrong = join_with_byte 32 wrong.words
 abbrev pub offset_of : List ℕ → Wrong → ℕ
 offset_of line wrong = length line - length (rest_of wrong)
 
+-- a place in a text, what is wrong there, and the line of what stands there
+abbrev pub head_by : List ℕ → ℕ → ℕ → List ℕ → List ℕ → List ℕ
+head_by path number column what found =
+    path ++ (codes ":" ++ (decimal number ++ (codes ":" ++ (decimal column ++ (codes ": fault S1 BadLine " ++ (decimal number ++ (codes ": " ++ (what ++ (codes "\n" ++ found)))))))))
+
 -- where the fault is and what is wrong, and what stands there
-abbrev pub head_lines : List ℕ → ℕ → List ℕ → ℕ → List ℕ → List ℕ
-head_lines path number line offset what =
-    shown path ++ (codes ":" ++ (decimal number ++ (codes ":" ++ (decimal (offset + 1) ++ (codes ": fault S1 BadLine " ++ (decimal number ++ (codes ": " ++ (what ++ (codes "\n" ++ found_line line (Some offset))))))))))
+unfoldable pub head_lines : List ℕ → ℕ → List ℕ → ℕ → List ℕ → List ℕ
+head_lines path number line offset what = head_by (shown path) number (offset + 1) what (found_line line (Some offset))
 
 -- the lines of a hint of a line with a wrong word
 abbrev pub word_lines : List ℕ → List ℕ → Declaration → ℕ → List ℕ → Wrong → List ℕ

@@ -1,9 +1,10 @@
 //! The hint of a certificate that can't be read.
-ghost use Rattle.std.specs.Prelude.{◌≡◌, ◌==◌, ◌<◌, IfOk, IfSome, length, option_copied, option_map, position, string_bytes};
+ghost use Rattle.std.specs.Prelude.{◌≡◌, ◌==◌, ◌<◌, IfOk, IfSome, codes, length, option_copied, option_map, position, string_bytes};
 ghost use Rattle.sw_cert.specs.Grammar.{after_word};
 ghost use Rattle.sw_cert.specs.Text.{read_text};
 ghost use Rattle.sw_schedule.specs.Schedule.{text_lines};
-ghost use Rattle.sw_text_hints.specs.CertificateHints.{begins, certificate_hint, expected_after, flows_before, hint_at, line_before, numbers_at, numbers_of, place_numbers, rises, rising_note, wrong_line};
+ghost use Rattle.sw_hints.specs.HintLines.{told};
+ghost use Rattle.sw_text_hints.specs.CertificateHints.{begins, certificate_hint, expected_after, flows_before, hint_at, hint_by, line_before, line_hint, numbers_at, numbers_of, place_note, place_numbers, rises, rising_note, wrong_line};
 
 use crate::wrong_word::nth_line;
 use std::alloc::{AllocError, Global};
@@ -103,6 +104,22 @@ fn flows_before(text: &[u8], line: usize) -> usize
     }
 }
 
+// That a place stands behind another one.
+fn place_note(
+    alloc: Global,
+    flow: usize,
+    last: (u32, u32),
+    place: (u32, u32),
+) -> Result<String, AllocError>
+    ensures { IfOk result (λ s. string_bytes s ≡ place_note flow last place) }
+{
+    let (channel, deleted) = place;
+    let (last_channel, last_deleted) = last;
+    format!(in alloc;
+        "place {channel} {deleted} of flow {flow} stands behind place {last_channel} {last_deleted}"
+    )
+}
+
 // Both places, and the flow, where the place of a line does not rise above the one before it; else nothing.
 fn rising_note(
     alloc: Global,
@@ -118,12 +135,7 @@ fn rising_note(
     if rises(last, place) {
         return Ok(String::new(alloc));
     }
-    let flow = flows.saturating_sub(1);
-    let (channel, deleted) = place;
-    let (last_channel, last_deleted) = last;
-    format!(in alloc;
-        "place {channel} {deleted} of flow {flow} stands behind place {last_channel} {last_deleted}"
-    )
+    place_note(alloc, flows.saturating_sub(1), last, place)
 }
 
 // The line before the one of this number; nothing before the first.
@@ -136,19 +148,76 @@ fn line_before(text: &[u8], number: usize) -> &[u8]
     nth_line(text, (number - 1) as u64)
 }
 
+// A line of a text, that it is not as the grammar asks, and the lines of what stands there and what is told of it.
+fn hint_by(
+    alloc: Global,
+    path: &str,
+    number: usize,
+    found: &str,
+    expected: &str,
+    note: &str,
+) -> Result<String, AllocError>
+    ensures { IfOk result (λ s. string_bytes s ≡ hint_by path.now number found.now expected.now note.now) }
+{
+    format!(in alloc;
+        "{path}:{number}:1: refused C1 Grammar {number}: the line is not as the grammar asks\n{found}{expected}{note}"
+    )
+}
+
+// What may stand behind this line, as a line of a hint.
+fn expected_line(alloc: Global, before: &[u8]) -> Result<String, AllocError>
+    ensures { IfOk result (λ s. string_bytes s ≡ told (codes "expected") (expected_after before.now)) }
+{
+    told(alloc, "expected", expected_after(before).as_bytes())
+}
+
+// Of a place that does not rise.
+fn note_line(alloc: Global, flows: usize, before: &[u8], line: &[u8]) -> Result<String, AllocError>
+    ensures { IfOk result (λ s. string_bytes s ≡ told (codes "note") (rising_note flows before.now line.now)) }
+{
+    let note = rising_note(alloc, flows, before, line)?;
+    told(alloc, "note", note.as_bytes())
+}
+
+// Of a line with the one before it, and with how many lines before it begin a flow.
+#[tactic(auto, unfolding(crate::specs::CertificateHints::line_hint))]
+fn line_hint(
+    alloc: Global,
+    path: &str,
+    number: usize,
+    flows: usize,
+    before: &[u8],
+    line: &[u8],
+) -> Result<String, AllocError>
+    ensures { IfOk result (λ s. string_bytes s ≡ line_hint path.now number flows before.now line.now) }
+{
+    let path = shown(alloc, path.as_bytes())?;
+    let found = found_line(alloc, line, Some(0))?;
+    let expected = expected_line(alloc, before)?;
+    let note = note_line(alloc, flows, before, line)?;
+    hint_by(
+        alloc,
+        path.as_str(),
+        number,
+        found.as_str(),
+        expected.as_str(),
+        note.as_str(),
+    )
+}
+
 // The lines of the hint of a line.
 fn hint_at(alloc: Global, path: &str, text: &[u8], number: usize) -> Result<String, AllocError>
     ensures { IfOk result (λ s. string_bytes s ≡ hint_at path.now text.now number) }
 {
     let line = nth_line(text, number as u64);
     let before = line_before(text, number);
-    let path = shown(alloc, path.as_bytes())?;
-    let found = found_line(alloc, line, Some(0))?;
-    let expected = told(alloc, "expected", expected_after(before).as_bytes())?;
-    let note = rising_note(alloc, flows_before(text, number), before, line)?;
-    let note = told(alloc, "note", note.as_bytes())?;
-    format!(in alloc;
-        "{path}:{number}:1: refused C1 Grammar {number}: the line is not as the grammar asks\n{found}{expected}{note}"
+    line_hint(
+        alloc,
+        path,
+        number,
+        flows_before(text, number),
+        before,
+        line,
     )
 }
 

@@ -1,7 +1,8 @@
 //! The hint of a load's fault.
-ghost use Rattle.std.specs.Prelude.{◌≡◌, IfOk, string_bytes};
+ghost use Rattle.std.specs.Prelude.{◌≡◌, IfOk, codes, map, string_bytes};
 ghost use Rattle.toml.specs.View.{table_view};
-ghost use Rattle.sw_text_hints.specs.LoadHints.{IsFaultHint, IsHintFor, IsLoadHint, expected, flow_help, has_reply, help_in, help_of, key_help, load_help, load_note, note_of, packet_note, way_words};
+ghost use Rattle.sw_hints.specs.HintLines.{told};
+ghost use Rattle.sw_text_hints.specs.LoadHints.{IsFaultHint, IsHintFor, IsLoadHint, expected, flow_help, has_reply, help_in, help_of, key_help, load_help, load_note, meant, note_of, packet_note, way_words};
 
 use std::alloc::{AllocError, Global};
 use sw_config::Network;
@@ -27,6 +28,14 @@ fn expected(alloc: Global, fault: &TextFault) -> Result<String, AllocError>
     }
 }
 
+// The one of the texts that was meant, maybe.
+#[tactic(auto, unfolding(crate::specs::LoadHints::meant))]
+fn meant(alloc: Global, name: &str, texts: &[&str]) -> Result<String, AllocError>
+    ensures { IfOk result (λ s. string_bytes s ≡ meant name.now (map (λ t. t.now) texts.now)) }
+{
+    meant_help(alloc, like(alloc, name, texts)?)
+}
+
 // What to do about a key that the document may not have.
 fn key_help(alloc: Global, name: &str) -> Result<String, AllocError>
     ensures { IfOk result (λ s. string_bytes s ≡ key_help name.now) }
@@ -34,7 +43,7 @@ fn key_help(alloc: Global, name: &str) -> Result<String, AllocError>
     if is_one_of(&[Key::Flow, Key::Cargo, Key::End, Key::Count], name) {
         return String::from_str(alloc, "a key of a packet stands below a header [[packet]]");
     }
-    meant_help(alloc, like(alloc, name, &["packet"])?)
+    meant(alloc, name, &["packet"])
 }
 
 // What to do about a name that no flow has.
@@ -49,7 +58,7 @@ fn flow_help(
     match text_of(load, section, Key::Flow) {
         Some(name) => {
             let flows = names_of(alloc, network, Key::Flow)?;
-            meant_help(alloc, like(alloc, name, &flows)?)
+            meant(alloc, name, &flows)
         }
         None => Ok(String::new(alloc)),
     }
@@ -162,6 +171,19 @@ fn note_of(
     }
 }
 
+// The line of it.
+fn note_line(
+    alloc: Global,
+    network: &Network,
+    load: &[u8],
+    fault: &TextFault,
+) -> Result<String, AllocError>
+    ensures { IfOk result (λ s. string_bytes s ≡ told (codes "note") (note_of fault.now network.now load.now)) }
+{
+    let note = note_of(alloc, network, load, fault)?;
+    told(alloc, "note", note.as_bytes())
+}
+
 // What is told of a fault of a load for this network, whose text is the first one.
 fn hint_of(
     alloc: Global,
@@ -177,8 +199,7 @@ fn hint_of(
     let what = what_text(alloc, fault)?;
     let expected = expected(alloc, fault)?;
     let help = help_of(alloc, text, load, fault)?;
-    let note = note_of(alloc, network, load, fault)?;
-    let notes = told(alloc, "note", note.as_bytes())?;
+    let note = note_line(alloc, network, load, fault)?;
     hint_lines(
         alloc,
         path,
@@ -187,7 +208,7 @@ fn hint_of(
         what.as_str(),
         expected.as_str(),
         help.as_str(),
-        notes.as_str(),
+        note.as_str(),
     )
 }
 

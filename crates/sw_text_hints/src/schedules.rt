@@ -1,8 +1,9 @@
 //! The hint of a schedule's fault.
-ghost use Rattle.std.specs.Prelude.{◌≡◌, ◌≤◌, IfOk, length, map, option_map, string_bytes};
+ghost use Rattle.std.specs.Prelude.{◌≡◌, ◌≤◌, IfOk, codes, length, map, option_map, string_bytes};
 ghost use Rattle.toml.specs.View.{table_view};
 ghost use Rattle.sw_schedule.specs.Schedule.{steps_of_text};
-ghost use Rattle.sw_text_hints.specs.ScheduleHints.{expected, head_lines, help_of, hint_for, like_help, line_hint, offset_of, rest_of, schedule_hint, total_lines, verbs, what_words, word_help, word_lines, wrong_number};
+ghost use Rattle.sw_hints.specs.HintLines.{told};
+ghost use Rattle.sw_text_hints.specs.ScheduleHints.{expected, head_by, head_lines, help_of, hint_for, like_help, line_hint, offset_of, rest_of, schedule_hint, total_lines, verbs, wanted_words, what_words, word_help, word_lines, wrong_number};
 ghost use Rattle.sw_text_hints.specs.WrongWords.{wrong_view};
 
 use crate::step_words::{Wanted, text_of};
@@ -15,14 +16,11 @@ use sw_schedule::{ScheduleFault, read_steps};
 use sw_toml_table::{FileFault, Key, read_document};
 use toml::Table;
 
-// What is wrong with a word.
-fn what_words(wrong: &Wrong<'_>) -> &'static str
-    ensures { result.now ≡ what_words (wrong_view wrong.now) }
+// What is wrong with a word that is none of what is wanted.
+fn wanted_words(wanted: Wanted) -> &'static str
+    ensures { result.now ≡ wanted_words wanted }
 {
-    if wrong.rest.is_none() {
-        return "a word is missing";
-    }
-    match wrong.wanted {
+    match wanted {
         Wanted::Verb => "no step begins so",
         Wanted::Channel => "this is no channel of the network",
         Wanted::Node => "this is no node",
@@ -30,6 +28,16 @@ fn what_words(wrong: &Wrong<'_>) -> &'static str
         Wanted::End => "this is no end marker",
         Wanted::Cargo => "this is no cargo",
         Wanted::Nothing => "this is one word too many",
+    }
+}
+
+// What is wrong with a word.
+fn what_words(wrong: &Wrong<'_>) -> &'static str
+    ensures { result.now ≡ what_words (wrong_view wrong.now) }
+{
+    match wrong.rest {
+        Some(_rest) => wanted_words(wrong.wanted),
+        None => "a word is missing",
     }
 }
 
@@ -141,7 +149,22 @@ fn help_of(alloc: Global, network: &[u8], wrong: &Wrong<'_>) -> Result<String, A
     }
 }
 
+// A place in a text, what is wrong there, and the line of what stands there.
+fn head_by(
+    alloc: Global,
+    path: &str,
+    number: u64,
+    column: usize,
+    what: &str,
+    found: &str,
+) -> Result<String, AllocError>
+    ensures { IfOk result (λ s. string_bytes s ≡ head_by path.now number column what.now found.now) }
+{
+    format!(in alloc; "{path}:{number}:{column}: fault S1 BadLine {number}: {what}\n{found}")
+}
+
 // The first two lines: where the fault is and what is wrong, and what stands there.
+#[tactic(auto, unfolding(crate::specs::ScheduleHints::head_lines))]
 fn head_lines(
     alloc: Global,
     path: &str,
@@ -154,9 +177,31 @@ fn head_lines(
     ensures { IfOk result (λ s. string_bytes s ≡ head_lines path.now number line.now offset what.now) }
 {
     let path = shown(alloc, path.as_bytes())?;
-    let column = offset + 1;
     let found = found_line(alloc, line, Some(offset))?;
-    format!(in alloc; "{path}:{number}:{column}: fault S1 BadLine {number}: {what}\n{found}")
+    head_by(
+        alloc,
+        path.as_str(),
+        number,
+        offset + 1,
+        what,
+        found.as_str(),
+    )
+}
+
+// What would be right, as a line of a hint.
+fn expected_line(alloc: Global, network: &Network, wanted: Wanted) -> Result<String, AllocError>
+    ensures { IfOk result (λ s. string_bytes s ≡ told (codes "expected") (expected network.now wanted)) }
+{
+    let words = expected(alloc, network, wanted)?;
+    told(alloc, "expected", words.as_bytes())
+}
+
+// What to do, as a line of a hint.
+fn help_line(alloc: Global, network: &[u8], wrong: &Wrong<'_>) -> Result<String, AllocError>
+    ensures { IfOk result (λ s. string_bytes s ≡ told (codes "help") (help_of network.now (wrong_view wrong.now))) }
+{
+    let help = help_of(alloc, network, wrong)?;
+    told(alloc, "help", help.as_bytes())
 }
 
 // The lines of a hint of a line with a wrong word.
@@ -179,10 +224,8 @@ fn word_lines(
         offset_of(line, wrong),
         what_words(wrong),
     )?;
-    let expected = expected(alloc, network, wrong.wanted)?;
-    let expected = told(alloc, "expected", expected.as_bytes())?;
-    let help = help_of(alloc, text, wrong)?;
-    let help = told(alloc, "help", help.as_bytes())?;
+    let expected = expected_line(alloc, network, wrong.wanted)?;
+    let help = help_line(alloc, text, wrong)?;
     format!(in alloc; "{head}{expected}{help}")
 }
 
