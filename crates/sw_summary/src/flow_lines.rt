@@ -7,6 +7,7 @@ ghost use Rattle.sw_summary.specs.Texts.{answered_words, flow_line, flow_text, f
 
 use crate::begun::{Begun, begun_of, forms, loaded};
 use crate::came_out::{all_packets, all_replies};
+use crate::declared::declared_flow;
 use crate::fate::{Fate, fated};
 use crate::tallies::{Key, Tally, found_packets, found_times, tallies};
 use std::alloc::{AllocError, Global};
@@ -65,15 +66,6 @@ fn replies_told(flow: &Flow, count: usize) -> Option<usize>
     } else {
         None
     }
-}
-
-// The flow of that number.
-fn declared_flow(network: &Network, number: u16) -> &Flow
-    requires { number < length network.now.flows }
-    ensures flow { slice_get network.now.flows number ≡ Some result.now }
-    ensures valid { IsFlow network.now.nodes result.now }
-{
-    network.flow(number)
 }
 
 /// What came out and is not counted yet.

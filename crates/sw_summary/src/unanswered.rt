@@ -4,6 +4,7 @@ ghost use Rattle.std.specs.Option.{option_map_or};
 ghost use Rattle.sw_summary.specs.Texts.{unanswered_line, unanswered_of, unanswered_text, unanswered_texts};
 
 use crate::begun::{Begun, forms};
+use crate::declared::declared_flow;
 use crate::fate::{Fate, fated};
 use std::alloc::{AllocError, Global};
 use sw_char::Packet;
@@ -49,7 +50,7 @@ fn unanswered_of(
     requires { number < length network.now.flows }
     ensures { IfOk result (λ s. string_bytes s ≡ option_map_or (unanswered_of network.now begun.now number) (slice_get network.now.flows number) []) }
 {
-    let flow = network.flow(number);
+    let flow = declared_flow(network, number);
     if !network.is_target(flow.to()) {
         return Ok(String::new(alloc));
     }
