@@ -3,3 +3,4 @@ pub mod Counted
 pub mod Taken
 pub mod Lists
 pub mod FlowSteps
+pub mod Written

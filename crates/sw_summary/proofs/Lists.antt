@@ -16,7 +16,7 @@ use Rattle.sw_summary.specs.Texts.{first_status_lines, status_line}
 pub beginnings_are : (steps : List Step) → flat_map (λ step. beginning (machine_step step)) steps ≡ beginnings (map machine_step steps)
 beginnings_are steps = sym (flat_map-map beginning machine_step steps)
 
-abbrev items_in : Vec PacketView → List PacketView
+abbrev pub items_in : Vec PacketView → List PacketView
 items_in v = v.items
 
 pub statuses_are : (out : List (Vec PacketView)) → flat_map (λ v. statuses_of v.items) out ≡ statuses (map (λ v. v.items) out)

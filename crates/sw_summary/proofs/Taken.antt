@@ -1,5 +1,6 @@
 -- What is left where items take one each.
 use Rattle.std.proofs.Common.{◌≡◌, ◌∙◌, ◌<◌, ◌≤◌, ◌+◌, ◌-◌, ℕ, suc, zero, List, [], ◌∷◌, ◌++◌, ap, arith, get_or, length, map, refl, slice_set, subst, sym}
+use Rattle.std.proofs.lemmas.Bool.Decides.{nat_tests}
 use Rattle.std.specs.Prelude.{if◌then◌else◌, nat_lt}
 use Rattle.std.specs.Cmp.{tied_back}
 use Rattle.std.specs.List.{HoldsAt}
@@ -52,7 +53,7 @@ taken_nowhere p (t ∷ ts) (suc i) d within below above =
 -- one fewer, where there is one
 pub fewer_small : (n count : ℕ) → n ≡ (if nat_lt 0 count then 1 else 0) → n ≤ 1
 fewer_small n zero is = omega (arith, is)
-fewer_small n (suc count) is = omega (arith, is)
+fewer_small n (suc count) is = grind (arith, nat_tests)
 
 -- what a search and a write at what it found leave
 pub record IsTaken (p : Item) (ts after : List TallyView) (n : ℕ) : Type 0 where
@@ -83,13 +84,13 @@ is_taken p ts after n count h is same all = record {
 }
 
 -- an item that a search found
-pub found_taken : (p : Item) (ts : List TallyView) (i : ℕ) (t new : TallyView) (n : ℕ) → IsRising ts → i < length ts
-    → HoldsAt (λ (u : TallyView). item_order u.item p ≡ Equal) ts i → t ≡ get_or ts i t → n ≡ (if nat_lt 0 t.count then 1 else 0) → new ≡ lower_one t
+pub found_taken : (p : Item) (ts : List TallyView) (i : ℕ) (d new : TallyView) (n : ℕ) → IsRising ts → i < length ts
+    → HoldsAt (λ (u : TallyView). item_order u.item p ≡ Equal) ts i → n ≡ (if nat_lt 0 (get_or ts i d).count then 1 else 0) → new ≡ lower_one (get_or ts i d)
     → IsTaken p ts (slice_set ts i new) n
-found_taken p ts i t new n h within is at count after =
-    let here : item_order (get_or ts i t).item p ≡ Equal = is t in
-    let there = taken_there p ts i t within (λ k less. less_before (get_or ts k t).item (get_or ts i t).item p Equal (rises ts k i t h less within) here (omega arith)) here in
-    is_taken p ts (slice_set ts i new) n t.count h count (ap (λ (u : TallyView). u.count) at ∙ sym there.1) (ap (slice_set ts i) (after ∙ ap lower_one at) ∙ sym there.0)
+found_taken p ts i d new n h within is count after =
+    let here : item_order (get_or ts i d).item p ≡ Equal = is d in
+    let there = taken_there p ts i d within (λ k less. less_before (get_or ts k d).item (get_or ts i d).item p Equal (rises ts k i d h less within) here (omega arith)) here in
+    is_taken p ts (slice_set ts i new) n (get_or ts i d).count h count (sym there.1) (ap (slice_set ts i) after ∙ sym there.0)
 
 -- an item that it did not find
 pub missing_taken : (p : Item) (ts : List TallyView) (i : ℕ) → IsRising ts → i ≤ length ts

@@ -75,7 +75,7 @@ unanswered_line name packets fate =
 abbrev pub reasons : List Fate
 reasons = TooShort ∷ OtherProtocol ∷ WrongCrc ∷ IsReply ∷ NotAsked ∷ NoWay ∷ []
 
-abbrev pub unanswered_text : List ℕ → List PacketView → List ℕ
+unfoldable pub unanswered_text : List ℕ → List PacketView → List ℕ
 unanswered_text name packets = flat_map (unanswered_line name packets) reasons
 
 -- of flow i, if it ends at a target

@@ -28,7 +28,6 @@ fn push_statuses(all: &mut Vec<u8>, packets: &[Packet]) -> Result<(), AllocError
 }
 
 // The statuses of all replies that came out.
-#[tactic(auto, using(crate::proofs::Lists::statuses_are))]
 fn statuses(alloc: Global, out: &[Vec<Packet>]) -> Result<Vec<u8>, AllocError>
     ensures { IfOk result (λ all. all.items ≡ statuses (map (λ packets. packets.items) out.now)) }
 {
