@@ -1,10 +1,10 @@
 -- Lists that loops make.
 use Rattle.std.proofs.Common.{List, [], ap, arith, get_or, length, map, refl, suc, sym, take, zero, ℕ, ◌++◌, ◌+◌, ◌-◌, ◌<◌, ◌≤◌, ◌∙◌, ◌∷◌, ◌≡◌}
-use Rattle.std.proofs.lemmas.List.{flat_map_more, get_or-map, length-map, map-append, take_more}
+use Rattle.std.proofs.lemmas.List.{flat_map_more, get_or-map, map-append, take_more}
 use Rattle.std.proofs.lemmas.List.Folds.{flat_map-map}
 use Rattle.std.specs.Global.{Vec}
 use Rattle.std.specs.Prelude.{Some, slice_get}
-use Rattle.std.specs.List.{flat_map, fold, range_with_len}
+use Rattle.std.specs.List.{flat_map, range_with_len}
 use Rattle.sw_char.specs.PacketView.{PacketView}
 use Rattle.sw_machine.specs.Begun.{beginning, beginnings}
 use Rattle.sw_model.specs.Steps.{machine_step}

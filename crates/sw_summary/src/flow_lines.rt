@@ -1,6 +1,5 @@
 //! What became of the packets of each flow.
-ghost use Rattle.std.specs.Prelude.{◌≡◌, ◌<◌, ◌≤◌, IfOk, OnOk, Some, length, map, slice_get, string_bytes};
-ghost use Rattle.sw_config.specs.Valid.{IsFlow};
+ghost use Rattle.std.specs.Prelude.{◌≡◌, ◌<◌, ◌≤◌, IfOk, OnOk, length, map, string_bytes};
 ghost use Rattle.sw_summary.specs.Counts.{asked_by, asked_of, items_of};
 ghost use Rattle.sw_summary.specs.Tallies.{IsRising, found, taken_all};
 ghost use Rattle.sw_summary.specs.Texts.{answered_words, flow_line, flow_text, flow_text_of, flow_texts, flow_texts_from, replies_told};
@@ -11,7 +10,6 @@ use crate::declared::declared_flow;
 use crate::fate::{Fate, fated};
 use crate::tallies::{Key, Tally, found_packets, found_times, tallies};
 use std::alloc::{AllocError, Global};
-use std::marker::Model;
 use sw_char::{End, Packet};
 use sw_config::{Flow, Network};
 use sw_load::Load;
