@@ -2,3 +2,5 @@ pub mod Order
 pub mod Counted
 pub mod Taken
 pub mod Lists
+pub mod FlowSteps
+pub mod Written

@@ -1,32 +1,58 @@
 -- Lists that loops make.
-use Rattle.std.proofs.Common.{List, [], ap, arith, get_or, length, map, refl, suc, sym, zero, ℕ, ◌++◌, ◌+◌, ◌<◌, ◌∙◌, ◌∷◌, ◌≡◌}
-use Rattle.std.proofs.lemmas.List.{flat_map_more, get_or-map, length-map}
+use Rattle.std.proofs.Common.{List, [], ap, arith, get_or, length, map, refl, suc, sym, take, zero, ℕ, ◌++◌, ◌+◌, ◌-◌, ◌<◌, ◌≤◌, ◌∙◌, ◌∷◌, ◌≡◌}
+use Rattle.std.proofs.lemmas.List.{flat_map_more, get_or-map, map-append, take_more}
 use Rattle.std.proofs.lemmas.List.Folds.{flat_map-map}
 use Rattle.std.specs.Global.{Vec}
-use Rattle.std.specs.List.{flat_map, fold, range_with_len}
+use Rattle.std.specs.Prelude.{Some, slice_get}
+use Rattle.std.specs.List.{flat_map, range_with_len}
 use Rattle.sw_char.specs.PacketView.{PacketView}
 use Rattle.sw_machine.specs.Begun.{beginning, beginnings}
 use Rattle.sw_model.specs.Steps.{machine_step}
 use Rattle.sw_model.specs.declared.step.Step.{Step}
-use Rattle.sw_summary.specs.Counts.{statuses, statuses_of}
+use Rattle.sw_summary.specs.Counts.{items_at, statuses, statuses_of, with_status}
 use Rattle.sw_summary.specs.Tallies.{Item, TallyView, taken, taken_all}
+use Rattle.sw_summary.specs.Texts.{first_status_lines, status_line}
 
 pub beginnings_are : (steps : List Step) → flat_map (λ step. beginning (machine_step step)) steps ≡ beginnings (map machine_step steps)
 beginnings_are steps = sym (flat_map-map beginning machine_step steps)
 
-abbrev items_in : Vec PacketView → List PacketView
+abbrev pub items_in : Vec PacketView → List PacketView
 items_in v = v.items
 
 pub statuses_are : (out : List (Vec PacketView)) → flat_map (λ v. statuses_of v.items) out ≡ statuses (map (λ v. v.items) out)
 statuses_are out = sym (flat_map-map statuses_of items_in out)
+
+-- what is read of the first of two lists
+pub declared_first : {A : Type 0} (xs ys : List A) (i : ℕ) (x : A) → i < length xs → slice_get (xs ++ ys) i ≡ Some x → slice_get xs i ≡ Some x
+declared_first [] ys i x within is = absurd (omega (arith, within))
+declared_first (y ∷ xs) ys zero x within is = is
+declared_first (y ∷ xs) ys (suc i) x within is = declared_first xs ys i x (omega (arith, within)) is
 
 pub range_more : (a n m k : ℕ) → m ≡ suc n → a + n ≡ k → range_with_len a m ≡ range_with_len a n ++ k ∷ []
 range_more a zero m k next is = let same : a ≡ k = omega arith in rw next (ap (λ (j : ℕ). j ∷ []) same)
 range_more a (suc n) m k next is = rw next (ap (λ (l : List ℕ). a ∷ l) (range_more (a + 1) n (suc n) k refl (omega arith)))
 
 -- one number more
+next_more_from : {A : Type 0} (f : ℕ → List A) (a n m k : ℕ) → m ≡ suc n → a + n ≡ k → flat_map f (range_with_len a n) ++ f k ≡ flat_map f (range_with_len a m)
+next_more_from f a n m k next is = flat_map_more f [] (range_with_len a n) k ∙ ap (flat_map f) (sym (range_more a n m k next is))
+
 pub next_more : {A : Type 0} (f : ℕ → List A) (n : ℕ) → flat_map f (range_with_len 0 n) ++ f n ≡ flat_map f (range_with_len 0 (n + 1))
-next_more f n = flat_map_more f [] (range_with_len 0 n) n ∙ ap (flat_map f) (sym (range_more 0 n (n + 1) n (omega arith) (omega arith)))
+next_more f n = next_more_from f 0 n (n + 1) n (omega arith) (omega arith)
+
+-- the text of one flow more
+pub text_more : (f : ℕ → List ℕ) (n : ℕ) (before here after : List ℕ) → before ≡ flat_map f (range_with_len 0 n) → here ≡ f n → after ≡ before ++ here
+    → after ≡ flat_map f (range_with_len 0 (n + 1))
+text_more f n before here after so_far line is =
+    is ∙ ap (λ (l : List ℕ). l ++ here) so_far ∙ ap (λ (l : List ℕ). flat_map f (range_with_len 0 n) ++ l) line ∙ next_more f n
+
+-- the line of one status more
+pub status_more : (out : List (List PacketView)) (s : ℕ) (before here after : List ℕ) → 1 ≤ s → before ≡ first_status_lines out (s - 1)
+    → here ≡ status_line s (with_status out s) → after ≡ before ++ here → after ≡ first_status_lines out (s + 1 - 1)
+unfolding first_status_lines
+status_more out s before here after some so_far line is =
+    let f : ℕ → List ℕ = λ (k : ℕ). status_line k (with_status out k) in
+    is ∙ ap (λ (l : List ℕ). l ++ here) so_far ∙ ap (λ (l : List ℕ). flat_map f (range_with_len 1 (s - 1)) ++ l) line
+    ∙ next_more_from f 1 (s - 1) (s + 1 - 1) s (omega (arith, some)) (omega (arith, some))
 
 -- one node more
 pub node_more : (text : ℕ → List PacketView → List Item) (all : List (Vec PacketView)) (n : ℕ) (before here after : List Item) (q : Vec PacketView)
@@ -49,3 +75,13 @@ pub flow_more : (f : ℕ → List Item) (n : ℕ) (start before after : List Tal
 flow_more f n start before after so_far is =
     is ∙ ap (λ (ts : List TallyView). taken_all ts (f n)) so_far
     ∙ sym (taken_append (flat_map f (range_with_len 0 n)) (f n) start) ∙ ap (taken_all start) (next_more f n)
+
+abbrev at_node : ℕ → PacketView → Item
+at_node n p = record { node = n; packet = p }
+
+-- one packet more at a node
+pub packet_more : (n : ℕ) (packets : List PacketView) (i : ℕ) (q : PacketView) (k : Item) → i < length packets → q ≡ get_or packets i q → k ≡ record { node = n; packet = q }
+    → items_at n (take (i + 1) packets) ≡ items_at n (take i packets) ++ k ∷ []
+packet_more n packets i q k within at is =
+    ap (items_at n) (take_more packets i q within ∙ ap (λ (p : PacketView). take i packets ++ p ∷ []) (sym at))
+    ∙ map-append (at_node n) (take i packets) (q ∷ []) ∙ ap (λ (p : Item). items_at n (take i packets) ++ p ∷ []) (sym is)

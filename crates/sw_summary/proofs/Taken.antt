@@ -1,5 +1,6 @@
 -- What is left where items take one each.
 use Rattle.std.proofs.Common.{◌≡◌, ◌∙◌, ◌<◌, ◌≤◌, ◌+◌, ◌-◌, ℕ, suc, zero, List, [], ◌∷◌, ◌++◌, ap, arith, get_or, length, map, refl, slice_set, subst, sym}
+use Rattle.std.proofs.lemmas.Bool.Decides.{nat_tests}
 use Rattle.std.specs.Prelude.{if◌then◌else◌, nat_lt}
 use Rattle.std.specs.Cmp.{tied_back}
 use Rattle.std.specs.List.{HoldsAt}
@@ -16,13 +17,13 @@ IsLess p q = item_order p q ≡ Less
 turned : (p q : Item) (r : Ordering) → item_order q p ≡ r → item_order p q ≡ ordering_reverse r
 turned p q r is = item_order_total.antisymm p q ∙ ap ordering_reverse is
 
-abbrev lowered : TallyView → TallyView
-lowered t = record t { count = t.count - 1 }
+abbrev lower_one : TallyView → TallyView
+lower_one t = record t { count = t.count - 1 }
 
 -- an item that stands at i
 taken_there : (p : Item) (ts : List TallyView) (i : ℕ) (d : TallyView) → i < length ts
     → ((k : ℕ) → k < i → IsLess (get_or ts k d).item p) → item_order (get_or ts i d).item p ≡ Equal
-    → (taken p ts ≡ slice_set ts i (lowered (get_or ts i d))) × (left p ts ≡ (get_or ts i d).count)
+    → (taken p ts ≡ slice_set ts i (lower_one (get_or ts i d))) × (left p ts ≡ (get_or ts i d).count)
 taken_there p [] i d within below here = absurd (omega (arith, within))
 taken_there p (t ∷ ts) zero d within below here =
     let first = tied_back item_order_total t.item p here in
@@ -49,24 +50,17 @@ taken_nowhere p (t ∷ ts) (suc i) d within below above =
       ap (λ (r : Ordering). left_at p r t (left p ts)) (turned p t.item Less first) ∙ rest.1,
     )
 
--- an item that a search found
-pub found_taken : (p : Item) (ts : List TallyView) (i : ℕ) (t new : TallyView) → IsRising ts → i < length ts
-    → HoldsAt (λ (u : TallyView). item_order u.item p ≡ Equal) ts i → t ≡ get_or ts i t → new ≡ lowered t
-    → (slice_set ts i new ≡ taken p ts) × (t.count ≡ left p ts)
-found_taken p ts i t new h within is at after =
-    let here : item_order (get_or ts i t).item p ≡ Equal = is t in
-    let there = taken_there p ts i t within (λ k less. less_before (get_or ts k t).item (get_or ts i t).item p Equal (rises ts k i t h less within) here (omega arith)) here in
-    (ap (slice_set ts i) (after ∙ ap lowered at) ∙ sym there.0, ap (λ (u : TallyView). u.count) at ∙ sym there.1)
+-- one fewer, where there is one
+pub fewer_small : (n count : ℕ) → n ≡ (if nat_lt 0 count then 1 else 0) → n ≤ 1
+fewer_small n zero is = omega (arith, is)
+fewer_small n (suc count) is = grind (arith, nat_tests)
 
--- an item that it did not find
-pub missing_taken : (p : Item) (ts : List TallyView) (i : ℕ) → IsRising ts → i ≤ length ts
-    → (IsNonDecreasingBy (λ (u : TallyView). ordering_index (item_order u.item p)) ts
-    → IsPartitionPoint (λ (u : TallyView). item_order u.item p ≡ Less) (λ (u : TallyView). item_order u.item p ≡ Greater) ts i)
-    → (taken p ts ≡ ts) × (left p ts ≡ 0)
-missing_taken p ts i h within found_by =
-    let parted = found_by (answers_rise p ts h) in
-    let d : TallyView = record { item = p; count = 0 } in
-    taken_nowhere p ts i d within (λ k less. parted.0 k d (omega arith) less) (λ k more less. parted.1 k d more less)
+-- what a search and a write at what it found leave
+pub record IsTaken (p : Item) (ts after : List TallyView) (n : ℕ) : Type 0 where
+  pub lowered : n ≡ (if nat_lt 0 (left p ts) then 1 else 0)
+  pub fewer : after ≡ taken p ts
+  pub rising : IsRising after
+  pub few : n ≤ 1
 
 taken_items : (p : Item) (ts : List TallyView) → map (λ (t : TallyView). t.item) (taken p ts) ≡ map (λ (t : TallyView). t.item) ts
 taken_items p [] = refl
@@ -81,6 +75,34 @@ taken_items p (t ∷ ts) = go (item_order p t.item) (taken_items p ts)
 pub taken_rises : (p : Item) (ts : List TallyView) → IsRising ts → IsRising (taken p ts)
 taken_rises p ts h = subst (IsStrictlySortedBy item_order) (sym (taken_items p ts)) h
 
+is_taken : (p : Item) (ts after : List TallyView) (n count : ℕ) → IsRising ts → n ≡ (if nat_lt 0 count then 1 else 0) → count ≡ left p ts → after ≡ taken p ts → IsTaken p ts after n
+is_taken p ts after n count h is same all = record {
+  lowered = is ∙ ap (λ (k : ℕ). if nat_lt 0 k then 1 else 0) same;
+  fewer = all;
+  rising = subst IsRising (sym all) (taken_rises p ts h);
+  few = fewer_small n count is;
+}
+
+-- an item that a search found
+pub found_taken : (p : Item) (ts : List TallyView) (i : ℕ) (d new : TallyView) (n : ℕ) → IsRising ts → i < length ts
+    → HoldsAt (λ (u : TallyView). item_order u.item p ≡ Equal) ts i → n ≡ (if nat_lt 0 (get_or ts i d).count then 1 else 0) → new ≡ lower_one (get_or ts i d)
+    → IsTaken p ts (slice_set ts i new) n
+found_taken p ts i d new n h within is count after =
+    let here : item_order (get_or ts i d).item p ≡ Equal = is d in
+    let there = taken_there p ts i d within (λ k less. less_before (get_or ts k d).item (get_or ts i d).item p Equal (rises ts k i d h less within) here (omega arith)) here in
+    is_taken p ts (slice_set ts i new) n (get_or ts i d).count h count (sym there.1) (ap (slice_set ts i) after ∙ sym there.0)
+
+-- an item that it did not find
+pub missing_taken : (p : Item) (ts : List TallyView) (i : ℕ) → IsRising ts → i ≤ length ts
+    → (IsNonDecreasingBy (λ (u : TallyView). ordering_index (item_order u.item p)) ts
+    → IsPartitionPoint (λ (u : TallyView). item_order u.item p ≡ Less) (λ (u : TallyView). item_order u.item p ≡ Greater) ts i)
+    → IsTaken p ts ts 0
+missing_taken p ts i h within found_by =
+    let parted = found_by (answers_rise p ts h) in
+    let d : TallyView = record { item = p; count = 0 } in
+    let nowhere = taken_nowhere p ts i d within (λ k less. parted.0 k d (omega arith) less) (λ k more less. parted.1 k d more less) in
+    is_taken p ts ts 0 0 h refl (sym nowhere.1) (sym nowhere.0)
+
 pub taken_all_rises : (items : List Item) (ts : List TallyView) → IsRising ts → IsRising (taken_all ts items)
 taken_all_rises [] ts h = h
 taken_all_rises (p ∷ ps) ts h = taken_all_rises ps (taken p ts) (taken_rises p ts h)
@@ -93,3 +115,11 @@ found_more ts (q ∷ qs) p = let rest = found_more (taken q ts) qs p in omega (a
 pub taken_more : (ts : List TallyView) (ps : List Item) (p : Item) → taken_all ts (ps ++ p ∷ []) ≡ taken p (taken_all ts ps)
 taken_more ts [] p = refl
 taken_more ts (q ∷ qs) p = taken_more (taken q ts) qs p
+
+-- one item more takes its own
+pub one_taken : (start ts after : List TallyView) (items more : List Item) (p : Item) (count one : ℕ) → more ≡ items ++ p ∷ [] → count ≡ found start items
+    → ts ≡ taken_all start items → one ≡ (if nat_lt 0 (left p ts) then 1 else 0) → after ≡ taken p ts → (count + one ≡ found start more) × (after ≡ taken_all start more)
+one_taken start ts after items more p count one same counted rest lowered fewer =
+    let here : one ≡ (if nat_lt 0 (left p (taken_all start items)) then 1 else 0) = lowered ∙ ap (λ (us : List TallyView). if nat_lt 0 (left p us) then 1 else 0) rest in
+    let total : count + one ≡ found start (items ++ p ∷ []) = let next = found_more start items p in omega (arith, next, here, counted) in
+    (total ∙ ap (found start) (sym same), fewer ∙ ap (taken p) rest ∙ sym (taken_more start items p) ∙ ap (taken_all start) (sym same))

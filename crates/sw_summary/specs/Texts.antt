@@ -44,7 +44,8 @@ flow_text d load begun came_out replies i = option_map_or (flow_text_of load beg
 
 -- of all flows, where this came out and these replies did
 abbrev pub flow_texts_from : Declaration → List LoadEntry → List Begun → List TallyView → List TallyView → List ℕ
-flow_texts_from d load begun packets replies = flat_map (λ i. flow_text d load begun (delivered d begun packets i) (answered d begun replies i) i) (range_with_len 0 (length d.flows))
+flow_texts_from d load begun packets replies =
+    flat_map (λ i. flow_text d load begun (delivered d begun packets i) (answered d begun replies i) i) (range_with_len 0 (length d.flows))
 
 abbrev pub flow_texts : Declaration → List LoadEntry → List Begun → List (List PacketView) → List ℕ
 flow_texts d load begun out = flow_texts_from d load begun (tallies (all_items out)) (tallies (all_replies out))
@@ -56,9 +57,13 @@ status_line status count =
     then codes "replies with status " ++ (decimal status ++ (codes " (" ++ (status_name status ++ (codes "): " ++ (decimal count ++ codes "\n")))))
     else []
 
+-- the lines of the statuses from 1 on, of so many
+unfoldable pub first_status_lines : List (List PacketView) → ℕ → List ℕ
+first_status_lines out count = flat_map (λ s. status_line s (with_status out s)) (range_with_len 1 count)
+
 -- each status but 0
 abbrev pub status_lines : List (List PacketView) → List ℕ
-status_lines out = flat_map (λ s. status_line s (with_status out s)) (range_with_len 1 255)
+status_lines out = first_status_lines out 255
 
 -- how many packets of a flow to a target nobody answers, for this reason, if any
 abbrev pub unanswered_line : List ℕ → List PacketView → Fate → List ℕ
@@ -70,7 +75,7 @@ unanswered_line name packets fate =
 abbrev pub reasons : List Fate
 reasons = TooShort ∷ OtherProtocol ∷ WrongCrc ∷ IsReply ∷ NotAsked ∷ NoWay ∷ []
 
-abbrev pub unanswered_text : List ℕ → List PacketView → List ℕ
+unfoldable pub unanswered_text : List ℕ → List PacketView → List ℕ
 unanswered_text name packets = flat_map (unanswered_line name packets) reasons
 
 -- of flow i, if it ends at a target

@@ -53,7 +53,6 @@ fn push_some<'a>(all: &mut Vec<Begun<'a>>, begun: Option<Begun<'a>>) -> Result<(
 }
 
 /// The packets that the steps begin.
-#[tactic(auto, using(crate::proofs::Lists::beginnings_are))]
 pub(crate) fn beginnings<'a>(alloc: Global, steps: &'a [Step]) -> Result<Vec<Begun<'a>>, AllocError>
     ensures { IfOk result (λ all. all.items ≡ beginnings (map machine_step steps.now)) }
 {

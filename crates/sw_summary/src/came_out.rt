@@ -1,11 +1,11 @@
 //! What came out of a network, as keys.
-ghost use Rattle.std.specs.Prelude.{◌≡◌, ◌≤◌, ◌++◌, IfOk, length, map};
+ghost use Rattle.std.specs.Prelude.{◌≡◌, ◌≤◌, ◌++◌, ◌∷◌, [], IfOk, length, map};
 ghost use Rattle.sw_summary.specs.Counts.{all_items, all_replies, items_at, replies_at};
 
 use crate::replies::is_reply;
 use crate::tallies::Key;
 use std::alloc::{AllocError, Global};
-use sw_char::{End, Packet};
+use sw_char::Packet;
 
 // The packets of a node.
 fn push_packets<'a>(
@@ -16,11 +16,7 @@ fn push_packets<'a>(
     ensures { IfOk result (λ _. all.new.items ≡ all.old.items ++ items_at node packets.now) }
 {
     for packet in packets {
-        all.push(Key {
-            node,
-            bytes: packet.bytes.as_slice(),
-            end: packet.end,
-        })?;
+        all.push(Key::of(node, packet))?;
     }
     Ok(())
 }
@@ -40,6 +36,16 @@ pub(crate) fn all_packets<'a>(
     Ok(all)
 }
 
+// The packet, if it is a reply.
+fn push_reply<'a>(all: &mut Vec<Key<'a>>, node: u16, packet: &'a Packet) -> Result<(), AllocError>
+    ensures { IfOk result (λ _. all.new.items ≡ all.old.items ++ replies_at node (packet.now ∷ [])) }
+{
+    if is_reply(&packet.bytes) {
+        all.push(Key::of_reply(node, packet))?;
+    }
+    Ok(())
+}
+
 // The replies of a node.
 fn push_replies<'a>(
     all: &mut Vec<Key<'a>>,
@@ -49,13 +55,7 @@ fn push_replies<'a>(
     ensures { IfOk result (λ _. all.new.items ≡ all.old.items ++ replies_at node packets.now) }
 {
     for packet in packets {
-        if is_reply(&packet.bytes) {
-            all.push(Key {
-                node,
-                bytes: &packet.bytes[..1],
-                end: End::Eop,
-            })?;
-        }
+        push_reply(all, node, packet)?;
     }
     Ok(())
 }

@@ -1,16 +1,15 @@
 //! What became of the packets of each flow.
-ghost use Rattle.std.specs.Prelude.{◌≡◌, ◌<◌, ◌≤◌, IfOk, OnOk, Some, length, map, slice_get, string_bytes};
-ghost use Rattle.sw_config.specs.Valid.{IsFlow};
+ghost use Rattle.std.specs.Prelude.{◌≡◌, ◌<◌, ◌≤◌, IfOk, OnOk, length, map, string_bytes};
 ghost use Rattle.sw_summary.specs.Counts.{asked_by, asked_of, items_of};
 ghost use Rattle.sw_summary.specs.Tallies.{IsRising, found, taken_all};
 ghost use Rattle.sw_summary.specs.Texts.{answered_words, flow_line, flow_text, flow_text_of, flow_texts, flow_texts_from, replies_told};
 
 use crate::begun::{Begun, begun_of, forms, loaded};
 use crate::came_out::{all_packets, all_replies};
+use crate::declared::declared_flow;
 use crate::fate::{Fate, fated};
 use crate::tallies::{Key, Tally, found_packets, found_times, tallies};
 use std::alloc::{AllocError, Global};
-use std::marker::Model;
 use sw_char::{End, Packet};
 use sw_config::{Flow, Network};
 use sw_load::Load;
@@ -65,15 +64,6 @@ fn replies_told(flow: &Flow, count: usize) -> Option<usize>
     } else {
         None
     }
-}
-
-// The flow of that number.
-fn declared_flow(network: &Network, number: u16) -> &Flow
-    requires { number < length network.now.flows }
-    ensures flow { slice_get network.now.flows number ≡ Some result.now }
-    ensures valid { IsFlow network.now.nodes result.now }
-{
-    network.flow(number)
 }
 
 /// What came out and is not counted yet.

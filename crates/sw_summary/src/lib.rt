@@ -3,6 +3,7 @@
 
 mod begun;
 mod came_out;
+mod declared;
 mod fate;
 mod flow_lines;
 mod replies;

@@ -1,5 +1,5 @@
 //! Which statuses the replies that came out have.
-ghost use Rattle.std.specs.Prelude.{◌≡◌, ◌++◌, ◌==◌, IfOk, count_by, map, string_bytes};
+ghost use Rattle.std.specs.Prelude.{◌≡◌, ◌++◌, ◌==◌, ◌∷◌, [], IfOk, count_by, map, string_bytes};
 ghost use Rattle.sw_summary.specs.Counts.{statuses, statuses_of};
 ghost use Rattle.sw_summary.specs.Texts.{status_line, status_lines};
 
@@ -7,20 +7,27 @@ use crate::replies::{is_reply, status_name, status_of};
 use std::alloc::{AllocError, Global};
 use sw_char::Packet;
 
+// The status of the packet, if it is a reply.
+fn push_status(all: &mut Vec<u8>, packet: &Packet) -> Result<(), AllocError>
+    ensures { IfOk result (λ _. all.new.items ≡ all.old.items ++ statuses_of (packet.now ∷ [])) }
+{
+    if is_reply(&packet.bytes) {
+        all.push(status_of(&packet.bytes))?;
+    }
+    Ok(())
+}
+
 // The statuses of the replies among the packets.
 fn push_statuses(all: &mut Vec<u8>, packets: &[Packet]) -> Result<(), AllocError>
     ensures { IfOk result (λ _. all.new.items ≡ all.old.items ++ statuses_of packets.now) }
 {
     for packet in packets {
-        if is_reply(&packet.bytes) {
-            all.push(status_of(&packet.bytes))?;
-        }
+        push_status(all, packet)?;
     }
     Ok(())
 }
 
 // The statuses of all replies that came out.
-#[tactic(auto, using(crate::proofs::Lists::statuses_are))]
 fn statuses(alloc: Global, out: &[Vec<Packet>]) -> Result<Vec<u8>, AllocError>
     ensures { IfOk result (λ all. all.items ≡ statuses (map (λ packets. packets.items) out.now)) }
 {

@@ -1,5 +1,5 @@
 //! What came out of a network and is not counted yet.
-ghost use Rattle.std.specs.Prelude.{◌≡◌, ◌<◌, ◌≤◌, ◌^◌, ◌+◌, All, ◌-◌, IfOk, length, nat_lt, replicate};
+ghost use Rattle.std.specs.Prelude.{◌≡◌, ◌<◌, ◌≤◌, ◌^◌, ◌+◌, All, ◌-◌, IfOk, if◌then◌else◌, length, nat_lt, replicate, take};
 ghost use Rattle.std.specs.List.Sorted.{IsBinarySearchResult, IsSearchInRange};
 ghost use Rattle.sw_output.specs.Tallies.{end_rank};
 ghost use Rattle.sw_summary.specs.Counts.{items_at};
@@ -27,6 +27,32 @@ impl<'a> Model for Key<'a> {
 }
 
 impl<'a> Key<'a> {
+    ghost use Rattle.sw_char.specs.declared.nchar.End.TheVariants.{Eop as ByEop};
+
+    /// The packet at the node.
+    pub(crate) fn of(node: u16, packet: &'a Packet) -> Key<'a>
+        ensures { result ≡ record { node = node; packet = packet.now } }
+    {
+        Key {
+            node,
+            bytes: packet.bytes.as_slice(),
+            end: packet.end,
+        }
+    }
+
+    /// The reply at the node, by its first byte.
+    pub(crate) fn of_reply(node: u16, packet: &'a Packet) -> Key<'a>
+        requires { 8 ≤ length packet.now.bytes }
+        ensures { result ≡ record { node = node; packet = record { bytes = take 1 packet.now.bytes; end = ByEop } } }
+    {
+        let bytes = packet.bytes.as_slice();
+        Key {
+            node,
+            bytes: &bytes[..1],
+            end: End::Eop,
+        }
+    }
+
     // The same key.
     fn again(&self) -> Key<'a>
         ensures { result ≡ self.now }
@@ -63,14 +89,14 @@ impl<'a> Tally<'a> {
         self.count += 1;
     }
 
-    // One fewer, where there is one: whether there was one.
-    fn lower(&mut self) -> bool
-        ensures there { result ≡ nat_lt 0 self.old.count }
+    // One fewer, where there is one: how many fewer.
+    fn lower(&mut self) -> usize
+        ensures lowered { result ≡ (if nat_lt 0 self.old.count then 1 else 0) }
         ensures fewer { self.new ≡ record self.old { count = self.old.count - 1 } }
     {
-        let there = self.count > 0;
+        let before = self.count;
         self.count = self.count.saturating_sub(1);
-        there
+        if before > 0 { 1 } else { 0 }
     }
 }
 
@@ -116,15 +142,17 @@ fn add<'a>(tallies: &mut Vec<Tally<'a>>, key: Key<'a>) -> Result<(), AllocError>
     Ok(())
 }
 
-// One fewer of the key, where there is one: whether there was one.
-fn take(tallies: &mut [Tally<'_>], key: &Key<'_>) -> bool
+// One fewer of the key, where there is one: how many fewer.
+fn take(tallies: &mut [Tally<'_>], key: &Key<'_>) -> usize
     requires { IsRising tallies.old }
-    ensures there { result ≡ nat_lt 0 (left key.now tallies.old) }
+    ensures lowered { result ≡ (if nat_lt 0 (left key.now tallies.old) then 1 else 0) }
     ensures fewer { tallies.new ≡ taken key.now tallies.old }
+    ensures rising { IsRising tallies.new }
+    ensures few { result ≤ 1 }
 {
     match place(tallies, key) {
         Ok(i) => tallies[i].lower(),
-        Err(_) => false,
+        Err(_) => 0,
     }
 }
 
@@ -147,14 +175,7 @@ pub(crate) fn found_packets(tallies: &mut [Tally<'_>], node: u16, packets: &[Pac
 {
     let mut count = 0;
     for packet in packets {
-        let key = Key {
-            node,
-            bytes: packet.bytes.as_slice(),
-            end: packet.end,
-        };
-        if take(tallies, &key) {
-            count += 1;
-        }
+        count += take(tallies, &Key::of(node, packet));
     }
     count
 }
@@ -167,9 +188,7 @@ pub(crate) fn found_times(tallies: &mut [Tally<'_>], key: &Key<'_>, times: usize
 {
     let mut count = 0;
     for _turn in 0..times {
-        if take(tallies, key) {
-            count += 1;
-        }
+        count += take(tallies, key);
     }
     count
 }

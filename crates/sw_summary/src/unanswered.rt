@@ -1,13 +1,15 @@
 //! Which commands nobody answers.
-ghost use Rattle.std.specs.Prelude.{◌≡◌, ◌<◌, [], IfOk, length, slice_get, string_bytes};
+ghost use Rattle.std.specs.Prelude.{◌≡◌, ◌<◌, ◌++◌, [], IfOk, length, slice_get, string_bytes};
 ghost use Rattle.std.specs.Option.{option_map_or};
+ghost use Rattle.sw_config.specs.Valid.{IsFlow};
 ghost use Rattle.sw_summary.specs.Texts.{unanswered_line, unanswered_of, unanswered_text, unanswered_texts};
 
 use crate::begun::{Begun, forms};
+use crate::declared::declared_flow;
 use crate::fate::{Fate, fated};
 use std::alloc::{AllocError, Global};
 use sw_char::Packet;
-use sw_config::Network;
+use sw_config::{Flow, Network};
 
 // How many of the flow's packets nobody answers, for this reason.
 fn unanswered_line(
@@ -26,17 +28,50 @@ fn unanswered_line(
     format!(in alloc; "commands of {name} that nobody answers: {count} ({reason})\n")
 }
 
+// The line of one reason more.
+fn push_line(
+    alloc: Global,
+    text: &mut String,
+    name: &str,
+    packets: &[Packet],
+    fate: Fate,
+) -> Result<(), AllocError>
+    ensures { IfOk result (λ _. string_bytes text.new ≡ string_bytes text.old ++ unanswered_line name.now packets.now fate) }
+{
+    text.push_str(unanswered_line(alloc, name, packets, fate)?.as_str())
+}
+
 // A line for each reason.
+#[tactic(auto, unfolding(crate::specs::Texts::unanswered_text))]
 fn unanswered_text(alloc: Global, name: &str, packets: &[Packet]) -> Result<String, AllocError>
     ensures { IfOk result (λ s. string_bytes s ≡ unanswered_text name.now packets.now) }
 {
-    let short = unanswered_line(alloc, name, packets, Fate::TooShort)?;
-    let other = unanswered_line(alloc, name, packets, Fate::OtherProtocol)?;
-    let wrong = unanswered_line(alloc, name, packets, Fate::WrongCrc)?;
-    let reply = unanswered_line(alloc, name, packets, Fate::IsReply)?;
-    let not_asked = unanswered_line(alloc, name, packets, Fate::NotAsked)?;
-    let no_way = unanswered_line(alloc, name, packets, Fate::NoWay)?;
-    format!(in alloc; "{short}{other}{wrong}{reply}{not_asked}{no_way}")
+    let mut text = String::new(alloc);
+    push_line(alloc, &mut text, name, packets, Fate::TooShort)?;
+    push_line(alloc, &mut text, name, packets, Fate::OtherProtocol)?;
+    push_line(alloc, &mut text, name, packets, Fate::WrongCrc)?;
+    push_line(alloc, &mut text, name, packets, Fate::IsReply)?;
+    push_line(alloc, &mut text, name, packets, Fate::NotAsked)?;
+    push_line(alloc, &mut text, name, packets, Fate::NoWay)?;
+    Ok(text)
+}
+
+// The lines of the flow, of that number, if it ends at a target.
+fn flow_unanswered(
+    alloc: Global,
+    network: &Network,
+    begun: &[Begun<'_>],
+    number: u16,
+    flow: &Flow,
+) -> Result<String, AllocError>
+    requires { IsFlow network.now.nodes flow.now }
+    ensures { IfOk result (λ s. string_bytes s ≡ unanswered_of network.now begun.now number flow.now) }
+{
+    if !network.is_target(flow.to()) {
+        return Ok(String::new(alloc));
+    }
+    let packets = forms(alloc, flow, number, begun)?;
+    unanswered_text(alloc, flow.name(), &packets)
 }
 
 // The lines of the flow of that number, if it ends at a target.
@@ -49,12 +84,8 @@ fn unanswered_of(
     requires { number < length network.now.flows }
     ensures { IfOk result (λ s. string_bytes s ≡ option_map_or (unanswered_of network.now begun.now number) (slice_get network.now.flows number) []) }
 {
-    let flow = network.flow(number);
-    if !network.is_target(flow.to()) {
-        return Ok(String::new(alloc));
-    }
-    let packets = forms(alloc, flow, number, begun)?;
-    unanswered_text(alloc, flow.name(), &packets)
+    let flow = declared_flow(network, number);
+    flow_unanswered(alloc, network, begun, number, flow)
 }
 
 /// The lines of all flows.

@@ -1,0 +1,18 @@
+use Rattle.std.proofs.Common.{arith, length, rules, take, ◌+◌, ◌<◌}
+use Rattle.sw_summary.specs.Counts.{items_at}
+use Rattle.sw_summary.proofs.Lists.{packet_more}
+use Rattle.sw_summary.proofs.Taken.{one_taken}
+use Rattle.sw_summary.proofs.tallies.found_packets.Goals as goal
+
+pub loop-packet-preserved : goal.loop-packet-preserved
+loop-packet-preserved c =
+    let n = c.args.node in
+    let packets = c.args.packets.now in
+    let i = c.loop-packet.packet-index in
+    let within : i < length packets = search rules in
+    let next = packet_more n packets i c.packet-item.result c.of.result within c.packet-item.is c.of.ensures in
+    let both = one_taken c.args.tallies.now c.loop-packet.tallies c.take-count.new.tallies (items_at n (take i packets)) (items_at n (take (i + 1) packets)) c.of.result
+    c.loop-packet.count c.take-count.result next c.loop-packet.invariant.count c.loop-packet.invariant.rest c.take-count.ensures.lowered c.take-count.ensures.fewer in
+    let few = c.take-count.ensures.few in
+    let were = c.loop-packet.invariant.few in
+    record { count = both.0; rest = both.1; few = omega (arith, few, were); rising = c.take-count.ensures.rising }

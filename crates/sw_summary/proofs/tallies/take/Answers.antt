@@ -1,0 +1,25 @@
+use Rattle.sw_summary.proofs.Taken.{found_taken, missing_taken}
+use Rattle.sw_summary.proofs.tallies.take.Goals as goal
+
+pub returns-in-Ok-clause-lowered : goal.returns-in-Ok-clause-lowered
+returns-in-Ok-clause-lowered c =
+    (found_taken c.args.key.now c.args.tallies.now c.in-Ok.i c.index-tallies-i.result c.lower.new.self c.lower.result c.requires c.in-Ok.ensures.bound
+    c.in-Ok.ensures.position c.lower.ensures.lowered c.lower.ensures.fewer).lowered
+
+pub returns-in-Ok-clause-fewer : goal.returns-in-Ok-clause-fewer
+returns-in-Ok-clause-fewer c =
+    (found_taken c.args.key.now c.args.tallies.now c.in-Ok.i c.index-tallies-i.result c.lower.new.self c.lower.result c.requires c.in-Ok.ensures.bound
+    c.in-Ok.ensures.position c.lower.ensures.lowered c.lower.ensures.fewer).fewer
+
+pub returns-in-Ok-clause-rising : goal.returns-in-Ok-clause-rising
+returns-in-Ok-clause-rising c =
+    (found_taken c.args.key.now c.args.tallies.now c.in-Ok.i c.index-tallies-i.result c.lower.new.self c.lower.result c.requires c.in-Ok.ensures.bound
+    c.in-Ok.ensures.position c.lower.ensures.lowered c.lower.ensures.fewer).rising
+
+pub returns-in-Err-clause-lowered : goal.returns-in-Err-clause-lowered
+returns-in-Err-clause-lowered c =
+    (missing_taken c.args.key.now c.args.tallies.now c.in-Err.field-0 c.requires c.in-Err.ensures.bound c.in-Err.ensures.position).lowered
+
+pub returns-in-Err-clause-fewer : goal.returns-in-Err-clause-fewer
+returns-in-Err-clause-fewer c =
+    (missing_taken c.args.key.now c.args.tallies.now c.in-Err.field-0 c.requires c.in-Err.ensures.bound c.in-Err.ensures.position).fewer
