@@ -27,12 +27,23 @@ fn only_link(mut places: Followers<'_>) -> Option<u16>
 }
 
 // The link over which alone the flow goes on from that place.
-fn link_after(network: &Network, flow: &Flow, place: Place) -> Option<u16>
+fn link_after(network: &Network, flow: &Flow, place: &Place) -> Option<u16>
     requires { IsFlow network.now.nodes flow.now }
-    ensures link { result ≡ link_after network.now flow.now place }
+    ensures link { result ≡ link_after network.now flow.now place.now }
     ensures within { IfSome result (λ l. l < length network.now.links) }
 {
-    only_link(followers_in(network, flow, place))
+    only_link(followers_in(network, flow, *place))
+}
+
+// Marks the link that the flow needs at that place, if there is one.
+fn mark_place(network: &Network, flow: &Flow, place: &Place, marks: &mut [bool])
+    requires flow { IsFlow network.now.nodes flow.now }
+    requires size { length marks.old ≡ length network.now.links }
+    ensures { AreMarked network.now flow.now (place.now ∷ []) marks.old marks.new }
+{
+    if let Some(link) = link_after(network, flow, place) {
+        marks[usize::from(link)] = true;
+    }
 }
 
 // Marks the links that the flow needs at these places.
@@ -42,9 +53,7 @@ fn mark_places(network: &Network, flow: &Flow, places: &[Place], marks: &mut [bo
     ensures { AreMarked network.now flow.now places.now marks.old marks.new }
 {
     for place in places {
-        if let Some(link) = link_after(network, flow, *place) {
-            marks[usize::from(link)] = true;
-        }
+        mark_place(network, flow, place, marks);
     }
 }
 
