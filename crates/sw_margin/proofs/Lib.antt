@@ -1,7 +1,7 @@
 pub mod Waiting
-pub mod Chosen
+pub mod Picked
 pub mod Told
 pub mod Ways
 pub mod Needing
-pub mod Losing
+pub mod LinkRows
 pub mod Lawful
