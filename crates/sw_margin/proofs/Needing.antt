@@ -1,6 +1,6 @@
 -- The links that a flow needs.
-use Rattle.std.proofs.Common.{◌≡◌, ◌≢◌, ℕ, zero, suc, ◌/◌, ◌*◌, ◌<◌, ◌≤◌, ◌⊎◌, ◌↔◌, Bool, true, false, eqb, cond, List, [], ◌∷◌, ◌++◌, length, set, replicate, get_or, All, Contains, Option, Some, None, refl, sym, ap, ◌∙◌, subst, inl, inr, arith, get_or-set_same, get_or-set_other, length-set}
-use Rattle.std.specs.Prelude.{slice_get, IfSome}
+use Rattle.std.proofs.Common.{◌≡◌, ◌≢◌, ℕ, ◌/◌, ◌<◌, ◌≤◌, Bool, true, false, eqb, List, [], ◌∷◌, ◌++◌, length, set, replicate, Contains, Option, Some, None, refl, sym, ap, ◌∙◌, subst, inl, inr, arith, get_or-set_same, get_or-set_other, length-set}
+use Rattle.std.specs.Prelude.{IfSome}
 use Rattle.std.specs.List.{AllByRecursion, list_all}
 use Rattle.std.proofs.lemmas.Bool.{cases_Bool, cases_eq, cases_lt, eq-eqb, eqb-true, false≢true}
 use Rattle.std.proofs.lemmas.List.{get_or-replicate, get_or_past, length-replicate}
@@ -14,7 +14,7 @@ use Rattle.sw_flow.specs.Places.{ends_of, IsPlaceList}
 use Rattle.sw_flow.proofs.Listed.{Contains-cases, Contains-head}
 use Rattle.sw_margin.specs.Losses.{AreOnLink, NeedsLink}
 use Rattle.sw_margin.specs.Losses.NeedsLink.{AtStart, OnTheWay}
-use Rattle.sw_margin.specs.Needs.{AreMarked, AreNeeded, IsNeededAt, is_marked, link_after, only_link}
+use Rattle.sw_margin.specs.Needs.{AreMarked, AreNeeded, is_marked, link_after, only_link}
 use Rattle.sw_margin.proofs.Ways.{channels_paired, follower_within}
 
 none_in : {X : Type 0} (x : X) → Contains [] x → ⊥

@@ -27,12 +27,12 @@ with_copied g h h2 more same w =
       size = w.size ∙ long;
       each = λ c e.
           let at : row h c ≡ row g c = row_items h c ∙ ap (λ (l : List (List ℕ)). get_or l c []) same ∙ sym (row_items g c) in
-          let P : List ℕ → Type 0 = λ l. Leads h2 c e ↔ (Contains l e ⊎ Contains more (c , e)) in
+          let P : List ℕ → Type 0 = λ l. Leads h2 c e ↔ (Contains l e ⊎ Contains more (c, e)) in
           subst P at (w.each c e);
     }
 
 pub with_none : (g : List (Vec ℕ Global)) → AreWith g [] g
-with_none g = record { size = refl; each = λ c e. (λ h. inl h, λ h. elim h [ inl k ↦ k | inr k ↦ absurd (none_in (c , e) k) ]) }
+with_none g = record { size = refl; each = λ c e. (λ h. inl h, λ h. elim h [ inl k ↦ k | inr k ↦ absurd (none_in (c, e) k) ]) }
 
 -- one more further wait
 pub with_more : (ws : List (ℕ × ℕ)) (w : ℕ × ℕ) (g g1 g2 : List (Vec ℕ Global)) → AreWith g ws g1 → AreWith g1 (w ∷ []) g2 → AreWith g (ws ++ w ∷ []) g2
@@ -40,12 +40,12 @@ with_more ws w g g1 g2 a b = record {
   size = b.size ∙ a.size;
   each = λ c e. (
     λ h. elim ((b.each c e).0 h) [
-      | inl k ↦ elim ((a.each c e).0 k) [ inl old ↦ inl old | inr new ↦ inr (Contains-append_left ws (w ∷ []) (c , e) new) ]
-      | inr k ↦ inr (Contains-append_right ws (w ∷ []) (c , e) k)
+      | inl k ↦ elim ((a.each c e).0 k) [ inl old ↦ inl old | inr new ↦ inr (Contains-append_left ws (w ∷ []) (c, e) new) ]
+      | inr k ↦ inr (Contains-append_right ws (w ∷ []) (c, e) k)
     ],
     λ h. elim h [
       | inl k ↦ (b.each c e).1 (inl ((a.each c e).1 (inl k)))
-      | inr k ↦ elim (Contains-append_cases ws (w ∷ []) (c , e) k) [ inl old ↦ (b.each c e).1 (inl ((a.each c e).1 (inr old))) | inr new ↦ (b.each c e).1 (inr new) ]
+      | inr k ↦ elim (Contains-append_cases ws (w ∷ []) (c, e) k) [ inl old ↦ (b.each c e).1 (inl ((a.each c e).1 (inr old))) | inr new ↦ (b.each c e).1 (inr new) ]
     ],
   );
 }
@@ -56,9 +56,9 @@ with_graph g h more ok within w k v lt =
     let at : row h k ≡ (get_or h k v).items = row_read h k (get_or h k v) lt (get_or_default h k v (get_or h k v) lt) in
     let P : List ℕ → Type 0 = λ l. All (λ d. d < length h) l in
     let size = w.size in
-    let inside : (e : ℕ) → (Leads g k e ⊎ Contains more (k , e)) → e < length h = λ e x. elim x [
+    let inside : (e : ℕ) → (Leads g k e ⊎ Contains more (k, e)) → e < length h = λ e x. elim x [
       | inl led ↦ let low = (lead_inside g ok k e led).1 in omega arith
-      | inr new ↦ let low = (All-contains (IsWithin (length g)) more (k , e) within new).to in omega arith
+      | inr new ↦ let low = (All-contains (IsWithin (length g)) more (k, e) within new).to in omega arith
     ] in
     subst P at (λ i d li. inside (get_or (row h k) i d) ((w.each k (get_or (row h k) i d)).0 (All-contains_itself (row h k) i d li)))
 

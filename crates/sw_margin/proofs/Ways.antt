@@ -1,11 +1,10 @@
 -- The way of a flow, and what waits on it.
-use Rattle.std.proofs.Common.{◌≡◌, ℕ, zero, suc, ◌+◌, ◌-◌, ◌*◌, ◌%◌, ◌<◌, List, [], ◌∷◌, ◌++◌, length, map, All, Contains, Option, Some, None, refl, sym, ap, ◌∙◌, subst, inl, inr, arith, append_assoc}
+use Rattle.std.proofs.Common.{◌≡◌, ℕ, zero, suc, ◌+◌, ◌-◌, ◌*◌, ◌<◌, List, [], ◌∷◌, ◌++◌, length, map, All, Contains, Option, Some, None, refl, sym, ap, ◌∙◌, arith, append_assoc}
 use Rattle.std.specs.Prelude.{slice_get}
 use Rattle.std.specs.List.{AllByRecursion}
 use Rattle.std.specs.Option.{option_map_or}
 use Rattle.std.proofs.lemmas.List.Elements.{All-from_recursion}
 use Rattle.std.proofs.lemmas.Option.{get_or_from_slice_get, slice_get_within}
-use Rattle.sw_topo.specs.declared.place.PlaceEnd.{PlaceEnd}
 use Rattle.sw_topo.specs.Wiring.{out, partner}
 use Rattle.sw_topo.proofs.Ends.{node_starts, port_starts}
 use Rattle.sw_config.specs.Entries.{FlowEntry, Declaration, wiring_of}
@@ -66,16 +65,16 @@ module _ (d : Declaration) (f : FlowEntry) where
       ap (λ (o : Option ℕ). option_map_or (λ c. start_on c ∷ first_way d f (length (ends_of d)) (start_on c)) o []) starts in
       ap (λ (ps : List Place). waits_back (channels ps)) way ∙ ap (λ (q : Place). waits_from (length (ends_of d)) q) at
 
-  pub waits_ended : (n : ℕ) (p : Place) → first_of p ≡ None → waits_from n p ≡ (p.channel , partner p.channel) ∷ []
+  pub waits_ended : (n : ℕ) (p : Place) → first_of p ≡ None → waits_from n p ≡ (p.channel, partner p.channel) ∷ []
   waits_ended n p none = ap (λ (ps : List Place). waits_back (channels (p ∷ ps))) (ended n p none)
 
   -- one step
   pub waits_more : (total i : ℕ) (p q : Place) (old before after : List (ℕ × ℕ)) → i < total → first_of p ≡ Some q → before ++ waits_from (total - i) p ≡ old ++ answering d f
-      → after ≡ before ++ (partner q.channel , partner p.channel) ∷ [] → after ++ waits_from (total - (i + 1)) q ≡ old ++ answering d f
+      → after ≡ before ++ (partner q.channel, partner p.channel) ∷ [] → after ++ waits_from (total - (i + 1)) q ≡ old ++ answering d f
   waits_more total i p q old before after lt some so_far more =
       let n : ℕ = total - (i + 1) in
       let count : total - i ≡ suc n = omega arith in
-      let w : ℕ × ℕ = (partner q.channel , partner p.channel) in
+      let w : ℕ × ℕ = (partner q.channel, partner p.channel) in
       let one : waits_from (suc n) p ≡ w ∷ waits_from n q = ap (λ (ps : List Place). waits_back (channels (p ∷ ps))) (goes_on n p q some) in
       let here : before ++ waits_from (total - i) p ≡ before ++ (w ∷ waits_from n q) = ap (λ k. before ++ waits_from k p) count ∙ ap (λ (l : List (ℕ × ℕ)). before ++ l) one in
       ap (λ (l : List (ℕ × ℕ)). l ++ waits_from n q) more ∙ append_assoc before (w ∷ []) (waits_from n q) ∙ sym here ∙ so_far

@@ -33,14 +33,17 @@ fn first_follower(network: &Network, flow: &Flow, place: &Place) -> Option<Place
 
 // Between two places that follow one another: replies go back from the later one to the earlier one.
 fn wait_back(earlier: &Place, later: &Place) -> (u16, u16)
-    ensures { result ≡ (partner later.now.channel , partner earlier.now.channel) }
+    ensures { result ≡ (partner later.now.channel, partner earlier.now.channel) }
 {
-    (later.channel.partner().number(), earlier.channel.partner().number())
+    (
+        later.channel.partner().number(),
+        earlier.channel.partner().number(),
+    )
 }
 
 // Where the way ends: what comes there waits for the replies.
 fn wait_at(last: &Place) -> (u16, u16)
-    ensures { result ≡ (last.now.channel , partner last.now.channel) }
+    ensures { result ≡ (last.now.channel, partner last.now.channel) }
 {
     (last.channel.number(), last.channel.partner().number())
 }
@@ -52,7 +55,7 @@ fn add_waits_back(
     waits: &mut Vec<(u16, u16)>,
 ) -> Result<Place, AllocError>
     requires { IsFlow network.now.nodes flow.now }
-    ensures { IfOk result (λ last. waits.new.items ++ (last.channel , partner last.channel) ∷ [] ≡ waits.old.items ++ answering network.now flow.now) }
+    ensures { IfOk result (λ last. waits.new.items ++ (last.channel, partner last.channel) ∷ [] ≡ waits.old.items ++ answering network.now flow.now) }
 {
     let mut place = start(network, flow);
     for _ in 0..network.channels() {

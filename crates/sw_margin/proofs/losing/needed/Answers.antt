@@ -9,8 +9,17 @@ use Rattle.sw_margin.proofs.losing.needed.Goals as goal
 
 pub index_mut-requires : goal.index_mut-requires
 index_mut-requires c =
-    omega (arith, c.from-3.ensures, c.number.ensures, c.out-start.ensures.within, ap (λ (w : Wiring). length w.ends) c.topology.ensures.wiring, c.in_ok-marks.ensures.len, c.from.ensures,
-    c.links.ensures.count, channels_paired c.args.network.now)
+    omega (
+      arith,
+      c.from-3.ensures,
+      c.number.ensures,
+      c.out-start.ensures.within,
+      ap (λ (w : Wiring). length w.ends) c.topology.ensures.wiring,
+      c.in_ok-marks.ensures.len,
+      c.from.ensures,
+      c.links.ensures.count,
+      channels_paired c.args.network.now,
+    )
 
 pub returns : goal.returns
 returns c =
