@@ -1,0 +1,7 @@
+pub mod Waiting
+pub mod Picked
+pub mod Told
+pub mod Ways
+pub mod Needing
+pub mod LinkRows
+pub mod Lawful

@@ -16,7 +16,8 @@ AreOnLink link places = All (λ q. q.channel / 2 ≡ link) places
 -- Packets of the flow begin on that link, or can come to a place from which they go on over that link alone.
 pub data NeedsLink (d : Declaration) (f : FlowEntry) (link : ℕ) : Type 0 where
   AtStart : (c : ℕ) → out (ends_of d) f.from ≡ Some c → c / 2 ≡ link → NeedsLink d f link
-  OnTheWay : (p : Place) → IsPlace d f p.channel p.deleted → followers_of d f p.channel p.deleted ≢ [] → AreOnLink link (followers_of d f p.channel p.deleted) → NeedsLink d f link
+  OnTheWay : (p : Place) → IsPlace d f p.channel p.deleted → followers_of d f p.channel p.deleted ≢ []
+      → AreOnLink link (followers_of d f p.channel p.deleted) → NeedsLink d f link
 
 -- the flow of that number, declared or of replies, needs that link
 pub record IsLost (d : Declaration) (link i : ℕ) : Type 0 where

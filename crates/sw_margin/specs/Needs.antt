@@ -1,5 +1,5 @@
 -- The links that flows need, as they are found.
-use Rattle.std.specs.Prelude.{◌≡◌, ◌≢◌, ◌↔◌, ◌⊎◌, ℕ, ◌+◌, ◌/◌, ◌<◌, ◌==◌, ◌++◌, Bool, true, false, Contains, List, [], ◌∷◌, length, Option, Some, None, slice_index_or, Vec, if◌then◌else◌}
+use Rattle.std.specs.Prelude.{◌≡◌, ◌≢◌, ◌↔◌, ◌⊎◌, ℕ, ◌/◌, ◌<◌, ◌==◌, ◌++◌, Bool, true, false, Contains, List, [], ◌∷◌, length, Option, Some, None, slice_index_or, Vec, if◌then◌else◌}
 use Rattle.std.specs.List.{list_all}
 use Rattle.std.specs.declared.alloc.Global.{Global}
 use Rattle.sw_config.specs.Entries.{FlowEntry, Declaration}

@@ -1,11 +1,21 @@
 //! Which nodes and flows are told of.
-ghost use Rattle.std.specs.Prelude.{◌≡◌, ◌<◌, ◌==◌, ◌&&◌, IfOk, is_some, length, not, slice_get, false};
+ghost use Rattle.std.specs.Prelude.{◌≡◌, ◌<◌, ◌++◌, ◌∷◌, [], IfOk, OnOk, false, if◌then◌else◌, length, not, slice_get};
 ghost use Rattle.std.specs.List.{list_any};
 ghost use Rattle.std.specs.Option.{option_map_or};
 ghost use Rattle.sw_margin.specs.Bends.{is_answered_at, is_unanswered, quiet_nodes, unanswered};
 
 use std::alloc::{AllocError, Global};
 use sw_config::{Flow, Network};
+
+// Adds the number, if it is chosen.
+fn add_if(chosen: bool, number: u16, numbers: &mut Vec<u16>) -> Result<(), AllocError>
+    ensures { OnOk result (numbers.new.items ≡ numbers.old.items ++ (if chosen then number ∷ [] else [])) }
+{
+    if chosen {
+        numbers.push(number)?;
+    }
+    Ok(())
+}
 
 // Has the flow a reply, and does it end at that node?
 fn is_answered_at(node: u16, flow: &Flow) -> bool
@@ -32,9 +42,7 @@ pub(crate) fn quiet_nodes(alloc: Global, network: &Network) -> Result<Vec<u16>, 
 {
     let mut quiet = Vec::new(alloc);
     for node in 0..network.nodes() {
-        if is_quiet(network, node) {
-            quiet.push(node)?;
-        }
+        add_if(is_quiet(network, node), node, &mut quiet)?;
     }
     Ok(quiet)
 }
@@ -53,9 +61,7 @@ pub(crate) fn unanswered(alloc: Global, network: &Network) -> Result<Vec<u16>, A
 {
     let mut flows = Vec::new(alloc);
     for number in 0..network.declared_flows() {
-        if is_unanswered(network, number) {
-            flows.push(number)?;
-        }
+        add_if(is_unanswered(network, number), number, &mut flows)?;
     }
     Ok(flows)
 }

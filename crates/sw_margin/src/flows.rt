@@ -1,5 +1,6 @@
 //! Flows that are answered.
-ghost use Rattle.std.specs.Prelude.{◌<◌, IfOk, length};
+ghost use Rattle.std.specs.Prelude.{◌<◌, All, IfOk, length};
+ghost use Rattle.std.specs.List.{AllZip};
 ghost use Rattle.sw_margin.specs.Bends.{AreAnswers, IsAnswer};
 ghost use Rattle.sw_margin.specs.Waits.{AreDependencies};
 
@@ -27,6 +28,25 @@ fn told_of<R: Threads + Sync>(
     bend(rt, alloc, network, rows, flow, &waits)
 }
 
+// What is told of these flows.
+fn told_of_all<R: Threads + Sync>(
+    rt: &R,
+    alloc: Global,
+    network: &Network,
+    rows: &[Vec<u16>],
+    flows: &[u16],
+) -> Result<Vec<Bend>, AllocError>
+    requires rows { AreDependencies network.now rows.now }
+    requires flows { All (λ i. i < length network.now.flows) flows.now }
+    ensures { IfOk result (λ v. AllZip (IsAnswer network.now) flows.now v.items) }
+{
+    let mut told = Vec::new(alloc);
+    for flow in flows {
+        told.push(told_of(rt, alloc, network, rows, *flow)?)?;
+    }
+    Ok(told)
+}
+
 /// Of each flow without a reply: whether the network stays free if the flow is answered, the replies going back over the links of its
 /// way, which goes on each time to the first of the places that follow.
 ///
@@ -46,9 +66,5 @@ pub fn answers<R: Threads + Sync>(
     ensures { IfOk result (λ v. AreAnswers network.now v.items) }
 {
     let flows = unanswered(alloc, network)?;
-    let mut told = Vec::new(alloc);
-    for flow in &flows {
-        told.push(told_of(rt, alloc, network, rows, *flow)?)?;
-    }
-    Ok(told)
+    told_of_all(rt, alloc, network, rows, &flows)
 }

@@ -1,6 +1,6 @@
 //! The flows that are lost without a link.
-ghost use Rattle.std.specs.Prelude.{◌≡◌, ◌<◌, ◌++◌, ◌∷◌, [], IfOk, IfSome, OnOk, length, slice_get, if◌then◌else◌};
-ghost use Rattle.sw_config.specs.Entries.{all_flows};
+ghost use Rattle.std.specs.Prelude.{◌≡◌, ◌<◌, ◌/◌, ◌==◌, ◌++◌, ◌∷◌, [], ℕ, IfOk, IfSome, OnOk, length, if◌then◌else◌};
+ghost use Rattle.std.specs.List.{list_all};
 ghost use Rattle.sw_config.specs.Valid.{IsFlow};
 ghost use Rattle.sw_flow.specs.Places.{IsPlaceList};
 ghost use Rattle.sw_graph.specs.Rows.{row};
@@ -12,27 +12,58 @@ use std::alloc::{AllocError, Global};
 use sw_config::{Flow, Network};
 use sw_flow::{Followers, Place, followers_in};
 
+// Are all these places on that link?
+fn are_on_link(places: Followers<'_>, link: u16) -> bool
+    ensures { result ≡ list_all (λ q. q.channel / 2 == link) places.entry }
+{
+    for place in places {
+        if place.channel.number() / 2 != link {
+            return false;
+        }
+    }
+    true
+}
+
+// The link of the first place, if the others are on it too.
+fn link_of_all(first: &Place, rest: Followers<'_>) -> Option<u16>
+    ensures { result ≡ only_link (first.now ∷ rest.entry) }
+{
+    let link = first.channel.number() / 2;
+    if are_on_link(rest, link) {
+        Some(link)
+    } else {
+        None
+    }
+}
+
 // The link on which all these places are, if there are some.
 fn only_link(mut places: Followers<'_>) -> Option<u16>
     ensures { result ≡ only_link places.entry }
 {
-    let first = places.next()?;
-    let link = first.channel.number() / 2;
-    for place in places {
-        if place.channel.number() / 2 != link {
-            return None;
-        }
+    match places.next() {
+        Some(first) => link_of_all(&first, places),
+        None => None,
     }
-    Some(link)
 }
 
 // The link over which alone the flow goes on from that place.
-fn link_after(network: &Network, flow: &Flow, place: Place) -> Option<u16>
+fn link_after(network: &Network, flow: &Flow, place: &Place) -> Option<u16>
     requires { IsFlow network.now.nodes flow.now }
-    ensures link { result ≡ link_after network.now flow.now place }
+    ensures link { result ≡ link_after network.now flow.now place.now }
     ensures within { IfSome result (λ l. l < length network.now.links) }
 {
-    only_link(followers_in(network, flow, place))
+    only_link(followers_in(network, flow, *place))
+}
+
+// Marks the link that the flow needs at that place, if there is one.
+fn mark_place(network: &Network, flow: &Flow, place: &Place, marks: &mut [bool])
+    requires flow { IsFlow network.now.nodes flow.now }
+    requires size { length marks.old ≡ length network.now.links }
+    ensures { AreMarked network.now flow.now (place.now ∷ []) marks.old marks.new }
+{
+    if let Some(link) = link_after(network, flow, place) {
+        marks[usize::from(link)] = true;
+    }
 }
 
 // Marks the links that the flow needs at these places.
@@ -42,9 +73,7 @@ fn mark_places(network: &Network, flow: &Flow, places: &[Place], marks: &mut [bo
     ensures { AreMarked network.now flow.now places.now marks.old marks.new }
 {
     for place in places {
-        if let Some(link) = link_after(network, flow, *place) {
-            marks[usize::from(link)] = true;
-        }
+        mark_place(network, flow, place, marks);
     }
 }
 

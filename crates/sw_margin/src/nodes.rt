@@ -1,5 +1,6 @@
 //! Nodes that take nothing while they want to send.
-ghost use Rattle.std.specs.Prelude.{◌≡◌, ◌<◌, ◌∷◌, [], IfOk, length};
+ghost use Rattle.std.specs.Prelude.{◌≡◌, ◌<◌, ◌∷◌, [], All, IfOk, length};
+ghost use Rattle.std.specs.List.{AllZip};
 ghost use Rattle.sw_flow.specs.Places.{ends_of};
 ghost use Rattle.sw_margin.specs.Bends.{AreStalls, IsStall, stall};
 ghost use Rattle.sw_margin.specs.Waits.{AreDependencies, IsWithin};
@@ -36,6 +37,25 @@ fn told_of<R: Threads + Sync>(
     bend(rt, alloc, network, rows, node, &[stall(network, node)])
 }
 
+// What is told of these nodes.
+fn told_of_all<R: Threads + Sync>(
+    rt: &R,
+    alloc: Global,
+    network: &Network,
+    rows: &[Vec<u16>],
+    nodes: &[u16],
+) -> Result<Vec<Bend>, AllocError>
+    requires rows { AreDependencies network.now rows.now }
+    requires nodes { All (λ n. n < length network.now.nodes) nodes.now }
+    ensures { IfOk result (λ v. AllZip (IsStall network.now) nodes.now v.items) }
+{
+    let mut told = Vec::new(alloc);
+    for node in nodes {
+        told.push(told_of(rt, alloc, network, rows, *node)?)?;
+    }
+    Ok(told)
+}
+
 /// Of each node at which no flow with a reply ends: whether the network stays free if the node takes nothing while it wants to send.
 ///
 /// `rows` has for each channel those for which a packet on it may wait, as `sw_dependency::dependencies` gives them. Threads share
@@ -54,9 +74,5 @@ pub fn stalls<R: Threads + Sync>(
     ensures { IfOk result (λ v. AreStalls network.now v.items) }
 {
     let nodes = quiet_nodes(alloc, network)?;
-    let mut told = Vec::new(alloc);
-    for node in &nodes {
-        told.push(told_of(rt, alloc, network, rows, *node)?)?;
-    }
-    Ok(told)
+    told_of_all(rt, alloc, network, rows, &nodes)
 }

@@ -1,9 +1,10 @@
 //! Ways of flows, and what waits where they are answered.
-ghost use Rattle.std.specs.Prelude.{◌≡◌, ◌<◌, All, IfOk, IfSome, length, slice_get};
+ghost use Rattle.std.specs.Prelude.{◌≡◌, ◌<◌, ◌++◌, ◌∷◌, [], All, IfOk, Some, length, slice_get};
+ghost use Rattle.sw_topo.specs.Wiring.{out, partner};
 ghost use Rattle.sw_config.specs.Valid.{IsFlow};
 ghost use Rattle.sw_flow.specs.Followers.{followers_of};
 ghost use Rattle.sw_flow.specs.Places.{ends_of};
-ghost use Rattle.sw_margin.specs.Bends.{answering, start_on};
+ghost use Rattle.sw_margin.specs.Bends.{answering};
 ghost use Rattle.sw_margin.specs.Waits.{IsWithin};
 
 use std::alloc::{AllocError, Global};
@@ -15,7 +16,6 @@ fn start(network: &Network, flow: &Flow) -> Place
     requires { IsFlow network.now.nodes flow.now }
     ensures start { out (ends_of network.now) flow.now.from ≡ Some result.channel }
     ensures whole { result.deleted ≡ 0 }
-    ensures within { result.channel < length (ends_of network.now) }
 {
     Place {
         channel: network.topology().out(flow.from()),
@@ -24,20 +24,48 @@ fn start(network: &Network, flow: &Flow) -> Place
 }
 
 // The first of the places that follow.
-fn first_follower(network: &Network, flow: &Flow, place: Place) -> Option<Place>
+fn first_follower(network: &Network, flow: &Flow, place: &Place) -> Option<Place>
     requires { IsFlow network.now.nodes flow.now }
-    ensures first { result ≡ slice_get (followers_of network.now flow.now place.channel place.deleted) 0 }
-    ensures within { IfSome result (λ q. q.channel < length (ends_of network.now)) }
+    ensures { result ≡ slice_get (followers_of network.now flow.now place.now.channel place.now.deleted) 0 }
 {
-    followers_in(network, flow, place).next()
+    followers_in(network, flow, *place).next()
 }
 
-// A reply on the way back from the later place to the earlier one.
-fn wait_back(earlier: Place, later: Place) -> (u16, u16) {
+// Between two places that follow one another: replies go back from the later one to the earlier one.
+fn wait_back(earlier: &Place, later: &Place) -> (u16, u16)
+    ensures { result ≡ (partner later.now.channel, partner earlier.now.channel) }
+{
     (
         later.channel.partner().number(),
         earlier.channel.partner().number(),
     )
+}
+
+// Where the way ends: what comes there waits for the replies.
+fn wait_at(last: &Place) -> (u16, u16)
+    ensures { result ≡ (last.now.channel, partner last.now.channel) }
+{
+    (last.channel.number(), last.channel.partner().number())
+}
+
+// Adds what waits between the places of the flow's way, and tells the last of these.
+fn add_waits_back(
+    network: &Network,
+    flow: &Flow,
+    waits: &mut Vec<(u16, u16)>,
+) -> Result<Place, AllocError>
+    requires { IsFlow network.now.nodes flow.now }
+    ensures { IfOk result (λ last. waits.new.items ++ (last.channel, partner last.channel) ∷ [] ≡ waits.old.items ++ answering network.now flow.now) }
+{
+    let mut place = start(network, flow);
+    for _ in 0..network.channels() {
+        let Some(next) = first_follower(network, flow, &place) else {
+            return Ok(place);
+        };
+        waits.push(wait_back(&place, &next))?;
+        place = next;
+    }
+    Ok(place)
 }
 
 /// What waits for what where the flow is answered, the replies going back over the links of its way.
@@ -51,16 +79,7 @@ pub(crate) fn answering(
     ensures within { IfOk result (λ v. All (IsWithin (length (ends_of network.now))) v.items) }
 {
     let mut waits = Vec::new(alloc);
-    let mut place = start(network, flow);
-    for _ in 0..network.channels() {
-        match first_follower(network, flow, place) {
-            Some(next) => {
-                waits.push(wait_back(place, next))?;
-                place = next;
-            }
-            None => break,
-        }
-    }
-    waits.push((place.channel.number(), place.channel.partner().number()))?;
+    let last = add_waits_back(network, flow, &mut waits)?;
+    waits.push(wait_at(&last))?;
     Ok(waits)
 }
