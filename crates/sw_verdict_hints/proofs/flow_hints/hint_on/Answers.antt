@@ -1,10 +1,14 @@
-use Rattle.std.proofs.Common.{rules, ◌≡◌, IfOk, Some, map, option_map, position, slice_get, string_bytes, ℕ, ◌+◌, ◌-◌, ◌*◌, ◌<◌, ◌≤◌, length, ◌/◌, ◌%◌, Bool, true, false, nat_eq, nat_lt, List, [], ◌∷◌, ◌++◌, slice_index_or, slice_set, bit_and, bit_or, Fits, w8, w32, w64, Bor, MutBor}
-use Rattle.std.specs.Str.{bytes_eq}
-use Rattle.sw_config.specs.Entries.{all_flows, flow_names}
-use Rattle.sw_flow.specs.Places.{IsPlace}
-use Rattle.sw_verdict_hints.specs.FlowHints.{IsHintAt, IsHintNamed, IsHintOn, IsNamedFlowHint, unknown_hint}
+use Rattle.std.proofs.Common.{◌≡◌, ◌∙◌, Some, ap, sym}
+use Rattle.sw_flow.specs.Faults.{first_fault_of}
+use Rattle.sw_verdict_hints.proofs.FlowWays.{faulty_place, listed_for, of_flow}
 use Rattle.sw_verdict_hints.proofs.flow_hints.hint_on.Goals as goal
 
--- src/flow_hints.rt:77:33
 pub hint_to-requires-clause-place : goal.hint_to-requires-clause-place
-hint_to-requires-clause-place c = ?
+hint_to-requires-clause-place c =
+    let d = c.args.network.now in
+    let i = c.args.number in
+    let f = c.args.flow.now in
+    let listed = c.in_ok-listed.listed.items in
+    let list = listed_for d i f c.requires listed c.in_ok-listed.ensures in
+    let first = of_flow d i f c.requires (λ g. Some (c.in-Some.place, c.in-Some.fault) ≡ first_fault_of d g c.deref.result.now) c.in-Some.ensures in
+    faulty_place d i f c.requires listed c.in-Some.place c.in-Some.fault list (ap (λ ps. first_fault_of d f ps) (sym c.deref.ensures.value) ∙ sym first)
