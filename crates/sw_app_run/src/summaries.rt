@@ -1,12 +1,15 @@
 //! The summary of a run.
-ghost use Rattle.std.specs.Prelude.{◌≡◌, ◌↔◌, IfOk, IsTrue, length, option_map, string_bytes};
+ghost use Rattle.std.specs.Prelude.{◌≡◌, ◌↔◌, IfOk, IsTrue, length, map, option_map, string_bytes};
+ghost use Rattle.sw_model.specs.Steps.{machine_step};
 ghost use Rattle.sw_search.specs.Laws.{RoutedAndFree};
-ghost use Rattle.sw_app_run.specs.Summaries.{IsSummary, IsWantedSummary, ShowsNothing};
+ghost use Rattle.sw_app_run.specs.Summaries.{AreFillsTold, IsSummary, IsWantedSummary, ShowsNothing};
 
 use std::alloc::{AllocError, Global};
 use std::thread::Threads;
 use sw_config::Network;
+use sw_fill::{fill_lines, greatest_fills};
 use sw_load::Load;
+use sw_model::Step;
 use sw_run::{Outcome, Stop};
 use sw_search::is_free;
 use sw_summary::summary_of;
@@ -26,6 +29,16 @@ fn shows_nothing<T: Threads + Sync>(
     }
 }
 
+// How full the buffers got, a line for each that held something.
+fn fills_text(alloc: Global, network: &Network, steps: &[Step]) -> Result<String, AllocError>
+    ensures { IfOk result (λ s. AreFillsTold network.now (map machine_step steps.now) (string_bytes s)) }
+{
+    match greatest_fills(alloc, network, steps)? {
+        Some(fills) => fill_lines(alloc, network, &fills),
+        None => Ok(String::new(alloc)),
+    }
+}
+
 // The summary of the outcome.
 fn summary<T: Threads + Sync>(
     rt: &T,
@@ -42,7 +55,9 @@ fn summary<T: Threads + Sync>(
     let shows_nothing = shows_nothing(rt, alloc, network, outcome.stop)?;
     let steps = outcome.history.steps(alloc)?;
     let came_out = outcome.came_out.as_slice();
-    summary_of(alloc, network, load, &steps, came_out, shows_nothing)
+    let text = summary_of(alloc, network, load, &steps, came_out, shows_nothing)?;
+    let fills = fills_text(alloc, network, &steps)?;
+    format!(in alloc; "{text}{fills}")
 }
 
 /// The summary of the outcome, if it is wanted.
