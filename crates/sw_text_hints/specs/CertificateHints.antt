@@ -67,14 +67,23 @@ rising_note flows before line = by_places flows (place_numbers before) (place_nu
     by_places flows _ _ = []
 
 -- a line of a text, that it is not as the grammar asks, and the lines of what stands there and what is told of it
-abbrev pub hint_by : List ℕ → ℕ → List ℕ → List ℕ → List ℕ → List ℕ
+unfoldable pub hint_by : List ℕ → ℕ → List ℕ → List ℕ → List ℕ → List ℕ
 hint_by path n found expected note =
     path ++ (codes ":" ++ (decimal n ++ (codes ":1: refused C1 Grammar " ++ (decimal n ++ (codes ": the line is not as the grammar asks\n" ++ (found ++ (expected ++ note)))))))
 
+-- what stands in a line, what may stand behind the one before it, and both places where they do not rise, each as a line of a hint
+unfoldable pub found_in : List ℕ → List ℕ
+found_in line = found_line line (Some 0)
+
+unfoldable pub expected_line : List ℕ → List ℕ
+expected_line before = told (codes "expected") (expected_after before)
+
+unfoldable pub note_line : ℕ → List ℕ → List ℕ → List ℕ
+note_line flows before line = told (codes "note") (rising_note flows before line)
+
 -- of a line with the one before it, and with how many lines before it begin a flow
 unfoldable pub line_hint : List ℕ → ℕ → ℕ → List ℕ → List ℕ → List ℕ
-line_hint path n flows before line =
-    hint_by (shown path) n (found_line line (Some 0)) (told (codes "expected") (expected_after before)) (told (codes "note") (rising_note flows before line))
+line_hint path n flows before line = hint_by (shown path) n (found_in line) (expected_line before) (note_line flows before line)
 
 -- the lines of the hint of a line
 abbrev pub hint_at : List ℕ → List ℕ → ℕ → List ℕ

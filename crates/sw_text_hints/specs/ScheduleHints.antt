@@ -96,10 +96,17 @@ abbrev pub word_lines : List ℕ → List ℕ → Declaration → ℕ → List �
 word_lines path network d number line wrong =
     head_lines path number line (offset_of line wrong) (what_words wrong) ++ (told (codes "expected") (expected d wrong.wanted) ++ told (codes "help") (help_of network wrong))
 
+-- with this line the steps are too many
+unfoldable pub total_head : List ℕ → ℕ → List ℕ → List ℕ
+total_head path number line = head_lines path number line 0 (codes "with this line there are too many steps")
+
+-- how many there may be
+unfoldable pub limit_line : List ℕ
+limit_line = told (codes "expected") (codes "at most 1000000 steps in all")
+
 -- of the line with which the steps are too many
 abbrev pub total_lines : List ℕ → ℕ → List ℕ → List ℕ
-total_lines path number line =
-    head_lines path number line 0 (codes "with this line there are too many steps") ++ told (codes "expected") (codes "at most 1000000 steps in all")
+total_lines path number line = total_head path number line ++ limit_line
 
 -- of a line that is the first that is not as it has to be: it has a wrong word, or the steps are too many
 abbrev pub line_hint : List ℕ → List ℕ → Declaration → ℕ → List ℕ → List ℕ

@@ -1,10 +1,9 @@
 //! The hint of a certificate that can't be read.
-ghost use Rattle.std.specs.Prelude.{◌≡◌, ◌==◌, ◌<◌, IfOk, IfSome, codes, length, option_copied, option_map, position, string_bytes};
+ghost use Rattle.std.specs.Prelude.{◌≡◌, ◌==◌, ◌<◌, IfOk, IfSome, length, option_copied, option_map, position, string_bytes};
 ghost use Rattle.sw_cert.specs.Grammar.{after_word};
 ghost use Rattle.sw_cert.specs.Text.{read_text};
 ghost use Rattle.sw_schedule.specs.Schedule.{text_lines};
-ghost use Rattle.sw_hints.specs.HintLines.{told};
-ghost use Rattle.sw_text_hints.specs.CertificateHints.{begins, certificate_hint, expected_after, flows_before, hint_at, hint_by, line_before, line_hint, numbers_at, numbers_of, place_note, place_numbers, rises, rising_note, wrong_line};
+ghost use Rattle.sw_text_hints.specs.CertificateHints.{begins, certificate_hint, expected_after, expected_line, flows_before, found_in, hint_at, hint_by, line_before, line_hint, note_line, numbers_at, numbers_of, place_note, place_numbers, rises, rising_note, wrong_line};
 
 use crate::wrong_word::nth_line;
 use std::alloc::{AllocError, Global};
@@ -149,6 +148,7 @@ fn line_before(text: &[u8], number: usize) -> &[u8]
 }
 
 // A line of a text, that it is not as the grammar asks, and the lines of what stands there and what is told of it.
+#[tactic(auto, unfolding(crate::specs::CertificateHints::hint_by))]
 fn hint_by(
     alloc: Global,
     path: &str,
@@ -164,16 +164,26 @@ fn hint_by(
     )
 }
 
+// What stands in a line, as a line of a hint.
+#[tactic(auto, unfolding(crate::specs::CertificateHints::found_in))]
+fn found_in(alloc: Global, line: &[u8]) -> Result<String, AllocError>
+    ensures { IfOk result (λ s. string_bytes s ≡ found_in line.now) }
+{
+    found_line(alloc, line, Some(0))
+}
+
 // What may stand behind this line, as a line of a hint.
+#[tactic(auto, unfolding(crate::specs::CertificateHints::expected_line))]
 fn expected_line(alloc: Global, before: &[u8]) -> Result<String, AllocError>
-    ensures { IfOk result (λ s. string_bytes s ≡ told (codes "expected") (expected_after before.now)) }
+    ensures { IfOk result (λ s. string_bytes s ≡ expected_line before.now) }
 {
     told(alloc, "expected", expected_after(before).as_bytes())
 }
 
 // Of a place that does not rise.
+#[tactic(auto, unfolding(crate::specs::CertificateHints::note_line))]
 fn note_line(alloc: Global, flows: usize, before: &[u8], line: &[u8]) -> Result<String, AllocError>
-    ensures { IfOk result (λ s. string_bytes s ≡ told (codes "note") (rising_note flows before.now line.now)) }
+    ensures { IfOk result (λ s. string_bytes s ≡ note_line flows before.now line.now) }
 {
     let note = rising_note(alloc, flows, before, line)?;
     told(alloc, "note", note.as_bytes())
@@ -192,7 +202,7 @@ fn line_hint(
     ensures { IfOk result (λ s. string_bytes s ≡ line_hint path.now number flows before.now line.now) }
 {
     let path = shown(alloc, path.as_bytes())?;
-    let found = found_line(alloc, line, Some(0))?;
+    let found = found_in(alloc, line)?;
     let expected = expected_line(alloc, before)?;
     let note = note_line(alloc, flows, before, line)?;
     hint_by(

@@ -3,7 +3,7 @@ ghost use Rattle.std.specs.Prelude.{◌≡◌, ◌≤◌, IfOk, codes, length, m
 ghost use Rattle.toml.specs.View.{table_view};
 ghost use Rattle.sw_schedule.specs.Schedule.{steps_of_text};
 ghost use Rattle.sw_hints.specs.HintLines.{told};
-ghost use Rattle.sw_text_hints.specs.ScheduleHints.{expected, head_by, head_lines, help_of, hint_for, like_help, line_hint, offset_of, rest_of, schedule_hint, total_lines, verbs, wanted_words, what_words, word_help, word_lines, wrong_number};
+ghost use Rattle.sw_text_hints.specs.ScheduleHints.{expected, head_by, head_lines, help_of, hint_for, like_help, limit_line, line_hint, offset_of, rest_of, schedule_hint, total_head, total_lines, verbs, wanted_words, what_words, word_help, word_lines, wrong_number};
 ghost use Rattle.sw_text_hints.specs.WrongWords.{wrong_view};
 
 use crate::step_words::{Wanted, text_of};
@@ -229,24 +229,40 @@ fn word_lines(
     format!(in alloc; "{head}{expected}{help}")
 }
 
-// The lines of a hint of the line with which the steps are too many.
-fn total_lines(alloc: Global, path: &str, number: u64, line: &[u8]) -> Result<String, AllocError>
-    ensures { IfOk result (λ s. string_bytes s ≡ total_lines path.now number line.now) }
+// That with this line the steps are too many.
+#[tactic(auto, unfolding(crate::specs::ScheduleHints::total_head))]
+fn total_head(alloc: Global, path: &str, number: u64, line: &[u8]) -> Result<String, AllocError>
+    ensures { IfOk result (λ s. string_bytes s ≡ total_head path.now number line.now) }
 {
-    let head = head_lines(
+    head_lines(
         alloc,
         path,
         number,
         line,
         0,
         "with this line there are too many steps",
-    )?;
-    let expected = told(
+    )
+}
+
+// How many there may be.
+#[tactic(auto, unfolding(crate::specs::ScheduleHints::limit_line))]
+fn limit_line(alloc: Global) -> Result<String, AllocError>
+    ensures { IfOk result (λ s. string_bytes s ≡ limit_line) }
+{
+    told(
         alloc,
         "expected",
         b"at most 1000000 steps in all".as_slice(),
-    )?;
-    format!(in alloc; "{head}{expected}")
+    )
+}
+
+// The lines of a hint of the line with which the steps are too many.
+fn total_lines(alloc: Global, path: &str, number: u64, line: &[u8]) -> Result<String, AllocError>
+    ensures { IfOk result (λ s. string_bytes s ≡ total_lines path.now number line.now) }
+{
+    let head = total_head(alloc, path, number, line)?;
+    let limit = limit_line(alloc)?;
+    format!(in alloc; "{head}{limit}")
 }
 
 // The lines of a hint of a line.
