@@ -1,0 +1,3 @@
+mod Answered
+mod LossLines
+mod OneAnswer

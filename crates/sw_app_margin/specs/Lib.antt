@@ -1,0 +1,3 @@
+pub mod MarginTexts
+pub mod MarginAnswers
+pub mod Laws
