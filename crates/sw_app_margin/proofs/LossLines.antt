@@ -23,8 +23,8 @@ pub loss_lines_more : (d : Declaration) (i : ℕ) (rows : List (Vec ℕ Global))
 loss_lines_more d i rows flows before line after lt at so_far is more =
     let cut : take (i + 1) rows ≡ take i rows ++ flows ∷ [] = take_more rows i flows lt ∙ ap (λ q. take i rows ++ q ∷ []) (sym at) in
     let parts : map items_of (take (i + 1) rows) ≡ map items_of (take i rows) ++ flows.items ∷ [] =
-        ap (map items_of) cut ∙ map-append items_of (take i rows) (flows ∷ []) in
+    ap (map items_of) cut ∙ map-append items_of (take i rows) (flows ∷ []) in
     let size : 0 + length (map items_of (take i rows)) ≡ i =
-        omega (arith, length-map (take i rows) items_of, length-take-le i rows (omega arith)) in
+    omega (arith, length-map (take i rows) items_of, length-take-le i rows (omega arith)) in
     more ∙ ap (λ l. l ++ line) so_far ∙ ap (λ l. loss_lines d 0 (map items_of (take i rows)) ++ l) is
     ∙ sym (loss_lines_push d 0 i (map items_of (take i rows)) flows.items size) ∙ ap (loss_lines d 0) (sym parts)

@@ -33,8 +33,8 @@ module _ (one_stalls : StallsAreDetermined) (one_answers : AnswersAreDetermined)
       let same_answers = one_answers d told.answers.items listed.answers.items answers answered in
       let same_losses = one_losses d told.losses.items listed.losses.items losses lost in
       let same = ap (λ s. text_of d s told.answers.items (map items_of told.losses.items)) same_stalls
-          ∙ ap (λ a. text_of d listed.stalls.items a (map items_of told.losses.items)) same_answers
-          ∙ ap (λ l. text_of d listed.stalls.items listed.answers.items l) same_losses in
+      ∙ ap (λ a. text_of d listed.stalls.items a (map items_of told.losses.items)) same_answers
+      ∙ ap (λ l. text_of d listed.stalls.items listed.answers.items l) same_losses in
       (says.0 ∙ same ∙ sym tells.0, says.1 ∙ sym tells.1)
 
   by_verdict_once : (d : Declaration) (v w : Verdict) (text other : List ℕ) (status number : ℕ) → SaysTheSame v w → IsByVerdict d v text status → IsByVerdict d w other number
