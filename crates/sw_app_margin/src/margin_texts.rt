@@ -1,6 +1,7 @@
 //! The lines of `margin`.
 ghost use Rattle.std.specs.Prelude.{◌≡◌, ◌<◌, ◌*◌, ◌++◌, IfOk, codes, flat_map, length, map, string_bytes};
 ghost use Rattle.sw_config.specs.Entries.{wiring_of};
+ghost use Rattle.sw_output.specs.ChannelTexts.{channel_text};
 ghost use Rattle.sw_output.specs.FlowTexts.{flow_name};
 ghost use Rattle.sw_app_margin.specs.MarginTexts.{answer_line, flows_words, loss_line, loss_lines, margin_text, not_free_line, stall_line, stays_words};
 
