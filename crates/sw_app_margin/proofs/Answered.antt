@@ -1,5 +1,5 @@
 -- What is answered by the verdict, and of a free network.
-use Rattle.std.proofs.Common.{IfOk, map, string_bytes}
+use Rattle.std.proofs.Common.{IfOk, string_bytes}
 use Rattle.std.specs.Prelude.{Result, Ok, Err}
 use Rattle.std.specs.declared.alloc.AllocError.{AllocError}
 use Rattle.sw_command.specs.declared.answer.Answer.{Answer}
