@@ -1,2 +1,1 @@
 mod Retold
-mod Filled

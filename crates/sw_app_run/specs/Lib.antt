@@ -1,5 +1,4 @@
 pub mod RunTexts
 pub mod RunAnswers
-pub mod Summaries
 pub mod Records
 pub mod Laws

@@ -47,7 +47,6 @@ pub(crate) fn file_of<'a>(call: &Call<'a>) -> &'a str
             workers: _,
             limit: _,
             schedule: _,
-            summary: _,
         } => file,
         Call::Migrate { file } => file,
         Call::Explain { file, all: _ } => file,
@@ -67,7 +66,6 @@ pub(crate) fn file_of<'a>(call: &Call<'a>) -> &'a str
             transaction: _,
         } => file,
         Call::Mend { file } => file,
-        Call::Margin { file } => file,
         Call::Witness {
             file,
             tries: _,
@@ -92,7 +90,6 @@ pub(crate) fn second_of<'a>(call: &Call<'a>) -> Option<&'a str>
             workers: _,
             limit: _,
             schedule: _,
-            summary: _,
         } => Some(load),
         _ => None,
     }
