@@ -18,14 +18,15 @@ _swcheck() {
                 check) command=$it options='--hints -h --help' valued='--hints' kinds=('file .toml' 'file .cert') ;;
                 report) command=$it options='--hints -h --help' valued='--hints' kinds=('file .toml') ;;
                 replay) command=$it options='--hints -h --help' valued='--hints' kinds=('file .toml' 'file .schedule') ;;
-                run) command=$it options='--workers --limit --schedule --hints -h --help' valued='--workers --limit --schedule --hints' kinds=('file .toml' 'file .load') ;;
+                run) command=$it options='--workers --limit --schedule --summary --hints -h --help' valued='--workers --limit --schedule --hints' kinds=('file .toml' 'file .load') ;;
                 migrate) command=$it options='--hints -h --help' valued='--hints' kinds=('file .toml') ;;
                 explain) command=$it options='--all --hints -h --help' valued='--hints' kinds=('file .toml') ;;
                 draw) command=$it options='--flow --cycle --numbers --hints -h --help' valued='--flow --hints' kinds=('file .toml') ;;
                 rmap) command=$it options='--no-ack --transaction --hints -h --help' valued='--transaction --hints' kinds=('file .toml' 'none' 'texts read write' 'none' 'none') ;;
                 mend) command=$it options='--hints -h --help' valued='--hints' kinds=('file .toml') ;;
+                margin) command=$it options='--hints -h --help' valued='--hints' kinds=('file .toml') ;;
                 witness) command=$it options='--tries --seed --hints -h --help' valued='--tries --seed --hints' kinds=('file .toml') ;;
-                help) command=$it options='-h --help -V --version' valued='' kinds=('texts route decide check report replay run migrate explain draw rmap mend witness help') ;;
+                help) command=$it options='-h --help -V --version' valued='' kinds=('texts route decide check report replay run migrate explain draw rmap mend margin witness help') ;;
                 -*) ;;
                 *) return ;;
             esac
@@ -43,7 +44,7 @@ _swcheck() {
     done
     [ "$word" != = ] || word=''
     if [ -z "$command" ]; then
-        kind='texts route decide check report replay run migrate explain draw rmap mend witness help'
+        kind='texts route decide check report replay run migrate explain draw rmap mend margin witness help'
         options='-h --help -V --version'
     elif [ -n "$last" ]; then
         kind=none
@@ -61,6 +62,7 @@ _swcheck() {
             draw--hints) kind='file' ;;
             rmap--hints) kind='file' ;;
             mend--hints) kind='file' ;;
+            margin--hints) kind='file' ;;
             witness--hints) kind='file' ;;
             *) ;;
         esac

@@ -10,7 +10,7 @@ function __swcheck_at --argument-names command count more
     test "$words[1]" = "$command"; or return 1
     set -e words[1]
     test -n "$count"; or return 0
-    set -l valued route--hints decide--hints check--hints report--hints replay--hints run--workers run--limit run--schedule run--hints migrate--hints explain--hints draw--flow draw--hints rmap--transaction rmap--hints mend--hints witness--tries witness--seed witness--hints
+    set -l valued route--hints decide--hints check--hints report--hints replay--hints run--workers run--limit run--schedule run--hints migrate--hints explain--hints draw--flow draw--hints rmap--transaction rmap--hints mend--hints margin--hints witness--tries witness--seed witness--hints
     set -l at 0
     set -l plain no
     while set -q words[1]
@@ -38,6 +38,7 @@ complete -c swcheck -n __fish_use_subcommand -a explain -d 'Print in words why a
 complete -c swcheck -n __fish_use_subcommand -a draw -d 'Print a drawing of a network, in the language DOT of Graphviz'
 complete -c swcheck -n __fish_use_subcommand -a rmap -d 'Print the entry of a load for an RMAP command of a flow'
 complete -c swcheck -n __fish_use_subcommand -a mend -d 'Print each single change that makes a network free, or that there is none'
+complete -c swcheck -n __fish_use_subcommand -a margin -d 'Print how far the premises of a network that never locks up bend'
 complete -c swcheck -n __fish_use_subcommand -a witness -d 'Look for a schedule of steps that locks a network up, and print it'
 complete -c swcheck -n __fish_use_subcommand -a help -d 'Print the help of a command'
 complete -c swcheck -n '__fish_use_subcommand' -s h -l help -d 'Print help'
@@ -62,6 +63,7 @@ complete -c swcheck -n '__swcheck_at replay 1' -k -a '(__fish_complete_suffix .s
 complete -c swcheck -n '__swcheck_at run' -l workers -x -d 'How many threads work, 1 to 64 [default: 4]'
 complete -c swcheck -n '__swcheck_at run' -l limit -x -d 'How many steps may be made, 1 to 16777216 [default: 1000000]'
 complete -c swcheck -n '__swcheck_at run' -l schedule -x -k -a '(__fish_complete_suffix .schedule)' -d 'A file to write the steps to, as a schedule'
+complete -c swcheck -n '__swcheck_at run' -l summary -d 'Tell on standard error what became of each flow'\''s packets'
 complete -c swcheck -n '__swcheck_at run' -l hints -x -F -d 'auto: tell on standard error how to mend a network file; never: do not'
 complete -c swcheck -n '__swcheck_at run' -s h -l help -d 'Print help'
 complete -c swcheck -n '__swcheck_at run 0' -k -a '(__fish_complete_suffix .toml)' -d 'A network file'
@@ -88,9 +90,12 @@ complete -c swcheck -n '__swcheck_at rmap 2' -a 'read write' -d 'read or write'
 complete -c swcheck -n '__swcheck_at mend' -l hints -x -F -d 'auto: tell on standard error how to mend a network file; never: do not'
 complete -c swcheck -n '__swcheck_at mend' -s h -l help -d 'Print help'
 complete -c swcheck -n '__swcheck_at mend 0' -k -a '(__fish_complete_suffix .toml)' -d 'A network file'
+complete -c swcheck -n '__swcheck_at margin' -l hints -x -F -d 'auto: tell on standard error how to mend a network file; never: do not'
+complete -c swcheck -n '__swcheck_at margin' -s h -l help -d 'Print help'
+complete -c swcheck -n '__swcheck_at margin 0' -k -a '(__fish_complete_suffix .toml)' -d 'A network file'
 complete -c swcheck -n '__swcheck_at witness' -l tries -x -d 'How often to try, 1 to 1000000 [default: 200]'
 complete -c swcheck -n '__swcheck_at witness' -l seed -x -d 'Where the choices begin, 1 to 4294967295 [default: 1]'
 complete -c swcheck -n '__swcheck_at witness' -l hints -x -F -d 'auto: tell on standard error how to mend a network file; never: do not'
 complete -c swcheck -n '__swcheck_at witness' -s h -l help -d 'Print help'
 complete -c swcheck -n '__swcheck_at witness 0' -k -a '(__fish_complete_suffix .toml)' -d 'A network file'
-complete -c swcheck -n '__swcheck_at help 0' -a 'route decide check report replay run migrate explain draw rmap mend witness help'
+complete -c swcheck -n '__swcheck_at help 0' -a 'route decide check report replay run migrate explain draw rmap mend margin witness help'

@@ -1,1 +1,2 @@
 mod Retold
+mod Filled

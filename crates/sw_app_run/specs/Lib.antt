@@ -1,4 +1,5 @@
 pub mod RunTexts
 pub mod RunAnswers
+pub mod Summaries
 pub mod Records
 pub mod Laws

@@ -6,10 +6,11 @@ ghost use Rattle.sw_limit.specs.Limit.{AreDeclared};
 ghost use Rattle.sw_load.specs.Load.{load_text};
 ghost use Rattle.sw_run.specs.Outcomes.{IsOutcome, steps_of};
 ghost use Rattle.sw_schedule_text.specs.Runs.{readable_text};
-ghost use Rattle.sw_app_run.specs.Records.{IfGiven, IsFileRecord, IsLoadRecord, IsOutcomeRecord, IsRecord, IsRecordOf};
+ghost use Rattle.sw_app_run.specs.Records.{IfGiven, IsFileRecord, IsLoadRecord, IsOutcomeRecord, IsRecord, IsRecordOf, IsWithSchedule};
 
 use crate::run_answer::Options;
 use crate::run_texts::{outcome_text, stop_status};
+use crate::summaries::wanted_summary;
 use std::alloc::{AllocError, Global};
 use std::sync::Wait;
 use std::thread::Threads;
@@ -23,13 +24,26 @@ use sw_schedule::MAX_STEPS;
 use sw_schedule_text::write_steps;
 use sw_toml_table::FileFault;
 
+/// What is wanted of a run besides its answer.
+#[derive(Clone, Copy)]
+pub struct Wants {
+    /// The schedule of its steps.
+    pub schedule: bool,
+    /// The summary of what became of its packets.
+    pub summary: bool,
+}
+
 /// What is to be told of a run, and of its steps.
 #[derive(Drop)]
 pub(crate) enum Recorded {
     /// A text has a fault, and no run was made.
     Fault(Answer),
-    /// The answer, and the schedule of the run's steps.
-    Run(Answer, String),
+    /// The answer, the schedule of the run's steps, if it is wanted, and the summary, if that is.
+    Run {
+        answer: Answer,
+        schedule: Option<String>,
+        summary: Option<String>,
+    },
     /// The run's schedule is longer than a schedule may be.
     TooLong,
 }
@@ -49,23 +63,51 @@ fn schedule_of(
     write_steps(alloc, network, &steps)
 }
 
-// What is told of the outcome, and its schedule.
-fn recorded_outcome(
+// The answer and the summary, with the schedule, if it is wanted.
+fn with_schedule(
     alloc: Global,
     network: &Network,
     outcome: &Outcome<'_>,
+    is_wanted: bool,
+    answer: Answer,
+    summary: Option<String>,
 ) -> Result<Recorded, AllocError>
-    requires { length outcome.now.came_out.items ≡ length network.now.nodes }
-    ensures { IfOk result (IsRecordOf network.now outcome.now) }
+    ensures { IfOk result (IsWithSchedule is_wanted network.now outcome.now answer (option_map string_bytes summary)) }
 {
+    if !is_wanted {
+        return Ok(Recorded::Run {
+            answer,
+            schedule: None,
+            summary,
+        });
+    }
     match schedule_of(alloc, network, outcome)? {
-        Some(schedule) => {
-            let text = outcome_text(alloc, network, outcome)?;
-            let status = stop_status(outcome.stop);
-            Ok(Recorded::Run(Answer { text, status }, schedule))
-        }
+        Some(text) => Ok(Recorded::Run {
+            answer,
+            schedule: Some(text),
+            summary,
+        }),
         None => Ok(Recorded::TooLong),
     }
+}
+
+// What is told of the outcome.
+fn recorded_outcome<T: Threads + Sync>(
+    rt: &T,
+    alloc: Global,
+    network: &Network,
+    load: &Load,
+    outcome: &Outcome<'_>,
+    wants: Wants,
+) -> Result<Recorded, AllocError>
+    requires { length outcome.now.came_out.items ≡ length network.now.nodes }
+    ensures { IfOk result (IsRecordOf wants network.now load.now outcome.now) }
+{
+    let status = stop_status(outcome.stop);
+    let text = outcome_text(alloc, network, outcome)?;
+    let summary = wanted_summary(rt, alloc, network, load, outcome, wants.summary)?;
+    let answer = Answer { text, status };
+    with_schedule(alloc, network, outcome, wants.schedule, answer, summary)
 }
 
 // Of a load.
@@ -75,11 +117,12 @@ fn outcome_record<'a, G: Gate + Sync, T: Threads + Wait + Sync>(
     network: &'a Network,
     load: &'a Load,
     options: Options,
+    wants: Wants,
     gate: &G,
 ) -> Result<Recorded, AllocError>
     requires declared { AreDeclared network.now load.now }
     requires workers { 0 < options.workers }
-    ensures { IfOk result (IsOutcomeRecord options.limit network.now load.now) }
+    ensures { IfOk result (IsOutcomeRecord wants options.limit network.now load.now) }
 {
     let outcome = run(
         rt,
@@ -90,7 +133,7 @@ fn outcome_record<'a, G: Gate + Sync, T: Threads + Wait + Sync>(
         options.limit,
         gate,
     )?;
-    recorded_outcome(alloc, network, &outcome)
+    recorded_outcome(rt, alloc, network, load, &outcome, wants)
 }
 
 // Of the text of a load.
@@ -100,16 +143,17 @@ fn load_record<G: Gate + Sync, T: Threads + Wait + Sync>(
     network: &Network,
     text: &[u8],
     options: Options,
+    wants: Wants,
     gate: &G,
 ) -> Result<Recorded, AllocError>
     requires { 0 < options.workers }
-    ensures { IfOk result (IsLoadRecord options.limit network.now (load_text network.now text.now)) }
+    ensures { IfOk result (IsLoadRecord wants options.limit network.now (load_text network.now text.now)) }
 {
     match read_load(alloc, network, text) {
         Ok(load) => {
             // Names what holds of a load that was read.
             listed_are_declared();
-            outcome_record(rt, alloc, network, &load, options, gate)
+            outcome_record(rt, alloc, network, &load, options, wants, gate)
         }
         Err(FileFault::Text(fault)) => Ok(Recorded::Fault(Answer::of_fault(alloc, &fault)?)),
         Err(FileFault::Memory) => Err(AllocError),
@@ -123,13 +167,14 @@ fn network_record<G: Gate + Sync, T: Threads + Wait + Sync>(
     network: &Network,
     second: &InputText,
     options: Options,
+    wants: Wants,
     gate: &G,
 ) -> Result<Recorded, AllocError>
     requires { 0 < options.workers }
-    ensures { IfOk result (IfGiven (given second.now) (λ bytes. IsLoadRecord options.limit network.now (load_text network.now bytes))) }
+    ensures { IfOk result (IfGiven (given second.now) (λ bytes. IsLoadRecord wants options.limit network.now (load_text network.now bytes))) }
 {
     match second {
-        InputText::Whole(text) => load_record(rt, alloc, network, text, options, gate),
+        InputText::Whole(text) => load_record(rt, alloc, network, text, options, wants, gate),
         InputText::TooLong => Ok(Recorded::Fault(Answer::of_long_text(alloc)?)),
     }
 }
@@ -141,13 +186,14 @@ fn file_record<G: Gate + Sync, T: Threads + Wait + Sync>(
     first: &[u8],
     second: &InputText,
     options: Options,
+    wants: Wants,
     gate: &G,
 ) -> Result<Recorded, AllocError>
     requires { 0 < options.workers }
-    ensures { IfOk result (IsFileRecord options.limit (given second.now) (network_text first.now)) }
+    ensures { IfOk result (IsFileRecord wants options.limit (given second.now) (network_text first.now)) }
 {
     match read_network(alloc, first) {
-        Ok(network) => network_record(rt, alloc, &network, second, options, gate),
+        Ok(network) => network_record(rt, alloc, &network, second, options, wants, gate),
         Err(FileFault::Text(fault)) => Ok(Recorded::Fault(Answer::of_fault(alloc, &fault)?)),
         Err(FileFault::Memory) => Err(AllocError),
     }
@@ -160,13 +206,14 @@ pub(crate) fn record_answer<G: Gate + Sync, T: Threads + Wait + Sync>(
     first: &InputText,
     second: &InputText,
     options: Options,
+    wants: Wants,
     gate: &G,
 ) -> Result<Recorded, AllocError>
     requires { 0 < options.workers }
-    ensures { IfOk result (IsRecord options.limit (given first.now) (given second.now)) }
+    ensures { IfOk result (IsRecord wants options.limit (given first.now) (given second.now)) }
 {
     match first {
-        InputText::Whole(text) => file_record(rt, alloc, text, second, options, gate),
+        InputText::Whole(text) => file_record(rt, alloc, text, second, options, wants, gate),
         InputText::TooLong => Ok(Recorded::Fault(Answer::of_long_text(alloc)?)),
     }
 }

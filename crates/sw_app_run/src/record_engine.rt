@@ -1,71 +1,115 @@
-//! The engine that writes a run's steps too.
-ghost use Rattle.std.specs.Prelude.{◌<◌};
-ghost use Rattle.sw_command.specs.Ends.{AreReadInOrder};
-ghost use Rattle.sw_app_run.specs.Records.{EndsRecorded, IsRecordTold};
+//! The engine that writes a run's steps too, and tells a summary.
+ghost use Rattle.std.specs.Prelude.{◌<◌, string_bytes};
+ghost use Rattle.sw_command.specs.Ends.{AreReadInOrder, IsTold};
+ghost use Rattle.sw_app_run.specs.Records.{EndsRecorded, IsRecordTold, IsScheduleTold};
 
-use crate::record_answer::{Recorded, record_answer};
+use crate::record_answer::{Recorded, Wants, record_answer};
 use crate::run_answer::Options;
 use std::alloc::Global;
 use std::io::{Read, Write};
 use std::sync::Wait;
 use std::thread::Threads;
-use sw_command::{Ended, read_two, tell, tell_memory, tell_two_unread};
+use sw_command::{Answer, Ended, read_two, tell, tell_memory, tell_two_unread};
 use sw_run::Gate;
 use sw_text::write_whole;
 
 /// How the engine ended.
-#[derive(Clone, Copy, PartialEq, Eq)]
+#[derive(Drop)]
 pub enum RecordEnd {
-    /// As other engines do.
-    Told(Ended),
+    /// As other engines do, and the summary, where one is wanted and a run was made.
+    Told {
+        ended: Ended,
+        summary: Option<String>,
+    },
     /// The run's schedule is longer than a schedule may be: nothing was written.
     TooLong,
 }
 
+// Writes the answer.
+fn tell_answer<W: Write>(writer: &mut W, answer: &Answer) -> Ended
+    ensures { IsTold (W.contents writer.old) (W.contents writer.new) (string_bytes answer.now.text) answer.now.status result }
+{
+    tell(writer, answer.text.as_str(), answer.status)
+}
+
 // Writes the schedule, and then the answer.
+fn tell_both<W: Write, S: Write>(
+    writer: &mut W,
+    schedule: &mut S,
+    text: &str,
+    answer: &Answer,
+) -> Ended
+    ensures { IsScheduleTold (W.contents writer.old) (W.contents writer.new) (S.contents schedule.old) (S.contents schedule.new) text.now answer.now result }
+{
+    match write_whole(schedule, text.as_bytes()) {
+        Ok(()) => tell_answer(writer, answer),
+        Err(_) => Ended::WriteFailed,
+    }
+}
+
+// Writes what is to be told, and hands the summary on.
 fn tell_recorded<W: Write, S: Write>(
     writer: &mut W,
     schedule: &mut S,
-    recorded: &Recorded,
+    recorded: Recorded,
 ) -> RecordEnd
-    ensures { IsRecordTold (W.contents writer.old) (W.contents writer.new) (S.contents schedule.old) (S.contents schedule.new) recorded.now result }
+    ensures { IsRecordTold (W.contents writer.old) (W.contents writer.new) (S.contents schedule.old) (S.contents schedule.new) recorded result }
 {
     match recorded {
-        Recorded::Fault(answer) => RecordEnd::Told(tell(
-            writer,
-            answer.text.as_str(),
-            answer.status,
-        )),
-        Recorded::Run(answer, text) => match write_whole(schedule, text.as_bytes()) {
-            Ok(()) => RecordEnd::Told(tell(writer, answer.text.as_str(), answer.status)),
-            Err(_) => RecordEnd::Told(Ended::WriteFailed),
+        Recorded::Fault(answer) => RecordEnd::Told {
+            ended: tell_answer(writer, &answer),
+            summary: None,
+        },
+        Recorded::Run {
+            answer,
+            schedule: None,
+            summary,
+        } => RecordEnd::Told {
+            ended: tell_answer(writer, &answer),
+            summary,
+        },
+        Recorded::Run {
+            answer,
+            schedule: Some(text),
+            summary,
+        } => RecordEnd::Told {
+            ended: tell_both(writer, schedule, text.as_str(), &answer),
+            summary,
         },
         Recorded::TooLong => RecordEnd::TooLong,
     }
 }
 
-/// What comes of a run of the second text's load on the network of the first text, as `run` tells it, after the schedule of the
-/// run's steps was written. A schedule that was not written whole ends the call as a write that failed, and no answer is written.
+/// What comes of a run of the second text's load on the network of the first text, as `run` tells it, and what is wanted besides: the
+/// schedule of the run's steps, which is written before the answer, and the summary, which is handed on. A schedule that was not written
+/// whole ends the call as a write that failed, and no answer is written.
 pub fn run_recorded<N: Read, L: Read, W: Write, S: Write, G: Gate + Sync, T: Threads + Wait + Sync>(
     rt: &T,
     alloc: Global,
     network: &mut N,
     load: &mut L,
     options: Options,
+    wants: Wants,
     writer: &mut W,
     schedule: &mut S,
     gate: &G,
 ) -> RecordEnd
     requires { 0 < options.workers }
-    ensures end { EndsRecorded options.limit (N.remaining network.old) (N.remaining network.new) (L.remaining load.old) (L.remaining load.new) (W.contents writer.old) (W.contents writer.new) (S.contents schedule.old) (S.contents schedule.new) result }
+    ensures end { EndsRecorded wants options.limit (N.remaining network.old) (N.remaining network.new) (L.remaining load.old) (L.remaining load.new) (W.contents writer.old) (W.contents writer.new) (S.contents schedule.old) (S.contents schedule.new) result }
     ensures order { AreReadInOrder (N.remaining network.old) (N.remaining network.new) (L.remaining load.old) (L.remaining load.new) }
 {
     let (first, second) = match read_two(alloc, network, load) {
         Ok(inputs) => inputs,
-        Err(error) => return RecordEnd::Told(tell_two_unread(writer, error)),
+        Err(error) => return RecordEnd::Told {
+            ended: tell_two_unread(writer, error),
+            summary: None,
+        },
     };
-    match record_answer(rt, alloc, &first, &second, options, gate) {
-        Ok(recorded) => tell_recorded(writer, schedule, &recorded),
-        Err(_) => RecordEnd::Told(tell_memory(writer)),
+    match record_answer(rt, alloc, &first, &second, options, wants, gate) {
+        Ok(recorded) => tell_recorded(writer, schedule, recorded),
+        Err(_) => RecordEnd::Told {
+            ended: tell_memory(writer),
+            summary: None,
+        },
     }
 }

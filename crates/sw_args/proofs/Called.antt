@@ -10,9 +10,9 @@ use Rattle.clap.specs.Kinds.{check_kinds}
 use Rattle.clap.specs.Simple.{App, Shape, argument_words, built, entered, label_of, names_of, rows_at, subcommand_of}
 use Rattle.clap.specs.Walk.{Row, Text, answers_to, finished, first_of, nothing_held, rows_after, settled, stop_after, walk, walk_from}
 use Rattle.sw_args.specs.CommandLine.{IsCallOf, IsMatched, swcheck_app}
-use Rattle.sw_args.specs.declared.command_line.Asked.{Asked}
-use Rattle.sw_args.specs.declared.command_line.Call.{Call}
-use Rattle.sw_args.specs.declared.command_line.Call.TheVariants.{Route, Decide, Check, Report, Replay, Run, Migrate, Explain, Draw, Rmap, Mend, Witness}
+use Rattle.sw_args.specs.declared.call.Asked.{Asked}
+use Rattle.sw_args.specs.declared.call.Call.{Call}
+use Rattle.sw_args.specs.declared.call.Call.TheVariants.{Route, Decide, Check, Report, Replay, Run, Migrate, Explain, Draw, Rmap, Mend, Margin, Witness}
 use Rattle.sw_args.proofs.Kept.{Each, first_none, found_in, then_none}
 use Rattle.sw_args.proofs.Given.{draw_given, draw_rules, file_given, file_rules, flag_given, flag_rules, leaf, pair_given, pair_rules, rmap_given, rmap_rules, run_given, run_rules, witness_given, witness_rules}
 use Rattle.sw_args.proofs.Flags.{some_flag}
@@ -131,6 +131,11 @@ mend_call name is other words e =
     let given = file_given (codes "mend") words e in
     (Mend (lent given.0), (refl, given.1))
 
+margin_call : GivesCall (leaf (codes "margin") file_rules)
+margin_call name is other words e =
+    let given = file_given (codes "margin") words e in
+    (Margin (lent given.0), (refl, given.1))
+
 witness_call : GivesCall (leaf (codes "witness") witness_rules)
 witness_call name is other words e =
     let given = witness_given (codes "witness") words e in
@@ -140,7 +145,8 @@ run_call : GivesCall (leaf (codes "run") run_rules)
 run_call name is other words e =
     let given = run_given (codes "run") words e in
     let schedule = some_option (first_of (codes "schedule") (rows_after run_rules [] words)) in
-    (Run (lent given.0.0) (lent given.1.0) given.2.0 given.3.0 schedule.0, (refl, given.0.1, given.1.1, given.2.1, given.3.1, schedule.1))
+    let summary = some_flag (codes "summary") (rows_after run_rules [] words) in
+    (Run (lent given.0.0) (lent given.1.0) given.2.0 given.3.0 schedule.0 summary.0, (refl, given.0.1, given.1.1, given.2.1, given.3.1, schedule.1, summary.1))
 
 -- the subcommand `help` answers to no other name
 no_help : (s : Shape) → s.name ≡ codes "help" → s.aliases ≡ [] → GivesCall s
@@ -160,7 +166,7 @@ no_help s named none name is other words e = go s.aliases none is
 pub called : (words : List Text) → fault_of swcheck_app words ≡ [] → (asked : Asked) × IsMatched (subcommand_of swcheck_app words) asked
 called words e =
     let found = found_call (built swcheck_app) (argument_words swcheck_app words) refl refl
-    (route_call, (decide_call, (check_call, (report_call, (replay_call, (run_call, (migrate_call, (explain_call, (draw_call, (rmap_call, (mend_call, (witness_call, (no_help _ refl refl, tt))))))))))))) e in
+    (route_call, (decide_call, (check_call, (report_call, (replay_call, (run_call, (migrate_call, (explain_call, (draw_call, (rmap_call, (mend_call, (margin_call, (witness_call, (no_help _ refl refl, tt)))))))))))))) e in
     let hints = some_option (first_of (codes "hints") found.1) in
     (record { call = found.3.0; hints = hints.0 }, (found.0, found.1, found.2, found.3.1, hints.1))
 

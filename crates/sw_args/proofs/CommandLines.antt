@@ -12,9 +12,9 @@ use Rattle.clap.specs.declared.builder.Command.TheViews.{out-Command}
 use Rattle.clap.specs.declared.builder.command.Command.TheOpen.{Command-F}
 use Rattle.clap.specs.declared.parser.matches.ArgMatches.{ArgMatches}
 use Rattle.clap.specs.declared.error.Error.{Error}
-use Rattle.sw_args.specs.declared.command_line.Asked.{Asked}
-use Rattle.sw_args.specs.declared.command_line.WordsFault.{WordsFault}
-use Rattle.sw_args.specs.declared.command_line.WordsFault.TheVariants.{Help, Refused, Memory}
+use Rattle.sw_args.specs.declared.call.Asked.{Asked}
+use Rattle.sw_args.specs.declared.call.WordsFault.{WordsFault}
+use Rattle.sw_args.specs.declared.call.WordsFault.TheVariants.{Help, Refused, Memory}
 use Rattle.sw_args.specs.CommandLine.{swcheck_app, Gives, IsMade, IsMatched, Refuses, ShowsKind, Tells}
 
 swcheck_simple : is_simple swcheck_app ≡ true

@@ -380,7 +380,7 @@ rmap_rules = required_at 1 (codes "FILE") ∷ required_at 2 (codes "FLOW") ∷ r
 
 abbrev pub run_rules : List Rule
 run_rules = required_at 1 (codes "FILE") ∷ required_at 2 (codes "LOAD") ∷ count_at 3 (codes "workers") (codes "4") most_workers
-    ∷ count_at 3 (codes "limit") (codes "1000000") most_steps ∷ option_at 3 (codes "schedule") ∷ hints_at 3 ∷ help_at 3 ∷ []
+    ∷ count_at 3 (codes "limit") (codes "1000000") most_steps ∷ option_at 3 (codes "schedule") ∷ flag_at 3 (codes "summary") ∷ hints_at 3 ∷ help_at 3 ∷ []
 
 abbrev pub witness_rules : List Rule
 witness_rules = required_at 1 (codes "FILE") ∷ count_at 2 (codes "tries") (codes "200") most_tries
@@ -497,6 +497,7 @@ run_given name words e =
     let three = count_at 3 (codes "workers") (codes "4") most_workers in
     let four = count_at 3 (codes "limit") (codes "1000000") most_steps in
     let five = option_at 3 (codes "schedule") in
+    let six = flag_at 3 (codes "summary") in
     let start = (settled run_rules (walk run_rules [] nothing_held words).held).rows in
     let level = sound_gives name run_rules words (
       file_sound,
@@ -506,7 +507,10 @@ run_given name words e =
           count_sound 3 (codes "workers") (codes "4") most_workers workers_count,
           (
             count_sound 3 (codes "limit") (codes "1000000") most_steps limit_counts,
-            (option_sound 3 (codes "schedule") (refl, refl, refl, refl), (hints_sound 3, (help_sound 3, tt))),
+            (
+              option_sound 3 (codes "schedule") (refl, refl, refl, refl),
+              (flag_sound 3 (codes "summary") (refl, refl, refl, refl), (hints_sound 3, (help_sound 3, tt))),
+            ),
           ),
         ),
       ),
@@ -514,9 +518,9 @@ run_given name words e =
       given_value (codes "FILE") _ level.0 level.1.0,
       given_value (codes "LOAD") _ level.0 level.1.1.0,
       given_count (codes "workers") most_workers _ level.0
-          (count_there (one ∷ two ∷ []) (four ∷ five ∷ hints_at 3 ∷ help_at 3 ∷ []) 3 (codes "workers") (codes "4") most_workers start) (λ id how v is counts. counts.0 is),
+          (count_there (one ∷ two ∷ []) (four ∷ five ∷ six ∷ hints_at 3 ∷ help_at 3 ∷ []) 3 (codes "workers") (codes "4") most_workers start) (λ id how v is counts. counts.0 is),
       given_count (codes "limit") most_steps _ level.0
-          (count_there (one ∷ two ∷ three ∷ []) (five ∷ hints_at 3 ∷ help_at 3 ∷ []) 3 (codes "limit") (codes "1000000") most_steps start) (λ id how v is counts. counts.1 is),
+          (count_there (one ∷ two ∷ three ∷ []) (five ∷ six ∷ hints_at 3 ∷ help_at 3 ∷ []) 3 (codes "limit") (codes "1000000") most_steps start) (λ id how v is counts. counts.1 is),
     )
 
 pub witness_given : (name : Text) (words : List Text) → Level name witness_rules words

@@ -1,11 +1,11 @@
 -- When the values of a run, or of a search, are no call.
-use Rattle.std.proofs.Common.{◌≡◌, Bor, List, ℕ, Option, refl, sym, ap, ◌∙◌, false, true≢false, codes}
+use Rattle.std.proofs.Common.{◌≡◌, Bor, Bool, List, ℕ, Option, refl, sym, ap, ◌∙◌, false, true≢false, codes}
 use Rattle.std.specs.Prelude.{IfNone, Some, None}
 use Rattle.std.specs.Str.{bytes_eq}
 use Rattle.clap.specs.Words.{Row}
 use Rattle.sw_args.specs.CommandLine.{IsCallOf, IsCount, most_seed, most_steps, most_tries, most_workers}
-use Rattle.sw_args.specs.declared.command_line.Call.{Call}
-use Rattle.sw_args.specs.declared.command_line.Call.TheVariants.{Route, Decide, Check, Report, Replay, Run, Migrate, Explain, Draw, Rmap, Mend, Witness}
+use Rattle.sw_args.specs.declared.call.Call.{Call}
+use Rattle.sw_args.specs.declared.call.Call.TheVariants.{Route, Decide, Check, Report, Replay, Run, Migrate, Explain, Draw, Rmap, Mend, Margin, Witness}
 
 -- a run goes by no other name
 other : (a name : List ℕ) → bytes_eq a (codes "run") ≡ false → name ≡ codes "run" → name ≡ a → ⊥
@@ -13,7 +13,7 @@ other a name differ is_run is =
     true≢false (ap (λ (t : List ℕ). bytes_eq t (codes "run")) (sym is_run ∙ is) ∙ differ)
 
 runs_only : (name : List ℕ) (values : List Row) → name ≡ codes "run"
-    → ((file load : Bor (List ℕ)) (workers limit : ℕ) (schedule : Option (Bor (List ℕ))) → IsCallOf name values (Run file load workers limit schedule) → ⊥)
+    → ((file load : Bor (List ℕ)) (workers limit : ℕ) (schedule : Option (Bor (List ℕ))) (summary : Bool) → IsCallOf name values (Run file load workers limit schedule summary) → ⊥)
     → (call : Call) → IsCallOf name values call → ⊥
 runs_only name values run none (Route file flow) is = other _ name refl run is.0
 runs_only name values run none (Decide file) is = other _ name refl run is.0
@@ -25,8 +25,9 @@ runs_only name values run none (Explain file all) is = other _ name refl run is.
 runs_only name values run none (Draw file flow cycle numbers) is = other _ name refl run is.0
 runs_only name values run none (Rmap file flow action address value unacknowledged transaction) is = other _ name refl run is.0
 runs_only name values run none (Mend file) is = other _ name refl run is.0
+runs_only name values run none (Margin file) is = other _ name refl run is.0
 runs_only name values run none (Witness file tries seed) is = other _ name refl run is.0
-runs_only name values run none (Run file load workers limit schedule) is = none file load workers limit schedule is
+runs_only name values run none (Run file load workers limit schedule summary) is = none file load workers limit schedule summary is
 
 if_none : {A : Type 0} {P : Type 0} (o : Option A) → P → IfNone o P
 if_none None p = p
@@ -35,12 +36,12 @@ if_none (Some x) p = tt
 pub without_workers : (name : List ℕ) (values : List Row) (o : Option Call) → name ≡ codes "run"
     → ((number : ℕ) → IsCount most_workers (codes "workers") values number → ⊥)
     → IfNone o ((call : Call) → IsCallOf name values call → ⊥)
-without_workers name values o run none = if_none o (runs_only name values run (λ file load workers limit schedule is. none workers is.3))
+without_workers name values o run none = if_none o (runs_only name values run (λ file load workers limit schedule summary is. none workers is.3))
 
 pub without_limit : (name : List ℕ) (values : List Row) (o : Option Call) → name ≡ codes "run"
     → ((number : ℕ) → IsCount most_steps (codes "limit") values number → ⊥)
     → IfNone o ((call : Call) → IsCallOf name values call → ⊥)
-without_limit name values o run none = if_none o (runs_only name values run (λ file load workers limit schedule is. none limit is.4))
+without_limit name values o run none = if_none o (runs_only name values run (λ file load workers limit schedule summary is. none limit is.4))
 
 -- nor does a search
 unlike : (a name : List ℕ) → bytes_eq a (codes "witness") ≡ false → name ≡ codes "witness" → name ≡ a → ⊥
@@ -55,12 +56,13 @@ searches_only name values witness none (Decide file) is = unlike _ name refl wit
 searches_only name values witness none (Check file certificate) is = unlike _ name refl witness is.0
 searches_only name values witness none (Report file) is = unlike _ name refl witness is.0
 searches_only name values witness none (Replay file schedule) is = unlike _ name refl witness is.0
-searches_only name values witness none (Run file load workers limit schedule) is = unlike _ name refl witness is.0
+searches_only name values witness none (Run file load workers limit schedule summary) is = unlike _ name refl witness is.0
 searches_only name values witness none (Migrate file) is = unlike _ name refl witness is.0
 searches_only name values witness none (Explain file all) is = unlike _ name refl witness is.0
 searches_only name values witness none (Draw file flow cycle numbers) is = unlike _ name refl witness is.0
 searches_only name values witness none (Rmap file flow action address value unacknowledged transaction) is = unlike _ name refl witness is.0
 searches_only name values witness none (Mend file) is = unlike _ name refl witness is.0
+searches_only name values witness none (Margin file) is = unlike _ name refl witness is.0
 searches_only name values witness none (Witness file tries seed) is = none file tries seed is
 
 pub without_tries : (name : List ℕ) (values : List Row) (o : Option Call) → name ≡ codes "witness"

@@ -2,12 +2,12 @@
 use Rattle.std.proofs.Common.{List, Option, arith, ℕ}
 use Rattle.clap.specs.Words.{Row}
 use Rattle.sw_args.specs.CommandLine.{HasWorkers, IsCallOf, IsMatched}
-use Rattle.sw_args.specs.declared.command_line.Asked.{Asked}
-use Rattle.sw_args.specs.declared.command_line.Call.{Call}
-use Rattle.sw_args.specs.declared.command_line.Call.TheVariants.{Route, Decide, Check, Report, Replay, Run, Migrate, Explain, Draw, Rmap, Mend, Witness}
+use Rattle.sw_args.specs.declared.call.Asked.{Asked}
+use Rattle.sw_args.specs.declared.call.Call.{Call}
+use Rattle.sw_args.specs.declared.call.Call.TheVariants.{Route, Decide, Check, Report, Replay, Run, Migrate, Explain, Draw, Rmap, Mend, Margin, Witness}
 
 call_workers : (name : List ℕ) (values : List Row) (call : Call) → IsCallOf name values call → HasWorkers call
-call_workers name values (Run file load workers limit schedule) (called, is_file, is_load, is_workers, is_limit, is_schedule) =
+call_workers name values (Run file load workers limit schedule summary) (called, is_file, is_load, is_workers, is_limit, is_schedule, is_summary) =
     let least = is_workers.1 in
     omega (arith, least)
 call_workers name values (Route file flow) is = tt
@@ -20,6 +20,7 @@ call_workers name values (Explain file all) is = tt
 call_workers name values (Draw file flow cycle numbers) is = tt
 call_workers name values (Rmap file flow action address value unacknowledged transaction) is = tt
 call_workers name values (Mend file) is = tt
+call_workers name values (Margin file) is = tt
 call_workers name values (Witness file tries seed) is = tt
 
 pub matched_workers : (found : Option (List ℕ × List Row)) (asked : Asked) → IsMatched found asked → HasWorkers asked.call

@@ -10,11 +10,11 @@ use Rattle.clap.specs.declared.builder.action.ArgAction.TheVariants.{SetTrue}
 use Rattle.clap.specs.declared.builder.value_parser.ValueParser.TheVariants.{Signed}
 use Rattle.clap.specs.declared.error.kind.ErrorKind.{ErrorKind}
 use Rattle.clap.specs.declared.error.kind.ErrorKind.TheVariants.{DisplayHelp, DisplayVersion, OutOfMemory}
-use Rattle.sw_args.specs.declared.command_line.Asked.{Asked}
-use Rattle.sw_args.specs.declared.command_line.Call.{Call}
-use Rattle.sw_args.specs.declared.command_line.Call.TheVariants.{Route, Decide, Check, Report, Replay, Run, Migrate, Explain, Draw, Rmap, Mend, Witness}
-use Rattle.sw_args.specs.declared.command_line.WordsFault.{WordsFault}
-use Rattle.sw_args.specs.declared.command_line.WordsFault.TheVariants.{Help, Refused, Memory}
+use Rattle.sw_args.specs.declared.call.Asked.{Asked}
+use Rattle.sw_args.specs.declared.call.Call.{Call}
+use Rattle.sw_args.specs.declared.call.Call.TheVariants.{Route, Decide, Check, Report, Replay, Run, Migrate, Explain, Draw, Rmap, Mend, Margin, Witness}
+use Rattle.sw_args.specs.declared.call.WordsFault.{WordsFault}
+use Rattle.sw_args.specs.declared.call.WordsFault.TheVariants.{Help, Refused, Memory}
 
 -- a value that must be given
 abbrev pub required_value : List ℕ → Rule
@@ -63,12 +63,14 @@ most_workers = 64
 abbrev pub most_steps : ℕ
 most_steps = 16777216
 
--- `run FILE LOAD [--workers NUMBER] [--limit NUMBER] [--schedule VALUE]`: 4 workers and 1,000,000 steps if they are left out
+-- `run FILE LOAD [--workers NUMBER] [--limit NUMBER] [--schedule VALUE] [--summary]`: 4 workers and 1,000,000 steps if they are left out
 abbrev pub run_app : App
-run_app = with_rule (with_rule (with_rule (with_rule (with_rule (new_app (codes "run")) (required_value (codes "FILE"))) (required_value (codes "LOAD")))
+run_app =
+    with_rule (with_rule (with_rule (with_rule (with_rule (with_rule (new_app (codes "run")) (required_value (codes "FILE"))) (required_value (codes "LOAD")))
     (count_rule (codes "workers") (codes "4") most_workers))
     (count_rule (codes "limit") (codes "1000000") most_steps))
-    (option_rule (codes "schedule"))
+    (option_rule (codes "schedule")))
+    (flag_rule (codes "summary"))
 
 -- `migrate FILE`
 abbrev pub migrate_app : App
@@ -99,6 +101,10 @@ rmap_app = with_rule (with_rule (with_rule (with_rule (with_rule (with_rule (wit
 abbrev pub mend_app : App
 mend_app = with_rule (new_app (codes "mend")) (required_value (codes "FILE"))
 
+-- `margin FILE`
+abbrev pub margin_app : App
+margin_app = with_rule (new_app (codes "margin")) (required_value (codes "FILE"))
+
 -- the most tries of a search, and the greatest number that it may begin with (this project's choice)
 abbrev pub most_tries : ℕ
 most_tries = 1000000
@@ -126,7 +132,7 @@ top_app = let a = new_app (codes "swcheck") in record a { top = record a.top { h
 -- the whole command line: each subcommand stands in a line of its own
 abbrev pub swcheck_app : App
 swcheck_app =
-    with_subcommand (with_subcommand (with_subcommand (with_subcommand (with_subcommand (with_subcommand (with_subcommand (with_subcommand (with_subcommand (with_subcommand (with_subcommand (with_subcommand top_app
+    with_subcommand (with_subcommand (with_subcommand (with_subcommand (with_subcommand (with_subcommand (with_subcommand (with_subcommand (with_subcommand (with_subcommand (with_subcommand (with_subcommand (with_subcommand top_app
     (with_hints route_app).top)
     (with_hints decide_app).top)
     (with_hints check_app).top)
@@ -138,6 +144,7 @@ swcheck_app =
     (with_hints draw_app).top)
     (with_hints rmap_app).top)
     (with_hints mend_app).top)
+    (with_hints margin_app).top)
     (with_hints witness_app).top
 
 -- the command is that of the app
@@ -190,12 +197,13 @@ IsCallOf name values (Check file certificate) = (name ≡ codes "check")
 IsCallOf name values (Replay file schedule) = (name ≡ codes "replay")
     × (first_of (codes "FILE") values ≡ Some file.now)
     × (first_of (codes "SCHEDULE") values ≡ Some schedule.now)
-IsCallOf name values (Run file load workers limit schedule) = (name ≡ codes "run")
+IsCallOf name values (Run file load workers limit schedule summary) = (name ≡ codes "run")
     × (first_of (codes "FILE") values ≡ Some file.now)
     × (first_of (codes "LOAD") values ≡ Some load.now)
     × IsCount most_workers (codes "workers") values workers
     × IsCount most_steps (codes "limit") values limit
     × IsOption (codes "schedule") values schedule
+    × IsSet (codes "summary") values summary
 IsCallOf name values (Migrate file) = (name ≡ codes "migrate") × (first_of (codes "FILE") values ≡ Some file.now)
 IsCallOf name values (Explain file all) = (name ≡ codes "explain")
     × (first_of (codes "FILE") values ≡ Some file.now)
@@ -214,6 +222,7 @@ IsCallOf name values (Rmap file flow action address value unacknowledged transac
     × IsSet (codes "no-ack") values unacknowledged
     × IsOption (codes "transaction") values transaction
 IsCallOf name values (Mend file) = (name ≡ codes "mend") × (first_of (codes "FILE") values ≡ Some file.now)
+IsCallOf name values (Margin file) = (name ≡ codes "margin") × (first_of (codes "FILE") values ≡ Some file.now)
 IsCallOf name values (Witness file tries seed) = (name ≡ codes "witness")
     × (first_of (codes "FILE") values ≡ Some file.now)
     × IsCount most_tries (codes "tries") values tries
@@ -221,7 +230,7 @@ IsCallOf name values (Witness file tries seed) = (name ≡ codes "witness")
 
 -- a run has a worker
 abbrev pub HasWorkers : Call → Type 0
-HasWorkers (Run file load workers limit schedule) = 0 < workers
+HasWorkers (Run file load workers limit schedule summary) = 0 < workers
 HasWorkers (Route file flow) = Unit {0}
 HasWorkers (Decide file) = Unit {0}
 HasWorkers (Check file certificate) = Unit {0}
@@ -232,6 +241,7 @@ HasWorkers (Explain file all) = Unit {0}
 HasWorkers (Draw file flow cycle numbers) = Unit {0}
 HasWorkers (Rmap file flow action address value unacknowledged transaction) = Unit {0}
 HasWorkers (Mend file) = Unit {0}
+HasWorkers (Margin file) = Unit {0}
 HasWorkers (Witness file tries seed) = Unit {0}
 
 -- the subcommand that was met, with its values, is this call, and what was given at `--hints`

@@ -1,94 +1,12 @@
 //! The words of the command line.
 ghost use Rattle.std.specs.Prelude.{◌≡◌, ◌<◌, ◌^◌, ℕ, option_map, true, false, IfOk, IfNone, IfSome};
 ghost use Rattle.clap.specs.Words.{first_of, found_of, kind_of, new_app, rows_of, rule_of, with_rule};
-ghost use Rattle.sw_args.specs.declared.command_line.WordsFault.TheVariants.{Memory};
-ghost use Rattle.sw_args.specs.CommandLine.{check_app, count_rule, decide_app, draw_app, explain_app, flag_rule, mend_app, migrate_app, option_rule, replay_app, report_app, required_value, rmap_app, route_app, run_app, swcheck_app, top_app, witness_app, with_hints, HasMade, IsCount, IsMade, IsOf, IsOption, IsSet, Joins, Makes, SaysNumber, ShowsKind};
+ghost use Rattle.sw_args.specs.CommandLine.{check_app, count_rule, decide_app, draw_app, explain_app, flag_rule, margin_app, mend_app, migrate_app, option_rule, replay_app, report_app, required_value, rmap_app, route_app, run_app, swcheck_app, top_app, witness_app, with_hints, HasMade, IsCount, IsMade, IsOf, IsOption, IsSet, Joins, Makes, SaysNumber, ShowsKind};
 
+use crate::call::WordsFault;
 use clap::error::ErrorKind;
 use clap::{Arg, ArgAction, ArgMatches, Command};
 use std::alloc::{AllocError, Global};
-use thiserror::Error;
-
-/// What the words ask for, with the values as they were written.
-#[derive(Clone, Copy)]
-pub enum Call<'a> {
-    /// The places of a flow of a network file.
-    Route {
-        file: &'a str,
-        flow: &'a str,
-    },
-    /// The verdict on a network file.
-    Decide {
-        file: &'a str,
-    },
-    /// Whether a certificate is accepted for a network file.
-    Check {
-        file: &'a str,
-        certificate: &'a str,
-    },
-    /// How many parts a network file has, and the verdict on it.
-    Report {
-        file: &'a str,
-    },
-    /// What comes of a schedule of steps on a network file.
-    Replay {
-        file: &'a str,
-        schedule: &'a str,
-    },
-    /// What comes of a load of packets on a network file, by so many threads and in at most so many steps, and in which file its steps are
-    /// to be written.
-    Run {
-        file: &'a str,
-        load: &'a str,
-        workers: u32,
-        limit: u32,
-        schedule: Option<&'a str>,
-    },
-    /// A network file of version 1 as one of version 2.
-    Migrate {
-        file: &'a str,
-    },
-    /// Why a network can lock up, or that it never does; with all flows of a step, or six and how many more there are.
-    Explain {
-        file: &'a str,
-        all: bool,
-    },
-    /// A drawing of a network file: with the places of a flow, with the shortest cycle, with the channels' numbers.
-    Draw {
-        file: &'a str,
-        flow: Option<&'a str>,
-        cycle: bool,
-        numbers: bool,
-    },
-    /// The entry of a load for an RMAP command of a flow: what it does (`read` or `write`), from which address on, how many bytes or
-    /// which ones, whether it asks for no reply, and its transaction identifier.
-    Rmap {
-        file: &'a str,
-        flow: &'a str,
-        action: &'a str,
-        address: &'a str,
-        value: &'a str,
-        unacknowledged: bool,
-        transaction: Option<&'a str>,
-    },
-    /// Which single change makes a network free.
-    Mend {
-        file: &'a str,
-    },
-    /// A schedule that locks a network up, by so many tries, the first with this number.
-    Witness {
-        file: &'a str,
-        tries: u32,
-        seed: u32,
-    },
-}
-
-/// What the words ask for: a call, and what was given at `--hints`.
-#[derive(Clone, Copy)]
-pub struct Asked<'a> {
-    pub call: Call<'a>,
-    pub hints: Option<&'a str>,
-}
 
 /// The program's version, and the toolchain that proves and builds it.
 const VERSION: &str = "0.9.0\nrattle-kit-13f logic dac8208d650f15bf";
@@ -104,46 +22,6 @@ pub(crate) const MOST_TRIES: u32 = 1_000_000;
 
 /// The greatest number that a search may begin with.
 pub(crate) const MOST_SEED: u32 = 4_294_967_295;
-
-/// The status of words that are refused.
-pub const REFUSED: u8 = 2;
-
-/// Why the words give no call, with the text to print.
-#[derive(Debug, Drop, Error)]
-pub enum WordsFault {
-    /// Help was asked for: the text goes to standard output.
-    #[error("{0}")]
-    Help(String),
-    /// The words are refused: the text goes to standard error.
-    #[error("{0}")]
-    Refused(String),
-    /// A growth was refused.
-    #[error("out of memory")]
-    Memory,
-}
-
-impl WordsFault {
-    ghost use Rattle.sw_args.specs.CommandLine.{words_status};
-
-    /// The status that the program exits with.
-    pub fn status(&self) -> u8
-        ensures { result ≡ words_status self.now }
-    {
-        match self {
-            WordsFault::Help(_) => 0,
-            WordsFault::Refused(_) => REFUSED,
-            WordsFault::Memory => 5,
-        }
-    }
-}
-
-impl From<AllocError> for WordsFault {
-    ghost from_gives = { λ _ e. e ≡ Memory };
-
-    fn from(_error: AllocError) -> WordsFault {
-        WordsFault::Memory
-    }
-}
 
 // A value that must be given.
 fn value_arg<'a>(alloc: Global, name: &'static str, help: &'static str) -> Arg<'a>
@@ -326,7 +204,9 @@ fn run_command<'a>(alloc: Global) -> Result<Command<'a>, AllocError>
     let help = "How many steps may be made, 1 to 16777216";
     let run = with_count(alloc, run, "limit", "1000000", MOST_STEPS, help);
     let help = "A file to write the steps to, as a schedule";
-    with_option(alloc, run, "schedule", help)
+    let run = with_option(alloc, run, "schedule", help);
+    let help = "Tell on standard error what became of each flow's packets";
+    with_flag(alloc, run, "summary", help)
 }
 
 fn migrate_command<'a>(alloc: Global) -> Result<Command<'a>, AllocError>
@@ -389,6 +269,15 @@ fn mend_command<'a>(alloc: Global) -> Result<Command<'a>, AllocError>
     let mend = subcommand(alloc, "mend", about);
     let mend = with_example(mend, "Example: swcheck mend examples/ring.toml");
     with_value(alloc, mend, "FILE", "A network file")
+}
+
+fn margin_command<'a>(alloc: Global) -> Result<Command<'a>, AllocError>
+    ensures { IfOk result (IsMade margin_app) }
+{
+    let about = "Print how far the premises of a network that never locks up bend";
+    let margin = subcommand(alloc, "margin", about);
+    let margin = with_example(margin, "Example: swcheck margin examples/turn.toml");
+    with_value(alloc, margin, "FILE", "A network file")
 }
 
 fn witness_command<'a>(alloc: Global) -> Result<Command<'a>, AllocError>
@@ -458,6 +347,7 @@ pub(crate) fn swcheck_command<'a>(alloc: Global) -> Result<Command<'a>, AllocErr
     let command = with_subcommand(alloc, command, draw_command(alloc));
     let command = with_subcommand(alloc, command, rmap_command(alloc));
     let command = with_subcommand(alloc, command, mend_command(alloc));
+    let command = with_subcommand(alloc, command, margin_command(alloc));
     with_subcommand(alloc, command, witness_command(alloc))
 }
 

@@ -1,8 +1,9 @@
 //! The words of the program swcheck.
 #![tactic(auto)]
 
+mod call;
 mod command_line;
 mod matched;
 
-pub use command_line::{Asked, Call, REFUSED, WordsFault};
+pub use call::{Asked, Call, REFUSED, WordsFault};
 pub use matched::words;

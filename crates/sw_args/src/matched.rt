@@ -1,13 +1,14 @@
 //! What the words ask for.
 ghost use Rattle.std.specs.Prelude.{map, IfOk, IfErr, IfNone, IfSome};
 ghost use Rattle.clap.specs.Words.{found_of, rows_of, subcommand_rows_of};
-ghost use Rattle.sw_args.specs.declared.command_line.Asked.{Asked};
-ghost use Rattle.sw_args.specs.declared.command_line.Call.{Call};
+ghost use Rattle.sw_args.specs.declared.call.Asked.{Asked};
+ghost use Rattle.sw_args.specs.declared.call.Call.{Call};
 ghost use Rattle.sw_args.specs.CommandLine.{Gives, IsCallOf, IsMatched, Refuses, Tells};
 
+use crate::call::{Asked, Call, WordsFault};
 use crate::command_line::{
-    Asked, Call, MOST_SEED, MOST_STEPS, MOST_TRIES, MOST_WORKERS, WordsFault, count_of, fault_of,
-    is_set, option_of, swcheck_command, value_of,
+    MOST_SEED, MOST_STEPS, MOST_TRIES, MOST_WORKERS, count_of, fault_of, is_set, option_of,
+    swcheck_command, value_of,
 };
 use clap::ArgMatches;
 use std::alloc::{AllocError, Global};
@@ -39,6 +40,7 @@ fn call_of<'a>(name: &str, values: &ArgMatches<'a>) -> Option<Call<'a>>
             workers: count_of(values, "workers", MOST_WORKERS)?,
             limit: count_of(values, "limit", MOST_STEPS)?,
             schedule: option_of(values, "schedule"),
+            summary: is_set(values, "summary"),
         }),
         "migrate" => Some(Call::Migrate { file }),
         "explain" => Some(Call::Explain {
@@ -64,6 +66,7 @@ fn call_of<'a>(name: &str, values: &ArgMatches<'a>) -> Option<Call<'a>>
             })
         }
         "mend" => Some(Call::Mend { file }),
+        "margin" => Some(Call::Margin { file }),
         "witness" => Some(Call::Witness {
             file,
             tries: count_of(values, "tries", MOST_TRIES)?,

@@ -1,8 +1,8 @@
 -- What the words ask for besides the call (this project's choice).
 use Rattle.std.specs.Prelude.{ℕ, List, Option, Some, None, ◌==◌, codes, if◌then◌else◌, option_map}
 use Rattle.std.specs.Str.{bytes_eq}
-use Rattle.sw_args.specs.declared.command_line.Call.{Call}
-use Rattle.sw_args.specs.declared.command_line.Call.TheVariants.{Route, Decide, Check, Report, Replay, Run, Migrate, Explain, Draw, Rmap, Mend, Witness}
+use Rattle.sw_args.specs.declared.call.Call.{Call}
+use Rattle.sw_args.specs.declared.call.Call.TheVariants.{Route, Decide, Check, Report, Replay, Run, Migrate, Explain, Draw, Rmap, Mend, Margin, Witness}
 use Rattle.sw_command.specs.declared.write_answer.Ended.{Ended}
 use Rattle.sw_command.specs.declared.write_answer.Ended.TheVariants.{Status, ReadFailed, WriteFailed}
 use Rattle.sw_cli.specs.declared.hints.Due.{Due}
@@ -22,19 +22,20 @@ file_of (Decide file) = file.now
 file_of (Check file certificate) = file.now
 file_of (Report file) = file.now
 file_of (Replay file schedule) = file.now
-file_of (Run file load workers limit schedule) = file.now
+file_of (Run file load workers limit schedule summary) = file.now
 file_of (Migrate file) = file.now
 file_of (Explain file all) = file.now
 file_of (Draw file flow cycle numbers) = file.now
 file_of (Rmap file flow action address value unacknowledged transaction) = file.now
 file_of (Mend file) = file.now
+file_of (Margin file) = file.now
 file_of (Witness file tries seed) = file.now
 
 -- the other file that a call reads, if it reads two
 abbrev pub second_of : Call → Option (List ℕ)
 second_of (Check file certificate) = Some certificate.now
 second_of (Replay file schedule) = Some schedule.now
-second_of (Run file load workers limit schedule) = Some load.now
+second_of (Run file load workers limit schedule summary) = Some load.now
 second_of (Route file flow) = None
 second_of (Decide file) = None
 second_of (Report file) = None
@@ -43,6 +44,7 @@ second_of (Explain file all) = None
 second_of (Draw file flow cycle numbers) = None
 second_of (Rmap file flow action address value unacknowledged transaction) = None
 second_of (Mend file) = None
+second_of (Margin file) = None
 second_of (Witness file tries seed) = None
 
 -- the flow that a call names, if it names one
@@ -54,10 +56,11 @@ flow_of (Decide file) = None
 flow_of (Check file certificate) = None
 flow_of (Report file) = None
 flow_of (Replay file schedule) = None
-flow_of (Run file load workers limit schedule) = None
+flow_of (Run file load workers limit schedule summary) = None
 flow_of (Migrate file) = None
 flow_of (Explain file all) = None
 flow_of (Mend file) = None
+flow_of (Margin file) = None
 flow_of (Witness file tries seed) = None
 
 -- what a hint is of, after a status: a text has a fault, or a verdict is not free

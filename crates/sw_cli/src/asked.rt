@@ -47,6 +47,7 @@ pub(crate) fn file_of<'a>(call: &Call<'a>) -> &'a str
             workers: _,
             limit: _,
             schedule: _,
+            summary: _,
         } => file,
         Call::Migrate { file } => file,
         Call::Explain { file, all: _ } => file,
@@ -66,6 +67,7 @@ pub(crate) fn file_of<'a>(call: &Call<'a>) -> &'a str
             transaction: _,
         } => file,
         Call::Mend { file } => file,
+        Call::Margin { file } => file,
         Call::Witness {
             file,
             tries: _,
@@ -90,6 +92,7 @@ pub(crate) fn second_of<'a>(call: &Call<'a>) -> Option<&'a str>
             workers: _,
             limit: _,
             schedule: _,
+            summary: _,
         } => Some(load),
         _ => None,
     }

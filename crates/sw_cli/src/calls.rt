@@ -1,13 +1,13 @@
 //! The call that the words ask for, on the files that they name.
 ghost use Rattle.std.specs.Prelude.{IfErr, IfNone, IfOk, IfSome, map};
 ghost use Rattle.sw_args.specs.CommandLine.{Gives, HasWorkers, Refuses};
-ghost use Rattle.sw_args.specs.declared.command_line.Asked.{Asked};
+ghost use Rattle.sw_args.specs.declared.call.Asked.{Asked};
 ghost use Rattle.sw_cli.specs.Accesses.{IsAccess, IsNoAccess};
 
 use crate::asked::hints_of;
 use crate::hints::hinted;
 use crate::noted::{Made, Noted};
-use crate::recorded::run_load;
+use crate::recorded::{Extras, run_load};
 use crate::told::{no_access, no_hints, told_end};
 use std::io::Write;
 use std::rt::Files;
@@ -18,6 +18,7 @@ use std::{fs, io};
 use sw_app::{check, decide, migrate, replay, report, route};
 use sw_app_draw::{DrawOptions, draw};
 use sw_app_explain::explain;
+use sw_app_margin::margin;
 use sw_app_mend::mend;
 use sw_app_rmap::{Access, Request, rmap};
 use sw_app_run::Options;
@@ -118,12 +119,20 @@ fn run_into<'a, R: Files + Eprint + AllocGlobal + Threads + Wait + Sync, W: Writ
             workers,
             limit,
             schedule,
+            summary,
         } => {
             let options = Options {
                 workers: workers as usize,
                 limit: limit as usize,
             };
-            run_load(rt, file, load, options, schedule, writer)
+            run_load(
+                rt,
+                file,
+                load,
+                options,
+                &Extras { schedule, summary },
+                writer,
+            )
         }
         Call::Migrate { file } => run_migrate(rt, file, writer),
         Call::Explain { file, all } => run_explain(rt, file, all, writer),
@@ -165,6 +174,7 @@ fn run_into<'a, R: Files + Eprint + AllocGlobal + Threads + Wait + Sync, W: Writ
             None => no_access(rt),
         },
         Call::Mend { file } => run_mend(rt, file, writer),
+        Call::Margin { file } => run_margin(rt, file, writer),
         Call::Witness { file, tries, seed } => run_witness(rt, file, tries, seed, writer),
     }
 }
@@ -305,6 +315,17 @@ fn run_mend<R: Files + AllocGlobal + Threads + Sync, W: Write>(
         return Ended::ReadFailed;
     };
     mend(rt, rt.alloc(), &mut reader, writer)
+}
+
+fn run_margin<R: Files + AllocGlobal + Threads + Sync, W: Write>(
+    rt: &R,
+    file: &str,
+    writer: &mut W,
+) -> Ended {
+    let Ok(mut reader) = fs::open(rt, file) else {
+        return Ended::ReadFailed;
+    };
+    margin(rt, rt.alloc(), &mut reader, writer)
 }
 
 fn run_witness<R: Files + AllocGlobal + Threads + Sync, W: Write>(

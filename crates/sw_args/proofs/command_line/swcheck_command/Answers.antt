@@ -1,4 +1,4 @@
-use Rattle.sw_args.specs.CommandLine.{check_app, decide_app, draw_app, explain_app, mend_app, migrate_app, replay_app, report_app, rmap_app, route_app, run_app, top_app, witness_app}
+use Rattle.sw_args.specs.CommandLine.{check_app, decide_app, draw_app, explain_app, margin_app, mend_app, migrate_app, replay_app, report_app, rmap_app, route_app, run_app, top_app, witness_app}
 use Rattle.sw_args.proofs.command_line.swcheck_command.Goals as goal
 
 pub returns : goal.returns
@@ -14,4 +14,5 @@ returns c =
     let nine = c.with_subcommand-command-9.ensures _ draw_app eight c.draw_command.ensures in
     let ten = c.with_subcommand-command-10.ensures _ rmap_app nine c.rmap_command.ensures in
     let eleven = c.with_subcommand-command-11.ensures _ mend_app ten c.mend_command.ensures in
-    c.with_subcommand.ensures _ witness_app eleven c.witness_command.ensures
+    let twelve = c.with_subcommand-command-12.ensures _ margin_app eleven c.margin_command.ensures in
+    c.with_subcommand.ensures _ witness_app twelve c.witness_command.ensures

@@ -1,0 +1,83 @@
+//! The summary of a run.
+ghost use Rattle.std.specs.Prelude.{◌≡◌, ◌↔◌, IfOk, IsTrue, length, map, option_map, string_bytes};
+ghost use Rattle.sw_model.specs.Steps.{machine_step};
+ghost use Rattle.sw_search.specs.Laws.{RoutedAndFree};
+ghost use Rattle.sw_app_run.specs.Summaries.{AreFillsTold, IsSummary, IsWantedSummary, ShowsNothing};
+
+use std::alloc::{AllocError, Global};
+use std::thread::Threads;
+use sw_config::Network;
+use sw_fill::{fill_lines, greatest_fills};
+use sw_load::Load;
+use sw_model::Step;
+use sw_run::{Outcome, Stop};
+use sw_search::is_free;
+use sw_summary::summary_of;
+
+// Did the run drain, although the network is not free?
+fn shows_nothing<T: Threads + Sync>(
+    rt: &T,
+    alloc: Global,
+    network: &Network,
+    stop: Stop,
+) -> Result<bool, AllocError>
+    ensures { IfOk result (λ b. IsTrue b ↔ ShowsNothing network.now stop) }
+{
+    match stop {
+        Stop::Drained => Ok(!is_free(rt, alloc, network)?),
+        Stop::Stuck | Stop::JournalFull | Stop::Memory => Ok(false),
+    }
+}
+
+// How full the buffers got, a line for each that held something.
+fn fills_text(alloc: Global, network: &Network, steps: &[Step]) -> Result<String, AllocError>
+    ensures { IfOk result (λ s. AreFillsTold network.now (map machine_step steps.now) (string_bytes s)) }
+{
+    match greatest_fills(alloc, network, steps)? {
+        Some(fills) => fill_lines(alloc, network, &fills),
+        None => Ok(String::new(alloc)),
+    }
+}
+
+// The summary of the outcome.
+fn summary<T: Threads + Sync>(
+    rt: &T,
+    alloc: Global,
+    network: &Network,
+    load: &Load,
+    outcome: &Outcome<'_>,
+) -> Result<String, AllocError>
+    requires { length outcome.now.came_out.items ≡ length network.now.nodes }
+    ensures { IfOk result (λ s. IsSummary network.now load.now outcome.now (string_bytes s)) }
+{
+    // Names the network, which is valid by its type.
+    let _topology = network.topology();
+    let shows_nothing = shows_nothing(rt, alloc, network, outcome.stop)?;
+    let steps = outcome.history.steps(alloc)?;
+    let came_out = outcome.came_out.as_slice();
+    let text = summary_of(alloc, network, load, &steps, came_out, shows_nothing)?;
+    let fills = fills_text(alloc, network, &steps)?;
+    format!(in alloc; "{text}{fills}")
+}
+
+/// The summary of the outcome, if it is wanted.
+///
+/// # Errors
+///
+/// There is no memory for it.
+pub(crate) fn wanted_summary<T: Threads + Sync>(
+    rt: &T,
+    alloc: Global,
+    network: &Network,
+    load: &Load,
+    outcome: &Outcome<'_>,
+    is_wanted: bool,
+) -> Result<Option<String>, AllocError>
+    requires { length outcome.now.came_out.items ≡ length network.now.nodes }
+    ensures { IfOk result (λ o. IsWantedSummary is_wanted network.now load.now outcome.now (option_map string_bytes o)) }
+{
+    if !is_wanted {
+        return Ok(None);
+    }
+    Ok(Some(summary(rt, alloc, network, load, outcome)?))
+}
