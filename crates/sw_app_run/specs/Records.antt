@@ -76,14 +76,17 @@ IsScheduleTold old new kept written schedule answer e =
     (Appends kept written schedule × IsTold old new (string_bytes answer.text) answer.status e)
     ⊎ (IsCutOff kept written schedule × Keeps old new × (e ≡ ended.WriteFailed))
 
+-- the schedule, if there is one, and the answer
+abbrev pub IsRunTold : Option (List ℕ) → Option (List ℕ) → Option (List ℕ) → Option (List ℕ) → Option (List ℕ) → Answer → Ended → Type 0
+IsRunTold old new kept written None answer e = IsTold old new (string_bytes answer.text) answer.status e × Keeps kept written
+IsRunTold old new kept written (Some schedule) answer e = IsScheduleTold old new kept written schedule answer e
+
 -- What two writers got, that of the answer and that of the schedule, and the summary that is handed on. Of a run: the schedule, if there is one,
 -- and the answer; where the schedule is too long, nothing at all.
 abbrev pub IsRecordTold : Option (List ℕ) → Option (List ℕ) → Option (List ℕ) → Option (List ℕ) → Recorded → RecordEnd → Type 0
 IsRecordTold old new kept written (Fault answer) (end.Told e told) = IsTold old new (string_bytes answer.text) answer.status e × Keeps kept written × (told ≡ None)
-IsRecordTold old new kept written (Run answer None summary) (end.Told e told) =
-    IsTold old new (string_bytes answer.text) answer.status e × Keeps kept written × (told ≡ summary)
-IsRecordTold old new kept written (Run answer (Some schedule) summary) (end.Told e told) =
-    IsScheduleTold old new kept written (string_bytes schedule) answer e × (told ≡ summary)
+IsRecordTold old new kept written (Run answer schedule summary) (end.Told e told) =
+    IsRunTold old new kept written (option_map string_bytes schedule) answer e × (told ≡ summary)
 IsRecordTold old new kept written TooLong end.TooLong = Keeps old new × Keeps kept written
 IsRecordTold old new kept written recorded e = ⊥
 

@@ -5,6 +5,7 @@ use Rattle.sw_config.specs.Entries.{Declaration}
 use Rattle.sw_fill.specs.Fills.{AreFillsOrNone}
 use Rattle.sw_fill.specs.Lines.{fill_lines}
 use Rattle.sw_load.specs.Load.{LoadEntry}
+use Rattle.sw_machine.specs.Packets.{Packet}
 use Rattle.sw_machine.specs.Steps.{Step}
 use Rattle.sw_model.specs.Model.{network_of}
 use Rattle.sw_run.specs.Outcomes.{came_out_of, steps_of}
@@ -23,11 +24,14 @@ abbrev pub AreFillsTold : Declaration → List Step → List ℕ → Type 0
 AreFillsTold d steps text =
     (fills : Option (List ℕ)) × AreFillsOrNone (network_of d) steps fills × (text ≡ option_map_or (fill_lines d) fills [])
 
--- the summary of an outcome, with a word of warning exactly where it shows nothing
+-- the summary of these steps and of what came out, with a word of warning or without
+abbrev pub IsSummaryOf : Declaration → List LoadEntry → List Step → List (List Packet) → Bool → List ℕ → Type 0
+IsSummaryOf d load steps out warned text =
+    (filled : List ℕ) × AreFillsTold d steps filled × (text ≡ summary_text d load steps out warned ++ filled)
+
+-- the summary of an outcome, with the warning exactly where it shows nothing
 abbrev pub IsSummary : Declaration → List LoadEntry → Outcome → List ℕ → Type 0
-IsSummary d load o text =
-    (warned : Bool) × (filled : List ℕ) × (IsTrue warned ↔ ShowsNothing d o.stop) × AreFillsTold d (steps_of o) filled
-    × (text ≡ summary_text d load (steps_of o) (came_out_of o) warned ++ filled)
+IsSummary d load o text = (warned : Bool) × (IsTrue warned ↔ ShowsNothing d o.stop) × IsSummaryOf d load (steps_of o) (came_out_of o) warned text
 
 -- if it is wanted
 abbrev pub IsWantedSummary : Bool → Declaration → List LoadEntry → Outcome → Option (List ℕ) → Type 0

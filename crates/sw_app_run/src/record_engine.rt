@@ -1,7 +1,7 @@
 //! The engine that writes a run's steps too, and tells a summary.
-ghost use Rattle.std.specs.Prelude.{◌<◌, string_bytes};
+ghost use Rattle.std.specs.Prelude.{◌<◌, option_map, string_bytes};
 ghost use Rattle.sw_command.specs.Ends.{AreReadInOrder, IsTold};
-ghost use Rattle.sw_app_run.specs.Records.{EndsRecorded, IsRecordTold, IsScheduleTold};
+ghost use Rattle.sw_app_run.specs.Records.{EndsRecorded, IsRecordTold, IsRunTold, IsScheduleTold};
 
 use crate::record_answer::{Recorded, Wants, record_answer};
 use crate::run_answer::Options;
@@ -47,6 +47,21 @@ fn tell_both<W: Write, S: Write>(
     }
 }
 
+// Writes the schedule, if there is one, and the answer.
+fn tell_run<W: Write, S: Write>(
+    writer: &mut W,
+    schedule: &mut S,
+    text: &Option<String>,
+    answer: &Answer,
+) -> Ended
+    ensures { IsRunTold (W.contents writer.old) (W.contents writer.new) (S.contents schedule.old) (S.contents schedule.new) (option_map string_bytes text.now) answer.now result }
+{
+    match text {
+        None => tell_answer(writer, answer),
+        Some(text) => tell_both(writer, schedule, text.as_str(), answer),
+    }
+}
+
 // Writes what is to be told, and hands the summary on.
 fn tell_recorded<W: Write, S: Write>(
     writer: &mut W,
@@ -62,18 +77,10 @@ fn tell_recorded<W: Write, S: Write>(
         },
         Recorded::Run {
             answer,
-            schedule: None,
+            schedule: text,
             summary,
         } => RecordEnd::Told {
-            ended: tell_answer(writer, &answer),
-            summary,
-        },
-        Recorded::Run {
-            answer,
-            schedule: Some(text),
-            summary,
-        } => RecordEnd::Told {
-            ended: tell_both(writer, schedule, text.as_str(), &answer),
+            ended: tell_run(writer, schedule, &text, &answer),
             summary,
         },
         Recorded::TooLong => RecordEnd::TooLong,

@@ -1,11 +1,12 @@
 //! The summary of a run.
-ghost use Rattle.std.specs.Prelude.{◌≡◌, ◌↔◌, IfOk, IsTrue, length, map, option_map, string_bytes};
+ghost use Rattle.std.specs.Prelude.{◌≡◌, ◌↔◌, ◌≤◌, ◌++◌, IfOk, IsTrue, length, map, option_map, string_bytes};
 ghost use Rattle.sw_model.specs.Steps.{machine_step};
 ghost use Rattle.sw_search.specs.Laws.{RoutedAndFree};
-ghost use Rattle.sw_app_run.specs.Summaries.{AreFillsTold, IsSummary, IsWantedSummary, ShowsNothing};
+ghost use Rattle.sw_app_run.specs.Summaries.{AreFillsTold, IsSummary, IsSummaryOf, IsWantedSummary, ShowsNothing};
 
 use std::alloc::{AllocError, Global};
 use std::thread::Threads;
+use sw_char::Packet;
 use sw_config::Network;
 use sw_fill::{fill_lines, greatest_fills};
 use sw_load::Load;
@@ -39,6 +40,30 @@ fn fills_text(alloc: Global, network: &Network, steps: &[Step]) -> Result<String
     }
 }
 
+// Both texts.
+fn joined(alloc: Global, text: &str, more: &str) -> Result<String, AllocError>
+    ensures { IfOk result (λ s. string_bytes s ≡ text.now ++ more.now) }
+{
+    format!(in alloc; "{text}{more}")
+}
+
+// The summary of these steps and of what came out.
+fn summary_text(
+    alloc: Global,
+    network: &Network,
+    load: &Load,
+    steps: &[Step],
+    out: &[Vec<Packet>],
+    warned: bool,
+) -> Result<String, AllocError>
+    requires { length out.now ≤ 1024 }
+    ensures { IfOk result (λ s. IsSummaryOf network.now load.now (map machine_step steps.now) (map (λ packets. packets.items) out.now) warned (string_bytes s)) }
+{
+    let summed = summary_of(alloc, network, load, steps, out, warned)?;
+    let filled = fills_text(alloc, network, steps)?;
+    joined(alloc, summed.as_str(), filled.as_str())
+}
+
 // The summary of the outcome.
 fn summary<T: Threads + Sync>(
     rt: &T,
@@ -52,12 +77,16 @@ fn summary<T: Threads + Sync>(
 {
     // Names the network, which is valid by its type.
     let _topology = network.topology();
-    let shows_nothing = shows_nothing(rt, alloc, network, outcome.stop)?;
+    let warned = shows_nothing(rt, alloc, network, outcome.stop)?;
     let steps = outcome.history.steps(alloc)?;
-    let came_out = outcome.came_out.as_slice();
-    let text = summary_of(alloc, network, load, &steps, came_out, shows_nothing)?;
-    let fills = fills_text(alloc, network, &steps)?;
-    format!(in alloc; "{text}{fills}")
+    summary_text(
+        alloc,
+        network,
+        load,
+        &steps,
+        outcome.came_out.as_slice(),
+        warned,
+    )
 }
 
 /// The summary of the outcome, if it is wanted.
