@@ -46,7 +46,7 @@ impl<'a, W: Write> Noted<'a, W> {
 
     /// Notes what could not be written elsewhere.
     pub(crate) fn note(&mut self, unwritten: Option<Unwritten<'a>>)
-        ensures { self.new ≡ record self.old { unwritten = unwritten } }
+        ensures { self.new ≡ record self.old { unwritten = unwritten.entry } }
     {
         self.unwritten = unwritten;
     }
