@@ -20,6 +20,10 @@ pub(crate) fn counted(alloc: Global, count: usize, noun: &str) -> Result<String,
 }
 
 /// The number of a line that comes behind so many others.
+///
+/// # Errors
+///
+/// There is no memory for the text.
 pub fn numbered(alloc: Global, before: usize) -> Result<String, AllocError>
     requires { before + 1 < 2 ^ 64 }
     ensures { IfOk result (λ s. string_bytes s ≡ numbered before) }
