@@ -4,3 +4,5 @@ pub mod Making
 pub mod NetSteps
 pub mod NetReports
 pub mod Outputs
+pub mod PartLists
+pub mod LockedAt

@@ -1,3 +1,4 @@
 pub mod Reports
 pub mod Replays
 pub mod Nets
+pub mod Locked

@@ -26,7 +26,7 @@ fn outputs<R: Routing, A: Arbiter>(
 }
 
 /// Whether the network is locked up, where so many characters are undelivered.
-fn is_locked_up<R: Routing, A: Arbiter>(net: &Net<'_, R, A>, remaining: u64) -> bool
+pub(crate) fn is_locked_up<R: Routing, A: Arbiter>(net: &Net<'_, R, A>, remaining: u64) -> bool
     requires { IsUndelivered net.now remaining }
     ensures { TellsLockedUp net.now result }
 {
