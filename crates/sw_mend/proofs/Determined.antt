@@ -1,9 +1,8 @@
 -- The changes and the pairs that are told are exactly those that free the network, and determined.
-use Rattle.std.proofs.Common.{◌≡◌, ◌⊎◌, ◌↔◌, ℕ, suc, zero, List, [], ◌∷◌, ◌++◌, Some, ap, arith, inl, inr, map, refl, subst, sym, ◌∙◌}
+use Rattle.std.proofs.Common.{◌≡◌, ◌⊎◌, ◌↔◌, ℕ, suc, zero, List, [], ◌∷◌, Some, ap, arith, inl, inr, map, refl, subst, sym, ◌∙◌}
 use Rattle.std.specs.Prelude.{Contains, slice_get}
 use Rattle.std.proofs.lemmas.List.Elements.{Contains-append_cases, Contains-append_left, Contains-append_right}
 use Rattle.std.proofs.lemmas.Option.{same_Some}
-use Rattle.sw_config.specs.Entries.{Declaration}
 use Rattle.sw_mend.specs.Changes.{pairs_of, single_changes}
 use Rattle.sw_mend.specs.Laws.{MendsAreDetermined, MendsAreThoseThatFree, PairsAreDetermined, PairsAreThoseThatFree, StandsBefore}
 use Rattle.sw_mend.specs.Mends.{AreThose, Frees, FreesBoth}

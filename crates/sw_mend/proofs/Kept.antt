@@ -8,7 +8,7 @@ use Rattle.sw_route.specs.Looks.{IsRoute, IsTable, overlaps}
 use Rattle.sw_topo.specs.Checked.{IsSound}
 use Rattle.sw_config.specs.Entries.{NodeEntry, ReplyEntry, FlowEntry, Declaration, flow_names, link_ends, part_names, wiring_of}
 use Rattle.sw_config.specs.Valid.{IsFlow, IsReply, IsSwitch, IsValid}
-use Rattle.sw_mend.specs.Changes.{by_number, changed, changed_by_all, flow_after_all, route_after_all, switch_after_all}
+use Rattle.sw_mend.specs.Changes.{by_number, changed_by_all, flow_after_all, route_after_all, switch_after_all}
 use Rattle.sw_mend.specs.Laws.{AllKeepValid, ChangesKeepValid}
 use Rattle.sw_mend.specs.declared.change.Change.{Change}
 use Rattle.sw_mend.proofs.AfterAll.{entry_lost, flow_left, flow_lost, flow_stays, one_alone, reply_lost, route_left, route_stays}

@@ -1,5 +1,5 @@
 -- Those pairs of changes that free the network, with one more second change, and with one more first.
-use Rattle.std.proofs.Common.{◌≡◌, ◌∙◌, ◌↔◌, ◌+◌, ◌<◌, ℕ, suc, Bool, IsTrue, List, [], ◌∷◌, ◌++◌, append-nil, append_assoc, drop, get_or, length, map, refl, subst, sym, take, ap}
+use Rattle.std.proofs.Common.{◌≡◌, ◌∙◌, ◌↔◌, ◌+◌, ◌<◌, ℕ, Bool, IsTrue, List, [], ◌∷◌, ◌++◌, append-nil, append_assoc, drop, get_or, length, map, refl, subst, sym, take, ap}
 use Rattle.std.specs.Prelude.{if◌then◌else◌}
 use Rattle.std.proofs.lemmas.List.{drop_more, take_more, map-append}
 use Rattle.sw_config.specs.Entries.{Declaration}
