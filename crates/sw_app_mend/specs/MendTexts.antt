@@ -5,6 +5,7 @@ use Rattle.std.specs.Fmt.{decimal}
 use Rattle.sw_config.specs.Entries.{Declaration, routes_of}
 use Rattle.sw_mend.specs.declared.change.Change.{Change}
 use Rattle.sw_mend.specs.declared.change.Change.TheVariants.{WithoutReply, WithoutFlow, WithoutAnswers, WithoutPort, WithoutEntry, WithoutFlowsOf}
+use Rattle.sw_mend.specs.declared.change.Pair.{Pair}
 use Rattle.sw_output.specs.ChannelTexts.{node_name, switch_name}
 use Rattle.sw_output.specs.FlowTexts.{flow_name}
 use Rattle.sw_output.specs.Lines.{line, spaced}
@@ -19,30 +20,47 @@ addresses_words first last =
 abbrev pub entry_words : Declaration → ℕ → ℕ → List ℕ
 entry_words d switch entry = option_map_or (λ r. addresses_words r.first r.last) (slice_get (routes_of d.switches switch) entry) []
 
+-- what is taken away
+abbrev pub change_words : Declaration → Change → List ℕ
+change_words d (WithoutReply flow) = spaced (codes "without the reply of" ∷ flow_name d flow ∷ [])
+change_words d (WithoutFlow flow) = spaced (codes "without the flow" ∷ flow_name d flow ∷ [])
+change_words d (WithoutAnswers node) = spaced (codes "without any reply of" ∷ node_name d node ∷ [])
+change_words d (WithoutPort switch entry port) =
+    spaced (codes "without port" ∷ decimal port ∷ codes "for" ∷ entry_words d switch entry ∷ codes "at" ∷ switch_name d switch ∷ [])
+change_words d (WithoutEntry switch entry) =
+    spaced (codes "without the entry for" ∷ entry_words d switch entry ∷ codes "at" ∷ switch_name d switch ∷ [])
+change_words d (WithoutFlowsOf node) = spaced (codes "without the flows from and to" ∷ node_name d node ∷ [])
+
 -- that a network is free without this
 abbrev pub mend_line : Declaration → Change → List ℕ
-mend_line d (WithoutReply flow) = line (codes "free without the reply of" ∷ flow_name d flow ∷ [])
-mend_line d (WithoutFlow flow) = line (codes "free without the flow" ∷ flow_name d flow ∷ [])
-mend_line d (WithoutAnswers node) = line (codes "free without any reply of" ∷ node_name d node ∷ [])
-mend_line d (WithoutPort switch entry port) =
-    line (codes "free without port" ∷ decimal port ∷ codes "for" ∷ entry_words d switch entry ∷ codes "at" ∷ switch_name d switch ∷ [])
-mend_line d (WithoutEntry switch entry) =
-    line (codes "free without the entry for" ∷ entry_words d switch entry ∷ codes "at" ∷ switch_name d switch ∷ [])
-mend_line d (WithoutFlowsOf node) = line (codes "free without the flows from and to" ∷ node_name d node ∷ [])
+mend_line d change = line (codes "free" ∷ change_words d change ∷ [])
+
+-- that it is free without both
+abbrev pub pair_line : Declaration → Pair → List ℕ
+pair_line d pair = line (codes "free" ∷ change_words d pair.first ∷ codes "and" ∷ change_words d pair.second ∷ [])
 
 -- that no change does
 abbrev pub none_line : List ℕ
 none_line = line (codes "no single change frees it" ∷ [])
+
+-- that no two changes do
+abbrev pub no_pair_line : List ℕ
+no_pair_line = line (codes "no pair of changes frees it" ∷ [])
 
 -- a line for each change that frees the network, or that there is none
 abbrev pub mends_text : Declaration → List Change → List ℕ
 mends_text d [] = none_line
 mends_text d (change ∷ changes) = flat_map (mend_line d) (change ∷ changes)
 
--- 0 where some change frees the network
-abbrev pub mends_status : List Change → ℕ
+-- 0 where some change, or some pair, frees the network
+abbrev pub mends_status : {A : Type 0} → List A → ℕ
 mends_status [] = 1
-mends_status (change ∷ changes) = 0
+mends_status (x ∷ xs) = 0
+
+-- a line for each pair of changes that frees the network, or that there is none
+abbrev pub pairs_text : Declaration → List Pair → List ℕ
+pairs_text d [] = no_pair_line
+pairs_text d (pair ∷ pairs) = flat_map (pair_line d) (pair ∷ pairs)
 
 -- that there is nothing to mend
 abbrev pub free_line : List ℕ

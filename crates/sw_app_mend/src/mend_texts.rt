@@ -1,12 +1,12 @@
 //! The lines of `mend`.
 ghost use Rattle.std.specs.Prelude.{◌≡◌, IfOk, flat_map, string_bytes};
 ghost use Rattle.sw_output.specs.ChannelTexts.{switch_name};
-ghost use Rattle.sw_app_mend.specs.MendTexts.{addresses_words, entry_words, free_line, mend_line, mends_status, mends_text, none_line};
+ghost use Rattle.sw_app_mend.specs.MendTexts.{addresses_words, change_words, entry_words, free_line, mend_line, mends_status, mends_text, no_pair_line, none_line, pair_line, pairs_text};
 
 use std::alloc::{AllocError, Global};
 use sw_command::statuses::{BAD, GOOD};
 use sw_config::Network;
-use sw_mend::Change;
+use sw_mend::{Change, Pair};
 use sw_output::{flow_name, node_name};
 use sw_topo::Port;
 
@@ -51,24 +51,24 @@ fn entry_words(
 }
 
 fn without_reply(alloc: Global, network: &Network, flow: u16) -> Result<String, AllocError>
-    ensures { IfOk result (λ s. string_bytes s ≡ mend_line network.now (Change.WithoutReply flow)) }
+    ensures { IfOk result (λ s. string_bytes s ≡ change_words network.now (Change.WithoutReply flow)) }
 {
     let name = flow_name(network, flow);
-    format!(in alloc; "free without the reply of {name}\n")
+    format!(in alloc; "without the reply of {name}")
 }
 
 fn without_flow(alloc: Global, network: &Network, flow: u16) -> Result<String, AllocError>
-    ensures { IfOk result (λ s. string_bytes s ≡ mend_line network.now (Change.WithoutFlow flow)) }
+    ensures { IfOk result (λ s. string_bytes s ≡ change_words network.now (Change.WithoutFlow flow)) }
 {
     let name = flow_name(network, flow);
-    format!(in alloc; "free without the flow {name}\n")
+    format!(in alloc; "without the flow {name}")
 }
 
 fn without_answers(alloc: Global, network: &Network, node: u16) -> Result<String, AllocError>
-    ensures { IfOk result (λ s. string_bytes s ≡ mend_line network.now (Change.WithoutAnswers node)) }
+    ensures { IfOk result (λ s. string_bytes s ≡ change_words network.now (Change.WithoutAnswers node)) }
 {
     let name = node_name(network, node);
-    format!(in alloc; "free without any reply of {name}\n")
+    format!(in alloc; "without any reply of {name}")
 }
 
 fn without_port(
@@ -78,12 +78,12 @@ fn without_port(
     entry: usize,
     port: Port,
 ) -> Result<String, AllocError>
-    ensures { IfOk result (λ s. string_bytes s ≡ mend_line network.now (Change.WithoutPort switch entry port)) }
+    ensures { IfOk result (λ s. string_bytes s ≡ change_words network.now (Change.WithoutPort switch entry port)) }
 {
     let port = port.number();
     let words = entry_words(alloc, network, switch, entry)?;
     let name = switch_name(network, switch);
-    format!(in alloc; "free without port {port} for {words} at {name}\n")
+    format!(in alloc; "without port {port} for {words} at {name}")
 }
 
 fn without_entry(
@@ -92,23 +92,23 @@ fn without_entry(
     switch: u16,
     entry: usize,
 ) -> Result<String, AllocError>
-    ensures { IfOk result (λ s. string_bytes s ≡ mend_line network.now (Change.WithoutEntry switch entry)) }
+    ensures { IfOk result (λ s. string_bytes s ≡ change_words network.now (Change.WithoutEntry switch entry)) }
 {
     let words = entry_words(alloc, network, switch, entry)?;
     let name = switch_name(network, switch);
-    format!(in alloc; "free without the entry for {words} at {name}\n")
+    format!(in alloc; "without the entry for {words} at {name}")
 }
 
 fn without_flows_of(alloc: Global, network: &Network, node: u16) -> Result<String, AllocError>
-    ensures { IfOk result (λ s. string_bytes s ≡ mend_line network.now (Change.WithoutFlowsOf node)) }
+    ensures { IfOk result (λ s. string_bytes s ≡ change_words network.now (Change.WithoutFlowsOf node)) }
 {
     let name = node_name(network, node);
-    format!(in alloc; "free without the flows from and to {name}\n")
+    format!(in alloc; "without the flows from and to {name}")
 }
 
-// The line of a change that frees the network.
-fn mend_line(alloc: Global, network: &Network, change: &Change) -> Result<String, AllocError>
-    ensures { IfOk result (λ s. string_bytes s ≡ mend_line network.now change.now) }
+// What is taken away.
+fn change_words(alloc: Global, network: &Network, change: &Change) -> Result<String, AllocError>
+    ensures { IfOk result (λ s. string_bytes s ≡ change_words network.now change.now) }
 {
     match change {
         Change::WithoutReply(flow) => without_reply(alloc, network, *flow),
@@ -124,6 +124,23 @@ fn mend_line(alloc: Global, network: &Network, change: &Change) -> Result<String
     }
 }
 
+// The line of a change that frees the network.
+fn mend_line(alloc: Global, network: &Network, change: &Change) -> Result<String, AllocError>
+    ensures { IfOk result (λ s. string_bytes s ≡ mend_line network.now change.now) }
+{
+    let words = change_words(alloc, network, change)?;
+    format!(in alloc; "free {words}\n")
+}
+
+// The line of a pair of changes that free it.
+fn pair_line(alloc: Global, network: &Network, pair: &Pair) -> Result<String, AllocError>
+    ensures { IfOk result (λ s. string_bytes s ≡ pair_line network.now pair.now) }
+{
+    let first = change_words(alloc, network, &pair.first)?;
+    let second = change_words(alloc, network, &pair.second)?;
+    format!(in alloc; "free {first} and {second}\n")
+}
+
 // The lines of the changes that free the network.
 fn mend_lines(alloc: Global, network: &Network, changes: &[Change]) -> Result<String, AllocError>
     ensures { IfOk result (λ s. string_bytes s ≡ flat_map (mend_line network.now) changes.now) }
@@ -131,6 +148,17 @@ fn mend_lines(alloc: Global, network: &Network, changes: &[Change]) -> Result<St
     let mut text = String::new(alloc);
     for change in changes {
         text.push_str(mend_line(alloc, network, change)?.as_str())?;
+    }
+    Ok(text)
+}
+
+// The lines of the pairs of changes that free it.
+fn pair_lines(alloc: Global, network: &Network, pairs: &[Pair]) -> Result<String, AllocError>
+    ensures { IfOk result (λ s. string_bytes s ≡ flat_map (pair_line network.now) pairs.now) }
+{
+    let mut text = String::new(alloc);
+    for pair in pairs {
+        text.push_str(pair_line(alloc, network, pair)?.as_str())?;
     }
     Ok(text)
 }
@@ -156,13 +184,34 @@ pub(crate) fn mends_text(
     }
 }
 
-/// 0 where some change frees the network.
-pub(crate) fn mends_status(changes: &[Change]) -> u8
-    ensures { result ≡ mends_status changes.now }
+/// 0 where some change, or some pair of them, frees the network.
+pub(crate) fn mends_status<T>(found: &[T]) -> u8
+    ensures { result ≡ mends_status found.now }
 {
-    match changes {
+    match found {
         [] => BAD,
         _ => GOOD,
+    }
+}
+
+// That no pair of changes frees the network.
+fn no_pair_text(alloc: Global) -> Result<String, AllocError>
+    ensures { IfOk result (λ s. string_bytes s ≡ no_pair_line) }
+{
+    String::from_str(alloc, "no pair of changes frees it\n")
+}
+
+/// The lines of the pairs of changes that free the network, or that there is none.
+pub(crate) fn pairs_text(
+    alloc: Global,
+    network: &Network,
+    pairs: &[Pair],
+) -> Result<String, AllocError>
+    ensures { IfOk result (λ s. string_bytes s ≡ pairs_text network.now pairs.now) }
+{
+    match pairs {
+        [] => no_pair_text(alloc),
+        _ => pair_lines(alloc, network, pairs),
     }
 }
 

@@ -126,10 +126,11 @@ rmap_call name is other words e =
       (refl, given.0.1, given.1.1, given.2.1, given.3.1, given.4.1, unacknowledged.1, transaction.1),
     )
 
-mend_call : GivesCall (leaf (codes "mend") file_rules)
+mend_call : GivesCall (leaf (codes "mend") (flag_rules (codes "pairs")))
 mend_call name is other words e =
-    let given = file_given (codes "mend") words e in
-    (Mend (lent given.0), (refl, given.1))
+    let given = flag_given (codes "mend") (codes "pairs") words (refl, refl, refl, refl) e in
+    let pairs = some_flag (codes "pairs") (rows_after (flag_rules (codes "pairs")) [] words) in
+    (Mend (lent given.0) pairs.0, (refl, given.1, pairs.1))
 
 margin_call : GivesCall (leaf (codes "margin") file_rules)
 margin_call name is other words e =

@@ -24,7 +24,7 @@ runs_only name values run none (Migrate file) is = other _ name refl run is.0
 runs_only name values run none (Explain file all) is = other _ name refl run is.0
 runs_only name values run none (Draw file flow cycle numbers) is = other _ name refl run is.0
 runs_only name values run none (Rmap file flow action address value unacknowledged transaction) is = other _ name refl run is.0
-runs_only name values run none (Mend file) is = other _ name refl run is.0
+runs_only name values run none (Mend file pairs) is = other _ name refl run is.0
 runs_only name values run none (Margin file) is = other _ name refl run is.0
 runs_only name values run none (Witness file tries seed) is = other _ name refl run is.0
 runs_only name values run none (Run file load workers limit schedule summary) is = none file load workers limit schedule summary is
@@ -61,7 +61,7 @@ searches_only name values witness none (Migrate file) is = unlike _ name refl wi
 searches_only name values witness none (Explain file all) is = unlike _ name refl witness is.0
 searches_only name values witness none (Draw file flow cycle numbers) is = unlike _ name refl witness is.0
 searches_only name values witness none (Rmap file flow action address value unacknowledged transaction) is = unlike _ name refl witness is.0
-searches_only name values witness none (Mend file) is = unlike _ name refl witness is.0
+searches_only name values witness none (Mend file pairs) is = unlike _ name refl witness is.0
 searches_only name values witness none (Margin file) is = unlike _ name refl witness is.0
 searches_only name values witness none (Witness file tries seed) is = none file tries seed is
 

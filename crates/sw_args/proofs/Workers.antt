@@ -19,7 +19,7 @@ call_workers name values (Migrate file) is = tt
 call_workers name values (Explain file all) is = tt
 call_workers name values (Draw file flow cycle numbers) is = tt
 call_workers name values (Rmap file flow action address value unacknowledged transaction) is = tt
-call_workers name values (Mend file) is = tt
+call_workers name values (Mend file pairs) is = tt
 call_workers name values (Margin file) is = tt
 call_workers name values (Witness file tries seed) is = tt
 

@@ -97,9 +97,9 @@ rmap_app = with_rule (with_rule (with_rule (with_rule (with_rule (with_rule (wit
     (flag_rule (codes "no-ack")))
     (option_rule (codes "transaction"))
 
--- `mend FILE`
+-- `mend FILE [--pairs]`
 abbrev pub mend_app : App
-mend_app = with_rule (new_app (codes "mend")) (required_value (codes "FILE"))
+mend_app = with_rule (with_rule (new_app (codes "mend")) (required_value (codes "FILE"))) (flag_rule (codes "pairs"))
 
 -- `margin FILE`
 abbrev pub margin_app : App
@@ -221,7 +221,9 @@ IsCallOf name values (Rmap file flow action address value unacknowledged transac
     × (first_of (codes "VALUE") values ≡ Some value.now)
     × IsSet (codes "no-ack") values unacknowledged
     × IsOption (codes "transaction") values transaction
-IsCallOf name values (Mend file) = (name ≡ codes "mend") × (first_of (codes "FILE") values ≡ Some file.now)
+IsCallOf name values (Mend file pairs) = (name ≡ codes "mend")
+    × (first_of (codes "FILE") values ≡ Some file.now)
+    × IsSet (codes "pairs") values pairs
 IsCallOf name values (Margin file) = (name ≡ codes "margin") × (first_of (codes "FILE") values ≡ Some file.now)
 IsCallOf name values (Witness file tries seed) = (name ≡ codes "witness")
     × (first_of (codes "FILE") values ≡ Some file.now)
@@ -240,7 +242,7 @@ HasWorkers (Migrate file) = Unit {0}
 HasWorkers (Explain file all) = Unit {0}
 HasWorkers (Draw file flow cycle numbers) = Unit {0}
 HasWorkers (Rmap file flow action address value unacknowledged transaction) = Unit {0}
-HasWorkers (Mend file) = Unit {0}
+HasWorkers (Mend file pairs) = Unit {0}
 HasWorkers (Margin file) = Unit {0}
 HasWorkers (Witness file tries seed) = Unit {0}
 

@@ -68,9 +68,10 @@ pub enum Call<'a> {
         unacknowledged: bool,
         transaction: Option<&'a str>,
     },
-    /// Which single change makes a network free.
+    /// Which single change makes a network free; where none does, if asked for, which pair of them.
     Mend {
         file: &'a str,
+        pairs: bool,
     },
     /// How far the premises of a free network bend.
     Margin {

@@ -268,7 +268,9 @@ fn mend_command<'a>(alloc: Global) -> Result<Command<'a>, AllocError>
     let about = "Print each single change that makes a network free, or that there is none";
     let mend = subcommand(alloc, "mend", about);
     let mend = with_example(mend, "Example: swcheck mend examples/ring.toml");
-    with_value(alloc, mend, "FILE", "A network file")
+    let mend = with_value(alloc, mend, "FILE", "A network file");
+    let help = "Where no single change makes it free, print each pair of them that does";
+    with_flag(alloc, mend, "pairs", help)
 }
 
 fn margin_command<'a>(alloc: Global) -> Result<Command<'a>, AllocError>

@@ -65,7 +65,10 @@ fn call_of<'a>(name: &str, values: &ArgMatches<'a>) -> Option<Call<'a>>
                 transaction: option_of(values, "transaction"),
             })
         }
-        "mend" => Some(Call::Mend { file }),
+        "mend" => Some(Call::Mend {
+            file,
+            pairs: is_set(values, "pairs"),
+        }),
         "margin" => Some(Call::Margin { file }),
         "witness" => Some(Call::Witness {
             file,

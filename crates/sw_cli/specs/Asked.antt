@@ -27,7 +27,7 @@ file_of (Migrate file) = file.now
 file_of (Explain file all) = file.now
 file_of (Draw file flow cycle numbers) = file.now
 file_of (Rmap file flow action address value unacknowledged transaction) = file.now
-file_of (Mend file) = file.now
+file_of (Mend file pairs) = file.now
 file_of (Margin file) = file.now
 file_of (Witness file tries seed) = file.now
 
@@ -43,7 +43,7 @@ second_of (Migrate file) = None
 second_of (Explain file all) = None
 second_of (Draw file flow cycle numbers) = None
 second_of (Rmap file flow action address value unacknowledged transaction) = None
-second_of (Mend file) = None
+second_of (Mend file pairs) = None
 second_of (Margin file) = None
 second_of (Witness file tries seed) = None
 
@@ -59,7 +59,7 @@ flow_of (Replay file schedule) = None
 flow_of (Run file load workers limit schedule summary) = None
 flow_of (Migrate file) = None
 flow_of (Explain file all) = None
-flow_of (Mend file) = None
+flow_of (Mend file pairs) = None
 flow_of (Margin file) = None
 flow_of (Witness file tries seed) = None
 

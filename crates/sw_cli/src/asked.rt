@@ -66,7 +66,7 @@ pub(crate) fn file_of<'a>(call: &Call<'a>) -> &'a str
             unacknowledged: _,
             transaction: _,
         } => file,
-        Call::Mend { file } => file,
+        Call::Mend { file, pairs: _ } => file,
         Call::Margin { file } => file,
         Call::Witness {
             file,

@@ -173,7 +173,7 @@ fn run_into<'a, R: Files + Eprint + AllocGlobal + Threads + Wait + Sync, W: Writ
             ),
             None => no_access(rt),
         },
-        Call::Mend { file } => run_mend(rt, file, writer),
+        Call::Mend { file, pairs } => run_mend(rt, file, pairs, writer),
         Call::Margin { file } => run_margin(rt, file, writer),
         Call::Witness { file, tries, seed } => run_witness(rt, file, tries, seed, writer),
     }
@@ -309,12 +309,13 @@ fn run_rmap<R: Files + AllocGlobal, W: Write>(
 fn run_mend<R: Files + AllocGlobal + Threads + Sync, W: Write>(
     rt: &R,
     file: &str,
+    pairs: bool,
     writer: &mut W,
 ) -> Ended {
     let Ok(mut reader) = fs::open(rt, file) else {
         return Ended::ReadFailed;
     };
-    mend(rt, rt.alloc(), &mut reader, writer)
+    mend(rt, rt.alloc(), pairs, &mut reader, writer)
 }
 
 fn run_margin<R: Files + AllocGlobal + Threads + Sync, W: Write>(

@@ -6,9 +6,9 @@ use Rattle.std.proofs.lemmas.List.Folds.{list_any_none}
 use Rattle.std.specs.Prelude.{nat_le}
 use Rattle.sw_route.specs.declared.look.Route.{Route}
 use Rattle.sw_route.specs.Looks.{IsTable, overlaps}
-use Rattle.sw_mend.specs.Changes.{by_number, loses_entry, ports_after, route_after}
+use Rattle.sw_mend.specs.Changes.{by_number, route_after_all}
 use Rattle.sw_mend.specs.declared.change.Change.{Change}
-use Rattle.sw_mend.proofs.Kept.{all_if, all_made}
+use Rattle.sw_mend.proofs.Kept.{all_made, all_route}
 
 turned : (a b : Bool) → (a && b) ≡ (b && a)
 turned true true = refl
@@ -26,11 +26,11 @@ before routes i r table lt at k d short =
     let here : r ≡ get_or routes i d = at ∙ get_or_default routes i r d lt in
     either_way r (get_or (take i routes) k d) ∙ ((λ t. overlaps (there t) (here t)) ∙ table.apart k i d low lt)
 
-pub none_shared : (change : Change) (switch : ℕ) (routes left : List Route) (i : ℕ) (r : Route) → IsTable routes → i < length routes → r ≡ get_or routes i r
-    → left ≡ by_number (route_after change switch) 0 (take i routes) → list_any (overlaps r) left ≡ false
-none_shared change switch routes left i r table lt at is =
-    let apart : All (λ q. overlaps r q ≡ false) (by_number (route_after change switch) 0 (take i routes)) =
-    all_made (route_after change switch) (λ q. overlaps r q ≡ false) (λ q. overlaps r q ≡ false)
-    (λ k q none. all_if (λ u. overlaps r u ≡ false) (loses_entry change switch k) (record q { ports = ports_after change switch k q.ports }) none)
+pub none_shared : (changes : List Change) (switch : ℕ) (routes left : List Route) (i : ℕ) (r : Route) → IsTable routes → i < length routes → r ≡ get_or routes i r
+    → left ≡ by_number (route_after_all changes switch) 0 (take i routes) → list_any (overlaps r) left ≡ false
+none_shared changes switch routes left i r table lt at is =
+    let apart : All (λ q. overlaps r q ≡ false) (by_number (route_after_all changes switch) 0 (take i routes)) =
+    all_made (route_after_all changes switch) (λ q. overlaps r q ≡ false) (λ q. overlaps r q ≡ false)
+    (λ k q none. all_route (λ u. overlaps r u ≡ false) changes switch k q none)
     0 (take i routes) (before routes i r table lt at) in
-    (λ t. list_any (overlaps r) (is t)) ∙ list_any_none (overlaps r) (by_number (route_after change switch) 0 (take i routes)) apart
+    (λ t. list_any (overlaps r) (is t)) ∙ list_any_none (overlaps r) (by_number (route_after_all changes switch) 0 (take i routes)) apart

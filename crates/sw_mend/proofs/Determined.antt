@@ -1,66 +1,120 @@
--- The changes that are told are exactly those that free the network, and determined.
-use Rattle.std.proofs.Common.{◌≡◌, ◌⊎◌, ◌↔◌, suc, zero, List, [], ◌∷◌, ap, arith, inl, inr, refl, subst, sym, ◌∙◌}
-use Rattle.std.specs.Prelude.{Contains}
-use Rattle.sw_config.specs.Entries.{Declaration}
-use Rattle.sw_mend.specs.Changes.{single_changes}
-use Rattle.sw_mend.specs.Laws.{MendsAreDetermined, MendsAreThoseThatFree}
-use Rattle.sw_mend.specs.Mends.{AreThoseThatFree, Frees}
+-- The changes and the pairs that are told are exactly those that free the network, and determined.
+use Rattle.std.proofs.Common.{◌≡◌, ◌⊎◌, ◌↔◌, ℕ, suc, zero, List, [], ◌∷◌, Some, ap, arith, inl, inr, map, refl, subst, sym, ◌∙◌}
+use Rattle.std.specs.Prelude.{Contains, slice_get}
+use Rattle.std.proofs.lemmas.List.Elements.{Contains-append_cases, Contains-append_left, Contains-append_right}
+use Rattle.std.proofs.lemmas.Option.{same_Some}
+use Rattle.sw_mend.specs.Changes.{pairs_of, single_changes}
+use Rattle.sw_mend.specs.Laws.{MendsAreDetermined, MendsAreThoseThatFree, PairsAreDetermined, PairsAreThoseThatFree, StandsBefore}
+use Rattle.sw_mend.specs.Mends.{AreThose, Frees, FreesBoth}
 use Rattle.sw_mend.specs.declared.change.Change.{Change}
+use Rattle.sw_mend.specs.declared.change.Pair.{Pair}
+use Rattle.sw_mend.proofs.Paired.{pair_with}
 
-first_in : (c : Change) (cs : List Change) → Contains (c ∷ cs) c
-first_in c cs = (0, omega arith, refl)
+module _ {A : Type 0} where
+  first_in : (c : A) (cs : List A) → Contains (c ∷ cs) c
+  first_in c cs = (0, omega arith, refl)
 
-later_in : (c x : Change) (cs : List Change) → Contains cs x → Contains (c ∷ cs) x
-later_in c x cs (k, lt, is) = (suc k, omega arith, is)
+  later_in : (c x : A) (cs : List A) → Contains cs x → Contains (c ∷ cs) x
+  later_in c x cs (k, lt, is) = (suc k, omega arith, is)
 
-in_cases : (c x : Change) (cs : List Change) → Contains (c ∷ cs) x → (c ≡ x) ⊎ Contains cs x
-in_cases c x cs (zero, lt, is) = inl is
-in_cases c x cs (suc k, lt, is) = inr (k, omega arith, is)
+  in_cases : (c x : A) (cs : List A) → Contains (c ∷ cs) x → (c ≡ x) ⊎ Contains cs x
+  in_cases c x cs (zero, lt, is) = inl is
+  in_cases c x cs (suc k, lt, is) = inr (k, omega arith, is)
 
-module _ (d : Declaration) where
-  told_or_not : (c : Change) (changes rest told : List Change) (x : Change) → told ≡ c ∷ rest → Frees d c → (Contains rest x ↔ (Contains changes x × Frees d x))
-      → Contains told x ↔ (Contains (c ∷ changes) x × Frees d x)
-  told_or_not c changes rest told x is frees below = (
-    λ here. elim (in_cases c x rest (subst (λ (l : List Change). Contains l x) is here)) [
-      | inl same ↦ (subst (Contains (c ∷ changes)) same (first_in c changes), subst (Frees d) same frees)
-      | inr later ↦ (later_in c x changes (below.0 later).0, (below.0 later).1)
+-- ---- those that free
+
+module _ {A : Type 0} (IsFree : A → Type 0) where
+  told_or_not : (c : A) (tried rest told : List A) (x : A) → told ≡ c ∷ rest → IsFree c → (Contains rest x ↔ (Contains tried x × IsFree x))
+      → Contains told x ↔ (Contains (c ∷ tried) x × IsFree x)
+  told_or_not c tried rest told x is frees below = (
+    λ here. elim (in_cases c x rest (subst (λ (l : List A). Contains l x) is here)) [
+      | inl same ↦ (subst (Contains (c ∷ tried)) same (first_in c tried), subst IsFree same frees)
+      | inr later ↦ (later_in c x tried (below.0 later).0, (below.0 later).1)
     ],
-    λ both. subst (λ (l : List Change). Contains l x) (sym is) (elim (in_cases c x changes both.0) [
+    λ both. subst (λ (l : List A). Contains l x) (sym is) (elim (in_cases c x tried both.0) [
       | inl same ↦ subst (Contains (c ∷ rest)) same (first_in c rest)
       | inr later ↦ later_in c x rest (below.1 (later, both.1))
     ]),
   )
 
-  not_told : (c : Change) (changes rest told : List Change) (x : Change) → told ≡ rest → (Frees d c → ⊥) → (Contains rest x ↔ (Contains changes x × Frees d x))
-      → Contains told x ↔ (Contains (c ∷ changes) x × Frees d x)
-  not_told c changes rest told x is never below = (
+  not_told : (c : A) (tried rest told : List A) (x : A) → told ≡ rest → (IsFree c → ⊥) → (Contains rest x ↔ (Contains tried x × IsFree x))
+      → Contains told x ↔ (Contains (c ∷ tried) x × IsFree x)
+  not_told c tried rest told x is never below = (
     λ here.
-        let both = below.0 (subst (λ (l : List Change). Contains l x) is here) in
-        (later_in c x changes both.0, both.1),
-    λ both. subst (λ (l : List Change). Contains l x) (sym is) (elim (in_cases c x changes both.0) [
-      | inl same ↦ absurd (never (subst (Frees d) (sym same) both.1))
+        let both = below.0 (subst (λ (l : List A). Contains l x) is here) in
+        (later_in c x tried both.0, both.1),
+    λ both. subst (λ (l : List A). Contains l x) (sym is) (elim (in_cases c x tried both.0) [
+      | inl same ↦ absurd (never (subst IsFree (sym same) both.1))
       | inr later ↦ below.1 (later, both.1)
     ]),
   )
 
-  exactly : (changes told : List Change) (x : Change) → AreThoseThatFree d changes told → Contains told x ↔ (Contains changes x × Frees d x)
+  exactly : (tried told : List A) (x : A) → AreThose IsFree tried told → Contains told x ↔ (Contains tried x × IsFree x)
   exactly [] told x none = (
-    λ here. let gone : Contains [] x = subst (λ (l : List Change). Contains l x) none here in absurd (omega (arith, gone.1)),
+    λ here. let gone : Contains [] x = subst (λ (l : List A). Contains l x) none here in absurd (omega (arith, gone.1)),
     λ both. absurd (omega (arith, both.0.1)),
   )
-  exactly (c ∷ changes) told x (rest, those, inl first) = told_or_not c changes rest told x first.1 first.0 (exactly changes rest x those)
-  exactly (c ∷ changes) told x (rest, those, inr never) = not_told c changes rest told x never.1 never.0 (exactly changes rest x those)
+  exactly (c ∷ tried) told x (rest, those, inl first) = told_or_not c tried rest told x first.1 first.0 (exactly tried rest x those)
+  exactly (c ∷ tried) told x (rest, those, inr never) = not_told c tried rest told x never.1 never.0 (exactly tried rest x those)
 
-  one_list : (changes told other : List Change) → AreThoseThatFree d changes told → AreThoseThatFree d changes other → told ≡ other
+  one_list : (tried told other : List A) → AreThose IsFree tried told → AreThose IsFree tried other → told ≡ other
   one_list [] told other none also = none ∙ sym also
-  one_list (c ∷ changes) told other (rest, those, inl first) (left, them, inl also) =
-      first.1 ∙ ap (λ (l : List Change). c ∷ l) (one_list changes rest left those them) ∙ sym also.1
-  one_list (c ∷ changes) told other (rest, those, inl first) (left, them, inr never) = absurd (never.0 first.0)
-  one_list (c ∷ changes) told other (rest, those, inr never) (left, them, inl first) = absurd (never.0 first.0)
-  one_list (c ∷ changes) told other (rest, those, inr never) (left, them, inr also) = never.1 ∙ one_list changes rest left those them ∙ sym also.1
+  one_list (c ∷ tried) told other (rest, those, inl first) (left, them, inl also) =
+      first.1 ∙ ap (λ (l : List A). c ∷ l) (one_list tried rest left those them) ∙ sym also.1
+  one_list (c ∷ tried) told other (rest, those, inl first) (left, them, inr never) = absurd (never.0 first.0)
+  one_list (c ∷ tried) told other (rest, those, inr never) (left, them, inl first) = absurd (never.0 first.0)
+  one_list (c ∷ tried) told other (rest, those, inr never) (left, them, inr also) = never.1 ∙ one_list tried rest left those them ∙ sym also.1
 
 pub mends_are_those_that_free : MendsAreThoseThatFree
-mends_are_those_that_free d told change are = exactly d (single_changes d) told change are
+mends_are_those_that_free d told change are = exactly (Frees d) (single_changes d) told change are
 
 pub mends_are_determined : MendsAreDetermined
-mends_are_determined d told other are also = one_list d (single_changes d) told other are also
+mends_are_determined d told other are also = one_list (Frees d) (single_changes d) told other are also
+
+-- ---- pairs
+
+seconds : (first : Change) (changes : List Change) (pair : Pair) → Contains (map (pair_with first) changes) pair
+    → (first ≡ pair.first) × ((j : ℕ) × (slice_get changes j ≡ Some pair.second))
+seconds first [] pair here = absurd (omega (arith, here.1))
+seconds first (c ∷ changes) pair here = elim (in_cases _ pair _ here) [
+  | inl same ↦ (ap (λ (p : Pair). p.first) same, (0, ap (λ (p : Pair). Some p.second) same))
+  | inr later ↦ let at = seconds first changes pair later in (at.0, (suc at.1.0, at.1.1))
+]
+
+a_second : (first second : Change) (changes : List Change) (j : ℕ) → slice_get changes j ≡ Some second
+    → Contains (map (pair_with first) changes) (record { first = first; second = second })
+a_second first second [] j here = absurd cc
+a_second first second (c ∷ changes) zero here = (0, omega arith, ap (pair_with first) (same_Some c second here))
+a_second first second (c ∷ changes) (suc j) here = later_in _ _ _ (a_second first second changes j here)
+
+stands : (changes : List Change) (pair : Pair) → Contains (pairs_of changes) pair → StandsBefore changes pair.first pair.second
+stands [] pair here = absurd (omega (arith, here.1))
+stands (c ∷ changes) pair here = elim (Contains-append_cases (map (pair_with c) changes) (pairs_of changes) pair here) [
+  | inl with_first ↦
+      let at = seconds c changes pair with_first in
+      (0, suc at.1.0, omega arith, ap (λ (z : Change). Some z) at.0, at.1.1)
+  | inr later ↦
+      let before = stands changes pair later in
+      (suc before.0, suc before.1, omega (arith, before.2), before.3, before.4)
+]
+
+is_pair : (changes : List Change) (first second : Change) → StandsBefore changes first second → Contains (pairs_of changes) (record { first = first; second = second })
+is_pair [] first second (i, j, lt, a, b) = absurd cc
+is_pair (c ∷ changes) first second (i, zero, lt, a, b) = absurd (omega arith)
+is_pair (c ∷ changes) first second (zero, suc j, lt, a, b) =
+    let same : c ≡ first = same_Some c first a in
+    Contains-append_left (map (pair_with c) changes) (pairs_of changes) _
+    (rw same (a_second first second changes j b))
+is_pair (c ∷ changes) first second (suc i, suc j, lt, a, b) =
+    Contains-append_right (map (pair_with c) changes) (pairs_of changes) _
+    (is_pair changes first second (i, j, omega arith, a, b))
+
+pub pairs_are_those_that_free : PairsAreThoseThatFree
+pairs_are_those_that_free d told pair are =
+    let both = exactly (FreesBoth d) (pairs_of (single_changes d)) told pair are in (
+      λ here. (stands (single_changes d) pair (both.0 here).0, (both.0 here).1),
+      λ (before, frees). both.1 (is_pair (single_changes d) pair.first pair.second before, frees),
+    )
+
+pub pairs_are_determined : PairsAreDetermined
+pairs_are_determined d told other are also = one_list (FreesBoth d) (pairs_of (single_changes d)) told other are also

@@ -1,4 +1,4 @@
--- Whatever is taken away, the network that is left is a valid one.
+-- Whatever changes take away, the network that is left is a valid one.
 use Rattle.std.proofs.Common.{◌≡◌, ◌≢◌, ℕ, ◌+◌, suc, Bool, true, false, List, [], ◌∷◌, ◌++◌, All, AllPairs, Option, None, IfSome, length, map, ap, arith, subst, sym}
 use Rattle.std.specs.Prelude.{if◌then◌else◌}
 use Rattle.std.proofs.lemmas.List.Elements.{All-append, All-cons, All-head, All-map, All-nil, All-tail}
@@ -7,10 +7,11 @@ use Rattle.sw_route.specs.declared.look.Route.{Route}
 use Rattle.sw_route.specs.Looks.{IsRoute, IsTable, overlaps}
 use Rattle.sw_topo.specs.Checked.{IsSound}
 use Rattle.sw_config.specs.Entries.{NodeEntry, ReplyEntry, FlowEntry, Declaration, flow_names, link_ends, part_names, wiring_of}
-use Rattle.sw_config.specs.Valid.{IsFlow, IsReply, IsSwitch}
-use Rattle.sw_mend.specs.Changes.{by_number, changed, flow_after, flow_kept, loses_entry, loses_flow, loses_reply, ports_after, route_after, switch_after}
-use Rattle.sw_mend.specs.Laws.{ChangesKeepValid}
+use Rattle.sw_config.specs.Valid.{IsFlow, IsReply, IsSwitch, IsValid}
+use Rattle.sw_mend.specs.Changes.{by_number, changed_by_all, flow_after_all, route_after_all, switch_after_all}
+use Rattle.sw_mend.specs.Laws.{AllKeepValid, ChangesKeepValid}
 use Rattle.sw_mend.specs.declared.change.Change.{Change}
+use Rattle.sw_mend.proofs.AfterAll.{entry_lost, flow_left, flow_lost, flow_stays, one_alone, reply_lost, route_left, route_stays}
 use Rattle.sw_mend.proofs.Fresh.{as_many, few_left, same_names}
 
 -- ---- pairs of a list
@@ -65,17 +66,32 @@ module _ {A B : Type 0} (make : ℕ → A → List B) where
       joined R (make n x) (by_number make (n + 1) xs) (own n x) (pairs_made R Q each own (n + 1) xs (rests Q x xs pairs))
       (λ k d lt. all_made (R _) (Q x) (λ l y is. each n l x y is k d lt) (n + 1) xs (firsts Q x xs pairs))
 
+-- ---- what several changes leave
+
+pub all_flow : (P : FlowEntry → Type 0) (changes : List Change) (n : ℕ) (f : FlowEntry) → P (flow_stays changes n f) → All P (flow_after_all changes n f)
+all_flow P changes n f is = subst (All P) (sym (flow_left changes n f)) (all_if P (flow_lost changes n f) (flow_stays changes n f) is)
+
+pairs_flow : (R : FlowEntry → FlowEntry → Type 0) (changes : List Change) (n : ℕ) (f : FlowEntry) → AllPairs R (flow_after_all changes n f)
+pairs_flow R changes n f = subst (AllPairs R) (sym (flow_left changes n f)) (pairs_if R (flow_lost changes n f) (flow_stays changes n f))
+
+pub all_route : (P : Route → Type 0) (changes : List Change) (switch k : ℕ) (r : Route) → P (route_stays changes switch k r) → All P (route_after_all changes switch k r)
+all_route P changes switch k r is = subst (All P) (sym (route_left changes switch k r)) (all_if P (entry_lost changes switch k) (route_stays changes switch k r) is)
+
+pairs_route : (R : Route → Route → Type 0) (changes : List Change) (switch k : ℕ) (r : Route) → AllPairs R (route_after_all changes switch k r)
+pairs_route R changes switch k r =
+    subst (AllPairs R) (sym (route_left changes switch k r)) (pairs_if R (entry_lost changes switch k) (route_stays changes switch k r))
+
 -- ---- tables
 
-table_left : (change : Change) (switch : ℕ) (routes : List Route) → IsTable routes → IsTable (by_number (route_after change switch) 0 routes)
-table_left change switch routes table = record {
-  valid = all_made (route_after change switch) IsRoute IsRoute
-      (λ k r is. all_if IsRoute (loses_entry change switch k) (record r { ports = ports_after change switch k r.ports }) (record { first = is.first; rising = is.rising; last = is.last }))
+table_left : (changes : List Change) (switch : ℕ) (routes : List Route) → IsTable routes → IsTable (by_number (route_after_all changes switch) 0 routes)
+table_left changes switch routes table = record {
+  valid = all_made (route_after_all changes switch) IsRoute IsRoute
+      (λ k r is. all_route IsRoute changes switch k r (record { first = is.first; rising = is.rising; last = is.last }))
       0 routes table.valid;
-  apart = pairs_made (route_after change switch) (λ r q. overlaps r q ≡ false) (λ r q. overlaps r q ≡ false)
-      (λ k l r q is. all_if (λ u. All (λ v. overlaps u v ≡ false) (route_after change switch l q)) (loses_entry change switch k) (record r { ports = ports_after change switch k r.ports })
-      (all_if (λ v. overlaps r v ≡ false) (loses_entry change switch l) (record q { ports = ports_after change switch l q.ports }) is))
-      (λ k r. pairs_if (λ u v. overlaps u v ≡ false) (loses_entry change switch k) (record r { ports = ports_after change switch k r.ports }))
+  apart = pairs_made (route_after_all changes switch) (λ r q. overlaps r q ≡ false) (λ r q. overlaps r q ≡ false)
+      (λ k l r q is. all_route (λ u. All (λ v. overlaps u v ≡ false) (route_after_all changes switch l q)) changes switch k r
+      (all_route (λ v. overlaps r v ≡ false) changes switch l q is))
+      (λ k r. pairs_route (λ u v. overlaps u v ≡ false) changes switch k r)
       0 routes table.apart;
 }
 
@@ -85,46 +101,49 @@ reply_left : (P : ReplyEntry → Type 0) (gone : Bool) (reply : Option ReplyEntr
 reply_left P true reply is = tt
 reply_left P false reply is = is
 
-flow_left : (change : Change) (nodes : List NodeEntry) (n : ℕ) (f : FlowEntry) → IsFlow nodes f → IsFlow nodes (flow_kept change n f)
-flow_left change nodes n f is = record {
+valid_flow : (changes : List Change) (nodes : List NodeEntry) (n : ℕ) (f : FlowEntry) → IsFlow nodes f → IsFlow nodes (flow_stays changes n f)
+valid_flow changes nodes n f is = record {
   from = is.from;
   to = is.to;
   address = is.address;
   left = is.left;
-  reply = reply_left (IsReply nodes f.to) (loses_reply change n f) f.reply is.reply;
+  reply = reply_left (IsReply nodes f.to) (reply_lost changes n f) f.reply is.reply;
 }
 
-flows_left : (change : Change) (nodes : List NodeEntry) (flows : List FlowEntry) → All (IsFlow nodes) flows → All (IsFlow nodes) (by_number (flow_after change) 0 flows)
-flows_left change nodes flows all =
-    all_made (flow_after change) (IsFlow nodes) (IsFlow nodes)
-    (λ k f is. all_if (IsFlow nodes) (loses_flow change k f) (flow_kept change k f) (flow_left change nodes k f is)) 0 flows all
+flows_left : (changes : List Change) (nodes : List NodeEntry) (flows : List FlowEntry) → All (IsFlow nodes) flows → All (IsFlow nodes) (by_number (flow_after_all changes) 0 flows)
+flows_left changes nodes flows all =
+    all_made (flow_after_all changes) (IsFlow nodes) (IsFlow nodes)
+    (λ k f is. all_flow (IsFlow nodes) changes k f (valid_flow changes nodes k f is)) 0 flows all
 
-names_left : (change : Change) (flows : List FlowEntry) → AllPairs (λ x y. x ≢ y) (flow_names flows) → AllPairs (λ x y. x ≢ y) (flow_names (by_number (flow_after change) 0 flows))
-names_left change flows named =
-    pairs_mapped (λ (x y : List ℕ). x ≢ y) (λ (f : FlowEntry). f.name) (by_number (flow_after change) 0 flows)
-    (pairs_made (flow_after change) (λ (f g : FlowEntry). f.name ≢ g.name) (λ (f g : FlowEntry). f.name ≢ g.name)
-    (λ k l f g is. all_if (λ (u : FlowEntry). All (λ (v : FlowEntry). u.name ≢ v.name) (flow_after change l g)) (loses_flow change k f) (flow_kept change k f)
-    (all_if (λ (v : FlowEntry). f.name ≢ v.name) (loses_flow change l g) (flow_kept change l g) is))
-    (λ k f. pairs_if (λ (u v : FlowEntry). u.name ≢ v.name) (loses_flow change k f) (flow_kept change k f))
+names_left : (changes : List Change) (flows : List FlowEntry) → AllPairs (λ x y. x ≢ y) (flow_names flows) → AllPairs (λ x y. x ≢ y) (flow_names (by_number (flow_after_all changes) 0 flows))
+names_left changes flows named =
+    pairs_mapped (λ (x y : List ℕ). x ≢ y) (λ (f : FlowEntry). f.name) (by_number (flow_after_all changes) 0 flows)
+    (pairs_made (flow_after_all changes) (λ (f g : FlowEntry). f.name ≢ g.name) (λ (f g : FlowEntry). f.name ≢ g.name)
+    (λ k l f g is. all_flow (λ (u : FlowEntry). All (λ (v : FlowEntry). u.name ≢ v.name) (flow_after_all changes l g)) changes k f
+    (all_flow (λ (v : FlowEntry). f.name ≢ v.name) changes l g is))
+    (λ k f. pairs_flow (λ (u v : FlowEntry). u.name ≢ v.name) changes k f)
     0 flows (pairs_of_map (λ (x y : List ℕ). x ≢ y) (λ (f : FlowEntry). f.name) flows named))
 
 -- ---- the whole
 
 -- switches are as many, and nodes and links as they were
-pub same_wiring : (change : Change) (d : Declaration) → wiring_of (changed d change) ≡ wiring_of d
-same_wiring change d = ap (λ n. record { nodes = length d.nodes; switches = n; ends = link_ends d.links }) (as_many change 0 d.switches)
+pub same_wiring : (changes : List Change) (d : Declaration) → wiring_of (changed_by_all d changes) ≡ wiring_of d
+same_wiring changes d = ap (λ n. record { nodes = length d.nodes; switches = n; ends = link_ends d.links }) (as_many changes 0 d.switches)
 
-pub same_part_names : (change : Change) (d : Declaration) → part_names (changed d change) ≡ part_names d
-same_part_names change d = ap (λ l. map (λ (n : NodeEntry). n.name) d.nodes ++ l) (same_names change 0 d.switches)
+pub same_part_names : (changes : List Change) (d : Declaration) → part_names (changed_by_all d changes) ≡ part_names d
+same_part_names changes d = ap (λ l. map (λ (n : NodeEntry). n.name) d.nodes ++ l) (same_names changes 0 d.switches)
+
+pub all_keep_valid : AllKeepValid
+all_keep_valid d changes valid = record {
+  sound = subst IsSound (sym (same_wiring changes d)) valid.sound;
+  nodes = valid.nodes;
+  switches = all_made (switch_after_all changes) IsSwitch IsSwitch (λ k s is. All-cons IsSwitch _ [] (table_left changes k s.routes is) (All-nil IsSwitch)) 0 d.switches valid.switches;
+  links = valid.links;
+  flows = flows_left changes d.nodes d.flows valid.flows;
+  few_flows = omega (arith, few_left changes 0 d.flows, valid.few_flows);
+  parts_named = subst (λ (l : List (List ℕ)). AllPairs (λ x y. x ≢ y) l) (sym (same_part_names changes d)) valid.parts_named;
+  flows_named = names_left changes d.flows valid.flows_named;
+}
 
 pub changes_keep_valid : ChangesKeepValid
-changes_keep_valid d change valid = record {
-  sound = subst IsSound (sym (same_wiring change d)) valid.sound;
-  nodes = valid.nodes;
-  switches = all_made (switch_after change) IsSwitch IsSwitch (λ k s is. All-cons IsSwitch _ [] (table_left change k s.routes is) (All-nil IsSwitch)) 0 d.switches valid.switches;
-  links = valid.links;
-  flows = flows_left change d.nodes d.flows valid.flows;
-  few_flows = omega (arith, few_left change 0 d.flows, valid.few_flows);
-  parts_named = subst (λ (l : List (List ℕ)). AllPairs (λ x y. x ≢ y) l) (sym (same_part_names change d)) valid.parts_named;
-  flows_named = names_left change d.flows valid.flows_named;
-}
+changes_keep_valid d change valid = subst IsValid (one_alone d change) (all_keep_valid d (change ∷ []) valid)

@@ -1,9 +1,11 @@
 mod Numbered
+mod AfterAll
 mod Fresh
 mod PortSets
 mod Linked
 mod OneMore
 mod Told
+mod Paired
 mod Determined
 mod Kept
 mod Apart

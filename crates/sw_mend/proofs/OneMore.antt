@@ -11,7 +11,7 @@ use Rattle.sw_arb.specs.declared.arbitration.Arbitration.{Arbitration}
 use Rattle.sw_rmap.specs.declared.config.TargetConfig.{TargetConfig}
 use Rattle.sw_route.specs.declared.look.Route.{Route}
 use Rattle.sw_config.specs.Entries.{NodeEntry, SwitchEntry, FlowEntry, Declaration, empty, part_names, routes_of, target_of}
-use Rattle.sw_mend.specs.Changes.{by_number, flow_after, route_after, switch_after}
+use Rattle.sw_mend.specs.Changes.{by_number, flow_after_all, route_after_all, switch_after_all}
 use Rattle.sw_mend.specs.declared.change.Change.{Change}
 use Rattle.sw_mend.proofs.Numbered.{one_more}
 use Rattle.sw_mend.proofs.Fresh.{fresh, same_names}
@@ -50,13 +50,13 @@ node_more nodes i name target lt named answers =
       | inr past ↦ absurd (omega (arith, past.0, lt))
     ]
 
-pub switch_more : (change : Change) (switches : List SwitchEntry) (i : ℕ) (name : List ℕ) (arbitration : Arbitration) (routes table : List Route) → i < length switches
+pub switch_more : (changes : List Change) (switches : List SwitchEntry) (i : ℕ) (name : List ℕ) (arbitration : Arbitration) (routes table : List Route) → i < length switches
     → option_map (λ (e : SwitchEntry). e.name) (slice_get switches i) ≡ Some name
     → option_map (λ (e : SwitchEntry). e.arbitration) (slice_get switches i) ≡ Some arbitration
-    → routes ≡ routes_of switches i → table ≡ by_number (route_after change i) 0 routes
-    → by_number (switch_after change) 0 (take (i + 1) switches)
-    ≡ by_number (switch_after change) 0 (take i switches) ++ record { name = name; arbitration = arbitration; routes = table } ∷ []
-switch_more change switches i name arbitration routes table lt named arbitrates has left =
+    → routes ≡ routes_of switches i → table ≡ by_number (route_after_all changes i) 0 routes
+    → by_number (switch_after_all changes) 0 (take (i + 1) switches)
+    ≡ by_number (switch_after_all changes) 0 (take i switches) ++ record { name = name; arbitration = arbitration; routes = table } ∷ []
+switch_more changes switches i name arbitration routes table lt named arbitrates has left =
     elim (slice_get_cases switches i).1 [
       | inl found ↦
           let s : SwitchEntry = found.0 in
@@ -65,20 +65,20 @@ switch_more change switches i name arbitration routes table lt named arbitrates 
           let is_arbitration : s.arbitration ≡ arbitration =
           same_Some s.arbitration arbitration (sym (ap (option_map (λ (e : SwitchEntry). e.arbitration)) here) ∙ arbitrates) in
           let is_routes : routes ≡ s.routes = has ∙ ap (λ o. option_map_or (λ (e : SwitchEntry). e.routes) o []) here in
-          let is_table : by_number (route_after change i) 0 s.routes ≡ table = sym (left ∙ ap (by_number (route_after change i) 0) is_routes) in
-          let same : switch_after change i s ≡ record { name = name; arbitration = arbitration; routes = table } ∷ [] =
+          let is_table : by_number (route_after_all changes i) 0 s.routes ≡ table = sym (left ∙ ap (by_number (route_after_all changes i) 0) is_routes) in
+          let same : switch_after_all changes i s ≡ record { name = name; arbitration = arbitration; routes = table } ∷ [] =
           λ k. record { name = is_name k; arbitration = is_arbitration k; routes = is_table k } ∷ [] in
-          one_more (switch_after change) i switches s here ∙ ap (λ l. by_number (switch_after change) 0 (take i switches) ++ l) same
+          one_more (switch_after_all changes) i switches s here ∙ ap (λ l. by_number (switch_after_all changes) 0 (take i switches) ++ l) same
       | inr past ↦ absurd (omega (arith, past.0, lt))
     ]
 
 -- of a network that is built anew
-pub flow_more : (change : Change) (flows : List FlowEntry) (i : ℕ) (f : FlowEntry) (old after : Declaration) → slice_get flows i ≡ Some f
-    → old.flows ≡ by_number (flow_after change) 0 (take i flows) → after ≡ record old { flows = old.flows ++ flow_after change i f }
-    → after ≡ record old { flows = by_number (flow_after change) 0 (take (i + 1) flows) }
-flow_more change flows i f old after here before more =
-    let eq : old.flows ++ flow_after change i f ≡ by_number (flow_after change) 0 (take (i + 1) flows) =
-    ap (λ l. l ++ flow_after change i f) before ∙ sym (one_more (flow_after change) i flows f here) in
+pub flow_more : (changes : List Change) (flows : List FlowEntry) (i : ℕ) (f : FlowEntry) (old after : Declaration) → slice_get flows i ≡ Some f
+    → old.flows ≡ by_number (flow_after_all changes) 0 (take i flows) → after ≡ record old { flows = old.flows ++ flow_after_all changes i f }
+    → after ≡ record old { flows = by_number (flow_after_all changes) 0 (take (i + 1) flows) }
+flow_more changes flows i f old after here before more =
+    let eq : old.flows ++ flow_after_all changes i f ≡ by_number (flow_after_all changes) 0 (take (i + 1) flows) =
+    ap (λ l. l ++ flow_after_all changes i f) before ∙ sym (one_more (flow_after_all changes) i flows f here) in
     more ∙ ap (λ (l : List FlowEntry). record old { flows = l }) eq
 
 -- ---- new names
@@ -101,19 +101,19 @@ fresh_node d now i name apart lt named is =
     ap (λ (e : Declaration). list_any (bytes_eq name) (part_names e)) is ∙ ap (list_any (bytes_eq name)) (append-nil (names (take i d.nodes)) ∙ sym cut)
     ∙ fresh (part_names d) i name apart at
 
-pub fresh_switch : (change : Change) (d now : Declaration) (i : ℕ) (name : List ℕ) → AllPairs (λ x y. x ≢ y) (part_names d) → i < length d.switches
+pub fresh_switch : (changes : List Change) (d now : Declaration) (i : ℕ) (name : List ℕ) → AllPairs (λ x y. x ≢ y) (part_names d) → i < length d.switches
     → option_map (λ (e : SwitchEntry). e.name) (slice_get d.switches i) ≡ Some name
-    → now ≡ record empty { nodes = d.nodes; switches = by_number (switch_after change) 0 (take i d.switches) }
+    → now ≡ record empty { nodes = d.nodes; switches = by_number (switch_after_all changes) 0 (take i d.switches) }
     → list_any (bytes_eq name) (part_names now) ≡ false
 unfolding names switch_names
-fresh_switch change d now i name apart lt named is =
+fresh_switch changes d now i name apart lt named is =
     let k : ℕ = length (names d.nodes) + i in
     let at : slice_get (part_names d) k ≡ Some name =
     at_back (names d.nodes) (switch_names d.switches) i k name refl (slice_get-map (λ (s : SwitchEntry). s.name) d.switches i ∙ named) in
     let cut : take k (part_names d) ≡ names d.nodes ++ switch_names (take i d.switches) =
     take-append-add (names d.nodes) (switch_names d.switches) i ∙ ap (λ l. names d.nodes ++ l) (take-map (λ (s : SwitchEntry). s.name) i d.switches) in
     let there : part_names now ≡ take k (part_names d) =
-    ap part_names is ∙ ap (λ l. names d.nodes ++ l) (same_names change 0 (take i d.switches)) ∙ sym cut in
+    ap part_names is ∙ ap (λ l. names d.nodes ++ l) (same_names changes 0 (take i d.switches)) ∙ sym cut in
     ap (list_any (bytes_eq name)) there ∙ fresh (part_names d) k name apart at
 
 -- ---- the declaration after one more
@@ -125,14 +125,14 @@ node_built nodes i name target old new lt named answers before more =
     more ∙ ap (λ (e : Declaration). record e { nodes = e.nodes ++ record { name = name; target = target } ∷ [] }) before
     ∙ ap (λ (l : List NodeEntry). record empty { nodes = l }) (sym (node_more nodes i name target lt named answers))
 
-pub switch_built : (change : Change) (nodes : List NodeEntry) (switches : List SwitchEntry) (i : ℕ) (name : List ℕ) (arbitration : Arbitration) (routes table : List Route)
+pub switch_built : (changes : List Change) (nodes : List NodeEntry) (switches : List SwitchEntry) (i : ℕ) (name : List ℕ) (arbitration : Arbitration) (routes table : List Route)
     (old new : Declaration) → i < length switches
     → option_map (λ (e : SwitchEntry). e.name) (slice_get switches i) ≡ Some name
     → option_map (λ (e : SwitchEntry). e.arbitration) (slice_get switches i) ≡ Some arbitration
-    → routes ≡ routes_of switches i → table ≡ by_number (route_after change i) 0 routes
-    → old ≡ record empty { nodes = nodes; switches = by_number (switch_after change) 0 (take i switches) }
+    → routes ≡ routes_of switches i → table ≡ by_number (route_after_all changes i) 0 routes
+    → old ≡ record empty { nodes = nodes; switches = by_number (switch_after_all changes) 0 (take i switches) }
     → new ≡ record old { switches = old.switches ++ record { name = name; arbitration = arbitration; routes = table } ∷ [] }
-    → new ≡ record empty { nodes = nodes; switches = by_number (switch_after change) 0 (take (i + 1) switches) }
-switch_built change nodes switches i name arbitration routes table old new lt named arbitrates has left before more =
+    → new ≡ record empty { nodes = nodes; switches = by_number (switch_after_all changes) 0 (take (i + 1) switches) }
+switch_built changes nodes switches i name arbitration routes table old new lt named arbitrates has left before more =
     more ∙ ap (λ (e : Declaration). record e { switches = e.switches ++ record { name = name; arbitration = arbitration; routes = table } ∷ [] }) before
-    ∙ ap (λ (l : List SwitchEntry). record empty { nodes = nodes; switches = l }) (sym (switch_more change switches i name arbitration routes table lt named arbitrates has left))
+    ∙ ap (λ (l : List SwitchEntry). record empty { nodes = nodes; switches = l }) (sym (switch_more changes switches i name arbitration routes table lt named arbitrates has left))

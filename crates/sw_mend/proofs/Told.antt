@@ -1,36 +1,29 @@
--- Those of the changes that free the network, with one more change.
-use Rattle.std.proofs.Common.{◌≡◌, ◌↔◌, ◌+◌, ◌<◌, ℕ, Bool, true, false, IsTrue, List, [], ◌∷◌, ◌++◌, append-nil, get_or, inl, inr, length, refl, sym, take, ap, ◌∙◌}
+-- Those of a list that free the network: of two lists joined, and with one more.
+use Rattle.std.proofs.Common.{◌≡◌, ◌↔◌, ◌+◌, ◌<◌, ℕ, Bool, true, false, IsTrue, List, [], ◌∷◌, ◌++◌, get_or, inl, inr, length, refl, sym, take, ap, ◌∙◌}
 use Rattle.std.specs.Prelude.{if◌then◌else◌}
 use Rattle.std.proofs.lemmas.Bool.{false≢true}
 use Rattle.std.proofs.lemmas.List.{take_more}
-use Rattle.sw_config.specs.Entries.{Declaration}
-use Rattle.sw_mend.specs.Mends.{AreThoseThatFree, Frees}
-use Rattle.sw_mend.specs.declared.change.Change.{Change}
+use Rattle.sw_mend.specs.Mends.{AreThose}
 
-module _ (d : Declaration) (change : Change) where
-  pub one_told : (changes told : List Change) → AreThoseThatFree d changes told → Frees d change → AreThoseThatFree d (changes ++ change ∷ []) (told ++ change ∷ [])
-  one_told [] told those frees = ([], refl, inl (frees, ap (λ l. l ++ change ∷ []) those))
-  one_told (c ∷ changes) told those frees = (
-    those.0 ++ change ∷ [],
-    one_told changes those.0 those.1 frees,
-    elim those.2 [
-      | inl told_first ↦ inl (told_first.0, ap (λ l. l ++ change ∷ []) told_first.1)
-      | inr left ↦ inr (left.0, ap (λ l. l ++ change ∷ []) left.1)
-    ],
-  )
+module _ {A : Type 0} (IsFree : A → Type 0) where
+  -- those of two lists are those of the one, and then those of the other
+  pub joined : (xs ys told more : List A) → AreThose IsFree xs told → AreThose IsFree ys more → AreThose IsFree (xs ++ ys) (told ++ more)
+  joined [] ys told more none those = rw none those
+  joined (x ∷ xs) ys told more (rest, those, inl first) others = (rest ++ more, joined xs ys rest more those others, inl (first.0, ap (λ (l : List A). l ++ more) first.1))
+  joined (x ∷ xs) ys told more (rest, those, inr never) others = (rest ++ more, joined xs ys rest more those others, inr (never.0, ap (λ (l : List A). l ++ more) never.1))
 
-  pub none_told : (changes told : List Change) → AreThoseThatFree d changes told → (Frees d change → ⊥) → AreThoseThatFree d (changes ++ change ∷ []) told
-  none_told [] told those never = ([], refl, inr (never, those))
-  none_told (c ∷ changes) told those never = (those.0, none_told changes those.0 those.1 never, those.2)
+  -- of one element
+  alone : (x : A) (b : Bool) → (IsTrue b ↔ IsFree x) → AreThose IsFree (x ∷ []) (if b then x ∷ [] else [])
+  alone x true is = ([], refl, inl (is.0 refl, refl))
+  alone x false is = ([], refl, inr (λ frees. absurd (false≢true (is.1 frees)), refl))
 
--- the change is told if it frees the network
-pub told_more : (d : Declaration) (changes : List Change) (i : ℕ) (change : Change) (told after : List Change) (frees : Bool) → i < length changes → change ≡ get_or changes i change
-    → AreThoseThatFree d (take i changes) told → (IsTrue frees ↔ Frees d change) → after ≡ told ++ (if frees then change ∷ [] else [])
-    → AreThoseThatFree d (take (i + 1) changes) after
-told_more d changes i change told after frees lt at those decided more =
-    let cut : take (i + 1) changes ≡ take i changes ++ change ∷ [] = take_more changes i change lt ∙ ap (λ c. take i changes ++ c ∷ []) (sym at) in
-    rw cut (by frees decided more)
-  where
-    by : (b : Bool) → (IsTrue b ↔ Frees d change) → after ≡ told ++ (if b then change ∷ [] else []) → AreThoseThatFree d (take i changes ++ change ∷ []) after
-    by true is e = rw e (one_told d change (take i changes) told those (is.0 refl))
-    by false is e = rw (e, append-nil told) (none_told d change (take i changes) told those (λ frees. absurd (false≢true (is.1 frees))))
+  -- one more is told if it frees
+  pub told_one : (xs : List A) (x : A) (told after : List A) (b : Bool) → AreThose IsFree xs told → (IsTrue b ↔ IsFree x) → after ≡ told ++ (if b then x ∷ [] else [])
+      → AreThose IsFree (xs ++ x ∷ []) after
+  told_one xs x told after b those decided more = rw more (joined xs (x ∷ []) told (if b then x ∷ [] else []) those (alone x b decided))
+
+  pub told_more : (xs : List A) (i : ℕ) (x : A) (told after : List A) (b : Bool) → i < length xs → x ≡ get_or xs i x → AreThose IsFree (take i xs) told
+      → (IsTrue b ↔ IsFree x) → after ≡ told ++ (if b then x ∷ [] else []) → AreThose IsFree (take (i + 1) xs) after
+  told_more xs i x told after b lt at those decided more =
+      let cut : take (i + 1) xs ≡ take i xs ++ x ∷ [] = take_more xs i x lt ∙ ap (λ c. take i xs ++ c ∷ []) (sym at) in
+      rw cut (told_one (take i xs) x told after b those decided more)

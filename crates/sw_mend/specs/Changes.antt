@@ -1,10 +1,11 @@
--- Single changes of a network, and what each leaves of it.
-use Rattle.std.specs.Prelude.{ℕ, ◌+◌, ◌==◌, Bool, false, not, ◌||◌, ◌&&◌, is_some, None, List, [], ◌∷◌, ◌++◌, filter, map, length, nat_lt, slice_get, if◌then◌else◌}
+-- Single changes of a network, and what each leaves of it, and several together.
+use Rattle.std.specs.Prelude.{ℕ, ◌+◌, ◌==◌, Bool, false, not, ◌||◌, ◌&&◌, is_some, None, List, [], ◌∷◌, ◌++◌, filter, flat_map, map, length, nat_lt, slice_get, if◌then◌else◌}
 use Rattle.std.specs.Option.{option_map_or}
 use Rattle.sw_topo.specs.Ports.{port_set, ports_of}
 use Rattle.sw_route.specs.declared.look.Route.{Route}
 use Rattle.sw_config.specs.Entries.{NodeEntry, SwitchEntry, FlowEntry, Declaration}
 use Rattle.sw_mend.specs.declared.change.Change.{Change}
+use Rattle.sw_mend.specs.declared.change.Pair.{Pair}
 use Rattle.sw_mend.specs.declared.change.Change.TheVariants.{WithoutReply, WithoutFlow, WithoutAnswers, WithoutPort, WithoutEntry, WithoutFlowsOf}
 
 -- what is made of each element and its number, one after the other; the first element has that number
@@ -70,6 +71,30 @@ abbrev pub changed : Declaration → Change → Declaration
 changed d change =
     record d { switches = by_number (switch_after change) 0 d.switches; flows = by_number (flow_after change) 0 d.flows }
 
+-- ---- what several changes leave, one after the other: an element keeps its number
+
+-- what is left of an element after the first change is given to the next
+abbrev pub after_all : {A : Type 0} → (Change → A → List A) → List Change → A → List A
+after_all after [] x = x ∷ []
+after_all after (change ∷ changes) x = flat_map (after_all after changes) (after change x)
+
+-- of the flow of that number
+abbrev pub flow_after_all : List Change → ℕ → FlowEntry → List FlowEntry
+flow_after_all changes number = after_all (λ change. flow_after change number) changes
+
+-- of the entry of that number of that switch's table
+abbrev pub route_after_all : List Change → ℕ → ℕ → Route → List Route
+route_after_all changes switch entry = after_all (λ change. route_after change switch entry) changes
+
+-- the switch of that number with what is left of its table
+abbrev pub switch_after_all : List Change → ℕ → SwitchEntry → List SwitchEntry
+switch_after_all changes switch s = record s { routes = by_number (route_after_all changes switch) 0 s.routes } ∷ []
+
+-- nodes and links stay as they are
+abbrev pub changed_by_all : Declaration → List Change → Declaration
+changed_by_all d changes =
+    record d { switches = by_number (switch_after_all changes) 0 d.switches; flows = by_number (flow_after_all changes) 0 d.flows }
+
 -- ---- the changes that are tried
 
 abbrev pub reply_away : ℕ → FlowEntry → List Change
@@ -109,3 +134,8 @@ single_changes d =
     ++ by_number group_ports_away 0 d.switches
     ++ by_number entries_away 0 d.switches
     ++ by_number flows_away 0 d.nodes
+
+-- each of the changes with each one after it, in the order of the first and then of the second
+abbrev pub pairs_of : List Change → List Pair
+pairs_of [] = []
+pairs_of (first ∷ changes) = map (λ second. record { first = first; second = second }) changes ++ pairs_of changes

@@ -1,10 +1,11 @@
--- What holds of single changes, and of those that are told.
-use Rattle.std.specs.Prelude.{◌≡◌, ◌↔◌, Contains, List}
+-- What holds of single changes and of pairs of them, and of those that are told.
+use Rattle.std.specs.Prelude.{◌≡◌, ◌↔◌, ℕ, ◌<◌, Contains, List, [], ◌∷◌, Some, slice_get}
 use Rattle.sw_config.specs.Entries.{Declaration}
 use Rattle.sw_config.specs.Valid.{IsValid}
-use Rattle.sw_mend.specs.Changes.{changed, single_changes}
-use Rattle.sw_mend.specs.Mends.{AreMends, Frees}
+use Rattle.sw_mend.specs.Changes.{changed, changed_by_all, single_changes}
+use Rattle.sw_mend.specs.Mends.{AreMends, ArePairMends, Frees, FreesBoth}
 use Rattle.sw_mend.specs.declared.change.Change.{Change}
+use Rattle.sw_mend.specs.declared.change.Pair.{Pair}
 
 -- a change is told exactly where it is one of the single changes and frees the network
 abbrev pub MendsAreThoseThatFree : Type 0
@@ -19,3 +20,30 @@ MendsAreDetermined = (d : Declaration) (told other : List Change) → AreMends d
 -- whatever is taken away, the network that is left is a valid one
 abbrev pub ChangesKeepValid : Type 0
 ChangesKeepValid = (d : Declaration) (change : Change) → IsValid d → IsValid (changed d change)
+
+-- several changes that are one change leave what it leaves
+abbrev pub OneAloneIsAChange : Type 0
+OneAloneIsAChange = (d : Declaration) (change : Change) → changed_by_all d (change ∷ []) ≡ changed d change
+
+-- where none is made, the network is as it was
+abbrev pub NoneChangesNothing : Type 0
+NoneChangesNothing = (d : Declaration) → changed_by_all d [] ≡ d
+
+-- whatever several changes take away, the network that is left is a valid one
+abbrev pub AllKeepValid : Type 0
+AllKeepValid = (d : Declaration) (changes : List Change) → IsValid d → IsValid (changed_by_all d changes)
+
+-- the one change comes before the other in the list
+abbrev pub StandsBefore : List Change → Change → Change → Type 0
+StandsBefore changes first second =
+    (i : ℕ) × (j : ℕ) × (i < j) × (slice_get changes i ≡ Some first) × (slice_get changes j ≡ Some second)
+
+-- a pair is told exactly where both are single changes, the first before the second, and they free the network together
+abbrev pub PairsAreThoseThatFree : Type 0
+PairsAreThoseThatFree =
+    (d : Declaration) (told : List Pair) (pair : Pair)
+    → ArePairMends d told → (Contains told pair ↔ (StandsBefore (single_changes d) pair.first pair.second × FreesBoth d pair))
+
+-- the pairs that are told of a network are determined
+abbrev pub PairsAreDetermined : Type 0
+PairsAreDetermined = (d : Declaration) (told other : List Pair) → ArePairMends d told → ArePairMends d other → told ≡ other

@@ -1,4 +1,4 @@
-//! A single change of a network.
+//! A single change of a network, and two of them.
 
 use sw_topo::Port;
 
@@ -25,4 +25,11 @@ pub enum Change {
     },
     /// All flows from and to the node are gone.
     WithoutFlowsOf(u16),
+}
+
+/// Two changes of one network, both made: the first and then the second.
+#[derive(Clone, Copy, Debug, PartialEq, Eq)]
+pub struct Pair {
+    pub first: Change,
+    pub second: Change,
 }

@@ -1,10 +1,10 @@
-//! The flows that a change leaves.
+//! The flows that changes leave.
 ghost use Rattle.std.specs.Prelude.{◌≡◌, ◌+◌, ◌<◌, ◌++◌, [], false, IfOk, OnOk, Ok, None, if◌then◌else◌, length, take};
 ghost use Rattle.std.specs.List.{list_any};
 ghost use Rattle.std.specs.Str.{bytes_eq};
 ghost use Rattle.sw_config.specs.Entries.{flow_names};
 ghost use Rattle.sw_config.specs.Valid.{IsFlow};
-ghost use Rattle.sw_mend.specs.Changes.{by_number, flow_after, flow_kept, loses_flow, loses_reply};
+ghost use Rattle.sw_mend.specs.Changes.{by_number, flow_after_all, loses_flow, loses_reply};
 
 use crate::change::Change;
 use std::alloc::{AllocError, Global};
@@ -12,7 +12,7 @@ use std::marker::Model;
 use sw_config::{Flow, Network, Reply};
 use sw_topo::limits::MAX_FLOWS;
 
-// Is the flow taken away?
+// Does the change take the flow away?
 fn loses_flow(change: &Change, number: u16, flow: &Flow) -> bool
     ensures { result ≡ loses_flow change.now number flow.now }
 {
@@ -23,7 +23,16 @@ fn loses_flow(change: &Change, number: u16, flow: &Flow) -> bool
     }
 }
 
-// Is the flow no longer answered?
+// Does one of the changes take the flow away?
+fn is_lost(changes: &[Change], number: u16, flow: &Flow) -> bool
+    ensures { result ≡ list_any (λ change. loses_flow change number flow.now) changes.now }
+{
+    changes
+        .iter()
+        .any(|change| loses_flow(change, number, flow))
+}
+
+// Does the change leave the flow without its reply?
 fn loses_reply(change: &Change, number: u16, flow: &Flow) -> bool
     ensures { result ≡ loses_reply change.now number flow.now }
 {
@@ -32,6 +41,15 @@ fn loses_reply(change: &Change, number: u16, flow: &Flow) -> bool
         Change::WithoutAnswers(node) => flow.to() == *node,
         _ => false,
     }
+}
+
+// Does one of the changes leave the flow without its reply?
+fn is_unanswered(changes: &[Change], number: u16, flow: &Flow) -> bool
+    ensures { result ≡ list_any (λ change. loses_reply change number flow.now) changes.now }
+{
+    changes
+        .iter()
+        .any(|change| loses_reply(change, number, flow))
 }
 
 // Where the replies of the flow go.
@@ -50,13 +68,13 @@ fn copied_reply(alloc: Global, flow: &Flow) -> Result<Option<Reply>, AllocError>
 // Where the replies of the flow go, if they are left.
 fn kept_reply(
     alloc: Global,
-    change: &Change,
+    changes: &[Change],
     number: u16,
     flow: &Flow,
 ) -> Result<Option<Reply>, AllocError>
-    ensures { IfOk result (λ r. r ≡ if loses_reply change.now number flow.now then None else flow.now.reply) }
+    ensures { IfOk result (λ r. r ≡ if list_any (λ change. loses_reply change number flow.now) changes.now then None else flow.now.reply) }
 {
-    if loses_reply(change, number, flow) {
+    if is_unanswered(changes, number, flow) {
         return Ok(None);
     }
     copied_reply(alloc, flow)
@@ -78,16 +96,21 @@ fn with_reply(
 }
 
 // What is left of a flow that stays.
-fn kept_flow(alloc: Global, change: &Change, number: u16, flow: &Flow) -> Result<Flow, AllocError>
-    ensures { IfOk result (λ f. f ≡ flow_kept change.now number flow.now) }
+fn kept_flow(
+    alloc: Global,
+    changes: &[Change],
+    number: u16,
+    flow: &Flow,
+) -> Result<Flow, AllocError>
+    ensures { IfOk result (λ f. f ≡ record flow.now { reply = if list_any (λ change. loses_reply change number flow.now) changes.now then None else flow.now.reply }) }
 {
-    with_reply(alloc, flow, kept_reply(alloc, change, number, flow))
+    with_reply(alloc, flow, kept_reply(alloc, changes, number, flow))
 }
 
 // Adds what is left of the flow.
 fn add_left(
     alloc: Global,
-    change: &Change,
+    changes: &[Change],
     number: u16,
     flow: &Flow,
     built: &mut Network,
@@ -95,12 +118,12 @@ fn add_left(
     requires few { length built.old.flows < MAX_FLOWS }
     requires new_name { list_any (bytes_eq flow.now.name) (flow_names built.old.flows) ≡ false }
     requires valid { IsFlow built.old.nodes flow.now }
-    ensures { OnOk result (built.new ≡ record built.old { flows = built.old.flows ++ flow_after change.now number flow.now }) }
+    ensures { OnOk result (built.new ≡ record built.old { flows = built.old.flows ++ flow_after_all changes.now number flow.now }) }
 {
-    if loses_flow(change, number, flow) {
+    if is_lost(changes, number, flow) {
         return Ok(());
     }
-    let kept = kept_flow(alloc, change, number, flow)?;
+    let kept = kept_flow(alloc, changes, number, flow)?;
     built.add_flow(alloc, kept)
 }
 
@@ -108,34 +131,34 @@ fn add_left(
 fn add_flow(
     alloc: Global,
     network: &Network,
-    change: &Change,
+    changes: &[Change],
     number: u16,
     built: &mut Network,
 ) -> Result<(), AllocError>
     requires within { number < length network.now.flows }
     requires nodes { built.old.nodes ≡ network.now.nodes }
-    requires before { built.old.flows ≡ by_number (flow_after change.now) 0 (take number network.now.flows) }
-    ensures { OnOk result (built.new ≡ record built.old { flows = by_number (flow_after change.now) 0 (take (number + 1) network.now.flows) }) }
+    requires before { built.old.flows ≡ by_number (flow_after_all changes.now) 0 (take number network.now.flows) }
+    ensures { OnOk result (built.new ≡ record built.old { flows = by_number (flow_after_all changes.now) 0 (take (number + 1) network.now.flows) }) }
 {
     // Names the network, which is valid by its type.
     let _topology = network.topology();
     let flow = network.flow(number);
-    add_left(alloc, change, number, flow, built)
+    add_left(alloc, changes, number, flow, built)
 }
 
 /// Adds what is left of each flow.
 pub(crate) fn add_flows(
     alloc: Global,
     network: &Network,
-    change: &Change,
+    changes: &[Change],
     built: &mut Network,
 ) -> Result<(), AllocError>
     requires nodes { built.old.nodes ≡ network.now.nodes }
     requires none { built.old.flows ≡ [] }
-    ensures { OnOk result (built.new ≡ record built.old { flows = by_number (flow_after change.now) 0 network.now.flows }) }
+    ensures { OnOk result (built.new ≡ record built.old { flows = by_number (flow_after_all changes.now) 0 network.now.flows }) }
 {
     for number in 0..network.declared_flows() {
-        add_flow(alloc, network, change, number, built)?;
+        add_flow(alloc, network, changes, number, built)?;
     }
     Ok(())
 }

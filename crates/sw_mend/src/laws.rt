@@ -1,5 +1,5 @@
-//! What holds of single changes. These functions do nothing: each is the proof of what its clause says.
-ghost use Rattle.sw_mend.specs.Laws.{ChangesKeepValid, MendsAreDetermined, MendsAreThoseThatFree};
+//! What holds of single changes and of pairs of them. These functions do nothing: each is the proof of what its clause says.
+ghost use Rattle.sw_mend.specs.Laws.{AllKeepValid, ChangesKeepValid, MendsAreDetermined, MendsAreThoseThatFree, NoneChangesNothing, OneAloneIsAChange, PairsAreDetermined, PairsAreThoseThatFree};
 
 /// A change is told exactly where it is one of the single changes and frees the network.
 pub fn mends_are_those_that_free()
@@ -14,4 +14,29 @@ pub fn mends_are_determined()
 /// Whatever is taken away, the network that is left is a valid one.
 pub fn changes_keep_valid()
     ensures { ChangesKeepValid }
+{}
+
+/// Several changes that are one change leave what it leaves.
+pub fn one_alone_is_a_change()
+    ensures { OneAloneIsAChange }
+{}
+
+/// Where none is made, the network is as it was.
+pub fn none_changes_nothing()
+    ensures { NoneChangesNothing }
+{}
+
+/// Whatever several changes take away, the network that is left is a valid one.
+pub fn all_keep_valid()
+    ensures { AllKeepValid }
+{}
+
+/// A pair is told exactly where both are single changes, the first before the second, and they free the network together.
+pub fn pairs_are_those_that_free()
+    ensures { PairsAreThoseThatFree }
+{}
+
+/// The pairs that are told of a network are determined.
+pub fn pairs_are_determined()
+    ensures { PairsAreDetermined }
 {}

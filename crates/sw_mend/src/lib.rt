@@ -1,4 +1,4 @@
-//! Single changes that make a network free of deadlocks.
+//! Single changes that make a network free of deadlocks, and pairs of them.
 #![tactic(auto)]
 
 mod change;
@@ -6,10 +6,12 @@ mod flows;
 pub mod laws;
 mod listing;
 mod mending;
+mod pairs;
 mod parts;
 mod rebuilt;
 mod tables;
 
-pub use change::Change;
+pub use change::{Change, Pair};
 pub use mending::mends;
-pub use rebuilt::network_with;
+pub use pairs::pair_mends;
+pub use rebuilt::{network_with, network_with_all};

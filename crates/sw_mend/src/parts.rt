@@ -1,7 +1,7 @@
 //! The nodes, switches and links of a changed network.
 ghost use Rattle.std.specs.Prelude.{◌≡◌, ◌+◌, ◌<◌, [], OnOk, length, take};
 ghost use Rattle.sw_config.specs.Entries.{empty};
-ghost use Rattle.sw_mend.specs.Changes.{by_number, switch_after};
+ghost use Rattle.sw_mend.specs.Changes.{by_number, switch_after_all};
 
 use crate::change::Change;
 use crate::tables::table_after;
@@ -46,18 +46,18 @@ pub(crate) fn add_nodes(
 fn add_switch(
     alloc: Global,
     network: &Network,
-    change: &Change,
+    changes: &[Change],
     switch: u16,
     builder: &mut NetworkBuilder,
 ) -> Result<(), AllocError>
     requires within { switch < length network.now.switches }
-    requires before { builder.old ≡ record empty { nodes = network.now.nodes; switches = by_number (switch_after change.now) 0 (take switch network.now.switches) } }
-    ensures { OnOk result (builder.new ≡ record empty { nodes = network.now.nodes; switches = by_number (switch_after change.now) 0 (take (switch + 1) network.now.switches) }) }
+    requires before { builder.old ≡ record empty { nodes = network.now.nodes; switches = by_number (switch_after_all changes.now) 0 (take switch network.now.switches) } }
+    ensures { OnOk result (builder.new ≡ record empty { nodes = network.now.nodes; switches = by_number (switch_after_all changes.now) 0 (take (switch + 1) network.now.switches) }) }
 {
     // Names the network, which is valid by its type.
     let _topology = network.topology();
     let _switches = network.switches();
-    let table = table_after(alloc, change, switch, network.routes(switch))?;
+    let table = table_after(alloc, changes, switch, network.routes(switch))?;
     let name = network.switch_name(switch);
     builder.add_switch(alloc, name, network.arbitration(switch), table)
 }
@@ -66,14 +66,14 @@ fn add_switch(
 pub(crate) fn add_switches(
     alloc: Global,
     network: &Network,
-    change: &Change,
+    changes: &[Change],
     builder: &mut NetworkBuilder,
 ) -> Result<(), AllocError>
     requires { builder.old ≡ record empty { nodes = network.now.nodes } }
-    ensures { OnOk result (builder.new ≡ record empty { nodes = network.now.nodes; switches = by_number (switch_after change.now) 0 network.now.switches }) }
+    ensures { OnOk result (builder.new ≡ record empty { nodes = network.now.nodes; switches = by_number (switch_after_all changes.now) 0 network.now.switches }) }
 {
     for switch in 0..network.switches() {
-        add_switch(alloc, network, change, switch, builder)?;
+        add_switch(alloc, network, changes, switch, builder)?;
     }
     Ok(())
 }

@@ -2,7 +2,7 @@
 ghost use Rattle.std.specs.Prelude.{◌≡◌, [], None, IfOk, OnOk};
 ghost use Rattle.sw_topo.specs.Checked.{fault_of};
 ghost use Rattle.sw_config.specs.Entries.{empty, wiring_of};
-ghost use Rattle.sw_mend.specs.Changes.{changed};
+ghost use Rattle.sw_mend.specs.Changes.{changed, changed_by_all};
 
 use crate::change::Change;
 use crate::flows::add_flows;
@@ -16,14 +16,14 @@ use sw_topo::TopoError;
 fn add_parts(
     alloc: Global,
     network: &Network,
-    change: &Change,
+    changes: &[Change],
     builder: &mut NetworkBuilder,
 ) -> Result<(), AllocError>
     requires { builder.old ≡ empty }
-    ensures { OnOk result (builder.new ≡ record (changed network.now change.now) { flows = [] }) }
+    ensures { OnOk result (builder.new ≡ record (changed_by_all network.now changes.now) { flows = [] }) }
 {
     add_nodes(alloc, network, builder)?;
-    add_switches(alloc, network, change, builder)?;
+    add_switches(alloc, network, changes, builder)?;
     add_links(network, builder)
 }
 
@@ -39,15 +39,37 @@ fn wired(alloc: Global, builder: NetworkBuilder) -> Result<Network, AllocError>
     }
 }
 
-// The network that the change leaves, without flows.
-fn without_flows(alloc: Global, network: &Network, change: &Change) -> Result<Network, AllocError>
-    ensures { IfOk result (λ n. n ≡ record (changed network.now change.now) { flows = [] }) }
+// The network that the changes leave, without flows.
+fn without_flows(
+    alloc: Global,
+    network: &Network,
+    changes: &[Change],
+) -> Result<Network, AllocError>
+    ensures { IfOk result (λ n. n ≡ record (changed_by_all network.now changes.now) { flows = [] }) }
 {
     // Names the network, which is valid by its type.
     let _topology = network.topology();
     let mut builder = NetworkBuilder::new(alloc);
-    add_parts(alloc, network, change, &mut builder)?;
+    add_parts(alloc, network, changes, &mut builder)?;
     wired(alloc, builder)
+}
+
+/// The network that the changes leave, one after the other: what is left after the first keeps its number for the next. The changed network
+/// is built once.
+///
+/// # Errors
+///
+/// There is no memory for it.
+pub fn network_with_all(
+    alloc: Global,
+    network: &Network,
+    changes: &[Change],
+) -> Result<Network, AllocError>
+    ensures { IfOk result (λ n. n ≡ changed_by_all network.now changes.now) }
+{
+    let mut built = without_flows(alloc, network, changes)?;
+    add_flows(alloc, network, changes, &mut built)?;
+    Ok(built)
 }
 
 /// The network that the change leaves.
@@ -62,7 +84,5 @@ pub fn network_with(
 ) -> Result<Network, AllocError>
     ensures { IfOk result (λ n. n ≡ changed network.now change.now) }
 {
-    let mut built = without_flows(alloc, network, change)?;
-    add_flows(alloc, network, change, &mut built)?;
-    Ok(built)
+    network_with_all(alloc, network, &[*change])
 }

@@ -1,8 +1,8 @@
-//! The routing tables that a change leaves.
-ghost use Rattle.std.specs.Prelude.{◌≡◌, ◌++◌, ◌∷◌, [], false, IfOk, OnOk};
+//! The routing tables that changes leave.
+ghost use Rattle.std.specs.Prelude.{◌≡◌, ◌++◌, ◌∷◌, [], false, fold, IfOk, OnOk};
 ghost use Rattle.std.specs.List.{list_any};
 ghost use Rattle.sw_route.specs.Looks.{IsRoute, IsTable, overlaps};
-ghost use Rattle.sw_mend.specs.Changes.{by_number, loses_entry, ports_after, ports_but, route_after};
+ghost use Rattle.sw_mend.specs.Changes.{by_number, loses_entry, ports_after, ports_but, route_after_all};
 
 use crate::change::Change;
 use std::alloc::{AllocError, Global};
@@ -10,7 +10,7 @@ use std::marker::Model;
 use sw_route::{Route, RouteError, TableRoutes};
 use sw_topo::{Port, PortSet};
 
-// Is the entry taken out of the switch's table?
+// Does the change take the entry out of the switch's table?
 fn loses_entry(change: &Change, switch: u16, entry: usize) -> bool
     ensures { result ≡ loses_entry change.now switch entry }
 {
@@ -23,6 +23,15 @@ fn loses_entry(change: &Change, switch: u16, entry: usize) -> bool
     }
 }
 
+// Does one of the changes take the entry out of the switch's table?
+fn is_lost(changes: &[Change], switch: u16, entry: usize) -> bool
+    ensures { result ≡ list_any (λ change. loses_entry change switch entry) changes.now }
+{
+    changes
+        .iter()
+        .any(|change| loses_entry(change, switch, entry))
+}
+
 // The ports of the set, but that one.
 fn ports_but(port: Port, set: PortSet) -> PortSet
     ensures { result ≡ ports_but port set }
@@ -30,7 +39,7 @@ fn ports_but(port: Port, set: PortSet) -> PortSet
     set.without(port)
 }
 
-// The ports that the entry of the switch's table names.
+// The ports that the change leaves to the entry of the switch's table.
 fn ports_after(change: &Change, switch: u16, entry: usize, set: PortSet) -> PortSet
     ensures { result ≡ ports_after change.now switch entry set }
 {
@@ -50,6 +59,17 @@ fn ports_after(change: &Change, switch: u16, entry: usize, set: PortSet) -> Port
     }
 }
 
+// The ports that the changes leave to the entry, one after the other.
+fn ports_left(changes: &[Change], switch: u16, entry: usize, set: PortSet) -> PortSet
+    ensures { result ≡ fold (λ ports change. ports_after change switch entry ports) set changes.now }
+{
+    let mut ports = set;
+    for change in changes {
+        ports = ports_after(change, switch, entry, ports);
+    }
+    ports
+}
+
 // Adds an entry with these ports for the addresses of another.
 fn add_entry(table: &mut TableRoutes, route: &Route, ports: PortSet) -> Result<(), AllocError>
     requires route { IsRoute route.now }
@@ -66,35 +86,35 @@ fn add_entry(table: &mut TableRoutes, route: &Route, ports: PortSet) -> Result<(
 // Adds what is left of the entry of the switch's table.
 fn add_route(
     table: &mut TableRoutes,
-    change: &Change,
+    changes: &[Change],
     switch: u16,
     entry: usize,
     route: &Route,
 ) -> Result<(), AllocError>
     requires route { IsRoute route.now }
     requires apart { list_any (overlaps route.now) table.old ≡ false }
-    ensures { OnOk result (table.new ≡ table.old ++ route_after change.now switch entry route.now) }
+    ensures { OnOk result (table.new ≡ table.old ++ route_after_all changes.now switch entry route.now) }
 {
-    if loses_entry(change, switch, entry) {
+    if is_lost(changes, switch, entry) {
         return Ok(());
     }
-    let ports = ports_after(change, switch, entry, route.ports);
+    let ports = ports_left(changes, switch, entry, route.ports);
     add_entry(table, route, ports)
 }
 
 /// What is left of the table of the switch of that number.
 pub(crate) fn table_after(
     alloc: Global,
-    change: &Change,
+    changes: &[Change],
     switch: u16,
     routes: &[Route],
 ) -> Result<TableRoutes, AllocError>
     requires { IsTable routes.now }
-    ensures { IfOk result (λ t. t ≡ by_number (route_after change.now switch) 0 routes.now) }
+    ensures { IfOk result (λ t. t ≡ by_number (route_after_all changes.now switch) 0 routes.now) }
 {
     let mut table = TableRoutes::new(alloc);
     for (entry, route) in routes.iter().enumerate() {
-        add_route(&mut table, change, switch, entry, route)?;
+        add_route(&mut table, changes, switch, entry, route)?;
     }
     Ok(table)
 }

@@ -9,18 +9,18 @@ use Rattle.sw_mend.proofs.parts.add_switch.Goals as goal
 pub add_switch-requires-clause-few : goal.add_switch-requires-clause-few
 add_switch-requires-clause-few c =
     let switches = c.args.network.now.switches in
-    let many = ap (λ (d : Declaration). length d.switches) c.requires.before ∙ as_many c.args.change.now 0 (take c.args.switch switches) in
+    let many = ap (λ (d : Declaration). length d.switches) c.requires.before ∙ as_many c.args.changes.now 0 (take c.args.switch switches) in
     let short = length-take-le c.args.switch switches (omega (arith, c.requires.within)) in
     omega (arith, many, short, c.requires.within, c.switches-switches.ensures.count, c.switches-switches.ensures.few)
 
 pub add_switch-requires-clause-new_name : goal.add_switch-requires-clause-new_name
 add_switch-requires-clause-new_name c =
-    fresh_switch c.args.change.now c.args.network.now _ c.args.switch _ c.topology-topology.ensures.valid.parts_named c.requires.within c.switch_name-name.ensures c.requires.before
+    fresh_switch c.args.changes.now c.args.network.now _ c.args.switch _ c.topology-topology.ensures.valid.parts_named c.requires.within c.switch_name-name.ensures c.requires.before
 
 pub returns : goal.returns
 returns c =
     let d = c.args.network.now in
     IfOk-weaker c.add_switch.result _ _
-    (λ _ e. switch_built c.args.change.now d.nodes d.switches c.args.switch _ _ _ _ _ _ c.requires.within c.switch_name-name.ensures c.arbitration.ensures c.routes.ensures.routes
+    (λ _ e. switch_built c.args.changes.now d.nodes d.switches c.args.switch _ _ _ _ _ _ c.requires.within c.switch_name-name.ensures c.arbitration.ensures c.routes.ensures.routes
     c.in_ok-table.ensures c.requires.before e)
     c.add_switch.ensures.ok

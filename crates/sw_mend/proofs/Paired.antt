@@ -1,0 +1,53 @@
+-- Those pairs of changes that free the network, with one more second change, and with one more first.
+use Rattle.std.proofs.Common.{◌≡◌, ◌∙◌, ◌↔◌, ◌+◌, ◌<◌, ℕ, Bool, IsTrue, List, [], ◌∷◌, ◌++◌, append-nil, append_assoc, drop, get_or, length, map, refl, subst, sym, take, ap}
+use Rattle.std.specs.Prelude.{if◌then◌else◌}
+use Rattle.std.proofs.lemmas.List.{drop_more, take_more, map-append}
+use Rattle.sw_config.specs.Entries.{Declaration}
+use Rattle.sw_mend.specs.Changes.{pairs_of}
+use Rattle.sw_mend.specs.Mends.{AreThosePairs, FreesBoth}
+use Rattle.sw_mend.specs.declared.change.Change.{Change}
+use Rattle.sw_mend.specs.declared.change.Pair.{Pair}
+use Rattle.sw_mend.proofs.Told.{joined, told_one}
+
+abbrev pub pair_with : Change → Change → Pair
+pair_with first second = record { first = first; second = second }
+
+-- behind what was told before, those pairs of the first change and one of these
+abbrev pub AreAdded : Declaration → Change → List Change → List Pair → List Pair → Type 0
+AreAdded d first others old now = (those : List Pair) × AreThosePairs d (map (pair_with first) others) those × (now ≡ old ++ those)
+
+pub none_added : (d : Declaration) (first : Change) (old : List Pair) → AreAdded d first [] old old
+none_added d first old = ([], refl, sym (append-nil old))
+
+pub added_more : (d : Declaration) (first : Change) (others : List Change) (i : ℕ) (second : Change) (old now after : List Pair) (b : Bool) → i < length others
+    → second ≡ get_or others i second → AreAdded d first (take i others) old now → (IsTrue b ↔ FreesBoth d (pair_with first second))
+    → after ≡ now ++ (if b then pair_with first second ∷ [] else []) → AreAdded d first (take (i + 1) others) old after
+added_more d first others i second old now after b lt at (those, are, so_far) decided more =
+    let new : List Pair = if b then pair_with first second ∷ [] else [] in
+    let cut : take (i + 1) others ≡ take i others ++ second ∷ [] = take_more others i second lt ∙ ap (λ c. take i others ++ c ∷ []) (sym at) in
+    let paired : map (pair_with first) (take (i + 1) others) ≡ map (pair_with first) (take i others) ++ pair_with first second ∷ [] =
+    ap (map (pair_with first)) cut ∙ map-append (pair_with first) (take i others) (second ∷ []) in (
+      those ++ new,
+      subst (λ (l : List Pair). AreThosePairs d l (those ++ new)) (sym paired)
+          (told_one (FreesBoth d) (map (pair_with first) (take i others)) (pair_with first second) those (those ++ new) b are decided refl),
+      more ∙ ap (λ (l : List Pair). l ++ new) so_far ∙ append_assoc old those new,
+    )
+
+-- whatever pairs of the changes left are those that free, behind what was told they are those of all the changes
+abbrev pub AreTold : Declaration → List Change → List Change → List Pair → Type 0
+AreTold d changes left told = (more : List Pair) → AreThosePairs d (pairs_of left) more → AreThosePairs d (pairs_of changes) (told ++ more)
+
+pub told_with : (d : Declaration) (changes others : List Change) (i : ℕ) (first : Change) (now after : List Pair) → i < length changes → first ≡ get_or changes i first
+    → others ≡ drop (i + 1) changes → AreTold d changes (drop i changes) now → AreAdded d first others now after → AreTold d changes (drop (i + 1) changes) after
+told_with d changes others i first now after lt at rest so_far (those, are, is) more left =
+    let cut : drop i changes ≡ first ∷ others =
+    drop_more changes i first lt ∙ (λ t. sym at t ∷ sym rest t) in
+    let more_left : AreThosePairs d (pairs_of others) more = rw rest left in
+    let both : AreThosePairs d (pairs_of (drop i changes)) (those ++ more) =
+    rw cut (joined (FreesBoth d) (map (pair_with first) others) (pairs_of others) those more are more_left) in
+    subst (AreThosePairs d (pairs_of changes)) (sym (append_assoc now those more) ∙ ap (λ (l : List Pair). l ++ more) (sym is)) (so_far (those ++ more) both)
+
+pub all_told : (d : Declaration) (changes left : List Change) (told : List Pair) → left ≡ [] → AreTold d changes left told → AreThosePairs d (pairs_of changes) told
+all_told d changes left told none so_far =
+    let gone : AreThosePairs d (pairs_of left) [] = rw none refl in
+    subst (AreThosePairs d (pairs_of changes)) (append-nil told) (so_far [] gone)

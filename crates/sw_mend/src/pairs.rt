@@ -1,0 +1,105 @@
+//! The pairs of single changes that free a network.
+ghost use Rattle.std.specs.Prelude.{◌≡◌, ◌↔◌, ◌++◌, ◌∷◌, [], List, IfOk, IsTrue, OnOk, if◌then◌else◌, map};
+ghost use Rattle.sw_mend.specs.Changes.{pairs_of};
+ghost use Rattle.sw_mend.specs.Mends.{AreThosePairs, ArePairMends, FreesBoth};
+ghost use Rattle.sw_mend.specs.declared.change.Change.{Change};
+ghost use Rattle.sw_mend.specs.declared.change.Pair.{Pair};
+
+use crate::change::{Change, Pair};
+use crate::listing::single_changes;
+use crate::rebuilt::network_with_all;
+use std::alloc::{AllocError, Global};
+use std::thread::Threads;
+use sw_config::Network;
+use sw_search::is_free;
+
+// Do both changes free the network?
+fn frees_both<R: Threads + Sync>(
+    rt: &R,
+    alloc: Global,
+    network: &Network,
+    first: &Change,
+    second: &Change,
+) -> Result<bool, AllocError>
+    ensures { IfOk result (λ b. IsTrue b ↔ FreesBoth network.now (record { first = first.now; second = second.now })) }
+{
+    let changed = network_with_all(alloc, network, &[*first, *second])?;
+    is_free(rt, alloc, &changed)
+}
+
+// The pair of the changes, if they free the network.
+fn add_pair(
+    frees: bool,
+    first: &Change,
+    second: &Change,
+    pairs: &mut Vec<Pair>,
+) -> Result<(), AllocError>
+    ensures { OnOk result (pairs.new.items ≡ pairs.old.items ++ (if frees then record { first = first.now; second = second.now } ∷ [] else [])) }
+{
+    if frees {
+        pairs.push(Pair {
+            first: *first,
+            second: *second,
+        })?;
+    }
+    Ok(())
+}
+
+// Adds those of the pairs of the first change and one of the others that free the network.
+fn add_pairs_with<R: Threads + Sync>(
+    rt: &R,
+    alloc: Global,
+    network: &Network,
+    first: &Change,
+    others: &[Change],
+    pairs: &mut Vec<Pair>,
+) -> Result<(), AllocError>
+    ensures { OnOk result ((those : List Pair) × AreThosePairs network.now (map (λ second. record { first = first.now; second = second }) others.now) those × (pairs.new.items ≡ pairs.old.items ++ those)) }
+{
+    for second in others {
+        let frees = frees_both(rt, alloc, network, first, second)?;
+        add_pair(frees, first, second, pairs)?;
+    }
+    Ok(())
+}
+
+// Those of the pairs of the changes that free the network.
+fn pairs_that_free<R: Threads + Sync>(
+    rt: &R,
+    alloc: Global,
+    network: &Network,
+    changes: &[Change],
+) -> Result<Vec<Pair>, AllocError>
+    ensures { IfOk result (λ v. AreThosePairs network.now (pairs_of changes.now) v.items) }
+{
+    let mut pairs = Vec::new(alloc);
+    for (number, first) in changes.iter().enumerate() {
+        add_pairs_with(
+            rt,
+            alloc,
+            network,
+            first,
+            &changes[number + 1..],
+            &mut pairs,
+        )?;
+    }
+    Ok(pairs)
+}
+
+/// The pairs of single changes that free the network, the first before the second in the order of single changes, and the pairs by the first
+/// and then by the second. Each pair is tried: none that is left out frees the network. Threads share the work of each trial, as many as there
+/// are processors.
+///
+/// # Errors
+///
+/// There is no memory for the changes, a changed network or its verdict.
+pub fn pair_mends<R: Threads + Sync>(
+    rt: &R,
+    alloc: Global,
+    network: &Network,
+) -> Result<Vec<Pair>, AllocError>
+    ensures { IfOk result (λ v. ArePairMends network.now v.items) }
+{
+    let changes = single_changes(alloc, network)?;
+    pairs_that_free(rt, alloc, network, &changes)
+}
