@@ -1,8 +1,8 @@
-mod Numbered
+pub mod Numbered
 mod Fresh
 mod PortSets
 mod Linked
-mod OneMore
+pub mod OneMore
 mod Told
 mod Determined
 mod Kept
