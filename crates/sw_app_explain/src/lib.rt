@@ -11,4 +11,5 @@ mod words;
 
 pub use engine::explain;
 pub use route_texts::fault_words;
+pub use step_texts::names_text;
 pub use words::numbered;

@@ -81,8 +81,8 @@ fn more_names(alloc: Global, network: &Network, flows: &[u16]) -> Result<String,
     Ok(text)
 }
 
-// The names of flows, with a comma between each two.
-fn names_text(alloc: Global, network: &Network, flows: &[u16]) -> Result<String, AllocError>
+/// The names of flows, with a comma between each two.
+pub fn names_text(alloc: Global, network: &Network, flows: &[u16]) -> Result<String, AllocError>
     ensures { IfOk result (λ s. string_bytes s ≡ names_text network.now flows.now) }
 {
     match flows {

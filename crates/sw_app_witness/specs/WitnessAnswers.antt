@@ -1,6 +1,7 @@
 -- What `witness` answers (this project's choice).
 use Rattle.std.specs.Prelude.{◌≡◌, ◌⊎◌, ℕ, List, [], ◌∷◌, codes, Result, Ok, Err}
 use Rattle.std.specs.Fmt.{decimal}
+use Rattle.sw_app_explain.specs.ExplainTexts.{names_text}
 use Rattle.sw_command.specs.Ends.{Answers, Says}
 use Rattle.sw_command.specs.FaultTexts.{fault_text}
 use Rattle.sw_config.specs.Entries.{Declaration}
@@ -11,6 +12,7 @@ use Rattle.sw_file.specs.Network.{network_text}
 use Rattle.sw_output.specs.Lines.{line}
 use Rattle.sw_output.specs.VerdictTexts.{misrouted_words}
 use Rattle.sw_toml_table.specs.declared.fault.TextFault.{TextFault}
+use Rattle.sw_unanswered.specs.Unanswered.{IsFreeWithout, never_answered}
 use Rattle.sw_witness.specs.Witnesses.{LocksUp}
 
 -- that none was found, which says nothing of the network
@@ -21,6 +23,10 @@ none_found tries = line (codes "no lock-up found in" ∷ decimal tries ∷ codes
 abbrev pub free_line : List ℕ
 free_line = line (codes "no lock-up: the network is free" ∷ [])
 
+-- that there is nothing to look for, since the replies of these flows can't happen
+abbrev pub unanswered_line : Declaration → List ℕ → List ℕ
+unanswered_line d flows = line (codes "no lock-up: the replies of" ∷ names_text d flows ∷ codes "can't happen" ∷ [])
+
 -- a schedule that leads the network into a lock-up
 abbrev pub IsWitness : Declaration → Answers
 IsWitness d text status = LocksUp d text × (status ≡ 0)
@@ -29,10 +35,15 @@ IsWitness d text status = LocksUp d text × (status ≡ 0)
 abbrev pub IsSearched : ℕ → Declaration → Answers
 IsSearched tries d text status = IsWitness d text status ⊎ Says (none_found tries) 1 text status
 
--- where channels can wait for one another what a search finds; else the flow that is not well routed, or that there is nothing to look for
+-- that there is nothing to look for, where the network is free without the replies that can't happen; and only else what a search finds
+abbrev pub IsOfTangled : ℕ → Declaration → Answers
+IsOfTangled tries d text status =
+    (IsFreeWithout d × Says (unanswered_line d (never_answered d)) 1 text status) ⊎ ((IsFreeWithout d → ⊥) × IsSearched tries d text status)
+
+-- where channels can wait for one another one of these; else the flow that is not well routed, or that there is nothing to look for
 abbrev pub IsOfKind : ℕ → Declaration → Explanation → Answers
 IsOfKind tries d (Misrouted flow place fault way) text status = Says (line (misrouted_words d flow place fault ∷ [])) 1 text status
-IsOfKind tries d (Cyclic tangles) text status = IsSearched tries d text status
+IsOfKind tries d (Cyclic tangles) text status = IsOfTangled tries d text status
 IsOfKind tries d Free text status = Says free_line 1 text status
 
 -- of a network

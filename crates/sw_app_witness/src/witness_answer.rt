@@ -4,9 +4,10 @@ ghost use Rattle.sw_command.specs.Ends.{Says};
 ghost use Rattle.sw_explain.specs.Explanations.{IsExplanation};
 ghost use Rattle.sw_output.specs.Lines.{line};
 ghost use Rattle.sw_output.specs.VerdictTexts.{misrouted_words};
-ghost use Rattle.sw_app_witness.specs.WitnessAnswers.{IsNetworkAnswer, IsOfKind, IsSearched, IsWitnessAnswer, free_line};
+ghost use Rattle.sw_unanswered.specs.Unanswered.{never_answered};
+ghost use Rattle.sw_app_witness.specs.WitnessAnswers.{IsNetworkAnswer, IsOfKind, IsOfTangled, IsSearched, IsWitnessAnswer, free_line, unanswered_line};
 
-use crate::witness_texts::{free_line, none_found};
+use crate::witness_texts::{free_line, none_found, unanswered_line, with_note};
 use std::alloc::{AllocError, Global};
 use std::thread::Threads;
 use sw_command::Answer;
@@ -17,24 +18,56 @@ use sw_file::read_network;
 use sw_flow::{Place, RouteFault};
 use sw_output::misrouted_text;
 use sw_toml_table::FileFault;
+use sw_unanswered::{is_free_without, never_answered};
 use sw_witness::find;
 
-// The answer of a search.
+// The answer of a search, which tells also that the replies of these flows can't happen.
 fn searched(
     alloc: Global,
     network: &Network,
     tangles: &[Tangle],
+    flows: &[u16],
     tries: u32,
     seed: u32,
 ) -> Result<Answer, AllocError>
     ensures { IfOk result (λ a. IsSearched tries network.now (string_bytes a.text) a.status) }
 {
     match find(alloc, network, tangles, tries, seed)? {
-        Some(text) => Ok(Answer { text, status: GOOD }),
+        Some(schedule) => {
+            let text = with_note(alloc, network, flows, schedule)?;
+            Ok(Answer { text, status: GOOD })
+        }
         None => {
             let text = none_found(alloc, tries)?;
             Ok(Answer { text, status: BAD })
         }
+    }
+}
+
+// The answer where the network is free without the replies of these flows, which can't happen.
+fn unanswered(alloc: Global, network: &Network, flows: &[u16]) -> Result<Answer, AllocError>
+    ensures { IfOk result (λ a. Says (unanswered_line network.now flows.now) 1 (string_bytes a.text) a.status) }
+{
+    let text = unanswered_line(alloc, network, flows)?;
+    Ok(Answer { text, status: BAD })
+}
+
+// The answer where channels can wait for one another.
+fn tangled<T: Threads + Sync>(
+    rt: &T,
+    alloc: Global,
+    network: &Network,
+    tangles: &[Tangle],
+    tries: u32,
+    seed: u32,
+) -> Result<Answer, AllocError>
+    ensures { IfOk result (λ a. IsOfTangled tries network.now (string_bytes a.text) a.status) }
+{
+    let flows = never_answered(alloc, network)?;
+    if is_free_without(rt, alloc, network, &flows)? {
+        unanswered(alloc, network, &flows)
+    } else {
+        searched(alloc, network, tangles, &flows, tries, seed)
     }
 }
 
@@ -61,7 +94,8 @@ fn free(alloc: Global) -> Result<Answer, AllocError>
 }
 
 // The answer by why the network can lock up.
-fn answer_of(
+fn answer_of<T: Threads + Sync>(
+    rt: &T,
     alloc: Global,
     network: &Network,
     explanation: &Explanation,
@@ -78,7 +112,7 @@ fn answer_of(
             fault,
             ..
         } => misrouted(alloc, network, *flow, *place, *fault),
-        Explanation::Cyclic(tangles) => searched(alloc, network, tangles, tries, seed),
+        Explanation::Cyclic(tangles) => tangled(rt, alloc, network, tangles, tries, seed),
         Explanation::Free => free(alloc),
     }
 }
@@ -94,7 +128,7 @@ fn network_answer<T: Threads + Sync>(
     ensures { IfOk result (λ a. IsNetworkAnswer tries network.now (string_bytes a.text) a.status) }
 {
     let explanation = explain(rt, alloc, network)?;
-    answer_of(alloc, network, &explanation, tries, seed)
+    answer_of(rt, alloc, network, &explanation, tries, seed)
 }
 
 /// The answer to the bytes of a network file.

@@ -1,9 +1,9 @@
-mod Numbered
+pub mod Numbered
 mod AfterAll
 mod Fresh
 mod PortSets
 mod Linked
-mod OneMore
+pub mod OneMore
 mod Told
 mod Paired
 mod Determined

@@ -1,0 +1,5 @@
+mod SameRuns
+mod NoReply
+mod Listings
+mod Taken
+mod Away

@@ -1,0 +1,3 @@
+pub mod OtherFlows
+pub mod Unanswered
+pub mod Laws
