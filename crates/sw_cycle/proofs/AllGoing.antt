@@ -1,9 +1,9 @@
 -- All flows that go on from a channel to another.
-use Rattle.std.proofs.Common.{◌≡◌, ℕ, ◌+◌, ◌<◌, ◌≤◌, ◌⊎◌, List, [], ◌∷◌, ◌++◌, length, Bool, true, false, Option, Some, None, Contains, ◌-◌, refl, sym, ap, ◌∙◌, subst, inl, inr, arith}
+use Rattle.std.proofs.Common.{◌≡◌, ℕ, ◌+◌, ◌<◌, ◌≤◌, List, [], ◌∷◌, ◌++◌, length, true, false, Option, Some, None, Contains, ◌-◌, refl, sym, ap, ◌∙◌, subst, inl, inr, arith}
 use Rattle.std.specs.Prelude.{IfNone, IfSome, slice_get, slice_index}
 use Rattle.std.specs.List.Sorted.{IsStrictlyIncreasing}
 use Rattle.std.specs.Option.{is_some}
-use Rattle.std.proofs.lemmas.Bool.{cases_eq, cases_lt, false≢true}
+use Rattle.std.proofs.lemmas.Bool.{cases_lt, false≢true}
 use Rattle.std.proofs.lemmas.List.Elements.{Contains-append_cases, Contains-append_left, Contains-push, Contains-push_cases, Contains-get_or}
 use Rattle.std.proofs.lemmas.List.{get_or-append_right, get_or_append_left, length-append}
 use Rattle.std.proofs.lemmas.Option.{slice_get_within}
@@ -14,6 +14,7 @@ use Rattle.sw_flow.specs.Ways.{GoesTo}
 use Rattle.sw_graph.specs.Reached.{IsListing}
 use Rattle.sw_cycle.specs.Causes.{GoesOn}
 use Rattle.sw_cycle.specs.Firsts.{NoneFrom}
+use Rattle.sw_cycle.specs.Goers.{Below}
 
 nothing_in : {X : Type 0} (x : X) → Contains [] x → ⊥
 nothing_in x h = let lt = h.1 in omega arith
@@ -52,10 +53,6 @@ rising_push xs n rising low = λ k lt.
           let h = low k (omega arith) in
           omega arith
     ]
-
--- those of the first n flows
-abbrev pub Below : Declaration → ℕ → ℕ → ℕ → List ℕ → Type 0
-Below d n c e numbers = IsListing (λ i. (i < n) × GoesOn d i c e) numbers
 
 module _ (d : Declaration) (c e : ℕ) where
   pub below_none : Below d 0 c e []

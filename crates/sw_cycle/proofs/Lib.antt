@@ -8,3 +8,4 @@ pub mod Found
 pub mod AllGoing
 pub mod OnChannel
 pub mod Standing
+pub mod Taken

@@ -1,5 +1,5 @@
 -- The places of a list in order that are on one channel.
-use Rattle.std.proofs.Common.{Bool, not, eqb, ◌≡◌, ◌<◌, ◌≤◌, ◌+◌, ◌-◌, ◌↔◌, ◌⊎◌, ◌∙◌, ℕ, AllPairs, Contains, List, ap, arith, drop, false, get_or, inl, inr, length, ltb, refl, slice_range, sym, take, true}
+use Rattle.std.proofs.Common.{Bool, not, eqb, ◌≡◌, ◌<◌, ◌≤◌, ◌+◌, ◌-◌, ◌↔◌, ◌∙◌, ℕ, AllPairs, Contains, List, ap, arith, drop, false, get_or, inl, inr, length, ltb, slice_range, sym, true}
 use Rattle.std.specs.List.{AllWithin}
 use Rattle.std.specs.List.Sorted.{IsNonDecreasingBy, IsPartitionPoint}
 use Rattle.std.proofs.lemmas.Bool.{cases_lt, ltb-false, ltb-true}

@@ -3,3 +3,4 @@ pub mod Laws
 pub mod Causes
 pub mod Firsts
 pub mod Positions
+pub mod Goers

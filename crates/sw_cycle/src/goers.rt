@@ -1,12 +1,13 @@
-//! All flows that go on from a channel to another.
-ghost use Rattle.std.specs.Prelude.{◌≡◌, ◌<◌, ◌≤◌, ◌↔◌, AllPairs, Contains, IfOk, IsTrue, Some, length, nat_lt, slice_get};
+//! All flows that go on from each channel of a round to the next one.
+ghost use Rattle.std.specs.Prelude.{◌≡◌, ◌+◌, ℕ, ◌<◌, ◌≤◌, ◌↔◌, ◌++◌, ◌∷◌, [], AllPairs, Contains, IfOk, IsTrue, OnOk, Some, length, nat_lt, slice_get, true, if◌then◌else◌};
 ghost use Rattle.std.specs.List.{AllZip};
 ghost use Rattle.std.specs.List.Sorted.{IsPartitionPoint};
 ghost use Rattle.sw_config.specs.Entries.{all_flows};
 ghost use Rattle.sw_flow.specs.declared.place.Place.{Place};
 ghost use Rattle.sw_flow.specs.Places.{IsBefore, IsPlaceList};
-ghost use Rattle.sw_graph.specs.Reached.{IsListing};
+ghost use Rattle.sw_graph.specs.Rows.{row};
 ghost use Rattle.sw_cycle.specs.Causes.{GoesOn};
+ghost use Rattle.sw_cycle.specs.Goers.{AreBelow, AreFlows, AreMarked, IsRowSet, IsTakenAt};
 
 use crate::steps::follower_between;
 use std::alloc::{AllocError, Global};
@@ -76,32 +77,164 @@ fn goes_on(
     false
 }
 
-/// The numbers of all flows that go on from the one channel to the other, in rising order. `places`
-/// has the places of each flow, by the flows' numbers, as `all_places` gives them.
+/// Marks the channels of the places.
+fn mark_places(places: &[Place], marks: &mut [bool])
+    requires { (p : Place) → Contains places.now p → p.channel < length marks.old }
+    ensures { AreMarked places.now marks.new }
+{
+    for place in places {
+        marks[usize::from(place.channel.number())] = true;
+    }
+}
+
+/// A mark for each channel on which the flow has a place.
+fn marks_of(
+    alloc: Global,
+    network: &Network,
+    flow: &Flow,
+    places: &[Place],
+) -> Result<Vec<bool>, AllocError>
+    requires { IsPlaceList network.now flow.now places.now }
+    ensures { IfOk result (λ v. AreMarked places.now v.items) }
+{
+    let mut marks = vec![in alloc; false; usize::from(network.channels())]?;
+    mark_places(places, &mut marks);
+    Ok(marks)
+}
+
+fn is_marked(marks: &[bool], channel: Chan) -> bool
+    ensures { IsTrue result ↔ (slice_get marks.now channel ≡ Some true) }
+{
+    match marks.get(usize::from(channel.number())) {
+        Some(mark) => *mark,
+        None => false,
+    }
+}
+
+/// As many rows of no flows.
+fn no_flows(alloc: Global, count: usize) -> Result<Vec<Vec<u16>>, AllocError>
+    ensures size { IfOk result (λ v. length v.items ≡ count) }
+    ensures empty { IfOk result (λ v. (i : ℕ) → row v.items i ≡ []) }
+{
+    let mut flows = Vec::new(alloc);
+    for _ in 0..count {
+        flows.push(Vec::new(alloc))?;
+    }
+    Ok(flows)
+}
+
+/// Adds the flow to the row at that step, if it goes on so.
+fn add_to_row(
+    flows: &mut [Vec<u16>],
+    step: usize,
+    goes: bool,
+    number: u16,
+) -> Result<(), AllocError>
+    requires { step < length flows.old }
+    ensures { OnOk result (IsRowSet flows.old step (if goes then row flows.old step ++ number ∷ [] else row flows.old step) flows.new) }
+{
+    if goes {
+        flows[step].push(number)?;
+    }
+    Ok(())
+}
+
+/// Does the flow of that number, which has these places, on channels that are marked, go on from
+/// the one channel to the other?
+fn goes_on_from(
+    network: &Network,
+    number: u16,
+    flow: &Flow,
+    places: &[Place],
+    marks: &[bool],
+    from: Chan,
+    to: Chan,
+) -> bool
+    requires short { length flow.now.address ≤ 32 }
+    requires numbered { slice_get (all_flows network.now) number ≡ Some flow.now }
+    requires places { IsPlaceList network.now flow.now places.now }
+    requires marked { AreMarked places.now marks.now }
+    ensures { IsTrue result ↔ GoesOn network.now number from to }
+{
+    if !is_marked(marks, from) {
+        return false;
+    }
+    goes_on(network, number, flow, places, from, to)
+}
+
+/// Takes one more flow into account at one step of the round.
+fn take_at(
+    network: &Network,
+    number: u16,
+    flow: &Flow,
+    places: &[Place],
+    marks: &[bool],
+    channels: &[Chan],
+    step: usize,
+    flows: &mut [Vec<u16>],
+) -> Result<(), AllocError>
+    requires short { length flow.now.address ≤ 32 }
+    requires numbered { slice_get (all_flows network.now) number ≡ Some flow.now }
+    requires places { IsPlaceList network.now flow.now places.now }
+    requires marked { AreMarked places.now marks.now }
+    requires inside { step < length channels.now }
+    requires size { length flows.old ≡ length channels.now }
+    ensures { OnOk result (IsTakenAt network.now channels.now number step flows.old flows.new) }
+{
+    let from = channels[step];
+    let to = channels[(step + 1) % channels.len()];
+    let goes = goes_on_from(network, number, flow, places, marks, from, to);
+    add_to_row(flows, step, goes, number)
+}
+
+/// Takes one more flow into account at each step of the round.
+fn take_flow(
+    network: &Network,
+    number: u16,
+    flow: &Flow,
+    places: &[Place],
+    marks: &[bool],
+    channels: &[Chan],
+    flows: &mut [Vec<u16>],
+) -> Result<(), AllocError>
+    requires short { length flow.now.address ≤ 32 }
+    requires numbered { slice_get (all_flows network.now) number ≡ Some flow.now }
+    requires places { IsPlaceList network.now flow.now places.now }
+    requires marked { AreMarked places.now marks.now }
+    requires below { AreBelow network.now channels.now number flows.old }
+    ensures { OnOk result (AreBelow network.now channels.now (number + 1) flows.new) }
+{
+    for step in 0..channels.len() {
+        take_at(network, number, flow, places, marks, channels, step, flows)?;
+    }
+    Ok(())
+}
+
+/// For each of the channels the numbers of all flows that go on from it to the next one, and from
+/// the last to the first, in rising order. `places` has the places of each flow, by the flows'
+/// numbers, as `all_places` gives them.
 ///
-/// For each flow, the time is that of a search by halving among its places, and of a look at those
-/// that are on the first channel.
+/// The places of each flow are gone through once, and then those that are on the first channel of a
+/// step, for the steps for which there are some.
 ///
 /// # Errors
 ///
-/// There is no memory for the numbers.
-pub fn flows_between(
+/// There is no memory for the numbers, or for what finds them.
+pub fn flows_of_steps(
     alloc: Global,
     network: &Network,
     places: &[Vec<Place>],
-    from: Chan,
-    to: Chan,
-) -> Result<Vec<u16>, AllocError>
+    channels: &[Chan],
+) -> Result<Vec<Vec<u16>>, AllocError>
     requires { AllZip (λ f ps. IsPlaceList network.now f ps.items) (all_flows network.now) places.now }
-    ensures { IfOk result (λ v. IsListing (λ i. GoesOn network.now i from to) v.items) }
+    ensures { IfOk result (λ v. AreFlows network.now channels.now v.items) }
 {
-    let mut numbers = Vec::new(alloc);
+    let mut flows = no_flows(alloc, channels.len())?;
     for number in 0..network.flows() {
         let flow = network.flow(number);
         let listed = &places[usize::from(number)];
-        if goes_on(network, number, flow, listed, from, to) {
-            numbers.push(number)?;
-        }
+        let marks = marks_of(alloc, network, flow, listed)?;
+        take_flow(network, number, flow, listed, &marks, channels, &mut flows)?;
     }
-    Ok(numbers)
+    Ok(flows)
 }

@@ -13,6 +13,6 @@ mod steps;
 pub use check::check_cycle;
 pub use choose::causes;
 pub use cycle::{Cause, Cycle};
-pub use goers::flows_between;
+pub use goers::flows_of_steps;
 pub use sw_flow::Place;
 pub use sw_topo::Chan;

@@ -3,7 +3,6 @@
 
 mod explaining;
 mod explanation;
-mod flows;
 pub mod laws;
 mod misrouted;
 mod tangle;

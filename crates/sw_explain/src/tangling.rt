@@ -5,12 +5,11 @@ ghost use Rattle.sw_search.specs.Lists.{AreListed};
 ghost use Rattle.sw_search.specs.Verdicts.{depends};
 ghost use Rattle.sw_explain.specs.Tangles.{AreTangles, IsTangle};
 
-use crate::flows::flows_of_steps;
 use crate::tangle::Tangle;
 use std::alloc::{AllocError, Global};
 use std::thread::Threads;
 use sw_config::Network;
-use sw_cycle::{Cycle, causes};
+use sw_cycle::{Cycle, causes, flows_of_steps};
 use sw_dependency::dependencies;
 use sw_flow::Place;
 use sw_parts::{Part, parts};
