@@ -1,5 +1,5 @@
 -- The step of a number, where each step stands with how many times it is made.
-use Rattle.std.proofs.Common.{◌≡◌, ℕ, zero, suc, ◌+◌, ◌<◌, ◌≤◌, List, [], ◌∷◌, ◌++◌, Some, replicate, refl, arith}
+use Rattle.std.proofs.Common.{◌≡◌, ℕ, zero, suc, ◌+◌, ◌<◌, ◌≤◌, List, ◌∷◌, ◌++◌, Some, replicate, refl, arith}
 use Rattle.std.specs.Prelude.{slice_get}
 use Rattle.sw_machine.specs.Steps.{Step}
 use Rattle.sw_schedule.specs.Lines.{Repeated}

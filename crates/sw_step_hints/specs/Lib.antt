@@ -1,1 +1,2 @@
+pub mod LockHints
 pub mod StepHints

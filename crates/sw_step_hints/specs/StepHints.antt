@@ -1,6 +1,5 @@
--- The hint of a step of a schedule that can't be made (this project's choice).
+-- The hint of a schedule: of a step that can't be made, or of a lock-up (this project's choice).
 use Rattle.std.specs.Prelude.{◌≡◌, ℕ, suc, zero, ◌+◌, ◌-◌, nat_le, List, [], ◌∷◌, ◌++◌, Option, Some, None, Result, Ok, Err, String, codes, if◌then◌else◌, length, option_map, slice_get, string_bytes}
-use Rattle.std.specs.Option.{option_map_or}
 use Rattle.std.specs.Fmt.{decimal}
 use Rattle.std.specs.declared.alloc.Global.{Global}
 use Rattle.sw_config.specs.Entries.{Declaration}
@@ -16,6 +15,7 @@ use Rattle.sw_replay.specs.declared.replayed.StepRefusal.TheVariants.{NotEnabled
 use Rattle.sw_replay.specs.Replays.{IsReplayed}
 use Rattle.sw_replay.specs.Reports.{Report}
 use Rattle.sw_schedule.specs.Schedule.{steps_of_text, text_lines}
+use Rattle.sw_step_hints.specs.LockHints.{IsLockHint}
 use Rattle.sw_toml_table.specs.declared.fault.TextFault.{TextFault}
 
 -- ---- what a step needs, as `Leads` of the machine has it
@@ -91,14 +91,14 @@ step_hint path d text steps number refusal =
     step_head path (line_with d 1 number (text_lines text)) (refused number refusal)
     ++ (step_found (line_with d 1 number (text_lines text)) ++ step_expected d refusal (step_numbered steps number))
 
--- none where all steps are made
-abbrev pub hint_by : List ℕ → Declaration → List ℕ → List Step → ReplayEnd → Option (List ℕ)
-hint_by path d text steps (Made count) = None
-hint_by path d text steps (Refused number refusal) = Some (step_hint path d text steps number refusal)
+-- of steps that were made so far: of the one that was refused, or of the lock-up that all of them lead to
+abbrev pub IsEndHint : List ℕ → Declaration → List ℕ → List Step → ReplayEnd → Option (List ℕ) → Type 0
+IsEndHint path d text steps (Made count) hint = IsLockHint path d steps hint
+IsEndHint path d text steps (Refused number refusal) hint = hint ≡ Some (step_hint path d text steps number refusal)
 
 -- of a schedule's text, by its replay; none where it is no schedule
 abbrev pub IsHintBy : List ℕ → Declaration → List ℕ → Result (List Step) ℕ → Option (List ℕ) → Type 0
-IsHintBy path d text (Ok steps) hint = (r : Report) × IsReplayed d steps r × (hint ≡ hint_by path d text steps r.outcome)
+IsHintBy path d text (Ok steps) hint = (r : Report) × IsReplayed d steps r × IsEndHint path d text steps r.outcome hint
 IsHintBy path d text (Err wrong) hint = hint ≡ None
 
 -- of a schedule's text for the network of a text; none where that is none

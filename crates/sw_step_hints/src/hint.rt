@@ -1,88 +1,19 @@
-//! The hint of a step that can't be made.
+//! The hint of a schedule: of its first step that can't be made, or of the lock-up that it leads to.
 ghost use Rattle.std.specs.Prelude.{◌≡◌, IfOk, Ok, option_map, string_bytes};
-ghost use Rattle.sw_model.specs.Steps.{machine_step};
 ghost use Rattle.sw_schedule.specs.Schedule.{steps_of_text};
-ghost use Rattle.sw_step_hints.specs.StepHints.{IsHintBy, IsScheduleHint, hint_by, step_expected, step_found, step_head, step_hint};
+ghost use Rattle.sw_step_hints.specs.StepHints.{IsEndHint, IsHintBy, IsScheduleHint};
 
-use crate::line::line_with;
-use crate::needs::{expected, refused};
-use crate::step::step_numbered;
+use crate::lock_up::lock_hint;
+use crate::refused_step::step_hint;
 use std::alloc::{AllocError, Global};
 use sw_config::Network;
 use sw_file::read_network;
-use sw_hints::{found_line, head_line, told};
-use sw_replay::{ReplayEnd, StepRefusal, replay};
-use sw_schedule::{Schedule, ScheduleFault, Step, read_steps};
+use sw_replay::{ReplayEnd, replay};
+use sw_schedule::{Schedule, ScheduleFault, read_steps};
 use sw_toml_table::FileFault;
 
-// Where, and why.
-fn step_head(
-    alloc: Global,
-    path: &str,
-    at: Option<(u64, &[u8])>,
-    why: &str,
-) -> Result<String, AllocError>
-    ensures { IfOk result (λ s. string_bytes s ≡ step_head path.now (option_map (λ r. (r.0, r.1.now)) at.entry) why.now) }
-{
-    match at {
-        None => head_line(alloc, path, &[], None, why),
-        Some((line, _)) => {
-            let place = format!(in alloc; "{path}:{line}")?;
-            head_line(alloc, place.as_str(), &[], None, why)
-        }
-    }
-}
-
-// What stands there.
-fn step_found(alloc: Global, at: Option<(u64, &[u8])>) -> Result<String, AllocError>
-    ensures { IfOk result (λ s. string_bytes s ≡ step_found (option_map (λ r. (r.0, r.1.now)) at.entry)) }
-{
-    match at {
-        None => Ok(String::new(alloc)),
-        Some((_, line)) => found_line(alloc, line, Some(0)),
-    }
-}
-
-fn step_expected(
-    alloc: Global,
-    network: &Network,
-    refusal: StepRefusal,
-    step: Option<&Step>,
-) -> Result<String, AllocError>
-    ensures { IfOk result (λ s. string_bytes s ≡ step_expected network.now refusal (option_map (λ r. machine_step r.now) step.entry)) }
-{
-    match step {
-        None => Ok(String::new(alloc)),
-        Some(step) => {
-            let words = expected(alloc, network, refusal, step)?;
-            told(alloc, "expected", words.as_bytes())
-        }
-    }
-}
-
-// Of the step of that number.
-fn step_hint(
-    alloc: Global,
-    path: &str,
-    network: &Network,
-    text: &[u8],
-    schedule: &Schedule,
-    number: u32,
-    refusal: StepRefusal,
-) -> Result<String, AllocError>
-    ensures { IfOk result (λ s. string_bytes s ≡ step_hint path.now network.now text.now schedule.now number refusal) }
-{
-    let at = line_with(alloc, network, text, number)?;
-    let why = refused(alloc, number, refusal)?;
-    let step = step_numbered(alloc, schedule.entries(), number)?;
-    let head = step_head(alloc, path, at, why.as_str())?;
-    let found = step_found(alloc, at)?;
-    let expected = step_expected(alloc, network, refusal, step.as_ref())?;
-    format!(in alloc; "{head}{found}{expected}")
-}
-
 // Of how far the steps were made.
-fn hint_by(
+fn end_hint(
     alloc: Global,
     path: &str,
     network: &Network,
@@ -90,10 +21,10 @@ fn hint_by(
     schedule: &Schedule,
     outcome: ReplayEnd,
 ) -> Result<Option<String>, AllocError>
-    ensures { IfOk result (λ o. option_map string_bytes o ≡ hint_by path.now network.now text.now schedule.now outcome) }
+    ensures { IfOk result (λ o. IsEndHint path.now network.now text.now schedule.now outcome (option_map string_bytes o)) }
 {
     match outcome {
-        ReplayEnd::Made(_) => Ok(None),
+        ReplayEnd::Made(_) => lock_hint(alloc, path, network, schedule),
         ReplayEnd::Refused(number, refusal) => {
             let hint = step_hint(alloc, path, network, text, schedule, number, refusal)?;
             Ok(Some(hint))
@@ -112,7 +43,7 @@ fn steps_hint(
     ensures { IfOk result (λ o. IsHintBy path.now network.now text.now (Ok schedule.now) (option_map string_bytes o)) }
 {
     let replayed = replay(alloc, network, schedule)?;
-    hint_by(alloc, path, network, text, schedule, replayed.outcome)
+    end_hint(alloc, path, network, text, schedule, replayed.outcome)
 }
 
 // Of a schedule's text.
@@ -131,8 +62,9 @@ fn text_hint(
     }
 }
 
-/// The hint of the first step of a schedule that can't be made: the line in which it stands, and what is expected there. None where
-/// all are made, and where one of the texts is no network or no schedule. `path` is told as the schedule's name.
+/// The hint of the first step of a schedule that can't be made: the line in which it stands, and what is expected there. Where all are
+/// made and the network is locked up then: which nodes and packets hold which channels, and for which they wait. Else none, and none
+/// where one of the texts is no network or no schedule. `path` is told as the schedule's name.
 ///
 /// # Errors
 ///

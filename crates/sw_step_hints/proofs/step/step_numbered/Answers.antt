@@ -1,4 +1,4 @@
-use Rattle.std.proofs.Common.{◌≡◌, ◌∙◌, ◌+◌, ◌-◌, ◌<◌, ◌≤◌, ◌∷◌, Some, ap, arith, drop, length, sym}
+use Rattle.std.proofs.Common.{◌≡◌, ◌∙◌, ◌+◌, ◌-◌, ◌<◌, ◌≤◌, ◌∷◌, Some, ap, arith, drop, sym}
 use Rattle.std.proofs.lemmas.List.{at_drop_more}
 use Rattle.sw_schedule.specs.Schedule.{steps_of}
 use Rattle.sw_step_hints.specs.StepHints.{step_numbered}

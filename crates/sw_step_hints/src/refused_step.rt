@@ -1,0 +1,83 @@
+//! What is told of a step that can't be made.
+ghost use Rattle.std.specs.Prelude.{◌≡◌, IfOk, option_map, string_bytes};
+ghost use Rattle.sw_model.specs.Steps.{machine_step};
+ghost use Rattle.sw_step_hints.specs.StepHints.{step_expected, step_found, step_head, step_hint};
+
+use crate::line::line_with;
+use crate::needs::{expected, refused};
+use crate::step::step_numbered;
+use std::alloc::{AllocError, Global};
+use sw_config::Network;
+use sw_hints::{found_line, head_line, told};
+use sw_replay::StepRefusal;
+use sw_schedule::{Schedule, Step};
+
+// Where, and why.
+fn step_head(
+    alloc: Global,
+    path: &str,
+    at: Option<(u64, &[u8])>,
+    why: &str,
+) -> Result<String, AllocError>
+    ensures { IfOk result (λ s. string_bytes s ≡ step_head path.now (option_map (λ r. (r.0, r.1.now)) at.entry) why.now) }
+{
+    match at {
+        None => head_line(alloc, path, &[], None, why),
+        Some((line, _)) => {
+            let place = format!(in alloc; "{path}:{line}")?;
+            head_line(alloc, place.as_str(), &[], None, why)
+        }
+    }
+}
+
+// What stands there.
+fn step_found(alloc: Global, at: Option<(u64, &[u8])>) -> Result<String, AllocError>
+    ensures { IfOk result (λ s. string_bytes s ≡ step_found (option_map (λ r. (r.0, r.1.now)) at.entry)) }
+{
+    match at {
+        None => Ok(String::new(alloc)),
+        Some((_, line)) => found_line(alloc, line, Some(0)),
+    }
+}
+
+fn step_expected(
+    alloc: Global,
+    network: &Network,
+    refusal: StepRefusal,
+    step: Option<&Step>,
+) -> Result<String, AllocError>
+    ensures { IfOk result (λ s. string_bytes s ≡ step_expected network.now refusal (option_map (λ r. machine_step r.now) step.entry)) }
+{
+    match step {
+        None => Ok(String::new(alloc)),
+        Some(step) => {
+            let words = expected(alloc, network, refusal, step)?;
+            told(alloc, "expected", words.as_bytes())
+        }
+    }
+}
+
+/// Of the step of that number.
+///
+/// # Errors
+///
+/// There is no memory for the text.
+pub(crate) fn step_hint(
+    alloc: Global,
+    path: &str,
+    network: &Network,
+    text: &[u8],
+    schedule: &Schedule,
+    number: u32,
+    refusal: StepRefusal,
+) -> Result<String, AllocError>
+    ensures { IfOk result (λ s. string_bytes s ≡ step_hint path.now network.now text.now schedule.now number refusal) }
+{
+    let at = line_with(alloc, network, text, number)?;
+    let why = refused(alloc, number, refusal)?;
+    let step = step_numbered(alloc, schedule.entries(), number)?;
+    let head = step_head(alloc, path, at, why.as_str())?;
+    let found = step_found(alloc, at)?;
+    let expected = step_expected(alloc, network, refusal, step.as_ref())?;
+    format!(in alloc; "{head}{found}{expected}")
+}
