@@ -63,9 +63,9 @@ flow_of (Mend file) = None
 flow_of (Margin file) = None
 flow_of (Witness file tries seed) = None
 
--- what a hint is of, after a status: a text has a fault, or a verdict is not free
+-- what a hint is of, after a status: a text has a fault, or a verdict is not free, or the network is locked up
 abbrev pub due_after : ℕ → Due
-due_after status = if status == 3 then Fault else if status == 1 then Verdict else Nothing
+due_after status = if status == 3 then Fault else if status == 1 then Verdict else if status == 4 then Verdict else Nothing
 
 -- what a hint is of, after a call that ended so
 abbrev pub due_of : Hints → Ended → Due

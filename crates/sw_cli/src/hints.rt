@@ -11,7 +11,7 @@ use std::fs;
 use std::rt::Files;
 use std::thread::Threads;
 use sw_args::Call;
-use sw_command::statuses::{BAD, FAULTY};
+use sw_command::statuses::{BAD, FAULTY, LOCKED_UP};
 use sw_command::{Ended, MAX_TEXT};
 use sw_hints::network_hint;
 use sw_step_hints::schedule_hint;
@@ -24,7 +24,7 @@ use sw_verdict_hints::{certificate_hint, named_flow_hint, verdict_hint};
 enum Due {
     /// A fault of the network file.
     Fault,
-    /// A verdict that is not free, or a certificate that is refused.
+    /// A verdict that is not free, a certificate or a step that is refused, or a network that is locked up.
     Verdict,
     /// A file that can't be read.
     Unread,
@@ -41,6 +41,9 @@ fn due_after(status: u8) -> Due
         return Due::Fault;
     }
     if status == BAD {
+        return Due::Verdict;
+    }
+    if status == LOCKED_UP {
         return Due::Verdict;
     }
     Due::Nothing
@@ -101,13 +104,13 @@ fn refusal_hint<R: Files + AllocGlobal + Threads + Sync>(
     }
 }
 
-// What to tell of a step that is refused.
-fn step_hint<R: Files + AllocGlobal>(rt: &R, network: &[u8], path: &str) -> Option<String> {
+// What to tell of a step that is refused, or of a network that the steps lock up.
+fn steps_hint<R: Files + AllocGlobal>(rt: &R, network: &[u8], path: &str) -> Option<String> {
     let text = text_of(rt, path, MOST_EXPLAINED)?;
     schedule_hint(rt.alloc(), network, path, &text).ok()?
 }
 
-// What to tell of a verdict that is not free, of a flow that goes wrong, of a refused certificate or step.
+// What to tell of a verdict that is not free, of a flow that goes wrong, of a refused certificate or step, of a network that is locked up.
 fn verdict_hint_of<R: Files + AllocGlobal + Threads + Sync>(
     rt: &R,
     call: &Call<'_>,
@@ -118,7 +121,7 @@ fn verdict_hint_of<R: Files + AllocGlobal + Threads + Sync>(
         Call::Route { .. } => flow_hint(rt, call, &text),
         Call::Decide { .. } => verdict_hint(rt, rt.alloc(), file, &text).ok()?,
         Call::Check { .. } => refusal_hint(rt, file, &text, second_of(call)?),
-        Call::Replay { .. } => step_hint(rt, &text, second_of(call)?),
+        Call::Replay { .. } => steps_hint(rt, &text, second_of(call)?),
         _ => None,
     }
 }
