@@ -23,7 +23,7 @@ _swcheck() {
                 explain) command=$it options='--all --hints -h --help' valued='--hints' kinds=('file .toml') ;;
                 draw) command=$it options='--flow --cycle --numbers --hints -h --help' valued='--flow --hints' kinds=('file .toml') ;;
                 rmap) command=$it options='--no-ack --transaction --hints -h --help' valued='--transaction --hints' kinds=('file .toml' 'none' 'texts read write' 'none' 'none') ;;
-                mend) command=$it options='--hints -h --help' valued='--hints' kinds=('file .toml') ;;
+                mend) command=$it options='--pairs --hints -h --help' valued='--hints' kinds=('file .toml') ;;
                 margin) command=$it options='--hints -h --help' valued='--hints' kinds=('file .toml') ;;
                 witness) command=$it options='--tries --seed --hints -h --help' valued='--tries --seed --hints' kinds=('file .toml') ;;
                 help) command=$it options='-h --help -V --version' valued='' kinds=('texts route decide check report replay run migrate explain draw rmap mend margin witness help') ;;
