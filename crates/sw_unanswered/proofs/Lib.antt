@@ -2,4 +2,4 @@ mod SameRuns
 mod NoReply
 mod Listings
 mod Taken
-mod Away
+pub mod Away

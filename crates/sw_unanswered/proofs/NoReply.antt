@@ -1,19 +1,19 @@
 -- Packets of flows that can't be answered.
 use Rattle.std.proofs.Common.{◌≡◌, ℕ, ◌+◌, ◌<◌, ◌≤◌, Bool, true, false, List, [], ◌∷◌, ◌++◌, ◌⊎◌, length, take, drop, Option, Some, None, inl, inr, refl, sym, ap, ◌∙◌, subst, arith}
-use Rattle.std.specs.Prelude.{not, ◌==◌, ◌&&◌, ◌||◌, nat_lt, is_some, slice_get, slice_index, option_map, option_and_then, if◌then◌else◌}
+use Rattle.std.specs.Prelude.{not, ◌==◌, ◌&&◌, ◌||◌, nat_lt, is_some, slice_get, slice_index, option_and_then, if◌then◌else◌}
 use Rattle.std.specs.Option.{option_map_or}
 use Rattle.std.proofs.lemmas.Bool.{cases_Bool, ltb-true}
 use Rattle.std.proofs.lemmas.List.{get_or_append_left, length-append, length-take}
 use Rattle.std.proofs.lemmas.Option.{get_or_from_slice_get, slice_get_within}
 use Rattle.sw_rmap.specs.declared.config.TargetConfig.{TargetConfig}
 use Rattle.sw_rmap.specs.CommandView.{CommandView}
-use Rattle.sw_rmap.specs.Commands.{fields_of, instruction_of, is_command, read}
-use Rattle.sw_rmap.specs.Instruction.{packet_type, reply_address_len, wants_reply}
+use Rattle.sw_rmap.specs.Commands.{fields_of, is_command, read}
+use Rattle.sw_rmap.specs.Instruction.{reply_address_len}
 use Rattle.sw_rmap.specs.Replies.{is_answered, path_of, reply_to, way_back, without_leading_zeros}
-use Rattle.sw_config.specs.Entries.{FlowEntry, NodeEntry, ReplyEntry, target_of}
-use Rattle.sw_model.specs.Packets.{IsAnsweredRightly, IsRightWay, left_bytes, reply_address, reply_from}
+use Rattle.sw_config.specs.Entries.{NodeEntry, ReplyEntry, target_of}
+use Rattle.sw_model.specs.Packets.{IsRightWay, left_bytes, reply_address, reply_from}
 use Rattle.sw_unanswered.specs.Laws.{NoneIsAnswered}
-use Rattle.sw_unanswered.specs.Unanswered.{can_not_be_answered, has_other_instruction, has_other_protocol, is_of_answered}
+use Rattle.sw_unanswered.specs.Unanswered.{has_other_instruction, has_other_protocol, is_of_answered}
 
 -- ---- a packet that is answered
 

@@ -1,11 +1,11 @@
 -- Runs of two networks of the machine that differ in their flows alone.
-use Rattle.std.proofs.Common.{◌≡◌, ℕ, ◌<◌, Bool, true, false, List, [], ◌∷◌, refl, sym, ap, ◌∙◌, subst}
+use Rattle.std.proofs.Common.{◌≡◌, ℕ, false, List, [], ◌∷◌, refl, ap, ◌∙◌}
 use Rattle.sw_char.specs.declared.nchar.End.{End}
 use Rattle.sw_char.specs.declared.nchar.NChar.{NChar}
 use Rattle.sw_char.specs.declared.nchar.NChar.TheVariants.{Data, Eep, Eop}
-use Rattle.sw_machine.specs.Network.{Flow, IsDeclared, Network, form}
-use Rattle.sw_machine.specs.Runs.{GoesOn, IsLockedUp, IsQuiet, IsReached, Run, undelivered}
-use Rattle.sw_machine.specs.State.{State, after_accept, after_begin, empty}
+use Rattle.sw_machine.specs.Network.{Flow, Network}
+use Rattle.sw_machine.specs.Runs.{GoesOn, IsQuiet, IsReached, Run}
+use Rattle.sw_machine.specs.State.{State, after_accept, empty}
 use Rattle.sw_machine.specs.Steps.{Accept, Arrive, Begin, Drop, Drops, Emit, Fct, FctIn, Forward, Grant, IsPossible, Leads, Reply, Spill, Step, is_begin}
 use Rattle.sw_unanswered.specs.OtherFlows.{DeclaresAll, NeverLocksUp, OtherFlowsKeepFreedom, OtherFlowsKeepRuns, RunsAreRuns, with_flows}
 

@@ -1,14 +1,13 @@
 -- A network without replies that can't happen, and the network itself.
-use Rattle.std.proofs.Common.{◌≡◌, ◌≢◌, ◌↔◌, ℕ, zero, suc, ◌+◌, ◌<◌, ◌≤◌, Bool, true, false, List, [], ◌∷◌, ◌++◌, length, Option, Some, None, inl, inr, refl, sym, ap, ◌∙◌, subst, arith}
-use Rattle.std.specs.Prelude.{◌==◌, Contains, slice_get, option_map, if◌then◌else◌}
+use Rattle.std.proofs.Common.{◌≡◌, ℕ, zero, suc, ◌+◌, Bool, true, false, List, [], ◌∷◌, ◌++◌, length, Option, Some, None, inl, inr, refl, sym, ap, ◌∙◌, subst, arith}
+use Rattle.std.specs.Prelude.{◌==◌, slice_get, if◌then◌else◌}
 use Rattle.std.specs.List.{AllByRecursion}
 use Rattle.std.proofs.lemmas.Bool.{cases_Bool, eqb-true}
 use Rattle.std.proofs.lemmas.Option.{same_Some}
 use Rattle.sw_route.specs.declared.look.Route.{Route}
-use Rattle.sw_config.specs.Entries.{Declaration, FlowEntry, NodeEntry, ReplyEntry, SwitchEntry, all_flows, reply_flows}
+use Rattle.sw_config.specs.Entries.{Declaration, FlowEntry, ReplyEntry, SwitchEntry, all_flows, reply_flows}
 use Rattle.sw_config.specs.Valid.{IsValid}
-use Rattle.sw_machine.specs.DeadlockFreedom.{IsDeadlockFree}
-use Rattle.sw_machine.specs.Network.{IsDeclared, Network}
+use Rattle.sw_machine.specs.Network.{IsDeclared}
 use Rattle.sw_machine.proofs.Free.{is_deadlock_free}
 use Rattle.sw_mend.specs.Changes.{by_number, changed, flow_after, flow_kept, route_after, switch_after}
 use Rattle.sw_mend.specs.Laws.{ChangesKeepValid}
@@ -19,11 +18,10 @@ use Rattle.sw_model.proofs.Declares.{declared_are_declared}
 use Rattle.sw_model.proofs.Flows.{flow_at}
 use Rattle.sw_model.proofs.Networks.{are_networks}
 use Rattle.sw_check.specs.Contents.{certificate_of}
-use Rattle.sw_search.specs.Laws.{RoutedAndFree}
 use Rattle.sw_search.proofs.Accepted.{accepted}
 use Rattle.sw_unanswered.specs.Laws.{FreeWithoutNeverLocksUp}
-use Rattle.sw_unanswered.specs.OtherFlows.{DeclaresAll, NeverLocksUp, with_flows}
-use Rattle.sw_unanswered.specs.Unanswered.{IsFreeWithout, can_not_be_answered, never_answered, number_if, without_replies}
+use Rattle.sw_unanswered.specs.OtherFlows.{DeclaresAll, NeverLocksUp}
+use Rattle.sw_unanswered.specs.Unanswered.{can_not_be_answered, never_answered, number_if, without_replies}
 use Rattle.sw_unanswered.proofs.Listings.{certificate_exists}
 use Rattle.sw_unanswered.proofs.NoReply.{none_is_answered}
 use Rattle.sw_unanswered.proofs.SameRuns.{freedom}

@@ -1,8 +1,8 @@
 -- Replies that can't happen, and a network without them.
-use Rattle.std.specs.Prelude.{◌≡◌, ◌≢◌, ℕ, Bool, false, not, ◌==◌, ◌||◌, ◌&&◌, nat_lt, List, [], ◌∷◌, length, slice_get, if◌then◌else◌}
+use Rattle.std.specs.Prelude.{◌≢◌, ℕ, Bool, false, not, ◌==◌, ◌||◌, ◌&&◌, nat_lt, List, [], ◌∷◌, length, slice_get, if◌then◌else◌}
 use Rattle.std.specs.Option.{option_map_or}
 use Rattle.sw_rmap.specs.Instruction.{packet_type, reply_address_len, wants_reply}
-use Rattle.sw_config.specs.Entries.{ReplyEntry, FlowEntry, Declaration}
+use Rattle.sw_config.specs.Entries.{FlowEntry, Declaration}
 use Rattle.sw_model.specs.Packets.{left_bytes}
 use Rattle.sw_search.specs.Laws.{RoutedAndFree}
 use Rattle.sw_mend.specs.Changes.{by_number, changed}

@@ -25,12 +25,28 @@ fn without_replies(
     Ok(left)
 }
 
+// Is the network free without the replies of these flows, which can't happen?
+fn is_free_after<R: Threads + Sync>(
+    rt: &R,
+    alloc: Global,
+    network: &Network,
+    first: u16,
+    others: &[u16],
+) -> Result<bool, AllocError>
+    requires { first ∷ others.now ≡ never_answered network.now }
+    ensures { IfOk result (λ b. IsTrue b ↔ IsFreeWithout network.now) }
+{
+    let left = without_replies(alloc, network, first, others)?;
+    is_free(rt, alloc, &left)
+}
+
 /// Is there a reply that can't happen, and is the network free without these replies? Then it never locks up, though its verdict may be
 /// that it is cyclic. Threads share the work, as many as there are processors.
 ///
 /// # Errors
 ///
 /// There is no memory for the network without them, or its verdict.
+#[tactic(auto, using(crate::proofs::Away::none_away))]
 pub fn is_free_without<R: Threads + Sync>(
     rt: &R,
     alloc: Global,
@@ -40,9 +56,8 @@ pub fn is_free_without<R: Threads + Sync>(
     requires { flows.now ≡ never_answered network.now }
     ensures { IfOk result (λ b. IsTrue b ↔ IsFreeWithout network.now) }
 {
-    let [first, others @ ..] = flows else {
-        return Ok(false);
-    };
-    let left = without_replies(alloc, network, *first, others)?;
-    is_free(rt, alloc, &left)
+    match flows {
+        [] => Ok(false),
+        [first, others @ ..] => is_free_after(rt, alloc, network, *first, others),
+    }
 }
