@@ -82,6 +82,10 @@ fn more_names(alloc: Global, network: &Network, flows: &[u16]) -> Result<String,
 }
 
 /// The names of flows, with a comma between each two.
+///
+/// # Errors
+///
+/// There is no memory for the text.
 pub fn names_text(alloc: Global, network: &Network, flows: &[u16]) -> Result<String, AllocError>
     ensures { IfOk result (λ s. string_bytes s ≡ names_text network.now flows.now) }
 {
