@@ -17,7 +17,7 @@ use sw_hints::network_hint;
 use sw_step_hints::schedule_hint;
 use sw_text::read_whole;
 use sw_text_hints::load_hint;
-use sw_verdict_hints::{certificate_hint, named_flow_hint, verdict_hint};
+use sw_verdict_hints::{certificate_hint, misrouted_verdict_hint, named_flow_hint, verdict_hint};
 
 /// What a hint is of.
 #[derive(Clone, Copy)]
@@ -122,6 +122,9 @@ fn verdict_hint_of<R: Files + AllocGlobal + Threads + Sync>(
         Call::Decide { .. } => verdict_hint(rt, rt.alloc(), file, &text).ok()?,
         Call::Check { .. } => refusal_hint(rt, file, &text, second_of(call)?),
         Call::Replay { .. } => steps_hint(rt, &text, second_of(call)?),
+        Call::Mend { .. } | Call::Witness { .. } => {
+            misrouted_verdict_hint(rt, rt.alloc(), file, &text).ok()?
+        }
         _ => None,
     }
 }

@@ -32,3 +32,20 @@ IsHintOf path (Err fault) hint = hint ≡ None
 -- the hint of the verdict on the network of a text
 abbrev pub IsVerdictHint : List ℕ → List ℕ → Option (String Global) → Type 0
 IsVerdictHint path text hint = IsHintOf path (network_text text) (option_map string_bytes hint)
+
+-- the same, of a flow that is not well routed alone: nothing of a network that is cyclic
+abbrev pub misrouted_hint_by : List ℕ → Declaration → Explanation → Option (List ℕ)
+misrouted_hint_by path d (Misrouted i p fault way) = hint_by path d (Misrouted i p fault way)
+misrouted_hint_by path d (Cyclic tangles) = None
+misrouted_hint_by path d Free = None
+
+abbrev pub IsMisroutedHintFor : List ℕ → Declaration → Option (List ℕ) → Type 0
+IsMisroutedHintFor path d hint = (e : Explanation) × IsExplanation d e × (hint ≡ misrouted_hint_by path d e)
+
+abbrev pub IsMisroutedHintOf : List ℕ → Result Declaration TextFault → Option (List ℕ) → Type 0
+IsMisroutedHintOf path (Ok d) hint = IsMisroutedHintFor path d hint
+IsMisroutedHintOf path (Err fault) hint = hint ≡ None
+
+-- the hint of the flow that is not well routed in the network of a text
+abbrev pub IsMisroutedHint : List ℕ → List ℕ → Option (String Global) → Type 0
+IsMisroutedHint path text hint = IsMisroutedHintOf path (network_text text) (option_map string_bytes hint)

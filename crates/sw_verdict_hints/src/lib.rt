@@ -12,4 +12,4 @@ mod ways;
 
 pub use certificate_hints::certificate_hint;
 pub use flow_hints::named_flow_hint;
-pub use verdict_hints::verdict_hint;
+pub use verdict_hints::{misrouted_verdict_hint, verdict_hint};

@@ -1,8 +1,8 @@
-//! The hint of a verdict that is not free.
+//! The hint of a verdict that is not free, and of a misrouted one alone.
 ghost use Rattle.std.specs.Prelude.{◌≡◌, IfOk, option_map, string_bytes};
 ghost use Rattle.sw_explain.specs.Explanations.{GoesWrong, IsExplanation};
 ghost use Rattle.sw_verdict_hints.specs.RouteHints.{misrouted_hint};
-ghost use Rattle.sw_verdict_hints.specs.VerdictHints.{IsHintFor, IsVerdictHint, cyclic_hint, hint_by};
+ghost use Rattle.sw_verdict_hints.specs.VerdictHints.{IsHintFor, IsMisroutedHint, IsMisroutedHintFor, IsVerdictHint, cyclic_hint, hint_by, misrouted_hint_by};
 
 use crate::route_hints::flow_hint;
 use std::alloc::{AllocError, Global};
@@ -96,6 +96,58 @@ pub fn verdict_hint<R: Threads + Sync>(
 {
     match read_network(alloc, text) {
         Ok(network) => network_hint(rt, alloc, path, &network),
+        Err(FileFault::Text(_)) => Ok(None),
+        Err(FileFault::Memory) => Err(AllocError),
+    }
+}
+
+// Of what is told of a network, if a flow is not well routed.
+fn misrouted_hint_by(
+    alloc: Global,
+    path: &str,
+    network: &Network,
+    explanation: &Explanation,
+) -> Result<Option<String>, AllocError>
+    requires { IsExplanation network.now explanation.now }
+    ensures { IfOk result (λ o. option_map string_bytes o ≡ misrouted_hint_by path.now network.now explanation.now) }
+{
+    match explanation {
+        Explanation::Misrouted { .. } => hint_by(alloc, path, network, explanation),
+        Explanation::Free | Explanation::Cyclic(_) => Ok(None),
+    }
+}
+
+// Of a network, if a flow is not well routed.
+fn misrouted_network_hint<R: Threads + Sync>(
+    rt: &R,
+    alloc: Global,
+    path: &str,
+    network: &Network,
+) -> Result<Option<String>, AllocError>
+    ensures { IfOk result (λ o. IsMisroutedHintFor path.now network.now (option_map string_bytes o)) }
+{
+    let explanation = explain(rt, alloc, network)?;
+    misrouted_hint_by(alloc, path, network, &explanation)
+}
+
+/// The hint of the first flow that is not well routed in the network of a text, as `verdict_hint` tells it; none where each is, also
+/// where the network is cyclic. For calls that tell of a misrouted network as `decide` does, and else something of their own.
+///
+/// Threads share the work, as many as there are processors.
+///
+/// # Errors
+///
+/// There is no memory for the hint, or for what finds it.
+pub fn misrouted_verdict_hint<R: Threads + Sync>(
+    rt: &R,
+    alloc: Global,
+    path: &str,
+    text: &[u8],
+) -> Result<Option<String>, AllocError>
+    ensures { IfOk result (λ o. IsMisroutedHint path.now text.now o) }
+{
+    match read_network(alloc, text) {
+        Ok(network) => misrouted_network_hint(rt, alloc, path, &network),
         Err(FileFault::Text(_)) => Ok(None),
         Err(FileFault::Memory) => Err(AllocError),
     }
