@@ -9,7 +9,7 @@ use clap::{Arg, ArgAction, ArgMatches, Command};
 use std::alloc::{AllocError, Global};
 
 /// The program's version, and the toolchain that proves and builds it.
-const VERSION: &str = "0.9.0\nrattle-kit-13b logic dac8208d650f15bf";
+const VERSION: &str = "0.9.0\nrattle-kit-13f logic dac8208d650f15bf";
 
 /// The most threads that `run` may be asked for.
 pub(crate) const MOST_WORKERS: u32 = 64;
