@@ -1,5 +1,6 @@
 //! What the words ask for.
-ghost use Rattle.std.specs.Prelude.{map, IfOk, IfErr, IfNone, IfSome};
+ghost use Rattle.std.specs.Prelude.{◌≡◌, Some, codes, map, IfOk, IfErr, IfNone, IfSome};
+ghost use Rattle.clap.specs.Walk.{first_of};
 ghost use Rattle.clap.specs.Words.{found_of, rows_of, subcommand_rows_of};
 ghost use Rattle.sw_args.specs.declared.call.Asked.{Asked};
 ghost use Rattle.sw_args.specs.declared.call.Call.{Call};
@@ -13,6 +14,88 @@ use crate::command_line::{
 use clap::ArgMatches;
 use std::alloc::{AllocError, Global};
 
+// The call of `route`.
+fn route_call<'a>(file: &'a str, values: &ArgMatches<'a>) -> Option<Call<'a>>
+    requires { first_of (codes "FILE") (rows_of (found_of values.now)) ≡ Some file.now }
+    ensures calls { IfSome result (IsCallOf (codes "route") (rows_of (found_of values.now))) }
+    ensures none { IfNone result ((call : Call) → IsCallOf (codes "route") (rows_of (found_of values.now)) call → ⊥) }
+{
+    Some(Call::Route {
+        file,
+        flow: value_of(values, "FLOW")?,
+    })
+}
+
+// The call of `check`.
+fn check_call<'a>(file: &'a str, values: &ArgMatches<'a>) -> Option<Call<'a>>
+    requires { first_of (codes "FILE") (rows_of (found_of values.now)) ≡ Some file.now }
+    ensures calls { IfSome result (IsCallOf (codes "check") (rows_of (found_of values.now))) }
+    ensures none { IfNone result ((call : Call) → IsCallOf (codes "check") (rows_of (found_of values.now)) call → ⊥) }
+{
+    Some(Call::Check {
+        file,
+        certificate: value_of(values, "CERT")?,
+    })
+}
+
+// The call of `replay`.
+fn replay_call<'a>(file: &'a str, values: &ArgMatches<'a>) -> Option<Call<'a>>
+    requires { first_of (codes "FILE") (rows_of (found_of values.now)) ≡ Some file.now }
+    ensures calls { IfSome result (IsCallOf (codes "replay") (rows_of (found_of values.now))) }
+    ensures none { IfNone result ((call : Call) → IsCallOf (codes "replay") (rows_of (found_of values.now)) call → ⊥) }
+{
+    Some(Call::Replay {
+        file,
+        schedule: value_of(values, "SCHEDULE")?,
+    })
+}
+
+// The call of `run`.
+fn run_call<'a>(file: &'a str, values: &ArgMatches<'a>) -> Option<Call<'a>>
+    requires { first_of (codes "FILE") (rows_of (found_of values.now)) ≡ Some file.now }
+    ensures calls { IfSome result (IsCallOf (codes "run") (rows_of (found_of values.now))) }
+    ensures none { IfNone result ((call : Call) → IsCallOf (codes "run") (rows_of (found_of values.now)) call → ⊥) }
+{
+    Some(Call::Run {
+        file,
+        load: value_of(values, "LOAD")?,
+        workers: count_of(values, "workers", MOST_WORKERS)?,
+        limit: count_of(values, "limit", MOST_STEPS)?,
+        schedule: option_of(values, "schedule"),
+        summary: is_set(values, "summary"),
+    })
+}
+
+// The call of `rmap`.
+fn rmap_call<'a>(file: &'a str, values: &ArgMatches<'a>) -> Option<Call<'a>>
+    requires { first_of (codes "FILE") (rows_of (found_of values.now)) ≡ Some file.now }
+    ensures calls { IfSome result (IsCallOf (codes "rmap") (rows_of (found_of values.now))) }
+    ensures none { IfNone result ((call : Call) → IsCallOf (codes "rmap") (rows_of (found_of values.now)) call → ⊥) }
+{
+    Some(Call::Rmap {
+        file,
+        flow: value_of(values, "FLOW")?,
+        action: value_of(values, "ACTION")?,
+        address: value_of(values, "ADDRESS")?,
+        value: value_of(values, "VALUE")?,
+        unacknowledged: is_set(values, "no-ack"),
+        transaction: option_of(values, "transaction"),
+    })
+}
+
+// The call of `witness`.
+fn witness_call<'a>(file: &'a str, values: &ArgMatches<'a>) -> Option<Call<'a>>
+    requires { first_of (codes "FILE") (rows_of (found_of values.now)) ≡ Some file.now }
+    ensures calls { IfSome result (IsCallOf (codes "witness") (rows_of (found_of values.now))) }
+    ensures none { IfNone result ((call : Call) → IsCallOf (codes "witness") (rows_of (found_of values.now)) call → ⊥) }
+{
+    Some(Call::Witness {
+        file,
+        tries: count_of(values, "tries", MOST_TRIES)?,
+        seed: count_of(values, "seed", MOST_SEED)?,
+    })
+}
+
 // The call of a subcommand. clap gives each value that the subcommand requires.
 fn call_of<'a>(name: &str, values: &ArgMatches<'a>) -> Option<Call<'a>>
     ensures calls { IfSome result (IsCallOf name.now (rows_of (found_of values.now))) }
@@ -20,28 +103,12 @@ fn call_of<'a>(name: &str, values: &ArgMatches<'a>) -> Option<Call<'a>>
 {
     let file = value_of(values, "FILE")?;
     match name {
-        "route" => Some(Call::Route {
-            file,
-            flow: value_of(values, "FLOW")?,
-        }),
+        "route" => route_call(file, values),
         "decide" => Some(Call::Decide { file }),
         "report" => Some(Call::Report { file }),
-        "check" => Some(Call::Check {
-            file,
-            certificate: value_of(values, "CERT")?,
-        }),
-        "replay" => Some(Call::Replay {
-            file,
-            schedule: value_of(values, "SCHEDULE")?,
-        }),
-        "run" => Some(Call::Run {
-            file,
-            load: value_of(values, "LOAD")?,
-            workers: count_of(values, "workers", MOST_WORKERS)?,
-            limit: count_of(values, "limit", MOST_STEPS)?,
-            schedule: option_of(values, "schedule"),
-            summary: is_set(values, "summary"),
-        }),
+        "check" => check_call(file, values),
+        "replay" => replay_call(file, values),
+        "run" => run_call(file, values),
         "migrate" => Some(Call::Migrate { file }),
         "explain" => Some(Call::Explain {
             file,
@@ -53,28 +120,13 @@ fn call_of<'a>(name: &str, values: &ArgMatches<'a>) -> Option<Call<'a>>
             cycle: is_set(values, "cycle"),
             numbers: is_set(values, "numbers"),
         }),
-        "rmap" => {
-            let flow = value_of(values, "FLOW")?;
-            Some(Call::Rmap {
-                file,
-                flow,
-                action: value_of(values, "ACTION")?,
-                address: value_of(values, "ADDRESS")?,
-                value: value_of(values, "VALUE")?,
-                unacknowledged: is_set(values, "no-ack"),
-                transaction: option_of(values, "transaction"),
-            })
-        }
+        "rmap" => rmap_call(file, values),
         "mend" => Some(Call::Mend {
             file,
             pairs: is_set(values, "pairs"),
         }),
         "margin" => Some(Call::Margin { file }),
-        "witness" => Some(Call::Witness {
-            file,
-            tries: count_of(values, "tries", MOST_TRIES)?,
-            seed: count_of(values, "seed", MOST_SEED)?,
-        }),
+        "witness" => witness_call(file, values),
         _ => None,
     }
 }

@@ -13,13 +13,10 @@ use std::rt::Files;
 use std::sync::Wait;
 use std::thread::Threads;
 
-/// A load of one packet, unlike the other of its name.
-const ONE_PACKET: &str = "one_packet/line.load";
-
 /// Networks, each with a load and a limit.
 static RUNS: &[(&str, &str, usize)] = &[
-    ("line.toml", ONE_PACKET, 1000),
-    ("line.toml", ONE_PACKET, 5),
+    ("line.toml", "line.load", 1000),
+    ("line.toml", "line.load", 5),
     ("star.toml", "star.load", 100_000),
     ("region.toml", "region.load", 100_000),
     ("rmap.toml", "rmap.load", 100_000),
@@ -27,21 +24,13 @@ static RUNS: &[(&str, &str, usize)] = &[
     ("ring.toml", "turn.load", 100_000),
 ];
 
-/// The file's name, without the folder that it lies in.
-fn name_of(path: &str) -> &str {
-    match path.split_once('/') {
-        Some((_, name)) => name,
-        None => path,
-    }
-}
-
 fn run_load<R: Files + Print + AllocGlobal + Threads + Wait + Sync>(
     rt: &R,
     network: &str,
     load: &str,
     limit: usize,
 ) -> io::Result<()> {
-    println!(rt; "> run {network} {} {limit}", name_of(load))?;
+    println!(rt; "> run {network} {load} {limit}")?;
     show_work(rt, network, load, Work::Journal(limit))
 }
 
@@ -50,7 +39,7 @@ fn try_load<R: Files + Print + AllocGlobal + Threads + Wait + Sync>(
     network: &str,
     load: &str,
 ) -> io::Result<()> {
-    println!(rt; "> try {network} {}", name_of(load))?;
+    println!(rt; "> try {network} {load}")?;
     show_work(rt, network, load, Work::Steps)
 }
 
@@ -61,5 +50,5 @@ pub(crate) fn show_journals<R: Files + Print + AllocGlobal + Threads + Wait + Sy
     for &(network, load, limit) in RUNS {
         run_load(rt, network, load, limit)?;
     }
-    try_load(rt, "line.toml", ONE_PACKET)
+    try_load(rt, "line.toml", "line.load")
 }

@@ -1,11 +1,12 @@
-//! Runs loads, and prints what came of them, as far as that does not hang on the order of the threads: through journals in one
-//! thread, by the threads of `sw_run`, and by the engine of `swcheck run` with a gate.
+//! Runs loads, and prints what came of them: through journals in one thread and in two, by the threads of `sw_run`, and by the
+//! engine of `swcheck run`, with a gate at which the workers wait for one another.
 #![tactic(auto)]
 
 mod calls;
 mod files;
 mod journals;
 mod runs;
+mod together;
 mod work;
 
 use crate::calls::gated::show_gated;

@@ -4,7 +4,6 @@ use crate::files::{network_of, text_of};
 use crate::journals::show::{show_load, show_steps};
 use crate::runs::gated::show_gated;
 use crate::runs::grants::show_grants;
-use crate::runs::open_gate::{show_limited, show_run, show_workers};
 use std::io;
 use std::rt::Files;
 use std::sync::Wait;
@@ -18,14 +17,8 @@ pub(crate) enum Work {
     Journal(usize),
     /// Steps are tried one by one.
     Steps,
-    /// It runs with several numbers of workers and a limit that is enough.
-    Workers,
-    /// It runs with one worker and a limit that is enough.
-    OneWorker,
     /// It runs with one worker, and the packets are shown as they came out.
     Order,
-    /// It runs with so many steps at most.
-    Limited(usize),
     /// It runs with workers that wait for one another.
     Gated,
 }
@@ -39,10 +32,7 @@ fn show_text<R: Print + AllocGlobal + Threads + Wait + Sync>(
     match work {
         Work::Journal(limit) => show_load(rt, network, load, limit),
         Work::Steps => show_steps(rt, network, load),
-        Work::Workers => show_workers(rt, network, load),
-        Work::OneWorker => show_run(rt, network, load, 1),
         Work::Order => show_grants(rt, network, load),
-        Work::Limited(limit) => show_limited(rt, network, load, limit),
         Work::Gated => show_gated(rt, network, load),
     }
 }

@@ -3,13 +3,13 @@
 use crate::calls::ENOUGH;
 use crate::calls::files::ended_of;
 use crate::calls::show::show_end;
+use crate::together::Together;
 use std::io;
 use std::rt::Files;
 use std::sync::Wait;
 use std::thread::Threads;
 use sw_app_run::Options;
 use sw_command::Ended;
-use test_support::Together;
 
 /// A run that writes to the output with that gate and as many workers as link ends.
 fn gated<R: Files + Print + AllocGlobal + Threads + Wait + Sync>(

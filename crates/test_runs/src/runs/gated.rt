@@ -1,13 +1,13 @@
 //! A run whose workers wait for one another.
 
-use crate::runs::open_gate::{load_of, outcome_of};
+use crate::runs::outcomes::{load_of, outcome_of};
 use crate::runs::show::show_outcome;
+use crate::together::Together;
 use std::io;
 use std::sync::Wait;
 use std::thread::Threads;
 use sw_config::Network;
 use sw_run::Outcome;
-use test_support::Together;
 
 fn show_late(
     rt: &impl Print,
@@ -28,6 +28,6 @@ pub(crate) fn show_gated<R: Print + AllocGlobal + Threads + Wait + Sync>(
 ) -> io::Result<()> {
     let gate = Together::new();
     let load = load_of(rt, network, load)?;
-    let outcome = outcome_of(rt, network, &load, 12, None, &gate)?;
+    let outcome = outcome_of(rt, network, &load, 12, &gate)?;
     show_late(rt, network, &outcome, &gate)
 }

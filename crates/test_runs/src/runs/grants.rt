@@ -1,6 +1,6 @@
 //! In which order the inputs of a switch are granted an output for which three of them ask.
 
-use crate::runs::open_gate::{load_of, outcome_of};
+use crate::runs::outcomes::{load_of, outcome_of};
 use std::io;
 use std::sync::Wait;
 use std::thread::Threads;
@@ -32,6 +32,6 @@ pub(crate) fn show_grants<R: Print + AllocGlobal + Threads + Wait + Sync>(
 ) -> io::Result<()> {
     print!(rt; "order:")?;
     let load = load_of(rt, network, load)?;
-    let outcome = outcome_of(rt, network, &load, 1, None, &Open)?;
+    let outcome = outcome_of(rt, network, &load, 1, &Open)?;
     show_order(rt, &outcome)
 }
