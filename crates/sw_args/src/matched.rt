@@ -20,10 +20,8 @@ fn route_call<'a>(file: &'a str, values: &ArgMatches<'a>) -> Option<Call<'a>>
     ensures calls { IfSome result (IsCallOf (codes "route") (rows_of (found_of values.now))) }
     ensures none { IfNone result ((call : Call) → IsCallOf (codes "route") (rows_of (found_of values.now)) call → ⊥) }
 {
-    Some(Call::Route {
-        file,
-        flow: value_of(values, "FLOW")?,
-    })
+    let flow = value_of(values, "FLOW")?;
+    Some(Call::Route { file, flow })
 }
 
 // The call of `check`.
