@@ -37,8 +37,8 @@ change_words d (WithoutFlowsOf node) = spaced (codes "without the flows from and
 -- what the target of a node gets
 abbrev pub split_words : Declaration → TargetLink → List ℕ
 split_words d link =
-    spaced (codes "with a link of its own for the target of" ∷ (node_name d link.node ++ codes ",") ∷ codes "at port" ∷ decimal link.port
-    ∷ codes "of" ∷ switch_name d link.switch ∷ [])
+    codes "with a link of its own for the target of " ++ (node_name d link.node
+    ++ (codes ", at port " ++ (decimal link.port ++ (codes " of " ++ switch_name d link.switch))))
 
 abbrev pub trial_words : Declaration → Trial → List ℕ
 trial_words d (Without change) = change_words d change
