@@ -1,10 +1,10 @@
 -- The network in which a node is split: where it can't be one, and its parts.
-use Rattle.std.proofs.Common.{◌≡◌, ◌↔◌, ℕ, ◌+◌, ◌<◌, ◌≤◌, Bool, true, false, IsTrue, List, [], ◌∷◌, ◌++◌, length, ap, arith, sym, ◌∙◌}
+use Rattle.std.proofs.Common.{◌≡◌, ℕ, ◌<◌, ◌≤◌, Bool, true, List, [], ◌∷◌, ◌++◌, length, ap, arith, sym, ◌∙◌}
 use Rattle.std.specs.List.{list_any}
 use Rattle.std.specs.Str.{bytes_eq}
 use Rattle.std.proofs.lemmas.Bool.{false≢true}
 use Rattle.sw_topo.proofs.Converse.{no_fault}
-use Rattle.sw_config.specs.Entries.{Declaration, LinkEntry, NodeEntry, SwitchEntry, empty, part_names, wiring_of}
+use Rattle.sw_config.specs.Entries.{Declaration, NodeEntry, SwitchEntry, empty, part_names, wiring_of}
 use Rattle.sw_config.specs.Valid.{IsValid}
 use Rattle.sw_mend.specs.Changes.{by_number, changed_by_all, made_at, switch_after_all}
 use Rattle.sw_mend.specs.Splits.{own_link, split, target_part}

@@ -1,5 +1,5 @@
 -- A node split into two: its target gets a node and a link of its own.
-use Rattle.std.specs.Prelude.{◌≡◌, ℕ, ◌+◌, ◌-◌, ◌<◌, ◌≤◌, ◌==◌, Bool, not, ◌&&◌, is_some, nat_lt, List, [], ◌∷◌, ◌++◌, codes, map, length, slice_get, slice_index_or, slice_set, Option, Some, None, option_and_then, option_map, if◌then◌else◌}
+use Rattle.std.specs.Prelude.{◌≡◌, ℕ, ◌-◌, ◌<◌, ◌≤◌, ◌==◌, Bool, not, ◌&&◌, is_some, nat_lt, List, [], ◌∷◌, ◌++◌, codes, map, length, slice_get, slice_index_or, slice_set, Option, Some, None, option_and_then, option_map, if◌then◌else◌}
 use Rattle.std.specs.List.{list_any}
 use Rattle.std.specs.Option.{option_map_or, option_to_list}
 use Rattle.sw_topo.specs.Checked.{first_below}

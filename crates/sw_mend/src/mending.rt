@@ -60,11 +60,7 @@ fn add_mends<R: Threads + Sync>(
 }
 
 // Is the changed network valid and free?
-fn is_freed<R: Threads + Sync>(
-    rt: &R,
-    alloc: Global,
-    changed: &Network,
-) -> Result<bool, AllocError>
+fn is_freed<R: Threads + Sync>(rt: &R, alloc: Global, changed: &Network) -> Result<bool, AllocError>
     ensures { IfOk result (λ b. IsTrue b ↔ (IsValid changed.now × RoutedAndFree changed.now)) }
 {
     // Names the network, which is valid by its type.

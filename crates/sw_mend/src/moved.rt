@@ -47,12 +47,7 @@ fn moved_address(alloc: Global, link: &TargetLink, flow: &Flow) -> Result<Vec<u8
 }
 
 // The flow to the node, by that address.
-fn moved_by(
-    alloc: Global,
-    flow: &Flow,
-    node: u16,
-    address: Vec<u8>,
-) -> Result<Flow, AllocError>
+fn moved_by(alloc: Global, flow: &Flow, node: u16, address: Vec<u8>) -> Result<Flow, AllocError>
     ensures { IfOk result (λ f. f ≡ record flow.now { to = node; address = address.items }) }
 {
     let name = String::from_str(alloc, flow.name())?;
@@ -61,12 +56,7 @@ fn moved_by(
 }
 
 // The flow to its target's own node.
-fn moved_flow(
-    alloc: Global,
-    node: u16,
-    link: &TargetLink,
-    flow: &Flow,
-) -> Result<Flow, AllocError>
+fn moved_flow(alloc: Global, node: u16, link: &TargetLink, flow: &Flow) -> Result<Flow, AllocError>
     ensures { IfOk result (λ f. f ≡ flow_moved node link.now flow.now) }
 {
     let address = moved_address(alloc, link, flow)?;
@@ -81,12 +71,7 @@ fn copied_flow(alloc: Global, flow: &Flow) -> Result<Flow, AllocError>
 }
 
 // The flow as it goes after the split.
-fn split_flow(
-    alloc: Global,
-    node: u16,
-    link: &TargetLink,
-    flow: &Flow,
-) -> Result<Flow, AllocError>
+fn split_flow(alloc: Global, node: u16, link: &TargetLink, flow: &Flow) -> Result<Flow, AllocError>
     ensures { IfOk result (λ f. f ≡ flow_split node link.now flow.now) }
 {
     if is_asking(link.node, flow) {

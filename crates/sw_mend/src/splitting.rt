@@ -54,7 +54,11 @@ fn add_target(
 }
 
 // Adds its link.
-fn add_own_link(node: u16, link: &TargetLink, builder: &mut NetworkBuilder) -> Result<(), AllocError>
+fn add_own_link(
+    node: u16,
+    link: &TargetLink,
+    builder: &mut NetworkBuilder,
+) -> Result<(), AllocError>
     requires node { node < length builder.old.nodes }
     requires switch { link.now.switch < length builder.old.switches }
     requires low_near { 8 ≤ link.now.near }

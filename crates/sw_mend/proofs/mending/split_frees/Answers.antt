@@ -2,7 +2,6 @@ use Rattle.std.proofs.Common.{◌↔◌, IfOk, IsTrue, Bool, subst}
 use Rattle.sw_config.specs.Entries.{Declaration}
 use Rattle.sw_config.specs.Valid.{IsValid}
 use Rattle.sw_search.specs.Laws.{RoutedAndFree}
-use Rattle.sw_mend.specs.Splits.{IsSplit}
 use Rattle.sw_mend.proofs.mending.split_frees.Goals as goal
 
 pub returns-in-Some : goal.returns-in-Some

@@ -1,7 +1,7 @@
-use Rattle.std.proofs.Common.{◌+◌, length, ap, arith}
+use Rattle.std.proofs.Common.{length, ap, arith}
 use Rattle.std.proofs.lemmas.Result.{IfOk-weaker}
 use Rattle.sw_config.specs.Entries.{Declaration}
-use Rattle.sw_mend.proofs.Named.{named_with_own, one_node_more}
+use Rattle.sw_mend.proofs.Named.{named_with_own}
 use Rattle.sw_mend.proofs.Rewired.{parts_split, same_switches}
 use Rattle.sw_mend.proofs.splitting.add_split_parts.Goals as goal
 
