@@ -6,7 +6,7 @@ use Rattle.sw_command.specs.declared.answer.Answer.{Answer}
 use Rattle.sw_command.specs.Ends.{Says}
 use Rattle.sw_config.specs.Entries.{Declaration}
 use Rattle.sw_mend.specs.Mends.{AreMends, ArePairMends}
-use Rattle.sw_mend.specs.declared.change.Change.{Change}
+use Rattle.sw_mend.specs.declared.change.Trial.{Trial}
 use Rattle.sw_mend.specs.declared.change.Pair.{Pair}
 use Rattle.sw_search.specs.Verdicts.{IsVerdict}
 use Rattle.sw_search.specs.declared.verdict.Verdict.{Verdict}
@@ -18,7 +18,7 @@ pub answered : (pairs : Bool) (d : Declaration) (v : Verdict) (r : Result Answer
 answered pairs d v (Ok a) is h = (v, is, h)
 answered pairs d v (Err x) is h = h
 
-pub mended : (pairs : Bool) (d : Declaration) (told : List Change) (r : Result Answer AllocError) → AreMends d told
+pub mended : (pairs : Bool) (d : Declaration) (told : List Trial) (r : Result Answer AllocError) → AreMends d told
     → IfOk r (λ a. IsMendedBy pairs d told (string_bytes a.text) a.status) → IfOk r (λ a. IsMended pairs d (string_bytes a.text) a.status)
 mended pairs d told (Ok a) are h = (told, are, h)
 mended pairs d told (Err x) are h = h

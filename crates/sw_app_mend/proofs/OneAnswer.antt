@@ -5,7 +5,7 @@ use Rattle.sw_command.specs.Ends.{Says}
 use Rattle.sw_config.specs.Entries.{Declaration}
 use Rattle.sw_file.specs.Network.{network_text}
 use Rattle.sw_mend.specs.Laws.{MendsAreDetermined, PairsAreDetermined}
-use Rattle.sw_mend.specs.declared.change.Change.{Change}
+use Rattle.sw_mend.specs.declared.change.Trial.{Trial}
 use Rattle.sw_output.specs.Lines.{line}
 use Rattle.sw_output.specs.VerdictTexts.{misrouted_words}
 use Rattle.sw_search.specs.Laws.{SaysTheSame, VerdictsAreDetermined}
@@ -25,7 +25,7 @@ module _ (one_list : MendsAreDetermined) (one_list_of_pairs : PairsAreDetermined
       let same = one_list_of_pairs d told listed are also in
       (says.0 ∙ (ap (pairs_text d) same ∙ sym tells.0), says.1 ∙ (ap mends_status same ∙ sym tells.1))
 
-  by_list_once : (pairs : Bool) (d : Declaration) (told : List Change) (text other : List ℕ) (status number : ℕ) → IsMendedBy pairs d told text status → IsMendedBy pairs d told other number
+  by_list_once : (pairs : Bool) (d : Declaration) (told : List Trial) (text other : List ℕ) (status number : ℕ) → IsMendedBy pairs d told text status → IsMendedBy pairs d told other number
       → (text ≡ other) × (status ≡ number)
   by_list_once false d told text other status number says tells = says_once _ _ text other status number says tells
   by_list_once true d [] text other status number says tells = paired_once d text other status number says tells
@@ -34,7 +34,7 @@ module _ (one_list : MendsAreDetermined) (one_list_of_pairs : PairsAreDetermined
   mended_once : (pairs : Bool) (d : Declaration) (text other : List ℕ) (status number : ℕ) → IsMended pairs d text status → IsMended pairs d other number → (text ≡ other) × (status ≡ number)
   mended_once pairs d text other status number (told, are, says) (listed, also, tells) =
       let same = one_list d told listed are also in
-      by_list_once pairs d listed text other status number (subst (λ (l : List Change). IsMendedBy pairs d l text status) same says) tells
+      by_list_once pairs d listed text other status number (subst (λ (l : List Trial). IsMendedBy pairs d l text status) same says) tells
 
   by_verdict_once : (pairs : Bool) (d : Declaration) (v w : Verdict) (text other : List ℕ) (status number : ℕ) → SaysTheSame v w → IsByVerdict pairs d v text status → IsByVerdict pairs d w other number
       → (text ≡ other) × (status ≡ number)

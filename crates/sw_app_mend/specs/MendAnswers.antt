@@ -5,8 +5,8 @@ use Rattle.sw_command.specs.FaultTexts.{fault_text}
 use Rattle.sw_config.specs.Entries.{Declaration}
 use Rattle.sw_file.specs.Network.{network_text}
 use Rattle.sw_mend.specs.Mends.{AreMends, ArePairMends}
-use Rattle.sw_mend.specs.declared.change.Change.{Change}
 use Rattle.sw_mend.specs.declared.change.Pair.{Pair}
+use Rattle.sw_mend.specs.declared.change.Trial.{Trial}
 use Rattle.sw_output.specs.Lines.{line}
 use Rattle.sw_output.specs.VerdictTexts.{misrouted_words}
 use Rattle.sw_search.specs.Verdicts.{IsVerdict}
@@ -15,18 +15,18 @@ use Rattle.sw_search.specs.declared.verdict.Verdict.TheVariants.{Misrouted, Cycl
 use Rattle.sw_toml_table.specs.declared.fault.TextFault.{TextFault}
 use Rattle.sw_app_mend.specs.MendTexts.{free_line, mends_status, mends_text, pairs_text}
 
--- the pairs of single changes that free the network
+-- the pairs of what can be taken away that free the network
 abbrev pub IsPaired : Declaration → Answers
 IsPaired d text status = (told : List Pair) × ArePairMends d told × Says (pairs_text d told) (mends_status told) text status
 
 -- the single changes that free the network; where there is none and pairs are asked for, the pairs that do
-abbrev pub IsMendedBy : Bool → Declaration → List Change → Answers
+abbrev pub IsMendedBy : Bool → Declaration → List Trial → Answers
 IsMendedBy false d told text status = Says (mends_text d told) (mends_status told) text status
 IsMendedBy true d [] text status = IsPaired d text status
 IsMendedBy true d (change ∷ changes) text status = Says (mends_text d (change ∷ changes)) 0 text status
 
 abbrev pub IsMended : Bool → Declaration → Answers
-IsMended pairs d text status = (told : List Change) × AreMends d told × IsMendedBy pairs d told text status
+IsMended pairs d text status = (told : List Trial) × AreMends d told × IsMendedBy pairs d told text status
 
 -- the flow that is not well routed; else what frees the network, or that it is free already
 abbrev pub IsByVerdict : Bool → Declaration → Verdict → Answers

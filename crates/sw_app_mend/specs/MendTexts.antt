@@ -1,11 +1,14 @@
 -- The text of `mend` (this project's choice).
-use Rattle.std.specs.Prelude.{ℕ, ◌==◌, List, [], ◌∷◌, codes, flat_map, if◌then◌else◌, slice_get}
+use Rattle.std.specs.Prelude.{ℕ, ◌==◌, List, [], ◌∷◌, ◌++◌, codes, flat_map, if◌then◌else◌, slice_get}
 use Rattle.std.specs.Option.{option_map_or}
 use Rattle.std.specs.Fmt.{decimal}
 use Rattle.sw_config.specs.Entries.{Declaration, routes_of}
 use Rattle.sw_mend.specs.declared.change.Change.{Change}
 use Rattle.sw_mend.specs.declared.change.Change.TheVariants.{WithoutReply, WithoutFlow, WithoutAnswers, WithoutPort, WithoutEntry, WithoutFlowsOf}
 use Rattle.sw_mend.specs.declared.change.Pair.{Pair}
+use Rattle.sw_mend.specs.declared.change.TargetLink.{TargetLink}
+use Rattle.sw_mend.specs.declared.change.Trial.{Trial}
+use Rattle.sw_mend.specs.declared.change.Trial.TheVariants.{Without, Split}
 use Rattle.sw_output.specs.ChannelTexts.{node_name, switch_name}
 use Rattle.sw_output.specs.FlowTexts.{flow_name}
 use Rattle.sw_output.specs.Lines.{line, spaced}
@@ -31,9 +34,19 @@ change_words d (WithoutEntry switch entry) =
     spaced (codes "without the entry for" ∷ entry_words d switch entry ∷ codes "at" ∷ switch_name d switch ∷ [])
 change_words d (WithoutFlowsOf node) = spaced (codes "without the flows from and to" ∷ node_name d node ∷ [])
 
--- that a network is free without this
-abbrev pub mend_line : Declaration → Change → List ℕ
-mend_line d change = line (codes "free" ∷ change_words d change ∷ [])
+-- what the target of a node gets
+abbrev pub split_words : Declaration → TargetLink → List ℕ
+split_words d link =
+    codes "with a link of its own for the target of " ++ (node_name d link.node
+    ++ (codes ", at port " ++ (decimal link.port ++ (codes " of " ++ switch_name d link.switch))))
+
+abbrev pub trial_words : Declaration → Trial → List ℕ
+trial_words d (Without change) = change_words d change
+trial_words d (Split link) = split_words d link
+
+-- that a network is free without or with this
+abbrev pub mend_line : Declaration → Trial → List ℕ
+mend_line d change = line (codes "free" ∷ trial_words d change ∷ [])
 
 -- that it is free without both
 abbrev pub pair_line : Declaration → Pair → List ℕ
@@ -48,7 +61,7 @@ abbrev pub no_pair_line : List ℕ
 no_pair_line = line (codes "no pair of changes frees it" ∷ [])
 
 -- a line for each change that frees the network, or that there is none
-abbrev pub mends_text : Declaration → List Change → List ℕ
+abbrev pub mends_text : Declaration → List Trial → List ℕ
 mends_text d [] = none_line
 mends_text d (change ∷ changes) = flat_map (mend_line d) (change ∷ changes)
 

@@ -16,13 +16,13 @@ use sw_command::statuses::{BAD, GOOD};
 use sw_config::Network;
 use sw_file::read_network;
 use sw_flow::{Place, RouteFault};
-use sw_mend::{Change, Pair, mends, pair_mends};
+use sw_mend::{Pair, Trial, mends, pair_mends};
 use sw_output::misrouted_text;
 use sw_search::{Verdict, decide};
 use sw_toml_table::FileFault;
 
 // The answer by the changes that free the network.
-fn told(alloc: Global, network: &Network, changes: &[Change]) -> Result<Answer, AllocError>
+fn told(alloc: Global, network: &Network, changes: &[Trial]) -> Result<Answer, AllocError>
     ensures { IfOk result (λ a. Says (mends_text network.now changes.now) (mends_status changes.now) (string_bytes a.text) a.status) }
 {
     let text = mends_text(alloc, network, changes)?;
@@ -57,7 +57,7 @@ fn mended_by<T: Threads + Sync>(
     alloc: Global,
     pairs: bool,
     network: &Network,
-    changes: &[Change],
+    changes: &[Trial],
 ) -> Result<Answer, AllocError>
     ensures { IfOk result (λ a. IsMendedBy pairs network.now changes.now (string_bytes a.text) a.status) }
 {

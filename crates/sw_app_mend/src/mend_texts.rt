@@ -1,12 +1,12 @@
 //! The lines of `mend`.
 ghost use Rattle.std.specs.Prelude.{◌≡◌, IfOk, flat_map, string_bytes};
 ghost use Rattle.sw_output.specs.ChannelTexts.{switch_name};
-ghost use Rattle.sw_app_mend.specs.MendTexts.{addresses_words, change_words, entry_words, free_line, mend_line, mends_status, mends_text, no_pair_line, none_line, pair_line, pairs_text};
+ghost use Rattle.sw_app_mend.specs.MendTexts.{addresses_words, change_words, entry_words, free_line, mend_line, mends_status, mends_text, no_pair_line, none_line, pair_line, pairs_text, split_words, trial_words};
 
 use std::alloc::{AllocError, Global};
 use sw_command::statuses::{BAD, GOOD};
 use sw_config::Network;
-use sw_mend::{Change, Pair};
+use sw_mend::{Change, Pair, TargetLink, Trial};
 use sw_output::{flow_name, node_name};
 use sw_topo::Port;
 
@@ -124,11 +124,31 @@ fn change_words(alloc: Global, network: &Network, change: &Change) -> Result<Str
     }
 }
 
-// The line of a change that frees the network.
-fn mend_line(alloc: Global, network: &Network, change: &Change) -> Result<String, AllocError>
-    ensures { IfOk result (λ s. string_bytes s ≡ mend_line network.now change.now) }
+// What the target of a node gets.
+fn split_words(alloc: Global, network: &Network, link: &TargetLink) -> Result<String, AllocError>
+    ensures { IfOk result (λ s. string_bytes s ≡ split_words network.now link.now) }
 {
-    let words = change_words(alloc, network, change)?;
+    let name = node_name(network, link.node);
+    let port = link.port.number();
+    let switch = switch_name(network, link.switch);
+    format!(in alloc; "with a link of its own for the target of {name}, at port {port} of {switch}")
+}
+
+// What is taken away, or what the target of a node gets.
+fn trial_words(alloc: Global, network: &Network, trial: &Trial) -> Result<String, AllocError>
+    ensures { IfOk result (λ s. string_bytes s ≡ trial_words network.now trial.now) }
+{
+    match trial {
+        Trial::Without(change) => change_words(alloc, network, change),
+        Trial::Split(link) => split_words(alloc, network, link),
+    }
+}
+
+// The line of a change that frees the network.
+fn mend_line(alloc: Global, network: &Network, trial: &Trial) -> Result<String, AllocError>
+    ensures { IfOk result (λ s. string_bytes s ≡ mend_line network.now trial.now) }
+{
+    let words = trial_words(alloc, network, trial)?;
     format!(in alloc; "free {words}\n")
 }
 
@@ -142,7 +162,7 @@ fn pair_line(alloc: Global, network: &Network, pair: &Pair) -> Result<String, Al
 }
 
 // The lines of the changes that free the network.
-fn mend_lines(alloc: Global, network: &Network, changes: &[Change]) -> Result<String, AllocError>
+fn mend_lines(alloc: Global, network: &Network, changes: &[Trial]) -> Result<String, AllocError>
     ensures { IfOk result (λ s. string_bytes s ≡ flat_map (mend_line network.now) changes.now) }
 {
     let mut text = String::new(alloc);
@@ -174,7 +194,7 @@ fn none_text(alloc: Global) -> Result<String, AllocError>
 pub(crate) fn mends_text(
     alloc: Global,
     network: &Network,
-    changes: &[Change],
+    changes: &[Trial],
 ) -> Result<String, AllocError>
     ensures { IfOk result (λ s. string_bytes s ≡ mends_text network.now changes.now) }
 {

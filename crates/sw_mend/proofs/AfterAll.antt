@@ -125,7 +125,7 @@ same_by_number : {A : Type 0} (n : ℕ) (xs : List A) → by_number (λ k (x : A
 same_by_number n [] = refl
 same_by_number n (x ∷ xs) = ap (λ l. x ∷ l) (same_by_number (n + 1) xs)
 
-same_tables : (n : ℕ) (switches : List SwitchEntry) → by_number (λ k (s : SwitchEntry). record s { routes = by_number (λ e (r : Route). r ∷ []) 0 s.routes } ∷ []) n switches ≡ switches
+pub same_tables : (n : ℕ) (switches : List SwitchEntry) → by_number (λ k (s : SwitchEntry). record s { routes = by_number (λ e (r : Route). r ∷ []) 0 s.routes } ∷ []) n switches ≡ switches
 same_tables n [] = refl
 same_tables n (s ∷ switches) = λ t. record s { routes = same_by_number 0 s.routes t } ∷ same_tables (n + 1) switches t
 

@@ -3,11 +3,16 @@ use Rattle.std.proofs.Common.{◌≡◌, ◌⊎◌, ◌↔◌, ℕ, suc, zero, L
 use Rattle.std.specs.Prelude.{Contains, slice_get}
 use Rattle.std.proofs.lemmas.List.Elements.{Contains-append_cases, Contains-append_left, Contains-append_right}
 use Rattle.std.proofs.lemmas.Option.{same_Some}
-use Rattle.sw_mend.specs.Changes.{pairs_of, single_changes}
-use Rattle.sw_mend.specs.Laws.{MendsAreDetermined, MendsAreThoseThatFree, PairsAreDetermined, PairsAreThoseThatFree, StandsBefore}
-use Rattle.sw_mend.specs.Mends.{AreThose, Frees, FreesBoth}
+use Rattle.sw_config.specs.Entries.{Declaration}
+use Rattle.sw_config.specs.Valid.{IsValid}
+use Rattle.sw_mend.specs.Changes.{pairs_of, removals}
+use Rattle.sw_mend.specs.Laws.{MendsAreDetermined, MendsAreThoseThatFree, MendsKeepValid, PairsAreDetermined, PairsAreThoseThatFree, StandsBefore}
+use Rattle.sw_mend.specs.Mends.{AreThose, Frees, FreesBoth, left_by, single_changes}
 use Rattle.sw_mend.specs.declared.change.Change.{Change}
 use Rattle.sw_mend.specs.declared.change.Pair.{Pair}
+use Rattle.sw_mend.specs.declared.change.Trial.{Trial}
+use Rattle.sw_mend.specs.declared.change.Trial.TheVariants.{Without, Split}
+use Rattle.sw_mend.proofs.Kept.{changes_keep_valid}
 use Rattle.sw_mend.proofs.Paired.{pair_with}
 
 module _ {A : Type 0} where
@@ -68,6 +73,13 @@ module _ {A : Type 0} (IsFree : A → Type 0) where
 pub mends_are_those_that_free : MendsAreThoseThatFree
 mends_are_those_that_free d told change are = exactly (Frees d) (single_changes d) told change are
 
+freeing_keeps_valid : (d : Declaration) (change : Trial) → IsValid d → Frees d change → IsValid (left_by d change)
+freeing_keeps_valid d (Without change) valid frees = changes_keep_valid d change valid
+freeing_keeps_valid d (Split link) valid frees = frees.0
+
+pub mends_keep_valid : MendsKeepValid
+mends_keep_valid d told change valid are here = freeing_keeps_valid d change valid ((mends_are_those_that_free d told change are).0 here).1
+
 pub mends_are_determined : MendsAreDetermined
 mends_are_determined d told other are also = one_list (Frees d) (single_changes d) told other are also
 
@@ -111,10 +123,10 @@ is_pair (c ∷ changes) first second (suc i, suc j, lt, a, b) =
 
 pub pairs_are_those_that_free : PairsAreThoseThatFree
 pairs_are_those_that_free d told pair are =
-    let both = exactly (FreesBoth d) (pairs_of (single_changes d)) told pair are in (
-      λ here. (stands (single_changes d) pair (both.0 here).0, (both.0 here).1),
-      λ (before, frees). both.1 (is_pair (single_changes d) pair.first pair.second before, frees),
+    let both = exactly (FreesBoth d) (pairs_of (removals d)) told pair are in (
+      λ here. (stands (removals d) pair (both.0 here).0, (both.0 here).1),
+      λ (before, frees). both.1 (is_pair (removals d) pair.first pair.second before, frees),
     )
 
 pub pairs_are_determined : PairsAreDetermined
-pairs_are_determined d told other are also = one_list (FreesBoth d) (pairs_of (single_changes d)) told other are also
+pairs_are_determined d told other are also = one_list (FreesBoth d) (pairs_of (removals d)) told other are also

@@ -13,7 +13,7 @@ use Rattle.sw_mend.specs.Changes.{by_number, flow_after_all, switch_after_all}
 use Rattle.sw_mend.specs.declared.change.Change.{Change}
 use Rattle.sw_mend.proofs.AfterAll.{flow_cases}
 
-differ : (a b : List ℕ) → a ≢ b → bytes_eq a b ≡ false
+pub differ : (a b : List ℕ) → a ≢ b → bytes_eq a b ≡ false
 differ a b apart = elim (cases_Bool (bytes_eq a b)) [ inl same ↦ absurd (apart ((bytes_eq-Decides a b).0 same)) | inr other ↦ other ]
 
 -- of names that are apart none before the name is the name
@@ -26,12 +26,12 @@ fresh names i name apart here =
     let mine : get_or names i d ≡ name = get_or_from_slice_get names i name d here in
     differ name (get_or (take i names) k d) (λ same. apart k i d short within (sym at ∙ sym same ∙ sym mine)))
 
-named_at : {A : Type 0} (f : A → List ℕ) (xs : List A) (i : ℕ) (x : A) → slice_get xs i ≡ Some x → slice_get (map f xs) i ≡ Some (f x)
+pub named_at : {A : Type 0} (f : A → List ℕ) (xs : List A) (i : ℕ) (x : A) → slice_get xs i ≡ Some x → slice_get (map f xs) i ≡ Some (f x)
 named_at f [] i x here = absurd cc
 named_at f (y ∷ xs) zero x here = let same : y ≡ x = cc in ap (λ z. Some (f z)) same
 named_at f (y ∷ xs) (suc i) x here = named_at f xs i x here
 
-neither : (a b : Bool) → (a || b) ≡ false → (a ≡ false) × (b ≡ false)
+pub neither : (a b : Bool) → (a || b) ≡ false → (a ≡ false) × (b ≡ false)
 neither false b h = (refl, h)
 neither true b h = absurd cc
 

@@ -16,10 +16,10 @@ use Rattle.sw_mend.proofs.Fresh.{as_many, few_left, same_names}
 
 -- ---- pairs of a list
 
-firsts : {X : Type 0} (R : X → X → Type 0) (x : X) (xs : List X) → AllPairs R (x ∷ xs) → All (R x) xs
+pub firsts : {X : Type 0} (R : X → X → Type 0) (x : X) (xs : List X) → AllPairs R (x ∷ xs) → All (R x) xs
 firsts R x xs pairs = λ k d lt. pairs 0 (suc k) d (omega arith) (omega arith)
 
-rests : {X : Type 0} (R : X → X → Type 0) (x : X) (xs : List X) → AllPairs R (x ∷ xs) → AllPairs R xs
+pub rests : {X : Type 0} (R : X → X → Type 0) (x : X) (xs : List X) → AllPairs R (x ∷ xs) → AllPairs R xs
 rests R x xs pairs = λ i j d lt low. pairs (suc i) (suc j) d (omega arith) (omega arith)
 
 joined : {X : Type 0} (R : X → X → Type 0) (xs ys : List X) → AllPairs R xs → AllPairs R ys → All (λ x. All (R x) ys) xs → AllPairs R (xs ++ ys)

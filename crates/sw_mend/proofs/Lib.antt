@@ -9,3 +9,7 @@ mod Paired
 mod Determined
 mod Kept
 mod Apart
+mod Named
+mod MovedFlows
+mod OwnLinks
+mod Rewired

@@ -22,12 +22,12 @@ in_front [] ys i x lt here = absurd (omega (arith, lt))
 in_front (z ∷ xs) ys zero x lt here = here
 in_front (z ∷ xs) ys (suc i) x lt here = in_front xs ys i x (omega arith) here
 
-at_front : {A : Type 0} (xs ys : List A) (i : ℕ) (x : A) → slice_get xs i ≡ Some x → slice_get (xs ++ ys) i ≡ Some x
+pub at_front : {A : Type 0} (xs ys : List A) (i : ℕ) (x : A) → slice_get xs i ≡ Some x → slice_get (xs ++ ys) i ≡ Some x
 at_front [] ys i x here = absurd cc
 at_front (z ∷ xs) ys zero x here = here
 at_front (z ∷ xs) ys (suc i) x here = at_front xs ys i x here
 
-at_back : {A : Type 0} (xs ys : List A) (i k : ℕ) (x : A) → k ≡ length xs + i → slice_get ys i ≡ Some x → slice_get (xs ++ ys) k ≡ Some x
+pub at_back : {A : Type 0} (xs ys : List A) (i k : ℕ) (x : A) → k ≡ length xs + i → slice_get ys i ≡ Some x → slice_get (xs ++ ys) k ≡ Some x
 at_back [] ys i k x is here = let same : k ≡ i = omega arith in rw same here
 at_back (z ∷ xs) ys i zero x is here = absurd (omega arith)
 at_back (z ∷ xs) ys i (suc k) x is here = at_back xs ys i k x (omega arith) here

@@ -1,9 +1,11 @@
 -- Those of a list that free the network: of two lists joined, and with one more.
-use Rattle.std.proofs.Common.{◌≡◌, ◌↔◌, ◌+◌, ◌<◌, ℕ, Bool, true, false, IsTrue, List, [], ◌∷◌, ◌++◌, get_or, inl, inr, length, refl, sym, take, ap, ◌∙◌}
+use Rattle.std.proofs.Common.{◌≡◌, ◌↔◌, append-nil, append_assoc, map, subst, ◌+◌, ◌<◌, ℕ, Bool, true, false, IsTrue, List, [], ◌∷◌, ◌++◌, get_or, inl, inr, length, refl, sym, take, ap, ◌∙◌}
 use Rattle.std.specs.Prelude.{if◌then◌else◌}
 use Rattle.std.proofs.lemmas.Bool.{false≢true}
-use Rattle.std.proofs.lemmas.List.{take_more}
-use Rattle.sw_mend.specs.Mends.{AreThose}
+use Rattle.std.proofs.lemmas.List.{map-append, take_more}
+use Rattle.sw_mend.specs.Changes.{by_number, made_at}
+use Rattle.sw_mend.specs.Mends.{AreAdded, AreThose}
+use Rattle.sw_mend.proofs.Numbered.{grown_at}
 
 module _ {A : Type 0} (IsFree : A → Type 0) where
   -- those of two lists are those of the one, and then those of the other
@@ -27,3 +29,47 @@ module _ {A : Type 0} (IsFree : A → Type 0) where
   told_more xs i x told after b lt at those decided more =
       let cut : take (i + 1) xs ≡ take i xs ++ x ∷ [] = take_more xs i x lt ∙ ap (λ c. take i xs ++ c ∷ []) (sym at) in
       rw cut (told_one (take i xs) x told after b those decided more)
+
+  -- ---- behind what was told before
+
+  pub none_added : (before : List A) → AreAdded IsFree [] before before
+  none_added before = ([], refl, sym (append-nil before))
+
+  pub one_added : (x : A) (before after : List A) (b : Bool) → (IsTrue b ↔ IsFree x) → after ≡ before ++ (if b then x ∷ [] else []) → AreAdded IsFree (x ∷ []) before after
+  one_added x before after b decided more = (if b then x ∷ [] else [], alone x b decided, more)
+
+  -- one after the other
+  pub both_added : (xs ys before now after : List A) → AreAdded IsFree xs before now → AreAdded IsFree ys now after → AreAdded IsFree (xs ++ ys) before after
+  both_added xs ys before now after (those, are, so_far) (them, also, more) = (
+    those ++ them,
+    joined xs ys those them are also,
+    more ∙ ap (λ (l : List A). l ++ them) so_far ∙ append_assoc before those them,
+  )
+
+-- the same for what is made of elements
+module _ {A B : Type 0} (IsFree : B → Type 0) (f : A → B) where
+  pub added_more : (xs : List A) (i : ℕ) (x : A) (before now after : List B) (b : Bool) → i < length xs → x ≡ get_or xs i x → AreAdded IsFree (map f (take i xs)) before now
+      → (IsTrue b ↔ IsFree (f x)) → after ≡ now ++ (if b then f x ∷ [] else []) → AreAdded IsFree (map f (take (i + 1) xs)) before after
+  added_more xs i x before now after b lt at so_far decided more =
+      let cut : take (i + 1) xs ≡ take i xs ++ x ∷ [] = take_more xs i x lt ∙ ap (λ c. take i xs ++ c ∷ []) (sym at) in
+      let made : map f (take (i + 1) xs) ≡ map f (take i xs) ++ f x ∷ [] = ap (map f) cut ∙ map-append f (take i xs) (x ∷ []) in
+      subst (λ (l : List B). AreAdded IsFree l before after) (sym made)
+      (both_added IsFree (map f (take i xs)) (f x ∷ []) before now after so_far (one_added IsFree (f x) now after b decided more))
+
+  -- of what is made by numbers
+  pub made_added : {C : Type 0} (make : ℕ → C → List A) (xs : List C) (i : ℕ) (before now after : List B)
+      → AreAdded IsFree (map f (by_number make 0 (take i xs))) before now → AreAdded IsFree (map f (made_at make xs i)) now after
+      → AreAdded IsFree (map f (by_number make 0 (take (i + 1) xs))) before after
+  made_added make xs i before now after so_far more =
+      let grown : by_number make 0 (take (i + 1) xs) ≡ by_number make 0 (take i xs) ++ made_at make xs i = sym (grown_at make [] (by_number make 0 (take i xs)) (by_number make 0 (take i xs) ++ made_at make xs i) i xs refl refl) in
+      let made : map f (by_number make 0 (take (i + 1) xs)) ≡ map f (by_number make 0 (take i xs)) ++ map f (made_at make xs i) =
+      ap (map f) grown ∙ map-append f (by_number make 0 (take i xs)) (made_at make xs i) in
+      subst (λ (l : List B). AreAdded IsFree l before after) (sym made)
+      (both_added IsFree (map f (by_number make 0 (take i xs))) (map f (made_at make xs i)) before now after so_far more)
+
+-- those of three lists, one after the other, where nothing was told before
+pub all_added : {A : Type 0} (IsFree : A → Type 0) (xs ys zs first now middle told : List A) → first ≡ [] → AreAdded IsFree xs first now → AreAdded IsFree ys now middle
+    → AreAdded IsFree zs middle told → AreThose IsFree (xs ++ ys ++ zs) told
+all_added {A = A} IsFree xs ys zs first now middle told none one two three =
+    let all : AreAdded IsFree (xs ++ ys ++ zs) first told = both_added IsFree (xs ++ ys) zs first middle told (both_added IsFree xs ys first now middle one two) three in
+    subst (AreThose IsFree (xs ++ ys ++ zs)) (sym (all.2 ∙ ap (λ (l : List A). l ++ all.0) none)) all.1

@@ -124,16 +124,22 @@ entries_away switch s = by_number (entry_away switch) 0 s.routes
 abbrev pub flows_away : ℕ → NodeEntry → List Change
 flows_away number n = WithoutFlowsOf number ∷ []
 
--- One reply; one flow; the answers of one target; one port of one group; one table entry; the flows of one unit. Each kind by the
--- numbers of what is taken away.
-abbrev pub single_changes : Declaration → List Change
-single_changes d =
+-- one reply; one flow; the answers of one target; one port of one group; one table entry
+abbrev pub parts_away : Declaration → List Change
+parts_away d =
     by_number reply_away 0 d.flows
     ++ by_number flow_away 0 d.flows
     ++ by_number answers_away 0 d.nodes
     ++ by_number group_ports_away 0 d.switches
     ++ by_number entries_away 0 d.switches
-    ++ by_number flows_away 0 d.nodes
+
+-- the flows of one unit
+abbrev pub units_away : Declaration → List Change
+units_away d = by_number flows_away 0 d.nodes
+
+-- All that is tried of what can be taken away: each kind by the numbers of what is taken away.
+abbrev pub removals : Declaration → List Change
+removals d = parts_away d ++ units_away d
 
 -- each of the changes with each one after it, in the order of the first and then of the second
 abbrev pub pairs_of : List Change → List Pair

@@ -1,3 +1,4 @@
 pub mod Changes
+pub mod Splits
 pub mod Mends
 pub mod Laws

@@ -1,14 +1,32 @@
 -- Which single changes make a network free, and which pairs of them.
-use Rattle.std.specs.Prelude.{◌≡◌, ◌⊎◌, List, [], ◌∷◌}
+use Rattle.std.specs.Prelude.{◌≡◌, ◌⊎◌, List, [], ◌∷◌, ◌++◌, map}
 use Rattle.sw_config.specs.Entries.{Declaration}
+use Rattle.sw_config.specs.Valid.{IsValid}
 use Rattle.sw_search.specs.Laws.{RoutedAndFree}
-use Rattle.sw_mend.specs.Changes.{changed, changed_by_all, pairs_of, single_changes}
-use Rattle.sw_mend.specs.declared.change.Change.{Change}
+use Rattle.sw_mend.specs.Changes.{changed, changed_by_all, pairs_of, parts_away, removals, units_away}
+use Rattle.sw_mend.specs.Splits.{split, splits}
 use Rattle.sw_mend.specs.declared.change.Pair.{Pair}
+use Rattle.sw_mend.specs.declared.change.Trial.{Trial}
+use Rattle.sw_mend.specs.declared.change.Trial.TheVariants.{Without, Split}
 
--- In the changed network each flow is well routed, and no channels can wait for one another in a circle.
-abbrev pub Frees : Declaration → Change → Type 0
-Frees d change = RoutedAndFree (changed d change)
+-- ---- the single changes
+
+-- what a single change leaves of a network
+abbrev pub left_by : Declaration → Trial → Declaration
+left_by d (Without change) = changed d change
+left_by d (Split link) = split d link
+
+-- All that is tried: what can be taken away, and before the flows of units the splits of nodes.
+abbrev pub single_changes : Declaration → List Trial
+single_changes d = map Without (parts_away d) ++ map Split (splits d) ++ map Without (units_away d)
+
+-- In the changed network each flow is well routed, and no channels can wait for one another in a circle. A split has to leave a valid
+-- network: the name of the own node is not taken, and no limit is passed. (What is taken away always does.)
+abbrev pub Frees : Declaration → Trial → Type 0
+Frees d (Without change) = RoutedAndFree (changed d change)
+Frees d (Split link) = IsValid (split d link) × RoutedAndFree (split d link)
+
+-- ---- those that free
 
 -- the same in the network with both changes made, the first and then the second
 abbrev pub FreesBoth : Declaration → Pair → Type 0
@@ -23,18 +41,18 @@ abbrev pub AreThose : {A : Type 0} → (A → Type 0) → List A → List A → 
 AreThose IsFree [] told = told ≡ []
 AreThose IsFree (tried ∷ more) told = (others : _) × AreThose IsFree more others × IsTold IsFree tried others told
 
--- those of the changes that free the network
-abbrev pub AreThoseThatFree : Declaration → List Change → List Change → Type 0
-AreThoseThatFree d = AreThose (Frees d)
+-- behind what was told before, those that free of what is tried
+abbrev pub AreAdded : {A : Type 0} → (A → Type 0) → List A → List A → List A → Type 0
+AreAdded IsFree tried before told = (those : _) × AreThose IsFree tried those × (told ≡ before ++ those)
 
 -- those of the pairs that free it
 abbrev pub AreThosePairs : Declaration → List Pair → List Pair → Type 0
 AreThosePairs d = AreThose (FreesBoth d)
 
 -- the single changes that free the network
-abbrev pub AreMends : Declaration → List Change → Type 0
-AreMends d told = AreThoseThatFree d (single_changes d) told
+abbrev pub AreMends : Declaration → List Trial → Type 0
+AreMends d told = AreThose (Frees d) (single_changes d) told
 
--- the pairs of single changes, the first before the second in their order, that free it
+-- the pairs of what can be taken away, the first before the second in their order, that free it; no split is one of a pair
 abbrev pub ArePairMends : Declaration → List Pair → Type 0
-ArePairMends d told = AreThosePairs d (pairs_of (single_changes d)) told
+ArePairMends d told = AreThosePairs d (pairs_of (removals d)) told

@@ -1,4 +1,4 @@
-//! A single change of a network, and two of them.
+//! A single change of a network, and two of what can be taken away.
 
 use sw_topo::Port;
 
@@ -32,4 +32,31 @@ pub enum Change {
 pub struct Pair {
     pub first: Change,
     pub second: Change,
+}
+
+/// A link of its own for the target of a node, which is so split into two: to a port of the switch at which the node's link is, with the
+/// receive buffers of that link.
+#[derive(Clone, Copy)]
+pub struct TargetLink {
+    /// The node.
+    pub node: u16,
+    /// The switch at which its link is.
+    pub switch: u16,
+    /// The port at which its link is.
+    pub beside: Port,
+    /// The port of the own link.
+    pub port: Port,
+    /// How many characters the receive buffer at the node holds.
+    pub near: u16,
+    /// How many the one at the switch holds.
+    pub far: u16,
+}
+
+/// A single change that is tried.
+#[derive(Clone, Copy)]
+pub enum Trial {
+    /// One thing is taken out.
+    Without(Change),
+    /// A node is split: its target gets a link of its own.
+    Split(TargetLink),
 }

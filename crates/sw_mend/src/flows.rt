@@ -53,7 +53,7 @@ fn is_unanswered(changes: &[Change], number: u16, flow: &Flow) -> bool
 }
 
 // Where the replies of the flow go.
-fn copied_reply(alloc: Global, flow: &Flow) -> Result<Option<Reply>, AllocError>
+pub(crate) fn copied_reply(alloc: Global, flow: &Flow) -> Result<Option<Reply>, AllocError>
     ensures { IfOk result (λ r. r ≡ flow.now.reply) }
 {
     match flow.reply() {
@@ -81,7 +81,7 @@ fn kept_reply(
 }
 
 // A copy of the flow, with these replies.
-fn with_reply(
+pub(crate) fn with_reply(
     alloc: Global,
     flow: &Flow,
     reply: Result<Option<Reply>, AllocError>,

@@ -1,5 +1,5 @@
 //! What holds of single changes and of pairs of them. These functions do nothing: each is the proof of what its clause says.
-ghost use Rattle.sw_mend.specs.Laws.{AllKeepValid, ChangesKeepValid, MendsAreDetermined, MendsAreThoseThatFree, NoneChangesNothing, OneAloneIsAChange, PairsAreDetermined, PairsAreThoseThatFree};
+ghost use Rattle.sw_mend.specs.Laws.{AllKeepValid, ChangesKeepValid, MendsAreDetermined, MendsAreThoseThatFree, MendsKeepValid, NoneChangesNothing, OneAloneIsAChange, PairsAreDetermined, PairsAreThoseThatFree};
 
 /// A change is told exactly where it is one of the single changes and frees the network.
 pub fn mends_are_those_that_free()
@@ -14,6 +14,11 @@ pub fn mends_are_determined()
 /// Whatever is taken away, the network that is left is a valid one.
 pub fn changes_keep_valid()
     ensures { ChangesKeepValid }
+{}
+
+/// Each change that is told leaves a valid network.
+pub fn mends_keep_valid()
+    ensures { MendsKeepValid }
 {}
 
 /// Several changes that are one change leave what it leaves.
@@ -31,7 +36,7 @@ pub fn all_keep_valid()
     ensures { AllKeepValid }
 {}
 
-/// A pair is told exactly where both are single changes, the first before the second, and they free the network together.
+/// A pair is told exactly where both are among what can be taken away, the first before the second, and they free the network together.
 pub fn pairs_are_those_that_free()
     ensures { PairsAreThoseThatFree }
 {}

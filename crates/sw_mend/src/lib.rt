@@ -4,14 +4,17 @@
 mod change;
 mod flows;
 pub mod laws;
+mod links;
 mod listing;
 mod mending;
+mod moved;
 mod pairs;
 mod parts;
 mod rebuilt;
+mod splitting;
 mod tables;
 
-pub use change::{Change, Pair};
+pub use change::{Change, Pair, TargetLink, Trial};
 pub use mending::mends;
 pub use pairs::pair_mends;
 pub use rebuilt::{network_with, network_with_all};

@@ -1,8 +1,8 @@
-//! The changes that are tried.
+//! What is tried of what can be taken away.
 ghost use Rattle.std.specs.Prelude.{◌≡◌, ◌<◌, ◌++◌, IfOk, OnOk, is_some, length, map};
 ghost use Rattle.sw_topo.specs.Ports.{ports_of};
 ghost use Rattle.sw_mend.specs.declared.change.Change.TheVariants.{WithoutPort};
-ghost use Rattle.sw_mend.specs.Changes.{answers_away, by_number, entries_away, entry_away, flow_away, flows_away, group_ports_away, made_at, ports_away, reply_away, single_changes};
+ghost use Rattle.sw_mend.specs.Changes.{answers_away, by_number, entries_away, entry_away, flow_away, flows_away, group_ports_away, made_at, parts_away, ports_away, removals, reply_away, units_away};
 
 use crate::change::Change;
 use std::alloc::{AllocError, Global};
@@ -183,9 +183,9 @@ fn add_units(network: &Network, changes: &mut Vec<Change>) -> Result<(), AllocEr
     Ok(())
 }
 
-/// The changes that are tried, in their order.
-pub(crate) fn single_changes(alloc: Global, network: &Network) -> Result<Vec<Change>, AllocError>
-    ensures { IfOk result (λ v. v.items ≡ single_changes network.now) }
+/// What is taken away before nodes are split, in the order in which it is tried.
+pub(crate) fn parts_away(alloc: Global, network: &Network) -> Result<Vec<Change>, AllocError>
+    ensures { IfOk result (λ v. v.items ≡ parts_away network.now) }
 {
     let mut changes = Vec::new(alloc);
     add_replies(network, &mut changes)?;
@@ -193,6 +193,23 @@ pub(crate) fn single_changes(alloc: Global, network: &Network) -> Result<Vec<Cha
     add_targets(network, &mut changes)?;
     add_all_groups(network, &mut changes)?;
     add_all_entries(network, &mut changes)?;
+    Ok(changes)
+}
+
+/// What is taken away after that.
+pub(crate) fn units_away(alloc: Global, network: &Network) -> Result<Vec<Change>, AllocError>
+    ensures { IfOk result (λ v. v.items ≡ units_away network.now) }
+{
+    let mut changes = Vec::new(alloc);
+    add_units(network, &mut changes)?;
+    Ok(changes)
+}
+
+/// All that is tried of what can be taken away, in its order.
+pub(crate) fn removals(alloc: Global, network: &Network) -> Result<Vec<Change>, AllocError>
+    ensures { IfOk result (λ v. v.items ≡ removals network.now) }
+{
+    let mut changes = parts_away(alloc, network)?;
     add_units(network, &mut changes)?;
     Ok(changes)
 }

@@ -1,11 +1,20 @@
 //! The single changes that free a network.
-ghost use Rattle.std.specs.Prelude.{◌≡◌, ◌↔◌, ◌++◌, ◌∷◌, [], IfOk, IsTrue, OnOk, if◌then◌else◌};
-ghost use Rattle.sw_mend.specs.Mends.{AreMends, AreThoseThatFree, Frees};
+ghost use Rattle.std.specs.Prelude.{◌≡◌, ◌↔◌, ◌<◌, ◌++◌, ◌∷◌, [], IfOk, IfSome, IsTrue, OnOk, if◌then◌else◌, length, map};
+ghost use Rattle.std.specs.Option.{option_to_list};
+ghost use Rattle.sw_config.specs.Valid.{IsValid};
+ghost use Rattle.sw_search.specs.Laws.{RoutedAndFree};
+ghost use Rattle.sw_mend.specs.Changes.{made_at};
+ghost use Rattle.sw_mend.specs.Mends.{AreAdded, AreMends, Frees};
+ghost use Rattle.sw_mend.specs.Splits.{IsTargetLink, own_links, splits};
+ghost use Rattle.sw_mend.specs.declared.change.Trial.TheVariants.{Without, Split};
 
-use crate::change::Change;
-use crate::listing::single_changes;
+use crate::change::{Change, TargetLink, Trial};
+use crate::links::own_link_of;
+use crate::listing::{parts_away, units_away};
 use crate::rebuilt::network_with;
+use crate::splitting::network_split;
 use std::alloc::{AllocError, Global};
+use std::marker::Model;
 use std::thread::Threads;
 use sw_config::Network;
 use sw_search::is_free;
@@ -17,41 +26,129 @@ fn frees<R: Threads + Sync>(
     network: &Network,
     change: &Change,
 ) -> Result<bool, AllocError>
-    ensures { IfOk result (λ b. IsTrue b ↔ Frees network.now change.now) }
+    ensures { IfOk result (λ b. IsTrue b ↔ Frees network.now (Without change.now)) }
 {
     let changed = network_with(alloc, network, change)?;
     is_free(rt, alloc, &changed)
 }
 
-// The change, if it frees the network.
-fn add_mend(frees: bool, change: &Change, mends: &mut Vec<Change>) -> Result<(), AllocError>
-    ensures { OnOk result (mends.new.items ≡ mends.old.items ++ (if frees then change.now ∷ [] else [])) }
+// Adds what is tried, if it frees the network.
+fn add_if<T: Copy>(frees: bool, tried: T, mends: &mut Vec<T>) -> Result<(), AllocError>
+    ensures { OnOk result (mends.new.items ≡ mends.old.items ++ (if frees then tried ∷ [] else [])) }
 {
     if frees {
-        mends.push(*change)?;
+        mends.push(tried)?;
     }
     Ok(())
 }
 
-// Those of the changes that free the network.
-fn those_that_free<R: Threads + Sync>(
+// Adds those of the changes that free the network.
+fn add_mends<R: Threads + Sync>(
     rt: &R,
     alloc: Global,
     network: &Network,
     changes: &[Change],
-) -> Result<Vec<Change>, AllocError>
-    ensures { IfOk result (λ v. AreThoseThatFree network.now changes.now v.items) }
+    mends: &mut Vec<Trial>,
+) -> Result<(), AllocError>
+    ensures { OnOk result (AreAdded (Frees network.now) (map Without changes.now) mends.old.items mends.new.items) }
 {
-    let mut mends = Vec::new(alloc);
     for change in changes {
-        add_mend(frees(rt, alloc, network, change)?, change, &mut mends)?;
+        let freed = frees(rt, alloc, network, change)?;
+        add_if(freed, Trial::Without(*change), mends)?;
     }
-    Ok(mends)
+    Ok(())
+}
+
+// Is the changed network valid and free?
+fn is_freed<R: Threads + Sync>(rt: &R, alloc: Global, changed: &Network) -> Result<bool, AllocError>
+    ensures { IfOk result (λ b. IsTrue b ↔ (IsValid changed.now × RoutedAndFree changed.now)) }
+{
+    // Names the network, which is valid by its type.
+    let _topology = changed.topology();
+    is_free(rt, alloc, changed)
+}
+
+// Does the split free the network?
+fn split_frees<R: Threads + Sync>(
+    rt: &R,
+    alloc: Global,
+    network: &Network,
+    link: &TargetLink,
+) -> Result<bool, AllocError>
+    requires { IsTargetLink network.now link.now }
+    ensures { IfOk result (λ b. IsTrue b ↔ Frees network.now (Split link.now)) }
+{
+    match network_split(alloc, network, link)? {
+        Some(changed) => is_freed(rt, alloc, &changed),
+        None => Ok(false),
+    }
+}
+
+// Adds the split, if it frees the network.
+fn add_split<R: Threads + Sync>(
+    rt: &R,
+    alloc: Global,
+    network: &Network,
+    link: &TargetLink,
+    mends: &mut Vec<Trial>,
+) -> Result<(), AllocError>
+    requires { IsTargetLink network.now link.now }
+    ensures { OnOk result (AreAdded (Frees network.now) (Split link.now ∷ []) mends.old.items mends.new.items) }
+{
+    let freed = split_frees(rt, alloc, network, link)?;
+    add_if(freed, Trial::Split(*link), mends)
+}
+
+// Adds the split by that link, if there is one and it frees the network.
+fn add_split_by<R: Threads + Sync>(
+    rt: &R,
+    alloc: Global,
+    network: &Network,
+    link: Option<TargetLink>,
+    mends: &mut Vec<Trial>,
+) -> Result<(), AllocError>
+    requires { IfSome link (IsTargetLink network.now) }
+    ensures { OnOk result (AreAdded (Frees network.now) (map Split (option_to_list link)) mends.old.items mends.new.items) }
+{
+    match link {
+        Some(link) => add_split(rt, alloc, network, &link, mends),
+        None => Ok(()),
+    }
+}
+
+// Adds the split of the node, if it frees the network.
+fn add_split_of<R: Threads + Sync>(
+    rt: &R,
+    alloc: Global,
+    network: &Network,
+    node: u16,
+    mends: &mut Vec<Trial>,
+) -> Result<(), AllocError>
+    requires { node < length network.now.nodes }
+    ensures { OnOk result (AreAdded (Frees network.now) (map Split (made_at (own_links network.now) network.now.nodes node)) mends.old.items mends.new.items) }
+{
+    let link = own_link_of(network, node);
+    add_split_by(rt, alloc, network, link, mends)
+}
+
+// Adds those of the splits that free the network.
+fn add_splits<R: Threads + Sync>(
+    rt: &R,
+    alloc: Global,
+    network: &Network,
+    mends: &mut Vec<Trial>,
+) -> Result<(), AllocError>
+    ensures { OnOk result (AreAdded (Frees network.now) (map Split (splits network.now)) mends.old.items mends.new.items) }
+{
+    for node in 0..network.nodes() {
+        add_split_of(rt, alloc, network, node, mends)?;
+    }
+    Ok(())
 }
 
 /// The single changes that free the network, in the order in which they are tried: one reply away; one flow; the answers of one target;
-/// one port of one group of a routing table; one table entry; the flows of one unit. Each is tried: none that is left out frees the
-/// network. Threads share the work of each trial, as many as there are processors.
+/// one port of one group of a routing table; one table entry; a node split, so that its target has a link of its own; the flows of one unit.
+/// Each is tried: none that is left out frees the network. Threads share the work of each trial, as many as there are processors.
 ///
 /// # Errors
 ///
@@ -60,9 +157,14 @@ pub fn mends<R: Threads + Sync>(
     rt: &R,
     alloc: Global,
     network: &Network,
-) -> Result<Vec<Change>, AllocError>
+) -> Result<Vec<Trial>, AllocError>
     ensures { IfOk result (λ v. AreMends network.now v.items) }
 {
-    let changes = single_changes(alloc, network)?;
-    those_that_free(rt, alloc, network, &changes)
+    let mut mends = Vec::new(alloc);
+    let parts = parts_away(alloc, network)?;
+    add_mends(rt, alloc, network, &parts, &mut mends)?;
+    add_splits(rt, alloc, network, &mut mends)?;
+    let units = units_away(alloc, network)?;
+    add_mends(rt, alloc, network, &units, &mut mends)?;
+    Ok(mends)
 }

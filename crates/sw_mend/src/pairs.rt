@@ -1,4 +1,4 @@
-//! The pairs of single changes that free a network.
+//! The pairs of what can be taken away that free a network.
 ghost use Rattle.std.specs.Prelude.{◌≡◌, ◌↔◌, ◌++◌, ◌∷◌, [], List, IfOk, IsTrue, OnOk, if◌then◌else◌, map};
 ghost use Rattle.sw_mend.specs.Changes.{pairs_of};
 ghost use Rattle.sw_mend.specs.Mends.{AreThosePairs, ArePairMends, FreesBoth};
@@ -6,7 +6,7 @@ ghost use Rattle.sw_mend.specs.declared.change.Change.{Change};
 ghost use Rattle.sw_mend.specs.declared.change.Pair.{Pair};
 
 use crate::change::{Change, Pair};
-use crate::listing::single_changes;
+use crate::listing::removals;
 use crate::rebuilt::network_with_all;
 use std::alloc::{AllocError, Global};
 use std::thread::Threads;
@@ -86,8 +86,8 @@ fn pairs_that_free<R: Threads + Sync>(
     Ok(pairs)
 }
 
-/// The pairs of single changes that free the network, the first before the second in the order of single changes, and the pairs by the first
-/// and then by the second. Each pair is tried: none that is left out frees the network. Threads share the work of each trial, as many as there
+/// The pairs of what can be taken away that free the network, the first before the second in the order of single changes, and the pairs by the
+/// first and then by the second. No split is one of a pair. Each pair is tried: none that is left out frees the network. Threads share the work of each trial, as many as there
 /// are processors.
 ///
 /// # Errors
@@ -100,6 +100,6 @@ pub fn pair_mends<R: Threads + Sync>(
 ) -> Result<Vec<Pair>, AllocError>
     ensures { IfOk result (λ v. ArePairMends network.now v.items) }
 {
-    let changes = single_changes(alloc, network)?;
+    let changes = removals(alloc, network)?;
     pairs_that_free(rt, alloc, network, &changes)
 }

@@ -1,6 +1,6 @@
 //! The nodes, switches and links of a changed network.
-ghost use Rattle.std.specs.Prelude.{◌≡◌, ◌+◌, ◌<◌, [], OnOk, length, take};
-ghost use Rattle.sw_config.specs.Entries.{empty};
+ghost use Rattle.std.specs.Prelude.{◌≡◌, ◌≢◌, ◌+◌, ◌<◌, ◌≤◌, [], AllPairs, OnOk, length, take};
+ghost use Rattle.sw_config.specs.Entries.{empty, part_names};
 ghost use Rattle.sw_mend.specs.Changes.{by_number, switch_after_all};
 
 use crate::change::Change;
@@ -51,26 +51,26 @@ fn add_switch(
     builder: &mut NetworkBuilder,
 ) -> Result<(), AllocError>
     requires within { switch < length network.now.switches }
-    requires before { builder.old ≡ record empty { nodes = network.now.nodes; switches = by_number (switch_after_all changes.now) 0 (take switch network.now.switches) } }
-    ensures { OnOk result (builder.new ≡ record empty { nodes = network.now.nodes; switches = by_number (switch_after_all changes.now) 0 (take (switch + 1) network.now.switches) }) }
+    requires named { AllPairs (λ x y. x ≢ y) (part_names (record network.now { nodes = builder.old.nodes })) }
+    requires before { builder.old ≡ record empty { nodes = builder.old.nodes; switches = by_number (switch_after_all changes.now) 0 (take switch network.now.switches) } }
+    ensures { OnOk result (builder.new ≡ record empty { nodes = builder.old.nodes; switches = by_number (switch_after_all changes.now) 0 (take (switch + 1) network.now.switches) }) }
 {
-    // Names the network, which is valid by its type.
-    let _topology = network.topology();
     let _switches = network.switches();
     let table = table_after(alloc, changes, switch, network.routes(switch))?;
     let name = network.switch_name(switch);
     builder.add_switch(alloc, name, network.arbitration(switch), table)
 }
 
-/// Adds the switches of the network, each with what is left of its table.
+/// Adds the switches of the network, each with what is left of its table, to nodes that have none of their names.
 pub(crate) fn add_switches(
     alloc: Global,
     network: &Network,
     changes: &[Change],
     builder: &mut NetworkBuilder,
 ) -> Result<(), AllocError>
-    requires { builder.old ≡ record empty { nodes = network.now.nodes } }
-    ensures { OnOk result (builder.new ≡ record empty { nodes = network.now.nodes; switches = by_number (switch_after_all changes.now) 0 network.now.switches }) }
+    requires named { AllPairs (λ x y. x ≢ y) (part_names (record network.now { nodes = builder.old.nodes })) }
+    requires none { builder.old ≡ record empty { nodes = builder.old.nodes } }
+    ensures { OnOk result (builder.new ≡ record empty { nodes = builder.old.nodes; switches = by_number (switch_after_all changes.now) 0 network.now.switches }) }
 {
     for switch in 0..network.switches() {
         add_switch(alloc, network, changes, switch, builder)?;
@@ -81,7 +81,7 @@ pub(crate) fn add_switches(
 // Adds the link of that number.
 fn add_link(network: &Network, link: u16, builder: &mut NetworkBuilder) -> Result<(), AllocError>
     requires within { link < length network.now.links }
-    requires nodes { length builder.old.nodes ≡ length network.now.nodes }
+    requires nodes { length network.now.nodes ≤ length builder.old.nodes }
     requires switches { length builder.old.switches ≡ length network.now.switches }
     requires before { builder.old.links ≡ take link network.now.links }
     ensures { OnOk result (builder.new ≡ record builder.old { links = take (link + 1) network.now.links }) }
@@ -97,9 +97,9 @@ fn add_link(network: &Network, link: u16, builder: &mut NetworkBuilder) -> Resul
     builder.add_link(a, b, buffer_a, buffer_b)
 }
 
-/// Adds the links of the network.
+/// Adds the links of the network, to as many nodes or more.
 pub(crate) fn add_links(network: &Network, builder: &mut NetworkBuilder) -> Result<(), AllocError>
-    requires nodes { length builder.old.nodes ≡ length network.now.nodes }
+    requires nodes { length network.now.nodes ≤ length builder.old.nodes }
     requires switches { length builder.old.switches ≡ length network.now.switches }
     requires none { builder.old.links ≡ [] }
     ensures { OnOk result (builder.new ≡ record builder.old { links = network.now.links }) }

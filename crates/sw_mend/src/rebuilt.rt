@@ -12,8 +12,8 @@ use std::marker::Model;
 use sw_config::{Network, NetworkBuilder};
 use sw_topo::TopoError;
 
-// Adds the nodes, the switches and the links.
-fn add_parts(
+/// Adds the nodes, the switches and the links.
+pub(crate) fn add_parts(
     alloc: Global,
     network: &Network,
     changes: &[Change],
@@ -22,6 +22,8 @@ fn add_parts(
     requires { builder.old ≡ empty }
     ensures { OnOk result (builder.new ≡ record (changed_by_all network.now changes.now) { flows = [] }) }
 {
+    // Names the network, which is valid by its type.
+    let _topology = network.topology();
     add_nodes(alloc, network, builder)?;
     add_switches(alloc, network, changes, builder)?;
     add_links(network, builder)

@@ -2,7 +2,7 @@ use Rattle.std.proofs.Common.{length, ap, arith}
 use Rattle.std.proofs.lemmas.Result.{IfOk-weaker}
 use Rattle.sw_topo.specs.Wiring.{Wiring}
 use Rattle.sw_config.proofs.Steps.{length-link_ends}
-use Rattle.sw_mend.proofs.Linked.{link_built}
+use Rattle.sw_mend.proofs.Linked.{link_built, stays_in}
 use Rattle.sw_mend.proofs.parts.add_link.Goals as goal
 
 pub start_of-a-requires : goal.start_of-a-requires
@@ -12,6 +12,16 @@ start_of-a-requires c =
 pub start_of-b-requires : goal.start_of-b-requires
 start_of-b-requires c =
     omega (arith, c.new-back.ensures, c.requires.within, length-link_ends c.args.network.now.links, ap (λ (w : Wiring). length w.ends) c.topology-topology.ensures.wiring)
+
+pub add_link-requires-clause-a_inside : goal.add_link-requires-clause-a_inside
+add_link-requires-clause-a_inside c =
+    stays_in (length c.args.network.now.nodes) (length c.args.network.now.switches) _ _ c.requires.nodes (omega (arith, c.requires.switches)) _
+    (rw c.topology-topology.ensures.wiring at c.start_of-a.ensures.inside)
+
+pub add_link-requires-clause-b_inside : goal.add_link-requires-clause-b_inside
+add_link-requires-clause-b_inside c =
+    stays_in (length c.args.network.now.nodes) (length c.args.network.now.switches) _ _ c.requires.nodes (omega (arith, c.requires.switches)) _
+    (rw c.topology-topology.ensures.wiring at c.start_of-b.ensures.inside)
 
 pub returns : goal.returns
 returns c =

@@ -15,12 +15,12 @@ add_switch-requires-clause-few c =
 
 pub add_switch-requires-clause-new_name : goal.add_switch-requires-clause-new_name
 add_switch-requires-clause-new_name c =
-    fresh_switch c.args.changes.now c.args.network.now _ c.args.switch _ c.topology-topology.ensures.valid.parts_named c.requires.within c.switch_name-name.ensures c.requires.before
+    fresh_switch c.args.changes.now (record c.args.network.now { nodes = c.args.builder.now.nodes }) _ c.args.switch _ c.requires.named c.requires.within c.switch_name-name.ensures c.requires.before
 
 pub returns : goal.returns
 returns c =
     let d = c.args.network.now in
     IfOk-weaker c.add_switch.result _ _
-    (λ _ e. switch_built c.args.changes.now d.nodes d.switches c.args.switch _ _ _ _ _ _ c.requires.within c.switch_name-name.ensures c.arbitration.ensures c.routes.ensures.routes
+    (λ _ e. switch_built c.args.changes.now c.args.builder.now.nodes d.switches c.args.switch _ _ _ _ _ _ c.requires.within c.switch_name-name.ensures c.arbitration.ensures c.routes.ensures.routes
     c.in_ok-table.ensures c.requires.before e)
     c.add_switch.ensures.ok

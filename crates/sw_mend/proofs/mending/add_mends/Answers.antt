@@ -1,0 +1,12 @@
+use Rattle.sw_mend.specs.Mends.{Frees}
+use Rattle.sw_mend.specs.declared.change.Trial.TheVariants.{Without}
+use Rattle.sw_mend.proofs.Told.{added_more, none_added}
+use Rattle.sw_mend.proofs.mending.add_mends.Goals as goal
+
+pub loop-change-init : goal.loop-change-init
+loop-change-init g c = none_added (Frees c.args.network.now) _
+
+pub loop-change-preserved : goal.loop-change-preserved
+loop-change-preserved g c =
+    added_more (Frees c.args.network.now) Without c.args.changes.now c.loop-change.change-index c.change-item.result _ _ _ _ c.loop-change-test.true c.change-item.is c.loop-change.invariant
+    c.in_ok-freed.ensures c.in_ok-add_if.ensures

@@ -1,0 +1,17 @@
+use Rattle.std.proofs.Common.{◌∙◌, List, map, subst}
+use Rattle.sw_mend.specs.Changes.{parts_away, units_away}
+use Rattle.sw_mend.specs.Mends.{AreAdded, Frees}
+use Rattle.sw_mend.specs.Splits.{splits}
+use Rattle.sw_mend.specs.declared.change.Change.{Change}
+use Rattle.sw_mend.specs.declared.change.Trial.TheVariants.{Split, Without}
+use Rattle.sw_mend.proofs.Told.{all_added}
+use Rattle.sw_mend.proofs.mending.mends.Goals as goal
+
+pub returns : goal.returns
+returns g c =
+    let d = c.args.network.now in
+    let parts =
+    subst (λ (l : List Change). AreAdded (Frees d) (map Without l) c.new-mends.result.items c.add_mends.new.mends.items) (c.deref.ensures.value ∙ c.in_ok-parts.ensures) c.in_ok-add_mends.ensures in
+    let units =
+    subst (λ (l : List Change). AreAdded (Frees d) (map Without l) c.add_splits.new.mends.items c.add_mends-2.new.mends.items) (c.deref-2.ensures.value ∙ c.in_ok-units.ensures) c.in_ok-add_mends-2.ensures in
+    all_added (Frees d) (map Without (parts_away d)) (map Split (splits d)) (map Without (units_away d)) _ _ _ _ c.new-mends.ensures.items parts c.in_ok-add_splits.ensures units

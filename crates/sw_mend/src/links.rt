@@ -1,0 +1,125 @@
+//! The links that targets of their own can have.
+ghost use Rattle.std.specs.Prelude.{◌≡◌, ◌*◌, ◌<◌, ◌≤◌, IfSome, length};
+ghost use Rattle.std.specs.List.{list_any};
+ghost use Rattle.std.specs.Option.{option_to_list};
+ghost use Rattle.sw_topo.specs.Checked.{IsIn};
+ghost use Rattle.sw_topo.specs.Wiring.{partner};
+ghost use Rattle.sw_config.specs.Entries.{link_ends};
+ghost use Rattle.sw_mend.specs.Changes.{made_at};
+ghost use Rattle.sw_mend.specs.Splits.{IsTargetLink, free_port_below, is_asking, buffer_of, is_free_port, link_beside, own_links, target_link};
+
+use crate::change::TargetLink;
+use std::marker::Model;
+use sw_config::{Flow, Network};
+use sw_topo::{Chan, PlaceEnd, Port, Topology};
+
+// Has the port no link, and is it none of the switch's own?
+fn is_free_port(topology: &Topology, switch: u16, port: Port) -> bool
+    requires { switch < topology.now.switches }
+    ensures { result ≡ is_free_port topology.now.ends switch port }
+{
+    port.number() != 0 && !topology.out_of(switch, port).is_some()
+}
+
+// The least port of the switch that has no link.
+#[tactic(auto, using(sw_topo::proofs::Least::least_found), unfolding(crate::specs::Splits::free_port_below))]
+fn free_port(topology: &Topology, switch: u16, bound: u8) -> Option<Port>
+    requires switch { switch < topology.now.switches }
+    requires bound { bound ≤ 32 }
+    ensures { result ≡ free_port_below bound topology.now.ends switch }
+{
+    for number in 0..bound {
+        let port = Port::new(number).unwrap();
+        if is_free_port(topology, switch, port) {
+            return Some(port);
+        }
+    }
+    None
+}
+
+// The link at that port beside that of the node, whose channel out it is.
+fn link_at(
+    network: &Network,
+    node: u16,
+    channel: Chan,
+    switch: u16,
+    beside: Port,
+    port: Port,
+) -> TargetLink
+    requires node { node < length network.now.nodes }
+    requires channel { channel < 2 * length network.now.links }
+    requires switch { switch < length network.now.switches }
+    ensures link { result ≡ record { node = node; switch = switch; beside = beside; port = port; near = buffer_of network.now.links (partner channel); far = buffer_of network.now.links channel } }
+    ensures inside { IsTargetLink network.now result }
+{
+    TargetLink {
+        node,
+        switch,
+        beside,
+        port,
+        near: network.capacity(channel.partner()),
+        far: network.capacity(channel),
+    }
+}
+
+// The link beside that of the node, whose channel out leads to such an end.
+fn link_beside(network: &Network, node: u16, channel: Chan, end: PlaceEnd) -> Option<TargetLink>
+    requires node { node < length network.now.nodes }
+    requires channel { channel < 2 * length network.now.links }
+    requires end { IsIn (length network.now.nodes) (length network.now.switches) end }
+    ensures link { result ≡ link_beside network.now node channel end }
+    ensures inside { IfSome result (IsTargetLink network.now) }
+{
+    match end {
+        PlaceEnd::Node(_) => None,
+        PlaceEnd::Switch(switch, beside) => {
+            let port = free_port(network.topology(), switch, 32)?;
+            Some(link_at(network, node, channel, switch, beside, port))
+        }
+    }
+}
+
+// The link beside that of the node.
+fn target_link(network: &Network, node: u16) -> Option<TargetLink>
+    requires { node < length network.now.nodes }
+    ensures link { result ≡ target_link network.now node }
+    ensures inside { IfSome result (IsTargetLink network.now) }
+{
+    let topology = network.topology();
+    let channel = topology.out(node);
+    link_beside(network, node, channel, topology.end_of(channel))
+}
+
+// Does the flow go to the node, and is it answered?
+pub(crate) fn is_asking(node: u16, flow: &Flow) -> bool
+    ensures { result ≡ is_asking node flow.now }
+{
+    flow.to() == node && flow.reply().is_some()
+}
+
+// Does an answered flow go to the node?
+fn is_asked(network: &Network, node: u16) -> bool
+    ensures { result ≡ list_any (is_asking node) network.now.flows }
+{
+    for number in 0..network.declared_flows() {
+        if is_asking(node, network.flow(number)) {
+            return true;
+        }
+    }
+    false
+}
+
+/// The link that the target of the node can have of its own, if an answered flow goes there.
+pub(crate) fn own_link_of(network: &Network, node: u16) -> Option<TargetLink>
+    requires { node < length network.now.nodes }
+    ensures link { option_to_list result ≡ made_at (own_links network.now) network.now.nodes node }
+    ensures inside { IfSome result (IsTargetLink network.now) }
+{
+    if !network.is_target(node) {
+        return None;
+    }
+    if !is_asked(network, node) {
+        return None;
+    }
+    target_link(network, node)
+}
