@@ -1,3 +1,2 @@
-mod EachLine
 mod NotFree
 mod Numbers

@@ -7,9 +7,10 @@ use Rattle.sw_config.specs.Entries.{Declaration, target_of, wiring_of}
 use Rattle.sw_flow.specs.declared.place.Place.{Place}
 use Rattle.sw_output.specs.ChannelTexts.{node_name, switch_name}
 use Rattle.sw_output.specs.Lines.{line}
+use Rattle.sw_output.specs.LinkedPorts.{linked_ports}
 use Rattle.sw_topo.specs.declared.place.PlaceEnd.{PlaceEnd}
 use Rattle.sw_topo.specs.declared.place.PlaceEnd.TheVariants.{Node, Switch}
-use Rattle.sw_topo.specs.Wiring.{out_of, partner}
+use Rattle.sw_topo.specs.Wiring.{partner}
 use Rattle.sw_app_draw.specs.Dot.{AttributeText, quoted, statement}
 use Rattle.sw_app_draw.specs.Drawings.{DrawingView}
 
@@ -29,17 +30,13 @@ node_statement d n = statement (quoted (node_name d n)) (node_attributes d n)
 abbrev pub field_text : ℕ → List ℕ
 field_text port = codes "|<" ++ (decimal port ++ (codes ">" ++ decimal port))
 
--- the field of a port that has a link
-abbrev pub port_field : Declaration → ℕ → ℕ → List ℕ
-port_field d s port = if is_some (out_of (wiring_of d).ends s port) then field_text port else []
-
--- the fields of the first so many ports, as far as they have a link
-unfoldable pub port_fields : Declaration → ℕ → ℕ → List ℕ
-port_fields d s ports = flat_map (port_field d s) (range_with_len 0 ports)
+-- the fields of the ports that have a link
+abbrev pub port_fields : Declaration → ℕ → List ℕ
+port_fields d s = flat_map field_text (linked_ports d s 32)
 
 -- a switch's name, and then its ports that have a link
 abbrev pub record_text : Declaration → ℕ → List ℕ
-record_text d s = switch_name d s ++ port_fields d s 32
+record_text d s = switch_name d s ++ port_fields d s
 
 abbrev pub switch_attributes : Declaration → ℕ → List AttributeText
 switch_attributes d s = attribute (codes "shape") (codes "record") ∷ attribute (codes "label") (record_text d s) ∷ []

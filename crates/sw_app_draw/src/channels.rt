@@ -8,10 +8,9 @@ ghost use Rattle.sw_app_draw.specs.DrawTexts.{channel_statement, edge_text, end_
 use crate::dot::{quoted, statement};
 use crate::drawing::Drawing;
 use crate::marks::channel_attributes;
-use crate::parts::switch_name;
 use std::alloc::{AllocError, Global};
 use sw_config::Network;
-use sw_output::node_name;
+use sw_output::{node_name, switch_name};
 use sw_topo::{Chan, PlaceEnd};
 
 // The node, or the port's field of the switch.

@@ -1,14 +1,12 @@
 //! Nodes and switches in DOT.
-ghost use Rattle.std.specs.Prelude.{◌≡◌, ◌<◌, ◌≤◌, IfOk, flat_map, length, string_bytes};
+ghost use Rattle.std.specs.Prelude.{◌≡◌, ◌<◌, IfOk, flat_map, length, string_bytes};
 ghost use Rattle.std.specs.List.{range_with_len};
-ghost use Rattle.sw_output.specs.ChannelTexts.{switch_name};
-ghost use Rattle.sw_app_draw.specs.DrawTexts.{field_text, node_attributes, node_statement, port_field, port_fields, record_text, switch_attributes, switch_statement};
+ghost use Rattle.sw_app_draw.specs.DrawTexts.{field_text, node_attributes, node_statement, port_fields, record_text, switch_attributes, switch_statement};
 
 use crate::dot::{Attribute, quoted, statement};
 use std::alloc::{AllocError, Global};
 use sw_config::Network;
-use sw_output::node_name;
-use sw_topo::Port;
+use sw_output::{linked_ports, node_name, switch_name};
 
 fn node_attributes(
     alloc: Global,
@@ -46,14 +44,6 @@ pub(crate) fn node_statements(alloc: Global, network: &Network) -> Result<String
     Ok(text)
 }
 
-/// The switch's name.
-pub(crate) fn switch_name(network: &Network, switch: u16) -> &str
-    requires { switch < length network.now.switches }
-    ensures { result.now ≡ switch_name network.now switch }
-{
-    network.switch_name(switch)
-}
-
 // A field of a record, named as the port.
 fn field_text(alloc: Global, port: u8) -> Result<String, AllocError>
     ensures { IfOk result (λ s. string_bytes s ≡ field_text port) }
@@ -61,36 +51,24 @@ fn field_text(alloc: Global, port: u8) -> Result<String, AllocError>
     format!(in alloc; "|<{port}>{port}")
 }
 
-// The port's field, if it has a link.
-fn port_field(alloc: Global, network: &Network, switch: u16, port: u8) -> Result<String, AllocError>
-    requires switch { switch < length network.now.switches }
-    requires port { port < 32 }
-    ensures { IfOk result (λ s. string_bytes s ≡ port_field network.now switch port) }
-{
-    let at = Port::new(port).unwrap();
-    if network.topology().out_of(switch, at).is_some() {
-        return field_text(alloc, port);
-    }
-    Ok(String::new(alloc))
-}
-
-// The fields of the first so many ports, as far as they have a link.
-#[tactic(auto, unfolding(crate::specs::DrawTexts::port_fields))]
-fn port_fields(
-    alloc: Global,
-    network: &Network,
-    switch: u16,
-    ports: u8,
-) -> Result<String, AllocError>
-    requires switch { switch < length network.now.switches }
-    requires ports { ports ≤ 32 }
-    ensures { IfOk result (λ s. string_bytes s ≡ port_fields network.now switch ports) }
+// The fields of these ports.
+fn fields_of(alloc: Global, ports: &[u8]) -> Result<String, AllocError>
+    ensures { IfOk result (λ s. string_bytes s ≡ flat_map field_text ports.now) }
 {
     let mut text = String::new(alloc);
-    for port in 0..ports {
-        text.push_str(port_field(alloc, network, switch, port)?.as_str())?;
+    for port in ports {
+        text.push_str(field_text(alloc, *port)?.as_str())?;
     }
     Ok(text)
+}
+
+// The fields of the switch's ports that have a link.
+fn port_fields(alloc: Global, network: &Network, switch: u16) -> Result<String, AllocError>
+    requires { switch < length network.now.switches }
+    ensures { IfOk result (λ s. string_bytes s ≡ port_fields network.now switch) }
+{
+    let ports = linked_ports(alloc, network, switch)?;
+    fields_of(alloc, &ports)
 }
 
 // The switch's name, and its ports that have a link.
@@ -99,7 +77,7 @@ fn record_text(alloc: Global, network: &Network, switch: u16) -> Result<String, 
     ensures { IfOk result (λ s. string_bytes s ≡ record_text network.now switch) }
 {
     let name = switch_name(network, switch);
-    let fields = port_fields(alloc, network, switch, 32)?;
+    let fields = port_fields(alloc, network, switch)?;
     format!(in alloc; "{name}{fields}")
 }
 

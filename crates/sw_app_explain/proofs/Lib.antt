@@ -1,3 +1,2 @@
 pub mod OnChannels
-mod WayLines
 mod Steps

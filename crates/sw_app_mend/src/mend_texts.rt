@@ -1,25 +1,13 @@
 //! The lines of `mend`.
 ghost use Rattle.std.specs.Prelude.{◌≡◌, IfOk, flat_map, string_bytes};
-ghost use Rattle.sw_output.specs.ChannelTexts.{switch_name};
 ghost use Rattle.sw_app_mend.specs.MendTexts.{addresses_words, change_words, entry_words, free_line, mend_line, mends_status, mends_text, no_pair_line, none_line, pair_line, pairs_text, split_words, trial_words};
 
 use std::alloc::{AllocError, Global};
 use sw_command::statuses::{BAD, GOOD};
 use sw_config::Network;
 use sw_mend::{Change, Pair, TargetLink, Trial};
-use sw_output::{flow_name, node_name};
+use sw_output::{flow_name, node_name, switch_name};
 use sw_topo::Port;
-
-// The switch's name.
-fn switch_name(network: &Network, switch: u16) -> &str
-    ensures { result.now ≡ switch_name network.now switch }
-{
-    if switch < network.switches() {
-        network.switch_name(switch)
-    } else {
-        ""
-    }
-}
 
 // The addresses that a table entry is for.
 fn addresses_words(alloc: Global, first: u8, last: u8) -> Result<String, AllocError>

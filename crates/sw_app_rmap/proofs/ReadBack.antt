@@ -10,56 +10,19 @@ use Rattle.sw_toml_table.specs.Document.{document_of}
 use Rattle.sw_model.specs.Packets.{IsDeclaredPacket, is_declared_packet}
 use Rattle.sw_model.proofs.Declared.{declared_packets_pass}
 use Rattle.sw_load.specs.Cargo.{ArePairs, CargoIsRead, cargo_of, hex_pair, hex_value, without_spaces}
+use Rattle.sw_load.proofs.Digits.{IsBytes, are_pairs, digit_right}
 use Rattle.sw_load.specs.Load.{LoadEntry, cargo_at, count_at, flow_at, load_of, load_text, marker_at, next_packet, packet_of}
 use Rattle.sw_app_rmap.specs.EntryTexts.{entry_table, load_table}
 use Rattle.sw_app_rmap.specs.RmapAnswers as answers
 
--- ---- the digits of a byte
-
-abbrev digit : ℕ → ℕ
-digit v = slice_index upper_digits v
-
--- a digit reads as its value, and is no space
-abbrev is_right : ℕ → Bool
-is_right v = (unwrap_or (hex_value (digit v)) 99 == v) && not (digit v == 32)
-
-some_from_unwrap : (o : Option ℕ) (v : ℕ) → v < 16 → unwrap_or o 99 ≡ v → o ≡ Some v
-some_from_unwrap (Some w) v lt e = ap Some e
-some_from_unwrap None v lt e = absurd (omega (arith, lt, e))
-
-record IsDigit (v : ℕ) : Type 0 where
-  value : hex_value (digit v) ≡ Some v
-  no_space : (digit v == 32) ≡ false
-
-is_digit : (v : ℕ) → v < 16 → IsDigit v
-is_digit v lt =
-    let parts = and_parts (unwrap_or (hex_value (digit v)) 99 == v) (not (digit v == 32)) (agree_below_at is_right (λ _. true) 16 v refl lt) in
-    record { value = some_from_unwrap (hex_value (digit v)) v lt (eqb-true _ _ parts.0); no_space = not-true _ parts.1 }
-
--- ---- the pairs of bytes
-
-abbrev IsBytes : List ℕ → Type 0
-IsBytes [] = Unit {0}
-IsBytes (b ∷ bytes) = (b < 256) × IsBytes bytes
-
-pair : (b : ℕ) → b < 256 → hex_pair (digit (b / 16)) (digit (b % 16)) ≡ Some b
-pair b lt =
-    let high = is_digit (b / 16) (omega (arith, lt)) in
-    let low = is_digit (b % 16) (omega arith) in
-    let same : 16 * (b / 16) + b % 16 ≡ b = omega arith in
-    rw (high.value, low.value) (ap Some same)
-
-are_pairs : (bytes : List ℕ) → IsBytes bytes → ArePairs (encode_upper bytes) bytes
-unfolding encode_with
-are_pairs [] h = tt
-are_pairs (b ∷ bytes) h = (pair b h.0, are_pairs bytes h.1)
+-- ---- the digits of bytes
 
 spaceless : (bytes : List ℕ) → IsBytes bytes → without_spaces (encode_upper bytes) ≡ encode_upper bytes
 unfolding encode_with
 spaceless [] h = refl
 spaceless (b ∷ bytes) h =
-    let high = is_digit (b / 16) (omega (arith, h.0)) in
-    let low = is_digit (b % 16) (omega arith) in
+    let high = digit_right (b / 16) (omega (arith, h.0)) in
+    let low = digit_right (b % 16) (omega arith) in
     rw (high.no_space, low.no_space, spaceless bytes h.1) refl
 
 -- the text of a cargo is read as its bytes

@@ -1,2 +1,3 @@
 mod Spelled
-mod Listed
+pub mod Listed
+pub mod Digits

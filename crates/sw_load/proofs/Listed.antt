@@ -19,7 +19,7 @@ use Rattle.sw_toml_table.specs.declared.keys.Section.TheVariants as section
 use Rattle.sw_toml_table.specs.Gives.{◌>>=◌, walk_from}
 use Rattle.sw_toml_table.specs.declared.fault.TextFault.{TextFault}
 
-goes_on : {A B : Type 0} (r : Result A TextFault) (f : A → Result B TextFault) (b : B) → (r >>= f) ≡ Ok b → (a : A) × (r ≡ Ok a) × (f a ≡ Ok b)
+pub goes_on : {A B : Type 0} (r : Result A TextFault) (f : A → Result B TextFault) (b : B) → (r >>= f) ≡ Ok b → (a : A) × (r ≡ Ok a) × (f a ≡ Ok b)
 goes_on (Ok a) f b h = (a, refl, h)
 goes_on (Err e) f b h = absurd cc
 
@@ -48,9 +48,11 @@ module _ (d : Declaration) where
   abbrev from_flow : ℕ → List LoadEntry → Members → ℕ → Result LoadEntry TextFault
   from_flow i load ms flow = cargo_at i ms >>= λ cargo. from_cargo i load ms flow cargo
 
-  one_is_declared : (i : ℕ) (load : List LoadEntry) (ms : Members) (p : LoadEntry) → packet_of i d load ms ≡ Ok p → IsDeclaredPacket d p.flow p.cargo
+  -- a packet's cargo is what its table has there, and the packet is declared
+  pub one_is_read : (i : ℕ) (load : List LoadEntry) (ms : Members) (p : LoadEntry) → packet_of i d load ms ≡ Ok p
+      → (cargo_at i ms ≡ Ok p.cargo) × IsDeclaredPacket d p.flow p.cargo
   unfolding packet_of
-  one_is_declared i load ms p h =
+  one_is_read i load ms p h =
       let a = goes_on (only_known (section.Packet i) packet_keys ms) (λ known. flow_at i d.flows ms >>= λ flow. from_flow i load ms flow) p h in
       let flow = goes_on (flow_at i d.flows ms) (λ flow. from_flow i load ms flow) p a.2 in
       let cargo = goes_on (cargo_at i ms) (λ cargo. from_cargo i load ms flow.0 cargo) p flow.2 in
@@ -58,7 +60,7 @@ module _ (d : Declaration) where
       let count = goes_on (count_at i (packet_count load) ms) (λ count. entry i flow.0 cargo.0 marker.0 count) p marker.2 in
       let last = if_so (is_declared_packet d flow.0 cargo.0) (record { flow = flow.0; cargo = cargo.0; marker = marker.0; count = count.0 }) p (fault.NotInFlow i) count.2 in
       let is = (declared_packets_pass d flow.0 cargo.0).0 last.0 in
-      subst (λ (q : LoadEntry). IsDeclaredPacket d q.flow q.cargo) last.1 is
+      subst (λ (q : LoadEntry). (cargo_at i ms ≡ Ok q.cargo) × IsDeclaredPacket d q.flow q.cargo) last.1 (cargo.1, is)
 
   next_is_declared : (i : ℕ) (load : List LoadEntry) (ms : Members) (more : List LoadEntry) → next_packet d i load ms ≡ Ok more → AreDeclared d load → AreDeclared d more
   unfolding next_packet
@@ -67,7 +69,7 @@ module _ (d : Declaration) where
       let is = a.2 in
       let e : load ++ a.0 ∷ [] ≡ more = cc in
       let P : LoadEntry → Type 0 = λ p. IsDeclaredPacket d p.flow p.cargo in
-      subst (AreDeclared d) e (All-append P load (a.0 ∷ []) all (only P a.0 (one_is_declared i load ms a.0 a.1)))
+      subst (AreDeclared d) e (All-append P load (a.0 ∷ []) all (only P a.0 (one_is_read i load ms a.0 a.1).1))
 
   walk_is_declared : (i : ℕ) (load : List LoadEntry) (tables : List Members) (more : List LoadEntry) → walk_from (next_packet d) i load tables ≡ Ok more → AreDeclared d load → AreDeclared d more
   walk_is_declared i load [] more h all = let e : load ≡ more = cc in subst (AreDeclared d) e all

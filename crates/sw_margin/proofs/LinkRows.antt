@@ -11,7 +11,8 @@ use Rattle.sw_config.specs.Entries.{FlowEntry, Declaration, all_flows}
 use Rattle.sw_graph.specs.Reached.{IsListing}
 use Rattle.sw_graph.specs.Rows.{row}
 use Rattle.sw_margin.specs.Losses.{AreLosses, IsLost, NeedsLink}
-use Rattle.sw_margin.specs.Needs.{AreAdded, AreLossesOf, AreNeeded, IsRowSet, is_marked, row_after}
+use Rattle.sw_dependency.specs.Answering.{is_marked}
+use Rattle.sw_margin.specs.Needs.{AreAdded, AreLossesOf, AreNeeded, IsRowSet, row_after}
 
 nothing_in : {X : Type 0} (x : X) → Contains [] x → ⊥
 nothing_in x h = let lt = h.1 in omega arith

@@ -1,8 +1,9 @@
 -- The links that flows need, as they are found.
-use Rattle.std.specs.Prelude.{◌≡◌, ◌≢◌, ◌↔◌, ◌⊎◌, ℕ, ◌/◌, ◌<◌, ◌==◌, ◌++◌, Bool, true, false, Contains, List, [], ◌∷◌, length, Option, Some, None, slice_index_or, Vec, if◌then◌else◌}
+use Rattle.std.specs.Prelude.{◌≡◌, ◌≢◌, ◌↔◌, ◌⊎◌, ℕ, ◌/◌, ◌<◌, ◌==◌, ◌++◌, Bool, true, Contains, List, [], ◌∷◌, length, Option, Some, None, Vec, if◌then◌else◌}
 use Rattle.std.specs.List.{list_all}
 use Rattle.std.specs.declared.alloc.Global.{Global}
 use Rattle.sw_config.specs.Entries.{FlowEntry, Declaration}
+use Rattle.sw_dependency.specs.Answering.{is_marked}
 use Rattle.sw_flow.specs.declared.place.Place.{Place}
 use Rattle.sw_flow.specs.Followers.{followers_of}
 use Rattle.sw_graph.specs.Reached.{IsListing}
@@ -17,9 +18,6 @@ only_link (p ∷ ps) = if list_all (λ q. q.channel / 2 == p.channel / 2) ps the
 -- the link over which alone the flow goes on from that place
 abbrev pub link_after : Declaration → FlowEntry → Place → Option ℕ
 link_after d f p = only_link (followers_of d f p.channel p.deleted)
-
-abbrev pub is_marked : List Bool → ℕ → Bool
-is_marked marks link = slice_index_or marks link false
 
 -- from one of these places the flow goes on over that link alone
 pub record IsNeededAt (d : Declaration) (f : FlowEntry) (places : List Place) (link : ℕ) : Type 0 where

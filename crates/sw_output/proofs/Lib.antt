@@ -1,4 +1,5 @@
 pub mod PairedLines
+pub mod EachLine
 pub mod NodeLines
 pub mod Order
 pub mod Counts

@@ -1,6 +1,6 @@
 -- The lines of one node more.
-use Rattle.std.proofs.Common.{List, None, Option, Some, [], ap, arith, get_or, length, map, refl, suc, sym, zero, ℕ, ◌++◌, ◌+◌, ◌<◌, ◌∙◌, ◌∷◌, ◌≡◌}
-use Rattle.std.proofs.lemmas.List.{flat_map_more, get_or-map}
+use Rattle.std.proofs.Common.{List, None, Option, Some, [], ap, get_or, length, map, refl, sym, ℕ, ◌++◌, ◌+◌, ◌<◌, ◌∙◌, ◌≡◌}
+use Rattle.std.proofs.lemmas.List.{get_or-map}
 use Rattle.std.specs.Global.{Vec}
 use Rattle.std.specs.List.{flat_map, range_with_len}
 use Rattle.std.specs.Option.{option_map, option_map_or}
@@ -8,10 +8,7 @@ use Rattle.std.specs.Prelude.{slice_get}
 use Rattle.sw_char.specs.PacketView.{PacketView}
 use Rattle.sw_config.specs.Entries.{Declaration, NodeEntry}
 use Rattle.sw_output.specs.ChannelTexts.{node_name}
-
-range_more : (a n m k : ℕ) → m ≡ suc n → a + n ≡ k → range_with_len a m ≡ range_with_len a n ++ k ∷ []
-range_more a zero m k next is = let same : a ≡ k = omega arith in rw next (ap (λ (j : ℕ). j ∷ []) same)
-range_more a (suc n) m k next is = rw next (ap (λ (l : List ℕ). a ∷ l) (range_more (a + 1) n (suc n) k refl (omega arith)))
+use Rattle.sw_output.proofs.EachLine.{lines_more as one_line_more}
 
 -- the name that a node has
 name_is : (o : Option NodeEntry) (name : List ℕ) → option_map (λ (e : NodeEntry). e.name) o ≡ Some name → name ≡ option_map_or (λ (e : NodeEntry). e.name) o []
@@ -29,5 +26,4 @@ module _ (text : List ℕ → List PacketView → List ℕ) (d : Declaration) (a
       → n < length all → q ≡ get_or all n q → after ≡ before ++ here → after ≡ flat_map one (range_with_len 0 (n + 1))
   lines_more n name before here after q so_far line named lt at is =
       let same : here ≡ one n = line ∙ ap (λ (w : List ℕ). text w q.items) (name_is (slice_get d.nodes n) name named) ∙ ap (text (node_name d n)) (packets_are all n q lt at) in
-      is ∙ ap (λ (l : List ℕ). l ++ here) so_far ∙ ap (λ (l : List ℕ). flat_map one (range_with_len 0 n) ++ l) same
-      ∙ flat_map_more one [] (range_with_len 0 n) n ∙ ap (flat_map one) (sym (range_more 0 n (n + 1) n (omega arith) (omega arith)))
+      one_line_more one n before here here after so_far same refl is

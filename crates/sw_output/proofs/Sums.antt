@@ -8,7 +8,8 @@ use Rattle.std.specs.Ordering.{is_eq}
 use Rattle.std.specs.declared.cmp.Ordering.{Ordering}
 use Rattle.std.specs.declared.cmp.Ordering.TheVariants.{Less, Equal, Greater}
 use Rattle.sw_char.specs.PacketView.{PacketView}
-use Rattle.sw_output.specs.Tallies.{TalliesCount, TallyView, counted, counted_at, packet_order, tallied, tallies, times}
+use Rattle.sw_output.specs.Counting.{counted_at}
+use Rattle.sw_output.specs.Tallies.{TalliesCount, TallyView, counted, packet_order, tallied, tallies, times}
 use Rattle.sw_output.proofs.Counts.{tallies_rise}
 use Rattle.sw_output.proofs.Order.{packet_order_total}
 
@@ -22,14 +23,14 @@ at_tally false count rest = omega arith
 
 tallied_counted : (p q : PacketView) (ts : List TallyView) → tallied p (counted q ts) ≡ one p q + tallied p ts
 tallied_counted p q [] = refl
-tallied_counted p q (t ∷ ts) = go (packet_order q t.packet) refl (tallied_counted p q ts)
+tallied_counted p q (t ∷ ts) = go (packet_order q t.item) refl (tallied_counted p q ts)
   where
-    go : (r : Ordering) → packet_order q t.packet ≡ r → tallied p (counted q ts) ≡ one p q + tallied p ts
+    go : (r : Ordering) → packet_order q t.item ≡ r → tallied p (counted q ts) ≡ one p q + tallied p ts
         → tallied p (counted_at q r t ts (counted q ts)) ≡ one p q + tallied p (t ∷ ts)
     go Less is rest = refl
     go Equal is rest =
-        let same : packet_order p q ≡ packet_order p t.packet = alike_right packet_order_total q t.packet p is in
-        at_tally (is_eq (packet_order p t.packet)) t.count (tallied p ts)
+        let same : packet_order p q ≡ packet_order p t.item = alike_right packet_order_total q t.item p is in
+        at_tally (is_eq (packet_order p t.item)) t.count (tallied p ts)
         ∙ ap (λ (r : Ordering). (if is_eq r then 1 else 0) + tallied p (t ∷ ts)) (sym same)
     go Greater is rest = omega (arith, rest)
 
@@ -44,8 +45,8 @@ abbrev AreListed : List TallyView → Type 0
 AreListed ts = All (λ (t : TallyView). 1 ≤ t.count) ts
 
 counted_listed : (q : PacketView) (ts : List TallyView) → AreListed ts → AreListed (counted q ts)
-counted_listed q [] h = All-cons (λ (t : TallyView). 1 ≤ t.count) (record { packet = q; count = 1 }) [] (omega arith) (All-nil _)
-counted_listed q (t ∷ ts) h = go (packet_order q t.packet) (counted_listed q ts rest)
+counted_listed q [] h = All-cons (λ (t : TallyView). 1 ≤ t.count) (record { item = q; count = 1 }) [] (omega arith) (All-nil _)
+counted_listed q (t ∷ ts) h = go (packet_order q t.item) (counted_listed q ts rest)
   where
     rest : AreListed ts
     rest k d within = h (suc k) d (omega (arith, within))
@@ -54,7 +55,7 @@ counted_listed q (t ∷ ts) h = go (packet_order q t.packet) (counted_listed q t
     first = h 0 t (omega arith)
 
     go : (r : Ordering) → AreListed (counted q ts) → AreListed (counted_at q r t ts (counted q ts))
-    go Less later = All-cons (λ (u : TallyView). 1 ≤ u.count) (record { packet = q; count = 1 }) (t ∷ ts) (omega arith) h
+    go Less later = All-cons (λ (u : TallyView). 1 ≤ u.count) (record { item = q; count = 1 }) (t ∷ ts) (omega arith) h
     go Equal later = All-cons (λ (u : TallyView). 1 ≤ u.count) (record t { count = t.count + 1 }) ts (omega arith) rest
     go Greater later = All-cons (λ (u : TallyView). 1 ≤ u.count) t (counted q ts) first later
 
@@ -64,7 +65,7 @@ listed_from ts (q ∷ qs) h = listed_from (counted q ts) qs (counted_listed q ts
 
 pub tallies_count : TalliesCount
 tallies_count packets = record {
-  rising = tallies_rise packets;
+  rising = tallies_rise packet_order_total packets;
   listed = listed_from [] packets (All-nil _);
   counts = λ p. (let sum : tallied p (tallies packets) ≡ 0 + times p packets = tallied_from p [] packets in omega (arith, sum));
 }

@@ -1,7 +1,9 @@
 pub mod Lines
 pub mod ChannelTexts
+pub mod LinkedPorts
 pub mod FlowTexts
 pub mod VerdictTexts
 pub mod ReportTexts
 pub mod PacketTexts
+pub mod Counting
 pub mod Tallies

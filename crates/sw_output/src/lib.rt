@@ -6,6 +6,7 @@ mod channel_texts;
 mod counted_lines;
 mod flow_texts;
 pub mod laws;
+mod linked;
 mod packet_lines;
 mod report_texts;
 mod tallies;
@@ -15,8 +16,9 @@ pub use all_nodes::{all_node_lines, all_packet_lines};
 pub use channel_texts::channel_text;
 pub use counted_lines::sent_text;
 pub use flow_texts::{flow_name, place_words, route_fault_text};
+pub use linked::linked_ports;
 pub use packet_lines::undelivered_line;
 pub use report_texts::report_text;
 pub use verdict_texts::{
-    cycle_text, cyclic_words, free_words, misrouted_text, misrouted_words, node_name,
+    cycle_text, cyclic_words, free_words, misrouted_text, misrouted_words, node_name, switch_name,
 };

@@ -20,7 +20,7 @@ impl<'a> Model for Tally<'a> {
 
     ghost Value = { TallyView };
 
-    ghost view = { λ t. record { packet = t.packet.now; count = t.count } };
+    ghost view = { λ t. record { item = t.packet.now; count = t.count } };
 }
 
 impl<'a> Tally<'a> {
@@ -56,11 +56,11 @@ fn order(packet: &Packet, other: &Packet) -> Ordering
 // Where the packet stands, or where it has to be put.
 fn place(tallies: &[Tally<'_>], packet: &Packet) -> Result<usize, usize>
     ensures bound { IsSearchInRange result (length tallies.now) }
-    ensures position { IsBinarySearchResult (λ t. packet_order t.packet packet.now) tallies.now result }
+    ensures position { IsBinarySearchResult (λ t. packet_order t.item packet.now) tallies.now result }
 {
     tallies.binary_search_by(
         |tally: &Tally<'_>| -> Ordering
-            ensures { result ≡ packet_order tally.now.packet packet.entry.now }
+            ensures { result ≡ packet_order tally.now.item packet.entry.now }
         { order(tally.packet, packet) },
     )
 }

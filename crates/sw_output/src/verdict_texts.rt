@@ -3,7 +3,7 @@ ghost use Rattle.std.specs.Prelude.{◌≡◌, ◌<◌, ◌∷◌, ◌++◌, [],
 ghost use Rattle.std.specs.List.{reduce};
 ghost use Rattle.sw_config.specs.Entries.{wiring_of};
 ghost use Rattle.sw_cycle.specs.Cycles.{cause_of};
-ghost use Rattle.sw_output.specs.ChannelTexts.{node_name};
+ghost use Rattle.sw_output.specs.ChannelTexts.{node_name, switch_name};
 ghost use Rattle.sw_output.specs.Lines.{line};
 ghost use Rattle.sw_output.specs.VerdictTexts.{cause_words, cycle_line, cycle_lines, cycle_text, cyclic_words, free_words, height, misrouted_words};
 
@@ -21,6 +21,17 @@ pub fn node_name(network: &Network, node: u16) -> &str
 {
     if node < network.nodes() {
         network.node_name(node)
+    } else {
+        ""
+    }
+}
+
+/// The switch's name, which is empty where there is no such switch.
+pub fn switch_name(network: &Network, switch: u16) -> &str
+    ensures { result.now ≡ switch_name network.now switch }
+{
+    if switch < network.switches() {
+        network.switch_name(switch)
     } else {
         ""
     }

@@ -4,16 +4,15 @@ use Rattle.std.specs.Prelude.{Err, Ok, Option, Some, None, Result, slice_get, op
 use Rattle.std.proofs.lemmas.Bool.{and_parts, cases_Bool, leb-true}
 use Rattle.std.proofs.lemmas.List.Elements.{All-nil, All-cons, All-replicate}
 use Rattle.toml.specs.Data.{Members}
-use Rattle.sw_char.specs.declared.nchar.End.{End}
 use Rattle.sw_config.specs.Entries.{Declaration}
 use Rattle.sw_load.specs.Cargo.{ArePairs, CargoIsRead, IsPairs, IsRepeated, cargo_of, hex_pair, hex_value, without_spaces}
 use Rattle.sw_load.specs.Laws.{IsListedBy, ReadsEachEntry}
-use Rattle.sw_load.specs.Load.{LoadEntry, cargo_at, count_at, flow_at, load_of, marker_at, packet_count, packet_keys, packet_of}
-use Rattle.sw_model.specs.Packets.{is_declared_packet}
+use Rattle.sw_load.proofs.Listed.{goes_on, one_is_read}
+use Rattle.sw_load.specs.Load.{LoadEntry, cargo_at, load_of, packet_of}
 use Rattle.sw_schedule_text.specs.Laws.{IsShort, ListedAreShort}
 use Rattle.sw_toml_table.specs.Document.{document_of}
-use Rattle.sw_toml_table.specs.Gives.{◌>>=◌, ok_or}
-use Rattle.sw_toml_table.specs.Table.{only_known, text_at}
+use Rattle.sw_toml_table.specs.Gives.{ok_or}
+use Rattle.sw_toml_table.specs.Table.{text_at}
 use Rattle.sw_toml_table.specs.declared.fault.KeyFault.TheVariants.{OutOfRange}
 use Rattle.sw_toml_table.specs.declared.fault.TextFault.{TextFault}
 use Rattle.sw_toml_table.specs.declared.fault.TextFault.TheVariants as fault
@@ -84,31 +83,11 @@ spelled_short text bytes (inr r) =
 
 -- ---- the cargo of an entry
 
-goes_on : {A B : Type 0} (r : Result A TextFault) (f : A → Result B TextFault) (b : B) → (r >>= f) ≡ Ok b → (a : A) × (r ≡ Ok a) × (f a ≡ Ok b)
-goes_on (Ok a) f b h = (a, refl, h)
-goes_on (Err e) f b h = absurd cc
-
-if_so : {A : Type 0} (test : Bool) (a b : A) (e : TextFault) → (if test then Ok a else Err e) ≡ Ok b → a ≡ b
-if_so true a b e h = cc
-if_so false a b e h = absurd cc
-
 is_there : (o : Option (List ℕ)) (e : TextFault) (x : List ℕ) → ok_or o e ≡ Ok x → o ≡ Some x
 is_there None e x h = absurd cc
 is_there (Some y) e x h = cc
 
 module _ (is_read : CargoIsRead) (d : Declaration) where
-  abbrev entry : ℕ → ℕ → List ℕ → End → ℕ → Result LoadEntry TextFault
-  entry i flow cargo marker count = if is_declared_packet d flow cargo then Ok (record { flow = flow; cargo = cargo; marker = marker; count = count }) else Err (fault.NotInFlow i)
-
-  abbrev from_marker : ℕ → List LoadEntry → Members → ℕ → List ℕ → End → Result LoadEntry TextFault
-  from_marker i load ms flow cargo marker = count_at i (packet_count load) ms >>= λ count. entry i flow cargo marker count
-
-  abbrev from_cargo : ℕ → List LoadEntry → Members → ℕ → List ℕ → Result LoadEntry TextFault
-  from_cargo i load ms flow cargo = marker_at i ms >>= λ marker. from_marker i load ms flow cargo marker
-
-  abbrev from_flow : ℕ → List LoadEntry → Members → ℕ → Result LoadEntry TextFault
-  from_flow i load ms flow = cargo_at i ms >>= λ cargo. from_cargo i load ms flow cargo
-
   cargo_short : (i : ℕ) (ms : Members) (cargo : List ℕ) → cargo_at i ms ≡ Ok cargo → IsShort cargo
   unfolding cargo_at
   cargo_short i ms cargo h =
@@ -117,15 +96,7 @@ module _ (is_read : CargoIsRead) (d : Declaration) where
       spelled_short (without_spaces text.0) cargo ((is_read text.0 cargo).0 read)
 
   one_is_short : (i : ℕ) (load : List LoadEntry) (ms : Members) (p : LoadEntry) → packet_of i d load ms ≡ Ok p → IsShort p.cargo
-  unfolding packet_of
-  one_is_short i load ms p h =
-      let a = goes_on (only_known (section.Packet i) packet_keys ms) (λ known. flow_at i d.flows ms >>= λ flow. from_flow i load ms flow) p h in
-      let flow = goes_on (flow_at i d.flows ms) (λ flow. from_flow i load ms flow) p a.2 in
-      let cargo = goes_on (cargo_at i ms) (λ cargo. from_cargo i load ms flow.0 cargo) p flow.2 in
-      let marker = goes_on (marker_at i ms) (λ marker. from_marker i load ms flow.0 cargo.0 marker) p cargo.2 in
-      let count = goes_on (count_at i (packet_count load) ms) (λ count. entry i flow.0 cargo.0 marker.0 count) p marker.2 in
-      let same = if_so (is_declared_packet d flow.0 cargo.0) (record { flow = flow.0; cargo = cargo.0; marker = marker.0; count = count.0 }) p (fault.NotInFlow i) count.2 in
-      subst (λ (q : LoadEntry). IsShort q.cargo) same (cargo_short i ms cargo.0 cargo.1)
+  one_is_short i load ms p h = cargo_short i ms p.cargo (one_is_read d i load ms p h).0
 
   each_is_short : (ms : Members) (load : List LoadEntry) → IsListedBy d ms load → (i : ℕ) (p : LoadEntry) → slice_get load i ≡ Some p → IsShort p.cargo
   each_is_short ms load listed i p at =

@@ -1,5 +1,4 @@
 pub mod Order
-pub mod Counted
 pub mod Taken
 pub mod Lists
 pub mod FlowSteps

@@ -5,17 +5,15 @@ use Rattle.std.specs.Prelude.{if◌then◌else◌, nat_lt}
 use Rattle.std.specs.Cmp.{tied_back}
 use Rattle.std.specs.List.{HoldsAt}
 use Rattle.std.specs.List.Sorted.{IsNonDecreasingBy, IsPartitionPoint, IsStrictlySortedBy}
-use Rattle.std.specs.Ordering.{ordering_index, ordering_reverse}
+use Rattle.std.specs.Ordering.{ordering_index}
 use Rattle.std.specs.declared.cmp.Ordering.{Ordering}
 use Rattle.std.specs.declared.cmp.Ordering.TheVariants.{Less, Equal, Greater}
 use Rattle.sw_summary.specs.Tallies.{IsRising, Item, TallyView, found, item_order, left, left_at, taken, taken_all, taken_at}
-use Rattle.sw_summary.proofs.Order.{answers_rise, item_order_total, less_before, rises}
+use Rattle.sw_output.proofs.Order.{answers_rise, less_before, rises, turned}
+use Rattle.sw_summary.proofs.Order.{item_order_total}
 
 abbrev IsLess : Item → Item → Type 0
 IsLess p q = item_order p q ≡ Less
-
-turned : (p q : Item) (r : Ordering) → item_order q p ≡ r → item_order p q ≡ ordering_reverse r
-turned p q r is = item_order_total.antisymm p q ∙ ap ordering_reverse is
 
 abbrev lower_one : TallyView → TallyView
 lower_one t = record t { count = t.count - 1 }
@@ -31,8 +29,8 @@ taken_there p (t ∷ ts) zero d within below here =
 taken_there p (t ∷ ts) (suc i) d within below here =
     let first : IsLess t.item p = below 0 (omega arith) in
     let rest = taken_there p ts i d (omega (arith, within)) (λ k less. below (suc k) (omega (arith, less))) here in (
-      ap (λ (r : Ordering). taken_at p r t ts (taken p ts)) (turned p t.item Less first) ∙ ap (λ (l : List TallyView). t ∷ l) rest.0,
-      ap (λ (r : Ordering). left_at p r t (left p ts)) (turned p t.item Less first) ∙ rest.1,
+      ap (λ (r : Ordering). taken_at p r t ts (taken p ts)) (turned item_order_total p t.item Less first) ∙ ap (λ (l : List TallyView). t ∷ l) rest.0,
+      ap (λ (r : Ordering). left_at p r t (left p ts)) (turned item_order_total p t.item Less first) ∙ rest.1,
     )
 
 -- an item that stands nowhere
@@ -42,12 +40,12 @@ taken_nowhere : (p : Item) (ts : List TallyView) (i : ℕ) (d : TallyView) → i
 taken_nowhere p [] i d within below above = (refl, refl)
 taken_nowhere p (t ∷ ts) zero d within below above =
     let first : item_order t.item p ≡ Greater = above 0 (omega arith) (omega arith) in
-    (ap (λ (r : Ordering). taken_at p r t ts (taken p ts)) (turned p t.item Greater first), ap (λ (r : Ordering). left_at p r t (left p ts)) (turned p t.item Greater first))
+    (ap (λ (r : Ordering). taken_at p r t ts (taken p ts)) (turned item_order_total p t.item Greater first), ap (λ (r : Ordering). left_at p r t (left p ts)) (turned item_order_total p t.item Greater first))
 taken_nowhere p (t ∷ ts) (suc i) d within below above =
     let first : IsLess t.item p = below 0 (omega arith) in
     let rest = taken_nowhere p ts i d (omega (arith, within)) (λ k less. below (suc k) (omega (arith, less))) (λ k more less. above (suc k) (omega (arith, more)) (omega (arith, less))) in (
-      ap (λ (r : Ordering). taken_at p r t ts (taken p ts)) (turned p t.item Less first) ∙ ap (λ (l : List TallyView). t ∷ l) rest.0,
-      ap (λ (r : Ordering). left_at p r t (left p ts)) (turned p t.item Less first) ∙ rest.1,
+      ap (λ (r : Ordering). taken_at p r t ts (taken p ts)) (turned item_order_total p t.item Less first) ∙ ap (λ (l : List TallyView). t ∷ l) rest.0,
+      ap (λ (r : Ordering). left_at p r t (left p ts)) (turned item_order_total p t.item Less first) ∙ rest.1,
     )
 
 -- one fewer, where there is one
@@ -89,7 +87,7 @@ pub found_taken : (p : Item) (ts : List TallyView) (i : ℕ) (d new : TallyView)
     → IsTaken p ts (slice_set ts i new) n
 found_taken p ts i d new n h within is count after =
     let here : item_order (get_or ts i d).item p ≡ Equal = is d in
-    let there = taken_there p ts i d within (λ k less. less_before (get_or ts k d).item (get_or ts i d).item p Equal (rises ts k i d h less within) here (omega arith)) here in
+    let there = taken_there p ts i d within (λ k less. less_before item_order_total (get_or ts k d).item (get_or ts i d).item p Equal (rises item_order_total ts k i d h less within) here (omega arith)) here in
     is_taken p ts (slice_set ts i new) n (get_or ts i d).count h count (sym there.1) (ap (slice_set ts i) after ∙ sym there.0)
 
 -- an item that it did not find
@@ -98,7 +96,7 @@ pub missing_taken : (p : Item) (ts : List TallyView) (i : ℕ) → IsRising ts �
     → IsPartitionPoint (λ (u : TallyView). item_order u.item p ≡ Less) (λ (u : TallyView). item_order u.item p ≡ Greater) ts i)
     → IsTaken p ts ts 0
 missing_taken p ts i h within found_by =
-    let parted = found_by (answers_rise p ts h) in
+    let parted = found_by (answers_rise item_order_total p ts h) in
     let d : TallyView = record { item = p; count = 0 } in
     let nowhere = taken_nowhere p ts i d within (λ k less. parted.0 k d (omega arith) less) (λ k more less. parted.1 k d more less) in
     is_taken p ts ts 0 0 h refl (sym nowhere.1) (sym nowhere.0)

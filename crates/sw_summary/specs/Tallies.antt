@@ -1,11 +1,11 @@
 -- What came out of a network and is not counted yet (this project's choice).
-use Rattle.std.specs.Prelude.{List, [], if◌then◌else◌, map, nat_lt, ℕ, ◌+◌, ◌-◌, ◌∷◌}
+use Rattle.std.specs.Prelude.{List, [], if◌then◌else◌, nat_lt, ℕ, ◌+◌, ◌-◌, ◌∷◌}
 use Rattle.std.specs.List.{fold}
-use Rattle.std.specs.List.Sorted.{IsStrictlySortedBy}
 use Rattle.std.specs.Ordering.{nat_cmp, ordering_then}
 use Rattle.std.specs.declared.cmp.Ordering.{Ordering}
 use Rattle.std.specs.declared.cmp.Ordering.TheVariants.{Less, Equal, Greater}
 use Rattle.sw_char.specs.PacketView.{PacketView}
+use Rattle.sw_output.specs.Counting.{IsRisingBy, TallyOf, counted_by, tallies_by}
 use Rattle.sw_output.specs.Tallies.{packet_order}
 
 -- a node, and a packet there
@@ -18,27 +18,20 @@ abbrev pub item_order : Item → Item → Ordering
 item_order a b = ordering_then (nat_cmp a.node b.node) (packet_order a.packet b.packet)
 
 -- an item, and how often it is there
-pub record TallyView : Type 0 where
-  pub item : Item
-  pub count : ℕ
+abbrev pub TallyView : Type 0
+TallyView = TallyOf Item
 
 -- one more
-abbrev pub counted_at : Item → Ordering → TallyView → List TallyView → List TallyView → List TallyView
-counted_at p Less t ts rest = record { item = p; count = 1 } ∷ t ∷ ts
-counted_at p Equal t ts rest = record t { count = t.count + 1 } ∷ ts
-counted_at p Greater t ts rest = t ∷ rest
-
 abbrev pub counted : Item → List TallyView → List TallyView
-counted p [] = record { item = p; count = 1 } ∷ []
-counted p (t ∷ ts) = counted_at p (item_order p t.item) t ts (counted p ts)
+counted p ts = counted_by item_order p ts
 
 -- the different items of a list in rising order, each with how often it is listed
 abbrev pub tallies : List Item → List TallyView
-tallies items = fold (λ ts p. counted p ts) [] items
+tallies items = tallies_by item_order items
 
 -- each item comes before those after it
 abbrev pub IsRising : List TallyView → Type 0
-IsRising ts = IsStrictlySortedBy item_order (map (λ t. t.item) ts)
+IsRising ts = IsRisingBy item_order ts
 
 -- how many there still are
 abbrev pub left_at : Item → Ordering → TallyView → ℕ → ℕ

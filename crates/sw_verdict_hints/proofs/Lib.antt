@@ -2,4 +2,3 @@ pub mod Firsts
 mod LastPlace
 mod FlowWays
 mod FlowNames
-mod WayLines

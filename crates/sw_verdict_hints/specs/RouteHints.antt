@@ -1,17 +1,16 @@
 -- The hint of a flow that is not well routed (this project's choice).
-use Rattle.std.specs.Prelude.{ℕ, ◌+◌, ◌-◌, ◌==◌, nat_lt, List, [], ◌∷◌, ◌++◌, Option, Some, None, codes, drop, flat_map, if◌then◌else◌, is_some, length, slice_get, slice_index}
+use Rattle.std.specs.Prelude.{ℕ, ◌+◌, ◌-◌, ◌==◌, nat_lt, List, [], ◌∷◌, ◌++◌, Option, Some, None, codes, drop, flat_map, if◌then◌else◌, length, slice_get, slice_index}
 use Rattle.std.specs.Option.{option_map_or}
 use Rattle.std.specs.Fmt.{decimal}
-use Rattle.std.specs.List.{range_with_len}
 use Rattle.sw_topo.specs.declared.place.PlaceEnd.{PlaceEnd}
 use Rattle.sw_topo.specs.declared.place.PlaceEnd.TheVariants.{Node, Switch}
-use Rattle.sw_topo.specs.Wiring.{out_of}
 use Rattle.sw_config.specs.Entries.{Declaration, FlowEntry, all_flows}
 use Rattle.sw_flow.specs.declared.fault.RouteFault.{RouteFault}
 use Rattle.sw_flow.specs.declared.fault.RouteFault.TheVariants.{AddressEnds, NoRoute, WrongNode, WrongLeft}
 use Rattle.sw_flow.specs.declared.place.Place.{Place}
-use Rattle.sw_flow.specs.Places.{end_of, ends_of}
+use Rattle.sw_flow.specs.Places.{end_of}
 use Rattle.sw_output.specs.ChannelTexts.{channel_text, node_name, switch_name}
+use Rattle.sw_output.specs.LinkedPorts.{linked_ports}
 use Rattle.sw_app_explain.specs.ExplainTexts.{fault_words, numbered}
 use Rattle.sw_hints.specs.HintLines.{head_line, told}
 
@@ -49,17 +48,13 @@ found_words d p fault = place_name d (end_of d p.channel) ++ (codes ": " ++ faul
 
 -- ---- what to change
 
--- the number of a port that has a link
-abbrev pub port_word : Declaration → ℕ → ℕ → List ℕ
-port_word d s port = if is_some (out_of (ends_of d) s port) then number_word port else []
-
--- those of the first so many ports that have a link
-unfoldable pub port_words : Declaration → ℕ → ℕ → List ℕ
-port_words d s ports = flat_map (port_word d s) (range_with_len 0 ports)
+-- the numbers of the ports that have a link
+abbrev pub port_words : Declaration → ℕ → List ℕ
+port_words d s = flat_map number_word (linked_ports d s 32)
 
 -- where a packet can go on to from switch s
 abbrev pub links_words : Declaration → ℕ → List ℕ
-links_words d s = switch_name d s ++ (codes " has links at ports" ++ port_words d s 32)
+links_words d s = switch_name d s ++ (codes " has links at ports" ++ port_words d s)
 
 -- where the address bytes of flow i stand: in the flow, or in the `reply` that it is the flow of
 abbrev pub address_words : Declaration → ℕ → List ℕ

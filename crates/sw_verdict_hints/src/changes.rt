@@ -1,54 +1,22 @@
 //! What to change, so that a flow is well routed.
 ghost use Rattle.std.specs.Prelude.{◌≡◌, ◌<◌, ◌≤◌, IfOk, Some, length, slice_index, string_bytes};
 ghost use Rattle.sw_topo.specs.Checked.{IsIn};
-ghost use Rattle.sw_output.specs.ChannelTexts.{switch_name};
-ghost use Rattle.sw_verdict_hints.specs.RouteHints.{address_words, ends_help, help_words, links_words, no_route_help, port_word, port_words, wrong_left_help, wrong_node_help};
+ghost use Rattle.sw_verdict_hints.specs.RouteHints.{address_words, ends_help, help_words, links_words, no_route_help, port_words, wrong_left_help, wrong_node_help};
 
-use crate::ways::number_word;
+use crate::ways::number_words;
 use std::alloc::{AllocError, Global};
 use sw_config::{Flow, Network};
 use sw_flow::RouteFault;
-use sw_output::node_name;
-use sw_topo::{PlaceEnd, Port};
+use sw_output::{linked_ports, node_name, switch_name};
+use sw_topo::PlaceEnd;
 
-/// The switch's name.
-pub(crate) fn switch_name(network: &Network, switch: u16) -> &str
+// The numbers of the switch's ports that have a link.
+fn port_words(alloc: Global, network: &Network, switch: u16) -> Result<String, AllocError>
     requires { switch < length network.now.switches }
-    ensures { result.now ≡ switch_name network.now switch }
+    ensures { IfOk result (λ s. string_bytes s ≡ port_words network.now switch) }
 {
-    network.switch_name(switch)
-}
-
-// The number of a port that has a link.
-fn port_word(alloc: Global, network: &Network, switch: u16, port: u8) -> Result<String, AllocError>
-    requires switch { switch < length network.now.switches }
-    requires port { port < 32 }
-    ensures { IfOk result (λ s. string_bytes s ≡ port_word network.now switch port) }
-{
-    let at = Port::new(port).unwrap();
-    if network.topology().out_of(switch, at).is_some() {
-        return number_word(alloc, port);
-    }
-    Ok(String::new(alloc))
-}
-
-// Those of the first so many ports that have a link.
-#[tactic(auto, unfolding(crate::specs::RouteHints::port_words))]
-fn port_words(
-    alloc: Global,
-    network: &Network,
-    switch: u16,
-    ports: u8,
-) -> Result<String, AllocError>
-    requires switch { switch < length network.now.switches }
-    requires ports { ports ≤ 32 }
-    ensures { IfOk result (λ s. string_bytes s ≡ port_words network.now switch ports) }
-{
-    let mut text = String::new(alloc);
-    for port in 0..ports {
-        text.push_str(port_word(alloc, network, switch, port)?.as_str())?;
-    }
-    Ok(text)
+    let ports = linked_ports(alloc, network, switch)?;
+    number_words(alloc, &ports)
 }
 
 // Where a packet can go on to from the switch.
@@ -57,7 +25,7 @@ fn links_words(alloc: Global, network: &Network, switch: u16) -> Result<String, 
     ensures { IfOk result (λ s. string_bytes s ≡ links_words network.now switch) }
 {
     let name = switch_name(network, switch);
-    let ports = port_words(alloc, network, switch, 32)?;
+    let ports = port_words(alloc, network, switch)?;
     format!(in alloc; "{name} has links at ports{ports}")
 }
 

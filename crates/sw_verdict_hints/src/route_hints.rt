@@ -5,14 +5,14 @@ ghost use Rattle.sw_config.specs.Entries.{wiring_of};
 ghost use Rattle.sw_flow.specs.Places.{end_of};
 ghost use Rattle.sw_verdict_hints.specs.RouteHints.{flow_head, flow_hint, found_words, last_lines, place_name};
 
-use crate::changes::{help_words, switch_name};
+use crate::changes::help_words;
 use crate::ways::way_lines;
 use std::alloc::{AllocError, Global};
 use sw_app_explain::fault_words;
 use sw_config::{Flow, Network};
 use sw_flow::{Place, RouteFault};
 use sw_hints::{head_line, told};
-use sw_output::node_name;
+use sw_output::{node_name, switch_name};
 use sw_topo::{Chan, PlaceEnd};
 
 // The node or the switch that a channel ends at.

@@ -10,14 +10,18 @@ use sw_flow::Place;
 use sw_output::channel_text;
 
 // A number behind a space.
-pub(crate) fn number_word(alloc: Global, number: u8) -> Result<String, AllocError>
+fn number_word(alloc: Global, number: u8) -> Result<String, AllocError>
     ensures { IfOk result (λ s. string_bytes s ≡ number_word number) }
 {
     format!(in alloc; " {number}")
 }
 
-// The numbers, each behind a space.
-fn number_words(alloc: Global, numbers: &[u8]) -> Result<String, AllocError>
+/// The numbers, each behind a space.
+///
+/// # Errors
+///
+/// There is no memory for the text.
+pub(crate) fn number_words(alloc: Global, numbers: &[u8]) -> Result<String, AllocError>
     ensures { IfOk result (λ s. string_bytes s ≡ flat_map number_word numbers.now) }
 {
     let mut text = String::new(alloc);

@@ -1,6 +1,6 @@
 use Rattle.std.proofs.Common.{string_bytes}
 use Rattle.sw_app_draw.specs.DrawTexts.{channel_statement}
-use Rattle.sw_app_draw.proofs.EachLine.{lines_more}
+use Rattle.sw_output.proofs.EachLine.{lines_more}
 use Rattle.sw_app_draw.proofs.channels.channel_statements.Goals as goal
 
 pub loop-number-preserved : goal.loop-number-preserved

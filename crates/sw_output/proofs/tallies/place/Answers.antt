@@ -5,4 +5,4 @@ use Rattle.sw_output.proofs.tallies.place.Goals as goal
 
 pub returns-clause-position : goal.returns-clause-position
 returns-clause-position c =
-    searched (λ t. packet_order t.packet c.args.packet.now) c.args.tallies.now c.binary_search_by.result c.binary_search_by.ensures.position (search rules)
+    searched (λ t. packet_order t.item c.args.packet.now) c.args.tallies.now c.binary_search_by.result c.binary_search_by.ensures.position (search rules)

@@ -1,12 +1,13 @@
 use Rattle.std.proofs.Common.{rules, take, ◌<◌, length}
 use Rattle.sw_output.proofs.Counts.{tallies_fit, tallies_rise}
+use Rattle.sw_output.proofs.Order.{packet_order_total}
 use Rattle.sw_output.proofs.tallies.tallies.Goals as goal
 
 pub add-requires-clause-rising : goal.add-requires-clause-rising
-add-requires-clause-rising c = rw c.loop-packet.invariant (tallies_rise (take c.loop-packet.packet-index c.args.packets.now))
+add-requires-clause-rising c = rw c.loop-packet.invariant (tallies_rise packet_order_total (take c.loop-packet.packet-index c.args.packets.now))
 
 pub add-requires-clause-few : goal.add-requires-clause-few
 add-requires-clause-few c =
     let within : c.loop-packet.packet-index < length c.args.packets.now = search rules in
     let fits : length c.args.packets.now < 18446744073709551616 = search rules in
-    rw c.loop-packet.invariant (tallies_fit c.args.packets.now c.loop-packet.packet-index 18446744073709551616 within fits)
+    rw c.loop-packet.invariant (tallies_fit packet_order_total c.args.packets.now c.loop-packet.packet-index 18446744073709551616 within fits)

@@ -4,15 +4,16 @@ use Rattle.sw_char.specs.PacketView.{PacketView}
 use Rattle.sw_summary.specs.Counts.{all_items, all_replies}
 use Rattle.sw_summary.specs.Tallies.{IsRising, TallyView, tallies}
 use Rattle.sw_summary.specs.Texts.{flow_texts_from}
-use Rattle.sw_summary.proofs.Counted.{tallies_rise}
+use Rattle.sw_output.proofs.Counts.{tallies_rise}
 use Rattle.sw_summary.proofs.Lists.{items_in}
+use Rattle.sw_summary.proofs.Order.{item_order_total}
 use Rattle.sw_summary.proofs.flow_lines.flow_texts.Goals as goal
 
 pub flow_texts_from-requires-clause-packets : goal.flow_texts_from-requires-clause-packets
-flow_texts_from-requires-clause-packets c = subst IsRising (sym c.in_ok-packets.ensures) (tallies_rise c.deref.result.now)
+flow_texts_from-requires-clause-packets c = subst IsRising (sym c.in_ok-packets.ensures) (tallies_rise item_order_total c.deref.result.now)
 
 pub flow_texts_from-requires-clause-replies : goal.flow_texts_from-requires-clause-replies
-flow_texts_from-requires-clause-replies c = subst IsRising (sym c.in_ok-replies.ensures) (tallies_rise c.deref-2.result.now)
+flow_texts_from-requires-clause-replies c = subst IsRising (sym c.in_ok-replies.ensures) (tallies_rise item_order_total c.deref-2.result.now)
 
 pub returns : goal.returns
 returns c =

@@ -1,6 +1,6 @@
 use Rattle.std.proofs.Common.{rules}
 use Rattle.sw_summary.specs.Tallies.{item_order}
-use Rattle.sw_summary.proofs.Order.{searched}
+use Rattle.sw_output.proofs.Order.{searched}
 use Rattle.sw_summary.proofs.tallies.place.Goals as goal
 
 pub returns-clause-position : goal.returns-clause-position
