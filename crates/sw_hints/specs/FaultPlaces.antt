@@ -1,5 +1,5 @@
 -- Where the faulted table or key stands.
-use Rattle.std.specs.Prelude.{◌≡◌, ◌≤◌, ℕ, IfSome, List, Option, Some, None, length, option_map}
+use Rattle.std.specs.Prelude.{◌≡◌, ◌⊎◌, ◌≤◌, ℕ, IfSome, List, Option, Some, None, length, option_map}
 use Rattle.sw_topo.specs.declared.fault.Limit.{Limit}
 use Rattle.sw_topo.specs.declared.fault.Limit.TheVariants.{Nodes, Switches, Links}
 use Rattle.sw_topo.specs.declared.fault.TopoFault.{TopoFault}
@@ -51,7 +51,12 @@ sought_of (DuplicateRoute switch route) = table_to_show (section.Route switch ro
 sought_of (ReplyShape flow) = table_to_show (section.Reply flow)
 sought_of (NotInFlow packet) = table_to_show (section.Packet packet)
 
--- the offset, if there is one, is in the text, and of the table or the key that has the fault, if it is one that has it
+-- what stands at the offset has the fault; of a fault that no table or key has, none does
+abbrev pub StandsAt : List ℕ → Option Shown → ℕ → Type 0
+StandsAt text None at = ⊥
+StandsAt text (Some s) at = IsPlace text s.0 s.1 at
+
+-- the offset, if there is one, is in the text, and of the table or the key that has the fault; of a text that is no TOML any may be
 abbrev pub IsFaultPlace : List ℕ → TextFault → Option ℕ → Type 0
 IsFaultPlace text fault place =
-    IfSome place (λ at. (at ≤ length text) × IfSome (sought_of fault) (λ s. IsPlace text s.0 s.1 at))
+    IfSome place (λ at. (at ≤ length text) × ((fault ≡ Syntax) ⊎ StandsAt text (sought_of fault) at))
