@@ -1,4 +1,4 @@
--- All flows that go on from a channel to another.
+-- All flows that go on from a channel to another, and lists of the first numbers that have a property.
 use Rattle.std.proofs.Common.{◌≡◌, ℕ, ◌+◌, ◌<◌, ◌≤◌, List, [], ◌∷◌, ◌++◌, length, true, false, Option, Some, None, Contains, ◌-◌, refl, sym, ap, ◌∙◌, subst, inl, inr, arith}
 use Rattle.std.specs.Prelude.{IfNone, IfSome, slice_get, slice_index}
 use Rattle.std.specs.List.Sorted.{IsStrictlyIncreasing}
@@ -14,7 +14,6 @@ use Rattle.sw_flow.specs.Ways.{GoesTo}
 use Rattle.sw_graph.specs.Reached.{IsListing}
 use Rattle.sw_cycle.specs.Causes.{GoesOn}
 use Rattle.sw_cycle.specs.Firsts.{NoneFrom}
-use Rattle.sw_cycle.specs.Goers.{Below}
 
 nothing_in : {X : Type 0} (x : X) → Contains [] x → ⊥
 nothing_in x h = let lt = h.1 in omega arith
@@ -54,45 +53,47 @@ rising_push xs n rising low = λ k lt.
           omega arith
     ]
 
-module _ (d : Declaration) (c e : ℕ) where
-  pub below_none : Below d 0 c e []
-  below_none = record {
+-- those of the first n numbers that have the property
+abbrev pub First : (ℕ → Type 0) → ℕ → List ℕ → Type 0
+First P n numbers = IsListing (λ i. (i < n) × P i) numbers
+
+module _ (P : ℕ → Type 0) where
+  pub first_none : First P 0 []
+  first_none = record {
     rising = λ k lt. absurd (omega arith);
     member = λ i. (λ h. absurd (nothing_in i h), λ h. let lt = h.0 in absurd (omega arith));
   }
 
-  pub below_more : (n : ℕ) (numbers : List ℕ) → Below d n c e numbers → GoesOn d n c e → Below d (n + 1) c e (numbers ++ n ∷ [])
-  below_more n numbers b goes = record {
+  pub first_more : (n : ℕ) (numbers : List ℕ) → First P n numbers → P n → First P (n + 1) (numbers ++ n ∷ [])
+  first_more n numbers b here = record {
     rising = rising_push numbers n b.rising (λ k lt. ((b.member (slice_index numbers k)).0 (Contains-get_or numbers k 0 lt)).0);
     member = λ i. (
       λ h. elim (Contains-push_cases numbers n i h) [
         | inl old ↦ let r = (b.member i).0 old in ((let lt = r.0 in omega arith), r.1)
-        | inr same ↦ let P : ℕ → Type 0 = λ x. GoesOn d x c e in (omega arith, subst P same goes)
+        | inr same ↦ (omega arith, subst P same here)
       ],
       λ h. elim (cases_lt i n) [
         | inl less ↦ Contains-append_left numbers (n ∷ []) i ((b.member i).1 (less, h.1))
-        | inr past ↦ (let lt = h.0 in let same : n ≡ i = omega arith in let P : ℕ → Type 0 = λ x. Contains (numbers ++ n ∷ []) x in subst P same (Contains-push numbers n))
+        | inr past ↦ (let lt = h.0 in let same : n ≡ i = omega arith in let Q : ℕ → Type 0 = λ x. Contains (numbers ++ n ∷ []) x in subst Q same (Contains-push numbers n))
       ],
     );
   }
 
-  pub below_kept : (n : ℕ) (numbers : List ℕ) → Below d n c e numbers → (GoesOn d n c e → ⊥) → Below d (n + 1) c e numbers
-  below_kept n numbers b none = record {
+  pub first_kept : (n : ℕ) (numbers : List ℕ) → First P n numbers → (P n → ⊥) → First P (n + 1) numbers
+  first_kept n numbers b none = record {
     rising = b.rising;
     member = λ i. (
       λ h. let r = (b.member i).0 h in ((let lt = r.0 in omega arith), r.1),
       λ h. elim (cases_lt i n) [
         | inl less ↦ (b.member i).1 (less, h.1)
-        | inr past ↦ (let lt = h.0 in let same : i ≡ n = omega arith in let P : ℕ → Type 0 = λ x. GoesOn d x c e in absurd (none (subst P same h.1)))
+        | inr past ↦ (let lt = h.0 in let same : i ≡ n = omega arith in absurd (none (subst P same h.1)))
       ],
     );
   }
 
-  pub all_below : (n : ℕ) (numbers : List ℕ) → length (all_flows d) ≤ n → Below d n c e numbers → IsListing (λ i. GoesOn d i c e) numbers
-  all_below n numbers all b = record {
+  -- there is none that has it from n on
+  pub first_all : (n : ℕ) (numbers : List ℕ) → ((i : ℕ) → P i → i < n) → First P n numbers → IsListing P numbers
+  first_all n numbers all b = record {
     rising = b.rising;
-    member = λ i. (
-      λ h. ((b.member i).0 h).1,
-      λ goes. (b.member i).1 ((let within = slice_get_within (all_flows d) i (goes.2.flow) (goes.2.numbered) in omega arith), goes),
-    );
+    member = λ i. (λ h. ((b.member i).0 h).1, λ has. (b.member i).1 (all i has, has));
   }

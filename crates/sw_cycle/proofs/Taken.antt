@@ -12,7 +12,7 @@ use Rattle.sw_graph.specs.Rows.{row}
 use Rattle.sw_cycle.specs.Causes.{GoesOn}
 use Rattle.sw_cycle.specs.Cycles.{round}
 use Rattle.sw_cycle.specs.Goers.{AreBelow, AreFlows, AreMarked, Below, IsRowSet, IsTakenAt}
-use Rattle.sw_cycle.proofs.AllGoing.{all_below, below_kept, below_more, below_none}
+use Rattle.sw_cycle.proofs.AllGoing.{first_all, first_kept, first_more, first_none}
 use Rattle.sw_cycle.proofs.Stepped.{no_step}
 
 nothing_in : {X : Type 0} (x : X) → Contains [] x → ⊥
@@ -51,8 +51,8 @@ unmarked d i f places marks c e numbered list marked none goes =
 
 module _ (d : Declaration) (n c e : ℕ) (numbers : List ℕ) where
   added : (goes : Bool) → (IsTrue goes ↔ GoesOn d n c e) → Below d n c e numbers → Below d (n + 1) c e (if goes then numbers ++ n ∷ [] else numbers)
-  added true is below = below_more d c e n numbers below (is.0 refl)
-  added false is below = below_kept d c e n numbers below (λ g. false≢true (is.1 g))
+  added true is below = first_more (λ i. GoesOn d i c e) n numbers below (is.0 refl)
+  added false is below = first_kept (λ i. GoesOn d i c e) n numbers below (λ g. false≢true (is.1 g))
 
 pub taken_at : (d : Declaration) (channels : List ℕ) (n i : ℕ) (goes : Bool) (flows flows2 : List (Vec ℕ Global)) → (IsTrue goes ↔ GoesOn d n (round channels i) (round channels (i + 1)))
     → IsRowSet flows i (if goes then row flows i ++ n ∷ [] else row flows i) flows2 → IsTakenAt d channels n i flows flows2
@@ -91,7 +91,7 @@ module _ (d : Declaration) (channels : List ℕ) (n : ℕ) where
 -- ---- all flows
 
 pub begun : (d : Declaration) (channels : List ℕ) (flows : List (Vec ℕ Global)) → length flows ≡ length channels → ((i : ℕ) → row flows i ≡ []) → AreBelow d channels 0 flows
-begun d channels flows size empty = record { size = size; each = λ i lt. subst (Below d 0 (round channels i) (round channels (i + 1))) (sym (empty i)) (below_none d (round channels i) (round channels (i + 1))) }
+begun d channels flows size empty = record { size = size; each = λ i lt. subst (Below d 0 (round channels i) (round channels (i + 1))) (sym (empty i)) (first_none (λ m. GoesOn d m (round channels i) (round channels (i + 1)))) }
 
 pub ended : (d : Declaration) (channels : List ℕ) (n : ℕ) (flows : List (Vec ℕ Global)) → length (all_flows d) ≤ n → AreBelow d channels n flows → AreFlows d channels flows
-ended d channels n flows all b = record { size = b.size; each = λ i lt. all_below d (round channels i) (round channels (i + 1)) n (row flows i) all (b.each i lt) }
+ended d channels n flows all b = record { size = b.size; each = λ i lt. first_all (λ m. GoesOn d m (round channels i) (round channels (i + 1))) n (row flows i) (λ m goes. (let within = slice_get_within (all_flows d) m goes.2.flow goes.2.numbered in omega arith)) (b.each i lt) }

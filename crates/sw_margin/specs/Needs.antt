@@ -1,5 +1,5 @@
 -- The links that flows need, as they are found.
-use Rattle.std.specs.Prelude.{◌≡◌, ◌≢◌, ◌↔◌, ◌⊎◌, ℕ, ◌/◌, ◌<◌, ◌==◌, ◌++◌, Bool, true, Contains, List, [], ◌∷◌, length, Option, Some, None, Vec, if◌then◌else◌}
+use Rattle.std.specs.Prelude.{◌≡◌, ◌↔◌, ◌⊎◌, ℕ, ◌/◌, ◌<◌, ◌==◌, ◌++◌, Bool, true, Contains, List, [], ◌∷◌, length, Option, Some, None, Vec, if◌then◌else◌}
 use Rattle.std.specs.List.{list_all}
 use Rattle.std.specs.declared.alloc.Global.{Global}
 use Rattle.sw_config.specs.Entries.{FlowEntry, Declaration}
@@ -38,12 +38,6 @@ pub record AreNeeded (d : Declaration) (f : FlowEntry) (marks : List Bool) : Typ
 -- the row of a link, and the flow behind it where the link is marked
 abbrev pub row_after : List Bool → ℕ → List (Vec ℕ Global) → ℕ → List ℕ
 row_after marks flow rows link = if is_marked marks link then row rows link ++ flow ∷ [] else row rows link
-
--- the row of that link is as is said, and the others are as they were
-pub record IsRowSet (rows : List (Vec ℕ Global)) (link : ℕ) (new_row : List ℕ) (rows2 : List (Vec ℕ Global)) : Type 0 where
-  pub size : length rows2 ≡ length rows
-  pub set : row rows2 link ≡ new_row
-  pub others : (other : ℕ) → other ≢ link → row rows2 other ≡ row rows other
 
 -- the flow is behind the rows of the marked ones of the first `count` links
 pub record AreAdded (marks : List Bool) (flow count : ℕ) (rows rows2 : List (Vec ℕ Global)) : Type 0 where

@@ -6,7 +6,8 @@ ghost use Rattle.sw_flow.specs.Places.{IsPlaceList};
 ghost use Rattle.sw_graph.specs.Rows.{row};
 ghost use Rattle.sw_search.specs.Lists.{AreListed};
 ghost use Rattle.sw_margin.specs.Losses.{AreLosses};
-ghost use Rattle.sw_margin.specs.Needs.{AreAdded, AreMarked, AreNeeded, IsRowSet, link_after, only_link};
+ghost use Rattle.sw_cycle.specs.Goers.{IsRowSet};
+ghost use Rattle.sw_margin.specs.Needs.{AreAdded, AreMarked, AreNeeded, link_after, only_link};
 
 use std::alloc::{AllocError, Global};
 use sw_config::{Flow, Network};
