@@ -6,5 +6,5 @@ pub mod Steps
 pub mod Memories
 pub mod Declared
 pub mod Declares
-mod Headers
+pub mod Headers
 mod Ends

@@ -1,10 +1,10 @@
 -- What is undelivered of a declared network fits 64 bits.
-use Rattle.std.proofs.Common.{List, None, Option, Some, [], ap, arith, drop, length, length-append, map, refl, subst, suc, sym, take, zero, ℕ, ◌++◌, ◌+◌, ◌<◌, ◌^◌, ◌∙◌, ◌∷◌, ◌≡◌, ◌≤◌, Bool, true, false}
+use Rattle.std.proofs.Common.{List, None, Option, Some, [], ap, arith, drop, length, length-append, map, refl, subst, suc, sym, take, zero, ℕ, ◌++◌, ◌+◌, ◌<◌, ◌^◌, ◌∙◌, ◌∷◌, ◌≡◌, ◌≤◌}
 use Rattle.std.proofs.lemmas.List.{length-map, length-take}
 use Rattle.std.proofs.lemmas.List.Elements.{All-head, All-tail}
 use Rattle.std.proofs.lemmas.Option.{cond_some}
 use Rattle.std.specs.Option.{option_and_then, option_map}
-use Rattle.std.specs.Prelude.{All, IfSome, if◌then◌else◌, slice_index, ◌==◌}
+use Rattle.std.specs.Prelude.{All, IfSome, slice_index}
 use Rattle.sw_char.specs.declared.nchar.End.{End}
 use Rattle.sw_char.specs.declared.nchar.NChar.TheVariants.{Data, Eop}
 use Rattle.sw_machine.proofs.Credit.{reached_numbers}
@@ -15,6 +15,7 @@ use Rattle.sw_machine.specs.Runs.{IsReached, length_pending, undelivered}
 use Rattle.sw_machine.specs.State.{State, reply_packet}
 use Rattle.sw_model.proofs.Answering.{reply_length}
 use Rattle.sw_model.proofs.Flows.{some_at}
+use Rattle.sw_model.proofs.Headers.{length-path-le}
 use Rattle.sw_model.proofs.Networks.{are_networks}
 use Rattle.sw_model.specs.Model.{answer_of, answered_to, longest_reply, network_of, slots_of}
 use Rattle.sw_config.proofs.FlowLaws.{valid_flows}
@@ -26,19 +27,11 @@ use Rattle.sw_rmap.specs.CommandView.{CommandView}
 use Rattle.sw_rmap.specs.Commands.{fields_of, instruction_of, read}
 use Rattle.sw_rmap.specs.Config.{IsTargetConfig}
 use Rattle.sw_rmap.specs.Instruction.{reply_address_len}
-use Rattle.sw_rmap.specs.Replies.{is_answered, path_of, reply_to, way_back, without_leading_zeros}
+use Rattle.sw_rmap.specs.Replies.{is_answered, path_of, reply_to, way_back}
 use Rattle.sw_rmap.specs.declared.config.TargetConfig.{TargetConfig}
 use Rattle.sw_net.proofs.Sizes.{BeginsFew, few_wait, replies_few, sends_few, total_at_nodes, total_in_channels}
 
 -- ---- where replies go
-
-zeros_lost : (bytes : List ℕ) → length (without_leading_zeros bytes) ≤ length bytes
-zeros_lost [] = omega arith
-zeros_lost (b ∷ bytes) = by (b == 0) (zeros_lost bytes)
-  where
-    by : (z : Bool) → length (without_leading_zeros bytes) ≤ length bytes → length (if z then without_leading_zeros bytes else b ∷ bytes) ≤ length (b ∷ bytes)
-    by true rest = omega arith
-    by false rest = omega arith
 
 address_few : (bytes : List ℕ) (c : CommandView) → read bytes ≡ Some c → length c.reply_address ≤ 12
 unfolding fields_of
@@ -53,7 +46,7 @@ way_few bytes None way is h = absurd cc
 way_few bytes (Some c) way is h =
     let goes = cond_some (is_answered c) (path_of c ++ c.initiator ∷ []) way h in
     let few = address_few bytes c is in
-    let path = zeros_lost c.reply_address in
+    let path = length-path-le c.reply_address in
     let sum = length-append (path_of c) (c.initiator ∷ []) in
     let same = ap length goes.1 in
     omega arith

@@ -9,9 +9,10 @@ use Rattle.sw_rmap.specs.declared.config.TargetConfig.{TargetConfig}
 use Rattle.sw_rmap.specs.CommandView.{CommandView}
 use Rattle.sw_rmap.specs.Commands.{fields_of, is_command, read}
 use Rattle.sw_rmap.specs.Instruction.{reply_address_len}
-use Rattle.sw_rmap.specs.Replies.{is_answered, path_of, reply_to, way_back, without_leading_zeros}
+use Rattle.sw_rmap.specs.Replies.{is_answered, path_of, reply_to, way_back}
 use Rattle.sw_config.specs.Entries.{NodeEntry, ReplyEntry, target_of}
 use Rattle.sw_model.specs.Packets.{IsRightWay, left_bytes, reply_address, reply_from}
+use Rattle.sw_model.proofs.Headers.{length-path-le}
 use Rattle.sw_unanswered.specs.Laws.{NoneIsAnswered}
 use Rattle.sw_unanswered.specs.Unanswered.{has_other_instruction, has_other_protocol, is_of_answered}
 
@@ -23,14 +24,6 @@ record IsAsking (bytes way : List ℕ) : Type 0 where
   protocol : (slice_index bytes 1 == 1) ≡ true
   instruction : is_of_answered (slice_index bytes 2) ≡ true
   path : length way ≤ reply_address_len (slice_index bytes 2) + 1
-
-path_le : (bytes : List ℕ) → length (without_leading_zeros bytes) ≤ length bytes
-path_le [] = omega arith
-path_le (b ∷ bytes) = by (b == 0) (path_le bytes)
-  where
-    by : (zero_first : Bool) → length (without_leading_zeros bytes) ≤ length bytes → length (if zero_first then without_leading_zeros bytes else b ∷ bytes) ≤ length (b ∷ bytes)
-    by true le = omega arith
-    by false le = omega arith
 
 both_true : (a b : Bool) → (a && b) ≡ true → (a ≡ true) × (b ≡ true)
 both_true true true h = (refl, refl)
@@ -56,7 +49,7 @@ asking_fields bytes way sure is =
     let a = answered_view (fields_of bytes) way is in
     let wants = (both_true _ _ a.0).0 in
     let i : ℕ = slice_index bytes 2 in
-    let shorter = path_le (take (reply_address_len i) (drop 4 bytes)) in
+    let shorter = length-path-le (take (reply_address_len i) (drop 4 bytes)) in
     let field = length-take (reply_address_len i) (drop 4 bytes) in
     let long = length-append (path_of (fields_of bytes)) ((fields_of bytes).initiator ∷ []) in
     let parts = both_true _ _ sure in
