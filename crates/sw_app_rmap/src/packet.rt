@@ -2,7 +2,6 @@
 ghost use Rattle.std.specs.Prelude.{◌≡◌, ◌≤◌, length};
 ghost use Rattle.sw_config.specs.Valid.{IsFlow};
 ghost use Rattle.sw_rmap.specs.Config.{IsTargetConfig};
-ghost use Rattle.sw_model.specs.Packets.{left_bytes};
 ghost use Rattle.sw_app_rmap.specs.Told.{Gives};
 ghost use Rattle.sw_app_rmap.specs.FlowCommands.{path_back};
 ghost use Rattle.sw_app_rmap.specs.Orders.{IsSmall, order_view};
@@ -15,6 +14,7 @@ use crate::request::Request;
 use std::alloc::Global;
 use std::marker::Model;
 use sw_config::{Flow, Network};
+use sw_model::left_bytes;
 use sw_rmap::TargetConfig;
 
 /// A load says at most this many bytes of a cargo.
@@ -33,15 +33,6 @@ impl Model for FlowPacket {
     ghost Value = { seen.FlowPacket };
 
     ghost view = { λ p. record { flow = p.flow; cargo = p.cargo.items } };
-}
-
-// The last bytes of the flow's address, which its packets still begin with where they end.
-fn left_bytes(flow: &Flow) -> &[u8]
-    requires { flow.now.left ≤ length flow.now.address }
-    ensures { result.now ≡ left_bytes flow.now }
-{
-    let address = flow.address();
-    &address[address.len() - flow.left() as usize..]
 }
 
 fn is_in_window(target: TargetConfig, order: &Order) -> bool
@@ -80,7 +71,6 @@ fn cargo_to(
     order: &Order,
 ) -> Result<Vec<u8>, RmapError>
     requires target { IsTargetConfig target }
-    requires left { flow.now.left ≤ length flow.now.address }
     requires path { length (path_back flow.now.reply) ≤ 12 }
     requires small { IsSmall (order_view order.now) }
     ensures { Gives (λ v. v.items) result (cargo_to target flow.now (order_view order.now)) }

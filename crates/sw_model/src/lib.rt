@@ -8,5 +8,5 @@ mod reply;
 mod step;
 
 pub use packets::in_flow;
-pub use reply::reply_length;
+pub use reply::{left_bytes, reply_length};
 pub use step::Step;

@@ -21,13 +21,13 @@ const MAX_ADDRESS: usize = 32;
 /// What a reply has behind its address but for its data, at most, with its end marker.
 const REPLY_FRAME: u32 = 13;
 
-/// The last bytes of the flow's address, which its packets still begin with where they end.
-pub(crate) fn left_bytes(flow: &Flow) -> &[u8]
-    requires { flow.now.left ≤ length flow.now.address }
+/// The last bytes of the flow's address, which its packets still begin with where they end: as many as the flow says, or the whole address
+/// if it has no more.
+pub fn left_bytes(flow: &Flow) -> &[u8]
     ensures { result.now ≡ left_bytes flow.now }
 {
     let address = flow.address();
-    &address[address.len() - flow.left() as usize..]
+    &address[address.len().saturating_sub(usize::from(flow.left()))..]
 }
 
 /// Whether the reply to the command begins with these address bytes.

@@ -1,7 +1,6 @@
 //! The packets that a history begins.
 ghost use Rattle.std.specs.Prelude.{◌≡◌, ◌≤◌, ◌++◌, IfOk, length, map, option_to_list};
 ghost use Rattle.sw_machine.specs.Begun.{beginning, beginnings};
-ghost use Rattle.sw_model.specs.Packets.{left_bytes};
 ghost use Rattle.sw_model.specs.Steps.{machine_step};
 ghost use Rattle.sw_summary.specs.Counts.{form_of, forms, loaded, of_entry, of_flow};
 
@@ -10,7 +9,7 @@ use std::marker::Model;
 use sw_char::{End, Packet};
 use sw_config::Flow;
 use sw_load::{Load, LoadPacket};
-use sw_model::Step;
+use sw_model::{Step, left_bytes};
 
 /// A packet that a history begins.
 #[derive(Drop)]
@@ -95,18 +94,8 @@ pub(crate) fn loaded(flow: u16, load: &Load) -> u64
     sum
 }
 
-// The last bytes of the flow's address, which are left where its packets end.
-fn left_bytes(flow: &Flow) -> &[u8]
-    requires { flow.now.left ≤ length flow.now.address }
-    ensures { result.now ≡ left_bytes flow.now }
-{
-    let address = flow.address();
-    &address[address.len() - flow.left() as usize..]
-}
-
 // The packet as the node at the end of its flow gets it.
 fn form_of(alloc: Global, flow: &Flow, begun: &Begun<'_>) -> Result<Packet, AllocError>
-    requires { flow.now.left ≤ length flow.now.address }
     ensures { IfOk result (λ p. p ≡ form_of flow.now begun.now) }
 {
     let mut bytes = Vec::from_slice(alloc, left_bytes(flow))?;
@@ -124,7 +113,6 @@ pub(crate) fn forms(
     number: u16,
     begun: &[Begun<'_>],
 ) -> Result<Vec<Packet>, AllocError>
-    requires { flow.now.left ≤ length flow.now.address }
     ensures { IfOk result (λ all. all.items ≡ forms flow.now number begun.now) }
 {
     let mut all = Vec::new(alloc);

@@ -1,24 +1,16 @@
 //! The flows whose replies can't happen.
 ghost use Rattle.std.specs.Prelude.{◌≡◌, ◌<◌, ◌++◌, IfOk, OnOk, length};
 ghost use Rattle.sw_mend.specs.Changes.{by_number, made_at};
-ghost use Rattle.sw_model.specs.Packets.{left_bytes};
 ghost use Rattle.sw_rmap.specs.Instruction.{reply_address_len};
 ghost use Rattle.sw_unanswered.specs.Unanswered.{can_not_be_answered, has_other_instruction, has_other_protocol, is_of_answered, never_answered, number_if};
 
 use std::alloc::{AllocError, Global};
 use std::marker::Model;
 use sw_config::{Flow, Network};
+use sw_model::left_bytes;
 
 /// The protocol identifier of RMAP (ECSS-E-ST-50-51C).
 const PROTOCOL: u8 = 1;
-
-// The last bytes of the flow's address, which its packets still begin with where they end.
-fn left_bytes(flow: &Flow) -> &[u8]
-    ensures { result.now ≡ left_bytes flow.now }
-{
-    let address = flow.address();
-    &address[address.len().saturating_sub(usize::from(flow.left()))..]
-}
 
 // Is the protocol identifier left, and another than RMAP's?
 fn has_other_protocol(left: &[u8]) -> bool

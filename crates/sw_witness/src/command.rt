@@ -2,6 +2,7 @@
 
 use std::alloc::{AllocError, Global};
 use sw_config::{Flow, Network, Reply};
+use sw_model::left_bytes;
 use sw_rmap::{TargetConfig, crc};
 
 /// The protocol identifier of RMAP (ECSS-E-ST-50-51C).
@@ -59,16 +60,6 @@ fn behind(alloc: Global, bytes: &[u8], count: usize) -> Result<Vec<u8>, AllocErr
         all.push(*byte)?;
     }
     Ok(all)
-}
-
-/// The address bytes that are left where the flow ends.
-fn left_bytes(flow: &Flow) -> &[u8] {
-    let address = flow.address();
-    let left = usize::from(flow.left());
-    if left > address.len() {
-        return &[];
-    }
-    &address[address.len() - left..]
 }
 
 /// The cargo of a command of the flow; none where the flow has no replies, or ends at no target.
