@@ -14,7 +14,7 @@ _swcheck() {
         if [ -z "$command" ]; then
             case $it in
                 route) command=$it options='--hints -h --help' valued='--hints' kinds=('file .toml' 'none') ;;
-                decide) command=$it options='--hints -h --help' valued='--hints' kinds=('file .toml') ;;
+                decide) command=$it options='--json --hints -h --help' valued='--hints' kinds=('file .toml') ;;
                 check) command=$it options='--hints -h --help' valued='--hints' kinds=('file .toml' 'file .cert') ;;
                 report) command=$it options='--hints -h --help' valued='--hints' kinds=('file .toml') ;;
                 replay) command=$it options='--hints -h --help' valued='--hints' kinds=('file .toml' 'file .schedule') ;;
@@ -26,7 +26,9 @@ _swcheck() {
                 mend) command=$it options='--pairs --hints -h --help' valued='--hints' kinds=('file .toml') ;;
                 margin) command=$it options='--hints -h --help' valued='--hints' kinds=('file .toml') ;;
                 witness) command=$it options='--tries --seed --hints -h --help' valued='--tries --seed --hints' kinds=('file .toml') ;;
-                help) command=$it options='-h --help -V --version' valued='' kinds=('texts route decide check report replay run migrate explain draw rmap mend margin witness help') ;;
+                audit) command=$it options='--json --quiet --certificates --hints -h --help' valued='--certificates --hints' kinds=('again file .toml') ;;
+                init) command=$it options='--hints -h --help' valued='--hints' kinds=('none') ;;
+                help) command=$it options='-h --help -V --version' valued='' kinds=('texts route decide check report replay run migrate explain draw rmap mend margin witness audit init help') ;;
                 -*) ;;
                 *) return ;;
             esac
@@ -44,7 +46,7 @@ _swcheck() {
     done
     [ "$word" != = ] || word=''
     if [ -z "$command" ]; then
-        kind='texts route decide check report replay run migrate explain draw rmap mend margin witness help'
+        kind='texts route decide check report replay run migrate explain draw rmap mend margin witness audit init help'
         options='-h --help -V --version'
     elif [ -n "$last" ]; then
         kind=none
@@ -64,6 +66,8 @@ _swcheck() {
             mend--hints) kind='file' ;;
             margin--hints) kind='file' ;;
             witness--hints) kind='file' ;;
+            audit--hints) kind='file' ;;
+            init--hints) kind='file' ;;
             *) ;;
         esac
     else

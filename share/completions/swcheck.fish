@@ -10,7 +10,7 @@ function __swcheck_at --argument-names command count more
     test "$words[1]" = "$command"; or return 1
     set -e words[1]
     test -n "$count"; or return 0
-    set -l valued route--hints decide--hints check--hints report--hints replay--hints run--workers run--limit run--schedule run--hints migrate--hints explain--hints draw--flow draw--hints rmap--transaction rmap--hints mend--hints margin--hints witness--tries witness--seed witness--hints
+    set -l valued route--hints decide--hints check--hints report--hints replay--hints run--workers run--limit run--schedule run--hints migrate--hints explain--hints draw--flow draw--hints rmap--transaction rmap--hints mend--hints margin--hints witness--tries witness--seed witness--hints audit--certificates audit--hints init--hints
     set -l at 0
     set -l plain no
     while set -q words[1]
@@ -40,12 +40,15 @@ complete -c swcheck -n __fish_use_subcommand -a rmap -d 'Print the entry of a lo
 complete -c swcheck -n __fish_use_subcommand -a mend -d 'Print each single change that makes a network free, or that there is none'
 complete -c swcheck -n __fish_use_subcommand -a margin -d 'Print how far the premises of a network that never locks up bend'
 complete -c swcheck -n __fish_use_subcommand -a witness -d 'Look for a schedule of steps that locks a network up, and print it'
+complete -c swcheck -n __fish_use_subcommand -a audit -d 'Print the verdicts on many networks'
+complete -c swcheck -n __fish_use_subcommand -a init -d 'Print a sample network file'
 complete -c swcheck -n __fish_use_subcommand -a help -d 'Print the help of a command'
 complete -c swcheck -n '__fish_use_subcommand' -s h -l help -d 'Print help'
 complete -c swcheck -n '__fish_use_subcommand' -s V -l version -d 'Print version'
 complete -c swcheck -n '__swcheck_at route' -l hints -x -F -d 'auto: tell on standard error how to mend a network file; never: do not'
 complete -c swcheck -n '__swcheck_at route' -s h -l help -d 'Print help'
 complete -c swcheck -n '__swcheck_at route 0' -k -a '(__fish_complete_suffix .toml)' -d 'A network file'
+complete -c swcheck -n '__swcheck_at decide' -l json -d 'Print the answer as one JSON object'
 complete -c swcheck -n '__swcheck_at decide' -l hints -x -F -d 'auto: tell on standard error how to mend a network file; never: do not'
 complete -c swcheck -n '__swcheck_at decide' -s h -l help -d 'Print help'
 complete -c swcheck -n '__swcheck_at decide 0' -k -a '(__fish_complete_suffix .toml)' -d 'A network file'
@@ -99,4 +102,12 @@ complete -c swcheck -n '__swcheck_at witness' -l seed -x -d 'Where the choices b
 complete -c swcheck -n '__swcheck_at witness' -l hints -x -F -d 'auto: tell on standard error how to mend a network file; never: do not'
 complete -c swcheck -n '__swcheck_at witness' -s h -l help -d 'Print help'
 complete -c swcheck -n '__swcheck_at witness 0' -k -a '(__fish_complete_suffix .toml)' -d 'A network file'
-complete -c swcheck -n '__swcheck_at help 0' -a 'route decide check report replay run migrate explain draw rmap mend margin witness help'
+complete -c swcheck -n '__swcheck_at audit' -l json -d 'Print the answer as one JSON object'
+complete -c swcheck -n '__swcheck_at audit' -l quiet -d 'Print only files whose network is not free'
+complete -c swcheck -n '__swcheck_at audit' -l certificates -x -d 'A directory for the certificates of free networks'
+complete -c swcheck -n '__swcheck_at audit' -l hints -x -F -d 'auto: tell on standard error how to mend a network file; never: do not'
+complete -c swcheck -n '__swcheck_at audit' -s h -l help -d 'Print help'
+complete -c swcheck -n '__swcheck_at audit 0 more' -k -a '(__fish_complete_suffix .toml)' -d 'A network file, or several'
+complete -c swcheck -n '__swcheck_at init' -l hints -x -F -d 'auto: tell on standard error how to mend a network file; never: do not'
+complete -c swcheck -n '__swcheck_at init' -s h -l help -d 'Print help'
+complete -c swcheck -n '__swcheck_at help 0' -a 'route decide check report replay run migrate explain draw rmap mend margin witness audit init help'

@@ -4,7 +4,6 @@ pub mod PlaceChannels
 pub mod FlowAnswers
 pub mod OneListing
 pub mod OneAnswer
-pub mod CycleChannels
 pub mod OneVerdict
 pub mod ShownFree
 pub mod Told

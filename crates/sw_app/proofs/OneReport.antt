@@ -39,12 +39,12 @@ words_once d (Free contents) (Free other) h k =
     let same = determined d (Free contents) (Free other) h k in
     ap (λ (c : Contents). free_words c.numbers) same
 
-places_once : (d : Declaration) (m n : ℕ) → IsPlaceCount d m → IsPlaceCount d n → m ≡ n
+pub places_once : (d : Declaration) (m n : ℕ) → IsPlaceCount d m → IsPlaceCount d n → m ≡ n
 places_once d m n p q =
     let same : p.places ≡ q.places = zip_determined (IsPlaceList d) (λ f xs ys a b. same_places d f xs ys a b) (all_flows d) p.places q.places p.listed q.listed in
     p.counted ∙ (ap (λ (lists : List (List Place)). sum (map length lists)) same ∙ sym q.counted)
 
-dependencies_once : (d : Declaration) (m n : ℕ) → IsDependencyCount d m → IsDependencyCount d n → m ≡ n
+pub dependencies_once : (d : Declaration) (m n : ℕ) → IsDependencyCount d m → IsDependencyCount d n → m ≡ n
 dependencies_once d m n p q =
     let same = one_count p.pairs q.pairs p.once q.once (λ z here. (q.member z).1 ((p.member z).0 here)) (λ z here. (p.member z).1 ((q.member z).0 here)) in
     p.counted ∙ (same ∙ sym q.counted)

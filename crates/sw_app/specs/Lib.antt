@@ -8,3 +8,4 @@ pub mod VerdictAnswers
 pub mod ReplayTexts
 pub mod ReplayAnswers
 pub mod MigrateAnswers
+pub mod Samples

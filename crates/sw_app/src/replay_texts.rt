@@ -67,7 +67,7 @@ pub(crate) fn replay_text(
 }
 
 /// The status of a replay: a refused step goes before a lock-up.
-pub(crate) fn replay_status(replayed: &Replayed) -> u8
+pub fn replay_status(replayed: &Replayed) -> u8
     ensures { result ≡ replay_status replayed.now.outcome replayed.now.stuck }
 {
     match replayed.outcome {

@@ -3,7 +3,7 @@ use Rattle.std.proofs.Common.{◌≡◌, ℕ, ◌<◌, Bool, true, false, List, 
 use Rattle.std.specs.Prelude.{Some}
 use Rattle.sw_cert.specs.Text.{Contents}
 use Rattle.sw_config.specs.Entries.{Declaration}
-use Rattle.sw_explain.proofs.Lawful.{tangles_are_where_cycles_are}
+use Rattle.sw_search.proofs.Lawful.{tangles_are_where_cycles_are}
 use Rattle.sw_search.proofs.Determined.{determined}
 use Rattle.sw_search.specs.declared.verdict.Verdict.{Verdict}
 use Rattle.sw_search.specs.declared.verdict.Verdict.TheVariants.{Misrouted, Cyclic, Free}

@@ -2,8 +2,8 @@
 use Rattle.std.specs.Prelude.{◌≡◌, ◌⊎◌, ℕ, Bool, true, false, List, [], ◌∷◌, Option, Some, None}
 use Rattle.sw_cert.specs.Text.{Contents}
 use Rattle.sw_config.specs.Entries.{Declaration}
-use Rattle.sw_explain.specs.declared.tangle.Tangle.{Tangle}
-use Rattle.sw_explain.specs.Tangles.{AreTangles}
+use Rattle.sw_search.specs.declared.tangle.Tangle.{Tangle}
+use Rattle.sw_search.specs.Tangles.{AreTangles}
 use Rattle.sw_flow.specs.declared.place.Place.{Place}
 use Rattle.sw_search.specs.declared.verdict.Verdict.{Verdict}
 use Rattle.sw_search.specs.declared.verdict.Verdict.TheVariants.{Misrouted, Cyclic, Free}

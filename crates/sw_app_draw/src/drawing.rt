@@ -6,9 +6,8 @@ use std::alloc::{AllocError, Global};
 use std::marker::Model;
 use std::thread::Threads;
 use sw_config::Network;
-use sw_explain::{Tangle, tangles};
 use sw_flow::{Place, all_places};
-use sw_search::{Verdict, decide};
+use sw_search::{Tangle, Verdict, decide, tangles};
 use sw_topo::Chan;
 
 /// The places of a flow, a cycle of channels, and the channels' numbers, each empty where it is not drawn.

@@ -4,9 +4,9 @@ use Rattle.std.specs.List.{AllZip}
 use Rattle.std.proofs.lemmas.List.Elements.{All-cons, All-head, All-nil, All-tail}
 use Rattle.sw_config.specs.Entries.{Declaration, FlowEntry}
 use Rattle.sw_config.specs.Valid.{IsValid}
-use Rattle.sw_explain.specs.Explanations.{GoesWrong, IsTangled}
-use Rattle.sw_explain.specs.Tangles.{IsTangle}
-use Rattle.sw_explain.specs.declared.tangle.Tangle.{Tangle}
+use Rattle.sw_search.specs.Explanations.{GoesWrong, IsTangled}
+use Rattle.sw_search.specs.Tangles.{IsTangle}
+use Rattle.sw_search.specs.declared.tangle.Tangle.{Tangle}
 use Rattle.sw_flow.proofs.Stepping.{places_are_in}
 use Rattle.sw_flow.specs.Places.{IsPlace, ends_of}
 use Rattle.sw_flow.specs.Places.IsPlace.{start, next}
@@ -14,8 +14,8 @@ use Rattle.sw_flow.specs.Ways.{GoesFromStart, GoesOver}
 use Rattle.sw_flow.specs.declared.fault.RouteFault.{RouteFault}
 use Rattle.sw_flow.specs.declared.place.Place.{Place}
 use Rattle.sw_graph.specs.Laws.{IsChain, IsCycle}
-use Rattle.sw_parts.specs.Parts.{IsPart}
-use Rattle.sw_parts.specs.declared.part.Part.{Part}
+use Rattle.sw_graph.specs.Parts.{IsPart}
+use Rattle.sw_graph.specs.declared.part.Part.{Part}
 use Rattle.sw_search.specs.Verdicts.{depends}
 use Rattle.sw_search.proofs.Waits.{waits_within}
 use Rattle.sw_app_explain.specs.ExplainTexts.{AreOnChannels, IsOfChannels}

@@ -3,8 +3,8 @@ use Rattle.std.specs.Prelude.{Bool, List, ℕ, [], ◌∷◌, Result, Ok, Err}
 use Rattle.sw_command.specs.Ends.{Answers, Says}
 use Rattle.sw_command.specs.FaultTexts.{fault_text}
 use Rattle.sw_config.specs.Entries.{Declaration}
-use Rattle.sw_explain.specs.Explanations.{IsExplanation}
-use Rattle.sw_explain.specs.declared.explanation.Explanation.{Explanation}
+use Rattle.sw_search.specs.Explanations.{IsExplanation}
+use Rattle.sw_search.specs.declared.explanation.Explanation.{Explanation}
 use Rattle.sw_file.specs.Network.{network_text}
 use Rattle.sw_output.specs.Lines.{line}
 use Rattle.sw_toml_table.specs.declared.fault.TextFault.{TextFault}

@@ -6,9 +6,9 @@ use Rattle.std.specs.List.{range_with_len}
 use Rattle.std.specs.declared.alloc.Global.{Global}
 use Rattle.sw_config.specs.Entries.{Declaration, wiring_of}
 use Rattle.sw_cycle.specs.Cycles.{CauseEntry, CycleEntry, ByFlow, ByTarget, round}
-use Rattle.sw_explain.specs.declared.explanation.Explanation.{Explanation}
-use Rattle.sw_explain.specs.declared.explanation.Explanation.TheVariants.{Misrouted, Cyclic, Free}
-use Rattle.sw_explain.specs.declared.tangle.Tangle.{Tangle}
+use Rattle.sw_search.specs.declared.explanation.Explanation.{Explanation}
+use Rattle.sw_search.specs.declared.explanation.Explanation.TheVariants.{Misrouted, Cyclic, Free}
+use Rattle.sw_search.specs.declared.tangle.Tangle.{Tangle}
 use Rattle.sw_flow.specs.declared.fault.RouteFault.{RouteFault}
 use Rattle.sw_flow.specs.declared.fault.RouteFault.TheVariants.{AddressEnds, NoRoute, WrongNode, WrongLeft}
 use Rattle.sw_flow.specs.declared.place.Place.{Place}

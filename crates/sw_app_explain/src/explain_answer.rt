@@ -7,8 +7,8 @@ use std::alloc::{AllocError, Global};
 use std::thread::Threads;
 use sw_command::Answer;
 use sw_config::Network;
-use sw_explain::explain;
 use sw_file::read_network;
+use sw_search::explain;
 use sw_toml_table::FileFault;
 
 // The answer for a network.

@@ -1,6 +1,6 @@
 //! The text of what is told of a network.
 ghost use Rattle.std.specs.Prelude.{◌≡◌, IfOk, string_bytes};
-ghost use Rattle.sw_explain.specs.Explanations.{GoesWrong, IsExplanation, IsTangled};
+ghost use Rattle.sw_search.specs.Explanations.{GoesWrong, IsExplanation, IsTangled};
 ghost use Rattle.sw_app_explain.specs.ExplainTexts.{explain_status, explain_text, free_text, misrouted_text, tangles_text};
 
 use crate::route_texts::misrouted_text;
@@ -8,8 +8,8 @@ use crate::tangle_texts::tangles_text;
 use std::alloc::{AllocError, Global};
 use sw_command::statuses::{BAD, GOOD};
 use sw_config::Network;
-use sw_explain::{Explanation, Tangle};
 use sw_flow::{Place, RouteFault};
+use sw_search::{Explanation, Tangle};
 
 fn free_text(alloc: Global) -> Result<String, AllocError>
     ensures { IfOk result (λ s. string_bytes s ≡ free_text) }
@@ -73,7 +73,7 @@ pub(crate) fn explain_text(
 }
 
 /// The status of what is told: 0 where the network never locks up.
-pub(crate) fn explain_status(explanation: &Explanation) -> u8
+pub fn explain_status(explanation: &Explanation) -> u8
     ensures { result ≡ explain_status explanation.now }
 {
     match explanation {

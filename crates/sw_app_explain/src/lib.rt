@@ -10,6 +10,7 @@ mod tangle_texts;
 mod words;
 
 pub use engine::explain;
+pub use explain_texts::explain_status;
 pub use route_texts::fault_words;
 pub use step_texts::names_text;
 pub use words::numbered;

@@ -3,7 +3,7 @@ ghost use Rattle.std.specs.Prelude.{◌≡◌, ◌<◌, ◌++◌, All, IfOk, cod
 ghost use Rattle.std.specs.List.{flat_map};
 ghost use Rattle.std.specs.Fmt.{decimal};
 ghost use Rattle.sw_config.specs.Entries.{wiring_of};
-ghost use Rattle.sw_explain.specs.declared.tangle.Tangle.{Tangle};
+ghost use Rattle.sw_search.specs.declared.tangle.Tangle.{Tangle};
 ghost use Rattle.sw_app_explain.specs.ExplainTexts.{counts_text, cycle_line, numbered_line, step_line, step_lines, step_text, tangle_text, tangles_text, total_line, IsOfChannels};
 
 use crate::step_texts::{flows_text, step_words};
@@ -11,7 +11,7 @@ use crate::words::{counted, numbered};
 use std::alloc::{AllocError, Global};
 use sw_config::Network;
 use sw_cycle::Cycle;
-use sw_explain::Tangle;
+use sw_search::Tangle;
 
 // The step from that channel of the cycle to the next one, by its cause.
 fn step_text(

@@ -2,7 +2,7 @@
 use Rattle.std.proofs.Common.{◌≡◌, ◌*◌, ◌∙◌, ℕ, List, length, ap}
 use Rattle.std.proofs.lemmas.List.FromFn.{length-map-range_with_len}
 use Rattle.sw_config.specs.Entries.{Declaration}
-use Rattle.sw_fill.specs.Fills.{AreFills, greatest_fill}
+use Rattle.sw_summary.specs.Fills.{AreFills, greatest_fill}
 use Rattle.sw_machine.specs.Steps.{Step}
 use Rattle.sw_model.specs.Model.{network_of}
 use Rattle.sw_net.proofs.Delivered.{channel_count}

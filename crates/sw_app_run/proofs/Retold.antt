@@ -15,7 +15,7 @@ use Rattle.sw_replay.proofs.OneReport.{replays_are_determined}
 use Rattle.sw_replay.proofs.Stops.{one_end}
 use Rattle.sw_run.specs.Outcomes.{AreOut, came_out_of, steps_of}
 use Rattle.sw_file.specs.Laws.{ReadNamesAreNames, ReadNetworksAreValid}
-use Rattle.sw_schedule_text.specs.Laws.{HasNames, ListedAreShort, SchedulesAreRead}
+use Rattle.sw_schedule.specs.TextLaws.{HasNames, ListedAreShort, SchedulesAreRead}
 use Rattle.sw_app_run.specs.Laws.{ReplaysAreAsTold, SchedulesAreRetold}
 
 -- a list for each node, by its number

@@ -10,7 +10,7 @@ use Rattle.sw_run.specs.Outcomes.{IsOutcome, came_out_of, steps_of}
 use Rattle.sw_run.specs.declared.outcome.Outcome.{Outcome}
 use Rattle.sw_run.specs.declared.outcome.Stop.TheVariants.{Drained, Stuck}
 use Rattle.sw_schedule.specs.Schedule.{steps_of_text}
-use Rattle.sw_schedule_text.specs.Runs.{readable_text}
+use Rattle.sw_schedule.specs.Runs.{readable_text}
 
 -- all steps are made; as much is undelivered, and the same packets came out, in their order; the network is locked up where the run was
 -- stuck, and is not where it was drained

@@ -12,7 +12,7 @@ use Rattle.sw_load.specs.Load.{LoadEntry, load_text}
 use Rattle.sw_output.specs.Lines.{line}
 use Rattle.sw_run.specs.Outcomes.{IsOutcome, steps_of}
 use Rattle.sw_run.specs.declared.outcome.Outcome.{Outcome}
-use Rattle.sw_schedule_text.specs.Runs.{readable_text}
+use Rattle.sw_schedule.specs.Runs.{readable_text}
 use Rattle.sw_toml_table.specs.declared.fault.TextFault.{TextFault}
 use Rattle.sw_app_run.specs.RunTexts.{outcome_text, stop_status}
 use Rattle.sw_app_run.specs.Summaries.{IsWantedSummary}

@@ -2,8 +2,8 @@
 use Rattle.std.specs.Prelude.{◌≡◌, ◌↔◌, ◌++◌, ℕ, Bool, true, false, IsTrue, List, [], Option, Some, None}
 use Rattle.std.specs.Option.{option_map_or}
 use Rattle.sw_config.specs.Entries.{Declaration}
-use Rattle.sw_fill.specs.Fills.{AreFillsOrNone}
-use Rattle.sw_fill.specs.Lines.{fill_lines}
+use Rattle.sw_summary.specs.Fills.{AreFillsOrNone}
+use Rattle.sw_summary.specs.BufferLines.{fill_lines}
 use Rattle.sw_load.specs.Load.{LoadEntry}
 use Rattle.sw_machine.specs.Packets.{Packet}
 use Rattle.sw_machine.specs.Steps.{Step}

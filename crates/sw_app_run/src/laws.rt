@@ -2,7 +2,7 @@
 ghost use Rattle.sw_app_run.specs.Laws.{ReplaysAreAsTold, SchedulesAreRetold};
 
 use sw_file::laws::{read_names_are_names, read_networks_are_valid};
-use sw_schedule_text::laws::{listed_are_short, schedules_are_read};
+use sw_schedule::text_laws::{listed_are_short, schedules_are_read};
 
 /// A replay of the steps of an outcome tells what the outcome does: as much is undelivered, the same packets came out, and the network is
 /// locked up where the run was stuck.

@@ -10,7 +10,9 @@ mod run_texts;
 mod summaries;
 
 pub use engine::run;
-pub use record_answer::Wants;
-pub use record_engine::{RecordEnd, run_recorded};
+pub use record_answer::{Recorded, Wants, with_schedule};
+pub use record_engine::{RecordEnd, run_recorded, tell_recorded};
 pub use run_answer::Options;
+pub use run_texts::{stop_status, stop_word};
+pub use summaries::wanted_summary;
 pub use sw_run::Open;

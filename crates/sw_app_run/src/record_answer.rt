@@ -2,10 +2,10 @@
 ghost use Rattle.std.specs.Prelude.{◌≡◌, ◌<◌, IfOk, length, option_map, string_bytes};
 ghost use Rattle.sw_command.specs.Inputs.{given};
 ghost use Rattle.sw_file.specs.Network.{network_text};
-ghost use Rattle.sw_limit.specs.Limit.{AreDeclared};
+ghost use Rattle.sw_load.specs.Laws.{AreDeclared};
 ghost use Rattle.sw_load.specs.Load.{load_text};
 ghost use Rattle.sw_run.specs.Outcomes.{IsOutcome, steps_of};
-ghost use Rattle.sw_schedule_text.specs.Runs.{readable_text};
+ghost use Rattle.sw_schedule.specs.Runs.{readable_text};
 ghost use Rattle.sw_app_run.specs.Records.{IfGiven, IsFileRecord, IsLoadRecord, IsOutcomeRecord, IsRecord, IsRecordOf, IsWithSchedule};
 
 use crate::run_answer::Options;
@@ -17,11 +17,10 @@ use std::thread::Threads;
 use sw_command::{Answer, InputText};
 use sw_config::Network;
 use sw_file::read_network;
-use sw_limit::laws::listed_are_declared;
+use sw_load::laws::listed_are_declared;
 use sw_load::{Load, read_load};
 use sw_run::{Gate, Outcome, run};
-use sw_schedule::MAX_STEPS;
-use sw_schedule_text::write_steps;
+use sw_schedule::{MAX_STEPS, write_steps};
 use sw_toml_table::FileFault;
 
 /// What is wanted of a run besides its answer.
@@ -35,7 +34,7 @@ pub struct Wants {
 
 /// What is to be told of a run, and of its steps.
 #[derive(Drop)]
-pub(crate) enum Recorded {
+pub enum Recorded {
     /// A text has a fault, and no run was made.
     Fault(Answer),
     /// The answer, the schedule of the run's steps, if it is wanted, and the summary, if that is.
@@ -63,8 +62,12 @@ fn schedule_of(
     write_steps(alloc, network, &steps)
 }
 
-// The answer and the summary, with the schedule, if it is wanted.
-fn with_schedule(
+/// The answer and the summary, with the schedule of the outcome's steps, if it is wanted.
+///
+/// # Errors
+///
+/// There is no memory for the schedule.
+pub fn with_schedule(
     alloc: Global,
     network: &Network,
     outcome: &Outcome<'_>,

@@ -62,8 +62,8 @@ fn tell_run<W: Write, S: Write>(
     }
 }
 
-// Writes what is to be told, and hands the summary on.
-fn tell_recorded<W: Write, S: Write>(
+/// Writes what is to be told, the schedule before the answer, and hands the summary on.
+pub fn tell_recorded<W: Write, S: Write>(
     writer: &mut W,
     schedule: &mut S,
     recorded: Recorded,

@@ -1,7 +1,7 @@
 //! What `run` answers.
 ghost use Rattle.std.specs.Prelude.{◌≡◌, ◌<◌, IfOk, string_bytes};
 ghost use Rattle.sw_file.specs.Network.{network_text};
-ghost use Rattle.sw_limit.specs.Limit.{AreDeclared};
+ghost use Rattle.sw_load.specs.Laws.{AreDeclared};
 ghost use Rattle.sw_load.specs.Load.{load_text};
 ghost use Rattle.sw_command.specs.Ends.{IfLimited, Says};
 ghost use Rattle.sw_command.specs.Inputs.{given};
@@ -14,7 +14,7 @@ use std::thread::Threads;
 use sw_command::{Answer, InputText};
 use sw_config::Network;
 use sw_file::read_network;
-use sw_limit::laws::listed_are_declared;
+use sw_load::laws::listed_are_declared;
 use sw_load::{Load, read_load};
 use sw_run::{Gate, run};
 use sw_toml_table::FileFault;

@@ -8,7 +8,8 @@ use sw_config::Network;
 use sw_output::sent_text;
 use sw_run::{Outcome, Stop};
 
-fn stop_word(stop: Stop) -> &'static str
+/// Why a run stopped, in a word.
+pub fn stop_word(stop: Stop) -> &'static str
     ensures { result.now ≡ stop_word stop }
 {
     match stop {
@@ -20,7 +21,7 @@ fn stop_word(stop: Stop) -> &'static str
 }
 
 /// The status of a run that stopped so.
-pub(crate) fn stop_status(stop: Stop) -> u8
+pub fn stop_status(stop: Stop) -> u8
     ensures { result ≡ stop_status stop }
 {
     match stop {

@@ -8,12 +8,11 @@ use std::alloc::{AllocError, Global};
 use std::thread::Threads;
 use sw_char::Packet;
 use sw_config::Network;
-use sw_fill::{fill_lines, greatest_fills};
 use sw_load::Load;
 use sw_model::Step;
 use sw_run::{Outcome, Stop};
 use sw_search::is_free;
-use sw_summary::summary_of;
+use sw_summary::{fill_lines, greatest_fills, summary_of};
 
 // Did the run drain, although the network is not free?
 fn shows_nothing<T: Threads + Sync>(
@@ -94,7 +93,7 @@ fn summary<T: Threads + Sync>(
 /// # Errors
 ///
 /// There is no memory for it.
-pub(crate) fn wanted_summary<T: Threads + Sync>(
+pub fn wanted_summary<T: Threads + Sync>(
     rt: &T,
     alloc: Global,
     network: &Network,

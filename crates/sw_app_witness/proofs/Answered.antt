@@ -4,8 +4,8 @@ use Rattle.std.specs.Prelude.{Result, Ok, Err}
 use Rattle.std.specs.declared.alloc.AllocError.{AllocError}
 use Rattle.sw_command.specs.declared.answer.Answer.{Answer}
 use Rattle.sw_config.specs.Entries.{Declaration}
-use Rattle.sw_explain.specs.Explanations.{IsExplanation}
-use Rattle.sw_explain.specs.declared.explanation.Explanation.{Explanation}
+use Rattle.sw_search.specs.Explanations.{IsExplanation}
+use Rattle.sw_search.specs.declared.explanation.Explanation.{Explanation}
 use Rattle.sw_app_witness.specs.WitnessAnswers.{IsNetworkAnswer, IsOfKind}
 
 pub answered : (tries : ℕ) (d : Declaration) (e : Explanation) (r : Result Answer AllocError) → IsExplanation d e

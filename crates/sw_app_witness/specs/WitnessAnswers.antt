@@ -5,14 +5,14 @@ use Rattle.sw_app_explain.specs.ExplainTexts.{names_text}
 use Rattle.sw_command.specs.Ends.{Answers, Says}
 use Rattle.sw_command.specs.FaultTexts.{fault_text}
 use Rattle.sw_config.specs.Entries.{Declaration}
-use Rattle.sw_explain.specs.Explanations.{IsExplanation}
-use Rattle.sw_explain.specs.declared.explanation.Explanation.{Explanation}
-use Rattle.sw_explain.specs.declared.explanation.Explanation.TheVariants.{Misrouted, Cyclic, Free}
+use Rattle.sw_search.specs.Explanations.{IsExplanation}
+use Rattle.sw_search.specs.declared.explanation.Explanation.{Explanation}
+use Rattle.sw_search.specs.declared.explanation.Explanation.TheVariants.{Misrouted, Cyclic, Free}
 use Rattle.sw_file.specs.Network.{network_text}
 use Rattle.sw_output.specs.Lines.{line}
 use Rattle.sw_output.specs.VerdictTexts.{misrouted_words}
 use Rattle.sw_toml_table.specs.declared.fault.TextFault.{TextFault}
-use Rattle.sw_unanswered.specs.Unanswered.{IsFreeWithout, never_answered}
+use Rattle.sw_witness.specs.Unanswered.{IsFreeWithout, never_answered}
 use Rattle.sw_witness.specs.Witnesses.{LocksUp}
 
 -- that none was found, which says nothing of the network

@@ -1,10 +1,10 @@
 //! What `witness` answers.
 ghost use Rattle.std.specs.Prelude.{◌∷◌, [], IfOk, string_bytes};
 ghost use Rattle.sw_command.specs.Ends.{Says};
-ghost use Rattle.sw_explain.specs.Explanations.{IsExplanation};
+ghost use Rattle.sw_search.specs.Explanations.{IsExplanation};
 ghost use Rattle.sw_output.specs.Lines.{line};
 ghost use Rattle.sw_output.specs.VerdictTexts.{misrouted_words};
-ghost use Rattle.sw_unanswered.specs.Unanswered.{never_answered};
+ghost use Rattle.sw_witness.specs.Unanswered.{never_answered};
 ghost use Rattle.sw_app_witness.specs.WitnessAnswers.{IsNetworkAnswer, IsOfKind, IsOfTangled, IsSearched, IsWitnessAnswer, free_line, unanswered_line};
 
 use crate::witness_texts::{free_line, none_found, unanswered_line, with_note};
@@ -13,13 +13,12 @@ use std::thread::Threads;
 use sw_command::Answer;
 use sw_command::statuses::{BAD, GOOD};
 use sw_config::Network;
-use sw_explain::{Explanation, Tangle, explain};
 use sw_file::read_network;
 use sw_flow::{Place, RouteFault};
 use sw_output::misrouted_text;
+use sw_search::{Explanation, Tangle, explain};
 use sw_toml_table::FileFault;
-use sw_unanswered::{is_free_without, never_answered};
-use sw_witness::find;
+use sw_witness::{find, is_free_without, never_answered};
 
 // The answer of a search, which tells also that the replies of these flows can't happen.
 fn searched(

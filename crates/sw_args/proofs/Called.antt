@@ -9,12 +9,11 @@ use Rattle.clap.specs.Faults.{built_fault, check_fault, defaults_fault, entered_
 use Rattle.clap.specs.Kinds.{check_kinds}
 use Rattle.clap.specs.Simple.{App, Shape, argument_words, built, entered, label_of, names_of, rows_at, subcommand_of}
 use Rattle.clap.specs.Walk.{Row, Text, answers_to, finished, first_of, nothing_held, rows_after, settled, stop_after, walk, walk_from}
-use Rattle.sw_args.specs.CommandLine.{IsCallOf, IsMatched, swcheck_app}
-use Rattle.sw_args.specs.declared.call.Asked.{Asked}
+use Rattle.sw_args.specs.CommandLine.{IsCallOf, IsMet, IsSet, swcheck_app}
 use Rattle.sw_args.specs.declared.call.Call.{Call}
-use Rattle.sw_args.specs.declared.call.Call.TheVariants.{Route, Decide, Check, Report, Replay, Run, Migrate, Explain, Draw, Rmap, Mend, Margin, Witness}
+use Rattle.sw_args.specs.declared.call.Call.TheVariants.{Route, Decide, Check, Report, Replay, Run, Migrate, Explain, Draw, Rmap, Mend, Margin, Witness, Audit, Init}
 use Rattle.sw_args.proofs.Kept.{Each, first_none, found_in, then_none}
-use Rattle.sw_args.proofs.Given.{draw_given, draw_rules, file_given, file_rules, flag_given, flag_rules, leaf, pair_given, pair_rules, rmap_given, rmap_rules, run_given, run_rules, witness_given, witness_rules}
+use Rattle.sw_args.proofs.Given.{answer_given, answer_rules, audit_rules, draw_given, draw_rules, file_given, file_rules, flag_given, flag_rules, init_rules, leaf, pair_given, pair_rules, rmap_given, rmap_rules, run_given, run_rules, witness_given, witness_rules}
 use Rattle.sw_args.proofs.Flags.{some_flag}
 use Rattle.sw_args.proofs.Named.{NotAtHelp, not_at_help}
 
@@ -66,30 +65,45 @@ found_call a words required enabled gives e =
 abbrev lent : Text → Bor Text
 lent v = record { ref_ptr = (0, 0); now = v }
 
+-- whether the answer is to be an object of JSON
+some_json : (rows : List Row) → (given : Bool) × IsSet (codes "json") rows given
+some_json rows = some_flag (codes "json") rows
+
 route_call : GivesCall (leaf (codes "route") (pair_rules (codes "FLOW")))
 route_call name is other words e =
     let given = pair_given (codes "route") (codes "FLOW") words (refl, refl, refl, refl) e in
-    (Route (lent given.0.0) (lent given.1.0), (refl, given.0.1, given.1.1))
+    let json = some_json (rows_after (pair_rules (codes "FLOW")) [] words) in
+    (Route (lent given.0.0) (lent given.1.0) json.0, (refl, given.0.1, given.1.1, json.1))
 
 check_call : GivesCall (leaf (codes "check") (pair_rules (codes "CERT")))
 check_call name is other words e =
     let given = pair_given (codes "check") (codes "CERT") words (refl, refl, refl, refl) e in
-    (Check (lent given.0.0) (lent given.1.0), (refl, given.0.1, given.1.1))
+    let json = some_json (rows_after (pair_rules (codes "CERT")) [] words) in
+    (Check (lent given.0.0) (lent given.1.0) json.0, (refl, given.0.1, given.1.1, json.1))
 
 replay_call : GivesCall (leaf (codes "replay") (pair_rules (codes "SCHEDULE")))
 replay_call name is other words e =
     let given = pair_given (codes "replay") (codes "SCHEDULE") words (refl, refl, refl, refl) e in
-    (Replay (lent given.0.0) (lent given.1.0), (refl, given.0.1, given.1.1))
+    let json = some_json (rows_after (pair_rules (codes "SCHEDULE")) [] words) in
+    (Replay (lent given.0.0) (lent given.1.0) json.0, (refl, given.0.1, given.1.1, json.1))
 
-decide_call : GivesCall (leaf (codes "decide") file_rules)
+decide_call : GivesCall (leaf (codes "decide") answer_rules)
 decide_call name is other words e =
-    let given = file_given (codes "decide") words e in
-    (Decide (lent given.0), (refl, given.1))
+    let given = answer_given (codes "decide") words e in
+    let json = some_json (rows_after answer_rules [] words) in
+    (Decide (lent given.0) json.0, (refl, given.1, json.1))
 
 report_call : GivesCall (leaf (codes "report") file_rules)
 report_call name is other words e =
     let given = file_given (codes "report") words e in
-    (Report (lent given.0), (refl, given.1))
+    let json = some_json (rows_after file_rules [] words) in
+    (Report (lent given.0) json.0, (refl, given.1, json.1))
+
+margin_call : GivesCall (leaf (codes "margin") file_rules)
+margin_call name is other words e =
+    let given = file_given (codes "margin") words e in
+    let json = some_json (rows_after file_rules [] words) in
+    (Margin (lent given.0) json.0, (refl, given.1, json.1))
 
 migrate_call : GivesCall (leaf (codes "migrate") file_rules)
 migrate_call name is other words e =
@@ -98,9 +112,19 @@ migrate_call name is other words e =
 
 explain_call : GivesCall (leaf (codes "explain") (flag_rules (codes "all")))
 explain_call name is other words e =
+    let rows = rows_after (flag_rules (codes "all")) [] words in
     let given = flag_given (codes "explain") (codes "all") words (refl, refl, refl, refl) e in
-    let all = some_flag (codes "all") (rows_after (flag_rules (codes "all")) [] words) in
-    (Explain (lent given.0) all.0, (refl, given.1, all.1))
+    let all = some_flag (codes "all") rows in
+    let json = some_json rows in
+    (Explain (lent given.0) all.0 json.0, (refl, given.1, all.1, json.1))
+
+mend_call : GivesCall (leaf (codes "mend") (flag_rules (codes "pairs")))
+mend_call name is other words e =
+    let rows = rows_after (flag_rules (codes "pairs")) [] words in
+    let given = flag_given (codes "mend") (codes "pairs") words (refl, refl, refl, refl) e in
+    let pairs = some_flag (codes "pairs") rows in
+    let json = some_json rows in
+    (Mend (lent given.0) pairs.0 json.0, (refl, given.1, pairs.1, json.1))
 
 -- a value that may be left out, as it is lent
 some_option : (o : Option Text) → (given : Option (Bor Text)) × (option_map (λ text. text.now) given ≡ o)
@@ -126,17 +150,6 @@ rmap_call name is other words e =
       (refl, given.0.1, given.1.1, given.2.1, given.3.1, given.4.1, unacknowledged.1, transaction.1),
     )
 
-mend_call : GivesCall (leaf (codes "mend") (flag_rules (codes "pairs")))
-mend_call name is other words e =
-    let given = flag_given (codes "mend") (codes "pairs") words (refl, refl, refl, refl) e in
-    let pairs = some_flag (codes "pairs") (rows_after (flag_rules (codes "pairs")) [] words) in
-    (Mend (lent given.0) pairs.0, (refl, given.1, pairs.1))
-
-margin_call : GivesCall (leaf (codes "margin") file_rules)
-margin_call name is other words e =
-    let given = file_given (codes "margin") words e in
-    (Margin (lent given.0), (refl, given.1))
-
 witness_call : GivesCall (leaf (codes "witness") witness_rules)
 witness_call name is other words e =
     let given = witness_given (codes "witness") words e in
@@ -144,10 +157,27 @@ witness_call name is other words e =
 
 run_call : GivesCall (leaf (codes "run") run_rules)
 run_call name is other words e =
+    let rows = rows_after run_rules [] words in
     let given = run_given (codes "run") words e in
-    let schedule = some_option (first_of (codes "schedule") (rows_after run_rules [] words)) in
-    let summary = some_flag (codes "summary") (rows_after run_rules [] words) in
-    (Run (lent given.0.0) (lent given.1.0) given.2.0 given.3.0 schedule.0 summary.0, (refl, given.0.1, given.1.1, given.2.1, given.3.1, schedule.1, summary.1))
+    let schedule = some_option (first_of (codes "schedule") rows) in
+    let summary = some_flag (codes "summary") rows in
+    let json = some_json rows in (
+      Run (lent given.0.0) (lent given.1.0) given.2.0 given.3.0 schedule.0 summary.0 json.0,
+      (refl, given.0.1, given.1.1, given.2.1, given.3.1, schedule.1, summary.1, json.1),
+    )
+
+audit_call : GivesCall (leaf (codes "audit") audit_rules)
+audit_call name is other words e =
+    let rows = rows_after audit_rules [] words in
+    let json = some_json rows in
+    let quiet = some_flag (codes "quiet") rows in
+    let certificates = some_option (first_of (codes "certificates") rows) in
+    (Audit json.0 quiet.0 certificates.0, (refl, json.1, quiet.1, certificates.1))
+
+init_call : GivesCall (leaf (codes "init") init_rules)
+init_call name is other words e =
+    let sample = some_option (first_of (codes "NAME") (rows_after init_rules [] words)) in
+    (Init sample.0, (refl, sample.1))
 
 -- the subcommand `help` answers to no other name
 no_help : (s : Shape) → s.name ≡ codes "help" → s.aliases ≡ [] → GivesCall s
@@ -164,17 +194,40 @@ no_help s named none name is other words e = go s.aliases none is
     go [] empty f = either (bytes_eq s.name name) refl f
     go (x ∷ xs) empty f = absurd cc
 
-pub called : (words : List Text) → fault_of swcheck_app words ≡ [] → (asked : Asked) × IsMatched (subcommand_of swcheck_app words) asked
+pub called : (words : List Text) → fault_of swcheck_app words ≡ []
+    → (call : Call) × (values : List Row) × IsMet (subcommand_of swcheck_app words) call values
 called words e =
-    let found = found_call (built swcheck_app) (argument_words swcheck_app words) refl refl
-    (route_call, (decide_call, (check_call, (report_call, (replay_call, (run_call, (migrate_call, (explain_call, (draw_call, (rmap_call, (mend_call, (margin_call, (witness_call, (no_help _ refl refl, tt)))))))))))))) e in
-    let hints = some_option (first_of (codes "hints") found.1) in
-    (record { call = found.3.0; hints = hints.0 }, (found.0, found.1, found.2, found.3.1, hints.1))
+    let found = found_call (built swcheck_app) (argument_words swcheck_app words) refl refl (
+      route_call,
+      (
+        decide_call,
+        (
+          check_call,
+          (
+            report_call,
+            (
+              replay_call,
+              (
+                run_call,
+                (
+                  migrate_call,
+                  (
+                    explain_call,
+                    (draw_call, (rmap_call, (mend_call, (margin_call, (witness_call, (audit_call, (init_call, (no_help _ refl refl, tt)))))))),
+                  ),
+                ),
+              ),
+            ),
+          ),
+        ),
+      ),
+    ) e in
+    (found.3.0, found.1, (found.0, found.2, found.3.1))
 
 -- what was matched is a call where the words are one
-pub matched : (found : Option (Text × List Row)) (words : List Text) (o : Option Asked) → found ≡ subcommand_of swcheck_app words → fault_of swcheck_app words ≡ []
-    → IfNone o ((asked : Asked) → IsMatched found asked → ⊥) → IsSome o
-matched found words (Some asked) same e none = refl
+pub matched : {M : Type 0} (found : Option (Text × List Row)) (words : List Text) (o : Option M) → found ≡ subcommand_of swcheck_app words
+    → fault_of swcheck_app words ≡ [] → IfNone o ((call : Call) (values : List Row) → IsMet found call values → ⊥) → IsSome o
+matched found words (Some met) same e none = refl
 matched found words None same e none =
-    let asked = called words e in
-    absurd (none asked.0 (rw same asked.1))
+    let is = called words e in
+    absurd (none is.0 is.1 (rw same is.2))

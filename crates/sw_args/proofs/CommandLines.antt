@@ -1,11 +1,10 @@
 -- What clap's matches say of the words.
-use Rattle.std.proofs.Common.{◌≡◌, ◌||◌, Bor, List, ℕ, [], Option, refl, sym, ap, ◌∙◌, subst, true, false, inl, inr}
+use Rattle.std.proofs.Common.{◌≡◌, ◌||◌, Bor, List, ℕ, [], Option, codes, refl, sym, ap, ◌∙◌, subst, true, false, inl, inr}
 use Rattle.std.specs.Prelude.{IfErr, IfOk, IfSome, Result, Ok, Err, Some, None}
 use Rattle.std.specs.Option.{unwrap_or}
 use Rattle.clap.specs.Built.{AddsArg, AddsSubcommand}
-use Rattle.std.specs.declared.alloc.AllocError.{AllocError}
 use Rattle.clap.specs.Simple.{app_of_fields, with_rule, with_subcommand}
-use Rattle.clap.specs.Words.{App, Rule, app_of, rule_of, HasKind, HasMatchesOf, fault_of, is_simple, is_simple_and_free, kind_of, subcommand_of, subcommand_rows_of}
+use Rattle.clap.specs.Words.{App, Row, Rule, app_of, rule_of, HasKind, HasMatchesOf, fault_of, is_simple, is_simple_and_free, kind_of, subcommand_of, subcommand_rows_of}
 use Rattle.clap.specs.declared.builder.Arg.{Arg}
 use Rattle.clap.specs.declared.builder.Command.{Command}
 use Rattle.clap.specs.declared.builder.Command.TheViews.{out-Command}
@@ -13,9 +12,10 @@ use Rattle.clap.specs.declared.builder.command.Command.TheOpen.{Command-F}
 use Rattle.clap.specs.declared.parser.matches.ArgMatches.{ArgMatches}
 use Rattle.clap.specs.declared.error.Error.{Error}
 use Rattle.sw_args.specs.declared.call.Asked.{Asked}
+use Rattle.sw_args.specs.declared.call.Call.{Call}
 use Rattle.sw_args.specs.declared.call.WordsFault.{WordsFault}
 use Rattle.sw_args.specs.declared.call.WordsFault.TheVariants.{Help, Refused, Memory}
-use Rattle.sw_args.specs.CommandLine.{swcheck_app, Gives, IsMade, IsMatched, Refuses, ShowsKind, Tells}
+use Rattle.sw_args.specs.CommandLine.{swcheck_app, AreAll, Gives, IsCallOf, IsMade, IsMet, IsOption, Refuses, ShowsKind, Tells}
 
 swcheck_simple : is_simple swcheck_app ≡ true
 swcheck_simple = refl
@@ -33,13 +33,16 @@ matched_rows app words m is found free =
     )
 
 -- a call of the matches is one of the words
-pub gives : (app : App) (words : List (List ℕ)) (m : ArgMatches) (asked : Asked) → app ≡ swcheck_app
+pub gives : (app : App) (words : List (List ℕ)) (m : ArgMatches) (asked : Asked) (call : Call) (values : List Row) → app ≡ swcheck_app
     → HasMatchesOf app words m → (is_simple_and_free app ≡ true → fault_of app words ≡ [])
-    → IsMatched (subcommand_rows_of m) asked → Gives words asked
-gives app words m asked is found free (name, values, met, is_call, is_hints) =
+    → IsMet (subcommand_rows_of m) call values → asked.call ≡ call → AreAll (codes "FILE") values asked.files.items → IsOption (codes "hints") values asked.hints
+    → Gives words asked
+gives app words m asked call values is found free (name, met, is_call) of_call is_files is_hints =
     let simple : is_simple app ≡ true = ap is_simple is ∙ swcheck_simple in
-    let same = ap (λ (a : App). subcommand_of a words) (sym is) ∙ sym (found simple).1 in
-    (ap (λ (a : App). fault_of a words) (sym is) ∙ free (ap is_simple_and_free is ∙ swcheck_free), (name, values, same ∙ met, is_call, is_hints))
+    let same = ap (λ (a : App). subcommand_of a words) (sym is) ∙ sym (found simple).1 in (
+      ap (λ (a : App). fault_of a words) (sym is) ∙ free (ap is_simple_and_free is ∙ swcheck_free),
+      (name, values, same ∙ met, subst (IsCallOf name values) (sym of_call) is_call, is_files, is_hints),
+    )
 
 among : (app : App) (words : List (List ℕ)) (e : Error) → app ≡ swcheck_app
     → (is_simple_and_free app ≡ true → HasKind (fault_of app words) e) → HasKind (fault_of swcheck_app words) e
@@ -57,10 +60,10 @@ faults words (Err (Help text)) tells = tells
 faults words (Err (Refused text)) tells = tells
 faults words (Err Memory) tells = tt
 
--- what the words of an option ask for, where it has some
-pub is_asked : (P : Asked → Type 0) (o : Option Asked) (asked : Asked) → IfSome o P → o ≡ Some asked → P asked
-is_asked P None asked each is = absurd cc
-is_asked P (Some x) asked each is = subst P (ap (λ (o : Option Asked). unwrap_or o x) is) each
+-- what holds of an option's value, if there is one, holds of this one
+pub of_some : {X : Type 0} (P : X → Type 0) (o : Option X) (x : X) → IfSome o P → o ≡ Some x → P x
+of_some P None x each is = absurd cc
+of_some P (Some y) x each is = subst P (ap (λ o. unwrap_or o y) is) each
 
 -- the fault that tells of an error of clap's tells of one that the words have
 pub refuses : (app : App) (words : List (List ℕ)) (e : Error) (f : WordsFault) → app ≡ swcheck_app

@@ -24,7 +24,7 @@ use Rattle.clap.specs.declared.builder.value_parser.ValueParser.TheVariants.{Sig
 use Rattle.clap.specs.declared.error.kind.ErrorKind.TheVariants as kind
 use Rattle.clap.specs.declared.parser.matches.ValueSource.{ValueSource}
 use Rattle.clap.specs.declared.parser.matches.ValueSource.TheVariants.{CommandLine, DefaultValue}
-use Rattle.sw_args.specs.CommandLine.{IsCount, count_rule, flag_rule, most_seed, most_steps, most_tries, most_workers, option_rule, required_value}
+use Rattle.sw_args.specs.CommandLine.{IsCount, count_rule, flag_rule, most_seed, most_steps, most_tries, most_workers, option_rule, optional_value, required_value, required_values}
 use Rattle.sw_args.proofs.Kept.{Each, Keeps, KeepsDefault, defaults_keep, end_keeps, first_none, found_in, then_none, walk_keeps}
 
 -- the value is a number from 1 up to the most
@@ -362,29 +362,51 @@ level_gives name rules words keeps defaults e =
 
 -- ---- each form of a subcommand
 
+abbrev pub json_at : ℕ → Rule
+json_at i = flag_at i (codes "json")
+
+abbrev pub file_at : Rule
+file_at = required_at 1 (codes "FILE")
+
+-- the last arguments, without `--json` and with it
+abbrev pub last_rules : ℕ → List Rule
+last_rules i = hints_at i ∷ help_at i ∷ []
+
+abbrev pub json_rules : ℕ → List Rule
+json_rules i = json_at i ∷ last_rules i
+
 abbrev pub file_rules : List Rule
-file_rules = required_at 1 (codes "FILE") ∷ hints_at 2 ∷ help_at 2 ∷ []
+file_rules = file_at ∷ last_rules 2
+
+abbrev pub answer_rules : List Rule
+answer_rules = file_at ∷ json_rules 2
 
 abbrev pub flag_rules : Text → List Rule
-flag_rules name = required_at 1 (codes "FILE") ∷ flag_at 2 name ∷ hints_at 2 ∷ help_at 2 ∷ []
+flag_rules name = file_at ∷ flag_at 2 name ∷ last_rules 2
 
 abbrev pub draw_rules : List Rule
-draw_rules = required_at 1 (codes "FILE") ∷ option_at 2 (codes "flow") ∷ flag_at 2 (codes "cycle") ∷ flag_at 2 (codes "numbers") ∷ hints_at 2 ∷ help_at 2 ∷ []
+draw_rules = file_at ∷ option_at 2 (codes "flow") ∷ flag_at 2 (codes "cycle") ∷ flag_at 2 (codes "numbers") ∷ last_rules 2
 
 abbrev pub pair_rules : Text → List Rule
-pair_rules second = required_at 1 (codes "FILE") ∷ required_at 2 second ∷ hints_at 3 ∷ help_at 3 ∷ []
+pair_rules second = file_at ∷ required_at 2 second ∷ last_rules 3
 
 abbrev pub rmap_rules : List Rule
-rmap_rules = required_at 1 (codes "FILE") ∷ required_at 2 (codes "FLOW") ∷ required_at 3 (codes "ACTION") ∷ required_at 4 (codes "ADDRESS")
-    ∷ required_at 5 (codes "VALUE") ∷ flag_at 6 (codes "no-ack") ∷ option_at 6 (codes "transaction") ∷ hints_at 6 ∷ help_at 6 ∷ []
+rmap_rules = file_at ∷ required_at 2 (codes "FLOW") ∷ required_at 3 (codes "ACTION") ∷ required_at 4 (codes "ADDRESS")
+    ∷ required_at 5 (codes "VALUE") ∷ flag_at 6 (codes "no-ack") ∷ option_at 6 (codes "transaction") ∷ last_rules 6
 
 abbrev pub run_rules : List Rule
-run_rules = required_at 1 (codes "FILE") ∷ required_at 2 (codes "LOAD") ∷ count_at 3 (codes "workers") (codes "4") most_workers
-    ∷ count_at 3 (codes "limit") (codes "1000000") most_steps ∷ option_at 3 (codes "schedule") ∷ flag_at 3 (codes "summary") ∷ hints_at 3 ∷ help_at 3 ∷ []
+run_rules = file_at ∷ required_at 2 (codes "LOAD") ∷ count_at 3 (codes "workers") (codes "4") most_workers
+    ∷ count_at 3 (codes "limit") (codes "1000000") most_steps ∷ option_at 3 (codes "schedule") ∷ flag_at 3 (codes "summary") ∷ last_rules 3
 
 abbrev pub witness_rules : List Rule
-witness_rules = required_at 1 (codes "FILE") ∷ count_at 2 (codes "tries") (codes "200") most_tries
-    ∷ count_at 2 (codes "seed") (codes "1") most_seed ∷ hints_at 2 ∷ help_at 2 ∷ []
+witness_rules = file_at ∷ count_at 2 (codes "tries") (codes "200") most_tries ∷ count_at 2 (codes "seed") (codes "1") most_seed ∷ last_rules 2
+
+-- (of these two no value has to be there)
+abbrev pub audit_rules : List Rule
+audit_rules = with_index 1 (filled (required_values (codes "FILE"))) ∷ json_at 2 ∷ flag_at 2 (codes "quiet") ∷ option_at 2 (codes "certificates") ∷ last_rules 2
+
+abbrev pub init_rules : List Rule
+init_rules = with_index 1 (filled (optional_value (codes "NAME"))) ∷ last_rules 2
 
 -- a use of the argument, and its default, keep what the rows hold
 abbrev Sound : Rule → Type 0
@@ -410,8 +432,14 @@ hints_sound i = option_sound i (codes "hints") (refl, refl, refl, refl)
 help_sound : (i : ℕ) → Sound (help_at i)
 help_sound i = (help_keeps false i, help_default i)
 
-file_sound : Sound (required_at 1 (codes "FILE"))
+file_sound : Sound file_at
 file_sound = required_sound 1 (codes "FILE") (refl, refl, refl, refl)
+
+last_sound : (i : ℕ) → Each Sound (last_rules i)
+last_sound i = (hints_sound i, (help_sound i, tt))
+
+json_sound : (i : ℕ) → Each Sound (json_rules i)
+json_sound i = (flag_sound i (codes "json") (refl, refl, refl, refl), last_sound i)
 
 all_keep : (rules : List Rule) → Each Sound rules → Each (Keeps Holds false) rules
 all_keep [] each = tt
@@ -428,32 +456,33 @@ sound_gives name rules words each e = level_gives name rules words (all_keep rul
 abbrev HasFirst : Text → List Row → Type 0
 HasFirst id rows = (v : Text) × (first_of id rows ≡ Some v)
 
-pub file_given : (name : Text) (words : List Text) → Level name file_rules words → HasFirst (codes "FILE") (rows_after file_rules [] words)
-file_given name words e =
-    let level = sound_gives name file_rules words (file_sound, (hints_sound 2, (help_sound 2, tt))) e in
+-- the file is there, whatever sound rules come after it
+with_file : (name : Text) (rest : List Rule) (words : List Text) → Each Sound rest → Level name (file_at ∷ rest) words
+    → HasFirst (codes "FILE") (rows_after (file_at ∷ rest) [] words)
+with_file name rest words sound e =
+    let level = sound_gives name (file_at ∷ rest) words (file_sound, sound) e in
     given_value (codes "FILE") _ level.0 level.1.0
+
+pub file_given : (name : Text) (words : List Text) → Level name file_rules words → HasFirst (codes "FILE") (rows_after file_rules [] words)
+file_given name words e = with_file name (last_rules 2) words (last_sound 2) e
+
+pub answer_given : (name : Text) (words : List Text) → Level name answer_rules words → HasFirst (codes "FILE") (rows_after answer_rules [] words)
+answer_given name words e = with_file name (json_rules 2) words (json_sound 2) e
 
 pub flag_given : (name flag : Text) (words : List Text) → IsPlain flag → Level name (flag_rules flag) words
     → HasFirst (codes "FILE") (rows_after (flag_rules flag) [] words)
-flag_given name flag words plain e =
-    let level = sound_gives name (flag_rules flag) words (file_sound, (flag_sound 2 flag plain, (hints_sound 2, (help_sound 2, tt)))) e in
-    given_value (codes "FILE") _ level.0 level.1.0
+flag_given name flag words plain e = with_file name (flag_at 2 flag ∷ last_rules 2) words (flag_sound 2 flag plain, last_sound 2) e
 
 pub draw_given : (name : Text) (words : List Text) → Level name draw_rules words → HasFirst (codes "FILE") (rows_after draw_rules [] words)
-draw_given name words e =
-    let level = sound_gives name draw_rules words (
-      file_sound,
-      (
-        option_sound 2 (codes "flow") (refl, refl, refl, refl),
-        (flag_sound 2 (codes "cycle") (refl, refl, refl, refl), (flag_sound 2 (codes "numbers") (refl, refl, refl, refl), (hints_sound 2, (help_sound 2, tt)))),
-      ),
-    ) e in
-    given_value (codes "FILE") _ level.0 level.1.0
+draw_given name words e = with_file name _ words (
+  option_sound 2 (codes "flow") (refl, refl, refl, refl),
+  (flag_sound 2 (codes "cycle") (refl, refl, refl, refl), (flag_sound 2 (codes "numbers") (refl, refl, refl, refl), last_sound 2)),
+) e
 
 pub pair_given : (name second : Text) (words : List Text) → IsPlain second → Level name (pair_rules second) words
     → HasFirst (codes "FILE") (rows_after (pair_rules second) [] words) × HasFirst second (rows_after (pair_rules second) [] words)
 pair_given name second words plain e =
-    let level = sound_gives name (pair_rules second) words (file_sound, (required_sound 2 second plain, (hints_sound 3, (help_sound 3, tt)))) e in
+    let level = sound_gives name (pair_rules second) words (file_sound, (required_sound 2 second plain, last_sound 3)) e in
     (given_value (codes "FILE") _ level.0 level.1.0, given_value second _ level.0 level.1.1.0)
 
 pub rmap_given : (name : Text) (words : List Text) → Level name rmap_rules words
@@ -473,7 +502,7 @@ rmap_given name words e =
               required_sound 5 (codes "VALUE") (refl, refl, refl, refl),
               (
                 flag_sound 6 (codes "no-ack") (refl, refl, refl, refl),
-                (option_sound 6 (codes "transaction") (refl, refl, refl, refl), (hints_sound 6, (help_sound 6, tt))),
+                (option_sound 6 (codes "transaction") (refl, refl, refl, refl), last_sound 6),
               ),
             ),
           ),
@@ -492,7 +521,7 @@ pub run_given : (name : Text) (words : List Text) → Level name run_rules words
     × ((n : ℕ) × IsCount most_workers (codes "workers") (rows_after run_rules [] words) n)
     × ((n : ℕ) × IsCount most_steps (codes "limit") (rows_after run_rules [] words) n)
 run_given name words e =
-    let one = required_at 1 (codes "FILE") in
+    let one = file_at in
     let two = required_at 2 (codes "LOAD") in
     let three = count_at 3 (codes "workers") (codes "4") most_workers in
     let four = count_at 3 (codes "limit") (codes "1000000") most_steps in
@@ -509,7 +538,7 @@ run_given name words e =
             count_sound 3 (codes "limit") (codes "1000000") most_steps limit_counts,
             (
               option_sound 3 (codes "schedule") (refl, refl, refl, refl),
-              (flag_sound 3 (codes "summary") (refl, refl, refl, refl), (hints_sound 3, (help_sound 3, tt))),
+              (flag_sound 3 (codes "summary") (refl, refl, refl, refl), last_sound 3),
             ),
           ),
         ),
@@ -518,9 +547,9 @@ run_given name words e =
       given_value (codes "FILE") _ level.0 level.1.0,
       given_value (codes "LOAD") _ level.0 level.1.1.0,
       given_count (codes "workers") most_workers _ level.0
-          (count_there (one ∷ two ∷ []) (four ∷ five ∷ six ∷ hints_at 3 ∷ help_at 3 ∷ []) 3 (codes "workers") (codes "4") most_workers start) (λ id how v is counts. counts.0 is),
+          (count_there (one ∷ two ∷ []) (four ∷ five ∷ six ∷ last_rules 3) 3 (codes "workers") (codes "4") most_workers start) (λ id how v is counts. counts.0 is),
       given_count (codes "limit") most_steps _ level.0
-          (count_there (one ∷ two ∷ three ∷ []) (five ∷ six ∷ hints_at 3 ∷ help_at 3 ∷ []) 3 (codes "limit") (codes "1000000") most_steps start) (λ id how v is counts. counts.1 is),
+          (count_there (one ∷ two ∷ three ∷ []) (five ∷ six ∷ last_rules 3) 3 (codes "limit") (codes "1000000") most_steps start) (λ id how v is counts. counts.1 is),
     )
 
 pub witness_given : (name : Text) (words : List Text) → Level name witness_rules words
@@ -528,7 +557,7 @@ pub witness_given : (name : Text) (words : List Text) → Level name witness_rul
     × ((n : ℕ) × IsCount most_tries (codes "tries") (rows_after witness_rules [] words) n)
     × ((n : ℕ) × IsCount most_seed (codes "seed") (rows_after witness_rules [] words) n)
 witness_given name words e =
-    let one = required_at 1 (codes "FILE") in
+    let one = file_at in
     let two = count_at 2 (codes "tries") (codes "200") most_tries in
     let three = count_at 2 (codes "seed") (codes "1") most_seed in
     let start = (settled witness_rules (walk witness_rules [] nothing_held words).held).rows in
@@ -536,12 +565,12 @@ witness_given name words e =
       file_sound,
       (
         count_sound 2 (codes "tries") (codes "200") most_tries tries_count,
-        (count_sound 2 (codes "seed") (codes "1") most_seed seed_counts, (hints_sound 2, (help_sound 2, tt))),
+        (count_sound 2 (codes "seed") (codes "1") most_seed seed_counts, last_sound 2),
       ),
     ) e in (
       given_value (codes "FILE") _ level.0 level.1.0,
       given_count (codes "tries") most_tries _ level.0
-          (count_there (one ∷ []) (three ∷ hints_at 2 ∷ help_at 2 ∷ []) 2 (codes "tries") (codes "200") most_tries start) (λ id how v is counts. counts.2 is),
+          (count_there (one ∷ []) (three ∷ last_rules 2) 2 (codes "tries") (codes "200") most_tries start) (λ id how v is counts. counts.2 is),
       given_count (codes "seed") most_seed _ level.0
-          (count_there (one ∷ two ∷ []) (hints_at 2 ∷ help_at 2 ∷ []) 2 (codes "seed") (codes "1") most_seed start) (λ id how v is counts. counts.3 is),
+          (count_there (one ∷ two ∷ []) (last_rules 2) 2 (codes "seed") (codes "1") most_seed start) (λ id how v is counts. counts.3 is),
     )

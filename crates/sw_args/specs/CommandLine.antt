@@ -1,24 +1,32 @@
 -- The words that the program takes.
-use Rattle.std.specs.Prelude.{◌≡◌, ◌≢◌, ◌≤◌, ◌<◌, ◌⊎◌, ◌↔◌, ℕ, Bool, List, [], ◌∷◌, Option, Some, codes, false, option_map, pos, true, Result, Ok, Err, IfOk}
+use Rattle.std.specs.Prelude.{◌≡◌, ◌≢◌, ◌≤◌, ◌<◌, ◌⊎◌, ◌↔◌, ℕ, Bool, List, [], ◌∷◌, Option, Some, codes, false, map, option_map, pos, true, unwrap_or, Result, Ok, Err, IfOk}
 use Rattle.std.specs.Borrow.{Bor}
 use Rattle.std.specs.declared.alloc.AllocError.{AllocError}
 use Rattle.clap.specs.declared.builder.command.Command.{Command}
 use Rattle.clap.specs.declared.builder.Command.TheViews.{out-Command}
 use Rattle.std.specs.Str.Parse.{IsNumeral, digits_value, without_leading_plus}
-use Rattle.clap.specs.Words.{App, Row, Rule, IsAmong, app_of, fault_of, first_of, new_app, new_rule, one_of, subcommand_of, with_rule, with_subcommand}
-use Rattle.clap.specs.declared.builder.action.ArgAction.TheVariants.{SetTrue}
+use Rattle.clap.specs.Words.{App, Row, Rule, IsAmong, all_of, app_of, fault_of, first_of, new_app, new_rule, one_of, subcommand_of, with_rule, with_subcommand}
+use Rattle.clap.specs.declared.builder.action.ArgAction.TheVariants.{Append, SetTrue}
 use Rattle.clap.specs.declared.builder.value_parser.ValueParser.TheVariants.{Signed}
 use Rattle.clap.specs.declared.error.kind.ErrorKind.{ErrorKind}
 use Rattle.clap.specs.declared.error.kind.ErrorKind.TheVariants.{DisplayHelp, DisplayVersion, OutOfMemory}
 use Rattle.sw_args.specs.declared.call.Asked.{Asked}
 use Rattle.sw_args.specs.declared.call.Call.{Call}
-use Rattle.sw_args.specs.declared.call.Call.TheVariants.{Route, Decide, Check, Report, Replay, Run, Migrate, Explain, Draw, Rmap, Mend, Margin, Witness}
+use Rattle.sw_args.specs.declared.call.Call.TheVariants.{Route, Decide, Check, Report, Replay, Run, Migrate, Explain, Draw, Rmap, Mend, Margin, Witness, Audit, Init}
 use Rattle.sw_args.specs.declared.call.WordsFault.{WordsFault}
 use Rattle.sw_args.specs.declared.call.WordsFault.TheVariants.{Help, Refused, Memory}
 
 -- a value that must be given
 abbrev pub required_value : List ℕ → Rule
 required_value name = record (new_rule name) { required = true }
+
+-- values of which one or more must be given
+abbrev pub required_values : List ℕ → Rule
+required_values name = record (new_rule name) { required = true; action = Some Append }
+
+-- a value that may be left out
+abbrev pub optional_value : List ℕ → Rule
+optional_value name = new_rule name
 
 -- an option `--NAME NUMBER`: a number from 1 up to the most, the usual one if it is left out
 abbrev pub count_rule : List ℕ → List ℕ → ℕ → Rule
@@ -36,25 +44,33 @@ flag_rule name = record (new_rule name) { long = Some name; action = Some SetTru
 abbrev pub option_rule : List ℕ → Rule
 option_rule name = record (new_rule name) { long = Some name }
 
+-- `--json`, of each subcommand whose answer can be one object of JSON
+abbrev pub with_json : App → App
+with_json app = with_rule app (flag_rule (codes "json"))
+
+-- `NAME FILE`
+abbrev pub file_app : List ℕ → App
+file_app name = with_rule (new_app name) (required_value (codes "FILE"))
+
 -- `route FILE FLOW`
 abbrev pub route_app : App
-route_app = with_rule (with_rule (new_app (codes "route")) (required_value (codes "FILE"))) (required_value (codes "FLOW"))
+route_app = with_rule (file_app (codes "route")) (required_value (codes "FLOW"))
 
--- `decide FILE`
+-- `decide FILE [--json]`
 abbrev pub decide_app : App
-decide_app = with_rule (new_app (codes "decide")) (required_value (codes "FILE"))
+decide_app = with_json (file_app (codes "decide"))
 
 -- `check FILE CERT`
 abbrev pub check_app : App
-check_app = with_rule (with_rule (new_app (codes "check")) (required_value (codes "FILE"))) (required_value (codes "CERT"))
+check_app = with_rule (file_app (codes "check")) (required_value (codes "CERT"))
 
 -- `report FILE`
 abbrev pub report_app : App
-report_app = with_rule (new_app (codes "report")) (required_value (codes "FILE"))
+report_app = file_app (codes "report")
 
 -- `replay FILE SCHEDULE`
 abbrev pub replay_app : App
-replay_app = with_rule (with_rule (new_app (codes "replay")) (required_value (codes "FILE"))) (required_value (codes "SCHEDULE"))
+replay_app = with_rule (file_app (codes "replay")) (required_value (codes "SCHEDULE"))
 
 -- the most threads and the most steps that a run may be asked for (this project's choice)
 abbrev pub most_workers : ℕ
@@ -65,8 +81,7 @@ most_steps = 16777216
 
 -- `run FILE LOAD [--workers NUMBER] [--limit NUMBER] [--schedule VALUE] [--summary]`: 4 workers and 1,000,000 steps if they are left out
 abbrev pub run_app : App
-run_app =
-    with_rule (with_rule (with_rule (with_rule (with_rule (with_rule (new_app (codes "run")) (required_value (codes "FILE"))) (required_value (codes "LOAD")))
+run_app = with_rule (with_rule (with_rule (with_rule (with_rule (file_app (codes "run")) (required_value (codes "LOAD")))
     (count_rule (codes "workers") (codes "4") most_workers))
     (count_rule (codes "limit") (codes "1000000") most_steps))
     (option_rule (codes "schedule")))
@@ -74,22 +89,22 @@ run_app =
 
 -- `migrate FILE`
 abbrev pub migrate_app : App
-migrate_app = with_rule (new_app (codes "migrate")) (required_value (codes "FILE"))
+migrate_app = file_app (codes "migrate")
 
 -- `explain FILE [--all]`
 abbrev pub explain_app : App
-explain_app = with_rule (with_rule (new_app (codes "explain")) (required_value (codes "FILE"))) (flag_rule (codes "all"))
+explain_app = with_rule (file_app (codes "explain")) (flag_rule (codes "all"))
 
 -- `draw FILE [--flow VALUE] [--cycle] [--numbers]`
 abbrev pub draw_app : App
-draw_app = with_rule (with_rule (with_rule (with_rule (new_app (codes "draw")) (required_value (codes "FILE")))
+draw_app = with_rule (with_rule (with_rule (file_app (codes "draw"))
     (option_rule (codes "flow")))
     (flag_rule (codes "cycle")))
     (flag_rule (codes "numbers"))
 
 -- `rmap FILE FLOW ACTION ADDRESS VALUE [--no-ack] [--transaction VALUE]`
 abbrev pub rmap_app : App
-rmap_app = with_rule (with_rule (with_rule (with_rule (with_rule (with_rule (with_rule (new_app (codes "rmap")) (required_value (codes "FILE")))
+rmap_app = with_rule (with_rule (with_rule (with_rule (with_rule (with_rule (file_app (codes "rmap"))
     (required_value (codes "FLOW")))
     (required_value (codes "ACTION")))
     (required_value (codes "ADDRESS")))
@@ -99,11 +114,11 @@ rmap_app = with_rule (with_rule (with_rule (with_rule (with_rule (with_rule (wit
 
 -- `mend FILE [--pairs]`
 abbrev pub mend_app : App
-mend_app = with_rule (with_rule (new_app (codes "mend")) (required_value (codes "FILE"))) (flag_rule (codes "pairs"))
+mend_app = with_rule (file_app (codes "mend")) (flag_rule (codes "pairs"))
 
 -- `margin FILE`
 abbrev pub margin_app : App
-margin_app = with_rule (new_app (codes "margin")) (required_value (codes "FILE"))
+margin_app = file_app (codes "margin")
 
 -- the most tries of a search, and the greatest number that it may begin with (this project's choice)
 abbrev pub most_tries : ℕ
@@ -114,9 +129,19 @@ most_seed = 4294967295
 
 -- `witness FILE [--tries NUMBER] [--seed NUMBER]`: 200 tries, and 1 to begin with, if they are left out
 abbrev pub witness_app : App
-witness_app = with_rule (with_rule (with_rule (new_app (codes "witness")) (required_value (codes "FILE")))
+witness_app = with_rule (with_rule (file_app (codes "witness"))
     (count_rule (codes "tries") (codes "200") most_tries))
     (count_rule (codes "seed") (codes "1") most_seed)
+
+-- `audit FILE.. [--json] [--quiet] [--certificates VALUE]`
+abbrev pub audit_app : App
+audit_app = with_rule (with_rule (with_json (with_rule (new_app (codes "audit")) (required_values (codes "FILE"))))
+    (flag_rule (codes "quiet")))
+    (option_rule (codes "certificates"))
+
+-- `init [NAME]`
+abbrev pub init_app : App
+init_app = with_rule (new_app (codes "init")) (optional_value (codes "NAME"))
 
 -- `--hints VALUE`, of each subcommand
 abbrev pub hints_rule : Rule
@@ -132,7 +157,8 @@ top_app = let a = new_app (codes "swcheck") in record a { top = record a.top { h
 -- the whole command line: each subcommand stands in a line of its own
 abbrev pub swcheck_app : App
 swcheck_app =
-    with_subcommand (with_subcommand (with_subcommand (with_subcommand (with_subcommand (with_subcommand (with_subcommand (with_subcommand (with_subcommand (with_subcommand (with_subcommand (with_subcommand (with_subcommand top_app
+    with_subcommand (with_subcommand (with_subcommand (with_subcommand (with_subcommand (with_subcommand (with_subcommand (with_subcommand
+    (with_subcommand (with_subcommand (with_subcommand (with_subcommand (with_subcommand (with_subcommand (with_subcommand top_app
     (with_hints route_app).top)
     (with_hints decide_app).top)
     (with_hints check_app).top)
@@ -145,7 +171,9 @@ swcheck_app =
     (with_hints rmap_app).top)
     (with_hints mend_app).top)
     (with_hints margin_app).top)
-    (with_hints witness_app).top
+    (with_hints witness_app).top)
+    (with_hints audit_app).top)
+    (with_hints init_app).top
 
 -- the command is that of the app
 abbrev pub IsOf : App → Command → Type 0
@@ -184,30 +212,43 @@ IsSet name values given = (given ≡ true) ↔ (one_of name values ≡ Some (cod
 abbrev pub IsOption : List ℕ → List Row → Option (Bor (List ℕ)) → Type 0
 IsOption name values given = option_map (λ text. text.now) given ≡ first_of name values
 
+-- all values of an argument, in their order
+abbrev pub AreAll : List ℕ → List Row → List (Bor (List ℕ)) → Type 0
+AreAll name values given = map (λ text. text.now) given ≡ unwrap_or (all_of name values) []
+
 -- a subcommand with these values is this call
 abbrev pub IsCallOf : List ℕ → List Row → Call → Type 0
-IsCallOf name values (Route file flow) = (name ≡ codes "route")
+IsCallOf name values (Route file flow json) = (name ≡ codes "route")
     × (first_of (codes "FILE") values ≡ Some file.now)
     × (first_of (codes "FLOW") values ≡ Some flow.now)
-IsCallOf name values (Decide file) = (name ≡ codes "decide") × (first_of (codes "FILE") values ≡ Some file.now)
-IsCallOf name values (Report file) = (name ≡ codes "report") × (first_of (codes "FILE") values ≡ Some file.now)
-IsCallOf name values (Check file certificate) = (name ≡ codes "check")
+    × IsSet (codes "json") values json
+IsCallOf name values (Decide file json) = (name ≡ codes "decide")
+    × (first_of (codes "FILE") values ≡ Some file.now)
+    × IsSet (codes "json") values json
+IsCallOf name values (Report file json) = (name ≡ codes "report")
+    × (first_of (codes "FILE") values ≡ Some file.now)
+    × IsSet (codes "json") values json
+IsCallOf name values (Check file certificate json) = (name ≡ codes "check")
     × (first_of (codes "FILE") values ≡ Some file.now)
     × (first_of (codes "CERT") values ≡ Some certificate.now)
-IsCallOf name values (Replay file schedule) = (name ≡ codes "replay")
+    × IsSet (codes "json") values json
+IsCallOf name values (Replay file schedule json) = (name ≡ codes "replay")
     × (first_of (codes "FILE") values ≡ Some file.now)
     × (first_of (codes "SCHEDULE") values ≡ Some schedule.now)
-IsCallOf name values (Run file load workers limit schedule summary) = (name ≡ codes "run")
+    × IsSet (codes "json") values json
+IsCallOf name values (Run file load workers limit schedule summary json) = (name ≡ codes "run")
     × (first_of (codes "FILE") values ≡ Some file.now)
     × (first_of (codes "LOAD") values ≡ Some load.now)
     × IsCount most_workers (codes "workers") values workers
     × IsCount most_steps (codes "limit") values limit
     × IsOption (codes "schedule") values schedule
     × IsSet (codes "summary") values summary
+    × IsSet (codes "json") values json
 IsCallOf name values (Migrate file) = (name ≡ codes "migrate") × (first_of (codes "FILE") values ≡ Some file.now)
-IsCallOf name values (Explain file all) = (name ≡ codes "explain")
+IsCallOf name values (Explain file all json) = (name ≡ codes "explain")
     × (first_of (codes "FILE") values ≡ Some file.now)
     × IsSet (codes "all") values all
+    × IsSet (codes "json") values json
 IsCallOf name values (Draw file flow cycle numbers) = (name ≡ codes "draw")
     × (first_of (codes "FILE") values ≡ Some file.now)
     × IsOption (codes "flow") values flow
@@ -221,35 +262,38 @@ IsCallOf name values (Rmap file flow action address value unacknowledged transac
     × (first_of (codes "VALUE") values ≡ Some value.now)
     × IsSet (codes "no-ack") values unacknowledged
     × IsOption (codes "transaction") values transaction
-IsCallOf name values (Mend file pairs) = (name ≡ codes "mend")
+IsCallOf name values (Mend file pairs json) = (name ≡ codes "mend")
     × (first_of (codes "FILE") values ≡ Some file.now)
     × IsSet (codes "pairs") values pairs
-IsCallOf name values (Margin file) = (name ≡ codes "margin") × (first_of (codes "FILE") values ≡ Some file.now)
+    × IsSet (codes "json") values json
+IsCallOf name values (Margin file json) = (name ≡ codes "margin")
+    × (first_of (codes "FILE") values ≡ Some file.now)
+    × IsSet (codes "json") values json
 IsCallOf name values (Witness file tries seed) = (name ≡ codes "witness")
     × (first_of (codes "FILE") values ≡ Some file.now)
     × IsCount most_tries (codes "tries") values tries
     × IsCount most_seed (codes "seed") values seed
+IsCallOf name values (Audit json quiet certificates) = (name ≡ codes "audit")
+    × IsSet (codes "json") values json
+    × IsSet (codes "quiet") values quiet
+    × IsOption (codes "certificates") values certificates
+IsCallOf name values (Init sample) = (name ≡ codes "init") × IsOption (codes "NAME") values sample
 
 -- a run has a worker
 abbrev pub HasWorkers : Call → Type 0
-HasWorkers (Run file load workers limit schedule summary) = 0 < workers
-HasWorkers (Route file flow) = Unit {0}
-HasWorkers (Decide file) = Unit {0}
-HasWorkers (Check file certificate) = Unit {0}
-HasWorkers (Report file) = Unit {0}
-HasWorkers (Replay file schedule) = Unit {0}
-HasWorkers (Migrate file) = Unit {0}
-HasWorkers (Explain file all) = Unit {0}
-HasWorkers (Draw file flow cycle numbers) = Unit {0}
-HasWorkers (Rmap file flow action address value unacknowledged transaction) = Unit {0}
-HasWorkers (Mend file pairs) = Unit {0}
-HasWorkers (Margin file) = Unit {0}
-HasWorkers (Witness file tries seed) = Unit {0}
+HasWorkers (Run file load workers limit schedule summary json) = 0 < workers
+HasWorkers _ = Unit {0}
 
--- the subcommand that was met, with its values, is this call, and what was given at `--hints`
+-- the subcommand that was met, with its values, is this call, the files that it names, and what was given at `--hints`
 abbrev pub IsMatched : Option (List ℕ × List Row) → Asked → Type 0
-IsMatched found asked =
-    (name : List ℕ) × (values : List Row) × (found ≡ Some (name, values)) × IsCallOf name values asked.call × IsOption (codes "hints") values asked.hints
+IsMatched found asked = (name : List ℕ) × (values : List Row) × (found ≡ Some (name, values))
+    × IsCallOf name values asked.call
+    × AreAll (codes "FILE") values asked.files.items
+    × IsOption (codes "hints") values asked.hints
+
+-- the subcommand that was met has these values, and is this call
+abbrev pub IsMet : Option (List ℕ × List Row) → Call → List Row → Type 0
+IsMet found call values = (name : List ℕ) × (found ≡ Some (name, values)) × IsCallOf name values call
 
 -- clap's own matches of the words have no error, and the call's subcommand and values
 abbrev pub Gives : List (List ℕ) → Asked → Type 0

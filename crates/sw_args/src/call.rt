@@ -5,31 +5,37 @@ ghost use Rattle.sw_args.specs.declared.call.WordsFault.TheVariants.{Memory};
 use std::alloc::AllocError;
 use thiserror::Error;
 
-/// What the words ask for, with the values as they were written.
+/// What the words ask for, with the values as they were written; `json`: the answer is to be one object of JSON, which so far `decide` and
+/// `audit` alone can give.
 #[derive(Clone, Copy)]
 pub enum Call<'a> {
     /// The places of a flow of a network file.
     Route {
         file: &'a str,
         flow: &'a str,
+        json: bool,
     },
     /// The verdict on a network file.
     Decide {
         file: &'a str,
+        json: bool,
     },
     /// Whether a certificate is accepted for a network file.
     Check {
         file: &'a str,
         certificate: &'a str,
+        json: bool,
     },
     /// How many parts a network file has, and the verdict on it.
     Report {
         file: &'a str,
+        json: bool,
     },
     /// What comes of a schedule of steps on a network file.
     Replay {
         file: &'a str,
         schedule: &'a str,
+        json: bool,
     },
     /// What comes of a load of packets on a network file, by so many threads and in at most so many steps; in which file its steps are to be
     /// written, and whether a summary is wanted.
@@ -40,6 +46,7 @@ pub enum Call<'a> {
         limit: u32,
         schedule: Option<&'a str>,
         summary: bool,
+        json: bool,
     },
     /// A network file of version 1 as one of version 2.
     Migrate {
@@ -49,6 +56,7 @@ pub enum Call<'a> {
     Explain {
         file: &'a str,
         all: bool,
+        json: bool,
     },
     /// A drawing of a network file: with the places of a flow, with the shortest cycle, with the channels' numbers.
     Draw {
@@ -72,10 +80,12 @@ pub enum Call<'a> {
     Mend {
         file: &'a str,
         pairs: bool,
+        json: bool,
     },
     /// How far the premises of a free network bend.
     Margin {
         file: &'a str,
+        json: bool,
     },
     /// A schedule that locks a network up, by so many tries, the first with this number.
     Witness {
@@ -83,12 +93,23 @@ pub enum Call<'a> {
         tries: u32,
         seed: u32,
     },
+    /// The verdicts on many network files: of those alone that are not free, with certificates kept in a directory.
+    Audit {
+        json: bool,
+        quiet: bool,
+        certificates: Option<&'a str>,
+    },
+    /// A sample network file, by its name.
+    Init {
+        name: Option<&'a str>,
+    },
 }
 
-/// What the words ask for: a call, and what was given at `--hints`.
-#[derive(Clone, Copy)]
+/// What the words ask for: a call, the network files that it names, and what was given at `--hints`.
+#[derive(Drop)]
 pub struct Asked<'a> {
     pub call: Call<'a>,
+    pub files: Vec<&'a str>,
     pub hints: Option<&'a str>,
 }
 

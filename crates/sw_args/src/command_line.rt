@@ -1,15 +1,13 @@
 //! The words of the command line.
-ghost use Rattle.std.specs.Prelude.{◌≡◌, ◌<◌, ◌^◌, ℕ, option_map, true, false, IfOk, IfNone, IfSome};
-ghost use Rattle.clap.specs.Words.{first_of, found_of, kind_of, new_app, rows_of, rule_of, with_rule};
-ghost use Rattle.sw_args.specs.CommandLine.{check_app, count_rule, decide_app, draw_app, explain_app, flag_rule, margin_app, mend_app, migrate_app, option_rule, replay_app, report_app, required_value, rmap_app, route_app, run_app, swcheck_app, top_app, witness_app, with_hints, HasMade, IsCount, IsMade, IsOf, IsOption, IsSet, Joins, Makes, SaysNumber, ShowsKind};
+ghost use Rattle.std.specs.Prelude.{◌≡◌, true, false, IfOk};
+ghost use Rattle.clap.specs.Words.{kind_of, new_app, rule_of, with_rule};
+ghost use Rattle.sw_args.specs.CommandLine.{audit_app, check_app, count_rule, decide_app, draw_app, explain_app, flag_rule, init_app, margin_app, mend_app, migrate_app, option_rule, optional_value, replay_app, report_app, required_value, required_values, rmap_app, route_app, run_app, swcheck_app, top_app, witness_app, with_hints, with_json, HasMade, IsMade, IsOf, Joins, Makes, ShowsKind};
 
 use crate::call::WordsFault;
+use crate::release::RELEASE;
 use clap::error::ErrorKind;
-use clap::{Arg, ArgAction, ArgMatches, Command};
+use clap::{Arg, ArgAction, Command};
 use std::alloc::{AllocError, Global};
-
-/// The program's version, and the toolchain that proves and builds it.
-const VERSION: &str = "0.9.0\nrattle-kit-13f logic dac8208d650f15bf";
 
 /// The most threads that `run` may be asked for.
 pub(crate) const MOST_WORKERS: u32 = 64;
@@ -28,6 +26,23 @@ fn value_arg<'a>(alloc: Global, name: &'static str, help: &'static str) -> Arg<'
     ensures { (rule_of result ≡ required_value name.now) × (result.global ≡ false) }
 {
     Arg::new(alloc, name).required(true).help(help)
+}
+
+// Values of which one or more must be given.
+fn values_arg<'a>(alloc: Global, name: &'static str, help: &'static str) -> Arg<'a>
+    ensures { (rule_of result ≡ required_values name.now) × (result.global ≡ false) }
+{
+    Arg::new(alloc, name)
+        .required(true)
+        .action(ArgAction::Append)
+        .help(help)
+}
+
+// A value that may be left out.
+fn optional_arg<'a>(alloc: Global, name: &'static str, help: &'static str) -> Arg<'a>
+    ensures { (rule_of result ≡ optional_value name.now) × (result.global ≡ false) }
+{
+    Arg::new(alloc, name).help(help)
 }
 
 // An option whose value is a number from 1 up to the most, the usual one if it is left out.
@@ -97,6 +112,30 @@ fn with_value<'a>(
     made?.arg(value_arg(alloc, name, help))
 }
 
+// The same with values of which one or more must be given.
+fn with_values<'a>(
+    alloc: Global,
+    made: Result<Command<'a>, AllocError>,
+    name: &'static str,
+    help: &'static str,
+) -> Result<Command<'a>, AllocError>
+    ensures { Makes (λ a. with_rule a (required_values name.now)) made.entry result }
+{
+    made?.arg(values_arg(alloc, name, help))
+}
+
+// The same with a value that may be left out.
+fn with_optional<'a>(
+    alloc: Global,
+    made: Result<Command<'a>, AllocError>,
+    name: &'static str,
+    help: &'static str,
+) -> Result<Command<'a>, AllocError>
+    ensures { Makes (λ a. with_rule a (optional_value name.now)) made.entry result }
+{
+    made?.arg(optional_arg(alloc, name, help))
+}
+
 // The same with an option whose value is a number.
 fn with_count<'a>(
     alloc: Global,
@@ -135,6 +174,16 @@ fn with_option<'a>(
     made?.arg(option_arg(alloc, name, help))
 }
 
+// The same with the option `--json`.
+fn with_json<'a>(
+    alloc: Global,
+    made: Result<Command<'a>, AllocError>,
+) -> Result<Command<'a>, AllocError>
+    ensures { Makes with_json made.entry result }
+{
+    with_flag(alloc, made, "json", "Print the answer as one JSON object")
+}
+
 fn route_command<'a>(alloc: Global) -> Result<Command<'a>, AllocError>
     ensures { IfOk result (IsMade route_app) }
 {
@@ -152,7 +201,7 @@ fn decide_command<'a>(alloc: Global) -> Result<Command<'a>, AllocError>
     let about = "Print a certificate that a network never locks up, or why there is none";
     let decide = subcommand(alloc, "decide", about);
     let decide = with_example(decide, "Example: swcheck decide examples/ring.toml");
-    with_value(alloc, decide, "FILE", "A network file")
+    with_json(alloc, with_value(alloc, decide, "FILE", "A network file"))
 }
 
 fn report_command<'a>(alloc: Global) -> Result<Command<'a>, AllocError>
@@ -295,11 +344,34 @@ fn witness_command<'a>(alloc: Global) -> Result<Command<'a>, AllocError>
     with_count(alloc, witness, "seed", "1", MOST_SEED, help)
 }
 
+fn audit_command<'a>(alloc: Global) -> Result<Command<'a>, AllocError>
+    ensures { IfOk result (IsMade audit_app) }
+{
+    let about = "Print the verdicts on many networks";
+    let audit = subcommand(alloc, "audit", about);
+    let audit = with_example(audit, "Example: swcheck audit --json examples/*.toml");
+    let audit = with_values(alloc, audit, "FILE", "A network file, or several");
+    let audit = with_json(alloc, audit);
+    let help = "Print only files whose network is not free";
+    let audit = with_flag(alloc, audit, "quiet", help);
+    let help = "A directory for the certificates of free networks";
+    with_option(alloc, audit, "certificates", help)
+}
+
+fn init_command<'a>(alloc: Global) -> Result<Command<'a>, AllocError>
+    ensures { IfOk result (IsMade init_app) }
+{
+    let about = "Print a sample network file";
+    let init = subcommand(alloc, "init", about);
+    let init = with_example(init, "Example: swcheck init");
+    with_optional(alloc, init, "NAME", "The name of a sample")
+}
+
 fn top_command<'a>(alloc: Global) -> Result<Command<'a>, AllocError>
     ensures { IfOk result (IsOf top_app) }
 {
     let command = Command::new(alloc, "swcheck").about("Checks SpaceWire networks");
-    Ok(command.version(VERSION).subcommand_required(true))
+    Ok(command.version(RELEASE).subcommand_required(true))
 }
 
 // A subcommand that was made, with the option that each has.
@@ -350,7 +422,9 @@ pub(crate) fn swcheck_command<'a>(alloc: Global) -> Result<Command<'a>, AllocErr
     let command = with_subcommand(alloc, command, rmap_command(alloc));
     let command = with_subcommand(alloc, command, mend_command(alloc));
     let command = with_subcommand(alloc, command, margin_command(alloc));
-    with_subcommand(alloc, command, witness_command(alloc))
+    let command = with_subcommand(alloc, command, witness_command(alloc));
+    let command = with_subcommand(alloc, command, audit_command(alloc));
+    with_subcommand(alloc, command, init_command(alloc))
 }
 
 // How an error of clap's is told. That of a growth that was refused is told as any other such.
@@ -366,47 +440,4 @@ pub(crate) fn fault_of(alloc: Global, error: &clap::Error) -> Result<WordsFault,
     } else {
         Ok(WordsFault::Help(text))
     }
-}
-
-pub(crate) fn value_of<'a>(values: &ArgMatches<'a>, name: &str) -> Option<&'a str>
-    ensures { option_map (λ s. s.now) result ≡ first_of name.now (rows_of (found_of values.now)) }
-{
-    values.get_str(name)
-}
-
-// The value of an option that may be left out.
-pub(crate) fn option_of<'a>(values: &ArgMatches<'a>, name: &str) -> Option<&'a str>
-    ensures { IsOption name.now (rows_of (found_of values.now)) result }
-{
-    value_of(values, name)
-}
-
-// The number that an option's value says.
-fn number_of(values: &ArgMatches<'_>, name: &str) -> Option<u32>
-    ensures says { IfSome result (SaysNumber name.now (rows_of (found_of values.now))) }
-    ensures none { IfNone result ((number : ℕ) → SaysNumber name.now (rows_of (found_of values.now)) number → number < 2 ^ 32 → ⊥) }
-{
-    values.get_one(name)
-}
-
-// The same, if it is 1 or more and not over the most; clap gives no other.
-pub(crate) fn count_of(values: &ArgMatches<'_>, name: &str, most: u32) -> Option<u32>
-    ensures counts { IfSome result (IsCount most name.now (rows_of (found_of values.now))) }
-    ensures none { IfNone result ((number : ℕ) → IsCount most name.now (rows_of (found_of values.now)) number → ⊥) }
-{
-    let number = number_of(values, name)?;
-    if number < 1 {
-        return None;
-    }
-    if most < number {
-        return None;
-    }
-    Some(number)
-}
-
-// Whether an option without a value was given.
-pub(crate) fn is_set(values: &ArgMatches<'_>, name: &str) -> bool
-    ensures { IsSet name.now (rows_of (found_of values.now)) result }
-{
-    values.get_one::<bool>(name).unwrap_or(false)
 }

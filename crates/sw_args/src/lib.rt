@@ -4,6 +4,9 @@
 mod call;
 mod command_line;
 mod matched;
+mod release;
+mod values;
 
 pub use call::{Asked, Call, REFUSED, WordsFault};
 pub use matched::words;
+pub use release::{TOOLCHAIN, VERSION};

@@ -1,16 +1,15 @@
 //! What the words ask for.
-ghost use Rattle.std.specs.Prelude.{◌≡◌, Some, codes, map, IfOk, IfErr, IfNone, IfSome};
+ghost use Rattle.std.specs.Prelude.{◌≡◌, List, Some, codes, map, IfOk, IfErr, IfNone, IfSome};
 ghost use Rattle.clap.specs.Walk.{first_of};
-ghost use Rattle.clap.specs.Words.{found_of, rows_of, subcommand_rows_of};
-ghost use Rattle.sw_args.specs.declared.call.Asked.{Asked};
+ghost use Rattle.clap.specs.Words.{Row, found_of, rows_of, subcommand_rows_of};
 ghost use Rattle.sw_args.specs.declared.call.Call.{Call};
-ghost use Rattle.sw_args.specs.CommandLine.{Gives, IsCallOf, IsMatched, Refuses, Tells};
+ghost use Rattle.sw_args.specs.CommandLine.{AreAll, Gives, IsCallOf, IsMet, IsOption, Refuses, Tells};
 
 use crate::call::{Asked, Call, WordsFault};
 use crate::command_line::{
-    MOST_SEED, MOST_STEPS, MOST_TRIES, MOST_WORKERS, count_of, fault_of, is_set, option_of,
-    swcheck_command, value_of,
+    MOST_SEED, MOST_STEPS, MOST_TRIES, MOST_WORKERS, fault_of, swcheck_command,
 };
+use crate::values::{all_of, count_of, is_set, option_of, value_of};
 use clap::ArgMatches;
 use std::alloc::{AllocError, Global};
 
@@ -21,7 +20,8 @@ fn route_call<'a>(file: &'a str, values: &ArgMatches<'a>) -> Option<Call<'a>>
     ensures none { IfNone result ((call : Call) → IsCallOf (codes "route") (rows_of (found_of values.now)) call → ⊥) }
 {
     let flow = value_of(values, "FLOW")?;
-    Some(Call::Route { file, flow })
+    let json = is_set(values, "json");
+    Some(Call::Route { file, flow, json })
 }
 
 // The call of `check`.
@@ -33,6 +33,7 @@ fn check_call<'a>(file: &'a str, values: &ArgMatches<'a>) -> Option<Call<'a>>
     Some(Call::Check {
         file,
         certificate: value_of(values, "CERT")?,
+        json: is_set(values, "json"),
     })
 }
 
@@ -45,6 +46,7 @@ fn replay_call<'a>(file: &'a str, values: &ArgMatches<'a>) -> Option<Call<'a>>
     Some(Call::Replay {
         file,
         schedule: value_of(values, "SCHEDULE")?,
+        json: is_set(values, "json"),
     })
 }
 
@@ -61,6 +63,7 @@ fn run_call<'a>(file: &'a str, values: &ArgMatches<'a>) -> Option<Call<'a>>
         limit: count_of(values, "limit", MOST_STEPS)?,
         schedule: option_of(values, "schedule"),
         summary: is_set(values, "summary"),
+        json: is_set(values, "json"),
     })
 }
 
@@ -94,16 +97,43 @@ fn witness_call<'a>(file: &'a str, values: &ArgMatches<'a>) -> Option<Call<'a>>
     })
 }
 
+// The call of `audit`.
+fn audit_call<'a>(values: &ArgMatches<'a>) -> Call<'a>
+    ensures { IsCallOf (codes "audit") (rows_of (found_of values.now)) result }
+{
+    Call::Audit {
+        json: is_set(values, "json"),
+        quiet: is_set(values, "quiet"),
+        certificates: option_of(values, "certificates"),
+    }
+}
+
+// The call of `init`.
+fn init_call<'a>(values: &ArgMatches<'a>) -> Call<'a>
+    ensures { IsCallOf (codes "init") (rows_of (found_of values.now)) result }
+{
+    Call::Init {
+        name: option_of(values, "NAME"),
+    }
+}
+
 // The call of a subcommand. clap gives each value that the subcommand requires.
 fn call_of<'a>(name: &str, values: &ArgMatches<'a>) -> Option<Call<'a>>
     ensures calls { IfSome result (IsCallOf name.now (rows_of (found_of values.now))) }
     ensures none { IfNone result ((call : Call) → IsCallOf name.now (rows_of (found_of values.now)) call → ⊥) }
 {
+    if name == "audit" {
+        return Some(audit_call(values));
+    }
+    if name == "init" {
+        return Some(init_call(values));
+    }
     let file = value_of(values, "FILE")?;
+    let json = is_set(values, "json");
     match name {
         "route" => route_call(file, values),
-        "decide" => Some(Call::Decide { file }),
-        "report" => Some(Call::Report { file }),
+        "decide" => Some(Call::Decide { file, json }),
+        "report" => Some(Call::Report { file, json }),
         "check" => check_call(file, values),
         "replay" => replay_call(file, values),
         "run" => run_call(file, values),
@@ -111,6 +141,7 @@ fn call_of<'a>(name: &str, values: &ArgMatches<'a>) -> Option<Call<'a>>
         "explain" => Some(Call::Explain {
             file,
             all: is_set(values, "all"),
+            json,
         }),
         "draw" => Some(Call::Draw {
             file,
@@ -122,21 +153,37 @@ fn call_of<'a>(name: &str, values: &ArgMatches<'a>) -> Option<Call<'a>>
         "mend" => Some(Call::Mend {
             file,
             pairs: is_set(values, "pairs"),
+            json,
         }),
-        "margin" => Some(Call::Margin { file }),
+        "margin" => Some(Call::Margin { file, json }),
         "witness" => witness_call(file, values),
         _ => None,
     }
 }
 
-fn matched_call<'a>(matches: &ArgMatches<'a>) -> Option<Asked<'a>>
-    ensures matched { IfSome result (IsMatched (subcommand_rows_of matches.now)) }
-    ensures none { IfNone result ((asked : Asked) → IsMatched (subcommand_rows_of matches.now) asked → ⊥) }
+// The call of the subcommand that was met, and its values.
+fn matched_call<'m, 'a>(matches: &'m ArgMatches<'a>) -> Option<(Call<'a>, &'m ArgMatches<'a>)>
+    ensures matched { IfSome result (λ met. IsMet (subcommand_rows_of matches.now) met.0 (rows_of (found_of met.1.now))) }
+    ensures none { IfNone result ((call : Call) (values : List Row) → IsMet (subcommand_rows_of matches.now) call values → ⊥) }
 {
     let (name, values) = matches.subcommand()?;
     let call = call_of(name, values)?;
-    Some(Asked {
+    Some((call, values))
+}
+
+// A call with the files that its values name, and what was given at `--hints`.
+fn asked_of<'a>(
+    alloc: Global,
+    call: Call<'a>,
+    values: &ArgMatches<'a>,
+) -> Result<Asked<'a>, AllocError>
+    ensures call { IfOk result (λ asked. asked.call ≡ call.entry) }
+    ensures files { IfOk result (λ asked. AreAll (codes "FILE") (rows_of (found_of values.now)) asked.files.items) }
+    ensures hints { IfOk result (λ asked. IsOption (codes "hints") (rows_of (found_of values.now)) asked.hints) }
+{
+    Ok(Asked {
         call,
+        files: all_of(alloc, values, "FILE")?,
         hints: option_of(values, "hints"),
     })
 }
@@ -150,7 +197,10 @@ fn told<'a>(
 {
     let command = swcheck_command(alloc)?;
     match command.try_get_matches_from(words) {
-        Ok(matches) => Ok(Ok(matched_call(&matches).unwrap())),
+        Ok(matches) => {
+            let (call, values) = matched_call(&matches).unwrap();
+            Ok(Ok(asked_of(alloc, call, values)?))
+        }
         Err(error) => Ok(Err(fault_of(alloc, &error)?)),
     }
 }

@@ -28,51 +28,25 @@ pub(crate) fn hints_of(given: Option<&str>) -> Option<Hints>
     None
 }
 
-/// The network file that a call reads.
-pub(crate) fn file_of<'a>(call: &Call<'a>) -> &'a str
-    ensures { result.now ≡ file_of call.now }
+/// The one network file that a call reads, if it reads one.
+pub(crate) fn file_of<'a>(call: &Call<'a>) -> Option<&'a str>
+    ensures { option_map (λ s. s.now) result ≡ file_of call.now }
 {
     match call {
-        Call::Route { file, flow: _ } => file,
-        Call::Decide { file } => file,
-        Call::Check {
-            file,
-            certificate: _,
-        } => file,
-        Call::Report { file } => file,
-        Call::Replay { file, schedule: _ } => file,
-        Call::Run {
-            file,
-            load: _,
-            workers: _,
-            limit: _,
-            schedule: _,
-            summary: _,
-        } => file,
-        Call::Migrate { file } => file,
-        Call::Explain { file, all: _ } => file,
-        Call::Draw {
-            file,
-            flow: _,
-            cycle: _,
-            numbers: _,
-        } => file,
-        Call::Rmap {
-            file,
-            flow: _,
-            action: _,
-            address: _,
-            value: _,
-            unacknowledged: _,
-            transaction: _,
-        } => file,
-        Call::Mend { file, pairs: _ } => file,
-        Call::Margin { file } => file,
-        Call::Witness {
-            file,
-            tries: _,
-            seed: _,
-        } => file,
+        Call::Route { file, .. }
+        | Call::Decide { file, .. }
+        | Call::Check { file, .. }
+        | Call::Report { file, .. }
+        | Call::Replay { file, .. }
+        | Call::Run { file, .. }
+        | Call::Migrate { file }
+        | Call::Explain { file, .. }
+        | Call::Draw { file, .. }
+        | Call::Rmap { file, .. }
+        | Call::Mend { file, .. }
+        | Call::Margin { file, .. }
+        | Call::Witness { file, .. } => Some(file),
+        Call::Audit { .. } | Call::Init { .. } => None,
     }
 }
 
@@ -81,19 +55,9 @@ pub(crate) fn second_of<'a>(call: &Call<'a>) -> Option<&'a str>
     ensures { option_map (λ s. s.now) result ≡ second_of call.now }
 {
     match call {
-        Call::Check {
-            file: _,
-            certificate,
-        } => Some(certificate),
-        Call::Replay { file: _, schedule } => Some(schedule),
-        Call::Run {
-            file: _,
-            load,
-            workers: _,
-            limit: _,
-            schedule: _,
-            summary: _,
-        } => Some(load),
+        Call::Check { certificate, .. } => Some(certificate),
+        Call::Replay { schedule, .. } => Some(schedule),
+        Call::Run { load, .. } => Some(load),
         _ => None,
     }
 }
@@ -103,22 +67,9 @@ pub(crate) fn flow_of<'a>(call: &Call<'a>) -> Option<&'a str>
     ensures { option_map (λ s. s.now) result ≡ flow_of call.now }
 {
     match call {
-        Call::Route { file: _, flow } => Some(flow),
-        Call::Draw {
-            file: _,
-            flow,
-            cycle: _,
-            numbers: _,
-        } => *flow,
-        Call::Rmap {
-            file: _,
-            flow,
-            action: _,
-            address: _,
-            value: _,
-            unacknowledged: _,
-            transaction: _,
-        } => Some(flow),
+        Call::Route { flow, .. } => Some(flow),
+        Call::Draw { flow, .. } => *flow,
+        Call::Rmap { flow, .. } => Some(flow),
         _ => None,
     }
 }

@@ -5,21 +5,22 @@ ghost use Rattle.sw_args.specs.declared.call.Asked.{Asked};
 ghost use Rattle.sw_cli.specs.Accesses.{IsAccess, IsNoAccess};
 
 use crate::asked::hints_of;
+use crate::disk::{Disk, RELEASE};
 use crate::hints::hinted;
 use crate::noted::{Made, Noted};
 use crate::recorded::{Extras, run_load};
-use crate::told::{no_access, no_hints, told_end};
+use crate::told::{no_access, no_hints, no_sample, told_end};
 use std::io::Write;
 use std::rt::Files;
 use std::sync::Wait;
 use std::thread::Threads;
 use std::time::Clock;
 use std::{fs, io};
-use sw_app::{check, decide, migrate, replay, report, route};
+use sw_app::{check, decide, init, migrate, replay, report, route, sample_named};
+use sw_app_audit::audit;
+use sw_app_changes::{margin, mend};
 use sw_app_draw::{DrawOptions, draw};
 use sw_app_explain::explain;
-use sw_app_margin::margin;
-use sw_app_mend::mend;
 use sw_app_rmap::{Access, Request, rmap};
 use sw_app_run::Options;
 use sw_app_witness::witness;
@@ -27,7 +28,7 @@ use sw_args::{Asked, Call, WordsFault, words};
 use sw_command::Ended;
 use sw_run::with_progress;
 
-/// Makes the call that the words ask for, and tells how it ended; they begin with the program's name. Where standard error is a terminal, a
+/// Makes the call that the words ask for, and tells how it ended; they begin with the program's name. An audit has its files from the host. Where standard error is a terminal, a
 /// call of more than a second shows there for how long it has gone on.
 ///
 /// # Errors
@@ -36,6 +37,7 @@ use sw_run::with_progress;
 /// memory to read the words; this tells nothing of them. No call is made.
 pub fn run_words<'a, R: Files + Print + Eprint + AllocGlobal + Clock + Threads + Wait + Sync>(
     rt: &R,
+    host: &HostRuntime,
     given: &'a [&'a str],
     is_terminal: bool,
 ) -> Result<Ended, WordsFault>
@@ -43,13 +45,14 @@ pub fn run_words<'a, R: Files + Print + Eprint + AllocGlobal + Clock + Threads +
     ensures fault { IfErr result (Refuses (map (λ s. s.now) given.entry.now)) }
 {
     match words(rt.alloc(), given) {
-        Ok(asked) => Ok(run_asked(rt, asked, is_terminal)),
+        Ok(asked) => Ok(run_asked(rt, host, asked, is_terminal)),
         Err(fault) => Err(fault),
     }
 }
 
 fn run_asked<R: Files + Print + Eprint + AllocGlobal + Clock + Threads + Wait + Sync>(
     rt: &R,
+    host: &HostRuntime,
     asked: Asked<'_>,
     is_terminal: bool,
 ) -> Ended
@@ -58,7 +61,7 @@ fn run_asked<R: Files + Print + Eprint + AllocGlobal + Clock + Threads + Wait + 
     let call = asked.call;
     match hints_of(asked.hints) {
         Some(hints) => {
-            let made = run_shown(rt, call, is_terminal);
+            let made = run_shown(rt, host, call, &asked.files, is_terminal);
             told_end(rt, made.ended);
             hinted(rt, &call, hints, &made)
         }
@@ -69,7 +72,9 @@ fn run_asked<R: Files + Print + Eprint + AllocGlobal + Clock + Threads + Wait + 
 // The call; on a terminal it shows, while it goes on, for how long it has.
 fn run_shown<'a, R: Files + Print + Eprint + AllocGlobal + Clock + Threads + Wait + Sync>(
     rt: &R,
+    host: &HostRuntime,
     call: Call<'a>,
+    files: &[&str],
     is_terminal: bool,
 ) -> Made<'a>
     requires { HasWorkers call }
@@ -79,21 +84,23 @@ fn run_shown<'a, R: Files + Print + Eprint + AllocGlobal + Clock + Threads + Wai
             rt,
             ||
                 requires { HasWorkers call }
-            { run_call(rt, call) },
+            { run_call(rt, host, call, files) },
         )
     } else {
-        run_call(rt, call)
+        run_call(rt, host, call, files)
     }
 }
 
 fn run_call<'a, R: Files + Print + Eprint + AllocGlobal + Threads + Wait + Sync>(
     rt: &R,
+    host: &HostRuntime,
     call: Call<'a>,
+    files: &[&str],
 ) -> Made<'a>
     requires { HasWorkers call }
 {
     let mut writer = Noted::new("standard output", io::writer(rt));
-    let ended = run_into(rt, call, &mut writer);
+    let ended = run_into(rt, host, call, files, &mut writer);
     Made {
         ended,
         unwritten: writer.unwritten(),
@@ -102,17 +109,23 @@ fn run_call<'a, R: Files + Print + Eprint + AllocGlobal + Threads + Wait + Sync>
 
 fn run_into<'a, R: Files + Eprint + AllocGlobal + Threads + Wait + Sync, W: Write>(
     rt: &R,
+    host: &HostRuntime,
     call: Call<'a>,
+    files: &[&str],
     writer: &mut Noted<'a, W>,
 ) -> Ended
     requires { HasWorkers call }
 {
     match call {
-        Call::Route { file, flow } => run_route(rt, file, flow, writer),
-        Call::Decide { file } => run_decide(rt, file, writer),
-        Call::Report { file } => run_report(rt, file, writer),
-        Call::Check { file, certificate } => run_check(rt, file, certificate, writer),
-        Call::Replay { file, schedule } => run_replay(rt, file, schedule, writer),
+        Call::Route { file, flow, .. } => run_route(rt, file, flow, writer),
+        Call::Decide { file, json } => run_decide(rt, host, file, json, writer),
+        Call::Report { file, .. } => run_report(rt, file, writer),
+        Call::Check {
+            file,
+            certificate,
+            ..
+        } => run_check(rt, file, certificate, writer),
+        Call::Replay { file, schedule, .. } => run_replay(rt, file, schedule, writer),
         Call::Run {
             file,
             load,
@@ -120,6 +133,7 @@ fn run_into<'a, R: Files + Eprint + AllocGlobal + Threads + Wait + Sync, W: Writ
             limit,
             schedule,
             summary,
+            ..
         } => {
             let options = Options {
                 workers: workers as usize,
@@ -135,7 +149,7 @@ fn run_into<'a, R: Files + Eprint + AllocGlobal + Threads + Wait + Sync, W: Writ
             )
         }
         Call::Migrate { file } => run_migrate(rt, file, writer),
-        Call::Explain { file, all } => run_explain(rt, file, all, writer),
+        Call::Explain { file, all, .. } => run_explain(rt, file, all, writer),
         Call::Draw {
             file,
             flow,
@@ -173,9 +187,15 @@ fn run_into<'a, R: Files + Eprint + AllocGlobal + Threads + Wait + Sync, W: Writ
             ),
             None => no_access(rt),
         },
-        Call::Mend { file, pairs } => run_mend(rt, file, pairs, writer),
-        Call::Margin { file } => run_margin(rt, file, writer),
+        Call::Mend { file, pairs, .. } => run_mend(rt, file, pairs, writer),
+        Call::Margin { file, .. } => run_margin(rt, file, writer),
         Call::Witness { file, tries, seed } => run_witness(rt, file, tries, seed, writer),
+        Call::Audit {
+            json,
+            quiet,
+            certificates,
+        } => run_audit(rt, host, files, json, quiet, certificates, writer),
+        Call::Init { name } => run_init(rt, name, writer),
     }
 }
 
@@ -191,11 +211,17 @@ fn run_route<R: Files + AllocGlobal, W: Write>(
     route(rt.alloc(), &mut reader, flow, writer)
 }
 
+// The verdict on one file; as JSON it is that of an audit of it.
 fn run_decide<R: Files + AllocGlobal + Threads + Sync, W: Write>(
     rt: &R,
+    host: &HostRuntime,
     file: &str,
+    json: bool,
     writer: &mut W,
 ) -> Ended {
+    if json {
+        return run_audit(rt, host, &[file], true, false, None, writer);
+    }
     let Ok(mut reader) = fs::open(rt, file) else {
         return Ended::ReadFailed;
     };
@@ -216,13 +242,13 @@ fn run_report<R: Files + AllocGlobal + Threads + Sync, W: Write>(
 fn run_check<R: Files + AllocGlobal + Threads + Sync, W: Write>(
     rt: &R,
     file: &str,
-    certificate: &str,
+    path: &str,
     writer: &mut W,
 ) -> Ended {
     let Ok(mut network) = fs::open(rt, file) else {
         return Ended::ReadFailed;
     };
-    let Ok(mut certificate) = fs::open(rt, certificate) else {
+    let Ok(mut certificate) = fs::open(rt, path) else {
         return Ended::ReadFailed;
     };
     check(rt, rt.alloc(), &mut network, &mut certificate, writer)
@@ -231,13 +257,13 @@ fn run_check<R: Files + AllocGlobal + Threads + Sync, W: Write>(
 fn run_replay<R: Files + AllocGlobal, W: Write>(
     rt: &R,
     file: &str,
-    schedule: &str,
+    path: &str,
     writer: &mut W,
 ) -> Ended {
     let Ok(mut network) = fs::open(rt, file) else {
         return Ended::ReadFailed;
     };
-    let Ok(mut schedule) = fs::open(rt, schedule) else {
+    let Ok(mut schedule) = fs::open(rt, path) else {
         return Ended::ReadFailed;
     };
     replay(rt.alloc(), &mut network, &mut schedule, writer)
@@ -340,4 +366,33 @@ fn run_witness<R: Files + AllocGlobal + Threads + Sync, W: Write>(
         return Ended::ReadFailed;
     };
     witness(rt, rt.alloc(), &mut reader, tries, seed, writer)
+}
+
+fn run_audit<R: Files + AllocGlobal + Threads + Sync, W: Write>(
+    rt: &R,
+    host: &HostRuntime,
+    files: &[&str],
+    json: bool,
+    quiet: bool,
+    certificates: Option<&str>,
+    writer: &mut W,
+) -> Ended {
+    let options = sw_app_audit::Options {
+        json,
+        quiet,
+        certificates: certificates.is_some(),
+        release: RELEASE,
+    };
+    let disk = Disk {
+        host,
+        folder: certificates.unwrap_or(""),
+    };
+    audit(rt, rt.alloc(), &disk, files, &options, writer)
+}
+
+fn run_init<R: Eprint, W: Write>(rt: &R, name: Option<&str>, writer: &mut W) -> Ended {
+    match sample_named(name) {
+        Some(sample) => init(sample, writer),
+        None => no_sample(rt),
+    }
 }

@@ -5,6 +5,7 @@ ghost use Rattle.sw_cli.specs.Asked.{due_after, due_of};
 
 use crate::asked::{Hints, file_of, flow_of, second_of};
 use crate::noted::Made;
+use crate::notes::{is_noted, noted_file, notes};
 use crate::told::tell_text;
 use crate::unread::{tell_unread, tell_unwritten};
 use std::fs;
@@ -75,13 +76,13 @@ fn second_hint<R: Files + AllocGlobal>(rt: &R, call: &Call<'_>, network: &[u8]) 
 
 // What to tell of the flow that a call names.
 fn flow_hint<R: AllocGlobal>(rt: &R, call: &Call<'_>, network: &[u8]) -> Option<String> {
-    named_flow_hint(rt.alloc(), file_of(call), network, flow_of(call)?).ok()?
+    named_flow_hint(rt.alloc(), file_of(call)?, network, flow_of(call)?).ok()?
 }
 
 // What to tell of a fault: of the network file, or else of the other text or of the flow that the call names. Nothing where none has one, and
 // where one can't be read or there is no memory for it.
 fn fault_hint<R: Files + AllocGlobal>(rt: &R, call: &Call<'_>) -> Option<String> {
-    let file = file_of(call);
+    let file = file_of(call)?;
     let text = text_of(rt, file, MAX_TEXT)?;
     match network_hint(rt.alloc(), file, &text).ok()? {
         Some(hint) => Some(hint),
@@ -115,7 +116,7 @@ fn verdict_hint_of<R: Files + AllocGlobal + Threads + Sync>(
     rt: &R,
     call: &Call<'_>,
 ) -> Option<String> {
-    let file = file_of(call);
+    let file = file_of(call)?;
     let text = text_of(rt, file, MOST_EXPLAINED)?;
     match call {
         Call::Route { .. } => flow_hint(rt, call, &text),
@@ -129,9 +130,17 @@ fn verdict_hint_of<R: Files + AllocGlobal + Threads + Sync>(
     }
 }
 
+// What is to be noted on the network of a call.
+fn notes_of<R: Files + AllocGlobal>(rt: &R, call: &Call<'_>) -> Option<String> {
+    let text = text_of(rt, noted_file(call)?, MOST_EXPLAINED)?;
+    notes(rt, &text)
+}
+
 // Tells which of the call's files can't be read, and why.
 fn tell_unread_files<R: Files + Eprint + AllocGlobal>(rt: &R, call: &Call<'_>) {
-    tell_unread(rt, file_of(call));
+    if let Some(file) = file_of(call) {
+        tell_unread(rt, file);
+    }
     if let Some(second) = second_of(call) {
         tell_unread(rt, second);
     }
@@ -164,6 +173,9 @@ pub(crate) fn hinted<R: Files + Eprint + AllocGlobal + Threads + Sync>(
         Due::Unread => tell_unread_files(rt, call),
         Due::Unwritten => tell_unwritten(rt, made.unwritten),
         Due::Nothing => {}
+    }
+    if is_noted(hints, made.ended) {
+        tell_text(rt, notes_of(rt, call));
     }
     made.ended
 }

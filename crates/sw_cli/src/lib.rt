@@ -4,8 +4,10 @@
 
 mod asked;
 mod calls;
+mod disk;
 mod hints;
 mod noted;
+mod notes;
 mod program;
 mod recorded;
 mod told;

@@ -8,9 +8,11 @@ use std::time::Clock;
 use std::{env, io};
 use sw_args::WordsFault;
 
-/// Does what the words say that the program was given, and answers its status. It is told whether standard error is a terminal.
+/// Does what the words say that the program was given, and answers its status. It is told whether standard error is a terminal. `host` is
+/// the same as `rt`, by its own type: threads that read files want that.
 pub fn run_program<R: Env + Files + Print + Eprint + AllocGlobal + Clock + Threads + Wait + Sync>(
     rt: &R,
+    host: &HostRuntime,
     is_terminal: bool,
 ) -> u8 {
     let given = match env::args(rt) {
@@ -24,11 +26,12 @@ pub fn run_program<R: Env + Files + Print + Eprint + AllocGlobal + Clock + Threa
     let Ok(texts) = given.collect::<Vec<String>>(rt.alloc()) else {
         return refused(rt, &WordsFault::Memory);
     };
-    run_texts(rt, texts.as_slice(), is_terminal)
+    run_texts(rt, host, texts.as_slice(), is_terminal)
 }
 
 fn run_texts<R: Files + Print + Eprint + AllocGlobal + Clock + Threads + Wait + Sync>(
     rt: &R,
+    host: &HostRuntime,
     texts: &[String],
     is_terminal: bool,
 ) -> u8 {
@@ -36,7 +39,7 @@ fn run_texts<R: Files + Print + Eprint + AllocGlobal + Clock + Threads + Wait + 
     let Ok(views) = views.collect::<Vec<&str>>(rt.alloc()) else {
         return refused(rt, &WordsFault::Memory);
     };
-    match run_words(rt, views.as_slice(), is_terminal) {
+    match run_words(rt, host, views.as_slice(), is_terminal) {
         Ok(ended) => ended.status(),
         Err(fault) => refused(rt, &fault),
     }

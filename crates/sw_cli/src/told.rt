@@ -52,6 +52,14 @@ pub(crate) fn no_access(rt: &impl Eprint) -> Ended
     Ended::Status(REFUSED)
 }
 
+/// Tells that there is no sample of that name.
+pub(crate) fn no_sample(rt: &impl Eprint) -> Ended
+    ensures { result ≡ Ended.Status 2 }
+{
+    let _ = eprint!(rt; "error: NAME is bus, ring, housekeeping or regions\n");
+    Ended::Status(REFUSED)
+}
+
 /// Tells that `--hints` has no such value.
 pub(crate) fn no_hints(rt: &impl Eprint) -> Ended
     ensures { result ≡ Ended.Status 2 }

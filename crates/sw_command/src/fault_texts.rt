@@ -6,7 +6,12 @@ use std::alloc::{AllocError, Global};
 use sw_toml_table::{KeyFault, Section, TextFault};
 use sw_topo::{Limit, TopoFault};
 
-fn where_text(alloc: Global, section: Section, key: &str) -> Result<String, AllocError>
+/// Where a key stands.
+///
+/// # Errors
+///
+/// There is no memory for the text.
+pub fn where_text(alloc: Global, section: Section, key: &str) -> Result<String, AllocError>
     ensures { IfOk result (λ s. string_bytes s ≡ where_text section key.now) }
 {
     match section {

@@ -8,6 +8,6 @@ pub mod statuses;
 mod write_answer;
 
 pub use answer::{Answer, ByteAnswer};
-pub use fault_texts::fault_text;
-pub use read_texts::{InputError, InputText, read_two, tell_two_unread};
+pub use fault_texts::{fault_text, where_text};
+pub use read_texts::{InputError, InputText, read_one, read_two, tell_two_unread};
 pub use write_answer::{Ended, MAX_TEXT, tell, tell_bytes, tell_memory, tell_unread};

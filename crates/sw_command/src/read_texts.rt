@@ -41,7 +41,12 @@ fn input_of(read: Result<Vec<u8>, ReadError>) -> Result<InputText, InputError>
     }
 }
 
-fn read_one<R: Read>(alloc: Global, reader: &mut R) -> Result<InputText, InputError>
+/// Reads a text.
+///
+/// # Errors
+///
+/// `Failed`: a read failed. `Memory`: there is no memory for the text. What was taken is gone.
+pub fn read_one<R: Read>(alloc: Global, reader: &mut R) -> Result<InputText, InputError>
     ensures input { IfOk result (λ input. GivesText (R.remaining reader.old) (R.remaining reader.new) (given input)) }
     ensures whole { IfOk result (λ _. IsReadWhole (R.remaining reader.old) (R.remaining reader.new)) }
 {

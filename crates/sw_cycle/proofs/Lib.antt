@@ -9,3 +9,7 @@ pub mod AllGoing
 pub mod OnChannel
 pub mod Standing
 pub mod Taken
+pub mod Naming
+pub mod Rowing
+pub mod Bridge
+pub mod Chunking

@@ -4,3 +4,7 @@ pub mod Causes
 pub mod Firsts
 pub mod Positions
 pub mod Goers
+pub mod Named
+pub mod Answering
+pub mod Rows
+pub mod Chunks

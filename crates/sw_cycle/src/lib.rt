@@ -1,18 +1,25 @@
-//! Cycles of dependencies between channels, their check, and the flows and places that cause them.
+//! The dependencies between channels, as rows of successors; their cycles, the check of these, and the
+//! flows and places that cause them.
 #![tactic(auto)]
 
+mod answering;
 mod check;
 mod choose;
 mod cycle;
+mod dependency_rows;
 mod firsts;
 mod goers;
 pub mod laws;
+mod named;
+mod parallel;
 mod positions;
+mod rows;
 mod steps;
 
 pub use check::check_cycle;
 pub use choose::causes;
 pub use cycle::{Cause, Cycle};
+pub use dependency_rows::dependencies;
 pub use goers::flows_of_steps;
 pub use sw_flow::Place;
 pub use sw_topo::Chan;

@@ -13,3 +13,13 @@ pub mod Rings
 pub mod Existence
 pub mod RelationSteps
 pub mod Marked
+pub mod Chains
+pub mod Adding
+pub mod Searching
+pub mod Leasts
+pub mod Going
+pub mod Bettering
+pub mod Parting
+pub mod Sought
+pub mod Lawful
+pub mod Carried

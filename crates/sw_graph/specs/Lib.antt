@@ -10,3 +10,8 @@ pub mod Laws
 pub mod Reversing
 pub mod Rounds
 pub mod Walking
+pub mod Parts
+pub mod Shortest
+pub mod Searches
+pub mod Bests
+pub mod PartLaws

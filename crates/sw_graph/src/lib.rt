@@ -1,23 +1,34 @@
 //! Finite relations: the least set of numbers that holds a start and is closed under steps, a way to
-//! one of them, and the order of a relation, the level of each member or a cycle.
+//! one of them, and the order of a relation, the level of each member or a cycle; the parts in which each
+//! number leads to each other, and a shortest cycle of each.
 #![tactic(auto)]
 
 mod answer;
+mod back;
+mod best;
 mod cycle;
+mod found;
 pub mod laws;
 mod least;
 mod marks;
 mod ordering;
+mod part;
+pub mod part_laws;
 mod predecessors;
 mod rounds;
+mod rows;
+mod search;
 mod steps;
+mod together;
 mod turn;
 mod walk;
 mod ways;
 
 pub use answer::Order;
+pub use found::parts;
 pub use least::reached;
 pub use ordering::order;
+pub use part::Part;
 pub use predecessors::predecessors_of;
 pub use steps::Steps;
 pub use ways::way;

@@ -8,8 +8,8 @@ use Rattle.std.proofs.lemmas.Option.{same_Some}
 use Rattle.sw_char.specs.declared.nchar.End.{End}
 use Rattle.sw_history.specs.History.{HistoryView, IsCounted, IsKept, IsNext, with_steps}
 use Rattle.sw_history.specs.Next.{beginner_of}
-use Rattle.sw_limit.proofs.Grown.{begun_at_last, grows, its_own, not_its_own}
-use Rattle.sw_limit.specs.History.{BeginsNext, packets_at, packets_of}
+use Rattle.sw_load.proofs.Grown.{begun_at_last, grows, its_own, not_its_own}
+use Rattle.sw_load.specs.History.{BeginsNext, packets_at, packets_of}
 use Rattle.sw_load.specs.Load.{LoadEntry}
 use Rattle.sw_machine.specs.Begun.{Begun, beginning, beginnings}
 use Rattle.sw_machine.specs.Network.{Network}

@@ -5,7 +5,7 @@ use Rattle.sw_config.specs.Entries.{Declaration}
 use Rattle.sw_history.proofs.Idle.{tells_next}
 use Rattle.sw_history.specs.Asking.{AreAsking}
 use Rattle.sw_history.specs.History.{HistoryView, IsKept}
-use Rattle.sw_limit.specs.History.{packets_of}
+use Rattle.sw_load.specs.History.{packets_of}
 use Rattle.sw_machine.specs.Steps.{Grant}
 use Rattle.sw_net.specs.Asking.{AreAsking as NetAsks, IsInput}
 use Rattle.sw_net.specs.Net.{NetView}

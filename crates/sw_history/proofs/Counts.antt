@@ -7,8 +7,8 @@ use Rattle.sw_history.proofs.Adds.{no_beginner, none_counted, some_counted}
 use Rattle.sw_history.specs.History.{IsCounted}
 use Rattle.sw_history.specs.Makes.{counted_with}
 use Rattle.sw_history.specs.Next.{beginner_of}
-use Rattle.sw_limit.proofs.Packets.{length-packets}
-use Rattle.sw_limit.specs.History.{BeginsNext, next_packet, packets_at, packets_of}
+use Rattle.sw_load.proofs.Packets.{length-packets}
+use Rattle.sw_load.specs.History.{BeginsNext, next_packet, packets_at, packets_of}
 use Rattle.sw_load.specs.Load.{LoadEntry, packet_count}
 use Rattle.sw_machine.specs.Begun.{Begun, beginnings}
 use Rattle.sw_machine.specs.Steps.{Accept, Arrive, Begin, Drop, Emit, Fct, FctIn, Forward, Grant, Reply, Spill, Step}

@@ -2,8 +2,8 @@
 use Rattle.std.proofs.Common.{◌≡◌, ◌++◌, ◌∷◌, ◌∙◌, [], ℕ, List, Some, false, length, refl, sym, ap, subst}
 use Rattle.std.specs.Prelude.{slice_get}
 use Rattle.sw_history.specs.Laws.{FollowsWherePossible, OneStateAfter}
-use Rattle.sw_limit.proofs.Grown.{begun_at_last, grows, its_own}
-use Rattle.sw_limit.specs.History.{BeginsNext, IsHistory, packets_at}
+use Rattle.sw_load.proofs.Grown.{begun_at_last, grows, its_own}
+use Rattle.sw_load.specs.History.{BeginsNext, IsHistory, packets_at}
 use Rattle.sw_machine.proofs.Determined.{determined}
 use Rattle.sw_machine.specs.Begun.{Begun, beginnings}
 use Rattle.sw_machine.specs.Network.{Network}

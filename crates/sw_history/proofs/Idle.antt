@@ -10,8 +10,8 @@ use Rattle.sw_cell.specs.Possible.{CanStepAt}
 use Rattle.sw_history.proofs.Follows.{follows_where_possible, no_begin_next}
 use Rattle.sw_history.specs.History.{HistoryView, IsKept, IsNext, IsNextAt}
 use Rattle.sw_history.specs.Next.{BeginsOne, begin_of, IsIdle}
-use Rattle.sw_limit.specs.History.{BeginsNext, next_packet, packet_of, packets_at, packets_of}
-use Rattle.sw_limit.specs.Limit.{AreDeclared}
+use Rattle.sw_load.specs.History.{BeginsNext, next_packet, packet_of, packets_at, packets_of}
+use Rattle.sw_load.specs.Laws.{AreDeclared}
 use Rattle.sw_load.specs.Load.{LoadEntry}
 use Rattle.sw_model.specs.Packets.{IsDeclaredPacket}
 use Rattle.sw_machine.proofs.Parts.{link_ends}

@@ -5,14 +5,14 @@ use Rattle.std.proofs.lemmas.List.{length-replicate}
 use Rattle.sw_char.specs.declared.nchar.End.{End}
 use Rattle.sw_history.proofs.Follows.{follows_where_possible}
 use Rattle.sw_history.specs.History.{HistoryView, IsKept, IsNext, LeadsTo}
-use Rattle.sw_limit.specs.History.{next_packet, packets_at, packets_of}
-use Rattle.sw_limit.specs.Limit.{AreDeclared}
+use Rattle.sw_load.specs.History.{next_packet, packets_at, packets_of}
+use Rattle.sw_load.specs.Laws.{AreDeclared}
 use Rattle.sw_load.specs.Load.{LoadEntry}
 use Rattle.sw_machine.specs.State.{State, empty}
 use Rattle.sw_machine.specs.Steps.{Begin}
 use Rattle.sw_model.specs.Model.{network_of}
 use Rattle.sw_net.specs.Net.{IsNetState, NetView}
-use Rattle.sw_limit.proofs.Sends.{flow_from}
+use Rattle.sw_load.proofs.Sends.{flow_from}
 use Rattle.sw_config.specs.Entries.{Declaration, FlowEntry, all_flows}
 
 all_zero : (n k count : ℕ) → slice_get (replicate n 0) k ≡ Some count → count ≡ 0

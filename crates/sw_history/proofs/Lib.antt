@@ -8,3 +8,11 @@ mod Undeclared
 mod Whole
 mod Noting
 mod Asking
+pub mod Begun
+pub mod Way
+mod Turned
+pub mod Ends
+pub mod IdleEmpty
+pub mod Steps
+pub mod Loop
+pub mod Enabled

@@ -10,8 +10,8 @@ use Rattle.sw_history.specs.Next.{beginner_of}
 use Rattle.sw_history.specs.Noted.{IsNoted, begin_or, noted_step, packet_after, senders_of}
 use Rattle.sw_history.specs.declared.record.Noted.{Noted}
 use Rattle.sw_history.specs.declared.record.Noted.TheVariants as note
-use Rattle.sw_limit.specs.History.{BeginsNext, next_packet, packets_at, packets_of}
-use Rattle.sw_limit.specs.Senders.{SendersView}
+use Rattle.sw_load.specs.History.{BeginsNext, next_packet, packets_at, packets_of}
+use Rattle.sw_load.specs.Senders.{SendersView}
 use Rattle.sw_load.specs.Load.{LoadEntry}
 use Rattle.sw_machine.specs.Begun.{Begun, beginnings}
 use Rattle.sw_machine.specs.Steps.{Accept, Arrive, Begin, Drop, Emit, Fct, FctIn, Forward, Grant, Reply, Spill, Step}

@@ -5,7 +5,7 @@ use Rattle.sw_history.specs.History.{Adds, HistoryView, IsKept}
 use Rattle.sw_history.specs.Makes.{Makes}
 use Rattle.sw_history.specs.declared.fault.StepFault.{StepFault}
 use Rattle.sw_history.specs.declared.fault.StepFault.TheVariants.{Memory, NotEnabled}
-use Rattle.sw_limit.specs.History.{BeginsNext, packets_of}
+use Rattle.sw_load.specs.History.{BeginsNext, packets_of}
 use Rattle.sw_machine.specs.Steps.{IsPossible, Step}
 use Rattle.sw_model.specs.Model.{network_of}
 use Rattle.sw_net.specs.Net.{NetView}

@@ -4,10 +4,10 @@ use Rattle.std.specs.Prelude.{is_some, slice_get}
 use Rattle.std.proofs.lemmas.Bool.{cases_lt}
 use Rattle.std.proofs.lemmas.Option.{slice_get_past}
 use Rattle.sw_cell.proofs.Network.{nodes_are}
-use Rattle.sw_limit.proofs.Grown.{slice_get-behind}
-use Rattle.sw_limit.proofs.Sends.{entry_first, other_copies}
-use Rattle.sw_limit.specs.History.{IsHistory, IsWhole, next_packet, packet_of, packets_at, packets_of}
-use Rattle.sw_limit.specs.Limit.{AreDeclared}
+use Rattle.sw_load.proofs.Grown.{slice_get-behind}
+use Rattle.sw_load.proofs.Sends.{entry_first, other_copies}
+use Rattle.sw_load.specs.History.{IsHistory, IsWhole, next_packet, packet_of, packets_at, packets_of}
+use Rattle.sw_load.specs.Laws.{AreDeclared}
 use Rattle.sw_model.proofs.Declares.{declared_are_declared}
 use Rattle.sw_load.specs.Load.{LoadEntry}
 use Rattle.sw_machine.specs.Begun.{Begun, beginnings}

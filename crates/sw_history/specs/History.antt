@@ -3,8 +3,8 @@ use Rattle.std.specs.Prelude.{Err, List, Ok, Result, [], length, slice_get, Some
 use Rattle.sw_history.specs.Next.{MayFollow}
 use Rattle.sw_history.specs.declared.fault.StepFault.{StepFault}
 use Rattle.sw_history.specs.declared.fault.StepFault.TheVariants.{Memory, NotEnabled}
-use Rattle.sw_limit.specs.History.{IsHistory, packets_at, packets_of}
-use Rattle.sw_limit.specs.Limit.{AreDeclared}
+use Rattle.sw_load.specs.History.{IsHistory, packets_at, packets_of}
+use Rattle.sw_load.specs.Laws.{AreDeclared}
 use Rattle.sw_load.specs.Load.{LoadEntry}
 use Rattle.sw_machine.specs.Begun.{beginnings}
 use Rattle.sw_machine.specs.Parts.{link_end_of}

@@ -1,7 +1,7 @@
 -- What holds of histories.
 use Rattle.std.specs.Prelude.{List, ◌↔◌, ◌≡◌}
 use Rattle.sw_history.specs.Next.{MayFollow}
-use Rattle.sw_limit.specs.History.{BeginsNext, IsHistory}
+use Rattle.sw_load.specs.History.{BeginsNext, IsHistory}
 use Rattle.sw_machine.specs.Begun.{Begun}
 use Rattle.sw_machine.specs.Network.{Network}
 use Rattle.sw_machine.specs.State.{State}

@@ -4,3 +4,8 @@ pub mod History
 pub mod Makes
 pub mod Noted
 pub mod Asking
+pub mod Drained
+pub mod Enabled
+pub mod DrainLaws
+pub mod Way
+pub mod Turns

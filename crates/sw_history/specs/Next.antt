@@ -1,6 +1,6 @@
 -- What may come next in the history of a load.
 use Rattle.std.specs.Prelude.{List, None, Option, Some, [], ℕ, ◌++◌, ◌∷◌, ◌≡◌}
-use Rattle.sw_limit.specs.History.{IsHistory}
+use Rattle.sw_load.specs.History.{IsHistory}
 use Rattle.sw_machine.specs.Begun.{Begun}
 use Rattle.sw_machine.specs.Network.{Network}
 use Rattle.sw_machine.specs.Parts.{link_end_of}

@@ -5,8 +5,8 @@ use Rattle.sw_history.specs.History.{HistoryView}
 use Rattle.sw_history.specs.Next.{begin_of}
 use Rattle.sw_history.specs.declared.record.Noted.{Noted}
 use Rattle.sw_history.specs.declared.record.Noted.TheVariants.{Accept, Arrive, Begin, Drop, Emit, Fct, FctIn, Forward, Grant, Reply, Spill}
-use Rattle.sw_limit.specs.History.{packets_at, packets_of}
-use Rattle.sw_limit.specs.Senders.{SendersView}
+use Rattle.sw_load.specs.History.{packets_at, packets_of}
+use Rattle.sw_load.specs.Senders.{SendersView}
 use Rattle.sw_machine.specs.Begun.{Begun}
 use Rattle.sw_machine.specs.Steps as machine
 use Rattle.sw_model.specs.Model.{network_of}

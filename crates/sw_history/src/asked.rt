@@ -1,6 +1,6 @@
 //! What can be asked of a history.
 ghost use Rattle.std.specs.Prelude.{◌≡◌, ◌↔◌, ◌<◌, ◌*◌, IfOk, IsTrue, is_some, length, map};
-ghost use Rattle.sw_limit.specs.History.{IsWhole, next_packet, packets_of};
+ghost use Rattle.sw_load.specs.History.{IsWhole, next_packet, packets_of};
 ghost use Rattle.sw_machine.specs.State.{State};
 ghost use Rattle.sw_model.specs.Model.{network_of};
 ghost use Rattle.sw_net.specs.Net.{IsNetState};

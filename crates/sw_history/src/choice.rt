@@ -1,7 +1,7 @@
 //! A step that may be the next.
 ghost use Rattle.std.specs.Prelude.{◌≡◌, ◌<◌, ◌*◌, IfNone, IfOk, IfSome, length};
 ghost use Rattle.sw_history.specs.Next.{begin_of};
-ghost use Rattle.sw_limit.specs.History.{packet_of, packets_of};
+ghost use Rattle.sw_load.specs.History.{packet_of, packets_of};
 ghost use Rattle.sw_model.specs.Model.{network_of};
 ghost use Rattle.sw_model.specs.Steps.{machine_step};
 

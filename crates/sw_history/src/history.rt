@@ -8,8 +8,7 @@ use std::alloc::{AllocError, Global};
 use std::marker::Model;
 use sw_arb::Arbiter;
 use sw_char::End;
-use sw_limit::Senders;
-use sw_load::{Load, LoadPacket};
+use sw_load::{Load, LoadPacket, Senders};
 use sw_model::Step;
 use sw_net::Net;
 use sw_route::Routing;
@@ -46,7 +45,7 @@ impl<'n, R: Routing, A: Arbiter> History<'n, R, A> {
     ghost use Rattle.sw_history.specs.declared.fault.StepFault.TheVariants.{NotEnabled};
     ghost use Rattle.sw_machine.specs.Steps.{Begin};
     ghost use Rattle.sw_model.specs.Steps.{machine_step};
-    ghost use Rattle.sw_limit.specs.History.{BeginsNext, next_packet, packet_of, packets_of};
+    ghost use Rattle.sw_load.specs.History.{BeginsNext, next_packet, packet_of, packets_of};
     ghost use Rattle.sw_model.specs.Model.{network_of};
 
     /// How many steps there are.
@@ -159,7 +158,7 @@ impl<'n, R: Routing, A: Arbiter> History<'n, R, A> {
 
 impl<'n, R: Routing + Drop, A: Arbiter + Drop> History<'n, R, A> {
     ghost use Rattle.std.specs.Prelude.{◌≡◌, IfOk, []};
-    ghost use Rattle.sw_limit.specs.Limit.{AreDeclared};
+    ghost use Rattle.sw_load.specs.Laws.{AreDeclared};
     ghost use Rattle.sw_machine.specs.State.{empty};
     ghost use Rattle.sw_model.specs.Model.{network_of};
     ghost use Rattle.sw_net.specs.Net.{IsNetState};

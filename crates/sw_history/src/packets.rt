@@ -1,7 +1,7 @@
 //! The packets of a load, by the node that sends them.
 ghost use Rattle.std.specs.Prelude.{◌≡◌, ◌↔◌, ◌<◌, IfSome, IsTrue, length, slice_index};
 ghost use Rattle.sw_history.specs.Makes.{counted_with};
-ghost use Rattle.sw_limit.specs.History.{packet_of};
+ghost use Rattle.sw_load.specs.History.{packet_of};
 
 use sw_char::End;
 use sw_load::LoadPacket;

@@ -2,15 +2,14 @@
 ghost use Rattle.std.specs.Prelude.{◌≡◌, All, IfOk, false, map};
 ghost use Rattle.sw_history.specs.Next.{begin_of};
 ghost use Rattle.sw_history.specs.Noted.{IsNoted, noted_step};
-ghost use Rattle.sw_limit.specs.History.{packet_of};
-ghost use Rattle.sw_limit.specs.Senders.{SendersView};
+ghost use Rattle.sw_load.specs.History.{packet_of};
+ghost use Rattle.sw_load.specs.Senders.{SendersView};
 ghost use Rattle.sw_machine.specs.Steps.{is_begin};
 ghost use Rattle.sw_model.specs.Steps.{machine_step};
 
 use std::alloc::{AllocError, Global};
 use std::marker::Model;
-use sw_limit::Senders;
-use sw_load::LoadPacket;
+use sw_load::{LoadPacket, Senders};
 use sw_model::Step;
 use sw_topo::Chan;
 

@@ -7,7 +7,7 @@ use Rattle.sw_history.specs.History.{HistoryView, IsNextAt}
 use Rattle.sw_history.specs.Next.{IsIdle}
 use Rattle.sw_journal.proofs.Commit.{view_of}
 use Rattle.sw_journal.specs.Choices.{Chooses}
-use Rattle.sw_limit.specs.History.{packets_of}
+use Rattle.sw_load.specs.History.{packets_of}
 use Rattle.sw_model.specs.Model.{network_of}
 use Rattle.sw_model.specs.Steps.{machine_step}
 use Rattle.sw_model.specs.declared.step.Step.{Step as CodeStep}

@@ -23,7 +23,7 @@ use Rattle.sw_journal.specs.Renewal.{AreRenewedAfter, is_it, is_one_of, renewed}
 use Rattle.sw_journal.specs.declared.fault.JournalFault.{JournalFault}
 use Rattle.sw_journal.specs.declared.fault.JournalFault.TheVariants as journal
 use Rattle.sw_load.specs.Load.{LoadEntry}
-use Rattle.sw_limit.specs.History.{IsHistory, packets_of}
+use Rattle.sw_load.specs.History.{IsHistory, packets_of}
 use Rattle.sw_machine.specs.Begun.{Begun}
 use Rattle.sw_machine.specs.Network.{IsNetwork, Network}
 use Rattle.sw_machine.specs.Parts.{cell_of}

@@ -9,7 +9,7 @@ use Rattle.sw_history.proofs.Follows.{follows_where_possible}
 use Rattle.sw_journal.proofs.Told.{at_its_cell, received_ends, reverse_back}
 use Rattle.sw_journal.specs.Cells.{end_numbers, ends_at, same_cell}
 use Rattle.sw_journal.specs.Laws.{HasNumbers, IsByNumbers, OfNowCells}
-use Rattle.sw_limit.specs.History.{packets_of}
+use Rattle.sw_load.specs.History.{packets_of}
 use Rattle.sw_machine.specs.Network.{AtNode, AtSwitch, Cell, Network, reverse_of}
 use Rattle.sw_machine.specs.State.{State, after_fct}
 use Rattle.sw_machine.specs.Steps.{Fct}

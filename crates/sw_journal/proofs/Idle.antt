@@ -10,7 +10,7 @@ use Rattle.sw_journal.proofs.Commit.{possible_of}
 use Rattle.sw_journal.specs.Asked.{IsStill, IsStuck, IsUndelivered}
 use Rattle.sw_journal.specs.Marks.{IsTrueMark}
 use Rattle.sw_journal.specs.Record.{JournalView, IsTrueView, IsKept, with_marks}
-use Rattle.sw_limit.specs.History.{BeginsNext, packets_of}
+use Rattle.sw_load.specs.History.{BeginsNext, packets_of}
 use Rattle.sw_machine.proofs.Parts.{link_ends}
 use Rattle.sw_machine.specs.Begun.{Begun}
 use Rattle.sw_machine.specs.Network.{IsNetwork, Network}

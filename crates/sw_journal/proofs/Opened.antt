@@ -15,7 +15,7 @@ use Rattle.sw_journal.proofs.Told.{is_same_cell}
 use Rattle.sw_journal.specs.Cells.{all_known, same_cell}
 use Rattle.sw_journal.specs.Opening.{numbered_of}
 use Rattle.sw_journal.specs.Record.{JournalView, IsKept}
-use Rattle.sw_limit.specs.History.{packets_at, packets_of}
+use Rattle.sw_load.specs.History.{packets_at, packets_of}
 use Rattle.sw_load.specs.Load.{LoadEntry}
 use Rattle.sw_machine.specs.Network.{AtNode, AtSwitch, Cell, Network}
 use Rattle.sw_machine.specs.State.{State, empty}

@@ -2,7 +2,7 @@
 use Rattle.std.specs.Prelude.{List, ℕ, ◌≡◌}
 use Rattle.sw_history.specs.Next.{MayFollow}
 use Rattle.sw_journal.specs.Record.{JournalView, LeadsTo}
-use Rattle.sw_limit.specs.History.{IsWhole, packets_of}
+use Rattle.sw_load.specs.History.{IsWhole, packets_of}
 use Rattle.sw_machine.specs.Packets.{Packet}
 use Rattle.sw_machine.specs.Runs.{CameOut, IsLockedUp, undelivered}
 use Rattle.sw_machine.specs.State.{State}

@@ -3,7 +3,7 @@ use Rattle.std.specs.Prelude.{Err, None, Ok, Option, Result, Some, true, â„•, â—
 use Rattle.std.specs.declared.alloc.AllocError.{AllocError}
 use Rattle.sw_history.specs.Next.{IsIdle, MayFollow}
 use Rattle.sw_journal.specs.Record.{JournalView, Declares}
-use Rattle.sw_limit.specs.History.{packets_of}
+use Rattle.sw_load.specs.History.{packets_of}
 use Rattle.sw_machine.specs.Parts.{link_end_of}
 use Rattle.sw_machine.specs.Steps.{Step}
 use Rattle.sw_model.specs.Model.{network_of}

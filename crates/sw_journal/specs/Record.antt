@@ -9,7 +9,7 @@ use Rattle.sw_journal.specs.Cells.{all_known, cells_of, numbered}
 use Rattle.sw_journal.specs.Marks.{IsTrueMark}
 use Rattle.sw_journal.specs.declared.fault.JournalFault.{JournalFault}
 use Rattle.sw_journal.specs.declared.fault.JournalFault.TheVariants.{Full, Memory, NotEnabled}
-use Rattle.sw_limit.specs.History.{IsHistory, packets_of}
+use Rattle.sw_load.specs.History.{IsHistory, packets_of}
 use Rattle.sw_load.specs.Load.{LoadEntry}
 use Rattle.sw_machine.specs.Network.{IsNetwork}
 use Rattle.sw_machine.specs.Parts.{cell_of}

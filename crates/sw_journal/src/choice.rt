@@ -3,7 +3,7 @@ ghost use Rattle.std.specs.Prelude.{◌≡◌, ◌<◌, ◌*◌, IfOk, IsSome, l
 ghost use Rattle.sw_history.specs.Asking.{AreAsking};
 ghost use Rattle.sw_journal.specs.Cells.{end_numbers};
 ghost use Rattle.sw_journal.specs.Choices.{Chooses, ChoosesOrMarks};
-ghost use Rattle.sw_limit.specs.History.{packets_of};
+ghost use Rattle.sw_load.specs.History.{packets_of};
 
 use crate::cell::Cell;
 use crate::journal::Journal;

@@ -60,7 +60,7 @@ impl<'n> Model for Journal<'n> {
 impl<'n> Journal<'n> {
     ghost use Rattle.std.specs.Prelude.{IfOk};
     ghost use Rattle.sw_journal.specs.Record.{Commits, IsTrueView, IsNew, IsNowCell, new_cells};
-    ghost use Rattle.sw_limit.specs.Limit.{AreDeclared};
+    ghost use Rattle.sw_load.specs.Laws.{AreDeclared};
     ghost use Rattle.sw_model.specs.Steps.{machine_step};
 
     /// A journal of no steps and no marks, and a cell for each node and each switch of the network,

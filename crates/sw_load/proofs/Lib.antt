@@ -1,3 +1,7 @@
 mod Spelled
 pub mod Listed
 pub mod Digits
+pub mod Fronts
+pub mod Grown
+pub mod Packets
+pub mod Sends

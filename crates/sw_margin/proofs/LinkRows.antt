@@ -9,7 +9,7 @@ use Rattle.sw_graph.specs.Rows.{row}
 use Rattle.sw_cycle.specs.Goers.{IsRowSet}
 use Rattle.sw_cycle.proofs.AllGoing.{First, first_all, first_kept, first_more, first_none}
 use Rattle.sw_margin.specs.Losses.{AreLosses, IsLost, NeedsLink}
-use Rattle.sw_dependency.specs.Answering.{is_marked}
+use Rattle.sw_cycle.specs.Answering.{is_marked}
 use Rattle.sw_margin.specs.Needs.{AreAdded, AreLossesOf, AreNeeded, row_after}
 
 -- ---- one row

@@ -50,7 +50,7 @@ fn told_of_all<R: Threads + Sync>(
 /// Of each flow without a reply: whether the network stays free if the flow is answered, the replies going back over the links of its
 /// way, which goes on each time to the first of the places that follow.
 ///
-/// `rows` has for each channel those for which a packet on it may wait, as `sw_dependency::dependencies` gives them. Threads share
+/// `rows` has for each channel those for which a packet on it may wait, as `sw_cycle::dependencies` gives them. Threads share
 /// the work of each trial, as many as there are processors.
 ///
 /// # Errors

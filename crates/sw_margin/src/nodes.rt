@@ -58,7 +58,7 @@ fn told_of_all<R: Threads + Sync>(
 
 /// Of each node at which no flow with a reply ends: whether the network stays free if the node takes nothing while it wants to send.
 ///
-/// `rows` has for each channel those for which a packet on it may wait, as `sw_dependency::dependencies` gives them. Threads share
+/// `rows` has for each channel those for which a packet on it may wait, as `sw_cycle::dependencies` gives them. Threads share
 /// the work of each trial, as many as there are processors.
 ///
 /// # Errors

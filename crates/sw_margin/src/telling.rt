@@ -12,7 +12,7 @@ use crate::nodes::stalls;
 use std::alloc::{AllocError, Global};
 use std::thread::Threads;
 use sw_config::Network;
-use sw_dependency::dependencies;
+use sw_cycle::dependencies;
 use sw_flow::{Place, all_places};
 
 // For each channel those for which a packet on it may wait.

@@ -11,11 +11,11 @@ use Rattle.sw_output.specs.ChannelTexts.{node_name}
 use Rattle.sw_output.proofs.EachLine.{lines_more as one_line_more}
 
 -- the name that a node has
-name_is : (o : Option NodeEntry) (name : List ℕ) → option_map (λ (e : NodeEntry). e.name) o ≡ Some name → name ≡ option_map_or (λ (e : NodeEntry). e.name) o []
+pub name_is : (o : Option NodeEntry) (name : List ℕ) → option_map (λ (e : NodeEntry). e.name) o ≡ Some name → name ≡ option_map_or (λ (e : NodeEntry). e.name) o []
 name_is None name is = absurd cc
 name_is (Some e) name is = cc
 
-packets_are : (all : List (Vec PacketView)) (n : ℕ) (q : Vec PacketView) → n < length all → q ≡ get_or all n q → q.items ≡ get_or (map (λ (p : Vec PacketView). p.items) all) n []
+pub packets_are : (all : List (Vec PacketView)) (n : ℕ) (q : Vec PacketView) → n < length all → q ≡ get_or all n q → q.items ≡ get_or (map (λ (p : Vec PacketView). p.items) all) n []
 packets_are all n q lt is = ap (λ (p : Vec PacketView). p.items) is ∙ sym (get_or-map (λ (p : Vec PacketView). p.items) all n q [] lt)
 
 module _ (text : List ℕ → List PacketView → List ℕ) (d : Declaration) (all : List (Vec PacketView)) where

@@ -8,7 +8,12 @@ use std::alloc::{AllocError, Global};
 use sw_config::Network;
 use sw_topo::{Chan, PlaceEnd};
 
-fn end_text(alloc: Global, network: &Network, end: PlaceEnd) -> Result<String, AllocError>
+/// An end of a link: the node's name, or the switch's name and the port.
+///
+/// # Errors
+///
+/// There is no memory for the text.
+pub fn end_text(alloc: Global, network: &Network, end: PlaceEnd) -> Result<String, AllocError>
     requires { IsIn (length network.now.nodes) (length network.now.switches) end }
     ensures { IfOk result (λ s. string_bytes s ≡ end_text network.now end) }
 {

@@ -17,7 +17,8 @@ pub fn undelivered_line(alloc: Global, count: u64) -> Result<String, AllocError>
     format!(in alloc; "undelivered {count}\n")
 }
 
-pub(crate) fn end_text(end: End) -> &'static str
+/// How a packet ends, in three letters.
+pub fn end_text(end: End) -> &'static str
     ensures { result.now ≡ end_text end }
 {
     match end {

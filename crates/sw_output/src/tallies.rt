@@ -10,9 +10,9 @@ use sw_char::{End, Packet};
 
 /// A packet, and how often it came out.
 #[derive(Drop)]
-pub(crate) struct Tally<'a> {
-    pub(crate) packet: &'a Packet,
-    pub(crate) count: u64,
+pub struct Tally<'a> {
+    pub packet: &'a Packet,
+    pub count: u64,
 }
 
 impl<'a> Model for Tally<'a> {
@@ -78,10 +78,11 @@ fn add<'a>(tallies: &mut Vec<Tally<'a>>, packet: &'a Packet) -> Result<(), Alloc
 }
 
 /// The different packets in rising order, each with how often it is listed.
-pub(crate) fn tallies<'a>(
-    alloc: Global,
-    packets: &'a [Packet],
-) -> Result<Vec<Tally<'a>>, AllocError>
+///
+/// # Errors
+///
+/// There is no memory for the list.
+pub fn tallies<'a>(alloc: Global, packets: &'a [Packet]) -> Result<Vec<Tally<'a>>, AllocError>
     ensures { IfOk result (λ all. all.items ≡ tallies packets.now) }
 {
     let mut all = Vec::new(alloc);

@@ -177,8 +177,8 @@ fn greatest(numbers: &[u16]) -> Option<u16>
     numbers.iter().copied().max()
 }
 
-// The greatest of the numbers, 0 where there is none.
-fn height(numbers: &[u16]) -> u16
+/// The greatest of the numbers, 0 where there is none.
+pub fn height(numbers: &[u16]) -> u16
     ensures { result ≡ height numbers.now }
 {
     greatest(numbers).unwrap_or(0)

@@ -5,7 +5,7 @@ use Rattle.std.proofs.lemmas.Bool.Decides.{nat_tests}
 use Rattle.std.proofs.lemmas.List.Elements.{All-append, All-cons, All-head, All-nil, All-tail, filter-append}
 use Rattle.std.specs.Option.{option_map_or}
 use Rattle.std.specs.Prelude.{◌&&◌}
-use Rattle.sw_limit.specs.History.{packets_at}
+use Rattle.sw_load.specs.History.{packets_at}
 use Rattle.sw_machine.proofs.Balance.{count_append}
 use Rattle.sw_machine.proofs.Free.{is_deadlock_free}
 use Rattle.sw_machine.proofs.Ghost.{Ghost, Inv}

@@ -3,7 +3,7 @@ use Rattle.std.proofs.Common.{List, ap, arith, length, subst, sym, ℕ, ◌∙�
 use Rattle.sw_history.proofs.Follows.{one_state_after}
 use Rattle.sw_journal.specs.Asked.{IsUndelivered}
 use Rattle.sw_journal.specs.Record.{JournalView, LeadsTo}
-use Rattle.sw_limit.specs.History.{IsHistory, IsWhole, packets_of}
+use Rattle.sw_load.specs.History.{IsHistory, IsWhole, packets_of}
 use Rattle.sw_load.specs.Load.{LoadEntry}
 use Rattle.sw_machine.specs.Runs.{IsLockedUp}
 use Rattle.sw_machine.specs.State.{State}

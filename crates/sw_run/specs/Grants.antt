@@ -8,7 +8,7 @@ use Rattle.sw_flow.specs.Places.{ends_of}
 use Rattle.sw_history.specs.Asking.{AreAsking}
 use Rattle.sw_journal.specs.Choices.{IsNext, IsStepOf}
 use Rattle.sw_journal.specs.Record.{CanCommit, JournalView, with_step}
-use Rattle.sw_limit.specs.History.{packets_of}
+use Rattle.sw_load.specs.History.{packets_of}
 use Rattle.sw_machine.specs.Network.{AtSwitch}
 use Rattle.sw_machine.specs.Steps.{Fct, Grant, Step}
 use Rattle.sw_net.specs.Asking.{IsInput}

@@ -1,7 +1,7 @@
 -- What holds of outcomes where a certificate is accepted for the network.
 use Rattle.std.specs.Prelude.{All, Bool, List, Some, count_by, length, map, slice_get, ℕ, ◌++◌, ◌<◌, ◌≡◌, ◌≤◌}
-use Rattle.sw_limit.specs.History.{packets_of}
-use Rattle.sw_limit.specs.Limit.{enough_limit}
+use Rattle.sw_load.specs.History.{packets_of}
+use Rattle.sw_load.specs.Limit.{enough_limit}
 use Rattle.sw_load.specs.Load.{LoadEntry}
 use Rattle.sw_machine.specs.Begun.{AsOften, Begun, is_answered_at, is_reply_at, sent_to}
 use Rattle.sw_machine.specs.Certificate.{Certificate, IsAccepted}

@@ -1,7 +1,7 @@
 -- What an outcome says.
 use Rattle.std.specs.Prelude.{List, Some, length, map, slice_get, ℕ, ◌≡◌, ◌≤◌}
 use Rattle.sw_journal.specs.Next.{MayFollow}
-use Rattle.sw_limit.specs.History.{IsHistory, IsWhole, packets_of}
+use Rattle.sw_load.specs.History.{IsHistory, IsWhole, packets_of}
 use Rattle.sw_load.specs.Load.{LoadEntry}
 use Rattle.sw_machine.specs.Begun.{Begun}
 use Rattle.sw_machine.specs.Network.{Network}

@@ -1,7 +1,7 @@
 //! What holds of outcomes where a certificate is accepted for the network. These functions do nothing: each is the proof of what its clause says.
 ghost use Rattle.sw_run.specs.Laws.{HasOneCount, IsDeliveredWhereDrained, IsNotFull, IsNotStuck, OfAcceptedOutcomes};
 
-use sw_limit::laws::accepted_histories_end;
+use sw_load::history_laws::accepted_histories_end;
 use sw_machine::laws::accepted_is_never_locked_up;
 use sw_model::laws::declared_networks_are_networks;
 

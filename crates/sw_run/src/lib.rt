@@ -22,5 +22,5 @@ pub use progress::with_progress;
 pub use running::run;
 pub use sw_cell::CellId;
 pub use sw_config::Network;
-pub use sw_limit::laws::listed_are_declared;
 pub use sw_load::Load;
+pub use sw_load::laws::listed_are_declared;

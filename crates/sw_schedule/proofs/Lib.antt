@@ -2,3 +2,11 @@ mod Named
 mod Reading
 mod Parts
 mod Written
+mod Words
+mod WrittenCargo
+mod WrittenNames
+mod Listed
+mod Entries
+mod WrittenLines
+mod Histories
+mod Texts

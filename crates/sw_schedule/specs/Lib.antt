@@ -3,3 +3,7 @@ pub mod Lines
 pub mod Schedule
 pub mod Laws
 pub mod Spelling
+pub mod WrittenLines
+pub mod Runs
+pub mod Views
+pub mod TextLaws

@@ -16,4 +16,9 @@ pub mod Paths
 pub mod Decided
 pub mod Exactly
 pub mod Waits
+pub mod CycleChannels
 mod Said
+pub mod Told
+pub mod Lawful
+pub mod Verdicts
+pub mod Went

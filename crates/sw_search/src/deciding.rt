@@ -15,7 +15,7 @@ use crate::verdict::{Findings, Verdict};
 use std::alloc::{AllocError, Global};
 use std::thread::Threads;
 use sw_config::Network;
-use sw_dependency::dependencies;
+use sw_cycle::dependencies;
 use sw_flow::{Place, all_places};
 use sw_graph::Order;
 

@@ -1,17 +1,28 @@
-//! The verdict on a network: misrouted, cyclic, or free of deadlocks.
+//! The verdict on a network: misrouted, cyclic, or free of deadlocks; and why it can lock up: the flow that
+//! is not well routed, or the tangles of its channels, each with a shortest cycle.
 #![tactic(auto)]
 
 mod counts;
 mod cyclic;
 mod deciding;
+mod explaining;
+mod explanation;
+pub mod explanation_laws;
 mod free;
 mod freedom;
 pub mod laws;
 mod misrouted;
+mod misrouted_way;
 mod order;
+mod tangle;
+mod tangling;
 mod verdict;
 
 pub use deciding::{decide, survey};
+pub use explaining::explain;
+pub use explanation::Explanation;
 pub use freedom::is_free;
 pub use misrouted::fault_of_flow;
+pub use tangle::Tangle;
+pub use tangling::tangles;
 pub use verdict::{Findings, Verdict};

@@ -3,3 +3,9 @@ pub mod Taken
 pub mod Lists
 pub mod FlowSteps
 pub mod Written
+pub mod Buffers
+pub mod Through
+pub mod SoFar
+pub mod FillLists
+pub mod Held
+pub mod Refused

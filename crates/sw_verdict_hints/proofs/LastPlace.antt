@@ -2,7 +2,7 @@
 use Rattle.std.proofs.Common.{◌≡◌, ◌<◌, ◌++◌, ℕ, All, List, [], ◌∷◌, length, subst}
 use Rattle.std.proofs.lemmas.List.Elements.{All-head, All-tail}
 use Rattle.sw_config.specs.Entries.{Declaration, wiring_of}
-use Rattle.sw_explain.specs.Explanations.{GoesWrong}
+use Rattle.sw_search.specs.Explanations.{GoesWrong}
 use Rattle.sw_flow.specs.declared.fault.RouteFault.{RouteFault}
 use Rattle.sw_flow.specs.declared.place.Place.{Place}
 use Rattle.sw_app_explain.proofs.OnChannels.{way_within}

@@ -2,9 +2,9 @@
 use Rattle.std.specs.Prelude.{◌≡◌, ℕ, List, [], Option, Some, None, Result, Ok, Err, String, codes, option_map, string_bytes}
 use Rattle.std.specs.declared.alloc.Global.{Global}
 use Rattle.sw_config.specs.Entries.{Declaration}
-use Rattle.sw_explain.specs.declared.explanation.Explanation.{Explanation}
-use Rattle.sw_explain.specs.declared.explanation.Explanation.TheVariants.{Misrouted, Cyclic, Free}
-use Rattle.sw_explain.specs.Explanations.{IsExplanation}
+use Rattle.sw_search.specs.declared.explanation.Explanation.{Explanation}
+use Rattle.sw_search.specs.declared.explanation.Explanation.TheVariants.{Misrouted, Cyclic, Free}
+use Rattle.sw_search.specs.Explanations.{IsExplanation}
 use Rattle.sw_file.specs.Network.{network_text}
 use Rattle.sw_hints.specs.HintLines.{head_line}
 use Rattle.sw_toml_table.specs.declared.fault.TextFault.{TextFault}

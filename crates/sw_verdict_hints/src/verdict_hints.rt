@@ -1,6 +1,6 @@
 //! The hint of a verdict that is not free, and of a misrouted one alone.
 ghost use Rattle.std.specs.Prelude.{◌≡◌, IfOk, option_map, string_bytes};
-ghost use Rattle.sw_explain.specs.Explanations.{GoesWrong, IsExplanation};
+ghost use Rattle.sw_search.specs.Explanations.{GoesWrong, IsExplanation};
 ghost use Rattle.sw_verdict_hints.specs.RouteHints.{misrouted_hint};
 ghost use Rattle.sw_verdict_hints.specs.VerdictHints.{IsHintFor, IsMisroutedHint, IsMisroutedHintFor, IsVerdictHint, cyclic_hint, hint_by, misrouted_hint_by};
 
@@ -8,10 +8,10 @@ use crate::route_hints::flow_hint;
 use std::alloc::{AllocError, Global};
 use std::thread::Threads;
 use sw_config::Network;
-use sw_explain::{Explanation, explain};
 use sw_file::read_network;
 use sw_flow::{Place, RouteFault};
 use sw_hints::head_line;
+use sw_search::{Explanation, explain};
 use sw_toml_table::FileFault;
 
 // Where to look at channels that can wait for one another in a circle.

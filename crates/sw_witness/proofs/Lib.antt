@@ -1,1 +1,6 @@
 mod Confirmed
+mod SameRuns
+mod NoReply
+mod Listings
+mod Taken
+pub mod Away

@@ -1,1 +1,4 @@
 pub mod Witnesses
+pub mod OtherFlows
+pub mod Unanswered
+pub mod Laws

@@ -11,7 +11,7 @@ use crate::way::way_between;
 use crate::worm::place_worm;
 use std::alloc::{AllocError, Global};
 use sw_config::Network;
-use sw_explain::Tangle;
+use sw_search::Tangle;
 use sw_topo::{Chan, PlaceEnd};
 
 /// A network has at most so many channels.
@@ -161,7 +161,7 @@ fn confirmed_try(
 
 /// A schedule that leads the network into a lock-up, by at most so many tries. None says nothing of the network.
 ///
-/// `tangles` tells where to look, as `sw_explain::tangles` gives them. The same seed gives the same tries. Whatever the search does,
+/// `tangles` tells where to look, as `sw_search::tangles` gives them. The same seed gives the same tries. Whatever the search does,
 /// its schedule is replayed before it is given.
 ///
 /// # Errors

@@ -1,16 +1,22 @@
-//! A search for a lock-up: a schedule that leads a network into one. What is found is replayed before it is told.
+//! A search for a lock-up: a schedule that leads a network into one. What is found is replayed before it is told. And replies that
+//! can't happen, and whether a network is free without them.
 #![tactic(auto)]
 
 mod command;
 mod confirm;
 mod finding;
+pub mod laws;
 mod line;
 mod notes;
 mod random;
 mod replying;
 mod trial;
+mod unanswered_flows;
 mod way;
+mod without;
 mod worm;
 
 pub use confirm::locks_up;
 pub use finding::find;
+pub use unanswered_flows::never_answered;
+pub use without::is_free_without;

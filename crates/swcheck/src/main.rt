@@ -6,5 +6,5 @@ use std::process::ExitCode;
 use sw_cli::run_program;
 
 fn main(rt: HostRuntime) -> ExitCode {
-    ExitCode::from(run_program(&rt, rt.stderr().is_terminal()))
+    ExitCode::from(run_program(&rt, &rt, rt.stderr().is_terminal()))
 }

@@ -1,6 +1,6 @@
 //! Networks that are drained.
 ghost use Rattle.std.specs.Prelude.{◌≡◌};
-ghost use Rattle.sw_limit.specs.Limit.{AreDeclared};
+ghost use Rattle.sw_load.specs.Laws.{AreDeclared};
 
 use std::alloc::{AllocError, Global};
 use std::io;
@@ -8,8 +8,8 @@ use std::thread::Threads;
 use sw_cert::Certificate;
 use sw_check::{Passed, check};
 use sw_config::Network;
-use sw_drain::drain;
-use sw_limit::laws::listed_are_declared;
+use sw_history::drain;
+use sw_load::laws::listed_are_declared;
 use sw_load::{Load, read_load};
 use sw_net::declared_net;
 

@@ -5,9 +5,8 @@ use std::alloc::Global;
 use std::rt::Files;
 use std::{fs, io};
 use sw_config::Network;
-use sw_limit::enough_limit;
-use sw_limit::laws::listed_are_declared;
-use sw_load::read_load;
+use sw_load::laws::listed_are_declared;
+use sw_load::{enough_limit, read_load};
 
 /// Networks, each with a load.
 static LOADS: [(&str, &str); 3] = [

@@ -5,7 +5,7 @@
 #![tactic(auto)]
 
 ghost use Rattle.std.specs.Prelude.{◌<◌};
-ghost use Rattle.sw_limit.specs.Limit.{AreDeclared};
+ghost use Rattle.sw_load.specs.Laws.{AreDeclared};
 
 mod certificates;
 mod files;

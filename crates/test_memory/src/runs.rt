@@ -1,6 +1,6 @@
 //! Networks in their empty state, histories, journals and runs of a load.
 ghost use Rattle.std.specs.Prelude.{◌<◌, IfOk, OnOk};
-ghost use Rattle.sw_limit.specs.Limit.{AreDeclared};
+ghost use Rattle.sw_load.specs.Laws.{AreDeclared};
 ghost use Rattle.sw_net.specs.New.{IsNewNet};
 
 use crate::steps::{Core, parts_of, text_of};

@@ -1,11 +1,11 @@
 //! Loads and schedules.
 ghost use Rattle.std.specs.Prelude.{IfOk};
-ghost use Rattle.sw_limit.specs.Limit.{AreDeclared};
+ghost use Rattle.sw_load.specs.Laws.{AreDeclared};
 
 use anyhow::{Result, bail};
 use std::alloc::Global;
 use sw_config::Network;
-use sw_limit::laws::listed_are_declared;
+use sw_load::laws::listed_are_declared;
 use sw_load::{Load, read_load};
 use sw_schedule::{Schedule, ScheduleFault, read_steps};
 use sw_toml_table::FileFault;

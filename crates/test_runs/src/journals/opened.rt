@@ -1,6 +1,6 @@
 //! A journal of a load.
 ghost use Rattle.std.specs.Prelude.{◌≡◌, All, IfOk};
-ghost use Rattle.sw_limit.specs.Limit.{AreDeclared};
+ghost use Rattle.sw_load.specs.Laws.{AreDeclared};
 
 use std::alloc::{AllocError, Global};
 use sw_config::Network;

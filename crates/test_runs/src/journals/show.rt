@@ -1,6 +1,6 @@
 //! What came of a run, as it is printed.
 ghost use Rattle.std.specs.Prelude.{◌<◌, ◌≡◌, All, length};
-ghost use Rattle.sw_limit.specs.Limit.{AreDeclared};
+ghost use Rattle.sw_load.specs.Laws.{AreDeclared};
 
 use crate::journals::opened::open;
 use crate::journals::tried::{try_full, try_line};
@@ -11,7 +11,7 @@ use std::sync::Wait;
 use std::thread::Threads;
 use sw_config::Network;
 use sw_journal::{Cell, Journal};
-use sw_limit::laws::listed_are_declared;
+use sw_load::laws::listed_are_declared;
 use sw_load::{Load, read_load};
 
 fn show_word(rt: &impl Print, word: &str, holds: bool) -> io::Result<()> {

@@ -1,15 +1,14 @@
 //! Loads, and the outcomes of runs.
 ghost use Rattle.std.specs.Prelude.{IfOk};
-ghost use Rattle.sw_limit.specs.Limit.{AreDeclared};
+ghost use Rattle.sw_load.specs.Laws.{AreDeclared};
 
 use crate::files::no_text;
 use std::io;
 use std::sync::Wait;
 use std::thread::Threads;
 use sw_config::Network;
-use sw_limit::enough_limit;
-use sw_limit::laws::listed_are_declared;
-use sw_load::{Load, read_load};
+use sw_load::laws::listed_are_declared;
+use sw_load::{Load, enough_limit, read_load};
 use sw_run::{Gate, Outcome, run};
 
 /// The load that the text declares.

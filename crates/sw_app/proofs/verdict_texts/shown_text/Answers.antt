@@ -1,4 +1,4 @@
-use Rattle.sw_app.proofs.CycleChannels.{cycle_within}
+use Rattle.sw_search.proofs.CycleChannels.{cycle_within}
 use Rattle.sw_app.proofs.verdict_texts.shown_text.Goals as goal
 
 pub cycle_text-requires : goal.cycle_text-requires

@@ -1,7 +1,7 @@
 use Rattle.std.proofs.Common.{◌≡◌, ◌++◌, codes, take, string_bytes}
 use Rattle.std.specs.Fmt.{decimal}
 use Rattle.std.specs.List.{flat_map}
-use Rattle.sw_explain.specs.declared.tangle.Tangle.{Tangle}
+use Rattle.sw_search.specs.declared.tangle.Tangle.{Tangle}
 use Rattle.sw_app_explain.proofs.tangle_texts.more_counts.Given as goal
 
 abbrev pub invariant-loop-tangle : goal.invariant-loop-tangle

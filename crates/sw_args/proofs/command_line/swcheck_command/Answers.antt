@@ -1,4 +1,4 @@
-use Rattle.sw_args.specs.CommandLine.{check_app, decide_app, draw_app, explain_app, margin_app, mend_app, migrate_app, replay_app, report_app, rmap_app, route_app, run_app, top_app, witness_app}
+use Rattle.sw_args.specs.CommandLine.{audit_app, check_app, decide_app, draw_app, explain_app, init_app, margin_app, mend_app, migrate_app, replay_app, report_app, rmap_app, route_app, run_app, top_app, witness_app}
 use Rattle.sw_args.proofs.command_line.swcheck_command.Goals as goal
 
 pub returns : goal.returns
@@ -15,4 +15,6 @@ returns c =
     let ten = c.with_subcommand-command-10.ensures _ rmap_app nine c.rmap_command.ensures in
     let eleven = c.with_subcommand-command-11.ensures _ mend_app ten c.mend_command.ensures in
     let twelve = c.with_subcommand-command-12.ensures _ margin_app eleven c.margin_command.ensures in
-    c.with_subcommand.ensures _ witness_app twelve c.witness_command.ensures
+    let thirteen = c.with_subcommand-command-13.ensures _ witness_app twelve c.witness_command.ensures in
+    let fourteen = c.with_subcommand-command-14.ensures _ audit_app thirteen c.audit_command.ensures in
+    c.with_subcommand.ensures _ init_app fourteen c.init_command.ensures

@@ -2,7 +2,7 @@ use Rattle.std.proofs.Common.{false, refl}
 use Rattle.sw_journal.proofs.Commit.{possible_of}
 use Rattle.sw_journal.proofs.journal.add_at.Goals as goal
 use Rattle.sw_journal.specs.Adding.{IsAtCell}
-use Rattle.sw_limit.specs.History.{packets_of}
+use Rattle.sw_load.specs.History.{packets_of}
 use Rattle.sw_model.specs.Model.{network_of}
 use Rattle.sw_model.specs.Steps.{machine_step}
 

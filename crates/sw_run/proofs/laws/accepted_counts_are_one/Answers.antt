@@ -1,5 +1,5 @@
 use Rattle.std.proofs.Common.{◌∙◌}
-use Rattle.sw_limit.specs.History.{packets_of}
+use Rattle.sw_load.specs.History.{packets_of}
 use Rattle.sw_model.specs.Model.{network_of}
 use Rattle.sw_run.proofs.Delivered.{same_nodes}
 use Rattle.sw_run.proofs.OneCount.{one_count}

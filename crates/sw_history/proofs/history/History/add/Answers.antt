@@ -8,7 +8,7 @@ use Rattle.sw_history.specs.Noted.{noted_step}
 use Rattle.sw_history.proofs.history.History.add.Goals as goal
 use Rattle.sw_history.specs.History.{Adds, HistoryView, IsCounted, IsKept}
 use Rattle.sw_history.specs.Makes.{counted_with}
-use Rattle.sw_limit.specs.History.{BeginsNext, packets_of}
+use Rattle.sw_load.specs.History.{BeginsNext, packets_of}
 use Rattle.sw_load.specs.Load.{packet_count}
 use Rattle.sw_model.specs.Model.{network_of}
 use Rattle.sw_net.specs.Net.{NetView}

@@ -2,7 +2,7 @@ use Rattle.std.proofs.Common.{IsTrue, subst, sym, ◌↔◌}
 use Rattle.sw_history.proofs.Idle.{begins_by}
 use Rattle.sw_history.proofs.history.History.begins.Goals as goal
 use Rattle.sw_history.specs.Next.{BeginsOne}
-use Rattle.sw_limit.specs.History.{packet_of, packets_of}
+use Rattle.sw_load.specs.History.{packet_of, packets_of}
 use Rattle.sw_model.specs.Model.{network_of}
 
 pub returns : goal.returns

@@ -4,7 +4,7 @@ use Rattle.std.proofs.lemmas.Bool.{false≢true}
 use Rattle.sw_history.proofs.Whole.{not_whole, whole}
 use Rattle.sw_history.proofs.history.History.is_whole.Goals as goal
 use Rattle.sw_history.specs.History.{HistoryView, IsKept}
-use Rattle.sw_limit.specs.History.{next_packet, packets_of}
+use Rattle.sw_load.specs.History.{next_packet, packets_of}
 use Rattle.sw_model.specs.Model.{network_of}
 use Rattle.sw_config.specs.Entries.{Declaration}
 use Rattle.sw_config.specs.Valid.{IsValid}

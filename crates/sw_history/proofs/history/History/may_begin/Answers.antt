@@ -3,7 +3,7 @@ use Rattle.sw_history.proofs.Idle.{begins_packet, begun_all, cannot_begin, if_ma
 use Rattle.sw_history.proofs.history.History.may_begin.Goals as goal
 use Rattle.sw_history.specs.History.{HistoryView, IsKept, IsNext}
 use Rattle.sw_history.specs.Next.{begin_of}
-use Rattle.sw_limit.specs.History.{packet_of}
+use Rattle.sw_load.specs.History.{packet_of}
 use Rattle.sw_model.specs.Model.{network_of}
 
 pub returns-then-not-can_begin-clause-none : goal.returns-then-not-can_begin-clause-none

@@ -3,7 +3,7 @@ use Rattle.sw_history.specs.Next.{IsIdle}
 use Rattle.sw_journal.proofs.Idle.{beyond_idle}
 use Rattle.sw_journal.proofs.journal.Journal.is_idle.Goals as goal
 use Rattle.sw_journal.specs.Record.{JournalView}
-use Rattle.sw_limit.specs.History.{packets_of}
+use Rattle.sw_load.specs.History.{packets_of}
 use Rattle.sw_model.specs.Model.{network_of}
 use Rattle.sw_config.specs.Entries.{Declaration}
 

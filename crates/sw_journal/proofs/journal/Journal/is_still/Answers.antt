@@ -2,7 +2,7 @@ use Rattle.std.proofs.Common.{ap, arith, false, length, refl, rules, subst, true
 use Rattle.sw_journal.proofs.Idle.{all_still}
 use Rattle.sw_journal.proofs.journal.Journal.is_still.Goals as goal
 use Rattle.sw_journal.specs.Record.{JournalView}
-use Rattle.sw_limit.specs.History.{packets_of}
+use Rattle.sw_load.specs.History.{packets_of}
 use Rattle.sw_machine.specs.Network.{IsNetwork}
 use Rattle.sw_model.specs.Model.{network_of}
 use Rattle.sw_config.specs.Entries.{Declaration}

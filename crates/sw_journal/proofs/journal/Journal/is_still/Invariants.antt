@@ -1,7 +1,7 @@
 use Rattle.std.proofs.Common.{ℕ, ◌<◌}
 use Rattle.sw_history.specs.Next.{IsIdle}
 use Rattle.sw_journal.proofs.journal.Journal.is_still.Given as goal
-use Rattle.sw_limit.specs.History.{packets_of}
+use Rattle.sw_load.specs.History.{packets_of}
 use Rattle.sw_model.specs.Model.{network_of}
 
 abbrev pub invariant-loop-number : goal.invariant-loop-number

@@ -1,0 +1,6 @@
+pub mod Dashes
+pub mod Chosen
+pub mod Pairs
+pub mod Plainly
+pub mod Wanted
+pub mod Zeros

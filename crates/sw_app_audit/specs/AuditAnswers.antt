@@ -1,0 +1,37 @@
+-- What `audit` answers (this project's choice).
+use Rattle.std.specs.Prelude.{◌≡◌, ℕ, ◌+◌, Bool, false, true, List, length, slice_get, Some}
+use Rattle.std.specs.List.{zip}
+use Rattle.sw_app_audit.specs.AuditTexts.{json_text, lines_text, objects, worst}
+use Rattle.sw_app_audit.specs.Findings.{Finding, IsFinding}
+use Rattle.sw_app_audit.specs.Stores.{Giving, Keeping}
+use Rattle.sw_app_audit.specs.declared.options.Options.{Options}
+use Rattle.sw_command.specs.Ends.{Answers}
+use Rattle.sw_json.specs.FileValues.{audit_value}
+use Rattle.sw_json.specs.Texts.{ReadsBack}
+
+-- for each path one finding, in their order; files are numbered from 1
+pub record AreFindings (options : Options) (gives : Giving) (keeps : Keeping) (paths : List (List ℕ)) (findings : List Finding) : Type 0 where
+  pub as_many : length findings ≡ length paths
+  pub found : (i : ℕ) (path : List ℕ) (f : Finding)
+      → slice_get paths i ≡ Some path → slice_get findings i ≡ Some f → IsFinding options gives keeps (i + 1) path f
+
+-- one value for all that are told, which the text reads back as
+abbrev pub IsJson : Options → List (List ℕ × Finding) → List ℕ → Type 0
+IsJson options files text =
+    (text ≡ json_text options.quiet options.release.toolchain.now options.release.version.now files)
+    × ReadsBack (audit_value (objects options.quiet files) options.release.toolchain.now options.release.version.now)
+
+-- a line for each, or one value
+abbrev pub IsTextBy : Bool → Options → List (List ℕ × Finding) → List ℕ → Type 0
+IsTextBy false options files text = text ≡ lines_text options.quiet files
+IsTextBy true options files text = IsJson options files text
+
+-- by what is asked for
+abbrev pub IsText : Options → List (List ℕ × Finding) → List ℕ → Type 0
+IsText options = IsTextBy options.json options
+
+-- of files: all findings decide the status, those that are told the text
+abbrev pub IsAuditAnswer : Options → Giving → Keeping → List (List ℕ) → Answers
+IsAuditAnswer options gives keeps paths text status =
+    (findings : List Finding) × AreFindings options gives keeps paths findings
+    × IsText options (zip paths findings) text × (status ≡ worst findings)

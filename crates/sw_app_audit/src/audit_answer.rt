@@ -1,0 +1,56 @@
+//! What `audit` answers.
+ghost use Rattle.std.specs.Prelude.{◌≡◌, IfOk, map, max, string_bytes, unwrap_or};
+ghost use Rattle.std.specs.List.{reduce};
+ghost use Rattle.sw_app_audit.specs.AuditAnswers.{IsAuditAnswer};
+
+use crate::audit_texts::audit_text;
+use crate::judged::Judged;
+use crate::options::Options;
+use crate::parallel::all_judged;
+use crate::stores::Storage;
+use std::alloc::{AllocError, Global};
+use std::thread::Threads;
+use sw_command::Answer;
+use sw_command::statuses::GOOD;
+use sw_json::laws::{
+    entries_are_plain, faults_are_plain, kinds_are_plain, plain_at_more, verdicts_are_plain,
+};
+
+// The greatest status, if there is one.
+fn greatest(all: &[Judged]) -> Option<u8>
+    ensures { result ≡ reduce max (map (λ j. j.status) all.now) }
+{
+    all.iter().map(|judged| judged.status).max()
+}
+
+// The worst status is the greatest.
+fn worst(all: &[Judged]) -> u8
+    ensures { result ≡ unwrap_or (reduce max (map (λ j. j.status) all.now)) 0 }
+{
+    greatest(all).unwrap_or(GOOD)
+}
+
+/// The answer to files of these paths.
+///
+/// # Errors
+///
+/// There is no memory for the answer.
+pub(crate) fn audit_answer<T: Threads + Sync, S: Storage + Sync>(
+    rt: &T,
+    alloc: Global,
+    storage: &S,
+    paths: &[&str],
+    options: &Options<'_>,
+) -> Result<Answer, AllocError>
+    ensures { IfOk result (λ a. IsAuditAnswer options.now (S.gives storage.now) (S.keeps storage.now) (map (λ s. s.now) paths.now) (string_bytes a.text) a.status) }
+{
+    plain_at_more();
+    verdicts_are_plain();
+    faults_are_plain();
+    kinds_are_plain();
+    entries_are_plain();
+    let all = all_judged(rt, alloc, storage, options, paths)?;
+    let status = worst(&all);
+    let text = audit_text(alloc, options, paths, all)?;
+    Ok(Answer { text, status })
+}

@@ -1,0 +1,49 @@
+//! What is kept of a file until all are judged.
+ghost use Rattle.std.specs.Prelude.{◌≡◌, IfOk, None, codes};
+ghost use Rattle.serde_json.specs.View.{view};
+ghost use Rattle.sw_json.specs.FileValues.{bare_entry, kind_value};
+
+use std::alloc::{AllocError, Global};
+use sw_command::statuses::NO_ROOM;
+use sw_json::{Value, bare_entry, kind_value};
+
+/// A file of a call: its number, from 1, and its path.
+#[derive(Clone, Copy)]
+pub(crate) struct Named<'a> {
+    pub(crate) number: usize,
+    pub(crate) path: &'a str,
+}
+
+/// What is kept of a file until all are judged.
+#[derive(Drop)]
+pub(crate) struct Judged {
+    pub(crate) status: u8,
+    /// The verdict in a word.
+    pub(crate) word: &'static str,
+    /// The object of the file, where objects are wanted; `None`: there was no memory for it, or for the verdict.
+    pub(crate) entry: Option<Value>,
+}
+
+/// That memory was wanted.
+pub(crate) fn memory_judged() -> Judged
+    ensures status { result.status ≡ 5 }
+    ensures word { result.word.now ≡ codes "memory" }
+    ensures entry { result.entry ≡ None }
+{
+    Judged {
+        status: NO_ROOM,
+        word: "memory",
+        entry: None,
+    }
+}
+
+/// The object of a file for which memory was wanted.
+///
+/// # Errors
+///
+/// There is no memory for that either.
+pub(crate) fn memory_entry(alloc: Global, path: &str) -> Result<Value, AllocError>
+    ensures { IfOk result (λ v. view v ≡ bare_entry path.now 5 (kind_value (codes "memory"))) }
+{
+    bare_entry(alloc, path, NO_ROOM, kind_value(alloc, "memory")?)
+}

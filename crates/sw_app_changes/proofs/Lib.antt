@@ -1,0 +1,5 @@
+mod MendAnswered
+mod OneMendAnswer
+mod MarginAnswered
+mod LossLines
+mod OneMarginAnswer

@@ -1,0 +1,102 @@
+//! What `margin` answers.
+ghost use Rattle.std.specs.Prelude.{◌≡◌, ◌∷◌, [], IfOk, length, string_bytes};
+ghost use Rattle.sw_command.specs.Ends.{Says};
+ghost use Rattle.sw_output.specs.Lines.{line};
+ghost use Rattle.sw_output.specs.VerdictTexts.{misrouted_words};
+ghost use Rattle.sw_app_changes.specs.MarginAnswers.{IsBent, IsByVerdict, IsMarginAnswer, IsNetworkAnswer};
+ghost use Rattle.sw_app_changes.specs.MarginTexts.{margin_text, not_free_line};
+
+use crate::margin_texts::{margin_text, not_free_line};
+use std::alloc::{AllocError, Global};
+use std::thread::Threads;
+use sw_command::Answer;
+use sw_command::statuses::GOOD;
+use sw_config::Network;
+use sw_file::read_network;
+use sw_flow::{Place, RouteFault};
+use sw_margin::{Margins, margins};
+use sw_output::misrouted_text;
+use sw_search::{Verdict, decide};
+use sw_toml_table::FileFault;
+
+// The answer by what the premises of the network stand.
+fn told(alloc: Global, network: &Network, margins: &Margins) -> Result<Answer, AllocError>
+    requires { length margins.now.losses.items ≡ length network.now.links }
+    ensures { IfOk result (λ a. Says (margin_text network.now margins.now) 0 (string_bytes a.text) a.status) }
+{
+    let text = margin_text(alloc, network, margins)?;
+    Ok(Answer { text, status: GOOD })
+}
+
+// The answer where no channels can wait for one another.
+fn bent<T: Threads + Sync>(rt: &T, alloc: Global, network: &Network) -> Result<Answer, AllocError>
+    ensures { IfOk result (λ a. IsBent network.now (string_bytes a.text) a.status) }
+{
+    let found = margins(rt, alloc, network)?;
+    told(alloc, network, &found)
+}
+
+// The answer where a flow is not well routed.
+fn misrouted(
+    alloc: Global,
+    network: &Network,
+    flow: u16,
+    place: Place,
+    fault: RouteFault,
+) -> Result<Answer, AllocError>
+    ensures { IfOk result (λ a. Says (line (misrouted_words network.now flow place fault ∷ [])) 0 (string_bytes a.text) a.status) }
+{
+    let text = misrouted_text(alloc, network, flow, place, fault)?;
+    Ok(Answer { text, status: GOOD })
+}
+
+// The answer where channels can wait for one another.
+fn not_free(alloc: Global) -> Result<Answer, AllocError>
+    ensures { IfOk result (λ a. Says not_free_line 0 (string_bytes a.text) a.status) }
+{
+    let text = not_free_line(alloc)?;
+    Ok(Answer { text, status: GOOD })
+}
+
+// The answer by the verdict on the network.
+fn by_verdict<T: Threads + Sync>(
+    rt: &T,
+    alloc: Global,
+    network: &Network,
+    verdict: &Verdict,
+) -> Result<Answer, AllocError>
+    ensures { IfOk result (λ a. IsByVerdict network.now verdict.now (string_bytes a.text) a.status) }
+{
+    match verdict {
+        Verdict::Misrouted(flow, place, fault) => misrouted(alloc, network, *flow, *place, *fault),
+        Verdict::Cyclic(_) => not_free(alloc),
+        Verdict::Free(_) => bent(rt, alloc, network),
+    }
+}
+
+// The answer for a network.
+fn network_answer<T: Threads + Sync>(
+    rt: &T,
+    alloc: Global,
+    network: &Network,
+) -> Result<Answer, AllocError>
+    ensures { IfOk result (λ a. IsNetworkAnswer network.now (string_bytes a.text) a.status) }
+{
+    let verdict = decide(rt, alloc, network)?;
+    by_verdict(rt, alloc, network, &verdict)
+}
+
+/// The answer to the bytes of a network file.
+pub(crate) fn margin_answer<T: Threads + Sync>(
+    rt: &T,
+    alloc: Global,
+    input: &[u8],
+) -> Result<Answer, AllocError>
+    ensures { IfOk result (λ a. IsMarginAnswer input.now (string_bytes a.text) a.status) }
+{
+    match read_network(alloc, input) {
+        Ok(network) => network_answer(rt, alloc, &network),
+        Err(FileFault::Text(fault)) => Answer::of_fault(alloc, &fault),
+        Err(FileFault::Memory) => Err(AllocError),
+    }
+}

@@ -1,0 +1,31 @@
+//! The engine: it reads its text whole, and writes one text.
+ghost use Rattle.sw_command.specs.Ends.{EndsBy};
+ghost use Rattle.sw_app_changes.specs.MarginAnswers.{IsMarginAnswer};
+
+use crate::margin_answer::margin_answer;
+use std::alloc::Global;
+use std::io::{Read, Write};
+use std::thread::Threads;
+use sw_command::{Ended, MAX_TEXT, tell, tell_memory, tell_unread};
+use sw_text::read_whole;
+
+/// How far the premises of the free network of a file bend: a line for each node that answers nothing, for each flow without a reply
+/// and for each link. Of a network that is not free, that it is not, or the first flow that is not well routed. Its status is 0.
+/// Threads share the work, as many as there are processors.
+pub fn margin<T: Threads + Sync, R: Read, W: Write>(
+    rt: &T,
+    alloc: Global,
+    reader: &mut R,
+    writer: &mut W,
+) -> Ended
+    ensures { EndsBy IsMarginAnswer (R.remaining reader.old) (R.remaining reader.new) (W.contents writer.old) (W.contents writer.new) result }
+{
+    let input = match read_whole(alloc, reader, MAX_TEXT) {
+        Ok(input) => input,
+        Err(error) => return tell_unread(writer, error),
+    };
+    match margin_answer(rt, alloc, &input) {
+        Ok(answer) => tell(writer, answer.text.as_str(), answer.status),
+        Err(_) => tell_memory(writer),
+    }
+}

@@ -1,0 +1,32 @@
+//! The engine: it reads its text whole, and writes one text.
+ghost use Rattle.sw_command.specs.Ends.{EndsBy};
+ghost use Rattle.sw_app_changes.specs.MendAnswers.{IsMendAnswer};
+
+use crate::mend_answer::mend_answer;
+use std::alloc::Global;
+use std::io::{Read, Write};
+use std::thread::Threads;
+use sw_command::{Ended, MAX_TEXT, tell, tell_memory, tell_unread};
+use sw_text::read_whole;
+
+/// Which single changes make the network of a file free of deadlocks, a line each: 0 where some change does or the network is free
+/// already, and 1 where none does or a flow is not well routed. With pairs asked for, where no single change does, which pairs of single
+/// changes do, each pair in a line: 0 where some pair does, and 1 where none does. Threads share the work, as many as there are processors.
+pub fn mend<T: Threads + Sync, R: Read, W: Write>(
+    rt: &T,
+    alloc: Global,
+    pairs: bool,
+    reader: &mut R,
+    writer: &mut W,
+) -> Ended
+    ensures { EndsBy (IsMendAnswer pairs) (R.remaining reader.old) (R.remaining reader.new) (W.contents writer.old) (W.contents writer.new) result }
+{
+    let input = match read_whole(alloc, reader, MAX_TEXT) {
+        Ok(input) => input,
+        Err(error) => return tell_unread(writer, error),
+    };
+    match mend_answer(rt, alloc, pairs, &input) {
+        Ok(answer) => tell(writer, answer.text.as_str(), answer.status),
+        Err(_) => tell_memory(writer),
+    }
+}

@@ -1,0 +1,239 @@
+//! The lines of `mend`.
+ghost use Rattle.std.specs.Prelude.{◌≡◌, IfOk, flat_map, string_bytes};
+ghost use Rattle.sw_app_changes.specs.MendTexts.{addresses_words, change_words, entry_words, free_line, mend_line, mends_status, mends_text, no_pair_line, none_line, pair_line, pairs_text, split_words, trial_words};
+
+use std::alloc::{AllocError, Global};
+use sw_command::statuses::{BAD, GOOD};
+use sw_config::Network;
+use sw_mend::{Change, Pair, TargetLink, Trial};
+use sw_output::{flow_name, node_name, switch_name};
+use sw_topo::Port;
+
+// The addresses that a table entry is for.
+fn addresses_words(alloc: Global, first: u8, last: u8) -> Result<String, AllocError>
+    ensures { IfOk result (λ s. string_bytes s ≡ addresses_words first last) }
+{
+    if first == last {
+        format!(in alloc; "address {first}")
+    } else {
+        format!(in alloc; "addresses {first} to {last}")
+    }
+}
+
+// Those of the entry of that number of the switch's table.
+fn entry_words(
+    alloc: Global,
+    network: &Network,
+    switch: u16,
+    entry: usize,
+) -> Result<String, AllocError>
+    ensures { IfOk result (λ s. string_bytes s ≡ entry_words network.now switch entry) }
+{
+    if switch >= network.switches() {
+        return Ok(String::new(alloc));
+    }
+    match network.routes(switch).get(entry) {
+        Some(route) => addresses_words(alloc, route.first, route.last),
+        None => Ok(String::new(alloc)),
+    }
+}
+
+fn without_reply(alloc: Global, network: &Network, flow: u16) -> Result<String, AllocError>
+    ensures { IfOk result (λ s. string_bytes s ≡ change_words network.now (Change.WithoutReply flow)) }
+{
+    let name = flow_name(network, flow);
+    format!(in alloc; "without the reply of {name}")
+}
+
+fn without_flow(alloc: Global, network: &Network, flow: u16) -> Result<String, AllocError>
+    ensures { IfOk result (λ s. string_bytes s ≡ change_words network.now (Change.WithoutFlow flow)) }
+{
+    let name = flow_name(network, flow);
+    format!(in alloc; "without the flow {name}")
+}
+
+fn without_answers(alloc: Global, network: &Network, node: u16) -> Result<String, AllocError>
+    ensures { IfOk result (λ s. string_bytes s ≡ change_words network.now (Change.WithoutAnswers node)) }
+{
+    let name = node_name(network, node);
+    format!(in alloc; "without any reply of {name}")
+}
+
+fn without_port(
+    alloc: Global,
+    network: &Network,
+    switch: u16,
+    entry: usize,
+    port: Port,
+) -> Result<String, AllocError>
+    ensures { IfOk result (λ s. string_bytes s ≡ change_words network.now (Change.WithoutPort switch entry port)) }
+{
+    let port = port.number();
+    let words = entry_words(alloc, network, switch, entry)?;
+    let name = switch_name(network, switch);
+    format!(in alloc; "without port {port} for {words} at {name}")
+}
+
+fn without_entry(
+    alloc: Global,
+    network: &Network,
+    switch: u16,
+    entry: usize,
+) -> Result<String, AllocError>
+    ensures { IfOk result (λ s. string_bytes s ≡ change_words network.now (Change.WithoutEntry switch entry)) }
+{
+    let words = entry_words(alloc, network, switch, entry)?;
+    let name = switch_name(network, switch);
+    format!(in alloc; "without the entry for {words} at {name}")
+}
+
+fn without_flows_of(alloc: Global, network: &Network, node: u16) -> Result<String, AllocError>
+    ensures { IfOk result (λ s. string_bytes s ≡ change_words network.now (Change.WithoutFlowsOf node)) }
+{
+    let name = node_name(network, node);
+    format!(in alloc; "without the flows from and to {name}")
+}
+
+/// What is taken away.
+///
+/// # Errors
+///
+/// There is no memory for the text.
+pub fn change_words(alloc: Global, network: &Network, change: &Change) -> Result<String, AllocError>
+    ensures { IfOk result (λ s. string_bytes s ≡ change_words network.now change.now) }
+{
+    match change {
+        Change::WithoutReply(flow) => without_reply(alloc, network, *flow),
+        Change::WithoutFlow(flow) => without_flow(alloc, network, *flow),
+        Change::WithoutAnswers(node) => without_answers(alloc, network, *node),
+        Change::WithoutPort {
+            switch,
+            entry,
+            port,
+        } => without_port(alloc, network, *switch, *entry, *port),
+        Change::WithoutEntry { switch, entry } => without_entry(alloc, network, *switch, *entry),
+        Change::WithoutFlowsOf(node) => without_flows_of(alloc, network, *node),
+    }
+}
+
+// What the target of a node gets.
+fn split_words(alloc: Global, network: &Network, link: &TargetLink) -> Result<String, AllocError>
+    ensures { IfOk result (λ s. string_bytes s ≡ split_words network.now link.now) }
+{
+    let name = node_name(network, link.node);
+    let port = link.port.number();
+    let switch = switch_name(network, link.switch);
+    format!(in alloc; "with a link of its own for the target of {name}, at port {port} of {switch}")
+}
+
+/// What is taken away, or what the target of a node gets.
+///
+/// # Errors
+///
+/// There is no memory for the text.
+pub fn trial_words(alloc: Global, network: &Network, trial: &Trial) -> Result<String, AllocError>
+    ensures { IfOk result (λ s. string_bytes s ≡ trial_words network.now trial.now) }
+{
+    match trial {
+        Trial::Without(change) => change_words(alloc, network, change),
+        Trial::Split(link) => split_words(alloc, network, link),
+    }
+}
+
+// The line of a change that frees the network.
+fn mend_line(alloc: Global, network: &Network, trial: &Trial) -> Result<String, AllocError>
+    ensures { IfOk result (λ s. string_bytes s ≡ mend_line network.now trial.now) }
+{
+    let words = trial_words(alloc, network, trial)?;
+    format!(in alloc; "free {words}\n")
+}
+
+// The line of a pair of changes that free it.
+fn pair_line(alloc: Global, network: &Network, pair: &Pair) -> Result<String, AllocError>
+    ensures { IfOk result (λ s. string_bytes s ≡ pair_line network.now pair.now) }
+{
+    let first = change_words(alloc, network, &pair.first)?;
+    let second = change_words(alloc, network, &pair.second)?;
+    format!(in alloc; "free {first} and {second}\n")
+}
+
+// The lines of the changes that free the network.
+fn mend_lines(alloc: Global, network: &Network, changes: &[Trial]) -> Result<String, AllocError>
+    ensures { IfOk result (λ s. string_bytes s ≡ flat_map (mend_line network.now) changes.now) }
+{
+    let mut text = String::new(alloc);
+    for change in changes {
+        text.push_str(mend_line(alloc, network, change)?.as_str())?;
+    }
+    Ok(text)
+}
+
+// The lines of the pairs of changes that free it.
+fn pair_lines(alloc: Global, network: &Network, pairs: &[Pair]) -> Result<String, AllocError>
+    ensures { IfOk result (λ s. string_bytes s ≡ flat_map (pair_line network.now) pairs.now) }
+{
+    let mut text = String::new(alloc);
+    for pair in pairs {
+        text.push_str(pair_line(alloc, network, pair)?.as_str())?;
+    }
+    Ok(text)
+}
+
+// That no change frees the network.
+fn none_text(alloc: Global) -> Result<String, AllocError>
+    ensures { IfOk result (λ s. string_bytes s ≡ none_line) }
+{
+    String::from_str(alloc, "no single change frees it\n")
+}
+
+/// The lines of the changes that free the network, or that there is none.
+pub(crate) fn mends_text(
+    alloc: Global,
+    network: &Network,
+    changes: &[Trial],
+) -> Result<String, AllocError>
+    ensures { IfOk result (λ s. string_bytes s ≡ mends_text network.now changes.now) }
+{
+    match changes {
+        [] => none_text(alloc),
+        _ => mend_lines(alloc, network, changes),
+    }
+}
+
+/// 0 where some change, or some pair of them, frees the network.
+pub fn mends_status<T>(found: &[T]) -> u8
+    ensures { result ≡ mends_status found.now }
+{
+    match found {
+        [] => BAD,
+        _ => GOOD,
+    }
+}
+
+// That no pair of changes frees the network.
+fn no_pair_text(alloc: Global) -> Result<String, AllocError>
+    ensures { IfOk result (λ s. string_bytes s ≡ no_pair_line) }
+{
+    String::from_str(alloc, "no pair of changes frees it\n")
+}
+
+/// The lines of the pairs of changes that free the network, or that there is none.
+pub(crate) fn pairs_text(
+    alloc: Global,
+    network: &Network,
+    pairs: &[Pair],
+) -> Result<String, AllocError>
+    ensures { IfOk result (λ s. string_bytes s ≡ pairs_text network.now pairs.now) }
+{
+    match pairs {
+        [] => no_pair_text(alloc),
+        _ => pair_lines(alloc, network, pairs),
+    }
+}
+
+/// That there is nothing to mend.
+pub(crate) fn free_line(alloc: Global) -> Result<String, AllocError>
+    ensures { IfOk result (λ s. string_bytes s ≡ free_line) }
+{
+    String::from_str(alloc, "free already\n")
+}

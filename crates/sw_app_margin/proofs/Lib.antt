@@ -1,3 +1,0 @@
-mod Answered
-mod LossLines
-mod OneAnswer

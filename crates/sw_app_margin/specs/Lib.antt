@@ -1,3 +1,0 @@
-pub mod MarginTexts
-pub mod MarginAnswers
-pub mod Laws

@@ -1,2 +1,0 @@
-mod Answered
-mod OneAnswer

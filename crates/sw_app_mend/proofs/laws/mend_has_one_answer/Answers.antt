@@ -1,5 +1,0 @@
-use Rattle.sw_app_mend.proofs.OneAnswer.{one_answer}
-use Rattle.sw_app_mend.proofs.laws.mend_has_one_answer.Goals as goal
-
-pub returns : goal.returns
-returns c = one_answer c.mends_are_determined.ensures c.pairs_are_determined.ensures c.verdicts_are_determined.ensures

@@ -1,3 +1,0 @@
-pub mod MendTexts
-pub mod MendAnswers
-pub mod Laws

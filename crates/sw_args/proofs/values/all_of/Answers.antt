@@ -1,0 +1,18 @@
+use Rattle.std.proofs.Common.{◌≡◌, ◌∙◌, ap, map, refl, Bor, List, ℕ, [], Option, Some, None}
+use Rattle.std.specs.Option.{option_map, unwrap_or}
+use Rattle.std.proofs.lemmas.Result.{IfOk-weaker}
+use Rattle.clap.specs.Words.{found_of}
+use Rattle.clap.proofs.WalkLemmas.{raw_values-rows}
+use Rattle.sw_args.proofs.values.all_of.Goals as goal
+
+-- the values behind references, or none
+all_given : (o : Option (Bor (List (Bor (List ℕ))))) (none : Bor (List (Bor (List ℕ)))) (q : Option (List (List ℕ))) → none.now ≡ []
+    → option_map (λ s. map (λ v. v.now) s.now) o ≡ q → map (λ v. v.now) (unwrap_or o none).now ≡ unwrap_or q []
+all_given None none q empty same = rw empty (ap (λ x. unwrap_or x []) same)
+all_given (Some s) none q empty same = ap (λ x. unwrap_or x []) same
+
+pub returns : goal.returns
+returns c =
+    let found = c.get_strs.ensures ∙ raw_values-rows (found_of c.args.values.now) c.args.name.now in
+    let chosen = all_given c.get_strs.result _ _ refl found in
+    IfOk-weaker c.from_slice.result _ _ (λ all items. rw items (rw c.unwrap_or.ensures chosen)) c.from_slice.ensures.items

@@ -1,0 +1,29 @@
+//! Which program this is.
+
+// The version and the toolchain stand here alone; a part of them is taken by its name.
+macro_rules! release {
+    ($part:ident) => {
+        part!($part, "0.9.0", "rattle-kit-13f logic dac8208d650f15bf")
+    };
+}
+
+macro_rules! part {
+    (version, $version:literal, $toolchain:literal) => {
+        $version
+    };
+    (toolchain, $version:literal, $toolchain:literal) => {
+        $toolchain
+    };
+    (lines, $version:literal, $toolchain:literal) => {
+        concat!($version, "\n", $toolchain)
+    };
+}
+
+/// The program's version.
+pub const VERSION: &str = release!(version);
+
+/// The toolchain that proves and builds the program, as `rt version` tells it.
+pub const TOOLCHAIN: &str = release!(toolchain);
+
+/// What `--version` tells behind the program's name: the version, and the toolchain in a line of its own.
+pub(crate) const RELEASE: &str = release!(lines);

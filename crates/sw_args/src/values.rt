@@ -1,0 +1,62 @@
+//! The values that clap found for a subcommand.
+ghost use Rattle.std.specs.Prelude.{◌≡◌, ◌<◌, ◌^◌, ℕ, option_map, IfOk, IfNone, IfSome};
+ghost use Rattle.clap.specs.Words.{first_of, found_of, rows_of};
+ghost use Rattle.sw_args.specs.CommandLine.{AreAll, IsCount, IsOption, IsSet, SaysNumber};
+
+use clap::ArgMatches;
+use std::alloc::{AllocError, Global};
+
+// The first value of an argument.
+pub(crate) fn value_of<'a>(values: &ArgMatches<'a>, name: &str) -> Option<&'a str>
+    ensures { option_map (λ s. s.now) result ≡ first_of name.now (rows_of (found_of values.now)) }
+{
+    values.get_str(name)
+}
+
+// The value of an option that may be left out.
+pub(crate) fn option_of<'a>(values: &ArgMatches<'a>, name: &str) -> Option<&'a str>
+    ensures { IsOption name.now (rows_of (found_of values.now)) result }
+{
+    value_of(values, name)
+}
+
+// The number that an option's value says.
+fn number_of(values: &ArgMatches<'_>, name: &str) -> Option<u32>
+    ensures says { IfSome result (SaysNumber name.now (rows_of (found_of values.now))) }
+    ensures none { IfNone result ((number : ℕ) → SaysNumber name.now (rows_of (found_of values.now)) number → number < 2 ^ 32 → ⊥) }
+{
+    values.get_one(name)
+}
+
+// The same, if it is 1 or more and not over the most; clap gives no other.
+pub(crate) fn count_of(values: &ArgMatches<'_>, name: &str, most: u32) -> Option<u32>
+    ensures counts { IfSome result (IsCount most name.now (rows_of (found_of values.now))) }
+    ensures none { IfNone result ((number : ℕ) → IsCount most name.now (rows_of (found_of values.now)) number → ⊥) }
+{
+    let number = number_of(values, name)?;
+    if number < 1 {
+        return None;
+    }
+    if most < number {
+        return None;
+    }
+    Some(number)
+}
+
+// All values of an argument, in their order.
+pub(crate) fn all_of<'a>(
+    alloc: Global,
+    values: &ArgMatches<'a>,
+    name: &str,
+) -> Result<Vec<&'a str>, AllocError>
+    ensures { IfOk result (λ all. AreAll name.now (rows_of (found_of values.now)) all.items) }
+{
+    Vec::from_slice(alloc, values.get_strs(name).unwrap_or(&[]))
+}
+
+// Whether an option without a value was given.
+pub(crate) fn is_set(values: &ArgMatches<'_>, name: &str) -> bool
+    ensures { IsSet name.now (rows_of (found_of values.now)) result }
+{
+    values.get_one::<bool>(name).unwrap_or(false)
+}

@@ -1,0 +1,49 @@
+//! The files of an audit.
+use std::alloc::Global;
+use std::fs;
+use sw_app_audit::{Input, Release, Storage};
+use sw_args::{TOOLCHAIN, VERSION};
+use sw_command::MAX_TEXT;
+use sw_text::{ReadError, read_whole, write_whole};
+
+/// This release of the program, and the toolchain that it is made with.
+pub(crate) const RELEASE: Release<'static> = Release {
+    version: VERSION,
+    toolchain: TOOLCHAIN,
+};
+
+/// The files of the system, and a folder for certificates.
+#[derive(Clone, Copy)]
+pub(crate) struct Disk<'a> {
+    pub(crate) host: &'a HostRuntime,
+    pub(crate) folder: &'a str,
+}
+
+impl Storage for Disk<'_> {
+    ghost gives = { λ _ _ _. Unit {0} };
+
+    ghost keeps = { λ _ _ _ _. Unit {0} };
+
+    fn read(&self, alloc: Global, path: &str) -> Input {
+        let Ok(mut reader) = fs::open(self.host, path) else {
+            return Input::Unread;
+        };
+        match read_whole(alloc, &mut reader, MAX_TEXT) {
+            Ok(text) => Input::Whole(text),
+            Err(ReadError::TooLong) => Input::TooLong,
+            Err(ReadError::Failed) => Input::Unread,
+            Err(ReadError::Memory) => Input::NoMemory,
+        }
+    }
+
+    fn keep(&self, alloc: Global, name: &str, certificate: &[u8]) -> bool {
+        let folder = self.folder;
+        let Ok(path) = format!(in alloc; "{folder}/{name}") else {
+            return false;
+        };
+        let Ok(mut writer) = fs::create(self.host, path.as_str()) else {
+            return false;
+        };
+        write_whole(&mut writer, certificate).is_ok()
+    }
+}

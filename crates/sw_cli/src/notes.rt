@@ -1,0 +1,41 @@
+//! Notes on standard error: what in a network file is probably a slip, although it is valid. They decide nothing.
+ghost use Rattle.std.specs.Prelude.{◌≡◌};
+ghost use Rattle.sw_cli.specs.Asked.{is_noted};
+
+use crate::asked::Hints;
+use std::rt::Files;
+use sw_args::Call;
+use sw_command::Ended;
+use sw_command::statuses::{BAD, GOOD};
+use sw_file::read_network;
+use sw_lint::lint_texts;
+
+/// Whether the network of a call that ended so is noted on: it is one, and hints are wanted.
+pub(crate) fn is_noted(hints: Hints, ended: Ended) -> bool
+    ensures { result ≡ is_noted hints ended }
+{
+    match (hints, ended) {
+        (Hints::Auto, Ended::Status(status)) => status == GOOD || status == BAD,
+        _ => false,
+    }
+}
+
+/// The network file on which a call notes, if it does: in an object of JSON the notes stand in it.
+pub(crate) fn noted_file<'a>(call: &Call<'a>) -> Option<&'a str> {
+    match call {
+        Call::Decide { file, json } | Call::Report { file, json } if !*json => Some(file),
+        _ => None,
+    }
+}
+
+/// A line for each note on the network of a text. Nothing where the text is none, and where there is no memory for it.
+pub(crate) fn notes<R: Files + AllocGlobal>(rt: &R, text: &[u8]) -> Option<String> {
+    let network = read_network(rt.alloc(), text).ok()?;
+    let mut lines = String::new(rt.alloc());
+    for lint in &lint_texts(rt.alloc(), &network).ok()? {
+        lines.push_str("note: ").ok()?;
+        lines.push_str(lint).ok()?;
+        lines.push('\n').ok()?;
+    }
+    Some(lines)
+}

@@ -1,0 +1,5 @@
+use Rattle.sw_cycle.specs.Rows.{AreRows}
+use Rattle.sw_cycle.proofs.rows.rows.Given as goal
+
+abbrev pub invariant-loop-channel : goal.invariant-loop-channel
+invariant-loop-channel l = AreRows l.network l.sets l.marks l.channel l.rows.items

@@ -1,0 +1,45 @@
+//! The dependencies between channels.
+ghost use Rattle.std.specs.Prelude.{◌≡◌, ◌↔◌, ℕ, IfOk, length};
+ghost use Rattle.std.specs.List.{AllZip};
+ghost use Rattle.sw_config.specs.Entries.{all_flows};
+ghost use Rattle.sw_flow.specs.Places.{IsPlaceList, ends_of};
+ghost use Rattle.sw_machine.specs.Places.{IsDependency};
+ghost use Rattle.sw_model.specs.Model.{network_of};
+ghost use Rattle.sw_graph.specs.Rows.{IsGraph, Leads};
+ghost use Rattle.sw_cycle.specs.Rows.{AreOnce};
+
+use crate::answering::answering;
+use crate::parallel::all_named;
+use crate::rows::rows;
+use std::alloc::{AllocError, Global};
+use std::thread::Threads;
+use sw_config::Network;
+use sw_flow::Place;
+
+/// For each channel those on which a packet that is on it may wait, by their numbers: where a flow
+/// goes on to, and at a target that answers, where its replies leave. A row has each of them once.
+///
+/// `places` has the places of each flow, reply flows too, as `sw_flow::all_places` gives them.
+/// Threads share the work, as many as there are processors.
+///
+/// # Errors
+///
+/// There is no memory for the rows, or for what finds them.
+pub fn dependencies<R: Threads + Sync>(
+    rt: &R,
+    alloc: Global,
+    network: &Network,
+    places: &[Vec<Place>],
+) -> Result<Vec<Vec<u16>>, AllocError>
+    requires lists { AllZip (λ f ps. IsPlaceList network.now f ps.items) (all_flows network.now) places.now }
+    ensures size { IfOk result (λ v. length v.items ≡ length (ends_of network.now)) }
+    ensures exact { IfOk result (λ v. (c e : ℕ) → (Leads v.items c e ↔ IsDependency (network_of network.now) c e)) }
+    ensures graph { IfOk result (λ v. IsGraph v.items) }
+    ensures once { IfOk result (λ v. AreOnce v.items) }
+{
+    // Names the network, which is valid by its type.
+    let _flows = network.flows();
+    let sets = all_named(rt, alloc, network, places)?;
+    let marks = answering(alloc, network)?;
+    rows(alloc, network, &sets, &marks)
+}

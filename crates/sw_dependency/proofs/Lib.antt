@@ -1,4 +1,0 @@
-pub mod Naming
-pub mod Rowing
-pub mod Bridge
-pub mod Chunking

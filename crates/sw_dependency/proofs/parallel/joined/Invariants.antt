@@ -1,8 +1,0 @@
-use Rattle.std.proofs.Common.{length}
-use Rattle.sw_config.specs.Entries.{all_flows}
-use Rattle.sw_dependency.specs.Named.{AreNamed}
-use Rattle.sw_dependency.specs.Chunks.{chunk_start}
-use Rattle.sw_dependency.proofs.parallel.joined.Given as goal
-
-abbrev pub invariant-loop-part : goal.invariant-loop-part
-invariant-loop-part l = AreNamed l.network 0 (chunk_start (length (all_flows l.network)) l.part-index) l.sets.items

@@ -1,5 +1,0 @@
-use Rattle.sw_dependency.specs.Rows.{AreRows}
-use Rattle.sw_dependency.proofs.rows.rows.Given as goal
-
-abbrev pub invariant-loop-channel : goal.invariant-loop-channel
-invariant-loop-channel l = AreRows l.network l.sets l.marks l.channel l.rows.items

@@ -1,4 +1,0 @@
-pub mod Named
-pub mod Answering
-pub mod Rows
-pub mod Chunks

@@ -1,6 +1,0 @@
-use Rattle.std.proofs.Common.{◌≤◌}
-use Rattle.sw_drain.proofs.moves.count_enabled.Given as goal
-use Rattle.sw_drain.specs.Enabled.{CanStepBelow}
-
-abbrev pub invariant-loop-number : goal.invariant-loop-number
-invariant-loop-number g l = (l.count ≤ l.number) × CanStepBelow l.net l.number l.count

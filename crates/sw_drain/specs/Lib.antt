@@ -1,5 +1,0 @@
-pub mod Drained
-pub mod Enabled
-pub mod Laws
-pub mod Way
-pub mod Turns

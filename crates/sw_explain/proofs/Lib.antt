@@ -1,4 +1,0 @@
-pub mod Told
-pub mod Lawful
-pub mod Verdicts
-pub mod Went

@@ -1,5 +1,0 @@
-use Rattle.sw_explain.proofs.Lawful.{tangles_are_shown}
-use Rattle.sw_explain.proofs.laws.tangles_are_shown.Goals as goal
-
-pub returns : goal.returns
-returns c = tangles_are_shown

@@ -1,5 +1,0 @@
-use Rattle.sw_explain.proofs.Lawful.{tangles_are_where_cycles_are}
-use Rattle.sw_explain.proofs.laws.tangles_are_where_cycles_are.Goals as goal
-
-pub returns : goal.returns
-returns c = tangles_are_where_cycles_are

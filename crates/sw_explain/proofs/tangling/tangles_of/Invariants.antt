@@ -1,7 +1,0 @@
-use Rattle.std.proofs.Common.{take}
-use Rattle.std.specs.List.{AllZip}
-use Rattle.sw_explain.specs.Tangles.{IsTangle}
-use Rattle.sw_explain.proofs.tangling.tangles_of.Given as goal
-
-abbrev pub invariant-loop-part : goal.invariant-loop-part
-invariant-loop-part l = AllZip (IsTangle l.network) (take l.part-index l.parts) l.tangles.items

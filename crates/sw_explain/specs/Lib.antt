@@ -1,3 +1,0 @@
-pub mod Tangles
-pub mod Explanations
-pub mod Laws

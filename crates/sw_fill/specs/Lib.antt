@@ -1,3 +1,0 @@
-pub mod Fills
-pub mod Nets
-pub mod Lines

@@ -1,0 +1,13 @@
+use Rattle.std.proofs.Common.{arith}
+use Rattle.sw_graph.proofs.Listed.{reversed_graph}
+use Rattle.sw_graph.proofs.Going.{turned_known}
+use Rattle.sw_graph.proofs.back.cycle_through.Goals as goal
+
+pub search-requires-clause-graph : goal.search-requires-clause-graph
+search-requires-clause-graph c = reversed_graph c.args.successors.now c.args.predecessors.now c.requires.graph c.requires.reversed
+
+pub search-requires-clause-inside : goal.search-requires-clause-inside
+search-requires-clause-inside c = let e = c.requires.reversed.size in let lt = c.requires.inside in omega arith
+
+pub way_round-requires-clause-known : goal.way_round-requires-clause-known
+way_round-requires-clause-known c = rw c.deref.ensures.value (turned_known c.args.successors.now c.args.predecessors.now c.requires.reversed c.args.start c.args.count c.args.count _ _ c.requires.fewest (omega arith) c.in_ok-search.ensures)

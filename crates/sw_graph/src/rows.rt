@@ -1,0 +1,59 @@
+//! A relation that is given by rows, as steps.
+ghost use Rattle.std.specs.Prelude.{◌≡◌, ◌<◌, ◌++◌, All, IfOk, OnOk, length};
+ghost use Rattle.sw_graph.specs.Reached.{IsListing, Reached};
+ghost use Rattle.sw_graph.specs.Rows.{IsGraph, row};
+
+use crate::least::reached;
+use crate::steps::Steps;
+use std::alloc::{AllocError, Global};
+
+/// The row of a member.
+pub(crate) fn row_of(rows: &[Vec<u16>], c: u16) -> &[u16]
+    requires { c < length rows.now }
+    ensures { result.now ≡ row rows.now c }
+{
+    &rows[usize::from(c)]
+}
+
+/// Adds the numbers.
+fn push_all(ds: &[u16], to: &mut Vec<usize>) -> Result<(), AllocError>
+    ensures { OnOk result (to.new.items ≡ to.old.items ++ ds.now) }
+{
+    for d in ds {
+        to.push(usize::from(*d))?;
+    }
+    Ok(())
+}
+
+/// The steps of rows.
+#[derive(Drop)]
+struct Rows<'a> {
+    rows: &'a [Vec<u16>],
+}
+
+impl Steps for Rows<'_> {
+    ghost use Rattle.std.specs.Prelude.{length};
+    ghost use Rattle.sw_graph.specs.Rows.{row};
+
+    ghost bound = { λ s. length s.rows.now };
+
+    ghost next = { λ s n. row s.rows.now n };
+
+    fn push_next(&self, number: usize, to: &mut Vec<usize>) -> Result<(), AllocError> {
+        push_all(&self.rows[number], to)
+    }
+}
+
+/// The numbers that steps lead to from the start, itself among them, in rising order.
+pub(crate) fn reached_over(
+    alloc: Global,
+    rows: &[Vec<u16>],
+    start: u16,
+) -> Result<Vec<usize>, AllocError>
+    requires graph { IsGraph rows.now }
+    requires inside { start < length rows.now }
+    ensures listing { IfOk result (λ v. IsListing (Reached (row rows.now) start) v.items) }
+    ensures below { IfOk result (λ v. All (λ n. n < length rows.now) v.items) }
+{
+    reached(alloc, &Rows { rows }, rows.len(), usize::from(start))
+}

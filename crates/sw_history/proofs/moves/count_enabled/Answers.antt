@@ -1,0 +1,34 @@
+use Rattle.std.proofs.Common.{ap, arith, false, length, subst, true, ◌*◌, ◌+◌, ◌≡◌}
+use Rattle.sw_history.proofs.Enabled.{none_below, one_more}
+use Rattle.sw_history.proofs.moves.count_enabled.Goals as goal
+use Rattle.sw_history.proofs.moves.count_enabled.Goals.{else-enabled, then-enabled}
+use Rattle.sw_history.specs.Enabled.{CanStepBelow}
+use Rattle.sw_net.specs.Asked.{CanStep}
+use Rattle.sw_config.specs.Entries.{Declaration}
+
+pub loop-number-init : goal.loop-number-init
+loop-number-init g c = (omega arith, none_below c.args.net.now)
+
+pub loop-number-preserved : goal.loop-number-preserved
+loop-number-preserved g c =
+    let v = c.args.net.now in
+    let n = c.loop-number.number in
+    let count = c.loop-number.count in
+    let below = c.loop-number.invariant.1 in
+    let few = c.loop-number.invariant.0 in
+    let here = subst (λ k. CanStep v k c.enabled.result) c.new.ensures c.enabled.ensures in
+    let same : count + 0 ≡ count = omega arith in
+    elim c.if-enabled.branch [
+      | then-enabled w ↦ rw w.count-is (omega arith, one_more v n count true (subst (CanStep v n) w.if-enabled.true here) below)
+      | else-enabled w ↦ rw w.count-is (omega arith, subst (CanStepBelow v (n + 1)) same (one_more v n count false (subst (CanStep v n) w.if-enabled.false here) below))
+    ]
+
+pub returns : goal.returns
+returns g c =
+    let v = c.args.net.now in
+    let past = c.loop-number-test.false in
+    let end = c.loop-number.auto.number-end in
+    let count = c.channels-number-end.ensures.count in
+    let same = ap (λ (d : Declaration). length d.links) c.network.ensures.network in
+    let all : c.loop-number.number ≡ 2 * length v.declared.links = omega arith in
+    subst (λ k. CanStepBelow v k c.loop-number.count) all c.loop-number.invariant.1

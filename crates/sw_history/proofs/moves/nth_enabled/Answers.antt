@@ -1,0 +1,40 @@
+use Rattle.std.proofs.Common.{ap, arith, false, length, subst, sym, true, ◌*◌, ◌+◌, ◌≡◌}
+use Rattle.sw_history.proofs.Enabled.{none_below, one_more}
+use Rattle.sw_history.proofs.moves.nth_enabled.Goals as goal
+use Rattle.sw_history.proofs.moves.nth_enabled.Goals.{else-enabled, then-enabled+else-before-index}
+use Rattle.sw_history.specs.Enabled.{CanStepBelow}
+use Rattle.sw_net.specs.Asked.{CanStep}
+use Rattle.sw_config.specs.Entries.{Declaration}
+
+pub loop-number-init : goal.loop-number-init
+loop-number-init g c = (omega arith, omega arith, none_below c.args.net.now)
+
+pub returns-then-before-index-clause-nth : goal.returns-then-before-index-clause-nth
+returns-then-before-index-clause-nth g c =
+    let v = c.args.net.now in
+    (subst (CanStep v c.new-end.result) c.if-enabled.true c.enabled.ensures, subst (λ k. CanStepBelow v k c.args.index) (sym c.new-end.ensures) (subst (CanStepBelow v c.loop-number.number) c.if-before-index.true c.loop-number.invariant.2))
+
+pub loop-number-preserved : goal.loop-number-preserved
+loop-number-preserved g c =
+    let v = c.args.net.now in
+    let n = c.loop-number.number in
+    let before = c.loop-number.before in
+    let below = c.loop-number.invariant.2 in
+    let few = c.loop-number.invariant.0 in
+    let small = c.loop-number.invariant.1 in
+    let here = subst (λ k. CanStep v k c.enabled.result) c.new-end.ensures c.enabled.ensures in
+    let same : before + 0 ≡ before = omega arith in
+    elim c.if-enabled.branch [
+      | then-enabled+else-before-index w ↦ let other = w.if-before-index.false in rw w.before-is (omega arith, omega arith, one_more v n before true (subst (CanStep v n) w.if-enabled.true here) below)
+      | else-enabled w ↦ rw w.before-is (omega arith, omega arith, subst (CanStepBelow v (n + 1)) same (one_more v n before false (subst (CanStep v n) w.if-enabled.false here) below))
+    ]
+
+pub returns-clause-nth : goal.returns-clause-nth
+returns-clause-nth g c =
+    let v = c.args.net.now in
+    let past = c.loop-number-test.false in
+    let end = c.loop-number.auto.number-end in
+    let count = c.channels-number-end.ensures.count in
+    let same = ap (λ (d : Declaration). length d.links) c.network.ensures.network in
+    let all : c.loop-number.number ≡ 2 * length v.declared.links = omega arith in
+    (c.loop-number.before, subst (λ k. CanStepBelow v k c.loop-number.before) all c.loop-number.invariant.2, c.loop-number.invariant.0)

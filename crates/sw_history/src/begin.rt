@@ -1,0 +1,135 @@
+//! The nodes begin their packets.
+ghost use Rattle.std.specs.Prelude.{◌≡◌, ◌<◌, IfNone, IfOk, IfSome, Ok, OnErr, OnOk, length, slice_index, true};
+ghost use Rattle.sw_history.specs.Way.{BeginsOne, HasBegun, HasBegunNext, IsReady, NoneIsReady};
+ghost use Rattle.sw_load.specs.Laws.{AreDeclared};
+ghost use Rattle.sw_machine.specs.Steps.{Begin};
+ghost use Rattle.sw_net.specs.Net.{NetAnswers};
+ghost use Rattle.sw_net.specs.Possible.{Tells};
+
+use std::alloc::{AllocError, Global};
+use sw_arb::Arbiter;
+use sw_cell::NetFault;
+use sw_load::{LoadPacket, Senders};
+use sw_model::Step;
+use sw_net::Net;
+use sw_route::Routing;
+
+/// Whether the node, which has begun so many of its packets, can begin its next.
+fn is_ready<R: Routing, A: Arbiter>(
+    net: &Net<'_, R, A>,
+    senders: &Senders<'_>,
+    node: u16,
+    begun: u32,
+) -> bool
+    requires packets { AreDeclared net.now.declared senders.now.load }
+    requires network { senders.now.declared ≡ net.now.declared }
+    requires node { node < length net.now.declared.nodes }
+    ensures { IsReady senders.now.load net.now node begun result }
+{
+    if !net.can_begin(node) {
+        return false;
+    }
+    senders.packet(node, begun).is_some()
+}
+
+/// A node that can begin its next packet.
+fn find_ready<R: Routing, A: Arbiter>(
+    net: &Net<'_, R, A>,
+    senders: &Senders<'_>,
+    begun: &[u32],
+) -> Option<u16>
+    requires packets { AreDeclared net.now.declared senders.now.load }
+    requires network { senders.now.declared ≡ net.now.declared }
+    requires nodes { length begun.now ≡ length net.now.declared.nodes }
+    ensures within { IfSome result (λ n. n < length begun.now) }
+    ensures ready { IfSome result (λ n. IsReady senders.now.load net.now n (slice_index begun.now n) true) }
+    ensures none { IfNone result (NoneIsReady senders.now.load net.now begun.now) }
+{
+    for node in 0..net.network().nodes() {
+        if is_ready(net, senders, node, begun[node as usize]) {
+            return Some(node);
+        }
+    }
+    None
+}
+
+/// The node where the packet's flow starts begins it, which has to be possible. Where there is no
+/// memory for it, nothing has changed.
+fn begin_packet<R: Routing, A: Arbiter>(
+    alloc: Global,
+    net: &mut Net<'_, R, A>,
+    packet: &LoadPacket,
+) -> Result<(), AllocError>
+    requires { Tells net.old (Begin packet.now.flow packet.now.cargo packet.now.marker) true }
+    ensures network { net.new.declared ≡ net.old.declared }
+    ensures made { OnOk result (NetAnswers net.old (Begin packet.now.flow packet.now.cargo packet.now.marker) (Ok tt) net.new) }
+    ensures refused { OnErr result (net.new ≡ net.old) }
+{
+    let _network = net.network();
+    let step = Step::Begin {
+        flow: packet.flow(),
+        cargo: Vec::from_slice(alloc, packet.cargo())?,
+        end: packet.end(),
+    };
+    match net.step(alloc, &step) {
+        Ok(()) => Ok(()),
+        Err(fault) => match fault {
+            NetFault::Memory => Err(AllocError),
+            NetFault::NotEnabled => unreachable!(),
+            NetFault::NotInFlow => unreachable!(),
+        },
+    }
+}
+
+/// The node begins its next packet, which has to be possible, and is counted.
+fn begin_at<R: Routing, A: Arbiter>(
+    alloc: Global,
+    net: &mut Net<'_, R, A>,
+    senders: &Senders<'_>,
+    begun: &mut [u32],
+    node: u16,
+) -> Result<(), AllocError>
+    requires packets { AreDeclared net.old.declared senders.now.load }
+    requires network { senders.now.declared ≡ net.old.declared }
+    requires nodes { length begun.old ≡ length net.old.declared.nodes }
+    requires node { node < length begun.old }
+    requires ready { IsReady senders.now.load net.old node (slice_index begun.old node) true }
+    ensures network { net.new.declared ≡ net.old.declared }
+    ensures nodes { length begun.new ≡ length begun.old }
+    ensures begun { OnOk result (HasBegun senders.now.load net.old begun.old net.new begun.new) }
+    ensures next { OnOk result (HasBegunNext senders.now.load net.old begun.old net.new begun.new) }
+    ensures refused { OnErr result (net.new ≡ net.old) }
+{
+    // Names the total, which bounds what a node begins.
+    let _total = senders.load().total();
+    match senders.packet(node, begun[node as usize]) {
+        Some(packet) => {
+            begin_packet(alloc, net, packet)?;
+            begun[node as usize] += 1;
+            Ok(())
+        }
+        None => unreachable!(),
+    }
+}
+
+/// A node that can begins its next packet, if there is one: then the answer is yes.
+pub(crate) fn begin_one<R: Routing, A: Arbiter>(
+    alloc: Global,
+    net: &mut Net<'_, R, A>,
+    senders: &Senders<'_>,
+    begun: &mut [u32],
+) -> Result<bool, AllocError>
+    requires packets { AreDeclared net.old.declared senders.now.load }
+    requires network { senders.now.declared ≡ net.old.declared }
+    requires nodes { length begun.old ≡ length net.old.declared.nodes }
+    ensures network { net.new.declared ≡ net.old.declared }
+    ensures nodes { length begun.new ≡ length begun.old }
+    ensures begins { IfOk result (λ made. BeginsOne senders.now.load net.old begun.old made net.new begun.new) }
+    ensures refused { OnErr result (net.new ≡ net.old) }
+{
+    let Some(node) = find_ready(net, senders, begun) else {
+        return Ok(false);
+    };
+    begin_at(alloc, net, senders, begun, node)?;
+    Ok(true)
+}

@@ -1,0 +1,80 @@
+//! A whole load, sent until nothing is left.
+ghost use Rattle.std.specs.Prelude.{◌≡◌, ℕ, IfOk, List, OnErr};
+ghost use Rattle.sw_history.specs.Drained.{IsDrained, IsUnderWay};
+ghost use Rattle.sw_history.specs.Turns.{TurnsLead};
+ghost use Rattle.sw_history.specs.Way.{MovesPicked};
+ghost use Rattle.sw_load.specs.Laws.{AreDeclared};
+ghost use Rattle.sw_machine.specs.State.{empty};
+ghost use Rattle.sw_model.specs.Model.{network_of};
+ghost use Rattle.sw_net.specs.Net.{IsNetState};
+
+use crate::begin::begin_one;
+use crate::moves::{count_enabled, move_one};
+use std::alloc::{AllocError, Global};
+use sw_arb::Arbiter;
+use sw_check::Passed;
+use sw_load::{Load, Senders, enough_limit};
+use sw_net::Net;
+use sw_route::Routing;
+
+/// One of the link ends that can step makes a step: that one which `pick` says, which is asked where
+/// some can. The answer is no where none can.
+fn move_picked<R: Routing, A: Arbiter, F: FnMut(usize) -> usize>(
+    alloc: Global,
+    net: &mut Net<'_, R, A>,
+    pick: &mut F,
+) -> Result<bool, AllocError>
+    requires pick { (state : F) (count : _) → F.pre state count }
+    ensures network { net.new.declared ≡ net.old.declared }
+    ensures moves { IfOk result (λ made. MovesPicked F.step net.old pick.old made net.new pick.new) }
+    ensures refused { OnErr result (net.new ≡ net.old) }
+{
+    let count = count_enabled(net);
+    let index = if count == 0 { 0 } else { pick(count) };
+    move_one(alloc, net, index)
+}
+
+/// Sends the whole load through a network for which a certificate was accepted, from its empty state
+/// until nothing is undelivered: each node begins its packets in their order, each as soon as it can,
+/// and else one of the link ends that can step makes a step. Which one `pick` says: it is passed how
+/// many can step, and answers how many of these, in the order of their numbers, come before it; an
+/// answer out of range counts as 0. Answers the number of steps other than beginnings: at most 14 for
+/// each channel, and 5 for each channel and each character of the packets that were begun, replies
+/// included; and so of the load's packets and of the longest replies to those that are answered.
+///
+/// # Errors
+///
+/// There is no memory for what a step stores. The network is then as before that step, after some
+/// turns: in the state that a history of the load leads to.
+pub fn drain<'n, R: Routing, A: Arbiter, F: FnMut(usize) -> usize>(
+    alloc: Global,
+    net: &mut Net<'n, R, A>,
+    passed: &Passed<'n>,
+    load: &Load,
+    mut pick: F,
+) -> Result<u64, AllocError>
+    requires empty { IsNetState net.old (empty (network_of net.old.declared)) }
+    requires passed { passed.now ≡ net.old.declared }
+    requires packets { AreDeclared net.old.declared load.now }
+    requires pick { (state : F) (count : _) → F.pre state count }
+    ensures network { net.new.declared ≡ net.old.declared }
+    ensures drained { IfOk result (λ count. IsDrained load.now net.new count) }
+    ensures refused { OnErr result (IsUnderWay load.now net.new) }
+    ensures turns { (begun : List ℕ) × (last : F) × TurnsLead load.now F.step net.old pick net.new begun last }
+{
+    passed.is_deadlock_free();
+    let network = net.network();
+    let mut begun = vec![in alloc; 0u32; network.nodes() as usize]?;
+    let senders = Senders::new(alloc, network, load)?;
+    let mut moves: u64 = 0;
+    for _ in 0..enough_limit(network, load) {
+        if begin_one(alloc, net, &senders, begun.as_mut_slice())? {
+            continue;
+        }
+        if !move_picked(alloc, net, &mut pick)? {
+            return Ok(moves);
+        }
+        moves += 1;
+    }
+    unreachable!()
+}

@@ -1,0 +1,47 @@
+//! Answers as values.
+ghost use Rattle.std.specs.Prelude.{◌≡◌, IfOk, map};
+ghost use Rattle.serde_json.specs.View.{view};
+ghost use Rattle.sw_json.specs.AnswerValues.{answer_value, file_fault_value};
+
+use crate::files::Release;
+use serde_json::{Value, json};
+use std::alloc::{AllocError, Global};
+
+/// The result of a command of whose files the one of this path has the fault.
+///
+/// # Errors
+///
+/// There is no memory for the value.
+pub fn file_fault_value(alloc: Global, path: &str, fault: Value) -> Result<Value, AllocError>
+    ensures { IfOk result (λ v. view v ≡ file_fault_value path.now (view fault)) }
+{
+    json!(in alloc; {"fault": fault, "kind": "fault", "path": path})
+}
+
+/// The answer of a command, by this release of the program: `files` are the objects of the files that it was given, in the order of its
+/// words, and `found` is that of its result.
+///
+/// # Errors
+///
+/// There is no memory for the value.
+pub fn answer_value(
+    alloc: Global,
+    command: &str,
+    files: Vec<Value>,
+    found: Value,
+    status: u8,
+    release: Release<'_>,
+) -> Result<Value, AllocError>
+    ensures { IfOk result (λ v. view v ≡ answer_value command.now (map view files.items) (view found) status release.entry.toolchain.now release.entry.version.now) }
+{
+    let toolchain = release.toolchain;
+    let version = release.version;
+    json!(in alloc; {
+        "command": command,
+        "files": files,
+        "result": found,
+        "status": status,
+        "toolchain": toolchain,
+        "version": version
+    })
+}

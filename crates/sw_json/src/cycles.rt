@@ -1,0 +1,102 @@
+//! Cycles as values.
+ghost use Rattle.std.specs.Prelude.{◌≡◌, ◌<◌, ◌++◌, ◌∷◌, [], All, IfOk, length, map};
+ghost use Rattle.std.specs.List.{zip};
+ghost use Rattle.serde_json.specs.View.{view};
+ghost use Rattle.sw_config.specs.Entries.{wiring_of};
+ghost use Rattle.sw_cycle.specs.Cycles.{cause_of};
+ghost use Rattle.sw_search.specs.Verdicts.{IsCyclic};
+ghost use Rattle.sw_json.specs.VerdictValues.{cause_value, channel_value, cyclic_value};
+
+use crate::places::{finish_text, start_text};
+use serde_json::{Value, json};
+use std::alloc::{AllocError, Global};
+use sw_config::Network;
+use sw_cycle::{Cause, Cycle};
+use sw_output::{flow_name, node_name};
+use sw_topo::Chan;
+
+fn cause_value(alloc: Global, network: &Network, cause: &Cause) -> Result<Value, AllocError>
+    ensures { IfOk result (λ v. view v ≡ cause_value network.now (cause_of cause.now)) }
+{
+    match cause {
+        Cause::Target(node) => {
+            let name = node_name(network, *node);
+            json!(in alloc; {"target": name})
+        }
+        Cause::Flow(flow, _) => {
+            let name = flow_name(network, *flow);
+            json!(in alloc; {"flow": name})
+        }
+    }
+}
+
+fn channel_value(
+    alloc: Global,
+    network: &Network,
+    channel: Chan,
+    cause: &Cause,
+) -> Result<Value, AllocError>
+    requires { channel < length (wiring_of network.now).ends }
+    ensures { IfOk result (λ v. view v ≡ channel_value network.now (channel, cause_of cause.now)) }
+{
+    let start = start_text(alloc, network, channel)?;
+    let end = finish_text(alloc, network, channel)?;
+    let by = cause_value(alloc, network, cause)?;
+    let number = channel.number();
+    json!(in alloc; {"by": by, "channel": number, "end": end, "start": start})
+}
+
+// Adds the value of a channel and its cause.
+fn add_channel_value(
+    alloc: Global,
+    network: &Network,
+    channel: Chan,
+    cause: &Cause,
+    values: &mut Vec<Value>,
+) -> Result<(), AllocError>
+    requires { channel < length (wiring_of network.now).ends }
+    ensures { IfOk result (λ _. map view values.new.items ≡ map view values.old.items ++ channel_value network.now (channel, cause_of cause.now) ∷ []) }
+{
+    values.push(channel_value(alloc, network, channel, cause)?)?;
+    Ok(())
+}
+
+// A value for each channel, with its cause.
+fn channel_values(
+    alloc: Global,
+    network: &Network,
+    channels: &[Chan],
+    causes: &[Cause],
+) -> Result<Vec<Value>, AllocError>
+    requires { All (λ c. c < length (wiring_of network.now).ends) channels.now }
+    ensures { IfOk result (λ v. map view v.items ≡ map (channel_value network.now) (zip channels.now (map cause_of causes.now))) }
+{
+    let mut values = Vec::new(alloc);
+    for (channel, cause) in channels.iter().zip(causes) {
+        add_channel_value(alloc, network, *channel, cause, &mut values)?;
+    }
+    Ok(values)
+}
+
+// The object that stands for a cycle of the network's channels.
+fn cycle_value(alloc: Global, network: &Network, cycle: &Cycle) -> Result<Value, AllocError>
+    requires { All (λ c. c < length (wiring_of network.now).ends) cycle.now.channels }
+    ensures { IfOk result (λ v. view v ≡ cyclic_value network.now cycle.now) }
+{
+    let channels = channel_values(alloc, network, &cycle.channels, &cycle.causes)?;
+    json!(in alloc; {"channels": channels, "kind": "cyclic"})
+}
+
+/// The channels of a cyclic network's cycle, each with what makes it wait for the next.
+pub(crate) fn cyclic_value(
+    alloc: Global,
+    network: &Network,
+    cycle: &Cycle,
+) -> Result<Value, AllocError>
+    requires { IsCyclic network.now cycle.now }
+    ensures { IfOk result (λ v. view v ≡ cyclic_value network.now cycle.now) }
+{
+    // Names the network, which is valid by its type: the channels of a shown cycle are its own.
+    let _topology = network.topology();
+    cycle_value(alloc, network, cycle)
+}

@@ -1,0 +1,159 @@
+//! Faults of texts as values.
+ghost use Rattle.std.specs.Prelude.{◌≡◌, ◌≤◌, IfOk, IfSome, length, option_map, string_bytes};
+ghost use Rattle.sw_position.specs.LineColumn.{column_of, line_of};
+ghost use Rattle.serde_json.specs.View.{view};
+ghost use Rattle.sw_json.specs.FaultValues.{IsFaultValue, fault_where, long_value, schedule_fault_value, told_fault, topology_where, unknown_flow_value};
+
+use crate::codes::fault_code;
+use crate::simple::{count_or_null, text_or_null};
+use serde_json::{Value, json};
+use std::alloc::{AllocError, Global};
+use sw_command::{fault_text, where_text};
+use sw_hints::fault_place;
+use sw_position::position_at;
+use sw_toml_table::TextFault;
+use sw_topo::{Limit, TopoFault};
+
+fn topology_where(alloc: Global, fault: TopoFault) -> Result<String, AllocError>
+    ensures { IfOk result (λ s. string_bytes s ≡ topology_where fault) }
+{
+    match fault {
+        TopoFault::TooMany(Limit::Nodes) => String::from_str(alloc, "node"),
+        TopoFault::TooMany(Limit::Switches) => String::from_str(alloc, "switch"),
+        TopoFault::TooMany(Limit::Links) => String::from_str(alloc, "link"),
+        TopoFault::PortTaken(link) => format!(in alloc; "link {link}"),
+        TopoFault::NodeLinks(node) => format!(in alloc; "node {node}"),
+        TopoFault::PortUnlinked(switch) => format!(in alloc; "switch {switch}"),
+    }
+}
+
+// What has the fault. Of a text that is no TOML nothing.
+fn fault_where(alloc: Global, fault: &TextFault) -> Result<Option<String>, AllocError>
+    ensures { IfOk result (λ o. option_map string_bytes o ≡ fault_where fault.now) }
+{
+    match fault {
+        TextFault::Syntax => Ok(None),
+        TextFault::UnknownKey(section, key) => {
+            Ok(Some(where_text(alloc, *section, key.as_str())?))
+        }
+        TextFault::Key(_, section, key) => Ok(Some(where_text(alloc, *section, key.text())?)),
+        TextFault::Topology(fault) => Ok(Some(topology_where(alloc, *fault)?)),
+        TextFault::DuplicateRoute(switch, route) => {
+            Ok(Some(format!(in alloc; "switch {switch} route {route}")?))
+        }
+        TextFault::ReplyShape(flow) => Ok(Some(format!(in alloc; "flow {flow}")?)),
+        TextFault::NotInFlow(packet) => Ok(Some(format!(in alloc; "packet {packet}")?)),
+    }
+}
+
+// A fault of these words, with its line and column.
+fn told_fault(
+    alloc: Global,
+    code: &str,
+    line: Option<u64>,
+    column: Option<u64>,
+    text: &str,
+    place: Option<String>,
+) -> Result<Value, AllocError>
+    ensures { IfOk result (λ v. view v ≡ told_fault code.now line column text.now (option_map string_bytes place)) }
+{
+    json!(in alloc; {
+        "code": code,
+        "column": count_or_null(column),
+        "kind": "fault",
+        "line": count_or_null(line),
+        "text": text,
+        "where": text_or_null(place)
+    })
+}
+
+// The line and the column of a byte of the text, where one is told.
+fn line_and_column(text: &[u8], place: Option<usize>) -> (Option<u64>, Option<u64>)
+    requires { IfSome place (λ at. at ≤ length text.now) }
+    ensures { result ≡ (option_map (line_of text.now) place, option_map (column_of text.now) place) }
+{
+    match place {
+        Some(at) => {
+            let position = position_at(text, at);
+            (Some(position.line as u64), Some(position.column as u64))
+        }
+        None => (None, None),
+    }
+}
+
+/// The object that stands for the fault of a text.
+///
+/// # Errors
+///
+/// There is no memory for the value, or to find where the fault stands.
+pub fn fault_value(alloc: Global, text: &[u8], fault: &TextFault) -> Result<Value, AllocError>
+    ensures { IfOk result (λ v. IsFaultValue text.now fault.now (view v)) }
+{
+    let place = fault_place(alloc, text, fault)?;
+    let (line, column) = line_and_column(text, place);
+    let said = fault_text(alloc, fault)?;
+    let faulted = fault_where(alloc, fault)?;
+    told_fault(
+        alloc,
+        fault_code(fault),
+        line,
+        column,
+        said.as_str(),
+        faulted,
+    )
+}
+
+/// The object that stands for a text that is longer than a text may be.
+///
+/// # Errors
+///
+/// There is no memory for the value.
+pub fn long_value(alloc: Global) -> Result<Value, AllocError>
+    ensures { IfOk result (λ v. view v ≡ long_value) }
+{
+    json!(in alloc; {
+        "code": "A1",
+        "column": null,
+        "kind": "fault",
+        "line": null,
+        "text": "fault A1 TooLong",
+        "where": null
+    })
+}
+
+/// The object that stands for a schedule's first wrong line, by its number, which counts from 1.
+///
+/// # Errors
+///
+/// There is no memory for the value.
+pub fn schedule_fault_value(alloc: Global, number: u64) -> Result<Value, AllocError>
+    ensures { IfOk result (λ v. view v ≡ schedule_fault_value number) }
+{
+    let text = format!(in alloc; "fault S1 BadLine {number}")?;
+    json!(in alloc; {
+        "code": "S1",
+        "column": null,
+        "kind": "fault",
+        "line": number,
+        "text": text,
+        "where": null
+    })
+}
+
+/// The object that stands for a word that names no flow of the network.
+///
+/// # Errors
+///
+/// There is no memory for the value.
+pub fn unknown_flow_value(alloc: Global) -> Result<Value, AllocError>
+    ensures { IfOk result (λ v. view v ≡ unknown_flow_value) }
+{
+    json!(in alloc; {
+        "code": "F7",
+        "column": null,
+        "kind": "fault",
+        "line": null,
+        "text": "fault F7 UnknownName argument",
+        "where": "argument"
+    })
+}

@@ -1,0 +1,107 @@
+//! Channels and places of flows as values.
+ghost use Rattle.std.specs.Prelude.{◌≡◌, ◌<◌, All, IfOk, length, map, string_bytes};
+ghost use Rattle.serde_json.specs.View.{view};
+ghost use Rattle.sw_config.specs.Entries.{wiring_of};
+ghost use Rattle.sw_output.specs.ChannelTexts.{start_text};
+ghost use Rattle.sw_json.specs.PlaceValues.{finish_text, misrouted_fault_value, misrouted_place_words, place_value};
+
+use crate::codes::route_fault_code;
+use serde_json::{Value, json};
+use std::alloc::{AllocError, Global};
+use sw_config::Network;
+use sw_flow::{Place, RouteFault};
+use sw_output::{end_text, route_fault_text};
+use sw_topo::Chan;
+
+/// The end of a link at which the channel starts: `NODE` or `SWITCH:PORT`.
+///
+/// # Errors
+///
+/// There is no memory for the text.
+pub fn start_text(alloc: Global, network: &Network, channel: Chan) -> Result<String, AllocError>
+    requires { channel < length (wiring_of network.now).ends }
+    ensures { IfOk result (λ s. string_bytes s ≡ start_text network.now channel) }
+{
+    end_text(alloc, network, network.topology().start_of(channel))
+}
+
+/// The end of a link at which the channel ends: `NODE` or `SWITCH:PORT`.
+///
+/// # Errors
+///
+/// There is no memory for the text.
+pub fn finish_text(alloc: Global, network: &Network, channel: Chan) -> Result<String, AllocError>
+    requires { channel < length (wiring_of network.now).ends }
+    ensures { IfOk result (λ s. string_bytes s ≡ finish_text network.now channel) }
+{
+    end_text(alloc, network, network.topology().end_of(channel))
+}
+
+/// The object that stands for a place of a flow.
+///
+/// # Errors
+///
+/// There is no memory for the value.
+pub fn place_value(alloc: Global, network: &Network, place: Place) -> Result<Value, AllocError>
+    requires { place.channel < length (wiring_of network.now).ends }
+    ensures { IfOk result (λ v. view v ≡ place_value network.now place) }
+{
+    let channel = place.channel.number();
+    let deleted = place.deleted;
+    let end = finish_text(alloc, network, place.channel)?;
+    let start = start_text(alloc, network, place.channel)?;
+    json!(in alloc; {"channel": channel, "deleted": deleted, "end": end, "start": start})
+}
+
+/// An object for each of the places.
+///
+/// # Errors
+///
+/// There is no memory for the values.
+pub fn place_values(
+    alloc: Global,
+    network: &Network,
+    places: &[Place],
+) -> Result<Vec<Value>, AllocError>
+    requires { All (λ p. p.channel < length (wiring_of network.now).ends) places.now }
+    ensures { IfOk result (λ v. map view v.items ≡ map (place_value network.now) places.now) }
+{
+    let mut values = Vec::new(alloc);
+    for place in places {
+        values.push(place_value(alloc, network, *place)?)?;
+    }
+    Ok(values)
+}
+
+// A place with its fault, as `route` prints it.
+fn misrouted_place_words(
+    alloc: Global,
+    place: Place,
+    fault: RouteFault,
+) -> Result<String, AllocError>
+    ensures { IfOk result (λ s. string_bytes s ≡ misrouted_place_words place fault) }
+{
+    let channel = place.channel.number();
+    let deleted = place.deleted;
+    let fault = route_fault_text(fault);
+    format!(in alloc; "misrouted {channel} {deleted} {fault}")
+}
+
+/// The object that stands for a place with its fault.
+///
+/// # Errors
+///
+/// There is no memory for the value.
+pub fn misrouted_fault_value(
+    alloc: Global,
+    place: Place,
+    fault: RouteFault,
+) -> Result<Value, AllocError>
+    ensures { IfOk result (λ v. view v ≡ misrouted_fault_value place fault) }
+{
+    let channel = place.channel.number();
+    let deleted = place.deleted;
+    let code = route_fault_code(fault);
+    let text = misrouted_place_words(alloc, place, fault)?;
+    json!(in alloc; {"channel": channel, "code": code, "deleted": deleted, "text": text})
+}

@@ -1,4 +1,0 @@
-pub mod Fronts
-pub mod Grown
-pub mod Packets
-pub mod Sends

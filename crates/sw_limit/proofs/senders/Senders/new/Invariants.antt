@@ -1,5 +1,0 @@
-use Rattle.sw_limit.proofs.Sends.{IsFoundTo}
-use Rattle.sw_limit.proofs.senders.Senders.new.Given as goal
-
-abbrev pub invariant-loop-place : goal.invariant-loop-place
-invariant-loop-place l = IsFoundTo l.network l.load l.place l.places.items

@@ -1,0 +1,13 @@
+pub mod Ranges
+pub mod Tests
+pub mod TableSteps
+pub mod Noting
+pub mod Keys
+pub mod Pairs
+pub mod Telling
+pub mod OneList
+pub mod LinkedPorts
+pub mod Words
+pub mod Lawful
+pub mod Members
+pub mod Worded

@@ -1,0 +1,14 @@
+use Rattle.std.proofs.Common.{◌∙◌, arith}
+use Rattle.std.proofs.lemmas.Result.{IfOk-weaker}
+use Rattle.sw_lint.proofs.Telling.{no_flows_listed, some_flows_listed, told_with_flows, told_without_flows}
+use Rattle.sw_lint.proofs.finding.lints.Goals as goal
+
+pub returns-then-declared_flows-eq0 : goal.returns-then-declared_flows-eq0
+returns-then-declared_flows-eq0 c =
+    let d = c.args.network.now in
+    IfOk-weaker c.no_flows.result _ _ (λ v e. told_without_flows d v.items (no_flows_listed d (omega (arith, c.if-declared_flows-eq0.true, c.declared_flows.ensures.count))) e) c.no_flows.ensures
+
+pub returns : goal.returns
+returns c =
+    let d = c.args.network.now in
+    IfOk-weaker c.found.result _ _ (λ v f. told_with_flows d v.items c.flows-valid.ensures.valid (some_flows_listed d (λ e. c.if-declared_flows-eq0.false (c.declared_flows.ensures.count ∙ e))) f) c.found.ensures

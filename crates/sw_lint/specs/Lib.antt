@@ -1,0 +1,6 @@
+pub mod FlowPlaces
+pub mod Lints
+pub mod LintTexts
+pub mod Marks
+pub mod Laws
+pub mod InWords

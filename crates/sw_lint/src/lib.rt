@@ -1,0 +1,17 @@
+//! What in a network file is probably a slip, although the file is valid.
+#![tactic(auto)]
+
+mod asking;
+mod doubtful;
+mod finding;
+pub mod laws;
+mod lint;
+mod marks;
+mod node_marks;
+mod tables;
+mod texts;
+mod unused;
+
+pub use finding::lints;
+pub use lint::Lint;
+pub use texts::lint_texts;

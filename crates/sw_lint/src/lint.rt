@@ -1,0 +1,41 @@
+//! What is told of a network.
+
+use sw_topo::Port;
+
+/// What is probably a slip in a network, although it is valid. Nodes, switches, links and flows are told by their numbers, and the entries
+/// of a routing table too, counted from 0.
+#[derive(Clone, Copy)]
+pub enum Lint {
+    /// The network has no flows.
+    NoFlows,
+    /// No declared flow is from the node or to it.
+    UnusedNode(u16),
+    /// No flow goes over the switch.
+    UnusedSwitch(u16),
+    /// The node is a target, and a declared flow is from it, but none is to it.
+    UnusedTarget(u16),
+    /// No packet comes to the switch that the entry of its table is for.
+    UnusedEntry {
+        switch: u16,
+        entry: usize,
+    },
+    /// The entry names several ports, of which this one alone has a link.
+    OneLinkedPort {
+        switch: u16,
+        entry: usize,
+        port: Port,
+    },
+    /// The entry names several ports that have links, and packets of the flow that it is for come by this one of them.
+    LeadsBack {
+        switch: u16,
+        entry: usize,
+        port: Port,
+        flow: u16,
+    },
+    /// Two flows with replies go over the link, the one from its end `a` to its end `b` and the other back, to two targets.
+    Opposed {
+        link: u16,
+        onward: u16,
+        back: u16,
+    },
+}

@@ -1,0 +1,250 @@
+//! What is noted of switches and channels, in one pass over the places of all flows.
+ghost use Rattle.std.specs.Prelude.{◌≡◌, ◌<◌, ◌≤◌, ◌+◌, ◌*◌, ◌-◌, IfOk, OnOk, Option, length, option_map};
+ghost use Rattle.sw_topo.specs.declared.place.PlaceEnd.{PlaceEnd};
+ghost use Rattle.sw_flow.specs.Places.{ends_of};
+ghost use Rattle.sw_lint.specs.Marks.{in_row, is_other, switch_at};
+
+use crate::asking::Asking;
+use crate::tables::{
+    first_noted, is_any_marked, is_marked, mark, no_askings, no_marks, no_numbers, note, note_at,
+};
+use std::alloc::{AllocError, Global};
+use std::marker::Model;
+use sw_config::{Flow, Network};
+use sw_flow::{Place, places};
+use sw_route::Route;
+use sw_topo::{Chan, PlaceEnd};
+
+/// What is noted of the places of flows.
+#[derive(Drop)]
+pub(crate) struct Marks {
+    // For each switch: whether a place is on a channel that starts there.
+    starts: Vec<bool>,
+    // For each switch: whether a place is on a channel that ends there.
+    ends: Vec<bool>,
+    // For each switch and each byte: whether packets come there that lead with it.
+    arrivals: Vec<bool>,
+    // For each channel and each byte: the first flow that has a place there, with that byte in front.
+    led: Vec<Option<u16>>,
+    // For each channel: the first flow with a reply that has a place there.
+    asking: Vec<Option<Asking>>,
+    // For each channel: the first of those to another target.
+    other: Vec<Option<u16>>,
+}
+
+impl Model for Marks {
+    ghost use Rattle.sw_lint.specs.Marks.{MarkLists};
+
+    ghost Value = { MarkLists };
+
+    ghost view = { λ m. record { starts = m.starts.items; ends = m.ends.items; arrivals = m.arrivals.items; led = m.led.items; asking = m.asking.items; other = m.other.items } };
+}
+
+/// The switch at which the end stands, if it is at one.
+fn switch_at(end: PlaceEnd) -> Option<u16>
+    ensures { result ≡ switch_at (Option.Some end) }
+{
+    match end {
+        PlaceEnd::Node(_) => None,
+        PlaceEnd::Switch(switch, _) => Some(switch),
+    }
+}
+
+/// The number of the byte in a row of 256, if there are both; none of 255, which no entry is for.
+fn in_row(row: Option<u16>, byte: Option<u8>) -> Option<usize>
+    ensures { result ≡ in_row row byte }
+{
+    let row = row?;
+    let byte = byte?;
+    if byte < 255 {
+        Some(256 * usize::from(row) + usize::from(byte))
+    } else {
+        None
+    }
+}
+
+/// The least address that the entry is for.
+fn first_of(route: &Route) -> usize
+    ensures value { result ≡ route.now.first }
+    ensures small { result < 256 }
+{
+    let first = route.first;
+    usize::from(first)
+}
+
+/// How many addresses the entry is for.
+fn count_of(route: &Route) -> usize
+    ensures value { result ≡ route.now.last + 1 - route.now.first }
+    ensures small { result ≤ 256 }
+{
+    let last = route.last;
+    (usize::from(last) + 1).saturating_sub(first_of(route))
+}
+
+/// Does the flow go to another target than that one?
+fn is_other(first: Option<Asking>, to: u16) -> bool
+    ensures { result ≡ is_other first to }
+{
+    match first {
+        Some(asking) => to != asking.to,
+        None => false,
+    }
+}
+
+/// The number of the switch, if there is one.
+fn alone(row: Option<u16>) -> Option<usize>
+    ensures { result ≡ row }
+{
+    Some(usize::from(row?))
+}
+
+impl Marks {
+    ghost use Rattle.std.specs.Prelude.{All, fold, slice_get};
+    ghost use Rattle.std.specs.List.{list_any};
+    ghost use Rattle.sw_route.specs.declared.look.Route.{Route};
+    ghost use Rattle.sw_config.specs.Entries.{all_flows};
+    ghost use Rattle.sw_lint.specs.FlowPlaces.{places_of_flow};
+    ghost use Rattle.sw_lint.specs.Marks.{AreNoted, IsFlowNoted, IsNoted, first_led, is_met_by, is_used_by, no_places, note_at, with_command, with_ends, with_led, with_place};
+
+    fn new(alloc: Global, network: &Network) -> Result<Marks, AllocError>
+        ensures { IfOk result (λ m. m ≡ no_places network.now) }
+    {
+        let switches = usize::from(network.switches());
+        let channels = usize::from(network.channels());
+        Ok(Marks {
+            starts: no_marks(alloc, switches)?,
+            ends: no_marks(alloc, switches)?,
+            arrivals: no_marks(alloc, 256 * switches)?,
+            led: no_numbers(alloc, 256 * channels)?,
+            asking: no_askings(alloc, channels)?,
+            other: no_numbers(alloc, channels)?,
+        })
+    }
+
+    // At the switches where the place's channel starts and ends.
+    fn note_ends(&mut self, start: Option<u16>, end: Option<u16>, byte: Option<u8>)
+        ensures { self.new ≡ with_ends self.old start end byte }
+    {
+        mark(&mut self.starts, alone(start));
+        mark(&mut self.ends, alone(end));
+        mark(&mut self.arrivals, in_row(end, byte));
+    }
+
+    // On the place's channel, by the leading byte.
+    fn note_led(&mut self, number: u16, channel: Chan, byte: Option<u8>)
+        ensures { self.new ≡ with_led self.old number channel byte }
+    {
+        note(&mut self.led, in_row(Some(channel.number()), byte), number);
+    }
+
+    // On the place's channel, if the flow has a reply.
+    fn note_command(&mut self, number: u16, flow: &Flow, channel: Chan)
+        ensures { self.new ≡ with_command self.old number flow.now channel }
+    {
+        if flow.reply().is_none() {
+            return;
+        }
+        let at = usize::from(channel.number());
+        let to = flow.to();
+        if is_other(note_at(&self.asking, at), to) {
+            note(&mut self.other, Some(at), number);
+        }
+        note(&mut self.asking, Some(at), Asking { number, to });
+    }
+
+    // One place more.
+    fn note_place(&mut self, network: &Network, number: u16, flow: &Flow, place: Place)
+        requires { place.channel < length (ends_of network.now) }
+        ensures { self.new ≡ with_place network.now self.old (record { number = number; flow = flow.now; place = place }) }
+    {
+        let topology = network.topology();
+        let start = switch_at(topology.start_of(place.channel));
+        let end = switch_at(topology.end_of(place.channel));
+        let byte = flow.address().get(usize::from(place.deleted)).copied();
+        self.note_ends(start, end, byte);
+        self.note_led(number, place.channel, byte);
+        self.note_command(number, flow, place.channel);
+    }
+
+    // The places of one flow more.
+    fn note_flow(&mut self, network: &Network, number: u16, flow: &Flow, places: &[Place])
+        requires { All (λ p. p.channel < length (ends_of network.now)) places.now }
+        ensures { self.new ≡ fold (with_place network.now) self.old (places_of_flow number flow.now places.now) }
+    {
+        for place in places {
+            self.note_place(network, number, flow, *place);
+        }
+    }
+
+    // The places of the flow of that number.
+    fn note_number(
+        &mut self,
+        alloc: Global,
+        network: &Network,
+        number: u16,
+    ) -> Result<(), AllocError>
+        requires { number < length (all_flows network.now) }
+        ensures { OnOk result (IsFlowNoted network.now number self.old self.new) }
+    {
+        let listed = places(alloc, network, number)?;
+        self.note_flow(network, number, network.flow(number), &listed);
+        Ok(())
+    }
+
+    // The places of all flows.
+    fn note_all(&mut self, alloc: Global, network: &Network) -> Result<(), AllocError>
+        ensures { OnOk result (AreNoted network.now (all_flows network.now) self.old self.new) }
+    {
+        for number in 0..network.flows() {
+            self.note_number(alloc, network, number)?;
+        }
+        Ok(())
+    }
+
+    /// What is noted of the places of all flows of the network.
+    pub(crate) fn of_network(alloc: Global, network: &Network) -> Result<Marks, AllocError>
+        ensures { IfOk result (IsNoted network.now) }
+    {
+        let mut marks = Marks::new(alloc, network)?;
+        marks.note_all(alloc, network)?;
+        Ok(marks)
+    }
+
+    /// Does a flow go over the switch?
+    pub(crate) fn is_used(&self, switch: u16) -> bool
+        ensures { result ≡ is_used_by self.now switch }
+    {
+        let at = usize::from(switch);
+        is_marked(&self.starts, at) || is_marked(&self.ends, at)
+    }
+
+    /// Do packets come to the switch that the entry is for?
+    pub(crate) fn is_met(&self, switch: u16, route: &Route) -> bool
+        ensures { result ≡ is_met_by self.now switch route.now }
+    {
+        let from = 256 * usize::from(switch) + first_of(route);
+        is_any_marked(&self.arrivals, from, count_of(route))
+    }
+
+    /// The first flow with a place on the channel that the entry is for, of those to the least of its addresses.
+    pub(crate) fn first_led(&self, route: &Route, channel: Chan) -> Option<u16>
+        ensures { result ≡ first_led self.now route.now channel }
+    {
+        let from = 256 * usize::from(channel.number()) + first_of(route);
+        first_noted(&self.led, from, count_of(route))
+    }
+
+    /// The first flow with a reply that has a place on the channel.
+    pub(crate) fn asking(&self, channel: usize) -> Option<Asking>
+        ensures { result ≡ note_at self.now.asking channel }
+    {
+        note_at(&self.asking, channel)
+    }
+
+    /// The first of those to another target than that one's.
+    pub(crate) fn other(&self, channel: usize) -> Option<u16>
+        ensures { result ≡ note_at self.now.other channel }
+    {
+        note_at(&self.other, channel)
+    }
+}

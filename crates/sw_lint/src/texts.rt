@@ -1,0 +1,220 @@
+//! How it is told.
+ghost use Rattle.std.specs.Prelude.{◌≡◌, ◌*◌, IfOk, map, string_bytes};
+ghost use Rattle.sw_output.specs.ChannelTexts.{channel_text};
+ghost use Rattle.sw_lint.specs.LintTexts.{AreLintTexts, addresses_words, command_words, end_name, entry_words, lint_text, route_words};
+
+use crate::finding::lints;
+use crate::lint::Lint;
+use std::alloc::{AllocError, Global};
+use sw_config::Network;
+use sw_output::{channel_text, flow_name, node_name, switch_name};
+use sw_topo::{Chan, Port};
+
+// The addresses that a table entry is for.
+fn addresses_words(alloc: Global, first: u8, last: u8) -> Result<String, AllocError>
+    ensures { IfOk result (λ s. string_bytes s ≡ addresses_words first last) }
+{
+    if first == last {
+        format!(in alloc; "address {first}")
+    } else {
+        format!(in alloc; "addresses {first} to {last}")
+    }
+}
+
+// Those of the entry of that number of the switch's table.
+fn route_words(
+    alloc: Global,
+    network: &Network,
+    switch: u16,
+    entry: usize,
+) -> Result<String, AllocError>
+    ensures { IfOk result (λ s. string_bytes s ≡ route_words network.now switch entry) }
+{
+    if switch >= network.switches() {
+        return Ok(String::new(alloc));
+    }
+    match network.routes(switch).get(entry) {
+        Some(route) => addresses_words(alloc, route.first, route.last),
+        None => Ok(String::new(alloc)),
+    }
+}
+
+// The same, and the switch.
+fn entry_words(
+    alloc: Global,
+    network: &Network,
+    switch: u16,
+    entry: usize,
+) -> Result<String, AllocError>
+    ensures { IfOk result (λ s. string_bytes s ≡ entry_words network.now switch entry) }
+{
+    let words = route_words(alloc, network, switch, entry)?;
+    let name = switch_name(network, switch);
+    format!(in alloc; "{words} at {name}")
+}
+
+// The node to which the flow goes.
+fn end_name(network: &Network, flow: u16) -> &str
+    ensures { result.now ≡ end_name network.now flow }
+{
+    if flow < network.flows() {
+        node_name(network, network.flow(flow).to())
+    } else {
+        ""
+    }
+}
+
+// The flow and the target to which it goes.
+fn command_words(alloc: Global, network: &Network, flow: u16) -> Result<String, AllocError>
+    ensures { IfOk result (λ s. string_bytes s ≡ command_words network.now flow) }
+{
+    let name = flow_name(network, flow);
+    let end = end_name(network, flow);
+    format!(in alloc; "{name} to {end}")
+}
+
+fn no_flows(alloc: Global, network: &Network) -> Result<String, AllocError>
+    ensures { IfOk result (λ s. string_bytes s ≡ lint_text network.now Lint.NoFlows) }
+{
+    String::from_str(alloc, "the network has no flows")
+}
+
+fn unused_node(alloc: Global, network: &Network, node: u16) -> Result<String, AllocError>
+    ensures { IfOk result (λ s. string_bytes s ≡ lint_text network.now (Lint.UnusedNode node)) }
+{
+    let name = node_name(network, node);
+    format!(in alloc; "no flow is from or to the node {name}")
+}
+
+fn unused_switch(alloc: Global, network: &Network, switch: u16) -> Result<String, AllocError>
+    ensures { IfOk result (λ s. string_bytes s ≡ lint_text network.now (Lint.UnusedSwitch switch)) }
+{
+    let name = switch_name(network, switch);
+    format!(in alloc; "no flow goes over the switch {name}")
+}
+
+fn unused_target(alloc: Global, network: &Network, node: u16) -> Result<String, AllocError>
+    ensures { IfOk result (λ s. string_bytes s ≡ lint_text network.now (Lint.UnusedTarget node)) }
+{
+    let name = node_name(network, node);
+    format!(in alloc; "no flow goes to the target {name}")
+}
+
+fn unused_entry(
+    alloc: Global,
+    network: &Network,
+    switch: u16,
+    entry: usize,
+) -> Result<String, AllocError>
+    ensures { IfOk result (λ s. string_bytes s ≡ lint_text network.now (Lint.UnusedEntry switch entry)) }
+{
+    let words = entry_words(alloc, network, switch, entry)?;
+    format!(in alloc; "no flow uses the entry for {words}")
+}
+
+fn one_linked_port(
+    alloc: Global,
+    network: &Network,
+    switch: u16,
+    entry: usize,
+    port: Port,
+) -> Result<String, AllocError>
+    ensures { IfOk result (λ s. string_bytes s ≡ lint_text network.now (Lint.OneLinkedPort switch entry port)) }
+{
+    let words = entry_words(alloc, network, switch, entry)?;
+    let port = port.number();
+    format!(in alloc; "of the group for {words} one port alone has a link: {port}")
+}
+
+fn leads_back(
+    alloc: Global,
+    network: &Network,
+    switch: u16,
+    entry: usize,
+    port: Port,
+    flow: u16,
+) -> Result<String, AllocError>
+    ensures { IfOk result (λ s. string_bytes s ≡ lint_text network.now (Lint.LeadsBack switch entry port flow)) }
+{
+    let words = entry_words(alloc, network, switch, entry)?;
+    let name = flow_name(network, flow);
+    let port = port.number();
+    format!(in alloc;
+        "the group for {words} may lead packets of {name} back over port {port} by which they come"
+    )
+}
+
+// The link, from its end a to its end b.
+fn link_text(alloc: Global, network: &Network, link: u16) -> Result<String, AllocError>
+    ensures { IfOk result (λ s. string_bytes s ≡ channel_text network.now (2 * link)) }
+{
+    if link >= network.links() {
+        return String::from_str(alloc, ">");
+    }
+    channel_text(alloc, network, Chan::new(2 * link))
+}
+
+fn opposed(
+    alloc: Global,
+    network: &Network,
+    link: u16,
+    onward: u16,
+    back: u16,
+) -> Result<String, AllocError>
+    ensures { IfOk result (λ s. string_bytes s ≡ lint_text network.now (Lint.Opposed link onward back)) }
+{
+    let channel = link_text(alloc, network, link)?;
+    let one = command_words(alloc, network, onward)?;
+    let other = command_words(alloc, network, back)?;
+    format!(in alloc;
+        "commands of {one} go over {channel} and of {other} the other way: while both targets answer, each can wait for the other"
+    )
+}
+
+// The text of what is told.
+fn lint_text(alloc: Global, network: &Network, lint: &Lint) -> Result<String, AllocError>
+    ensures { IfOk result (λ s. string_bytes s ≡ lint_text network.now lint.now) }
+{
+    match lint {
+        Lint::NoFlows => no_flows(alloc, network),
+        Lint::UnusedNode(node) => unused_node(alloc, network, *node),
+        Lint::UnusedSwitch(switch) => unused_switch(alloc, network, *switch),
+        Lint::UnusedTarget(node) => unused_target(alloc, network, *node),
+        Lint::UnusedEntry { switch, entry } => unused_entry(alloc, network, *switch, *entry),
+        Lint::OneLinkedPort {
+            switch,
+            entry,
+            port,
+        } => one_linked_port(alloc, network, *switch, *entry, *port),
+        Lint::LeadsBack {
+            switch,
+            entry,
+            port,
+            flow,
+        } => leads_back(alloc, network, *switch, *entry, *port, *flow),
+        Lint::Opposed { link, onward, back } => opposed(alloc, network, *link, *onward, *back),
+    }
+}
+
+// The texts of all that is told.
+fn texts_of(alloc: Global, network: &Network, lints: &[Lint]) -> Result<Vec<String>, AllocError>
+    ensures { IfOk result (λ v. map string_bytes v.items ≡ map (lint_text network.now) lints.now) }
+{
+    let mut texts = Vec::new(alloc);
+    for lint in lints {
+        texts.push(lint_text(alloc, network, lint)?)?;
+    }
+    Ok(texts)
+}
+
+/// What in the network is probably a slip, each in a line of its own without LF, in the order of `lints`.
+///
+/// # Errors
+///
+/// There is no memory for the texts, or for what finds what they tell.
+pub fn lint_texts(alloc: Global, network: &Network) -> Result<Vec<String>, AllocError>
+    ensures { IfOk result (λ v. AreLintTexts network.now (map string_bytes v.items)) }
+{
+    let told = lints(alloc, network)?;
+    texts_of(alloc, network, &told)
+}

@@ -1,0 +1,77 @@
+-- How a history grows.
+use Rattle.std.proofs.Common.{◌≡◌, ◌++◌, ◌∷◌, ◌∙◌, [], ℕ, List, Some, length, refl, sym, ap, subst, append_assoc, append-nil, ⊎_elim}
+use Rattle.std.specs.Prelude.{nat_eq, slice_get}
+use Rattle.std.proofs.lemmas.Bool.{cases_eq, eq-eqb, ne_eqb}
+use Rattle.std.proofs.lemmas.Grind.{flat_map-append}
+use Rattle.std.proofs.lemmas.List.Elements.{filter-append}
+use Rattle.sw_char.specs.declared.nchar.End.{End}
+use Rattle.sw_load.specs.History.{BeginsNext, IsFront, IsHistory, packets_at}
+use Rattle.sw_machine.proofs.RunLists.{run_append}
+use Rattle.sw_machine.specs.Begun.{Begun, beginning, beginnings}
+use Rattle.sw_machine.specs.Network.{Network}
+use Rattle.sw_machine.specs.State.{State, empty}
+use Rattle.sw_machine.specs.Steps.{Accept, Arrive, Begin, Drop, Emit, Fct, FctIn, Forward, Grant, Leads, Reply, Spill, Step}
+
+begun_last : (steps : List Step) (step : Step) → beginnings (steps ++ step ∷ []) ≡ beginnings steps ++ beginning step
+begun_last steps step = flat_map-append beginning steps (step ∷ []) ∙ ap (λ l. beginnings steps ++ l) (append-nil (beginning step))
+
+pub slice_get-behind : {A : Type 0} (xs ys : List A) → slice_get (xs ++ ys) (length xs) ≡ slice_get ys 0
+slice_get-behind [] ys = refl
+slice_get-behind (x ∷ xs) ys = slice_get-behind xs ys
+
+longer_front : {A : Type 0} (xs rest : List A) (b : A) → slice_get rest 0 ≡ Some b → IsFront (xs ++ b ∷ []) (xs ++ rest)
+longer_front xs [] b h = absurd cc
+longer_front xs (r ∷ rest) b h = let e : r ≡ b = cc in (rest, ap (λ x. xs ++ x ∷ rest) e ∙ sym (append_assoc xs (b ∷ []) rest))
+
+module _ (net : Network) (packets : List Begun) where
+  abbrev at : ℕ → List Begun → List Begun
+  at n ps = packets_at net n ps
+
+  pub begun_at_last : (steps : List Step) (step : Step) (n : ℕ) → at n (beginnings (steps ++ step ∷ [])) ≡ at n (beginnings steps) ++ at n (beginning step)
+  begun_at_last steps step n = ap (at n) (begun_last steps step) ∙ filter-append (λ b. nat_eq (net.flow b.flow).from n) (beginnings steps) (beginning step)
+
+  pub its_own : (b : Begun) (n : ℕ) → (net.flow b.flow).from ≡ n → at n (b ∷ []) ≡ b ∷ []
+  its_own b n e = rw (eq-eqb (net.flow b.flow).from n e) refl
+
+  pub not_its_own : (b : Begun) (n : ℕ) → ((net.flow b.flow).from ≡ n → ⊥) → at n (b ∷ []) ≡ []
+  not_its_own b n ne = rw (ne_eqb (net.flow b.flow).from n ne) refl
+
+  keeps_front : (steps : List Step) (step : Step) (n : ℕ) → at n (beginning step) ≡ [] → IsFront (at n (beginnings steps)) (at n packets) → IsFront (at n (beginnings (steps ++ step ∷ []))) (at n packets)
+  keeps_front steps step n none front =
+      let e = begun_at_last steps step n ∙ ap (λ l. at n (beginnings steps) ++ l) none ∙ append-nil (at n (beginnings steps)) in
+      subst (λ l. IsFront l (at n packets)) (sym e) front
+
+  grows_front : (steps : List Step) (f : ℕ) (cargo : List ℕ) (end : End) → BeginsNext net packets steps (Begin f cargo end)
+      → IsFront (at (net.flow f).from (beginnings steps)) (at (net.flow f).from packets) → IsFront (at (net.flow f).from (beginnings (steps ++ Begin f cargo end ∷ []))) (at (net.flow f).from packets)
+  grows_front steps f cargo end next front =
+      let n = (net.flow f).from in
+      let b : Begun = record { flow = f; cargo = cargo; end = end } in
+      let xs = at n (beginnings steps) in
+      let first = sym (slice_get-behind xs front.0) ∙ ap (λ l. slice_get l (length xs)) (sym front.1) ∙ next in
+      let grown = subst (λ l. IsFront (xs ++ b ∷ []) l) (sym front.1) (longer_front xs front.0 b first) in
+      let e = begun_at_last steps (Begin f cargo end) n ∙ ap (λ l. xs ++ l) (its_own b n refl) in
+      subst (λ l. IsFront l (at n packets)) (sym e) grown
+
+  module _ (steps : List Step) (s : State) (h : IsHistory net packets steps s) where
+    order_with : (step : Step) → BeginsNext net packets steps step → (n : ℕ) → IsFront (at n (beginnings (steps ++ step ∷ []))) (at n packets)
+    order_with (Begin f cargo end) next n = ⊎_elim
+        (λ same. subst (λ m. IsFront (at m (beginnings (steps ++ Begin f cargo end ∷ []))) (at m packets)) same (grows_front steps f cargo end next (h.in_order (net.flow f).from)))
+        (λ other. keeps_front steps (Begin f cargo end) n (not_its_own (record { flow = f; cargo = cargo; end = end }) n other) (h.in_order n))
+        (cases_eq (net.flow f).from n)
+    order_with (Fct c) next n = keeps_front steps (Fct c) n refl (h.in_order n)
+    order_with (FctIn c) next n = keeps_front steps (FctIn c) n refl (h.in_order n)
+    order_with (Arrive c) next n = keeps_front steps (Arrive c) n refl (h.in_order n)
+    order_with (Grant d c) next n = keeps_front steps (Grant d c) n refl (h.in_order n)
+    order_with (Drop c) next n = keeps_front steps (Drop c) n refl (h.in_order n)
+    order_with (Forward c) next n = keeps_front steps (Forward c) n refl (h.in_order n)
+    order_with (Spill c) next n = keeps_front steps (Spill c) n refl (h.in_order n)
+    order_with (Emit m) next n = keeps_front steps (Emit m) n refl (h.in_order n)
+    order_with (Accept m) next n = keeps_front steps (Accept m) n refl (h.in_order n)
+    order_with (Reply m) next n = keeps_front steps (Reply m) n refl (h.in_order n)
+
+    -- a step that leads on from the state after a history makes a longer one
+    pub grows : (step : Step) (t : State) → Leads net s step t → BeginsNext net packets steps step → IsHistory net packets (steps ++ step ∷ []) t
+    grows step t leads next = record {
+      run = run_append net steps (step ∷ []) (empty net) s t h.run (t, leads, refl);
+      in_order = order_with step next;
+    }

@@ -1,0 +1,19 @@
+use Rattle.std.proofs.Common.{ap, length, sym, ◌∙◌, ◌≡◌, ℕ}
+use Rattle.std.specs.Prelude.{slice_get}
+use Rattle.sw_load.proofs.Sends.{flow_from, found_more, read_at, whole}
+use Rattle.sw_load.proofs.senders.Senders.new.Goals as goal
+use Rattle.sw_config.specs.Entries.{all_flows}
+
+pub loop-place-preserved : goal.loop-place-preserved
+loop-place-preserved c =
+    let d = c.args.network.now in
+    let load = c.args.load.now in
+    let i = c.loop-place.place in
+    let p = c.packet-item.result in
+    let rows = c.loop-place.places.items in
+    let read = read_at c.packets-packet-items.result.now load i p c.packets-packet-items.ensures c.loop-place-test.true c.packet-item.is in
+    let from = flow_from d p.flow c.flow-in-loop-place.result.now (ap (λ (f : ℕ). slice_get (all_flows d) f) (sym c.flow.ensures) ∙ c.flow-in-loop-place.ensures.flow) ∙ sym c.from-node.ensures in
+    let size : length c.add_places.new.rows ≡ length rows = c.add_places.auto.rows ∙ ap length c.deref_mut.ensures.value in
+    let e = whole c.loop-place.places.len c.add_places.new.rows rows c.loop-place.places.ok.0 size in
+    let added = rw (c.deref_mut.ensures.value, c.count.ensures) at c.in_ok-add_places.ensures in
+    rw e (found_more d load i p rows c.add_places.new.rows c.from-node.result read.0 read.1 from c.loop-place.invariant added)

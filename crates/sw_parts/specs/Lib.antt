@@ -1,5 +1,0 @@
-pub mod Parts
-pub mod Shortest
-pub mod Searches
-pub mod Bests
-pub mod Laws

@@ -1,5 +1,0 @@
-use Rattle.sw_schedule_text.proofs.Texts.{schedules_are_read}
-use Rattle.sw_schedule_text.proofs.laws.schedules_are_read.Goals as goal
-
-pub returns : goal.returns
-returns c = schedules_are_read c.cargo_is_read.ensures c.lines_are_read.ensures c.declared_networks_are_networks.ensures

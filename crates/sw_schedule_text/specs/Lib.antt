@@ -1,4 +1,0 @@
-pub mod Lines
-pub mod Runs
-pub mod Views
-pub mod Laws

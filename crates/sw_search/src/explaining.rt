@@ -1,0 +1,57 @@
+//! What is told of a network.
+ghost use Rattle.std.specs.Prelude.{IfOk};
+ghost use Rattle.sw_search.specs.Lists.{AreListed};
+ghost use Rattle.sw_search.specs.Verdicts.{AllWellRouted};
+ghost use Rattle.sw_search.specs.Explanations.{IsExplanation};
+
+use crate::explanation::Explanation;
+use crate::misrouted_way::{first_misrouted, misrouted};
+use crate::tangling::tangles;
+use std::alloc::{AllocError, Global};
+use std::thread::Threads;
+use sw_config::Network;
+use sw_flow::{Place, all_places};
+
+/// What is told of a network in which each flow is well routed.
+fn routed<R: Threads + Sync>(
+    rt: &R,
+    alloc: Global,
+    network: &Network,
+    places: &[Vec<Place>],
+) -> Result<Explanation, AllocError>
+    requires lists { AreListed network.now places.now }
+    requires routed { AllWellRouted network.now }
+    ensures { IfOk result (IsExplanation network.now) }
+{
+    let found = tangles(rt, alloc, network, places)?;
+    let count = found.len();
+    if count == 0 {
+        return Ok(Explanation::Free);
+    }
+    Ok(Explanation::Cyclic(found))
+}
+
+/// Why a network can lock up, or that it can't: the first flow that is not well routed, with a way to
+/// where its packets go wrong; else the tangles of its channels, each with a shortest cycle; else
+/// that it is free. It is of the kind of the verdict, and tells of the same flow and fault
+/// (`explanation_laws::explanations_are_of_the_verdict`).
+///
+/// Threads share the work of finding the places and the dependencies, as many as there are
+/// processors.
+///
+/// # Errors
+///
+/// There is no memory for the places, the dependencies or what is told.
+pub fn explain<R: Threads + Sync>(
+    rt: &R,
+    alloc: Global,
+    network: &Network,
+) -> Result<Explanation, AllocError>
+    ensures { IfOk result (IsExplanation network.now) }
+{
+    let places = all_places(rt, alloc, network)?;
+    match first_misrouted(network, &places) {
+        Some((flow, place, fault)) => misrouted(alloc, network, flow, place, fault),
+        None => routed(rt, alloc, network, &places),
+    }
+}

@@ -1,0 +1,91 @@
+//! The tangles of a network.
+ghost use Rattle.std.specs.Prelude.{◌≡◌, IfOk};
+ghost use Rattle.sw_graph.specs.Parts.{AreParts, IsPart};
+ghost use Rattle.sw_search.specs.Lists.{AreListed};
+ghost use Rattle.sw_search.specs.Verdicts.{depends};
+ghost use Rattle.sw_search.specs.Tangles.{AreTangles, IsTangle};
+
+use crate::tangle::Tangle;
+use std::alloc::{AllocError, Global};
+use std::thread::Threads;
+use sw_config::Network;
+use sw_cycle::{Cycle, causes, dependencies, flows_of_steps};
+use sw_flow::Place;
+use sw_graph::{Part, parts};
+use sw_topo::Chan;
+
+/// The channels of these numbers.
+fn channels_of(alloc: Global, members: &[u16]) -> Result<Vec<Chan>, AllocError>
+    ensures { IfOk result (λ v. v.items ≡ members.now) }
+{
+    let mut channels = Vec::with_capacity(alloc, members.len())?;
+    for member in members {
+        channels.push(Chan::new(*member))?;
+    }
+    Ok(channels)
+}
+
+/// The tangle of a part of the dependencies.
+fn tangle(
+    alloc: Global,
+    network: &Network,
+    places: &[Vec<Place>],
+    part: &Part,
+) -> Result<Tangle, AllocError>
+    requires lists { AreListed network.now places.now }
+    requires part { IsPart (depends network.now) part.now }
+    ensures { IfOk result (IsTangle network.now part.now) }
+{
+    let channels = channels_of(alloc, &part.cycle)?;
+    let causes = causes(alloc, network, places, &channels)?;
+    let flows = flows_of_steps(alloc, network, places, &channels)?;
+    Ok(Tangle {
+        channels: part.members.len(),
+        cycle: Cycle { channels, causes },
+        flows,
+    })
+}
+
+/// The tangles of the parts of the dependencies.
+fn tangles_of(
+    alloc: Global,
+    network: &Network,
+    places: &[Vec<Place>],
+    parts: &[Part],
+) -> Result<Vec<Tangle>, AllocError>
+    requires lists { AreListed network.now places.now }
+    requires parts { AreParts (depends network.now) parts.now }
+    ensures { IfOk result (λ v. AreTangles network.now v.items) }
+{
+    let mut tangles = Vec::new(alloc);
+    for part in parts {
+        tangles.push(tangle(alloc, network, places, part)?)?;
+    }
+    Ok(tangles)
+}
+
+/// The tangles of the network's channels, in the order of the least channels in them, each with its
+/// shortest cycle; none where no channels can wait for one another in a circle. Whether the flows
+/// are well routed does not matter.
+///
+/// `places` has the places of each flow, reply flows too, as `sw_flow::all_places` gives them.
+/// Threads share the work of finding the dependencies, as many as there are processors.
+///
+/// # Errors
+///
+/// There is no memory for the tangles, or for what finds them.
+pub fn tangles<R: Threads + Sync>(
+    rt: &R,
+    alloc: Global,
+    network: &Network,
+    places: &[Vec<Place>],
+) -> Result<Vec<Tangle>, AllocError>
+    requires { AreListed network.now places.now }
+    ensures { IfOk result (λ v. AreTangles network.now v.items) }
+{
+    // There are at most 2,048.
+    let _channels = network.channels();
+    let rows = dependencies(rt, alloc, network, places)?;
+    let found = parts(alloc, &rows)?;
+    tangles_of(alloc, network, places, &found)
+}

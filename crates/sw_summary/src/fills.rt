@@ -1,0 +1,89 @@
+//! How full the receive buffers of a network get.
+ghost use Rattle.std.specs.Prelude.{◌≡◌, ◌<◌, ◌*◌, IfOk, length, map, option_map};
+ghost use Rattle.sw_summary.specs.Fills.{AreFillsOrNone};
+ghost use Rattle.sw_summary.specs.NotedFills.{AreNoted, Holds, MakesOrNot};
+ghost use Rattle.sw_model.specs.Model.{network_of};
+ghost use Rattle.sw_model.specs.Steps.{machine_step};
+
+use std::alloc::{AllocError, Global};
+use sw_arb::Arbiter;
+use sw_cell::NetFault;
+use sw_config::Network;
+use sw_model::Step;
+use sw_net::{Net, declared_net};
+use sw_route::Routing;
+use sw_topo::{Chan, LinkEnd};
+
+// How many characters the buffer of the channel holds.
+fn held<R: Routing, A: Arbiter>(net: &Net<'_, R, A>, channel: Chan) -> u16
+    requires { channel < 2 * length net.now.declared.links }
+    ensures { Holds net.now channel result }
+{
+    let network = net.network();
+    let capacity = network.capacity(channel);
+    let numbers = net.numbers(LinkEnd::new(channel.partner().number()));
+    let used = capacity.saturating_sub(numbers.room);
+    used.saturating_sub(u16::from(numbers.outstanding))
+}
+
+// The fills are greater, if need be, where a character has arrived.
+fn note<R: Routing, A: Arbiter>(net: &Net<'_, R, A>, step: &Step, fills: &mut [u16])
+    requires { length fills.old ≡ 2 * length net.now.declared.links }
+    ensures { AreNoted net.now (machine_step step.now) fills.old fills.new }
+{
+    match step {
+        Step::Arrive(channel) => {
+            let number = usize::from(channel.number());
+            if number < fills.len() {
+                fills[number] = fills[number].max(held(net, *channel));
+            }
+        }
+        _ => {}
+    }
+}
+
+// Makes the step and notes the fills, if it is possible: whether it is.
+fn make<R: Routing, A: Arbiter>(
+    alloc: Global,
+    net: &mut Net<'_, R, A>,
+    step: &Step,
+    fills: &mut [u16],
+) -> Result<bool, AllocError>
+    requires { length fills.old ≡ 2 * length net.old.declared.links }
+    ensures network { net.new.declared ≡ net.old.declared }
+    ensures long { length fills.new ≡ length fills.old }
+    ensures made { IfOk result (λ made. MakesOrNot net.old fills.old (machine_step step.now) made net.new fills.new) }
+{
+    match net.step(alloc, step) {
+        Ok(()) => {
+            note(net, step, fills);
+            Ok(true)
+        }
+        Err(NetFault::NotEnabled) => Ok(false),
+        Err(NetFault::NotInFlow) => Ok(false),
+        Err(NetFault::Memory) => Err(AllocError),
+    }
+}
+
+/// The greatest fill of the receive buffer of each channel while the steps are made one after another from the empty network on; none
+/// where one of them is not possible.
+///
+/// # Errors
+///
+/// There is no memory for the network, or for what a step stores.
+pub fn greatest_fills(
+    alloc: Global,
+    network: &Network,
+    steps: &[Step],
+) -> Result<Option<Vec<u16>>, AllocError>
+    ensures { IfOk result (λ o. AreFillsOrNone (network_of network.now) (map machine_step steps.now) (option_map (λ v. v.items) o)) }
+{
+    let mut net = declared_net(alloc, network)?;
+    let mut fills = vec![in alloc; 0u16; usize::from(network.channels())]?;
+    for step in steps {
+        if !make(alloc, &mut net, step, &mut fills)? {
+            return Ok(None);
+        }
+    }
+    Ok(Some(fills))
+}

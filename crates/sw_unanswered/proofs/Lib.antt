@@ -1,5 +1,0 @@
-mod SameRuns
-mod NoReply
-mod Listings
-mod Taken
-pub mod Away

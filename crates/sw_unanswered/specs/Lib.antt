@@ -1,3 +1,0 @@
-pub mod OtherFlows
-pub mod Unanswered
-pub mod Laws
