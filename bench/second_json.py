@@ -1,6 +1,6 @@
-"""What `swcheck audit` has to answer, made of what `decide` and `report` answer, file by file: a second, slow way to the same bytes.
+"""What swcheck has to answer with --json, made of what it answers without: a second, slow way to the same bytes, written from docs/FORMATS.md alone.
 
-It is written from docs/FORMATS.md alone; digests and texts of JSON are those of Python's own library.
+The channels of lines come from tools/network_file.py, digests and texts of JSON from Python's own library.
 """
 import hashlib
 import json
@@ -8,7 +8,10 @@ import os
 import re
 import subprocess
 
+from network_file import Network
+
 COUNTS = ("nodes", "switches", "links", "channels", "flows", "replies")
+MEMORY = '{"result":{"kind":"memory"},"status":5}\n'
 
 
 def shown(path):
@@ -27,6 +30,11 @@ def ends(text):
     return {"end": end, "start": start}
 
 
+def place(line):
+    _, channel, deleted, text = line.split()
+    return {"channel": int(channel), "deleted": int(deleted), **ends(text)}
+
+
 def cyclic(lines):
     channels = []
     for line in lines[1:]:
@@ -35,20 +43,172 @@ def cyclic(lines):
     return {"channels": channels, "kind": "cyclic"}
 
 
+def route_fault(line):
+    """Of a line `misrouted C K CODE NAME`."""
+    _, channel, deleted, code, _ = line.split()
+    return {"channel": int(channel), "code": code, "deleted": int(deleted), "text": line}
+
+
 def misrouted(line):
     """Of a line `misrouted FLOW C K CODE NAME`."""
     _, flow, channel, deleted, code, _ = line.split()
     return {"channel": int(channel), "code": code, "deleted": int(deleted), "flow": flow, "kind": "misrouted", "text": line}
 
 
-def fault(text, hint, path):
-    """Of a line `fault CODE ..`, in which a key may have any bytes, and of what stands on standard error."""
-    words = text.split(" ", 4 if text.startswith("fault F8") else 3)
-    code = " ".join(words[1:-2]) if words[1] == "F8" else words[1]
-    where = words[-1] if len(words) > 3 else None
+def fault(line, hint, path):
+    """Of a line `fault CODE ..`, and what stands on standard error."""
+    words = line.split()
+    code = " ".join(words[1:3]) if words[1] == "F8" else words[1]
+    where = None if code == "S1" else " ".join(words[4 if code.startswith("F8") else 3 :]) or None
     at = re.search("^" + re.escape(shown(path)) + r":(\d+):(\d+): ", hint, re.M)
     number, column = map(int, at.groups()) if at else (None, None)
-    return {"code": code, "column": column, "kind": "fault", "line": number, "text": text, "where": where}
+    if code == "S1":
+        number, column = int(words[3]), None
+    if where == "argument":
+        number = column = None
+    return {"code": code, "column": column, "kind": "fault", "line": number, "text": line, "where": where}
+
+
+def refusal(line):
+    """Of a line of `check`."""
+    words = line.split()
+    told = dict.fromkeys(("channel", "deleted", "fault", "flow", "line", "next"))
+    code = words[1]
+    if code == "C1":
+        told["line"] = int(words[3])
+    elif code == "C3":
+        told["flow"] = words[3]
+    elif code == "C4":
+        told.update(flow=words[3], channel=int(words[4]), deleted=int(words[5]))
+    elif code == "C5":
+        told.update(channel=int(words[3]), next=int(words[4]))
+    elif code == "C6":
+        told.update(fault=words[2], flow=words[4], channel=int(words[5]), deleted=int(words[6]))
+    return {**told, "code": code, "kind": "refused", "text": line}
+
+
+CHANGES = (
+    (r"the reply of (\S+)", lambda it: {"kind": "reply", "flow": it[1]}),
+    (r"the flow (\S+)", lambda it: {"kind": "flow", "flow": it[1]}),
+    (r"any reply of (\S+)", lambda it: {"kind": "replies", "node": it[1]}),
+    (r"port (\d+) for address(?:es)? (\d+)(?: to (\d+))? at (\S+)", lambda it: {"kind": "port", "port": int(it[1]), **addresses(it[2], it[3]), "switch": it[4]}),
+    (r"the entry for address(?:es)? (\d+)(?: to (\d+))? at (\S+)", lambda it: {"kind": "entry", **addresses(it[1], it[2]), "switch": it[3]}),
+    (r"the flows from and to (\S+)", lambda it: {"kind": "flows", "node": it[1]}),
+)
+SPLIT = re.compile(r"free with a link of its own for the target of (\S+), at port (\d+) of (\S+)")
+
+
+def addresses(first, last):
+    return {"first": int(first), "last": int(last or first)}
+
+
+def change(text):
+    for pattern, make in CHANGES:
+        found = re.fullmatch(pattern, text)
+        if found:
+            return make(found)
+    raise ValueError(text)
+
+
+def mend(line):
+    """Of a line of `mend`."""
+    found = SPLIT.fullmatch(line)
+    if found:
+        changes = [{"kind": "target link", "node": found[1], "port": int(found[2]), "switch": found[3]}]
+    else:
+        changes = [change(it) for it in line.removeprefix("free without ").split(" and without ")]
+    return {"changes": changes, "text": line}
+
+
+def margins(lines, channel_of):
+    told = {"answers": [], "kind": "margins", "losses": [], "stalls": []}
+    for line in filter(None, lines):
+        lost = re.fullmatch(r"lost without the link (\S+): (.*)", line)
+        bend = re.fullmatch(r"(not )?free if (\S+) (stops taking while it wants to send|is answered along its own way)", line)
+        if lost:
+            flows = [] if lost[2] == "no flow" else lost[2].split()
+            told["losses"].append({"channel": channel_of[lost[1]], **ends(lost[1]), "flows": flows})
+        elif bend[3].startswith("stops"):
+            told["stalls"].append({"free": not bend[1], "node": bend[2]})
+        else:
+            told["answers"].append({"flow": bend[2], "free": not bend[1]})
+    return told
+
+
+STEP = re.compile(r"\d+\. a packet of (\S+) holds (\S+) and waits for \S+?(?: \(flows ([^)]*)\))?")
+ANSWERING = re.compile(r"\d+\. (\S+) takes nothing from (\S+) until its reply has left on \S+")
+
+
+def step(line, channel_of):
+    found = STEP.fullmatch(line)
+    if found:
+        flows = found[3].split(", ") if found[3] else [found[1]]
+        return {"channel": channel_of[found[2]], **ends(found[2]), "flows": flows, "target": None}
+    found = ANSWERING.fullmatch(line)
+    return {"channel": channel_of[found[2]], **ends(found[2]), "flows": [], "target": found[1]}
+
+
+def tangles(lines, channel_of):
+    cycles = []
+    for line in lines:
+        if line.startswith("shortest cycle: "):
+            cycles.append([])
+        elif re.match(r"\d+\. ", line):
+            cycles[-1].append(step(line, channel_of))
+    counts = [int(it) for it in re.findall(r"\d+", lines[-1].split(" of ", 1)[1].split(" channel")[0])]
+    return [{"channels": count, "cycle": cycle} for count, cycle in zip(counts, cycles, strict=True)]
+
+
+def explained(lines, channel_of):
+    if lines[0].startswith("misrouted "):
+        way = []
+        for line in lines[1:]:
+            found = re.fullmatch(r"\d+\. a packet of \S+ goes on (\S+), with (\d+) address bytes? deleted", line)
+            if found:
+                way.append({"channel": channel_of[found[1]], "deleted": int(found[2]), **ends(found[1])})
+        code, name = lines[-1].split(":")[0].split()
+        last = way[-1]
+        text = f"misrouted {last['channel']} {last['deleted']} {code} {name}"
+        found = {"channel": last["channel"], "code": code, "deleted": last["deleted"], "text": text}
+        return {"fault": found, "flow": lines[0].split()[1], "kind": "misrouted", "way": way}
+    if lines[0].startswith("shortest cycle"):
+        return {"kind": "cyclic", "tangles": tangles(lines, channel_of)}
+    return {"kind": "free"}
+
+
+def hex_of(text):
+    return "" if text == "-" else text
+
+
+def replayed(lines):
+    kind, number, *more = lines[0].split()
+    nodes, packets = [], {}
+    for line in lines[3:]:
+        words = line.split()
+        if words[0] == "node":
+            nodes.append(words[1])
+            packets[words[1]] = []
+        else:
+            packets[words[1]].append({"bytes": hex_of(words[2]), "end": words[3]})
+    return {
+        "code": more[0] if more else None,
+        "kind": kind,
+        "nodes": [{"name": it, "packets": packets[it]} for it in nodes],
+        "step": int(number),
+        "stuck": lines[2] == "stuck yes",
+        "undelivered": int(lines[1].split()[1]),
+    }
+
+
+def run(lines):
+    nodes = {}
+    for line in lines[2:]:
+        words = line.split()
+        if words[0] == "node":
+            nodes[words[1]] = {"count": int(words[3]), "name": words[1], "packets": []}
+        else:
+            nodes[words[1]]["packets"].append({"bytes": hex_of(words[3]), "count": int(words[2]), "end": words[4]})
+    return {"kind": lines[0], "nodes": [*nodes.values()], "undelivered": int(lines[1].split()[1])}
 
 
 class SecondAnswers:
@@ -66,6 +226,14 @@ class SecondAnswers:
         with open(os.path.join(os.fsencode(self.folder), os.fsencode(path)), "rb") as it:
             return it.read()
 
+    def channels(self, path):
+        """The channels of a network file, by their texts."""
+        text = self.bytes_of(path)
+        network = Network(text)
+        names = {end: name for name, end in network.names.items()}
+        told = [names[it] if it[0] == "node" else f"{names[it[:2]]}:{it[2]}" for it in network.starts]
+        return {f"{told[it]}>{told[it ^ 1]}": it for it in range(len(told))}
+
     def text(self, value):
         return json.dumps(value, sort_keys=True, separators=(",", ":"), ensure_ascii=False) + "\n"
 
@@ -77,7 +245,7 @@ class SecondAnswers:
         lines = text.splitlines()
         word = lines[0].split()[0]
         if word == "fault":
-            return status, fault(text[:-1], hint, path), None
+            return status, fault(lines[0], hint, path), None
         if word == "cyclic":
             return status, cyclic(lines), None
         if word == "misrouted":
@@ -114,3 +282,60 @@ class SecondAnswers:
             text = "".join(f"{it['status']} {it['verdict']['kind']} {shown(it['path'])}\n" for it in told)
         kept = {kept_name(number, it["path"]): certificate for number, (it, certificate) in enumerate(entries, 1) if certificate is not None}
         return max(it["status"] for it, _ in entries), text, kept
+
+    def result(self, command, words, files, lines, hint):
+        """The object of what a command tells in these lines."""
+        if lines[0].startswith("fault "):
+            found = {it: fault(lines[0], hint, it) for it in files}
+            path = next((it for it in files if found[it]["line"] is not None and it in hint), None) or self.faulty(lines[0], files)
+            return {"fault": found[path], "kind": "fault", "path": path}
+        if command == "route":
+            found = {"flow": lines[0].split()[1], "places": [place(it) for it in lines[1:-1]]}
+            is_routed = lines[-1] == "routed"
+            return {**found, "fault": None if is_routed else route_fault(lines[-1]), "kind": "routed" if is_routed else "misrouted"}
+        if command == "check":
+            return {"kind": "accepted"} if lines[0] == "accepted" else refusal(lines[0])
+        if command == "report":
+            counts = {it.split()[0]: int(it.split()[1]) for it in lines[:-1]}
+            return {**counts, "kind": "report", "verdict": self.verdict(files[0])[1]}
+        if command == "replay":
+            return replayed(lines)
+        if command == "run":
+            return run(lines)
+        if lines[0].startswith("misrouted ") and command != "explain":
+            return misrouted(lines[0])
+        if lines[0] == "not free":
+            return self.verdict(files[0])[1]
+        if command == "explain":
+            return explained(lines, self.channels(files[0]))
+        if command == "margin":
+            return margins(lines, self.channels(files[0]))
+        if lines[0] == "free already":
+            return {"kind": "free"}
+        return {"kind": "mends", "mends": [mend(it) for it in lines if it.startswith("free with")]}
+
+    def faulty(self, line, files):
+        """The file that has the fault of a line without a place."""
+        if line.startswith("fault A1"):
+            return next(it for it in files if self.input(it)["bytes"] is None)
+        if line.startswith("fault S1"):
+            return files[1]
+        first = self.call("report", files[0])
+        return files[0] if len(files) == 1 or first[0] == 3 or line.endswith("argument") else files[1]
+
+    def answer(self, command, words):
+        """The status and the text of `COMMAND --json WORDS`."""
+        if command in ("audit", "decide"):
+            status, text, _ = self.audit([it for it in words if not it.startswith("--")], is_json=True)
+            return status, text
+        more = ["--all"] if command == "explain" and "--all" not in words else []
+        status, text, hint = self.call(command, *words, *more)
+        if status == 6 or status == 2:
+            return status, ""
+        # (what margin tells of no nodes, no links and no flows has no lines)
+        lines = text.splitlines() or [""]
+        if lines[0] == "fault memory":
+            return status, MEMORY
+        files = words[: 2 if command in ("check", "replay", "run") else 1]
+        found = {"command": command, "files": [self.input(it) for it in files], "result": self.result(command, words, files, lines, hint), "status": status}
+        return status, self.text({**found, **self.release})

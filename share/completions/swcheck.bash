@@ -13,18 +13,18 @@ _swcheck() {
     for it in "${COMP_WORDS[@]:1:COMP_CWORD-1}"; do
         if [ -z "$command" ]; then
             case $it in
-                route) command=$it options='--hints -h --help' valued='--hints' kinds=('file .toml' 'none') ;;
+                route) command=$it options='--json --hints -h --help' valued='--hints' kinds=('file .toml' 'none') ;;
                 decide) command=$it options='--json --hints -h --help' valued='--hints' kinds=('file .toml') ;;
-                check) command=$it options='--hints -h --help' valued='--hints' kinds=('file .toml' 'file .cert') ;;
-                report) command=$it options='--hints -h --help' valued='--hints' kinds=('file .toml') ;;
-                replay) command=$it options='--hints -h --help' valued='--hints' kinds=('file .toml' 'file .schedule') ;;
-                run) command=$it options='--workers --limit --schedule --summary --hints -h --help' valued='--workers --limit --schedule --hints' kinds=('file .toml' 'file .load') ;;
+                check) command=$it options='--json --hints -h --help' valued='--hints' kinds=('file .toml' 'file .cert') ;;
+                report) command=$it options='--json --hints -h --help' valued='--hints' kinds=('file .toml') ;;
+                replay) command=$it options='--json --hints -h --help' valued='--hints' kinds=('file .toml' 'file .schedule') ;;
+                run) command=$it options='--workers --limit --schedule --summary --json --hints -h --help' valued='--workers --limit --schedule --hints' kinds=('file .toml' 'file .load') ;;
                 migrate) command=$it options='--hints -h --help' valued='--hints' kinds=('file .toml') ;;
-                explain) command=$it options='--all --hints -h --help' valued='--hints' kinds=('file .toml') ;;
+                explain) command=$it options='--all --json --hints -h --help' valued='--hints' kinds=('file .toml') ;;
                 draw) command=$it options='--flow --cycle --numbers --hints -h --help' valued='--flow --hints' kinds=('file .toml') ;;
                 rmap) command=$it options='--no-ack --transaction --hints -h --help' valued='--transaction --hints' kinds=('file .toml' 'none' 'texts read write' 'none' 'none') ;;
-                mend) command=$it options='--pairs --hints -h --help' valued='--hints' kinds=('file .toml') ;;
-                margin) command=$it options='--hints -h --help' valued='--hints' kinds=('file .toml') ;;
+                mend) command=$it options='--pairs --json --hints -h --help' valued='--hints' kinds=('file .toml') ;;
+                margin) command=$it options='--json --hints -h --help' valued='--hints' kinds=('file .toml') ;;
                 witness) command=$it options='--tries --seed --hints -h --help' valued='--tries --seed --hints' kinds=('file .toml') ;;
                 audit) command=$it options='--json --quiet --certificates --hints -h --help' valued='--certificates --hints' kinds=('again file .toml') ;;
                 init) command=$it options='--hints -h --help' valued='--hints' kinds=('none') ;;

@@ -2,7 +2,6 @@ mod Lines
 pub mod NamedFlows
 pub mod PlaceChannels
 pub mod FlowAnswers
-pub mod OneListing
 pub mod OneAnswer
 pub mod OneVerdict
 pub mod ShownFree

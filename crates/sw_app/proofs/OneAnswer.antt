@@ -7,20 +7,12 @@ use Rattle.sw_toml_table.specs.declared.fault.TextFault.{TextFault}
 use Rattle.sw_file.specs.Network.{network_text}
 use Rattle.sw_flow.specs.declared.place.Place.{Place}
 use Rattle.sw_flow.specs.Faults.{first_fault_of}
-use Rattle.sw_flow.specs.Places.{IsBefore, IsPlaceList}
+use Rattle.sw_flow.specs.Places.{IsPlaceList}
 use Rattle.sw_command.specs.Ends.{Says}
 use Rattle.sw_app.specs.Laws.{RouteHasOneAnswer}
 use Rattle.sw_app.specs.RouteAnswers.{IsFlowAnswer, IsFoundAnswer, IsReadAnswer}
 use Rattle.sw_app.specs.RouteTexts.{outcome_status, route_text}
-use Rattle.sw_app.proofs.OneListing.{one_list, places_order}
-
--- a flow has one list of places
-one_place_list : (d : Declaration) (f : FlowEntry) (places others : List Place) → IsPlaceList d f places → IsPlaceList d f others → places ≡ others
-one_place_list d f places others p q =
-    one_list IsBefore places others places_order p.in_order q.in_order (λ z. (
-      (λ here. (q.member z).1 ((p.member z).0 here)),
-      (λ here. (p.member z).1 ((q.member z).0 here)),
-    ))
+use Rattle.sw_flow.proofs.Sorted.{same_places}
 
 pub says_once : (said : List ℕ) (n : ℕ) (text other : List ℕ) (status number : ℕ) → Says said n text status → Says said n other number → (text ≡ other) × (status ≡ number)
 says_once said n text other status number p q = (p.0 ∙ sym q.0, p.1 ∙ sym q.1)
@@ -28,7 +20,7 @@ says_once said n text other status number p q = (p.0 ∙ sym q.0, p.1 ∙ sym q.
 flow_once : (d : Declaration) (f : FlowEntry) (text other : List ℕ) (status number : ℕ) → IsFlowAnswer d f text status → IsFlowAnswer d f other number
     → (text ≡ other) × (status ≡ number)
 flow_once d f text other status number (places, p, says) (others, q, also) =
-    let same = one_place_list d f places others p q in (
+    let same = same_places d f places others p q in (
       says.0 ∙ (ap (route_text d f) same ∙ sym also.0),
       says.1 ∙ (ap (λ (l : List Place). outcome_status (first_fault_of d f l)) same ∙ sym also.1),
     )

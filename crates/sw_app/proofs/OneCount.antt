@@ -5,7 +5,8 @@ use Rattle.std.specs.Prelude.{AllPairs, Contains}
 use Rattle.std.proofs.lemmas.Bool.{cases_lt}
 use Rattle.std.proofs.lemmas.List.{get_or_default}
 use Rattle.std.proofs.lemmas.List.Edits.{get_or-remove_above, get_or-remove_below, length-remove}
-use Rattle.sw_app.proofs.OneListing.{contains_head, contains_tail, first_before, rest_pairs}
+use Rattle.sw_flow.proofs.Listed.{Contains-head, Contains-later}
+use Rattle.sw_flow.proofs.Sorted.{before_rest, tail_pairs}
 
 -- another member than the one that is removed
 still_there : {X : Type 0} (ys : List X) (k : ℕ) (x z : X) → k < length ys → get_or ys k x ≡ x → (x ≢ z) → Contains ys z → Contains (remove ys k) z
@@ -27,11 +28,11 @@ still_there ys k x z lt at_k other (j, within, at_j) =
 no_more : {X : Type 0} (xs ys : List X) → AllPairs (λ x y. x ≢ y) xs → ((z : X) → Contains xs z → Contains ys z) → length xs ≤ length ys
 no_more [] ys once among = omega arith
 no_more (x ∷ xs) ys once among =
-    let here = among x (contains_head x xs) in
+    let here = among x (Contains-head x xs) in
     let fewer : length (remove ys here.0) + 1 ≡ length ys = length-remove ys here.0 here.1 in
     let rest : length xs ≤ length (remove ys here.0) =
-    no_more xs (remove ys here.0) (rest_pairs (λ a b. a ≢ b) x xs once)
-    (λ z later. still_there ys here.0 x z here.1 here.2 (first_before (λ a b. a ≢ b) x z xs once later) (among z (contains_tail x z xs later))) in
+    no_more xs (remove ys here.0) (tail_pairs (λ a b. a ≢ b) x xs once)
+    (λ z later. still_there ys here.0 x z here.1 here.2 (before_rest (λ a b. a ≢ b) x xs once z later) (among z (Contains-later x z xs later))) in
     omega arith
 
 pub one_count : {X : Type 0} (xs ys : List X) → AllPairs (λ x y. x ≢ y) xs → AllPairs (λ x y. x ≢ y) ys → ((z : X) → Contains xs z → Contains ys z) → ((z : X) → Contains ys z → Contains xs z)

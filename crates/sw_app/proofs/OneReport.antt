@@ -13,7 +13,7 @@ use Rattle.sw_search.specs.Findings.{AreFindings, IsDependencyCount, IsPlaceCoun
 use Rattle.sw_search.specs.declared.verdict.Findings.{Findings}
 use Rattle.sw_search.specs.Verdicts.{IsVerdict}
 use Rattle.sw_search.proofs.Determined.{determined}
-use Rattle.sw_search.proofs.Sorted.{same_places}
+use Rattle.sw_flow.proofs.Sorted.{same_places}
 use Rattle.sw_search.proofs.Zips.{zip_determined}
 use Rattle.sw_output.specs.ReportTexts.{report_text}
 use Rattle.sw_output.specs.VerdictTexts.{cyclic_words, free_words, misrouted_words}

@@ -1,8 +1,7 @@
 -- The text of `mend` (this project's choice).
-use Rattle.std.specs.Prelude.{ℕ, ◌==◌, List, [], ◌∷◌, ◌++◌, codes, flat_map, if◌then◌else◌, slice_get}
-use Rattle.std.specs.Option.{option_map_or}
+use Rattle.std.specs.Prelude.{ℕ, List, [], ◌∷◌, ◌++◌, codes, flat_map}
 use Rattle.std.specs.Fmt.{decimal}
-use Rattle.sw_config.specs.Entries.{Declaration, routes_of}
+use Rattle.sw_config.specs.Entries.{Declaration}
 use Rattle.sw_mend.specs.declared.change.Change.{Change}
 use Rattle.sw_mend.specs.declared.change.Change.TheVariants.{WithoutReply, WithoutFlow, WithoutAnswers, WithoutPort, WithoutEntry, WithoutFlowsOf}
 use Rattle.sw_mend.specs.declared.change.Pair.{Pair}
@@ -10,18 +9,9 @@ use Rattle.sw_mend.specs.declared.change.TargetLink.{TargetLink}
 use Rattle.sw_mend.specs.declared.change.Trial.{Trial}
 use Rattle.sw_mend.specs.declared.change.Trial.TheVariants.{Without, Split}
 use Rattle.sw_output.specs.ChannelTexts.{node_name, switch_name}
+use Rattle.sw_output.specs.EntryTexts.{entry_words}
 use Rattle.sw_output.specs.FlowTexts.{flow_name}
 use Rattle.sw_output.specs.Lines.{line, spaced}
-
--- the addresses that a table entry is for
-abbrev pub addresses_words : ℕ → ℕ → List ℕ
-addresses_words first last =
-    if first == last then spaced (codes "address" ∷ decimal first ∷ [])
-    else spaced (codes "addresses" ∷ decimal first ∷ codes "to" ∷ decimal last ∷ [])
-
--- those of the entry of that number of that switch's table
-abbrev pub entry_words : Declaration → ℕ → ℕ → List ℕ
-entry_words d switch entry = option_map_or (λ r. addresses_words r.first r.last) (slice_get (routes_of d.switches switch) entry) []
 
 -- what is taken away
 abbrev pub change_words : Declaration → Change → List ℕ

@@ -1,42 +1,13 @@
 //! The lines of `mend`.
 ghost use Rattle.std.specs.Prelude.{◌≡◌, IfOk, flat_map, string_bytes};
-ghost use Rattle.sw_app_changes.specs.MendTexts.{addresses_words, change_words, entry_words, free_line, mend_line, mends_status, mends_text, no_pair_line, none_line, pair_line, pairs_text, split_words, trial_words};
+ghost use Rattle.sw_app_changes.specs.MendTexts.{change_words, free_line, mend_line, mends_status, mends_text, no_pair_line, none_line, pair_line, pairs_text, split_words, trial_words};
 
 use std::alloc::{AllocError, Global};
 use sw_command::statuses::{BAD, GOOD};
 use sw_config::Network;
 use sw_mend::{Change, Pair, TargetLink, Trial};
-use sw_output::{flow_name, node_name, switch_name};
+use sw_output::{entry_words, flow_name, node_name, switch_name};
 use sw_topo::Port;
-
-// The addresses that a table entry is for.
-fn addresses_words(alloc: Global, first: u8, last: u8) -> Result<String, AllocError>
-    ensures { IfOk result (λ s. string_bytes s ≡ addresses_words first last) }
-{
-    if first == last {
-        format!(in alloc; "address {first}")
-    } else {
-        format!(in alloc; "addresses {first} to {last}")
-    }
-}
-
-// Those of the entry of that number of the switch's table.
-fn entry_words(
-    alloc: Global,
-    network: &Network,
-    switch: u16,
-    entry: usize,
-) -> Result<String, AllocError>
-    ensures { IfOk result (λ s. string_bytes s ≡ entry_words network.now switch entry) }
-{
-    if switch >= network.switches() {
-        return Ok(String::new(alloc));
-    }
-    match network.routes(switch).get(entry) {
-        Some(route) => addresses_words(alloc, route.first, route.last),
-        None => Ok(String::new(alloc)),
-    }
-}
 
 fn without_reply(alloc: Global, network: &Network, flow: u16) -> Result<String, AllocError>
     ensures { IfOk result (λ s. string_bytes s ≡ change_words network.now (Change.WithoutReply flow)) }

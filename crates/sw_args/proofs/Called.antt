@@ -93,16 +93,16 @@ decide_call name is other words e =
     let json = some_json (rows_after answer_rules [] words) in
     (Decide (lent given.0) json.0, (refl, given.1, json.1))
 
-report_call : GivesCall (leaf (codes "report") file_rules)
+report_call : GivesCall (leaf (codes "report") answer_rules)
 report_call name is other words e =
-    let given = file_given (codes "report") words e in
-    let json = some_json (rows_after file_rules [] words) in
+    let given = answer_given (codes "report") words e in
+    let json = some_json (rows_after answer_rules [] words) in
     (Report (lent given.0) json.0, (refl, given.1, json.1))
 
-margin_call : GivesCall (leaf (codes "margin") file_rules)
+margin_call : GivesCall (leaf (codes "margin") answer_rules)
 margin_call name is other words e =
-    let given = file_given (codes "margin") words e in
-    let json = some_json (rows_after file_rules [] words) in
+    let given = answer_given (codes "margin") words e in
+    let json = some_json (rows_after answer_rules [] words) in
     (Margin (lent given.0) json.0, (refl, given.1, json.1))
 
 migrate_call : GivesCall (leaf (codes "migrate") file_rules)

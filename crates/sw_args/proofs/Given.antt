@@ -382,13 +382,13 @@ abbrev pub answer_rules : List Rule
 answer_rules = file_at ∷ json_rules 2
 
 abbrev pub flag_rules : Text → List Rule
-flag_rules name = file_at ∷ flag_at 2 name ∷ last_rules 2
+flag_rules name = file_at ∷ flag_at 2 name ∷ json_rules 2
 
 abbrev pub draw_rules : List Rule
 draw_rules = file_at ∷ option_at 2 (codes "flow") ∷ flag_at 2 (codes "cycle") ∷ flag_at 2 (codes "numbers") ∷ last_rules 2
 
 abbrev pub pair_rules : Text → List Rule
-pair_rules second = file_at ∷ required_at 2 second ∷ last_rules 3
+pair_rules second = file_at ∷ required_at 2 second ∷ json_rules 3
 
 abbrev pub rmap_rules : List Rule
 rmap_rules = file_at ∷ required_at 2 (codes "FLOW") ∷ required_at 3 (codes "ACTION") ∷ required_at 4 (codes "ADDRESS")
@@ -396,7 +396,7 @@ rmap_rules = file_at ∷ required_at 2 (codes "FLOW") ∷ required_at 3 (codes "
 
 abbrev pub run_rules : List Rule
 run_rules = file_at ∷ required_at 2 (codes "LOAD") ∷ count_at 3 (codes "workers") (codes "4") most_workers
-    ∷ count_at 3 (codes "limit") (codes "1000000") most_steps ∷ option_at 3 (codes "schedule") ∷ flag_at 3 (codes "summary") ∷ last_rules 3
+    ∷ count_at 3 (codes "limit") (codes "1000000") most_steps ∷ option_at 3 (codes "schedule") ∷ flag_at 3 (codes "summary") ∷ json_rules 3
 
 abbrev pub witness_rules : List Rule
 witness_rules = file_at ∷ count_at 2 (codes "tries") (codes "200") most_tries ∷ count_at 2 (codes "seed") (codes "1") most_seed ∷ last_rules 2
@@ -471,7 +471,7 @@ answer_given name words e = with_file name (json_rules 2) words (json_sound 2) e
 
 pub flag_given : (name flag : Text) (words : List Text) → IsPlain flag → Level name (flag_rules flag) words
     → HasFirst (codes "FILE") (rows_after (flag_rules flag) [] words)
-flag_given name flag words plain e = with_file name (flag_at 2 flag ∷ last_rules 2) words (flag_sound 2 flag plain, last_sound 2) e
+flag_given name flag words plain e = with_file name (flag_at 2 flag ∷ json_rules 2) words (flag_sound 2 flag plain, json_sound 2) e
 
 pub draw_given : (name : Text) (words : List Text) → Level name draw_rules words → HasFirst (codes "FILE") (rows_after draw_rules [] words)
 draw_given name words e = with_file name _ words (
@@ -482,7 +482,7 @@ draw_given name words e = with_file name _ words (
 pub pair_given : (name second : Text) (words : List Text) → IsPlain second → Level name (pair_rules second) words
     → HasFirst (codes "FILE") (rows_after (pair_rules second) [] words) × HasFirst second (rows_after (pair_rules second) [] words)
 pair_given name second words plain e =
-    let level = sound_gives name (pair_rules second) words (file_sound, (required_sound 2 second plain, last_sound 3)) e in
+    let level = sound_gives name (pair_rules second) words (file_sound, (required_sound 2 second plain, json_sound 3)) e in
     (given_value (codes "FILE") _ level.0 level.1.0, given_value second _ level.0 level.1.1.0)
 
 pub rmap_given : (name : Text) (words : List Text) → Level name rmap_rules words
@@ -538,7 +538,7 @@ run_given name words e =
             count_sound 3 (codes "limit") (codes "1000000") most_steps limit_counts,
             (
               option_sound 3 (codes "schedule") (refl, refl, refl, refl),
-              (flag_sound 3 (codes "summary") (refl, refl, refl, refl), last_sound 3),
+              (flag_sound 3 (codes "summary") (refl, refl, refl, refl), json_sound 3),
             ),
           ),
         ),
@@ -547,9 +547,9 @@ run_given name words e =
       given_value (codes "FILE") _ level.0 level.1.0,
       given_value (codes "LOAD") _ level.0 level.1.1.0,
       given_count (codes "workers") most_workers _ level.0
-          (count_there (one ∷ two ∷ []) (four ∷ five ∷ six ∷ last_rules 3) 3 (codes "workers") (codes "4") most_workers start) (λ id how v is counts. counts.0 is),
+          (count_there (one ∷ two ∷ []) (four ∷ five ∷ six ∷ json_rules 3) 3 (codes "workers") (codes "4") most_workers start) (λ id how v is counts. counts.0 is),
       given_count (codes "limit") most_steps _ level.0
-          (count_there (one ∷ two ∷ three ∷ []) (five ∷ six ∷ last_rules 3) 3 (codes "limit") (codes "1000000") most_steps start) (λ id how v is counts. counts.1 is),
+          (count_there (one ∷ two ∷ three ∷ []) (five ∷ six ∷ json_rules 3) 3 (codes "limit") (codes "1000000") most_steps start) (λ id how v is counts. counts.1 is),
     )
 
 pub witness_given : (name : Text) (words : List Text) → Level name witness_rules words

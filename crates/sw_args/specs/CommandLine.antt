@@ -52,25 +52,25 @@ with_json app = with_rule app (flag_rule (codes "json"))
 abbrev pub file_app : List ℕ → App
 file_app name = with_rule (new_app name) (required_value (codes "FILE"))
 
--- `route FILE FLOW`
+-- `route FILE FLOW [--json]`
 abbrev pub route_app : App
-route_app = with_rule (file_app (codes "route")) (required_value (codes "FLOW"))
+route_app = with_json (with_rule (file_app (codes "route")) (required_value (codes "FLOW")))
 
 -- `decide FILE [--json]`
 abbrev pub decide_app : App
 decide_app = with_json (file_app (codes "decide"))
 
--- `check FILE CERT`
+-- `check FILE CERT [--json]`
 abbrev pub check_app : App
-check_app = with_rule (file_app (codes "check")) (required_value (codes "CERT"))
+check_app = with_json (with_rule (file_app (codes "check")) (required_value (codes "CERT")))
 
--- `report FILE`
+-- `report FILE [--json]`
 abbrev pub report_app : App
-report_app = file_app (codes "report")
+report_app = with_json (file_app (codes "report"))
 
--- `replay FILE SCHEDULE`
+-- `replay FILE SCHEDULE [--json]`
 abbrev pub replay_app : App
-replay_app = with_rule (file_app (codes "replay")) (required_value (codes "SCHEDULE"))
+replay_app = with_json (with_rule (file_app (codes "replay")) (required_value (codes "SCHEDULE")))
 
 -- the most threads and the most steps that a run may be asked for (this project's choice)
 abbrev pub most_workers : ℕ
@@ -79,21 +79,21 @@ most_workers = 64
 abbrev pub most_steps : ℕ
 most_steps = 16777216
 
--- `run FILE LOAD [--workers NUMBER] [--limit NUMBER] [--schedule VALUE] [--summary]`: 4 workers and 1,000,000 steps if they are left out
+-- `run FILE LOAD [--workers NUMBER] [--limit NUMBER] [--schedule VALUE] [--summary] [--json]`: 4 workers and 1,000,000 steps if they are left out
 abbrev pub run_app : App
-run_app = with_rule (with_rule (with_rule (with_rule (with_rule (file_app (codes "run")) (required_value (codes "LOAD")))
+run_app = with_json (with_rule (with_rule (with_rule (with_rule (with_rule (file_app (codes "run")) (required_value (codes "LOAD")))
     (count_rule (codes "workers") (codes "4") most_workers))
     (count_rule (codes "limit") (codes "1000000") most_steps))
     (option_rule (codes "schedule")))
-    (flag_rule (codes "summary"))
+    (flag_rule (codes "summary")))
 
 -- `migrate FILE`
 abbrev pub migrate_app : App
 migrate_app = file_app (codes "migrate")
 
--- `explain FILE [--all]`
+-- `explain FILE [--all] [--json]`
 abbrev pub explain_app : App
-explain_app = with_rule (file_app (codes "explain")) (flag_rule (codes "all"))
+explain_app = with_json (with_rule (file_app (codes "explain")) (flag_rule (codes "all")))
 
 -- `draw FILE [--flow VALUE] [--cycle] [--numbers]`
 abbrev pub draw_app : App
@@ -112,13 +112,13 @@ rmap_app = with_rule (with_rule (with_rule (with_rule (with_rule (with_rule (fil
     (flag_rule (codes "no-ack")))
     (option_rule (codes "transaction"))
 
--- `mend FILE [--pairs]`
+-- `mend FILE [--pairs] [--json]`
 abbrev pub mend_app : App
-mend_app = with_rule (file_app (codes "mend")) (flag_rule (codes "pairs"))
+mend_app = with_json (with_rule (file_app (codes "mend")) (flag_rule (codes "pairs")))
 
--- `margin FILE`
+-- `margin FILE [--json]`
 abbrev pub margin_app : App
-margin_app = file_app (codes "margin")
+margin_app = with_json (file_app (codes "margin"))
 
 -- the most tries of a search, and the greatest number that it may begin with (this project's choice)
 abbrev pub most_tries : ℕ

@@ -5,8 +5,7 @@ ghost use Rattle.sw_args.specs.declared.call.WordsFault.TheVariants.{Memory};
 use std::alloc::AllocError;
 use thiserror::Error;
 
-/// What the words ask for, with the values as they were written; `json`: the answer is to be one object of JSON, which so far `decide` and
-/// `audit` alone can give.
+/// What the words ask for, with the values as they were written; `json`: the answer is to be one object of JSON.
 #[derive(Clone, Copy)]
 pub enum Call<'a> {
     /// The places of a flow of a network file.

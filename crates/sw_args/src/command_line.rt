@@ -192,7 +192,7 @@ fn route_command<'a>(alloc: Global) -> Result<Command<'a>, AllocError>
     let route = subcommand(alloc, "route", about);
     let route = with_example(route, "Example: swcheck route examples/line.toml f");
     let route = with_value(alloc, route, "FILE", "A network file");
-    with_value(alloc, route, "FLOW", help)
+    with_json(alloc, with_value(alloc, route, "FLOW", help))
 }
 
 fn decide_command<'a>(alloc: Global) -> Result<Command<'a>, AllocError>
@@ -210,7 +210,7 @@ fn report_command<'a>(alloc: Global) -> Result<Command<'a>, AllocError>
     let about = "Print how many parts a network has, and the verdict on it";
     let report = subcommand(alloc, "report", about);
     let report = with_example(report, "Example: swcheck report examples/ring.toml");
-    with_value(alloc, report, "FILE", "A network file")
+    with_json(alloc, with_value(alloc, report, "FILE", "A network file"))
 }
 
 fn check_command<'a>(alloc: Global) -> Result<Command<'a>, AllocError>
@@ -223,7 +223,10 @@ fn check_command<'a>(alloc: Global) -> Result<Command<'a>, AllocError>
         "Example: swcheck check examples/turn.toml examples/turn.cert",
     );
     let check = with_value(alloc, check, "FILE", "A network file");
-    with_value(alloc, check, "CERT", "A certificate file")
+    with_json(
+        alloc,
+        with_value(alloc, check, "CERT", "A certificate file"),
+    )
 }
 
 fn replay_command<'a>(alloc: Global) -> Result<Command<'a>, AllocError>
@@ -234,7 +237,10 @@ fn replay_command<'a>(alloc: Global) -> Result<Command<'a>, AllocError>
     let example = "Example: swcheck replay examples/line.toml examples/line.schedule";
     let replay = with_example(replay, example);
     let replay = with_value(alloc, replay, "FILE", "A network file");
-    with_value(alloc, replay, "SCHEDULE", "A schedule file")
+    with_json(
+        alloc,
+        with_value(alloc, replay, "SCHEDULE", "A schedule file"),
+    )
 }
 
 fn run_command<'a>(alloc: Global) -> Result<Command<'a>, AllocError>
@@ -255,7 +261,7 @@ fn run_command<'a>(alloc: Global) -> Result<Command<'a>, AllocError>
     let help = "A file to write the steps to, as a schedule";
     let run = with_option(alloc, run, "schedule", help);
     let help = "Tell on standard error what became of each flow's packets";
-    with_flag(alloc, run, "summary", help)
+    with_json(alloc, with_flag(alloc, run, "summary", help))
 }
 
 fn migrate_command<'a>(alloc: Global) -> Result<Command<'a>, AllocError>
@@ -275,7 +281,7 @@ fn explain_command<'a>(alloc: Global) -> Result<Command<'a>, AllocError>
     let explain = with_example(explain, "Example: swcheck explain examples/ring.toml");
     let explain = with_value(alloc, explain, "FILE", "A network file");
     let help = "Name each flow that makes a step, not just six of them";
-    with_flag(alloc, explain, "all", help)
+    with_json(alloc, with_flag(alloc, explain, "all", help))
 }
 
 fn draw_command<'a>(alloc: Global) -> Result<Command<'a>, AllocError>
@@ -319,7 +325,7 @@ fn mend_command<'a>(alloc: Global) -> Result<Command<'a>, AllocError>
     let mend = with_example(mend, "Example: swcheck mend examples/ring.toml");
     let mend = with_value(alloc, mend, "FILE", "A network file");
     let help = "Where no single change makes it free, print each pair of them that does";
-    with_flag(alloc, mend, "pairs", help)
+    with_json(alloc, with_flag(alloc, mend, "pairs", help))
 }
 
 fn margin_command<'a>(alloc: Global) -> Result<Command<'a>, AllocError>
@@ -328,7 +334,7 @@ fn margin_command<'a>(alloc: Global) -> Result<Command<'a>, AllocError>
     let about = "Print how far the premises of a network that never locks up bend";
     let margin = subcommand(alloc, "margin", about);
     let margin = with_example(margin, "Example: swcheck margin examples/turn.toml");
-    with_value(alloc, margin, "FILE", "A network file")
+    with_json(alloc, with_value(alloc, margin, "FILE", "A network file"))
 }
 
 fn witness_command<'a>(alloc: Global) -> Result<Command<'a>, AllocError>

@@ -7,8 +7,9 @@ ghost use Rattle.sw_cli.specs.Accesses.{IsAccess, IsNoAccess};
 use crate::asked::hints_of;
 use crate::disk::{Disk, RELEASE};
 use crate::hints::hinted;
+use crate::json_calls::run_json;
 use crate::noted::{Made, Noted};
-use crate::recorded::{Extras, run_load};
+use crate::recorded::{Extras, Shape, run_load};
 use crate::told::{no_access, no_hints, no_sample, told_end};
 use std::io::Write;
 use std::rt::Files;
@@ -116,9 +117,25 @@ fn run_into<'a, R: Files + Eprint + AllocGlobal + Threads + Wait + Sync, W: Writ
 ) -> Ended
     requires { HasWorkers call }
 {
+    match run_json(rt, host, call, writer) {
+        Some(ended) => ended,
+        None => run_text(rt, host, call, files, writer),
+    }
+}
+
+// The calls whose answer is a text, and audits.
+fn run_text<'a, R: Files + Eprint + AllocGlobal + Threads + Wait + Sync, W: Write>(
+    rt: &R,
+    host: &HostRuntime,
+    call: Call<'a>,
+    files: &[&str],
+    writer: &mut Noted<'a, W>,
+) -> Ended
+    requires { HasWorkers call }
+{
     match call {
         Call::Route { file, flow, .. } => run_route(rt, file, flow, writer),
-        Call::Decide { file, json } => run_decide(rt, host, file, json, writer),
+        Call::Decide { file, .. } => run_decide(rt, file, writer),
         Call::Report { file, .. } => run_report(rt, file, writer),
         Call::Check {
             file,
@@ -144,7 +161,11 @@ fn run_into<'a, R: Files + Eprint + AllocGlobal + Threads + Wait + Sync, W: Writ
                 file,
                 load,
                 options,
-                &Extras { schedule, summary },
+                &Extras {
+                    schedule,
+                    summary,
+                    shape: Shape::Text,
+                },
                 writer,
             )
         }
@@ -211,17 +232,11 @@ fn run_route<R: Files + AllocGlobal, W: Write>(
     route(rt.alloc(), &mut reader, flow, writer)
 }
 
-// The verdict on one file; as JSON it is that of an audit of it.
 fn run_decide<R: Files + AllocGlobal + Threads + Sync, W: Write>(
     rt: &R,
-    host: &HostRuntime,
     file: &str,
-    json: bool,
     writer: &mut W,
 ) -> Ended {
-    if json {
-        return run_audit(rt, host, &[file], true, false, None, writer);
-    }
     let Ok(mut reader) = fs::open(rt, file) else {
         return Ended::ReadFailed;
     };
@@ -368,7 +383,8 @@ fn run_witness<R: Files + AllocGlobal + Threads + Sync, W: Write>(
     witness(rt, rt.alloc(), &mut reader, tries, seed, writer)
 }
 
-fn run_audit<R: Files + AllocGlobal + Threads + Sync, W: Write>(
+/// An audit of these files.
+pub(crate) fn run_audit<R: Files + AllocGlobal + Threads + Sync, W: Write>(
     rt: &R,
     host: &HostRuntime,
     files: &[&str],

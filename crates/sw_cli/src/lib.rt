@@ -6,6 +6,7 @@ mod asked;
 mod calls;
 mod disk;
 mod hints;
+mod json_calls;
 mod noted;
 mod notes;
 mod program;

@@ -3,10 +3,12 @@ ghost use Rattle.std.specs.Prelude.{◌≡◌};
 ghost use Rattle.sw_cli.specs.Asked.{is_noted};
 
 use crate::asked::Hints;
+use std::alloc::Global;
 use std::rt::Files;
 use sw_args::Call;
 use sw_command::Ended;
 use sw_command::statuses::{BAD, GOOD};
+use sw_config::Network;
 use sw_file::read_network;
 use sw_lint::lint_texts;
 
@@ -20,22 +22,39 @@ pub(crate) fn is_noted(hints: Hints, ended: Ended) -> bool
     }
 }
 
-/// The network file on which a call notes, if it does: in an object of JSON the notes stand in it.
+/// The network file on which a call notes, if it does: in the object that `decide` gives the notes stand in it.
 pub(crate) fn noted_file<'a>(call: &Call<'a>) -> Option<&'a str> {
     match call {
-        Call::Decide { file, json } | Call::Report { file, json } if !*json => Some(file),
+        Call::Decide { file, json } if !*json => Some(file),
+        Call::Report { file, .. } => Some(file),
         _ => None,
     }
+}
+
+// One note as a line, behind the others.
+fn add_note(lines: &mut String, lint: &str) -> Option<()> {
+    lines.push_str("note: ").ok()?;
+    lines.push_str(lint).ok()?;
+    lines.push('\n').ok()
+}
+
+fn note_lines(alloc: Global, lints: &[String]) -> Option<String> {
+    let mut lines = String::new(alloc);
+    for lint in lints {
+        add_note(&mut lines, lint)?;
+    }
+    Some(lines)
+}
+
+fn notes_on(alloc: Global, network: &Network) -> Option<String> {
+    let lints = lint_texts(alloc, network).ok()?;
+    note_lines(alloc, &lints)
 }
 
 /// A line for each note on the network of a text. Nothing where the text is none, and where there is no memory for it.
 pub(crate) fn notes<R: Files + AllocGlobal>(rt: &R, text: &[u8]) -> Option<String> {
     let network = read_network(rt.alloc(), text).ok()?;
-    let mut lines = String::new(rt.alloc());
-    for lint in &lint_texts(rt.alloc(), &network).ok()? {
-        lines.push_str("note: ").ok()?;
-        lines.push_str(lint).ok()?;
-        lines.push('\n').ok()?;
-    }
-    Some(lines)
+    let told = notes_on(rt.alloc(), &network);
+    drop(network);
+    told
 }

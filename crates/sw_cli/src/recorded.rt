@@ -2,6 +2,7 @@
 ghost use Rattle.std.specs.Prelude.{◌≡◌, ◌<◌, Option, String};
 ghost use Rattle.std.specs.declared.alloc.Global.{Global};
 
+use crate::disk::RELEASE;
 use crate::noted::{Noted, Unwritten};
 use crate::told::{no_output, tell_long, tell_text};
 use std::fs;
@@ -10,14 +11,32 @@ use std::os::unix::fs::MetadataExt;
 use std::rt::Files;
 use std::sync::Wait;
 use std::thread::Threads;
-use sw_app_run::{Open, Options, RecordEnd, Wants, run, run_recorded};
+use sw_app_run::{Open, Options, RecordEnd, Wants, run_recorded};
 use sw_command::Ended;
 
-/// What is wanted of a run besides its answer: the file in which its steps are to be written, and a summary on standard error.
+/// What an answer is written as.
+#[derive(Clone, Copy)]
+pub(crate) enum Shape {
+    Text,
+    Json,
+}
+
+/// What a run's answer is to be, and what is wanted besides: the file in which its steps are to be written, and a summary on standard error.
 #[derive(Clone, Copy)]
 pub(crate) struct Extras<'a> {
     pub(crate) schedule: Option<&'a str>,
     pub(crate) summary: bool,
+    pub(crate) shape: Shape,
+}
+
+// What is run, as what it is told, and what is wanted besides.
+#[derive(Clone, Copy)]
+struct Job<'a> {
+    network: &'a str,
+    load: &'a str,
+    shape: Shape,
+    options: Options,
+    wants: Wants,
 }
 
 // How the call ends that ended so. That a schedule is too long is told, and so is a summary, but where a write failed.
@@ -50,6 +69,45 @@ fn are_same<R: Files>(rt: &R, path: &str, other: &str) -> bool {
     }
 }
 
+// Runs the load, and tells what comes of it. The schedule, where one is wanted, is written to `schedule`.
+fn run_job<R: AllocGlobal + Threads + Wait + Sync, N: Read, L: Read, W: Write, S: Write>(
+    rt: &R,
+    job: &Job<'_>,
+    network: &mut N,
+    load: &mut L,
+    writer: &mut W,
+    schedule: &mut S,
+) -> RecordEnd
+    requires { 0 < job.now.options.workers }
+{
+    match job.shape {
+        Shape::Text => run_recorded(
+            rt,
+            rt.alloc(),
+            network,
+            load,
+            job.options,
+            job.wants,
+            writer,
+            schedule,
+            &Open,
+        ),
+        Shape::Json => sw_json_runs::run_recorded(
+            rt,
+            rt.alloc(),
+            network,
+            load,
+            (job.network, job.load),
+            RELEASE,
+            job.options,
+            job.wants,
+            writer,
+            schedule,
+            &Open,
+        ),
+    }
+}
+
 // Runs the load, and writes the run's steps as a schedule to a file, which is made, or emptied, before the run.
 fn run_scheduled<
     'a,
@@ -59,14 +117,13 @@ fn run_scheduled<
     W: Write,
 >(
     rt: &R,
+    job: &Job<'_>,
     network: &mut N,
     load: &mut L,
-    options: Options,
     path: &'a str,
-    summary: bool,
     writer: &mut Noted<'a, W>,
 ) -> Ended
-    requires { 0 < options.workers }
+    requires { 0 < job.now.options.workers }
 {
     let file = match fs::create(rt, path) {
         Ok(file) => file,
@@ -77,52 +134,10 @@ fn run_scheduled<
         }
     };
     let mut schedule = Noted::new(path, file);
-    let wants = Wants {
-        schedule: true,
-        summary,
-    };
-    let end = run_recorded(
-        rt,
-        rt.alloc(),
-        network,
-        load,
-        options,
-        wants,
-        writer,
-        &mut schedule,
-        &Open,
-    );
+    let end = run_job(rt, job, network, load, writer, &mut schedule);
     if schedule.unwritten().is_some() {
         writer.note(schedule.unwritten());
     }
-    ended_of(rt, end)
-}
-
-// Runs the load, and tells a summary.
-fn run_summed<R: Files + Eprint + AllocGlobal + Threads + Wait + Sync, N: Read, L: Read, W: Write>(
-    rt: &R,
-    network: &mut N,
-    load: &mut L,
-    options: Options,
-    writer: &mut W,
-) -> Ended
-    requires { 0 < options.workers }
-{
-    let wants = Wants {
-        schedule: false,
-        summary: true,
-    };
-    let end = run_recorded(
-        rt,
-        rt.alloc(),
-        network,
-        load,
-        options,
-        wants,
-        writer,
-        &mut io::sink(),
-        &Open,
-    );
     ended_of(rt, end)
 }
 
@@ -148,6 +163,16 @@ pub(crate) fn run_load<'a, R: Files + Eprint + AllocGlobal + Threads + Wait + Sy
     if is_read(rt, extras.schedule, file, load) {
         return no_output(rt);
     }
+    let job = Job {
+        network: file,
+        load,
+        shape: extras.shape,
+        options,
+        wants: Wants {
+            schedule: extras.schedule.is_some(),
+            summary: extras.summary,
+        },
+    };
     let Ok(mut network) = fs::open(rt, file) else {
         return Ended::ReadFailed;
     };
@@ -155,24 +180,10 @@ pub(crate) fn run_load<'a, R: Files + Eprint + AllocGlobal + Threads + Wait + Sy
         return Ended::ReadFailed;
     };
     match extras.schedule {
-        Some(path) => run_scheduled(
-            rt,
-            &mut network,
-            &mut load,
-            options,
-            path,
-            extras.summary,
-            writer,
-        ),
-        None if extras.summary => run_summed(rt, &mut network, &mut load, options, writer),
-        None => run(
-            rt,
-            rt.alloc(),
-            &mut network,
-            &mut load,
-            options,
-            writer,
-            &Open,
-        ),
+        Some(path) => run_scheduled(rt, &job, &mut network, &mut load, path, writer),
+        None => {
+            let end = run_job(rt, &job, &mut network, &mut load, writer, &mut io::sink());
+            ended_of(rt, end)
+        }
     }
 }

@@ -12,11 +12,9 @@ use Rattle.sw_flow.specs.declared.place.Place.{Place}
 use Rattle.sw_flow.specs.Places.{Follows, IsPlace}
 use Rattle.sw_flow.specs.Ways.{GoesTo}
 use Rattle.sw_graph.specs.Reached.{IsListing}
+use Rattle.sw_graph.proofs.Adding.{nothing_in}
 use Rattle.sw_cycle.specs.Causes.{GoesOn}
 use Rattle.sw_cycle.specs.Firsts.{NoneFrom}
-
-nothing_in : {X : Type 0} (x : X) → Contains [] x → ⊥
-nothing_in x h = let lt = h.1 in omega arith
 
 pub none_from_none : (d : Declaration) (f : FlowEntry) (c e : ℕ) → NoneFrom d f [] c e
 none_from_none d f c e = λ p m at is follows. nothing_in p at
@@ -61,7 +59,7 @@ module _ (P : ℕ → Type 0) where
   pub first_none : First P 0 []
   first_none = record {
     rising = λ k lt. absurd (omega arith);
-    member = λ i. (λ h. absurd (nothing_in i h), λ h. let lt = h.0 in absurd (omega arith));
+    member = λ i. (λ h. nothing_in i h, λ h. let lt = h.0 in absurd (omega arith));
   }
 
   pub first_more : (n : ℕ) (numbers : List ℕ) → First P n numbers → P n → First P (n + 1) (numbers ++ n ∷ [])

@@ -1,5 +1,5 @@
 -- The flows of the steps of a round, one flow and one step more at a time.
-use Rattle.std.proofs.Common.{◌≡◌, ℕ, ◌+◌, ◌<◌, ◌≤◌, Bool, true, false, List, [], ◌∷◌, ◌++◌, length, set, Contains, Some, refl, sym, ap, ◌∙◌, subst, inl, inr, arith, get_or-set_same, get_or-set_other, length-set}
+use Rattle.std.proofs.Common.{◌≡◌, ℕ, ◌+◌, ◌<◌, ◌≤◌, Bool, true, false, List, [], ◌∷◌, ◌++◌, length, set, Some, refl, sym, ap, ◌∙◌, subst, inl, inr, arith, get_or-set_same, get_or-set_other, length-set}
 use Rattle.std.specs.Prelude.{IsTrue, Vec, slice_get, if◌then◌else◌, ◌↔◌}
 use Rattle.std.specs.declared.alloc.Global.{Global}
 use Rattle.std.proofs.lemmas.Bool.{cases_eq, false≢true}
@@ -8,20 +8,19 @@ use Rattle.std.proofs.lemmas.Option.{slice_get-get_or, slice_get_within, get_or_
 use Rattle.sw_config.specs.Entries.{FlowEntry, Declaration, all_flows}
 use Rattle.sw_flow.specs.declared.place.Place.{Place}
 use Rattle.sw_flow.specs.Places.{IsPlaceList}
+use Rattle.sw_graph.specs.Reversing.{IsRowSet}
 use Rattle.sw_graph.specs.Rows.{row}
+use Rattle.sw_graph.proofs.Adding.{nothing_in}
 use Rattle.sw_cycle.specs.Causes.{GoesOn}
 use Rattle.sw_cycle.specs.Cycles.{round}
-use Rattle.sw_cycle.specs.Goers.{AreBelow, AreFlows, AreMarked, Below, IsRowSet, IsTakenAt}
+use Rattle.sw_cycle.specs.Goers.{AreBelow, AreFlows, AreMarked, Below, IsTakenAt}
 use Rattle.sw_cycle.proofs.AllGoing.{first_all, first_kept, first_more, first_none}
 use Rattle.sw_cycle.proofs.Stepped.{no_step}
-
-nothing_in : {X : Type 0} (x : X) → Contains [] x → ⊥
-nothing_in x h = let lt = h.1 in omega arith
 
 -- ---- marks
 
 pub marked_none : (marks : List Bool) → AreMarked [] marks
-marked_none marks = λ p at. absurd (nothing_in p at)
+marked_none marks = λ p at. nothing_in p at
 
 set_at : (marks : List Bool) (c e : ℕ) → c < length marks → c ≡ e → slice_get (set marks c true) e ≡ Some true
 set_at marks c e lt same =

@@ -31,9 +31,3 @@ pub record IsTakenAt (d : Declaration) (channels : List ℕ) (n i : ℕ) (flows 
   pub size : length flows2 ≡ length flows
   pub here : Below d n (round channels i) (round channels (i + 1)) (row flows i) → Below d (n + 1) (round channels i) (round channels (i + 1)) (row flows2 i)
   pub others : (other : ℕ) → other ≢ i → row flows2 other ≡ row flows other
-
--- the row at that step is as is said, and the others are as they were
-pub record IsRowSet (flows : List (Vec ℕ Global)) (i : ℕ) (numbers : List ℕ) (flows2 : List (Vec ℕ Global)) : Type 0 where
-  pub size : length flows2 ≡ length flows
-  pub set : row flows2 i ≡ numbers
-  pub others : (other : ℕ) → other ≢ i → row flows2 other ≡ row flows other

@@ -1,18 +1,18 @@
 //! All flows that go on from each channel of a round to the next one.
-ghost use Rattle.std.specs.Prelude.{◌≡◌, ◌+◌, ℕ, ◌<◌, ◌≤◌, ◌↔◌, ◌++◌, ◌∷◌, [], AllPairs, Contains, IfOk, IsTrue, OnOk, Some, length, nat_lt, slice_get, true, if◌then◌else◌};
+ghost use Rattle.std.specs.Prelude.{◌≡◌, ◌+◌, ◌<◌, ◌≤◌, ◌↔◌, AllPairs, Contains, IfOk, IsTrue, OnOk, Some, length, nat_lt, slice_get, true};
 ghost use Rattle.std.specs.List.{AllZip};
 ghost use Rattle.std.specs.List.Sorted.{IsPartitionPoint};
 ghost use Rattle.sw_config.specs.Entries.{all_flows};
 ghost use Rattle.sw_flow.specs.declared.place.Place.{Place};
 ghost use Rattle.sw_flow.specs.Places.{IsBefore, IsPlaceList};
-ghost use Rattle.sw_graph.specs.Rows.{row};
 ghost use Rattle.sw_cycle.specs.Causes.{GoesOn};
-ghost use Rattle.sw_cycle.specs.Goers.{AreBelow, AreFlows, AreMarked, IsRowSet, IsTakenAt};
+ghost use Rattle.sw_cycle.specs.Goers.{AreBelow, AreFlows, AreMarked, IsTakenAt};
 
 use crate::steps::follower_between;
 use std::alloc::{AllocError, Global};
 use sw_config::{Flow, Network};
 use sw_flow::Place;
+use sw_graph::{add_to_row, empty_rows};
 use sw_topo::Chan;
 
 /// Where the first place stands that is on the channel or on one after it.
@@ -111,34 +111,6 @@ fn is_marked(marks: &[bool], channel: Chan) -> bool
     }
 }
 
-/// As many rows of no flows.
-fn no_flows(alloc: Global, count: usize) -> Result<Vec<Vec<u16>>, AllocError>
-    ensures size { IfOk result (λ v. length v.items ≡ count) }
-    ensures empty { IfOk result (λ v. (i : ℕ) → row v.items i ≡ []) }
-{
-    let mut flows = Vec::new(alloc);
-    for _ in 0..count {
-        flows.push(Vec::new(alloc))?;
-    }
-    Ok(flows)
-}
-
-/// Adds the flow to the row at that step, if it goes on so.
-fn add_to_row(
-    flows: &mut [Vec<u16>],
-    step: usize,
-    goes: bool,
-    number: u16,
-) -> Result<(), AllocError>
-    requires { step < length flows.old }
-    ensures { OnOk result (IsRowSet flows.old step (if goes then row flows.old step ++ number ∷ [] else row flows.old step) flows.new) }
-{
-    if goes {
-        flows[step].push(number)?;
-    }
-    Ok(())
-}
-
 /// Does the flow of that number, which has these places, on channels that are marked, go on from
 /// the one channel to the other?
 fn goes_on_from(
@@ -229,7 +201,7 @@ pub fn flows_of_steps(
     requires { AllZip (λ f ps. IsPlaceList network.now f ps.items) (all_flows network.now) places.now }
     ensures { IfOk result (λ v. AreFlows network.now channels.now v.items) }
 {
-    let mut flows = no_flows(alloc, channels.len())?;
+    let mut flows = empty_rows(alloc, channels.len())?;
     for number in 0..network.flows() {
         let flow = network.flow(number);
         let listed = &places[usize::from(number)];

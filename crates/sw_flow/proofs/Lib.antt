@@ -1,4 +1,5 @@
 pub mod Listed
+pub mod Sorted
 pub mod Outputs
 pub mod Faulty
 pub mod Stepping

@@ -30,5 +30,6 @@ pub use least::reached;
 pub use ordering::order;
 pub use part::Part;
 pub use predecessors::predecessors_of;
+pub use rows::{add_to_row, empty_rows};
 pub use steps::Steps;
 pub use ways::way;

@@ -1,21 +1,10 @@
 //! From the successors of each member to its predecessors.
-ghost use Rattle.std.specs.Prelude.{◌≡◌, ℕ, ◌<◌, ◌≤◌, ◌∷◌, All, IfOk, OnOk, [], length};
+ghost use Rattle.std.specs.Prelude.{◌<◌, ◌≤◌, ◌∷◌, All, IfOk, OnOk, [], length};
 ghost use Rattle.sw_graph.specs.Reversing.{AreAdded};
-ghost use Rattle.sw_graph.specs.Rows.{IsGraph, IsReversed, row};
+ghost use Rattle.sw_graph.specs.Rows.{IsGraph, IsReversed};
 
+use crate::rows::empty_rows;
 use std::alloc::{AllocError, Global};
-
-/// As many empty rows.
-fn empty_rows(alloc: Global, count: usize) -> Result<Vec<Vec<u16>>, AllocError>
-    ensures size { IfOk result (λ v. length v.items ≡ count) }
-    ensures empty { IfOk result (λ v. (c : ℕ) → row v.items c ≡ []) }
-{
-    let mut rows = Vec::new(alloc);
-    for _ in 0..count {
-        rows.push(Vec::new(alloc))?;
-    }
-    Ok(rows)
-}
 
 /// Adds c to the row of the member d.
 fn add_to(rows: &mut [Vec<u16>], d: u16, c: u16) -> Result<(), AllocError>

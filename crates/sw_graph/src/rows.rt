@@ -1,11 +1,48 @@
-//! A relation that is given by rows, as steps.
-ghost use Rattle.std.specs.Prelude.{◌≡◌, ◌<◌, ◌++◌, All, IfOk, OnOk, length};
+//! Rows of numbers: how they are made, and a relation that is given by rows, as steps.
+ghost use Rattle.std.specs.Prelude.{◌≡◌, ◌<◌, ◌++◌, ◌∷◌, ℕ, All, IfOk, OnOk, [], if◌then◌else◌, length};
 ghost use Rattle.sw_graph.specs.Reached.{IsListing, Reached};
+ghost use Rattle.sw_graph.specs.Reversing.{IsRowSet};
 ghost use Rattle.sw_graph.specs.Rows.{IsGraph, row};
 
 use crate::least::reached;
 use crate::steps::Steps;
 use std::alloc::{AllocError, Global};
+
+/// As many empty rows.
+///
+/// # Errors
+///
+/// There is no memory for them.
+pub fn empty_rows(alloc: Global, count: usize) -> Result<Vec<Vec<u16>>, AllocError>
+    ensures size { IfOk result (λ v. length v.items ≡ count) }
+    ensures empty { IfOk result (λ v. (c : ℕ) → row v.items c ≡ []) }
+{
+    let mut rows = Vec::new(alloc);
+    for _ in 0..count {
+        rows.push(Vec::new(alloc))?;
+    }
+    Ok(rows)
+}
+
+/// Adds the number at the end of the row at that place, if it is to be there.
+///
+/// # Errors
+///
+/// There is no memory for it.
+pub fn add_to_row(
+    rows: &mut [Vec<u16>],
+    place: usize,
+    is_there: bool,
+    number: u16,
+) -> Result<(), AllocError>
+    requires { place < length rows.old }
+    ensures { OnOk result (IsRowSet rows.old place (if is_there then row rows.old place ++ number ∷ [] else row rows.old place) rows.new) }
+{
+    if is_there {
+        rows[place].push(number)?;
+    }
+    Ok(())
+}
 
 /// The row of a member.
 pub(crate) fn row_of(rows: &[Vec<u16>], c: u16) -> &[u16]

@@ -1,28 +1,19 @@
 -- How it is told (this project's choice).
-use Rattle.std.specs.Prelude.{◌≡◌, ℕ, ◌*◌, ◌==◌, List, [], ◌∷◌, map, codes, slice_get, if◌then◌else◌}
+use Rattle.std.specs.Prelude.{◌≡◌, ℕ, ◌*◌, List, [], ◌∷◌, map, codes, slice_get}
 use Rattle.std.specs.Option.{option_map_or}
 use Rattle.std.specs.Fmt.{decimal}
-use Rattle.sw_config.specs.Entries.{Declaration, all_flows, routes_of}
+use Rattle.sw_config.specs.Entries.{Declaration, all_flows}
 use Rattle.sw_output.specs.ChannelTexts.{channel_text, node_name, switch_name}
+use Rattle.sw_output.specs.EntryTexts.{entry_words}
 use Rattle.sw_output.specs.FlowTexts.{flow_name}
 use Rattle.sw_output.specs.Lines.{spaced}
 use Rattle.sw_lint.specs.Lints.{AreLints}
 use Rattle.sw_lint.specs.declared.lint.Lint.{Lint}
 use Rattle.sw_lint.specs.declared.lint.Lint.TheVariants.{NoFlows, UnusedNode, UnusedSwitch, UnusedTarget, UnusedEntry, OneLinkedPort, LeadsBack, Opposed}
 
--- the addresses that a table entry is for
-abbrev pub addresses_words : ℕ → ℕ → List ℕ
-addresses_words first last =
-    if first == last then spaced (codes "address" ∷ decimal first ∷ [])
-    else spaced (codes "addresses" ∷ decimal first ∷ codes "to" ∷ decimal last ∷ [])
-
--- those of the entry of that number of that switch's table
-abbrev pub route_words : Declaration → ℕ → ℕ → List ℕ
-route_words d s e = option_map_or (λ r. addresses_words r.first r.last) (slice_get (routes_of d.switches s) e) []
-
--- the same, and the switch
-abbrev pub entry_words : Declaration → ℕ → ℕ → List ℕ
-entry_words d s e = spaced (route_words d s e ∷ codes "at" ∷ switch_name d s ∷ [])
+-- the addresses of that entry of that switch's table, and the switch
+abbrev pub entry_at_words : Declaration → ℕ → ℕ → List ℕ
+entry_at_words d s e = spaced (entry_words d s e ∷ codes "at" ∷ switch_name d s ∷ [])
 
 -- the node to which the flow goes
 abbrev pub end_name : Declaration → ℕ → List ℕ
@@ -37,11 +28,11 @@ lint_text d NoFlows = codes "the network has no flows"
 lint_text d (UnusedNode n) = spaced (codes "no flow is from or to the node" ∷ node_name d n ∷ [])
 lint_text d (UnusedSwitch s) = spaced (codes "no flow goes over the switch" ∷ switch_name d s ∷ [])
 lint_text d (UnusedTarget n) = spaced (codes "no flow goes to the target" ∷ node_name d n ∷ [])
-lint_text d (UnusedEntry s e) = spaced (codes "no flow uses the entry for" ∷ entry_words d s e ∷ [])
+lint_text d (UnusedEntry s e) = spaced (codes "no flow uses the entry for" ∷ entry_at_words d s e ∷ [])
 lint_text d (OneLinkedPort s e port) =
-    spaced (codes "of the group for" ∷ entry_words d s e ∷ codes "one port alone has a link:" ∷ decimal port ∷ [])
+    spaced (codes "of the group for" ∷ entry_at_words d s e ∷ codes "one port alone has a link:" ∷ decimal port ∷ [])
 lint_text d (LeadsBack s e port flow) =
-    spaced (codes "the group for" ∷ entry_words d s e ∷ codes "may lead packets of" ∷ flow_name d flow ∷ codes "back over port" ∷ decimal port
+    spaced (codes "the group for" ∷ entry_at_words d s e ∷ codes "may lead packets of" ∷ flow_name d flow ∷ codes "back over port" ∷ decimal port
     ∷ codes "by which they come" ∷ [])
 lint_text d (Opposed link onward back) =
     spaced (codes "commands of" ∷ command_words d onward ∷ codes "go over" ∷ channel_text d (2 * link) ∷ codes "and of" ∷ command_words d back

@@ -1,54 +1,25 @@
 //! How it is told.
 ghost use Rattle.std.specs.Prelude.{◌≡◌, ◌*◌, IfOk, map, string_bytes};
 ghost use Rattle.sw_output.specs.ChannelTexts.{channel_text};
-ghost use Rattle.sw_lint.specs.LintTexts.{AreLintTexts, addresses_words, command_words, end_name, entry_words, lint_text, route_words};
+ghost use Rattle.sw_lint.specs.LintTexts.{AreLintTexts, command_words, end_name, entry_at_words, lint_text};
 
 use crate::finding::lints;
 use crate::lint::Lint;
 use std::alloc::{AllocError, Global};
 use sw_config::Network;
-use sw_output::{channel_text, flow_name, node_name, switch_name};
+use sw_output::{channel_text, entry_words, flow_name, node_name, switch_name};
 use sw_topo::{Chan, Port};
 
-// The addresses that a table entry is for.
-fn addresses_words(alloc: Global, first: u8, last: u8) -> Result<String, AllocError>
-    ensures { IfOk result (λ s. string_bytes s ≡ addresses_words first last) }
-{
-    if first == last {
-        format!(in alloc; "address {first}")
-    } else {
-        format!(in alloc; "addresses {first} to {last}")
-    }
-}
-
-// Those of the entry of that number of the switch's table.
-fn route_words(
+// The addresses of an entry of the switch's table, and the switch.
+fn entry_at_words(
     alloc: Global,
     network: &Network,
     switch: u16,
     entry: usize,
 ) -> Result<String, AllocError>
-    ensures { IfOk result (λ s. string_bytes s ≡ route_words network.now switch entry) }
+    ensures { IfOk result (λ s. string_bytes s ≡ entry_at_words network.now switch entry) }
 {
-    if switch >= network.switches() {
-        return Ok(String::new(alloc));
-    }
-    match network.routes(switch).get(entry) {
-        Some(route) => addresses_words(alloc, route.first, route.last),
-        None => Ok(String::new(alloc)),
-    }
-}
-
-// The same, and the switch.
-fn entry_words(
-    alloc: Global,
-    network: &Network,
-    switch: u16,
-    entry: usize,
-) -> Result<String, AllocError>
-    ensures { IfOk result (λ s. string_bytes s ≡ entry_words network.now switch entry) }
-{
-    let words = route_words(alloc, network, switch, entry)?;
+    let words = entry_words(alloc, network, switch, entry)?;
     let name = switch_name(network, switch);
     format!(in alloc; "{words} at {name}")
 }
@@ -108,7 +79,7 @@ fn unused_entry(
 ) -> Result<String, AllocError>
     ensures { IfOk result (λ s. string_bytes s ≡ lint_text network.now (Lint.UnusedEntry switch entry)) }
 {
-    let words = entry_words(alloc, network, switch, entry)?;
+    let words = entry_at_words(alloc, network, switch, entry)?;
     format!(in alloc; "no flow uses the entry for {words}")
 }
 
@@ -121,7 +92,7 @@ fn one_linked_port(
 ) -> Result<String, AllocError>
     ensures { IfOk result (λ s. string_bytes s ≡ lint_text network.now (Lint.OneLinkedPort switch entry port)) }
 {
-    let words = entry_words(alloc, network, switch, entry)?;
+    let words = entry_at_words(alloc, network, switch, entry)?;
     let port = port.number();
     format!(in alloc; "of the group for {words} one port alone has a link: {port}")
 }
@@ -136,7 +107,7 @@ fn leads_back(
 ) -> Result<String, AllocError>
     ensures { IfOk result (λ s. string_bytes s ≡ lint_text network.now (Lint.LeadsBack switch entry port flow)) }
 {
-    let words = entry_words(alloc, network, switch, entry)?;
+    let words = entry_at_words(alloc, network, switch, entry)?;
     let name = flow_name(network, flow);
     let port = port.number();
     format!(in alloc;

@@ -8,7 +8,7 @@ use Rattle.sw_config.specs.Entries.{Declaration}
 use Rattle.sw_graph.specs.Reached.{IsListing}
 use Rattle.sw_graph.specs.Rows.{row}
 use Rattle.sw_search.specs.Verdicts.{depends}
-use Rattle.sw_search.proofs.Sorted.{same_sorted}
+use Rattle.sw_flow.proofs.Sorted.{same_sorted}
 use Rattle.sw_search.proofs.Zips.{zip_determined}
 use Rattle.sw_margin.specs.declared.bend.Bend.{Bend}
 use Rattle.sw_margin.specs.Bends.{IsAnswer, IsBend, IsStall, answering_at, quiet_nodes, stall, unanswered}

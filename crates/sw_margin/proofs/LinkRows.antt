@@ -1,40 +1,16 @@
 -- The rows of the links, flow by flow.
-use Rattle.std.proofs.Common.{◌≡◌, ◌≢◌, ℕ, zero, suc, ◌+◌, ◌-◌, ◌<◌, ◌≤◌, Bool, cond, List, [], ◌∷◌, ◌++◌, length, set, Some, refl, sym, ap, ◌∙◌, subst, inl, inr, arith, length-set}
+use Rattle.std.proofs.Common.{◌≡◌, ◌≢◌, ℕ, ◌+◌, ◌-◌, ◌≤◌, Bool, cond, List, [], ◌∷◌, ◌++◌, length, Some, refl, sym, ap, ◌∙◌, subst, inl, inr, arith}
 use Rattle.std.specs.Prelude.{Vec, slice_get}
 use Rattle.std.specs.declared.alloc.Global.{Global}
 use Rattle.std.proofs.lemmas.Bool.{cases_Bool, cases_eq, false≢true}
 use Rattle.std.proofs.lemmas.Option.{same_Some, slice_get_within}
 use Rattle.sw_config.specs.Entries.{FlowEntry, Declaration, all_flows}
+use Rattle.sw_graph.specs.Reversing.{IsRowSet}
 use Rattle.sw_graph.specs.Rows.{row}
-use Rattle.sw_cycle.specs.Goers.{IsRowSet}
 use Rattle.sw_cycle.proofs.AllGoing.{First, first_all, first_kept, first_more, first_none}
 use Rattle.sw_margin.specs.Losses.{AreLosses, IsLost, NeedsLink}
 use Rattle.sw_cycle.specs.Answering.{is_marked}
 use Rattle.sw_margin.specs.Needs.{AreAdded, AreLossesOf, AreNeeded, row_after}
-
--- ---- one row
-
-row_set_same : (g : List (Vec ℕ Global)) (i : ℕ) (v : Vec ℕ Global) → i < length g → row (set g i v) i ≡ v.items
-row_set_same [] i v lt = absurd (omega arith)
-row_set_same (x ∷ g) zero v lt = refl
-row_set_same (x ∷ g) (suc i) v lt = row_set_same g i v (omega arith)
-
-row_set_other : (g : List (Vec ℕ Global)) (i k : ℕ) (v : Vec ℕ Global) → k ≢ i → row (set g i v) k ≡ row g k
-row_set_other [] i k v ne = refl
-row_set_other (x ∷ g) zero zero v ne = absurd (ne refl)
-row_set_other (x ∷ g) zero (suc k) v ne = refl
-row_set_other (x ∷ g) (suc i) zero v ne = refl
-row_set_other (x ∷ g) (suc i) (suc k) v ne = row_set_other g i k v (λ e. ne (ap suc e))
-
-pub row_set : (g : List (Vec ℕ Global)) (i : ℕ) (v : Vec ℕ Global) (items : List ℕ) → i < length g → v.items ≡ items → IsRowSet g i items (set g i v)
-row_set g i v items lt is = record {
-  size = length-set g i v;
-  set = row_set_same g i v lt ∙ is;
-  others = λ k ne. row_set_other g i k v ne;
-}
-
-pub row_kept : (g : List (Vec ℕ Global)) (i : ℕ) → IsRowSet g i (row g i) g
-row_kept g i = record { size = refl; set = refl; others = λ k ne. refl }
 
 -- ---- one flow
 

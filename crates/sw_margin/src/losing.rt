@@ -1,17 +1,16 @@
 //! The flows that are lost without a link.
-ghost use Rattle.std.specs.Prelude.{◌≡◌, ◌<◌, ◌/◌, ◌==◌, ◌++◌, ◌∷◌, [], ℕ, IfOk, IfSome, OnOk, length, if◌then◌else◌};
+ghost use Rattle.std.specs.Prelude.{◌≡◌, ◌<◌, ◌/◌, ◌==◌, ◌∷◌, [], IfOk, IfSome, OnOk, length};
 ghost use Rattle.std.specs.List.{list_all};
 ghost use Rattle.sw_config.specs.Valid.{IsFlow};
 ghost use Rattle.sw_flow.specs.Places.{IsPlaceList};
-ghost use Rattle.sw_graph.specs.Rows.{row};
 ghost use Rattle.sw_search.specs.Lists.{AreListed};
 ghost use Rattle.sw_margin.specs.Losses.{AreLosses};
-ghost use Rattle.sw_cycle.specs.Goers.{IsRowSet};
 ghost use Rattle.sw_margin.specs.Needs.{AreAdded, AreMarked, AreNeeded, link_after, only_link};
 
 use std::alloc::{AllocError, Global};
 use sw_config::{Flow, Network};
 use sw_flow::{Followers, Place, followers_in};
+use sw_graph::{add_to_row, empty_rows};
 
 // Are all these places on that link?
 fn are_on_link(places: Followers<'_>, link: u16) -> bool
@@ -96,22 +95,6 @@ fn needed(
     Ok(marks)
 }
 
-// Adds the flow to the row of the link, if that is needed.
-fn add_to_row(
-    losses: &mut [Vec<u16>],
-    link: usize,
-    needed: bool,
-    flow: u16,
-) -> Result<(), AllocError>
-    requires { link < length losses.old }
-    ensures { OnOk result (IsRowSet losses.old link (if needed then row losses.old link ++ flow ∷ [] else row losses.old link) losses.new) }
-{
-    if needed {
-        losses[link].push(flow)?;
-    }
-    Ok(())
-}
-
 // Adds the flow to the rows of the links that are marked.
 fn add_flow(marks: &[bool], flow: u16, losses: &mut [Vec<u16>]) -> Result<(), AllocError>
     requires { length losses.old ≡ length marks.now }
@@ -121,18 +104,6 @@ fn add_flow(marks: &[bool], flow: u16, losses: &mut [Vec<u16>]) -> Result<(), Al
         add_to_row(losses, link, *needed, flow)?;
     }
     Ok(())
-}
-
-// As many empty rows.
-fn empty_rows(alloc: Global, count: u16) -> Result<Vec<Vec<u16>>, AllocError>
-    ensures size { IfOk result (λ v. length v.items ≡ count) }
-    ensures empty { IfOk result (λ v. (link : ℕ) → row v.items link ≡ []) }
-{
-    let mut rows = Vec::new(alloc);
-    for _ in 0..count {
-        rows.push(Vec::new(alloc))?;
-    }
-    Ok(rows)
 }
 
 /// For each link the flows, declared and of replies, by number, that are lost without it: their packets begin on it, or can come to a
@@ -151,7 +122,7 @@ pub fn losses(
     requires { AreListed network.now places.now }
     ensures { IfOk result (λ v. AreLosses network.now v.items) }
 {
-    let mut losses = empty_rows(alloc, network.links())?;
+    let mut losses = empty_rows(alloc, usize::from(network.links()))?;
     for number in 0..network.flows() {
         let listed = &places[usize::from(number)];
         let marks = needed(alloc, network, network.flow(number), listed)?;

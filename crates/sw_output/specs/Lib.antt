@@ -2,6 +2,7 @@ pub mod Lines
 pub mod ChannelTexts
 pub mod LinkedPorts
 pub mod FlowTexts
+pub mod EntryTexts
 pub mod VerdictTexts
 pub mod ReportTexts
 pub mod PacketTexts

@@ -33,7 +33,8 @@ impl<'a> Tally<'a> {
     }
 }
 
-fn end_rank(end: End) -> u8
+/// The place of the end marker in the order of packets of the same bytes: 0 of an EOP, 1 of an EEP.
+pub fn end_rank(end: End) -> u8
     ensures { result ≡ end_rank end }
 {
     match end {

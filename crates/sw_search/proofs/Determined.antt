@@ -17,7 +17,7 @@ use Rattle.sw_search.specs.Verdicts.{AllWellRouted, depends, IsMisrouted}
 use Rattle.sw_search.proofs.Cycles.{same_cycle}
 use Rattle.sw_search.proofs.SameCauses.{same_causes}
 use Rattle.sw_search.proofs.Levels.{has_cycle, same_levels}
-use Rattle.sw_search.proofs.Sorted.{same_places}
+use Rattle.sw_flow.proofs.Sorted.{same_places}
 use Rattle.sw_search.proofs.Zips.{zip_determined}
 
 pub faulty : (d : Declaration) (i : ℕ) (p : Place) (fault : RouteFault) (h : IsMisrouted d i p fault) → IsWellRouted d h.flow → ⊥

@@ -7,7 +7,6 @@ pub mod Counted
 pub mod Levels
 pub mod Rounds
 pub mod Accepted
-pub mod Sorted
 pub mod Cycles
 pub mod SameCauses
 pub mod Determined

@@ -28,7 +28,7 @@ declared_first [] ys i x within is = absurd (omega (arith, within))
 declared_first (y ∷ xs) ys zero x within is = is
 declared_first (y ∷ xs) ys (suc i) x within is = declared_first xs ys i x (omega (arith, within)) is
 
-pub range_more : (a n m k : ℕ) → m ≡ suc n → a + n ≡ k → range_with_len a m ≡ range_with_len a n ++ k ∷ []
+range_more : (a n m k : ℕ) → m ≡ suc n → a + n ≡ k → range_with_len a m ≡ range_with_len a n ++ k ∷ []
 range_more a zero m k next is = let same : a ≡ k = omega arith in rw next (ap (λ (j : ℕ). j ∷ []) same)
 range_more a (suc n) m k next is = rw next (ap (λ (l : List ℕ). a ∷ l) (range_more (a + 1) n (suc n) k refl (omega arith)))
 

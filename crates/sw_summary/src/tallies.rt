@@ -1,7 +1,6 @@
 //! What came out of a network and is not counted yet.
 ghost use Rattle.std.specs.Prelude.{◌≡◌, ◌<◌, ◌≤◌, ◌^◌, ◌+◌, All, ◌-◌, IfOk, if◌then◌else◌, length, nat_lt, replicate, take};
 ghost use Rattle.std.specs.List.Sorted.{IsBinarySearchResult, IsSearchInRange};
-ghost use Rattle.sw_output.specs.Tallies.{end_rank};
 ghost use Rattle.sw_summary.specs.Counts.{items_at};
 ghost use Rattle.sw_summary.specs.Tallies.{IsRising, counted, found, item_order, left, taken, taken_all, tallies};
 
@@ -9,6 +8,7 @@ use std::alloc::{AllocError, Global};
 use std::cmp::Ordering;
 use std::marker::Model;
 use sw_char::{End, Packet};
+use sw_output::end_rank;
 
 /// A packet at a node, or the part of it that matters.
 #[derive(Drop)]
@@ -97,15 +97,6 @@ impl<'a> Tally<'a> {
         let before = self.count;
         self.count = self.count.saturating_sub(1);
         if before > 0 { 1 } else { 0 }
-    }
-}
-
-fn end_rank(end: End) -> u8
-    ensures { result ≡ end_rank end }
-{
-    match end {
-        End::Eop => 0,
-        End::Eep => 1,
     }
 }
 

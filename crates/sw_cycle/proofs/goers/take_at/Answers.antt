@@ -15,4 +15,4 @@ returns c =
     let is =
     as_round d channels i c.index-channels-step.result c.index-channels-step-2.result c.requires.inside c.index-channels-step.is c.index-channels-step-2.is (λ x y. IsTrue goes ↔ GoesOn d n x y) c.goes_on_from-goes.ensures
     in
-    on_ok_weaker c.add_to_row.result (λ s. taken_at d channels n i goes c.args.flows.now c.add_to_row.new.flows is s) c.add_to_row.ensures
+    on_ok_weaker c.add_to_row.result (λ s. taken_at d channels n i goes c.args.flows.now c.add_to_row.new.rows is s) c.add_to_row.ensures

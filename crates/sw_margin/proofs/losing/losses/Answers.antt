@@ -13,14 +13,14 @@ pub bounds-places-from : goal.bounds-places-from
 bounds-places-from c =
     let d = c.args.network.now in
     let long = AllZip-long (λ f ps. IsPlaceList d f ps.items) (all_flows d) c.args.places.now c.requires in
-    omega (arith, long, c.from.ensures, c.loop-number-test.true, c.flows-number-end.ensures.count)
+    omega (arith, long, c.from-in-loop-number.ensures, c.loop-number-test.true, c.flows-number-end.ensures.count)
 
 pub needed-requires-clause-list : goal.needed-requires-clause-list
 needed-requires-clause-list c =
     let d = c.args.network.now in
     let n = c.loop-number.number in
     let listed = c.index-places-from.result in
-    let at : listed ≡ get_or c.args.places.now n listed = c.index-places-from.is ∙ ap (λ i. get_or c.args.places.now i listed) c.from.ensures in
+    let at : listed ≡ get_or c.args.places.now n listed = c.index-places-from.is ∙ ap (λ i. get_or c.args.places.now i listed) c.from-in-loop-number.ensures in
     subst (λ (l : List Place). IsPlaceList d c.flow.result.now l) (sym c.deref.ensures.value) (listed_at d (all_flows d) c.args.places.now n c.flow.result.now listed c.requires c.flow.ensures.flow at)
 
 pub loop-number-preserved : goal.loop-number-preserved

@@ -1,7 +1,7 @@
 use Rattle.std.proofs.Common.{List, ap, string_bytes, ℕ, ◌++◌, ◌∙◌, ◌≡◌}
 use Rattle.std.specs.Prelude.{slice_index}
 use Rattle.sw_summary.specs.BufferLines.{fill_line}
-use Rattle.sw_summary.proofs.FillLists.{line_more}
+use Rattle.sw_summary.proofs.Lists.{text_more}
 use Rattle.sw_summary.proofs.buffer_lines.fill_lines.Goals as goal
 
 pub loop-c-preserved : goal.loop-c-preserved
@@ -16,4 +16,4 @@ loop-c-preserved c =
     let after : string_bytes c.push_str.new.self ≡ string_bytes c.loop-c.text ++ here =
     c.in_ok-push_str.ensures.bytes ∙ ap (λ (l : List ℕ). string_bytes c.loop-c.text ++ l) c.as_str.ensures.value
     in
-    line_more (λ (k : ℕ). fill_line d k (slice_index fills k)) c.loop-c.c (string_bytes c.loop-c.text) here (string_bytes c.push_str.new.self) c.loop-c.invariant line after
+    text_more (λ (k : ℕ). fill_line d k (slice_index fills k)) c.loop-c.c (string_bytes c.loop-c.text) here (string_bytes c.push_str.new.self) c.loop-c.invariant line after

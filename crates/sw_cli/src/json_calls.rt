@@ -1,0 +1,175 @@
+//! The calls whose answer is an object of JSON. That of `decide` is an audit's of one file.
+ghost use Rattle.std.specs.Prelude.{◌≡◌, is_some};
+ghost use Rattle.sw_args.specs.CommandLine.{HasWorkers};
+ghost use Rattle.sw_cli.specs.Asked.{is_json};
+
+use crate::calls::run_audit;
+use crate::disk::RELEASE;
+use crate::noted::Noted;
+use crate::recorded::{Extras, Shape, run_load};
+use std::fs;
+use std::io::Write;
+use std::rt::Files;
+use std::sync::Wait;
+use std::thread::Threads;
+use sw_app_run::Options;
+use sw_args::Call;
+use sw_command::Ended;
+use sw_json_changes::{explain, margin, mend};
+use sw_json_runs::replay;
+use sw_json_verdicts::{check, report, route};
+
+/// Makes the call, if an object of JSON is wanted of it, and tells how it ended.
+pub(crate) fn run_json<'a, R: Files + Eprint + AllocGlobal + Threads + Wait + Sync, W: Write>(
+    rt: &R,
+    host: &HostRuntime,
+    call: Call<'a>,
+    writer: &mut Noted<'a, W>,
+) -> Option<Ended>
+    requires { HasWorkers call }
+    ensures { is_some result ≡ is_json call.entry }
+{
+    match call {
+        Call::Route { file, flow, json } if json => Some(run_route(rt, file, flow, writer)),
+        Call::Decide { file, json } if json => {
+            Some(run_audit(rt, host, &[file], true, false, None, writer))
+        }
+        Call::Check {
+            file,
+            certificate,
+            json,
+        } if json => Some(run_check(rt, file, certificate, writer)),
+        Call::Report { file, json } if json => Some(run_report(rt, file, writer)),
+        Call::Replay {
+            file,
+            schedule,
+            json,
+        } if json => Some(run_replay(rt, file, schedule, writer)),
+        Call::Run {
+            file,
+            load,
+            workers,
+            limit,
+            schedule,
+            summary,
+            json,
+        } if json => {
+            let options = Options {
+                workers: workers as usize,
+                limit: limit as usize,
+            };
+            let extras = Extras {
+                schedule,
+                summary,
+                shape: Shape::Json,
+            };
+            Some(run_load(rt, file, load, options, &extras, writer))
+        }
+        Call::Explain { file, json, .. } if json => Some(run_explain(rt, file, writer)),
+        Call::Mend { file, pairs, json } if json => Some(run_mend(rt, file, pairs, writer)),
+        Call::Margin { file, json } if json => Some(run_margin(rt, file, writer)),
+        _ => None,
+    }
+}
+
+fn run_route<R: Files + AllocGlobal, W: Write>(
+    rt: &R,
+    file: &str,
+    flow: &str,
+    writer: &mut W,
+) -> Ended {
+    let Ok(mut reader) = fs::open(rt, file) else {
+        return Ended::ReadFailed;
+    };
+    route(rt.alloc(), &mut reader, file, flow, RELEASE, writer)
+}
+
+fn run_check<R: Files + AllocGlobal + Threads + Sync, W: Write>(
+    rt: &R,
+    file: &str,
+    path: &str,
+    writer: &mut W,
+) -> Ended {
+    let Ok(mut network) = fs::open(rt, file) else {
+        return Ended::ReadFailed;
+    };
+    let Ok(mut certificate) = fs::open(rt, path) else {
+        return Ended::ReadFailed;
+    };
+    check(
+        rt,
+        rt.alloc(),
+        &mut network,
+        &mut certificate,
+        (file, path),
+        RELEASE,
+        writer,
+    )
+}
+
+fn run_report<R: Files + AllocGlobal + Threads + Sync, W: Write>(
+    rt: &R,
+    file: &str,
+    writer: &mut W,
+) -> Ended {
+    let Ok(mut reader) = fs::open(rt, file) else {
+        return Ended::ReadFailed;
+    };
+    report(rt, rt.alloc(), &mut reader, file, RELEASE, writer)
+}
+
+fn run_replay<R: Files + AllocGlobal, W: Write>(
+    rt: &R,
+    file: &str,
+    path: &str,
+    writer: &mut W,
+) -> Ended {
+    let Ok(mut network) = fs::open(rt, file) else {
+        return Ended::ReadFailed;
+    };
+    let Ok(mut schedule) = fs::open(rt, path) else {
+        return Ended::ReadFailed;
+    };
+    replay(
+        rt.alloc(),
+        &mut network,
+        &mut schedule,
+        (file, path),
+        RELEASE,
+        writer,
+    )
+}
+
+fn run_explain<R: Files + AllocGlobal + Threads + Sync, W: Write>(
+    rt: &R,
+    file: &str,
+    writer: &mut W,
+) -> Ended {
+    let Ok(mut reader) = fs::open(rt, file) else {
+        return Ended::ReadFailed;
+    };
+    explain(rt, rt.alloc(), &mut reader, file, RELEASE, writer)
+}
+
+fn run_mend<R: Files + AllocGlobal + Threads + Sync, W: Write>(
+    rt: &R,
+    file: &str,
+    pairs: bool,
+    writer: &mut W,
+) -> Ended {
+    let Ok(mut reader) = fs::open(rt, file) else {
+        return Ended::ReadFailed;
+    };
+    mend(rt, rt.alloc(), pairs, &mut reader, file, RELEASE, writer)
+}
+
+fn run_margin<R: Files + AllocGlobal + Threads + Sync, W: Write>(
+    rt: &R,
+    file: &str,
+    writer: &mut W,
+) -> Ended {
+    let Ok(mut reader) = fs::open(rt, file) else {
+        return Ended::ReadFailed;
+    };
+    margin(rt, rt.alloc(), &mut reader, file, RELEASE, writer)
+}

@@ -1,6 +1,0 @@
-use Rattle.std.proofs.Common.{◌≡◌, ℕ, [], length}
-use Rattle.sw_graph.specs.Rows.{row}
-use Rattle.sw_graph.proofs.predecessors.empty_rows.Given as goal
-
-abbrev pub invariant-loop : goal.invariant-loop
-invariant-loop l = ((c : ℕ) → row l.rows.items c ≡ []) × (length l.rows.items ≡ l.counter)

@@ -1,0 +1,5 @@
+pub mod Answered
+pub mod Plain
+pub mod OneResult
+pub mod OneVerdict
+mod Memory

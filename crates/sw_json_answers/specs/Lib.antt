@@ -1,0 +1,2 @@
+pub mod Answering
+pub mod Laws

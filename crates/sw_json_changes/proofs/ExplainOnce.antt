@@ -1,0 +1,131 @@
+-- `explain` has one status, that of the text answer; and where a target makes a step no flow does.
+use Rattle.std.proofs.Common.{◌≡◌, ◌∙◌, ℕ, ◌+◌, ◌<◌, Bool, List, [], ◌∷◌, All, arith, codes, length, refl, subst, sym}
+use Rattle.std.specs.List.{AllZip, Contains}
+use Rattle.std.specs.Prelude.{Err, None, Ok, Option, Result, Some, slice_get}
+use Rattle.std.proofs.lemmas.List.Elements.{All-cons, All-contains, All-nil, Contains-get_or}
+use Rattle.std.proofs.lemmas.Option.{slice_get_within}
+use Rattle.serde_json.specs.Data.{Data}
+use Rattle.sw_app_explain.specs.ExplainAnswers as text
+use Rattle.sw_app_explain.specs.ExplainTexts.{explain_status}
+use Rattle.sw_command.specs.Ends.{IfLimited}
+use Rattle.sw_config.specs.Entries.{Declaration, all_flows}
+use Rattle.sw_cycle.specs.Causes.{GoesOn, IsChosenCause}
+use Rattle.sw_cycle.specs.Cycles.{ByTarget, round}
+use Rattle.sw_search.specs.Explanations.{IsExplanation}
+use Rattle.sw_search.specs.ExplanationLaws.{ExplanationsAreOfTheVerdict, TanglesAreWhereCyclesAre}
+use Rattle.sw_search.specs.Tangles.{AreTangles, IsTangle}
+use Rattle.sw_search.specs.declared.explanation.Explanation.{Explanation}
+use Rattle.sw_search.specs.declared.explanation.Explanation.TheVariants.{Misrouted, Cyclic, Free}
+use Rattle.sw_search.specs.declared.tangle.Tangle.{Tangle}
+use Rattle.sw_file.specs.Network.{network_text}
+use Rattle.sw_flow.specs.Faults.{IsWellRouted}
+use Rattle.sw_flow.specs.declared.fault.RouteFault.{RouteFault}
+use Rattle.sw_flow.specs.declared.place.Place.{Place}
+use Rattle.sw_graph.specs.Reached.{IsListing}
+use Rattle.sw_graph.specs.Rows.{row}
+use Rattle.sw_graph.specs.declared.part.Part.{Part}
+use Rattle.sw_search.proofs.Exactly.{verdicts_tell}
+use Rattle.sw_search.specs.Laws.{SomeMisrouted}
+use Rattle.sw_search.specs.Verdicts.{AllWellRouted, IsMisrouted}
+use Rattle.sw_search.specs.declared.verdict.Verdict.TheVariants as verdict
+use Rattle.sw_toml_table.specs.declared.fault.TextFault.{TextFault}
+use Rattle.sw_json_answers.proofs.OneResult.{AreOne, one_answer}
+use Rattle.sw_json_changes.proofs.TanglesOnce.{one_tangles_value}
+use Rattle.sw_json_answers.specs.Answering.{OfNetwork, OfNetworkFile, read_value}
+use Rattle.sw_json_changes.specs.ExplainJson.{IsExplained}
+use Rattle.sw_json_changes.specs.ExplainValues.{explain_value}
+use Rattle.sw_json_changes.specs.ExplainLaws.{ExplainHasOneAnswer, ExplainHasOneStatus, ExplainHasStatusOfText, HasNoFlowsAtTargets, TargetsHaveNoFlows}
+
+-- ---- the status
+
+module _ (of_verdict : ExplanationsAreOfTheVerdict) (where_cycles : TanglesAreWhereCyclesAre) where
+  status_once : (d : Declaration) (e f : Explanation) → IsExplanation d e → IsExplanation d f → explain_status e ≡ explain_status f
+  status_once d (Misrouted i p fault way) (Misrouted j q other round) h k = refl
+  status_once d (Misrouted i p fault way) (Cyclic tangles) h k = refl
+  status_once d (Misrouted i p fault way) Free h k = absurd (of_verdict d (verdict.Misrouted i p fault) Free h.misrouted k)
+  status_once d (Cyclic tangles) (Misrouted j q other round) h k = refl
+  status_once d (Cyclic tangles) (Cyclic others) h k = refl
+  status_once d (Cyclic tangles) Free h k = absurd (h.some ((where_cycles d tangles.items h.are).1 k.no_cycle))
+  status_once d Free (Misrouted j q other round) h k = absurd (of_verdict d (verdict.Misrouted j q other) Free k.misrouted h)
+  status_once d Free (Cyclic others) h k = absurd (k.some ((where_cycles d others.items k.are).1 h.no_cycle))
+  status_once d Free Free h k = refl
+
+  -- two results
+
+  read_once : (path bytes : List ℕ) (r : Result Declaration TextFault) (value other : Data) (status number : ℕ) → OfNetwork path bytes IsExplained r value status
+      → OfNetwork path bytes IsExplained r other number → status ≡ number
+  read_once path bytes (Ok d) value other status number (e, h, is) (f, k, tells) = is.1 ∙ (status_once d e f h k ∙ sym tells.1)
+  read_once path bytes (Err fault) value other status number (told, at, is) (also, there, tells) = is.1 ∙ sym tells.1
+
+  file_once : (path : List ℕ) (given : Option (List ℕ)) (value other : Data) (status number : ℕ) → OfNetworkFile path IsExplained given value status
+      → OfNetworkFile path IsExplained given other number → status ≡ number
+  file_once path (Some bytes) value other status number is tells = read_once path bytes (network_text bytes) value other status number is tells
+  file_once path None value other status number is tells = is.1 ∙ sym tells.1
+
+  pub explain_has_one_status : ExplainHasOneStatus
+  explain_has_one_status path release given written other status number (value, is, spells) (another, also, tells) = file_once path given value another status number is also
+
+  -- a result and a text answer
+
+  read_as : (path bytes : List ℕ) (all : Bool) (r : Result Declaration TextFault) (value : Data) (said : List ℕ) (status number : ℕ) → OfNetwork path bytes IsExplained r value status
+      → text.IsReadAnswer all r said number → status ≡ number
+  read_as path bytes all (Ok d) value said status number (e, h, is) (f, k, tells) = is.1 ∙ (status_once d e f h k ∙ sym tells.1)
+  read_as path bytes all (Err fault) value said status number (told, at, is) tells = is.1 ∙ sym tells.1
+
+  file_as : (path : List ℕ) (all : Bool) (given : Option (List ℕ)) (value : Data) (said : List ℕ) (status number : ℕ) → OfNetworkFile path IsExplained given value status
+      → IfLimited given (text.IsExplainAnswer all) said number → status ≡ number
+  file_as path all (Some bytes) value said status number is tells = read_as path bytes all (network_text bytes) value said status number is tells
+  file_as path all None value said status number is tells = is.1 ∙ sym tells.1
+
+  pub explain_has_status_of_text : ExplainHasStatusOfText
+  explain_has_status_of_text path all release given written said status number (value, is, spells) tells = file_as path all given value said status number is tells
+
+-- ---- one answer where each flow is well routed
+
+not_wrong : (d : Declaration) (i : ℕ) (p : Place) (fault : RouteFault) → IsMisrouted d i p fault → AllWellRouted d → ⊥
+not_wrong d i p fault h all =
+    let some : SomeMisrouted d = verdicts_tell d (verdict.Misrouted i p fault) h in
+    some.2 (All-contains (IsWellRouted d) (all_flows d) some.0 all some.1)
+
+found_once : ExplanationsAreOfTheVerdict → TanglesAreWhereCyclesAre → (d : Declaration) → AllWellRouted d → (e f : Explanation) → IsExplanation d e → IsExplanation d f
+    → explain_value d e ≡ explain_value d f
+found_once of_verdict where_cycles d all (Misrouted i p fault way) f h k = absurd (not_wrong d i p fault h.misrouted all)
+found_once of_verdict where_cycles d all (Cyclic tangles) (Misrouted j q other round) h k = absurd (not_wrong d j q other k.misrouted all)
+found_once of_verdict where_cycles d all (Cyclic tangles) (Cyclic others) h k = one_tangles_value d tangles.items others.items h.are k.are
+found_once of_verdict where_cycles d all (Cyclic tangles) Free h k = absurd (h.some ((where_cycles d tangles.items h.are).1 k.no_cycle))
+found_once of_verdict where_cycles d all Free (Misrouted j q other round) h k = absurd (not_wrong d j q other k.misrouted all)
+found_once of_verdict where_cycles d all Free (Cyclic others) h k = absurd (k.some ((where_cycles d others.items k.are).1 h.no_cycle))
+found_once of_verdict where_cycles d all Free Free h k = refl
+
+network_once : ExplanationsAreOfTheVerdict → TanglesAreWhereCyclesAre → (path bytes : List ℕ) (d : Declaration) → AllWellRouted d → AreOne (OfNetwork path bytes IsExplained (Ok d))
+network_once of_verdict where_cycles path bytes d all value other status number (e, h, is) (f, k, tells) = (
+  is.1 ∙ (status_once of_verdict where_cycles d e f h k ∙ sym tells.1),
+  λ good. is.0 ∙ (found_once of_verdict where_cycles d all e f h k ∙ sym tells.0),
+)
+
+pub explain_has_one_answer : ExplanationsAreOfTheVerdict → TanglesAreWhereCyclesAre → ExplainHasOneAnswer
+explain_has_one_answer of_verdict where_cycles path release bytes d is all =
+    one_answer (codes "explain") (read_value path (Some bytes) ∷ []) release (OfNetworkFile path IsExplained (Some bytes))
+    (subst (λ (r : Result Declaration TextFault). AreOne (OfNetwork path bytes IsExplained r)) (sym is) (network_once of_verdict where_cycles path bytes d all))
+
+-- ---- steps that targets make
+
+none_listed : (xs : List ℕ) → ((n : ℕ) → Contains xs n → ⊥) → xs ≡ []
+none_listed [] none = refl
+none_listed (x ∷ xs) none = absurd (none x (Contains-get_or (x ∷ xs) 0 x (omega arith)))
+
+no_flows : (d : Declaration) (part : Part) (t : Tangle) → IsTangle d part t → HasNoFlowsAtTargets t
+no_flows d part t is i node at =
+    let chosen : IsChosenCause d (ByTarget node) (round t.cycle.channels i) (round t.cycle.channels (i + 1)) = is.chosen.chosen i (ByTarget node) at in
+    let within : i < length t.cycle.channels = omega (arith, slice_get_within t.cycle.causes i (ByTarget node) at, is.chosen.one_each) in
+    let listing : IsListing (λ n. GoesOn d n (round t.cycle.channels i) (round t.cycle.channels (i + 1))) (row t.flows.items i) = is.flows.each i within in
+    none_listed (row t.flows.items i) (λ n there. chosen.first n ((listing.member n).0 there))
+
+each_without : (d : Declaration) (parts : List Part) (tangles : List Tangle) → AllZip (IsTangle d) parts tangles → All HasNoFlowsAtTargets tangles
+each_without d [] [] h = All-nil HasNoFlowsAtTargets
+each_without d [] (t ∷ ts) h = absurd h
+each_without d (p ∷ ps) [] h = absurd h
+each_without d (p ∷ ps) (t ∷ ts) h = All-cons HasNoFlowsAtTargets t ts (no_flows d p t h.0) (each_without d ps ts h.1)
+
+pub targets_have_no_flows : TargetsHaveNoFlows
+targets_have_no_flows d tangles are = each_without d are.parts tangles are.told

@@ -1,0 +1,45 @@
+-- The values of what frees a network have no floats and are not deep.
+use Rattle.std.proofs.Common.{[], ◌∷◌, All}
+use Rattle.std.proofs.lemmas.List.Elements.{All-cons, All-nil}
+use Rattle.sw_config.specs.Entries.{Declaration}
+use Rattle.sw_json.specs.Plain.{IsPlain}
+use Rattle.sw_json.proofs.Plain.{count_or_null_plain, count_plain, list_plain, made_plain, no_more, object_plain, text_plain, with_member}
+use Rattle.sw_mend.specs.declared.change.Change.{Change}
+use Rattle.sw_mend.specs.declared.change.Change.TheVariants.{WithoutReply, WithoutFlow, WithoutAnswers, WithoutPort, WithoutEntry, WithoutFlowsOf}
+use Rattle.sw_mend.specs.declared.change.Pair.{Pair}
+use Rattle.sw_mend.specs.declared.change.Trial.{Trial}
+use Rattle.sw_mend.specs.declared.change.Trial.TheVariants.{Without, Split}
+use Rattle.sw_json_changes.specs.MendValues.{change_value, mend_value, pair_value, trial_value}
+use Rattle.sw_json_changes.specs.MendLaws.{MendsArePlain}
+
+change_plain : (d : Declaration) (change : Change) → IsPlain 1 (change_value d change)
+change_plain d (WithoutReply flow) = object_plain 0 (with_member text_plain (with_member text_plain no_more))
+change_plain d (WithoutFlow flow) = object_plain 0 (with_member text_plain (with_member text_plain no_more))
+change_plain d (WithoutAnswers node) = object_plain 0 (with_member text_plain (with_member text_plain no_more))
+change_plain d (WithoutPort switch entry port) =
+    object_plain 0 (with_member (count_or_null_plain _) (with_member text_plain (with_member (count_or_null_plain _) (with_member count_plain
+    (with_member text_plain no_more)))))
+change_plain d (WithoutEntry switch entry) =
+    object_plain 0 (with_member (count_or_null_plain _) (with_member text_plain (with_member (count_or_null_plain _) (with_member text_plain no_more))))
+change_plain d (WithoutFlowsOf node) = object_plain 0 (with_member text_plain (with_member text_plain no_more))
+
+trial_plain : (d : Declaration) (trial : Trial) → IsPlain 1 (trial_value d trial)
+trial_plain d (Without change) = change_plain d change
+trial_plain d (Split link) = object_plain 0 (with_member text_plain (with_member text_plain (with_member count_plain (with_member text_plain no_more))))
+
+mend_plain : (d : Declaration) (trial : Trial) → IsPlain 3 (mend_value d trial)
+mend_plain d trial =
+    object_plain 2 (with_member (list_plain 1 (trial_value d trial ∷ []) (All-cons (IsPlain 1) (trial_value d trial) [] (trial_plain d trial) (All-nil (IsPlain 1))))
+    (with_member text_plain no_more))
+
+pair_plain : (d : Declaration) (pair : Pair) → IsPlain 3 (pair_value d pair)
+pair_plain d pair =
+    object_plain 2 (with_member (list_plain 1 (change_value d pair.first ∷ change_value d pair.second ∷ [])
+    (All-cons (IsPlain 1) (change_value d pair.first) (change_value d pair.second ∷ []) (change_plain d pair.first)
+    (All-cons (IsPlain 1) (change_value d pair.second) [] (change_plain d pair.second) (All-nil (IsPlain 1))))) (with_member text_plain no_more))
+
+pub mends_plain : MendsArePlain
+mends_plain = record {
+  single = λ d told. object_plain 4 (with_member text_plain (with_member (made_plain 3 (mend_value d) (mend_plain d) told) no_more));
+  pairs = λ d told. object_plain 4 (with_member text_plain (with_member (made_plain 3 (pair_value d) (pair_plain d) told) no_more));
+}

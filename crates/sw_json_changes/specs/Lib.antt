@@ -1,0 +1,9 @@
+pub mod ExplainValues
+pub mod ExplainJson
+pub mod ExplainLaws
+pub mod MendValues
+pub mod MendJson
+pub mod MendLaws
+pub mod MarginValues
+pub mod MarginJson
+pub mod MarginLaws

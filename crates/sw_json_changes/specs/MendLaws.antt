@@ -1,0 +1,33 @@
+-- Laws of what `mend` answers with an object of JSON.
+use Rattle.std.specs.Prelude.{◌≡◌, ◌++◌, Bool, ℕ, List, Option, codes, map}
+use Rattle.sw_app_changes.specs.MendAnswers.{IsMendAnswer}
+use Rattle.sw_app_changes.specs.MendTexts.{mend_line, pair_line}
+use Rattle.sw_command.specs.Ends.{IfLimited}
+use Rattle.sw_config.specs.Entries.{Declaration}
+use Rattle.sw_json.specs.declared.files.Release.{Release}
+use Rattle.sw_mend.specs.declared.change.Pair.{Pair}
+use Rattle.sw_mend.specs.declared.change.Trial.{Trial}
+use Rattle.sw_json_answers.specs.Laws.{AreOneButForFaults, HaveOneStatus}
+use Rattle.sw_json_changes.specs.MendJson.{IsMendJson}
+use Rattle.sw_json_changes.specs.MendValues.{mend_value, mend_words, mends_value, pair_value, pair_words}
+use Rattle.sw_json.specs.Plain.{IsPlain}
+
+-- `mend` has one answer for each file and path, with pairs asked for or not
+abbrev pub MendHasOneAnswer : Type 0
+MendHasOneAnswer = (path : List ℕ) (pairs : Bool) (release : Release) (given : Option (List ℕ)) → AreOneButForFaults (IsMendJson path pairs release given)
+
+-- its status is that of the text answer to the same file
+abbrev pub MendHasStatusOfText : Type 0
+MendHasStatusOfText =
+    (path : List ℕ) (pairs : Bool) (release : Release) (given : Option (List ℕ))
+    → HaveOneStatus (IsMendJson path pairs release given) (IfLimited given (IsMendAnswer pairs))
+
+-- the texts of changes are the lines of the text answer, but for the LF
+pub record MendTextsAreLines : Type 0 where
+  pub single : (d : Declaration) (change : Trial) → mend_line d change ≡ mend_words d change ++ codes "\n"
+  pub pairs : (d : Declaration) (pair : Pair) → pair_line d pair ≡ pair_words d pair ++ codes "\n"
+
+-- the value of what frees a network has a text that reads back: an object with a list of objects, in each a list of changes
+pub record MendsArePlain : Type 0 where
+  pub single : (d : Declaration) (told : List Trial) → IsPlain 5 (mends_value (map (mend_value d) told))
+  pub pairs : (d : Declaration) (told : List Pair) → IsPlain 5 (mends_value (map (pair_value d) told))

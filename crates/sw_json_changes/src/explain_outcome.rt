@@ -1,0 +1,78 @@
+//! What `explain` finds.
+ghost use Rattle.std.specs.Prelude.{IfOk};
+ghost use Rattle.serde_json.specs.View.{view};
+ghost use Rattle.sw_app_explain.specs.ExplainTexts.{explain_status};
+ghost use Rattle.sw_command.specs.Inputs.{given};
+ghost use Rattle.sw_search.specs.Explanations.{IsExplanation};
+ghost use Rattle.sw_file.specs.Network.{network_text};
+ghost use Rattle.sw_json_answers.specs.Answering.{IsOutcome, OfNetwork, OfNetworkFile};
+ghost use Rattle.sw_json_changes.specs.ExplainJson.{IsExplained};
+ghost use Rattle.sw_json_changes.specs.ExplainValues.{explain_value};
+
+use crate::explain_laws::explanations_are_plain;
+use crate::explain_values::explain_value;
+use std::alloc::{AllocError, Global};
+use std::thread::Threads;
+use sw_app_explain::explain_status;
+use sw_command::InputText;
+use sw_config::Network;
+use sw_file::read_network;
+use sw_json_answers::{Outcome, long_file, unread_network};
+use sw_search::{Explanation, explain};
+
+// What is told of a network.
+fn told(alloc: Global, network: &Network, explanation: &Explanation) -> Result<Outcome, AllocError>
+    requires { IsExplanation network.now explanation.now }
+    ensures { IfOk result (λ o. IsOutcome (explain_value network.now explanation.now) (explain_status explanation.now) (view o.result) o.status) }
+{
+    explanations_are_plain();
+    let result = explain_value(alloc, network, explanation)?;
+    let status = explain_status(explanation);
+    Ok(Outcome { result, status })
+}
+
+// What is found of a network.
+fn of_network<T: Threads + Sync>(
+    rt: &T,
+    alloc: Global,
+    network: &Network,
+) -> Result<Outcome, AllocError>
+    ensures { IfOk result (λ o. IsExplained network.now (view o.result) o.status) }
+{
+    let explanation = explain(rt, alloc, network)?;
+    told(alloc, network, &explanation)
+}
+
+// What is found of the text of a file.
+fn of_text<T: Threads + Sync>(
+    rt: &T,
+    alloc: Global,
+    path: &str,
+    text: &[u8],
+) -> Result<Outcome, AllocError>
+    ensures { IfOk result (λ o. OfNetwork path.now text.now IsExplained (network_text text.now) (view o.result) o.status) }
+{
+    match read_network(alloc, text) {
+        Ok(network) => {
+            let found = of_network(rt, alloc, &network);
+            drop(network);
+            found
+        }
+        Err(fault) => unread_network(alloc, path, text, fault),
+    }
+}
+
+/// What is found of a file.
+pub(crate) fn explain_outcome<T: Threads + Sync>(
+    rt: &T,
+    alloc: Global,
+    path: &str,
+    text: &InputText,
+) -> Result<Outcome, AllocError>
+    ensures { IfOk result (λ o. OfNetworkFile path.now IsExplained (given text.now) (view o.result) o.status) }
+{
+    match text {
+        InputText::Whole(text) => of_text(rt, alloc, path, text),
+        InputText::TooLong => long_file(alloc, path),
+    }
+}

@@ -1,0 +1,204 @@
+//! Why a network can lock up, as values.
+ghost use Rattle.std.specs.Prelude.{◌≡◌, ◌<◌, ◌++◌, ◌∷◌, [], All, IfOk, OnOk, length, map};
+ghost use Rattle.serde_json.specs.View.{view};
+ghost use Rattle.sw_app_explain.specs.ExplainTexts.{IsOfChannels};
+ghost use Rattle.sw_config.specs.Entries.{wiring_of};
+ghost use Rattle.sw_cycle.specs.Cycles.{cause_of};
+ghost use Rattle.sw_search.specs.Explanations.{GoesWrong, IsExplanation, IsTangled};
+ghost use Rattle.sw_json_changes.specs.ExplainValues.{explain_value, step_value, step_values, tangle_value, tangles_value, target_value, wrong_value};
+
+use serde_json::{Value, json};
+use std::alloc::{AllocError, Global};
+use sw_config::Network;
+use sw_cycle::Cause;
+use sw_flow::{Place, RouteFault};
+use sw_json::{
+    finish_text, flow_name_values, kind_value, misrouted_fault_value, place_values, start_text,
+};
+use sw_output::{flow_name, node_name};
+use sw_search::{Explanation, Tangle};
+use sw_topo::Chan;
+
+// The places that a flow's packets go over, and what is wrong at the last of them.
+fn misrouted_value(
+    alloc: Global,
+    network: &Network,
+    flow: u16,
+    place: Place,
+    fault: RouteFault,
+    way: &[Place],
+) -> Result<Value, AllocError>
+    requires { All (λ p. p.channel < length (wiring_of network.now).ends) way.now }
+    ensures { IfOk result (λ v. view v ≡ wrong_value network.now flow place fault way.now) }
+{
+    let fault = misrouted_fault_value(alloc, place, fault)?;
+    let way = place_values(alloc, network, way)?;
+    let name = flow_name(network, flow);
+    json!(in alloc; {"fault": fault, "flow": name, "kind": "misrouted", "way": way})
+}
+
+// The same, of what is told of a network.
+fn wrong_value(
+    alloc: Global,
+    network: &Network,
+    flow: u16,
+    place: Place,
+    fault: RouteFault,
+    way: &[Place],
+) -> Result<Value, AllocError>
+    requires { GoesWrong network.now flow place fault way.now }
+    ensures { IfOk result (λ v. view v ≡ wrong_value network.now flow place fault way.now) }
+{
+    misrouted_value(alloc, network, flow, place, fault, way)
+}
+
+// The node whose target makes a channel wait for the next, or null where flows do.
+fn target_value(alloc: Global, network: &Network, cause: &Cause) -> Result<Value, AllocError>
+    ensures { IfOk result (λ v. view v ≡ target_value network.now (cause_of cause.now)) }
+{
+    match cause {
+        Cause::Target(node) => Value::try_from_str(alloc, node_name(network, *node)),
+        Cause::Flow(_, _) => Ok(Value::Null),
+    }
+}
+
+// A channel of a cycle, and what makes it wait for the next.
+fn step_value(
+    alloc: Global,
+    network: &Network,
+    channel: Chan,
+    cause: &Cause,
+    flows: &[u16],
+) -> Result<Value, AllocError>
+    requires { channel < length (wiring_of network.now).ends }
+    ensures { IfOk result (λ v. view v ≡ step_value network.now channel (cause_of cause.now) flows.now) }
+{
+    let end = finish_text(alloc, network, channel)?;
+    let start = start_text(alloc, network, channel)?;
+    let target = target_value(alloc, network, cause)?;
+    let names = flow_name_values(alloc, network, flows)?;
+    let number = channel.number();
+    json!(in alloc; {
+        "channel": number,
+        "end": end,
+        "flows": names,
+        "start": start,
+        "target": target
+    })
+}
+
+// Adds that of one channel.
+fn add_step(
+    alloc: Global,
+    network: &Network,
+    channel: Chan,
+    cause: &Cause,
+    flows: &[u16],
+    values: &mut Vec<Value>,
+) -> Result<(), AllocError>
+    requires { channel < length (wiring_of network.now).ends }
+    ensures { OnOk result (map view values.new.items ≡ map view values.old.items ++ step_value network.now channel (cause_of cause.now) flows.now ∷ []) }
+{
+    let value = step_value(alloc, network, channel, cause, flows)?;
+    values.push(value)?;
+    Ok(())
+}
+
+// An object for each channel of a cycle.
+fn step_values(
+    alloc: Global,
+    network: &Network,
+    channels: &[Chan],
+    causes: &[Cause],
+    flows: &[Vec<u16>],
+) -> Result<Vec<Value>, AllocError>
+    requires within { All (λ c. c < length (wiring_of network.now).ends) channels.now }
+    requires caused { length causes.now ≡ length channels.now }
+    requires made { length flows.now ≡ length channels.now }
+    ensures { IfOk result (λ v. map view v.items ≡ step_values network.now channels.now (map cause_of causes.now) (map (λ row. row.items) flows.now)) }
+{
+    let mut values = Vec::new(alloc);
+    for (i, channel) in channels.iter().enumerate() {
+        add_step(alloc, network, *channel, &causes[i], &flows[i], &mut values)?;
+    }
+    Ok(values)
+}
+
+// A tangle, with its shortest cycle.
+fn tangle_value(alloc: Global, network: &Network, tangle: &Tangle) -> Result<Value, AllocError>
+    requires { IsOfChannels network.now tangle.now }
+    ensures { IfOk result (λ v. view v ≡ tangle_value network.now tangle.now) }
+{
+    let steps = step_values(
+        alloc,
+        network,
+        &tangle.cycle.channels,
+        &tangle.cycle.causes,
+        &tangle.flows,
+    )?;
+    let count = tangle.channels;
+    json!(in alloc; {"channels": count, "cycle": steps})
+}
+
+// Adds that of one tangle.
+fn add_tangle(
+    alloc: Global,
+    network: &Network,
+    tangle: &Tangle,
+    values: &mut Vec<Value>,
+) -> Result<(), AllocError>
+    requires { IsOfChannels network.now tangle.now }
+    ensures { OnOk result (map view values.new.items ≡ map view values.old.items ++ tangle_value network.now tangle.now ∷ []) }
+{
+    let value = tangle_value(alloc, network, tangle)?;
+    values.push(value)?;
+    Ok(())
+}
+
+// An object for each tangle.
+fn tangle_values(
+    alloc: Global,
+    network: &Network,
+    tangles: &[Tangle],
+) -> Result<Vec<Value>, AllocError>
+    requires { All (IsOfChannels network.now) tangles.now }
+    ensures { IfOk result (λ v. map view v.items ≡ map (tangle_value network.now) tangles.now) }
+{
+    let mut values = Vec::new(alloc);
+    for tangle in tangles {
+        add_tangle(alloc, network, tangle, &mut values)?;
+    }
+    Ok(values)
+}
+
+// Channels that can wait for one another in circles.
+fn tangles_value(alloc: Global, network: &Network, tangles: &[Tangle]) -> Result<Value, AllocError>
+    requires { IsTangled network.now tangles.now }
+    ensures { IfOk result (λ v. view v ≡ tangles_value network.now tangles.now) }
+{
+    // Names the network, which is valid by its type.
+    let _topology = network.topology();
+    let values = tangle_values(alloc, network, tangles)?;
+    json!(in alloc; {"kind": "cyclic", "tangles": values})
+}
+
+/// The object that stands for what is told of a network.
+pub(crate) fn explain_value(
+    alloc: Global,
+    network: &Network,
+    explanation: &Explanation,
+) -> Result<Value, AllocError>
+    requires { IsExplanation network.now explanation.now }
+    ensures { IfOk result (λ v. view v ≡ explain_value network.now explanation.now) }
+{
+    match explanation {
+        Explanation::Misrouted {
+            flow,
+            place,
+            fault,
+            way,
+        } => wrong_value(alloc, network, *flow, *place, *fault, way),
+        Explanation::Cyclic(tangles) => tangles_value(alloc, network, tangles),
+        Explanation::Free => kind_value(alloc, "free"),
+    }
+}

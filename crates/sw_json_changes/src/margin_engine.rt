@@ -1,0 +1,37 @@
+//! The engine of `margin`.
+ghost use Rattle.sw_json_answers.specs.Answering.{EndsByOneFile};
+ghost use Rattle.sw_json_changes.specs.MarginJson.{IsMarginJson};
+
+use crate::margin_outcome::margin_outcome;
+use std::alloc::Global;
+use std::io::{Read, Write};
+use std::thread::Threads;
+use sw_command::{Ended, read_one};
+use sw_json::Release;
+use sw_json_answers::{answer_to_one, tell_answer, tell_unread};
+
+/// How far the premises of the free network of a file bend, as an object of JSON: of each node that answers nothing and of each flow
+/// without a reply, whether the network stays free, and for each link the flows that are lost without it. Of a network that is not free,
+/// the verdict. Its status is 0. Threads share the work, as many as there are processors.
+///
+/// `path` is told as that of the file; it is not opened.
+pub fn margin<T: Threads + Sync, R: Read, W: Write>(
+    rt: &T,
+    alloc: Global,
+    reader: &mut R,
+    path: &str,
+    release: Release<'_>,
+    writer: &mut W,
+) -> Ended
+    ensures { EndsByOneFile (IsMarginJson path.now release.entry) (R.remaining reader.old) (R.remaining reader.new) (W.contents writer.old) (W.contents writer.new) result }
+{
+    let text = match read_one(alloc, reader) {
+        Ok(text) => text,
+        Err(error) => return tell_unread(writer, error),
+    };
+    let found = margin_outcome(rt, alloc, path, &text);
+    tell_answer(
+        writer,
+        answer_to_one(alloc, "margin", release, path, &text, found),
+    )
+}

@@ -1,0 +1,106 @@
+//! What `margin` finds.
+ghost use Rattle.std.specs.Prelude.{◌≡◌, IfOk, length};
+ghost use Rattle.serde_json.specs.View.{view};
+ghost use Rattle.sw_command.specs.Inputs.{given};
+ghost use Rattle.sw_file.specs.Network.{network_text};
+ghost use Rattle.sw_search.specs.Verdicts.{IsVerdict};
+ghost use Rattle.sw_json_answers.specs.Answering.{IsOutcome, OfNetwork, OfNetworkFile};
+ghost use Rattle.sw_json_changes.specs.MarginJson.{IsBent, IsByVerdict, IsMarginFound};
+ghost use Rattle.sw_json_changes.specs.MarginValues.{margins_value};
+
+use crate::margin_laws::margins_are_plain;
+use crate::margin_values::margins_value;
+use crate::verdict_outcome::verdict_outcome;
+use std::alloc::{AllocError, Global};
+use std::thread::Threads;
+use sw_command::InputText;
+use sw_command::statuses::GOOD;
+use sw_config::Network;
+use sw_file::read_network;
+use sw_json_answers::{Outcome, long_file, unread_network};
+use sw_margin::{Margins, margins};
+use sw_search::{Verdict, decide};
+
+// What the premises of the network stand.
+fn told(alloc: Global, network: &Network, margins: &Margins) -> Result<Outcome, AllocError>
+    requires { length margins.now.losses.items ≡ length network.now.links }
+    ensures { IfOk result (λ o. IsOutcome (margins_value network.now margins.now) 0 (view o.result) o.status) }
+{
+    margins_are_plain();
+    let result = margins_value(alloc, network, margins)?;
+    Ok(Outcome {
+        result,
+        status: GOOD,
+    })
+}
+
+// What is found where no channels can wait for one another.
+fn bent<T: Threads + Sync>(rt: &T, alloc: Global, network: &Network) -> Result<Outcome, AllocError>
+    ensures { IfOk result (λ o. IsBent network.now (view o.result) o.status) }
+{
+    let found = margins(rt, alloc, network)?;
+    told(alloc, network, &found)
+}
+
+// What is found by the verdict on the network.
+fn by_verdict<T: Threads + Sync>(
+    rt: &T,
+    alloc: Global,
+    network: &Network,
+    verdict: &Verdict,
+) -> Result<Outcome, AllocError>
+    requires { IsVerdict network.now verdict.now }
+    ensures { IfOk result (λ o. IsByVerdict network.now verdict.now (view o.result) o.status) }
+{
+    match verdict {
+        Verdict::Misrouted(_, _, _) => verdict_outcome(alloc, network, verdict, GOOD),
+        Verdict::Cyclic(_) => verdict_outcome(alloc, network, verdict, GOOD),
+        Verdict::Free(_) => bent(rt, alloc, network),
+    }
+}
+
+// What is found of a network.
+fn of_network<T: Threads + Sync>(
+    rt: &T,
+    alloc: Global,
+    network: &Network,
+) -> Result<Outcome, AllocError>
+    ensures { IfOk result (λ o. IsMarginFound network.now (view o.result) o.status) }
+{
+    let verdict = decide(rt, alloc, network)?;
+    by_verdict(rt, alloc, network, &verdict)
+}
+
+// What is found of the text of a file.
+fn of_text<T: Threads + Sync>(
+    rt: &T,
+    alloc: Global,
+    path: &str,
+    text: &[u8],
+) -> Result<Outcome, AllocError>
+    ensures { IfOk result (λ o. OfNetwork path.now text.now IsMarginFound (network_text text.now) (view o.result) o.status) }
+{
+    match read_network(alloc, text) {
+        Ok(network) => {
+            let found = of_network(rt, alloc, &network);
+            drop(network);
+            found
+        }
+        Err(fault) => unread_network(alloc, path, text, fault),
+    }
+}
+
+/// What is found of a file.
+pub(crate) fn margin_outcome<T: Threads + Sync>(
+    rt: &T,
+    alloc: Global,
+    path: &str,
+    text: &InputText,
+) -> Result<Outcome, AllocError>
+    ensures { IfOk result (λ o. OfNetworkFile path.now IsMarginFound (given text.now) (view o.result) o.status) }
+{
+    match text {
+        InputText::Whole(text) => of_text(rt, alloc, path, text),
+        InputText::TooLong => long_file(alloc, path),
+    }
+}

@@ -1,0 +1,138 @@
+//! How far the premises of a free network bend, as values.
+ghost use Rattle.std.specs.Prelude.{◌≡◌, ◌<◌, ◌*◌, ◌++◌, ◌∷◌, [], IfOk, OnOk, length, map};
+ghost use Rattle.serde_json.specs.View.{view};
+ghost use Rattle.sw_config.specs.Entries.{wiring_of};
+ghost use Rattle.sw_json_changes.specs.MarginValues.{answered_value, loss_value, loss_values, lost_value, margins_value, stall_value};
+
+use serde_json::{Value, json};
+use std::alloc::{AllocError, Global};
+use sw_config::Network;
+use sw_json::{finish_text, flow_name_values, start_text};
+use sw_margin::{Bend, Margins};
+use sw_output::{flow_name, node_name};
+use sw_topo::Chan;
+
+// A node that takes nothing while it wants to send.
+fn stall_value(alloc: Global, network: &Network, bend: &Bend) -> Result<Value, AllocError>
+    ensures { IfOk result (λ v. view v ≡ stall_value network.now bend.now) }
+{
+    let free = bend.stays_free;
+    let name = node_name(network, bend.number);
+    json!(in alloc; {"free": free, "node": name})
+}
+
+// A flow that is answered.
+fn answered_value(alloc: Global, network: &Network, bend: &Bend) -> Result<Value, AllocError>
+    ensures { IfOk result (λ v. view v ≡ answered_value network.now bend.now) }
+{
+    let free = bend.stays_free;
+    let name = flow_name(network, bend.number);
+    json!(in alloc; {"flow": name, "free": free})
+}
+
+// The flows that are lost without the link of that channel.
+fn lost_value(
+    alloc: Global,
+    network: &Network,
+    channel: Chan,
+    flows: &[u16],
+) -> Result<Value, AllocError>
+    requires { channel < length (wiring_of network.now).ends }
+    ensures { IfOk result (λ v. view v ≡ lost_value network.now channel flows.now) }
+{
+    let end = finish_text(alloc, network, channel)?;
+    let start = start_text(alloc, network, channel)?;
+    let names = flow_name_values(alloc, network, flows)?;
+    let number = channel.number();
+    json!(in alloc; {"channel": number, "end": end, "flows": names, "start": start})
+}
+
+// The flows that are lost without the link of that number.
+fn loss_value(
+    alloc: Global,
+    network: &Network,
+    link: usize,
+    flows: &[u16],
+) -> Result<Value, AllocError>
+    requires { 2 * link < length (wiring_of network.now).ends }
+    ensures { IfOk result (λ v. view v ≡ loss_value network.now link flows.now) }
+{
+    // There are at most 2,048.
+    let _channels = network.channels();
+    lost_value(alloc, network, Chan::new((2 * link) as u16), flows)
+}
+
+// Adds those of one link.
+fn add_loss(
+    alloc: Global,
+    network: &Network,
+    link: usize,
+    flows: &[u16],
+    values: &mut Vec<Value>,
+) -> Result<(), AllocError>
+    requires { 2 * link < length (wiring_of network.now).ends }
+    ensures { OnOk result (map view values.new.items ≡ map view values.old.items ++ loss_value network.now link flows.now ∷ []) }
+{
+    let value = loss_value(alloc, network, link, flows)?;
+    values.push(value)?;
+    Ok(())
+}
+
+// An object for each link.
+fn loss_list(
+    alloc: Global,
+    network: &Network,
+    losses: &[Vec<u16>],
+) -> Result<Vec<Value>, AllocError>
+    requires { length losses.now ≡ length network.now.links }
+    ensures { IfOk result (λ v. map view v.items ≡ loss_values network.now 0 (map (λ flows. flows.items) losses.now)) }
+{
+    let _channels = network.channels();
+    let mut values = Vec::new(alloc);
+    for (link, flows) in losses.iter().enumerate() {
+        add_loss(alloc, network, link, flows, &mut values)?;
+    }
+    Ok(values)
+}
+
+// An object for each node at which no answered flow ends.
+fn stall_list(alloc: Global, network: &Network, stalls: &[Bend]) -> Result<Vec<Value>, AllocError>
+    ensures { IfOk result (λ v. map view v.items ≡ map (stall_value network.now) stalls.now) }
+{
+    let mut values = Vec::new(alloc);
+    for bend in stalls {
+        values.push(stall_value(alloc, network, bend)?)?;
+    }
+    Ok(values)
+}
+
+// An object for each flow without a reply.
+fn answer_list(alloc: Global, network: &Network, answers: &[Bend]) -> Result<Vec<Value>, AllocError>
+    ensures { IfOk result (λ v. map view v.items ≡ map (answered_value network.now) answers.now) }
+{
+    let mut values = Vec::new(alloc);
+    for bend in answers {
+        values.push(answered_value(alloc, network, bend)?)?;
+    }
+    Ok(values)
+}
+
+/// The object that stands for what a free network stands.
+pub(crate) fn margins_value(
+    alloc: Global,
+    network: &Network,
+    told: &Margins,
+) -> Result<Value, AllocError>
+    requires { length told.now.losses.items ≡ length network.now.links }
+    ensures { IfOk result (λ v. view v ≡ margins_value network.now told.now) }
+{
+    let answers = answer_list(alloc, network, &told.answers)?;
+    let losses = loss_list(alloc, network, &told.losses)?;
+    let stalls = stall_list(alloc, network, &told.stalls)?;
+    json!(in alloc; {
+        "answers": answers,
+        "kind": "margins",
+        "losses": losses,
+        "stalls": stalls
+    })
+}

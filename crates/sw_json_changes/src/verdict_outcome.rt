@@ -1,0 +1,43 @@
+//! Verdicts as what is found.
+ghost use Rattle.std.specs.Prelude.{◌≡◌, [], IfOk, codes};
+ghost use Rattle.serde_json.specs.View.{view};
+ghost use Rattle.sw_json.specs.FileValues.{kind_value};
+ghost use Rattle.sw_json.specs.VerdictValues.{certificate_bytes, verdict_value};
+ghost use Rattle.sw_search.specs.Verdicts.{IsVerdict};
+ghost use Rattle.sw_json_answers.specs.Answering.{IsOutcome};
+
+use std::alloc::{AllocError, Global};
+use sw_command::statuses::GOOD;
+use sw_config::Network;
+use sw_json::laws::{kinds_are_plain, verdicts_are_plain};
+use sw_json::{kind_value, verdict_value};
+use sw_json_answers::Outcome;
+use sw_search::Verdict;
+
+/// A verdict that has no certificate, with this status.
+pub(crate) fn verdict_outcome(
+    alloc: Global,
+    network: &Network,
+    verdict: &Verdict,
+    status: u8,
+) -> Result<Outcome, AllocError>
+    requires found { IsVerdict network.now verdict.now }
+    requires bare { certificate_bytes verdict.now ≡ [] }
+    ensures { IfOk result (λ o. IsOutcome (verdict_value network.now verdict.now) status (view o.result) o.status) }
+{
+    verdicts_are_plain();
+    let result = verdict_value(alloc, network, verdict, &[])?;
+    Ok(Outcome { result, status })
+}
+
+/// That the network is free, and no more.
+pub(crate) fn free_outcome(alloc: Global) -> Result<Outcome, AllocError>
+    ensures { IfOk result (λ o. IsOutcome (kind_value (codes "free")) 0 (view o.result) o.status) }
+{
+    kinds_are_plain();
+    let result = kind_value(alloc, "free")?;
+    Ok(Outcome {
+        result,
+        status: GOOD,
+    })
+}

@@ -1,0 +1,114 @@
+//! What `replay` finds.
+ghost use Rattle.std.specs.Prelude.{IfOk};
+ghost use Rattle.serde_json.specs.View.{view};
+ghost use Rattle.sw_command.specs.Inputs.{given};
+ghost use Rattle.sw_file.specs.Network.{network_text};
+ghost use Rattle.sw_json.specs.AnswerValues.{file_fault_value};
+ghost use Rattle.sw_json.specs.FaultValues.{schedule_fault_value};
+ghost use Rattle.sw_schedule.specs.Schedule.{steps_of_text};
+ghost use Rattle.sw_json_answers.specs.Answering.{IsOutcome, OfNetwork};
+ghost use Rattle.sw_json_runs.specs.ReplayAnswers.{IsReplayResult, IsScheduleFileResult, IsScheduleResult, IsStepsResult};
+
+use crate::replay_values::replay_value;
+use std::alloc::{AllocError, Global};
+use sw_app::replay_status;
+use sw_command::InputText;
+use sw_config::Network;
+use sw_file::read_network;
+use sw_json::laws::faults_are_plain;
+use sw_json::schedule_fault_value;
+use sw_json_answers::{Outcome, file_fault, long_file, unread_network};
+use sw_replay::replay;
+use sw_schedule::{Schedule, ScheduleFault, read_steps};
+
+// What comes of a schedule's steps.
+fn steps_outcome(
+    alloc: Global,
+    network: &Network,
+    schedule: &Schedule,
+) -> Result<Outcome, AllocError>
+    ensures { IfOk result (λ o. IsStepsResult network.now schedule.now (view o.result) o.status) }
+{
+    let replayed = replay(alloc, network, schedule)?;
+    let status = replay_status(&replayed);
+    let result = replay_value(alloc, network, &replayed)?;
+    Ok(Outcome { result, status })
+}
+
+// That the line of this number is the schedule's first wrong one.
+fn bad_line_outcome(alloc: Global, path: &str, number: u64) -> Result<Outcome, AllocError>
+    ensures { IfOk result (λ o. IsOutcome (file_fault_value path.now (schedule_fault_value number)) 3 (view o.result) o.status) }
+{
+    faults_are_plain();
+    let fault = schedule_fault_value(alloc, number);
+    file_fault(alloc, path, fault)
+}
+
+// What comes of the text of a schedule.
+fn schedule_outcome(
+    alloc: Global,
+    path: &str,
+    network: &Network,
+    text: &[u8],
+) -> Result<Outcome, AllocError>
+    ensures { IfOk result (λ o. IsScheduleResult path.now network.now (steps_of_text network.now text.now) (view o.result) o.status) }
+{
+    match read_steps(alloc, network, text) {
+        Ok(schedule) => steps_outcome(alloc, network, &schedule),
+        Err(ScheduleFault::BadLine(number)) => bad_line_outcome(alloc, path, number),
+        Err(ScheduleFault::Memory) => Err(AllocError),
+    }
+}
+
+// What comes of a schedule file.
+fn schedule_file_outcome(
+    alloc: Global,
+    path: &str,
+    network: &Network,
+    text: &InputText,
+) -> Result<Outcome, AllocError>
+    ensures { IfOk result (λ o. IsScheduleFileResult path.now network.now (given text.now) (view o.result) o.status) }
+{
+    match text {
+        InputText::Whole(text) => schedule_outcome(alloc, path, network, text),
+        InputText::TooLong => long_file(alloc, path),
+    }
+}
+
+// What comes of the text of a network file, and of a schedule file.
+fn network_outcome(
+    alloc: Global,
+    paths: (&str, &str),
+    text: &[u8],
+    second: &InputText,
+) -> Result<Outcome, AllocError>
+    ensures { IfOk result (λ o. OfNetwork paths.entry.0.now text.now (λ d. IsScheduleFileResult paths.entry.1.now d (given second.now)) (network_text text.now) (view o.result) o.status) }
+{
+    match read_network(alloc, text) {
+        Ok(network) => {
+            let outcome = schedule_file_outcome(alloc, paths.1, &network, second);
+            drop(network);
+            outcome
+        }
+        Err(fault) => unread_network(alloc, paths.0, text, fault),
+    }
+}
+
+/// What comes of a network file and of a schedule file.
+///
+/// # Errors
+///
+/// There is no memory for it.
+pub(crate) fn replay_outcome(
+    alloc: Global,
+    paths: (&str, &str),
+    first: &InputText,
+    second: &InputText,
+) -> Result<Outcome, AllocError>
+    ensures { IfOk result (λ o. IsReplayResult paths.entry.0.now paths.entry.1.now (given first.now) (given second.now) (view o.result) o.status) }
+{
+    match first {
+        InputText::Whole(text) => network_outcome(alloc, paths, text, second),
+        InputText::TooLong => long_file(alloc, paths.0),
+    }
+}

@@ -1,0 +1,239 @@
+//! What is told of a run, and of its steps.
+ghost use Rattle.std.specs.Prelude.{◌≡◌, ◌<◌, IfOk, IsOkAnd, length, string_bytes};
+ghost use Rattle.serde_json.specs.View.{view};
+ghost use Rattle.sw_command.specs.Inputs.{given};
+ghost use Rattle.sw_file.specs.Network.{network_text};
+ghost use Rattle.sw_load.specs.Laws.{AreDeclared};
+ghost use Rattle.sw_load.specs.Load.{load_text};
+ghost use Rattle.sw_json_answers.specs.Answering.{IsOutcome};
+ghost use Rattle.sw_json_runs.specs.RunAnswers.{IsResultOf};
+ghost use Rattle.sw_json_runs.specs.RunCalls.{IsCallRecord, answers_of};
+ghost use Rattle.sw_json_runs.specs.RunRecords.{IsFault, IsLoadFileRecord, IsLoadRecord, IsNetworkRecord, IsOutcomeRecord, IsRecordOf};
+
+use crate::run_values::run_value;
+use std::alloc::{AllocError, Global};
+use std::sync::Wait;
+use std::thread::Threads;
+use sw_app_run::{Options, Recorded, Wants, stop_status, wanted_summary, with_schedule};
+use sw_command::{Answer, InputText};
+use sw_config::Network;
+use sw_file::read_network;
+use sw_json::Release;
+use sw_json_answers::{Outcome, answer_to_two, long_file, unread_network};
+use sw_load::laws::listed_are_declared;
+use sw_load::{Load, read_load};
+use sw_run::{Gate, Outcome as RunOutcome, run};
+
+/// The files of a call, and the program's release.
+#[derive(Drop)]
+pub(crate) struct RunCall<'a> {
+    pub(crate) release: Release<'a>,
+    /// The path of the network file, and what was read of it.
+    pub(crate) path: &'a str,
+    pub(crate) first: &'a InputText,
+    /// The path of the load file, and what was read of it.
+    pub(crate) other: &'a str,
+    pub(crate) second: &'a InputText,
+}
+
+// The result of an outcome.
+fn outcome_result(
+    alloc: Global,
+    network: &Network,
+    outcome: &RunOutcome<'_>,
+) -> Result<Outcome, AllocError>
+    requires { length outcome.now.came_out.items ≡ length network.now.nodes }
+    ensures { IfOk result (λ o. IsResultOf network.now outcome.now (view o.result) o.status) }
+{
+    let status = stop_status(outcome.stop);
+    let result = run_value(alloc, network, outcome)?;
+    Ok(Outcome { result, status })
+}
+
+// The answer with this result.
+fn answered(
+    alloc: Global,
+    call: &RunCall<'_>,
+    found: Result<Outcome, AllocError>,
+) -> Result<Answer, AllocError>
+    ensures { IfOk result (λ a. IsOkAnd found (λ o. answers_of call.now (IsOutcome (view o.result) o.status) (string_bytes a.text) a.status)) }
+{
+    let paths = (call.path, call.other);
+    answer_to_two(
+        alloc,
+        "run",
+        call.release,
+        paths,
+        call.first,
+        call.second,
+        found,
+    )
+}
+
+// The answer to an outcome.
+fn outcome_answer(
+    alloc: Global,
+    call: &RunCall<'_>,
+    network: &Network,
+    outcome: &RunOutcome<'_>,
+) -> Result<Answer, AllocError>
+    requires { length outcome.now.came_out.items ≡ length network.now.nodes }
+    ensures { IfOk result (λ a. answers_of call.now (IsResultOf network.now outcome.now) (string_bytes a.text) a.status) }
+{
+    let found = outcome_result(alloc, network, outcome);
+    answered(alloc, call, found)
+}
+
+// What is told where no run is made.
+fn fault_record(
+    alloc: Global,
+    call: &RunCall<'_>,
+    found: Result<Outcome, AllocError>,
+) -> Result<Recorded, AllocError>
+    ensures { IfOk result (λ r. IsOkAnd found (λ o. IsFault (answers_of call.now (IsOutcome (view o.result) o.status)) r)) }
+{
+    Ok(Recorded::Fault(answered(alloc, call, found)?))
+}
+
+// What is told of the outcome.
+fn recorded_outcome<T: Threads + Sync>(
+    rt: &T,
+    alloc: Global,
+    call: &RunCall<'_>,
+    network: &Network,
+    load: &Load,
+    outcome: &RunOutcome<'_>,
+    wants: Wants,
+) -> Result<Recorded, AllocError>
+    requires { length outcome.now.came_out.items ≡ length network.now.nodes }
+    ensures { IfOk result (IsRecordOf (answers_of call.now) wants network.now load.now outcome.now) }
+{
+    let summary = wanted_summary(rt, alloc, network, load, outcome, wants.summary)?;
+    let answer = outcome_answer(alloc, call, network, outcome)?;
+    with_schedule(alloc, network, outcome, wants.schedule, answer, summary)
+}
+
+// Of a load.
+fn outcome_record<'a, G: Gate + Sync, T: Threads + Wait + Sync>(
+    rt: &T,
+    alloc: Global,
+    call: &RunCall<'_>,
+    network: &'a Network,
+    load: &'a Load,
+    options: Options,
+    wants: Wants,
+    gate: &G,
+) -> Result<Recorded, AllocError>
+    requires declared { AreDeclared network.now load.now }
+    requires workers { 0 < options.workers }
+    ensures { IfOk result (IsOutcomeRecord (answers_of call.now) wants options.limit network.now load.now) }
+{
+    let outcome = run(
+        rt,
+        alloc,
+        network,
+        load,
+        options.workers,
+        options.limit,
+        gate,
+    )?;
+    recorded_outcome(rt, alloc, call, network, load, &outcome, wants)
+}
+
+// Of the text of a load.
+fn load_record<G: Gate + Sync, T: Threads + Wait + Sync>(
+    rt: &T,
+    alloc: Global,
+    call: &RunCall<'_>,
+    network: &Network,
+    text: &[u8],
+    options: Options,
+    wants: Wants,
+    gate: &G,
+) -> Result<Recorded, AllocError>
+    requires { 0 < options.workers }
+    ensures { IfOk result (IsLoadRecord (answers_of call.now) call.now.other.now text.now wants options.limit network.now (load_text network.now text.now)) }
+{
+    match read_load(alloc, network, text) {
+        Ok(load) => {
+            // Names what holds of a load that was read.
+            listed_are_declared();
+            outcome_record(rt, alloc, call, network, &load, options, wants, gate)
+        }
+        Err(fault) => {
+            let found = unread_network(alloc, call.other, text, fault);
+            fault_record(alloc, call, found)
+        }
+    }
+}
+
+// Of a network and the load file.
+fn load_file_record<G: Gate + Sync, T: Threads + Wait + Sync>(
+    rt: &T,
+    alloc: Global,
+    call: &RunCall<'_>,
+    network: &Network,
+    options: Options,
+    wants: Wants,
+    gate: &G,
+) -> Result<Recorded, AllocError>
+    requires { 0 < options.workers }
+    ensures { IfOk result (IsLoadFileRecord (answers_of call.now) call.now.other.now wants options.limit network.now (given call.now.second.now)) }
+{
+    match call.second {
+        InputText::Whole(text) => {
+            load_record(rt, alloc, call, network, text, options, wants, gate)
+        }
+        InputText::TooLong => {
+            let found = long_file(alloc, call.other);
+            fault_record(alloc, call, found)
+        }
+    }
+}
+
+// Of the bytes of a network file and the load file.
+fn network_record<G: Gate + Sync, T: Threads + Wait + Sync>(
+    rt: &T,
+    alloc: Global,
+    call: &RunCall<'_>,
+    text: &[u8],
+    options: Options,
+    wants: Wants,
+    gate: &G,
+) -> Result<Recorded, AllocError>
+    requires { 0 < options.workers }
+    ensures { IfOk result (IsNetworkRecord (answers_of call.now) call.now.path.now call.now.other.now text.now wants options.limit (given call.now.second.now) (network_text text.now)) }
+{
+    match read_network(alloc, text) {
+        Ok(network) => load_file_record(rt, alloc, call, &network, options, wants, gate),
+        Err(fault) => {
+            let found = unread_network(alloc, call.path, text, fault);
+            fault_record(alloc, call, found)
+        }
+    }
+}
+
+/// What is told of a call: of a run of the load on the network, or of the first fault of a file.
+///
+/// # Errors
+///
+/// There is no memory for it.
+pub(crate) fn call_record<G: Gate + Sync, T: Threads + Wait + Sync>(
+    rt: &T,
+    alloc: Global,
+    call: &RunCall<'_>,
+    options: Options,
+    wants: Wants,
+    gate: &G,
+) -> Result<Recorded, AllocError>
+    requires { 0 < options.workers }
+    ensures { IfOk result (IsCallRecord call.now wants options.limit) }
+{
+    match call.first {
+        InputText::Whole(text) => network_record(rt, alloc, call, text, options, wants, gate),
+        InputText::TooLong => {
+            let found = long_file(alloc, call.path);
+            fault_record(alloc, call, found)
+        }
+    }
+}

@@ -1,0 +1,5 @@
+use Rattle.sw_json_verdicts.proofs.Statuses.{statuses_are_those_of_texts}
+use Rattle.sw_json_verdicts.proofs.laws.statuses_are_those_of_texts.Goals as goal
+
+pub returns : goal.returns
+returns c = statuses_are_those_of_texts

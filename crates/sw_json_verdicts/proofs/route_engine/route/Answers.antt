@@ -1,0 +1,16 @@
+use Rattle.std.specs.Prelude.{[], ◌∷◌, codes}
+use Rattle.sw_command.specs.Inputs.{given}
+use Rattle.sw_json_answers.proofs.Answered.{answered_one, unread_one, with_result}
+use Rattle.sw_json_answers.specs.Answering.{OfNetworkFile, read_value}
+use Rattle.sw_json_verdicts.specs.RouteResults.{IsNamedResult, IsRouteJson}
+use Rattle.sw_json_verdicts.proofs.route_engine.route.Goals as goal
+
+pub returns-in-Err : goal.returns-in-Err
+returns-in-Err g c = unread_one (IsRouteJson c.args.path.now c.args.flow.now c.args.release) _ _ _ _ _ _ c.tell_unread.ensures
+
+pub returns : goal.returns
+returns g c =
+    answered_one (IsRouteJson c.args.path.now c.args.flow.now c.args.release) _ _ _ _ _ (given c.in-Ok.text) c.answer_to_one.result c.in-Ok.ensures.input
+    (with_result (OfNetworkFile c.args.path.now (IsNamedResult c.args.path.now c.args.flow.now) (given c.in-Ok.text)) (codes "route") (read_value c.args.path.now (given c.in-Ok.text) ∷ [])
+    c.args.release c.route_outcome-found.result
+    c.answer_to_one.result c.route_outcome-found.ensures c.answer_to_one.ensures) c.tell_answer.ensures

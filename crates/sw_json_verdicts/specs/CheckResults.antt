@@ -1,0 +1,85 @@
+-- What `check` answers with an object of JSON (this project's choice).
+use Rattle.std.specs.Prelude.{ℕ, List, codes, Option, Some, None, Result, Ok, Err}
+use Rattle.serde_json.specs.Data.{Data, object, string, member, no_members}
+use Rattle.sw_app.specs.CheckTexts.{grammar_words, refusal_words}
+use Rattle.sw_cert.specs.Reading.{State}
+use Rattle.sw_cert.specs.Text.{contents_of, read_text}
+use Rattle.sw_check.specs.declared.refusal.Refusal.{Refusal}
+use Rattle.sw_check.specs.declared.refusal.Refusal.TheVariants.{WrongCount, NoStart, Faulty, NotClosed, NotRising}
+use Rattle.sw_check.specs.Refusals.{refusal_of}
+use Rattle.sw_command.specs.Ends.{AnswersToTwo}
+use Rattle.sw_config.specs.Entries.{Declaration}
+use Rattle.sw_flow.specs.declared.place.Place.{Place}
+use Rattle.sw_json.specs.FileValues.{kind_value}
+use Rattle.sw_json.specs.PlaceValues.{route_fault_code}
+use Rattle.sw_json.specs.Simple.{count_or_null, text_or_null}
+use Rattle.sw_json.specs.declared.files.Release.{Release}
+use Rattle.sw_output.specs.FlowTexts.{flow_name}
+use Rattle.sw_json_answers.specs.Answering.{IsAnswerToTwo, IsOutcome, OfFile, OfNetworkFile, Results}
+
+-- A reason to refuse a certificate, in its parts: its code, the wrong line, the flow, a channel of it and how many address bytes are
+-- deleted there, the channel that depends on that one, and the code of the place's fault. A part that a reason lacks is None.
+pub record Reason : Type 0 where
+  pub channel : Option ℕ
+  pub code : List ℕ
+  pub deleted : Option ℕ
+  pub fault : Option (List ℕ)
+  pub flow : Option (List ℕ)
+  pub line : Option ℕ
+  pub next : Option ℕ
+
+-- a reason with its code alone
+abbrev pub bare_reason : List ℕ → Reason
+bare_reason code = record { channel = None; code = code; deleted = None; fault = None; flow = None; line = None; next = None }
+
+-- a text that is no certificate, by its first wrong line
+abbrev pub grammar_reason : ℕ → Reason
+grammar_reason number = record (bare_reason (codes "C1")) { line = Some number }
+
+-- a place of a flow
+abbrev pub placed_reason : Declaration → List ℕ → ℕ → Place → Option (List ℕ) → Reason
+placed_reason d code i p fault =
+    record (bare_reason code) { flow = Some (flow_name d i); channel = Some p.channel; deleted = Some p.deleted; fault = fault }
+
+-- a dependency along which the numbers do not rise: the channels' numbers
+abbrev pub not_rising_reason : ℕ → ℕ → Reason
+not_rising_reason c e = record (bare_reason (codes "C5")) { channel = Some c; next = Some e }
+
+abbrev pub reason_of : Declaration → Refusal → Reason
+reason_of d WrongCount = bare_reason (codes "C2")
+reason_of d (NoStart i) = record (bare_reason (codes "C3")) { flow = Some (flow_name d i) }
+reason_of d (NotClosed i p) = placed_reason d (codes "C4") i p None
+reason_of d (NotRising c e) = not_rising_reason c e
+reason_of d (Faulty i p fault) = placed_reason d (codes "C6") i p (Some (route_fault_code fault))
+
+-- a certificate that is refused: the reason's parts, and the line of the text answer
+abbrev pub refused_value : Reason → List ℕ → Data
+refused_value r text =
+    object (member (codes "channel") (count_or_null r.channel)
+    (member (codes "code") (string r.code)
+    (member (codes "deleted") (count_or_null r.deleted)
+    (member (codes "fault") (text_or_null r.fault)
+    (member (codes "flow") (text_or_null r.flow)
+    (member (codes "kind") (string (codes "refused"))
+    (member (codes "line") (count_or_null r.line)
+    (member (codes "next") (count_or_null r.next)
+    (member (codes "text") (string text) no_members)))))))))
+
+-- by the first reason to refuse a certificate for the network, if there is one
+abbrev pub IsJudgement : Declaration → Option Refusal → Results
+IsJudgement d None value status = IsOutcome (kind_value (codes "accepted")) 0 value status
+IsJudgement d (Some refusal) value status = IsOutcome (refused_value (reason_of d refusal) (refusal_words d refusal)) 1 value status
+
+-- of what a certificate's text says, or of its first wrong line
+abbrev pub IsCertificateResult : Declaration → Result State ℕ → Results
+IsCertificateResult d (Ok said) value status = IsJudgement d (refusal_of d (contents_of said)) value status
+IsCertificateResult d (Err number) value status = IsOutcome (refused_value (grammar_reason number) (grammar_words number)) 1 value status
+
+-- of a network file and a certificate file: all that is wrong with the first comes before what is with the second
+abbrev pub IsCheckResult : List ℕ → List ℕ → Option (List ℕ) → Option (List ℕ) → Results
+IsCheckResult path other first second =
+    OfNetworkFile path (λ d. OfFile other (λ text. IsCertificateResult d (read_text text)) second) first
+
+-- of the network file and the certificate file of those paths
+abbrev pub IsCheckJson : List ℕ → List ℕ → Release → AnswersToTwo
+IsCheckJson path other release = IsAnswerToTwo (codes "check") path other release (IsCheckResult path other)

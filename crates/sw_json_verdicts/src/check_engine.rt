@@ -1,0 +1,217 @@
+//! The engine of `check` that answers with an object of JSON.
+ghost use Rattle.std.specs.Prelude.{◌≡◌, IfOk, Some, codes, option_map};
+ghost use Rattle.serde_json.specs.View.{view};
+ghost use Rattle.sw_app.specs.CheckAnswers.{ChecksDeadlockFree};
+ghost use Rattle.sw_app.specs.CheckTexts.{grammar_words, refusal_words};
+ghost use Rattle.sw_cert.specs.Text.{read_text};
+ghost use Rattle.sw_check.specs.Refusals.{refusal_of};
+ghost use Rattle.sw_command.specs.Ends.{AreReadInOrder};
+ghost use Rattle.sw_command.specs.Inputs.{given};
+ghost use Rattle.sw_json.specs.FileValues.{kind_value};
+ghost use Rattle.sw_json.specs.Simple.{text_or_null};
+ghost use Rattle.sw_json_answers.specs.Answering.{EndsByTwoFiles, IsOutcome, OfFile};
+ghost use Rattle.sw_json_verdicts.specs.CheckResults.{IsCertificateResult, IsCheckJson, IsCheckResult, IsJudgement, grammar_reason, reason_of, refused_value};
+ghost use Rattle.sw_json_verdicts.specs.Reasons.{parts_view};
+
+use crate::laws::refusals_are_plain;
+use crate::reasons::{Parts, grammar_parts, parts_of};
+use serde_json::json;
+use std::alloc::{AllocError, Global};
+use std::io::{Read, Write};
+use std::thread::Threads;
+use sw_app::{grammar_words, refusal_words};
+use sw_cert::{Certificate, CertificateFault};
+use sw_check::{Refusal, check as check_certificate};
+use sw_command::statuses::{BAD, GOOD};
+use sw_command::{Ended, InputText, read_two};
+use sw_config::Network;
+use sw_file::read_network;
+use sw_json::laws::kinds_are_plain;
+use sw_json::{Release, Value, count_or_null, kind_value};
+use sw_json_answers::{
+    Outcome, answer_to_two, long_file, tell_answer, tell_unread, unread_network,
+};
+
+// A text, or null where there is none.
+fn text_or_null(alloc: Global, text: Option<&str>) -> Result<Value, AllocError>
+    ensures { IfOk result (λ v. view v ≡ text_or_null (option_map (λ s. s.now) text.entry)) }
+{
+    match text {
+        Some(text) => Value::try_from_str(alloc, text),
+        None => Ok(Value::Null),
+    }
+}
+
+// A certificate that is refused: the reason's parts, and the line of the text answer.
+fn refused_value(alloc: Global, parts: Parts<'_>, text: &str) -> Result<Value, AllocError>
+    ensures { IfOk result (λ v. view v ≡ refused_value (parts_view parts.entry) text.now) }
+{
+    let flow = text_or_null(alloc, parts.flow)?;
+    let fault = text_or_null(alloc, parts.fault)?;
+    let channel = count_or_null(parts.channel);
+    let deleted = count_or_null(parts.deleted);
+    let line = count_or_null(parts.line);
+    let next = count_or_null(parts.next);
+    json!(in alloc; {
+        "channel": channel,
+        "code": parts.code,
+        "deleted": deleted,
+        "fault": fault,
+        "flow": flow,
+        "kind": "refused",
+        "line": line,
+        "next": next,
+        "text": text
+    })
+}
+
+// The result for a certificate that is refused.
+fn refused(alloc: Global, parts: Parts<'_>, text: &str) -> Result<Outcome, AllocError>
+    ensures { IfOk result (λ o. IsOutcome (refused_value (parts_view parts.entry) text.now) 1 (view o.result) o.status) }
+{
+    refusals_are_plain();
+    let result = refused_value(alloc, parts, text)?;
+    Ok(Outcome {
+        result,
+        status: BAD,
+    })
+}
+
+// The result for a certificate that is refused for the network.
+fn refused_by(alloc: Global, network: &Network, refusal: Refusal) -> Result<Outcome, AllocError>
+    ensures { IfOk result (λ o. IsOutcome (refused_value (reason_of network.now refusal) (refusal_words network.now refusal)) 1 (view o.result) o.status) }
+{
+    let parts = parts_of(network, &refusal);
+    let text = refusal_words(alloc, network, refusal)?;
+    refused(alloc, parts, text.as_str())
+}
+
+// The result for a text that is no certificate, by its first wrong line.
+fn refused_by_line(alloc: Global, number: usize) -> Result<Outcome, AllocError>
+    ensures { IfOk result (λ o. IsOutcome (refused_value (grammar_reason number) (grammar_words number)) 1 (view o.result) o.status) }
+{
+    let text = grammar_words(alloc, number)?;
+    refused(alloc, grammar_parts(number), text.as_str())
+}
+
+// The result for a certificate that is accepted.
+fn accepted(alloc: Global) -> Result<Outcome, AllocError>
+    ensures { IfOk result (λ o. IsOutcome (kind_value (codes "accepted")) 0 (view o.result) o.status) }
+{
+    kinds_are_plain();
+    let result = kind_value(alloc, "accepted")?;
+    Ok(Outcome {
+        result,
+        status: GOOD,
+    })
+}
+
+// The result for a certificate, by the first reason to refuse it.
+fn judgement<T: Threads + Sync>(
+    rt: &T,
+    alloc: Global,
+    network: &Network,
+    certificate: &Certificate,
+) -> Result<Outcome, AllocError>
+    ensures { IfOk result (λ o. IsJudgement network.now (refusal_of network.now certificate.now) (view o.result) o.status) }
+{
+    match check_certificate(rt, network, certificate) {
+        Ok(_) => accepted(alloc),
+        Err(refusal) => refused_by(alloc, network, refusal),
+    }
+}
+
+// The result for the text of a certificate.
+fn certificate_outcome<T: Threads + Sync>(
+    rt: &T,
+    alloc: Global,
+    network: &Network,
+    text: &[u8],
+) -> Result<Outcome, AllocError>
+    ensures { IfOk result (λ o. IsCertificateResult network.now (read_text text.now) (view o.result) o.status) }
+{
+    match Certificate::read(alloc, text) {
+        Ok(certificate) => judgement(rt, alloc, network, &certificate),
+        Err(CertificateFault::Grammar(number)) => refused_by_line(alloc, number),
+        Err(CertificateFault::Memory) => Err(AllocError),
+    }
+}
+
+// The result for a network and the second file.
+fn second_outcome<T: Threads + Sync>(
+    rt: &T,
+    alloc: Global,
+    network: &Network,
+    path: &str,
+    second: &InputText,
+) -> Result<Outcome, AllocError>
+    ensures { IfOk result (λ o. OfFile path.now (λ text. IsCertificateResult network.now (read_text text)) (given second.now) (view o.result) o.status) }
+{
+    match second {
+        InputText::Whole(text) => certificate_outcome(rt, alloc, network, text),
+        InputText::TooLong => long_file(alloc, path),
+    }
+}
+
+// The result for the bytes of a network file and the second file.
+fn text_outcome<T: Threads + Sync>(
+    rt: &T,
+    alloc: Global,
+    paths: (&str, &str),
+    text: &[u8],
+    second: &InputText,
+) -> Result<Outcome, AllocError>
+    ensures { IfOk result (λ o. IsCheckResult paths.entry.0.now paths.entry.1.now (Some text.now) (given second.now) (view o.result) o.status) }
+{
+    match read_network(alloc, text) {
+        Ok(network) => {
+            let found = second_outcome(rt, alloc, &network, paths.1, second);
+            drop(network);
+            found
+        }
+        Err(fault) => unread_network(alloc, paths.0, text, fault),
+    }
+}
+
+// The result for a network file and a certificate file.
+fn check_outcome<T: Threads + Sync>(
+    rt: &T,
+    alloc: Global,
+    paths: (&str, &str),
+    first: &InputText,
+    second: &InputText,
+) -> Result<Outcome, AllocError>
+    ensures { IfOk result (λ o. IsCheckResult paths.entry.0.now paths.entry.1.now (given first.now) (given second.now) (view o.result) o.status) }
+{
+    match first {
+        InputText::Whole(text) => text_outcome(rt, alloc, paths, text, second),
+        InputText::TooLong => long_file(alloc, paths.0),
+    }
+}
+
+/// Whether the certificate of the second file is accepted for the network of the first, as an object: 0 where it is, and then the
+/// network never locks up, over every run; 1 where it is refused. `paths` are those of the two files. Threads share the work, as many
+/// as there are processors.
+pub fn check<T: Threads + Sync, N: Read, C: Read, W: Write>(
+    rt: &T,
+    alloc: Global,
+    network: &mut N,
+    certificate: &mut C,
+    paths: (&str, &str),
+    release: Release<'_>,
+    writer: &mut W,
+) -> Ended
+    ensures answer { EndsByTwoFiles (IsCheckJson paths.entry.0.now paths.entry.1.now release.entry) (N.remaining network.old) (N.remaining network.new) (C.remaining certificate.old) (C.remaining certificate.new) (W.contents writer.old) (W.contents writer.new) result }
+    ensures order { AreReadInOrder (N.remaining network.old) (N.remaining network.new) (C.remaining certificate.old) (C.remaining certificate.new) }
+    ensures deadlock_free { result ≡ Ended.Status 0 → ChecksDeadlockFree (N.remaining network.old) (N.remaining network.new) (C.remaining certificate.old) (C.remaining certificate.new) }
+{
+    let (first, second) = match read_two(alloc, network, certificate) {
+        Ok(texts) => texts,
+        Err(error) => return tell_unread(writer, error),
+    };
+    let found = check_outcome(rt, alloc, paths, &first, &second);
+    tell_answer(
+        writer,
+        answer_to_two(alloc, "check", release, paths, &first, &second, found),
+    )
+}

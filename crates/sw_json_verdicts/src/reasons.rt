@@ -1,0 +1,96 @@
+//! Reasons to refuse a certificate, in their parts.
+ghost use Rattle.std.specs.Prelude.{◌≡◌, option_map};
+ghost use Rattle.sw_json_verdicts.specs.CheckResults.{bare_reason, grammar_reason, not_rising_reason, placed_reason, reason_of};
+ghost use Rattle.sw_json_verdicts.specs.Reasons.{parts_view};
+
+use sw_check::Refusal;
+use sw_config::Network;
+use sw_flow::Place;
+use sw_json::route_fault_code;
+use sw_output::flow_name;
+use sw_topo::Chan;
+
+/// A reason: its code, the wrong line, the flow, a channel of it and how many address bytes are deleted there, the channel that
+/// depends on that one, and the code of the place's fault.
+#[derive(Clone, Copy)]
+pub(crate) struct Parts<'a> {
+    pub(crate) channel: Option<u64>,
+    pub(crate) code: &'static str,
+    pub(crate) deleted: Option<u64>,
+    pub(crate) fault: Option<&'static str>,
+    pub(crate) flow: Option<&'a str>,
+    pub(crate) line: Option<u64>,
+    pub(crate) next: Option<u64>,
+}
+
+// A reason with its code alone.
+fn bare<'a>(code: &'static str) -> Parts<'a>
+    ensures { parts_view result ≡ bare_reason code.now }
+{
+    Parts {
+        channel: None,
+        code,
+        deleted: None,
+        fault: None,
+        flow: None,
+        line: None,
+        next: None,
+    }
+}
+
+/// The reason against a text that is no certificate, by its first wrong line.
+pub(crate) fn grammar_parts<'a>(number: usize) -> Parts<'a>
+    ensures { parts_view result ≡ grammar_reason number }
+{
+    Parts {
+        line: Some(number as u64),
+        ..bare("C1")
+    }
+}
+
+// A reason with this code at a place of a flow.
+fn placed<'a>(
+    network: &'a Network,
+    code: &'static str,
+    flow: u16,
+    place: Place,
+    fault: Option<&'static str>,
+) -> Parts<'a>
+    ensures { parts_view result ≡ placed_reason network.entry.now code.now flow place (option_map (λ s. s.now) fault.entry) }
+{
+    Parts {
+        channel: Some(u64::from(place.channel.number())),
+        deleted: Some(u64::from(place.deleted)),
+        fault,
+        flow: Some(flow_name(network, flow)),
+        ..bare(code)
+    }
+}
+
+fn not_rising<'a>(channel: Chan, next: Chan) -> Parts<'a>
+    ensures { parts_view result ≡ not_rising_reason channel next }
+{
+    Parts {
+        channel: Some(u64::from(channel.number())),
+        next: Some(u64::from(next.number())),
+        ..bare("C5")
+    }
+}
+
+/// The parts of a reason to refuse a certificate for the network.
+pub(crate) fn parts_of<'a>(network: &'a Network, refusal: &Refusal) -> Parts<'a>
+    ensures { parts_view result ≡ reason_of network.entry.now refusal.now }
+{
+    match refusal {
+        Refusal::WrongCount => bare("C2"),
+        Refusal::NoStart(flow) => Parts {
+            flow: Some(flow_name(network, *flow)),
+            ..bare("C3")
+        },
+        Refusal::NotClosed(flow, place) => placed(network, "C4", *flow, *place, None),
+        Refusal::NotRising(channel, next) => not_rising(*channel, *next),
+        Refusal::Faulty(flow, place, fault) => {
+            placed(network, "C6", *flow, *place, Some(route_fault_code(*fault)))
+        }
+    }
+}

@@ -1,0 +1,153 @@
+//! The engine of `report` that answers with an object of JSON.
+ghost use Rattle.std.specs.Prelude.{◌≡◌, IfOk};
+ghost use Rattle.serde_json.specs.View.{view};
+ghost use Rattle.sw_command.specs.Inputs.{given};
+ghost use Rattle.sw_file.specs.Network.{network_text};
+ghost use Rattle.sw_json.specs.VerdictValues.{certificate_bytes, verdict_value};
+ghost use Rattle.sw_search.specs.Verdicts.{IsVerdict};
+ghost use Rattle.sw_json_answers.specs.Answering.{EndsByOneFile, IsOutcome, OfNetwork, OfNetworkFile};
+ghost use Rattle.sw_json_verdicts.specs.ReportResults.{IsFindingsResult, IsReportJson, found_value, report_value};
+
+use crate::laws::reports_are_plain;
+use serde_json::json;
+use std::alloc::{AllocError, Global};
+use std::io::{Read, Write};
+use std::thread::Threads;
+use sw_command::statuses::GOOD;
+use sw_command::{Ended, InputText, read_one};
+use sw_config::Network;
+use sw_file::read_network;
+use sw_json::{Release, Value, verdict_value};
+use sw_json_answers::{
+    Outcome, answer_to_one, long_file, tell_answer, tell_unread, unread_network,
+};
+use sw_search::{Findings, Verdict, survey};
+
+// The text of a verdict's certificate; of a verdict without one, nothing.
+fn certificate_text(alloc: Global, verdict: &Verdict) -> Result<Vec<u8>, AllocError>
+    ensures { IfOk result (λ text. text.items ≡ certificate_bytes verdict.now) }
+{
+    match verdict {
+        Verdict::Misrouted(_, _, _) | Verdict::Cyclic(_) => Ok(Vec::new(alloc)),
+        Verdict::Free(certificate) => certificate.write(alloc),
+    }
+}
+
+fn told_verdict(alloc: Global, network: &Network, verdict: &Verdict) -> Result<Value, AllocError>
+    requires { IsVerdict network.now verdict.now }
+    ensures { IfOk result (λ v. view v ≡ verdict_value network.now verdict.now) }
+{
+    let text = certificate_text(alloc, verdict)?;
+    verdict_value(alloc, network, verdict, &text)
+}
+
+// How many parts the network has, with its verdict.
+fn told_report(
+    alloc: Global,
+    network: &Network,
+    findings: &Findings,
+    verdict: Value,
+) -> Result<Value, AllocError>
+    ensures { IfOk result (λ v. view v ≡ report_value network.now findings.now.places findings.now.dependencies (view verdict)) }
+{
+    let declared = network.declared_flows();
+    json!(in alloc; {
+        "channels": network.channels(),
+        "dependencies": findings.dependencies,
+        "flows": declared,
+        "kind": "report",
+        "links": network.links(),
+        "nodes": network.nodes(),
+        "places": findings.places,
+        "replies": network.flows() - declared,
+        "switches": network.switches(),
+        "verdict": verdict
+    })
+}
+
+// The result that tells what was found.
+fn findings_outcome(
+    alloc: Global,
+    network: &Network,
+    findings: &Findings,
+) -> Result<Outcome, AllocError>
+    requires { IsVerdict network.now findings.now.verdict }
+    ensures { IfOk result (λ o. IsOutcome (found_value network.now findings.now) 0 (view o.result) o.status) }
+{
+    reports_are_plain();
+    let verdict = told_verdict(alloc, network, &findings.verdict)?;
+    let result = told_report(alloc, network, findings, verdict)?;
+    Ok(Outcome {
+        result,
+        status: GOOD,
+    })
+}
+
+// The result for a network.
+fn network_outcome<T: Threads + Sync>(
+    rt: &T,
+    alloc: Global,
+    network: &Network,
+) -> Result<Outcome, AllocError>
+    ensures { IfOk result (λ o. IsFindingsResult network.now (view o.result) o.status) }
+{
+    let findings = survey(rt, alloc, network)?;
+    findings_outcome(alloc, network, &findings)
+}
+
+// The result for the bytes of a network file.
+fn text_outcome<T: Threads + Sync>(
+    rt: &T,
+    alloc: Global,
+    path: &str,
+    text: &[u8],
+) -> Result<Outcome, AllocError>
+    ensures { IfOk result (λ o. OfNetwork path.now text.now IsFindingsResult (network_text text.now) (view o.result) o.status) }
+{
+    match read_network(alloc, text) {
+        Ok(network) => {
+            let found = network_outcome(rt, alloc, &network);
+            drop(network);
+            found
+        }
+        Err(fault) => unread_network(alloc, path, text, fault),
+    }
+}
+
+// The result for a network file.
+fn report_outcome<T: Threads + Sync>(
+    rt: &T,
+    alloc: Global,
+    path: &str,
+    text: &InputText,
+) -> Result<Outcome, AllocError>
+    ensures { IfOk result (λ o. OfNetworkFile path.now IsFindingsResult (given text.now) (view o.result) o.status) }
+{
+    match text {
+        InputText::Whole(text) => text_outcome(rt, alloc, path, text),
+        InputText::TooLong => long_file(alloc, path),
+    }
+}
+
+/// How many parts the network of the file of that path has, and the verdict on it, as an object, with status 0 whatever the verdict.
+/// Threads share the work, as many as there are processors.
+pub fn report<T: Threads + Sync, R: Read, W: Write>(
+    rt: &T,
+    alloc: Global,
+    reader: &mut R,
+    path: &str,
+    release: Release<'_>,
+    writer: &mut W,
+) -> Ended
+    ensures { EndsByOneFile (IsReportJson path.now release.entry) (R.remaining reader.old) (R.remaining reader.new) (W.contents writer.old) (W.contents writer.new) result }
+{
+    let text = match read_one(alloc, reader) {
+        Ok(text) => text,
+        Err(error) => return tell_unread(writer, error),
+    };
+    let found = report_outcome(rt, alloc, path, &text);
+    tell_answer(
+        writer,
+        answer_to_one(alloc, "report", release, path, &text, found),
+    )
+}
