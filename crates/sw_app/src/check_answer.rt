@@ -14,17 +14,17 @@ ghost use Rattle.sw_app.specs.CheckAnswers.{AreShownDeadlockFree, IsCertificateA
 use crate::check_texts::{grammar_line, refusal_line};
 use crate::endings::fault_answer;
 use std::alloc::{AllocError, Global};
-use std::thread::Threads;
 use sw_cert::{Certificate, CertificateFault};
 use sw_check::check;
 use sw_command::statuses::{BAD, GOOD};
 use sw_command::{Answer, InputText};
 use sw_config::Network;
 use sw_file::read_network;
+use sw_search::VerdictWorkers;
 
 // The answer for a certificate.
-fn judgement<R: Threads + Sync>(
-    rt: &R,
+fn judgement<W: VerdictWorkers>(
+    workers: &W,
     alloc: Global,
     network: &Network,
     certificate: &Certificate,
@@ -35,7 +35,7 @@ fn judgement<R: Threads + Sync>(
 {
     // Names the network, which is valid by its type.
     let _flows = network.flows();
-    match check(rt, network, certificate) {
+    match check(workers, network, certificate) {
         Ok(_) => {
             let text = String::from_str(alloc, "accepted\n")?;
             Ok(Answer { text, status: GOOD })
@@ -48,8 +48,8 @@ fn judgement<R: Threads + Sync>(
 }
 
 // The answer for the text of a certificate.
-fn certificate_answer<R: Threads + Sync>(
-    rt: &R,
+fn certificate_answer<W: VerdictWorkers>(
+    workers: &W,
     alloc: Global,
     network: &Network,
     text: &[u8],
@@ -58,7 +58,7 @@ fn certificate_answer<R: Threads + Sync>(
     ensures deadlock_free { IfOk result (λ a. a.status ≡ 0 → IsShownDeadlockFree network.now text.now) }
 {
     match Certificate::read(alloc, text) {
-        Ok(certificate) => judgement(rt, alloc, network, &certificate),
+        Ok(certificate) => judgement(workers, alloc, network, &certificate),
         Err(CertificateFault::Grammar(number)) => {
             let text = grammar_line(alloc, number)?;
             Ok(Answer { text, status: BAD })
@@ -68,8 +68,8 @@ fn certificate_answer<R: Threads + Sync>(
 }
 
 // The answer for a network and the second text.
-fn network_answer<R: Threads + Sync>(
-    rt: &R,
+fn network_answer<W: VerdictWorkers>(
+    workers: &W,
     alloc: Global,
     network: &Network,
     second: &InputText,
@@ -78,14 +78,14 @@ fn network_answer<R: Threads + Sync>(
     ensures deadlock_free { IfOk result (λ a. a.status ≡ 0 → IsSomeAnd (given second.now) (IsShownDeadlockFree network.now)) }
 {
     match second {
-        InputText::Whole(text) => certificate_answer(rt, alloc, network, text),
+        InputText::Whole(text) => certificate_answer(workers, alloc, network, text),
         InputText::TooLong => Answer::of_long_text(alloc),
     }
 }
 
 // The answer for the bytes of a network file and the second text.
-fn file_answer<R: Threads + Sync>(
-    rt: &R,
+fn file_answer<W: VerdictWorkers>(
+    workers: &W,
     alloc: Global,
     first: &[u8],
     second: &InputText,
@@ -95,7 +95,7 @@ fn file_answer<R: Threads + Sync>(
 {
     match read_network(alloc, first) {
         Ok(network) => {
-            let answer = network_answer(rt, alloc, &network, second);
+            let answer = network_answer(workers, alloc, &network, second);
             drop(network);
             answer
         }
@@ -104,8 +104,8 @@ fn file_answer<R: Threads + Sync>(
 }
 
 /// The answer to the bytes of a network file and of a certificate file.
-pub(crate) fn check_answer<R: Threads + Sync>(
-    rt: &R,
+pub(crate) fn check_answer<W: VerdictWorkers>(
+    workers: &W,
     alloc: Global,
     first: &InputText,
     second: &InputText,
@@ -114,7 +114,7 @@ pub(crate) fn check_answer<R: Threads + Sync>(
     ensures deadlock_free { IfOk result (λ a. a.status ≡ 0 → IsSomeAnd (given first.now) (λ bytes. IsSomeAnd (given second.now) (AreShownDeadlockFree bytes))) }
 {
     match first {
-        InputText::Whole(text) => file_answer(rt, alloc, text, second),
+        InputText::Whole(text) => file_answer(workers, alloc, text, second),
         InputText::TooLong => Answer::of_long_text(alloc),
     }
 }

@@ -13,8 +13,8 @@ use crate::route_answer::route_answer;
 use crate::verdict_answers::{decide_answer, report_answer};
 use std::alloc::Global;
 use std::io::{Read, Write};
-use std::thread::Threads;
 use sw_command::{Ended, MAX_TEXT, read_two, tell_two_unread, tell_unread};
+use sw_search::VerdictWorkers;
 use sw_text::read_whole;
 
 /// The places of a flow of a network file: 0 where packets arrive rightly, and 1 where a place has a fault.
@@ -31,9 +31,9 @@ pub fn route<R: Read, W: Write>(alloc: Global, reader: &mut R, flow: &str, write
 }
 
 /// Whether the certificate of the second text is accepted for the network of the first: 0 where it is, and then the network never
-/// locks up, over every run; 1 where it is refused. Threads share the work, as many as there are processors.
-pub fn check<T: Threads + Sync, N: Read, C: Read, W: Write>(
-    rt: &T,
+/// locks up, over every run; 1 where it is refused. The workers share the work.
+pub fn check<T: VerdictWorkers, N: Read, C: Read, W: Write>(
+    workers: &T,
     alloc: Global,
     network: &mut N,
     certificate: &mut C,
@@ -47,13 +47,13 @@ pub fn check<T: Threads + Sync, N: Read, C: Read, W: Write>(
         Ok(inputs) => inputs,
         Err(error) => return tell_two_unread(writer, error),
     };
-    tell_answer(writer, check_answer(rt, alloc, &first, &second))
+    tell_answer(writer, check_answer(workers, alloc, &first, &second))
 }
 
 /// The verdict on a network file: with status 0 a certificate, and then the network never locks up, over every run; with status 1 a
-/// cycle of dependencies, or a flow that is not well routed. Threads share the work, as many as there are processors.
-pub fn decide<T: Threads + Sync, R: Read, W: Write>(
-    rt: &T,
+/// cycle of dependencies, or a flow that is not well routed. The workers share the work.
+pub fn decide<T: VerdictWorkers, R: Read, W: Write>(
+    workers: &T,
     alloc: Global,
     reader: &mut R,
     writer: &mut W,
@@ -65,13 +65,13 @@ pub fn decide<T: Threads + Sync, R: Read, W: Write>(
         Ok(input) => input,
         Err(error) => return tell_unread(writer, error),
     };
-    tell_byte_answer(writer, decide_answer(rt, alloc, &input))
+    tell_byte_answer(writer, decide_answer(workers, alloc, &input))
 }
 
-/// How many parts the network of a file has, and the verdict on it in one line, with status 0 whatever the verdict. Threads share the
-/// work, as many as there are processors.
-pub fn report<T: Threads + Sync, R: Read, W: Write>(
-    rt: &T,
+/// How many parts the network of a file has, and the verdict on it in one line, with status 0 whatever the verdict. The workers share
+/// the work.
+pub fn report<T: VerdictWorkers, R: Read, W: Write>(
+    workers: &T,
     alloc: Global,
     reader: &mut R,
     writer: &mut W,
@@ -82,7 +82,7 @@ pub fn report<T: Threads + Sync, R: Read, W: Write>(
         Ok(input) => input,
         Err(error) => return tell_unread(writer, error),
     };
-    tell_answer(writer, report_answer(rt, alloc, &input))
+    tell_answer(writer, report_answer(workers, alloc, &input))
 }
 
 /// The network file of version 1 as one of version 2: with status 0 a text of version 2 that declares the same network.

@@ -6,17 +6,16 @@ ghost use Rattle.sw_app.specs.VerdictAnswers.{IsDecideAnswer, IsFindingsAnswer, 
 use crate::endings::fault_answer;
 use crate::verdict_texts::{verdict_status, verdict_text, verdict_words};
 use std::alloc::{AllocError, Global};
-use std::thread::Threads;
 use sw_command::statuses::GOOD;
 use sw_command::{Answer, ByteAnswer};
 use sw_config::Network;
 use sw_file::read_network;
 use sw_output::report_text;
-use sw_search::{Findings, decide, survey};
+use sw_search::{Findings, VerdictWorkers, decide, survey};
 
 // The answer of `decide` to a network.
-fn verdict_answer<R: Threads + Sync>(
-    rt: &R,
+fn verdict_answer<W: VerdictWorkers>(
+    workers: &W,
     alloc: Global,
     network: &Network,
 ) -> Result<ByteAnswer, AllocError>
@@ -25,15 +24,15 @@ fn verdict_answer<R: Threads + Sync>(
 {
     // Names the network, which is valid by its type.
     let _topology = network.topology();
-    let verdict = decide(rt, alloc, network)?;
+    let verdict = decide(workers, alloc, network)?;
     let status = verdict_status(&verdict);
     let text = verdict_text(alloc, network, &verdict)?;
     Ok(ByteAnswer { text, status })
 }
 
 /// The answer of `decide` to the bytes of a network file.
-pub(crate) fn decide_answer<R: Threads + Sync>(
-    rt: &R,
+pub(crate) fn decide_answer<W: VerdictWorkers>(
+    workers: &W,
     alloc: Global,
     input: &[u8],
 ) -> Result<ByteAnswer, AllocError>
@@ -42,7 +41,7 @@ pub(crate) fn decide_answer<R: Threads + Sync>(
 {
     match read_network(alloc, input) {
         Ok(network) => {
-            let answer = verdict_answer(rt, alloc, &network);
+            let answer = verdict_answer(workers, alloc, &network);
             drop(network);
             answer
         }
@@ -70,20 +69,20 @@ fn told_findings(
 }
 
 // The answer of `report` to a network.
-fn findings_answer<R: Threads + Sync>(
-    rt: &R,
+fn findings_answer<W: VerdictWorkers>(
+    workers: &W,
     alloc: Global,
     network: &Network,
 ) -> Result<Answer, AllocError>
     ensures { IfOk result (λ a. IsFindingsAnswer network.now (string_bytes a.text) a.status) }
 {
-    let findings = survey(rt, alloc, network)?;
+    let findings = survey(workers, alloc, network)?;
     told_findings(alloc, network, &findings)
 }
 
 /// The answer of `report` to the bytes of a network file.
-pub(crate) fn report_answer<R: Threads + Sync>(
-    rt: &R,
+pub(crate) fn report_answer<W: VerdictWorkers>(
+    workers: &W,
     alloc: Global,
     input: &[u8],
 ) -> Result<Answer, AllocError>
@@ -91,7 +90,7 @@ pub(crate) fn report_answer<R: Threads + Sync>(
 {
     match read_network(alloc, input) {
         Ok(network) => {
-            let answer = findings_answer(rt, alloc, &network);
+            let answer = findings_answer(workers, alloc, &network);
             drop(network);
             answer
         }

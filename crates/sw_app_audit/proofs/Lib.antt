@@ -4,3 +4,4 @@ pub mod Pairs
 pub mod Plainly
 pub mod Wanted
 pub mod Zeros
+pub mod Told

@@ -1,13 +1,18 @@
 -- What `audit` answers (this project's choice).
-use Rattle.std.specs.Prelude.{◌≡◌, ℕ, ◌+◌, Bool, false, true, List, length, slice_get, Some}
+use Rattle.std.specs.Prelude.{◌≡◌, ℕ, ◌+◌, Bool, false, true, List, Option, Result, Ok, Err, length, slice_get, string_bytes, Some}
 use Rattle.std.specs.List.{zip}
 use Rattle.sw_app_audit.specs.AuditTexts.{json_text, lines_text, objects, worst}
 use Rattle.sw_app_audit.specs.Findings.{Finding, IsFinding}
 use Rattle.sw_app_audit.specs.Stores.{Giving, Keeping}
 use Rattle.sw_app_audit.specs.declared.options.Options.{Options}
-use Rattle.sw_command.specs.Ends.{Answers}
+use Rattle.std.specs.declared.alloc.AllocError.{AllocError}
+use Rattle.sw_command.specs.Ends.{Answers, IsTold}
+use Rattle.sw_command.specs.Ends as lines
+use Rattle.sw_command.specs.declared.answer.Answer.{Answer}
+use Rattle.sw_command.specs.declared.write_answer.Ended.{Ended}
 use Rattle.sw_json.specs.FileValues.{audit_value}
 use Rattle.sw_json.specs.Texts.{ReadsBack}
+use Rattle.sw_json_answers.specs.Answering as objects
 
 -- for each path one finding, in their order; files are numbered from 1
 pub record AreFindings (options : Options) (gives : Giving) (keeps : Keeping) (paths : List (List ℕ)) (findings : List Finding) : Type 0 where
@@ -35,3 +40,18 @@ abbrev pub IsAuditAnswer : Options → Giving → Keeping → List (List ℕ) �
 IsAuditAnswer options gives keeps paths text status =
     (findings : List Finding) × AreFindings options gives keeps paths findings
     × IsText options (zip paths findings) text × (status ≡ worst findings)
+
+-- one of the answers was told, or that memory was wanted, as a line or as an object
+abbrev pub TellsAudit : Bool → Option (List ℕ) → Option (List ℕ) → Answers → Ended → Type 0
+TellsAudit false = lines.Tells
+TellsAudit true = objects.Tells
+
+-- that memory was wanted was told
+abbrev pub IsWantTold : Bool → Option (List ℕ) → Option (List ℕ) → Ended → Type 0
+IsWantTold false = lines.IsMemoryTold
+IsWantTold true = objects.IsMemoryTold
+
+-- the answer was told, or that memory was wanted
+abbrev pub IsAuditTold : Bool → Result Answer AllocError → Option (List ℕ) → Option (List ℕ) → Ended → Type 0
+IsAuditTold json (Ok answer) old new ended = IsTold old new (string_bytes answer.text) answer.status ended
+IsAuditTold json (Err none) old new ended = IsWantTold json old new ended

@@ -1,12 +1,13 @@
 //! What `audit` answers.
-ghost use Rattle.std.specs.Prelude.{◌≡◌, IfOk, map, max, string_bytes, unwrap_or};
+ghost use Rattle.std.specs.Prelude.{◌≡◌, ◌∷◌, [], IfOk, map, max, string_bytes, unwrap_or};
 ghost use Rattle.std.specs.List.{reduce};
 ghost use Rattle.sw_app_audit.specs.AuditAnswers.{IsAuditAnswer};
+ghost use Rattle.sw_app_audit.specs.Judgements.{AreJudged};
 
 use crate::audit_texts::audit_text;
 use crate::judged::Judged;
 use crate::options::Options;
-use crate::parallel::all_judged;
+use crate::parallel::{all_judged, one_judged};
 use crate::stores::Storage;
 use std::alloc::{AllocError, Global};
 use std::thread::Threads;
@@ -15,6 +16,7 @@ use sw_command::statuses::GOOD;
 use sw_json::laws::{
     entries_are_plain, faults_are_plain, kinds_are_plain, plain_at_more, verdicts_are_plain,
 };
+use sw_search::VerdictWorkers;
 
 // The greatest status, if there is one.
 fn greatest(all: &[Judged]) -> Option<u8>
@@ -30,12 +32,29 @@ fn worst(all: &[Judged]) -> u8
     greatest(all).unwrap_or(GOOD)
 }
 
-/// The answer to files of these paths.
-///
-/// # Errors
-///
-/// There is no memory for the answer.
-pub(crate) fn audit_answer<T: Threads + Sync, S: Storage + Sync>(
+// The answer to files of these paths, of which this was found.
+fn judged_answer<S: Storage>(
+    alloc: Global,
+    storage: &S,
+    paths: &[&str],
+    options: &Options<'_>,
+    all: Vec<Judged>,
+) -> Result<Answer, AllocError>
+    requires { AreJudged options.now (S.gives storage.now) (S.keeps storage.now) (map (λ s. s.now) paths.now) all.items }
+    ensures { IfOk result (λ a. IsAuditAnswer options.now (S.gives storage.now) (S.keeps storage.now) (map (λ s. s.now) paths.now) (string_bytes a.text) a.status) }
+{
+    plain_at_more();
+    verdicts_are_plain();
+    faults_are_plain();
+    kinds_are_plain();
+    entries_are_plain();
+    let status = worst(&all);
+    let text = audit_text(alloc, options, paths, all)?;
+    Ok(Answer { text, status })
+}
+
+// The same, where the files are judged side by side.
+fn answer_to_all<T: Threads + Sync, S: Storage + Sync>(
     rt: &T,
     alloc: Global,
     storage: &S,
@@ -44,13 +63,45 @@ pub(crate) fn audit_answer<T: Threads + Sync, S: Storage + Sync>(
 ) -> Result<Answer, AllocError>
     ensures { IfOk result (λ a. IsAuditAnswer options.now (S.gives storage.now) (S.keeps storage.now) (map (λ s. s.now) paths.now) (string_bytes a.text) a.status) }
 {
-    plain_at_more();
-    verdicts_are_plain();
-    faults_are_plain();
-    kinds_are_plain();
-    entries_are_plain();
     let all = all_judged(rt, alloc, storage, options, paths)?;
-    let status = worst(&all);
-    let text = audit_text(alloc, options, paths, all)?;
-    Ok(Answer { text, status })
+    judged_answer(alloc, storage, paths, options, all)
+}
+
+/// The answer to one file, which is judged by the workers.
+///
+/// # Errors
+///
+/// There is no memory for the answer.
+pub(crate) fn answer_to_one<C: VerdictWorkers, S: Storage>(
+    workers: &C,
+    alloc: Global,
+    storage: &S,
+    path: &str,
+    options: &Options<'_>,
+) -> Result<Answer, AllocError>
+    ensures { IfOk result (λ a. IsAuditAnswer options.now (S.gives storage.now) (S.keeps storage.now) (path.now ∷ []) (string_bytes a.text) a.status) }
+{
+    let all = one_judged(workers, alloc, storage, options, path)?;
+    judged_answer(alloc, storage, &[path], options, all)
+}
+
+/// The answer to files of these paths: several are judged side by side, and one by the workers.
+///
+/// # Errors
+///
+/// There is no memory for the answer.
+pub(crate) fn audit_answer<T: Threads + Sync, C: VerdictWorkers, S: Storage + Sync>(
+    rt: &T,
+    workers: &C,
+    alloc: Global,
+    storage: &S,
+    paths: &[&str],
+    options: &Options<'_>,
+) -> Result<Answer, AllocError>
+    ensures { IfOk result (λ a. IsAuditAnswer options.now (S.gives storage.now) (S.keeps storage.now) (map (λ s. s.now) paths.now) (string_bytes a.text) a.status) }
+{
+    match paths {
+        [path] => answer_to_one(workers, alloc, storage, path, options),
+        _ => answer_to_all(rt, alloc, storage, paths, options),
+    }
 }

@@ -1,31 +1,67 @@
-//! The engine: it has files judged side by side, and writes one text.
-ghost use Rattle.std.specs.Prelude.{map};
-ghost use Rattle.sw_command.specs.Ends.{Tells};
-ghost use Rattle.sw_app_audit.specs.AuditAnswers.{IsAuditAnswer};
+//! The engine: it has files judged, and writes one text.
+ghost use Rattle.std.specs.Prelude.{◌∷◌, [], map};
+ghost use Rattle.sw_app_audit.specs.AuditAnswers.{IsAuditAnswer, IsAuditTold, IsWantTold, TellsAudit};
 
-use crate::audit_answer::audit_answer;
+use crate::audit_answer::{answer_to_one, audit_answer};
 use crate::options::Options;
 use crate::stores::Storage;
-use std::alloc::Global;
+use std::alloc::{AllocError, Global};
 use std::io::Write;
 use std::thread::Threads;
-use sw_command::{Ended, tell, tell_memory};
+use sw_command::{Answer, Ended, tell};
+use sw_search::VerdictWorkers;
+
+// Writes that memory was wanted, as a line or as an object.
+fn tell_want<W: Write>(writer: &mut W, json: bool) -> Ended
+    ensures { IsWantTold json (W.contents writer.old) (W.contents writer.new) result }
+{
+    if json {
+        sw_json_answers::tell_memory(writer)
+    } else {
+        sw_command::tell_memory(writer)
+    }
+}
+
+// Writes an answer, or that memory was wanted.
+fn tell_audit<W: Write>(writer: &mut W, json: bool, answer: Result<Answer, AllocError>) -> Ended
+    ensures { IsAuditTold json answer (W.contents writer.old) (W.contents writer.new) result }
+{
+    match answer {
+        Ok(answer) => tell(writer, answer.text.as_str(), answer.status),
+        Err(_) => tell_want(writer, json),
+    }
+}
 
 /// The verdicts on the files of these paths, in their order: a line for each, or one JSON object. The status is the worst of them: 6 where a
 /// file can't be read or a certificate not kept, 5 where there was no memory for one, 3 where one has a fault, 1 where a network is cyclic
-/// or misrouted, and 0 where each is free; then no network of them ever locks up. Threads share the files, and the work on each.
-pub fn audit<T: Threads + Sync, S: Storage + Sync, W: Write>(
+/// or misrouted, and 0 where each is free; then no network of them ever locks up. Threads share the files; a file alone is left
+/// to the workers.
+pub fn audit<T: Threads + Sync, C: VerdictWorkers, S: Storage + Sync, W: Write>(
     rt: &T,
+    workers: &C,
     alloc: Global,
     storage: &S,
     paths: &[&str],
     options: &Options<'_>,
     writer: &mut W,
 ) -> Ended
-    ensures { Tells (W.contents writer.old) (W.contents writer.new) (IsAuditAnswer options.now (S.gives storage.now) (S.keeps storage.now) (map (λ s. s.now) paths.now)) result }
+    ensures { TellsAudit options.now.json (W.contents writer.old) (W.contents writer.new) (IsAuditAnswer options.now (S.gives storage.now) (S.keeps storage.now) (map (λ s. s.now) paths.now)) result }
 {
-    match audit_answer(rt, alloc, storage, paths, options) {
-        Ok(answer) => tell(writer, answer.text.as_str(), answer.status),
-        Err(_) => tell_memory(writer),
-    }
+    let answer = audit_answer(rt, workers, alloc, storage, paths, options);
+    tell_audit(writer, options.json, answer)
+}
+
+/// The same of one file. It needs nothing of the host.
+pub fn audit_one<C: VerdictWorkers, S: Storage, W: Write>(
+    workers: &C,
+    alloc: Global,
+    storage: &S,
+    path: &str,
+    options: &Options<'_>,
+    writer: &mut W,
+) -> Ended
+    ensures { TellsAudit options.now.json (W.contents writer.old) (W.contents writer.new) (IsAuditAnswer options.now (S.gives storage.now) (S.keeps storage.now) (path.now ∷ [])) result }
+{
+    let answer = answer_to_one(workers, alloc, storage, path, options);
+    tell_audit(writer, options.json, answer)
 }

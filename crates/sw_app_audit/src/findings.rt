@@ -17,13 +17,12 @@ use crate::options::Options;
 use crate::statuses::{kept_status, verdict_word};
 use crate::stores::{Input, Storage};
 use std::alloc::{AllocError, Global};
-use std::thread::Threads;
 use sw_command::statuses::{BAD, FAULTY, GOOD, UNREAD_OR_UNWRITTEN};
 use sw_config::Network;
 use sw_file::read_network;
 use sw_json::{Value, bare_entry, fault_value, kind_value, long_value, read_entry, verdict_value};
 use sw_lint::lint_texts;
-use sw_search::{Verdict, decide};
+use sw_search::{Verdict, VerdictWorkers, decide};
 use sw_toml_table::{FileFault, TextFault};
 
 // The text of the certificate, empty where the verdict has none.
@@ -143,8 +142,8 @@ fn verdict_judged<S: Storage>(
 }
 
 // What is found of a network.
-fn network_judged<T: Threads + Sync, S: Storage>(
-    rt: &T,
+fn network_judged<T: VerdictWorkers, S: Storage>(
+    workers: &T,
     alloc: Global,
     storage: &S,
     options: &Options<'_>,
@@ -154,7 +153,7 @@ fn network_judged<T: Threads + Sync, S: Storage>(
 ) -> Result<Judged, AllocError>
     ensures { IfOk result (λ j. IsVerdictFinding options.now (S.keeps storage.now) named.entry.number named.entry.path.now text.now network.now (finding_of named.entry.path.now j)) }
 {
-    let verdict = decide(rt, alloc, network)?;
+    let verdict = decide(workers, alloc, network)?;
     verdict_judged(alloc, storage, options, named, text, network, &verdict)
 }
 
@@ -185,8 +184,8 @@ fn fault_judged(
 }
 
 // What is found of a text.
-fn text_judged<T: Threads + Sync, S: Storage>(
-    rt: &T,
+fn text_judged<T: VerdictWorkers, S: Storage>(
+    workers: &T,
     alloc: Global,
     storage: &S,
     options: &Options<'_>,
@@ -197,7 +196,7 @@ fn text_judged<T: Threads + Sync, S: Storage>(
 {
     match read_network(alloc, text) {
         Ok(network) => {
-            let judged = network_judged(rt, alloc, storage, options, named, text, &network);
+            let judged = network_judged(workers, alloc, storage, options, named, text, &network);
             drop(network);
             judged
         }
@@ -246,8 +245,8 @@ fn unread_judged(alloc: Global, options: &Options<'_>, path: &str) -> Result<Jud
 }
 
 // What is found of what a path gave.
-fn input_judged<T: Threads + Sync, S: Storage>(
-    rt: &T,
+fn input_judged<T: VerdictWorkers, S: Storage>(
+    workers: &T,
     alloc: Global,
     storage: &S,
     options: &Options<'_>,
@@ -257,7 +256,7 @@ fn input_judged<T: Threads + Sync, S: Storage>(
     ensures { IfOk result (λ j. IsGivenFinding options.now (S.keeps storage.now) named.entry.number named.entry.path.now (given_of input.now) (finding_of named.entry.path.now j)) }
 {
     match input {
-        Input::Whole(text) => text_judged(rt, alloc, storage, options, named, text),
+        Input::Whole(text) => text_judged(workers, alloc, storage, options, named, text),
         Input::TooLong => long_judged(alloc, options, named.path),
         Input::Unread => unread_judged(alloc, options, named.path),
         Input::NoMemory => Ok(memory_judged()),
@@ -265,8 +264,8 @@ fn input_judged<T: Threads + Sync, S: Storage>(
 }
 
 /// What is found of a file. Want of memory is found of it too.
-pub(crate) fn judged<T: Threads + Sync, S: Storage>(
-    rt: &T,
+pub(crate) fn judged<T: VerdictWorkers, S: Storage>(
+    workers: &T,
     alloc: Global,
     storage: &S,
     options: &Options<'_>,
@@ -275,7 +274,7 @@ pub(crate) fn judged<T: Threads + Sync, S: Storage>(
     ensures { IsFinding options.now (S.gives storage.now) (S.keeps storage.now) named.entry.number named.entry.path.now (finding_of named.entry.path.now result) }
 {
     let input = storage.read(alloc, named.path);
-    match input_judged(rt, alloc, storage, options, named, &input) {
+    match input_judged(workers, alloc, storage, options, named, &input) {
         Ok(judged) => judged,
         Err(_) => memory_judged(),
     }

@@ -13,7 +13,7 @@ mod parallel;
 mod statuses;
 mod stores;
 
-pub use engine::audit;
+pub use engine::{audit, audit_one};
 pub use options::Options;
 pub use stores::{Input, Storage};
 pub use sw_json::Release;

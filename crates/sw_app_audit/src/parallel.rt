@@ -1,5 +1,5 @@
-//! Files that are judged side by side.
-ghost use Rattle.std.specs.Prelude.{◌<◌, IfOk, length, map};
+//! Files that are judged side by side, and one alone.
+ghost use Rattle.std.specs.Prelude.{◌<◌, ◌∷◌, [], IfOk, length, map};
 ghost use Rattle.sw_app_audit.specs.Judgements.{AreJudged, IsJudgedAt};
 
 use crate::findings::judged;
@@ -9,10 +9,11 @@ use crate::stores::Storage;
 use rayon::prelude::*;
 use std::alloc::{AllocError, Global};
 use std::thread::Threads;
+use sw_parallel::OneByOne;
+use sw_search::VerdictWorkers;
 
 // What is found of the file of that place.
-fn judged_at<T: Threads + Sync, S: Storage>(
-    rt: &T,
+fn judged_at<S: Storage>(
     alloc: Global,
     storage: &S,
     options: &Options<'_>,
@@ -24,10 +25,10 @@ fn judged_at<T: Threads + Sync, S: Storage>(
 {
     let number = place + 1;
     let path = paths[place];
-    judged(rt, alloc, storage, options, Named { number, path })
+    judged(&OneByOne, alloc, storage, options, Named { number, path })
 }
 
-/// What is found of each file, in the order of the paths, from as many threads as there are processors.
+/// What is found of each file, in the order of the paths, from as many threads as there are processors, each file in one of them.
 ///
 /// # Errors
 ///
@@ -48,7 +49,28 @@ pub(crate) fn all_judged<T: Threads + Sync, S: Storage + Sync>(
             |place: usize| -> Judged
                 requires { place < length paths.now }
                 ensures { IsJudgedAt options.entry.now (S.gives storage.entry.now) (S.keeps storage.entry.now) (map (λ s. s.now) paths.entry.now) place result }
-            { judged_at(rt, alloc, storage, options, paths, place) },
+            { judged_at(alloc, storage, options, paths, place) },
         )
         .collect(rt, alloc)
+}
+
+/// What is found of one file by the workers.
+///
+/// # Errors
+///
+/// There is no memory for the list.
+pub(crate) fn one_judged<C: VerdictWorkers, S: Storage>(
+    workers: &C,
+    alloc: Global,
+    storage: &S,
+    options: &Options<'_>,
+    path: &str,
+) -> Result<Vec<Judged>, AllocError>
+    ensures { IfOk result (λ v. AreJudged options.now (S.gives storage.now) (S.keeps storage.now) (path.now ∷ []) v.items) }
+{
+    let number = 1;
+    let found = judged(workers, alloc, storage, options, Named { number, path });
+    let mut all = Vec::new(alloc);
+    all.push(found)?;
+    Ok(all)
 }

@@ -8,7 +8,6 @@ ghost use Rattle.sw_app_changes.specs.MarginTexts.{margin_text, not_free_line};
 
 use crate::margin_texts::{margin_text, not_free_line};
 use std::alloc::{AllocError, Global};
-use std::thread::Threads;
 use sw_command::Answer;
 use sw_command::statuses::GOOD;
 use sw_config::Network;
@@ -16,7 +15,7 @@ use sw_file::read_network;
 use sw_flow::{Place, RouteFault};
 use sw_margin::{Margins, margins};
 use sw_output::misrouted_text;
-use sw_search::{Verdict, decide};
+use sw_search::{Verdict, VerdictWorkers, decide};
 use sw_toml_table::FileFault;
 
 // The answer by what the premises of the network stand.
@@ -29,10 +28,14 @@ fn told(alloc: Global, network: &Network, margins: &Margins) -> Result<Answer, A
 }
 
 // The answer where no channels can wait for one another.
-fn bent<T: Threads + Sync>(rt: &T, alloc: Global, network: &Network) -> Result<Answer, AllocError>
+fn bent<W: VerdictWorkers>(
+    workers: &W,
+    alloc: Global,
+    network: &Network,
+) -> Result<Answer, AllocError>
     ensures { IfOk result (λ a. IsBent network.now (string_bytes a.text) a.status) }
 {
-    let found = margins(rt, alloc, network)?;
+    let found = margins(workers, alloc, network)?;
     told(alloc, network, &found)
 }
 
@@ -59,8 +62,8 @@ fn not_free(alloc: Global) -> Result<Answer, AllocError>
 }
 
 // The answer by the verdict on the network.
-fn by_verdict<T: Threads + Sync>(
-    rt: &T,
+fn by_verdict<W: VerdictWorkers>(
+    workers: &W,
     alloc: Global,
     network: &Network,
     verdict: &Verdict,
@@ -70,32 +73,32 @@ fn by_verdict<T: Threads + Sync>(
     match verdict {
         Verdict::Misrouted(flow, place, fault) => misrouted(alloc, network, *flow, *place, *fault),
         Verdict::Cyclic(_) => not_free(alloc),
-        Verdict::Free(_) => bent(rt, alloc, network),
+        Verdict::Free(_) => bent(workers, alloc, network),
     }
 }
 
 // The answer for a network.
-fn network_answer<T: Threads + Sync>(
-    rt: &T,
+fn network_answer<W: VerdictWorkers>(
+    workers: &W,
     alloc: Global,
     network: &Network,
 ) -> Result<Answer, AllocError>
     ensures { IfOk result (λ a. IsNetworkAnswer network.now (string_bytes a.text) a.status) }
 {
-    let verdict = decide(rt, alloc, network)?;
-    by_verdict(rt, alloc, network, &verdict)
+    let verdict = decide(workers, alloc, network)?;
+    by_verdict(workers, alloc, network, &verdict)
 }
 
 /// The answer to the bytes of a network file.
-pub(crate) fn margin_answer<T: Threads + Sync>(
-    rt: &T,
+pub(crate) fn margin_answer<W: VerdictWorkers>(
+    workers: &W,
     alloc: Global,
     input: &[u8],
 ) -> Result<Answer, AllocError>
     ensures { IfOk result (λ a. IsMarginAnswer input.now (string_bytes a.text) a.status) }
 {
     match read_network(alloc, input) {
-        Ok(network) => network_answer(rt, alloc, &network),
+        Ok(network) => network_answer(workers, alloc, &network),
         Err(FileFault::Text(fault)) => Answer::of_fault(alloc, &fault),
         Err(FileFault::Memory) => Err(AllocError),
     }

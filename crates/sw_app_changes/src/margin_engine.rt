@@ -5,15 +5,15 @@ ghost use Rattle.sw_app_changes.specs.MarginAnswers.{IsMarginAnswer};
 use crate::margin_answer::margin_answer;
 use std::alloc::Global;
 use std::io::{Read, Write};
-use std::thread::Threads;
 use sw_command::{Ended, MAX_TEXT, tell, tell_memory, tell_unread};
+use sw_search::VerdictWorkers;
 use sw_text::read_whole;
 
 /// How far the premises of the free network of a file bend: a line for each node that answers nothing, for each flow without a reply
 /// and for each link. Of a network that is not free, that it is not, or the first flow that is not well routed. Its status is 0.
-/// Threads share the work, as many as there are processors.
-pub fn margin<T: Threads + Sync, R: Read, W: Write>(
-    rt: &T,
+/// The workers share the work.
+pub fn margin<T: VerdictWorkers, R: Read, W: Write>(
+    workers: &T,
     alloc: Global,
     reader: &mut R,
     writer: &mut W,
@@ -24,7 +24,7 @@ pub fn margin<T: Threads + Sync, R: Read, W: Write>(
         Ok(input) => input,
         Err(error) => return tell_unread(writer, error),
     };
-    match margin_answer(rt, alloc, &input) {
+    match margin_answer(workers, alloc, &input) {
         Ok(answer) => tell(writer, answer.text.as_str(), answer.status),
         Err(_) => tell_memory(writer),
     }

@@ -10,7 +10,6 @@ ghost use Rattle.sw_app_changes.specs.MendTexts.{free_line, mends_status, mends_
 
 use crate::mend_texts::{free_line, mends_status, mends_text, pairs_text};
 use std::alloc::{AllocError, Global};
-use std::thread::Threads;
 use sw_command::Answer;
 use sw_command::statuses::{BAD, GOOD};
 use sw_config::Network;
@@ -18,7 +17,7 @@ use sw_file::read_network;
 use sw_flow::{Place, RouteFault};
 use sw_mend::{Pair, Trial, mends, pair_mends};
 use sw_output::misrouted_text;
-use sw_search::{Verdict, decide};
+use sw_search::{Verdict, VerdictWorkers, decide};
 use sw_toml_table::FileFault;
 
 // The answer by the changes that free the network.
@@ -44,16 +43,20 @@ fn told_pairs(alloc: Global, network: &Network, pairs: &[Pair]) -> Result<Answer
 }
 
 // The answer where no single change frees it.
-fn paired<T: Threads + Sync>(rt: &T, alloc: Global, network: &Network) -> Result<Answer, AllocError>
+fn paired<W: VerdictWorkers>(
+    workers: &W,
+    alloc: Global,
+    network: &Network,
+) -> Result<Answer, AllocError>
     ensures { IfOk result (λ a. IsPaired network.now (string_bytes a.text) a.status) }
 {
-    let pairs = pair_mends(rt, alloc, network)?;
+    let pairs = pair_mends(workers, alloc, network)?;
     told_pairs(alloc, network, &pairs)
 }
 
 // The answer by the single changes that free it, with pairs asked for or not.
-fn mended_by<T: Threads + Sync>(
-    rt: &T,
+fn mended_by<W: VerdictWorkers>(
+    workers: &W,
     alloc: Global,
     pairs: bool,
     network: &Network,
@@ -65,22 +68,22 @@ fn mended_by<T: Threads + Sync>(
         return told(alloc, network, changes);
     }
     match changes {
-        [] => paired(rt, alloc, network),
+        [] => paired(workers, alloc, network),
         _ => told(alloc, network, changes),
     }
 }
 
 // The answer where channels can wait for one another.
-fn mended<T: Threads + Sync>(
-    rt: &T,
+fn mended<W: VerdictWorkers>(
+    workers: &W,
     alloc: Global,
     pairs: bool,
     network: &Network,
 ) -> Result<Answer, AllocError>
     ensures { IfOk result (λ a. IsMended pairs network.now (string_bytes a.text) a.status) }
 {
-    let changes = mends(rt, alloc, network)?;
-    mended_by(rt, alloc, pairs, network, &changes)
+    let changes = mends(workers, alloc, network)?;
+    mended_by(workers, alloc, pairs, network, &changes)
 }
 
 // The answer where a flow is not well routed.
@@ -106,8 +109,8 @@ fn free(alloc: Global) -> Result<Answer, AllocError>
 }
 
 // The answer by the verdict on the network.
-fn by_verdict<T: Threads + Sync>(
-    rt: &T,
+fn by_verdict<W: VerdictWorkers>(
+    workers: &W,
     alloc: Global,
     pairs: bool,
     network: &Network,
@@ -117,27 +120,27 @@ fn by_verdict<T: Threads + Sync>(
 {
     match verdict {
         Verdict::Misrouted(flow, place, fault) => misrouted(alloc, network, *flow, *place, *fault),
-        Verdict::Cyclic(_) => mended(rt, alloc, pairs, network),
+        Verdict::Cyclic(_) => mended(workers, alloc, pairs, network),
         Verdict::Free(_) => free(alloc),
     }
 }
 
 // The answer for a network.
-fn network_answer<T: Threads + Sync>(
-    rt: &T,
+fn network_answer<W: VerdictWorkers>(
+    workers: &W,
     alloc: Global,
     pairs: bool,
     network: &Network,
 ) -> Result<Answer, AllocError>
     ensures { IfOk result (λ a. IsNetworkAnswer pairs network.now (string_bytes a.text) a.status) }
 {
-    let verdict = decide(rt, alloc, network)?;
-    by_verdict(rt, alloc, pairs, network, &verdict)
+    let verdict = decide(workers, alloc, network)?;
+    by_verdict(workers, alloc, pairs, network, &verdict)
 }
 
 /// The answer to the bytes of a network file.
-pub(crate) fn mend_answer<T: Threads + Sync>(
-    rt: &T,
+pub(crate) fn mend_answer<W: VerdictWorkers>(
+    workers: &W,
     alloc: Global,
     pairs: bool,
     input: &[u8],
@@ -145,7 +148,7 @@ pub(crate) fn mend_answer<T: Threads + Sync>(
     ensures { IfOk result (λ a. IsMendAnswer pairs input.now (string_bytes a.text) a.status) }
 {
     match read_network(alloc, input) {
-        Ok(network) => network_answer(rt, alloc, pairs, &network),
+        Ok(network) => network_answer(workers, alloc, pairs, &network),
         Err(FileFault::Text(fault)) => Answer::of_fault(alloc, &fault),
         Err(FileFault::Memory) => Err(AllocError),
     }

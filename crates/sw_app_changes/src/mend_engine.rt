@@ -5,15 +5,15 @@ ghost use Rattle.sw_app_changes.specs.MendAnswers.{IsMendAnswer};
 use crate::mend_answer::mend_answer;
 use std::alloc::Global;
 use std::io::{Read, Write};
-use std::thread::Threads;
 use sw_command::{Ended, MAX_TEXT, tell, tell_memory, tell_unread};
+use sw_search::VerdictWorkers;
 use sw_text::read_whole;
 
 /// Which single changes make the network of a file free of deadlocks, a line each: 0 where some change does or the network is free
 /// already, and 1 where none does or a flow is not well routed. With pairs asked for, where no single change does, which pairs of single
-/// changes do, each pair in a line: 0 where some pair does, and 1 where none does. Threads share the work, as many as there are processors.
-pub fn mend<T: Threads + Sync, R: Read, W: Write>(
-    rt: &T,
+/// changes do, each pair in a line: 0 where some pair does, and 1 where none does. The workers share the work.
+pub fn mend<T: VerdictWorkers, R: Read, W: Write>(
+    workers: &T,
     alloc: Global,
     pairs: bool,
     reader: &mut R,
@@ -25,7 +25,7 @@ pub fn mend<T: Threads + Sync, R: Read, W: Write>(
         Ok(input) => input,
         Err(error) => return tell_unread(writer, error),
     };
-    match mend_answer(rt, alloc, pairs, &input) {
+    match mend_answer(workers, alloc, pairs, &input) {
         Ok(answer) => tell(writer, answer.text.as_str(), answer.status),
         Err(_) => tell_memory(writer),
     }

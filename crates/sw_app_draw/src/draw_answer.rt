@@ -8,18 +8,18 @@ use crate::draw_text::draw_text;
 use crate::drawing::{Drawing, first_cycle, numbers_of, tangles_if, verdict_if};
 use crate::options::DrawOptions;
 use std::alloc::{AllocError, Global};
-use std::thread::Threads;
 use sw_command::Answer;
 use sw_command::statuses::{FAULTY, GOOD};
 use sw_config::Network;
 use sw_file::read_network;
 use sw_flow::{Place, places};
+use sw_search::VerdictWorkers;
 use sw_toml_table::FileFault;
 use sw_topo::Chan;
 
 // With these places of a flow, this cycle, and the numbers if they are asked for.
-fn numbered_answer<T: Threads + Sync>(
-    rt: &T,
+fn numbered_answer<W: VerdictWorkers>(
+    workers: &W,
     alloc: Global,
     network: &Network,
     options: &DrawOptions<'_>,
@@ -29,7 +29,14 @@ fn numbered_answer<T: Threads + Sync>(
     requires { IsCycleDrawn network.now options.now.cycle cycle.now }
     ensures { IfOk result (λ a. IsDrawnAnswer options.now network.now places.now (string_bytes a.text) a.status) }
 {
-    let verdict = verdict_if(rt, alloc, network, cycle, options.cycle, options.numbers)?;
+    let verdict = verdict_if(
+        workers,
+        alloc,
+        network,
+        cycle,
+        options.cycle,
+        options.numbers,
+    )?;
     let drawing = Drawing {
         places,
         cycle,
@@ -40,8 +47,8 @@ fn numbered_answer<T: Threads + Sync>(
 }
 
 // With these places of a flow, and what else is asked for.
-fn drawn_answer<T: Threads + Sync>(
-    rt: &T,
+fn drawn_answer<W: VerdictWorkers>(
+    workers: &W,
     alloc: Global,
     network: &Network,
     options: &DrawOptions<'_>,
@@ -49,13 +56,20 @@ fn drawn_answer<T: Threads + Sync>(
 ) -> Result<Answer, AllocError>
     ensures { IfOk result (λ a. IsDrawnAnswer options.now network.now places.now (string_bytes a.text) a.status) }
 {
-    let tangles = tangles_if(rt, alloc, network, options.cycle)?;
-    numbered_answer(rt, alloc, network, options, places, first_cycle(&tangles))
+    let tangles = tangles_if(workers, alloc, network, options.cycle)?;
+    numbered_answer(
+        workers,
+        alloc,
+        network,
+        options,
+        places,
+        first_cycle(&tangles),
+    )
 }
 
 // With the places of the flow of that number.
-fn flow_answer<T: Threads + Sync>(
-    rt: &T,
+fn flow_answer<W: VerdictWorkers>(
+    workers: &W,
     alloc: Global,
     network: &Network,
     options: &DrawOptions<'_>,
@@ -65,12 +79,12 @@ fn flow_answer<T: Threads + Sync>(
     ensures { IfOk result (λ a. IsFlowAnswer options.now network.now (Some number) (string_bytes a.text) a.status) }
 {
     let places = places(alloc, network, number)?;
-    drawn_answer(rt, alloc, network, options, &places)
+    drawn_answer(workers, alloc, network, options, &places)
 }
 
 // With the places of the flow of that name, if there is one.
-fn named_answer<T: Threads + Sync>(
-    rt: &T,
+fn named_answer<W: VerdictWorkers>(
+    workers: &W,
     alloc: Global,
     network: &Network,
     options: &DrawOptions<'_>,
@@ -79,7 +93,7 @@ fn named_answer<T: Threads + Sync>(
     ensures { IfOk result (λ a. IsNamedAnswer options.now network.now (Some name.now) (string_bytes a.text) a.status) }
 {
     match network.flow_named(name) {
-        Some(number) => flow_answer(rt, alloc, network, options, number),
+        Some(number) => flow_answer(workers, alloc, network, options, number),
         None => {
             let text = String::from_str(alloc, "fault F7 UnknownName argument\n")?;
             Ok(Answer {
@@ -91,8 +105,8 @@ fn named_answer<T: Threads + Sync>(
 }
 
 // The answer for a network.
-fn network_answer<T: Threads + Sync>(
-    rt: &T,
+fn network_answer<W: VerdictWorkers>(
+    workers: &W,
     alloc: Global,
     network: &Network,
     options: &DrawOptions<'_>,
@@ -100,14 +114,14 @@ fn network_answer<T: Threads + Sync>(
     ensures { IfOk result (λ a. IsNamedAnswer options.now network.now options.now.flow (string_bytes a.text) a.status) }
 {
     match options.flow {
-        Some(name) => named_answer(rt, alloc, network, options, name),
-        None => drawn_answer(rt, alloc, network, options, &[]),
+        Some(name) => named_answer(workers, alloc, network, options, name),
+        None => drawn_answer(workers, alloc, network, options, &[]),
     }
 }
 
 /// The answer to the bytes of a network file.
-pub(crate) fn draw_answer<T: Threads + Sync>(
-    rt: &T,
+pub(crate) fn draw_answer<W: VerdictWorkers>(
+    workers: &W,
     alloc: Global,
     input: &[u8],
     options: &DrawOptions<'_>,
@@ -115,7 +129,7 @@ pub(crate) fn draw_answer<T: Threads + Sync>(
     ensures { IfOk result (λ a. IsDrawAnswer options.now input.now (string_bytes a.text) a.status) }
 {
     match read_network(alloc, input) {
-        Ok(network) => network_answer(rt, alloc, &network, options),
+        Ok(network) => network_answer(workers, alloc, &network, options),
         Err(FileFault::Text(fault)) => Answer::of_fault(alloc, &fault),
         Err(FileFault::Memory) => Err(AllocError),
     }

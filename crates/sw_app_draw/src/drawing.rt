@@ -4,10 +4,9 @@ ghost use Rattle.sw_app_draw.specs.Drawings.{AreNumbersDrawn, IsCycleDrawn, firs
 
 use std::alloc::{AllocError, Global};
 use std::marker::Model;
-use std::thread::Threads;
 use sw_config::Network;
 use sw_flow::{Place, all_places};
-use sw_search::{Tangle, Verdict, decide, tangles};
+use sw_search::{Tangle, Verdict, VerdictWorkers, decide, tangles};
 use sw_topo::Chan;
 
 /// The places of a flow, a cycle of channels, and the channels' numbers, each empty where it is not drawn.
@@ -27,8 +26,8 @@ impl<'a> Model for Drawing<'a> {
 }
 
 /// The tangles of the network, where the cycle is asked for.
-pub(crate) fn tangles_if<T: Threads + Sync>(
-    rt: &T,
+pub(crate) fn tangles_if<W: VerdictWorkers>(
+    workers: &W,
     alloc: Global,
     network: &Network,
     asked: bool,
@@ -38,8 +37,8 @@ pub(crate) fn tangles_if<T: Threads + Sync>(
     if !asked {
         return Ok(Vec::new(alloc));
     }
-    let places = all_places(rt, alloc, network)?;
-    tangles(rt, alloc, network, &places)
+    let places = all_places(workers, alloc, network)?;
+    tangles(workers, alloc, network, &places)
 }
 
 /// The shortest cycle of the first tangle.
@@ -53,8 +52,8 @@ pub(crate) fn first_cycle(tangles: &[Tangle]) -> &[Chan]
 }
 
 /// The verdict on the network, where the numbers are asked for, and it does not show already by a cycle that there are none.
-pub(crate) fn verdict_if<T: Threads + Sync>(
-    rt: &T,
+pub(crate) fn verdict_if<W: VerdictWorkers>(
+    workers: &W,
     alloc: Global,
     network: &Network,
     cycle: &[Chan],
@@ -71,7 +70,7 @@ pub(crate) fn verdict_if<T: Threads + Sync>(
     if count > 0 {
         return Ok(None);
     }
-    let verdict = decide(rt, alloc, network)?;
+    let verdict = decide(workers, alloc, network)?;
     Ok(Some(verdict))
 }
 

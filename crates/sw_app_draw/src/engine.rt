@@ -6,16 +6,16 @@ use crate::draw_answer::draw_answer;
 use crate::options::DrawOptions;
 use std::alloc::Global;
 use std::io::{Read, Write};
-use std::thread::Threads;
 use sw_command::{Ended, MAX_TEXT, tell, tell_memory, tell_unread};
+use sw_search::VerdictWorkers;
 use sw_text::read_whole;
 
 /// The network of a file in DOT, for Graphviz, with status 0 whatever the verdict on it: nodes as boxes, targets with two lines round them,
-/// switches as records of their ports, and an edge for each channel. Threads share the work, as many as there are processors.
+/// switches as records of their ports, and an edge for each channel. The workers share the work.
 ///
 /// Where `flow` names no flow, that is told, with status 3.
-pub fn draw<T: Threads + Sync, R: Read, W: Write>(
-    rt: &T,
+pub fn draw<T: VerdictWorkers, R: Read, W: Write>(
+    workers: &T,
     alloc: Global,
     reader: &mut R,
     options: &DrawOptions<'_>,
@@ -27,7 +27,7 @@ pub fn draw<T: Threads + Sync, R: Read, W: Write>(
         Ok(input) => input,
         Err(error) => return tell_unread(writer, error),
     };
-    match draw_answer(rt, alloc, &input, options) {
+    match draw_answer(workers, alloc, &input, options) {
         Ok(answer) => tell(writer, answer.text.as_str(), answer.status),
         Err(_) => tell_memory(writer),
     }

@@ -5,16 +5,16 @@ ghost use Rattle.sw_app_explain.specs.ExplainAnswers.{IsExplainAnswer};
 use crate::explain_answer::explain_answer;
 use std::alloc::Global;
 use std::io::{Read, Write};
-use std::thread::Threads;
 use sw_command::{Ended, MAX_TEXT, tell, tell_memory, tell_unread};
+use sw_search::VerdictWorkers;
 use sw_text::read_whole;
 
 /// Why the network of a file can lock up, in words, or that it never does: 0 where it never does, and 1 where a flow is not well routed
-/// or packets can wait for one another in a circle. Threads share the work, as many as there are processors.
+/// or packets can wait for one another in a circle. The workers share the work.
 ///
 /// `all`: each step of a cycle names all flows that make it, and not just six with how many more there are.
-pub fn explain<T: Threads + Sync, R: Read, W: Write>(
-    rt: &T,
+pub fn explain<T: VerdictWorkers, R: Read, W: Write>(
+    workers: &T,
     alloc: Global,
     reader: &mut R,
     all: bool,
@@ -26,7 +26,7 @@ pub fn explain<T: Threads + Sync, R: Read, W: Write>(
         Ok(input) => input,
         Err(error) => return tell_unread(writer, error),
     };
-    match explain_answer(rt, alloc, &input, all) {
+    match explain_answer(workers, alloc, &input, all) {
         Ok(answer) => tell(writer, answer.text.as_str(), answer.status),
         Err(_) => tell_memory(writer),
     }

@@ -4,31 +4,30 @@ ghost use Rattle.sw_app_explain.specs.ExplainAnswers.{IsExplainAnswer, IsNetwork
 
 use crate::explain_texts::{explain_status, explain_text};
 use std::alloc::{AllocError, Global};
-use std::thread::Threads;
 use sw_command::Answer;
 use sw_config::Network;
 use sw_file::read_network;
-use sw_search::explain;
+use sw_search::{VerdictWorkers, explain};
 use sw_toml_table::FileFault;
 
 // The answer for a network.
-fn network_answer<T: Threads + Sync>(
-    rt: &T,
+fn network_answer<W: VerdictWorkers>(
+    workers: &W,
     alloc: Global,
     network: &Network,
     all: bool,
 ) -> Result<Answer, AllocError>
     ensures { IfOk result (λ a. IsNetworkAnswer all network.now (string_bytes a.text) a.status) }
 {
-    let explanation = explain(rt, alloc, network)?;
+    let explanation = explain(workers, alloc, network)?;
     let status = explain_status(&explanation);
     let text = explain_text(alloc, network, all, &explanation)?;
     Ok(Answer { text, status })
 }
 
 /// The answer to the bytes of a network file.
-pub(crate) fn explain_answer<T: Threads + Sync>(
-    rt: &T,
+pub(crate) fn explain_answer<W: VerdictWorkers>(
+    workers: &W,
     alloc: Global,
     input: &[u8],
     all: bool,
@@ -36,7 +35,7 @@ pub(crate) fn explain_answer<T: Threads + Sync>(
     ensures { IfOk result (λ a. IsExplainAnswer all input.now (string_bytes a.text) a.status) }
 {
     match read_network(alloc, input) {
-        Ok(network) => network_answer(rt, alloc, &network, all),
+        Ok(network) => network_answer(workers, alloc, &network, all),
         Err(FileFault::Text(fault)) => Answer::of_fault(alloc, &fault),
         Err(FileFault::Memory) => Err(AllocError),
     }

@@ -19,6 +19,7 @@ use sw_config::Network;
 use sw_file::read_network;
 use sw_load::laws::listed_are_declared;
 use sw_load::{Load, read_load};
+use sw_parallel::OneByOne;
 use sw_run::{Gate, Outcome, run};
 use sw_schedule::{MAX_STEPS, write_steps};
 use sw_toml_table::FileFault;
@@ -95,8 +96,7 @@ pub fn with_schedule(
 }
 
 // What is told of the outcome.
-fn recorded_outcome<T: Threads + Sync>(
-    rt: &T,
+fn recorded_outcome(
     alloc: Global,
     network: &Network,
     load: &Load,
@@ -108,7 +108,7 @@ fn recorded_outcome<T: Threads + Sync>(
 {
     let status = stop_status(outcome.stop);
     let text = outcome_text(alloc, network, outcome)?;
-    let summary = wanted_summary(rt, alloc, network, load, outcome, wants.summary)?;
+    let summary = wanted_summary(&OneByOne, alloc, network, load, outcome, wants.summary)?;
     let answer = Answer { text, status };
     with_schedule(alloc, network, outcome, wants.schedule, answer, summary)
 }
@@ -136,7 +136,7 @@ fn outcome_record<'a, G: Gate + Sync, T: Threads + Wait + Sync>(
         options.limit,
         gate,
     )?;
-    recorded_outcome(rt, alloc, network, load, &outcome, wants)
+    recorded_outcome(alloc, network, load, &outcome, wants)
 }
 
 // Of the text of a load.

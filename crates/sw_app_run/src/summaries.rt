@@ -5,18 +5,17 @@ ghost use Rattle.sw_search.specs.Laws.{RoutedAndFree};
 ghost use Rattle.sw_app_run.specs.Summaries.{AreFillsTold, IsSummary, IsSummaryOf, IsWantedSummary, ShowsNothing};
 
 use std::alloc::{AllocError, Global};
-use std::thread::Threads;
 use sw_char::Packet;
 use sw_config::Network;
 use sw_load::Load;
 use sw_model::Step;
 use sw_run::{Outcome, Stop};
-use sw_search::is_free;
+use sw_search::{VerdictWorkers, is_free};
 use sw_summary::{fill_lines, greatest_fills, summary_of};
 
 // Did the run drain, although the network is not free?
-fn shows_nothing<T: Threads + Sync>(
-    rt: &T,
+fn shows_nothing<W: VerdictWorkers>(
+    workers: &W,
     alloc: Global,
     network: &Network,
     stop: Stop,
@@ -24,7 +23,7 @@ fn shows_nothing<T: Threads + Sync>(
     ensures { IfOk result (λ b. IsTrue b ↔ ShowsNothing network.now stop) }
 {
     match stop {
-        Stop::Drained => Ok(!is_free(rt, alloc, network)?),
+        Stop::Drained => Ok(!is_free(workers, alloc, network)?),
         Stop::Stuck | Stop::JournalFull | Stop::Memory => Ok(false),
     }
 }
@@ -64,8 +63,8 @@ fn summary_text(
 }
 
 // The summary of the outcome.
-fn summary<T: Threads + Sync>(
-    rt: &T,
+fn summary<W: VerdictWorkers>(
+    workers: &W,
     alloc: Global,
     network: &Network,
     load: &Load,
@@ -76,7 +75,7 @@ fn summary<T: Threads + Sync>(
 {
     // Names the network, which is valid by its type.
     let _topology = network.topology();
-    let warned = shows_nothing(rt, alloc, network, outcome.stop)?;
+    let warned = shows_nothing(workers, alloc, network, outcome.stop)?;
     let steps = outcome.history.steps(alloc)?;
     summary_text(
         alloc,
@@ -93,8 +92,8 @@ fn summary<T: Threads + Sync>(
 /// # Errors
 ///
 /// There is no memory for it.
-pub fn wanted_summary<T: Threads + Sync>(
-    rt: &T,
+pub fn wanted_summary<W: VerdictWorkers>(
+    workers: &W,
     alloc: Global,
     network: &Network,
     load: &Load,
@@ -107,5 +106,5 @@ pub fn wanted_summary<T: Threads + Sync>(
     if !is_wanted {
         return Ok(None);
     }
-    Ok(Some(summary(rt, alloc, network, load, outcome)?))
+    Ok(Some(summary(workers, alloc, network, load, outcome)?))
 }

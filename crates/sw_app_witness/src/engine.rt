@@ -5,17 +5,17 @@ ghost use Rattle.sw_app_witness.specs.WitnessAnswers.{IsWitnessAnswer};
 use crate::witness_answer::witness_answer;
 use std::alloc::Global;
 use std::io::{Read, Write};
-use std::thread::Threads;
 use sw_command::{Ended, MAX_TEXT, tell, tell_memory, tell_unread};
+use sw_search::VerdictWorkers;
 use sw_text::read_whole;
 
 /// A schedule that leads the network of a file into a lock-up: 0 where one is found, and 1 where none is found by so many tries, or
-/// where there is nothing to look for. Threads share the work of finding where to look, as many as there are processors.
+/// where there is nothing to look for. The workers share the work of finding where to look.
 ///
 /// What is written with status 0 was replayed before: as a schedule file it leads to a lock-up. That none is found says nothing of the
 /// network. The same seed gives the same tries.
-pub fn witness<T: Threads + Sync, R: Read, W: Write>(
-    rt: &T,
+pub fn witness<T: VerdictWorkers, R: Read, W: Write>(
+    workers: &T,
     alloc: Global,
     reader: &mut R,
     tries: u32,
@@ -28,7 +28,7 @@ pub fn witness<T: Threads + Sync, R: Read, W: Write>(
         Ok(input) => input,
         Err(error) => return tell_unread(writer, error),
     };
-    match witness_answer(rt, alloc, &input, tries, seed) {
+    match witness_answer(workers, alloc, &input, tries, seed) {
         Ok(answer) => tell(writer, answer.text.as_str(), answer.status),
         Err(_) => tell_memory(writer),
     }

@@ -9,14 +9,13 @@ ghost use Rattle.sw_app_witness.specs.WitnessAnswers.{IsNetworkAnswer, IsOfKind,
 
 use crate::witness_texts::{free_line, none_found, unanswered_line, with_note};
 use std::alloc::{AllocError, Global};
-use std::thread::Threads;
 use sw_command::Answer;
 use sw_command::statuses::{BAD, GOOD};
 use sw_config::Network;
 use sw_file::read_network;
 use sw_flow::{Place, RouteFault};
 use sw_output::misrouted_text;
-use sw_search::{Explanation, Tangle, explain};
+use sw_search::{Explanation, Tangle, VerdictWorkers, explain};
 use sw_toml_table::FileFault;
 use sw_witness::{find, is_free_without, never_answered};
 
@@ -52,8 +51,8 @@ fn unanswered(alloc: Global, network: &Network, flows: &[u16]) -> Result<Answer,
 }
 
 // The answer where channels can wait for one another.
-fn tangled<T: Threads + Sync>(
-    rt: &T,
+fn tangled<W: VerdictWorkers>(
+    workers: &W,
     alloc: Global,
     network: &Network,
     tangles: &[Tangle],
@@ -63,7 +62,7 @@ fn tangled<T: Threads + Sync>(
     ensures { IfOk result (λ a. IsOfTangled tries network.now (string_bytes a.text) a.status) }
 {
     let flows = never_answered(alloc, network)?;
-    if is_free_without(rt, alloc, network, &flows)? {
+    if is_free_without(workers, alloc, network, &flows)? {
         unanswered(alloc, network, &flows)
     } else {
         searched(alloc, network, tangles, &flows, tries, seed)
@@ -93,8 +92,8 @@ fn free(alloc: Global) -> Result<Answer, AllocError>
 }
 
 // The answer by why the network can lock up.
-fn answer_of<T: Threads + Sync>(
-    rt: &T,
+fn answer_of<W: VerdictWorkers>(
+    workers: &W,
     alloc: Global,
     network: &Network,
     explanation: &Explanation,
@@ -111,14 +110,14 @@ fn answer_of<T: Threads + Sync>(
             fault,
             ..
         } => misrouted(alloc, network, *flow, *place, *fault),
-        Explanation::Cyclic(tangles) => tangled(rt, alloc, network, tangles, tries, seed),
+        Explanation::Cyclic(tangles) => tangled(workers, alloc, network, tangles, tries, seed),
         Explanation::Free => free(alloc),
     }
 }
 
 // The answer for a network.
-fn network_answer<T: Threads + Sync>(
-    rt: &T,
+fn network_answer<W: VerdictWorkers>(
+    workers: &W,
     alloc: Global,
     network: &Network,
     tries: u32,
@@ -126,13 +125,13 @@ fn network_answer<T: Threads + Sync>(
 ) -> Result<Answer, AllocError>
     ensures { IfOk result (λ a. IsNetworkAnswer tries network.now (string_bytes a.text) a.status) }
 {
-    let explanation = explain(rt, alloc, network)?;
-    answer_of(rt, alloc, network, &explanation, tries, seed)
+    let explanation = explain(workers, alloc, network)?;
+    answer_of(workers, alloc, network, &explanation, tries, seed)
 }
 
 /// The answer to the bytes of a network file.
-pub(crate) fn witness_answer<T: Threads + Sync>(
-    rt: &T,
+pub(crate) fn witness_answer<W: VerdictWorkers>(
+    workers: &W,
     alloc: Global,
     input: &[u8],
     tries: u32,
@@ -141,7 +140,7 @@ pub(crate) fn witness_answer<T: Threads + Sync>(
     ensures { IfOk result (λ a. IsWitnessAnswer tries input.now (string_bytes a.text) a.status) }
 {
     match read_network(alloc, input) {
-        Ok(network) => network_answer(rt, alloc, &network, tries, seed),
+        Ok(network) => network_answer(workers, alloc, &network, tries, seed),
         Err(FileFault::Text(fault)) => Answer::of_fault(alloc, &fault),
         Err(FileFault::Memory) => Err(AllocError),
     }

@@ -113,6 +113,7 @@ pub fn reply(n: u16, node: &mut NodeCell) -> bool
 }
 
 /// The node where the flow starts, if a packet with this cargo is one that the flow declares.
+#[inline(never)]
 #[tactic(auto, unfolding(sw_model::specs::Model::network_of))]
 pub fn begins_at(network: &Network, flow: u16, cargo: &[u8], end: End) -> Option<u16>
     ensures undeclared { IfNone result (¬ IsDeclaredPacket network.now flow cargo.now) }

@@ -13,6 +13,7 @@ use sw_model::Step;
 use sw_topo::{Chan, PlaceEnd};
 
 /// The cell where the channel ends, if there is such a channel.
+#[inline(always)]
 #[tactic(auto, unfolding(sw_model::specs::Model::network_of))]
 fn end_cell(network: &Network, channel: Chan) -> Option<CellId>
     ensures none { IfNone result ((network_of network.now).channels ≤ channel) }
@@ -30,6 +31,7 @@ fn end_cell(network: &Network, channel: Chan) -> Option<CellId>
 }
 
 /// The cell where the channel starts, if there is such a channel.
+#[inline(always)]
 #[tactic(auto, unfolding(sw_model::specs::Model::network_of))]
 fn start_cell(network: &Network, channel: Chan) -> Option<CellId>
     ensures none { IfNone result ((network_of network.now).channels ≤ channel) }
@@ -47,6 +49,7 @@ fn start_cell(network: &Network, channel: Chan) -> Option<CellId>
 }
 
 /// The node of that number, if there is one.
+#[inline(always)]
 #[tactic(auto, unfolding(sw_model::specs::Model::network_of))]
 fn node_cell(network: &Network, node: u16) -> Option<CellId>
     ensures none { IfNone result ((network_of network.now).nodes ≤ node) }
@@ -67,6 +70,7 @@ fn node_cell(network: &Network, node: u16) -> Option<CellId>
 ///
 /// `NotInFlow`: the step begins a packet that no flow declares. `NotEnabled`: it begins none such,
 /// and is never possible, since the network has not what it names. `Memory` does not come.
+#[inline(always)]
 pub fn cell_of(network: &Network, step: &Step) -> Result<CellId, NetFault>
     ensures { IsDoneAt network.now (machine_step step.now) result }
 {

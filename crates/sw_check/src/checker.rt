@@ -7,17 +7,16 @@ ghost use Rattle.sw_check.specs.Contents.{certificate_of};
 ghost use Rattle.sw_check.specs.Refusals.{refusal_of};
 
 use crate::counts::is_of_the_network;
-use crate::parallel::{not_rising_along_flows, refusal_of_flows};
+use crate::parallel::CheckWorkers;
 use crate::passed::Passed;
 use crate::refusal::Refusal;
 use crate::targets::not_rising_at_targets;
-use std::thread::Threads;
 use sw_cert::Certificate;
 use sw_config::Network;
 
 /// The first reason to refuse the certificate.
-fn refusal_of<R: Threads + Sync>(
-    rt: &R,
+fn refusal_of<W: CheckWorkers>(
+    workers: &W,
     network: &Network,
     certificate: &Certificate,
 ) -> Option<Refusal>
@@ -26,11 +25,11 @@ fn refusal_of<R: Threads + Sync>(
     if !is_of_the_network(network, certificate) {
         return Some(Refusal::WrongCount);
     }
-    let closed = refusal_of_flows(rt, network, certificate);
+    let closed = workers.refusal_of_flows(network, certificate);
     if closed.is_some() {
         return closed;
     }
-    let rising = not_rising_along_flows(rt, network, certificate);
+    let rising = workers.not_rising_along_flows(network, certificate);
     if rising.is_some() {
         return rising;
     }
@@ -44,11 +43,11 @@ fn refusal_of<R: Threads + Sync>(
 /// The first reason to refuse it: counts, then flow by flow its start and its places, and then the numbers along the flows and at
 /// the nodes that answer.
 ///
-/// Threads share the work, flow by flow, as many as there are processors. It takes no memory that it cannot do without: where no
-/// thread can be started, the one that there is does the work, and no answer tells of want of memory. The time is linear in the
-/// places and in what follows them, but for a search of a flow's list for each that does not stand behind the one found last.
-pub fn check<'a, R: Threads + Sync>(
-    rt: &R,
+/// The workers share the work, flow by flow. It takes no memory that it cannot do without: where no thread can be started, the one
+/// that there is does the work, and no answer tells of want of memory. The time is linear in the places and in what follows them, but
+/// for a search of a flow's list for each that does not stand behind the one found last.
+pub fn check<'a, W: CheckWorkers>(
+    workers: &W,
     network: &'a Network,
     certificate: &Certificate,
 ) -> Result<Passed<'a>, Refusal>
@@ -58,7 +57,7 @@ pub fn check<'a, R: Threads + Sync>(
 {
     // Names the network, which is valid by its type.
     let _flows = network.flows();
-    match refusal_of(rt, network, certificate) {
+    match refusal_of(workers, network, certificate) {
         Some(refusal) => Err(refusal),
         None => Ok(Passed::new(network, certificate)),
     }

@@ -13,5 +13,6 @@ mod rising;
 mod targets;
 
 pub use checker::check;
+pub use parallel::CheckWorkers;
 pub use passed::Passed;
 pub use refusal::Refusal;

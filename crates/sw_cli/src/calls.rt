@@ -15,7 +15,6 @@ use std::io::Write;
 use std::rt::Files;
 use std::sync::Wait;
 use std::thread::Threads;
-use std::time::Clock;
 use std::{fs, io};
 use sw_app::{check, decide, init, migrate, replay, report, route, sample_named};
 use sw_app_audit::audit;
@@ -27,73 +26,50 @@ use sw_app_run::Options;
 use sw_app_witness::witness;
 use sw_args::{Asked, Call, WordsFault, words};
 use sw_command::Ended;
-use sw_run::with_progress;
+use sw_search::VerdictWorkers;
 
-/// Makes the call that the words ask for, and tells how it ended; they begin with the program's name. An audit has its files from the host. Where standard error is a terminal, a
-/// call of more than a second shows there for how long it has gone on.
+/// Makes the call that the words ask for, and tells how it ended; they begin with the program's name. An audit has its files from the host.
 ///
 /// # Errors
 ///
 /// `Help`: the words ask for help. `Refused`: something is wrong with them. Both have the text to print. `Memory`: there is no
 /// memory to read the words; this tells nothing of them. No call is made.
-pub fn run_words<'a, R: Files + Print + Eprint + AllocGlobal + Clock + Threads + Wait + Sync>(
-    rt: &R,
-    host: &HostRuntime,
-    given: &'a [&'a str],
-    is_terminal: bool,
-) -> Result<Ended, WordsFault>
+pub fn run_words<
+    'a,
+    R: Files + Print + Eprint + AllocGlobal + Threads + Wait + Sync,
+    C: VerdictWorkers,
+>(rt: &R, workers: &C, host: &HostRuntime, given: &'a [&'a str]) -> Result<Ended, WordsFault>
     ensures call { IfOk result (λ _. (asked : Asked) × Gives (map (λ s. s.now) given.entry.now) asked) }
     ensures fault { IfErr result (Refuses (map (λ s. s.now) given.entry.now)) }
 {
     match words(rt.alloc(), given) {
-        Ok(asked) => Ok(run_asked(rt, host, asked, is_terminal)),
+        Ok(asked) => Ok(run_asked(rt, workers, host, asked)),
         Err(fault) => Err(fault),
     }
 }
 
-fn run_asked<R: Files + Print + Eprint + AllocGlobal + Clock + Threads + Wait + Sync>(
+fn run_asked<R: Files + Print + Eprint + AllocGlobal + Threads + Wait + Sync, C: VerdictWorkers>(
     rt: &R,
+    workers: &C,
     host: &HostRuntime,
     asked: Asked<'_>,
-    is_terminal: bool,
 ) -> Ended
     requires { HasWorkers asked.call }
 {
     let call = asked.call;
     match hints_of(asked.hints) {
         Some(hints) => {
-            let made = run_shown(rt, host, call, &asked.files, is_terminal);
+            let made = run_call(rt, workers, host, call, &asked.files);
             told_end(rt, made.ended);
-            hinted(rt, &call, hints, &made)
+            hinted(rt, workers, &call, hints, &made)
         }
         None => no_hints(rt),
     }
 }
 
-// The call; on a terminal it shows, while it goes on, for how long it has.
-fn run_shown<'a, R: Files + Print + Eprint + AllocGlobal + Clock + Threads + Wait + Sync>(
+fn run_call<'a, R: Files + Print + Eprint + AllocGlobal + Threads + Wait + Sync, C: VerdictWorkers>(
     rt: &R,
-    host: &HostRuntime,
-    call: Call<'a>,
-    files: &[&str],
-    is_terminal: bool,
-) -> Made<'a>
-    requires { HasWorkers call }
-{
-    if is_terminal {
-        with_progress(
-            rt,
-            ||
-                requires { HasWorkers call }
-            { run_call(rt, host, call, files) },
-        )
-    } else {
-        run_call(rt, host, call, files)
-    }
-}
-
-fn run_call<'a, R: Files + Print + Eprint + AllocGlobal + Threads + Wait + Sync>(
-    rt: &R,
+    workers: &C,
     host: &HostRuntime,
     call: Call<'a>,
     files: &[&str],
@@ -101,15 +77,21 @@ fn run_call<'a, R: Files + Print + Eprint + AllocGlobal + Threads + Wait + Sync>
     requires { HasWorkers call }
 {
     let mut writer = Noted::new("standard output", io::writer(rt));
-    let ended = run_into(rt, host, call, files, &mut writer);
+    let ended = run_into(rt, workers, host, call, files, &mut writer);
     Made {
         ended,
         unwritten: writer.unwritten(),
     }
 }
 
-fn run_into<'a, R: Files + Eprint + AllocGlobal + Threads + Wait + Sync, W: Write>(
+fn run_into<
+    'a,
+    R: Files + Eprint + AllocGlobal + Threads + Wait + Sync,
+    C: VerdictWorkers,
+    W: Write,
+>(
     rt: &R,
+    workers: &C,
     host: &HostRuntime,
     call: Call<'a>,
     files: &[&str],
@@ -117,15 +99,21 @@ fn run_into<'a, R: Files + Eprint + AllocGlobal + Threads + Wait + Sync, W: Writ
 ) -> Ended
     requires { HasWorkers call }
 {
-    match run_json(rt, host, call, writer) {
+    match run_json(rt, workers, host, call, writer) {
         Some(ended) => ended,
-        None => run_text(rt, host, call, files, writer),
+        None => run_text(rt, workers, host, call, files, writer),
     }
 }
 
 // The calls whose answer is a text, and audits.
-fn run_text<'a, R: Files + Eprint + AllocGlobal + Threads + Wait + Sync, W: Write>(
+fn run_text<
+    'a,
+    R: Files + Eprint + AllocGlobal + Threads + Wait + Sync,
+    C: VerdictWorkers,
+    W: Write,
+>(
     rt: &R,
+    workers: &C,
     host: &HostRuntime,
     call: Call<'a>,
     files: &[&str],
@@ -135,13 +123,13 @@ fn run_text<'a, R: Files + Eprint + AllocGlobal + Threads + Wait + Sync, W: Writ
 {
     match call {
         Call::Route { file, flow, .. } => run_route(rt, file, flow, writer),
-        Call::Decide { file, .. } => run_decide(rt, file, writer),
-        Call::Report { file, .. } => run_report(rt, file, writer),
+        Call::Decide { file, .. } => run_decide(rt, workers, file, writer),
+        Call::Report { file, .. } => run_report(rt, workers, file, writer),
         Call::Check {
             file,
             certificate,
             ..
-        } => run_check(rt, file, certificate, writer),
+        } => run_check(rt, workers, file, certificate, writer),
         Call::Replay { file, schedule, .. } => run_replay(rt, file, schedule, writer),
         Call::Run {
             file,
@@ -170,7 +158,7 @@ fn run_text<'a, R: Files + Eprint + AllocGlobal + Threads + Wait + Sync, W: Writ
             )
         }
         Call::Migrate { file } => run_migrate(rt, file, writer),
-        Call::Explain { file, all, .. } => run_explain(rt, file, all, writer),
+        Call::Explain { file, all, .. } => run_explain(rt, workers, file, all, writer),
         Call::Draw {
             file,
             flow,
@@ -178,6 +166,7 @@ fn run_text<'a, R: Files + Eprint + AllocGlobal + Threads + Wait + Sync, W: Writ
             numbers,
         } => run_draw(
             rt,
+            workers,
             file,
             &DrawOptions {
                 flow,
@@ -208,14 +197,14 @@ fn run_text<'a, R: Files + Eprint + AllocGlobal + Threads + Wait + Sync, W: Writ
             ),
             None => no_access(rt),
         },
-        Call::Mend { file, pairs, .. } => run_mend(rt, file, pairs, writer),
-        Call::Margin { file, .. } => run_margin(rt, file, writer),
-        Call::Witness { file, tries, seed } => run_witness(rt, file, tries, seed, writer),
+        Call::Mend { file, pairs, .. } => run_mend(rt, workers, file, pairs, writer),
+        Call::Margin { file, .. } => run_margin(rt, workers, file, writer),
+        Call::Witness { file, tries, seed } => run_witness(rt, workers, file, tries, seed, writer),
         Call::Audit {
             json,
             quiet,
             certificates,
-        } => run_audit(rt, host, files, json, quiet, certificates, writer),
+        } => run_audit(rt, workers, host, files, json, quiet, certificates, writer),
         Call::Init { name } => run_init(rt, name, writer),
     }
 }
@@ -232,30 +221,33 @@ fn run_route<R: Files + AllocGlobal, W: Write>(
     route(rt.alloc(), &mut reader, flow, writer)
 }
 
-fn run_decide<R: Files + AllocGlobal + Threads + Sync, W: Write>(
+fn run_decide<R: Files + AllocGlobal, C: VerdictWorkers, W: Write>(
     rt: &R,
+    workers: &C,
     file: &str,
     writer: &mut W,
 ) -> Ended {
     let Ok(mut reader) = fs::open(rt, file) else {
         return Ended::ReadFailed;
     };
-    decide(rt, rt.alloc(), &mut reader, writer)
+    decide(workers, rt.alloc(), &mut reader, writer)
 }
 
-fn run_report<R: Files + AllocGlobal + Threads + Sync, W: Write>(
+fn run_report<R: Files + AllocGlobal, C: VerdictWorkers, W: Write>(
     rt: &R,
+    workers: &C,
     file: &str,
     writer: &mut W,
 ) -> Ended {
     let Ok(mut reader) = fs::open(rt, file) else {
         return Ended::ReadFailed;
     };
-    report(rt, rt.alloc(), &mut reader, writer)
+    report(workers, rt.alloc(), &mut reader, writer)
 }
 
-fn run_check<R: Files + AllocGlobal + Threads + Sync, W: Write>(
+fn run_check<R: Files + AllocGlobal, C: VerdictWorkers, W: Write>(
     rt: &R,
+    workers: &C,
     file: &str,
     path: &str,
     writer: &mut W,
@@ -266,7 +258,7 @@ fn run_check<R: Files + AllocGlobal + Threads + Sync, W: Write>(
     let Ok(mut certificate) = fs::open(rt, path) else {
         return Ended::ReadFailed;
     };
-    check(rt, rt.alloc(), &mut network, &mut certificate, writer)
+    check(workers, rt.alloc(), &mut network, &mut certificate, writer)
 }
 
 fn run_replay<R: Files + AllocGlobal, W: Write>(
@@ -291,8 +283,9 @@ fn run_migrate<R: Files + AllocGlobal, W: Write>(rt: &R, file: &str, writer: &mu
     migrate(rt.alloc(), &mut reader, writer)
 }
 
-fn run_explain<R: Files + AllocGlobal + Threads + Sync, W: Write>(
+fn run_explain<R: Files + AllocGlobal, C: VerdictWorkers, W: Write>(
     rt: &R,
+    workers: &C,
     file: &str,
     all: bool,
     writer: &mut W,
@@ -300,11 +293,12 @@ fn run_explain<R: Files + AllocGlobal + Threads + Sync, W: Write>(
     let Ok(mut reader) = fs::open(rt, file) else {
         return Ended::ReadFailed;
     };
-    explain(rt, rt.alloc(), &mut reader, all, writer)
+    explain(workers, rt.alloc(), &mut reader, all, writer)
 }
 
-fn run_draw<R: Files + AllocGlobal + Threads + Sync, W: Write>(
+fn run_draw<R: Files + AllocGlobal, C: VerdictWorkers, W: Write>(
     rt: &R,
+    workers: &C,
     file: &str,
     options: &DrawOptions<'_>,
     writer: &mut W,
@@ -312,7 +306,7 @@ fn run_draw<R: Files + AllocGlobal + Threads + Sync, W: Write>(
     let Ok(mut reader) = fs::open(rt, file) else {
         return Ended::ReadFailed;
     };
-    draw(rt, rt.alloc(), &mut reader, options, writer)
+    draw(workers, rt.alloc(), &mut reader, options, writer)
 }
 
 // What an RMAP command does: it reads so many bytes, or writes these. A read without its reply brings nothing, and there is no third.
@@ -347,8 +341,9 @@ fn run_rmap<R: Files + AllocGlobal, W: Write>(
     rmap(rt.alloc(), &mut reader, request, writer)
 }
 
-fn run_mend<R: Files + AllocGlobal + Threads + Sync, W: Write>(
+fn run_mend<R: Files + AllocGlobal, C: VerdictWorkers, W: Write>(
     rt: &R,
+    workers: &C,
     file: &str,
     pairs: bool,
     writer: &mut W,
@@ -356,22 +351,24 @@ fn run_mend<R: Files + AllocGlobal + Threads + Sync, W: Write>(
     let Ok(mut reader) = fs::open(rt, file) else {
         return Ended::ReadFailed;
     };
-    mend(rt, rt.alloc(), pairs, &mut reader, writer)
+    mend(workers, rt.alloc(), pairs, &mut reader, writer)
 }
 
-fn run_margin<R: Files + AllocGlobal + Threads + Sync, W: Write>(
+fn run_margin<R: Files + AllocGlobal, C: VerdictWorkers, W: Write>(
     rt: &R,
+    workers: &C,
     file: &str,
     writer: &mut W,
 ) -> Ended {
     let Ok(mut reader) = fs::open(rt, file) else {
         return Ended::ReadFailed;
     };
-    margin(rt, rt.alloc(), &mut reader, writer)
+    margin(workers, rt.alloc(), &mut reader, writer)
 }
 
-fn run_witness<R: Files + AllocGlobal + Threads + Sync, W: Write>(
+fn run_witness<R: Files + AllocGlobal, C: VerdictWorkers, W: Write>(
     rt: &R,
+    workers: &C,
     file: &str,
     tries: u32,
     seed: u32,
@@ -380,12 +377,13 @@ fn run_witness<R: Files + AllocGlobal + Threads + Sync, W: Write>(
     let Ok(mut reader) = fs::open(rt, file) else {
         return Ended::ReadFailed;
     };
-    witness(rt, rt.alloc(), &mut reader, tries, seed, writer)
+    witness(workers, rt.alloc(), &mut reader, tries, seed, writer)
 }
 
 /// An audit of these files.
-pub(crate) fn run_audit<R: Files + AllocGlobal + Threads + Sync, W: Write>(
+pub(crate) fn run_audit<R: Files + AllocGlobal + Threads + Sync, C: VerdictWorkers, W: Write>(
     rt: &R,
+    workers: &C,
     host: &HostRuntime,
     files: &[&str],
     json: bool,
@@ -403,7 +401,7 @@ pub(crate) fn run_audit<R: Files + AllocGlobal + Threads + Sync, W: Write>(
         host,
         folder: certificates.unwrap_or(""),
     };
-    audit(rt, rt.alloc(), &disk, files, &options, writer)
+    audit(rt, workers, rt.alloc(), &disk, files, &options, writer)
 }
 
 fn run_init<R: Eprint, W: Write>(rt: &R, name: Option<&str>, writer: &mut W) -> Ended {

@@ -15,6 +15,7 @@ use sw_args::Call;
 use sw_command::statuses::{BAD, FAULTY, LOCKED_UP};
 use sw_command::{Ended, MAX_TEXT};
 use sw_hints::network_hint;
+use sw_search::VerdictWorkers;
 use sw_step_hints::schedule_hint;
 use sw_text::read_whole;
 use sw_text_hints::load_hint;
@@ -92,8 +93,9 @@ fn fault_hint<R: Files + AllocGlobal>(rt: &R, call: &Call<'_>) -> Option<String>
 }
 
 // What to tell of a certificate that is refused: the line that can't be read, or else what it is refused for.
-fn refusal_hint<R: Files + AllocGlobal + Threads + Sync>(
+fn refusal_hint<R: Files + AllocGlobal, C: VerdictWorkers>(
     rt: &R,
+    workers: &C,
     file: &str,
     network: &[u8],
     path: &str,
@@ -101,7 +103,7 @@ fn refusal_hint<R: Files + AllocGlobal + Threads + Sync>(
     let text = text_of(rt, path, MOST_EXPLAINED)?;
     match sw_text_hints::certificate_hint(rt.alloc(), path, &text).ok()? {
         Some(hint) => Some(hint),
-        None => certificate_hint(rt, rt.alloc(), file, network, path, &text).ok()?,
+        None => certificate_hint(workers, rt.alloc(), file, network, path, &text).ok()?,
     }
 }
 
@@ -112,19 +114,20 @@ fn steps_hint<R: Files + AllocGlobal>(rt: &R, network: &[u8], path: &str) -> Opt
 }
 
 // What to tell of a verdict that is not free, of a flow that goes wrong, of a refused certificate or step, of a network that is locked up.
-fn verdict_hint_of<R: Files + AllocGlobal + Threads + Sync>(
+fn verdict_hint_of<R: Files + AllocGlobal, C: VerdictWorkers>(
     rt: &R,
+    workers: &C,
     call: &Call<'_>,
 ) -> Option<String> {
     let file = file_of(call)?;
     let text = text_of(rt, file, MOST_EXPLAINED)?;
     match call {
         Call::Route { .. } => flow_hint(rt, call, &text),
-        Call::Decide { .. } => verdict_hint(rt, rt.alloc(), file, &text).ok()?,
-        Call::Check { .. } => refusal_hint(rt, file, &text, second_of(call)?),
+        Call::Decide { .. } => verdict_hint(workers, rt.alloc(), file, &text).ok()?,
+        Call::Check { .. } => refusal_hint(rt, workers, file, &text, second_of(call)?),
         Call::Replay { .. } => steps_hint(rt, &text, second_of(call)?),
         Call::Mend { .. } | Call::Witness { .. } => {
-            misrouted_verdict_hint(rt, rt.alloc(), file, &text).ok()?
+            misrouted_verdict_hint(workers, rt.alloc(), file, &text).ok()?
         }
         _ => None,
     }
@@ -159,8 +162,9 @@ fn due_of(hints: Hints, ended: Ended) -> Due
 }
 
 /// Tells what to do about the way the call ended, if hints are wanted. How it ended stays as it is.
-pub(crate) fn hinted<R: Files + Eprint + AllocGlobal + Threads + Sync>(
+pub(crate) fn hinted<R: Files + Eprint + AllocGlobal, C: VerdictWorkers>(
     rt: &R,
+    workers: &C,
     call: &Call<'_>,
     hints: Hints,
     made: &Made<'_>,
@@ -169,7 +173,7 @@ pub(crate) fn hinted<R: Files + Eprint + AllocGlobal + Threads + Sync>(
 {
     match due_of(hints, made.ended) {
         Due::Fault => tell_text(rt, fault_hint(rt, call)),
-        Due::Verdict => tell_text(rt, verdict_hint_of(rt, call)),
+        Due::Verdict => tell_text(rt, verdict_hint_of(rt, workers, call)),
         Due::Unread => tell_unread_files(rt, call),
         Due::Unwritten => tell_unwritten(rt, made.unwritten),
         Due::Nothing => {}

@@ -18,10 +18,17 @@ use sw_command::Ended;
 use sw_json_changes::{explain, margin, mend};
 use sw_json_runs::replay;
 use sw_json_verdicts::{check, report, route};
+use sw_search::VerdictWorkers;
 
 /// Makes the call, if an object of JSON is wanted of it, and tells how it ended.
-pub(crate) fn run_json<'a, R: Files + Eprint + AllocGlobal + Threads + Wait + Sync, W: Write>(
+pub(crate) fn run_json<
+    'a,
+    R: Files + Eprint + AllocGlobal + Threads + Wait + Sync,
+    C: VerdictWorkers,
+    W: Write,
+>(
     rt: &R,
+    workers: &C,
     host: &HostRuntime,
     call: Call<'a>,
     writer: &mut Noted<'a, W>,
@@ -32,14 +39,14 @@ pub(crate) fn run_json<'a, R: Files + Eprint + AllocGlobal + Threads + Wait + Sy
     match call {
         Call::Route { file, flow, json } if json => Some(run_route(rt, file, flow, writer)),
         Call::Decide { file, json } if json => {
-            Some(run_audit(rt, host, &[file], true, false, None, writer))
+            Some(run_audit(rt, workers, host, &[file], true, false, None, writer))
         }
         Call::Check {
             file,
             certificate,
             json,
-        } if json => Some(run_check(rt, file, certificate, writer)),
-        Call::Report { file, json } if json => Some(run_report(rt, file, writer)),
+        } if json => Some(run_check(rt, workers, file, certificate, writer)),
+        Call::Report { file, json } if json => Some(run_report(rt, workers, file, writer)),
         Call::Replay {
             file,
             schedule,
@@ -65,9 +72,11 @@ pub(crate) fn run_json<'a, R: Files + Eprint + AllocGlobal + Threads + Wait + Sy
             };
             Some(run_load(rt, file, load, options, &extras, writer))
         }
-        Call::Explain { file, json, .. } if json => Some(run_explain(rt, file, writer)),
-        Call::Mend { file, pairs, json } if json => Some(run_mend(rt, file, pairs, writer)),
-        Call::Margin { file, json } if json => Some(run_margin(rt, file, writer)),
+        Call::Explain { file, json, .. } if json => Some(run_explain(rt, workers, file, writer)),
+        Call::Mend { file, pairs, json } if json => Some(run_mend(
+            rt, workers, file, pairs, writer,
+        )),
+        Call::Margin { file, json } if json => Some(run_margin(rt, workers, file, writer)),
         _ => None,
     }
 }
@@ -84,8 +93,9 @@ fn run_route<R: Files + AllocGlobal, W: Write>(
     route(rt.alloc(), &mut reader, file, flow, RELEASE, writer)
 }
 
-fn run_check<R: Files + AllocGlobal + Threads + Sync, W: Write>(
+fn run_check<R: Files + AllocGlobal, C: VerdictWorkers, W: Write>(
     rt: &R,
+    workers: &C,
     file: &str,
     path: &str,
     writer: &mut W,
@@ -97,7 +107,7 @@ fn run_check<R: Files + AllocGlobal + Threads + Sync, W: Write>(
         return Ended::ReadFailed;
     };
     check(
-        rt,
+        workers,
         rt.alloc(),
         &mut network,
         &mut certificate,
@@ -107,15 +117,16 @@ fn run_check<R: Files + AllocGlobal + Threads + Sync, W: Write>(
     )
 }
 
-fn run_report<R: Files + AllocGlobal + Threads + Sync, W: Write>(
+fn run_report<R: Files + AllocGlobal, C: VerdictWorkers, W: Write>(
     rt: &R,
+    workers: &C,
     file: &str,
     writer: &mut W,
 ) -> Ended {
     let Ok(mut reader) = fs::open(rt, file) else {
         return Ended::ReadFailed;
     };
-    report(rt, rt.alloc(), &mut reader, file, RELEASE, writer)
+    report(workers, rt.alloc(), &mut reader, file, RELEASE, writer)
 }
 
 fn run_replay<R: Files + AllocGlobal, W: Write>(
@@ -140,19 +151,21 @@ fn run_replay<R: Files + AllocGlobal, W: Write>(
     )
 }
 
-fn run_explain<R: Files + AllocGlobal + Threads + Sync, W: Write>(
+fn run_explain<R: Files + AllocGlobal, C: VerdictWorkers, W: Write>(
     rt: &R,
+    workers: &C,
     file: &str,
     writer: &mut W,
 ) -> Ended {
     let Ok(mut reader) = fs::open(rt, file) else {
         return Ended::ReadFailed;
     };
-    explain(rt, rt.alloc(), &mut reader, file, RELEASE, writer)
+    explain(workers, rt.alloc(), &mut reader, file, RELEASE, writer)
 }
 
-fn run_mend<R: Files + AllocGlobal + Threads + Sync, W: Write>(
+fn run_mend<R: Files + AllocGlobal, C: VerdictWorkers, W: Write>(
     rt: &R,
+    workers: &C,
     file: &str,
     pairs: bool,
     writer: &mut W,
@@ -160,16 +173,25 @@ fn run_mend<R: Files + AllocGlobal + Threads + Sync, W: Write>(
     let Ok(mut reader) = fs::open(rt, file) else {
         return Ended::ReadFailed;
     };
-    mend(rt, rt.alloc(), pairs, &mut reader, file, RELEASE, writer)
+    mend(
+        workers,
+        rt.alloc(),
+        pairs,
+        &mut reader,
+        file,
+        RELEASE,
+        writer,
+    )
 }
 
-fn run_margin<R: Files + AllocGlobal + Threads + Sync, W: Write>(
+fn run_margin<R: Files + AllocGlobal, C: VerdictWorkers, W: Write>(
     rt: &R,
+    workers: &C,
     file: &str,
     writer: &mut W,
 ) -> Ended {
     let Ok(mut reader) = fs::open(rt, file) else {
         return Ended::ReadFailed;
     };
-    margin(rt, rt.alloc(), &mut reader, file, RELEASE, writer)
+    margin(workers, rt.alloc(), &mut reader, file, RELEASE, writer)
 }

@@ -97,20 +97,3 @@ pub part_at : (d : Declaration) (parts : List (Vec ℕ Global)) (i : ℕ) (v : V
 part_at d parts i v h lt is =
     let at = part_in (λ chunk w. IsChunk d chunk w.items) 0 64 parts i v h lt in
     subst (λ (w : Vec ℕ Global). IsChunk d i w.items) (sym is) (subst (λ (k : ℕ). IsChunk d k (get_or parts i v).items) (omega arith) at)
-
--- what each chunk gave, where all did
-zip_ok : (d : Declaration) (is : List ℕ) (ys : List (Vec ℕ Global)) → AllZip (λ chunk (y : Result (Vec ℕ Global) AllocError). IfOk y (λ w. IsChunk d chunk w.items)) is (map Ok ys) → AllZip (λ chunk w. IsChunk d chunk w.items) is ys
-zip_ok d [] [] h = tt
-zip_ok d [] (y ∷ ys) h = absurd h
-zip_ok d (i ∷ is) [] h = absurd h
-zip_ok d (i ∷ is) (y ∷ ys) h = (h.0, zip_ok d is ys h.1)
-
--- the whole is what the chunks gave, where it is Ok
-pub whole_result : (d : Declaration) (is : List ℕ) (xs : List (Result (Vec ℕ Global) AllocError)) (r : Result (Vec (Vec ℕ Global) Global) AllocError)
-    → AllZip (λ chunk (y : Result (Vec ℕ Global) AllocError). IfOk y (λ w. IsChunk d chunk w.items)) is xs
-    → MatchResult r (λ c. (ys : List (Vec ℕ Global)) × (xs ≡ map Ok ys) × (c.items ≡ ys)) (λ e. Contains xs (Err e))
-    → IfOk r (λ c. AllZip (λ chunk w. IsChunk d chunk w.items) is c.items)
-whole_result d is xs (Ok c) h m =
-    let Gave : List (Result (Vec ℕ Global) AllocError) → Type 0 = λ zs. AllZip (λ chunk (y : Result (Vec ℕ Global) AllocError). IfOk y (λ w. IsChunk d chunk w.items)) is zs in
-    subst (AllZip (λ chunk w. IsChunk d chunk w.items) is) (sym m.2) (zip_ok d is m.0 (subst Gave m.1 h))
-whole_result d is xs (Err e) h m = tt

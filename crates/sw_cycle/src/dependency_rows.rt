@@ -9,10 +9,9 @@ ghost use Rattle.sw_graph.specs.Rows.{IsGraph, Leads};
 ghost use Rattle.sw_cycle.specs.Rows.{AreOnce};
 
 use crate::answering::answering;
-use crate::parallel::all_named;
+use crate::parallel::{PortWorkers, all_named};
 use crate::rows::rows;
 use std::alloc::{AllocError, Global};
-use std::thread::Threads;
 use sw_config::Network;
 use sw_flow::Place;
 
@@ -20,13 +19,12 @@ use sw_flow::Place;
 /// goes on to, and at a target that answers, where its replies leave. A row has each of them once.
 ///
 /// `places` has the places of each flow, reply flows too, as `sw_flow::all_places` gives them.
-/// Threads share the work, as many as there are processors.
 ///
 /// # Errors
 ///
 /// There is no memory for the rows, or for what finds them.
-pub fn dependencies<R: Threads + Sync>(
-    rt: &R,
+pub fn dependencies<W: PortWorkers>(
+    workers: &W,
     alloc: Global,
     network: &Network,
     places: &[Vec<Place>],
@@ -39,7 +37,7 @@ pub fn dependencies<R: Threads + Sync>(
 {
     // Names the network, which is valid by its type.
     let _flows = network.flows();
-    let sets = all_named(rt, alloc, network, places)?;
+    let sets = all_named(workers, alloc, network, places)?;
     let marks = answering(alloc, network)?;
     rows(alloc, network, &sets, &marks)
 }

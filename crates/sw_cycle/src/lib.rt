@@ -21,5 +21,6 @@ pub use choose::causes;
 pub use cycle::{Cause, Cycle};
 pub use dependency_rows::dependencies;
 pub use goers::flows_of_steps;
+pub use parallel::PortWorkers;
 pub use sw_flow::Place;
 pub use sw_topo::Chan;

@@ -1,17 +1,18 @@
-//! The ports that all flows name, from many threads.
+//! The ports that all flows name, by chunks of flows, side by side or one by one.
 ghost use Rattle.std.specs.Prelude.{◌≡◌, ◌+◌, ◌<◌, ◌≤◌, IfOk, length};
 ghost use Rattle.std.specs.List.{AllZip, range_with_len};
+ghost use Rattle.std.specs.Thread.{IsSync};
 ghost use Rattle.sw_config.specs.Entries.{all_flows};
 ghost use Rattle.sw_flow.specs.Places.{IsPlaceList};
 ghost use Rattle.sw_cycle.specs.Named.{AreNamed};
 ghost use Rattle.sw_cycle.specs.Chunks.{AreJoined, IsChunk, chunk_start};
 
 use crate::named::named_by;
-use rayon::prelude::*;
 use std::alloc::{AllocError, Global};
 use std::thread::Threads;
 use sw_config::Network;
 use sw_flow::Place;
+use sw_parallel::{OneByOne, SideBySide, Workers, one_by_one, side_by_side};
 use sw_topo::PortSet;
 
 /// The number of the first flow of a chunk, and behind the last chunk the number of flows.
@@ -66,33 +67,67 @@ fn joined(
     Ok(sets)
 }
 
-/// The ports that the flows of each chunk name, from as many threads as there are processors.
-fn named_by_chunks<R: Threads + Sync>(
-    rt: &R,
-    alloc: Global,
-    network: &Network,
-    places: &[Vec<Place>],
-) -> Result<Vec<Vec<PortSet>>, AllocError>
-    requires { AllZip (λ f ps. IsPlaceList network.now f ps.items) (all_flows network.now) places.now }
-    ensures { IfOk result (λ v. AllZip (λ chunk w. IsChunk network.now chunk w.items) (range_with_len 0 64) v.items) }
-{
-    let parts: Result<Vec<Vec<PortSet>>, AllocError> = (0..64u16)
-        .into_par_iter()
-        .with_min_len(1)
-        .map(
+/// Who finds the ports that flows name.
+pub trait PortWorkers: Workers {
+    /// The ports that the flows of each chunk name.
+    ///
+    /// # Errors
+    ///
+    /// There is no memory for the sets of ports.
+    fn named_by_chunks(
+        &self,
+        alloc: Global,
+        network: &Network,
+        places: &[Vec<Place>],
+    ) -> Result<Vec<Vec<PortSet>>, AllocError>
+        requires shared { IsSync Self.Shared.row }
+        requires lists { AllZip (λ f ps. IsPlaceList network.now f ps.items) (all_flows network.now) places.now }
+        ensures { IfOk result (λ v. AllZip (λ chunk w. IsChunk network.now chunk w.items) (range_with_len 0 64) v.items) };
+}
+
+impl<R: Threads + Sync> PortWorkers for SideBySide<'_, R> {
+    fn named_by_chunks(
+        &self,
+        alloc: Global,
+        network: &Network,
+        places: &[Vec<Place>],
+    ) -> Result<Vec<Vec<PortSet>>, AllocError> {
+        side_by_side::map_all(
+            self.handle(),
+            alloc,
+            64,
+            1,
             |chunk: u16| -> Result<Vec<PortSet>, AllocError>
                 requires lists { AllZip (λ f ps. IsPlaceList network.now f ps.items) (all_flows network.now) places.now }
                 requires chunk { chunk < 64 }
                 ensures { IfOk result (λ v. IsChunk network.entry.now chunk v.items) }
             { named_by_chunk(alloc, network, places, chunk) },
         )
-        .collect(rt, alloc)?;
-    parts
+    }
 }
 
-/// The ports that all flows name, by channel, from as many threads as there are processors.
-pub(crate) fn all_named<R: Threads + Sync>(
-    rt: &R,
+impl PortWorkers for OneByOne {
+    fn named_by_chunks(
+        &self,
+        alloc: Global,
+        network: &Network,
+        places: &[Vec<Place>],
+    ) -> Result<Vec<Vec<PortSet>>, AllocError> {
+        one_by_one::map_all(
+            alloc,
+            64,
+            |number: u16| -> Result<Vec<PortSet>, AllocError>
+                requires lists { AllZip (λ f ps. IsPlaceList network.now f ps.items) (all_flows network.now) places.now }
+                requires number { number < 64 }
+                ensures { IfOk result (λ v. IsChunk network.entry.now number v.items) }
+            { named_by_chunk(alloc, network, places, number) },
+        )
+    }
+}
+
+/// The ports that all flows name, by channel.
+pub(crate) fn all_named<W: PortWorkers>(
+    workers: &W,
     alloc: Global,
     network: &Network,
     places: &[Vec<Place>],
@@ -100,6 +135,6 @@ pub(crate) fn all_named<R: Threads + Sync>(
     requires { AllZip (λ f ps. IsPlaceList network.now f ps.items) (all_flows network.now) places.now }
     ensures { IfOk result (λ v. AreNamed network.now 0 (length (all_flows network.now)) v.items) }
 {
-    let parts = named_by_chunks(rt, alloc, network, places)?;
+    let parts = workers.named_by_chunks(alloc, network, places)?;
     joined(alloc, network, &parts)
 }

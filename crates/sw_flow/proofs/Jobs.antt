@@ -1,13 +1,10 @@
--- Fallible work in many threads.
-use Rattle.std.proofs.Common.{◌≡◌, ℕ, suc, ◌+◌, ◌<◌, List, [], ◌∷◌, map, length, get_or, Result, Ok, Err, IfOk, MatchResult, Contains, sym, subst, arith}
+-- What was made for each flow.
+use Rattle.std.proofs.Common.{◌≡◌, ℕ, suc, ◌+◌, ◌<◌, List, [], ◌∷◌, length, get_or, Vec, Global, sym, subst, arith}
 use Rattle.std.specs.List.{AllZip, range_with_len}
-
--- what each job gave, where all did
-zip_ok : {A X : Type 0} (E : Type 0) (Q : A → X → Type 0) (is : List A) (ys : List X) → AllZip (λ i (y : Result X E). IfOk y (Q i)) is (map Ok ys) → AllZip Q is ys
-zip_ok E Q [] [] h = tt
-zip_ok E Q [] (y ∷ ys) h = absurd h
-zip_ok E Q (i ∷ is) [] h = absurd h
-zip_ok E Q (i ∷ is) (y ∷ ys) h = (h.0, zip_ok E Q is ys h.1)
+use Rattle.std.proofs.lemmas.Option.{get_or_from_slice_get}
+use Rattle.sw_config.specs.Entries.{FlowEntry, Declaration, all_flows}
+use Rattle.sw_flow.specs.declared.place.Place.{Place}
+use Rattle.sw_flow.specs.Places.{IsPlaceList, IsPlacesOf}
 
 -- from the places in a list to its elements
 zip_at : {F X : Type 0} (Q : ℕ → X → Type 0) (P : F → X → Type 0) (fs : List F) (a : ℕ) (ys : List X) → ((i : ℕ) (f : F) (x : X) → i < length fs → Q (a + i) x → P (get_or fs i f) x) → AllZip Q (range_with_len a (length fs)) ys → AllZip P fs ys
@@ -19,13 +16,12 @@ zip_at {F = F} {X = X} Q P (f ∷ fs) a (y ∷ ys) move h = (
   zip_at Q P fs (a + 1) ys (λ i g x lt q. move (suc i) g x (omega arith) (subst (λ (n : ℕ). Q n x) (omega arith) q)) h.1,
 )
 
--- the whole is the sequential answer, where it is Ok
-pub spread : {F X E V : Type 0} (items : V → List X) (Q : ℕ → X → Type 0) (P : F → X → Type 0) (fs : List F) (xs : List (Result X E)) (r : Result V E)
-    → ((i : ℕ) (f : F) (x : X) → i < length fs → Q i x → P (get_or fs i f) x)
-    → AllZip (λ i (y : Result X E). IfOk y (Q i)) (range_with_len 0 (length fs)) xs
-    → MatchResult r (λ c. (ys : List X) × (xs ≡ map Ok ys) × (items c ≡ ys)) (λ e. Contains xs (Err e))
-    → IfOk r (λ c. AllZip P fs (items c))
-spread {F = F} {X = X} {E = E} items Q P fs xs (Ok c) move h m =
-    let jobs : List (Result X E) → Type 0 = λ zs. AllZip (λ i (y : Result X E). IfOk y (Q i)) (range_with_len 0 (length fs)) zs in
-    subst (AllZip P fs) (sym m.2) (zip_at Q P fs 0 m.0 (λ i f x lt q. move i f x lt (subst (λ (n : ℕ). Q n x) (omega arith) q)) (zip_ok E Q (range_with_len 0 (length fs)) m.0 (subst jobs m.1 h)))
-spread items Q P fs xs (Err e) move h m = tt
+numbered : (d : Declaration) (i : ℕ) (f : FlowEntry) (v : Vec Place Global) → IsPlacesOf d i v.items → IsPlaceList d (get_or (all_flows d) i f) v.items
+numbered d i f v q = subst (λ (h : FlowEntry). IsPlaceList d h v.items) (sym (get_or_from_slice_get (all_flows d) i q.flow f q.numbered)) q.list
+
+-- what was made by number, by the flows themselves
+pub made_for_flows : (d : Declaration) (n : ℕ) (lists : List (Vec Place Global)) → n ≡ length (all_flows d) → AllZip (λ i v. IsPlacesOf d i v.items) (range_with_len 0 n) lists → AllZip (λ f v. IsPlaceList d f v.items) (all_flows d) lists
+made_for_flows d n lists count h =
+    zip_at (λ i v. IsPlacesOf d i v.items) (λ f v. IsPlaceList d f v.items) (all_flows d) 0 lists
+    (λ i f v lt q. numbered d i f v (subst (λ (k : ℕ). IsPlacesOf d k v.items) (omega arith) q))
+    (subst (λ (m : ℕ). AllZip (λ i v. IsPlacesOf d i v.items) (range_with_len 0 m) lists) count h)

@@ -15,7 +15,7 @@ mod ways;
 pub use check::{fault_at, fault_in, first_fault};
 pub use fault::RouteFault;
 pub use following::follows;
-pub use parallel::all_places;
+pub use parallel::{PlaceWorkers, all_places};
 pub use place::Place;
 pub use routes::places;
 pub use walk::{Followers, followers_in};

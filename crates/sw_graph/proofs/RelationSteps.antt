@@ -2,13 +2,11 @@
 use Rattle.std.proofs.Common.{◌≡◌, ◌↔◌, ℕ, zero, suc, ◌+◌, ◌<◌, Bool, true, false, not, take, drop, filter, List, [], ◌∷◌, ◌++◌, length, set, refl, sym, ap, ◌∙◌, subst, inl, inr, arith, get_or-set_same, get_or-set_other, IsTrue}
 use Rattle.std.specs.Prelude.{Vec, Contains, slice_index}
 use Rattle.std.specs.declared.alloc.Global.{Global}
-use Rattle.std.specs.List.{AllZip, range_with_len}
+use Rattle.std.specs.List.{range_with_len}
 use Rattle.std.proofs.lemmas.Bool.{cases_eq, false≢true}
 use Rattle.std.proofs.lemmas.List.Elements.{Contains-append_left, Contains-append_right, Contains-append_cases, Contains-push, Contains-push_cases}
-use Rattle.std.specs.Borrow.{Bor}
 use Rattle.std.proofs.Math.Seq.{take-append_seam}
-use Rattle.rayon.proofs.ListFacts.{AllZip-weaken}
-use Rattle.rayon.specs.Lists.{filter_by_mask}
+use Rattle.sw_parallel.specs.Found.{AreKept}
 use Rattle.sw_graph.specs.Reversing.{AreAdded, AreBegun}
 use Rattle.sw_graph.specs.Rounds.{AllDone, AreFree, AreRounds, AreTaken, is_done}
 use Rattle.sw_graph.specs.Rows.{row, IsGraph, IsReversed, Leads}
@@ -90,48 +88,33 @@ empty_more [] v h e (suc c) = refl
 empty_more (x ∷ rows) v h e zero = h zero
 empty_more (x ∷ rows) v h e (suc c) = empty_more rows v (λ c. h (suc c)) e c
 
--- what is taken by the answers of a test
-pub mask_kept : (R : ℕ → Type 0) (xs : List ℕ) (bs : List Bool) → AllZip (λ x b. IsTrue b ↔ R x) xs bs → (c : ℕ) → Contains (filter_by_mask xs bs) c ↔ (Contains xs c × R c)
-mask_kept R [] bs h c = (λ k. absurd (not_listed c k), λ k. absurd (not_listed c k.0))
-mask_kept R (x ∷ xs) [] h c = absurd h
-mask_kept R (x ∷ xs) (true ∷ bs) h c =
-    let r = mask_kept R xs bs h.1 c in (
-      λ k. elim (listed_cases x (filter_by_mask xs bs) c k) [
-        | inl e ↦ ((0, omega arith, e), subst R e (h.0.0 refl))
+-- what is kept by a test
+kept_members : (P : ℕ → Type 0) (xs ys : List ℕ) → AreKept (λ x b. IsTrue b ↔ P x) xs ys → (c : ℕ) → Contains ys c ↔ (Contains xs c × P c)
+kept_members P [] ys h c = (λ k. absurd (not_listed c (subst (λ (l : List ℕ). Contains l c) h k)), λ k. absurd (not_listed c k.0))
+kept_members P (x ∷ xs) ys (true, told, (zs, same, h)) c =
+    let r = kept_members P xs zs h c in
+    let back : Contains (x ∷ zs) c ↔ (Contains (x ∷ xs) c × P c) = (
+      λ k. elim (listed_cases x zs c k) [
+        | inl e ↦ ((0, omega arith, e), subst P e (told.0 refl))
         | inr later ↦ let s = r.0 later in (later_listed x xs c s.0, s.1)
       ],
       λ k. elim (listed_cases x xs c k.0) [
         | inl e ↦ (0, omega arith, e)
-        | inr later ↦ later_listed x (filter_by_mask xs bs) c (r.1 (later, k.1))
+        | inr later ↦ later_listed x zs c (r.1 (later, k.1))
       ],
-    )
-mask_kept R (x ∷ xs) (false ∷ bs) h c =
-    let r = mask_kept R xs bs h.1 c in (
+    ) in
+    subst (λ (l : List ℕ). Contains l c ↔ (Contains (x ∷ xs) c × P c)) (sym same) back
+kept_members P (x ∷ xs) ys (false, told, h) c =
+    let r = kept_members P xs ys h c in (
       λ k. let s = r.0 k in (later_listed x xs c s.0, s.1),
       λ k. elim (listed_cases x xs c k.0) [
-        | inl e ↦ absurd (false≢true (h.0.1 (subst R (sym e) k.1)))
+        | inl e ↦ absurd (false≢true (told.1 (subst P (sym e) k.1)))
         | inr later ↦ r.1 (later, k.1)
       ],
     )
 
--- what the test of a member answers
-abbrev Tested : List (Vec ℕ Global) → List Bool → ℕ → Bool → Type 0
-Tested g done x b = (r : Bor ℕ) × (r.now ≡ x) × (IsTrue b ↔ AllDone done (row g r.now))
-
-abbrev Tells : List (Vec ℕ Global) → List Bool → ℕ → Bool → Type 0
-Tells g done x b = IsTrue b ↔ AllDone done (row g x)
-
-told : (g : List (Vec ℕ Global)) (done : List Bool) (x : ℕ) (b : Bool) → Tested g done x b → Tells g done x b
-told g done x b h = let P : ℕ → Type 0 = λ y. IsTrue b ↔ AllDone done (row g y) in subst P h.1 h.2
-
-pub free_are : (g gs : List (Vec ℕ Global)) (done dones : List Bool) (left xs : List ℕ) (bs : List Bool) (ys items : List ℕ) → gs ≡ g → dones ≡ done → xs ≡ left → AllZip (Tested gs dones) xs bs → ys ≡ filter_by_mask xs bs → items ≡ ys → AreFree g done left items
-free_are g gs done dones left xs bs ys items e1 e2 e3 zips e4 e5 c =
-    let m = mask_kept (λ x. AllDone dones (row gs x)) xs bs (AllZip-weaken (Tested gs dones) (Tells gs dones) (told gs dones) xs bs zips) c in
-    let A : List ℕ → Type 0 = λ l. Contains l c ↔ (Contains xs c × AllDone dones (row gs c)) in
-    let B : List ℕ → Type 0 = λ l. Contains items c ↔ (Contains l c × AllDone dones (row gs c)) in
-    let D : List Bool → Type 0 = λ l. Contains items c ↔ (Contains left c × AllDone l (row gs c)) in
-    let G : List (Vec ℕ Global) → Type 0 = λ h. Contains items c ↔ (Contains left c × AllDone done (row h c)) in
-    subst G e1 (subst D e2 (subst B e3 (subst A (sym (e5 ∙ e4)) m)))
+pub free_are : (g : List (Vec ℕ Global)) (done : List Bool) (left items : List ℕ) → AreKept (λ x b. IsTrue b ↔ AllDone done (row g x)) left items → AreFree g done left items
+free_are g done left items kept c = kept_members (λ x. AllDone done (row g x)) left items kept c
 
 -- what a slice's owner holds after a call that keeps its length
 pub whole : {A : Type 0} (len : ℕ) (new old : List A) → len ≡ length old → length new ≡ length old → take len (new ++ drop (length new) old) ≡ new

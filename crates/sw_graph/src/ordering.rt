@@ -6,9 +6,9 @@ ghost use Rattle.sw_graph.specs.Rows.{IsGraph, Leads, Precedes};
 use crate::answer::Order;
 use crate::cycle::{first_left, shown_cycle};
 use crate::predecessors::predecessors_of;
+use crate::round_workers::RoundWorkers;
 use crate::rounds::peel;
 use std::alloc::{AllocError, Global};
-use std::thread::Threads;
 
 /// The levels of the members where the relation has no cycle, and else the cycle to show.
 ///
@@ -18,8 +18,8 @@ use std::thread::Threads;
 /// # Errors
 ///
 /// There is no memory for the levels or the cycle.
-pub fn order<R: Threads + Sync>(
-    rt: &R,
+pub fn order<W: RoundWorkers>(
+    workers: &W,
     alloc: Global,
     successors: &[Vec<u16>],
 ) -> Result<Order, AllocError>
@@ -28,12 +28,12 @@ pub fn order<R: Threads + Sync>(
     ensures { IfOk result (Answers (Leads successors.now) (length successors.now)) }
 {
     let predecessors = predecessors_of(alloc, successors)?;
-    answer(rt, alloc, &predecessors)
+    answer(workers, alloc, &predecessors)
 }
 
 /// The same of a relation that is given by the predecessors of each member.
-fn answer<R: Threads + Sync>(
-    rt: &R,
+fn answer<W: RoundWorkers>(
+    workers: &W,
     alloc: Global,
     predecessors: &[Vec<u16>],
 ) -> Result<Order, AllocError>
@@ -41,7 +41,7 @@ fn answer<R: Threads + Sync>(
     requires graph { IsGraph predecessors.now }
     ensures { IfOk result (Answers (Precedes predecessors.now) (length predecessors.now)) }
 {
-    let peeled = peel(rt, alloc, predecessors)?;
+    let peeled = peel(workers, alloc, predecessors)?;
     let Some(start) = first_left(&peeled.done) else {
         return Ok(Order::Levels(peeled.levels));
     };

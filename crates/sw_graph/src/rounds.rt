@@ -1,48 +1,12 @@
 //! The levels of the members that are not behind a cycle, found in rounds.
-ghost use Rattle.std.specs.Prelude.{◌≡◌, ◌↔◌, ◌<◌, ◌≤◌, All, IfOk, IsTrue, filter, length, not};
+ghost use Rattle.std.specs.Prelude.{◌≡◌, ◌<◌, ◌≤◌, All, IfOk, filter, length, not};
 ghost use Rattle.std.specs.List.{range_with_len};
-ghost use Rattle.sw_graph.specs.Rounds.{AllDone, AreFree, AreTaken, IsPeeled, is_done};
-ghost use Rattle.sw_graph.specs.Rows.{IsGraph, row};
+ghost use Rattle.sw_graph.specs.Rounds.{AreTaken, IsPeeled, is_done};
+ghost use Rattle.sw_graph.specs.Rows.{IsGraph};
 
 use crate::marks::is_marked;
-use rayon::prelude::*;
+use crate::round_workers::RoundWorkers;
 use std::alloc::{AllocError, Global};
-use std::thread::Threads;
-
-/// The fewest members that a thread is started for. Below twice as many a round goes through one
-/// thread: to look at a member's predecessors takes some hundred nanoseconds, and a thread some ten
-/// microseconds to start.
-const LEAST_PIECE: usize = 1024;
-
-/// Whether all of the members are done.
-fn all_done(members: &[u16], done: &[bool]) -> bool
-    ensures { IsTrue result ↔ AllDone done.now members.now }
-{
-    members.iter().all(|c| is_marked(done, *c))
-}
-
-/// The members that are left of which all predecessors are done.
-fn free_members<R: Threads + Sync>(
-    rt: &R,
-    alloc: Global,
-    predecessors: &[Vec<u16>],
-    done: &[bool],
-    left: &[u16],
-) -> Result<Vec<u16>, AllocError>
-    requires { All (λ c. c < length predecessors.now) left.now }
-    ensures { IfOk result (λ v. AreFree predecessors.now done.now left.now v.items) }
-{
-    left.par_iter()
-        .copied()
-        .with_min_len(LEAST_PIECE)
-        .filter(
-            |c: &u16| -> bool
-                requires { c.now < length predecessors.now }
-                ensures { IsTrue result ↔ AllDone done.entry.now (row predecessors.entry.now c.now) }
-            { all_done(&predecessors[usize::from(*c)], done) },
-        )
-        .collect(rt, alloc)
-}
 
 /// Makes the round the level of the members, and marks them as done.
 fn take_all(members: &[u16], round: u16, levels: &mut [u16], done: &mut [bool])
@@ -92,8 +56,8 @@ pub struct Peeled {
 /// # Errors
 ///
 /// There is no memory for the levels or for a round.
-pub fn peel<R: Threads + Sync>(
-    rt: &R,
+pub fn peel<W: RoundWorkers>(
+    workers: &W,
     alloc: Global,
     predecessors: &[Vec<u16>],
 ) -> Result<Peeled, AllocError>
@@ -105,12 +69,12 @@ pub fn peel<R: Threads + Sync>(
     let mut done = vec![in alloc; false; predecessors.len()]?;
     let mut left = numbers(alloc, predecessors.len())?;
     let mut round = 0;
-    let mut free = free_members(rt, alloc, predecessors, &done, &left)?;
+    let mut free = workers.free_members(alloc, predecessors, &done, &left)?;
     while !free.is_empty() {
         take_all(&free, round, &mut levels, &mut done);
         drop_done(&mut left, &done);
         round += 1;
-        free = free_members(rt, alloc, predecessors, &done, &left)?;
+        free = workers.free_members(alloc, predecessors, &done, &left)?;
     }
     Ok(Peeled { levels, done })
 }

@@ -65,6 +65,7 @@ impl<'n, R: Routing, A: Arbiter> History<'n, R, A> {
 
     /// Whether these are the flow, cargo and end of the packet that the node where the flow starts is
     /// to begin next: then that node.
+    #[inline(never)]
     fn sender(&self, flow: u16, cargo: &[u8], end: End) -> Option<u16>
         ensures some { IfSome result (λ n. n ≡ ((network_of self.now.declared).flow flow).from) }
         ensures within { IfSome result (λ n. n < length self.now.declared.nodes) }
@@ -89,6 +90,7 @@ impl<'n, R: Routing, A: Arbiter> History<'n, R, A> {
     }
 
     /// The node that begins a packet by the step, if it begins one: that has to be its next.
+    #[inline(always)]
     pub(crate) fn beginner(&self, step: &Step) -> Result<Option<u16>, StepFault>
         ensures refused { IfErr result (λ e. (e ≡ NotEnabled) × (IsNext self.now (machine_step step.now) → ⊥)) }
         ensures next { IfOk result (λ n. BeginsNext (network_of self.now.declared) (packets_of self.now.load) self.now.steps (machine_step step.now)) }

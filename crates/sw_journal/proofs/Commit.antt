@@ -14,12 +14,12 @@ use Rattle.sw_history.proofs.Follows.{one_state_after, split_last}
 use Rattle.sw_history.specs.History.{HistoryView}
 use Rattle.sw_history.specs.Next.{IsIdle, MayFollow}
 use Rattle.sw_journal.specs.Adding.{AddsAt, IsAtCell, IsWithSteps}
-use Rattle.sw_journal.proofs.Told.{at_its_cell, known_after, known_at, placed}
+use Rattle.sw_journal.proofs.Told.{at_its_cell, ends_once, known_after, known_at, placed}
 use Rattle.sw_journal.proofs.Renewed.{if_false, if_true}
 use Rattle.sw_journal.specs.Cells.{all_known, cells_of, ends_at, numbered}
 use Rattle.sw_journal.specs.Marks.{IsTrueMark}
 use Rattle.sw_journal.specs.Record.{JournalView, CellView, Commits, IsTrueView, IsKept, IsNowCell, LeadsTo, with_step}
-use Rattle.sw_journal.specs.Renewal.{AreRenewedAfter, is_it, is_one_of, renewed}
+use Rattle.sw_journal.specs.Renewal.{AreOnce, AreRenewedAfter, is_it, is_one_of, renewed}
 use Rattle.sw_journal.specs.declared.fault.JournalFault.{JournalFault}
 use Rattle.sw_journal.specs.declared.fault.JournalFault.TheVariants as journal
 use Rattle.sw_load.specs.Load.{LoadEntry}
@@ -82,6 +82,16 @@ ends_within net s id n ends ok count is = subst (λ (l : List (ℕ × Numbers)).
         let at = slice_get-get_or es k 0 few in
         let there = slice_get-map (λ (e : ℕ). (e, numbers_at net s e)) es k ∙ ap (option_map (λ (e : ℕ). (e, numbers_at net s e))) at in
         subst (λ (p : ℕ × Numbers). p.0 < n) (sym (get_or_from_slice_get (map (λ (e : ℕ). (e, numbers_at net s e)) es) k (e, numbers_at net s e) d there)) (low k e at)
+
+names_back : (net : Network) (s : State) (es : List ℕ) → map (λ (p : ℕ × Numbers). p.0) (map (λ e. (e, numbers_at net s e)) es) ≡ es
+names_back net s [] = refl
+names_back net s (e ∷ es) = λ i. e ∷ names_back net s es i
+
+-- and each is there once
+pub names_once : (net : Network) (s : State) (id : CellId) (ends : List (ℕ × Numbers)) → ends ≡ map (λ e. (e, numbers_at net s e)) (ends_at net id) → AreOnce (map (λ p. p.0) ends)
+names_once net s id ends is =
+    let names : map (λ (p : ℕ × Numbers). p.0) ends ≡ ends_at net id = ap (map (λ (p : ℕ × Numbers). p.0)) is ∙ names_back net s (ends_at net id) in
+    subst AreOnce (sym names) (ends_once net id)
 
 -- ---- the journal's seat
 

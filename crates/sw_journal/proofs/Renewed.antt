@@ -1,10 +1,11 @@
 -- Link ends whose numbers are renewed one after another.
-use Rattle.std.proofs.Common.{All, Bool, List, Option, Some, [], ap, arith, false, get_or, length, map, refl, subst, suc, sym, true, zero, ℕ, ◌+◌, ◌<◌, ◌∙◌, ◌∷◌, ◌≡◌}
-use Rattle.std.proofs.lemmas.Bool.{false≢true}
+use Rattle.std.proofs.Common.{All, Bool, List, None, Option, Some, [], ap, arith, false, get_or, length, map, refl, subst, suc, sym, true, zero, ℕ, ◌+◌, ◌<◌, ◌∙◌, ◌∷◌, ◌≡◌, ◌≢◌}
+use Rattle.std.proofs.lemmas.Bool.{false≢true, ne_eqb}
+use Rattle.std.proofs.lemmas.Option.{slice_get-map, slice_get_within}
 use Rattle.std.proofs.lemmas.List.{get_or-map, length-map}
-use Rattle.std.specs.Prelude.{if◌then◌else◌, slice_get, slice_set}
+use Rattle.std.specs.Prelude.{if◌then◌else◌, option_map, slice_get, slice_set, ◌||◌}
 use Rattle.atomic_table.specs.Table.{Me}
-use Rattle.sw_journal.specs.Renewal.{is_one_of, renewed, renewed_at}
+use Rattle.sw_journal.specs.Renewal.{AreOnce, is_it, is_one_of, renewed, renewed_at}
 use Rattle.sw_machine.specs.Network.{Network}
 use Rattle.sw_machine.specs.State.{State}
 use Rattle.sw_net.specs.Numbers.{numbers_at}
@@ -72,6 +73,71 @@ module _ (these : Option ℕ × Option ℕ) (net : Network) (s : State) where
   -- it is one of these, with its numbers
   pub one_renewed : (p : ℕ × Numbers) (numbers : Numbers) → is_one_of these p.0 ≡ true → numbers ≡ numbers_at net s p.0 → (p.0, numbers) ≡ renewed these net s p
   one_renewed p numbers one is = (λ i. (p.0, is i)) ∙ sym (if_true (is_one_of these p.0) (p.0, numbers_at net s p.0) p one)
+
+  -- none of the list is one of these
+  others_renewed : (ends : List (ℕ × Numbers)) → ((i : ℕ) (q : ℕ × Numbers) → slice_get ends i ≡ Some q → is_one_of these q.0 ≡ false) → ends ≡ map (renewed these net s) ends
+  others_renewed [] none = refl
+  others_renewed (p ∷ ends) none = λ i. other_renewed p (none 0 p refl) i ∷ others_renewed ends (λ j q e. none (suc j) q e) i
+
+  -- none but that at one place
+  here_renewed : (k : ℕ) (ends : List (ℕ × Numbers)) → ((i : ℕ) (q : ℕ × Numbers) → (i ≡ k → ⊥) → slice_get ends i ≡ Some q → is_one_of these q.0 ≡ false)
+      → renewed_at these net s k ends ≡ map (renewed these net s) ends
+  here_renewed zero [] others = refl
+  here_renewed (suc k) [] others = refl
+  here_renewed zero (p ∷ ends) others = λ i. renewed these net s p ∷ others_renewed ends (λ j q e. others (suc j) q (λ (no : suc j ≡ 0). absurd (omega arith)) e) i
+  here_renewed (suc k) (p ∷ ends) others =
+      let here = other_renewed p (others 0 p (λ (no : 0 ≡ suc k). absurd (omega arith)) refl) in
+      let later = here_renewed k ends (λ j q ne e. others (suc j) q (λ (same : suc j ≡ suc k). ne (omega arith)) e) in
+      λ i. here i ∷ later i
+
+module _ (net : Network) (s : State) where
+  -- no link end is renewed
+  pub no_end_renewed : (ends : List (ℕ × Numbers)) → ends ≡ map (renewed (None, None) net s) ends
+  no_end_renewed ends = others_renewed (None, None) net s ends (λ i q e. refl)
+
+  -- the link end at that place is
+  pub end_renewed : (end k : ℕ) (ends after : List (ℕ × Numbers)) → AreOnce (map (λ p. p.0) ends) → option_map (λ p. p.0) (slice_get ends k) ≡ Some end
+      → after ≡ renewed_at (Some end, None) net s k ends → after ≡ map (renewed (Some end, None) net s) ends
+  end_renewed end k ends after once at is =
+      let name : ℕ × Numbers → ℕ = λ p. p.0 in
+      let here : slice_get (map name ends) k ≡ Some end = slice_get-map name ends k ∙ at in
+      let other : (i : ℕ) (q : ℕ × Numbers) → (i ≡ k → ⊥) → slice_get ends i ≡ Some q → is_one_of (Some end, None) q.0 ≡ false = λ i q apart e.
+      let there : slice_get (map name ends) i ≡ Some q.0 = slice_get-map name ends i ∙ ap (option_map name) e in
+      let ne : end ≢ q.0 = λ same. apart (once i k end (there ∙ ap (λ (n : ℕ). Some n) (sym same)) here) in
+      ap (λ b. b || false) (ne_eqb end q.0 ne) in
+      is ∙ here_renewed (Some end, None) net s k ends other
+
+  abbrev pick : Bool → ℕ × Numbers → ℕ × Numbers
+  pick b p = if b then (p.0, numbers_at net s p.0) else p
+
+  again : (p : ℕ × Numbers) (b : Bool) → pick (b || false) (p.0, numbers_at net s p.0) ≡ (p.0, numbers_at net s p.0)
+  again p true = refl
+  again p false = refl
+
+  or_false : (b : Bool) → b || false ≡ b
+  or_false true = refl
+  or_false false = refl
+
+  one_by_one : (b : Option ℕ) (p : ℕ × Numbers) (x : Bool) → pick (is_it b (pick (x || false) p).0 || false) (pick (x || false) p) ≡ pick (x || is_it b p.0) p
+  one_by_one b p true = again p (is_it b p.0)
+  one_by_one b p false = ap (λ y. pick y p) (or_false (is_it b p.0))
+
+  both_renewed : (a b : Option ℕ) (ends : List (ℕ × Numbers)) → map (renewed (b, None) net s) (map (renewed (a, None) net s) ends) ≡ map (renewed (a, b) net s) ends
+  both_renewed a b [] = refl
+  both_renewed a b (p ∷ ends) = λ i. one_by_one b p (is_it a p.0) i ∷ both_renewed a b ends i
+
+  -- one after the other
+  pub two_renewed : (these : Option ℕ × Option ℕ) (ends between after : List (ℕ × Numbers)) → between ≡ map (renewed (these.0, None) net s) ends → after ≡ map (renewed (these.1, None) net s) between
+      → after ≡ map (renewed these net s) ends
+  two_renewed these ends between after first second = second ∙ ap (map (renewed (these.1, None) net s)) first ∙ both_renewed these.0 these.1 ends
+
+-- a link end stands inside the list
+pub stands_within : (ends : List (ℕ × Numbers)) (k end : ℕ) → option_map (λ p. p.0) (slice_get ends k) ≡ Some end → k < length ends
+stands_within ends k end at = inside (slice_get ends k) refl at
+  where
+    inside : (o : Option (ℕ × Numbers)) → slice_get ends k ≡ o → option_map (λ p. p.0) o ≡ Some end → k < length ends
+    inside None is h = absurd cc
+    inside (Some p) is h = slice_get_within ends k p is
 
 -- ---- what the journal's seat knows of them
 

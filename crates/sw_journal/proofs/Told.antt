@@ -1,5 +1,5 @@
 -- What cells know before and after a step.
-use Rattle.std.proofs.Common.{◌≡◌, ◌≢◌, ◌⊎◌, ℕ, zero, suc, ◌+◌, ◌-◌, ◌<◌, Some, None, List, [], ◌∷◌, ◌++◌, length, map, filter, Bool, true, false, refl, sym, ap, ◌∙◌, subst, ⊎_elim, inl, inr, arith, cond}
+use Rattle.std.proofs.Common.{◌≡◌, ◌≢◌, ◌⊎◌, ℕ, zero, suc, ◌+◌, ◌-◌, ◌<◌, ◌≤◌, Some, None, List, [], ◌∷◌, ◌++◌, length, map, filter, Bool, true, false, refl, sym, ap, ◌∙◌, subst, ⊎_elim, inl, inr, arith, cond}
 use Rattle.std.specs.List.{range_with_len}
 use Rattle.std.specs.Prelude.{Option, option_map, slice_get, slice_set}
 use Rattle.std.proofs.lemmas.Bool.{eqb-true}
@@ -8,6 +8,7 @@ use Rattle.std.proofs.lemmas.Option.{same_Some, slice_get-map}
 use Rattle.sw_cell.specs.Places.{IsIn, machine_cell}
 use Rattle.sw_cell.specs.declared.cell.CellId.{CellId}
 use Rattle.sw_cell.specs.declared.cell.CellId.TheVariants.{Node, Switch}
+use Rattle.sw_journal.specs.Renewal.{AreOnce}
 use Rattle.sw_journal.specs.Cells.{all_known, cells_of, ends_at, known_of, same_cell}
 use Rattle.sw_machine.proofs.Parts.{changes}
 use Rattle.sw_machine.proofs.Wormhole.{held_once}
@@ -68,6 +69,32 @@ module _ (p : ℕ → Bool) where
   kept_in_range a zero k x e = absurd cc
   kept_in_range a (suc n) k x e =
       kept_by a n x (filter p (range_with_len (a + 1) n)) (λ j at. let it = kept_in_range (a + 1) n j x at in (it.0, (let lt = it.1 in omega arith))) (p a) refl k e
+
+  from_by : (a x : ℕ) (rest : List ℕ) → ((k : ℕ) → slice_get rest k ≡ Some x → a + 1 ≤ x) → (b : Bool) → (k : ℕ) → slice_get (cond b (a ∷ rest) rest) k ≡ Some x → a ≤ x
+  from_by a x rest later true zero e = let here : a ≡ x = cc in omega arith
+  from_by a x rest later true (suc k) e = let lt = later k e in omega arith
+  from_by a x rest later false k e = let lt = later k e in omega arith
+
+  kept_from : (a n k x : ℕ) → slice_get (filter p (range_with_len a n)) k ≡ Some x → a ≤ x
+  kept_from a zero k x e = absurd cc
+  kept_from a (suc n) k x e = from_by a x (filter p (range_with_len (a + 1) n)) (λ j at. kept_from (a + 1) n j x at) (p a) k e
+
+  once_by : (a x : ℕ) (rest : List ℕ) → ((k : ℕ) → slice_get rest k ≡ Some x → a + 1 ≤ x) → ((i j : ℕ) → slice_get rest i ≡ Some x → slice_get rest j ≡ Some x → i ≡ j)
+      → (b : Bool) (i j : ℕ) → slice_get (cond b (a ∷ rest) rest) i ≡ Some x → slice_get (cond b (a ∷ rest) rest) j ≡ Some x → i ≡ j
+  once_by a x rest above once true zero zero e f = refl
+  once_by a x rest above once true zero (suc j) e f = let here : a ≡ x = cc in let lt = above j f in absurd (omega arith)
+  once_by a x rest above once true (suc i) zero e f = let here : a ≡ x = cc in let lt = above i e in absurd (omega arith)
+  once_by a x rest above once true (suc i) (suc j) e f = ap suc (once i j e f)
+  once_by a x rest above once false i j e f = once i j e f
+
+  kept_once : (a n i j x : ℕ) → slice_get (filter p (range_with_len a n)) i ≡ Some x → slice_get (filter p (range_with_len a n)) j ≡ Some x → i ≡ j
+  kept_once a zero i j x e f = absurd cc
+  kept_once a (suc n) i j x e f =
+      once_by a x (filter p (range_with_len (a + 1) n)) (λ k at. kept_from (a + 1) n k x at) (λ k l g h. kept_once (a + 1) n k l x g h) (p a) i j e f
+
+-- no two places of a cell's list have one link end
+pub ends_once : (net : Network) (id : CellId) → AreOnce (ends_at net id)
+ends_once net id i j e at there = kept_once (λ c. same_cell (net.start_of c) (machine_cell id)) 0 net.channels i j e at there
 
 -- ---- cells
 

@@ -1,5 +1,5 @@
 -- The numbers of link ends, renewed.
-use Rattle.std.specs.Prelude.{Bool, List, None, Option, Some, [], false, if◌then◌else◌, map, nat_eq, suc, zero, ℕ, ◌||◌, ◌∷◌, ◌≡◌}
+use Rattle.std.specs.Prelude.{Bool, List, None, Option, Some, [], false, if◌then◌else◌, map, nat_eq, slice_get, suc, zero, ℕ, ◌||◌, ◌∷◌, ◌≡◌}
 use Rattle.sw_history.specs.History.{HistoryView, LeadsTo}
 use Rattle.sw_machine.specs.Network.{Network}
 use Rattle.sw_machine.specs.State.{State}
@@ -13,6 +13,10 @@ use Rattle.sw_net.specs.declared.numbers.Numbers.{Numbers}
 abbrev pub ChangesOnlyThen : HistoryView → Step → Option ℕ × Option ℕ → Type 0
 ChangesOnlyThen h step these = (s t : State) → LeadsTo h s → Leads (network_of h.declared) s step t → (e : ℕ) → (these.0 ≡ Some e → ⊥) → (these.1 ≡ Some e → ⊥)
     → numbers_at (network_of h.declared) t e ≡ numbers_at (network_of h.declared) s e
+
+-- no two places of the list have one link end
+abbrev pub AreOnce : List ℕ → Type 0
+AreOnce ends = (i j e : ℕ) → slice_get ends i ≡ Some e → slice_get ends j ≡ Some e → i ≡ j
 
 -- whether it is this link end
 abbrev pub is_it : Option ℕ → ℕ → Bool

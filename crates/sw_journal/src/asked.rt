@@ -119,6 +119,7 @@ impl<'n> Journal<'n> {
             marks: _,
             table: _,
             seat: _,
+            places: _,
         } = self;
         history.into_steps()
     }

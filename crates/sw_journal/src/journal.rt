@@ -28,6 +28,8 @@ pub struct Journal<'n> {
     pub(crate) marks: Vec<Option<u64>>,
     pub(crate) table: CellTable,
     pub(crate) seat: CellSeat,
+    /// By link end, at which place of its cell's list it stands: where it is looked for first.
+    pub(crate) places: Vec<u16>,
 }
 
 impl<'n> Model for Journal<'n> {
@@ -84,6 +86,7 @@ impl<'n> Journal<'n> {
         let marks = vec![in alloc; None; channels]?;
         let (table, mut seat) = begin(alloc)?;
         let cells = opening(alloc, &net, &table, &mut seat)?;
+        let places = places_of(alloc, channels, &cells)?;
         let history = History::new(alloc, net, load)?;
         let journal = Journal {
             history,
@@ -91,6 +94,7 @@ impl<'n> Journal<'n> {
             marks,
             table,
             seat,
+            places,
         };
         Ok((journal, cells))
     }
@@ -123,6 +127,7 @@ impl<'n> Journal<'n> {
             marks: _,
             table,
             seat,
+            places,
         } = self;
         meet(table, seat, &mut cell.seat);
         let these = changing(history, &step);
@@ -130,10 +135,30 @@ impl<'n> Journal<'n> {
             cell.seat = part(table, seat);
             return Err(fault);
         }
-        renew_after(history, table, seat, &mut cell.ends, &these);
+        renew_after(history, table, seat, &mut cell.ends, &these, places);
         cell.seat = part(table, seat);
         Ok(())
     }
+}
+
+// The link ends of the cell stand at these places of its list.
+fn set_places(places: &mut [u16], cell: &Cell) {
+    let mut place = 0u16;
+    for (end, _) in cell.ends() {
+        if let Some(at) = places.get_mut(end.number() as usize) {
+            *at = place;
+        }
+        place = place.saturating_add(1);
+    }
+}
+
+// By link end, at which place of its cell's list it stands.
+fn places_of(alloc: Global, channels: usize, cells: &[Cell]) -> Result<Vec<u16>, AllocError> {
+    let mut places = vec![in alloc; 0u16; channels]?;
+    for cell in cells {
+        set_places(&mut places, cell);
+    }
+    Ok(places)
 }
 
 // Whether the step is done at that cell.

@@ -1,6 +1,6 @@
 //! The numbers of a cell after a step.
-ghost use Rattle.std.specs.Prelude.{◌≡◌, ◌*◌, ◌<◌, All, Some, length, map, slice_get, true};
-ghost use Rattle.sw_journal.specs.Renewal.{AreRenewed, AreRenewedAfter, ChangesOnlyThen, IsRenewed, is_it, is_one_of};
+ghost use Rattle.std.specs.Prelude.{◌≡◌, ◌*◌, ◌<◌, All, IfSome, None, Some, length, map, option_map, slice_get, true};
+ghost use Rattle.sw_journal.specs.Renewal.{AreOnce, AreRenewed, AreRenewedAfter, ChangesOnlyThen, IsRenewed, is_it, is_one_of};
 ghost use Rattle.sw_journal.specs.Views.{with_known};
 ghost use Rattle.sw_model.specs.Steps.{machine_step};
 
@@ -86,12 +86,80 @@ fn renew(
     requires same { slice_get seat.old.me.0.all seat.old.me.0.cell ≡ Some seat.old.me.0.known }
     requires within { All (λ p. p.0 < 2 * length net.now.declared.links) ends.old.items }
     ensures numbers { AreRenewed net.now these.now ends.old.items ends.new.items }
+    ensures names { map (λ p. p.0) ends.new.items ≡ map (λ p. p.0) ends.old.items }
     ensures table { seat.new.table_id ≡ seat.old.table_id }
     ensures seat { seat.new.me ≡ (with_known seat.old.me.0 (record { id = seat.old.me.0.known.id; ends = ends.new.items }), seat.old.me.1) }
 {
     for place in 0..ends.len() {
         renew_one(net, table, seat, ends, these, place);
     }
+}
+
+// The place of the link end in the list, if it stands where it is looked for.
+fn seen_at(ends: &[(LinkEnd, Numbers)], end: LinkEnd, places: &[u16]) -> Option<usize>
+    ensures { IfSome result (λ k. option_map (λ p. p.0) (slice_get ends.now k) ≡ Some end) }
+{
+    let place = usize::from(*places.get(end.number() as usize)?);
+    let seen = ends.get(place)?;
+    if seen.0.number() == end.number() {
+        Some(place)
+    } else {
+        None
+    }
+}
+
+// The link end, if there is one, has its numbers in the net from now on, and the table is told. It
+// is looked for at its place first, and where it does not stand there, at each.
+fn renew_end(
+    net: &Net<'_, SwitchRoutes<'_>, Policy>,
+    table: &CellTable,
+    seat: &mut CellSeat,
+    ends: &mut Vec<(LinkEnd, Numbers)>,
+    own: Option<LinkEnd>,
+    places: &[u16],
+)
+    requires table { 0 < table.now.shared.table_id.words }
+    requires seat { (seat.old.table_id ≡ table.now.shared.table_id) × (seat.old.me.0.keeps ≡ true) × (seat.old.me.0.claims ≡ true) }
+    requires known { seat.old.me.0.known.ends ≡ ends.old.items }
+    requires same { slice_get seat.old.me.0.all seat.old.me.0.cell ≡ Some seat.old.me.0.known }
+    requires within { All (λ p. p.0 < 2 * length net.now.declared.links) ends.old.items }
+    requires once { AreOnce (map (λ p. p.0) ends.old.items) }
+    ensures numbers { AreRenewed net.now (own, None) ends.old.items ends.new.items }
+    ensures names { map (λ p. p.0) ends.new.items ≡ map (λ p. p.0) ends.old.items }
+    ensures table { seat.new.table_id ≡ seat.old.table_id }
+    ensures seat { seat.new.me ≡ (with_known seat.old.me.0 (record { id = seat.old.me.0.known.id; ends = ends.new.items }), seat.old.me.1) }
+{
+    let Some(end) = own else {
+        return;
+    };
+    if let Some(place) = seen_at(ends, end, places) {
+        renew_one(net, table, seat, ends, &(own, None), place);
+        return;
+    }
+    renew(net, table, seat, ends, &(own, None));
+}
+
+// Each of the two has its numbers in the net from now on, and the table is told.
+fn renew_two(
+    net: &Net<'_, SwitchRoutes<'_>, Policy>,
+    table: &CellTable,
+    seat: &mut CellSeat,
+    ends: &mut Vec<(LinkEnd, Numbers)>,
+    these: &(Option<LinkEnd>, Option<LinkEnd>),
+    places: &[u16],
+)
+    requires table { 0 < table.now.shared.table_id.words }
+    requires seat { (seat.old.table_id ≡ table.now.shared.table_id) × (seat.old.me.0.keeps ≡ true) × (seat.old.me.0.claims ≡ true) }
+    requires known { seat.old.me.0.known.ends ≡ ends.old.items }
+    requires same { slice_get seat.old.me.0.all seat.old.me.0.cell ≡ Some seat.old.me.0.known }
+    requires within { All (λ p. p.0 < 2 * length net.now.declared.links) ends.old.items }
+    requires once { AreOnce (map (λ p. p.0) ends.old.items) }
+    ensures numbers { AreRenewed net.now these.now ends.old.items ends.new.items }
+    ensures table { seat.new.table_id ≡ seat.old.table_id }
+    ensures seat { seat.new.me ≡ (with_known seat.old.me.0 (record { id = seat.old.me.0.known.id; ends = ends.new.items }), seat.old.me.1) }
+{
+    renew_end(net, table, seat, ends, these.0, places);
+    renew_end(net, table, seat, ends, these.1, places);
 }
 
 // The same, in the state after the history.
@@ -101,15 +169,17 @@ pub(crate) fn renew_after(
     seat: &mut CellSeat,
     ends: &mut Vec<(LinkEnd, Numbers)>,
     these: &(Option<LinkEnd>, Option<LinkEnd>),
+    places: &[u16],
 )
     requires table { 0 < table.now.shared.table_id.words }
     requires seat { (seat.old.table_id ≡ table.now.shared.table_id) × (seat.old.me.0.keeps ≡ true) × (seat.old.me.0.claims ≡ true) }
     requires known { seat.old.me.0.known.ends ≡ ends.old.items }
     requires same { slice_get seat.old.me.0.all seat.old.me.0.cell ≡ Some seat.old.me.0.known }
     requires within { All (λ p. p.0 < 2 * length history.now.declared.links) ends.old.items }
+    requires once { AreOnce (map (λ p. p.0) ends.old.items) }
     ensures numbers { AreRenewedAfter history.now these.now ends.old.items ends.new.items }
     ensures table { seat.new.table_id ≡ seat.old.table_id }
     ensures seat { seat.new.me ≡ (with_known seat.old.me.0 (record { id = seat.old.me.0.known.id; ends = ends.new.items }), seat.old.me.1) }
 {
-    renew(history.net(), table, seat, ends, these);
+    renew_two(history.net(), table, seat, ends, these, places);
 }

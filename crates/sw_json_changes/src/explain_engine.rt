@@ -5,18 +5,18 @@ ghost use Rattle.sw_json_changes.specs.ExplainJson.{IsExplainJson};
 use crate::explain_outcome::explain_outcome;
 use std::alloc::Global;
 use std::io::{Read, Write};
-use std::thread::Threads;
 use sw_command::{Ended, read_one};
 use sw_json::Release;
 use sw_json_answers::{answer_to_one, tell_answer, tell_unread};
+use sw_search::VerdictWorkers;
 
 /// Why the network of a file can lock up, as an object of JSON: the first flow that is not well routed, with the places that its packets
 /// go over; or each tangle of channels with its shortest cycle, each step with all flows that make it; or that the network never locks up.
-/// 0 where it never does, else 1. Threads share the work, as many as there are processors.
+/// 0 where it never does, else 1. The workers share the work.
 ///
 /// `path` is told as that of the file; it is not opened.
-pub fn explain<T: Threads + Sync, R: Read, W: Write>(
-    rt: &T,
+pub fn explain<T: VerdictWorkers, R: Read, W: Write>(
+    workers: &T,
     alloc: Global,
     reader: &mut R,
     path: &str,
@@ -29,7 +29,7 @@ pub fn explain<T: Threads + Sync, R: Read, W: Write>(
         Ok(text) => text,
         Err(error) => return tell_unread(writer, error),
     };
-    let found = explain_outcome(rt, alloc, path, &text);
+    let found = explain_outcome(workers, alloc, path, &text);
     tell_answer(
         writer,
         answer_to_one(alloc, "explain", release, path, &text, found),

@@ -12,13 +12,12 @@ ghost use Rattle.sw_json_changes.specs.ExplainValues.{explain_value};
 use crate::explain_laws::explanations_are_plain;
 use crate::explain_values::explain_value;
 use std::alloc::{AllocError, Global};
-use std::thread::Threads;
 use sw_app_explain::explain_status;
 use sw_command::InputText;
 use sw_config::Network;
 use sw_file::read_network;
 use sw_json_answers::{Outcome, long_file, unread_network};
-use sw_search::{Explanation, explain};
+use sw_search::{Explanation, VerdictWorkers, explain};
 
 // What is told of a network.
 fn told(alloc: Global, network: &Network, explanation: &Explanation) -> Result<Outcome, AllocError>
@@ -32,20 +31,20 @@ fn told(alloc: Global, network: &Network, explanation: &Explanation) -> Result<O
 }
 
 // What is found of a network.
-fn of_network<T: Threads + Sync>(
-    rt: &T,
+fn of_network<W: VerdictWorkers>(
+    workers: &W,
     alloc: Global,
     network: &Network,
 ) -> Result<Outcome, AllocError>
     ensures { IfOk result (λ o. IsExplained network.now (view o.result) o.status) }
 {
-    let explanation = explain(rt, alloc, network)?;
+    let explanation = explain(workers, alloc, network)?;
     told(alloc, network, &explanation)
 }
 
 // What is found of the text of a file.
-fn of_text<T: Threads + Sync>(
-    rt: &T,
+fn of_text<W: VerdictWorkers>(
+    workers: &W,
     alloc: Global,
     path: &str,
     text: &[u8],
@@ -54,7 +53,7 @@ fn of_text<T: Threads + Sync>(
 {
     match read_network(alloc, text) {
         Ok(network) => {
-            let found = of_network(rt, alloc, &network);
+            let found = of_network(workers, alloc, &network);
             drop(network);
             found
         }
@@ -63,8 +62,8 @@ fn of_text<T: Threads + Sync>(
 }
 
 /// What is found of a file.
-pub(crate) fn explain_outcome<T: Threads + Sync>(
-    rt: &T,
+pub(crate) fn explain_outcome<W: VerdictWorkers>(
+    workers: &W,
     alloc: Global,
     path: &str,
     text: &InputText,
@@ -72,7 +71,7 @@ pub(crate) fn explain_outcome<T: Threads + Sync>(
     ensures { IfOk result (λ o. OfNetworkFile path.now IsExplained (given text.now) (view o.result) o.status) }
 {
     match text {
-        InputText::Whole(text) => of_text(rt, alloc, path, text),
+        InputText::Whole(text) => of_text(workers, alloc, path, text),
         InputText::TooLong => long_file(alloc, path),
     }
 }

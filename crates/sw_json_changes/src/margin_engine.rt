@@ -5,18 +5,18 @@ ghost use Rattle.sw_json_changes.specs.MarginJson.{IsMarginJson};
 use crate::margin_outcome::margin_outcome;
 use std::alloc::Global;
 use std::io::{Read, Write};
-use std::thread::Threads;
 use sw_command::{Ended, read_one};
 use sw_json::Release;
 use sw_json_answers::{answer_to_one, tell_answer, tell_unread};
+use sw_search::VerdictWorkers;
 
 /// How far the premises of the free network of a file bend, as an object of JSON: of each node that answers nothing and of each flow
 /// without a reply, whether the network stays free, and for each link the flows that are lost without it. Of a network that is not free,
-/// the verdict. Its status is 0. Threads share the work, as many as there are processors.
+/// the verdict. Its status is 0. The workers share the work.
 ///
 /// `path` is told as that of the file; it is not opened.
-pub fn margin<T: Threads + Sync, R: Read, W: Write>(
-    rt: &T,
+pub fn margin<T: VerdictWorkers, R: Read, W: Write>(
+    workers: &T,
     alloc: Global,
     reader: &mut R,
     path: &str,
@@ -29,7 +29,7 @@ pub fn margin<T: Threads + Sync, R: Read, W: Write>(
         Ok(text) => text,
         Err(error) => return tell_unread(writer, error),
     };
-    let found = margin_outcome(rt, alloc, path, &text);
+    let found = margin_outcome(workers, alloc, path, &text);
     tell_answer(
         writer,
         answer_to_one(alloc, "margin", release, path, &text, found),

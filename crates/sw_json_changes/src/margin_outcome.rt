@@ -12,14 +12,13 @@ use crate::margin_laws::margins_are_plain;
 use crate::margin_values::margins_value;
 use crate::verdict_outcome::verdict_outcome;
 use std::alloc::{AllocError, Global};
-use std::thread::Threads;
 use sw_command::InputText;
 use sw_command::statuses::GOOD;
 use sw_config::Network;
 use sw_file::read_network;
 use sw_json_answers::{Outcome, long_file, unread_network};
 use sw_margin::{Margins, margins};
-use sw_search::{Verdict, decide};
+use sw_search::{Verdict, VerdictWorkers, decide};
 
 // What the premises of the network stand.
 fn told(alloc: Global, network: &Network, margins: &Margins) -> Result<Outcome, AllocError>
@@ -35,16 +34,20 @@ fn told(alloc: Global, network: &Network, margins: &Margins) -> Result<Outcome, 
 }
 
 // What is found where no channels can wait for one another.
-fn bent<T: Threads + Sync>(rt: &T, alloc: Global, network: &Network) -> Result<Outcome, AllocError>
+fn bent<W: VerdictWorkers>(
+    workers: &W,
+    alloc: Global,
+    network: &Network,
+) -> Result<Outcome, AllocError>
     ensures { IfOk result (λ o. IsBent network.now (view o.result) o.status) }
 {
-    let found = margins(rt, alloc, network)?;
+    let found = margins(workers, alloc, network)?;
     told(alloc, network, &found)
 }
 
 // What is found by the verdict on the network.
-fn by_verdict<T: Threads + Sync>(
-    rt: &T,
+fn by_verdict<W: VerdictWorkers>(
+    workers: &W,
     alloc: Global,
     network: &Network,
     verdict: &Verdict,
@@ -55,25 +58,25 @@ fn by_verdict<T: Threads + Sync>(
     match verdict {
         Verdict::Misrouted(_, _, _) => verdict_outcome(alloc, network, verdict, GOOD),
         Verdict::Cyclic(_) => verdict_outcome(alloc, network, verdict, GOOD),
-        Verdict::Free(_) => bent(rt, alloc, network),
+        Verdict::Free(_) => bent(workers, alloc, network),
     }
 }
 
 // What is found of a network.
-fn of_network<T: Threads + Sync>(
-    rt: &T,
+fn of_network<W: VerdictWorkers>(
+    workers: &W,
     alloc: Global,
     network: &Network,
 ) -> Result<Outcome, AllocError>
     ensures { IfOk result (λ o. IsMarginFound network.now (view o.result) o.status) }
 {
-    let verdict = decide(rt, alloc, network)?;
-    by_verdict(rt, alloc, network, &verdict)
+    let verdict = decide(workers, alloc, network)?;
+    by_verdict(workers, alloc, network, &verdict)
 }
 
 // What is found of the text of a file.
-fn of_text<T: Threads + Sync>(
-    rt: &T,
+fn of_text<W: VerdictWorkers>(
+    workers: &W,
     alloc: Global,
     path: &str,
     text: &[u8],
@@ -82,7 +85,7 @@ fn of_text<T: Threads + Sync>(
 {
     match read_network(alloc, text) {
         Ok(network) => {
-            let found = of_network(rt, alloc, &network);
+            let found = of_network(workers, alloc, &network);
             drop(network);
             found
         }
@@ -91,8 +94,8 @@ fn of_text<T: Threads + Sync>(
 }
 
 /// What is found of a file.
-pub(crate) fn margin_outcome<T: Threads + Sync>(
-    rt: &T,
+pub(crate) fn margin_outcome<W: VerdictWorkers>(
+    workers: &W,
     alloc: Global,
     path: &str,
     text: &InputText,
@@ -100,7 +103,7 @@ pub(crate) fn margin_outcome<T: Threads + Sync>(
     ensures { IfOk result (λ o. OfNetworkFile path.now IsMarginFound (given text.now) (view o.result) o.status) }
 {
     match text {
-        InputText::Whole(text) => of_text(rt, alloc, path, text),
+        InputText::Whole(text) => of_text(workers, alloc, path, text),
         InputText::TooLong => long_file(alloc, path),
     }
 }

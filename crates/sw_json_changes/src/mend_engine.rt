@@ -5,19 +5,19 @@ ghost use Rattle.sw_json_changes.specs.MendJson.{IsMendJson};
 use crate::mend_outcome::mend_outcome;
 use std::alloc::Global;
 use std::io::{Read, Write};
-use std::thread::Threads;
 use sw_command::{Ended, read_one};
 use sw_json::Release;
 use sw_json_answers::{answer_to_one, tell_answer, tell_unread};
+use sw_search::VerdictWorkers;
 
 /// Which single changes make the network of a file free of deadlocks, as an object of JSON, each change with its line of `mend`: 0 where
 /// some change does or the network is free already, and 1 where none does or a flow is not well routed, which is then told as a verdict.
 /// With pairs asked for, where no single change does, which pairs of single changes do: 0 where some pair does, and 1 where none does.
-/// Threads share the work, as many as there are processors.
+/// The workers share the work.
 ///
 /// `path` is told as that of the file; it is not opened.
-pub fn mend<T: Threads + Sync, R: Read, W: Write>(
-    rt: &T,
+pub fn mend<T: VerdictWorkers, R: Read, W: Write>(
+    workers: &T,
     alloc: Global,
     pairs: bool,
     reader: &mut R,
@@ -31,7 +31,7 @@ pub fn mend<T: Threads + Sync, R: Read, W: Write>(
         Ok(text) => text,
         Err(error) => return tell_unread(writer, error),
     };
-    let found = mend_outcome(rt, alloc, pairs, path, &text);
+    let found = mend_outcome(workers, alloc, pairs, path, &text);
     tell_answer(
         writer,
         answer_to_one(alloc, "mend", release, path, &text, found),

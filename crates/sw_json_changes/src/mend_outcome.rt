@@ -11,7 +11,6 @@ use crate::mend_laws::mends_are_plain;
 use crate::mend_values::{mends_value, pairs_value};
 use crate::verdict_outcome::{free_outcome, verdict_outcome};
 use std::alloc::{AllocError, Global};
-use std::thread::Threads;
 use sw_app_changes::mends_status;
 use sw_command::InputText;
 use sw_command::statuses::BAD;
@@ -19,7 +18,7 @@ use sw_config::Network;
 use sw_file::read_network;
 use sw_json_answers::{Outcome, long_file, unread_network};
 use sw_mend::{Pair, Trial, mends, pair_mends};
-use sw_search::{Verdict, decide};
+use sw_search::{Verdict, VerdictWorkers, decide};
 
 // The single changes that free the network.
 fn listed(alloc: Global, network: &Network, changes: &[Trial]) -> Result<Outcome, AllocError>
@@ -42,20 +41,20 @@ fn listed_pairs(alloc: Global, network: &Network, pairs: &[Pair]) -> Result<Outc
 }
 
 // What is found where no single change frees it.
-fn paired<T: Threads + Sync>(
-    rt: &T,
+fn paired<W: VerdictWorkers>(
+    workers: &W,
     alloc: Global,
     network: &Network,
 ) -> Result<Outcome, AllocError>
     ensures { IfOk result (λ o. IsPaired network.now (view o.result) o.status) }
 {
-    let pairs = pair_mends(rt, alloc, network)?;
+    let pairs = pair_mends(workers, alloc, network)?;
     listed_pairs(alloc, network, &pairs)
 }
 
 // What is found with these single changes that free it, with pairs asked for or not.
-fn mended_by<T: Threads + Sync>(
-    rt: &T,
+fn mended_by<W: VerdictWorkers>(
+    workers: &W,
     alloc: Global,
     pairs: bool,
     network: &Network,
@@ -67,27 +66,27 @@ fn mended_by<T: Threads + Sync>(
         return listed(alloc, network, changes);
     }
     match changes {
-        [] => paired(rt, alloc, network),
+        [] => paired(workers, alloc, network),
         _ => listed(alloc, network, changes),
     }
 }
 
 // What is found where channels can wait for one another.
-fn mended<T: Threads + Sync>(
-    rt: &T,
+fn mended<W: VerdictWorkers>(
+    workers: &W,
     alloc: Global,
     pairs: bool,
     network: &Network,
 ) -> Result<Outcome, AllocError>
     ensures { IfOk result (λ o. IsMended pairs network.now (view o.result) o.status) }
 {
-    let changes = mends(rt, alloc, network)?;
-    mended_by(rt, alloc, pairs, network, &changes)
+    let changes = mends(workers, alloc, network)?;
+    mended_by(workers, alloc, pairs, network, &changes)
 }
 
 // What is found by the verdict on the network.
-fn by_verdict<T: Threads + Sync>(
-    rt: &T,
+fn by_verdict<W: VerdictWorkers>(
+    workers: &W,
     alloc: Global,
     pairs: bool,
     network: &Network,
@@ -98,27 +97,27 @@ fn by_verdict<T: Threads + Sync>(
 {
     match verdict {
         Verdict::Misrouted(_, _, _) => verdict_outcome(alloc, network, verdict, BAD),
-        Verdict::Cyclic(_) => mended(rt, alloc, pairs, network),
+        Verdict::Cyclic(_) => mended(workers, alloc, pairs, network),
         Verdict::Free(_) => free_outcome(alloc),
     }
 }
 
 // What is found of a network.
-fn of_network<T: Threads + Sync>(
-    rt: &T,
+fn of_network<W: VerdictWorkers>(
+    workers: &W,
     alloc: Global,
     pairs: bool,
     network: &Network,
 ) -> Result<Outcome, AllocError>
     ensures { IfOk result (λ o. IsMendFound pairs network.now (view o.result) o.status) }
 {
-    let verdict = decide(rt, alloc, network)?;
-    by_verdict(rt, alloc, pairs, network, &verdict)
+    let verdict = decide(workers, alloc, network)?;
+    by_verdict(workers, alloc, pairs, network, &verdict)
 }
 
 // What is found of the text of a file.
-fn of_text<T: Threads + Sync>(
-    rt: &T,
+fn of_text<W: VerdictWorkers>(
+    workers: &W,
     alloc: Global,
     pairs: bool,
     path: &str,
@@ -128,7 +127,7 @@ fn of_text<T: Threads + Sync>(
 {
     match read_network(alloc, text) {
         Ok(network) => {
-            let found = of_network(rt, alloc, pairs, &network);
+            let found = of_network(workers, alloc, pairs, &network);
             drop(network);
             found
         }
@@ -137,8 +136,8 @@ fn of_text<T: Threads + Sync>(
 }
 
 /// What is found of a file, with pairs asked for or not.
-pub(crate) fn mend_outcome<T: Threads + Sync>(
-    rt: &T,
+pub(crate) fn mend_outcome<W: VerdictWorkers>(
+    workers: &W,
     alloc: Global,
     pairs: bool,
     path: &str,
@@ -147,7 +146,7 @@ pub(crate) fn mend_outcome<T: Threads + Sync>(
     ensures { IfOk result (λ o. OfNetworkFile path.now (IsMendFound pairs) (given text.now) (view o.result) o.status) }
 {
     match text {
-        InputText::Whole(text) => of_text(rt, alloc, pairs, path, text),
+        InputText::Whole(text) => of_text(workers, alloc, pairs, path, text),
         InputText::TooLong => long_file(alloc, path),
     }
 }

@@ -22,6 +22,7 @@ use sw_json::Release;
 use sw_json_answers::{Outcome, answer_to_two, long_file, unread_network};
 use sw_load::laws::listed_are_declared;
 use sw_load::{Load, read_load};
+use sw_parallel::OneByOne;
 use sw_run::{Gate, Outcome as RunOutcome, run};
 
 /// The files of a call, and the program's release.
@@ -96,8 +97,7 @@ fn fault_record(
 }
 
 // What is told of the outcome.
-fn recorded_outcome<T: Threads + Sync>(
-    rt: &T,
+fn recorded_outcome(
     alloc: Global,
     call: &RunCall<'_>,
     network: &Network,
@@ -108,7 +108,7 @@ fn recorded_outcome<T: Threads + Sync>(
     requires { length outcome.now.came_out.items ≡ length network.now.nodes }
     ensures { IfOk result (IsRecordOf (answers_of call.now) wants network.now load.now outcome.now) }
 {
-    let summary = wanted_summary(rt, alloc, network, load, outcome, wants.summary)?;
+    let summary = wanted_summary(&OneByOne, alloc, network, load, outcome, wants.summary)?;
     let answer = outcome_answer(alloc, call, network, outcome)?;
     with_schedule(alloc, network, outcome, wants.schedule, answer, summary)
 }
@@ -137,7 +137,7 @@ fn outcome_record<'a, G: Gate + Sync, T: Threads + Wait + Sync>(
         options.limit,
         gate,
     )?;
-    recorded_outcome(rt, alloc, call, network, load, &outcome, wants)
+    recorded_outcome(alloc, call, network, load, &outcome, wants)
 }
 
 // Of the text of a load.

@@ -18,7 +18,6 @@ use crate::reasons::{Parts, grammar_parts, parts_of};
 use serde_json::json;
 use std::alloc::{AllocError, Global};
 use std::io::{Read, Write};
-use std::thread::Threads;
 use sw_app::{grammar_words, refusal_words};
 use sw_cert::{Certificate, CertificateFault};
 use sw_check::{Refusal, check as check_certificate};
@@ -31,6 +30,7 @@ use sw_json::{Release, Value, count_or_null, kind_value};
 use sw_json_answers::{
     Outcome, answer_to_two, long_file, tell_answer, tell_unread, unread_network,
 };
+use sw_search::VerdictWorkers;
 
 // A text, or null where there is none.
 fn text_or_null(alloc: Global, text: Option<&str>) -> Result<Value, AllocError>
@@ -107,23 +107,23 @@ fn accepted(alloc: Global) -> Result<Outcome, AllocError>
 }
 
 // The result for a certificate, by the first reason to refuse it.
-fn judgement<T: Threads + Sync>(
-    rt: &T,
+fn judgement<T: VerdictWorkers>(
+    workers: &T,
     alloc: Global,
     network: &Network,
     certificate: &Certificate,
 ) -> Result<Outcome, AllocError>
     ensures { IfOk result (λ o. IsJudgement network.now (refusal_of network.now certificate.now) (view o.result) o.status) }
 {
-    match check_certificate(rt, network, certificate) {
+    match check_certificate(workers, network, certificate) {
         Ok(_) => accepted(alloc),
         Err(refusal) => refused_by(alloc, network, refusal),
     }
 }
 
 // The result for the text of a certificate.
-fn certificate_outcome<T: Threads + Sync>(
-    rt: &T,
+fn certificate_outcome<T: VerdictWorkers>(
+    workers: &T,
     alloc: Global,
     network: &Network,
     text: &[u8],
@@ -131,15 +131,15 @@ fn certificate_outcome<T: Threads + Sync>(
     ensures { IfOk result (λ o. IsCertificateResult network.now (read_text text.now) (view o.result) o.status) }
 {
     match Certificate::read(alloc, text) {
-        Ok(certificate) => judgement(rt, alloc, network, &certificate),
+        Ok(certificate) => judgement(workers, alloc, network, &certificate),
         Err(CertificateFault::Grammar(number)) => refused_by_line(alloc, number),
         Err(CertificateFault::Memory) => Err(AllocError),
     }
 }
 
 // The result for a network and the second file.
-fn second_outcome<T: Threads + Sync>(
-    rt: &T,
+fn second_outcome<T: VerdictWorkers>(
+    workers: &T,
     alloc: Global,
     network: &Network,
     path: &str,
@@ -148,14 +148,14 @@ fn second_outcome<T: Threads + Sync>(
     ensures { IfOk result (λ o. OfFile path.now (λ text. IsCertificateResult network.now (read_text text)) (given second.now) (view o.result) o.status) }
 {
     match second {
-        InputText::Whole(text) => certificate_outcome(rt, alloc, network, text),
+        InputText::Whole(text) => certificate_outcome(workers, alloc, network, text),
         InputText::TooLong => long_file(alloc, path),
     }
 }
 
 // The result for the bytes of a network file and the second file.
-fn text_outcome<T: Threads + Sync>(
-    rt: &T,
+fn text_outcome<T: VerdictWorkers>(
+    workers: &T,
     alloc: Global,
     paths: (&str, &str),
     text: &[u8],
@@ -165,7 +165,7 @@ fn text_outcome<T: Threads + Sync>(
 {
     match read_network(alloc, text) {
         Ok(network) => {
-            let found = second_outcome(rt, alloc, &network, paths.1, second);
+            let found = second_outcome(workers, alloc, &network, paths.1, second);
             drop(network);
             found
         }
@@ -174,8 +174,8 @@ fn text_outcome<T: Threads + Sync>(
 }
 
 // The result for a network file and a certificate file.
-fn check_outcome<T: Threads + Sync>(
-    rt: &T,
+fn check_outcome<T: VerdictWorkers>(
+    workers: &T,
     alloc: Global,
     paths: (&str, &str),
     first: &InputText,
@@ -184,16 +184,15 @@ fn check_outcome<T: Threads + Sync>(
     ensures { IfOk result (λ o. IsCheckResult paths.entry.0.now paths.entry.1.now (given first.now) (given second.now) (view o.result) o.status) }
 {
     match first {
-        InputText::Whole(text) => text_outcome(rt, alloc, paths, text, second),
+        InputText::Whole(text) => text_outcome(workers, alloc, paths, text, second),
         InputText::TooLong => long_file(alloc, paths.0),
     }
 }
 
 /// Whether the certificate of the second file is accepted for the network of the first, as an object: 0 where it is, and then the
-/// network never locks up, over every run; 1 where it is refused. `paths` are those of the two files. Threads share the work, as many
-/// as there are processors.
-pub fn check<T: Threads + Sync, N: Read, C: Read, W: Write>(
-    rt: &T,
+/// network never locks up, over every run; 1 where it is refused. `paths` are those of the two files. The workers share the work.
+pub fn check<T: VerdictWorkers, N: Read, C: Read, W: Write>(
+    workers: &T,
     alloc: Global,
     network: &mut N,
     certificate: &mut C,
@@ -209,7 +208,7 @@ pub fn check<T: Threads + Sync, N: Read, C: Read, W: Write>(
         Ok(texts) => texts,
         Err(error) => return tell_unread(writer, error),
     };
-    let found = check_outcome(rt, alloc, paths, &first, &second);
+    let found = check_outcome(workers, alloc, paths, &first, &second);
     tell_answer(
         writer,
         answer_to_two(alloc, "check", release, paths, &first, &second, found),

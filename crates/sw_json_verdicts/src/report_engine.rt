@@ -12,7 +12,6 @@ use crate::laws::reports_are_plain;
 use serde_json::json;
 use std::alloc::{AllocError, Global};
 use std::io::{Read, Write};
-use std::thread::Threads;
 use sw_command::statuses::GOOD;
 use sw_command::{Ended, InputText, read_one};
 use sw_config::Network;
@@ -21,7 +20,7 @@ use sw_json::{Release, Value, verdict_value};
 use sw_json_answers::{
     Outcome, answer_to_one, long_file, tell_answer, tell_unread, unread_network,
 };
-use sw_search::{Findings, Verdict, survey};
+use sw_search::{Findings, Verdict, VerdictWorkers, survey};
 
 // The text of a verdict's certificate; of a verdict without one, nothing.
 fn certificate_text(alloc: Global, verdict: &Verdict) -> Result<Vec<u8>, AllocError>
@@ -84,20 +83,20 @@ fn findings_outcome(
 }
 
 // The result for a network.
-fn network_outcome<T: Threads + Sync>(
-    rt: &T,
+fn network_outcome<T: VerdictWorkers>(
+    workers: &T,
     alloc: Global,
     network: &Network,
 ) -> Result<Outcome, AllocError>
     ensures { IfOk result (λ o. IsFindingsResult network.now (view o.result) o.status) }
 {
-    let findings = survey(rt, alloc, network)?;
+    let findings = survey(workers, alloc, network)?;
     findings_outcome(alloc, network, &findings)
 }
 
 // The result for the bytes of a network file.
-fn text_outcome<T: Threads + Sync>(
-    rt: &T,
+fn text_outcome<T: VerdictWorkers>(
+    workers: &T,
     alloc: Global,
     path: &str,
     text: &[u8],
@@ -106,7 +105,7 @@ fn text_outcome<T: Threads + Sync>(
 {
     match read_network(alloc, text) {
         Ok(network) => {
-            let found = network_outcome(rt, alloc, &network);
+            let found = network_outcome(workers, alloc, &network);
             drop(network);
             found
         }
@@ -115,8 +114,8 @@ fn text_outcome<T: Threads + Sync>(
 }
 
 // The result for a network file.
-fn report_outcome<T: Threads + Sync>(
-    rt: &T,
+fn report_outcome<T: VerdictWorkers>(
+    workers: &T,
     alloc: Global,
     path: &str,
     text: &InputText,
@@ -124,15 +123,15 @@ fn report_outcome<T: Threads + Sync>(
     ensures { IfOk result (λ o. OfNetworkFile path.now IsFindingsResult (given text.now) (view o.result) o.status) }
 {
     match text {
-        InputText::Whole(text) => text_outcome(rt, alloc, path, text),
+        InputText::Whole(text) => text_outcome(workers, alloc, path, text),
         InputText::TooLong => long_file(alloc, path),
     }
 }
 
 /// How many parts the network of the file of that path has, and the verdict on it, as an object, with status 0 whatever the verdict.
-/// Threads share the work, as many as there are processors.
-pub fn report<T: Threads + Sync, R: Read, W: Write>(
-    rt: &T,
+/// The workers share the work.
+pub fn report<T: VerdictWorkers, R: Read, W: Write>(
+    workers: &T,
     alloc: Global,
     reader: &mut R,
     path: &str,
@@ -145,7 +144,7 @@ pub fn report<T: Threads + Sync, R: Read, W: Write>(
         Ok(text) => text,
         Err(error) => return tell_unread(writer, error),
     };
-    let found = report_outcome(rt, alloc, path, &text);
+    let found = report_outcome(workers, alloc, path, &text);
     tell_answer(
         writer,
         answer_to_one(alloc, "report", release, path, &text, found),

@@ -7,16 +7,9 @@ use Rattle.std.proofs.lemmas.List.Sums.{fold_push}
 use Rattle.std.proofs.lemmas.Option.{get_or_from_slice_get, slice_get_within}
 use Rattle.sw_topo.specs.Checked.{first_of}
 use Rattle.sw_route.specs.declared.look.Route.{Route}
-use Rattle.sw_flow.proofs.Listed.{Contains-head, Contains-later}
+use Rattle.sw_flow.proofs.Listed.{Contains-head, Contains-later, range_more}
 use Rattle.sw_lint.specs.declared.lint.Lint.{Lint}
 use Rattle.sw_lint.specs.Lints.{first_made, made_of}
-
-range_suc : (a n m : ℕ) → a + n ≡ m → range_with_len a (suc n) ≡ range_with_len a n ++ m ∷ []
-range_suc a zero m e = let is : a ≡ m = omega arith in ap (λ k. k ∷ []) is
-range_suc a (suc n) m e = ap (λ l. a ∷ l) (range_suc (a + 1) n m (omega arith))
-
-pub range_more : (n : ℕ) → range_with_len 0 (n + 1) ≡ range_with_len 0 n ++ n ∷ []
-range_more n = let e : n + 1 ≡ suc n = omega arith in ap (range_with_len 0) e ∙ range_suc 0 n n (omega arith)
 
 -- what is made of one number more comes behind
 pub grown : {B : Type 0} (make : ℕ → List B) (old before after : List B) (n : ℕ) → before ≡ old ++ flat_map make (range_with_len 0 n) → after ≡ before ++ make n

@@ -9,12 +9,12 @@ use crate::chosen::unanswered;
 use crate::trial::bend;
 use crate::way::answering;
 use std::alloc::{AllocError, Global};
-use std::thread::Threads;
 use sw_config::Network;
+use sw_search::VerdictWorkers;
 
 // What is told of the flow of that number.
-fn told_of<R: Threads + Sync>(
-    rt: &R,
+fn told_of<W: VerdictWorkers>(
+    workers: &W,
     alloc: Global,
     network: &Network,
     rows: &[Vec<u16>],
@@ -25,12 +25,12 @@ fn told_of<R: Threads + Sync>(
     ensures { IfOk result (IsAnswer network.now flow) }
 {
     let waits = answering(alloc, network, network.flow(flow))?;
-    bend(rt, alloc, network, rows, flow, &waits)
+    bend(workers, alloc, network, rows, flow, &waits)
 }
 
 // What is told of these flows.
-fn told_of_all<R: Threads + Sync>(
-    rt: &R,
+fn told_of_all<W: VerdictWorkers>(
+    workers: &W,
     alloc: Global,
     network: &Network,
     rows: &[Vec<u16>],
@@ -42,7 +42,7 @@ fn told_of_all<R: Threads + Sync>(
 {
     let mut told = Vec::new(alloc);
     for flow in flows {
-        told.push(told_of(rt, alloc, network, rows, *flow)?)?;
+        told.push(told_of(workers, alloc, network, rows, *flow)?)?;
     }
     Ok(told)
 }
@@ -50,14 +50,14 @@ fn told_of_all<R: Threads + Sync>(
 /// Of each flow without a reply: whether the network stays free if the flow is answered, the replies going back over the links of its
 /// way, which goes on each time to the first of the places that follow.
 ///
-/// `rows` has for each channel those for which a packet on it may wait, as `sw_cycle::dependencies` gives them. Threads share
-/// the work of each trial, as many as there are processors.
+/// `rows` has for each channel those for which a packet on it may wait, as `sw_cycle::dependencies` gives them. The workers share
+/// the work of each trial.
 ///
 /// # Errors
 ///
 /// There is no memory for a trial, or for what is told.
-pub fn answers<R: Threads + Sync>(
-    rt: &R,
+pub fn answers<W: VerdictWorkers>(
+    workers: &W,
     alloc: Global,
     network: &Network,
     rows: &[Vec<u16>],
@@ -66,5 +66,5 @@ pub fn answers<R: Threads + Sync>(
     ensures { IfOk result (λ v. AreAnswers network.now v.items) }
 {
     let flows = unanswered(alloc, network)?;
-    told_of_all(rt, alloc, network, rows, &flows)
+    told_of_all(workers, alloc, network, rows, &flows)
 }

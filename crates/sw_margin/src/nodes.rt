@@ -9,8 +9,8 @@ use crate::bend::Bend;
 use crate::chosen::quiet_nodes;
 use crate::trial::bend;
 use std::alloc::{AllocError, Global};
-use std::thread::Threads;
 use sw_config::Network;
+use sw_search::VerdictWorkers;
 
 // What waits for what where the node takes nothing while it wants to send.
 fn stall(network: &Network, node: u16) -> (u16, u16)
@@ -23,8 +23,8 @@ fn stall(network: &Network, node: u16) -> (u16, u16)
 }
 
 // What is told of the node of that number.
-fn told_of<R: Threads + Sync>(
-    rt: &R,
+fn told_of<W: VerdictWorkers>(
+    workers: &W,
     alloc: Global,
     network: &Network,
     rows: &[Vec<u16>],
@@ -34,12 +34,12 @@ fn told_of<R: Threads + Sync>(
     requires node { node < length network.now.nodes }
     ensures { IfOk result (IsStall network.now node) }
 {
-    bend(rt, alloc, network, rows, node, &[stall(network, node)])
+    bend(workers, alloc, network, rows, node, &[stall(network, node)])
 }
 
 // What is told of these nodes.
-fn told_of_all<R: Threads + Sync>(
-    rt: &R,
+fn told_of_all<W: VerdictWorkers>(
+    workers: &W,
     alloc: Global,
     network: &Network,
     rows: &[Vec<u16>],
@@ -51,21 +51,21 @@ fn told_of_all<R: Threads + Sync>(
 {
     let mut told = Vec::new(alloc);
     for node in nodes {
-        told.push(told_of(rt, alloc, network, rows, *node)?)?;
+        told.push(told_of(workers, alloc, network, rows, *node)?)?;
     }
     Ok(told)
 }
 
 /// Of each node at which no flow with a reply ends: whether the network stays free if the node takes nothing while it wants to send.
 ///
-/// `rows` has for each channel those for which a packet on it may wait, as `sw_cycle::dependencies` gives them. Threads share
-/// the work of each trial, as many as there are processors.
+/// `rows` has for each channel those for which a packet on it may wait, as `sw_cycle::dependencies` gives them. The workers share
+/// the work of each trial.
 ///
 /// # Errors
 ///
 /// There is no memory for a trial, or for what is told.
-pub fn stalls<R: Threads + Sync>(
-    rt: &R,
+pub fn stalls<W: VerdictWorkers>(
+    workers: &W,
     alloc: Global,
     network: &Network,
     rows: &[Vec<u16>],
@@ -74,5 +74,5 @@ pub fn stalls<R: Threads + Sync>(
     ensures { IfOk result (λ v. AreStalls network.now v.items) }
 {
     let nodes = quiet_nodes(alloc, network)?;
-    told_of_all(rt, alloc, network, rows, &nodes)
+    told_of_all(workers, alloc, network, rows, &nodes)
 }

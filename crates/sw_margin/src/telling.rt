@@ -10,14 +10,14 @@ use crate::flows::answers;
 use crate::losing::losses;
 use crate::nodes::stalls;
 use std::alloc::{AllocError, Global};
-use std::thread::Threads;
 use sw_config::Network;
 use sw_cycle::dependencies;
 use sw_flow::{Place, all_places};
+use sw_search::VerdictWorkers;
 
 // For each channel those for which a packet on it may wait.
-fn rows_of<R: Threads + Sync>(
-    rt: &R,
+fn rows_of<W: VerdictWorkers>(
+    workers: &W,
     alloc: Global,
     network: &Network,
     places: &[Vec<Place>],
@@ -25,18 +25,18 @@ fn rows_of<R: Threads + Sync>(
     requires { AreListed network.now places.now }
     ensures { IfOk result (λ v. AreDependencies network.now v.items) }
 {
-    dependencies(rt, alloc, network, places)
+    dependencies(workers, alloc, network, places)
 }
 
 /// How far the premises of a network bend: of each node at which no flow with a reply ends, whether the network stays free if it takes
 /// nothing while it wants to send; of each flow without a reply, whether it stays free if the flow is answered along its own way; and for
-/// each link the flows that are lost without it. Threads share the work, as many as there are processors.
+/// each link the flows that are lost without it. The workers share the work.
 ///
 /// # Errors
 ///
 /// There is no memory for the places, the dependencies, a trial or what is told.
-pub fn margins<R: Threads + Sync>(
-    rt: &R,
+pub fn margins<W: VerdictWorkers>(
+    workers: &W,
     alloc: Global,
     network: &Network,
 ) -> Result<Margins, AllocError>
@@ -44,10 +44,10 @@ pub fn margins<R: Threads + Sync>(
     ensures answers { IfOk result (λ m. AreAnswers network.now m.answers.items) }
     ensures losses { IfOk result (λ m. AreLosses network.now m.losses.items) }
 {
-    let places = all_places(rt, alloc, network)?;
-    let rows = rows_of(rt, alloc, network, &places)?;
-    let stalls = stalls(rt, alloc, network, &rows)?;
-    let answers = answers(rt, alloc, network, &rows)?;
+    let places = all_places(workers, alloc, network)?;
+    let rows = rows_of(workers, alloc, network, &places)?;
+    let stalls = stalls(workers, alloc, network, &rows)?;
+    let answers = answers(workers, alloc, network, &rows)?;
     let losses = losses(alloc, network, &places)?;
     Ok(Margins {
         stalls,

@@ -9,13 +9,13 @@ ghost use Rattle.sw_margin.specs.Waits.{AreDependencies, IsWithin, StaysFree};
 use crate::bend::Bend;
 use crate::rows::with_waits;
 use std::alloc::{AllocError, Global};
-use std::thread::Threads;
 use sw_config::Network;
 use sw_graph::{Order, order};
+use sw_search::VerdictWorkers;
 
 // Has the relation no cycle?
-fn has_no_cycle<R: Threads + Sync>(
-    rt: &R,
+fn has_no_cycle<W: VerdictWorkers>(
+    workers: &W,
     alloc: Global,
     rows: &[Vec<u16>],
 ) -> Result<bool, AllocError>
@@ -23,15 +23,15 @@ fn has_no_cycle<R: Threads + Sync>(
     requires graph { IsGraph rows.now }
     ensures { IfOk result (λ b. IsTrue b ↔ (HasCycle (Leads rows.now) → ⊥)) }
 {
-    match order(rt, alloc, rows)? {
+    match order(workers, alloc, rows)? {
         Order::Levels(_) => Ok(true),
         Order::Cycle(_) => Ok(false),
     }
 }
 
 // Does the network stay free with these further waits?
-fn stays_free<R: Threads + Sync>(
-    rt: &R,
+fn stays_free<W: VerdictWorkers>(
+    workers: &W,
     alloc: Global,
     network: &Network,
     rows: &[Vec<u16>],
@@ -44,12 +44,12 @@ fn stays_free<R: Threads + Sync>(
     // There are at most 2,048.
     let _channels = network.channels();
     let more = with_waits(alloc, rows, waits)?;
-    has_no_cycle(rt, alloc, &more)
+    has_no_cycle(workers, alloc, &more)
 }
 
 /// What is told of the node or flow of that number, where these waits come with it.
-pub(crate) fn bend<R: Threads + Sync>(
-    rt: &R,
+pub(crate) fn bend<W: VerdictWorkers>(
+    workers: &W,
     alloc: Global,
     network: &Network,
     rows: &[Vec<u16>],
@@ -60,6 +60,6 @@ pub(crate) fn bend<R: Threads + Sync>(
     requires within { All (IsWithin (length (ends_of network.now))) waits.now }
     ensures { IfOk result (IsBend network.now waits.now number) }
 {
-    let stays_free = stays_free(rt, alloc, network, rows, waits)?;
+    let stays_free = stays_free(workers, alloc, network, rows, waits)?;
     Ok(Bend { number, stays_free })
 }

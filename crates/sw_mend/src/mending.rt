@@ -15,13 +15,12 @@ use crate::rebuilt::network_with;
 use crate::splitting::network_split;
 use std::alloc::{AllocError, Global};
 use std::marker::Model;
-use std::thread::Threads;
 use sw_config::Network;
-use sw_search::is_free;
+use sw_search::{VerdictWorkers, is_free};
 
 // Does the change free the network?
-fn frees<R: Threads + Sync>(
-    rt: &R,
+fn frees<W: VerdictWorkers>(
+    workers: &W,
     alloc: Global,
     network: &Network,
     change: &Change,
@@ -29,7 +28,7 @@ fn frees<R: Threads + Sync>(
     ensures { IfOk result (λ b. IsTrue b ↔ Frees network.now (Without change.now)) }
 {
     let changed = network_with(alloc, network, change)?;
-    is_free(rt, alloc, &changed)
+    is_free(workers, alloc, &changed)
 }
 
 // Adds what is tried, if it frees the network.
@@ -43,8 +42,8 @@ fn add_if<T: Copy>(frees: bool, tried: T, mends: &mut Vec<T>) -> Result<(), Allo
 }
 
 // Adds those of the changes that free the network.
-fn add_mends<R: Threads + Sync>(
-    rt: &R,
+fn add_mends<W: VerdictWorkers>(
+    workers: &W,
     alloc: Global,
     network: &Network,
     changes: &[Change],
@@ -53,24 +52,28 @@ fn add_mends<R: Threads + Sync>(
     ensures { OnOk result (AreAdded (Frees network.now) (map Without changes.now) mends.old.items mends.new.items) }
 {
     for change in changes {
-        let freed = frees(rt, alloc, network, change)?;
+        let freed = frees(workers, alloc, network, change)?;
         add_if(freed, Trial::Without(*change), mends)?;
     }
     Ok(())
 }
 
 // Is the changed network valid and free?
-fn is_freed<R: Threads + Sync>(rt: &R, alloc: Global, changed: &Network) -> Result<bool, AllocError>
+fn is_freed<W: VerdictWorkers>(
+    workers: &W,
+    alloc: Global,
+    changed: &Network,
+) -> Result<bool, AllocError>
     ensures { IfOk result (λ b. IsTrue b ↔ (IsValid changed.now × RoutedAndFree changed.now)) }
 {
     // Names the network, which is valid by its type.
     let _topology = changed.topology();
-    is_free(rt, alloc, changed)
+    is_free(workers, alloc, changed)
 }
 
 // Does the split free the network?
-fn split_frees<R: Threads + Sync>(
-    rt: &R,
+fn split_frees<W: VerdictWorkers>(
+    workers: &W,
     alloc: Global,
     network: &Network,
     link: &TargetLink,
@@ -79,14 +82,14 @@ fn split_frees<R: Threads + Sync>(
     ensures { IfOk result (λ b. IsTrue b ↔ Frees network.now (Split link.now)) }
 {
     match network_split(alloc, network, link)? {
-        Some(changed) => is_freed(rt, alloc, &changed),
+        Some(changed) => is_freed(workers, alloc, &changed),
         None => Ok(false),
     }
 }
 
 // Adds the split, if it frees the network.
-fn add_split<R: Threads + Sync>(
-    rt: &R,
+fn add_split<W: VerdictWorkers>(
+    workers: &W,
     alloc: Global,
     network: &Network,
     link: &TargetLink,
@@ -95,13 +98,13 @@ fn add_split<R: Threads + Sync>(
     requires { IsTargetLink network.now link.now }
     ensures { OnOk result (AreAdded (Frees network.now) (Split link.now ∷ []) mends.old.items mends.new.items) }
 {
-    let freed = split_frees(rt, alloc, network, link)?;
+    let freed = split_frees(workers, alloc, network, link)?;
     add_if(freed, Trial::Split(*link), mends)
 }
 
 // Adds the split by that link, if there is one and it frees the network.
-fn add_split_by<R: Threads + Sync>(
-    rt: &R,
+fn add_split_by<W: VerdictWorkers>(
+    workers: &W,
     alloc: Global,
     network: &Network,
     link: Option<TargetLink>,
@@ -111,14 +114,14 @@ fn add_split_by<R: Threads + Sync>(
     ensures { OnOk result (AreAdded (Frees network.now) (map Split (option_to_list link)) mends.old.items mends.new.items) }
 {
     match link {
-        Some(link) => add_split(rt, alloc, network, &link, mends),
+        Some(link) => add_split(workers, alloc, network, &link, mends),
         None => Ok(()),
     }
 }
 
 // Adds the split of the node, if it frees the network.
-fn add_split_of<R: Threads + Sync>(
-    rt: &R,
+fn add_split_of<W: VerdictWorkers>(
+    workers: &W,
     alloc: Global,
     network: &Network,
     node: u16,
@@ -128,12 +131,12 @@ fn add_split_of<R: Threads + Sync>(
     ensures { OnOk result (AreAdded (Frees network.now) (map Split (made_at (own_links network.now) network.now.nodes node)) mends.old.items mends.new.items) }
 {
     let link = own_link_of(network, node);
-    add_split_by(rt, alloc, network, link, mends)
+    add_split_by(workers, alloc, network, link, mends)
 }
 
 // Adds those of the splits that free the network.
-fn add_splits<R: Threads + Sync>(
-    rt: &R,
+fn add_splits<W: VerdictWorkers>(
+    workers: &W,
     alloc: Global,
     network: &Network,
     mends: &mut Vec<Trial>,
@@ -141,20 +144,20 @@ fn add_splits<R: Threads + Sync>(
     ensures { OnOk result (AreAdded (Frees network.now) (map Split (splits network.now)) mends.old.items mends.new.items) }
 {
     for node in 0..network.nodes() {
-        add_split_of(rt, alloc, network, node, mends)?;
+        add_split_of(workers, alloc, network, node, mends)?;
     }
     Ok(())
 }
 
 /// The single changes that free the network, in the order in which they are tried: one reply away; one flow; the answers of one target;
 /// one port of one group of a routing table; one table entry; a node split, so that its target has a link of its own; the flows of one unit.
-/// Each is tried: none that is left out frees the network. Threads share the work of each trial, as many as there are processors.
+/// Each is tried: none that is left out frees the network. The workers share the work of each trial.
 ///
 /// # Errors
 ///
 /// There is no memory for the changes, a changed network or its verdict.
-pub fn mends<R: Threads + Sync>(
-    rt: &R,
+pub fn mends<W: VerdictWorkers>(
+    workers: &W,
     alloc: Global,
     network: &Network,
 ) -> Result<Vec<Trial>, AllocError>
@@ -162,9 +165,9 @@ pub fn mends<R: Threads + Sync>(
 {
     let mut mends = Vec::new(alloc);
     let parts = parts_away(alloc, network)?;
-    add_mends(rt, alloc, network, &parts, &mut mends)?;
-    add_splits(rt, alloc, network, &mut mends)?;
+    add_mends(workers, alloc, network, &parts, &mut mends)?;
+    add_splits(workers, alloc, network, &mut mends)?;
     let units = units_away(alloc, network)?;
-    add_mends(rt, alloc, network, &units, &mut mends)?;
+    add_mends(workers, alloc, network, &units, &mut mends)?;
     Ok(mends)
 }

@@ -9,13 +9,12 @@ use crate::change::{Change, Pair};
 use crate::listing::removals;
 use crate::rebuilt::network_with_all;
 use std::alloc::{AllocError, Global};
-use std::thread::Threads;
 use sw_config::Network;
-use sw_search::is_free;
+use sw_search::{VerdictWorkers, is_free};
 
 // Do both changes free the network?
-fn frees_both<R: Threads + Sync>(
-    rt: &R,
+fn frees_both<W: VerdictWorkers>(
+    workers: &W,
     alloc: Global,
     network: &Network,
     first: &Change,
@@ -24,7 +23,7 @@ fn frees_both<R: Threads + Sync>(
     ensures { IfOk result (λ b. IsTrue b ↔ FreesBoth network.now (record { first = first.now; second = second.now })) }
 {
     let changed = network_with_all(alloc, network, &[*first, *second])?;
-    is_free(rt, alloc, &changed)
+    is_free(workers, alloc, &changed)
 }
 
 // The pair of the changes, if they free the network.
@@ -46,8 +45,8 @@ fn add_pair(
 }
 
 // Adds those of the pairs of the first change and one of the others that free the network.
-fn add_pairs_with<R: Threads + Sync>(
-    rt: &R,
+fn add_pairs_with<W: VerdictWorkers>(
+    workers: &W,
     alloc: Global,
     network: &Network,
     first: &Change,
@@ -57,15 +56,15 @@ fn add_pairs_with<R: Threads + Sync>(
     ensures { OnOk result ((those : List Pair) × AreThosePairs network.now (map (λ second. record { first = first.now; second = second }) others.now) those × (pairs.new.items ≡ pairs.old.items ++ those)) }
 {
     for second in others {
-        let frees = frees_both(rt, alloc, network, first, second)?;
+        let frees = frees_both(workers, alloc, network, first, second)?;
         add_pair(frees, first, second, pairs)?;
     }
     Ok(())
 }
 
 // Those of the pairs of the changes that free the network.
-fn pairs_that_free<R: Threads + Sync>(
-    rt: &R,
+fn pairs_that_free<W: VerdictWorkers>(
+    workers: &W,
     alloc: Global,
     network: &Network,
     changes: &[Change],
@@ -75,7 +74,7 @@ fn pairs_that_free<R: Threads + Sync>(
     let mut pairs = Vec::new(alloc);
     for (number, first) in changes.iter().enumerate() {
         add_pairs_with(
-            rt,
+            workers,
             alloc,
             network,
             first,
@@ -87,19 +86,19 @@ fn pairs_that_free<R: Threads + Sync>(
 }
 
 /// The pairs of what can be taken away that free the network, the first before the second in the order of single changes, and the pairs by the
-/// first and then by the second. No split is one of a pair. Each pair is tried: none that is left out frees the network. Threads share the work of each trial, as many as there
-/// are processors.
+/// first and then by the second. No split is one of a pair. Each pair is tried: none that is left out frees the network. The workers share the
+/// work of each trial.
 ///
 /// # Errors
 ///
 /// There is no memory for the changes, a changed network or its verdict.
-pub fn pair_mends<R: Threads + Sync>(
-    rt: &R,
+pub fn pair_mends<W: VerdictWorkers>(
+    workers: &W,
     alloc: Global,
     network: &Network,
 ) -> Result<Vec<Pair>, AllocError>
     ensures { IfOk result (λ v. ArePairMends network.now v.items) }
 {
     let changes = removals(alloc, network)?;
-    pairs_that_free(rt, alloc, network, &changes)
+    pairs_that_free(workers, alloc, network, &changes)
 }

@@ -60,6 +60,7 @@ impl<'n, R: Routing, A: Arbiter> Net<'n, R, A> {
 
     /// A step that belongs to the link end and is possible, other than to begin a packet. Which one,
     /// where there are several, is left open. None where the link end has no such step.
+    #[inline(always)]
     pub fn possible_at(&self, end: LinkEnd) -> Option<Step>
         requires { end < 2 * length self.now.declared.links }
         ensures some { IfSome result (λ step. IsMoveOf self.now end (machine_step step)) }

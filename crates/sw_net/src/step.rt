@@ -45,6 +45,7 @@ impl<'n, R: Routing, A: Arbiter> Net<'n, R, A> {
     /// The step begins a packet that the network's flows don't declare, or is not possible, or
     /// there is no memory for what it stores, which only a step that begins a packet or takes a
     /// character at a node may want. Then nothing has changed.
+    #[inline(always)]
     pub fn step(&mut self, alloc: Global, step: &Step) -> Result<(), NetFault>
         ensures network { self.new.declared ≡ self.old.declared }
         ensures answers { NetAnswers self.old (machine_step step.now) result self.new }

@@ -1,6 +1,6 @@
 -- What is wanted may follow.
-use Rattle.std.proofs.Common.{Bool, None, Option, Some, ap, arith, false, le-leb, leb-true, nat_le, refl, sym, true, ℕ, ◌∙◌, ◌≡◌, ◌≤◌}
-use Rattle.std.specs.Prelude.{IsSome, if◌then◌else◌, ◌&&◌}
+use Rattle.std.proofs.Common.{Bool, List, None, Option, Some, [], ap, arith, cond, false, le-leb, leb-true, nat_le, refl, suc, sym, true, zero, ℕ, ◌∙◌, ◌∷◌, ◌≡◌, ◌≤◌}
+use Rattle.std.specs.Prelude.{IsSome, find, if◌then◌else◌, nat_eq, option_map, slice_get, ◌&&◌}
 use Rattle.sw_journal.proofs.FctNumbers.{decided, known}
 use Rattle.sw_journal.specs.Cells.{end_numbers}
 use Rattle.sw_journal.specs.Record.{CanCommit, CellView, IsNowCell, IsTrueView, JournalView}
@@ -43,3 +43,20 @@ module _ (cell : CellView) (end : ℕ) (j : JournalView) (ok : IsTrueView j) (no
 
 pub tells : (cell : CellView) (end : ℕ) → TellsWhatMayFollow cell end (wanted_fct end (end_numbers cell.ends end))
 tells cell end = λ j ok now. by_numbers cell end j ok now (end_numbers cell.ends end) refl
+
+-- ---- a link end that stands at a place of the list has numbers there
+
+first_has : (end : ℕ) (q : ℕ × Numbers) (ends : List (ℕ × Numbers)) (b : Bool) → b ≡ true → IsSome (option_map (λ (p : ℕ × Numbers). p.1) (cond b (Some q) (find (λ (p : ℕ × Numbers). nat_eq p.0 end) ends)))
+first_has end q ends true is = refl
+first_has end q ends false is = absurd cc
+
+later_has : (end : ℕ) (q : ℕ × Numbers) (ends : List (ℕ × Numbers)) (b : Bool) → IsSome (end_numbers ends end) → IsSome (option_map (λ (p : ℕ × Numbers). p.1) (cond b (Some q) (find (λ (p : ℕ × Numbers). nat_eq p.0 end) ends)))
+later_has end q ends true has = refl
+later_has end q ends false has = has
+
+pub has_numbers : (end : ℕ) (ends : List (ℕ × Numbers)) (k : ℕ) (p : ℕ × Numbers) → slice_get ends k ≡ Some p → nat_eq p.0 end ≡ true → IsSome (end_numbers ends end)
+has_numbers end [] k p at is = absurd cc
+has_numbers end (q ∷ ends) zero p at is =
+    let same : p ≡ q = cc in
+    first_has end q ends (nat_eq q.0 end) (ap (λ (x : ℕ × Numbers). nat_eq x.0 end) (sym same) ∙ is)
+has_numbers end (q ∷ ends) (suc k) p at is = later_has end q ends (nat_eq q.0 end) (has_numbers end ends k p at is)

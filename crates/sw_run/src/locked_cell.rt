@@ -1,5 +1,5 @@
 //! A cell under its lock.
-ghost use Rattle.std.specs.Prelude.{◌≡◌, ◌≢◌, ◌<◌, ℕ, IfOk, IsBitSet, IsSome};
+ghost use Rattle.std.specs.Prelude.{◌≡◌, ◌≢◌, ◌<◌, ℕ, IfOk, IsBitSet, IsSome, true};
 ghost use Rattle.sw_cell.specs.Places.{IsIn, machine_cell};
 ghost use Rattle.sw_flow.specs.Places.{ends_of};
 ghost use Rattle.sw_journal.specs.Cells.{end_numbers};
@@ -92,6 +92,16 @@ impl<W: RunIdentity> LockedCell<W> {
         Some(*end)
     }
 
+    /// Whether the link end stands at that place of the cell's list.
+    pub(crate) fn has_at(&self, place: usize, end: LinkEnd) -> bool
+        ensures { result ≡ true → IsSome (end_numbers self.now.cell.ends end) }
+    {
+        match self.cell.ends().get(place) {
+            Some(p) => p.0.number() == end.number(),
+            None => false,
+        }
+    }
+
     /// How many link ends the cell has.
     pub(crate) fn ends(&self) -> usize {
         self.cell.ends().len()
@@ -99,10 +109,9 @@ impl<W: RunIdentity> LockedCell<W> {
 
     /// The first of its link ends that is to send an FCT.
     pub(crate) fn first_wanted(&self) -> Option<LinkEnd> {
-        for place in 0..self.ends() {
-            let end = self.end_at(place)?;
-            if self.wanted(end).is_some() {
-                return Some(end);
+        for (end, numbers) in self.cell.ends() {
+            if fct_by(Some(*numbers), *end).is_some() && self.wanted(*end).is_some() {
+                return Some(*end);
             }
         }
         None

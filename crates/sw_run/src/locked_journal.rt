@@ -214,13 +214,15 @@ impl<'a, W: RunIdentity> LockedJournal<'a, W> {
         }
     }
 
-    /// Makes a step of this link end of the cell, whatever the journal chooses, or marks the link
-    /// end as idle. A grant goes to the input that the output's arbiter picks.
+    /// Makes a step of this link end of the cell, which stands at that place of the cell's list,
+    /// whatever the journal chooses, or marks the link end as idle. A grant goes to the input that
+    /// the output's arbiter picks.
     pub(crate) fn advance(
         &mut self,
         alloc: Global,
         locked: &mut LockedCell<W>,
         end: LinkEnd,
+        place: usize,
     ) -> Turn
         ensures { Advances self.old.journal locked.old.arbiters.items end result self.new.journal locked.new.arbiters.items }
     {
@@ -233,7 +235,7 @@ impl<'a, W: RunIdentity> LockedJournal<'a, W> {
         if self.is_marked(end) {
             return Turn::Idle;
         }
-        if locked.cell.numbers(end).is_none() {
+        if !locked.has_at(place, end) {
             return Turn::Idle;
         }
         match self.journal.choose_or_mark(alloc, end, &locked.cell) {

@@ -202,9 +202,10 @@ impl<'a, W: RunIdentity> RunState<'a, W> {
         journal: &mut LockedJournal<'a, W>,
         locked: &mut LockedCell<W>,
         end: LinkEnd,
+        place: usize,
     ) -> Made {
         for steps in 0..MOST_STEPS {
-            match journal.advance(alloc, locked, end) {
+            match journal.advance(alloc, locked, end, place) {
                 Turn::Moved => {}
                 Turn::Sent(at) => self.raise_over(at),
                 Turn::Idle => {
@@ -242,7 +243,7 @@ impl<'a, W: RunIdentity> RunState<'a, W> {
             let Some(end) = locked.end_at(place) else {
                 return all;
             };
-            let made = self.serve_end(alloc, journal, locked, end);
+            let made = self.serve_end(alloc, journal, locked, end, place);
             all.steps = all.steps.saturating_add(made.steps);
             if made.end == End::Over {
                 all.end = End::Over;

@@ -54,15 +54,8 @@ all_routed d each i e lt =
 abbrev Found : Type 0
 Found = Option (Place × RouteFault)
 
--- what the jobs gave
-pub faults_are : (d e : Declaration) (from to : ℕ) (is : List ℕ) (xs items : List Found) → e ≡ d → from ≡ 0 → to ≡ length (all_flows d) → is ≡ range_with_len from (to - from) → AllZip (IsFirstFault e) is xs → items ≡ xs
-    → AreFirstFaults d items
-faults_are d e from to is xs items here low high numbers zips same =
-    let count : ℕ = length (all_flows d) in
-    let whole : to - from ≡ count = omega (arith, low, high) in
-    let all : is ≡ range_with_len 0 count = numbers ∙ (λ i. range_with_len (low i) (whole i)) in
-    let each = subst (λ (g : Declaration). AllZip (IsFirstFault g) (range_with_len 0 count) xs) here (subst (λ (l : List ℕ). AllZip (IsFirstFault e) l xs) all zips) in
-    subst (λ (l : List Found). AllZip (IsFirstFault d) (range_with_len 0 count) l) (sym same) each
+pub faults_are : (d : Declaration) (n : ℕ) (items : List Found) → n ≡ length (all_flows d) → AllZip (IsFirstFault d) (range_with_len 0 n) items → AreFirstFaults d items
+faults_are d n items count h = subst (λ (m : ℕ). AllZip (IsFirstFault d) (range_with_len 0 m) items) count h
 
 module _ (d : Declaration) where
   at : (a n : ℕ) (faults : List Found) (i : ℕ) (o : Found) → AllZip (IsFirstFault d) (range_with_len a n) faults → i < n → o ≡ get_or faults i o → IsFirstFault d (a + i) o

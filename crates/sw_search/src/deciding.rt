@@ -12,16 +12,16 @@ use crate::laws::{cyclic_is_shown, free_is_accepted};
 use crate::misrouted::first_misrouted;
 use crate::order::ordered;
 use crate::verdict::{Findings, Verdict};
+use crate::workers::VerdictWorkers;
 use std::alloc::{AllocError, Global};
-use std::thread::Threads;
 use sw_config::Network;
 use sw_cycle::dependencies;
 use sw_flow::{Place, all_places};
 use sw_graph::Order;
 
 /// For each channel those on which it depends, each once.
-fn rows_of<R: Threads + Sync>(
-    rt: &R,
+fn rows_of<W: VerdictWorkers>(
+    workers: &W,
     alloc: Global,
     network: &Network,
     places: &[Vec<Place>],
@@ -29,12 +29,12 @@ fn rows_of<R: Threads + Sync>(
     requires { AreListed network.now places.now }
     ensures { IfOk result (λ v. AreRows network.now v.items) }
 {
-    dependencies(rt, alloc, network, places)
+    dependencies(workers, alloc, network, places)
 }
 
 /// The verdict on a network in which each flow is well routed.
-fn routed_verdict<R: Threads + Sync>(
-    rt: &R,
+fn routed_verdict<W: VerdictWorkers>(
+    workers: &W,
     alloc: Global,
     network: &Network,
     places: Vec<Vec<Place>>,
@@ -45,7 +45,7 @@ fn routed_verdict<R: Threads + Sync>(
     requires rows { AreRows network.now rows.now }
     ensures { IfOk result (IsVerdict network.now) }
 {
-    match ordered(rt, alloc, network, rows)? {
+    match ordered(workers, alloc, network, rows)? {
         Order::Levels(levels) => Ok(Verdict::Free(free(network, levels, places))),
         Order::Cycle(members) => {
             let cycle = cycle(alloc, network, &places, &members)?;
@@ -55,8 +55,8 @@ fn routed_verdict<R: Threads + Sync>(
 }
 
 /// The verdict, by the places of the flows and the rows of dependencies.
-fn verdict_by<R: Threads + Sync>(
-    rt: &R,
+fn verdict_by<W: VerdictWorkers>(
+    workers: &W,
     alloc: Global,
     network: &Network,
     places: Vec<Vec<Place>>,
@@ -66,29 +66,29 @@ fn verdict_by<R: Threads + Sync>(
     requires rows { AreRows network.now rows.now }
     ensures { IfOk result (IsVerdict network.now) }
 {
-    match first_misrouted(rt, alloc, network, &places)? {
+    match first_misrouted(workers, alloc, network, &places)? {
         Some((flow, place, fault)) => Ok(Verdict::Misrouted(flow, place, fault)),
-        None => routed_verdict(rt, alloc, network, places, rows),
+        None => routed_verdict(workers, alloc, network, places, rows),
     }
 }
 
-/// The verdict on a network, and how many places and dependencies it has. Threads share the work, as many as there are processors.
+/// The verdict on a network, and how many places and dependencies it has. The workers share the work.
 ///
 /// # Errors
 ///
 /// There is no memory for the places, the dependencies or the verdict.
-pub fn survey<R: Threads + Sync>(
-    rt: &R,
+pub fn survey<W: VerdictWorkers>(
+    workers: &W,
     alloc: Global,
     network: &Network,
 ) -> Result<Findings, AllocError>
     ensures { IfOk result (AreFindings network.now) }
 {
-    let lists = all_places(rt, alloc, network)?;
-    let rows = rows_of(rt, alloc, network, &lists)?;
+    let lists = all_places(workers, alloc, network)?;
+    let rows = rows_of(workers, alloc, network, &lists)?;
     let places = places_in(network, &lists);
     let dependencies = dependencies_in(network, &rows);
-    let verdict = verdict_by(rt, alloc, network, lists, &rows)?;
+    let verdict = verdict_by(workers, alloc, network, lists, &rows)?;
     Ok(Findings {
         verdict,
         places,
@@ -97,13 +97,13 @@ pub fn survey<R: Threads + Sync>(
 }
 
 /// The verdict on a network: the first flow that is not well routed, and else a cycle of dependencies, and else a certificate that
-/// the network never locks up. Threads share the work, as many as there are processors.
+/// the network never locks up. The workers share the work.
 ///
 /// # Errors
 ///
 /// There is no memory for the places, the dependencies or the verdict.
-pub fn decide<R: Threads + Sync>(
-    rt: &R,
+pub fn decide<W: VerdictWorkers>(
+    workers: &W,
     alloc: Global,
     network: &Network,
 ) -> Result<Verdict, AllocError>
@@ -114,6 +114,6 @@ pub fn decide<R: Threads + Sync>(
     let _topology = network.topology();
     free_is_accepted();
     cyclic_is_shown();
-    let findings = survey(rt, alloc, network)?;
+    let findings = survey(workers, alloc, network)?;
     Ok(findings.verdict)
 }

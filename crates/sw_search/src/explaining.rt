@@ -7,14 +7,14 @@ ghost use Rattle.sw_search.specs.Explanations.{IsExplanation};
 use crate::explanation::Explanation;
 use crate::misrouted_way::{first_misrouted, misrouted};
 use crate::tangling::tangles;
+use crate::workers::VerdictWorkers;
 use std::alloc::{AllocError, Global};
-use std::thread::Threads;
 use sw_config::Network;
 use sw_flow::{Place, all_places};
 
 /// What is told of a network in which each flow is well routed.
-fn routed<R: Threads + Sync>(
-    rt: &R,
+fn routed<W: VerdictWorkers>(
+    workers: &W,
     alloc: Global,
     network: &Network,
     places: &[Vec<Place>],
@@ -23,7 +23,7 @@ fn routed<R: Threads + Sync>(
     requires routed { AllWellRouted network.now }
     ensures { IfOk result (IsExplanation network.now) }
 {
-    let found = tangles(rt, alloc, network, places)?;
+    let found = tangles(workers, alloc, network, places)?;
     let count = found.len();
     if count == 0 {
         return Ok(Explanation::Free);
@@ -36,22 +36,21 @@ fn routed<R: Threads + Sync>(
 /// that it is free. It is of the kind of the verdict, and tells of the same flow and fault
 /// (`explanation_laws::explanations_are_of_the_verdict`).
 ///
-/// Threads share the work of finding the places and the dependencies, as many as there are
-/// processors.
+/// The workers share the work of finding the places and the dependencies.
 ///
 /// # Errors
 ///
 /// There is no memory for the places, the dependencies or what is told.
-pub fn explain<R: Threads + Sync>(
-    rt: &R,
+pub fn explain<W: VerdictWorkers>(
+    workers: &W,
     alloc: Global,
     network: &Network,
 ) -> Result<Explanation, AllocError>
     ensures { IfOk result (IsExplanation network.now) }
 {
-    let places = all_places(rt, alloc, network)?;
+    let places = all_places(workers, alloc, network)?;
     match first_misrouted(network, &places) {
         Some((flow, place, fault)) => misrouted(alloc, network, flow, place, fault),
-        None => routed(rt, alloc, network, &places),
+        None => routed(workers, alloc, network, &places),
     }
 }

@@ -6,8 +6,8 @@ ghost use Rattle.sw_search.specs.Verdicts.{says_free};
 use crate::deciding::decide;
 use crate::laws::one_verdict_holds;
 use crate::verdict::Verdict;
+use crate::workers::VerdictWorkers;
 use std::alloc::{AllocError, Global};
-use std::thread::Threads;
 use sw_config::Network;
 
 // Is it the verdict on a free network?
@@ -19,13 +19,13 @@ fn says_free(verdict: &Verdict) -> bool
 
 /// Is each flow well routed, and can no channels wait for one another in a circle?
 ///
-/// Threads share the work, as many as there are processors.
+/// The workers share the work.
 ///
 /// # Errors
 ///
 /// There is no memory for the verdict.
-pub fn is_free<R: Threads + Sync>(
-    rt: &R,
+pub fn is_free<W: VerdictWorkers>(
+    workers: &W,
     alloc: Global,
     network: &Network,
 ) -> Result<bool, AllocError>
@@ -34,6 +34,6 @@ pub fn is_free<R: Threads + Sync>(
     // Names the network, which is valid by its type.
     let _topology = network.topology();
     one_verdict_holds();
-    let verdict = decide(rt, alloc, network)?;
+    let verdict = decide(workers, alloc, network)?;
     Ok(says_free(&verdict))
 }

@@ -17,6 +17,7 @@ mod order;
 mod tangle;
 mod tangling;
 mod verdict;
+mod workers;
 
 pub use deciding::{decide, survey};
 pub use explaining::explain;
@@ -26,3 +27,4 @@ pub use misrouted::fault_of_flow;
 pub use tangle::Tangle;
 pub use tangling::tangles;
 pub use verdict::{Findings, Verdict};
+pub use workers::VerdictWorkers;

@@ -4,15 +4,10 @@ ghost use Rattle.sw_config.specs.Entries.{all_flows};
 ghost use Rattle.sw_search.specs.Verdicts.{AllWellRouted, IsMisrouted};
 ghost use Rattle.sw_search.specs.Lists.{AreFirstFaults, AreListed, IsFirstFault};
 
-use rayon::prelude::*;
+use crate::workers::VerdictWorkers;
 use std::alloc::{AllocError, Global};
-use std::thread::Threads;
 use sw_config::Network;
 use sw_flow::{Place, RouteFault, first_fault};
-
-/// The fewest flows that a thread is started for: a flow has up to 67,584 places, and a thread takes
-/// as long to start as some thousand places to look at.
-const LEAST_PIECE: usize = 64;
 
 /// The first of the flow's places that has a fault, with it. `places` are those of all flows, by their
 /// numbers, as `sw_flow::all_places` gives them.
@@ -26,30 +21,6 @@ pub fn fault_of_flow(
     ensures { IsFirstFault network.now flow result }
 {
     first_fault(network, flow, &places[usize::from(flow)])
-}
-
-/// The first fault of each flow, by the flows' numbers, from as many threads as there are
-/// processors.
-fn faults_of_flows<R: Threads + Sync>(
-    rt: &R,
-    alloc: Global,
-    network: &Network,
-    places: &[Vec<Place>],
-) -> Result<Vec<Option<(Place, RouteFault)>>, AllocError>
-    requires { AreListed network.now places.now }
-    ensures { IfOk result (λ v. AreFirstFaults network.now v.items) }
-{
-    (0..network.flows())
-        .into_par_iter()
-        .with_min_len(LEAST_PIECE)
-        .map(
-            |flow: u16| -> Option<(Place, RouteFault)>
-                requires lists { AreListed network.now places.now }
-                requires inside { flow < length (all_flows network.now) }
-                ensures { IsFirstFault network.entry.now flow result }
-            { fault_of_flow(network, flow, places) },
-        )
-        .collect(rt, alloc)
 }
 
 /// The first fault of the flow, if it has one.
@@ -82,8 +53,8 @@ fn first_faulty(
 }
 
 /// The first flow that is not well routed, with the first of its places that has a fault.
-pub(crate) fn first_misrouted<R: Threads + Sync>(
-    rt: &R,
+pub(crate) fn first_misrouted<W: VerdictWorkers>(
+    workers: &W,
     alloc: Global,
     network: &Network,
     places: &[Vec<Place>],
@@ -91,6 +62,6 @@ pub(crate) fn first_misrouted<R: Threads + Sync>(
     requires { AreListed network.now places.now }
     ensures { IfOk result (λ o. MatchOption o (AllWellRouted network.now) (λ found. IsMisrouted network.now found.0 found.1 found.2)) }
 {
-    let faults = faults_of_flows(rt, alloc, network, places)?;
+    let faults = workers.faults_of_flows(alloc, network, places)?;
     Ok(first_faulty(network, &faults))
 }

@@ -5,14 +5,14 @@ ghost use Rattle.sw_graph.specs.Answers.{Answers};
 ghost use Rattle.sw_search.specs.Lists.{AreRows};
 ghost use Rattle.sw_search.specs.Verdicts.{depends};
 
+use crate::workers::VerdictWorkers;
 use std::alloc::{AllocError, Global};
-use std::thread::Threads;
 use sw_config::Network;
 use sw_graph::{Order, order};
 
 /// The order of the dependencies, given by rows.
-pub(crate) fn ordered<R: Threads + Sync>(
-    rt: &R,
+pub(crate) fn ordered<W: VerdictWorkers>(
+    workers: &W,
     alloc: Global,
     network: &Network,
     rows: &[Vec<u16>],
@@ -22,5 +22,5 @@ pub(crate) fn ordered<R: Threads + Sync>(
 {
     // There are at most 2,048.
     let _channels = network.channels();
-    order(rt, alloc, rows)
+    order(workers, alloc, rows)
 }

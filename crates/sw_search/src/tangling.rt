@@ -6,8 +6,8 @@ ghost use Rattle.sw_search.specs.Verdicts.{depends};
 ghost use Rattle.sw_search.specs.Tangles.{AreTangles, IsTangle};
 
 use crate::tangle::Tangle;
+use crate::workers::VerdictWorkers;
 use std::alloc::{AllocError, Global};
-use std::thread::Threads;
 use sw_config::Network;
 use sw_cycle::{Cycle, causes, dependencies, flows_of_steps};
 use sw_flow::Place;
@@ -69,13 +69,13 @@ fn tangles_of(
 /// are well routed does not matter.
 ///
 /// `places` has the places of each flow, reply flows too, as `sw_flow::all_places` gives them.
-/// Threads share the work of finding the dependencies, as many as there are processors.
+/// The workers share the work of finding the dependencies.
 ///
 /// # Errors
 ///
 /// There is no memory for the tangles, or for what finds them.
-pub fn tangles<R: Threads + Sync>(
-    rt: &R,
+pub fn tangles<W: VerdictWorkers>(
+    workers: &W,
     alloc: Global,
     network: &Network,
     places: &[Vec<Place>],
@@ -85,7 +85,7 @@ pub fn tangles<R: Threads + Sync>(
 {
     // There are at most 2,048.
     let _channels = network.channels();
-    let rows = dependencies(rt, alloc, network, places)?;
+    let rows = dependencies(workers, alloc, network, places)?;
     let found = parts(alloc, &rows)?;
     tangles_of(alloc, network, places, &found)
 }

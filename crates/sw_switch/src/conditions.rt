@@ -41,14 +41,18 @@ impl<R: Routing, A: Arbiter> SwitchCell<R, A> {
 
     /// The inputs to which the output can be granted. There are none while it is held
     /// (ECSS-E-ST-50-12C, network layer: wormhole routing).
+    #[inline(never)]
     pub fn asks(&self, out: Port) -> PortSet
         ensures { AreAsking R.answer self.now out result }
     {
-        if self.is_linked(out) && !self.is_held(out) {
-            self.asking(out)
-        } else {
-            PortSet::EMPTY
+        if !self.is_linked(out) {
+            return PortSet::EMPTY;
         }
+        let asking = self.asking(out);
+        if asking.is_empty() || self.is_held(out) {
+            return PortSet::EMPTY;
+        }
+        asking
     }
 
     fn is_asked_for(&self, out: Port) -> bool
@@ -62,6 +66,7 @@ impl<R: Routing, A: Arbiter> SwitchCell<R, A> {
 
     /// Is the front of the input dropped: an end marker with no packet before it, or a packet that
     /// goes nowhere?
+    #[inline(always)]
     pub fn can_drop(&self, input: Port) -> bool
         ensures { IsTrue result ↔ CanDrop R.answer self.now input }
     {

@@ -8,12 +8,12 @@ use crate::certificate_places::{
     faulty_lines, no_start_lines, not_closed_lines, wrong_count_lines,
 };
 use std::alloc::{AllocError, Global};
-use std::thread::Threads;
 use sw_cert::{Certificate, CertificateFault};
 use sw_check::{Refusal, check};
 use sw_config::Network;
 use sw_file::read_network;
 use sw_hints::{head_line, told};
+use sw_search::VerdictWorkers;
 use sw_toml_table::FileFault;
 
 fn refusal_lines(
@@ -76,8 +76,8 @@ fn refusal_hint(
 }
 
 // Of a certificate: none where it is accepted.
-fn contents_hint<R: Threads + Sync>(
-    rt: &R,
+fn contents_hint<W: VerdictWorkers>(
+    workers: &W,
     alloc: Global,
     names: Names<'_>,
     network: &Network,
@@ -85,7 +85,7 @@ fn contents_hint<R: Threads + Sync>(
 ) -> Result<Option<String>, AllocError>
     ensures { IfOk result (λ o. option_map string_bytes o ≡ contents_hint names.entry.certificate.now names.entry.network.now network.now certificate.now) }
 {
-    match check(rt, network, certificate) {
+    match check(workers, network, certificate) {
         Ok(_) => Ok(None),
         Err(refusal) => {
             let hint = refusal_hint(alloc, names, network, certificate, refusal)?;
@@ -95,8 +95,8 @@ fn contents_hint<R: Threads + Sync>(
 }
 
 // Of a certificate's text: none where it is no certificate.
-fn text_hint<R: Threads + Sync>(
-    rt: &R,
+fn text_hint<W: VerdictWorkers>(
+    workers: &W,
     alloc: Global,
     names: Names<'_>,
     network: &Network,
@@ -105,7 +105,7 @@ fn text_hint<R: Threads + Sync>(
     ensures { IfOk result (λ o. option_map string_bytes o ≡ hint_of_texts names.entry.certificate.now names.entry.network.now (Ok network.now) (read_text text.now)) }
 {
     match Certificate::read(alloc, text) {
-        Ok(certificate) => contents_hint(rt, alloc, names, network, &certificate),
+        Ok(certificate) => contents_hint(workers, alloc, names, network, &certificate),
         Err(CertificateFault::Grammar(_)) => Ok(None),
         Err(CertificateFault::Memory) => Err(AllocError),
     }
@@ -114,13 +114,13 @@ fn text_hint<R: Threads + Sync>(
 /// The hint of a certificate that is refused for the network of a text: what was found, and what is expected in its place. None
 /// where it is accepted, and where one of the texts is no network or no certificate. Both texts' names are told.
 ///
-/// Threads share the work, as many as there are processors.
+/// The workers share the work.
 ///
 /// # Errors
 ///
 /// There is no memory for the hint, or to read the texts.
-pub fn certificate_hint<R: Threads + Sync>(
-    rt: &R,
+pub fn certificate_hint<W: VerdictWorkers>(
+    workers: &W,
     alloc: Global,
     path: &str,
     text: &[u8],
@@ -134,7 +134,7 @@ pub fn certificate_hint<R: Threads + Sync>(
         certificate: certificate_path,
     };
     match read_network(alloc, text) {
-        Ok(network) => text_hint(rt, alloc, names, &network, certificate),
+        Ok(network) => text_hint(workers, alloc, names, &network, certificate),
         Err(FileFault::Text(_)) => Ok(None),
         Err(FileFault::Memory) => Err(AllocError),
     }

@@ -6,12 +6,11 @@ ghost use Rattle.sw_verdict_hints.specs.VerdictHints.{IsHintFor, IsMisroutedHint
 
 use crate::route_hints::flow_hint;
 use std::alloc::{AllocError, Global};
-use std::thread::Threads;
 use sw_config::Network;
 use sw_file::read_network;
 use sw_flow::{Place, RouteFault};
 use sw_hints::head_line;
-use sw_search::{Explanation, explain};
+use sw_search::{Explanation, VerdictWorkers, explain};
 use sw_toml_table::FileFault;
 
 // Where to look at channels that can wait for one another in a circle.
@@ -65,15 +64,15 @@ fn hint_by(
 }
 
 // Of a network.
-fn network_hint<R: Threads + Sync>(
-    rt: &R,
+fn network_hint<W: VerdictWorkers>(
+    workers: &W,
     alloc: Global,
     path: &str,
     network: &Network,
 ) -> Result<Option<String>, AllocError>
     ensures { IfOk result (λ o. IsHintFor path.now network.now (option_map string_bytes o)) }
 {
-    let explanation = explain(rt, alloc, network)?;
+    let explanation = explain(workers, alloc, network)?;
     hint_by(alloc, path, network, &explanation)
 }
 
@@ -81,13 +80,13 @@ fn network_hint<R: Threads + Sync>(
 /// change; of channels that can wait for one another in a circle where to look at them; none where the network is free. `path` is
 /// told as the text's name. None too where the text has a fault: `sw_hints` tells of that.
 ///
-/// Threads share the work, as many as there are processors.
+/// The workers share the work.
 ///
 /// # Errors
 ///
 /// There is no memory for the hint, or for what finds it.
-pub fn verdict_hint<R: Threads + Sync>(
-    rt: &R,
+pub fn verdict_hint<W: VerdictWorkers>(
+    workers: &W,
     alloc: Global,
     path: &str,
     text: &[u8],
@@ -95,7 +94,7 @@ pub fn verdict_hint<R: Threads + Sync>(
     ensures { IfOk result (λ o. IsVerdictHint path.now text.now o) }
 {
     match read_network(alloc, text) {
-        Ok(network) => network_hint(rt, alloc, path, &network),
+        Ok(network) => network_hint(workers, alloc, path, &network),
         Err(FileFault::Text(_)) => Ok(None),
         Err(FileFault::Memory) => Err(AllocError),
     }
@@ -118,28 +117,28 @@ fn misrouted_hint_by(
 }
 
 // Of a network, if a flow is not well routed.
-fn misrouted_network_hint<R: Threads + Sync>(
-    rt: &R,
+fn misrouted_network_hint<W: VerdictWorkers>(
+    workers: &W,
     alloc: Global,
     path: &str,
     network: &Network,
 ) -> Result<Option<String>, AllocError>
     ensures { IfOk result (λ o. IsMisroutedHintFor path.now network.now (option_map string_bytes o)) }
 {
-    let explanation = explain(rt, alloc, network)?;
+    let explanation = explain(workers, alloc, network)?;
     misrouted_hint_by(alloc, path, network, &explanation)
 }
 
 /// The hint of the first flow that is not well routed in the network of a text, as `verdict_hint` tells it; none where each is, also
 /// where the network is cyclic. For calls that tell of a misrouted network as `decide` does, and else something of their own.
 ///
-/// Threads share the work, as many as there are processors.
+/// The workers share the work.
 ///
 /// # Errors
 ///
 /// There is no memory for the hint, or for what finds it.
-pub fn misrouted_verdict_hint<R: Threads + Sync>(
-    rt: &R,
+pub fn misrouted_verdict_hint<W: VerdictWorkers>(
+    workers: &W,
     alloc: Global,
     path: &str,
     text: &[u8],
@@ -147,7 +146,7 @@ pub fn misrouted_verdict_hint<R: Threads + Sync>(
     ensures { IfOk result (λ o. IsMisroutedHint path.now text.now o) }
 {
     match read_network(alloc, text) {
-        Ok(network) => misrouted_network_hint(rt, alloc, path, &network),
+        Ok(network) => misrouted_network_hint(workers, alloc, path, &network),
         Err(FileFault::Text(_)) => Ok(None),
         Err(FileFault::Memory) => Err(AllocError),
     }

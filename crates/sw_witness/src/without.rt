@@ -4,10 +4,9 @@ ghost use Rattle.sw_witness.specs.Unanswered.{IsFreeWithout, never_answered, wit
 
 use std::alloc::{AllocError, Global};
 use std::marker::Model;
-use std::thread::Threads;
 use sw_config::Network;
 use sw_mend::{Change, network_with};
-use sw_search::is_free;
+use sw_search::{VerdictWorkers, is_free};
 
 // The network without the replies of these flows.
 fn without_replies(
@@ -26,8 +25,8 @@ fn without_replies(
 }
 
 // Is the network free without the replies of these flows, which can't happen?
-fn is_free_after<R: Threads + Sync>(
-    rt: &R,
+fn is_free_after<W: VerdictWorkers>(
+    workers: &W,
     alloc: Global,
     network: &Network,
     first: u16,
@@ -37,18 +36,18 @@ fn is_free_after<R: Threads + Sync>(
     ensures { IfOk result (λ b. IsTrue b ↔ IsFreeWithout network.now) }
 {
     let left = without_replies(alloc, network, first, others)?;
-    is_free(rt, alloc, &left)
+    is_free(workers, alloc, &left)
 }
 
 /// Is there a reply that can't happen, and is the network free without these replies? Then it never locks up, though its verdict may be
-/// that it is cyclic. Threads share the work, as many as there are processors.
+/// that it is cyclic. The workers share the work.
 ///
 /// # Errors
 ///
 /// There is no memory for the network without them, or its verdict.
 #[tactic(auto, using(crate::proofs::Away::none_away))]
-pub fn is_free_without<R: Threads + Sync>(
-    rt: &R,
+pub fn is_free_without<W: VerdictWorkers>(
+    workers: &W,
     alloc: Global,
     network: &Network,
     flows: &[u16],
@@ -58,6 +57,6 @@ pub fn is_free_without<R: Threads + Sync>(
 {
     match flows {
         [] => Ok(false),
-        [first, others @ ..] => is_free_after(rt, alloc, network, *first, others),
+        [first, others @ ..] => is_free_after(workers, alloc, network, *first, others),
     }
 }

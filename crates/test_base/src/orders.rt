@@ -4,8 +4,8 @@ ghost use Rattle.sw_graph.specs.Rows.{IsGraph};
 
 use std::alloc::{AllocError, Global};
 use std::process::Abort;
-use std::thread::Threads;
-use sw_graph::{Order, order};
+use sw_graph::{Order, RoundWorkers, order};
+use sw_parallel::{OneByOne, SideBySide};
 
 fn add_members(alloc: Global, rows: &mut Vec<Vec<u16>>, count: usize) -> Result<(), AllocError> {
     for _ in 0..count {
@@ -52,20 +52,26 @@ fn is_graph(rows: &[Vec<u16>]) -> bool
     rows.iter().all(|row| is_row(row, rows.len()))
 }
 
-fn order_of<R: Abort + Threads + Sync>(rt: &R, alloc: Global, rows: &[Vec<u16>]) -> Order {
+fn order_of<R: Abort, C: RoundWorkers>(
+    rt: &R,
+    workers: &C,
+    alloc: Global,
+    rows: &[Vec<u16>],
+) -> Order {
     assert!(rt; rows.len() < 65536);
     assert!(rt; is_graph(rows));
-    order(rt, alloc, rows).expect(rt, "order")
+    order(workers, alloc, rows).expect(rt, "order")
 }
 
-fn ordered<R: Abort + Threads + Sync>(
+fn ordered<R: Abort, C: RoundWorkers>(
     rt: &R,
+    workers: &C,
     alloc: Global,
     count: usize,
     steps: &[(u16, u16)],
 ) -> Order {
     let rows = relation(rt, alloc, count, steps);
-    order_of(rt, alloc, &rows)
+    order_of(rt, workers, alloc, &rows)
 }
 
 fn are_levels(order: &Order, wanted: &[u16]) -> bool {
@@ -75,13 +81,8 @@ fn are_levels(order: &Order, wanted: &[u16]) -> bool {
     }
 }
 
-fn has_levels<R: Abort + Threads + Sync>(
-    rt: &R,
-    alloc: Global,
-    steps: &[(u16, u16)],
-    wanted: &[u16],
-) {
-    let order = ordered(rt, alloc, wanted.len(), steps);
+fn has_levels<R: Abort>(rt: &R, alloc: Global, steps: &[(u16, u16)], wanted: &[u16]) {
+    let order = ordered(rt, &OneByOne, alloc, wanted.len(), steps);
     assert!(rt; are_levels(&order, wanted));
 }
 
@@ -92,14 +93,8 @@ fn is_cycle(order: &Order, wanted: &[u16]) -> bool {
     }
 }
 
-fn has_cycle<R: Abort + Threads + Sync>(
-    rt: &R,
-    alloc: Global,
-    count: usize,
-    steps: &[(u16, u16)],
-    wanted: &[u16],
-) {
-    let order = ordered(rt, alloc, count, steps);
+fn has_cycle<R: Abort>(rt: &R, alloc: Global, count: usize, steps: &[(u16, u16)], wanted: &[u16]) {
+    let order = ordered(rt, &OneByOne, alloc, count, steps);
     assert!(rt; is_cycle(&order, wanted));
 }
 
@@ -147,12 +142,17 @@ fn fall_from_one(order: &Order, count: usize) -> bool {
 }
 
 // Of five thousand members the last leads to the first.
-fn is_ordered_by_threads<R: Abort + Threads + Sync>(rt: &R, alloc: Global) {
-    let order = ordered(rt, alloc, 5000, &[(4999, 0)]);
+fn is_ordered_by<R: Abort, C: RoundWorkers>(rt: &R, workers: &C, alloc: Global) {
+    let order = ordered(rt, workers, alloc, 5000, &[(4999, 0)]);
     assert!(rt; fall_from_one(&order, 5000));
 }
 
 #[test]
 fn many_members_are_shared_among_threads(rt: HostRuntime) {
-    is_ordered_by_threads(&rt, rt.alloc());
+    is_ordered_by(&rt, &SideBySide::new(&rt), rt.alloc());
+}
+
+#[test]
+fn many_members_are_taken_one_by_one(rt: HostRuntime) {
+    is_ordered_by(&rt, &OneByOne, rt.alloc());
 }

@@ -4,7 +4,6 @@ ghost use Rattle.sw_load.specs.Laws.{AreDeclared};
 
 use std::alloc::{AllocError, Global};
 use std::io;
-use std::thread::Threads;
 use sw_cert::Certificate;
 use sw_check::{Passed, check};
 use sw_config::Network;
@@ -12,6 +11,7 @@ use sw_history::drain;
 use sw_load::laws::listed_are_declared;
 use sw_load::{Load, read_load};
 use sw_net::declared_net;
+use sw_parallel::OneByOne;
 
 /// How many steps it took, how many packets came out at each node, and what is left.
 #[derive(Drop)]
@@ -73,7 +73,7 @@ fn show_load<R: Print + AllocGlobal>(
 }
 
 /// Drains the network of the load that the text lists, three times.
-pub(crate) fn show_drains<R: Print + AllocGlobal + Threads + Sync>(
+pub(crate) fn show_drains<R: Print + AllocGlobal>(
     rt: &R,
     network: &Network,
     certificate: &Certificate,
@@ -83,7 +83,7 @@ pub(crate) fn show_drains<R: Print + AllocGlobal + Threads + Sync>(
 ) -> io::Result<()> {
     listed_are_declared();
     match (
-        check(rt, network, certificate),
+        check(&OneByOne, network, certificate),
         read_load(rt.alloc(), network, text),
     ) {
         (Ok(passed), Ok(load)) => show_load(rt, &passed, &load, least, most),

@@ -3,7 +3,6 @@
 use crate::drained::show_drains;
 use crate::files::with_network;
 use std::rt::Files;
-use std::thread::Threads;
 use std::{fs, io};
 use sw_cert::Certificate;
 use sw_config::Network;
@@ -35,7 +34,7 @@ static SAMPLES: [Sample; 2] = [
     },
 ];
 
-fn show_certified<R: Files + Print + AllocGlobal + Threads + Sync>(
+fn show_certified<R: Files + Print + AllocGlobal>(
     rt: &R,
     sample: &Sample,
     network: &Network,
@@ -45,7 +44,7 @@ fn show_certified<R: Files + Print + AllocGlobal + Threads + Sync>(
     show_drains(rt, network, certificate, &load, sample.least, sample.most)
 }
 
-fn show_network<R: Files + Print + AllocGlobal + Threads + Sync>(
+fn show_network<R: Files + Print + AllocGlobal>(
     rt: &R,
     sample: &Sample,
     network: &Network,
@@ -57,10 +56,7 @@ fn show_network<R: Files + Print + AllocGlobal + Threads + Sync>(
     }
 }
 
-fn show_sample<R: Files + Print + AllocGlobal + Threads + Sync>(
-    rt: &R,
-    sample: &Sample,
-) -> io::Result<()> {
+fn show_sample<R: Files + Print + AllocGlobal>(rt: &R, sample: &Sample) -> io::Result<()> {
     let name = sample.load;
     println!(rt; "> {name}")?;
     with_network(
@@ -72,9 +68,7 @@ fn show_sample<R: Files + Print + AllocGlobal + Threads + Sync>(
 
 /// Prints what came out at the nodes of each network, and whether the number of steps is within its
 /// bounds.
-pub(crate) fn show_all_drains<R: Files + Print + AllocGlobal + Threads + Sync>(
-    rt: &R,
-) -> io::Result<()> {
+pub(crate) fn show_all_drains<R: Files + Print + AllocGlobal>(rt: &R) -> io::Result<()> {
     for sample in &SAMPLES {
         show_sample(rt, sample)?;
     }

@@ -17,9 +17,8 @@ use crate::limits::show_limits;
 use crate::waiting::show_waitings;
 use std::io;
 use std::rt::Files;
-use std::thread::Threads;
 
-fn show_core<R: Files + Print + AllocGlobal + Threads + Sync>(rt: &R) -> io::Result<()> {
+fn show_core<R: Files + Print + AllocGlobal>(rt: &R) -> io::Result<()> {
     show_all_drains(rt)?;
     show_limits(rt)?;
     show_waitings(rt)?;

@@ -73,7 +73,7 @@ fn turns<R: Files + Print + AllocGlobal + Threads + Wait + Sync>(
 ) -> Result<()> {
     let alloc = rt.alloc();
     println!(rt; "{:?}", route(alloc, network, 0)?)?;
-    let certificate = certified(rt, network)?;
+    let certificate = certified(alloc, network)?;
     show_text(rt, &certificate)?;
     ensure!(
         certificate == bytes_of(rt, "turn.cert")?,

@@ -7,11 +7,11 @@ use crate::files::bytes_of;
 use anyhow::{Result, bail};
 use std::alloc::{AllocError, Global};
 use std::rt::Files;
-use std::thread::Threads;
 use sw_config::Network;
 use sw_file::read_network;
 use sw_flow::{Place, places};
 use sw_migrate::{MigrateFault, migrate};
+use sw_parallel::OneByOne;
 use sw_search::{Verdict, decide};
 use sw_toml_table::FileFault;
 use sw_topo::Chan;
@@ -90,20 +90,17 @@ pub fn route(alloc: Global, network: &Network, flow: u16) -> Result<Vec<Place>> 
     }
 }
 
-fn verdict_on<R: AllocGlobal + Threads + Sync>(
-    rt: &R,
-    network: &Network,
-) -> Result<Verdict, AllocError> {
-    match decide(rt, rt.alloc(), network) {
+fn verdict_on(alloc: Global, network: &Network) -> Result<Verdict, AllocError> {
+    match decide(&OneByOne, alloc, network) {
         Ok(verdict) => Ok(verdict),
-        Err(_) => decide(rt, rt.alloc(), network),
+        Err(_) => decide(&OneByOne, alloc, network),
     }
 }
 
 /// The certificate that the network never locks up.
-pub fn certified<R: AllocGlobal + Threads + Sync>(rt: &R, network: &Network) -> Result<Vec<u8>> {
-    match verdict_on(rt, network)? {
-        Verdict::Free(certificate) => Ok(written(rt.alloc(), &certificate)?),
+pub fn certified(alloc: Global, network: &Network) -> Result<Vec<u8>> {
+    match verdict_on(alloc, network)? {
+        Verdict::Free(certificate) => Ok(written(alloc, &certificate)?),
         _ => bail!("another verdict"),
     }
 }

@@ -1,4 +1,4 @@
-use Rattle.std.proofs.Common.{◌≡◌, ◌∙◌, ℕ, ◌-◌, ◌<◌, ap, arith, length, rules}
+use Rattle.std.proofs.Common.{◌≡◌, ◌∙◌, ℕ, ◌-◌, ◌<◌, ap, arith, length}
 use Rattle.std.specs.List.{range_with_len}
 use Rattle.rayon.proofs.ListFacts.{IfOk-then}
 use Rattle.rayon.proofs.ToStd.{nat_range-All}
@@ -10,7 +10,7 @@ collect-requires-clause-ready g c κs within =
     let ends = c.into_par_iter.ensures in
     let count = length c.args.paths.now in
     let inside = nat_range-All (λ i. i < count) 0 count (λ i low high. high) in
-    rw (c.map.ensures.base, c.map.ensures.f, c.with_min_len.ensures.base, ends.0, ends.1) (λ k d lt. ((inside k d lt, (search rules, search rules)), λ y p. tt))
+    rw (c.map.ensures.base, c.map.ensures.f, c.with_min_len.ensures.base, ends.0, ends.1) (λ k d lt. (inside k d lt, λ y p. tt))
 
 whole : (n : ℕ) → n - 0 ≡ n
 whole n = omega arith

@@ -5,7 +5,7 @@ use Rattle.sw_app_run.specs.Records.{IsRecordOf, IsWithSchedule}
 use Rattle.sw_app_run.proofs.record_answer.recorded_outcome.Goals as goal
 
 pub returns : goal.returns
-returns g c =
+returns c =
     let d = c.args.network.now in
     let o = c.args.outcome.now in
     let answer : Answer = record { text = c.in_ok-text.text; status = c.stop_status-status.result } in

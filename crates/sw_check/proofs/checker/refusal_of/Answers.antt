@@ -13,11 +13,11 @@ of_as_many d c is = as_many d (all_flows d) c.places (true_both (length c.number
 pub returns-then-not-is_of_the_network : goal.returns-then-not-is_of_the_network
 returns-then-not-is_of_the_network g c = other_network c.args.network.now c.args.certificate.now (sym c.is_of_the_network.ensures ∙ c.if-not-is_of_the_network.true)
 
-pub refusal_of_flows-closed-requires-after_bounds : goal.refusal_of_flows-closed-requires-after_bounds
-refusal_of_flows-closed-requires-after_bounds g c κs within = of_as_many c.args.network.now c.args.certificate.now (sym c.is_of_the_network.ensures ∙ c.if-not-is_of_the_network.false)
+pub refusal_of_flows-closed-requires-clause-lists : goal.refusal_of_flows-closed-requires-clause-lists
+refusal_of_flows-closed-requires-clause-lists g c = of_as_many c.args.network.now c.args.certificate.now (sym c.is_of_the_network.ensures ∙ c.if-not-is_of_the_network.false)
 
-pub not_rising_along_flows-rising-requires-after_bounds : goal.not_rising_along_flows-rising-requires-after_bounds
-not_rising_along_flows-rising-requires-after_bounds g c κs within = of_as_many c.args.network.now c.args.certificate.now (sym c.is_of_the_network.ensures ∙ c.if-not-is_of_the_network.false)
+pub not_rising_along_flows-rising-requires-clause-lists : goal.not_rising_along_flows-rising-requires-clause-lists
+not_rising_along_flows-rising-requires-clause-lists g c = of_as_many c.args.network.now c.args.certificate.now (sym c.is_of_the_network.ensures ∙ c.if-not-is_of_the_network.false)
 
 pub returns-then-is_some : goal.returns-then-is_some
 returns-then-is_some g c =

@@ -4,8 +4,8 @@ use Rattle.sw_graph.proofs.Peels.{rounds_none, peeled, free_inside, left_inside,
 use Rattle.sw_graph.proofs.RelationSteps.{round_step}
 use Rattle.sw_graph.proofs.rounds.peel.Goals as goal
 
-pub free_members-requires-after_bounds : goal.free_members-requires-after_bounds
-free_members-requires-after_bounds g c κs within = rw (c.deref-2.ensures.value, c.in_ok-left.ensures) (left_inside c.args.predecessors.now 0 _ _ _ (rounds_none c.args.predecessors.now))
+pub free_members-requires-clause-inside : goal.free_members-requires-clause-inside
+free_members-requires-clause-inside g c = rw (c.deref-2.ensures.value, c.in_ok-left.ensures) (left_inside c.args.predecessors.now 0 _ _ _ (rounds_none c.args.predecessors.now))
 
 pub loop-alloc-init : goal.loop-alloc-init
 loop-alloc-init g c =
@@ -26,9 +26,9 @@ overflow_add-round g c =
     let some : 0 < length c.loop-alloc.free.items = search rules in
     omega (arith, round_fits c.args.predecessors.now c.loop-alloc.round c.loop-alloc.levels.items c.loop-alloc.done.items c.loop-alloc.left.items c.loop-alloc.free.items i.0 i.1 some c.requires.few)
 
-pub free_members-requires-in-loop-alloc-after_bounds :
-    goal.free_members-requires-in-loop-alloc-after_bounds
-free_members-requires-in-loop-alloc-after_bounds g c κs within =
+pub free_members-requires-in-loop-alloc-clause-inside :
+    goal.free_members-requires-in-loop-alloc-clause-inside
+free_members-requires-in-loop-alloc-clause-inside g c =
     let i = c.loop-alloc.invariant in
     let some : 0 < length c.loop-alloc.free.items = search rules in
     let s = round_step c.args.predecessors.now c.requires.graph c.loop-alloc.round c.loop-alloc.levels.items c.loop-alloc.done.items c.loop-alloc.left.items c.loop-alloc.free.items i.0 i.1 some

@@ -6,7 +6,7 @@ use Rattle.sw_json_runs.specs.RunRecords.{IsRecordOf}
 use Rattle.sw_json_runs.proofs.run_answer.recorded_outcome.Goals as goal
 
 pub returns : goal.returns
-returns g c =
+returns c =
     let d = c.args.network.now in
     let o = c.args.outcome.now in
     let answer = c.in_ok-answer.answer in

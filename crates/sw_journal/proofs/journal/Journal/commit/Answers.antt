@@ -1,5 +1,5 @@
 use Rattle.std.proofs.Common.{ap, refl, sym, ◌++◌, ◌∙◌, ◌∷◌, []}
-use Rattle.sw_journal.proofs.Commit.{account_same, commits_same, ends_within, kept_after, kept_same, met, now_cell, now_same, refused_same, renewed_then, same_cell_after}
+use Rattle.sw_journal.proofs.Commit.{account_same, commits_same, ends_within, kept_after, kept_same, met, names_once, now_cell, now_same, refused_same, renewed_then, same_cell_after}
 use Rattle.sw_journal.proofs.journal.Journal.commit.Goals as goal
 use Rattle.sw_journal.specs.Record.{JournalView, CellView}
 use Rattle.sw_model.specs.Model.{network_of}
@@ -24,6 +24,12 @@ renew_after-requires-clause-within c =
     let i = c.self.invariant in
     let m = met _ c.self.inside.seat.me c.cell.inside.seat.me c.cell.inside.number c.cell.inside.id c.cell.inside.ends.items i.0 c.cell.invariant c.meet.ensures.same in
     rw (c.in_default.ensures.adds.2.declared) (ends_within (network_of c.self.inside.history.declared) i.0.true_view.state c.cell.inside.id _ c.cell.inside.ends.items i.0.true_view.network i.0.channels m.ends_are)
+
+pub renew_after-requires-clause-once : goal.renew_after-requires-clause-once
+renew_after-requires-clause-once c =
+    let i = c.self.invariant in
+    let m = met _ c.self.inside.seat.me c.cell.inside.seat.me c.cell.inside.number c.cell.inside.id c.cell.inside.ends.items i.0 c.cell.invariant c.meet.ensures.same in
+    names_once (network_of c.self.inside.history.declared) i.0.true_view.state c.cell.inside.id c.cell.inside.ends.items m.ends_are
 
 pub invariant_of-self-2 : goal.invariant_of-self-2
 invariant_of-self-2 c =

@@ -1,0 +1,3 @@
+pub mod AtHand
+pub mod Given
+pub mod Objects

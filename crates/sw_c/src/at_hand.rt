@@ -1,0 +1,48 @@
+//! A network file whose bytes are at hand, for an audit.
+ghost use Rattle.std.specs.Prelude.{◌≡◌, IfOk, false};
+ghost use Rattle.sw_app_audit.specs.Stores.{given_of};
+ghost use Rattle.sw_c.specs.AtHand.{AreGiven};
+
+use std::alloc::{AllocError, Global};
+use sw_app_audit::{Input, Storage};
+use sw_command::MAX_TEXT;
+
+/// The bytes of a file. Each path gives them, and no certificate is kept.
+#[derive(Clone, Copy)]
+pub(crate) struct AtHand<'a> {
+    pub(crate) bytes: &'a [u8],
+}
+
+fn copied(alloc: Global, bytes: &[u8]) -> Result<Vec<u8>, AllocError>
+    ensures { IfOk result (λ v. v.items ≡ bytes.now) }
+{
+    let mut all = Vec::new(alloc);
+    all.extend_from_slice(bytes)?;
+    Ok(all)
+}
+
+fn input_of(alloc: Global, bytes: &[u8]) -> Input
+    ensures { AreGiven bytes.now (given_of result) }
+{
+    if bytes.len() > MAX_TEXT {
+        return Input::TooLong;
+    }
+    match copied(alloc, bytes) {
+        Ok(text) => Input::Whole(text),
+        Err(_) => Input::NoMemory,
+    }
+}
+
+impl Storage for AtHand<'_> {
+    ghost gives = { λ self path given. AreGiven self.bytes.now given };
+
+    ghost keeps = { λ self name certificate kept. kept ≡ false };
+
+    fn read(&self, alloc: Global, _path: &str) -> Input {
+        input_of(alloc, self.bytes)
+    }
+
+    fn keep(&self, _alloc: Global, _name: &str, _certificate: &[u8]) -> bool {
+        false
+    }
+}

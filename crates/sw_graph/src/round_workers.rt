@@ -1,0 +1,81 @@
+//! The members that a round takes, side by side or one by one.
+ghost use Rattle.std.specs.Prelude.{◌↔◌, ◌<◌, All, IfOk, IsTrue, length};
+ghost use Rattle.std.specs.Thread.{IsSync};
+ghost use Rattle.sw_graph.specs.Rounds.{AllDone, AreFree};
+ghost use Rattle.sw_graph.specs.Rows.{row};
+
+use crate::marks::is_marked;
+use std::alloc::{AllocError, Global};
+use std::thread::Threads;
+use sw_parallel::{OneByOne, SideBySide, Workers, one_by_one, side_by_side};
+
+/// The fewest members that a thread is started for. Below twice as many a round goes through one
+/// thread: to look at a member's predecessors takes some hundred nanoseconds, and a thread some ten
+/// microseconds to start.
+const LEAST_PIECE: usize = 1024;
+
+/// Whether all of the members are done.
+fn all_done(members: &[u16], done: &[bool]) -> bool
+    ensures { IsTrue result ↔ AllDone done.now members.now }
+{
+    members.iter().all(|c| is_marked(done, *c))
+}
+
+/// Who finds the members that a round takes.
+pub trait RoundWorkers: Workers {
+    /// The members that are left of which all predecessors are done.
+    ///
+    /// # Errors
+    ///
+    /// There is no memory for the list.
+    fn free_members(
+        &self,
+        alloc: Global,
+        predecessors: &[Vec<u16>],
+        done: &[bool],
+        left: &[u16],
+    ) -> Result<Vec<u16>, AllocError>
+        requires shared { IsSync Self.Shared.row }
+        requires inside { All (λ c. c < length predecessors.now) left.now }
+        ensures { IfOk result (λ v. AreFree predecessors.now done.now left.now v.items) };
+}
+
+impl<R: Threads + Sync> RoundWorkers for SideBySide<'_, R> {
+    fn free_members(
+        &self,
+        alloc: Global,
+        predecessors: &[Vec<u16>],
+        done: &[bool],
+        left: &[u16],
+    ) -> Result<Vec<u16>, AllocError> {
+        side_by_side::keep(
+            self.handle(),
+            alloc,
+            left,
+            LEAST_PIECE,
+            |c: u16| -> bool
+                requires { c < length predecessors.now }
+                ensures { IsTrue result ↔ AllDone done.entry.now (row predecessors.entry.now c) }
+            { all_done(&predecessors[usize::from(c)], done) },
+        )
+    }
+}
+
+impl RoundWorkers for OneByOne {
+    fn free_members(
+        &self,
+        alloc: Global,
+        predecessors: &[Vec<u16>],
+        done: &[bool],
+        left: &[u16],
+    ) -> Result<Vec<u16>, AllocError> {
+        one_by_one::keep(
+            alloc,
+            left,
+            |member: u16| -> bool
+                requires { member < length predecessors.now }
+                ensures { IsTrue result ↔ AllDone done.entry.now (row predecessors.entry.now member) }
+            { all_done(&predecessors[usize::from(member)], done) },
+        )
+    }
+}

@@ -1,0 +1,77 @@
+//! What a verdict rests on, found side by side or one by one.
+ghost use Rattle.std.specs.Prelude.{◌<◌, IfOk, length};
+ghost use Rattle.std.specs.Thread.{IsSync};
+ghost use Rattle.sw_config.specs.Entries.{all_flows};
+ghost use Rattle.sw_search.specs.Lists.{AreFirstFaults, AreListed, IsFirstFault};
+
+use crate::misrouted::fault_of_flow;
+use std::alloc::{AllocError, Global};
+use std::thread::Threads;
+use sw_check::CheckWorkers;
+use sw_config::Network;
+use sw_cycle::PortWorkers;
+use sw_flow::{Place, PlaceWorkers, RouteFault};
+use sw_graph::RoundWorkers;
+use sw_parallel::{OneByOne, SideBySide, one_by_one, side_by_side};
+
+/// The fewest flows that a thread is started for: a flow has up to 67,584 places, and a thread takes
+/// as long to start as some thousand places to look at.
+const LEAST_PIECE: usize = 64;
+
+/// Who finds what a verdict rests on.
+pub trait VerdictWorkers: CheckWorkers + PlaceWorkers + PortWorkers + RoundWorkers {
+    /// The first fault of each flow, by the flows' numbers.
+    ///
+    /// # Errors
+    ///
+    /// There is no memory for the list.
+    fn faults_of_flows(
+        &self,
+        alloc: Global,
+        network: &Network,
+        places: &[Vec<Place>],
+    ) -> Result<Vec<Option<(Place, RouteFault)>>, AllocError>
+        requires shared { IsSync Self.Shared.row }
+        requires lists { AreListed network.now places.now }
+        ensures { IfOk result (λ v. AreFirstFaults network.now v.items) };
+}
+
+impl<R: Threads + Sync> VerdictWorkers for SideBySide<'_, R> {
+    fn faults_of_flows(
+        &self,
+        alloc: Global,
+        network: &Network,
+        places: &[Vec<Place>],
+    ) -> Result<Vec<Option<(Place, RouteFault)>>, AllocError> {
+        side_by_side::map_all(
+            self.handle(),
+            alloc,
+            network.flows(),
+            LEAST_PIECE,
+            |flow: u16| -> Result<Option<(Place, RouteFault)>, AllocError>
+                requires lists { AreListed network.now places.now }
+                requires inside { flow < length (all_flows network.now) }
+                ensures { IfOk result (IsFirstFault network.entry.now flow) }
+            { Ok(fault_of_flow(network, flow, places)) },
+        )
+    }
+}
+
+impl VerdictWorkers for OneByOne {
+    fn faults_of_flows(
+        &self,
+        alloc: Global,
+        network: &Network,
+        places: &[Vec<Place>],
+    ) -> Result<Vec<Option<(Place, RouteFault)>>, AllocError> {
+        one_by_one::map_all(
+            alloc,
+            network.flows(),
+            |number: u16| -> Result<Option<(Place, RouteFault)>, AllocError>
+                requires lists { AreListed network.now places.now }
+                requires inside { number < length (all_flows network.now) }
+                ensures { IfOk result (IsFirstFault network.entry.now number) }
+            { Ok(fault_of_flow(network, number, places)) },
+        )
+    }
+}
