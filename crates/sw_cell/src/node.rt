@@ -20,6 +20,7 @@ use sw_node::NodeCell;
 
 /// The end of the channel that comes to node `n` sends an FCT (ECSS-E-ST-50-12C, data link layer: flow
 /// control).
+#[inline(always)]
 pub fn fct(network: &Network, n: u16, node: &mut NodeCell, wires: &mut Wires) -> bool
     requires node { IsNodeFor network.now n node.old }
     requires reached { HasNodeState (network_of network.now) n node.old wires.old }
@@ -36,6 +37,7 @@ pub fn fct(network: &Network, n: u16, node: &mut NodeCell, wires: &mut Wires) ->
 
 /// An FCT arrives where the channel starts that goes out from node `n` (ECSS-E-ST-50-12C, data link
 /// layer: flow control).
+#[inline(always)]
 pub fn fct_in(network: &Network, n: u16, node: &mut NodeCell, wires: &mut Wires) -> bool
     requires node { IsNodeFor network.now n node.old }
     requires reached { HasNodeState (network_of network.now) n node.old wires.old }
@@ -53,6 +55,7 @@ pub fn fct_in(network: &Network, n: u16, node: &mut NodeCell, wires: &mut Wires)
 
 /// The first character on the wire of the channel that comes to node `n` arrives (ECSS-E-ST-50-12C,
 /// data link layer: flow control).
+#[inline(always)]
 pub fn arrive(network: &Network, n: u16, node: &mut NodeCell, wires: &mut Wires) -> bool
     requires node { IsNodeFor network.now n node.old }
     requires reached { HasNodeState (network_of network.now) n node.old wires.old }
@@ -69,6 +72,7 @@ pub fn arrive(network: &Network, n: u16, node: &mut NodeCell, wires: &mut Wires)
 }
 
 /// Node `n` puts a character on its wire (ECSS-E-ST-50-12C, data link layer: flow control).
+#[inline(always)]
 pub fn emit(network: &Network, n: u16, node: &mut NodeCell, wires: &mut Wires) -> bool
     requires node { IsNodeFor network.now n node.old }
     requires reached { HasNodeState (network_of network.now) n node.old wires.old }
@@ -89,6 +93,7 @@ pub fn emit(network: &Network, n: u16, node: &mut NodeCell, wires: &mut Wires) -
 ///
 /// There is no memory for what is stored: only where the step is possible. The node is then as it
 /// was.
+#[inline(always)]
 pub fn accept(alloc: Global, n: u16, node: &mut NodeCell) -> Result<bool, AllocError>
     ensures made { IfOk result (λ made. (d : Declaration) → IsNodeFor d n node.old → NodeDoes d n node.old (Accept n) made node.new) }
     ensures possible { OnErr result (CanAccept node.old) }
@@ -102,6 +107,7 @@ pub fn accept(alloc: Global, n: u16, node: &mut NodeCell) -> Result<bool, AllocE
 }
 
 /// Node `n` begins to send the reply (ECSS-E-ST-50-52C, reply fields) that has waited longest.
+#[inline(always)]
 pub fn reply(n: u16, node: &mut NodeCell) -> bool
     ensures { (d : Declaration) → IsNodeFor d n node.old → NodeDoes d n node.old (Reply n) result node.new }
 {

@@ -24,6 +24,7 @@ use sw_node::NodeCell;
 ///
 /// There is no memory for what the step stores: only where the step is possible. Then nothing has
 /// changed.
+#[inline(always)]
 pub fn step_node(
     alloc: Global,
     network: &Network,

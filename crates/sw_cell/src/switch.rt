@@ -42,6 +42,7 @@ fn output(network: &Network, w: u16, channel: Chan) -> Port
 
 /// The end of the channel, which comes to switch `w`, sends an FCT (ECSS-E-ST-50-12C, data link layer:
 /// flow control).
+#[inline(always)]
 pub fn fct<R: Routing, A: Arbiter>(
     network: &Network,
     w: u16,
@@ -67,6 +68,7 @@ pub fn fct<R: Routing, A: Arbiter>(
 
 /// An FCT arrives where the channel starts that goes out from switch `w` (ECSS-E-ST-50-12C, data link
 /// layer: flow control).
+#[inline(always)]
 pub fn fct_in<R: Routing, A: Arbiter>(
     network: &Network,
     w: u16,
@@ -92,6 +94,7 @@ pub fn fct_in<R: Routing, A: Arbiter>(
 
 /// The first character on the wire of the channel, which comes to switch `w`, arrives
 /// (ECSS-E-ST-50-12C, data link layer: flow control).
+#[inline(always)]
 pub fn arrive<R: Routing, A: Arbiter>(
     network: &Network,
     w: u16,
@@ -117,6 +120,7 @@ pub fn arrive<R: Routing, A: Arbiter>(
 
 /// The input where the channel ends, at switch `w`, loses a character of a packet that is
 /// discarded.
+#[inline(always)]
 pub fn spill<R: Routing, A: Arbiter>(
     network: &Network,
     w: u16,
@@ -139,6 +143,7 @@ pub fn spill<R: Routing, A: Arbiter>(
 
 /// The input where the channel ends, at switch `w`, passes a character on to the output that it
 /// holds (ECSS-E-ST-50-12C, network layer: wormhole routing).
+#[inline(always)]
 pub fn forward<R: Routing, A: Arbiter>(
     network: &Network,
     w: u16,
@@ -165,6 +170,7 @@ pub fn forward<R: Routing, A: Arbiter>(
 
 /// The input where the channel ends, at switch `w`, drops an end marker that stands before any
 /// packet, or begins to discard a packet that goes nowhere.
+#[inline(always)]
 pub fn drop_front<R: Routing, A: Arbiter>(
     network: &Network,
     w: u16,
@@ -200,6 +206,7 @@ fn output_port(network: &Network, w: u16, channel: Chan) -> Option<Port>
 
 /// The output where a channel starts is granted to the input where the other ends, at switch `w`
 /// (ECSS-E-ST-50-12C, network layer: wormhole routing). The output's arbiter is not asked.
+#[inline(always)]
 pub fn grant<R: Routing, A: Arbiter>(
     network: &Network,
     w: u16,
@@ -264,6 +271,7 @@ pub enum PortStep {
 }
 
 /// Whether that step of the link end, which stands at switch `w`, is possible.
+#[inline(always)]
 pub fn is_possible<R: Routing, A: Arbiter>(
     network: &Network,
     w: u16,

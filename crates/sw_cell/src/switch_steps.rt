@@ -15,6 +15,7 @@ use sw_route::Routing;
 use sw_switch::SwitchCell;
 
 /// Makes the step, which has to be one at switch `w`, if it is possible. A grant asks no arbiter.
+#[inline(always)]
 pub fn step_switch<R: Routing, A: Arbiter>(
     network: &Network,
     w: u16,

@@ -107,6 +107,7 @@ impl<'n, R: Routing, A: Arbiter> History<'n, R, A> {
     }
 
     /// The step as it is kept; this is the node that begins a packet by it, if it begins one.
+    #[inline(always)]
     fn note(&self, step: &Step, beginner: Option<u16>) -> Noted
         requires next { BeginsNext (network_of self.now.declared) (packets_of self.now.load) self.now.steps (machine_step step.now) }
         requires node { beginner ≡ beginner_of (network_of self.now.declared) (machine_step step.now) }
@@ -143,6 +144,7 @@ impl<'n, R: Routing, A: Arbiter> History<'n, R, A> {
     ///
     /// `NotEnabled`: the step may not be the next. `Memory`: it may, and there is no memory for
     /// what it stores. The history is then unchanged, and the step is gone.
+    #[inline(always)]
     pub fn add(&mut self, alloc: Global, step: Step) -> Result<(), StepFault>
         requires { 0 < self.old.room }
         ensures { Adds self.old (machine_step step) result self.new }

@@ -13,6 +13,7 @@ use sw_net::Net;
 use sw_route::Routing;
 
 /// Makes the step, if the network can.
+#[inline(always)]
 pub(crate) fn make<R: Routing, A: Arbiter>(
     net: &mut Net<'_, R, A>,
     alloc: Global,

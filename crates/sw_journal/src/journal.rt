@@ -121,6 +121,35 @@ impl<'n> Journal<'n> {
         ensures commits { Commits self.old cell.old (machine_step step) result self.new cell.new }
         ensures numbers { IsNowCell self.old cell.old }
     {
+        match step {
+            Step::Fct(channel) => self.commit_kind(alloc, cell, Step::Fct(channel)),
+            Step::FctIn(channel) => self.commit_kind(alloc, cell, Step::FctIn(channel)),
+            Step::Arrive(channel) => self.commit_kind(alloc, cell, Step::Arrive(channel)),
+            Step::Drop(channel) => self.commit_kind(alloc, cell, Step::Drop(channel)),
+            Step::Forward(channel) => self.commit_kind(alloc, cell, Step::Forward(channel)),
+            Step::Spill(channel) => self.commit_kind(alloc, cell, Step::Spill(channel)),
+            Step::Emit(node) => self.commit_kind(alloc, cell, Step::Emit(node)),
+            Step::Accept(node) => self.commit_kind(alloc, cell, Step::Accept(node)),
+            Step::Reply(node) => self.commit_kind(alloc, cell, Step::Reply(node)),
+            Step::Grant(output, channel) => {
+                self.commit_kind(alloc, cell, Step::Grant(output, channel))
+            }
+            Step::Begin { .. } => self.commit_kind(alloc, cell, step),
+        }
+    }
+
+    // The same: each kind of step has code of its own, in which little is left to be asked.
+    #[inline(always)]
+    fn commit_kind(
+        &mut self,
+        alloc: Global,
+        cell: &mut Cell,
+        step: Step,
+    ) -> Result<(), JournalFault>
+        requires { cell.old.name ≡ self.old.name }
+        ensures commits { Commits self.old cell.old (machine_step step) result self.new cell.new }
+        ensures numbers { IsNowCell self.old cell.old }
+    {
         let Journal {
             history,
             limit,
@@ -162,6 +191,7 @@ fn places_of(alloc: Global, channels: usize, cells: &[Cell]) -> Result<Vec<u16>,
 }
 
 // Whether the step is done at that cell.
+#[inline(always)]
 fn is_at(network: &Network, at: CellId, step: &Step) -> bool
     ensures { IsAtCell network.now at (machine_step step.now) result }
 {
@@ -172,6 +202,7 @@ fn is_at(network: &Network, at: CellId, step: &Step) -> bool
 }
 
 // Adds the step, if it is one of the cell's, may be the next, and there is room below the limit.
+#[inline(always)]
 fn add_at(
     history: &mut History<'_, SwitchRoutes<'_>, Policy>,
     alloc: Global,

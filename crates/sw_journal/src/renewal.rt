@@ -13,6 +13,7 @@ use sw_net::{Net, Numbers, SwitchRoutes};
 use sw_topo::LinkEnd;
 
 // The link ends whose numbers the step changes, if it may follow.
+#[inline(always)]
 pub(crate) fn changing(
     history: &History<'_, SwitchRoutes<'_>, Policy>,
     step: &Step,
@@ -41,6 +42,7 @@ fn is_one_of(these: &(Option<LinkEnd>, Option<LinkEnd>), end: LinkEnd) -> bool
 
 // The link end at this place, if it is one of these, has its numbers in the net from now on. The
 // table is told where they are new.
+#[inline(always)]
 fn renew_one(
     net: &Net<'_, SwitchRoutes<'_>, Policy>,
     table: &CellTable,
@@ -110,6 +112,7 @@ fn seen_at(ends: &[(LinkEnd, Numbers)], end: LinkEnd, places: &[u16]) -> Option<
 
 // The link end, if there is one, has its numbers in the net from now on, and the table is told. It
 // is looked for at its place first, and where it does not stand there, at each.
+#[inline(always)]
 fn renew_end(
     net: &Net<'_, SwitchRoutes<'_>, Policy>,
     table: &CellTable,
@@ -140,6 +143,7 @@ fn renew_end(
 }
 
 // Each of the two has its numbers in the net from now on, and the table is told.
+#[inline(always)]
 fn renew_two(
     net: &Net<'_, SwitchRoutes<'_>, Policy>,
     table: &CellTable,
@@ -163,6 +167,7 @@ fn renew_two(
 }
 
 // The same, in the state after the history.
+#[inline(always)]
 pub(crate) fn renew_after(
     history: &History<'_, SwitchRoutes<'_>, Policy>,
     table: &CellTable,

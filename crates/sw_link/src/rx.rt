@@ -90,6 +90,7 @@ impl RxEnd {
 
     /// An N-Char arrives from the wire and goes to the end of the buffer (ECSS-E-ST-50-12C, data link
     /// layer: flow control).
+    #[inline(always)]
     pub fn arrive(&mut self, character: NChar)
         requires { 0 < self.old.outstanding }
         ensures { self.new ≡ arrived character self.old }
@@ -106,6 +107,7 @@ impl RxEnd {
     }
 
     /// The N-Char at the front leaves the buffer.
+    #[inline(always)]
     pub fn take(&mut self) -> NChar
         requires { 0 < length self.old.buffer }
         ensures { self.old ≡ record self.new { buffer = result ∷ self.new.buffer } }

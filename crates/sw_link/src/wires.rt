@@ -80,6 +80,7 @@ impl Wires {
     }
 
     /// An N-Char is put on the channel's wire, which has to have fewer than 56.
+    #[inline(always)]
     pub fn put(&mut self, channel: Chan, character: NChar)
         requires within { channel < length self.old.wires }
         requires room { length (wire_at self.old channel) < 56 }
@@ -89,6 +90,7 @@ impl Wires {
     }
 
     /// The N-Char that arrives next leaves the wire, if there is one.
+    #[inline(always)]
     pub fn take(&mut self, channel: Chan) -> Option<NChar>
         requires { channel < length self.old.wires }
         ensures value { result ≡ slice_get (wire_at self.old channel) 0 }

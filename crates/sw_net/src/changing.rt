@@ -83,6 +83,7 @@ impl<'n, R: Routing, A: Arbiter> Net<'n, R, A> {
     /// A character that is passed on changes the credit of the output, and the room of the input;
     /// each other step the numbers of one link end at most (ECSS-E-ST-50-12C, data link layer: flow
     /// control).
+    #[inline(always)]
     #[tactic(auto, using(crate::proofs::ChangedNumbers::fct_only, crate::proofs::ChangedNumbers::fct_in_only, crate::proofs::ChangedNumbers::arrive_only, crate::proofs::ChangedNumbers::grant_only, crate::proofs::ChangedNumbers::drop_only, crate::proofs::ChangedNumbers::spill_only, crate::proofs::ChangedNumbers::forward_only, crate::proofs::ChangedNumbers::emit_only, crate::proofs::ChangedNumbers::accept_only, crate::proofs::ChangedNumbers::begin_only, crate::proofs::ChangedNumbers::reply_only))]
     pub fn changing(&self, step: &Step) -> (Option<LinkEnd>, Option<LinkEnd>)
         ensures { ChangesOnly self.now (machine_step step.now) result }

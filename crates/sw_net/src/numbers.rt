@@ -32,6 +32,7 @@ impl<'n, R: Routing, A: Arbiter> Net<'n, R, A> {
     ghost use Rattle.sw_net.specs.Numbers.{AreNumbers};
 
     /// The numbers of the link end.
+    #[inline(always)]
     pub fn numbers(&self, end: LinkEnd) -> Numbers
         requires { end < 2 * length self.now.declared.links }
         ensures { AreNumbers self.now end result }

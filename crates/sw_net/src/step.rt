@@ -15,6 +15,7 @@ impl<'n, R: Routing, A: Arbiter> Net<'n, R, A> {
     ghost use Rattle.sw_net.specs.Net.{NetAnswers, arbiters_of};
 
     /// Makes a step of node `n`.
+    #[inline(always)]
     fn step_node(&mut self, alloc: Global, n: u16, step: &Step) -> Result<(), NetFault>
         requires { IsAt self.old.declared (machine_step step.now) (CellId.Node n) }
         ensures network { self.new.declared ≡ self.old.declared }
@@ -27,6 +28,7 @@ impl<'n, R: Routing, A: Arbiter> Net<'n, R, A> {
     }
 
     /// Makes a step of switch `w`.
+    #[inline(always)]
     fn step_switch(&mut self, w: u16, step: &Step) -> Result<(), NetFault>
         requires { IsAt self.old.declared (machine_step step.now) (CellId.Switch w) }
         ensures network { self.new.declared ≡ self.old.declared }

@@ -20,8 +20,8 @@ fn round<W: RunIdentity, G: Gate>(
 ) -> Found {
     let mut all = Found::Nothing;
     let cells = shared.cells();
-    for step in 0..cells {
-        let place = from.saturating_add(step) % cells;
+    let mut place = from;
+    for _ in 0..cells {
         match shared.turn(alloc, gate, place) {
             Found::Work => all = Found::Work,
             Found::Nothing => {}
@@ -31,6 +31,10 @@ fn round<W: RunIdentity, G: Gate>(
                 }
             }
             Found::Over => return Found::Over,
+        }
+        place = place.saturating_add(1);
+        if place >= cells {
+            place = 0;
         }
     }
     all

@@ -1,2 +1,3 @@
 pub mod Asking
 mod Stays
+pub mod Waiting

@@ -58,6 +58,10 @@ input_at cell port = slice_index_or cell.inputs port Idle
 abbrev pub end_at : {R A : Type 0} → Cell R A → ℕ → Received
 end_at cell port = slice_index_or cell.received port (new_end 0)
 
+-- each idle input with a character in its buffer is in the set
+abbrev pub HasWaiting : ℕ → List Input → List Received → Type 0
+HasWaiting waiting inputs received = (port : ℕ) → slice_index_or inputs port Idle ≡ Idle → 0 < length (slice_index_or received port (new_end 0)).buffer → IsBitSet waiting port
+
 -- the N-Char at the front of the port's buffer
 abbrev pub front_at : {R A : Type 0} → Cell R A → ℕ → Option NChar
 front_at cell port = slice_get (end_at cell port).buffer 0

@@ -2,6 +2,7 @@
 ghost use Rattle.std.specs.Prelude.{◌≡◌, ℕ, ◌<◌, ◌≤◌, ◌≢◌, ◌↔◌, length, slice_get, slice_set, Some, IsTrue, IsBitSet};
 ghost use Rattle.sw_arb.specs.Arbiters.{IsWithin};
 ghost use Rattle.sw_link.specs.Ends.{asked, arrived, granted, spent, may_issue};
+ghost use Rattle.sw_switch.specs.declared.input.Input.{Input};
 
 use crate::input::Input;
 use std::marker::Model;
@@ -17,6 +18,8 @@ use sw_topo::{Port, PortSet};
 pub struct SwitchCell<R: Routing, A: Arbiter> {
     pub(crate) routes: R,
     pub(crate) linked: PortSet,
+    /// Each idle input with a character in its buffer, and maybe others.
+    pub(crate) waiting: PortSet,
     // these go by port, 0 to 31
     pub(crate) credits: Vec<TxEnd>,
     pub(crate) inputs: Vec<Input>,
@@ -25,13 +28,27 @@ pub struct SwitchCell<R: Routing, A: Arbiter> {
 }
 
 impl<R: Routing, A: Arbiter> Model for SwitchCell<R, A> {
-    ghost use Rattle.sw_switch.specs.Cell.{Cell, IsCell, cell_of};
+    ghost use Rattle.std.specs.Prelude.{◌*◌};
+    ghost use Rattle.sw_switch.specs.Cell.{Cell, HasWaiting, IsCell, cell_of};
 
     ghost Value = { Cell R A };
 
     ghost view = { λ c. cell_of c.routes c.linked c.credits.items c.inputs.items c.received.items c.arbiters.items };
 
-    ghost invariant = { λ c. IsCell A.ports (cell_of c.routes c.linked c.credits.items c.inputs.items c.received.items c.arbiters.items) };
+    ghost invariant = { λ c. IsCell A.ports (cell_of c.routes c.linked c.credits.items c.inputs.items c.received.items c.arbiters.items)
+        × HasWaiting c.waiting c.inputs.items c.received.items };
+}
+
+/// The set with the port, or without it.
+fn with_or_without(set: PortSet, port: Port, is_in: bool) -> PortSet
+    ensures own { IsTrue is_in → IsBitSet result port }
+    ensures others { (p : ℕ) → p ≢ port → IsBitSet set p → IsBitSet result p }
+{
+    if is_in {
+        set.with(port)
+    } else {
+        set.without(port)
+    }
 }
 
 impl<R: Routing, A: Arbiter> SwitchCell<R, A> {
@@ -112,12 +129,23 @@ impl<R: Routing, A: Arbiter> SwitchCell<R, A> {
         self.received[input.number() as usize].can_issue()
     }
 
+    /// The linked inputs that are idle and have a character in their buffer, and maybe others.
+    pub(crate) fn waiting(&self) -> PortSet
+        ensures linked { (p : ℕ) → IsBitSet result p → IsBitSet self.now.linked p }
+        ensures all { (p : ℕ) → IsBitSet self.now.linked p → input_at self.now p ≡ Input.Idle → 0 < length (end_at self.now p).buffer → IsBitSet result p }
+    {
+        self.waiting.meet(self.linked)
+    }
+
     pub(crate) fn set_input(&mut self, port: Port, input: Input)
         ensures { self.new ≡ with_input self.old port input }
     {
+        let waits = matches!(input, Input::Idle) && self.has_front(port);
         self.inputs[port.number() as usize] = input;
+        self.waiting = with_or_without(self.waiting, port, waits);
     }
 
+    #[inline(always)]
     pub(crate) fn take(&mut self, input: Port) -> NChar
         requires { 0 < length (end_at self.old input).buffer }
         ensures front { front_at self.old input ≡ Some result }
@@ -142,11 +170,16 @@ impl<R: Routing, A: Arbiter> SwitchCell<R, A> {
     }
 
     /// An N-Char arrives at the port, which has to have some outstanding.
+    #[inline(always)]
     pub fn arrive(&mut self, input: Port, character: NChar)
         requires { 0 < (end_at self.old input).outstanding }
         ensures { self.new ≡ with_end self.old input (arrived character (end_at self.old input)) }
     {
+        let waits = matches!(self.input(input), Input::Idle);
         self.received[input.number() as usize].arrive(character);
+        if waits {
+            self.waiting = self.waiting.with(input);
+        }
     }
 
     /// An FCT for the channel that starts at the port is received (ECSS-E-ST-50-12C, data link

@@ -29,8 +29,9 @@ impl<R: Routing, A: Arbiter> SwitchCell<R, A> {
         ensures { (input : ℕ) → IsBitSet result input ↔ Asks R.answer self.now out input }
     {
         let mut asking = PortSet::EMPTY;
+        let waiting = self.waiting();
         let mut from = 0;
-        while let Some(input) = self.linked().next_from(from) {
+        while let Some(input) = waiting.next_from(from) {
             if self.asks_for(input, out) {
                 asking = asking.with(input);
             }

@@ -59,6 +59,7 @@ impl<R: Routing + Drop, A: Arbiter + Drop> SwitchCell<R, A> {
         Ok(SwitchCell {
             routes,
             linked,
+            waiting: PortSet::EMPTY,
             credits: no_credits(alloc)?,
             inputs: vec![in alloc; Input::Idle; PORTS]?,
             received: empty_ends(alloc, capacities)?,

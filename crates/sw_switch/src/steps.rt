@@ -58,6 +58,7 @@ impl<R: Routing, A: Arbiter> SwitchCell<R, A> {
     }
 
     /// The front of the input leaves, and an end marker makes the input idle.
+    #[inline(always)]
     fn pass_front(&mut self, input: Port) -> NChar
         requires { 0 < length (end_at self.old input).buffer }
         ensures front { front_at self.old input ≡ Some result }
@@ -73,6 +74,7 @@ impl<R: Routing, A: Arbiter> SwitchCell<R, A> {
     /// Passes the front of the input on to the output that it holds: that output, and the
     /// character, which goes to the wire there (ECSS-E-ST-50-12C, network layer: wormhole routing).
     /// `can_forward` has to hold.
+    #[inline(always)]
     pub fn forward(&mut self, input: Port) -> (Port, NChar)
         requires { CanForward self.old input }
         ensures out { input_at self.old input ≡ Input.Held result.0 }
