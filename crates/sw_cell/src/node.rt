@@ -234,6 +234,7 @@ pub fn enabled(network: &Network, n: u16, node: &NodeCell, wires: &Wires) -> boo
 
 /// A step of node `n` that is possible, other than to begin a packet: the first in the order of
 /// [`NodeStep`].
+#[inline(always)]
 pub fn first_possible(network: &Network, n: u16, node: &NodeCell, wires: &Wires) -> Option<NodeStep>
     requires node { IsNodeFor network.now n node.now }
     requires reached { HasNodeState (network_of network.now) n node.now wires.now }

@@ -359,6 +359,7 @@ pub fn enabled<R: Routing, A: Arbiter>(
 
 /// A step of the link end, which stands at switch `w`, that is possible, other than to grant its
 /// output: the first in the order of [`PortStep`].
+#[inline(always)]
 pub fn first_possible<R: Routing, A: Arbiter>(
     network: &Network,
     w: u16,

@@ -1,16 +1,14 @@
 -- Chunks of flows, and their sets of ports joined.
-use Rattle.std.proofs.Common.{◌≡◌, ℕ, zero, suc, ◌+◌, ◌-◌, ◌*◌, ◌/◌, ◌%◌, ◌<◌, ◌≤◌, ◌↔◌, ◌⊎◌, inl, inr, List, [], ◌∷◌, map, Result, Ok, Err, IfOk, MatchResult, Contains, length, get_or, set, min, refl, sym, ap, ◌∙◌, subst, arith, get_or-set_same, get_or-set_other, length-set}
-use Rattle.std.specs.Prelude.{IsBitSet, bit_or, slice_index, Vec}
+use Rattle.std.proofs.Common.{◌≡◌, ℕ, zero, suc, ◌+◌, ◌*◌, ◌/◌, ◌<◌, ◌≤◌, ◌↔◌, ◌⊎◌, inl, inr, List, [], ◌∷◌, length, get_or, set, refl, sym, ap, ◌∙◌, subst, arith, get_or-set_same, get_or-set_other, length-set}
+use Rattle.std.specs.Prelude.{IsBitSet, bit_or, slice_index}
 use Rattle.std.specs.List.{AllZip, range_with_len}
-use Rattle.std.specs.declared.alloc.AllocError.{AllocError}
-use Rattle.std.specs.declared.alloc.Global.{Global}
 use Rattle.std.proofs.lemmas.Bool.{cases_eq, cases_lt}
 use Rattle.std.proofs.lemmas.List.{get_or_past}
 use Rattle.sw_topo.proofs.PortBits.{or_members}
-use Rattle.sw_config.specs.Entries.{Declaration, all_flows}
-use Rattle.sw_flow.specs.Places.{ends_of}
-use Rattle.sw_cycle.specs.Named.{AreNamed, IsNamed}
-use Rattle.sw_cycle.specs.Chunks.{AreJoined, IsChunk, chunk_start}
+use Rattle.sw_config.specs.Entries.{Declaration}
+use Rattle.sw_cycle.specs.Named.{AreNamed}
+use Rattle.sw_cycle.specs.Chunks.{AreJoined, IsNamedChunk, chunk_start}
+use Rattle.sw_cycle.specs.declared.named.Named.{Named}
 use Rattle.sw_cycle.proofs.Naming.{none_set}
 
 -- ---- where chunks start
@@ -87,13 +85,13 @@ joined_named d low mid high sets part sets2 rise rise2 a b j = record {
 }
 
 -- the part of a number
-part_in : (Q : ℕ → Vec ℕ Global → Type 0) (a n : ℕ) (parts : List (Vec ℕ Global)) (i : ℕ) (v : Vec ℕ Global) → AllZip Q (range_with_len a n) parts → i < length parts → Q (a + i) (get_or parts i v)
+part_in : (Q : ℕ → Named → Type 0) (a n : ℕ) (parts : List Named) (i : ℕ) (v : Named) → AllZip Q (range_with_len a n) parts → i < length parts → Q (a + i) (get_or parts i v)
 part_in Q a n [] i v h lt = absurd (omega arith)
 part_in Q a zero (w ∷ parts) i v h lt = absurd h
 part_in Q a (suc n) (w ∷ parts) zero v h lt = subst (λ (k : ℕ). Q k w) (omega arith) h.0
 part_in Q a (suc n) (w ∷ parts) (suc i) v h lt = subst (λ (k : ℕ). Q k (get_or parts i v)) (omega arith) (part_in Q (a + 1) n parts i v h.1 (omega arith))
 
-pub part_at : (d : Declaration) (parts : List (Vec ℕ Global)) (i : ℕ) (v : Vec ℕ Global) → AllZip (λ chunk w. IsChunk d chunk w.items) (range_with_len 0 64) parts → i < length parts → v ≡ get_or parts i v → IsChunk d i v.items
+pub part_at : (d : Declaration) (parts : List Named) (i : ℕ) (v : Named) → AllZip (λ chunk w. IsNamedChunk d chunk w) (range_with_len 0 64) parts → i < length parts → v ≡ get_or parts i v → IsNamedChunk d i v
 part_at d parts i v h lt is =
-    let at = part_in (λ chunk w. IsChunk d chunk w.items) 0 64 parts i v h lt in
-    subst (λ (w : Vec ℕ Global). IsChunk d i w.items) (sym is) (subst (λ (k : ℕ). IsChunk d k (get_or parts i v).items) (omega arith) at)
+    let at = part_in (λ chunk w. IsNamedChunk d chunk w) 0 64 parts i v h lt in
+    subst (λ (w : Named). IsNamedChunk d i w) (sym is) (subst (λ (k : ℕ). IsNamedChunk d k (get_or parts i v)) (omega arith) at)

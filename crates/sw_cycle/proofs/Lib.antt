@@ -13,3 +13,4 @@ pub mod Naming
 pub mod Rowing
 pub mod Bridge
 pub mod Chunking
+pub mod Sound

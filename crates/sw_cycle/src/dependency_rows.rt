@@ -1,19 +1,48 @@
 //! The dependencies between channels.
-ghost use Rattle.std.specs.Prelude.{◌≡◌, ◌↔◌, ℕ, IfOk, length};
+ghost use Rattle.std.specs.Prelude.{◌≡◌, ◌↔◌, ℕ, IfOk, IsTrue, length};
 ghost use Rattle.std.specs.List.{AllZip};
 ghost use Rattle.sw_config.specs.Entries.{all_flows};
 ghost use Rattle.sw_flow.specs.Places.{IsPlaceList, ends_of};
 ghost use Rattle.sw_machine.specs.Places.{IsDependency};
 ghost use Rattle.sw_model.specs.Model.{network_of};
 ghost use Rattle.sw_graph.specs.Rows.{IsGraph, Leads};
+ghost use Rattle.sw_cycle.specs.Named.{AreRouted};
 ghost use Rattle.sw_cycle.specs.Rows.{AreOnce};
 
 use crate::answering::answering;
+use crate::named::Named;
 use crate::parallel::{PortWorkers, all_named};
 use crate::rows::rows;
 use std::alloc::{AllocError, Global};
 use sw_config::Network;
 use sw_flow::Place;
+
+/// What `dependencies` gives, and whether each flow is known to be well routed: where the second is yes,
+/// each is.
+///
+/// # Errors
+///
+/// There is no memory for the rows, or for what finds them.
+pub fn routed_dependencies<W: PortWorkers>(
+    workers: &W,
+    alloc: Global,
+    network: &Network,
+    places: &[Vec<Place>],
+) -> Result<(Vec<Vec<u16>>, bool), AllocError>
+    requires lists { AllZip (λ f ps. IsPlaceList network.now f ps.items) (all_flows network.now) places.now }
+    ensures size { IfOk result (λ r. length r.0.items ≡ length (ends_of network.now)) }
+    ensures exact { IfOk result (λ r. (c e : ℕ) → (Leads r.0.items c e ↔ IsDependency (network_of network.now) c e)) }
+    ensures graph { IfOk result (λ r. IsGraph r.0.items) }
+    ensures once { IfOk result (λ r. AreOnce r.0.items) }
+    ensures routed { IfOk result (λ r. IsTrue r.1 → AreRouted network.now 0 (length (all_flows network.now))) }
+{
+    // Names the network, which is valid by its type.
+    let _flows = network.flows();
+    let Named { sets, is_routed } = all_named(workers, alloc, network, places)?;
+    let marks = answering(alloc, network)?;
+    let rows = rows(alloc, network, &sets, &marks)?;
+    Ok((rows, is_routed))
+}
 
 /// For each channel those on which a packet that is on it may wait, by their numbers: where a flow
 /// goes on to, and at a target that answers, where its replies leave. A row has each of them once.
@@ -35,9 +64,6 @@ pub fn dependencies<W: PortWorkers>(
     ensures graph { IfOk result (λ v. IsGraph v.items) }
     ensures once { IfOk result (λ v. AreOnce v.items) }
 {
-    // Names the network, which is valid by its type.
-    let _flows = network.flows();
-    let sets = all_named(workers, alloc, network, places)?;
-    let marks = answering(alloc, network)?;
-    rows(alloc, network, &sets, &marks)
+    let (rows, _) = routed_dependencies(workers, alloc, network, places)?;
+    Ok(rows)
 }

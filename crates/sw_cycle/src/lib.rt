@@ -19,7 +19,7 @@ mod steps;
 pub use check::check_cycle;
 pub use choose::causes;
 pub use cycle::{Cause, Cycle};
-pub use dependency_rows::dependencies;
+pub use dependency_rows::{dependencies, routed_dependencies};
 pub use goers::flows_of_steps;
 pub use parallel::PortWorkers;
 pub use sw_flow::Place;

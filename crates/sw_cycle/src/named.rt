@@ -1,14 +1,15 @@
 //! The ports that leading bytes name, by the channels on which packets bring them.
-ghost use Rattle.std.specs.Prelude.{◌≡◌, ◌<◌, ◌≤◌, ◌∷◌, [], All, IfOk, length};
+ghost use Rattle.std.specs.Prelude.{◌≡◌, ◌<◌, ◌≤◌, ◌∷◌, [], All, IfOk, IsTrue, None, length};
 ghost use Rattle.std.specs.List.{AllZip};
 ghost use Rattle.sw_config.specs.Entries.{all_flows};
+ghost use Rattle.sw_flow.specs.Faults.{fault_of};
 ghost use Rattle.sw_flow.specs.Places.{IsPlaceList, ends_of};
-ghost use Rattle.sw_cycle.specs.Named.{AreAdded, AreNamed, ports_at_switch, ports_named};
+ghost use Rattle.sw_cycle.specs.Named.{AreAdded, AreNamed, AreRouted, LeadsOn, ports_at_switch, ports_named};
 
 use std::alloc::{AllocError, Global};
 use sw_config::{Flow, Network};
-use sw_flow::Place;
-use sw_topo::{PlaceEnd, PortSet};
+use sw_flow::{Place, fault_in};
+use sw_topo::{PlaceEnd, PortSet, Topology};
 
 /// The ports that packets of the flow name at a switch, where they arrive with that many address
 /// bytes deleted.
@@ -34,26 +35,81 @@ fn ports_named(network: &Network, flow: &Flow, place: Place) -> PortSet
     }
 }
 
-/// Adds the ports that are named at a place to the set of its channel.
-fn add_place(network: &Network, flow: &Flow, place: Place, sets: &mut [PortSet])
+/// Whether a channel starts at one of the ports of the switch.
+fn leads_on(topology: &Topology, switch: u16, ports: PortSet) -> bool
+    requires { switch < topology.now.switches }
+    ensures { IsTrue result → LeadsOn topology.now.ends switch ports }
+{
+    let mut from = 0;
+    while let Some(port) = ports.next_from(from) {
+        if topology.out_of(switch, port).is_some() {
+            return true;
+        }
+        from = port.number() + 1;
+    }
+    false
+}
+
+/// Whether nothing is wrong with the place, at the end of whose channel these ports are named: where
+/// the answer is yes, nothing is.
+#[tactic(auto, unfolding(crate::specs::Named::ports_named), using(crate::proofs::Sound::sound_at_switch))]
+fn is_sound(network: &Network, flow: &Flow, place: &Place, ports: PortSet) -> bool
+    requires inside { place.now.channel < length (ends_of network.now) }
+    requires ports { ports ≡ ports_named network.now flow.now place.now.channel place.now.deleted }
+    ensures { IsTrue result → fault_of network.now flow.now place.now.channel place.now.deleted ≡ None }
+{
+    let topology = network.topology();
+    match topology.end_of(place.channel) {
+        PlaceEnd::Node(_) => fault_in(network, flow, *place).is_none(),
+        PlaceEnd::Switch(switch, _) => leads_on(topology, switch, ports),
+    }
+}
+
+/// Adds the ports, which are named at the place, to the set of its channel.
+fn add_named(network: &Network, flow: &Flow, place: &Place, ports: PortSet, sets: &mut [PortSet])
     requires size { length sets.old ≡ length (ends_of network.now) }
-    requires inside { place.channel < length sets.old }
-    ensures { AreAdded network.now flow.now (place ∷ []) sets.old sets.new }
+    requires inside { place.now.channel < length sets.old }
+    requires ports { ports ≡ ports_named network.now flow.now place.now.channel place.now.deleted }
+    ensures { AreAdded network.now flow.now (place.now ∷ []) sets.old sets.new }
 {
     let channel = usize::from(place.channel.number());
-    let ports = ports_named(network, flow, place);
     sets[channel] = sets[channel].union(ports);
 }
 
-/// Adds the ports that are named at the places to the sets of their channels.
-fn add_places(network: &Network, flow: &Flow, places: &[Place], sets: &mut [PortSet])
+/// Adds the ports that are named at a place to the set of its channel. Where the answer is yes, nothing
+/// is wrong with the place.
+fn add_place(network: &Network, flow: &Flow, place: &Place, sets: &mut [PortSet]) -> bool
+    requires size { length sets.old ≡ length (ends_of network.now) }
+    requires inside { place.now.channel < length sets.old }
+    ensures added { AreAdded network.now flow.now (place.now ∷ []) sets.old sets.new }
+    ensures sound { IsTrue result → fault_of network.now flow.now place.now.channel place.now.deleted ≡ None }
+{
+    let ports = ports_named(network, flow, *place);
+    add_named(network, flow, place, ports, sets);
+    is_sound(network, flow, place, ports)
+}
+
+/// Adds the ports that are named at the places to the sets of their channels. Where the answer is yes,
+/// nothing is wrong with any of the places.
+fn add_places(network: &Network, flow: &Flow, places: &[Place], sets: &mut [PortSet]) -> bool
     requires size { length sets.old ≡ length (ends_of network.now) }
     requires inside { All (λ p. p.channel < length sets.old) places.now }
-    ensures { AreAdded network.now flow.now places.now sets.old sets.new }
+    ensures added { AreAdded network.now flow.now places.now sets.old sets.new }
+    ensures sound { IsTrue result → All (λ p. fault_of network.now flow.now p.channel p.deleted ≡ None) places.now }
 {
+    let mut all = true;
     for place in places {
-        add_place(network, flow, *place, sets);
+        let is_sound = add_place(network, flow, place, sets);
+        all = all & is_sound;
     }
+    all
+}
+
+/// The ports that flows name, by channel, and whether the flows are known to be well routed.
+#[derive(Drop)]
+pub struct Named {
+    pub(crate) sets: Vec<PortSet>,
+    pub(crate) is_routed: bool,
 }
 
 /// The ports that are named by the flows with the numbers from `low` to below `high`, by channel.
@@ -63,16 +119,19 @@ pub(crate) fn named_by(
     places: &[Vec<Place>],
     low: u16,
     high: u16,
-) -> Result<Vec<PortSet>, AllocError>
+) -> Result<Named, AllocError>
     requires lists { AllZip (λ f ps. IsPlaceList network.now f ps.items) (all_flows network.now) places.now }
     requires order { low ≤ high }
     requires inside { high ≤ length (all_flows network.now) }
-    ensures { IfOk result (λ v. AreNamed network.now low high v.items) }
+    ensures named { IfOk result (λ n. AreNamed network.now low high n.sets.items) }
+    ensures routed { IfOk result (λ n. IsTrue n.is_routed → AreRouted network.now low high) }
 {
     let mut sets = vec![in alloc; PortSet::EMPTY; usize::from(network.channels())]?;
+    let mut is_routed = true;
     for number in low..high {
         let listed = &places[usize::from(number)];
-        add_places(network, network.flow(number), listed, &mut sets);
+        let is_sound = add_places(network, network.flow(number), listed, &mut sets);
+        is_routed = is_routed & is_sound;
     }
-    Ok(sets)
+    Ok(Named { sets, is_routed })
 }

@@ -1,13 +1,13 @@
 //! The ports that all flows name, by chunks of flows, side by side or one by one.
-ghost use Rattle.std.specs.Prelude.{◌≡◌, ◌+◌, ◌<◌, ◌≤◌, IfOk, length};
+ghost use Rattle.std.specs.Prelude.{◌≡◌, ◌+◌, ◌<◌, ◌≤◌, IfOk, IsTrue, length};
 ghost use Rattle.std.specs.List.{AllZip, range_with_len};
 ghost use Rattle.std.specs.Thread.{IsSync};
 ghost use Rattle.sw_config.specs.Entries.{all_flows};
 ghost use Rattle.sw_flow.specs.Places.{IsPlaceList};
-ghost use Rattle.sw_cycle.specs.Named.{AreNamed};
-ghost use Rattle.sw_cycle.specs.Chunks.{AreJoined, IsChunk, chunk_start};
+ghost use Rattle.sw_cycle.specs.Named.{AreNamed, AreRouted};
+ghost use Rattle.sw_cycle.specs.Chunks.{AreJoined, IsNamedChunk, chunk_start};
 
-use crate::named::named_by;
+use crate::named::{Named, named_by};
 use std::alloc::{AllocError, Global};
 use std::thread::Threads;
 use sw_config::Network;
@@ -30,10 +30,10 @@ fn named_by_chunk(
     network: &Network,
     places: &[Vec<Place>],
     chunk: u16,
-) -> Result<Vec<PortSet>, AllocError>
+) -> Result<Named, AllocError>
     requires lists { AllZip (λ f ps. IsPlaceList network.now f ps.items) (all_flows network.now) places.now }
     requires chunk { chunk < 64 }
-    ensures { IfOk result (λ v. IsChunk network.now chunk v.items) }
+    ensures { IfOk result (λ n. IsNamedChunk network.now chunk n) }
 {
     let flows = network.flows();
     let low = chunk_start(flows, chunk);
@@ -52,19 +52,18 @@ fn join(sets: &mut [PortSet], part: &[PortSet])
 }
 
 /// The ports that the flows of all chunks name, by channel.
-fn joined(
-    alloc: Global,
-    network: &Network,
-    parts: &[Vec<PortSet>],
-) -> Result<Vec<PortSet>, AllocError>
-    requires { AllZip (λ chunk v. IsChunk network.now chunk v.items) (range_with_len 0 64) parts.now }
-    ensures { IfOk result (λ v. AreNamed network.now 0 (length (all_flows network.now)) v.items) }
+fn joined(alloc: Global, network: &Network, parts: &[Named]) -> Result<Named, AllocError>
+    requires { AllZip (λ chunk n. IsNamedChunk network.now chunk n) (range_with_len 0 64) parts.now }
+    ensures named { IfOk result (λ n. AreNamed network.now 0 (length (all_flows network.now)) n.sets.items) }
+    ensures routed { IfOk result (λ n. IsTrue n.is_routed → AreRouted network.now 0 (length (all_flows network.now))) }
 {
     let mut sets = vec![in alloc; PortSet::EMPTY; usize::from(network.channels())]?;
+    let mut is_routed = true;
     for part in parts {
-        join(&mut sets, part);
+        join(&mut sets, &part.sets);
+        is_routed = is_routed & part.is_routed;
     }
-    Ok(sets)
+    Ok(Named { sets, is_routed })
 }
 
 /// Who finds the ports that flows name.
@@ -79,10 +78,10 @@ pub trait PortWorkers: Workers {
         alloc: Global,
         network: &Network,
         places: &[Vec<Place>],
-    ) -> Result<Vec<Vec<PortSet>>, AllocError>
+    ) -> Result<Vec<Named>, AllocError>
         requires shared { IsSync Self.Shared.row }
         requires lists { AllZip (λ f ps. IsPlaceList network.now f ps.items) (all_flows network.now) places.now }
-        ensures { IfOk result (λ v. AllZip (λ chunk w. IsChunk network.now chunk w.items) (range_with_len 0 64) v.items) };
+        ensures { IfOk result (λ v. AllZip (λ chunk n. IsNamedChunk network.now chunk n) (range_with_len 0 64) v.items) };
 }
 
 impl<R: Threads + Sync> PortWorkers for SideBySide<'_, R> {
@@ -91,16 +90,16 @@ impl<R: Threads + Sync> PortWorkers for SideBySide<'_, R> {
         alloc: Global,
         network: &Network,
         places: &[Vec<Place>],
-    ) -> Result<Vec<Vec<PortSet>>, AllocError> {
+    ) -> Result<Vec<Named>, AllocError> {
         side_by_side::map_all(
             self.handle(),
             alloc,
             64,
             1,
-            |chunk: u16| -> Result<Vec<PortSet>, AllocError>
+            |chunk: u16| -> Result<Named, AllocError>
                 requires lists { AllZip (λ f ps. IsPlaceList network.now f ps.items) (all_flows network.now) places.now }
                 requires chunk { chunk < 64 }
-                ensures { IfOk result (λ v. IsChunk network.entry.now chunk v.items) }
+                ensures { IfOk result (λ n. IsNamedChunk network.entry.now chunk n) }
             { named_by_chunk(alloc, network, places, chunk) },
         )
     }
@@ -112,14 +111,14 @@ impl PortWorkers for OneByOne {
         alloc: Global,
         network: &Network,
         places: &[Vec<Place>],
-    ) -> Result<Vec<Vec<PortSet>>, AllocError> {
+    ) -> Result<Vec<Named>, AllocError> {
         one_by_one::map_all(
             alloc,
             64,
-            |number: u16| -> Result<Vec<PortSet>, AllocError>
+            |number: u16| -> Result<Named, AllocError>
                 requires lists { AllZip (λ f ps. IsPlaceList network.now f ps.items) (all_flows network.now) places.now }
                 requires number { number < 64 }
-                ensures { IfOk result (λ v. IsChunk network.entry.now number v.items) }
+                ensures { IfOk result (λ n. IsNamedChunk network.entry.now number n) }
             { named_by_chunk(alloc, network, places, number) },
         )
     }
@@ -131,9 +130,10 @@ pub(crate) fn all_named<W: PortWorkers>(
     alloc: Global,
     network: &Network,
     places: &[Vec<Place>],
-) -> Result<Vec<PortSet>, AllocError>
+) -> Result<Named, AllocError>
     requires { AllZip (λ f ps. IsPlaceList network.now f ps.items) (all_flows network.now) places.now }
-    ensures { IfOk result (λ v. AreNamed network.now 0 (length (all_flows network.now)) v.items) }
+    ensures named { IfOk result (λ n. AreNamed network.now 0 (length (all_flows network.now)) n.sets.items) }
+    ensures routed { IfOk result (λ n. IsTrue n.is_routed → AreRouted network.now 0 (length (all_flows network.now))) }
 {
     let parts = workers.named_by_chunks(alloc, network, places)?;
     joined(alloc, network, &parts)

@@ -20,7 +20,7 @@ pub(crate) fn places_of(
     requires below { All (λ n. n < 2048 * width) numbers.now }
     ensures { IfOk result (λ v. v.items ≡ map (λ n. record { channel = n / width; deleted = n % width }) numbers.now) }
 {
-    let mut places = Vec::new(alloc);
+    let mut places = Vec::with_capacity(alloc, numbers.len())?;
     for number in numbers {
         places.push(place_of(*number, width))?;
     }

@@ -25,6 +25,13 @@ pub(crate) fn place_of(number: usize, width: usize) -> Place
     requires below { number < 2048 * width }
     ensures { result ≡ record { channel = number / width; deleted = number % width } }
 {
+    // Flows by a logical address have the most places, and a division by two is a shift.
+    if width == 2 {
+        return Place {
+            channel: Chan::new((number / 2) as u16),
+            deleted: (number % 2) as u8,
+        };
+    }
     Place {
         channel: Chan::new((number / width) as u16),
         deleted: (number % width) as u8,

@@ -116,6 +116,7 @@ impl<'n> Journal<'n> {
     /// may, but the history has as many steps as it may have. `Memory`: it is and may, and the
     /// history has fewer, but there is no memory for the step or for what it stores. A refusal
     /// changes nothing, and the step is gone.
+    #[inline(never)]
     pub fn commit(&mut self, alloc: Global, cell: &mut Cell, step: Step) -> Result<(), JournalFault>
         requires { cell.old.name ≡ self.old.name }
         ensures commits { Commits self.old cell.old (machine_step step) result self.new cell.new }

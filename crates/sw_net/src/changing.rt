@@ -66,6 +66,7 @@ impl<'n, R: Routing, A: Arbiter> Net<'n, R, A> {
     }
 
     /// The output that the input of the channel holds, if it holds one.
+    #[inline(always)]
     fn held_output(&self, channel: Chan) -> Option<LinkEnd>
         ensures { (s : State) → IsNetState self.now s → channel < (network_of self.now.declared).channels → (d : ℕ) → s.input channel ≡ Held d → result ≡ Some d }
     {

@@ -18,6 +18,7 @@ impl<'n, R: Routing, A: Arbiter> Net<'n, R, A> {
     ghost use Rattle.sw_net.specs.Possible.{Tells};
 
     /// A step of node `n` that is possible, other than to begin a packet.
+    #[inline(always)]
     fn possible_at_node(&self, n: u16) -> Option<Step>
         requires { n < length self.now.declared.nodes }
         ensures some { IfSome result (λ step. IsMoveOf self.now ((network_of self.now.declared).out n) (machine_step step)) }
@@ -44,6 +45,7 @@ impl<'n, R: Routing, A: Arbiter> Net<'n, R, A> {
     }
 
     /// A step of the link end, which stands at port `out` of switch `w`, that is possible.
+    #[inline(always)]
     fn possible_at_port(&self, w: u16, out: Port, end: LinkEnd) -> Option<Step>
         requires switch { w < length self.now.declared.switches }
         requires starts { slice_get (ends_of self.now.declared) end ≡ Some (PlaceEnd.Switch w out) }

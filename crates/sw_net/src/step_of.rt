@@ -77,6 +77,7 @@ impl<'n, R: Routing, A: Arbiter> Net<'n, R, A> {
     }
 
     /// A step of node `n` that is possible, other than to begin a packet.
+    #[inline(always)]
     pub(crate) fn first_at_node(&self, n: u16) -> Option<NodeStep>
         requires { n < length self.now.declared.nodes }
         ensures some { IfSome result (λ step. Tells self.now (step_at_node (network_of self.now.declared) n step) true) }
@@ -88,6 +89,7 @@ impl<'n, R: Routing, A: Arbiter> Net<'n, R, A> {
 
     /// A step of the link end, which stands at switch `w`, that is possible, other than to grant its
     /// output.
+    #[inline(always)]
     pub(crate) fn first_at_port(&self, w: u16, end: LinkEnd) -> Option<PortStep>
         requires switch { w < length self.now.declared.switches }
         requires at { (network_of self.now.declared).start_of end ≡ AtSwitch w }

@@ -107,6 +107,7 @@ impl<'a, W: RunIdentity> LockedJournal<'a, W> {
     }
 
     /// Makes the step of this link end at the cell, if it may be the next.
+    #[inline(always)]
     fn commit(
         &mut self,
         alloc: Global,

@@ -21,3 +21,4 @@ pub mod Told
 pub mod Lawful
 pub mod Verdicts
 pub mod Went
+pub mod Routed

@@ -1,5 +1,5 @@
 //! The verdict on a network.
-ghost use Rattle.std.specs.Prelude.{IfOk};
+ghost use Rattle.std.specs.Prelude.{IfOk, IsTrue};
 ghost use Rattle.sw_search.specs.Findings.{AreFindings};
 ghost use Rattle.sw_search.specs.Laws.{IsChecked};
 ghost use Rattle.sw_search.specs.Lists.{AreListed, AreRows};
@@ -15,21 +15,24 @@ use crate::verdict::{Findings, Verdict};
 use crate::workers::VerdictWorkers;
 use std::alloc::{AllocError, Global};
 use sw_config::Network;
-use sw_cycle::dependencies;
+use sw_cycle::routed_dependencies;
 use sw_flow::{Place, all_places};
 use sw_graph::Order;
 
-/// For each channel those on which it depends, each once.
+/// For each channel those on which it depends, each once; and whether each flow is known to be well
+/// routed: where the answer is yes, it is.
+#[tactic(auto, using(crate::proofs::Routed::all_routed))]
 fn rows_of<W: VerdictWorkers>(
     workers: &W,
     alloc: Global,
     network: &Network,
     places: &[Vec<Place>],
-) -> Result<Vec<Vec<u16>>, AllocError>
+) -> Result<(Vec<Vec<u16>>, bool), AllocError>
     requires { AreListed network.now places.now }
-    ensures { IfOk result (λ v. AreRows network.now v.items) }
+    ensures rows { IfOk result (λ r. AreRows network.now r.0.items) }
+    ensures routed { IfOk result (λ r. IsTrue r.1 → AllWellRouted network.now) }
 {
-    dependencies(workers, alloc, network, places)
+    routed_dependencies(workers, alloc, network, places)
 }
 
 /// The verdict on a network in which each flow is well routed.
@@ -54,18 +57,24 @@ fn routed_verdict<W: VerdictWorkers>(
     }
 }
 
-/// The verdict, by the places of the flows and the rows of dependencies.
+/// The verdict, by the places of the flows and the rows of dependencies. Where it is not known that
+/// each flow is well routed, the first that is not is looked for.
 fn verdict_by<W: VerdictWorkers>(
     workers: &W,
     alloc: Global,
     network: &Network,
     places: Vec<Vec<Place>>,
     rows: &[Vec<u16>],
+    is_routed: bool,
 ) -> Result<Verdict, AllocError>
     requires lists { AreListed network.now places.items }
     requires rows { AreRows network.now rows.now }
+    requires routed { IsTrue is_routed → AllWellRouted network.now }
     ensures { IfOk result (IsVerdict network.now) }
 {
+    if is_routed {
+        return routed_verdict(workers, alloc, network, places, rows);
+    }
     match first_misrouted(workers, alloc, network, &places)? {
         Some((flow, place, fault)) => Ok(Verdict::Misrouted(flow, place, fault)),
         None => routed_verdict(workers, alloc, network, places, rows),
@@ -85,10 +94,10 @@ pub fn survey<W: VerdictWorkers>(
     ensures { IfOk result (AreFindings network.now) }
 {
     let lists = all_places(workers, alloc, network)?;
-    let rows = rows_of(workers, alloc, network, &lists)?;
+    let (rows, is_routed) = rows_of(workers, alloc, network, &lists)?;
     let places = places_in(network, &lists);
     let dependencies = dependencies_in(network, &rows);
-    let verdict = verdict_by(workers, alloc, network, lists, &rows)?;
+    let verdict = verdict_by(workers, alloc, network, lists, &rows, is_routed)?;
     Ok(Findings {
         verdict,
         places,

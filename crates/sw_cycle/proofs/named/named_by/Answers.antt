@@ -3,6 +3,7 @@ use Rattle.std.proofs.lemmas.Slice.Zip.{AllZip-long}
 use Rattle.sw_config.specs.Entries.{all_flows}
 use Rattle.sw_flow.specs.Places.{IsPlaceList, ends_of}
 use Rattle.sw_cycle.proofs.Naming.{all_inside, listed_at, named_more, whole}
+use Rattle.sw_cycle.proofs.Sound.{both_true, routed_by_list, routed_more}
 use Rattle.sw_cycle.proofs.named.named_by.Goals as goal
 
 pub bounds-places-from : goal.bounds-places-from
@@ -11,13 +12,13 @@ bounds-places-from c =
     let long = AllZip-long (λ f ps. IsPlaceList d f ps.items) (all_flows d) c.args.places.now c.requires.lists in
     omega (arith, long, c.from-in-loop-number.ensures, c.loop-number-test.true, c.requires.inside)
 
-pub add_places-requires-clause-inside : goal.add_places-requires-clause-inside
-add_places-requires-clause-inside c =
+pub add_places-is_sound-requires-clause-inside : goal.add_places-is_sound-requires-clause-inside
+add_places-is_sound-requires-clause-inside c =
     let d = c.args.network.now in
     let listed = c.index-places-from.result in
     let at : listed ≡ get_or c.args.places.now c.loop-number.number listed = c.index-places-from.is ∙ ap (λ i. get_or c.args.places.now i listed) c.from-in-loop-number.ensures in
     let list = listed_at d (all_flows d) c.args.places.now c.loop-number.number c.flow.result.now listed c.requires.lists c.flow.ensures.flow at in
-    let size : length c.deref_mut.result.now ≡ length (ends_of d) = ap length c.deref_mut.ensures.value ∙ c.loop-number.invariant.1.size in
+    let size : length c.deref_mut.result.now ≡ length (ends_of d) = ap length c.deref_mut.ensures.value ∙ c.loop-number.invariant.named.size in
     all_inside d c.flow.result.now c.deref.result.now (length c.deref_mut.result.now) (subst (IsPlaceList d c.flow.result.now) (sym c.deref.ensures.value) list) size
 
 pub loop-number-preserved : goal.loop-number-preserved
@@ -25,12 +26,19 @@ loop-number-preserved c =
     let d = c.args.network.now in
     let n = c.loop-number.number in
     let before = c.loop-number.sets.items in
-    let new = c.add_places.new.sets in
+    let new = c.add_places-is_sound.new.sets in
     let listed = c.index-places-from.result in
     let at : listed ≡ get_or c.args.places.now n listed = c.index-places-from.is ∙ ap (λ i. get_or c.args.places.now i listed) c.from-in-loop-number.ensures in
     let list = listed_at d (all_flows d) c.args.places.now n c.flow.result.now listed c.requires.lists c.flow.ensures.flow at in
-    let from = c.loop-number.invariant.0 in
-    let added = rw (c.deref_mut.ensures.value, c.deref.ensures.value) at c.add_places.ensures in
+    let from = c.loop-number.invariant.from in
+    let added = rw (c.deref_mut.ensures.value, c.deref.ensures.value) at c.add_places-is_sound.ensures.added in
     let size : length new ≡ length before = added.size in
     rw (whole c.loop-number.sets.len new before c.loop-number.sets.ok.0 size)
-    (omega (arith, from), named_more d c.args.low n c.flow.result.now listed.items before new from c.flow.ensures.flow list c.loop-number.invariant.1 added)
+    (record {
+      from = omega (arith, from);
+      named = named_more d c.args.low n c.flow.result.now listed.items before new from c.flow.ensures.flow list c.loop-number.invariant.named added;
+      routed = λ e.
+          let both = both_true c.loop-number.is_routed c.add_places-is_sound.result e in
+          let sound = rw c.deref.ensures.value at c.add_places-is_sound.ensures.sound both.1 in
+          routed_more d c.args.low n c.flow.result.now c.flow.ensures.flow (c.loop-number.invariant.routed both.0) (routed_by_list d c.flow.result.now listed.items list sound);
+    })

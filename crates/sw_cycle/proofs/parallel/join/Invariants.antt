@@ -1,5 +1,4 @@
 use Rattle.sw_cycle.specs.Chunks.{AreJoined}
-use Rattle.sw_cycle.proofs.Chunking.{joined_none}
 use Rattle.sw_cycle.proofs.parallel.join.Given as goal
 
 abbrev pub invariant-loop-channel : goal.invariant-loop-channel
