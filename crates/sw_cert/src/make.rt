@@ -75,4 +75,13 @@ impl Certificate {
             None
         }
     }
+
+    /// The certificate with these numbers, by channel, and these places, by flow, which are known to
+    /// have a text: `new` looks whether they have.
+    pub fn of_text(numbers: Vec<u16>, places: Vec<Vec<Place>>) -> Certificate
+        requires { HasText numbers.items (map items_of places.items) }
+        ensures { result ≡ record { numbers = numbers.items; places = map items_of places.items } }
+    {
+        Certificate { numbers, places }
+    }
 }

@@ -11,11 +11,8 @@ use crate::rising::rising_refusal;
 use std::thread::Threads;
 use sw_cert::Certificate;
 use sw_config::Network;
+use sw_flow::flows_a_thread;
 use sw_parallel::{OneByOne, SideBySide, Workers, one_by_one, side_by_side};
-
-/// The fewest flows that a thread is started for: a flow has up to 67,584 places, and a thread takes as long to start as some hundred
-/// places to check.
-const LEAST_PIECE: usize = 64;
 
 /// Who checks the flows of a certificate.
 pub trait CheckWorkers: Workers {
@@ -41,7 +38,7 @@ impl<R: Threads + Sync> CheckWorkers for SideBySide<'_, R> {
         side_by_side::first_found(
             self.handle(),
             network.flows(),
-            LEAST_PIECE,
+            flows_a_thread(network),
             |number: u16| -> Option<Refusal>
                 requires inside { number < length (all_flows network.now) }
                 requires lists { length certificate.now.places ≡ length (all_flows network.now) }
@@ -58,7 +55,7 @@ impl<R: Threads + Sync> CheckWorkers for SideBySide<'_, R> {
         side_by_side::first_found(
             self.handle(),
             network.flows(),
-            LEAST_PIECE,
+            flows_a_thread(network),
             |number: u16| -> Option<Refusal>
                 requires inside { number < length (all_flows network.now) }
                 requires lists { length certificate.now.places ≡ length (all_flows network.now) }

@@ -1,32 +1,15 @@
 -- Places with which nothing is wrong, as they are found beside the ports that are named there.
-use Rattle.std.proofs.Common.{◌≡◌, ℕ, ◌+◌, ◌^◌, inl, inr, List, length, Some, None, refl, sym, ap, ◌∙◌, subst, arith, All, ne_eqb}
-use Rattle.std.specs.Prelude.{Bool, false, ◌&&◌, IsBitSet, IsSome, IsTrue, bit_and, is_some, slice_get, true}
-use Rattle.std.proofs.lemmas.Bool.{cases_eq, cases_lt, lt-ltb, le-ltb}
+use Rattle.std.proofs.Common.{◌≡◌, ◌↔◌, ◌≤◌, ◌++◌, ◌∷◌, [], ℕ, ◌+◌, inl, inr, List, length, get_or, Some, None, refl, sym, ap, ◌∙◌, subst, arith, All}
+use Rattle.std.specs.Prelude.{Bool, false, ◌&&◌, IsTrue, slice_get, true}
+use Rattle.std.proofs.lemmas.Bool.{and_from, cases_eq, cases_lt}
+use Rattle.std.proofs.lemmas.List.{get_or_append_left, get_or_push, length-append}
+use Rattle.std.proofs.lemmas.List.Elements.{All-push, Contains-get_or}
 use Rattle.std.proofs.lemmas.Option.{same_Some}
-use Rattle.sw_topo.specs.Wiring.{out_of}
 use Rattle.sw_config.specs.Entries.{FlowEntry, Declaration, all_flows}
-use Rattle.sw_flow.specs.Faults.{IsWellRouted, fault_at_switch, fault_of, output_at}
-use Rattle.sw_flow.specs.Places.{ends_of, look_after, IsPlaceList}
+use Rattle.sw_flow.specs.Faults.{IsWellRouted, fault_of}
+use Rattle.sw_flow.specs.Places.{IsPlaceList}
 use Rattle.sw_flow.specs.declared.place.Place.{Place}
-use Rattle.sw_flow.proofs.Outputs.{has_output-from_port}
-use Rattle.sw_cycle.specs.Named.{AreRouted, LeadsOn, ports_at_switch}
-use Rattle.sw_cycle.proofs.Naming.{none_set}
-
--- a channel starts at the port, and the leading byte names the port
-output_there : (d : Declaration) (f : FlowEntry) (s k p : ℕ) → IsBitSet (look_after d f s k).ports p → IsSome (out_of (ends_of d) s p) → is_some (output_at (ends_of d) s (look_after d f s k) p) ≡ true
-output_there d f s k p set starts = rw (ne_eqb (bit_and (look_after d f s k).ports (2 ^ p)) 0 set) starts
-
-pub sound_at_switch : (d : Declaration) (f : FlowEntry) (s k ports : ℕ) → ports ≡ ports_at_switch d f s k → LeadsOn (ends_of d) s ports → fault_at_switch d f s k ≡ None
-sound_at_switch d f s k ports is on = elim (cases_lt k (length f.address)) [
-  | inl lt ↦
-      let look = look_after d f s k in
-      let same : ports ≡ look.ports = rw (lt-ltb k (length f.address) lt) at is in
-      let has = has_output-from_port (ends_of d) s look on.port on.small (output_there d f s k on.port (subst (λ (n : ℕ). IsBitSet n on.port) same on.member) on.starts) in
-      rw (lt-ltb k (length f.address) lt, has) refl
-  | inr le ↦
-      let none : ports ≡ 0 = rw (le-ltb k (length f.address) le) at is in
-      absurd (none_set on.port (subst (λ (n : ℕ). IsBitSet n on.port) none on.member))
-]
+use Rattle.sw_cycle.specs.Named.{AreRouted}
 
 -- where nothing is wrong with the places of a flow's list, the flow is well routed
 pub routed_by_list : (d : Declaration) (f : FlowEntry) (places : List Place) → IsPlaceList d f places → All (λ p. fault_of d f p.channel p.deleted ≡ None) places → IsWellRouted d f
@@ -35,6 +18,11 @@ routed_by_list d f places list sound c k place =
     let same = at.2 in
     let here = sound at.0 (record { channel = c; deleted = k }) at.1 in
     rw same at here
+
+pub list_by_routed : (d : Declaration) (f : FlowEntry) (places : List Place) → IsPlaceList d f places → IsWellRouted d f → All (λ p. fault_of d f p.channel p.deleted ≡ None) places
+list_by_routed d f places list well i q lt =
+    let p = get_or places i q in
+    well p.channel p.deleted ((list.member p).0 (Contains-get_or places i q lt))
 
 -- one flow more
 pub routed_more : (d : Declaration) (low n : ℕ) (f : FlowEntry) → slice_get (all_flows d) n ≡ Some f → AreRouted d low n → IsWellRouted d f → AreRouted d low (n + 1)
@@ -58,5 +46,33 @@ right_true : (a b : Bool) → (a && b) ≡ true → b ≡ true
 right_true true b e = e
 right_true false b e = cc
 
-pub both_true : (a b : Bool) → IsTrue (a && b) → IsTrue a × IsTrue b
-both_true a b e = (left_true a b e, right_true a b e)
+-- two answers, each exact, and the one for both
+pub both_exact : {A B C : Type 0} (a b : Bool) → IsTrue a ↔ A → IsTrue b ↔ B → ((A × B) ↔ C) → IsTrue (a && b) ↔ C
+both_exact a b of_a of_b of_both = (
+  λ e. of_both.0 (of_a.0 (left_true a b e), of_b.0 (right_true a b e)),
+  λ c. let both = of_both.1 c in and_from a b (of_a.1 both.0) (of_b.1 both.1),
+)
+
+-- all and one more are all
+pub all_pushed : {X : Type 0} (P : X → Type 0) (xs : List X) (x : X) → ((All P xs × P x) ↔ All P (xs ++ x ∷ []))
+all_pushed P xs x = (
+  λ both. All-push P xs x both.0 both.1,
+  λ all. (
+    λ i d lt. subst P (get_or_append_left xs (x ∷ []) d i lt) (all i d (omega (arith, length-append xs (x ∷ [])))),
+    subst P (get_or_push xs x x (length xs) refl) (all (length xs) x (omega (arith, length-append xs (x ∷ [])))),
+  ),
+)
+
+-- the flows below a number and the flow of that number
+pub routed_pushed : (d : Declaration) (low n : ℕ) (f : FlowEntry) → low ≤ n → slice_get (all_flows d) n ≡ Some f → ((AreRouted d low n × IsWellRouted d f) ↔ AreRouted d low (n + 1))
+routed_pushed d low n f from numbered = (
+  λ both. routed_more d low n f numbered both.0 both.1,
+  λ all. (λ i g above below at. all i g above (omega (arith, below)) at, all n f from (omega arith) numbered),
+)
+
+-- two runs of flows are one
+pub routed_split : (d : Declaration) (low mid high : ℕ) → low ≤ mid → mid ≤ high → ((AreRouted d low mid × AreRouted d mid high) ↔ AreRouted d low high)
+routed_split d low mid high rise rise2 = (
+  λ both. routed_joined d low mid high both.0 both.1,
+  λ all. (λ i g above below at. all i g above (omega (arith, below, rise2)) at, λ i g above below at. all i g (omega (arith, above, rise)) below at),
+)

@@ -12,10 +12,10 @@ chunk_start flows chunk = min flows (chunk * (flows / 64 + 1))
 abbrev pub IsChunk : Declaration → ℕ → List ℕ → Type 0
 IsChunk d chunk sets = AreNamed d (chunk_start (length (all_flows d)) chunk) (chunk_start (length (all_flows d)) (chunk + 1)) sets
 
--- the ports that the flows of the chunk name; where it is said so, these flows are well routed
+-- the ports that the flows of the chunk name, and whether these flows are well routed
 abbrev pub IsNamedChunk : Declaration → ℕ → Named → Type 0
 IsNamedChunk d chunk named =
-    IsChunk d chunk named.sets.items × (IsTrue named.is_routed → AreRouted d (chunk_start (length (all_flows d)) chunk) (chunk_start (length (all_flows d)) (chunk + 1)))
+    IsChunk d chunk named.sets.items × (IsTrue named.is_routed ↔ AreRouted d (chunk_start (length (all_flows d)) chunk) (chunk_start (length (all_flows d)) (chunk + 1)))
 
 -- the ports of the first `count` sets of the part are added to the sets of the same channels
 pub record AreJoined (part : List ℕ) (count : ℕ) (sets sets2 : List ℕ) : Type 0 where

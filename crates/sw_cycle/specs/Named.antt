@@ -1,8 +1,7 @@
 -- The ports that leading bytes name, by the channels on which packets bring them.
-use Rattle.std.specs.Prelude.{IsSome, ◌≡◌, ℕ, ◌<◌, ◌≤◌, ◌⊎◌, ◌↔◌, nat_lt, List, length, slice_get, slice_index, Option, Some, None, Contains, IsBitSet, if◌then◌else◌}
+use Rattle.std.specs.Prelude.{◌≡◌, ℕ, ◌<◌, ◌≤◌, ◌⊎◌, ◌↔◌, nat_lt, List, length, slice_get, slice_index, Option, Some, None, Contains, IsBitSet, if◌then◌else◌}
 use Rattle.sw_topo.specs.declared.place.PlaceEnd.{PlaceEnd}
 use Rattle.sw_topo.specs.declared.place.PlaceEnd.TheVariants.{Node, Switch}
-use Rattle.sw_topo.specs.Wiring.{out_of}
 use Rattle.sw_config.specs.Entries.{FlowEntry, Declaration, all_flows}
 use Rattle.sw_flow.specs.declared.place.Place.{Place}
 use Rattle.sw_flow.specs.Faults.{IsWellRouted}
@@ -56,13 +55,6 @@ pub record IsNamedAt (d : Declaration) (f : FlowEntry) (places : List Place) (c 
 pub record AreAdded (d : Declaration) (f : FlowEntry) (places : List Place) (sets sets2 : List ℕ) : Type 0 where
   pub size : length sets2 ≡ length sets
   pub ports : (c p : ℕ) → IsBitSet (slice_index sets2 c) p ↔ (IsBitSet (slice_index sets c) p ⊎ IsNamedAt d f places c p)
-
--- a channel starts at a port of switch s that is in the set
-pub record LeadsOn (ends : List PlaceEnd) (s ports : ℕ) : Type 0 where
-  pub port : ℕ
-  pub small : port < 32
-  pub member : IsBitSet ports port
-  pub starts : IsSome (out_of ends s port)
 
 -- the flows with the numbers from low to below high are well routed
 abbrev pub AreRouted : Declaration → ℕ → ℕ → Type 0

@@ -17,8 +17,7 @@ use std::alloc::{AllocError, Global};
 use sw_config::Network;
 use sw_flow::Place;
 
-/// What `dependencies` gives, and whether each flow is known to be well routed: where the second is yes,
-/// each is.
+/// What `dependencies` gives, and whether each flow is well routed.
 ///
 /// # Errors
 ///
@@ -34,7 +33,7 @@ pub fn routed_dependencies<W: PortWorkers>(
     ensures exact { IfOk result (λ r. (c e : ℕ) → (Leads r.0.items c e ↔ IsDependency (network_of network.now) c e)) }
     ensures graph { IfOk result (λ r. IsGraph r.0.items) }
     ensures once { IfOk result (λ r. AreOnce r.0.items) }
-    ensures routed { IfOk result (λ r. IsTrue r.1 → AreRouted network.now 0 (length (all_flows network.now))) }
+    ensures routed { IfOk result (λ r. IsTrue r.1 ↔ AreRouted network.now 0 (length (all_flows network.now))) }
 {
     // Names the network, which is valid by its type.
     let _flows = network.flows();

@@ -1,67 +1,43 @@
 //! The ports that leading bytes name, by the channels on which packets bring them.
-ghost use Rattle.std.specs.Prelude.{◌≡◌, ◌<◌, ◌≤◌, ◌∷◌, [], All, IfOk, IsTrue, None, length};
+ghost use Rattle.std.specs.Prelude.{◌≡◌, ◌↔◌, ◌<◌, ◌≤◌, ◌∷◌, [], All, IfOk, IsTrue, None, length};
 ghost use Rattle.std.specs.List.{AllZip};
 ghost use Rattle.sw_config.specs.Entries.{all_flows};
-ghost use Rattle.sw_flow.specs.Faults.{fault_of};
+ghost use Rattle.sw_flow.specs.Faults.{fault_at_switch, fault_of};
 ghost use Rattle.sw_flow.specs.Places.{IsPlaceList, ends_of};
-ghost use Rattle.sw_cycle.specs.Named.{AreAdded, AreNamed, AreRouted, LeadsOn, ports_at_switch, ports_named};
+ghost use Rattle.sw_cycle.specs.Named.{AreAdded, AreNamed, AreRouted, ports_at_switch, ports_named};
 
 use std::alloc::{AllocError, Global};
 use sw_config::{Flow, Network};
-use sw_flow::{Place, fault_in};
-use sw_topo::{PlaceEnd, PortSet, Topology};
+use sw_flow::{Place, fault_in, has_output};
+use sw_topo::{PlaceEnd, PortSet};
 
-/// The ports that packets of the flow name at a switch, where they arrive with that many address
-/// bytes deleted.
-fn ports_at_switch(network: &Network, flow: &Flow, switch: u16, deleted: u8) -> PortSet
+/// What packets of the flow name at a switch, where they arrive with that many address bytes deleted:
+/// the ports, and whether nothing is wrong there.
+fn named_at_switch(network: &Network, flow: &Flow, switch: u16, deleted: u8) -> (PortSet, bool)
     requires { switch < length network.now.switches }
-    ensures { result ≡ ports_at_switch network.now flow.now switch deleted }
+    ensures ports { result.0 ≡ ports_at_switch network.now flow.now switch deleted }
+    ensures sound { IsTrue result.1 ↔ (fault_at_switch network.now flow.now switch deleted ≡ None) }
 {
     match flow.address().get(usize::from(deleted)) {
-        Some(byte) => network.look(switch, *byte).ports,
-        None => PortSet::EMPTY,
+        Some(byte) => {
+            let look = network.look(switch, *byte);
+            (look.ports, has_output(network.topology(), switch, &look))
+        }
+        None => (PortSet::EMPTY, false),
     }
 }
 
-/// The ports that packets of the flow name at the end of the place's channel.
+/// What packets of the flow name at the end of the place's channel: the ports, and whether nothing is
+/// wrong with the place.
 #[tactic(auto, unfolding(crate::specs::Named::ports_named))]
-fn ports_named(network: &Network, flow: &Flow, place: Place) -> PortSet
+fn named_at(network: &Network, flow: &Flow, place: Place) -> (PortSet, bool)
     requires { place.channel < length (ends_of network.now) }
-    ensures { result ≡ ports_named network.now flow.now place.channel place.deleted }
+    ensures ports { result.0 ≡ ports_named network.now flow.now place.channel place.deleted }
+    ensures sound { IsTrue result.1 ↔ (fault_of network.now flow.now place.channel place.deleted ≡ None) }
 {
     match network.topology().end_of(place.channel) {
-        PlaceEnd::Node(_) => PortSet::EMPTY,
-        PlaceEnd::Switch(switch, _) => ports_at_switch(network, flow, switch, place.deleted),
-    }
-}
-
-/// Whether a channel starts at one of the ports of the switch.
-fn leads_on(topology: &Topology, switch: u16, ports: PortSet) -> bool
-    requires { switch < topology.now.switches }
-    ensures { IsTrue result → LeadsOn topology.now.ends switch ports }
-{
-    let mut from = 0;
-    while let Some(port) = ports.next_from(from) {
-        if topology.out_of(switch, port).is_some() {
-            return true;
-        }
-        from = port.number() + 1;
-    }
-    false
-}
-
-/// Whether nothing is wrong with the place, at the end of whose channel these ports are named: where
-/// the answer is yes, nothing is.
-#[tactic(auto, unfolding(crate::specs::Named::ports_named), using(crate::proofs::Sound::sound_at_switch))]
-fn is_sound(network: &Network, flow: &Flow, place: &Place, ports: PortSet) -> bool
-    requires inside { place.now.channel < length (ends_of network.now) }
-    requires ports { ports ≡ ports_named network.now flow.now place.now.channel place.now.deleted }
-    ensures { IsTrue result → fault_of network.now flow.now place.now.channel place.now.deleted ≡ None }
-{
-    let topology = network.topology();
-    match topology.end_of(place.channel) {
-        PlaceEnd::Node(_) => fault_in(network, flow, *place).is_none(),
-        PlaceEnd::Switch(switch, _) => leads_on(topology, switch, ports),
+        PlaceEnd::Node(_) => (PortSet::EMPTY, fault_in(network, flow, place).is_none()),
+        PlaceEnd::Switch(switch, _) => named_at_switch(network, flow, switch, place.deleted),
     }
 }
 
@@ -76,26 +52,26 @@ fn add_named(network: &Network, flow: &Flow, place: &Place, ports: PortSet, sets
     sets[channel] = sets[channel].union(ports);
 }
 
-/// Adds the ports that are named at a place to the set of its channel. Where the answer is yes, nothing
-/// is wrong with the place.
+/// Adds the ports that are named at a place to the set of its channel, and says whether nothing is
+/// wrong with the place.
 fn add_place(network: &Network, flow: &Flow, place: &Place, sets: &mut [PortSet]) -> bool
     requires size { length sets.old ≡ length (ends_of network.now) }
     requires inside { place.now.channel < length sets.old }
     ensures added { AreAdded network.now flow.now (place.now ∷ []) sets.old sets.new }
-    ensures sound { IsTrue result → fault_of network.now flow.now place.now.channel place.now.deleted ≡ None }
+    ensures sound { IsTrue result ↔ (fault_of network.now flow.now place.now.channel place.now.deleted ≡ None) }
 {
-    let ports = ports_named(network, flow, *place);
+    let (ports, is_sound) = named_at(network, flow, *place);
     add_named(network, flow, place, ports, sets);
-    is_sound(network, flow, place, ports)
+    is_sound
 }
 
-/// Adds the ports that are named at the places to the sets of their channels. Where the answer is yes,
-/// nothing is wrong with any of the places.
+/// Adds the ports that are named at the places to the sets of their channels, and says whether nothing
+/// is wrong with any of the places.
 fn add_places(network: &Network, flow: &Flow, places: &[Place], sets: &mut [PortSet]) -> bool
     requires size { length sets.old ≡ length (ends_of network.now) }
     requires inside { All (λ p. p.channel < length sets.old) places.now }
     ensures added { AreAdded network.now flow.now places.now sets.old sets.new }
-    ensures sound { IsTrue result → All (λ p. fault_of network.now flow.now p.channel p.deleted ≡ None) places.now }
+    ensures sound { IsTrue result ↔ All (λ p. fault_of network.now flow.now p.channel p.deleted ≡ None) places.now }
 {
     let mut all = true;
     for place in places {
@@ -105,7 +81,7 @@ fn add_places(network: &Network, flow: &Flow, places: &[Place], sets: &mut [Port
     all
 }
 
-/// The ports that flows name, by channel, and whether the flows are known to be well routed.
+/// The ports that flows name, by channel, and whether the flows are well routed.
 #[derive(Drop)]
 pub struct Named {
     pub(crate) sets: Vec<PortSet>,
@@ -124,7 +100,7 @@ pub(crate) fn named_by(
     requires order { low ≤ high }
     requires inside { high ≤ length (all_flows network.now) }
     ensures named { IfOk result (λ n. AreNamed network.now low high n.sets.items) }
-    ensures routed { IfOk result (λ n. IsTrue n.is_routed → AreRouted network.now low high) }
+    ensures routed { IfOk result (λ n. IsTrue n.is_routed ↔ AreRouted network.now low high) }
 {
     let mut sets = vec![in alloc; PortSet::EMPTY; usize::from(network.channels())]?;
     let mut is_routed = true;

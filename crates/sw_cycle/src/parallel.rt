@@ -1,5 +1,5 @@
 //! The ports that all flows name, by chunks of flows, side by side or one by one.
-ghost use Rattle.std.specs.Prelude.{◌≡◌, ◌+◌, ◌<◌, ◌≤◌, IfOk, IsTrue, length};
+ghost use Rattle.std.specs.Prelude.{◌≡◌, ◌↔◌, ◌+◌, ◌<◌, ◌≤◌, IfOk, IsTrue, length};
 ghost use Rattle.std.specs.List.{AllZip, range_with_len};
 ghost use Rattle.std.specs.Thread.{IsSync};
 ghost use Rattle.sw_config.specs.Entries.{all_flows};
@@ -55,7 +55,7 @@ fn join(sets: &mut [PortSet], part: &[PortSet])
 fn joined(alloc: Global, network: &Network, parts: &[Named]) -> Result<Named, AllocError>
     requires { AllZip (λ chunk n. IsNamedChunk network.now chunk n) (range_with_len 0 64) parts.now }
     ensures named { IfOk result (λ n. AreNamed network.now 0 (length (all_flows network.now)) n.sets.items) }
-    ensures routed { IfOk result (λ n. IsTrue n.is_routed → AreRouted network.now 0 (length (all_flows network.now))) }
+    ensures routed { IfOk result (λ n. IsTrue n.is_routed ↔ AreRouted network.now 0 (length (all_flows network.now))) }
 {
     let mut sets = vec![in alloc; PortSet::EMPTY; usize::from(network.channels())]?;
     let mut is_routed = true;
@@ -133,7 +133,7 @@ pub(crate) fn all_named<W: PortWorkers>(
 ) -> Result<Named, AllocError>
     requires { AllZip (λ f ps. IsPlaceList network.now f ps.items) (all_flows network.now) places.now }
     ensures named { IfOk result (λ n. AreNamed network.now 0 (length (all_flows network.now)) n.sets.items) }
-    ensures routed { IfOk result (λ n. IsTrue n.is_routed → AreRouted network.now 0 (length (all_flows network.now))) }
+    ensures routed { IfOk result (λ n. IsTrue n.is_routed ↔ AreRouted network.now 0 (length (all_flows network.now))) }
 {
     let parts = workers.named_by_chunks(alloc, network, places)?;
     joined(alloc, network, &parts)

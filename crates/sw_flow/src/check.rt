@@ -10,7 +10,8 @@ use sw_config::{Flow, Network};
 use sw_route::Look;
 use sw_topo::{PlaceEnd, Topology};
 
-fn has_output(topology: &Topology, switch: u16, look: &Look) -> bool
+/// Does a channel start at one of the ports that the look names at the switch?
+pub fn has_output(topology: &Topology, switch: u16, look: &Look) -> bool
     requires { switch < topology.now.switches }
     ensures { result ≡ has_output topology.now.ends switch look.now }
 {

@@ -12,10 +12,10 @@ mod steps;
 mod walk;
 mod ways;
 
-pub use check::{fault_at, fault_in, first_fault};
+pub use check::{fault_at, fault_in, first_fault, has_output};
 pub use fault::RouteFault;
 pub use following::follows;
-pub use parallel::{PlaceWorkers, all_places};
+pub use parallel::{PlaceWorkers, all_places, flows_a_thread};
 pub use place::Place;
 pub use routes::places;
 pub use walk::{Followers, followers_in};

@@ -1,9 +1,9 @@
 //! The places of all flows, side by side or one by one.
-ghost use Rattle.std.specs.Prelude.{◌<◌, length, IfOk};
+ghost use Rattle.std.specs.Prelude.{◌≡◌, ◌+◌, ◌<◌, ◌/◌, length, IfOk};
 ghost use Rattle.std.specs.List.{AllZip};
 ghost use Rattle.std.specs.Thread.{IsSync};
 ghost use Rattle.sw_config.specs.Entries.{all_flows};
-ghost use Rattle.sw_flow.specs.Places.{IsPlaceList, IsPlacesOf};
+ghost use Rattle.sw_flow.specs.Places.{IsPlaceList, IsPlacesOf, ends_of};
 
 use crate::place::Place;
 use crate::routes::places;
@@ -12,9 +12,15 @@ use std::thread::Threads;
 use sw_config::Network;
 use sw_parallel::{OneByOne, SideBySide, Workers, one_by_one, side_by_side};
 
-/// The fewest flows that a thread is started for: a flow has up to 67,584 places, and a thread takes as long to start as some hundred
-/// places to find.
-const LEAST_PIECE: usize = 64;
+/// A thread takes as long to start as some hundred places to find: it is worth it where so many may be found in it.
+const PLACES_A_THREAD: usize = 4096;
+
+/// The fewest flows that a thread is worth starting for: the fewer, the more channels a flow may have places on. At least 1.
+pub fn flows_a_thread(network: &Network) -> usize
+    ensures { result ≡ 4096 / (length (ends_of network.now) + 1) + 1 }
+{
+    PLACES_A_THREAD / (usize::from(network.channels()) + 1) + 1
+}
 
 /// Who finds the places of all flows.
 pub trait PlaceWorkers: Workers {
@@ -34,7 +40,7 @@ impl<R: Threads + Sync> PlaceWorkers for SideBySide<'_, R> {
             self.handle(),
             alloc,
             network.flows(),
-            LEAST_PIECE,
+            flows_a_thread(network),
             |flow: u16| -> Result<Vec<Place>, AllocError>
                 requires { flow < length (all_flows network.now) }
                 ensures { IfOk result (λ v. IsPlacesOf network.entry.now flow v.items) }

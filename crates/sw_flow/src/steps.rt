@@ -39,6 +39,7 @@ pub(crate) fn place_of(number: usize, width: usize) -> Place
 }
 
 /// Adds the numbers of the places, where each channel has `width` places.
+#[inline(always)]
 fn push_numbers(
     followers: Followers<'_>,
     width: usize,
@@ -60,6 +61,7 @@ impl Steps for FlowSteps<'_> {
 
     ghost next = { λ s n. next_numbers s.network.now s.flow.now n };
 
+    #[inline(always)]
     fn push_next(&self, number: usize, to: &mut Vec<usize>) -> Result<(), AllocError> {
         let width = self.flow.address().len() + 1;
         let place = place_of(number, width);

@@ -32,6 +32,7 @@ impl<'a> Model for Followers<'a> {
 }
 
 /// The channel that starts at the first of the ports that has a link; these ports come no more.
+#[inline(always)]
 pub(crate) fn next_output(topology: &Topology, switch: u16, ports: &mut Ports) -> Option<Chan>
     requires { 0 < length (ports_of ports.old) → switch < topology.now.switches }
     ensures first { MatchOption result (outputs_of topology.now.ends switch ports.old ≡ []) (λ c. outputs_of topology.now.ends switch ports.old ≡ c ∷ outputs_of topology.now.ends switch ports.new) }
@@ -54,6 +55,7 @@ impl<'a> Iterator for Followers<'a> {
 
     ghost remaining = { item_count (λ s. s) };
 
+    #[inline(always)]
     fn next(&mut self) -> Option<Place> {
         let channel = next_output(self.topology, self.switch, &mut self.ports)?;
         Some(Place {
@@ -64,6 +66,7 @@ impl<'a> Iterator for Followers<'a> {
 }
 
 /// No places.
+#[inline(always)]
 fn no_followers(topology: &Topology) -> Followers<'_>
     ensures { result ≡ [] }
 {
@@ -76,6 +79,7 @@ fn no_followers(topology: &Topology) -> Followers<'_>
 }
 
 /// The places behind a switch, where packets of the flow arrive with that many address bytes deleted.
+#[inline(always)]
 fn followers_at_switch<'a>(
     network: &'a Network,
     flow: &Flow,
@@ -102,6 +106,7 @@ fn followers_at_switch<'a>(
 /// The places that follow a place of the flow (ECSS-E-ST-50-12C, network layer: packet addressing), in the order of the ports that
 /// lead to them; none where the network has no such channel.
 #[tactic(auto, unfolding(crate::specs::Followers::followers_of))]
+#[inline(always)]
 pub fn followers_in<'a>(network: &'a Network, flow: &Flow, place: Place) -> Followers<'a>
     requires { length flow.now.address ≤ 32 }
     ensures { result ≡ followers_of network.now flow.now place.channel place.deleted }

@@ -37,9 +37,9 @@ pub fn answer_value(
     let toolchain = release.toolchain;
     let version = release.version;
     json!(in alloc; {
-        "command": command,
         "files": files,
         "result": found,
+        "command": command,
         "status": status,
         "toolchain": toolchain,
         "version": version

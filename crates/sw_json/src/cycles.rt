@@ -43,7 +43,7 @@ fn channel_value(
     let end = finish_text(alloc, network, channel)?;
     let by = cause_value(alloc, network, cause)?;
     let number = channel.number();
-    json!(in alloc; {"by": by, "channel": number, "end": end, "start": start})
+    json!(in alloc; {"by": by, "end": end, "start": start, "channel": number})
 }
 
 // Adds the value of a channel and its cause.

@@ -58,12 +58,12 @@ fn told_fault(
     ensures { IfOk result (λ v. view v ≡ told_fault code.now line column text.now (option_map string_bytes place)) }
 {
     json!(in alloc; {
+        "where": text_or_null(place),
         "code": code,
         "column": count_or_null(column),
         "kind": "fault",
         "line": count_or_null(line),
-        "text": text,
-        "where": text_or_null(place)
+        "text": text
     })
 }
 
@@ -111,14 +111,7 @@ pub fn fault_value(alloc: Global, text: &[u8], fault: &TextFault) -> Result<Valu
 pub fn long_value(alloc: Global) -> Result<Value, AllocError>
     ensures { IfOk result (λ v. view v ≡ long_value) }
 {
-    json!(in alloc; {
-        "code": "A1",
-        "column": null,
-        "kind": "fault",
-        "line": null,
-        "text": "fault A1 TooLong",
-        "where": null
-    })
+    told_fault(alloc, "A1", None, None, "fault A1 TooLong", None)
 }
 
 /// The object that stands for a schedule's first wrong line, by its number, which counts from 1.
@@ -130,14 +123,7 @@ pub fn schedule_fault_value(alloc: Global, number: u64) -> Result<Value, AllocEr
     ensures { IfOk result (λ v. view v ≡ schedule_fault_value number) }
 {
     let text = format!(in alloc; "fault S1 BadLine {number}")?;
-    json!(in alloc; {
-        "code": "S1",
-        "column": null,
-        "kind": "fault",
-        "line": number,
-        "text": text,
-        "where": null
-    })
+    told_fault(alloc, "S1", Some(number), None, text.as_str(), None)
 }
 
 /// The object that stands for a word that names no flow of the network.
@@ -148,12 +134,13 @@ pub fn schedule_fault_value(alloc: Global, number: u64) -> Result<Value, AllocEr
 pub fn unknown_flow_value(alloc: Global) -> Result<Value, AllocError>
     ensures { IfOk result (λ v. view v ≡ unknown_flow_value) }
 {
-    json!(in alloc; {
-        "code": "F7",
-        "column": null,
-        "kind": "fault",
-        "line": null,
-        "text": "fault F7 UnknownName argument",
-        "where": "argument"
-    })
+    let place = String::from_str(alloc, "argument")?;
+    told_fault(
+        alloc,
+        "F7",
+        None,
+        None,
+        "fault F7 UnknownName argument",
+        Some(place),
+    )
 }

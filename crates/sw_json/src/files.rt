@@ -45,12 +45,12 @@ pub fn read_entry(
     let lint = text_values(alloc, lint)?;
     let bytes = text.len();
     json!(in alloc; {
-        "bytes": bytes,
+        "verdict": verdict,
         "lint": lint,
-        "path": path,
         "sha256": digest,
-        "status": status,
-        "verdict": verdict
+        "bytes": bytes,
+        "path": path,
+        "status": status
     })
 }
 
@@ -68,12 +68,12 @@ pub fn bare_entry(
     ensures { IfOk result (λ v. view v ≡ bare_entry path.now status (view verdict)) }
 {
     json!(in alloc; {
+        "verdict": verdict,
         "bytes": null,
         "lint": [],
         "path": path,
         "sha256": null,
-        "status": status,
-        "verdict": verdict
+        "status": status
     })
 }
 

@@ -17,7 +17,7 @@ pub fn input_value(alloc: Global, path: &str, text: &[u8]) -> Result<Value, Allo
 {
     let digest = digest_text(alloc, text)?;
     let bytes = text.len();
-    json!(in alloc; {"bytes": bytes, "path": path, "sha256": digest})
+    json!(in alloc; {"sha256": digest, "bytes": bytes, "path": path})
 }
 
 /// A file whose text is longer than a text may be.

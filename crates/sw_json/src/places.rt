@@ -50,7 +50,7 @@ pub fn place_value(alloc: Global, network: &Network, place: Place) -> Result<Val
     let deleted = place.deleted;
     let end = finish_text(alloc, network, place.channel)?;
     let start = start_text(alloc, network, place.channel)?;
-    json!(in alloc; {"channel": channel, "deleted": deleted, "end": end, "start": start})
+    json!(in alloc; {"end": end, "start": start, "channel": channel, "deleted": deleted})
 }
 
 /// An object for each of the places.
@@ -103,5 +103,5 @@ pub fn misrouted_fault_value(
     let deleted = place.deleted;
     let code = route_fault_code(fault);
     let text = misrouted_place_words(alloc, place, fault)?;
-    json!(in alloc; {"channel": channel, "code": code, "deleted": deleted, "text": text})
+    json!(in alloc; {"text": text, "channel": channel, "code": code, "deleted": deleted})
 }

@@ -61,12 +61,12 @@ fn misrouted_value(
     let name = flow_name(network, flow);
     let text = misrouted_words(alloc, network, flow, place, fault)?;
     json!(in alloc; {
+        "text": text,
         "channel": channel,
         "code": code,
         "deleted": deleted,
         "flow": name,
-        "kind": "misrouted",
-        "text": text
+        "kind": "misrouted"
     })
 }
 

@@ -34,7 +34,7 @@ fn misrouted_value(
     let fault = misrouted_fault_value(alloc, place, fault)?;
     let way = place_values(alloc, network, way)?;
     let name = flow_name(network, flow);
-    json!(in alloc; {"fault": fault, "flow": name, "kind": "misrouted", "way": way})
+    json!(in alloc; {"fault": fault, "way": way, "flow": name, "kind": "misrouted"})
 }
 
 // The same, of what is told of a network.
@@ -79,11 +79,11 @@ fn step_value(
     let names = flow_name_values(alloc, network, flows)?;
     let number = channel.number();
     json!(in alloc; {
-        "channel": number,
         "end": end,
         "flows": names,
         "start": start,
-        "target": target
+        "target": target,
+        "channel": number
     })
 }
 
@@ -137,7 +137,7 @@ fn tangle_value(alloc: Global, network: &Network, tangle: &Tangle) -> Result<Val
         &tangle.flows,
     )?;
     let count = tangle.channels;
-    json!(in alloc; {"channels": count, "cycle": steps})
+    json!(in alloc; {"cycle": steps, "channels": count})
 }
 
 // Adds that of one tangle.
@@ -179,7 +179,7 @@ fn tangles_value(alloc: Global, network: &Network, tangles: &[Tangle]) -> Result
     // Names the network, which is valid by its type.
     let _topology = network.topology();
     let values = tangle_values(alloc, network, tangles)?;
-    json!(in alloc; {"kind": "cyclic", "tangles": values})
+    json!(in alloc; {"tangles": values, "kind": "cyclic"})
 }
 
 /// The object that stands for what is told of a network.

@@ -44,7 +44,7 @@ fn lost_value(
     let start = start_text(alloc, network, channel)?;
     let names = flow_name_values(alloc, network, flows)?;
     let number = channel.number();
-    json!(in alloc; {"channel": number, "end": end, "flows": names, "start": start})
+    json!(in alloc; {"end": end, "flows": names, "start": start, "channel": number})
 }
 
 // The flows that are lost without the link of that number.
@@ -131,8 +131,8 @@ pub(crate) fn margins_value(
     let stalls = stall_list(alloc, network, &told.stalls)?;
     json!(in alloc; {
         "answers": answers,
-        "kind": "margins",
         "losses": losses,
-        "stalls": stalls
+        "stalls": stalls,
+        "kind": "margins"
     })
 }

@@ -73,8 +73,8 @@ fn of_port(
     let name = switch_name(network, switch);
     json!(in alloc; {
         "first": first_value(network, switch, entry),
-        "kind": "port",
         "last": last_value(network, switch, entry),
+        "kind": "port",
         "port": port,
         "switch": name
     })
@@ -226,7 +226,7 @@ fn pair_list(alloc: Global, network: &Network, pairs: &[Pair]) -> Result<Vec<Val
 fn told_mends(alloc: Global, mends: Vec<Value>) -> Result<Value, AllocError>
     ensures { IfOk result (λ v. view v ≡ mends_value (map view mends.items)) }
 {
-    json!(in alloc; {"kind": "mends", "mends": mends})
+    json!(in alloc; {"mends": mends, "kind": "mends"})
 }
 
 /// The object that stands for the single changes that free the network.

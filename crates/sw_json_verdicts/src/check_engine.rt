@@ -48,20 +48,16 @@ fn refused_value(alloc: Global, parts: Parts<'_>, text: &str) -> Result<Value, A
 {
     let flow = text_or_null(alloc, parts.flow)?;
     let fault = text_or_null(alloc, parts.fault)?;
-    let channel = count_or_null(parts.channel);
-    let deleted = count_or_null(parts.deleted);
-    let line = count_or_null(parts.line);
-    let next = count_or_null(parts.next);
     json!(in alloc; {
-        "channel": channel,
-        "code": parts.code,
-        "deleted": deleted,
         "fault": fault,
         "flow": flow,
+        "text": text,
+        "channel": count_or_null(parts.channel),
+        "code": parts.code,
+        "deleted": count_or_null(parts.deleted),
         "kind": "refused",
-        "line": line,
-        "next": next,
-        "text": text
+        "line": count_or_null(parts.line),
+        "next": count_or_null(parts.next)
     })
 }
 

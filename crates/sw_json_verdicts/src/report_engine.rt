@@ -51,6 +51,7 @@ fn told_report(
 {
     let declared = network.declared_flows();
     json!(in alloc; {
+        "verdict": verdict,
         "channels": network.channels(),
         "dependencies": findings.dependencies,
         "flows": declared,
@@ -59,8 +60,7 @@ fn told_report(
         "nodes": network.nodes(),
         "places": findings.places,
         "replies": network.flows() - declared,
-        "switches": network.switches(),
-        "verdict": verdict
+        "switches": network.switches()
     })
 }
 

@@ -66,7 +66,7 @@ fn told_route(
     let name = flow.name();
     let fault = fault_or_null(alloc, fault)?;
     let places = place_values(alloc, network, places)?;
-    json!(in alloc; {"fault": fault, "flow": name, "kind": kind, "places": places})
+    json!(in alloc; {"fault": fault, "places": places, "flow": name, "kind": kind})
 }
 
 // The result for a flow.

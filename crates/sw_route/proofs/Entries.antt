@@ -1,5 +1,5 @@
 -- The entry of an address in a table.
-use Rattle.std.proofs.Common.{◌≡◌, ℕ, suc, ◌<◌, ◌≤◌, true, false, max, List, [], ◌∷◌, length, get_or, Some, None, refl, sym, ap, ◌∙◌, inl, inr, arith, All}
+use Rattle.std.proofs.Common.{◌≡◌, ℕ, leb, suc, ◌<◌, ◌≤◌, true, false, max, List, [], ◌∷◌, length, get_or, Some, None, refl, sym, ap, ◌∙◌, inl, inr, arith, All}
 use Rattle.std.specs.Prelude.{find}
 use Rattle.std.proofs.lemmas.Bool.{cases_lt, lt-ltb, le-ltb}
 use Rattle.std.proofs.lemmas.Bool.Decides.{nat_tests}
@@ -30,6 +30,13 @@ overlap_parts r q both = grind (arith, nat_tests)
 
 parts_overlap : (r q : Route) → q.first ≤ r.last → r.first ≤ q.last → overlaps r q ≡ true
 parts_overlap r q low high = grind (arith, nat_tests)
+
+-- an entry for addresses above the highest that another has is for none of its addresses
+pub none_above : (highest : ℕ) (r q : Route) → highest < r.first → q.last ≤ highest → overlaps r q ≡ false
+none_above highest r q above low = grind (arith, nat_tests)
+
+pub not_at_most : (m n : ℕ) → m < n → leb n m ≡ false
+not_at_most m n lt = grind (arith, nat_tests)
 
 pub entries_answer : EntriesAnswer
 entries_answer routes table r here address is =

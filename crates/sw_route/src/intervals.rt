@@ -70,9 +70,10 @@ impl IntervalRoutes {
         ensures same { IfOk result (λ t. (byte : ℕ) → intervals_look t byte ≡ look_of table.now byte) }
     {
         let mut intervals = Vec::new(alloc);
-        let mut look = table.look(32);
+        let (mut look, mut place) = table.look_near(32, 0);
         for address in 33..255 {
-            let next = table.look(address);
+            let (next, near) = table.look_near(address, place);
+            place = near;
             if next != look {
                 intervals.push(Interval {
                     last: address - 1,

@@ -1,8 +1,8 @@
 //! A routing table as the list of its entries.
-ghost use Rattle.std.specs.Prelude.{◌≡◌, ◌≤◌, ◌↔◌, ◌++◌, ◌∷◌, [], length, find, IsTrue, OnOk, OnErr};
+ghost use Rattle.std.specs.Prelude.{◌≡◌, ◌≤◌, ◌↔◌, ◌++◌, ◌∷◌, [], length, find, All, IfSome, IsTrue, OnOk, OnErr};
 ghost use Rattle.std.specs.List.{list_any};
 ghost use Rattle.std.specs.Option.{option_copied};
-ghost use Rattle.sw_route.specs.Looks.{covers, entry, overlaps, route_look};
+ghost use Rattle.sw_route.specs.Looks.{IsTable, covers, entry, look_of, overlaps, route_look};
 ghost use Rattle.sw_route.specs.declared.table.RouteError.TheVariants.{Memory};
 
 use crate::look::{Look, Route};
@@ -35,10 +35,12 @@ impl<T: Drop> From<AllocFailed<T>> for RouteError {
 #[derive(Drop)]
 pub struct TableRoutes {
     routes: Vec<Route>,
+    // No entry is for a higher address: so a table that rises is added to without a search.
+    highest: u8,
 }
 
 impl Model for TableRoutes {
-    ghost use Rattle.std.specs.Prelude.{List};
+    ghost use Rattle.std.specs.Prelude.{◌≤◌, All, List};
     ghost use Rattle.sw_route.specs.declared.look.Route.{Route};
     ghost use Rattle.sw_route.specs.Looks.{IsTable};
 
@@ -46,13 +48,26 @@ impl Model for TableRoutes {
 
     ghost view = { λ t. t.routes.items };
 
-    ghost invariant = { λ t. IsTable t.routes.items };
+    ghost invariant = { λ t. IsTable t.routes.items × All (λ r. r.last ≤ t.highest) t.routes.items };
 }
 
-fn has_overlap(routes: &[Route], route: &Route) -> bool
+/// Is one of the entries, none of which is for an address above `highest`, for an address of this one?
+fn has_overlap(routes: &[Route], highest: u8, route: &Route) -> bool
+    requires { All (λ r. r.last ≤ highest) routes.now }
     ensures { result ≡ list_any (overlaps route.now) routes.now }
 {
-    routes.iter().any(|r| route.overlaps(r))
+    route.first <= highest && routes.iter().any(|r| route.overlaps(r))
+}
+
+/// The entry at this place, if it is for the address: no other of the table is.
+fn entry_at(routes: &[Route], place: usize, address: u8) -> Option<&Route>
+    requires { IsTable routes.now }
+    ensures { IfSome result (λ r. look_of routes.now address ≡ record { ports = r.now.ports; delete = r.now.delete }) }
+{
+    match routes.get(place) {
+        Some(route) if route.covers(address) => Some(route),
+        _ => None,
+    }
 }
 
 fn entry_of(routes: &[Route], address: u8) -> Option<&Route>
@@ -79,6 +94,7 @@ impl TableRoutes {
     {
         TableRoutes {
             routes: Vec::new(alloc),
+            highest: 0,
         }
     }
 
@@ -144,11 +160,27 @@ impl TableRoutes {
             ports,
             delete,
         };
-        if has_overlap(&self.routes, &route) {
+        if has_overlap(&self.routes, self.highest, &route) {
             return Err(RouteError::Duplicate);
         }
         self.routes.push(route)?;
+        self.highest = self.highest.max(last);
         Ok(())
+    }
+
+    /// What the address names, and where to look at first for the next one. The entry at `near` is looked at before the others, and
+    /// then the one behind it: addresses in rising order are found without a search in a table that rises.
+    pub(crate) fn look_near(&self, address: u8, near: usize) -> (Look, usize)
+        ensures { result.0 ≡ look_of self.now address }
+    {
+        if let Some(route) = entry_at(&self.routes, near, address) {
+            return (route.look(), near);
+        }
+        let next = near.saturating_add(1);
+        match entry_at(&self.routes, next, address) {
+            Some(route) => (route.look(), next),
+            None => (self.look(address), near),
+        }
     }
 }
 

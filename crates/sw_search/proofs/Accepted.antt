@@ -1,6 +1,6 @@
 -- The certificate of a free network is accepted.
-use Rattle.std.proofs.Common.{◌≡◌, ℕ, zero, suc, ◌<◌, ◌≤◌, List, [], ◌∷◌, map, length, Contains, Option, Some, None, refl, sym, ap, ◌∙◌, subst}
-use Rattle.std.specs.Prelude.{slice_get, slice_index, unwrap_or}
+use Rattle.std.proofs.Common.{◌≡◌, ℕ, ◌<◌, ◌≤◌, List, map, length, Some, refl, sym, ◌∙◌, subst}
+use Rattle.std.specs.Prelude.{slice_get, slice_index}
 use Rattle.std.proofs.lemmas.List.{length-map}
 use Rattle.std.proofs.lemmas.List.Elements.{All-contains}
 use Rattle.sw_config.specs.Entries.{FlowEntry, Declaration, all_flows}
@@ -8,10 +8,8 @@ use Rattle.sw_config.specs.Valid.{IsValid}
 use Rattle.sw_flow.specs.declared.place.Place.{Place}
 use Rattle.sw_flow.specs.Places.{ends_of, IsPlaceList}
 use Rattle.sw_flow.specs.Faults.{IsWellRouted}
-use Rattle.sw_flow.proofs.Listed.{Contains-map, Contains-from_map}
 use Rattle.sw_flow.proofs.Stepping.{places_are_in}
 use Rattle.sw_cert.specs.Text.{Contents}
-use Rattle.sw_machine.specs.Network as machine_network
 use Rattle.sw_machine.specs.Network.{IsNetwork}
 use Rattle.sw_machine.specs.Places as machine
 use Rattle.sw_machine.specs.Places.IsPlace.{Start, Goes}

@@ -1,5 +1,5 @@
 -- The channels of a shown cycle, one after the other.
-use Rattle.std.proofs.Common.{◌≡◌, ℕ, zero, suc, ◌+◌, ◌%◌, ◌<◌, ◌≤◌, ◌⊎◌, List, [], ◌∷◌, ◌++◌, length, get_or, sym, ap, ◌∙◌, subst, inl, inr, arith}
+use Rattle.std.proofs.Common.{ℕ, zero, suc, ◌+◌, ◌<◌, List, [], ◌∷◌, ◌++◌, length, get_or, sym, subst, arith}
 use Rattle.sw_config.specs.Entries.{Declaration}
 use Rattle.sw_graph.specs.Cycles.{IsShownCycle}
 use Rattle.sw_graph.specs.Laws.{IsChain, IsCycle}

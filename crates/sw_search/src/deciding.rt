@@ -19,9 +19,7 @@ use sw_cycle::routed_dependencies;
 use sw_flow::{Place, all_places};
 use sw_graph::Order;
 
-/// For each channel those on which it depends, each once; and whether each flow is known to be well
-/// routed: where the answer is yes, it is.
-#[tactic(auto, using(crate::proofs::Routed::all_routed))]
+/// For each channel those on which it depends, each once; and whether each flow is well routed.
 fn rows_of<W: VerdictWorkers>(
     workers: &W,
     alloc: Global,

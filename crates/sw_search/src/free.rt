@@ -19,7 +19,7 @@ fn certificate(levels: Vec<u16>, places: Vec<Vec<Place>>) -> Certificate
     requires blocks { AllByRecursion IsBlock (map items_of places.items) }
     ensures { result ≡ record { numbers = levels.items; places = map items_of places.items } }
 {
-    Certificate::new(levels, places).unwrap()
+    Certificate::of_text(levels, places)
 }
 
 /// The certificate of a network in which each flow is well routed and the dependencies have levels.

@@ -10,13 +10,9 @@ use std::thread::Threads;
 use sw_check::CheckWorkers;
 use sw_config::Network;
 use sw_cycle::PortWorkers;
-use sw_flow::{Place, PlaceWorkers, RouteFault};
+use sw_flow::{Place, PlaceWorkers, RouteFault, flows_a_thread};
 use sw_graph::RoundWorkers;
 use sw_parallel::{OneByOne, SideBySide, one_by_one, side_by_side};
-
-/// The fewest flows that a thread is started for: a flow has up to 67,584 places, and a thread takes
-/// as long to start as some thousand places to look at.
-const LEAST_PIECE: usize = 64;
 
 /// Who finds what a verdict rests on.
 pub trait VerdictWorkers: CheckWorkers + PlaceWorkers + PortWorkers + RoundWorkers {
@@ -47,7 +43,7 @@ impl<R: Threads + Sync> VerdictWorkers for SideBySide<'_, R> {
             self.handle(),
             alloc,
             network.flows(),
-            LEAST_PIECE,
+            flows_a_thread(network),
             |flow: u16| -> Result<Option<(Place, RouteFault)>, AllocError>
                 requires lists { AreListed network.now places.now }
                 requires inside { flow < length (all_flows network.now) }

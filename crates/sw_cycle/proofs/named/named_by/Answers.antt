@@ -1,9 +1,11 @@
-use Rattle.std.proofs.Common.{◌≡◌, length, get_or, sym, ap, ◌∙◌, subst, arith}
+use Rattle.std.proofs.Common.{◌↔◌, ◌≡◌, length, get_or, sym, ap, ◌∙◌, subst, arith}
 use Rattle.std.proofs.lemmas.Slice.Zip.{AllZip-long}
 use Rattle.sw_config.specs.Entries.{all_flows}
+use Rattle.std.specs.Prelude.{IsTrue}
+use Rattle.sw_flow.specs.Faults.{IsWellRouted}
 use Rattle.sw_flow.specs.Places.{IsPlaceList, ends_of}
 use Rattle.sw_cycle.proofs.Naming.{all_inside, listed_at, named_more, whole}
-use Rattle.sw_cycle.proofs.Sound.{both_true, routed_by_list, routed_more}
+use Rattle.sw_cycle.proofs.Sound.{both_exact, list_by_routed, routed_by_list, routed_pushed}
 use Rattle.sw_cycle.proofs.named.named_by.Goals as goal
 
 pub bounds-places-from : goal.bounds-places-from
@@ -37,8 +39,9 @@ loop-number-preserved c =
     (record {
       from = omega (arith, from);
       named = named_more d c.args.low n c.flow.result.now listed.items before new from c.flow.ensures.flow list c.loop-number.invariant.named added;
-      routed = λ e.
-          let both = both_true c.loop-number.is_routed c.add_places-is_sound.result e in
-          let sound = rw c.deref.ensures.value at c.add_places-is_sound.ensures.sound both.1 in
-          routed_more d c.args.low n c.flow.result.now c.flow.ensures.flow (c.loop-number.invariant.routed both.0) (routed_by_list d c.flow.result.now listed.items list sound);
+      routed =
+          let f = c.flow.result.now in
+          let sound = rw c.deref.ensures.value at c.add_places-is_sound.ensures.sound in
+          let well : IsTrue c.add_places-is_sound.result ↔ IsWellRouted d f = (λ e. routed_by_list d f listed.items list (sound.0 e), λ well. sound.1 (list_by_routed d f listed.items list well)) in
+          both_exact c.loop-number.is_routed c.add_places-is_sound.result c.loop-number.invariant.routed well (routed_pushed d c.args.low n f from c.flow.ensures.flow);
     })

@@ -10,10 +10,10 @@ loop-address-preserved c =
     let look = c.loop-address.look in
     let is = c.loop-address.intervals.items in
     elim c.if-ne.branch [
-      | then-ne+in_ok-push w ↦ rw (w.intervals-is, w.look-is, w.in_ok-push.ensures.items, c.look-next.ensures) (run_pushed (look_of c.args.table.now) b look is c.loop-address.invariant (omega arith) (λ e. let same : c.look-next.result ≡ look = c.look-next.ensures ∙ sym e in search rules))
+      | then-ne+in_ok-push w ↦ rw (w.intervals-is, w.look-is, w.in_ok-push.ensures.items, c.look_near-next.ensures) (run_pushed (look_of c.args.table.now) b look is c.loop-address.invariant (omega arith) (λ e. let same : c.look_near-next.result.0 ≡ look = c.look_near-next.ensures ∙ sym e in search rules))
       | else-ne w ↦
-          let same : c.look-next.result ≡ look = search rules in
-          rw (w.intervals-is, w.look-is) (run_kept (look_of c.args.table.now) b look is c.loop-address.invariant (sym c.look-next.ensures ∙ same))
+          let same : c.look_near-next.result.0 ≡ look = search rules in
+          rw (w.intervals-is, w.look-is) (run_kept (look_of c.args.table.now) b look is c.loop-address.invariant (sym c.look_near-next.ensures ∙ same))
     ]
 
 pub invariant_of-result : goal.invariant_of-result
