@@ -57,7 +57,7 @@ fn certificate_answer<W: VerdictWorkers>(
     ensures answer { IfOk result (λ a. IsCertificateAnswer network.now (read_text text.now) (string_bytes a.text) a.status) }
     ensures deadlock_free { IfOk result (λ a. a.status ≡ 0 → IsShownDeadlockFree network.now text.now) }
 {
-    match Certificate::read(alloc, text) {
+    match Certificate::read_by(workers, alloc, text) {
         Ok(certificate) => judgement(workers, alloc, network, &certificate),
         Err(CertificateFault::Grammar(number)) => {
             let text = grammar_line(alloc, number)?;

@@ -67,7 +67,7 @@ places_are_lines : (ps : List Place) → AllByRecursion Fits ps → AllByRecursi
 places_are_lines [] h = tt
 places_are_lines (p ∷ ps) h = (place_is_line p h.0, places_are_lines ps h.1)
 
-blocks_are_lines : (fs : List (List Place)) → AllByRecursion IsBlock fs → AllByRecursion IsOneLine (flat_map block fs)
+pub blocks_are_lines : (fs : List (List Place)) → AllByRecursion IsBlock fs → AllByRecursion IsOneLine (flat_map block fs)
 blocks_are_lines [] h = tt
 blocks_are_lines (f ∷ fs) h =
     let b = h.0 in

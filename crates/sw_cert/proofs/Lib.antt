@@ -3,6 +3,7 @@ pub mod Spelled
 pub mod Cuts
 pub mod Runs
 pub mod Writes
+pub mod Parted
 pub mod Written
 pub mod Made
 pub mod Blocks

@@ -1,9 +1,11 @@
 -- Lines that are read one after another.
 use Rattle.std.proofs.Common.{◌≡◌, ℕ, suc, ◌+◌, ◌<◌, Bool, true, false, ◌&&◌, List, [], ◌∷◌, ◌++◌, length, refl, sym, ap, ◌∙◌, subst, inl, inr, arith, Option, Some, None, append_assoc, append-nil}
 use Rattle.std.specs.Prelude.{◌==◌, Result, Ok, Err}
+use Rattle.std.specs.List.{slice_split}
 use Rattle.std.specs.Option.{option_map_or}
 use Rattle.std.proofs.lemmas.Bool.{cases_Bool, and_parts, eqb-true}
 use Rattle.std.proofs.lemmas.List.{nil_from_length}
+use Rattle.std.proofs.lemmas.List.Splits.{length-slice_split}
 use Rattle.sw_cert.specs.Reading.{State, next, Follows}
 use Rattle.sw_cert.specs.Text.{read_lines, is_ended}
 use Rattle.sw_cert.specs.Sound.{IsSound}
@@ -77,3 +79,7 @@ right_line n d line (p ∷ ps) right e some k h s =
     let g : next d line ≡ Some e = subst (λ b. Follows d line b e) k h in
     let one : suc n ≡ n + 1 = omega arith in
     (rw g (ap (λ m. read_lines m e (p ∷ ps)) one), (goes_on_from d.expected d.numbers d.flows d.open_block line e s g).sound)
+
+-- a text has a piece at least
+pub some_piece : (xs : List ℕ) → 0 < length (slice_split (λ b. b == 10) xs)
+some_piece xs = omega (arith, length-slice_split (λ b. b == 10) xs)

@@ -18,7 +18,7 @@ use Rattle.sw_cert.proofs.Fields.{field_read, after_read}
 use Rattle.sw_cert.proofs.Runs.{Runs, runs_append}
 use Rattle.sw_cert.proofs.Spelled.{last_or, last_is}
 
-abbrev at : Expected → List ℕ → List (List Place) → List Place → State
+abbrev pub at : Expected → List ℕ → List (List Place) → List Place → State
 at e ns fs ps = record { expected = e; numbers = ns; flows = fs; open_block = ps }
 
 number_next : (k v : ℕ) (xs : List ℕ) → v ≤ 65535 → next (at (Numbers (suc k)) xs [] []) (codes "number " ++ decimal v) ≡ Some (at (Numbers k) (xs ++ v ∷ []) [] [])
@@ -89,7 +89,7 @@ places_run k ns fs ps q (p ∷ qs) h r =
           (places_run k ns fs (ps ++ q ∷ []) p qs h.1 (subst (λ o. Rises o (p ∷ qs)) (sym (last_push None ps q)) r.1)),
     )
 
-block_run : (k : ℕ) (ns : List ℕ) (fs : List (List Place)) (ps : List Place) → IsBlock ps
+pub block_run : (k : ℕ) (ns : List ℕ) (fs : List (List Place)) (ps : List Place) → IsBlock ps
     → Runs (at (Flows (suc k)) ns fs []) (block ps) (at (Flows k) ns (fs ++ ps ∷ []) [])
 block_run k ns fs [] h =
     let fewer : suc k - 1 ≡ k = omega arith in

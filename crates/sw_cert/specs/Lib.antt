@@ -3,3 +3,4 @@ pub mod Pieces
 pub mod Reading
 pub mod Sound
 pub mod Text
+pub mod Parts

@@ -4,7 +4,7 @@ use Rattle.std.specs.Option.{option_map_or}
 use Rattle.std.specs.List.{slice_split}
 use Rattle.sw_flow.specs.declared.place.Place.{Place}
 use Rattle.sw_cert.specs.declared.lines.Expected.{Expected}
-use Rattle.sw_cert.specs.declared.lines.Expected.TheVariants.{Title, Nothing}
+use Rattle.sw_cert.specs.declared.lines.Expected.TheVariants.{Flows, Title, Nothing}
 use Rattle.sw_cert.specs.declared.certificate.CertificateFault.{CertificateFault}
 use Rattle.sw_cert.specs.declared.certificate.CertificateFault.TheVariants as faults
 use Rattle.sw_cert.specs.Grammar.{spelling, HasText}
@@ -18,6 +18,10 @@ pub record Contents : Type 0 where
 -- before the first line
 abbrev pub at_first : State
 at_first = record { expected = Title; numbers = []; flows = []; open_block = [] }
+
+-- before the lists of so many flows, with nothing read
+abbrev pub before_lists : ℕ → State
+before_lists k = record { expected = Flows k; numbers = []; flows = []; open_block = [] }
 
 -- the line `end` was read
 abbrev pub is_ended : Expected → Bool
@@ -46,8 +50,12 @@ Says text c = (d : State) × (read_text text ≡ Ok d) × (contents_of d ≡ c)
 abbrev pub OneSpelling : Type 0
 OneSpelling = (text : List ℕ) (c : Contents) → Says text c ↔ ((text ≡ spelling c.numbers c.places) × HasText c.numbers c.places)
 
--- What reading a text gave: what the text says, or its first wrong line, unless memory ran out.
+-- What a reading gave: what was read, or the first wrong line, unless memory ran out.
+abbrev pub Gives : Result State ℕ → Result Contents CertificateFault → Type 0
+Gives r (Ok c) = (d : State) × (r ≡ Ok d) × (contents_of d ≡ c)
+Gives r (Err (faults.Grammar line)) = r ≡ Err line
+Gives r (Err faults.Memory) = Unit {0}
+
+-- what reading a text gave
 abbrev pub Reads : List ℕ → Result Contents CertificateFault → Type 0
-Reads text (Ok c) = Says text c
-Reads text (Err (faults.Grammar line)) = read_text text ≡ Err line
-Reads text (Err faults.Memory) = Unit {0}
+Reads text result = Gives (read_text text) result

@@ -8,11 +8,13 @@ ghost use Rattle.sw_cert.specs.declared.certificate.CertificateFault.TheVariants
 
 use crate::draft::Draft;
 use crate::lines::Expected;
+use crate::parts::{ReadWorkers, parts_of};
+use crate::reading::{read_head, read_to_end, take_lists};
 use crate::write::spelled;
 use std::alloc::{AllocError, AllocFailed, Global};
 use std::marker::Model;
 use sw_flow::Place;
-use sw_text::cut;
+use sw_parallel::OneByOne;
 
 /// Why a certificate is refused.
 #[derive(Debug, Drop)]
@@ -60,7 +62,7 @@ impl Model for Certificate {
 }
 
 /// The certificate that a draft has become, if nothing more is expected and no rest stands after the last line.
-fn finished(draft: Draft, rest: &[u8]) -> Option<Certificate>
+pub(crate) fn finished(draft: Draft, rest: &[u8]) -> Option<Certificate>
     requires { IsSound (state_of draft) }
     ensures ended { IsSome result ↔ (is_ended draft.expected && (length rest.now == 0) ≡ true) }
     ensures same { IfSome result (λ c. c ≡ contents_of (state_of draft)) }
@@ -83,30 +85,37 @@ fn finished(draft: Draft, rest: &[u8]) -> Option<Certificate>
 impl Certificate {
     ghost use Rattle.sw_cert.specs.Text.{Reads};
 
-    /// The certificate of a text.
+    /// The certificate of a text. Of a long text parts are read side by side.
     ///
     /// # Errors
     ///
     /// `Grammar`: this line, counted from 1, is the first that is not as the grammar asks after the
     /// lines before it. `Memory`: there is no memory for what the text says; this tells nothing of
     /// the text.
-    pub fn read(alloc: Global, text: &[u8]) -> Result<Certificate, CertificateFault>
+    pub fn read_by<W: ReadWorkers>(
+        workers: &W,
+        alloc: Global,
+        text: &[u8],
+    ) -> Result<Certificate, CertificateFault>
         ensures { Reads text.now result }
     {
         let mut draft = Draft::new(alloc);
-        let mut rest = text;
-        let mut number = 1;
-        while let Some((line, more)) = cut(rest, b'\n') {
-            if !draft.read_line(alloc, line)? {
-                return Err(CertificateFault::Grammar(number));
-            }
-            rest = more;
-            number += 1;
-        }
-        match finished(draft, rest) {
-            Some(certificate) => Ok(certificate),
-            None => Err(CertificateFault::Grammar(number)),
-        }
+        let (lists, number) = read_head(alloc, &mut draft, text)?;
+        let parts = parts_of(alloc, lists)?;
+        let found = workers.lists_of_parts(alloc, lists, &parts)?;
+        let (rest, number) = take_lists(&mut draft, lists, number, found)?;
+        read_to_end(alloc, draft, rest, number)
+    }
+
+    /// The certificate of a text, as `read_by` reads it in one thread.
+    ///
+    /// # Errors
+    ///
+    /// As `read_by`.
+    pub fn read(alloc: Global, text: &[u8]) -> Result<Certificate, CertificateFault>
+        ensures { Reads text.now result }
+    {
+        Certificate::read_by(&OneByOne, alloc, text)
     }
 }
 

@@ -80,3 +80,19 @@ impl Draft {
         }
     }
 }
+
+impl Draft {
+    ghost use Rattle.sw_cert.specs.Text.{before_lists};
+
+    /// Before the lists of so many flows, with nothing read.
+    pub(crate) fn of_lists(alloc: Global, flows: u32) -> Draft
+        ensures { state_of result ≡ before_lists flows }
+    {
+        Draft {
+            expected: Expected::Flows(flows),
+            numbers: Vec::new(alloc),
+            flows: Vec::new(alloc),
+            block: Vec::new(alloc),
+        }
+    }
+}

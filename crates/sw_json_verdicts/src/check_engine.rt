@@ -126,7 +126,7 @@ fn certificate_outcome<T: VerdictWorkers>(
 ) -> Result<Outcome, AllocError>
     ensures { IfOk result (λ o. IsCertificateResult network.now (read_text text.now) (view o.result) o.status) }
 {
-    match Certificate::read(alloc, text) {
+    match Certificate::read_by(workers, alloc, text) {
         Ok(certificate) => judgement(workers, alloc, network, &certificate),
         Err(CertificateFault::Grammar(number)) => refused_by_line(alloc, number),
         Err(CertificateFault::Memory) => Err(AllocError),

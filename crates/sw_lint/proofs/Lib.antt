@@ -2,6 +2,8 @@ pub mod Ranges
 pub mod Tests
 pub mod TableSteps
 pub mod Noting
+pub mod Members
+pub mod Again
 pub mod Keys
 pub mod Pairs
 pub mod Telling
@@ -9,5 +11,4 @@ pub mod OneList
 pub mod LinkedPorts
 pub mod Words
 pub mod Lawful
-pub mod Members
 pub mod Worded

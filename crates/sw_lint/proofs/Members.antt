@@ -41,7 +41,7 @@ in_joined d n (f ∷ fs) (ps ∷ lists) v zip h = by (Contains-append_cases (pla
         let number = r.number in
         record { index = suc r.index; number = omega arith; flow = r.flow; place = r.place }
 
-joined_has : (d : Declaration) (n k : ℕ) (flows : List FlowEntry) (lists : List (List Place)) (v : FlowPlace) → AllZip (IsPlaceList d) flows lists → v.number ≡ n + k → slice_get flows k ≡ Some v.flow
+pub joined_has : (d : Declaration) (n k : ℕ) (flows : List FlowEntry) (lists : List (List Place)) (v : FlowPlace) → AllZip (IsPlaceList d) flows lists → v.number ≡ n + k → slice_get flows k ≡ Some v.flow
     → IsPlace d v.flow v.place.channel v.place.deleted → Contains (joined n flows lists) v
 joined_has d n k [] lists v zip number at place = absurd cc
 joined_has d n k (f ∷ fs) [] v zip number at place = absurd zip

@@ -82,7 +82,7 @@ pub record AreMarks (d : Declaration) (all : List FlowPlace) (m : MarkLists) : T
   pub asking : (c : ℕ) → c < length (ends_of d) → note_at m.asking c ≡ option_map asker (find (asks_on c) all)
   pub other : (c : ℕ) → c < length (ends_of d) → note_at m.other c ≡ other_of all c
 
-asks_key : (c : ℕ) (v : FlowPlace) → is_key c (asking_key v) ≡ asks_on c v
+pub asks_key : (c : ℕ) (v : FlowPlace) → is_key c (asking_key v) ≡ asks_on c v
 asks_key c v = by (is_some v.flow.reply)
   where
     by : (b : Bool) → is_key c (if b then Some v.place.channel else None) ≡ b && v.place.channel == c
@@ -104,7 +104,7 @@ none_more {X} p q (x ∷ xs) none = by (p x) none (none_more p q xs)
     by true e on = absurd (none-some x (sym e))
     by false e on = on e
 
-key_given : (c ch : ℕ) (a b : Bool) → is_key c (if a && b then Some ch else None) ≡ (a && ch == c) && b
+pub key_given : (c ch : ℕ) (a b : Bool) → is_key c (if a && b then Some ch else None) ≡ (a && ch == c) && b
 key_given c ch true true = by (ch == c)
   where
     by : (e : Bool) → e ≡ e && true

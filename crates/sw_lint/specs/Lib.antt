@@ -1,4 +1,5 @@
 pub mod FlowPlaces
+pub mod Alike
 pub mod Lints
 pub mod LintTexts
 pub mod Marks

@@ -1,6 +1,7 @@
 //! What in a network file is probably a slip, although the file is valid.
 #![tactic(auto)]
 
+mod alike;
 mod asking;
 mod doubtful;
 mod finding;

@@ -4,6 +4,7 @@ ghost use Rattle.sw_topo.specs.declared.place.PlaceEnd.{PlaceEnd};
 ghost use Rattle.sw_flow.specs.Places.{ends_of};
 ghost use Rattle.sw_lint.specs.Marks.{in_row, is_other, switch_at};
 
+use crate::alike::is_like_last;
 use crate::asking::Asking;
 use crate::tables::{
     first_noted, is_any_marked, is_marked, mark, no_askings, no_marks, no_numbers, note, note_at,
@@ -104,7 +105,7 @@ impl Marks {
     ghost use Rattle.sw_route.specs.declared.look.Route.{Route};
     ghost use Rattle.sw_config.specs.Entries.{all_flows};
     ghost use Rattle.sw_lint.specs.FlowPlaces.{places_of_flow};
-    ghost use Rattle.sw_lint.specs.Marks.{AreNoted, IsFlowNoted, IsNoted, first_led, is_met_by, is_used_by, no_places, note_at, with_command, with_ends, with_led, with_place};
+    ghost use Rattle.sw_lint.specs.Marks.{IsFlowNoted, IsNoted, first_led, is_met_by, is_used_by, no_places, note_at, with_command, with_ends, with_led, with_place};
 
     fn new(alloc: Global, network: &Network) -> Result<Marks, AllocError>
         ensures { IfOk result (λ m. m ≡ no_places network.now) }
@@ -191,22 +192,16 @@ impl Marks {
         Ok(())
     }
 
-    // The places of all flows.
-    fn note_all(&mut self, alloc: Global, network: &Network) -> Result<(), AllocError>
-        ensures { OnOk result (AreNoted network.now (all_flows network.now) self.old self.new) }
-    {
-        for number in 0..network.flows() {
-            self.note_number(alloc, network, number)?;
-        }
-        Ok(())
-    }
-
-    /// What is noted of the places of all flows of the network.
+    /// What is noted of the places of all flows of the network. Of a flow like the last one there is nothing new.
     pub(crate) fn of_network(alloc: Global, network: &Network) -> Result<Marks, AllocError>
         ensures { IfOk result (IsNoted network.now) }
     {
         let mut marks = Marks::new(alloc, network)?;
-        marks.note_all(alloc, network)?;
+        for number in 0..network.flows() {
+            if !is_like_last(network, number) {
+                marks.note_number(alloc, network, number)?;
+            }
+        }
         Ok(marks)
     }
 

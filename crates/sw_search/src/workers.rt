@@ -7,6 +7,7 @@ ghost use Rattle.sw_search.specs.Lists.{AreFirstFaults, AreListed, IsFirstFault}
 use crate::misrouted::fault_of_flow;
 use std::alloc::{AllocError, Global};
 use std::thread::Threads;
+use sw_cert::ReadWorkers;
 use sw_check::CheckWorkers;
 use sw_config::Network;
 use sw_cycle::PortWorkers;
@@ -14,8 +15,8 @@ use sw_flow::{Place, PlaceWorkers, RouteFault, flows_a_thread};
 use sw_graph::RoundWorkers;
 use sw_parallel::{OneByOne, SideBySide, one_by_one, side_by_side};
 
-/// Who finds what a verdict rests on.
-pub trait VerdictWorkers: CheckWorkers + PlaceWorkers + PortWorkers + RoundWorkers {
+/// Who finds what a verdict rests on, and reads certificates.
+pub trait VerdictWorkers: CheckWorkers + PlaceWorkers + PortWorkers + ReadWorkers + RoundWorkers {
     /// The first fault of each flow, by the flows' numbers.
     ///
     /// # Errors

@@ -1,24 +1,18 @@
-use Rattle.std.proofs.Common.{◌∙◌, ap, ◌<◌, length, arith}
-use Rattle.std.specs.Prelude.{◌==◌, ℕ, List}
+use Rattle.std.proofs.Common.{◌∙◌, ap, arith}
+use Rattle.std.specs.Prelude.{◌==◌}
 use Rattle.std.specs.List.{slice_split}
-use Rattle.std.proofs.lemmas.List.Splits.{length-slice_split}
 use Rattle.sw_cert.specs.Reading.{state_of}
 use Rattle.sw_cert.specs.Text.{read_lines}
-use Rattle.sw_cert.proofs.Runs.{wrong_line, right_line}
-use Rattle.sw_cert.proofs.certificate.Certificate.read.Goals as goal
+use Rattle.sw_cert.proofs.Runs.{some_piece, wrong_line, right_line}
+use Rattle.sw_cert.proofs.reading.read_head.Goals as goal
 
-some_piece : (xs : List ℕ) → 0 < length (slice_split (λ b. b == 10) xs)
-some_piece xs = omega (arith, length-slice_split (λ b. b == 10) xs)
-
--- src/certificate.rt:113:17
-pub returns-then-not-branch : goal.returns-then-not-branch
-returns-then-not-branch c =
+pub returns-then-not-branch-clause-wrong : goal.returns-then-not-branch-clause-wrong
+returns-then-not-branch-clause-wrong c =
     c.loop-line.invariant.same
     ∙ ap (read_lines c.loop-line.number (state_of c.loop-line.draft)) c.in-Some.ensures.cut
     ∙ wrong_line c.loop-line.number (state_of c.loop-line.draft) c.in-Some.line.now (slice_split (λ b. b == 10) c.in-Some.more.now) c.in_ok-read_line.field-0 (state_of c.read_line.new.self)
     (some_piece c.in-Some.more.now) c.if-not-branch.true c.in_ok-read_line.ensures
 
--- src/certificate.rt:111:9
 pub loop-line-preserved : goal.loop-line-preserved
 loop-line-preserved c =
     let r = right_line c.loop-line.number (state_of c.loop-line.draft) c.in-Some.line.now (slice_split (λ b. b == 10) c.in-Some.more.now) c.in_ok-read_line.field-0 (state_of c.read_line.new.self)

@@ -1,0 +1,158 @@
+//! Parts of a certificate's text, each with whole lists of flows, that are read by themselves.
+ghost use Rattle.std.specs.Prelude.{◌≡◌, ◌<◌, ◌≤◌, All, IfOk, IfSome, length};
+ghost use Rattle.std.specs.Thread.{IsSync};
+ghost use Rattle.sw_cert.specs.Parts.{IsReadPart, IsWhole, part_of};
+ghost use Rattle.sw_cert.specs.Reading.{state_of};
+
+use crate::draft::Draft;
+use crate::lines::Expected;
+use std::alloc::{AllocError, Global};
+use std::thread::Threads;
+use sw_flow::Place;
+use sw_parallel::{OneByOne, SideBySide, Workers, side_by_side};
+use sw_text::cut;
+use sw_topo::limits::MAX_WAYS;
+
+/// Shorter texts are not cut into parts.
+const LEAST_TEXT: usize = 262_144;
+/// Into how many parts a text is cut.
+const PARTS: usize = 64;
+/// The length of a certificate's last line.
+const LAST_LINE: usize = 4;
+
+/// From this byte of a text up to that one.
+#[derive(Clone, Copy)]
+pub struct Part {
+    pub(crate) begin: usize,
+    pub(crate) end: usize,
+}
+
+/// The lists of flows that a part of a text is, and how many lines they have.
+#[derive(Drop)]
+pub struct Lists {
+    pub(crate) part: Part,
+    pub(crate) flows: Vec<Vec<Place>>,
+    pub(crate) lines: usize,
+}
+
+/// The bytes of a part; none where the text has no such part.
+fn part_of(text: &[u8], part: Part) -> &[u8]
+    ensures { result.now ≡ part_of text.entry.now part }
+{
+    if part.begin <= part.end && part.end <= text.len() {
+        &text[part.begin..part.end]
+    } else {
+        &text[..0]
+    }
+}
+
+/// Where the next list of a flow begins, from that byte on: no line but its first has an `f`.
+fn next_list(text: &[u8], from: usize) -> usize
+    requires { from ≤ length text.now }
+    ensures { result ≤ length text.now }
+{
+    match text[from..].iter().position(|byte| *byte == b'f') {
+        Some(more) => from + more,
+        None => text.len(),
+    }
+}
+
+/// Cuts the lists of a text, behind which its last line stands, into parts of about the same length. Where they are cut decides only how
+/// many of them can be read by themselves.
+pub(crate) fn parts_of(alloc: Global, text: &[u8]) -> Result<Vec<Part>, AllocError> {
+    let mut parts = Vec::new(alloc);
+    if text.len() < LEAST_TEXT {
+        return Ok(parts);
+    }
+    let lists = &text[..text.len() - LAST_LINE];
+    let mut begin = 0;
+    for number in 0..PARTS {
+        let end = next_list(lists, lists.len() / PARTS * (number + 1));
+        parts.push(Part { begin, end })?;
+        begin = end;
+    }
+    Ok(parts)
+}
+
+/// The lists that a draft has of a part, if the last one is whole and no rest stands after the last line.
+fn whole_lists(draft: Draft, part: Part, rest: &[u8], lines: usize) -> Option<Lists>
+    ensures { IfSome result (λ l. IsWhole (state_of draft) rest.now part lines l) }
+{
+    if !rest.is_empty() {
+        return None;
+    }
+    match draft.expected {
+        Expected::Flows(_) => Some(Lists {
+            part,
+            flows: draft.flows,
+            lines,
+        }),
+        _ => None,
+    }
+}
+
+/// The lists of flows that a part of a text is, if it is nothing else.
+fn lists_of(alloc: Global, text: &[u8], part: Part) -> Result<Option<Lists>, AllocError>
+    ensures { IfOk result (λ lists. IfSome lists (IsReadPart text.now)) }
+{
+    let mut draft = Draft::of_lists(alloc, MAX_WAYS);
+    let mut rest = part_of(text, part);
+    let mut lines = 0;
+    while let Some((line, more)) = cut(rest, b'\n') {
+        if !draft.read_line(alloc, line)? {
+            return Ok(None);
+        }
+        rest = more;
+        lines += 1;
+    }
+    Ok(whole_lists(draft, part, rest, lines))
+}
+
+/// Who reads the parts of a text.
+pub trait ReadWorkers: Workers {
+    /// The lists that parts of a text are, of parts that were read and are nothing else.
+    ///
+    /// # Errors
+    ///
+    /// There is no memory for the lists.
+    fn lists_of_parts(
+        &self,
+        alloc: Global,
+        text: &[u8],
+        parts: &[Part],
+    ) -> Result<Vec<Option<Lists>>, AllocError>
+        requires shared { IsSync Self.Shared.row }
+        ensures { IfOk result (λ v. All (λ lists. IfSome lists (IsReadPart text.now)) v.items) };
+}
+
+impl<R: Threads + Sync> ReadWorkers for SideBySide<'_, R> {
+    fn lists_of_parts(
+        &self,
+        alloc: Global,
+        text: &[u8],
+        parts: &[Part],
+    ) -> Result<Vec<Option<Lists>>, AllocError> {
+        side_by_side::map_all(
+            self.handle(),
+            alloc,
+            parts.len().min(PARTS) as u16,
+            1,
+            |number: u16| -> Result<Option<Lists>, AllocError>
+                requires inside { number < length parts.now }
+                ensures { IfOk result (λ lists. IfSome lists (IsReadPart text.entry.now)) }
+            { lists_of(alloc, text, parts[usize::from(number)]) },
+        )
+    }
+}
+
+impl ReadWorkers for OneByOne {
+    // One thread reads a text in one go.
+    fn lists_of_parts(
+        &self,
+        alloc: Global,
+        _text: &[u8],
+        _parts: &[Part],
+    ) -> Result<Vec<Option<Lists>>, AllocError> {
+        Ok(Vec::new(alloc))
+    }
+}
