@@ -7,6 +7,5 @@ pub mod OneVerdict
 pub mod ShownFree
 pub mod Told
 pub mod OneCount
+pub mod Keeping
 pub mod OneReport
-pub mod ReplayReports
-pub mod OneReplay

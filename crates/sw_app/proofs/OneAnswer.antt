@@ -7,7 +7,6 @@ use Rattle.sw_toml_table.specs.declared.fault.TextFault.{TextFault}
 use Rattle.sw_file.specs.Network.{network_text}
 use Rattle.sw_flow.specs.declared.place.Place.{Place}
 use Rattle.sw_flow.specs.Faults.{first_fault_of}
-use Rattle.sw_flow.specs.Places.{IsPlaceList}
 use Rattle.sw_command.specs.Ends.{Says}
 use Rattle.sw_app.specs.Laws.{RouteHasOneAnswer}
 use Rattle.sw_app.specs.RouteAnswers.{IsFlowAnswer, IsFoundAnswer, IsReadAnswer}

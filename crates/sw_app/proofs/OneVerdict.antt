@@ -1,5 +1,5 @@
 -- `decide` has one answer.
-use Rattle.std.proofs.Common.{◌≡◌, ◌∙◌, ℕ, ◌+◌, List, [], ◌∷◌, ◌++◌, ap, length, map, refl, sym}
+use Rattle.std.proofs.Common.{◌≡◌, ◌∙◌, ℕ, List, [], ◌∷◌, ◌++◌, ap, length, map, refl, sym}
 use Rattle.std.specs.Prelude.{Err, Ok, Result}
 use Rattle.sw_config.specs.Entries.{Declaration}
 use Rattle.sw_toml_table.specs.declared.fault.TextFault.{TextFault}

@@ -1,6 +1,5 @@
 -- Laws of the answers.
-use Rattle.std.specs.Prelude.{◌≡◌, ℕ, List, Option}
-use Rattle.sw_app.specs.ReplayAnswers.{IsReplayAnswer}
+use Rattle.std.specs.Prelude.{◌≡◌, ℕ, List}
 use Rattle.sw_app.specs.RouteAnswers.{IsRouteAnswer}
 use Rattle.sw_app.specs.VerdictAnswers.{IsDecideAnswer, IsReportAnswer}
 
@@ -21,9 +20,3 @@ abbrev pub ReportHasOneAnswer : Type 0
 ReportHasOneAnswer =
     (bytes text other : List ℕ) (status number : ℕ)
     → IsReportAnswer bytes text status → IsReportAnswer bytes other number → (text ≡ other) × (status ≡ number)
-
--- `replay` has one answer for each two files
-abbrev pub ReplayHasOneAnswer : Type 0
-ReplayHasOneAnswer =
-    (first second : Option (List ℕ)) (text other : List ℕ) (status number : ℕ)
-    → IsReplayAnswer first second text status → IsReplayAnswer first second other number → (text ≡ other) × (status ≡ number)

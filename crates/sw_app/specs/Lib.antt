@@ -4,8 +4,7 @@ pub mod RouteAnswers
 pub mod CheckTexts
 pub mod CheckAnswers
 pub mod Laws
+pub mod Kept
 pub mod VerdictAnswers
-pub mod ReplayTexts
-pub mod ReplayAnswers
 pub mod MigrateAnswers
 pub mod Samples

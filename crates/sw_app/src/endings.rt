@@ -8,7 +8,7 @@ use sw_command::{Answer, ByteAnswer, Ended, tell, tell_bytes, tell_memory};
 use sw_toml_table::FileFault;
 
 /// Writes an answer, or that memory was wanted.
-pub(crate) fn tell_answer<W: Write>(writer: &mut W, answer: Result<Answer, AllocError>) -> Ended
+pub fn tell_answer<W: Write>(writer: &mut W, answer: Result<Answer, AllocError>) -> Ended
     ensures { IsAnswerTold answer (W.contents writer.old) (W.contents writer.new) result }
 {
     match answer {
@@ -31,7 +31,11 @@ pub(crate) fn tell_byte_answer<W: Write>(
 }
 
 /// The answer to a text that was not read as a network, if it was not for want of memory.
-pub(crate) fn fault_answer(alloc: Global, fault: FileFault) -> Result<Answer, AllocError>
+///
+/// # Errors
+///
+/// There is no memory for it, or there was none for the network.
+pub fn fault_answer(alloc: Global, fault: FileFault) -> Result<Answer, AllocError>
     ensures { IfOk result (λ a. IsFaultAnswer fault (string_bytes a.text) a.status) }
 {
     match fault {

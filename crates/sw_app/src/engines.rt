@@ -2,12 +2,14 @@
 ghost use Rattle.std.specs.Prelude.{◌≡◌};
 ghost use Rattle.sw_app.specs.CheckAnswers.{ChecksDeadlockFree, IsCheckAnswer};
 ghost use Rattle.sw_command.specs.Ends.{AreReadInOrder, EndsBy, EndsByTwo};
+ghost use Rattle.sw_app.specs.Kept.{Keeping};
 ghost use Rattle.sw_app.specs.MigrateAnswers.{IsMigrateAnswer};
 ghost use Rattle.sw_app.specs.RouteAnswers.{IsRouteAnswer};
 ghost use Rattle.sw_app.specs.VerdictAnswers.{DecidesDeadlockFree, IsDecideAnswer, IsReportAnswer};
 
 use crate::check_answer::check_answer;
 use crate::endings::{tell_answer, tell_byte_answer};
+use crate::kept::EndedWith;
 use crate::migrate_answer::migrate_answer;
 use crate::route_answer::route_answer;
 use crate::verdict_answers::{decide_answer, report_answer};
@@ -61,11 +63,29 @@ pub fn decide<T: VerdictWorkers, R: Read, W: Write>(
     ensures answer { EndsBy IsDecideAnswer (R.remaining reader.old) (R.remaining reader.new) (W.contents writer.old) (W.contents writer.new) result }
     ensures deadlock_free { result ≡ Ended.Status 0 → DecidesDeadlockFree (R.remaining reader.old) (R.remaining reader.new) (W.contents writer.old) (W.contents writer.new) }
 {
+    decide_keeping(workers, alloc, reader, 0, writer).ended
+}
+
+/// The verdict as `decide` gives it, with the network, where its text has at most `most` bytes.
+pub fn decide_keeping<T: VerdictWorkers, R: Read, W: Write>(
+    workers: &T,
+    alloc: Global,
+    reader: &mut R,
+    most: usize,
+    writer: &mut W,
+) -> EndedWith
+    ensures answer { EndsBy (Keeping most result.network IsDecideAnswer) (R.remaining reader.old) (R.remaining reader.new) (W.contents writer.old) (W.contents writer.new) result.ended }
+    ensures deadlock_free { result.ended ≡ Ended.Status 0 → DecidesDeadlockFree (R.remaining reader.old) (R.remaining reader.new) (W.contents writer.old) (W.contents writer.new) }
+{
     let input = match read_whole(alloc, reader, MAX_TEXT) {
         Ok(input) => input,
-        Err(error) => return tell_unread(writer, error),
+        Err(error) => return EndedWith::without_network(tell_unread(writer, error)),
     };
-    tell_byte_answer(writer, decide_answer(workers, alloc, &input))
+    let (answer, network) = decide_answer(workers, alloc, &input, most);
+    EndedWith {
+        ended: tell_byte_answer(writer, answer),
+        network,
+    }
 }
 
 /// How many parts the network of a file has, and the verdict on it in one line, with status 0 whatever the verdict. The workers share
@@ -78,11 +98,28 @@ pub fn report<T: VerdictWorkers, R: Read, W: Write>(
 ) -> Ended
     ensures { EndsBy IsReportAnswer (R.remaining reader.old) (R.remaining reader.new) (W.contents writer.old) (W.contents writer.new) result }
 {
+    report_keeping(workers, alloc, reader, 0, writer).ended
+}
+
+/// The report as `report` gives it, with the network, where its text has at most `most` bytes.
+pub fn report_keeping<T: VerdictWorkers, R: Read, W: Write>(
+    workers: &T,
+    alloc: Global,
+    reader: &mut R,
+    most: usize,
+    writer: &mut W,
+) -> EndedWith
+    ensures { EndsBy (Keeping most result.network IsReportAnswer) (R.remaining reader.old) (R.remaining reader.new) (W.contents writer.old) (W.contents writer.new) result.ended }
+{
     let input = match read_whole(alloc, reader, MAX_TEXT) {
         Ok(input) => input,
-        Err(error) => return tell_unread(writer, error),
+        Err(error) => return EndedWith::without_network(tell_unread(writer, error)),
     };
-    tell_answer(writer, report_answer(workers, alloc, &input))
+    let (answer, network) = report_answer(workers, alloc, &input, most);
+    EndedWith {
+        ended: tell_answer(writer, answer),
+        network,
+    }
 }
 
 /// The network file of version 1 as one of version 2: with status 0 a text of version 2 that declares the same network.

@@ -1,5 +1,5 @@
 //! Laws of the definitions. Such a function does nothing: it is the proof of its clause.
-ghost use Rattle.sw_app.specs.Laws.{DecideHasOneAnswer, ReplayHasOneAnswer, ReportHasOneAnswer, RouteHasOneAnswer};
+ghost use Rattle.sw_app.specs.Laws.{DecideHasOneAnswer, ReportHasOneAnswer, RouteHasOneAnswer};
 
 /// `route` has one answer for each file and name: its text and its status.
 pub fn route_has_one_answer()
@@ -14,9 +14,4 @@ pub fn decide_has_one_answer()
 /// `report` has one answer for each file: its text and its status.
 pub fn report_has_one_answer()
     ensures { ReportHasOneAnswer }
-{}
-
-/// `replay` has one answer for each two files: its text and its status.
-pub fn replay_has_one_answer()
-    ensures { ReplayHasOneAnswer }
 {}

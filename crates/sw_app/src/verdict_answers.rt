@@ -1,9 +1,12 @@
 //! What `decide` and `report` answer.
-ghost use Rattle.std.specs.Prelude.{◌≡◌, IfOk, string_bytes};
+ghost use Rattle.std.specs.Prelude.{◌≡◌, IfOk, length, string_bytes};
+ghost use Rattle.sw_app.specs.Kept.{kept};
 ghost use Rattle.sw_app.specs.CheckAnswers.{AreShownDeadlockFree, IsShownDeadlockFree};
+ghost use Rattle.sw_app.specs.Endings.{IsFaultAnswer};
 ghost use Rattle.sw_app.specs.VerdictAnswers.{IsDecideAnswer, IsFindingsAnswer, IsReportAnswer, IsVerdictAnswer, SaysFindings};
 
 use crate::endings::fault_answer;
+use crate::kept::kept_network;
 use crate::verdict_texts::{verdict_status, verdict_text, verdict_words};
 use std::alloc::{AllocError, Global};
 use sw_command::statuses::GOOD;
@@ -12,6 +15,7 @@ use sw_config::Network;
 use sw_file::read_network;
 use sw_output::report_text;
 use sw_search::{Findings, VerdictWorkers, decide, survey};
+use sw_toml_table::FileFault;
 
 // The answer of `decide` to a network.
 fn verdict_answer<W: VerdictWorkers>(
@@ -30,22 +34,31 @@ fn verdict_answer<W: VerdictWorkers>(
     Ok(ByteAnswer { text, status })
 }
 
-/// The answer of `decide` to the bytes of a network file.
+// The answer to a text that was not read as a network, as bytes.
+fn fault_bytes(alloc: Global, fault: FileFault) -> Result<ByteAnswer, AllocError>
+    ensures { IfOk result (λ a. IsFaultAnswer fault a.text.items a.status) }
+{
+    let answer = fault_answer(alloc, fault)?;
+    Ok(answer.into_bytes())
+}
+
+/// The answer of `decide` to the bytes of a network file, and the network, if the bytes are at most `most`.
 pub(crate) fn decide_answer<W: VerdictWorkers>(
     workers: &W,
     alloc: Global,
     input: &[u8],
-) -> Result<ByteAnswer, AllocError>
-    ensures answer { IfOk result (λ a. IsDecideAnswer input.now a.text.items a.status) }
-    ensures deadlock_free { IfOk result (λ a. a.status ≡ 0 → AreShownDeadlockFree input.now a.text.items) }
+    most: usize,
+) -> (Result<ByteAnswer, AllocError>, Option<Network>)
+    ensures answer { IfOk result.0 (λ a. IsDecideAnswer input.now a.text.items a.status) }
+    ensures deadlock_free { IfOk result.0 (λ a. a.status ≡ 0 → AreShownDeadlockFree input.now a.text.items) }
+    ensures network { IfOk result.0 (λ _. result.1 ≡ kept most input.now) }
 {
     match read_network(alloc, input) {
         Ok(network) => {
             let answer = verdict_answer(workers, alloc, &network);
-            drop(network);
-            answer
+            (answer, kept_network(network, input.len(), most))
         }
-        Err(fault) => Ok(fault_answer(alloc, fault)?.into_bytes()),
+        Err(fault) => (fault_bytes(alloc, fault), None),
     }
 }
 
@@ -80,20 +93,21 @@ fn findings_answer<W: VerdictWorkers>(
     told_findings(alloc, network, &findings)
 }
 
-/// The answer of `report` to the bytes of a network file.
+/// The answer of `report` to the bytes of a network file, and the network, if the bytes are at most `most`.
 pub(crate) fn report_answer<W: VerdictWorkers>(
     workers: &W,
     alloc: Global,
     input: &[u8],
-) -> Result<Answer, AllocError>
-    ensures { IfOk result (λ a. IsReportAnswer input.now (string_bytes a.text) a.status) }
+    most: usize,
+) -> (Result<Answer, AllocError>, Option<Network>)
+    ensures answer { IfOk result.0 (λ a. IsReportAnswer input.now (string_bytes a.text) a.status) }
+    ensures network { IfOk result.0 (λ _. result.1 ≡ kept most input.now) }
 {
     match read_network(alloc, input) {
         Ok(network) => {
             let answer = findings_answer(workers, alloc, &network);
-            drop(network);
-            answer
+            (answer, kept_network(network, input.len(), most))
         }
-        Err(fault) => fault_answer(alloc, fault),
+        Err(fault) => (fault_answer(alloc, fault), None),
     }
 }

@@ -1,2 +1,4 @@
 mod Retold
 mod Filled
+pub mod ReplayReports
+pub mod OneReplay

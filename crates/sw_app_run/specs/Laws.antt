@@ -1,5 +1,5 @@
--- What a replay of a run's steps tells.
-use Rattle.std.specs.Prelude.{◌≡◌, ℕ, true, false, List, Ok, Some, length}
+-- What a replay tells: it is one answer, and that of a run's steps is the run's.
+use Rattle.std.specs.Prelude.{◌≡◌, ℕ, true, false, List, Ok, Option, Some, length}
 use Rattle.sw_config.specs.Entries.{Declaration}
 use Rattle.sw_file.specs.Network.{network_text}
 use Rattle.sw_load.specs.Load.{LoadEntry, load_text}
@@ -11,6 +11,7 @@ use Rattle.sw_run.specs.declared.outcome.Outcome.{Outcome}
 use Rattle.sw_run.specs.declared.outcome.Stop.TheVariants.{Drained, Stuck}
 use Rattle.sw_schedule.specs.Schedule.{steps_of_text}
 use Rattle.sw_schedule.specs.Runs.{readable_text}
+use Rattle.sw_app_run.specs.ReplayAnswers.{IsReplayAnswer}
 
 -- all steps are made; as much is undelivered, and the same packets came out, in their order; the network is locked up where the run was
 -- stuck, and is not where it was drained
@@ -31,3 +32,9 @@ abbrev pub SchedulesAreRetold : Type 0
 SchedulesAreRetold = (network_bytes load_bytes text : List ℕ) (d : Declaration) (load : List LoadEntry) (limit : ℕ) (o : Outcome)
     → network_text network_bytes ≡ Ok d → load_text d load_bytes ≡ Ok load → IsOutcome d load limit o → readable_text d (steps_of o) ≡ Some text
     → (steps_of_text d text ≡ Ok (steps_of o)) × ((r : Report) → IsReplayed d (steps_of o) r → TellsAs o r)
+
+-- `replay` has one answer for each two files
+abbrev pub ReplayHasOneAnswer : Type 0
+ReplayHasOneAnswer =
+    (first second : Option (List ℕ)) (text other : List ℕ) (status number : ℕ)
+    → IsReplayAnswer first second text status → IsReplayAnswer first second other number → (text ≡ other) × (status ≡ number)

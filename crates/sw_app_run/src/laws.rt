@@ -1,5 +1,5 @@
-//! What a replay of a run's steps tells. These functions do nothing: each is the proof of what its clause says.
-ghost use Rattle.sw_app_run.specs.Laws.{ReplaysAreAsTold, SchedulesAreRetold};
+//! What a replay tells. These functions do nothing: each is the proof of what its clause says.
+ghost use Rattle.sw_app_run.specs.Laws.{ReplayHasOneAnswer, ReplaysAreAsTold, SchedulesAreRetold};
 
 use sw_file::laws::{read_names_are_names, read_networks_are_valid};
 use sw_schedule::text_laws::{listed_are_short, schedules_are_read};
@@ -19,3 +19,8 @@ pub fn schedules_are_retold()
     listed_are_short();
     schedules_are_read();
 }
+
+/// `replay` has one answer for each two files: its text and its status.
+pub fn replay_has_one_answer()
+    ensures { ReplayHasOneAnswer }
+{}

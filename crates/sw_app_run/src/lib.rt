@@ -1,10 +1,13 @@
-//! The engine of `swcheck run`.
+//! The engines that make steps: of `swcheck run`, and of `swcheck replay`.
 #![tactic(auto)]
 
 mod engine;
 pub mod laws;
 mod record_answer;
 mod record_engine;
+mod replay_answer;
+mod replay_engine;
+mod replay_texts;
 mod run_answer;
 mod run_texts;
 mod summaries;
@@ -12,6 +15,8 @@ mod summaries;
 pub use engine::run;
 pub use record_answer::{Recorded, Wants, with_schedule};
 pub use record_engine::{RecordEnd, run_recorded, tell_recorded};
+pub use replay_engine::replay;
+pub use replay_texts::replay_status;
 pub use run_answer::Options;
 pub use run_texts::{stop_status, stop_word};
 pub use summaries::wanted_summary;

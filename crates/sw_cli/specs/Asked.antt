@@ -1,19 +1,13 @@
 -- What the words ask for besides the call (this project's choice).
-use Rattle.std.specs.Prelude.{ℕ, Bool, false, List, Option, Some, None, ◌==◌, ◌||◌, codes, if◌then◌else◌, option_map}
-use Rattle.std.specs.Str.{bytes_eq}
+use Rattle.std.specs.Prelude.{ℕ, Bool, false, List, Option, Some, None, ◌==◌, ◌||◌, if◌then◌else◌, option_map}
 use Rattle.sw_args.specs.declared.call.Call.{Call}
 use Rattle.sw_args.specs.declared.call.Call.TheVariants.{Route, Decide, Check, Report, Replay, Run, Migrate, Explain, Draw, Rmap, Mend, Margin, Witness, Audit, Init}
 use Rattle.sw_command.specs.declared.write_answer.Ended.{Ended}
 use Rattle.sw_command.specs.declared.write_answer.Ended.TheVariants.{Status, ReadFailed, WriteFailed}
 use Rattle.sw_cli.specs.declared.hints.Due.{Due}
 use Rattle.sw_cli.specs.declared.hints.Due.TheVariants.{Fault, Verdict, Unread, Unwritten, Nothing}
-use Rattle.sw_cli.specs.declared.asked.Hints.{Hints}
-use Rattle.sw_cli.specs.declared.asked.Hints.TheVariants.{Auto, Never}
-
--- what was given at `--hints`
-abbrev pub hints_of : Option (List ℕ) → Option Hints
-hints_of None = Some Auto
-hints_of (Some word) = if bytes_eq word (codes "auto") then Some Auto else if bytes_eq word (codes "never") then Some Never else None
+use Rattle.sw_calls.specs.declared.hints.Hints.{Hints}
+use Rattle.sw_calls.specs.declared.hints.Hints.TheVariants.{Auto, Never}
 
 -- the one network file that a call reads, if it reads one
 abbrev pub file_of : Call → Option (List ℕ)

@@ -1,32 +1,8 @@
-//! What a call asks for besides its answer, and the files that it names.
+//! The files and the flow that a call names.
 ghost use Rattle.std.specs.Prelude.{◌≡◌, option_map};
-ghost use Rattle.sw_cli.specs.Asked.{file_of, flow_of, hints_of, second_of};
+ghost use Rattle.sw_cli.specs.Asked.{file_of, flow_of, second_of};
 
 use sw_args::Call;
-
-/// Whether hints are wanted.
-#[derive(Clone, Copy)]
-pub(crate) enum Hints {
-    /// Where the network file has a fault.
-    Auto,
-    Never,
-}
-
-/// What was given at `--hints`: `auto`, as where it is left out, or `never`. There is no third.
-pub(crate) fn hints_of(given: Option<&str>) -> Option<Hints>
-    ensures { result ≡ hints_of (option_map (λ s. s.now) given.entry) }
-{
-    let Some(word) = given else {
-        return Some(Hints::Auto);
-    };
-    if word == "auto" {
-        return Some(Hints::Auto);
-    }
-    if word == "never" {
-        return Some(Hints::Never);
-    }
-    None
-}
 
 /// The one network file that a call reads, if it reads one.
 pub(crate) fn file_of<'a>(call: &Call<'a>) -> Option<&'a str>

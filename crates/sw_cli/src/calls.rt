@@ -1,60 +1,64 @@
 //! The call that the words ask for, on the files that they name.
-ghost use Rattle.std.specs.Prelude.{IfErr, IfNone, IfOk, IfSome, map};
-ghost use Rattle.sw_args.specs.CommandLine.{Gives, HasWorkers, Refuses};
-ghost use Rattle.sw_args.specs.declared.call.Asked.{Asked};
+ghost use Rattle.std.specs.Prelude.{IfNone, IfSome};
+ghost use Rattle.sw_args.specs.CommandLine.{HasWorkers};
 ghost use Rattle.sw_cli.specs.Accesses.{IsAccess, IsNoAccess};
 
-use crate::asked::hints_of;
 use crate::disk::{Disk, RELEASE};
-use crate::hints::hinted;
+use crate::hints::{MOST_EXPLAINED, hinted};
 use crate::json_calls::run_json;
 use crate::noted::{Made, Noted};
 use crate::recorded::{Extras, Shape, run_load};
-use crate::told::{no_access, no_hints, no_sample, told_end};
+use crate::told::no_access;
 use std::io::Write;
-use std::rt::Files;
+use std::rt::{Env, Files};
 use std::sync::Wait;
 use std::thread::Threads;
 use std::{fs, io};
-use sw_app::{check, decide, init, migrate, replay, report, route, sample_named};
+use sw_app::EndedWith;
 use sw_app_audit::audit;
 use sw_app_changes::{margin, mend};
 use sw_app_draw::{DrawOptions, draw};
 use sw_app_explain::explain;
 use sw_app_rmap::{Access, Request, rmap};
-use sw_app_run::Options;
+use sw_app_run::{Options, replay};
 use sw_app_witness::witness;
-use sw_args::{Asked, Call, WordsFault, words};
+use sw_args::{Asked, Call};
+use sw_calls::{
+    check_files, decide_file, given_call, given_texts, given_words, hints_of, migrate_file,
+    no_hints, report_file, route_file, told_end, write_sample,
+};
 use sw_command::Ended;
 use sw_search::VerdictWorkers;
 
-/// Makes the call that the words ask for, and tells how it ended; they begin with the program's name. An audit has its files from the host.
-///
-/// # Errors
-///
-/// `Help`: the words ask for help. `Refused`: something is wrong with them. Both have the text to print. `Memory`: there is no
-/// memory to read the words; this tells nothing of them. No call is made.
-pub fn run_words<
-    'a,
-    R: Files + Print + Eprint + AllocGlobal + Threads + Wait + Sync,
+/// Does what the words say that the program was given, and answers its status. `host` is the same as `rt`, by its own type:
+/// threads that read files want that, and an audit has its files from it.
+pub fn run_program<
+    R: Env + Files + Print + Eprint + AllocGlobal + Threads + Wait + Sync,
     C: VerdictWorkers,
->(rt: &R, workers: &C, host: &HostRuntime, given: &'a [&'a str]) -> Result<Ended, WordsFault>
-    ensures call { IfOk result (λ _. (asked : Asked) × Gives (map (λ s. s.now) given.entry.now) asked) }
-    ensures fault { IfErr result (Refuses (map (λ s. s.now) given.entry.now)) }
-{
-    match words(rt.alloc(), given) {
-        Ok(asked) => Ok(run_asked(rt, workers, host, asked)),
-        Err(fault) => Err(fault),
+>(rt: &R, workers: &C, host: &HostRuntime) -> u8 {
+    match run_given(rt, workers, host) {
+        Ok(ended) => ended.status(),
+        Err(status) => status,
     }
+}
+
+fn run_given<
+    R: Env + Files + Print + Eprint + AllocGlobal + Threads + Wait + Sync,
+    C: VerdictWorkers,
+>(rt: &R, workers: &C, host: &HostRuntime) -> Result<Ended, u8> {
+    let texts = given_texts(rt)?;
+    let words = given_words(rt, texts.as_slice())?;
+    let asked = given_call(rt, words.as_slice())?;
+    Ok(run_asked(rt, workers, host, &asked))
 }
 
 fn run_asked<R: Files + Print + Eprint + AllocGlobal + Threads + Wait + Sync, C: VerdictWorkers>(
     rt: &R,
     workers: &C,
     host: &HostRuntime,
-    asked: Asked<'_>,
+    asked: &Asked<'_>,
 ) -> Ended
-    requires { HasWorkers asked.call }
+    requires { HasWorkers asked.now.call }
 {
     let call = asked.call;
     match hints_of(asked.hints) {
@@ -77,10 +81,11 @@ fn run_call<'a, R: Files + Print + Eprint + AllocGlobal + Threads + Wait + Sync,
     requires { HasWorkers call }
 {
     let mut writer = Noted::new("standard output", io::writer(rt));
-    let ended = run_into(rt, workers, host, call, files, &mut writer);
+    let EndedWith { ended, network } = run_into(rt, workers, host, call, files, &mut writer);
     Made {
         ended,
         unwritten: writer.unwritten(),
+        network,
     }
 }
 
@@ -96,16 +101,16 @@ fn run_into<
     call: Call<'a>,
     files: &[&str],
     writer: &mut Noted<'a, W>,
-) -> Ended
+) -> EndedWith
     requires { HasWorkers call }
 {
     match run_json(rt, workers, host, call, writer) {
-        Some(ended) => ended,
+        Some(ended) => EndedWith::without_network(ended),
         None => run_text(rt, workers, host, call, files, writer),
     }
 }
 
-// The calls whose answer is a text, and audits.
+// The calls whose answer is a text, and audits. The network of a verdict is handed on, to be noted on.
 fn run_text<
     'a,
     R: Files + Eprint + AllocGlobal + Threads + Wait + Sync,
@@ -118,18 +123,18 @@ fn run_text<
     call: Call<'a>,
     files: &[&str],
     writer: &mut Noted<'a, W>,
-) -> Ended
+) -> EndedWith
     requires { HasWorkers call }
 {
-    match call {
-        Call::Route { file, flow, .. } => run_route(rt, file, flow, writer),
-        Call::Decide { file, .. } => run_decide(rt, workers, file, writer),
-        Call::Report { file, .. } => run_report(rt, workers, file, writer),
+    let ended = match call {
+        Call::Decide { file, .. } => return decide_file(rt, workers, file, MOST_EXPLAINED, writer),
+        Call::Report { file, .. } => return report_file(rt, workers, file, MOST_EXPLAINED, writer),
+        Call::Route { file, flow, .. } => route_file(rt, file, flow, writer),
         Call::Check {
             file,
             certificate,
             ..
-        } => run_check(rt, workers, file, certificate, writer),
+        } => check_files(rt, workers, file, certificate, writer),
         Call::Replay { file, schedule, .. } => run_replay(rt, file, schedule, writer),
         Call::Run {
             file,
@@ -157,7 +162,7 @@ fn run_text<
                 writer,
             )
         }
-        Call::Migrate { file } => run_migrate(rt, file, writer),
+        Call::Migrate { file } => migrate_file(rt, file, writer),
         Call::Explain { file, all, .. } => run_explain(rt, workers, file, all, writer),
         Call::Draw {
             file,
@@ -205,60 +210,9 @@ fn run_text<
             quiet,
             certificates,
         } => run_audit(rt, workers, host, files, json, quiet, certificates, writer),
-        Call::Init { name } => run_init(rt, name, writer),
-    }
-}
-
-fn run_route<R: Files + AllocGlobal, W: Write>(
-    rt: &R,
-    file: &str,
-    flow: &str,
-    writer: &mut W,
-) -> Ended {
-    let Ok(mut reader) = fs::open(rt, file) else {
-        return Ended::ReadFailed;
+        Call::Init { name } => write_sample(rt, name, writer),
     };
-    route(rt.alloc(), &mut reader, flow, writer)
-}
-
-fn run_decide<R: Files + AllocGlobal, C: VerdictWorkers, W: Write>(
-    rt: &R,
-    workers: &C,
-    file: &str,
-    writer: &mut W,
-) -> Ended {
-    let Ok(mut reader) = fs::open(rt, file) else {
-        return Ended::ReadFailed;
-    };
-    decide(workers, rt.alloc(), &mut reader, writer)
-}
-
-fn run_report<R: Files + AllocGlobal, C: VerdictWorkers, W: Write>(
-    rt: &R,
-    workers: &C,
-    file: &str,
-    writer: &mut W,
-) -> Ended {
-    let Ok(mut reader) = fs::open(rt, file) else {
-        return Ended::ReadFailed;
-    };
-    report(workers, rt.alloc(), &mut reader, writer)
-}
-
-fn run_check<R: Files + AllocGlobal, C: VerdictWorkers, W: Write>(
-    rt: &R,
-    workers: &C,
-    file: &str,
-    path: &str,
-    writer: &mut W,
-) -> Ended {
-    let Ok(mut network) = fs::open(rt, file) else {
-        return Ended::ReadFailed;
-    };
-    let Ok(mut certificate) = fs::open(rt, path) else {
-        return Ended::ReadFailed;
-    };
-    check(workers, rt.alloc(), &mut network, &mut certificate, writer)
+    EndedWith::without_network(ended)
 }
 
 fn run_replay<R: Files + AllocGlobal, W: Write>(
@@ -274,13 +228,6 @@ fn run_replay<R: Files + AllocGlobal, W: Write>(
         return Ended::ReadFailed;
     };
     replay(rt.alloc(), &mut network, &mut schedule, writer)
-}
-
-fn run_migrate<R: Files + AllocGlobal, W: Write>(rt: &R, file: &str, writer: &mut W) -> Ended {
-    let Ok(mut reader) = fs::open(rt, file) else {
-        return Ended::ReadFailed;
-    };
-    migrate(rt.alloc(), &mut reader, writer)
 }
 
 fn run_explain<R: Files + AllocGlobal, C: VerdictWorkers, W: Write>(
@@ -402,11 +349,4 @@ pub(crate) fn run_audit<R: Files + AllocGlobal + Threads + Sync, C: VerdictWorke
         folder: certificates.unwrap_or(""),
     };
     audit(rt, workers, rt.alloc(), &disk, files, &options, writer)
-}
-
-fn run_init<R: Eprint, W: Write>(rt: &R, name: Option<&str>, writer: &mut W) -> Ended {
-    match sample_named(name) {
-        Some(sample) => init(sample, writer),
-        None => no_sample(rt),
-    }
 }

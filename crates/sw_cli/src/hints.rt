@@ -3,17 +3,19 @@
 ghost use Rattle.std.specs.Prelude.{◌≡◌};
 ghost use Rattle.sw_cli.specs.Asked.{due_after, due_of};
 
-use crate::asked::{Hints, file_of, flow_of, second_of};
+use crate::asked::{file_of, flow_of, second_of};
 use crate::noted::Made;
-use crate::notes::{is_noted, noted_file, notes};
+use crate::notes::{is_noted, noted_file, notes, notes_on};
 use crate::told::tell_text;
 use crate::unread::{tell_unread, tell_unwritten};
 use std::fs;
 use std::rt::Files;
 use std::thread::Threads;
 use sw_args::Call;
+use sw_calls::Hints;
 use sw_command::statuses::{BAD, FAULTY, LOCKED_UP};
 use sw_command::{Ended, MAX_TEXT};
+use sw_config::Network;
 use sw_hints::network_hint;
 use sw_search::VerdictWorkers;
 use sw_step_hints::schedule_hint;
@@ -52,7 +54,7 @@ fn due_after(status: u8) -> Due
 }
 
 /// The longest texts, in bytes, of which a verdict is explained: what is told of a longer one would take as long as the call itself.
-const MOST_EXPLAINED: usize = 262_144;
+pub(crate) const MOST_EXPLAINED: usize = 262_144;
 
 // The text of a file of at most so many bytes, if it can be read once more: a pipe can't.
 fn text_of<R: Files + AllocGlobal>(rt: &R, file: &str, most: usize) -> Option<Vec<u8>> {
@@ -133,8 +135,15 @@ fn verdict_hint_of<R: Files + AllocGlobal, C: VerdictWorkers>(
     }
 }
 
-// What is to be noted on the network of a call.
-fn notes_of<R: Files + AllocGlobal>(rt: &R, call: &Call<'_>) -> Option<String> {
+// What is to be noted on the network of a call, which was handed on, or else is read once more.
+fn notes_of<R: Files + AllocGlobal>(
+    rt: &R,
+    call: &Call<'_>,
+    network: &Option<Network>,
+) -> Option<String> {
+    if let Some(network) = network {
+        return notes_on(rt.alloc(), network);
+    }
     let text = text_of(rt, noted_file(call)?, MOST_EXPLAINED)?;
     notes(rt, &text)
 }
@@ -179,7 +188,7 @@ pub(crate) fn hinted<R: Files + Eprint + AllocGlobal, C: VerdictWorkers>(
         Due::Nothing => {}
     }
     if is_noted(hints, made.ended) {
-        tell_text(rt, notes_of(rt, call));
+        tell_text(rt, notes_of(rt, call, &made.network));
     }
     made.ended
 }

@@ -9,10 +9,8 @@ mod hints;
 mod json_calls;
 mod noted;
 mod notes;
-mod program;
 mod recorded;
 mod told;
 mod unread;
 
-pub use calls::run_words;
-pub use program::run_program;
+pub use calls::run_program;

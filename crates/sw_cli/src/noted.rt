@@ -3,6 +3,7 @@ ghost use Rattle.std.specs.Prelude.{◌≡◌};
 
 use std::io::{self, ErrorKind, Write};
 use sw_command::Ended;
+use sw_config::Network;
 
 /// What could not be written, and why.
 #[derive(Clone, Copy)]
@@ -11,11 +12,12 @@ pub(crate) struct Unwritten<'a> {
     pub(crate) kind: ErrorKind,
 }
 
-/// How a call ended, and what could not be written, as far as that is known.
-#[derive(Clone, Copy)]
+/// How a call ended, what could not be written, as far as that is known, and the network to note on, if there is one.
+#[derive(Drop)]
 pub(crate) struct Made<'a> {
     pub(crate) ended: Ended,
     pub(crate) unwritten: Option<Unwritten<'a>>,
+    pub(crate) network: Option<Network>,
 }
 
 /// A writer to what goes by this name. It writes as the one in it does.

@@ -2,10 +2,10 @@
 ghost use Rattle.std.specs.Prelude.{◌≡◌};
 ghost use Rattle.sw_cli.specs.Asked.{is_noted};
 
-use crate::asked::Hints;
 use std::alloc::Global;
 use std::rt::Files;
 use sw_args::Call;
+use sw_calls::Hints;
 use sw_command::Ended;
 use sw_command::statuses::{BAD, GOOD};
 use sw_config::Network;
@@ -22,11 +22,10 @@ pub(crate) fn is_noted(hints: Hints, ended: Ended) -> bool
     }
 }
 
-/// The network file on which a call notes, if it does: in the object that `decide` gives the notes stand in it.
+/// The network file on which a call notes that hands no network on. In the object that `decide` gives the notes stand in it.
 pub(crate) fn noted_file<'a>(call: &Call<'a>) -> Option<&'a str> {
     match call {
-        Call::Decide { file, json } if !*json => Some(file),
-        Call::Report { file, .. } => Some(file),
+        Call::Report { file, json } if *json => Some(file),
         _ => None,
     }
 }
@@ -46,12 +45,13 @@ fn note_lines(alloc: Global, lints: &[String]) -> Option<String> {
     Some(lines)
 }
 
-fn notes_on(alloc: Global, network: &Network) -> Option<String> {
+/// A line for each note on the network. Nothing where there is no memory for it.
+pub(crate) fn notes_on(alloc: Global, network: &Network) -> Option<String> {
     let lints = lint_texts(alloc, network).ok()?;
     note_lines(alloc, &lints)
 }
 
-/// A line for each note on the network of a text. Nothing where the text is none, and where there is no memory for it.
+/// The same of the network of a text. Nothing where the text is none, and where there is no memory for it.
 pub(crate) fn notes<R: Files + AllocGlobal>(rt: &R, text: &[u8]) -> Option<String> {
     let network = read_network(rt.alloc(), text).ok()?;
     let told = notes_on(rt.alloc(), &network);

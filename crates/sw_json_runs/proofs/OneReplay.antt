@@ -1,7 +1,7 @@
 -- `replay` has one answer.
 use Rattle.std.proofs.Common.{List, [], ◌∷◌, ap, codes, sym, ℕ, ◌∙◌, ◌≡◌}
 use Rattle.std.specs.Prelude.{Err, Ok, Result}
-use Rattle.sw_app.specs.ReplayTexts.{replay_status}
+use Rattle.sw_app_run.specs.ReplayTexts.{replay_status}
 use Rattle.sw_config.specs.Entries.{Declaration}
 use Rattle.sw_machine.specs.Steps.{Step}
 use Rattle.sw_replay.proofs.OneReport.{replays_are_determined}

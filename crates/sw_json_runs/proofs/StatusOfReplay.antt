@@ -2,8 +2,8 @@
 use Rattle.std.proofs.Common.{List, ap, sym, ℕ, ◌∙◌, ◌≡◌}
 use Rattle.std.specs.Prelude.{Err, None, Ok, Option, Result, Some}
 use Rattle.serde_json.specs.Data.{Data}
-use Rattle.sw_app.specs.ReplayAnswers.{IsReplayAnswer, IsReplayOf, IsScheduleAnswer}
-use Rattle.sw_app.specs.ReplayTexts.{replay_status}
+use Rattle.sw_app_run.specs.ReplayAnswers.{IsReplayAnswer, IsReplayOf, IsScheduleAnswer}
+use Rattle.sw_app_run.specs.ReplayTexts.{replay_status}
 use Rattle.sw_config.specs.Entries.{Declaration}
 use Rattle.sw_file.specs.Network.{network_text}
 use Rattle.sw_machine.specs.Steps.{Step}

@@ -1,6 +1,6 @@
 -- Laws of what `replay` answers as an object of JSON.
 use Rattle.std.specs.Prelude.{ℕ, List, Option}
-use Rattle.sw_app.specs.ReplayAnswers.{IsReplayAnswer}
+use Rattle.sw_app_run.specs.ReplayAnswers.{IsReplayAnswer}
 use Rattle.sw_json.specs.declared.files.Release.{Release}
 use Rattle.sw_json_answers.specs.Laws.{AreOneButForFaults, HaveOneStatus}
 use Rattle.sw_json_runs.specs.ReplayAnswers.{IsReplayJson}

@@ -11,7 +11,7 @@ ghost use Rattle.sw_json_runs.specs.ReplayAnswers.{IsReplayResult, IsScheduleFil
 
 use crate::replay_values::replay_value;
 use std::alloc::{AllocError, Global};
-use sw_app::replay_status;
+use sw_app_run::replay_status;
 use sw_command::InputText;
 use sw_config::Network;
 use sw_file::read_network;

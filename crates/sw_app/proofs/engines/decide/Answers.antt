@@ -1,22 +1,8 @@
-use Rattle.std.proofs.Common.{ap, Err}
+use Rattle.sw_app.specs.Kept.{Keeping}
 use Rattle.sw_app.specs.VerdictAnswers.{IsDecideAnswer}
-use Rattle.sw_command.proofs.Endings.{told_unread}
-use Rattle.sw_app.proofs.ShownFree.{unread_not_zero}
-use Rattle.sw_app.proofs.Told.{accepted_written, answered_bytes}
+use Rattle.sw_app.proofs.Keeping.{wider}
 use Rattle.sw_app.proofs.engines.decide.Goals as goal
-
-pub returns-in-Err-clause-answer : goal.returns-in-Err-clause-answer
-returns-in-Err-clause-answer g c = told_unread IsDecideAnswer _ _ _ _ _ _ (λ long. c.in-Err.ensures.long (ap Err long)) c.tell_unread.ensures
-
-pub returns-in-Err-clause-deadlock_free : goal.returns-in-Err-clause-deadlock_free
-returns-in-Err-clause-deadlock_free g c = λ zero. absurd (unread_not_zero _ _ _ _ c.tell_unread.ensures zero)
 
 pub returns-clause-answer : goal.returns-clause-answer
 returns-clause-answer g c =
-    answered_bytes IsDecideAnswer _ _ _ _ _ c.deref.result.now c.decide_answer.result (rw c.deref.ensures.value c.in-Ok.ensures.given) c.in-Ok.ensures.end
-    (rw c.deref.ensures.value c.in-Ok.ensures.within) c.decide_answer.ensures.answer c.tell_byte_answer.ensures
-
-pub returns-clause-deadlock_free : goal.returns-clause-deadlock_free
-returns-clause-deadlock_free g c =
-    accepted_written _ _ _ _ c.deref.result.now c.decide_answer.result _ (rw c.deref.ensures.value c.in-Ok.ensures.given) c.in-Ok.ensures.end c.decide_answer.ensures.deadlock_free
-    c.tell_byte_answer.ensures
+    wider (Keeping 0 c.decide_keeping.result.network IsDecideAnswer) IsDecideAnswer (λ bytes text status both. both.0) _ _ _ _ _ c.decide_keeping.ensures.answer

@@ -1,13 +1,8 @@
-use Rattle.std.proofs.Common.{ap, Err}
+use Rattle.sw_app.specs.Kept.{Keeping}
 use Rattle.sw_app.specs.VerdictAnswers.{IsReportAnswer}
-use Rattle.sw_command.proofs.Endings.{told_unread}
-use Rattle.sw_app.proofs.Told.{answered}
+use Rattle.sw_app.proofs.Keeping.{wider}
 use Rattle.sw_app.proofs.engines.report.Goals as goal
-
-pub returns-in-Err : goal.returns-in-Err
-returns-in-Err g c = told_unread IsReportAnswer _ _ _ _ _ _ (λ long. c.in-Err.ensures.long (ap Err long)) c.tell_unread.ensures
 
 pub returns : goal.returns
 returns g c =
-    answered IsReportAnswer _ _ _ _ _ c.deref.result.now c.report_answer.result (rw c.deref.ensures.value c.in-Ok.ensures.given) c.in-Ok.ensures.end
-    (rw c.deref.ensures.value c.in-Ok.ensures.within) c.report_answer.ensures c.tell_answer.ensures
+    wider (Keeping 0 c.report_keeping.result.network IsReportAnswer) IsReportAnswer (λ bytes text status both. both.0) _ _ _ _ _ c.report_keeping.ensures

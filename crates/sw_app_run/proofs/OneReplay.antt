@@ -8,9 +8,9 @@ use Rattle.sw_replay.specs.Reports.{Report}
 use Rattle.sw_schedule.specs.Schedule.{steps_of_text}
 use Rattle.sw_toml_table.specs.declared.fault.TextFault.{TextFault}
 use Rattle.sw_command.specs.Ends.{Says}
-use Rattle.sw_app.specs.Laws.{ReplayHasOneAnswer}
-use Rattle.sw_app.specs.ReplayAnswers.{IsReplayOf, IsScheduleAnswer}
-use Rattle.sw_app.specs.ReplayTexts.{replay_status, replay_text}
+use Rattle.sw_app_run.specs.Laws.{ReplayHasOneAnswer}
+use Rattle.sw_app_run.specs.ReplayAnswers.{IsReplayOf, IsScheduleAnswer}
+use Rattle.sw_app_run.specs.ReplayTexts.{replay_status, replay_text}
 
 -- what is said once
 said : (a b t u : List ℕ) (m n s v : ℕ) → a ≡ b → m ≡ n → Says a m t s → Says b n u v → (t ≡ u) × (s ≡ v)

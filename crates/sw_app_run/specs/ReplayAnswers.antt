@@ -11,7 +11,7 @@ use Rattle.sw_toml_table.specs.declared.fault.TextFault.{TextFault}
 use Rattle.sw_command.specs.Ends.{Answers, IfLimited, Says}
 use Rattle.sw_command.specs.FaultTexts.{fault_text}
 use Rattle.sw_output.specs.Lines.{line}
-use Rattle.sw_app.specs.ReplayTexts.{replay_status, replay_text}
+use Rattle.sw_app_run.specs.ReplayTexts.{replay_status, replay_text}
 
 -- a schedule's first wrong line
 abbrev pub bad_line : ℕ → List ℕ

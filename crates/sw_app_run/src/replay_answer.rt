@@ -4,11 +4,11 @@ ghost use Rattle.sw_file.specs.Network.{network_text};
 ghost use Rattle.sw_schedule.specs.Schedule.{steps_of_text};
 ghost use Rattle.sw_command.specs.Ends.{IfLimited, Says};
 ghost use Rattle.sw_command.specs.Inputs.{given};
-ghost use Rattle.sw_app.specs.ReplayAnswers.{IsReplayAnswer, IsReplayOf, IsScheduleAnswer, bad_line};
+ghost use Rattle.sw_app_run.specs.ReplayAnswers.{IsReplayAnswer, IsReplayOf, IsScheduleAnswer, bad_line};
 
-use crate::endings::fault_answer;
 use crate::replay_texts::{replay_status, replay_text};
 use std::alloc::{AllocError, Global};
+use sw_app::fault_answer;
 use sw_command::statuses::FAULTY;
 use sw_command::{Answer, InputText};
 use sw_config::Network;

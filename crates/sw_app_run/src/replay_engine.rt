@@ -1,11 +1,11 @@
 //! The engine of `replay`.
 ghost use Rattle.sw_command.specs.Ends.{AreReadInOrder, EndsByTwo};
-ghost use Rattle.sw_app.specs.ReplayAnswers.{IsReplayAnswer};
+ghost use Rattle.sw_app_run.specs.ReplayAnswers.{IsReplayAnswer};
 
-use crate::endings::tell_answer;
 use crate::replay_answer::replay_answer;
 use std::alloc::Global;
 use std::io::{Read, Write};
+use sw_app::tell_answer;
 use sw_command::{Ended, read_two, tell_two_unread};
 
 /// What comes of the steps of the second text's schedule, made one after another on the network of the first text from its empty

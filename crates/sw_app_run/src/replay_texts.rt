@@ -1,7 +1,7 @@
 //! The text of `replay`.
 ghost use Rattle.std.specs.Prelude.{◌≡◌, IfOk, length, map, string_bytes};
 ghost use Rattle.sw_replay.specs.Reports.{report_of};
-ghost use Rattle.sw_app.specs.ReplayTexts.{made_line, refusal_text, replay_status, replay_text, state_lines, stuck_line};
+ghost use Rattle.sw_app_run.specs.ReplayTexts.{made_line, refusal_text, replay_status, replay_text, state_lines, stuck_line};
 
 use std::alloc::{AllocError, Global};
 use sw_command::statuses::{BAD, GOOD, LOCKED_UP};

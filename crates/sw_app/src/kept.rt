@@ -1,0 +1,32 @@
+//! The network that an engine hands on, so that who notes on it does not read it once more.
+ghost use Rattle.std.specs.Prelude.{◌≡◌, None, Some, if◌then◌else◌, nat_le};
+
+use sw_command::Ended;
+use sw_config::Network;
+
+/// How an engine ended, with the network that its text declares, if that was to be kept.
+#[derive(Drop)]
+pub struct EndedWith {
+    pub ended: Ended,
+    pub network: Option<Network>,
+}
+
+impl EndedWith {
+    /// The end of an engine that hands on no network.
+    pub fn without_network(ended: Ended) -> EndedWith
+        ensures ended { result.ended ≡ ended }
+        ensures network { result.network ≡ None }
+    {
+        EndedWith {
+            ended,
+            network: None,
+        }
+    }
+}
+
+/// The network of a text of so many bytes, if these are at most `most`.
+pub(crate) fn kept_network(network: Network, length: usize, most: usize) -> Option<Network>
+    ensures { result ≡ (if nat_le length most then Some network else None) }
+{
+    if length <= most { Some(network) } else { None }
+}

@@ -1,0 +1,3 @@
+pub mod Hints
+pub mod Given
+pub mod Files

@@ -1,0 +1,107 @@
+//! The calls of the engines of `sw_app` on files.
+ghost use Rattle.std.specs.Prelude.{◌≡◌, option_map};
+ghost use Rattle.sw_app.specs.CheckAnswers.{IsCheckAnswer};
+ghost use Rattle.sw_app.specs.Kept.{Keeping};
+ghost use Rattle.sw_app.specs.MigrateAnswers.{IsMigrateAnswer};
+ghost use Rattle.sw_app.specs.RouteAnswers.{IsRouteAnswer};
+ghost use Rattle.sw_app.specs.Samples.{sample_named};
+ghost use Rattle.sw_app.specs.VerdictAnswers.{IsDecideAnswer, IsReportAnswer};
+ghost use Rattle.sw_calls.specs.Files.{ChecksFilesDeadlockFree, DecidesFileDeadlockFree, EndsByFile, EndsBySample, EndsByFiles};
+
+use crate::told::no_sample;
+use std::fs;
+use std::io::Write;
+use std::rt::Files;
+use sw_app::{
+    EndedWith, check, decide_keeping, init, migrate, report_keeping, route, sample_named,
+};
+use sw_command::Ended;
+use sw_search::VerdictWorkers;
+
+/// The places of a flow of a network file.
+pub fn route_file<R: Files + AllocGlobal, W: Write>(
+    rt: &R,
+    file: &str,
+    flow: &str,
+    writer: &mut W,
+) -> Ended
+    ensures { EndsByFile (IsRouteAnswer flow.now) (W.contents writer.old) (W.contents writer.new) result }
+{
+    let Ok(mut reader) = fs::open(rt, file) else {
+        return Ended::ReadFailed;
+    };
+    route(rt.alloc(), &mut reader, flow, writer)
+}
+
+/// The verdict on a network file. The network is handed on where its text has at most `most` bytes.
+pub fn decide_file<R: Files + AllocGlobal, C: VerdictWorkers, W: Write>(
+    rt: &R,
+    workers: &C,
+    file: &str,
+    most: usize,
+    writer: &mut W,
+) -> EndedWith
+    ensures answer { EndsByFile (Keeping most result.network IsDecideAnswer) (W.contents writer.old) (W.contents writer.new) result.ended }
+    ensures deadlock_free { DecidesFileDeadlockFree (W.contents writer.old) (W.contents writer.new) result.ended }
+{
+    let Ok(mut reader) = fs::open(rt, file) else {
+        return EndedWith::without_network(Ended::ReadFailed);
+    };
+    decide_keeping(workers, rt.alloc(), &mut reader, most, writer)
+}
+
+/// How many parts the network of a file has, and the verdict on it. The network is handed on where its text has at most `most` bytes.
+pub fn report_file<R: Files + AllocGlobal, C: VerdictWorkers, W: Write>(
+    rt: &R,
+    workers: &C,
+    file: &str,
+    most: usize,
+    writer: &mut W,
+) -> EndedWith
+    ensures { EndsByFile (Keeping most result.network IsReportAnswer) (W.contents writer.old) (W.contents writer.new) result.ended }
+{
+    let Ok(mut reader) = fs::open(rt, file) else {
+        return EndedWith::without_network(Ended::ReadFailed);
+    };
+    report_keeping(workers, rt.alloc(), &mut reader, most, writer)
+}
+
+/// Whether the certificate of the second file is accepted for the network of the first.
+pub fn check_files<R: Files + AllocGlobal, C: VerdictWorkers, W: Write>(
+    rt: &R,
+    workers: &C,
+    file: &str,
+    path: &str,
+    writer: &mut W,
+) -> Ended
+    ensures answer { EndsByFiles IsCheckAnswer (W.contents writer.old) (W.contents writer.new) result }
+    ensures deadlock_free { ChecksFilesDeadlockFree result }
+{
+    let Ok(mut network) = fs::open(rt, file) else {
+        return Ended::ReadFailed;
+    };
+    let Ok(mut certificate) = fs::open(rt, path) else {
+        return Ended::ReadFailed;
+    };
+    check(workers, rt.alloc(), &mut network, &mut certificate, writer)
+}
+
+/// The network file of version 1 as one of version 2.
+pub fn migrate_file<R: Files + AllocGlobal, W: Write>(rt: &R, file: &str, writer: &mut W) -> Ended
+    ensures { EndsByFile IsMigrateAnswer (W.contents writer.old) (W.contents writer.new) result }
+{
+    let Ok(mut reader) = fs::open(rt, file) else {
+        return Ended::ReadFailed;
+    };
+    migrate(rt.alloc(), &mut reader, writer)
+}
+
+/// The sample of that name.
+pub fn write_sample<R: Eprint, W: Write>(rt: &R, name: Option<&str>, writer: &mut W) -> Ended
+    ensures { EndsBySample (sample_named (option_map (λ s. s.now) name.entry)) (W.contents writer.old) (W.contents writer.new) result }
+{
+    match sample_named(name) {
+        Some(sample) => init(sample, writer),
+        None => no_sample(rt),
+    }
+}

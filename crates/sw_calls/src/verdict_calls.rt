@@ -1,0 +1,87 @@
+//! The calls of the program that has the engines of `sw_app` alone.
+use crate::files::{check_files, decide_file, migrate_file, report_file, route_file, write_sample};
+use crate::given::{given_call, given_texts, given_words};
+use crate::hints::hints_of;
+use crate::told::{no_call, no_hints, told_end};
+use std::io::{self, Write};
+use std::rt::{Env, Files};
+use sw_args::{Asked, Call};
+use sw_command::Ended;
+use sw_search::VerdictWorkers;
+
+/// Does what the words say that the program was given, and answers its status: `route`, `decide`, `check`, `report`, `migrate` and `init` with a
+/// text as their answer. It gives no hints.
+pub fn run_verdicts<R: Env + Files + Print + Eprint + AllocGlobal, C: VerdictWorkers>(
+    rt: &R,
+    workers: &C,
+) -> u8 {
+    match run_given(rt, workers) {
+        Ok(ended) => ended.status(),
+        Err(status) => status,
+    }
+}
+
+fn run_given<R: Env + Files + Print + Eprint + AllocGlobal, C: VerdictWorkers>(
+    rt: &R,
+    workers: &C,
+) -> Result<Ended, u8> {
+    let texts = given_texts(rt)?;
+    let words = given_words(rt, texts.as_slice())?;
+    let asked = given_call(rt, words.as_slice())?;
+    Ok(run_asked(rt, workers, &asked))
+}
+
+fn run_asked<R: Files + Print + Eprint + AllocGlobal, C: VerdictWorkers>(
+    rt: &R,
+    workers: &C,
+    asked: &Asked<'_>,
+) -> Ended {
+    if hints_of(asked.hints).is_none() {
+        return no_hints(rt);
+    }
+    let mut writer = io::writer(rt);
+    told_end(rt, run_call(rt, workers, asked.call, &mut writer))
+}
+
+fn run_decide<R: Files + AllocGlobal, C: VerdictWorkers, W: Write>(
+    rt: &R,
+    workers: &C,
+    file: &str,
+    writer: &mut W,
+) -> Ended {
+    decide_file(rt, workers, file, 0, writer).ended
+}
+
+fn run_report<R: Files + AllocGlobal, C: VerdictWorkers, W: Write>(
+    rt: &R,
+    workers: &C,
+    file: &str,
+    writer: &mut W,
+) -> Ended {
+    report_file(rt, workers, file, 0, writer).ended
+}
+
+fn run_call<R: Files + Eprint + AllocGlobal, C: VerdictWorkers, W: Write>(
+    rt: &R,
+    workers: &C,
+    call: Call<'_>,
+    writer: &mut W,
+) -> Ended {
+    match call {
+        Call::Route {
+            file,
+            flow,
+            json: false,
+        } => route_file(rt, file, flow, writer),
+        Call::Decide { file, json: false } => run_decide(rt, workers, file, writer),
+        Call::Report { file, json: false } => run_report(rt, workers, file, writer),
+        Call::Check {
+            file,
+            certificate,
+            json: false,
+        } => check_files(rt, workers, file, certificate, writer),
+        Call::Migrate { file } => migrate_file(rt, file, writer),
+        Call::Init { name } => write_sample(rt, name, writer),
+        _ => no_call(rt),
+    }
+}
