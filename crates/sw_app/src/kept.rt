@@ -25,7 +25,7 @@ impl EndedWith {
 }
 
 /// The network of a text of so many bytes, if these are at most `most`.
-pub(crate) fn kept_network(network: Network, length: usize, most: usize) -> Option<Network>
+pub fn kept_network(network: Network, length: usize, most: usize) -> Option<Network>
     ensures { result ≡ (if nat_le length most then Some network else None) }
 {
     if length <= most { Some(network) } else { None }

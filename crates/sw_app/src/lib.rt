@@ -19,6 +19,6 @@ pub use check_texts::{grammar_words, refusal_words};
 pub use endings::{fault_answer, tell_answer};
 pub use engines::{check, decide, decide_keeping, migrate, report, report_keeping, route};
 pub use init_engine::init;
-pub use kept::EndedWith;
+pub use kept::{EndedWith, kept_network};
 pub use samples::{Sample, sample_named};
 pub use sw_command::{Ended, MAX_TEXT, fault_text};

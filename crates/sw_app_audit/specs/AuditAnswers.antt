@@ -12,7 +12,7 @@ use Rattle.sw_command.specs.declared.answer.Answer.{Answer}
 use Rattle.sw_command.specs.declared.write_answer.Ended.{Ended}
 use Rattle.sw_json.specs.FileValues.{audit_value}
 use Rattle.sw_json.specs.Texts.{ReadsBack}
-use Rattle.sw_json_answers.specs.Answering as objects
+use Rattle.sw_json.specs.Answering as objects
 
 -- for each path one finding, in their order; files are numbered from 1
 pub record AreFindings (options : Options) (gives : Giving) (keeps : Keeping) (paths : List (List ℕ)) (findings : List Finding) : Type 0 where

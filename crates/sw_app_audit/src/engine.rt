@@ -16,7 +16,7 @@ fn tell_want<W: Write>(writer: &mut W, json: bool) -> Ended
     ensures { IsWantTold json (W.contents writer.old) (W.contents writer.new) result }
 {
     if json {
-        sw_json_answers::tell_memory(writer)
+        sw_json::tell_memory(writer)
     } else {
         sw_command::tell_memory(writer)
     }

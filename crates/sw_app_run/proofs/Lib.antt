@@ -2,3 +2,4 @@ mod Retold
 mod Filled
 pub mod ReplayReports
 pub mod OneReplay
+mod WitnessAnswered

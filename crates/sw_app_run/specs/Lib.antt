@@ -5,3 +5,4 @@ pub mod Records
 pub mod ReplayTexts
 pub mod ReplayAnswers
 pub mod Laws
+pub mod WitnessAnswers

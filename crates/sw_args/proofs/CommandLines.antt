@@ -1,5 +1,6 @@
 -- What clap's matches say of the words.
-use Rattle.std.proofs.Common.{◌≡◌, ◌||◌, Bor, List, ℕ, [], Option, codes, refl, sym, ap, ◌∙◌, subst, true, false, inl, inr}
+use Rattle.std.proofs.Common.{◌≡◌, ◌||◌, ◌+◌, ◌<◌, Bor, List, ℕ, [], Option, codes, refl, sym, ap, ◌∙◌, subst, true, false, inl, inr, length, take, get_or}
+use Rattle.std.proofs.lemmas.List.Sums.{fold_more}
 use Rattle.std.specs.Prelude.{IfErr, IfOk, IfSome, Result, Ok, Err, Some, None}
 use Rattle.std.specs.Option.{unwrap_or}
 use Rattle.clap.specs.Built.{AddsArg, AddsSubcommand}
@@ -15,6 +16,7 @@ use Rattle.sw_args.specs.declared.call.Asked.{Asked}
 use Rattle.sw_args.specs.declared.call.Call.{Call}
 use Rattle.sw_args.specs.declared.call.WordsFault.{WordsFault}
 use Rattle.sw_args.specs.declared.call.WordsFault.TheVariants.{Help, Refused, Memory}
+use Rattle.sw_args.specs.Parts.{Part, part_rule, with_parts}
 use Rattle.sw_args.specs.CommandLine.{swcheck_app, AreAll, Gives, IsCallOf, IsMade, IsMet, IsOption, Refuses, ShowsKind, Tells}
 
 swcheck_simple : is_simple swcheck_app ≡ true
@@ -99,3 +101,10 @@ with_argument old arg new a r made is adds =
 -- a command with one more subcommand
 pub with_added : (old sub new : Command) (a b : App) → app_of old ≡ a → IsMade b sub → AddsSubcommand old sub new → app_of new ≡ with_subcommand a b.top
 with_added old sub new a b first second adds = adds.shape second.1 ∙ (λ i. with_subcommand (first i) (second.0 i).top)
+
+-- a command with one more part of its table
+pub with_one_part : (app : App) (parts : List Part) (i : ℕ) (d : Part) (old new : Command) (arg : Arg) → i < length parts → IsMade (with_parts app (take i parts)) old
+    → (rule_of arg ≡ part_rule (get_or parts i d)) × (arg.global ≡ false) → AddsArg old arg new → IsMade (with_parts app (take (i + 1) parts)) new
+with_one_part app parts i d old new arg within made is adds =
+    subst (λ (a : App). IsMade a new) (sym (fold_more (λ a part. with_rule a (part_rule part)) app parts i d within))
+    (with_argument old arg new (with_parts app (take i parts)) (part_rule (get_or parts i d)) made is adds)

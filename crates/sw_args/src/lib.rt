@@ -4,6 +4,7 @@
 mod call;
 mod command_line;
 mod matched;
+mod parts;
 mod release;
 mod values;
 

@@ -1,7 +1,7 @@
 -- Places with which nothing is wrong, as they are found beside the ports that are named there.
 use Rattle.std.proofs.Common.{◌≡◌, ◌↔◌, ◌≤◌, ◌++◌, ◌∷◌, [], ℕ, ◌+◌, inl, inr, List, length, get_or, Some, None, refl, sym, ap, ◌∙◌, subst, arith, All}
 use Rattle.std.specs.Prelude.{Bool, false, ◌&&◌, IsTrue, slice_get, true}
-use Rattle.std.proofs.lemmas.Bool.{and_from, cases_eq, cases_lt}
+use Rattle.std.proofs.lemmas.Bool.{and_from, and_parts, cases_eq, cases_lt}
 use Rattle.std.proofs.lemmas.List.{get_or_append_left, get_or_push, length-append}
 use Rattle.std.proofs.lemmas.List.Elements.{All-push, Contains-get_or}
 use Rattle.std.proofs.lemmas.Option.{same_Some}
@@ -38,18 +38,10 @@ routed_joined d low mid high a b i f from below at = elim (cases_lt i mid) [
   | inr le ↦ b i f le below at
 ]
 
-left_true : (a b : Bool) → (a && b) ≡ true → a ≡ true
-left_true true b e = refl
-left_true false b e = e
-
-right_true : (a b : Bool) → (a && b) ≡ true → b ≡ true
-right_true true b e = e
-right_true false b e = cc
-
 -- two answers, each exact, and the one for both
 pub both_exact : {A B C : Type 0} (a b : Bool) → IsTrue a ↔ A → IsTrue b ↔ B → ((A × B) ↔ C) → IsTrue (a && b) ↔ C
 both_exact a b of_a of_b of_both = (
-  λ e. of_both.0 (of_a.0 (left_true a b e), of_b.0 (right_true a b e)),
+  λ e. let parts = and_parts a b e in of_both.0 (of_a.0 parts.0, of_b.0 parts.1),
   λ c. let both = of_both.1 c in and_from a b (of_a.1 both.0) (of_b.1 both.1),
 )
 

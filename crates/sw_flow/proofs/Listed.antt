@@ -73,7 +73,3 @@ Contains-from_range n x h =
     let lt : h.0 < n = subst (λ (m : ℕ). h.0 < m) (length-range_with_len 0 n) h.1 in
     let e = get_or-range_with_len 0 n h.0 x lt in
     omega (arith, h.2)
-
-pub range_more : (n : ℕ) → range_with_len 0 (n + 1) ≡ range_with_len 0 n ++ n ∷ []
-range_more n =
-    sym (map-id (range_with_len 0 (n + 1))) ∙ map-range_with_len_more (λ x. x) 0 n n (omega arith) ∙ ap (λ (l : List ℕ). l ++ n ∷ []) (map-id (range_with_len 0 n))

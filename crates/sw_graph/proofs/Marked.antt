@@ -11,11 +11,11 @@ use Rattle.std.proofs.lemmas.List.Kept.{IsStrictlyIncreasing-filter}
 use Rattle.sw_graph.specs.Walks.{IsWalk, holds, marked}
 use Rattle.sw_graph.proofs.Numbers.{Contains-from_holds}
 use Rattle.sw_graph.proofs.Peels.{kept, kept_from}
-use Rattle.sw_graph.proofs.RelationSteps.{numbers_more}
+use Rattle.sw_parallel.proofs.Ranges.{range_more}
 
 -- one number more
 pub marked_more : (test : ℕ → Bool) (n : ℕ) → filter test (range_with_len 0 (n + 1)) ≡ filter test (range_with_len 0 n) ++ filter test (n ∷ [])
-marked_more test n = ap (filter test) (numbers_more n) ∙ filter-append test (range_with_len 0 n) (n ∷ [])
+marked_more test n = ap (filter test) (range_more n) ∙ filter-append test (range_with_len 0 n) (n ∷ [])
 
 range_rises : (n : ℕ) → IsStrictlyIncreasing (range_with_len 0 n)
 range_rises n k lt =

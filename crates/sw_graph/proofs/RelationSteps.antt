@@ -13,13 +13,6 @@ use Rattle.sw_graph.specs.Rows.{row, IsGraph, IsReversed, Leads}
 use Rattle.sw_graph.proofs.Listed.{row_member}
 use Rattle.sw_graph.proofs.Peels.{left_falls, rounds_more, later_listed, listed_cases, not_listed}
 
-on : (a n j : ℕ) → a + n ≡ j → range_with_len a (suc n) ≡ range_with_len a n ++ j ∷ []
-on a zero j e = let same : a ≡ j = omega arith in ap (λ k. k ∷ []) same
-on a (suc n) j e = ap (λ l. a ∷ l) (on (a + 1) n j (omega arith))
-
-pub numbers_more : (n : ℕ) → range_with_len 0 (n + 1) ≡ range_with_len 0 n ++ n ∷ []
-numbers_more n = let next : n + 1 ≡ suc n = omega arith in ap (range_with_len 0) next ∙ on 0 n n (omega arith)
-
 pub taken_more : (round e : ℕ) (xs levels levels2 : List ℕ) (done done2 : List Bool) → AreTaken round xs levels levels2 done done2 → e < length levels2 → e < length done2 → AreTaken round (xs ++ e ∷ []) levels (set levels2 e round) done (set done2 e true)
 taken_more round e xs levels levels2 done done2 t inside marked = record {
   taken = λ c h. elim (cases_eq c e) [

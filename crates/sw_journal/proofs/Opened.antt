@@ -3,7 +3,8 @@ use Rattle.std.proofs.Common.{Bool, IsTrue, cond, List, None, Option, Some, [], 
 use Rattle.atomic_table.specs.Seated.{TableId}
 use Rattle.atomic_table.specs.Table.{Me}
 use Rattle.std.proofs.lemmas.Bool.{eq-eqb}
-use Rattle.std.proofs.lemmas.List.{length-replicate}
+use Rattle.std.proofs.lemmas.List.{length-replicate, map-append}
+use Rattle.std.proofs.lemmas.List.FromFn.{map-range_with_len_more}
 use Rattle.std.proofs.lemmas.List.Elements.{filter-append}
 use Rattle.std.specs.List.{range_with_len}
 use Rattle.std.specs.Prelude.{slice_get}
@@ -15,6 +16,7 @@ use Rattle.sw_journal.proofs.Told.{is_same_cell}
 use Rattle.sw_journal.specs.Cells.{all_known, same_cell}
 use Rattle.sw_journal.specs.Opening.{numbered_of}
 use Rattle.sw_journal.specs.Record.{JournalView, IsKept}
+use Rattle.sw_parallel.proofs.Ranges.{range_more}
 use Rattle.sw_load.specs.History.{packets_at, packets_of}
 use Rattle.sw_load.specs.Load.{LoadEntry}
 use Rattle.sw_machine.specs.Network.{AtNode, AtSwitch, Cell, Network}
@@ -55,29 +57,15 @@ starts_there d w e p same at = ap cell_of (ap (λ (v : Wiring). slice_get v.ends
 
 -- ---- the link ends of a cell
 
-range_more : (a n : ℕ) → range_with_len a (suc n) ≡ range_with_len a n ++ (a + n) ∷ []
-range_more a zero = let same : a ≡ a + 0 = omega arith in ap (λ x. x ∷ []) same
-range_more a (suc n) = let same : a + 1 + n ≡ a + suc n = omega arith in ap (λ l. a ∷ l) (range_more (a + 1) n ∙ ap (λ x. range_with_len (a + 1) n ++ x ∷ []) same)
-
-pub next_number : (n : ℕ) → range_with_len 0 (n + 1) ≡ range_with_len 0 n ++ n ∷ []
-next_number n =
-    let one : n + 1 ≡ suc n = omega arith in
-    let same : 0 + n ≡ n = omega arith in
-    ap (range_with_len 0) one ∙ range_more 0 n ∙ ap (λ x. range_with_len 0 n ++ x ∷ []) same
-
-map_append : {A B : Type 0} (f : A → B) (xs ys : List A) → map f (xs ++ ys) ≡ map f xs ++ map f ys
-map_append f [] ys = refl
-map_append f (x ∷ xs) ys = ap (λ l. f x ∷ l) (map_append f xs ys)
-
 pub numbered_more : (net : Network) (s : State) (id : CellId) (n : ℕ) (before after : List (ℕ × Numbers)) → before ≡ numbered_of net s id (range_with_len 0 n) → after ≡ before ++ numbered_of net s id (n ∷ [])
     → after ≡ numbered_of net s id (range_with_len 0 (n + 1))
 numbered_more net s id n before after is next =
     let here : ℕ → Bool = λ e. same_cell (net.start_of e) (machine_cell id) in
     let f : ℕ → ℕ × Numbers = λ e. (e, numbers_at net s e) in
     next ∙ ap (λ l. l ++ numbered_of net s id (n ∷ [])) is
-    ∙ sym (map_append f (filter here (range_with_len 0 n)) (filter here (n ∷ [])))
+    ∙ sym (map-append f (filter here (range_with_len 0 n)) (filter here (n ∷ [])))
     ∙ ap (map f) (sym (filter-append here (range_with_len 0 n) (n ∷ [])))
-    ∙ ap (numbered_of net s id) (sym (next_number n))
+    ∙ ap (numbered_of net s id) (sym (range_more n))
 
 -- one that stands there
 pub numbered_one : (net : Network) (s : State) (id : CellId) (e : ℕ) (numbers : Numbers) (before after : List (ℕ × Numbers)) → same_cell (net.start_of e) (machine_cell id) ≡ true → numbers ≡ numbers_at net s e
@@ -87,7 +75,7 @@ numbered_one net s id e numbers before after here is next =
     next ∙ (λ i. before ++ (e, is i) ∷ []) ∙ ap (λ (b : Bool). before ++ map f (cond b (e ∷ []) [])) (sym here)
 
 pub ids_more : (f : ℕ → CellId) (n : ℕ) → map f (range_with_len 0 (n + 1)) ≡ map f (range_with_len 0 n) ++ f n ∷ []
-ids_more f n = ap (map f) (next_number n) ∙ map_append f (range_with_len 0 n) (n ∷ [])
+ids_more f n = map-range_with_len_more f 0 n n (omega arith)
 
 -- ---- the journal
 

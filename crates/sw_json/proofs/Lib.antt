@@ -1,3 +1,8 @@
 pub mod Plain
 pub mod PlainValues
 mod PairedValues
+pub mod Answered
+pub mod PlainAnswers
+pub mod OneResult
+pub mod OneVerdict
+mod Memory

@@ -6,3 +6,5 @@ pub mod FileValues
 pub mod AnswerValues
 pub mod Texts
 pub mod Plain
+pub mod Answering
+pub mod Laws

@@ -1,4 +1,5 @@
-//! What holds of the values. The functions do nothing: each is the proof of what its clause says.
+//! What holds of the values and the answers. The functions do nothing: each is the proof of what its clause says.
+ghost use Rattle.sw_json.specs.Laws.{MemoryReadsBack};
 ghost use Rattle.sw_json.specs.Plain.{AnswersArePlain, AuditsArePlain, EntriesArePlain, FaultsArePlain, FileFaultsArePlain, InputsArePlain, KindsArePlain, ListsArePlain, PlacesArePlain, PlainAtMore, VerdictsArePlain};
 
 /// A value of so many levels at most has no more than more.
@@ -54,4 +55,9 @@ pub fn file_faults_are_plain()
 /// So has that of an answer, where its inputs' and its result's have.
 pub fn answers_are_plain()
     ensures { AnswersArePlain }
+{}
+
+/// What is written for want of memory is the text of a value, and reads back as it.
+pub fn memory_reads_back()
+    ensures { MemoryReadsBack }
 {}

@@ -1,6 +1,7 @@
-//! Answers, verdicts, faults, files and places as values of JSON, and their text.
+//! Answers, verdicts, faults, files and places as values of JSON, and their text; and how the engines tell an answer round what they found.
 #![tactic(auto)]
 
+mod answering;
 mod answers;
 mod codes;
 mod cycles;
@@ -10,11 +11,16 @@ mod files;
 mod inputs;
 pub mod laws;
 mod lists;
+mod outcome;
 mod places;
 mod simple;
 mod texts;
 mod verdicts;
 
+pub use answering::{
+    answer_to_one, answer_to_two, file_fault, long_file, tell_answer, tell_memory, tell_unread,
+    unread_network,
+};
 pub use answers::{answer_value, file_fault_value};
 pub use codes::route_fault_code;
 pub use digests::digest_text;
@@ -22,6 +28,7 @@ pub use faults::{fault_value, long_value, schedule_fault_value, unknown_flow_val
 pub use files::{Release, audit_value, bare_entry, kind_value, read_entry};
 pub use inputs::{input_value, long_input};
 pub use lists::{flow_name_values, text_values};
+pub use outcome::Outcome;
 pub use places::{finish_text, misrouted_fault_value, place_value, place_values, start_text};
 pub use serde_json::Value;
 pub use simple::{count_or_null, text_or_null};

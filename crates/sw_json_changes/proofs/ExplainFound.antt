@@ -7,8 +7,8 @@ use Rattle.sw_app_explain.specs.ExplainTexts.{explain_status}
 use Rattle.sw_config.specs.Entries.{Declaration}
 use Rattle.sw_search.specs.Explanations.{IsExplanation}
 use Rattle.sw_search.specs.declared.explanation.Explanation.{Explanation}
-use Rattle.sw_json_answers.specs.Answering.{IsOutcome}
-use Rattle.sw_json_answers.specs.declared.outcome.Outcome.{Outcome}
+use Rattle.sw_json.specs.Answering.{IsOutcome}
+use Rattle.sw_json.specs.declared.outcome.Outcome.{Outcome}
 use Rattle.sw_json_changes.specs.ExplainJson.{IsExplained}
 use Rattle.sw_json_changes.specs.ExplainValues.{explain_value}
 

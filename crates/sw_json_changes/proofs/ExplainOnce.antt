@@ -29,9 +29,9 @@ use Rattle.sw_search.specs.Laws.{SomeMisrouted}
 use Rattle.sw_search.specs.Verdicts.{AllWellRouted, IsMisrouted}
 use Rattle.sw_search.specs.declared.verdict.Verdict.TheVariants as verdict
 use Rattle.sw_toml_table.specs.declared.fault.TextFault.{TextFault}
-use Rattle.sw_json_answers.proofs.OneResult.{AreOne, one_answer}
+use Rattle.sw_json.proofs.OneResult.{AreOne, one_answer}
 use Rattle.sw_json_changes.proofs.TanglesOnce.{one_tangles_value}
-use Rattle.sw_json_answers.specs.Answering.{OfNetwork, OfNetworkFile, read_value}
+use Rattle.sw_json.specs.Answering.{OfNetwork, OfNetworkFile, read_value}
 use Rattle.sw_json_changes.specs.ExplainJson.{IsExplained}
 use Rattle.sw_json_changes.specs.ExplainValues.{explain_value}
 use Rattle.sw_json_changes.specs.ExplainLaws.{ExplainHasOneAnswer, ExplainHasOneStatus, ExplainHasStatusOfText, HasNoFlowsAtTargets, TargetsHaveNoFlows}

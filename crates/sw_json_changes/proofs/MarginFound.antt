@@ -9,8 +9,8 @@ use Rattle.sw_margin.specs.Losses.{AreLosses}
 use Rattle.sw_margin.specs.declared.bend.Margins.{Margins}
 use Rattle.sw_search.specs.Verdicts.{IsVerdict}
 use Rattle.sw_search.specs.declared.verdict.Verdict.{Verdict}
-use Rattle.sw_json_answers.specs.Answering.{IsOutcome}
-use Rattle.sw_json_answers.specs.declared.outcome.Outcome.{Outcome}
+use Rattle.sw_json.specs.Answering.{IsOutcome}
+use Rattle.sw_json.specs.declared.outcome.Outcome.{Outcome}
 use Rattle.sw_json_changes.specs.MarginValues.{margins_value}
 use Rattle.sw_json_changes.specs.MarginJson.{IsBent, IsByVerdict, IsMarginFound}
 

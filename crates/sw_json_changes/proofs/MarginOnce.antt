@@ -19,9 +19,9 @@ use Rattle.sw_search.specs.Verdicts.{IsVerdict}
 use Rattle.sw_search.specs.declared.verdict.Verdict.{Verdict}
 use Rattle.sw_search.specs.declared.verdict.Verdict.TheVariants.{Misrouted, Cyclic, Free}
 use Rattle.sw_toml_table.specs.declared.fault.TextFault.{TextFault}
-use Rattle.sw_json_answers.proofs.OneResult.{AreOne, one_answer, one_of_network_file}
-use Rattle.sw_json_answers.proofs.OneVerdict.{one_verdict_value}
-use Rattle.sw_json_answers.specs.Answering.{OfNetwork, OfNetworkFile, read_value}
+use Rattle.sw_json.proofs.OneResult.{AreOne, one_answer, one_of_network_file}
+use Rattle.sw_json.proofs.OneVerdict.{one_verdict_value}
+use Rattle.sw_json.specs.Answering.{OfNetwork, OfNetworkFile, read_value}
 use Rattle.sw_json_changes.specs.MarginJson.{IsBent, IsByVerdict, IsMarginFound}
 use Rattle.sw_json_changes.specs.MarginLaws.{MarginHasOneAnswer, MarginHasStatusOfText}
 use Rattle.sw_json_changes.specs.MarginValues.{answered_value, loss_values, stall_value}

@@ -9,7 +9,7 @@ use Rattle.sw_mend.specs.declared.change.Pair.{Pair}
 use Rattle.sw_mend.specs.declared.change.Trial.{Trial}
 use Rattle.sw_search.specs.Verdicts.{IsVerdict}
 use Rattle.sw_search.specs.declared.verdict.Verdict.{Verdict}
-use Rattle.sw_json_answers.specs.declared.outcome.Outcome.{Outcome}
+use Rattle.sw_json.specs.declared.outcome.Outcome.{Outcome}
 use Rattle.sw_json_changes.specs.MendJson.{IsByVerdict, IsListedByPairs, IsMendFound, IsMended, IsMendedBy, IsPaired}
 
 pub mend_found : (pairs : Bool) (d : Declaration) (v : Verdict) (r : Result Outcome AllocError) → IsVerdict d v

@@ -11,7 +11,7 @@ use Rattle.sw_graph.specs.Rows.{row}
 use Rattle.sw_search.specs.Verdicts.{AllWellRouted}
 use Rattle.sw_json.specs.declared.files.Release.{Release}
 use Rattle.sw_json_changes.specs.ExplainJson.{IsExplainJson}
-use Rattle.sw_json_answers.specs.Laws.{AreOneButForFaults, HaveOneStatus}
+use Rattle.sw_json.specs.Laws.{AreOneButForFaults, HaveOneStatus}
 use Rattle.sw_json_changes.specs.ExplainValues.{explain_value}
 use Rattle.sw_search.specs.declared.explanation.Explanation.{Explanation}
 use Rattle.sw_json.specs.Plain.{IsPlain}

@@ -1,6 +1,6 @@
 -- What `margin --json` answers (this project's choice).
 use Rattle.std.specs.Prelude.{ℕ, List, codes}
-use Rattle.sw_json_answers.specs.Answering.{AnswersToOne, IsAnswerToOne, IsOutcome, OfNetworkFile, Results}
+use Rattle.sw_json.specs.Answering.{AnswersToOne, IsAnswerToOne, IsOutcome, OfNetworkFile, Results}
 use Rattle.sw_json_changes.specs.MarginValues.{margins_value}
 use Rattle.sw_config.specs.Entries.{Declaration}
 use Rattle.sw_json.specs.VerdictValues.{verdict_value}

@@ -3,7 +3,7 @@ use Rattle.std.specs.Prelude.{ℕ, List, Option}
 use Rattle.sw_app_changes.specs.MarginAnswers.{IsMarginAnswer}
 use Rattle.sw_command.specs.Ends.{IfLimited}
 use Rattle.sw_json.specs.declared.files.Release.{Release}
-use Rattle.sw_json_answers.specs.Laws.{AreOneButForFaults, HaveOneStatus}
+use Rattle.sw_json.specs.Laws.{AreOneButForFaults, HaveOneStatus}
 use Rattle.sw_json_changes.specs.MarginJson.{IsMarginJson}
 use Rattle.sw_json_changes.specs.MarginValues.{margins_value}
 use Rattle.sw_config.specs.Entries.{Declaration}

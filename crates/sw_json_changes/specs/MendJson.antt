@@ -1,6 +1,6 @@
 -- What `mend --json` answers (this project's choice).
 use Rattle.std.specs.Prelude.{Bool, true, false, ℕ, List, [], ◌∷◌, codes, map}
-use Rattle.sw_json_answers.specs.Answering.{AnswersToOne, IsAnswerToOne, IsOutcome, OfNetworkFile, Results}
+use Rattle.sw_json.specs.Answering.{AnswersToOne, IsAnswerToOne, IsOutcome, OfNetworkFile, Results}
 use Rattle.sw_json_changes.specs.MendValues.{mend_value, mends_value, pair_value}
 use Rattle.sw_app_changes.specs.MendTexts.{mends_status}
 use Rattle.sw_config.specs.Entries.{Declaration}

@@ -7,7 +7,7 @@ use Rattle.sw_config.specs.Entries.{Declaration}
 use Rattle.sw_json.specs.declared.files.Release.{Release}
 use Rattle.sw_mend.specs.declared.change.Pair.{Pair}
 use Rattle.sw_mend.specs.declared.change.Trial.{Trial}
-use Rattle.sw_json_answers.specs.Laws.{AreOneButForFaults, HaveOneStatus}
+use Rattle.sw_json.specs.Laws.{AreOneButForFaults, HaveOneStatus}
 use Rattle.sw_json_changes.specs.MendJson.{IsMendJson}
 use Rattle.sw_json_changes.specs.MendValues.{mend_value, mend_words, mends_value, pair_value, pair_words}
 use Rattle.sw_json.specs.Plain.{IsPlain}

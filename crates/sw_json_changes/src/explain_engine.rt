@@ -1,13 +1,12 @@
 //! The engine of `explain`.
-ghost use Rattle.sw_json_answers.specs.Answering.{EndsByOneFile};
+ghost use Rattle.sw_json.specs.Answering.{EndsByOneFile};
 ghost use Rattle.sw_json_changes.specs.ExplainJson.{IsExplainJson};
 
 use crate::explain_outcome::explain_outcome;
 use std::alloc::Global;
 use std::io::{Read, Write};
 use sw_command::{Ended, read_one};
-use sw_json::Release;
-use sw_json_answers::{answer_to_one, tell_answer, tell_unread};
+use sw_json::{Release, answer_to_one, tell_answer, tell_unread};
 use sw_search::VerdictWorkers;
 
 /// Why the network of a file can lock up, as an object of JSON: the first flow that is not well routed, with the places that its packets

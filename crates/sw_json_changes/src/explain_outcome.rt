@@ -5,7 +5,7 @@ ghost use Rattle.sw_app_explain.specs.ExplainTexts.{explain_status};
 ghost use Rattle.sw_command.specs.Inputs.{given};
 ghost use Rattle.sw_search.specs.Explanations.{IsExplanation};
 ghost use Rattle.sw_file.specs.Network.{network_text};
-ghost use Rattle.sw_json_answers.specs.Answering.{IsOutcome, OfNetwork, OfNetworkFile};
+ghost use Rattle.sw_json.specs.Answering.{IsOutcome, OfNetwork, OfNetworkFile};
 ghost use Rattle.sw_json_changes.specs.ExplainJson.{IsExplained};
 ghost use Rattle.sw_json_changes.specs.ExplainValues.{explain_value};
 
@@ -16,7 +16,7 @@ use sw_app_explain::explain_status;
 use sw_command::InputText;
 use sw_config::Network;
 use sw_file::read_network;
-use sw_json_answers::{Outcome, long_file, unread_network};
+use sw_json::{Outcome, long_file, unread_network};
 use sw_search::{Explanation, VerdictWorkers, explain};
 
 // What is told of a network.

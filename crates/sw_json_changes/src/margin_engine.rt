@@ -1,13 +1,12 @@
 //! The engine of `margin`.
-ghost use Rattle.sw_json_answers.specs.Answering.{EndsByOneFile};
+ghost use Rattle.sw_json.specs.Answering.{EndsByOneFile};
 ghost use Rattle.sw_json_changes.specs.MarginJson.{IsMarginJson};
 
 use crate::margin_outcome::margin_outcome;
 use std::alloc::Global;
 use std::io::{Read, Write};
 use sw_command::{Ended, read_one};
-use sw_json::Release;
-use sw_json_answers::{answer_to_one, tell_answer, tell_unread};
+use sw_json::{Release, answer_to_one, tell_answer, tell_unread};
 use sw_search::VerdictWorkers;
 
 /// How far the premises of the free network of a file bend, as an object of JSON: of each node that answers nothing and of each flow

@@ -4,7 +4,7 @@ ghost use Rattle.serde_json.specs.View.{view};
 ghost use Rattle.sw_command.specs.Inputs.{given};
 ghost use Rattle.sw_file.specs.Network.{network_text};
 ghost use Rattle.sw_search.specs.Verdicts.{IsVerdict};
-ghost use Rattle.sw_json_answers.specs.Answering.{IsOutcome, OfNetwork, OfNetworkFile};
+ghost use Rattle.sw_json.specs.Answering.{IsOutcome, OfNetwork, OfNetworkFile};
 ghost use Rattle.sw_json_changes.specs.MarginJson.{IsBent, IsByVerdict, IsMarginFound};
 ghost use Rattle.sw_json_changes.specs.MarginValues.{margins_value};
 
@@ -16,7 +16,7 @@ use sw_command::InputText;
 use sw_command::statuses::GOOD;
 use sw_config::Network;
 use sw_file::read_network;
-use sw_json_answers::{Outcome, long_file, unread_network};
+use sw_json::{Outcome, long_file, unread_network};
 use sw_margin::{Margins, margins};
 use sw_search::{Verdict, VerdictWorkers, decide};
 

@@ -1,13 +1,12 @@
 //! The engine of `mend`.
-ghost use Rattle.sw_json_answers.specs.Answering.{EndsByOneFile};
+ghost use Rattle.sw_json.specs.Answering.{EndsByOneFile};
 ghost use Rattle.sw_json_changes.specs.MendJson.{IsMendJson};
 
 use crate::mend_outcome::mend_outcome;
 use std::alloc::Global;
 use std::io::{Read, Write};
 use sw_command::{Ended, read_one};
-use sw_json::Release;
-use sw_json_answers::{answer_to_one, tell_answer, tell_unread};
+use sw_json::{Release, answer_to_one, tell_answer, tell_unread};
 use sw_search::VerdictWorkers;
 
 /// Which single changes make the network of a file free of deadlocks, as an object of JSON, each change with its line of `mend`: 0 where

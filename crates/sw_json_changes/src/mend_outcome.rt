@@ -4,7 +4,7 @@ ghost use Rattle.serde_json.specs.View.{view};
 ghost use Rattle.sw_command.specs.Inputs.{given};
 ghost use Rattle.sw_file.specs.Network.{network_text};
 ghost use Rattle.sw_search.specs.Verdicts.{IsVerdict};
-ghost use Rattle.sw_json_answers.specs.Answering.{OfNetwork, OfNetworkFile};
+ghost use Rattle.sw_json.specs.Answering.{OfNetwork, OfNetworkFile};
 ghost use Rattle.sw_json_changes.specs.MendJson.{IsByVerdict, IsListed, IsListedByPairs, IsMendFound, IsMended, IsMendedBy, IsPaired};
 
 use crate::mend_laws::mends_are_plain;
@@ -16,7 +16,7 @@ use sw_command::InputText;
 use sw_command::statuses::BAD;
 use sw_config::Network;
 use sw_file::read_network;
-use sw_json_answers::{Outcome, long_file, unread_network};
+use sw_json::{Outcome, long_file, unread_network};
 use sw_mend::{Pair, Trial, mends, pair_mends};
 use sw_search::{Verdict, VerdictWorkers, decide};
 

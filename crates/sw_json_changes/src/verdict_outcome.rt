@@ -4,14 +4,13 @@ ghost use Rattle.serde_json.specs.View.{view};
 ghost use Rattle.sw_json.specs.FileValues.{kind_value};
 ghost use Rattle.sw_json.specs.VerdictValues.{certificate_bytes, verdict_value};
 ghost use Rattle.sw_search.specs.Verdicts.{IsVerdict};
-ghost use Rattle.sw_json_answers.specs.Answering.{IsOutcome};
+ghost use Rattle.sw_json.specs.Answering.{IsOutcome};
 
 use std::alloc::{AllocError, Global};
 use sw_command::statuses::GOOD;
 use sw_config::Network;
 use sw_json::laws::{kinds_are_plain, verdicts_are_plain};
-use sw_json::{kind_value, verdict_value};
-use sw_json_answers::Outcome;
+use sw_json::{Outcome, kind_value, verdict_value};
 use sw_search::Verdict;
 
 /// A verdict that has no certificate, with this status.

@@ -7,8 +7,8 @@ use Rattle.sw_machine.specs.Steps.{Step}
 use Rattle.sw_replay.proofs.OneReport.{replays_are_determined}
 use Rattle.sw_replay.specs.Reports.{Report}
 use Rattle.sw_schedule.specs.Schedule.{steps_of_text}
-use Rattle.sw_json_answers.proofs.OneResult.{AreOne, one_answer, one_of_file, one_of_network_file, one_outcome}
-use Rattle.sw_json_answers.specs.Answering.{read_value}
+use Rattle.sw_json.proofs.OneResult.{AreOne, one_answer, one_of_file, one_of_network_file, one_outcome}
+use Rattle.sw_json.specs.Answering.{read_value}
 use Rattle.sw_json_runs.specs.ReplayAnswers.{IsReplayResult, IsScheduleFileResult, IsScheduleResult, IsStepsResult}
 use Rattle.sw_json_runs.specs.ReplayLaws.{ReplayHasOneAnswer}
 use Rattle.sw_json_runs.specs.ReplayValues.{replay_value}

@@ -17,8 +17,8 @@ use Rattle.sw_json.specs.declared.files.Release.{Release}
 use Rattle.sw_load.specs.Load.{LoadEntry, load_text}
 use Rattle.sw_run.specs.declared.outcome.Outcome.{Outcome}
 use Rattle.sw_toml_table.specs.declared.fault.TextFault.{TextFault}
-use Rattle.sw_json_answers.proofs.Answered.{told_two}
-use Rattle.sw_json_answers.specs.Answering.{EndsByTwoFiles, IsAnswer, IsFaultyFile, IsLongFile, OfFile, OfNetwork, Results, memory_text, read_value}
+use Rattle.sw_json.proofs.Answered.{told_two}
+use Rattle.sw_json.specs.Answering.{EndsByTwoFiles, IsAnswer, IsFaultyFile, IsLongFile, OfFile, OfNetwork, Results, memory_text, read_value}
 use Rattle.sw_json_runs.specs.RunAnswers.{IsLoadResult, IsOutcomeResult, IsResultOf, IsRunJson, IsRunResult}
 use Rattle.sw_json_runs.specs.RunRecords.{Answering, EndsRecorded, IsFault, IsFilesRecord, IsLoadFileRecord, IsLoadRecord, IsNetworkRecord, IsRecordOf, IsUnrecorded}
 

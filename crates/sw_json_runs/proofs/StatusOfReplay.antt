@@ -11,7 +11,7 @@ use Rattle.sw_replay.proofs.OneReport.{replays_are_determined}
 use Rattle.sw_replay.specs.Reports.{Report}
 use Rattle.sw_schedule.specs.Schedule.{steps_of_text}
 use Rattle.sw_toml_table.specs.declared.fault.TextFault.{TextFault}
-use Rattle.sw_json_answers.specs.Answering.{OfNetwork}
+use Rattle.sw_json.specs.Answering.{OfNetwork}
 use Rattle.sw_json_runs.specs.ReplayAnswers.{IsReplayResult, IsScheduleFileResult, IsScheduleResult}
 use Rattle.sw_json_runs.specs.ReplayLaws.{ReplayHasStatusOfText}
 

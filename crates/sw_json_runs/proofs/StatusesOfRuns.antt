@@ -10,7 +10,7 @@ use Rattle.sw_file.specs.Network.{network_text}
 use Rattle.sw_load.specs.Load.{LoadEntry, load_text}
 use Rattle.sw_output.specs.Lines.{line}
 use Rattle.sw_toml_table.specs.declared.fault.TextFault.{TextFault}
-use Rattle.sw_json_answers.specs.Answering.{OfFile, OfNetwork}
+use Rattle.sw_json.specs.Answering.{OfFile, OfNetwork}
 use Rattle.sw_json_runs.specs.RunAnswers.{IsLoadResult, IsRunResult}
 use Rattle.sw_json_runs.specs.RunLaws.{RunHasStatusesOfTexts}
 

@@ -10,7 +10,7 @@ use Rattle.sw_machine.specs.Steps.{Step}
 use Rattle.sw_replay.specs.Replays.{IsReplayed}
 use Rattle.sw_replay.specs.Reports.{Report}
 use Rattle.sw_schedule.specs.Schedule.{steps_of_text}
-use Rattle.sw_json_answers.specs.Answering.{IsAnswerToTwo, IsOutcome, OfFile, OfNetworkFile, Results}
+use Rattle.sw_json.specs.Answering.{IsAnswerToTwo, IsOutcome, OfFile, OfNetworkFile, Results}
 use Rattle.sw_json_runs.specs.ReplayValues.{replay_value}
 
 -- of these steps: what is so of the state that they lead to

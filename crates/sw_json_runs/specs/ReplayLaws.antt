@@ -2,7 +2,7 @@
 use Rattle.std.specs.Prelude.{ℕ, List, Option}
 use Rattle.sw_app_run.specs.ReplayAnswers.{IsReplayAnswer}
 use Rattle.sw_json.specs.declared.files.Release.{Release}
-use Rattle.sw_json_answers.specs.Laws.{AreOneButForFaults, HaveOneStatus}
+use Rattle.sw_json.specs.Laws.{AreOneButForFaults, HaveOneStatus}
 use Rattle.sw_json_runs.specs.ReplayAnswers.{IsReplayJson}
 
 -- `replay` has one answer for each two files and paths

@@ -8,7 +8,7 @@ use Rattle.sw_load.specs.Load.{LoadEntry, load_text}
 use Rattle.sw_run.specs.Outcomes.{IsOutcome as IsRunOutcome}
 use Rattle.sw_run.specs.declared.outcome.Outcome.{Outcome}
 use Rattle.sw_toml_table.specs.declared.fault.TextFault.{TextFault}
-use Rattle.sw_json_answers.specs.Answering.{IsAnswerToTwo, IsFaultyFile, IsOutcome, OfFile, OfNetworkFile, Results}
+use Rattle.sw_json.specs.Answering.{IsAnswerToTwo, IsFaultyFile, IsOutcome, OfFile, OfNetworkFile, Results}
 use Rattle.sw_json_runs.specs.RunValues.{run_value}
 
 -- what stands for this outcome, with its status

@@ -18,7 +18,7 @@ use Rattle.sw_load.specs.Load.{LoadEntry, load_text}
 use Rattle.sw_run.specs.Outcomes.{IsOutcome as IsRunOutcome}
 use Rattle.sw_run.specs.declared.outcome.Outcome.{Outcome}
 use Rattle.sw_toml_table.specs.declared.fault.TextFault.{TextFault}
-use Rattle.sw_json_answers.specs.Answering.{IsAnswer, IsFaultyFile, IsLongFile, IsMemoryTold, Results, read_value}
+use Rattle.sw_json.specs.Answering.{IsAnswer, IsFaultyFile, IsLongFile, IsMemoryTold, Results, read_value}
 use Rattle.sw_json_runs.specs.RunAnswers.{IsResultOf}
 
 -- how a result is answered

@@ -6,7 +6,7 @@ ghost use Rattle.sw_file.specs.Network.{network_text};
 ghost use Rattle.sw_json.specs.AnswerValues.{file_fault_value};
 ghost use Rattle.sw_json.specs.FaultValues.{schedule_fault_value};
 ghost use Rattle.sw_schedule.specs.Schedule.{steps_of_text};
-ghost use Rattle.sw_json_answers.specs.Answering.{IsOutcome, OfNetwork};
+ghost use Rattle.sw_json.specs.Answering.{IsOutcome, OfNetwork};
 ghost use Rattle.sw_json_runs.specs.ReplayAnswers.{IsReplayResult, IsScheduleFileResult, IsScheduleResult, IsStepsResult};
 
 use crate::replay_values::replay_value;
@@ -16,8 +16,7 @@ use sw_command::InputText;
 use sw_config::Network;
 use sw_file::read_network;
 use sw_json::laws::faults_are_plain;
-use sw_json::schedule_fault_value;
-use sw_json_answers::{Outcome, file_fault, long_file, unread_network};
+use sw_json::{Outcome, file_fault, long_file, schedule_fault_value, unread_network};
 use sw_replay::replay;
 use sw_schedule::{Schedule, ScheduleFault, read_steps};
 

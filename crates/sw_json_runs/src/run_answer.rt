@@ -5,7 +5,7 @@ ghost use Rattle.sw_command.specs.Inputs.{given};
 ghost use Rattle.sw_file.specs.Network.{network_text};
 ghost use Rattle.sw_load.specs.Laws.{AreDeclared};
 ghost use Rattle.sw_load.specs.Load.{load_text};
-ghost use Rattle.sw_json_answers.specs.Answering.{IsOutcome};
+ghost use Rattle.sw_json.specs.Answering.{IsOutcome};
 ghost use Rattle.sw_json_runs.specs.RunAnswers.{IsResultOf};
 ghost use Rattle.sw_json_runs.specs.RunCalls.{IsCallRecord, answers_of};
 ghost use Rattle.sw_json_runs.specs.RunRecords.{IsFault, IsLoadFileRecord, IsLoadRecord, IsNetworkRecord, IsOutcomeRecord, IsRecordOf};
@@ -18,8 +18,7 @@ use sw_app_run::{Options, Recorded, Wants, stop_status, wanted_summary, with_sch
 use sw_command::{Answer, InputText};
 use sw_config::Network;
 use sw_file::read_network;
-use sw_json::Release;
-use sw_json_answers::{Outcome, answer_to_two, long_file, unread_network};
+use sw_json::{Outcome, Release, answer_to_two, long_file, unread_network};
 use sw_load::laws::listed_are_declared;
 use sw_load::{Load, read_load};
 use sw_parallel::OneByOne;

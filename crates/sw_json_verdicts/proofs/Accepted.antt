@@ -25,7 +25,7 @@ use Rattle.sw_file.specs.Network.{network_text}
 use Rattle.sw_file.proofs.Valid.{read_networks_are_valid}
 use Rattle.sw_json.specs.declared.files.Release.{Release}
 use Rattle.sw_toml_table.specs.declared.fault.TextFault.{TextFault}
-use Rattle.sw_json_answers.specs.Answering.{IsAnswerTold, IsMemoryTold, IsUnreadTold, OfFile, OfNetwork, memory_text}
+use Rattle.sw_json.specs.Answering.{IsAnswerTold, IsMemoryTold, IsUnreadTold, OfFile, OfNetwork, memory_text}
 use Rattle.sw_json_verdicts.specs.CheckResults.{IsCertificateResult, IsCheckJson, IsCheckResult, IsJudgement}
 
 -- ---- a result with status 0

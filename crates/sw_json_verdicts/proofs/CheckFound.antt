@@ -3,8 +3,8 @@ use Rattle.std.proofs.Common.{◌≡◌, ◌∙◌, ℕ, List}
 use Rattle.std.specs.Prelude.{Err, IfOk, Ok, Result}
 use Rattle.std.specs.declared.alloc.AllocError.{AllocError}
 use Rattle.serde_json.specs.View.{view}
-use Rattle.sw_json_answers.specs.Answering.{IsOutcome}
-use Rattle.sw_json_answers.specs.declared.outcome.Outcome.{Outcome}
+use Rattle.sw_json.specs.Answering.{IsOutcome}
+use Rattle.sw_json.specs.declared.outcome.Outcome.{Outcome}
 use Rattle.sw_json_verdicts.specs.CheckResults.{Reason, refused_value}
 
 -- the result for these parts and this text, where they are known

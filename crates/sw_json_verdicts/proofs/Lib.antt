@@ -2,6 +2,7 @@ mod Plain
 mod RouteFound
 mod CheckFound
 mod ReportFound
+mod Kept
 mod OneAnswer
 mod Statuses
 mod Accepted

@@ -14,13 +14,13 @@ use Rattle.sw_flow.specs.declared.place.Place.{Place}
 use Rattle.sw_flow.proofs.Sorted.{same_places}
 use Rattle.sw_search.specs.Findings.{AreFindings}
 use Rattle.sw_search.specs.declared.verdict.Findings.{Findings}
-use Rattle.sw_json_answers.specs.Answering.{OfFile, OfNetworkFile, read_value}
+use Rattle.sw_json.specs.Answering.{OfFile, OfNetworkFile, read_value}
 use Rattle.sw_json_verdicts.specs.CheckResults.{IsCertificateResult, IsCheckResult, IsJudgement}
 use Rattle.sw_json_verdicts.specs.Laws.{CheckHasOneAnswer, ReportHasOneAnswer, RouteHasOneAnswer}
 use Rattle.sw_json_verdicts.specs.ReportResults.{IsFindingsResult, found_value, report_value}
 use Rattle.sw_json_verdicts.specs.RouteResults.{IsFlowResult, IsFoundResult, IsNamedResult, route_value}
-use Rattle.sw_json_answers.proofs.OneResult.{AreOne, one_answer, one_of_file, one_of_network_file, one_outcome}
-use Rattle.sw_json_answers.proofs.OneVerdict.{one_verdict_value}
+use Rattle.sw_json.proofs.OneResult.{AreOne, one_answer, one_of_file, one_of_network_file, one_outcome}
+use Rattle.sw_json.proofs.OneVerdict.{one_verdict_value}
 
 -- ---- `route`
 

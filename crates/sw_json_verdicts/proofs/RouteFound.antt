@@ -17,8 +17,8 @@ use Rattle.sw_flow.specs.Faults.{first_fault_of}
 use Rattle.sw_flow.specs.Places.{IsPlaceList, IsPlacesOf}
 use Rattle.sw_json.specs.AnswerValues.{file_fault_value}
 use Rattle.sw_json.specs.FaultValues.{unknown_flow_value}
-use Rattle.sw_json_answers.specs.Answering.{IsOutcome}
-use Rattle.sw_json_answers.specs.declared.outcome.Outcome.{Outcome}
+use Rattle.sw_json.specs.Answering.{IsOutcome}
+use Rattle.sw_json.specs.declared.outcome.Outcome.{Outcome}
 use Rattle.sw_json_verdicts.specs.RouteResults.{IsFlowResult, IsFoundResult, IsNamedResult, told_route}
 
 -- the result of the i-th flow's list of places, with its first fault

@@ -18,7 +18,7 @@ use Rattle.sw_flow.specs.Faults.{first_fault_of}
 use Rattle.sw_flow.specs.declared.place.Place.{Place}
 use Rattle.sw_flow.proofs.Sorted.{same_places}
 use Rattle.sw_toml_table.specs.declared.fault.TextFault.{TextFault}
-use Rattle.sw_json_answers.specs.Answering.{OfFile, OfNetwork, OfNetworkFile}
+use Rattle.sw_json.specs.Answering.{OfFile, OfNetwork, OfNetworkFile}
 use Rattle.sw_json_verdicts.specs.CheckResults.{IsCertificateResult, IsCheckResult, IsJudgement}
 use Rattle.sw_json_verdicts.specs.Laws.{HaveStatusesOfTexts}
 use Rattle.sw_json_verdicts.specs.ReportResults.{IsFindingsResult}

@@ -15,7 +15,7 @@ use Rattle.sw_json.specs.PlaceValues.{route_fault_code}
 use Rattle.sw_json.specs.Simple.{count_or_null, text_or_null}
 use Rattle.sw_json.specs.declared.files.Release.{Release}
 use Rattle.sw_output.specs.FlowTexts.{flow_name}
-use Rattle.sw_json_answers.specs.Answering.{IsAnswerToTwo, IsOutcome, OfFile, OfNetworkFile, Results}
+use Rattle.sw_json.specs.Answering.{IsAnswerToTwo, IsOutcome, OfFile, OfNetworkFile, Results}
 
 -- A reason to refuse a certificate, in its parts: its code, the wrong line, the flow, a channel of it and how many address bytes are
 -- deleted there, the channel that depends on that one, and the code of the place's fault. A part that a reason lacks is None.

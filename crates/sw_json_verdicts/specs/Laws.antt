@@ -5,7 +5,7 @@ use Rattle.sw_app.specs.RouteAnswers.{IsRouteAnswer}
 use Rattle.sw_app.specs.VerdictAnswers.{IsReportAnswer}
 use Rattle.sw_command.specs.Ends.{IfLimited}
 use Rattle.sw_json.specs.declared.files.Release.{Release}
-use Rattle.sw_json_answers.specs.Laws.{AreOneButForFaults, HaveOneStatus}
+use Rattle.sw_json.specs.Laws.{AreOneButForFaults, HaveOneStatus}
 use Rattle.sw_json_verdicts.specs.CheckResults.{IsCheckJson}
 use Rattle.sw_json_verdicts.specs.ReportResults.{IsReportJson}
 use Rattle.sw_json_verdicts.specs.RouteResults.{IsRouteJson}

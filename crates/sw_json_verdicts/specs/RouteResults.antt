@@ -13,7 +13,7 @@ use Rattle.sw_json.specs.AnswerValues.{file_fault_value}
 use Rattle.sw_json.specs.FaultValues.{unknown_flow_value}
 use Rattle.sw_json.specs.PlaceValues.{misrouted_fault_value, place_value}
 use Rattle.sw_json.specs.declared.files.Release.{Release}
-use Rattle.sw_json_answers.specs.Answering.{AnswersToOne, IsAnswerToOne, IsOutcome, OfNetworkFile, Results}
+use Rattle.sw_json.specs.Answering.{AnswersToOne, IsAnswerToOne, IsOutcome, OfNetworkFile, Results}
 
 -- a place with its fault, or null where no place has one
 abbrev pub fault_or_null : Option (Place × RouteFault) → Data

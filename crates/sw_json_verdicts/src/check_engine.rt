@@ -9,7 +9,7 @@ ghost use Rattle.sw_command.specs.Ends.{AreReadInOrder};
 ghost use Rattle.sw_command.specs.Inputs.{given};
 ghost use Rattle.sw_json.specs.FileValues.{kind_value};
 ghost use Rattle.sw_json.specs.Simple.{text_or_null};
-ghost use Rattle.sw_json_answers.specs.Answering.{EndsByTwoFiles, IsOutcome, OfFile};
+ghost use Rattle.sw_json.specs.Answering.{EndsByTwoFiles, IsOutcome, OfFile};
 ghost use Rattle.sw_json_verdicts.specs.CheckResults.{IsCertificateResult, IsCheckJson, IsCheckResult, IsJudgement, grammar_reason, reason_of, refused_value};
 ghost use Rattle.sw_json_verdicts.specs.Reasons.{parts_view};
 
@@ -26,9 +26,9 @@ use sw_command::{Ended, InputText, read_two};
 use sw_config::Network;
 use sw_file::read_network;
 use sw_json::laws::kinds_are_plain;
-use sw_json::{Release, Value, count_or_null, kind_value};
-use sw_json_answers::{
-    Outcome, answer_to_two, long_file, tell_answer, tell_unread, unread_network,
+use sw_json::{
+    Outcome, Release, Value, answer_to_two, count_or_null, kind_value, long_file, tell_answer,
+    tell_unread, unread_network,
 };
 use sw_search::VerdictWorkers;
 

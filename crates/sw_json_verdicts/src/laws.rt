@@ -1,5 +1,5 @@
 //! Laws of the definitions. Such a function does nothing: it is the proof of its clause.
-ghost use Rattle.sw_json_answers.specs.Laws.{MemoryReadsBack};
+ghost use Rattle.sw_json.specs.Laws.{MemoryReadsBack};
 ghost use Rattle.sw_json_verdicts.specs.Laws.{CheckHasOneAnswer, HaveStatusesOfTexts, ReportHasOneAnswer, RouteHasOneAnswer};
 ghost use Rattle.sw_json_verdicts.specs.Plain.{RefusalsArePlain, ReportsArePlain, RoutesArePlain};
 

@@ -8,5 +8,5 @@ mod report_engine;
 mod route_engine;
 
 pub use check_engine::check;
-pub use report_engine::report;
+pub use report_engine::{report, report_keeping};
 pub use route_engine::route;

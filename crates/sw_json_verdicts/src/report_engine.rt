@@ -5,20 +5,22 @@ ghost use Rattle.sw_command.specs.Inputs.{given};
 ghost use Rattle.sw_file.specs.Network.{network_text};
 ghost use Rattle.sw_json.specs.VerdictValues.{certificate_bytes, verdict_value};
 ghost use Rattle.sw_search.specs.Verdicts.{IsVerdict};
-ghost use Rattle.sw_json_answers.specs.Answering.{EndsByOneFile, IsOutcome, OfNetwork, OfNetworkFile};
-ghost use Rattle.sw_json_verdicts.specs.ReportResults.{IsFindingsResult, IsReportJson, found_value, report_value};
+ghost use Rattle.sw_json.specs.Answering.{EndsByOneFile, IsOutcome, OfNetwork, OfNetworkFile};
+ghost use Rattle.sw_app.specs.Kept.{kept};
+ghost use Rattle.sw_json_verdicts.specs.ReportResults.{IsFindingsResult, IsReportJson, KeepingOne, found_value, kept_of, report_value};
 
 use crate::laws::reports_are_plain;
 use serde_json::json;
 use std::alloc::{AllocError, Global};
 use std::io::{Read, Write};
+use sw_app::{EndedWith, kept_network};
 use sw_command::statuses::GOOD;
 use sw_command::{Ended, InputText, read_one};
 use sw_config::Network;
 use sw_file::read_network;
-use sw_json::{Release, Value, verdict_value};
-use sw_json_answers::{
-    Outcome, answer_to_one, long_file, tell_answer, tell_unread, unread_network,
+use sw_json::{
+    Outcome, Release, Value, answer_to_one, long_file, tell_answer, tell_unread, unread_network,
+    verdict_value,
 };
 use sw_search::{Findings, Verdict, VerdictWorkers, survey};
 
@@ -94,37 +96,40 @@ fn network_outcome<T: VerdictWorkers>(
     findings_outcome(alloc, network, &findings)
 }
 
-// The result for the bytes of a network file.
+// The result for the bytes of a network file, and the network, if the bytes are at most `most`.
 fn text_outcome<T: VerdictWorkers>(
     workers: &T,
     alloc: Global,
     path: &str,
     text: &[u8],
-) -> Result<Outcome, AllocError>
-    ensures { IfOk result (λ o. OfNetwork path.now text.now IsFindingsResult (network_text text.now) (view o.result) o.status) }
+    most: usize,
+) -> (Result<Outcome, AllocError>, Option<Network>)
+    ensures found { IfOk result.0 (λ o. OfNetwork path.now text.now IsFindingsResult (network_text text.now) (view o.result) o.status) }
+    ensures network { IfOk result.0 (λ _. result.1 ≡ kept most text.now) }
 {
     match read_network(alloc, text) {
         Ok(network) => {
             let found = network_outcome(workers, alloc, &network);
-            drop(network);
-            found
+            (found, kept_network(network, text.len(), most))
         }
-        Err(fault) => unread_network(alloc, path, text, fault),
+        Err(fault) => (unread_network(alloc, path, text, fault), None),
     }
 }
 
-// The result for a network file.
+// The result for a network file, and the network, if the bytes are at most `most`.
 fn report_outcome<T: VerdictWorkers>(
     workers: &T,
     alloc: Global,
     path: &str,
     text: &InputText,
-) -> Result<Outcome, AllocError>
-    ensures { IfOk result (λ o. OfNetworkFile path.now IsFindingsResult (given text.now) (view o.result) o.status) }
+    most: usize,
+) -> (Result<Outcome, AllocError>, Option<Network>)
+    ensures found { IfOk result.0 (λ o. OfNetworkFile path.now IsFindingsResult (given text.now) (view o.result) o.status) }
+    ensures network { IfOk result.0 (λ _. result.1 ≡ kept_of most (given text.now)) }
 {
     match text {
-        InputText::Whole(text) => text_outcome(workers, alloc, path, text),
-        InputText::TooLong => long_file(alloc, path),
+        InputText::Whole(text) => text_outcome(workers, alloc, path, text, most),
+        InputText::TooLong => (long_file(alloc, path), None),
     }
 }
 
@@ -140,13 +145,29 @@ pub fn report<T: VerdictWorkers, R: Read, W: Write>(
 ) -> Ended
     ensures { EndsByOneFile (IsReportJson path.now release.entry) (R.remaining reader.old) (R.remaining reader.new) (W.contents writer.old) (W.contents writer.new) result }
 {
+    report_keeping(workers, alloc, reader, path, release, 0, writer).ended
+}
+
+/// The object that `report` tells, with the network, where its text has at most `most` bytes.
+pub fn report_keeping<T: VerdictWorkers, R: Read, W: Write>(
+    workers: &T,
+    alloc: Global,
+    reader: &mut R,
+    path: &str,
+    release: Release<'_>,
+    most: usize,
+    writer: &mut W,
+) -> EndedWith
+    ensures { EndsByOneFile (KeepingOne most result.network (IsReportJson path.now release.entry)) (R.remaining reader.old) (R.remaining reader.new) (W.contents writer.old) (W.contents writer.new) result.ended }
+{
     let text = match read_one(alloc, reader) {
         Ok(text) => text,
-        Err(error) => return tell_unread(writer, error),
+        Err(error) => return EndedWith::without_network(tell_unread(writer, error)),
     };
-    let found = report_outcome(workers, alloc, path, &text);
-    tell_answer(
-        writer,
-        answer_to_one(alloc, "report", release, path, &text, found),
-    )
+    let (found, network) = report_outcome(workers, alloc, path, &text, most);
+    let answer = answer_to_one(alloc, "report", release, path, &text, found);
+    EndedWith {
+        ended: tell_answer(writer, answer),
+        network,
+    }
 }

@@ -5,7 +5,7 @@ ghost use Rattle.sw_command.specs.Inputs.{given};
 ghost use Rattle.sw_config.specs.Entries.{all_flows, wiring_of};
 ghost use Rattle.sw_file.specs.Network.{network_text};
 ghost use Rattle.sw_app.specs.RouteTexts.{outcome_status};
-ghost use Rattle.sw_json_answers.specs.Answering.{EndsByOneFile, OfNetwork, OfNetworkFile};
+ghost use Rattle.sw_json.specs.Answering.{EndsByOneFile, OfNetwork, OfNetworkFile};
 ghost use Rattle.sw_json_verdicts.specs.RouteResults.{IsFlowResult, IsNamedResult, IsRouteJson, fault_or_null, route_kind, told_route};
 
 use crate::laws::routes_are_plain;
@@ -18,9 +18,9 @@ use sw_config::{Flow, Network};
 use sw_file::read_network;
 use sw_flow::{Place, RouteFault, first_fault, places};
 use sw_json::laws::faults_are_plain;
-use sw_json::{Release, Value, misrouted_fault_value, place_values, unknown_flow_value};
-use sw_json_answers::{
-    Outcome, answer_to_one, file_fault, long_file, tell_answer, tell_unread, unread_network,
+use sw_json::{
+    Outcome, Release, Value, answer_to_one, file_fault, long_file, misrouted_fault_value,
+    place_values, tell_answer, tell_unread, unknown_flow_value, unread_network,
 };
 
 // A place with its fault, or null where there is none.

@@ -7,7 +7,8 @@ use Rattle.std.proofs.lemmas.List.Sums.{fold_push}
 use Rattle.std.proofs.lemmas.Option.{get_or_from_slice_get, slice_get_within}
 use Rattle.sw_topo.specs.Checked.{first_of}
 use Rattle.sw_route.specs.declared.look.Route.{Route}
-use Rattle.sw_flow.proofs.Listed.{Contains-head, Contains-later, range_more}
+use Rattle.sw_flow.proofs.Listed.{Contains-head, Contains-later}
+use Rattle.sw_parallel.proofs.Ranges.{range_from_more, range_more}
 use Rattle.sw_lint.specs.declared.lint.Lint.{Lint}
 use Rattle.sw_lint.specs.Lints.{first_made, made_of}
 
@@ -85,9 +86,6 @@ range_split a (suc n) m =
     let f : a + 1 + n ≡ a + suc n = omega arith in
     ap (range_with_len a) e ∙ ap (λ l. a ∷ l) (range_split (a + 1) n m ∙ ap (λ k. range_with_len (a + 1) n ++ range_with_len k m) f)
 
-range_one_more : (a n : ℕ) → range_with_len a (n + 1) ≡ range_with_len a n ++ (a + n) ∷ []
-range_one_more a n = range_split a n 1
-
 -- the number a + step stands there
 range_around : (a step count : ℕ) → step < count → range_with_len a count ≡ range_with_len a step ++ (a + step) ∷ range_with_len (a + step + 1) (count - (step + 1))
 range_around a step count lt =
@@ -113,7 +111,7 @@ any_here f a count step lt is =
 
 pub none_here : (f : ℕ → Bool) (a step : ℕ) → list_any f (range_with_len a step) ≡ false → f (a + step) ≡ false → list_any f (range_with_len a (step + 1)) ≡ false
 none_here f a step before is =
-    ap (list_any f) (range_one_more a step) ∙ any_append f (range_with_len a step) ((a + step) ∷ []) ∙ ap₂ (λ b c. b || (c || false)) before is
+    ap (list_any f) (range_from_more a step (a + step) refl) ∙ any_append f (range_with_len a step) ((a + step) ∷ []) ∙ ap₂ (λ b c. b || (c || false)) before is
 
 made_append : {B : Type 0} (f : ℕ → Option B) (xs ys : List ℕ) → first_made f (xs ++ ys) ≡ first_of (first_made f xs) (first_made f ys)
 made_append f [] ys = refl
@@ -130,7 +128,7 @@ first_here f a count step x lt before is =
 
 pub none_made : {B : Type 0} (f : ℕ → Option B) (a step : ℕ) → first_made f (range_with_len a step) ≡ None → f (a + step) ≡ None → first_made f (range_with_len a (step + 1)) ≡ None
 none_made f a step before is =
-    ap (first_made f) (range_one_more a step) ∙ made_append f (range_with_len a step) ((a + step) ∷ []) ∙ ap₂ (λ o p. first_of o (first_of p None)) before is
+    ap (first_made f) (range_from_more a step (a + step) refl) ∙ made_append f (range_with_len a step) ((a + step) ∷ []) ∙ ap₂ (λ o p. first_of o (first_of p None)) before is
 
 -- ---- folds
 

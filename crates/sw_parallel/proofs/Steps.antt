@@ -2,15 +2,8 @@
 use Rattle.std.proofs.Common.{◌≡◌, ℕ, zero, suc, ◌+◌, ◌-◌, ◌<◌, ◌≤◌, Bool, true, false, List, [], ◌∷◌, ◌++◌, length, drop, Option, Some, None, refl, sym, ap, ◌∙◌, subst, arith, get_or}
 use Rattle.std.specs.List.{AllZip, range_with_len}
 use Rattle.rayon.proofs.ListFacts.{AllZip-append}
+use Rattle.sw_parallel.proofs.Ranges.{range_more}
 use Rattle.sw_parallel.specs.Found.{AreKept, IsFirstFound}
-
-on : (a n j : ℕ) → a + n ≡ j → range_with_len a (suc n) ≡ range_with_len a n ++ j ∷ []
-on a zero j e = let same : a ≡ j = omega arith in ap (λ k. k ∷ []) same
-on a (suc n) j e = ap (λ l. a ∷ l) (on (a + 1) n j (omega arith))
-
--- one number more
-range_more : (n : ℕ) → range_with_len 0 (n + 1) ≡ range_with_len 0 n ++ n ∷ []
-range_more n = let next : n + 1 ≡ suc n = omega arith in ap (range_with_len 0) next ∙ on 0 n n (omega arith)
 
 pub made_more : {X : Type 0} (R : ℕ → X → Type 0) (n : ℕ) (xs : List X) (x : X) → AllZip R (range_with_len 0 n) xs → R n x → AllZip R (range_with_len 0 (n + 1)) (xs ++ x ∷ [])
 made_more R n xs x all here = subst (λ (l : List ℕ). AllZip R l (xs ++ x ∷ [])) (sym (range_more n)) (AllZip-append R (range_with_len 0 n) (n ∷ []) xs (x ∷ []) all (here, tt))

@@ -9,6 +9,7 @@ use Rattle.std.proofs.lemmas.List.{map_push, get_or_append_left, get_or_at}
 use Rattle.std.proofs.lemmas.List.Elements.{All-push}
 use Rattle.std.proofs.lemmas.List.Folds.{find-append}
 use Rattle.std.proofs.lemmas.List.Quantifiers.{all_pairs_push}
+use Rattle.sw_route.proofs.Entries.{not_at_most}
 use Rattle.sw_route.specs.declared.look.Look.{Look}
 use Rattle.sw_route.specs.declared.intervals.Interval.{Interval}
 use Rattle.sw_route.specs.Looks.{no_look, look_by}
@@ -44,9 +45,6 @@ or_else look (Some i) p = refl
 interval_or_push : (look : Look) (is : List Interval) (i : Interval) (k : ℕ) → interval_or look (is ++ i ∷ []) k ≡ interval_or (interval_or look (i ∷ []) k) is k
 interval_or_push look is i k = ap (look_or look) (find-append (λ i. leb k i.last) is (i ∷ [])) ∙ or_else look (find (λ i. leb k i.last) is) (find (λ i. leb k i.last) (i ∷ []))
 
-not_reached : (k last : ℕ) → last < k → leb k last ≡ false
-not_reached k last lt = grind (arith, nat_tests)
-
 is_reached : (k last : ℕ) → k ≤ last → leb k last ≡ true
 is_reached k last le = grind (arith, nat_tests)
 
@@ -55,7 +53,7 @@ past_all : (b : ℕ) (look : Look) (is : List Interval) → All (λ i. i.last + 
 past_all b look [] ended = refl
 past_all b look (i ∷ is) ended =
     let first = ended 0 i (omega arith) in
-    rw (not_reached b i.last (omega arith)) (past_all b look is (λ k d lt. ended (suc k) d (omega arith)))
+    rw (not_at_most i.last b (omega arith)) (past_all b look is (λ k d lt. ended (suc k) d (omega arith)))
 
 module _ (answer : ℕ → Look) (b : ℕ) (look : Look) (is : List Interval) (run : IsRun answer b look is) where
   -- the same answer goes on
@@ -99,7 +97,7 @@ module _ (answer : ℕ → Look) (b : ℕ) (look : Look) (is : List Interval) (r
     ended = here_ended pos;
     agree = λ k low high. elim (cases_lt k b) [
       | inl below ↦ here_agree (answer b) k pos low below
-      | inr past ↦ let e : k ≡ b = omega arith in rw e (interval_or_push (answer b) is ends_here b ∙ rw (not_reached b (b - 1) (omega arith)) (past_all b (answer b) is run.ended))
+      | inr past ↦ let e : k ≡ b = omega arith in rw e (interval_or_push (answer b) is ends_here b ∙ rw (not_at_most (b - 1) b (omega arith)) (past_all b (answer b) is run.ended))
     ];
   }
 

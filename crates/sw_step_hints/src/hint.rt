@@ -69,7 +69,7 @@ fn text_hint(
 /// # Errors
 ///
 /// There is no memory for the hint, or for the replay.
-pub fn schedule_hint(
+pub fn replay_hint(
     alloc: Global,
     text: &[u8],
     path: &str,

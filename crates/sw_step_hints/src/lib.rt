@@ -11,4 +11,4 @@ mod needs;
 mod refused_step;
 mod step;
 
-pub use hint::schedule_hint;
+pub use hint::replay_hint;

@@ -6,6 +6,7 @@ use Rattle.std.specs.Global.{Vec}
 use Rattle.std.specs.Prelude.{Some, slice_get}
 use Rattle.std.specs.List.{flat_map, range_with_len}
 use Rattle.sw_char.specs.PacketView.{PacketView}
+use Rattle.sw_parallel.proofs.Ranges.{range_from_more}
 use Rattle.sw_machine.specs.Begun.{beginning, beginnings}
 use Rattle.sw_model.specs.Steps.{machine_step}
 use Rattle.sw_model.specs.declared.step.Step.{Step}
@@ -28,16 +29,13 @@ declared_first [] ys i x within is = absurd (omega (arith, within))
 declared_first (y ∷ xs) ys zero x within is = is
 declared_first (y ∷ xs) ys (suc i) x within is = declared_first xs ys i x (omega (arith, within)) is
 
-range_more : (a n m k : ℕ) → m ≡ suc n → a + n ≡ k → range_with_len a m ≡ range_with_len a n ++ k ∷ []
-range_more a zero m k next is = let same : a ≡ k = omega arith in rw next (ap (λ (j : ℕ). j ∷ []) same)
-range_more a (suc n) m k next is = rw next (ap (λ (l : List ℕ). a ∷ l) (range_more (a + 1) n (suc n) k refl (omega arith)))
-
 -- one number more
-next_more_from : {A : Type 0} (f : ℕ → List A) (a n m k : ℕ) → m ≡ suc n → a + n ≡ k → flat_map f (range_with_len a n) ++ f k ≡ flat_map f (range_with_len a m)
-next_more_from f a n m k next is = flat_map_more f [] (range_with_len a n) k ∙ ap (flat_map f) (sym (range_more a n m k next is))
+next_more_from : {A : Type 0} (f : ℕ → List A) (a n m k : ℕ) → m ≡ n + 1 → a + n ≡ k → flat_map f (range_with_len a n) ++ f k ≡ flat_map f (range_with_len a m)
+next_more_from f a n m k next is =
+    flat_map_more f [] (range_with_len a n) k ∙ ap (flat_map f) (sym (range_from_more a n k is) ∙ ap (range_with_len a) (sym next))
 
 pub next_more : {A : Type 0} (f : ℕ → List A) (n : ℕ) → flat_map f (range_with_len 0 n) ++ f n ≡ flat_map f (range_with_len 0 (n + 1))
-next_more f n = next_more_from f 0 n (n + 1) n (omega arith) (omega arith)
+next_more f n = next_more_from f 0 n (n + 1) n refl (omega arith)
 
 -- the text of one flow more
 pub text_more : (f : ℕ → List ℕ) (n : ℕ) (before here after : List ℕ) → before ≡ flat_map f (range_with_len 0 n) → here ≡ f n → after ≡ before ++ here

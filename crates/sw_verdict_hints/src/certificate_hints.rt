@@ -119,7 +119,7 @@ fn text_hint<W: VerdictWorkers>(
 /// # Errors
 ///
 /// There is no memory for the hint, or to read the texts.
-pub fn certificate_hint<W: VerdictWorkers>(
+pub fn refused_certificate_hint<W: VerdictWorkers>(
     workers: &W,
     alloc: Global,
     path: &str,

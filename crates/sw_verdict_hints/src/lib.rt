@@ -10,6 +10,6 @@ mod route_hints;
 mod verdict_hints;
 mod ways;
 
-pub use certificate_hints::certificate_hint;
+pub use certificate_hints::refused_certificate_hint;
 pub use flow_hints::named_flow_hint;
 pub use verdict_hints::{misrouted_verdict_hint, verdict_hint};

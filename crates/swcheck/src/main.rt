@@ -1,9 +1,21 @@
-//! `swcheck`: a checker of SpaceWire networks.
+//! `swcheck`: a checker of SpaceWire networks. It opens the files that its words name, hands them on to the engines of `sw_app` and of the other
+//! crates whose names begin so, and tells of words that give no call, of a read or a write that failed, and how to mend a network file with a fault.
 #![tactic(auto)]
 
+mod asked;
+mod calls;
+mod disk;
+mod hints;
+mod json_calls;
+mod noted;
+mod notes;
+mod recorded;
+mod told;
+mod unread;
+
+use calls::run_program;
 use std::io::IsTerminal;
 use std::process::ExitCode;
-use sw_cli::run_program;
 use sw_parallel::SideBySide;
 use sw_run::with_progress;
 

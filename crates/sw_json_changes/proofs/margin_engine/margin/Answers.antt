@@ -1,7 +1,7 @@
 use Rattle.std.specs.Prelude.{[], ◌∷◌, codes}
 use Rattle.sw_command.specs.Inputs.{given}
-use Rattle.sw_json_answers.proofs.Answered.{answered_one, unread_one, with_result}
-use Rattle.sw_json_answers.specs.Answering.{OfNetworkFile, read_value}
+use Rattle.sw_json.proofs.Answered.{answered_one, unread_one, with_result}
+use Rattle.sw_json.specs.Answering.{OfNetworkFile, read_value}
 use Rattle.sw_json_changes.specs.MarginJson.{IsMarginFound, IsMarginJson}
 use Rattle.sw_json_changes.proofs.margin_engine.margin.Goals as goal
 

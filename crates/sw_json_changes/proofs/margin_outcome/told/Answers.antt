@@ -1,5 +1,5 @@
 use Rattle.std.proofs.Common.{arith}
-use Rattle.sw_json_answers.proofs.Plain.{flat_of, whole_of}
+use Rattle.sw_json.proofs.PlainAnswers.{flat_of, whole_of}
 use Rattle.sw_json_changes.proofs.margin_outcome.told.Goals as goal
 
 pub invariant_of-result : goal.invariant_of-result

@@ -1,6 +1,6 @@
 use Rattle.std.proofs.Common.{arith}
 use Rattle.serde_json.specs.View.{view}
-use Rattle.sw_json_answers.proofs.Plain.{flat_of, whole_of}
+use Rattle.sw_json.proofs.PlainAnswers.{flat_of, whole_of}
 use Rattle.sw_json_runs.proofs.RunPlain.{run_plain}
 use Rattle.sw_json_runs.specs.RunValues.{run_value}
 use Rattle.sw_json_runs.proofs.run_answer.outcome_result.Goals as goal

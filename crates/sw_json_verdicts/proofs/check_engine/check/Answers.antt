@@ -1,8 +1,8 @@
 use Rattle.std.specs.Prelude.{[], ◌∷◌, codes}
 use Rattle.sw_command.specs.Inputs.{given}
 use Rattle.sw_json_verdicts.proofs.Accepted.{shown_by_zero, unread_not_zero}
-use Rattle.sw_json_answers.proofs.Answered.{answered_two, unread_two, with_result}
-use Rattle.sw_json_answers.specs.Answering.{read_value}
+use Rattle.sw_json.proofs.Answered.{answered_two, unread_two, with_result}
+use Rattle.sw_json.specs.Answering.{read_value}
 use Rattle.sw_json_verdicts.specs.CheckResults.{IsCheckJson, IsCheckResult}
 use Rattle.sw_json_verdicts.proofs.check_engine.check.Goals as goal
 

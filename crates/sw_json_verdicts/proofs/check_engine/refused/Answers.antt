@@ -1,5 +1,5 @@
 use Rattle.std.proofs.Common.{arith}
-use Rattle.sw_json_answers.proofs.Plain.{flat_of, whole_of}
+use Rattle.sw_json.proofs.PlainAnswers.{flat_of, whole_of}
 use Rattle.sw_json_verdicts.specs.Reasons.{parts_view}
 use Rattle.sw_json_verdicts.proofs.check_engine.refused.Goals as goal
 

@@ -1,6 +1,6 @@
 use Rattle.std.proofs.Common.{arith}
 use Rattle.sw_app.proofs.PlaceChannels.{listed_within}
-use Rattle.sw_json_answers.proofs.Plain.{flat_of, whole_of}
+use Rattle.sw_json.proofs.PlainAnswers.{flat_of, whole_of}
 use Rattle.sw_json_verdicts.proofs.RouteFound.{numbered_result}
 use Rattle.sw_json_verdicts.proofs.route_engine.flow_outcome.Goals as goal
 

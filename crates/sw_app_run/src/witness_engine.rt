@@ -1,0 +1,35 @@
+//! The engine of `witness`: it reads its text whole, and writes one text.
+ghost use Rattle.sw_command.specs.Ends.{EndsBy};
+ghost use Rattle.sw_app_run.specs.WitnessAnswers.{IsWitnessAnswer};
+
+use crate::witness_answer::witness_answer;
+use std::alloc::Global;
+use std::io::{Read, Write};
+use sw_command::{Ended, MAX_TEXT, tell, tell_memory, tell_unread};
+use sw_search::VerdictWorkers;
+use sw_text::read_whole;
+
+/// A schedule that leads the network of a file into a lock-up: 0 where one is found, and 1 where none is found by so many tries, or
+/// where there is nothing to look for. The workers share the work of finding where to look.
+///
+/// What is written with status 0 was replayed before: as a schedule file it leads to a lock-up. That none is found says nothing of the
+/// network. The same seed gives the same tries.
+pub fn witness<T: VerdictWorkers, R: Read, W: Write>(
+    workers: &T,
+    alloc: Global,
+    reader: &mut R,
+    tries: u32,
+    seed: u32,
+    writer: &mut W,
+) -> Ended
+    ensures { EndsBy (IsWitnessAnswer tries) (R.remaining reader.old) (R.remaining reader.new) (W.contents writer.old) (W.contents writer.new) result }
+{
+    let input = match read_whole(alloc, reader, MAX_TEXT) {
+        Ok(input) => input,
+        Err(error) => return tell_unread(writer, error),
+    };
+    match witness_answer(workers, alloc, &input, tries, seed) {
+        Ok(answer) => tell(writer, answer.text.as_str(), answer.status),
+        Err(_) => tell_memory(writer),
+    }
+}

@@ -1,0 +1,67 @@
+//! The texts of `witness` that are no schedule.
+ghost use Rattle.std.specs.Prelude.{◌≡◌, IfOk, string_bytes};
+ghost use Rattle.sw_app_run.specs.WitnessAnswers.{free_line, none_found, unanswered_line};
+ghost use Rattle.sw_witness.specs.Witnesses.{LocksUp};
+
+use std::alloc::{AllocError, Global};
+use sw_app_explain::names_text;
+use sw_config::Network;
+use sw_witness::locks_up;
+
+/// That no lock-up was found by so many tries.
+pub(crate) fn none_found(alloc: Global, tries: u32) -> Result<String, AllocError>
+    ensures { IfOk result (λ s. string_bytes s ≡ none_found tries) }
+{
+    format!(in alloc; "no lock-up found in {tries} tries\n")
+}
+
+/// That there is nothing to look for.
+pub(crate) fn free_line(alloc: Global) -> Result<String, AllocError>
+    ensures { IfOk result (λ s. string_bytes s ≡ free_line) }
+{
+    String::from_str(alloc, "no lock-up: the network is free\n")
+}
+
+/// That the replies of these flows can't happen, and there is nothing else to look for.
+pub(crate) fn unanswered_line(
+    alloc: Global,
+    network: &Network,
+    flows: &[u16],
+) -> Result<String, AllocError>
+    ensures { IfOk result (λ s. string_bytes s ≡ unanswered_line network.now flows.now) }
+{
+    let names = names_text(alloc, network, flows)?;
+    format!(in alloc; "no lock-up: the replies of {names} can't happen\n")
+}
+
+// The schedule behind a line that says so.
+fn noted(
+    alloc: Global,
+    network: &Network,
+    flows: &[u16],
+    schedule: &str,
+) -> Result<String, AllocError> {
+    let names = names_text(alloc, network, flows)?;
+    format!(in alloc; "# the replies of {names} can't happen\n{schedule}")
+}
+
+/// The schedule, behind a line that the replies of these flows can't happen, if there are any; it is replayed once more.
+pub(crate) fn with_note(
+    alloc: Global,
+    network: &Network,
+    flows: &[u16],
+    schedule: String,
+) -> Result<String, AllocError>
+    requires { LocksUp network.now (string_bytes schedule) }
+    ensures { IfOk result (λ s. LocksUp network.now (string_bytes s)) }
+{
+    if flows.is_empty() {
+        return Ok(schedule);
+    }
+    let noted = noted(alloc, network, flows, schedule.as_str())?;
+    if locks_up(alloc, network, noted.as_bytes())? {
+        Ok(noted)
+    } else {
+        Ok(schedule)
+    }
+}

@@ -1,0 +1,215 @@
+//! What the engines share: faults of files as results, the answer round a result, and how it is told.
+ghost use Rattle.std.specs.Prelude.{◌≡◌, ◌∷◌, [], All, IfOk, IsOkAnd, map, string_bytes};
+ghost use Rattle.serde_json.specs.View.{view};
+ghost use Rattle.sw_json.specs.AnswerValues.{file_fault_value};
+ghost use Rattle.sw_json.specs.Plain.{IsPlain};
+ghost use Rattle.sw_command.specs.Inputs.{given};
+ghost use Rattle.sw_json.specs.Answering.{IsAnswer, IsAnswerTold, IsLongFile, IsMemoryTold, IsOutcome, IsUnreadNetwork, IsUnreadTold, read_value};
+
+use crate::answers::{answer_value, file_fault_value};
+use crate::faults::{fault_value, long_value};
+use crate::files::Release;
+use crate::inputs::{input_value, long_input};
+use crate::laws::{answers_are_plain, faults_are_plain, file_faults_are_plain, inputs_are_plain};
+use crate::outcome::Outcome;
+use crate::texts::text_of;
+use serde_json::Value;
+use std::alloc::{AllocError, Global};
+use std::io::Write;
+use sw_command::statuses::{FAULTY, NO_ROOM};
+use sw_command::{Answer, Ended, InputError, InputText, tell};
+use sw_toml_table::FileFault;
+
+/// The result where the file of this path has the fault.
+///
+/// # Errors
+///
+/// There is no memory for it, or there was none for the fault.
+pub fn file_fault(
+    alloc: Global,
+    path: &str,
+    fault: Result<Value, AllocError>,
+) -> Result<Outcome, AllocError>
+    requires { IfOk fault (λ v. IsPlain 1 (view v)) }
+    ensures { IfOk result (λ o. IsOkAnd fault (λ v. IsOutcome (file_fault_value path.now (view v)) 3 (view o.result) o.status)) }
+{
+    file_faults_are_plain();
+    let result = file_fault_value(alloc, path, fault?)?;
+    Ok(Outcome {
+        result,
+        status: FAULTY,
+    })
+}
+
+/// The result where the text of the file is too long.
+///
+/// # Errors
+///
+/// There is no memory for it.
+pub fn long_file(alloc: Global, path: &str) -> Result<Outcome, AllocError>
+    ensures { IfOk result (λ o. IsLongFile path.now (view o.result) o.status) }
+{
+    faults_are_plain();
+    let fault = long_value(alloc);
+    file_fault(alloc, path, fault)
+}
+
+/// The result where a text was not read as a network, if it was not for want of memory.
+///
+/// # Errors
+///
+/// There is no memory for it, or there was none for the network.
+pub fn unread_network(
+    alloc: Global,
+    path: &str,
+    text: &[u8],
+    fault: FileFault,
+) -> Result<Outcome, AllocError>
+    ensures { IfOk result (λ o. IsUnreadNetwork path.now text.now fault (view o.result) o.status) }
+{
+    faults_are_plain();
+    match fault {
+        FileFault::Text(fault) => {
+            let fault = fault_value(alloc, text, &fault);
+            file_fault(alloc, path, fault)
+        }
+        FileFault::Memory => Err(AllocError),
+    }
+}
+
+// A file that was read.
+fn read_value(alloc: Global, path: &str, text: &InputText) -> Result<Value, AllocError>
+    ensures { IfOk result (λ v. view v ≡ read_value path.now (given text.now)) }
+{
+    match text {
+        InputText::Whole(text) => input_value(alloc, path, text),
+        InputText::TooLong => long_input(alloc, path),
+    }
+}
+
+// The files of a command of one file.
+fn one_file(alloc: Global, path: &str, text: &InputText) -> Result<Vec<Value>, AllocError>
+    ensures { IfOk result (λ v. map view v.items ≡ read_value path.now (given text.now) ∷ []) }
+{
+    let mut files = Vec::new(alloc);
+    files.push(read_value(alloc, path, text)?)?;
+    Ok(files)
+}
+
+// The files of a command of two files.
+fn two_files(
+    alloc: Global,
+    paths: (&str, &str),
+    first: &InputText,
+    second: &InputText,
+) -> Result<Vec<Value>, AllocError>
+    ensures { IfOk result (λ v. map view v.items ≡ read_value paths.entry.0.now (given first.now) ∷ read_value paths.entry.1.now (given second.now) ∷ []) }
+{
+    let mut files = one_file(alloc, paths.0, first)?;
+    files.push(read_value(alloc, paths.1, second)?)?;
+    Ok(files)
+}
+
+// The answer of a command of these files, with what it found.
+fn answer_of(
+    alloc: Global,
+    command: &str,
+    release: Release<'_>,
+    files: Vec<Value>,
+    found: Outcome,
+) -> Result<Answer, AllocError>
+    requires { All (IsPlain 1) (map view files.items) }
+    ensures { IfOk result (λ a. IsAnswer command.now (map view files.items) release.entry (IsOutcome (view found.result) found.status) (string_bytes a.text) a.status) }
+{
+    answers_are_plain();
+    let status = found.status;
+    let value = answer_value(alloc, command, files, found.result, status, release)?;
+    let text = text_of(alloc, &value)?;
+    Ok(Answer { text, status })
+}
+
+// The same, where there may have been no memory for what it found.
+fn answer_with(
+    alloc: Global,
+    command: &str,
+    release: Release<'_>,
+    files: Vec<Value>,
+    found: Result<Outcome, AllocError>,
+) -> Result<Answer, AllocError>
+    requires { All (IsPlain 1) (map view files.items) }
+    ensures { IfOk result (λ a. IsOkAnd found (λ o. IsAnswer command.now (map view files.items) release.entry (IsOutcome (view o.result) o.status) (string_bytes a.text) a.status)) }
+{
+    answer_of(alloc, command, release, files, found?)
+}
+
+/// The answer of a command of one file, with what it found.
+///
+/// # Errors
+///
+/// There is no memory for it, or there was none for what was to be found.
+pub fn answer_to_one(
+    alloc: Global,
+    command: &str,
+    release: Release<'_>,
+    path: &str,
+    text: &InputText,
+    found: Result<Outcome, AllocError>,
+) -> Result<Answer, AllocError>
+    ensures { IfOk result (λ a. IsOkAnd found (λ o. IsAnswer command.now (read_value path.now (given text.now) ∷ []) release.entry (IsOutcome (view o.result) o.status) (string_bytes a.text) a.status)) }
+{
+    inputs_are_plain();
+    let files = one_file(alloc, path, text)?;
+    answer_with(alloc, command, release, files, found)
+}
+
+/// The answer of a command of two files, with what it found.
+///
+/// # Errors
+///
+/// There is no memory for it, or there was none for what was to be found.
+pub fn answer_to_two(
+    alloc: Global,
+    command: &str,
+    release: Release<'_>,
+    paths: (&str, &str),
+    first: &InputText,
+    second: &InputText,
+    found: Result<Outcome, AllocError>,
+) -> Result<Answer, AllocError>
+    ensures { IfOk result (λ a. IsOkAnd found (λ o. IsAnswer command.now (read_value paths.entry.0.now (given first.now) ∷ read_value paths.entry.1.now (given second.now) ∷ []) release.entry (IsOutcome (view o.result) o.status) (string_bytes a.text) a.status)) }
+{
+    inputs_are_plain();
+    let files = two_files(alloc, paths, first, second)?;
+    answer_with(alloc, command, release, files, found)
+}
+
+/// Writes that memory was wanted. This takes no memory.
+pub fn tell_memory<W: Write>(writer: &mut W) -> Ended
+    ensures { IsMemoryTold (W.contents writer.old) (W.contents writer.new) result }
+{
+    tell(
+        writer,
+        "{\"result\":{\"kind\":\"memory\"},\"status\":5}\n",
+        NO_ROOM,
+    )
+}
+
+/// Tells why a text was not read: of a read that failed nothing is written.
+pub fn tell_unread<W: Write>(writer: &mut W, error: InputError) -> Ended
+    ensures { IsUnreadTold error (W.contents writer.old) (W.contents writer.new) result }
+{
+    match error {
+        InputError::Failed => Ended::ReadFailed,
+        InputError::Memory => tell_memory(writer),
+    }
+}
+
+/// Writes an answer, or that memory was wanted.
+pub fn tell_answer<W: Write>(writer: &mut W, answer: Result<Answer, AllocError>) -> Ended
+    ensures { IsAnswerTold answer (W.contents writer.old) (W.contents writer.new) result }
+{
+    match answer {
+        Ok(answer) => tell(writer, answer.text.as_str(), answer.status),
+        Err(_) => tell_memory(writer),
+    }
+}

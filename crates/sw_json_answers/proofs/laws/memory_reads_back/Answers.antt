@@ -1,5 +1,0 @@
-use Rattle.sw_json_answers.proofs.Memory.{memory_reads_back}
-use Rattle.sw_json_answers.proofs.laws.memory_reads_back.Goals as goal
-
-pub returns : goal.returns
-returns c = memory_reads_back

@@ -1,0 +1,108 @@
+//! Why a file can't be read or written, as the system tells it. It decides nothing.
+ghost use Rattle.std.specs.Prelude.{◌≡◌, IfOk, string_bytes};
+ghost use Rattle.swcheck.specs.Unread.{reason_of, unread_text};
+
+use crate::noted::Unwritten;
+use crate::told::tell_text;
+use std::alloc::{AllocError, Global};
+use std::fs;
+use std::io::{self, ErrorKind, Read};
+use std::rt::Files;
+use sw_hints::head_line;
+
+/// The system's reason, in words.
+fn reason_of(kind: ErrorKind) -> &'static str
+    ensures { result.now ≡ reason_of kind }
+{
+    match kind {
+        ErrorKind::NotFound => "no such file",
+        ErrorKind::PermissionDenied => "permission denied",
+        ErrorKind::IsADirectory => "is a directory",
+        ErrorKind::NotADirectory => "a part of the path is no directory",
+        ErrorKind::InvalidFilename => "the name is too long",
+        ErrorKind::InvalidInput => "no file can have this name",
+        ErrorKind::FilesystemLoop => "too many symbolic links",
+        ErrorKind::StaleNetworkFileHandle => "the file is gone from its server",
+        ErrorKind::TimedOut => "timed out",
+        ErrorKind::Interrupted => "interrupted",
+        ErrorKind::ResourceBusy | ErrorKind::ExecutableFileBusy => "in use",
+        ErrorKind::WouldBlock => "nothing to read yet",
+        ErrorKind::OutOfMemory => "out of memory",
+        ErrorKind::Unsupported | ErrorKind::NotSeekable => "can't be read like a file",
+        ErrorKind::FileTooLarge => "too large",
+        ErrorKind::StorageFull | ErrorKind::QuotaExceeded => "no room left",
+        ErrorKind::ReadOnlyFilesystem => "can't be written",
+        ErrorKind::BrokenPipe => "nothing reads it",
+        ErrorKind::WriteZero => "nothing was written",
+        ErrorKind::ConnectionRefused
+        | ErrorKind::ConnectionReset
+        | ErrorKind::HostUnreachable
+        | ErrorKind::NetworkUnreachable
+        | ErrorKind::ConnectionAborted
+        | ErrorKind::NotConnected
+        | ErrorKind::AddrInUse
+        | ErrorKind::AddrNotAvailable
+        | ErrorKind::NetworkDown
+        | ErrorKind::AlreadyExists
+        | ErrorKind::DirectoryNotEmpty
+        | ErrorKind::InvalidData
+        | ErrorKind::Deadlock
+        | ErrorKind::CrossesDevices
+        | ErrorKind::TooManyLinks
+        | ErrorKind::ArgumentListTooLong
+        | ErrorKind::UnexpectedEof
+        | ErrorKind::InProgress
+        | ErrorKind::Other
+        | ErrorKind::Uncategorized => "the system gives an error of its own",
+    }
+}
+
+// The path, and the reason.
+fn unread_text(alloc: Global, path: &str, kind: ErrorKind) -> Result<String, AllocError>
+    ensures { IfOk result (λ s. string_bytes s ≡ unread_text path.now kind) }
+{
+    head_line(alloc, path, &[], None, reason_of(kind))
+}
+
+// Why a file or a folder can't be read, if it can't: it is opened once more, and a byte of it is read. A pipe is not asked: it would lose
+// the byte, or have none yet.
+fn kind_of<R: Files>(rt: &R, path: &str) -> Option<ErrorKind> {
+    let known = match fs::metadata(rt, path) {
+        Ok(known) => known,
+        Err(error) => return Some(error.kind()),
+    };
+    if !known.is_file() && !known.is_dir() {
+        return None;
+    }
+    let mut reader = match fs::open(rt, path) {
+        Ok(reader) => reader,
+        Err(error) => return Some(error.kind()),
+    };
+    let mut byte = [0];
+    match reader.read(&mut byte) {
+        Ok(_) => None,
+        Err(error) => Some(error.kind()),
+    }
+}
+
+fn text_of<R: Files + AllocGlobal>(rt: &R, path: &str) -> Option<String> {
+    let kind = kind_of(rt, path)?;
+    unread_text(rt.alloc(), path, kind).ok()
+}
+
+/// Tells why a file can't be read; nothing where it can.
+pub(crate) fn tell_unread<R: Files + Eprint + AllocGlobal>(rt: &R, path: &str) {
+    tell_text(rt, text_of(rt, path));
+}
+
+// Why a write failed.
+fn unwritten_text<R: AllocGlobal>(rt: &R, unwritten: Unwritten<'_>) -> Option<String> {
+    unread_text(rt.alloc(), unwritten.path, unwritten.kind).ok()
+}
+
+/// Tells what could not be written, and why, as far as that is known.
+pub(crate) fn tell_unwritten<R: Eprint + AllocGlobal>(rt: &R, unwritten: Option<Unwritten<'_>>) {
+    if let Some(unwritten) = unwritten {
+        tell_text(rt, unwritten_text(rt, unwritten));
+    }
+}
