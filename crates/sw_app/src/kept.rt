@@ -22,6 +22,13 @@ impl EndedWith {
             network: None,
         }
     }
+
+    /// The end alone, for who has no use for the network.
+    pub fn into_ended(self) -> Ended
+        ensures { result ≡ self.ended }
+    {
+        self.ended
+    }
 }
 
 /// The network of a text of so many bytes, if these are at most `most`.

@@ -15,9 +15,10 @@ use Rattle.clap.specs.declared.error.Error.{Error}
 use Rattle.sw_args.specs.declared.call.Asked.{Asked}
 use Rattle.sw_args.specs.declared.call.Call.{Call}
 use Rattle.sw_args.specs.declared.call.WordsFault.{WordsFault}
+use Rattle.sw_args.specs.declared.parts.Subcommand.{Subcommand}
 use Rattle.sw_args.specs.declared.call.WordsFault.TheVariants.{Help, Refused, Memory}
-use Rattle.sw_args.specs.Parts.{Part, part_rule, with_parts}
-use Rattle.sw_args.specs.CommandLine.{swcheck_app, AreAll, Gives, IsCallOf, IsMade, IsMet, IsOption, Refuses, ShowsKind, Tells}
+use Rattle.sw_args.specs.Parts.{Part, part_rule, subcommand_app, with_parts, with_subcommands}
+use Rattle.sw_args.specs.CommandLine.{swcheck_app, AreAll, Gives, IsCallOf, IsMade, IsMet, IsOf, IsOption, Refuses, ShowsKind, Tells}
 
 swcheck_simple : is_simple swcheck_app ≡ true
 swcheck_simple = refl
@@ -108,3 +109,11 @@ pub with_one_part : (app : App) (parts : List Part) (i : ℕ) (d : Part) (old ne
 with_one_part app parts i d old new arg within made is adds =
     subst (λ (a : App). IsMade a new) (sym (fold_more (λ a part. with_rule a (part_rule part)) app parts i d within))
     (with_argument old arg new (with_parts app (take i parts)) (part_rule (get_or parts i d)) made is adds)
+
+-- a command with one more subcommand of its table
+pub with_one_subcommand : (app : App) (rows : List Subcommand) (i : ℕ) (d : Subcommand) (old new sub : Command) → i < length rows
+    → IsOf (with_subcommands app (take i rows)) old → IsMade (subcommand_app (get_or rows i d)) sub → AddsSubcommand old sub new
+    → IsOf (with_subcommands app (take (i + 1) rows)) new
+with_one_subcommand app rows i d old new sub within is made adds =
+    subst (λ (a : App). IsOf a new) (sym (fold_more (λ a row. with_subcommand a (subcommand_app row).top) app rows i d within))
+    (with_added old sub new (with_subcommands app (take i rows)) (subcommand_app (get_or rows i d)) is made adds)

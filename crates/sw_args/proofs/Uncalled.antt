@@ -1,12 +1,12 @@
--- When the values of a run, or of a search, are no call.
-use Rattle.std.proofs.Common.{◌≡◌, ◌∙◌, List, ℕ, Option, codes, false, refl, sym, true≢false}
+-- When values are no call.
+use Rattle.std.proofs.Common.{◌≡◌, ◌∙◌, ◌||◌, Bool, List, ℕ, Option, codes, false, refl, sym, true, true≢false}
 use Rattle.std.specs.Prelude.{IfNone, Some, None}
 use Rattle.std.specs.Str.{bytes_eq}
 use Rattle.std.proofs.lemmas.Slice.Eq.{bytes_eq-Decides}
-use Rattle.clap.specs.Words.{Row}
-use Rattle.sw_args.specs.CommandLine.{IsCallOf, IsCount, most_seed, most_steps, most_tries, most_workers}
+use Rattle.clap.specs.Words.{Row, first_of}
+use Rattle.sw_args.specs.CommandLine.{IsCallOf, IsCount, is_among, most_seed, most_steps, most_tries, most_workers, plain_names}
 use Rattle.sw_args.specs.declared.call.Call.{Call}
-use Rattle.sw_args.specs.declared.call.Call.TheVariants.{Run, Witness}
+use Rattle.sw_args.specs.declared.call.Call.TheVariants.{Audit, Init, Run, Witness}
 
 if_none : {A : Type 0} {P : Type 0} (o : Option A) → P → IfNone o P
 if_none None p = p
@@ -57,3 +57,41 @@ without_tries values o none = if_none o (λ call is. let tries = ((numbered _ va
 pub without_seed : (values : List Row) (o : Option Call) → ((number : ℕ) → IsCount most_seed (codes "seed") values number → ⊥)
     → IfNone o ((call : Call) → IsCallOf (codes "witness") values call → ⊥)
 without_seed values o none = if_none o (λ call is. let seed = ((numbered _ values call is).1 refl).1 in none seed.0 seed.1)
+
+-- the name of a call is one of these
+named : (name : List ℕ) (values : List Row) (call : Call) → IsCallOf name values call
+    → (bytes_eq name (codes "audit") || (bytes_eq name (codes "init") || (bytes_eq name (codes "route") || (bytes_eq name (codes "check") || (bytes_eq name (codes "replay")
+    || (bytes_eq name (codes "run") || (bytes_eq name (codes "rmap") || (bytes_eq name (codes "witness") || is_among plain_names name)))))))) ≡ true
+named name values (Audit json quiet certificates) is = rw is.0
+named name values call is = rw is.0
+
+apart : (a b : List ℕ) → (a ≡ b → ⊥) → false ≡ bytes_eq a b
+apart a b not = go (bytes_eq a b) refl
+  where
+    go : (same : Bool) → bytes_eq a b ≡ same → false ≡ same
+    go true is = absurd (not ((bytes_eq-Decides a b).0 is))
+    go false is = refl
+
+-- of no subcommand
+pub unnamed : (name : List ℕ) (values : List Row) (o : Option Call) → (name ≡ codes "audit" → ⊥) → (name ≡ codes "init" → ⊥)
+    → (name ≡ codes "route" → ⊥) → (name ≡ codes "check" → ⊥) → (name ≡ codes "replay" → ⊥) → (name ≡ codes "run" → ⊥) → (name ≡ codes "rmap" → ⊥)
+    → (name ≡ codes "witness" → ⊥) → IfNone o (is_among plain_names name ≡ false) → IfNone o ((call : Call) → IsCallOf name values call → ⊥)
+unnamed name values (Some x) audit init route check replay run rmap witness plain = tt
+unnamed name values None audit init route check replay run rmap witness plain = λ call is.
+    let called = rw (← (apart _ _ audit), ← (apart _ _ init), ← (apart _ _ route), ← (apart _ _ check), ← (apart _ _ replay), ← (apart _ _ run), ← (apart _ _ rmap), ← (apart _ _ witness), plain)
+    at (named name values call is) in
+    true≢false (sym called)
+
+filled : (o : Option (List ℕ)) (v : List ℕ) → None ≡ o → o ≡ Some v → ⊥
+filled o v none some = let both : None ≡ Some v = none ∙ some in absurd cc
+
+-- of a subcommand that wants a file
+filed : (name : List ℕ) (values : List Row) → (name ≡ codes "audit" → ⊥) → (name ≡ codes "init" → ⊥) → None ≡ first_of (codes "FILE") values
+    → (call : Call) → IsCallOf name values call → ⊥
+filed name values audit init none (Audit json quiet certificates) is = audit is.0
+filed name values audit init none (Init sample) is = init is.0
+filed name values audit init none call is = filled _ _ none is.1
+
+pub without_file : (name : List ℕ) (values : List Row) (o : Option Call) → (name ≡ codes "audit" → ⊥) → (name ≡ codes "init" → ⊥)
+    → None ≡ first_of (codes "FILE") values → IfNone o ((call : Call) → IsCallOf name values call → ⊥)
+without_file name values o audit init none = if_none o (filed name values audit init none)

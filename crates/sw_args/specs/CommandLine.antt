@@ -1,7 +1,8 @@
 -- The words that the program takes.
-use Rattle.std.specs.Prelude.{◌≡◌, ◌≢◌, ◌≤◌, ◌<◌, ◌⊎◌, ◌↔◌, ℕ, Bool, List, [], ◌∷◌, Option, Some, codes, false, map, option_map, pos, true, unwrap_or, Result, Ok, Err, IfOk}
+use Rattle.std.specs.Prelude.{◌≡◌, ◌≢◌, ◌≤◌, ◌<◌, ◌⊎◌, ◌↔◌, ℕ, Bool, List, [], ◌∷◌, Option, Some, codes, false, map, option_map, pos, true, unwrap_or, Result, Ok, Err}
+use Rattle.std.specs.List.{list_any}
+use Rattle.std.specs.Str.{bytes_eq}
 use Rattle.std.specs.Borrow.{Bor}
-use Rattle.std.specs.declared.alloc.AllocError.{AllocError}
 use Rattle.clap.specs.declared.builder.command.Command.{Command}
 use Rattle.clap.specs.declared.builder.Command.TheViews.{out-Command}
 use Rattle.std.specs.Str.Parse.{IsNumeral, digits_value, without_leading_plus}
@@ -183,18 +184,6 @@ IsOf app command = app_of command ≡ app
 abbrev pub IsMade : App → Command → Type 0
 IsMade app command = IsOf app command × ((out-Command command).has_globals ≡ false)
 
--- whatever app the one command is of, the other, if it was made, is of that app with something more
-abbrev pub Makes : (App → App) → Result Command AllocError → Result Command AllocError → Type 0
-Makes more made new = (app : App) → IfOk made (IsMade app) → IfOk new (IsMade (more app))
-
--- whatever app the subcommand is of, if it was made, the other command has it besides
-abbrev pub HasMade : Command → Result Command AllocError → Command → Type 0
-HasMade command subcommand new = (app below : App) → IsOf app command → IfOk subcommand (IsMade below) → IsOf (with_subcommand app below.top) new
-
--- the same where the command was made too, and the subcommand has the option `--hints` in it
-abbrev pub Joins : Result Command AllocError → Result Command AllocError → Result Command AllocError → Type 0
-Joins made subcommand new = (app below : App) → IfOk made (IsOf app) → IfOk subcommand (IsMade below) → IfOk new (IsOf (with_subcommand app (with_hints below).top))
-
 -- the option's value is this number, written in decimal digits
 abbrev pub SaysNumber : List ℕ → List Row → ℕ → Type 0
 SaysNumber name values number = (text : List ℕ) × (one_of name values ≡ Some text)
@@ -278,6 +267,14 @@ IsCallOf name values (Audit json quiet certificates) = (name ≡ codes "audit")
     × IsSet (codes "quiet") values quiet
     × IsOption (codes "certificates") values certificates
 IsCallOf name values (Init sample) = (name ≡ codes "init") × IsOption (codes "NAME") values sample
+
+-- the subcommands that want no value but the file's
+abbrev pub plain_names : List (List ℕ)
+plain_names = codes "decide" ∷ codes "report" ∷ codes "migrate" ∷ codes "explain" ∷ codes "draw" ∷ codes "mend" ∷ codes "margin" ∷ []
+
+-- the name is one of these
+abbrev pub is_among : List (List ℕ) → List ℕ → Bool
+is_among names name = list_any (bytes_eq name) names
 
 -- a run has a worker
 abbrev pub HasWorkers : Call → Type 0

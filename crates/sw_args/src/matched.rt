@@ -1,9 +1,9 @@
 //! What the words ask for.
-ghost use Rattle.std.specs.Prelude.{◌≡◌, List, Some, codes, map, IfOk, IfErr, IfNone, IfSome};
+ghost use Rattle.std.specs.Prelude.{◌≡◌, ◌≢◌, List, Some, codes, false, map, IfOk, IfErr, IfNone, IfSome};
 ghost use Rattle.clap.specs.Walk.{first_of};
 ghost use Rattle.clap.specs.Words.{Row, found_of, rows_of, subcommand_rows_of};
 ghost use Rattle.sw_args.specs.declared.call.Call.{Call};
-ghost use Rattle.sw_args.specs.CommandLine.{AreAll, Gives, IsCallOf, IsMet, IsOption, Refuses, Tells};
+ghost use Rattle.sw_args.specs.CommandLine.{AreAll, Gives, IsCallOf, IsMet, IsOption, Refuses, Tells, is_among, plain_names};
 
 use crate::call::{Asked, Call, WordsFault};
 use crate::command_line::{
@@ -117,26 +117,16 @@ fn init_call<'a>(values: &ArgMatches<'a>) -> Call<'a>
     }
 }
 
-// The call of a subcommand. clap gives each value that the subcommand requires.
-fn call_of<'a>(name: &str, values: &ArgMatches<'a>) -> Option<Call<'a>>
+// The call of a subcommand that wants no value but the file's, if the name is of one.
+fn plain_call<'a>(name: &str, file: &'a str, values: &ArgMatches<'a>) -> Option<Call<'a>>
+    requires { first_of (codes "FILE") (rows_of (found_of values.now)) ≡ Some file.now }
     ensures calls { IfSome result (IsCallOf name.now (rows_of (found_of values.now))) }
-    ensures none { IfNone result ((call : Call) → IsCallOf name.now (rows_of (found_of values.now)) call → ⊥) }
+    ensures none { IfNone result (is_among plain_names name.now ≡ false) }
 {
-    if name == "audit" {
-        return Some(audit_call(values));
-    }
-    if name == "init" {
-        return Some(init_call(values));
-    }
-    let file = value_of(values, "FILE")?;
     let json = is_set(values, "json");
     match name {
-        "route" => route_call(file, values),
         "decide" => Some(Call::Decide { file, json }),
         "report" => Some(Call::Report { file, json }),
-        "check" => check_call(file, values),
-        "replay" => replay_call(file, values),
-        "run" => run_call(file, values),
         "migrate" => Some(Call::Migrate { file }),
         "explain" => Some(Call::Explain {
             file,
@@ -149,15 +139,44 @@ fn call_of<'a>(name: &str, values: &ArgMatches<'a>) -> Option<Call<'a>>
             cycle: is_set(values, "cycle"),
             numbers: is_set(values, "numbers"),
         }),
-        "rmap" => rmap_call(file, values),
         "mend" => Some(Call::Mend {
             file,
             pairs: is_set(values, "pairs"),
             json,
         }),
         "margin" => Some(Call::Margin { file, json }),
-        "witness" => witness_call(file, values),
         _ => None,
+    }
+}
+
+// The call of a subcommand that wants a file.
+fn file_call<'a>(name: &str, file: &'a str, values: &ArgMatches<'a>) -> Option<Call<'a>>
+    requires file { first_of (codes "FILE") (rows_of (found_of values.now)) ≡ Some file.now }
+    requires no_audit { name.now ≢ codes "audit" }
+    requires no_init { name.now ≢ codes "init" }
+    ensures calls { IfSome result (IsCallOf name.now (rows_of (found_of values.now))) }
+    ensures none { IfNone result ((call : Call) → IsCallOf name.now (rows_of (found_of values.now)) call → ⊥) }
+{
+    match name {
+        "route" => route_call(file, values),
+        "check" => check_call(file, values),
+        "replay" => replay_call(file, values),
+        "run" => run_call(file, values),
+        "rmap" => rmap_call(file, values),
+        "witness" => witness_call(file, values),
+        _ => plain_call(name, file, values),
+    }
+}
+
+// The call of a subcommand. clap gives each value that the subcommand requires.
+fn call_of<'a>(name: &str, values: &ArgMatches<'a>) -> Option<Call<'a>>
+    ensures calls { IfSome result (IsCallOf name.now (rows_of (found_of values.now))) }
+    ensures none { IfNone result ((call : Call) → IsCallOf name.now (rows_of (found_of values.now)) call → ⊥) }
+{
+    match name {
+        "audit" => Some(audit_call(values)),
+        "init" => Some(init_call(values)),
+        _ => file_call(name, value_of(values, "FILE")?, values),
     }
 }
 

@@ -1,9 +1,11 @@
 //! A command by a table of its words and options.
-ghost use Rattle.std.specs.Prelude.{◌≡◌, false, IfOk};
+ghost use Rattle.std.specs.Prelude.{◌≡◌, false, pos, IfOk};
+ghost use Rattle.clap.specs.declared.builder.value_parser.ValueParser.TheVariants.{Signed};
 ghost use Rattle.clap.specs.Words.{new_app, rule_of};
 ghost use Rattle.sw_args.specs.CommandLine.{IsMade, count_rule, flag_rule, option_rule, optional_value, required_value, required_values};
-ghost use Rattle.sw_args.specs.Parts.{part_rule, with_parts};
+ghost use Rattle.sw_args.specs.Parts.{part_rule, subcommand_app};
 
+use clap::builder::ValueParser;
 use clap::{Arg, ArgAction, Command};
 use std::alloc::{AllocError, Global};
 
@@ -26,6 +28,21 @@ pub(crate) enum Takes {
 
 /// A word or an option of a command: its name, what it takes, and what it is for.
 pub(crate) type Part = (&'static str, Takes, &'static str);
+
+/// A subcommand: its name, what it does, an example of its use, and its words and options.
+pub(crate) struct Subcommand {
+    pub name: &'static str,
+    pub about: &'static str,
+    pub example: &'static str,
+    pub parts: &'static [Part],
+}
+
+// Whether to tell how a network file is mended.
+const HINTS: Part = (
+    "hints",
+    Takes::Text,
+    "auto: tell on standard error how to mend a network file; never: do not",
+);
 
 // A value that must be given.
 fn value_arg<'a>(alloc: Global, name: &'static str, help: &'static str) -> Arg<'a>
@@ -51,6 +68,13 @@ fn optional_arg<'a>(alloc: Global, name: &'static str, help: &'static str) -> Ar
     Arg::new(alloc, name).help(help)
 }
 
+// A number from 1 up to the most.
+fn count_parser<'a>(most: u32) -> ValueParser<'a>
+    ensures { result ≡ Signed (pos 1) (pos most) }
+{
+    clap::value_parser!(u32).range(1..=i64::from(most))
+}
+
 // An option whose value is a number from 1 up to the most, the usual one if it is left out.
 fn count_arg<'a>(
     alloc: Global,
@@ -63,7 +87,7 @@ fn count_arg<'a>(
 {
     Arg::new(alloc, name)
         .long(name)
-        .value_parser(clap::value_parser!(u32).range(1..=i64::from(most)))
+        .value_parser(count_parser(most))
         .default_value(usual)
         .help(help)
 }
@@ -79,7 +103,7 @@ fn flag_arg<'a>(alloc: Global, name: &'static str, help: &'static str) -> Arg<'a
 }
 
 // An option whose value is any text, which may be left out.
-pub(crate) fn option_arg<'a>(alloc: Global, name: &'static str, help: &'static str) -> Arg<'a>
+fn option_arg<'a>(alloc: Global, name: &'static str, help: &'static str) -> Arg<'a>
     ensures { (rule_of result ≡ option_rule name.now) × (result.global ≡ false) }
 {
     Arg::new(alloc, name).long(name).help(help)
@@ -112,19 +136,16 @@ fn bare_command<'a>(
     Command::new(alloc, name).about(about).after_help(example)
 }
 
-/// A command with these words and options.
-pub(crate) fn command_of<'a>(
+/// The subcommand, with the option `--hints`, which each has, behind its own.
+pub(crate) fn subcommand_of<'a>(
     alloc: Global,
-    name: &'static str,
-    about: &'static str,
-    example: &'static str,
-    parts: &[Part],
+    subcommand: &Subcommand,
 ) -> Result<Command<'a>, AllocError>
-    ensures { IfOk result (IsMade (with_parts (new_app name.now) parts.now)) }
+    ensures { IfOk result (IsMade (subcommand_app subcommand.now)) }
 {
-    let mut command = bare_command(alloc, name, about, example);
-    for part in parts {
+    let mut command = bare_command(alloc, subcommand.name, subcommand.about, subcommand.example);
+    for part in subcommand.parts {
         command = command.arg(arg_of(alloc, *part))?;
     }
-    Ok(command)
+    command.arg(arg_of(alloc, HINTS))
 }

@@ -49,7 +49,7 @@ fn run_decide<R: Files + AllocGlobal, C: VerdictWorkers, W: Write>(
     file: &str,
     writer: &mut W,
 ) -> Ended {
-    decide_file(rt, workers, file, 0, writer).ended
+    decide_file(rt, workers, file, 0, writer).into_ended()
 }
 
 fn run_report<R: Files + AllocGlobal, C: VerdictWorkers, W: Write>(
@@ -58,7 +58,7 @@ fn run_report<R: Files + AllocGlobal, C: VerdictWorkers, W: Write>(
     file: &str,
     writer: &mut W,
 ) -> Ended {
-    report_file(rt, workers, file, 0, writer).ended
+    report_file(rt, workers, file, 0, writer).into_ended()
 }
 
 fn run_call<R: Files + Eprint + AllocGlobal, C: VerdictWorkers, W: Write>(

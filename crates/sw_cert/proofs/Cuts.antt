@@ -1,10 +1,10 @@
 -- A text is cut at its LFs.
-use Rattle.std.proofs.Common.{◌≡◌, ℕ, ◌+◌, ◌%◌, ◌<◌, ◌≤◌, ◌^◌, Bool, true, false, List, [], ◌∷◌, ◌++◌, length, refl, sym, ap, ◌∙◌, inl, inr, arith, append_assoc, append-nil, ne_eqb, not, suc, take, drop, cond, Some, None}
-use Rattle.std.specs.Prelude.{◌==◌, codes, map, All, position, nat_lt}
-use Rattle.std.specs.List.{list_all, position_or_len, onto_first, AllByRecursion, flat_map, slice_split, join_with_byte}
-use Rattle.std.proofs.lemmas.Bool.{and_parts, false≢true, ltb-true, ltb-false, cases_Bool}
+use Rattle.std.proofs.Common.{◌≡◌, ℕ, ◌+◌, ◌%◌, ◌<◌, ◌≤◌, ◌^◌, Bool, true, false, List, [], ◌∷◌, ◌++◌, length, refl, sym, ap, ◌∙◌, arith, append_assoc, append-nil, ne_eqb, not}
+use Rattle.std.specs.Prelude.{◌==◌, codes, map, All}
+use Rattle.std.specs.List.{list_all, AllByRecursion, flat_map, slice_split, join_with_byte}
+use Rattle.std.proofs.lemmas.Bool.{and_parts, false≢true}
 use Rattle.std.specs.Fmt.{decimal}
-use Rattle.std.proofs.lemmas.List.Splits.{slice_split_at, slice_split_first}
+use Rattle.std.proofs.lemmas.List.Splits.{slice_split_at}
 use Rattle.std.proofs.lemmas.List.Elements.{All-nil, All-cons, All-append}
 use Rattle.std.proofs.lemmas.Fmt.{decimal_by_steps}
 use Rattle.sw_flow.specs.declared.place.Place.{Place}

@@ -6,5 +6,6 @@ pub mod Writes
 pub mod Parted
 pub mod Written
 pub mod Made
+pub mod Rising
 pub mod Blocks
 pub mod Numbered

@@ -1,14 +1,15 @@
 //! Certificates, and their text.
-ghost use Rattle.std.specs.Prelude.{◌≡◌, ◌<◌, ◌≤◌, ◌==◌, ◌↔◌, ◌&&◌, true, length, map, IfSome, IsSome, IfOk};
+ghost use Rattle.std.specs.Prelude.{◌≡◌, ◌+◌, ◌<◌, ◌≤◌, ◌==◌, ◌↔◌, ◌&&◌, true, length, map, All, Err, IfErr, IfSome, IsSome, IfOk};
 ghost use Rattle.sw_cert.specs.Grammar.{spelling};
+ghost use Rattle.sw_cert.specs.Parts.{IsReadPart, read_rest};
 ghost use Rattle.sw_cert.specs.Reading.{state_of};
-ghost use Rattle.sw_cert.specs.Text.{is_ended, contents_of};
+ghost use Rattle.sw_cert.specs.Text.{Gives, is_ended, contents_of};
 ghost use Rattle.sw_cert.specs.Sound.{IsSound};
 ghost use Rattle.sw_cert.specs.declared.certificate.CertificateFault.TheVariants.{Memory};
 
 use crate::draft::Draft;
 use crate::lines::Expected;
-use crate::parts::{ReadWorkers, parts_of};
+use crate::parts::{Lists, ReadWorkers, parts_of};
 use crate::reading::{read_head, read_to_end, take_lists};
 use crate::write::spelled;
 use std::alloc::{AllocError, AllocFailed, Global};
@@ -67,7 +68,7 @@ pub(crate) fn finished(draft: Draft, rest: &[u8]) -> Option<Certificate>
     ensures ended { IsSome result ↔ (is_ended draft.expected && (length rest.now == 0) ≡ true) }
     ensures same { IfSome result (λ c. c ≡ contents_of (state_of draft)) }
 {
-    if draft.expected != Expected::Nothing || !rest.is_empty() {
+    if !matches!(draft.expected, Expected::Nothing) || !rest.is_empty() {
         return None;
     }
     let Draft {
@@ -80,6 +81,37 @@ pub(crate) fn finished(draft: Draft, rest: &[u8]) -> Option<Certificate>
         numbers,
         places: flows,
     })
+}
+
+/// The lists of flows that parts of a text are, in the order of the parts.
+fn lists_found<W: ReadWorkers>(
+    workers: &W,
+    alloc: Global,
+    text: &[u8],
+) -> Result<Vec<Option<Lists>>, AllocError>
+    ensures { IfOk result (λ v. All (λ lists. IfSome lists (IsReadPart text.now)) v.items) }
+{
+    let parts = parts_of(alloc, text)?;
+    workers.lists_of_parts(alloc, text, &parts)
+}
+
+/// Reads a text up to its lists, and of those the parts that are read by themselves: what stands there, and the number of the line with
+/// which it begins.
+fn read_lists<'a, W: ReadWorkers>(
+    workers: &W,
+    alloc: Global,
+    draft: &mut Draft,
+    text: &'a [u8],
+) -> Result<(&'a [u8], usize), CertificateFault>
+    requires { IsSound (state_of draft.old) }
+    ensures same { IfOk result (λ r. read_rest r.1 (state_of draft.new) r.0.now ≡ read_rest 1 (state_of draft.old) text.entry.now) }
+    ensures sound { IfOk result (λ _. IsSound (state_of draft.new)) }
+    ensures few { IfOk result (λ r. r.1 + length r.0.now ≤ length text.entry.now + 1) }
+    ensures wrong { IfErr result (λ fault. Gives (read_rest 1 (state_of draft.old) text.entry.now) (Err fault)) }
+{
+    let (lists, number) = read_head(alloc, draft, text)?;
+    let found = lists_found(workers, alloc, lists)?;
+    Ok(take_lists(draft, lists, number, found)?)
 }
 
 impl Certificate {
@@ -100,10 +132,7 @@ impl Certificate {
         ensures { Reads text.now result }
     {
         let mut draft = Draft::new(alloc);
-        let (lists, number) = read_head(alloc, &mut draft, text)?;
-        let parts = parts_of(alloc, lists)?;
-        let found = workers.lists_of_parts(alloc, lists, &parts)?;
-        let (rest, number) = take_lists(&mut draft, lists, number, found)?;
+        let (rest, number) = read_lists(workers, alloc, &mut draft, text)?;
         read_to_end(alloc, draft, rest, number)
     }
 

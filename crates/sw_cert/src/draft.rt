@@ -1,6 +1,6 @@
 //! A certificate that is being read.
-ghost use Rattle.std.specs.Prelude.{◌≡◌, OnOk, IfOk};
-ghost use Rattle.sw_cert.specs.Reading.{Follows, last_of, state_of, with_place, with_said};
+ghost use Rattle.std.specs.Prelude.{◌≡◌, ◌++◌, ◌∷◌, [], OnOk, IfOk, map};
+ghost use Rattle.sw_cert.specs.Reading.{Follows, items_of, last_of, state_of, with_place, with_said};
 
 use crate::lines::{Expected, Said, moved, said_by};
 use std::alloc::{AllocError, Global};
@@ -17,15 +17,23 @@ pub(crate) struct Draft {
 }
 
 impl Draft {
+    /// Puts the block, which is whole, into the list.
+    fn end_block(&mut self, alloc: Global) -> Result<(), AllocError>
+        ensures { OnOk result (state_of self.new ≡ record (state_of self.old) { flows = map items_of self.old.flows.items ++ self.old.block.items ∷ []; open_block = [] }) }
+    {
+        self.flows
+            .push(mem::replace(&mut self.block, Vec::new(alloc)))?;
+        Ok(())
+    }
+
     fn add_place(&mut self, alloc: Global, place: Place) -> Result<(), AllocError>
         ensures { OnOk result (state_of self.new ≡ with_place (state_of self.old) place self.old.expected) }
     {
         self.block.push(place)?;
-        if let Expected::Places(0, _) = self.expected {
-            let whole = mem::replace(&mut self.block, Vec::new(alloc));
-            self.flows.push(whole)?;
+        match self.expected {
+            Expected::Places(0, _) => self.end_block(alloc),
+            _ => Ok(()),
         }
-        Ok(())
     }
 
     fn add(&mut self, alloc: Global, said: Said) -> Result<(), AllocError>

@@ -8,7 +8,7 @@ use sw_topo::Chan;
 use sw_topo::limits::{MAX_ADDRESS, MAX_CHANNELS, MAX_PLACES, MAX_WAYS};
 
 /// What the next line has to be.
-#[derive(Clone, Copy, PartialEq, Eq)]
+#[derive(Clone, Copy)]
 pub enum Expected {
     Title,
     Channels,
@@ -22,7 +22,7 @@ pub enum Expected {
 }
 
 /// What a line says.
-#[derive(Clone, Copy, PartialEq, Eq)]
+#[derive(Clone, Copy)]
 pub enum Said {
     Begun,
     ChannelCount(u32),
@@ -56,8 +56,8 @@ pub(crate) fn stands_before(last: Option<Place>, place: &Place) -> bool
     match last {
         None => true,
         Some(p) => {
-            let (before, after) = (p.channel.number(), place.channel.number());
-            before < after || (before == after && p.deleted < place.deleted)
+            let before = (p.channel.number(), p.deleted);
+            before < (place.channel.number(), place.deleted)
         }
     }
 }

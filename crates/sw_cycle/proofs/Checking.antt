@@ -1,16 +1,18 @@
 -- What the check of a cycle looks at.
-use Rattle.std.proofs.Common.{◌≡◌, ℕ, ◌+◌, ◌%◌, ◌<◌, List, length, map, get_or, Some, refl, sym, ap, ◌∙◌, subst, arith}
-use Rattle.std.specs.Prelude.{slice_get}
+use Rattle.std.proofs.Common.{◌≡◌, ℕ, ◌+◌, ◌%◌, ◌<◌, ◌≤◌, ◌↔◌, ◌∷◌, List, length, map, get_or, drop, drop-cons, suc, Some, refl, sym, ap, ◌∙◌, subst, inl, inr, arith}
+use Rattle.std.specs.Prelude.{Bool, IsTrue, slice_get}
 use Rattle.std.specs.Option.{option_map}
 use Rattle.std.proofs.Math.Nat.{mod-eq_of_lt, mod-lt}
-use Rattle.std.proofs.lemmas.List.{get_or_default}
-use Rattle.std.proofs.lemmas.Option.{same_Some, slice_get-map, slice_get_read}
+use Rattle.std.proofs.lemmas.Bool.{cases_eq}
+use Rattle.std.proofs.lemmas.List.{get_or_default, length-map}
+use Rattle.std.proofs.lemmas.Option.{same_Some, slice_get-map, slice_get_read, slice_get_within}
 use Rattle.sw_config.specs.Entries.{Declaration, all_flows}
 use Rattle.sw_config.specs.Valid.{IsFlow, IsValid}
 use Rattle.sw_config.proofs.Flows.{All-at}
 use Rattle.sw_config.proofs.FlowLaws.{valid_flows}
+use Rattle.sw_flow.specs.declared.place.Place.{Place}
 use Rattle.sw_cycle.specs.declared.cycle.Cause.{Cause}
-use Rattle.sw_cycle.specs.Cycles.{cause_of, CauseEntry, IsAnswered, IsCause, IsShown, round}
+use Rattle.sw_cycle.specs.Cycles.{cause_of, CauseEntry, IsAnswered, IsCause, IsCausedAt, IsShown, round}
 
 -- flows end at nodes
 pub answered_inside : (d : Declaration) → IsValid d → (t : ℕ) → IsAnswered d t → t < length d.nodes
@@ -39,15 +41,36 @@ module _ (d : Declaration) (channels : List ℕ) (causes : List Cause) (i : ℕ)
   next : round channels (i + 1) ≡ e
   next = get_or_default channels ((i + 1) % length channels) 0 e (mod-lt (i + 1) read.some) ∙ sym read.next_is
 
-  pub shown_at : IsShown d (record { channels = channels; causes = map cause_of causes }) → IsCause d (cause_of x) c e
-  shown_at shown =
-      let is = shown.caused i (cause_of x) listed in
-      subst (λ (n : ℕ). IsCause d (cause_of x) c n) next (subst (λ (n : ℕ). IsCause d (cause_of x) n (round channels (i + 1))) here is)
+  pub caused_at : (told : Bool) → IsTrue told ↔ IsCause d (cause_of x) c e → IsTrue told ↔ IsCausedAt d channels (map cause_of causes) i
+  caused_at told exact = (
+    λ is cause at.
+        let same : cause_of x ≡ cause = same_Some (cause_of x) cause (sym listed ∙ at) in
+        let round_is : IsCause d (cause_of x) (round channels i) (round channels (i + 1)) =
+        subst (λ (n : ℕ). IsCause d (cause_of x) n (round channels (i + 1))) (sym here) (subst (λ (n : ℕ). IsCause d (cause_of x) c n) (sym next) (exact.0 is))
+        in
+        subst (λ (q : CauseEntry). IsCause d q (round channels i) (round channels (i + 1))) same round_is,
+    λ all.
+        let is = all (cause_of x) listed in
+        exact.1 (subst (λ (n : ℕ). IsCause d (cause_of x) c n) next (subst (λ (n : ℕ). IsCause d (cause_of x) n (round channels (i + 1))) here is)),
+  )
 
-  pub shows_at : IsCause d (cause_of x) c e → (k : ℕ) (cause : CauseEntry) → k ≡ i → slice_get (map cause_of causes) k ≡ Some cause → IsCause d cause (round channels k) (round channels (k + 1))
-  shows_at is k cause at_i at =
-      let same : cause_of x ≡ cause = same_Some (cause_of x) cause (sym listed ∙ ap (λ (n : ℕ). slice_get (map cause_of causes) n) (sym at_i) ∙ at) in
-      let round_is : IsCause d (cause_of x) (round channels i) (round channels (i + 1)) =
-      subst (λ (n : ℕ). IsCause d (cause_of x) n (round channels (i + 1))) (sym here) (subst (λ (n : ℕ). IsCause d (cause_of x) c n) (sym next) is)
-      in
-      subst (λ (n : ℕ). IsCause d cause (round channels n) (round channels (n + 1))) (sym at_i) (subst (λ (q : CauseEntry). IsCause d q (round channels i) (round channels (i + 1))) same round_is)
+-- one cause more
+pub caused_more : (d : Declaration) (channels : List ℕ) (causes : List CauseEntry) (n : ℕ) → ((k : ℕ) → k < n → IsCausedAt d channels causes k) → IsCausedAt d channels causes n → (k : ℕ) → k < n + 1 → IsCausedAt d channels causes k
+caused_more d channels causes n before new k lt = elim (cases_eq k n) [
+  | inl same ↦ subst (IsCausedAt d channels causes) (sym same) new
+  | inr other ↦ before k (omega arith)
+]
+
+pub all_caused : (d : Declaration) (channels : List ℕ) (causes : List Cause) (n : ℕ) → 0 < length channels → length causes ≡ length channels → length channels ≤ n → ((k : ℕ) → k < n → IsCausedAt d channels (map cause_of causes) k)
+    → IsShown d (record { channels = channels; causes = map cause_of causes })
+all_caused d channels causes n some one_each all caused = record {
+  some = some;
+  one_each = length-map causes cause_of ∙ one_each;
+  caused = λ k cause at. caused k (let within = slice_get_within (map cause_of causes) k cause at in omega (arith, within, length-map causes cause_of)) cause at;
+}
+
+-- the places from one on
+pub next_place : (places : List Place) (i : ℕ) (q : Place) → i < length places → q ≡ get_or places i q → drop i places ≡ q ∷ drop (i + 1) places
+next_place places i q lt is =
+    let next : suc i ≡ i + 1 = omega arith in
+    drop-cons places i q lt ∙ ap (λ (p : Place). p ∷ drop (suc i) places) (sym is) ∙ ap (λ (k : ℕ). q ∷ drop k places) next

@@ -8,7 +8,7 @@ use Rattle.std.proofs.lemmas.Option.{get_or_from_slice_get, slice_get-get_or, sl
 use Rattle.sw_config.specs.Entries.{Declaration}
 use Rattle.sw_cycle.specs.declared.cycle.Cause.{Cause}
 use Rattle.sw_cycle.specs.Cycles.{cause_of, CauseEntry, round}
-use Rattle.sw_cycle.specs.Causes.{AreChosen, IsChosenCause}
+use Rattle.sw_cycle.specs.Causes.{AreChosen, AreFor, IsChosenCause}
 use Rattle.sw_cycle.specs.Laws.{ChosenCausesShowCycles, ShownCyclesAreRounds}
 use Rattle.sw_model.proofs.Flows.{some_at}
 use Rattle.sw_cycle.proofs.Shown.{causes_show}
@@ -24,11 +24,6 @@ pub shown_round : ShownCyclesAreRounds
 shown_round d valid cycle shown = λ i lt.
     let cause = some_at cycle.causes i (omega (arith, lt, shown.one_each)) in
     causes_show d valid cause.0 (round cycle.channels i) (round cycle.channels (i + 1)) (shown.caused i cause.0 cause.1)
-
--- causes for the first n channels
-pub record AreFor (d : Declaration) (channels : List ℕ) (n : ℕ) (causes : List CauseEntry) : Type 0 where
-  pub one_each : length causes ≡ n
-  pub chosen : (i : ℕ) (cause : CauseEntry) → slice_get causes i ≡ Some cause → IsChosenCause d cause (round channels i) (round channels (i + 1))
 
 pub none_yet : (d : Declaration) (channels : List ℕ) → AreFor d channels 0 []
 none_yet d channels = record {

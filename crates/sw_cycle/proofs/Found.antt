@@ -1,5 +1,5 @@
 -- First steps, one place and one flow more at a time.
-use Rattle.std.proofs.Common.{◌≡◌, ℕ, zero, suc, ◌+◌, ◌<◌, ◌≤◌, List, [], ◌∷◌, ◌++◌, length, get_or, set, Option, Some, None, Contains, sym, ap, ◌∙◌, subst, inl, inr, arith, get_or-set_same, get_or-set_other, length-set}
+use Rattle.std.proofs.Common.{◌≡◌, ℕ, zero, suc, ◌+◌, ◌<◌, ◌≤◌, List, [], ◌∷◌, ◌++◌, length, get_or, set, Option, Some, None, Contains, refl, sym, ap, ◌∙◌, subst, inl, inr, arith, get_or-set_same, get_or-set_other, length-set}
 use Rattle.std.specs.Prelude.{MatchOption, slice_get, slice_index_or}
 use Rattle.std.proofs.Math.Nat.{mod-eq_of_lt}
 use Rattle.std.proofs.lemmas.Bool.{cases_eq, cases_lt}
@@ -8,9 +8,9 @@ use Rattle.std.proofs.lemmas.Option.{slice_get-get_or, slice_get_within}
 use Rattle.sw_config.specs.Entries.{FlowEntry, Declaration, all_flows}
 use Rattle.sw_flow.specs.declared.place.Place.{Place}
 use Rattle.sw_flow.specs.Places.{Follows, IsPlace, IsPlaceList}
-use Rattle.sw_cycle.specs.Cycles.{round}
+use Rattle.sw_cycle.specs.Cycles.{ByFlow, IsFlowCause, round}
 use Rattle.sw_cycle.specs.declared.steps.Step.{Step}
-use Rattle.sw_cycle.specs.Causes.{GoesOn, IsStep, NoneBelow, NoneGoesOn}
+use Rattle.sw_cycle.specs.Causes.{GoesOn, IsChosenCause, IsStep, NoneBelow, NoneGoesOn}
 use Rattle.sw_cycle.specs.Firsts.{AreFirst, IsFirstStep, IsNotedAt, IsStepAfter, IsTaken, NoneYet}
 use Rattle.sw_cycle.proofs.Stepped.{no_step}
 
@@ -26,6 +26,21 @@ module _ (d : Declaration) (M N : ℕ → ℕ → Type 0) (weaker : (c e : ℕ) 
 
 pub missing : (d : Declaration) (c e : ℕ) (o : Option Step) → o ≡ None → MatchOption o (NoneGoesOn d c e) (IsFirstStep d c e) → NoneGoesOn d c e
 missing d c e o is h = subst (λ (p : Option Step). MatchOption p (NoneGoesOn d c e) (IsFirstStep d c e)) is h
+
+pub first_of : (d : Declaration) (c e : ℕ) (o : Option Step) (s : Step) → o ≡ Some s → MatchOption o (NoneGoesOn d c e) (IsFirstStep d c e) → IsFirstStep d c e s
+first_of d c e o s is h = subst (λ (p : Option Step). MatchOption p (NoneGoesOn d c e) (IsFirstStep d c e)) is h
+
+-- ---- the cause by a first step
+
+module _ (d : Declaration) (c e : ℕ) (s : Step) (f : IsFirstStep d c e s) where
+  pub step_of : IsStep d s.flow s.last.channel s.next.channel s.last s.next
+  step_of = let is = f.step in record { flow = is.flow; numbered = is.numbered; place = is.place; goes = is.goes; from = refl; to = refl }
+
+  pub chosen_flow : (places : List Place) → IsFlowCause d s.flow places s.last.channel s.next.channel → IsChosenCause d (ByFlow s.flow places) c e
+  chosen_flow places h = record {
+    shows = subst (λ (y : ℕ). IsFlowCause d s.flow places c y) f.step.to (subst (λ (x : ℕ). IsFlowCause d s.flow places x s.next.channel) f.step.from h);
+    first = f.first;
+  }
 
 none_in : {X : Type 0} (x : X) → Contains [] x → ⊥
 none_in x h = let lt = h.1 in omega arith

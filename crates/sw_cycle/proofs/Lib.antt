@@ -14,3 +14,4 @@ pub mod Rowing
 pub mod Bridge
 pub mod Chunking
 pub mod Sound
+pub mod Replying

@@ -1,7 +1,7 @@
 -- Places with which nothing is wrong, as they are found beside the ports that are named there.
 use Rattle.std.proofs.Common.{◌≡◌, ◌↔◌, ◌≤◌, ◌++◌, ◌∷◌, [], ℕ, ◌+◌, inl, inr, List, length, get_or, Some, None, refl, sym, ap, ◌∙◌, subst, arith, All}
-use Rattle.std.specs.Prelude.{Bool, false, ◌&&◌, IsTrue, slice_get, true}
-use Rattle.std.proofs.lemmas.Bool.{and_from, and_parts, cases_eq, cases_lt}
+use Rattle.std.specs.Prelude.{Bool, ◌&&◌, IsTrue, slice_get}
+use Rattle.std.proofs.lemmas.Bool.{and_from, and_parts, cases_lt}
 use Rattle.std.proofs.lemmas.List.{get_or_append_left, get_or_push, length-append}
 use Rattle.std.proofs.lemmas.List.Elements.{All-push, Contains-get_or}
 use Rattle.std.proofs.lemmas.Option.{same_Some}
@@ -24,12 +24,12 @@ list_by_routed d f places list well i q lt =
     let p = get_or places i q in
     well p.channel p.deleted ((list.member p).0 (Contains-get_or places i q lt))
 
--- one flow more
-pub routed_more : (d : Declaration) (low n : ℕ) (f : FlowEntry) → slice_get (all_flows d) n ≡ Some f → AreRouted d low n → IsWellRouted d f → AreRouted d low (n + 1)
-routed_more d low n f numbered before well i g from below at = elim (cases_eq i n) [
-  | inl same ↦ subst (IsWellRouted d) (same_Some f g (sym numbered ∙ ap (slice_get (all_flows d)) (sym same) ∙ at)) well
-  | inr other ↦ before i g from (omega arith) at
-]
+-- one flow alone
+pub routed_one : (d : Declaration) (n : ℕ) (f : FlowEntry) → slice_get (all_flows d) n ≡ Some f → IsWellRouted d f ↔ AreRouted d n (n + 1)
+routed_one d n f numbered = (
+  λ well i g from below at. let same : i ≡ n = omega arith in subst (IsWellRouted d) (same_Some f g (sym numbered ∙ ap (slice_get (all_flows d)) (sym same) ∙ at)) well,
+  λ all. all n f (omega arith) (omega arith) numbered,
+)
 
 -- two runs of flows
 pub routed_joined : (d : Declaration) (low mid high : ℕ) → AreRouted d low mid → AreRouted d mid high → AreRouted d low high
@@ -53,13 +53,6 @@ all_pushed P xs x = (
     λ i d lt. subst P (get_or_append_left xs (x ∷ []) d i lt) (all i d (omega (arith, length-append xs (x ∷ [])))),
     subst P (get_or_push xs x x (length xs) refl) (all (length xs) x (omega (arith, length-append xs (x ∷ [])))),
   ),
-)
-
--- the flows below a number and the flow of that number
-pub routed_pushed : (d : Declaration) (low n : ℕ) (f : FlowEntry) → low ≤ n → slice_get (all_flows d) n ≡ Some f → ((AreRouted d low n × IsWellRouted d f) ↔ AreRouted d low (n + 1))
-routed_pushed d low n f from numbered = (
-  λ both. routed_more d low n f numbered both.0 both.1,
-  λ all. (λ i g above below at. all i g above (omega (arith, below)) at, all n f from (omega arith) numbered),
 )
 
 -- two runs of flows are one

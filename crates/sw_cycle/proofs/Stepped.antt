@@ -1,20 +1,12 @@
 -- Steps that are found, and none that is missed.
-use Rattle.std.proofs.Common.{◌≡◌, ℕ, zero, suc, List, [], ◌∷◌, Contains, Some, Vec, Global, sym, ◌∙◌, subst, arith}
+use Rattle.std.proofs.Common.{◌≡◌, ℕ, List, Contains, Some, sym, ◌∙◌, subst}
 use Rattle.std.specs.Prelude.{slice_get}
-use Rattle.std.specs.List.{AllZip}
-use Rattle.std.proofs.lemmas.Option.{same_Some, slice_get_within}
+use Rattle.std.proofs.lemmas.Option.{same_Some}
 use Rattle.sw_config.specs.Entries.{FlowEntry, Declaration, all_flows}
 use Rattle.sw_flow.specs.declared.place.Place.{Place}
 use Rattle.sw_flow.specs.Places.{Follows, IsPlace, IsPlaceList}
 use Rattle.sw_flow.specs.Ways.{GoesTo}
 use Rattle.sw_cycle.specs.Causes.{GoesOn}
-
-pub list_at : (d : Declaration) (fs : List FlowEntry) (lists : List (Vec Place Global)) (i : ℕ) (f : FlowEntry) (x : Vec Place Global) → AllZip (λ f ps. IsPlaceList d f ps.items) fs lists → slice_get fs i ≡ Some f → slice_get lists i ≡ Some x → IsPlaceList d f x.items
-list_at d [] lists i f x all at here = absurd (omega (arith, slice_get_within [] i f at))
-list_at d (g ∷ gs) [] i f x all at here = absurd all
-list_at d (g ∷ gs) (l ∷ ls) zero f x all at here =
-    subst (λ (h : FlowEntry). IsPlaceList d h x.items) (same_Some g f at) (subst (λ (v : Vec Place Global). IsPlaceList d g v.items) (same_Some l x here) all.0)
-list_at d (g ∷ gs) (l ∷ ls) (suc i) f x all at here = list_at d gs ls i f x all.1 at here
 
 module _ (d : Declaration) (i : ℕ) (f : FlowEntry) (places : List Place) (numbered : slice_get (all_flows d) i ≡ Some f) (list : IsPlaceList d f places) (c e : ℕ) where
   pub no_step : ((p : Place) (m : ℕ) → Contains places p → p.channel ≡ c → Follows d f p.channel p.deleted e m → ⊥) → GoesOn d i c e → ⊥

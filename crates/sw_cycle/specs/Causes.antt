@@ -47,3 +47,8 @@ IsRound d channels = (i : ℕ) → i < length channels → IsDependency (network
 pub record AreChosen (d : Declaration) (channels : List ℕ) (causes : List CauseEntry) : Type 0 where
   pub one_each : length causes ≡ length channels
   pub chosen : (i : ℕ) (cause : CauseEntry) → slice_get causes i ≡ Some cause → IsChosenCause d cause (round channels i) (round channels (i + 1))
+
+-- causes for the first n channels
+pub record AreFor (d : Declaration) (channels : List ℕ) (n : ℕ) (causes : List CauseEntry) : Type 0 where
+  pub one_each : length causes ≡ n
+  pub chosen : (i : ℕ) (cause : CauseEntry) → slice_get causes i ≡ Some cause → IsChosenCause d cause (round channels i) (round channels (i + 1))

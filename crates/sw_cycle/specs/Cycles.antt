@@ -64,6 +64,10 @@ IsCause d (ByFlow i places) c e = IsFlowCause d i places c e
 abbrev pub round : List ℕ → ℕ → ℕ
 round channels i = slice_index channels (i % length channels)
 
+-- the cause at this place, if there is one, is a cause for the channel there and the next
+abbrev pub IsCausedAt : Declaration → List ℕ → List CauseEntry → ℕ → Type 0
+IsCausedAt d channels causes i = (cause : CauseEntry) → slice_get causes i ≡ Some cause → IsCause d cause (round channels i) (round channels (i + 1))
+
 -- there are channels, one cause a channel, and each is a cause for its channel and the next
 pub record IsShown (d : Declaration) (cycle : CycleEntry) : Type 0 where
   pub some : 0 < length cycle.channels

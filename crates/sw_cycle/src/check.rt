@@ -1,7 +1,7 @@
 //! The check of a shown cycle.
 ghost use Rattle.std.specs.Prelude.{◌≡◌, ◌<◌, ◌↔◌, IsSome, IsTrue, length, map};
 ghost use Rattle.sw_flow.specs.Ways.{GoesFromStart, GoesOver, IsStart};
-ghost use Rattle.sw_cycle.specs.Cycles.{cause_of, EndsOn, IsAnswered, IsCause, IsFlowCause, IsShown, IsTargetCause};
+ghost use Rattle.sw_cycle.specs.Cycles.{cause_of, EndsOn, IsAnswered, IsCause, IsCausedAt, IsFlowCause, IsShown, IsTargetCause};
 
 use crate::cycle::{Cause, Cycle};
 use sw_config::{Flow, Network};
@@ -96,6 +96,16 @@ fn is_cause(network: &Network, cause: &Cause, from: Chan, to: Chan) -> bool
     }
 }
 
+/// Is the cause at this place true of the channel there and the next one?
+fn is_caused_at(network: &Network, channels: &[Chan], causes: &[Cause], place: usize) -> bool
+    requires one_each { length causes.now ≡ length channels.now }
+    requires inside { place < length channels.now }
+    ensures { IsTrue result ↔ IsCausedAt network.now channels.now (map cause_of causes.now) place }
+{
+    let next = channels[(place + 1) % channels.len()];
+    is_cause(network, &causes[place], channels[place], next)
+}
+
 fn is_shown(network: &Network, channels: &[Chan], causes: &[Cause]) -> bool
     ensures { IsTrue result ↔ IsShown network.now (record { channels = channels.now; causes = map cause_of causes.now }) }
 {
@@ -103,9 +113,8 @@ fn is_shown(network: &Network, channels: &[Chan], causes: &[Cause]) -> bool
     if count == 0 || causes.len() != count {
         return false;
     }
-    for (i, cause) in causes.iter().enumerate() {
-        let next = channels[(i + 1) % count];
-        if !is_cause(network, cause, channels[i], next) {
+    for place in 0..count {
+        if !is_caused_at(network, channels, causes, place) {
             return false;
         }
     }

@@ -6,7 +6,7 @@ ghost use Rattle.sw_flow.specs.Places.{IsPlaceList, ends_of};
 ghost use Rattle.sw_machine.specs.Places.{IsDependency};
 ghost use Rattle.sw_model.specs.Model.{network_of};
 ghost use Rattle.sw_graph.specs.Rows.{IsGraph, Leads};
-ghost use Rattle.sw_cycle.specs.Named.{AreRouted};
+ghost use Rattle.sw_cycle.specs.Named.{AreNamed, AreRouted};
 ghost use Rattle.sw_cycle.specs.Rows.{AreOnce};
 
 use crate::answering::answering;
@@ -16,6 +16,25 @@ use crate::rows::rows;
 use std::alloc::{AllocError, Global};
 use sw_config::Network;
 use sw_flow::Place;
+use sw_topo::PortSet;
+
+/// The rows of the dependencies, from the sets of ports that flows name, by channel.
+fn rows_from(
+    alloc: Global,
+    network: &Network,
+    sets: &[PortSet],
+) -> Result<Vec<Vec<u16>>, AllocError>
+    requires { AreNamed network.now 0 (length (all_flows network.now)) sets.now }
+    ensures size { IfOk result (λ v. length v.items ≡ length (ends_of network.now)) }
+    ensures exact { IfOk result (λ v. (c e : ℕ) → (Leads v.items c e ↔ IsDependency (network_of network.now) c e)) }
+    ensures graph { IfOk result (λ v. IsGraph v.items) }
+    ensures once { IfOk result (λ v. AreOnce v.items) }
+{
+    // Names the network, which is valid by its type.
+    let _flows = network.flows();
+    let marks = answering(alloc, network)?;
+    rows(alloc, network, sets, &marks)
+}
 
 /// What `dependencies` gives, and whether each flow is well routed.
 ///
@@ -35,11 +54,8 @@ pub fn routed_dependencies<W: PortWorkers>(
     ensures once { IfOk result (λ r. AreOnce r.0.items) }
     ensures routed { IfOk result (λ r. IsTrue r.1 ↔ AreRouted network.now 0 (length (all_flows network.now))) }
 {
-    // Names the network, which is valid by its type.
-    let _flows = network.flows();
     let Named { sets, is_routed } = all_named(workers, alloc, network, places)?;
-    let marks = answering(alloc, network)?;
-    let rows = rows(alloc, network, &sets, &marks)?;
+    let rows = rows_from(alloc, network, &sets)?;
     Ok((rows, is_routed))
 }
 

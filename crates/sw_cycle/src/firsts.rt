@@ -1,12 +1,13 @@
 //! The first steps of flows from each channel of a round to the next one.
-ghost use Rattle.std.specs.Prelude.{◌≡◌, ◌<◌, ◌≤◌, ℕ, All, Contains, IfOk, Some, [], length, slice_get, ◌↔◌};
+ghost use Rattle.std.specs.Prelude.{◌≡◌, ◌+◌, ◌<◌, ◌≤◌, ℕ, All, Contains, IfOk, Some, [], length, slice_get, ◌↔◌};
 ghost use Rattle.std.specs.List.{AllZip};
 ghost use Rattle.sw_config.specs.Entries.{all_flows};
 ghost use Rattle.sw_flow.specs.Places.{IsPlace, IsPlaceList, ends_of};
-ghost use Rattle.sw_cycle.specs.Causes.{NoneGoesOn};
+ghost use Rattle.sw_cycle.specs.Causes.{NoneBelow, NoneGoesOn};
 ghost use Rattle.sw_cycle.specs.Firsts.{AreFirst, AreNoted, IsNotedAt, IsStepAfter, NoneYet};
 ghost use Rattle.sw_cycle.specs.Positions.{ArePositions};
 
+use crate::flow_places::flow_and_places;
 use crate::positions::positions_of;
 use crate::steps::{Step, follower_between};
 use std::alloc::{AllocError, Global};
@@ -107,6 +108,45 @@ fn note_places(
     }
 }
 
+/// Takes the places of the flow of that number into account.
+fn note_flow(
+    network: &Network,
+    places: &[Vec<Place>],
+    number: u16,
+    channels: &[Chan],
+    positions: &[Vec<usize>],
+    steps: &mut [Option<Step>],
+)
+    requires lists { AllZip (λ f ps. IsPlaceList network.now f ps.items) (all_flows network.now) places.now }
+    requires inside { number < length (all_flows network.now) }
+    requires count { length positions.now ≡ length (ends_of network.now) }
+    requires positions { ArePositions channels.now (length channels.now) positions.now }
+    requires first { AreFirst network.now (NoneBelow network.now number) channels.now steps.old }
+    ensures { AreFirst network.now (NoneBelow network.now (number + 1)) channels.now steps.new }
+{
+    let (flow, listed) = flow_and_places(network, places, number);
+    note_places(network, number, flow, listed, channels, positions, steps);
+}
+
+/// Takes the places of all flows into account.
+fn note_flows(
+    network: &Network,
+    places: &[Vec<Place>],
+    channels: &[Chan],
+    positions: &[Vec<usize>],
+    steps: &mut [Option<Step>],
+)
+    requires lists { AllZip (λ f ps. IsPlaceList network.now f ps.items) (all_flows network.now) places.now }
+    requires count { length positions.now ≡ length (ends_of network.now) }
+    requires positions { ArePositions channels.now (length channels.now) positions.now }
+    requires first { AreFirst network.now (NoneBelow network.now 0) channels.now steps.old }
+    ensures { AreFirst network.now (NoneGoesOn network.now) channels.now steps.new }
+{
+    for number in 0..network.flows() {
+        note_flow(network, places, number, channels, positions, steps);
+    }
+}
+
 /// For each channel of the round and the next one a step of the first flow that goes on so, if one
 /// does.
 ///
@@ -123,12 +163,6 @@ pub(crate) fn first_steps(
 {
     let positions = positions_of(alloc, usize::from(network.channels()), channels)?;
     let mut steps = vec![in alloc; None; channels.len()]?;
-    for number in 0..network.flows() {
-        let flow = network.flow(number);
-        let listed = &places[usize::from(number)];
-        note_places(
-            network, number, flow, listed, channels, &positions, &mut steps,
-        );
-    }
+    note_flows(network, places, channels, &positions, &mut steps);
     Ok(steps)
 }

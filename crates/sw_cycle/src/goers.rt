@@ -1,5 +1,5 @@
 //! All flows that go on from each channel of a round to the next one.
-ghost use Rattle.std.specs.Prelude.{◌≡◌, ◌+◌, ◌<◌, ◌≤◌, ◌↔◌, AllPairs, Contains, IfOk, IsTrue, OnOk, Some, length, nat_lt, slice_get, true};
+ghost use Rattle.std.specs.Prelude.{◌≡◌, ◌+◌, ◌<◌, ◌≤◌, ◌↔◌, AllPairs, Contains, IfOk, IsTrue, OnOk, Some, length, nat_lt, slice_get};
 ghost use Rattle.std.specs.List.{AllZip};
 ghost use Rattle.std.specs.List.Sorted.{IsPartitionPoint};
 ghost use Rattle.sw_config.specs.Entries.{all_flows};
@@ -8,6 +8,8 @@ ghost use Rattle.sw_flow.specs.Places.{IsBefore, IsPlaceList};
 ghost use Rattle.sw_cycle.specs.Causes.{GoesOn};
 ghost use Rattle.sw_cycle.specs.Goers.{AreBelow, AreFlows, AreMarked, IsTakenAt};
 
+use crate::flow_places::flow_and_places;
+use crate::marks::is_marked;
 use crate::steps::follower_between;
 use std::alloc::{AllocError, Global};
 use sw_config::{Flow, Network};
@@ -102,15 +104,6 @@ fn marks_of(
     Ok(marks)
 }
 
-fn is_marked(marks: &[bool], channel: Chan) -> bool
-    ensures { IsTrue result ↔ (slice_get marks.now channel ≡ Some true) }
-{
-    match marks.get(usize::from(channel.number())) {
-        Some(mark) => *mark,
-        None => false,
-    }
-}
-
 /// Does the flow of that number, which has these places, on channels that are marked, go on from
 /// the one channel to the other?
 fn goes_on_from(
@@ -128,7 +121,7 @@ fn goes_on_from(
     requires marked { AreMarked places.now marks.now }
     ensures { IsTrue result ↔ GoesOn network.now number from to }
 {
-    if !is_marked(marks, from) {
+    if !is_marked(marks, from.number()) {
         return false;
     }
     goes_on(network, number, flow, places, from, to)
@@ -182,6 +175,25 @@ fn take_flow(
     Ok(())
 }
 
+/// Takes the flow of that number into account at each step of the round.
+fn take_numbered(
+    alloc: Global,
+    network: &Network,
+    places: &[Vec<Place>],
+    number: u16,
+    channels: &[Chan],
+    flows: &mut [Vec<u16>],
+) -> Result<(), AllocError>
+    requires lists { AllZip (λ f ps. IsPlaceList network.now f ps.items) (all_flows network.now) places.now }
+    requires inside { number < length (all_flows network.now) }
+    requires below { AreBelow network.now channels.now number flows.old }
+    ensures { OnOk result (AreBelow network.now channels.now (number + 1) flows.new) }
+{
+    let (flow, listed) = flow_and_places(network, places, number);
+    let marks = marks_of(alloc, network, flow, listed)?;
+    take_flow(network, number, flow, listed, &marks, channels, flows)
+}
+
 /// For each of the channels the numbers of all flows that go on from it to the next one, and from
 /// the last to the first, in rising order. `places` has the places of each flow, by the flows'
 /// numbers, as `all_places` gives them.
@@ -203,10 +215,7 @@ pub fn flows_of_steps(
 {
     let mut flows = empty_rows(alloc, channels.len())?;
     for number in 0..network.flows() {
-        let flow = network.flow(number);
-        let listed = &places[usize::from(number)];
-        let marks = marks_of(alloc, network, flow, listed)?;
-        take_flow(network, number, flow, listed, &marks, channels, &mut flows)?;
+        take_numbered(alloc, network, places, number, channels, &mut flows)?;
     }
     Ok(flows)
 }

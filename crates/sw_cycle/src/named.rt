@@ -1,11 +1,12 @@
 //! The ports that leading bytes name, by the channels on which packets bring them.
-ghost use Rattle.std.specs.Prelude.{◌≡◌, ◌↔◌, ◌<◌, ◌≤◌, ◌∷◌, [], All, IfOk, IsTrue, None, length};
+ghost use Rattle.std.specs.Prelude.{◌≡◌, ◌↔◌, ◌+◌, ◌<◌, ◌≤◌, ◌∷◌, ℕ, [], All, IfOk, IsTrue, None, length};
 ghost use Rattle.std.specs.List.{AllZip};
 ghost use Rattle.sw_config.specs.Entries.{all_flows};
 ghost use Rattle.sw_flow.specs.Faults.{fault_at_switch, fault_of};
 ghost use Rattle.sw_flow.specs.Places.{IsPlaceList, ends_of};
 ghost use Rattle.sw_cycle.specs.Named.{AreAdded, AreNamed, AreRouted, ports_at_switch, ports_named};
 
+use crate::flow_places::flow_and_places;
 use std::alloc::{AllocError, Global};
 use sw_config::{Flow, Network};
 use sw_flow::{Place, fault_in, has_output};
@@ -81,6 +82,19 @@ fn add_places(network: &Network, flow: &Flow, places: &[Place], sets: &mut [Port
     all
 }
 
+/// Adds the ports that are named at the places of the flow of that number, and says whether it is well
+/// routed.
+fn add_flow(network: &Network, places: &[Vec<Place>], number: u16, sets: &mut [PortSet]) -> bool
+    requires lists { AllZip (λ f ps. IsPlaceList network.now f ps.items) (all_flows network.now) places.now }
+    requires inside { number < length (all_flows network.now) }
+    requires size { length sets.old ≡ length (ends_of network.now) }
+    ensures named { (low : ℕ) → low ≤ number → AreNamed network.now low number sets.old → AreNamed network.now low (number + 1) sets.new }
+    ensures routed { IsTrue result ↔ AreRouted network.now number (number + 1) }
+{
+    let (flow, listed) = flow_and_places(network, places, number);
+    add_places(network, flow, listed, sets)
+}
+
 /// The ports that flows name, by channel, and whether the flows are well routed.
 #[derive(Drop)]
 pub struct Named {
@@ -105,8 +119,7 @@ pub(crate) fn named_by(
     let mut sets = vec![in alloc; PortSet::EMPTY; usize::from(network.channels())]?;
     let mut is_routed = true;
     for number in low..high {
-        let listed = &places[usize::from(number)];
-        let is_sound = add_places(network, network.flow(number), listed, &mut sets);
+        let is_sound = add_flow(network, places, number, &mut sets);
         is_routed = is_routed & is_sound;
     }
     Ok(Named { sets, is_routed })

@@ -28,6 +28,18 @@ fn add_to(rows: &mut [Vec<usize>], channel: Chan, position: usize) -> Result<(),
     Ok(())
 }
 
+/// Adds each position to the row of the channel that stands there.
+fn add_positions(channels: &[Chan], rows: &mut [Vec<usize>]) -> Result<(), AllocError>
+    requires inside { All (λ c. c < length rows.old) channels.now }
+    requires empty { (c : ℕ) → row rows.old c ≡ [] }
+    ensures { OnOk result (ArePositions channels.now (length channels.now) rows.new) }
+{
+    for (position, channel) in channels.iter().enumerate() {
+        add_to(rows, *channel, position)?;
+    }
+    Ok(())
+}
+
 /// For each of so many channels the positions at which it stands in the list.
 pub(crate) fn positions_of(
     alloc: Global,
@@ -39,8 +51,6 @@ pub(crate) fn positions_of(
     ensures positions { IfOk result (λ v. ArePositions channels.now (length channels.now) v.items) }
 {
     let mut rows = empty_rows(alloc, count)?;
-    for (position, channel) in channels.iter().enumerate() {
-        add_to(&mut rows, *channel, position)?;
-    }
+    add_positions(channels, &mut rows)?;
     Ok(rows)
 }

@@ -1,13 +1,12 @@
 -- Parts of relations with the same steps.
-use Rattle.std.proofs.Common.{◌≡◌, ℕ, suc, ◌<◌, ◌≤◌, List, [], ◌∷◌, length, All}
-use Rattle.std.specs.Prelude.{Contains, slice_index}
+use Rattle.std.proofs.Common.{ℕ, suc, List, [], ◌∷◌, length}
+use Rattle.std.specs.Prelude.{slice_index}
 use Rattle.sw_graph.specs.Laws.{IsChain, IsCycle}
-use Rattle.sw_graph.specs.Levels.{Chain}
 use Rattle.sw_graph.proofs.Backs.{walks_map}
 use Rattle.sw_graph.proofs.Transfers.{chain_map}
 use Rattle.sw_graph.specs.declared.part.Part.{Part}
 use Rattle.sw_graph.specs.PartLaws.{PartsCarryOver}
-use Rattle.sw_graph.specs.Parts.{AreParts, AreTogether, IsPart, IsShortest, LeadsTo}
+use Rattle.sw_graph.specs.Parts.{AreTogether, IsPart, IsShortest, LeadsTo}
 use Rattle.sw_graph.specs.Shortest.{IsFewest, IsNext}
 
 leads_map : (P Q : ℕ → ℕ → Type 0) → ((c d : ℕ) → P c d → Q c d) → (c d : ℕ) → LeadsTo P c d → LeadsTo Q c d

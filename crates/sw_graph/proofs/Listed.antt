@@ -18,6 +18,9 @@ row_rec P (v ∷ g) (suc k) h lt = row_rec P g k h.1 (omega arith)
 pub row_read : (g : List (Vec ℕ Global)) (k : ℕ) (v : Vec ℕ Global) → k < length g → v ≡ get_or g k v → row g k ≡ v.items
 row_read g k v lt at = ap items_of (slice_get_read g (length g) k v refl lt at)
 
+pub row_at : (g : List (Vec ℕ Global)) (k : ℕ) (v : Vec ℕ Global) → k < length g → row g k ≡ (get_or g k v).items
+row_at g k v lt = row_read g k (get_or g k v) lt (get_or_default g k v (get_or g k v) lt)
+
 pub row_past : (g : List (Vec ℕ Global)) (k : ℕ) → length g ≤ k → row g k ≡ []
 row_past [] k le = refl
 row_past (v ∷ g) zero le = absurd (omega arith)
@@ -48,6 +51,5 @@ lead_inside g ok c d h = let lt = row_member g c d h in (lt, All-contains (λ d.
 -- the rows of predecessors list members alone
 pub reversed_graph : (g h : List (Vec ℕ Global)) → IsGraph g → IsReversed g h → IsGraph h
 reversed_graph g h ok r k v lt =
-    let at : row h k ≡ (get_or h k v).items = row_read h k (get_or h k v) lt (get_or_default h k v (get_or h k v) lt) in
     let P : List ℕ → Type 0 = λ l. All (λ d. d < length h) l in
-    subst P at (λ i d li. let e = get_or (row h k) i d in let s = (lead_inside g ok e k ((r.each e k).1 (All-contains_itself (row h k) i d li))).0 in let size = r.size in omega arith)
+    subst P (row_at h k v lt) (λ i d li. let e = get_or (row h k) i d in let s = (lead_inside g ok e k ((r.each e k).1 (All-contains_itself (row h k) i d li))).0 in let size = r.size in omega arith)

@@ -1,13 +1,13 @@
 -- Lists to which numbers are added that are new.
-use Rattle.std.proofs.Common.{◌≡◌, ℕ, ◌<◌, Bool, true, false, List, [], ◌∷◌, ◌++◌, length, get_or, All, refl, sym, ap, ◌∙◌, subst, ◌⊎◌, inl, inr, eqb}
+use Rattle.std.proofs.Common.{◌≡◌, ℕ, ◌+◌, ◌<◌, Bool, true, false, List, [], ◌∷◌, ◌++◌, length, get_or, take, All, refl, sym, ap, ◌∙◌, subst, ◌⊎◌, inl, inr, eqb}
 use Rattle.std.specs.Prelude.{Contains, AllPairs, ◌≢◌}
 use Rattle.std.specs.List.Sorted.{IsPermutation, IsStrictlyIncreasing, IsNonDecreasing}
 use Rattle.std.proofs.lemmas.Bool.{cases_eq, eqb-true, eq-eqb, ne_eqb}
-use Rattle.std.proofs.lemmas.List.{append-nil, append_assoc, get_or_append_left}
+use Rattle.std.proofs.lemmas.List.{append-nil, append_assoc, get_or_append_left, get_or_default, take_more}
 use Rattle.std.proofs.lemmas.List.Elements.{All-nil, All-cons, All-head, All-tail, All-push, Contains-append_left, Contains-push}
 use Rattle.std.proofs.lemmas.List.Folds.{Any-from_list_any}
 use Rattle.std.proofs.lemmas.Map.Keys.{IsDistinct-from_apart, IsDistinct-IsPermutation, IsStrictlyIncreasing-from_distinct}
-use Rattle.sw_graph.specs.Walks.{holds, with_number, with_all}
+use Rattle.sw_graph.specs.Walks.{IsWalk, holds, with_number, with_all}
 
 pub Contains-from_holds : (xs : List ℕ) (n : ℕ) → holds xs n ≡ true → Contains xs n
 Contains-from_holds xs n h =
@@ -77,3 +77,15 @@ rising_from_sort xs ys once same sorted =
         by : (x ≡ y) ⊎ (x ≡ y → ⊥) → eqb x y ≡ eqb y x
         by (inl e) = eq-eqb x y e ∙ sym (eq-eqb y x (sym e))
         by (inr ne) = ne_eqb x y ne ∙ sym (ne_eqb y x (λ e. ne (sym e)))
+
+-- adding a number that the marks tell
+pub known_stays : (marks : List Bool) (numbers : List ℕ) (n : ℕ) (b : Bool) → IsWalk marks numbers → n < length marks → b ≡ get_or marks n b → b ≡ true → numbers ≡ with_number numbers n
+known_stays marks numbers n b w lt at is = let e : holds numbers n ≡ true = sym (w.marked n lt) ∙ get_or_default marks n false b lt ∙ sym at ∙ is in rw e refl
+
+pub new_added : (marks : List Bool) (numbers : List ℕ) (n : ℕ) (b : Bool) → IsWalk marks numbers → n < length marks → b ≡ get_or marks n b → b ≡ false → numbers ++ n ∷ [] ≡ with_number numbers n
+new_added marks numbers n b w lt at is = let e : holds numbers n ≡ false = sym (w.marked n lt) ∙ get_or_default marks n false b lt ∙ sym at ∙ is in rw e refl
+
+-- one more number of a list is added
+pub pushed_more : (before now after xs : List ℕ) (i n : ℕ) → i < length xs → n ≡ get_or xs i 0 → now ≡ before ++ take i xs → after ≡ now ++ n ∷ [] → after ≡ before ++ take (i + 1) xs
+pushed_more before now after xs i n lt at now_is after_is =
+    after_is ∙ ap (λ l. l ++ n ∷ []) now_is ∙ append_assoc before (take i xs) (n ∷ []) ∙ ap (λ k. before ++ (take i xs ++ k ∷ [])) at ∙ ap (λ l. before ++ l) (sym (take_more xs i 0 lt))

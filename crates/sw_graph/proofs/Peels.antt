@@ -1,9 +1,9 @@
 -- A round, and what is peeled after the last.
 use Rattle.std.proofs.Common.{◌≡◌, ℕ, zero, suc, ◌+◌, ◌^◌, ◌<◌, ◌≤◌, ◌⊎◌, Bool, true, false, not, List, [], ◌∷◌, ◌++◌, length, get_or, replicate, refl, sym, ap, ◌∙◌, subst, inl, inr, arith, All, filter, min}
-use Rattle.std.specs.Prelude.{Vec, slice_index, Contains, Option, Some, None}
+use Rattle.std.specs.Prelude.{Vec, ◌==◌, slice_index, Contains, Option, Some, None}
 use Rattle.std.specs.declared.alloc.Global.{Global}
 use Rattle.std.specs.List.{range_with_len}
-use Rattle.std.proofs.lemmas.Bool.{cases_eq, cases_Bool, false≢true, cases_lt}
+use Rattle.std.proofs.lemmas.Bool.{cases_eq, cases_Bool, eq-eqb, eqb-true, false≢true, cases_lt}
 use Rattle.std.proofs.lemmas.List.{length-replicate}
 use Rattle.std.proofs.lemmas.List.FromFn.{get_or-range_with_len, length-range_with_len}
 use Rattle.std.proofs.lemmas.List.Elements.{All-contains, All-contains_itself, All-push, Contains-append_left, Contains-append_right, Contains-get_or, Contains-push, Contains-push_cases}
@@ -123,6 +123,13 @@ kept_fewer p (x ∷ xs) d h f =
 undone_kept : (b : Bool) → not b ≡ true → b ≡ false
 undone_kept true e = absurd (false≢true e)
 undone_kept false e = refl
+
+-- what a test of a list's length says
+pub some_left : (size : ℕ) (xs : List ℕ) (b : Bool) → size ≡ length xs → b ≡ (size == 0) → b ≡ false → 0 < length xs
+some_left size xs b is at no_more = elim (cases_lt 0 size) [ inl lt ↦ omega arith | inr le ↦ absurd (false≢true (sym no_more ∙ at ∙ eq-eqb size 0 (omega arith))) ]
+
+pub none_left : (size : ℕ) (xs : List ℕ) (b : Bool) → size ≡ length xs → b ≡ (size == 0) → b ≡ true → length xs ≡ 0
+none_left size xs b is at all = sym is ∙ eqb-true size 0 (sym at ∙ all)
 
 -- before the first round
 pub rounds_none : (g : List (Vec ℕ Global)) → AreRounds g 0 (replicate (length g) 0) (replicate (length g) false) (range_with_len 0 (length g))

@@ -1,16 +1,16 @@
 -- Steps of the loops.
-use Rattle.std.proofs.Common.{◌≡◌, ◌↔◌, ℕ, zero, suc, ◌+◌, ◌<◌, Bool, true, false, not, take, drop, filter, List, [], ◌∷◌, ◌++◌, length, set, refl, sym, ap, ◌∙◌, subst, inl, inr, arith, get_or-set_same, get_or-set_other, IsTrue}
+use Rattle.std.proofs.Common.{◌≡◌, ◌↔◌, ℕ, zero, suc, ◌+◌, ◌<◌, Bool, true, false, not, take, drop, filter, List, [], ◌∷◌, ◌++◌, length, get_or, set, refl, sym, ap, ◌∙◌, subst, inl, inr, arith, get_or-set_same, get_or-set_other, IsTrue, length-set}
 use Rattle.std.specs.Prelude.{Vec, Contains, slice_index}
 use Rattle.std.specs.declared.alloc.Global.{Global}
-use Rattle.std.specs.List.{range_with_len}
 use Rattle.std.proofs.lemmas.Bool.{cases_eq, false≢true}
+use Rattle.std.proofs.lemmas.List.{length_push}
 use Rattle.std.proofs.lemmas.List.Elements.{Contains-append_left, Contains-append_right, Contains-append_cases, Contains-push, Contains-push_cases}
 use Rattle.std.proofs.Math.Seq.{take-append_seam}
 use Rattle.sw_parallel.specs.Found.{AreKept}
 use Rattle.sw_graph.specs.Reversing.{AreAdded, AreBegun}
 use Rattle.sw_graph.specs.Rounds.{AllDone, AreFree, AreRounds, AreTaken, is_done}
 use Rattle.sw_graph.specs.Rows.{row, IsGraph, IsReversed, Leads}
-use Rattle.sw_graph.proofs.Listed.{row_member}
+use Rattle.sw_graph.proofs.Listed.{row_at, row_member}
 use Rattle.sw_graph.proofs.Peels.{left_falls, rounds_more, later_listed, listed_cases, not_listed}
 
 pub taken_more : (round e : ℕ) (xs levels levels2 : List ℕ) (done done2 : List Bool) → AreTaken round xs levels levels2 done done2 → e < length levels2 → e < length done2 → AreTaken round (xs ++ e ∷ []) levels (set levels2 e round) done (set done2 e true)
@@ -81,6 +81,49 @@ empty_more [] v h e (suc c) = refl
 empty_more (x ∷ rows) v h e zero = h zero
 empty_more (x ∷ rows) v h e (suc c) = empty_more rows v (λ c. h (suc c)) e c
 
+pub empty_rows_more : (rows more : List (Vec ℕ Global)) (v : Vec ℕ Global) (counter : ℕ) → ((c : ℕ) → row rows c ≡ []) × (length rows ≡ counter) → v.items ≡ [] → more ≡ rows ++ v ∷ [] → ((c : ℕ) → row more c ≡ []) × (length more ≡ counter + 1)
+empty_rows_more rows more v counter old none is =
+    (λ c. ap (λ x. row x c) is ∙ empty_more rows v old.0 none c, ap length is ∙ length_push rows v ∙ ap (λ n. n + 1) old.1)
+
+-- a row that is set
+set_row : (rows : List (Vec ℕ Global)) (k : ℕ) (v : Vec ℕ Global) → k < length rows → row (set rows k v) k ≡ v.items
+set_row [] k v lt = absurd (omega arith)
+set_row (x ∷ rows) zero v lt = refl
+set_row (x ∷ rows) (suc k) v lt = set_row rows k v (omega arith)
+
+other_row : (rows : List (Vec ℕ Global)) (k other : ℕ) (v : Vec ℕ Global) → (other ≡ k → ⊥) → row (set rows k v) other ≡ row rows other
+other_row [] k other v ne = refl
+other_row (x ∷ rows) zero zero v ne = absurd (ne refl)
+other_row (x ∷ rows) zero (suc other) v ne = refl
+other_row (x ∷ rows) (suc k) zero v ne = refl
+other_row (x ∷ rows) (suc k) (suc other) v ne = other_row rows k other v (λ e. ne (ap suc e))
+
+-- a number that is added to the row of d
+added_set : (rows : List (Vec ℕ Global)) (d k c : ℕ) (v : Vec ℕ Global) → d < length rows → k ≡ d → v.items ≡ row rows d ++ c ∷ [] → AreAdded (d ∷ []) c rows (set rows k v)
+added_set rows d k c v lt at is = subst (λ (i : ℕ). AreAdded (d ∷ []) c rows (set rows i v)) (sym at) (record {
+  size = length-set rows d v;
+  each = λ b e. elim (cases_eq e d) [
+    | inl same ↦
+        let here : row (set rows d v) e ≡ row rows e ++ c ∷ [] = ap (row (set rows d v)) same ∙ set_row rows d v lt ∙ is ∙ ap (λ x. row rows x ++ c ∷ []) (sym same) in
+        let P : List ℕ → Type 0 = λ l. Contains l b in
+        let Q : ℕ → Type 0 = λ x. Contains (row rows e ++ c ∷ []) x in (
+          λ h. elim (Contains-push_cases (row rows e) c b (subst P here h)) [ inl old ↦ inl old | inr new ↦ inr (let R : ℕ → Type 0 = λ x. Contains (d ∷ []) x in subst R (sym same) (Contains-push [] d), sym new) ],
+          λ h. subst P (sym here) (elim h [ inl old ↦ Contains-append_left (row rows e) (c ∷ []) b old | inr new ↦ subst Q (sym new.1) (Contains-push (row rows e) c) ]),
+        )
+    | inr ne ↦
+        let here = other_row rows d e v ne in
+        let P : List ℕ → Type 0 = λ l. Contains l b in (
+          λ h. inl (subst P here h),
+          λ h. subst P (sym here) (elim h [ inl old ↦ old | inr new ↦ absurd (elim (listed_cases d [] e new.0) [ inl s ↦ ne (sym s) | inr k ↦ not_listed e k ]) ]),
+        )
+  ];
+})
+
+pub added_at : (rows : List (Vec ℕ Global)) (d k c : ℕ) (old v : Vec ℕ Global) → d < length rows → k ≡ d → v.items ≡ (get_or rows k old).items ++ c ∷ [] → AreAdded (d ∷ []) c rows (set rows k v)
+added_at rows d k c old v lt at is =
+    let inside : k < length rows = omega arith in
+    added_set rows d k c v lt at (is ∙ ap (λ l. l ++ c ∷ []) (sym (row_at rows k old inside) ∙ ap (row rows) at))
+
 -- what is kept by a test
 kept_members : (P : ℕ → Type 0) (xs ys : List ℕ) → AreKept (λ x b. IsTrue b ↔ P x) xs ys → (c : ℕ) → Contains ys c ↔ (Contains xs c × P c)
 kept_members P [] ys h c = (λ k. absurd (not_listed c (subst (λ (l : List ℕ). Contains l c) h k)), λ k. absurd (not_listed c k.0))
@@ -115,24 +158,8 @@ whole len new old a b = let e : len ≡ length new = omega arith in ap (λ k. ta
 
 -- a round as the code makes it
 pub round_step : (g : List (Vec ℕ Global)) → IsGraph g → (round : ℕ) (levels : List ℕ) (done : List Bool) (left free : List ℕ) → AreRounds g round levels done left → AreFree g done left free → 0 < length free
-    → (free0 levels0 : List ℕ) (done0 : List Bool) (levels1 : List ℕ) (done1 : List Bool) (nl nd : ℕ) (done2 : List Bool) (left1 : List ℕ)
-    → free0 ≡ free → levels0 ≡ levels → done0 ≡ done → nl ≡ length levels → nd ≡ length done → length levels1 ≡ length levels0 → length done1 ≡ length done0 → AreTaken round free0 levels0 levels1 done0 done1
-    → done2 ≡ take nd (done1 ++ drop (length done1) done) → left1 ≡ filter (λ c. not (is_done done2 c)) left
-    → AreRounds g (round + 1) (take nl (levels1 ++ drop (length levels1) levels)) (take nd (done1 ++ drop (length done1) done)) left1 × (length left1 < length left)
-round_step g ok round levels done left free r f some free0 levels0 done0 levels1 done1 nl nd done2 left1 ef el ed sl sd ll ld t e2 eleft =
-    let T : List ℕ → Type 0 = λ x. AreTaken round x levels0 levels1 done0 done1 in
-    let U : List ℕ → Type 0 = λ x. AreTaken round free x levels1 done0 done1 in
-    let V : List Bool → Type 0 = λ x. AreTaken round free levels levels1 x done1 in
-    let taken = subst V ed (subst U el (subst T ef t)) in
-    let size : length levels1 ≡ length levels = ll ∙ ap length el in
-    let marks : length done1 ≡ length done = ld ∙ ap length ed in
-    let wl = whole nl levels1 levels sl size in
-    let wd = whole nd done1 done sd marks in
-    let same : left1 ≡ filter (λ c. not (is_done done1 c)) left = eleft ∙ ap (λ x. filter (λ c. not (is_done x c)) left) (e2 ∙ wd) in
-    let P : List ℕ → Type 0 = λ x. AreRounds g (round + 1) x done1 left1 in
-    let Q : List Bool → Type 0 = λ x. AreRounds g (round + 1) (take nl (levels1 ++ drop (length levels1) levels)) x left1 in
-    let L : List ℕ → Type 0 = λ x. AreRounds g (round + 1) levels1 done1 x in
-    let F : List ℕ → Type 0 = λ x. length x < length left in (
-      subst Q (sym wd) (subst P (sym wl) (subst L (sym same) (rounds_more g ok round levels done left free r f levels1 done1 taken some size marks))),
-      subst F (sym same) (left_falls g ok round levels done left free r f levels1 done1 taken some),
-    )
+    → (levels1 : List ℕ) (done1 : List Bool) (left1 : List ℕ) → length levels1 ≡ length levels → length done1 ≡ length done → AreTaken round free levels levels1 done done1 → left1 ≡ filter (λ c. not (is_done done1 c)) left
+    → AreRounds g (round + 1) levels1 done1 left1 × (length left1 < length left)
+round_step g ok round levels done left free r f some levels1 done1 left1 size marks t is =
+    let P : List ℕ → Type 0 = λ x. AreRounds g (round + 1) levels1 done1 x × (length x < length left) in
+    subst P (sym is) (rounds_more g ok round levels done left free r f levels1 done1 t some size marks, left_falls g ok round levels done left free r f levels1 done1 t some)

@@ -11,13 +11,13 @@ use Rattle.sw_graph.specs.Cycles.{IsTurned}
 use Rattle.sw_graph.specs.Walking.{times, IsLowest, IsSince}
 use Rattle.sw_graph.proofs.Counts.{flag, times_cons}
 
-pub rest_whole : (xs : List ℕ) (k : ℕ) → take (length xs - k) (drop k xs) ≡ drop k xs
+rest_whole : (xs : List ℕ) (k : ℕ) → take (length xs - k) (drop k xs) ≡ drop k xs
 rest_whole xs k = let e : length xs - k ≡ length (drop k xs) = sym (length-drop k xs) in ap (λ n. take n (drop k xs)) e ∙ take-length (drop k xs)
 
 all_reversed : (P : ℕ → Type 0) (xs : List ℕ) → ((k : ℕ) → k < length xs → P (slice_index xs k)) → All P (reverse xs)
 all_reversed P xs h = All-from_get_or P (reverse xs) 0 (λ i lt. let n = length-reverse xs in subst P (sym (get_or-reverse xs i 0 (omega arith))) (h (length xs - 1 - i) (omega arith)))
 
-pub turned_is : (xs : List ℕ) (low : ℕ) (cycle : List ℕ) → IsLowest xs low → cycle ≡ reverse (take (low + 1) xs) ++ reverse (drop (low + 1) xs) → IsTurned xs cycle
+turned_is : (xs : List ℕ) (low : ℕ) (cycle : List ℕ) → IsLowest xs low → cycle ≡ reverse (take (low + 1) xs) ++ reverse (drop (low + 1) xs) → IsTurned xs cycle
 turned_is xs low cycle h e =
     let a = take (low + 1) xs in
     let b = drop (low + 1) xs in
@@ -38,6 +38,14 @@ turned_is xs low cycle h e =
           let right = all_reversed P b (λ k lt. let n = length-drop (low + 1) xs in let g = get_or-drop (low + 1) xs k 0 in let le = h.1 (low + 1 + k) (omega arith) in omega arith) in
           subst (All P) (sym e) (All-append P (reverse a) (reverse b) left right);
     }
+
+-- as it is made
+pub turned_made : (xs : List ℕ) (low : ℕ) (none first made cycle : List ℕ) → IsLowest xs low → none ≡ [] → first ≡ none ++ take (length xs - (low + 1)) (drop (low + 1) xs) → made ≡ first ++ take (low + 1) xs → cycle ≡ reverse made → IsTurned xs cycle
+turned_made xs low none first made cycle h empty first_is made_is is =
+    let a = take (low + 1) xs in
+    let b = drop (low + 1) xs in
+    let whole : made ≡ b ++ a = made_is ∙ ap (λ l. l ++ a) (first_is ∙ ap (λ l. l ++ take (length xs - (low + 1)) b) empty ∙ rest_whole xs (low + 1)) in
+    turned_is xs low cycle h (is ∙ ap reverse whole ∙ reverse-append b a)
 
 place_within : (c : ℕ) (xs : List ℕ) → 0 < times xs c → position_or_len (λ x. x == c) xs < length xs
 place_within c [] some = absurd (omega arith)

@@ -3,10 +3,11 @@ ghost use Rattle.std.specs.Prelude.{◌≡◌, ℕ, ◌<◌, ◌==◌, ◌≤◌
 ghost use Rattle.sw_graph.specs.Cycles.{IsShownCycle};
 ghost use Rattle.sw_graph.specs.Levels.{HasCycle};
 ghost use Rattle.sw_graph.specs.Rounds.{IsPeeled, is_done};
-ghost use Rattle.sw_graph.specs.Rows.{IsGraph, Precedes};
-ghost use Rattle.sw_graph.specs.Walking.{GoesOn, IsFirstLeft, IsLeastOf, IsSince, IsWalk, lesser, times};
+ghost use Rattle.sw_graph.specs.Rows.{IsGraph, Precedes, row};
+ghost use Rattle.sw_graph.specs.Walking.{GoesOn, IsFirstLeft, IsLeastLeft, IsLeastOf, IsSince, IsWalk, lesser, times};
 
 use crate::marks::is_marked;
+use crate::rows::row_of;
 use crate::turn::turned;
 use std::alloc::{AllocError, Global};
 
@@ -46,6 +47,16 @@ fn least_left(members: &[u16], done: &[bool]) -> Option<u16>
     least
 }
 
+/// The least predecessor that is not done, of a member that is not done.
+fn least_before(predecessors: &[Vec<u16>], done: &[bool], c: u16) -> u16
+    requires inside { c < length predecessors.now }
+    requires left { is_done done.now c ≡ false }
+    requires goes_on { GoesOn predecessors.now done.now }
+    ensures { IsLeastLeft (row predecessors.now c) done.now result }
+{
+    least_left(row_of(predecessors, c), done).unwrap()
+}
+
 /// A walk, and the member of it that comes again.
 #[derive(Drop)]
 struct Walk {
@@ -72,7 +83,7 @@ fn walk_back(
     while !seen[usize::from(now)] {
         seen[usize::from(now)] = true;
         path.push(now)?;
-        now = least_left(&predecessors[usize::from(now)], done).unwrap();
+        now = least_before(predecessors, done, now);
     }
     Ok(Walk { path, again: now })
 }

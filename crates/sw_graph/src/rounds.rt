@@ -1,5 +1,5 @@
 //! The levels of the members that are not behind a cycle, found in rounds.
-ghost use Rattle.std.specs.Prelude.{◌≡◌, ◌<◌, ◌≤◌, All, IfOk, filter, length, not};
+ghost use Rattle.std.specs.Prelude.{◌≡◌, ◌<◌, ◌≤◌, All, IfOk, OnOk, false, filter, length, not, replicate};
 ghost use Rattle.std.specs.List.{range_with_len};
 ghost use Rattle.sw_graph.specs.Rounds.{AreTaken, IsPeeled, is_done};
 ghost use Rattle.sw_graph.specs.Rows.{IsGraph};
@@ -50,6 +50,32 @@ pub struct Peeled {
     pub done: Vec<bool>,
 }
 
+/// Takes the members in rounds, of which none is done, until no member is free.
+fn take_rounds<W: RoundWorkers>(
+    workers: &W,
+    alloc: Global,
+    predecessors: &[Vec<u16>],
+    levels: &mut [u16],
+    done: &mut [bool],
+) -> Result<(), AllocError>
+    requires few { length predecessors.now ≤ 65535 }
+    requires graph { IsGraph predecessors.now }
+    requires levels { levels.old ≡ replicate (length predecessors.now) 0 }
+    requires done { done.old ≡ replicate (length predecessors.now) false }
+    ensures { OnOk result (IsPeeled predecessors.now levels.new done.new) }
+{
+    let mut left = numbers(alloc, predecessors.len())?;
+    let mut round = 0;
+    let mut free = workers.free_members(alloc, predecessors, done, &left)?;
+    while !free.is_empty() {
+        take_all(&free, round, levels, done);
+        drop_done(&mut left, done);
+        round += 1;
+        free = workers.free_members(alloc, predecessors, done, &left)?;
+    }
+    Ok(())
+}
+
 /// Peels members off in rounds: each takes those that are left of which all predecessors were taken
 /// in earlier rounds, and the number of the round is their level.
 ///
@@ -67,14 +93,6 @@ pub fn peel<W: RoundWorkers>(
 {
     let mut levels = vec![in alloc; 0u16; predecessors.len()]?;
     let mut done = vec![in alloc; false; predecessors.len()]?;
-    let mut left = numbers(alloc, predecessors.len())?;
-    let mut round = 0;
-    let mut free = workers.free_members(alloc, predecessors, &done, &left)?;
-    while !free.is_empty() {
-        take_all(&free, round, &mut levels, &mut done);
-        drop_done(&mut left, &done);
-        round += 1;
-        free = workers.free_members(alloc, predecessors, &done, &left)?;
-    }
+    take_rounds(workers, alloc, predecessors, &mut levels, &mut done)?;
     Ok(Peeled { levels, done })
 }

@@ -1,5 +1,5 @@
 //! A walk turned round, from its least member on.
-ghost use Rattle.std.specs.Prelude.{◌≡◌, ◌<◌, ◌++◌, IfOk, OnOk, length, reverse};
+ghost use Rattle.std.specs.Prelude.{◌<◌, IfOk, length};
 ghost use Rattle.sw_graph.specs.Cycles.{IsTurned};
 ghost use Rattle.sw_graph.specs.Walking.{IsLowest};
 
@@ -19,16 +19,6 @@ fn lowest_at(xs: &[u16]) -> usize
     lowest
 }
 
-/// Adds numbers in the other direction.
-fn push_reversed(list: &mut Vec<u16>, xs: &[u16]) -> Result<(), AllocError>
-    ensures { OnOk result (list.new.items ≡ list.old.items ++ reverse xs.now) }
-{
-    for x in xs.iter().rev().copied() {
-        list.push(x)?;
-    }
-    Ok(())
-}
-
 /// The walk in the other direction, from its least number on.
 ///
 /// # Errors
@@ -40,7 +30,8 @@ pub fn turned(alloc: Global, walked: &[u16]) -> Result<Vec<u16>, AllocError>
 {
     let split = lowest_at(walked) + 1;
     let mut cycle = Vec::new(alloc);
-    push_reversed(&mut cycle, &walked[..split])?;
-    push_reversed(&mut cycle, &walked[split..])?;
+    cycle.extend_from_slice(&walked[split..])?;
+    cycle.extend_from_slice(&walked[..split])?;
+    cycle.reverse();
     Ok(cycle)
 }

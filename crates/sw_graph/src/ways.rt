@@ -2,6 +2,7 @@
 ghost use Rattle.std.specs.Prelude.{◌≡◌, ◌<◌, ◌≤◌, ℕ, All, Option, IfOk, IfSome, IfNone, IsSome, length, option_map, slice_index, Contains, ◌∷◌, [], replicate, ◌++◌, ◌-◌, OnOk};
 ghost use Rattle.sw_graph.specs.Ways.{EndsAt, IsWay, IsWayIfReached};
 ghost use Rattle.sw_graph.specs.Parents.{AreParents};
+ghost use Rattle.sw_graph.specs.Reached.{Reached};
 
 use crate::steps::Steps;
 use crate::walk::Walk;
@@ -14,6 +15,37 @@ fn fill(parents: &mut Vec<usize>, number: usize, count: usize) -> Result<(), All
 {
     while parents.len() < count {
         parents.push(number)?;
+    }
+    Ok(())
+}
+
+/// Walks along the steps from the start until no number is new, with a parent for each number of the walk.
+fn walk_with_parents<S: Steps>(
+    alloc: Global,
+    steps: &S,
+    start: usize,
+    walk: &mut Walk,
+    parents: &mut Vec<usize>,
+) -> Result<(), AllocError>
+    requires bound { walk.old.bound ≡ S.bound steps.now }
+    requires start { start < walk.old.bound }
+    requires inside { (n : ℕ) → n < walk.old.bound → All (λ m. m < walk.old.bound) (S.next steps.now n) }
+    requires numbers { walk.old.numbers ≡ [] }
+    requires parents { parents.old.items ≡ [] }
+    ensures first { OnOk result (slice_index walk.new.numbers 0 ≡ start) }
+    ensures parents { OnOk result (AreParents (S.next steps.now) walk.new.numbers parents.new.items) }
+    ensures complete { OnOk result ((n : ℕ) → Reached (S.next steps.now) start n → Contains walk.new.numbers n) }
+{
+    walk.add(start)?;
+    parents.push(0)?;
+    let mut next = Vec::new(alloc);
+    let mut done = 0;
+    while done < walk.len() {
+        next.clear();
+        steps.push_next(walk.at(done), &mut next)?;
+        walk.add_all(&next)?;
+        fill(parents, done, walk.len())?;
+        done += 1;
     }
     Ok(())
 }
@@ -61,18 +93,8 @@ pub fn way<S: Steps>(
     ensures { IfOk result (λ found. IsWayIfReached (S.next steps.now) start goal (option_map (λ v. v.items) found)) }
 {
     let mut walk = Walk::new(alloc, bound)?;
-    walk.add(start)?;
     let mut parents = Vec::new(alloc);
-    parents.push(0)?;
-    let mut next = Vec::new(alloc);
-    let mut done = 0;
-    while done < walk.len() {
-        next.clear();
-        steps.push_next(walk.at(done), &mut next)?;
-        walk.add_all(&next)?;
-        fill(&mut parents, done, walk.len())?;
-        done += 1;
-    }
+    walk_with_parents(alloc, steps, start, &mut walk, &mut parents)?;
     match walk.place_of(goal) {
         None => Ok(None),
         Some(place) => Ok(Some(way_to(alloc, steps, &walk, &parents, place)?)),

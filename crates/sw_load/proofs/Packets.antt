@@ -1,11 +1,12 @@
 -- The packets of a load, and what the machine's network has for one of them.
-use Rattle.std.proofs.Common.{◌≡◌, ℕ, ◌+◌, ◌*◌, ◌++◌, ◌∷◌, [], List, length, map, ap, ◌∙◌, refl, arith}
+use Rattle.std.proofs.Common.{◌≡◌, ◌<◌, ◌≤◌, ℕ, ◌+◌, ◌*◌, ◌++◌, ◌∷◌, [], List, get_or, length, map, take, ap, sym, ◌∙◌, refl, arith}
 use Rattle.std.specs.Prelude.{Some, replicate, slice_get, sum_by}
 use Rattle.std.specs.Option.{option_map_or}
 use Rattle.std.proofs.lemmas.List.{length-replicate, length-map, length-append}
 use Rattle.std.proofs.lemmas.List.Concat.{flat_map-cons}
 use Rattle.std.proofs.lemmas.List.Folds.{sum_by-replicate}
-use Rattle.std.proofs.lemmas.List.Sums.{sum_by-append, sum_by-cons}
+use Rattle.std.proofs.lemmas.List.Sums.{sum_by-append, sum_by-cons, sum_by_more}
+use Rattle.std.proofs.lemmas.Nat.{mul-le}
 use Rattle.sw_char.specs.declared.nchar.End.{End}
 use Rattle.sw_char.specs.declared.nchar.NChar.TheVariants.{Data}
 use Rattle.sw_load.specs.History.{packet_of, packets_of}
@@ -17,6 +18,17 @@ use Rattle.sw_machine.specs.Network as machine
 use Rattle.sw_machine.specs.Packets.{marker_of}
 use Rattle.sw_model.specs.Model.{answered_to, longest_reply, network_of}
 use Rattle.sw_config.specs.Entries.{Declaration, FlowEntry, all_flows, target_of}
+
+-- one entry more of a load whose packets each have at most so much weight
+pub weighed_more : (weight : LoadEntry → ℕ) (load : List LoadEntry) (i : ℕ) (p : LoadEntry) (sum : ℕ) → i < length load → p ≡ get_or load i p → weight p ≤ 67108864 → sum ≡ sum_by (λ q. q.count * weight q) (take i load)
+    → sum ≤ packet_count (take i load) * 67108864
+    → (sum + p.count * weight p ≡ sum_by (λ q. q.count * weight q) (take (i + 1) load)) × (sum + p.count * weight p ≤ packet_count (take (i + 1) load) * 67108864)
+weighed_more weight load i p sum lt here small is few =
+    let weighed : LoadEntry → ℕ = λ q. q.count * weight q in
+    let more = sum_by_more weighed load i p lt ∙ ap (λ q. sum_by weighed (take i load) + weighed q) (sym here) in
+    let counted = sum_by_more (λ (q : LoadEntry). q.count) load i p lt ∙ ap (λ (q : LoadEntry). packet_count (take i load) + q.count) (sym here) in
+    let large = mul-le p.count (weight p) p.count 67108864 (omega arith) small in
+    (omega (arith, more, is), omega (arith, counted, few, large))
 
 pub sum-packets : (f : Begun → ℕ) (load : List LoadEntry) → sum_by f (packets_of load) ≡ sum_by (λ p. p.count * f (packet_of p)) load
 sum-packets f [] = refl

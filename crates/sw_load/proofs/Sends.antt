@@ -1,5 +1,5 @@
 -- The places of the packets of a node, entry by entry of a load.
-use Rattle.std.proofs.Common.{◌≡◌, ◌++◌, ◌+◌, ◌<◌, ◌∷◌, ◌∙◌, [], ℕ, zero, suc, List, None, Option, Some, get_or, length, map, refl, sym, ap, subst, take, append-nil, arith, drop, ne_eqb, eq-eqb, ⊎_elim}
+use Rattle.std.proofs.Common.{append_assoc, set, ◌≡◌, ◌++◌, ◌+◌, ◌<◌, ◌∷◌, ◌∙◌, [], ℕ, zero, suc, List, None, Option, Some, get_or, length, length-append, map, refl, sym, ap, subst, take, append-nil, arith, drop, ne_eqb, eq-eqb, ⊎_elim}
 use Rattle.std.specs.Prelude.{Vec, nat_eq, option_map, replicate, slice_get}
 use Rattle.std.specs.Borrow.{Bor}
 use Rattle.std.specs.Slice.{IsItemAt}
@@ -8,7 +8,7 @@ use Rattle.std.proofs.Math.Seq.{take-append_seam}
 use Rattle.std.proofs.lemmas.Bool.{cases_eq}
 use Rattle.std.proofs.lemmas.Grind.{flat_map-append}
 use Rattle.std.proofs.lemmas.List.Concat.{flat_map-cons}
-use Rattle.std.proofs.lemmas.List.{map-append, take_more}
+use Rattle.std.proofs.lemmas.List.{get_or-set_same, length-set, map-append, replicate_more, take_more}
 use Rattle.std.proofs.lemmas.List.Elements.{filter-append}
 use Rattle.std.proofs.lemmas.Option.{slice_get-get_or, slice_get-map, slice_get_past, slice_get_read}
 use Rattle.sw_load.specs.History.{packet_of, packets_at, packets_of}
@@ -73,6 +73,13 @@ pub record IsFoundTo (d : Declaration) (load : List LoadEntry) (i : ℕ) (rows :
   pub size : length rows ≡ length d.nodes
   pub each : (n : ℕ) → n < length d.nodes → ArePlaced load (places_at rows n) (packets_at (network_of d) n (packets_of (take i load)))
 
+-- before the first entry the rows are empty
+pub found_none : (d : Declaration) (load : List LoadEntry) (rows : List (Vec ℕ Global)) (count : ℕ) → length rows ≡ count → ((n : ℕ) → places_at rows n ≡ []) → count ≡ length d.nodes → IsFoundTo d load 0 rows
+found_none d load rows count size empty all = record {
+  size = size ∙ all;
+  each = λ n inside. ap (map (packet_in load)) (empty n);
+}
+
 pub found_more : (d : Declaration) (load : List LoadEntry) (i : ℕ) (p : LoadEntry) (rows after : List (Vec ℕ Global)) (from : ℕ) → i < length load → p ≡ get_or load i p → ((network_of d).flow p.flow).from ≡ from
     → IsFoundTo d load i rows → AreAdded from i p.count rows after → IsFoundTo d load (i + 1) after
 found_more d load i p rows after from lt here is found added = record {
@@ -126,3 +133,37 @@ row_read rows n v lt at = ap items_of (slice_get_read rows (length rows) n v ref
 pub lent : {A B : Type 0} (f : A → B) (xs : List A) (k : ℕ) (r : Option (Bor A)) → IsItemAt xs k r → option_map (λ x. f x.now) r ≡ option_map f (slice_get xs k)
 lent f xs k None h = ap (option_map f) (sym (slice_get_past xs k h.3))
 lent f xs k (Some x) h = ap (option_map f) (sym (slice_get_read xs (length xs) k x.now refl h.3.0 h.1))
+
+empty_behind : (rows : List (Vec ℕ Global)) (v : Vec ℕ Global) → v.items ≡ [] → ((n : ℕ) → places_at rows n ≡ []) → (n : ℕ) → places_at (rows ++ v ∷ []) n ≡ []
+empty_behind [] v none before zero = none
+empty_behind [] v none before (suc n) = refl
+empty_behind (r ∷ rows) v none before zero = before zero
+empty_behind (r ∷ rows) v none before (suc n) = empty_behind rows v none (λ m. before (suc m)) n
+
+-- one more empty row behind empty rows
+pub more_empty : (rows after : List (Vec ℕ Global)) (v : Vec ℕ Global) (count : ℕ) → after ≡ rows ++ v ∷ [] → v.items ≡ [] → ((n : ℕ) → places_at rows n ≡ []) × (length rows ≡ count)
+    → ((n : ℕ) → places_at after n ≡ []) × (length after ≡ count + 1)
+more_empty rows after v count is none before =
+    let longer = ap length is ∙ length-append rows (v ∷ []) in
+    let size = before.1 in
+    (λ n. ap (λ l. places_at l n) is ∙ empty_behind rows v none before.0 n, omega (arith, longer, size))
+
+set_elsewhere : (rows : List (Vec ℕ Global)) (n m : ℕ) (v : Vec ℕ Global) → (m ≡ n → ⊥) → places_at (set rows n v) m ≡ places_at rows m
+set_elsewhere [] n m v other = refl
+set_elsewhere (r ∷ rows) zero zero v other = absurd (other refl)
+set_elsewhere (r ∷ rows) zero (suc m) v other = refl
+set_elsewhere (r ∷ rows) (suc n) zero v other = refl
+set_elsewhere (r ∷ rows) (suc n) (suc m) v other = set_elsewhere rows n m v (λ e. other (ap suc e))
+
+-- one more place in the row of node n
+pub added_more : (n place count : ℕ) (start rows : List (Vec ℕ Global)) (v w : Vec ℕ Global) → n < length rows → v ≡ get_or rows n v → w.items ≡ v.items ++ place ∷ [] → AreAdded n place count start rows
+    → AreAdded n place (count + 1) start (set rows n w)
+added_more n place count start rows v w lt at is added =
+    let within : n < length (set rows n w) = rw (length-set rows n w) lt in
+    let before = sym (row_read rows n v lt at) ∙ added.here in
+    record {
+      size = length-set rows n w ∙ added.size;
+      here = row_read (set rows n w) n w within (sym (get_or-set_same rows n w w lt)) ∙ is ∙ ap (λ l. l ++ place ∷ []) before
+          ∙ append_assoc (places_at start n) (replicate count place) (place ∷ []) ∙ ap (λ l. places_at start n ++ l) (replicate_more count place);
+      others = λ m other. set_elsewhere rows n m w other ∙ added.others m other;
+    }

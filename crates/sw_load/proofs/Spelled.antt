@@ -1,8 +1,9 @@
 -- A cargo text is read exactly where it spells bytes.
 use Rattle.std.proofs.Common.{◌≡◌, ℕ, suc, ◌+◌, ◌-◌, ◌*◌, ◌≤◌, ◌<◌, Bool, true, false, ◌&&◌, List, [], ◌∷◌, ◌++◌, length, drop, get_or, refl, sym, ap, subst, ◌∙◌, ◌⊎◌, drop-cons, eqb-true, arith, inl, inr, append_assoc, append-nil, Option, Some, None}
-use Rattle.std.specs.Prelude.{nat_le, ◌==◌, fold, option_and_then, option_map, replicate, slice_index}
+use Rattle.std.specs.Prelude.{if◌then◌else◌, nat_le, ◌==◌, fold, option_and_then, option_map, replicate, slice_index}
 use Rattle.std.specs.List.{list_all}
 use Rattle.std.specs.Option.{option_to_list}
+use Rattle.std.proofs.lemmas.List.{drop_all}
 use Rattle.std.proofs.lemmas.Bool.{cases_Bool, and_parts, and_from, leb-true, le-leb}
 use Rattle.sw_load.specs.Cargo.{without_spaces, IsRepeated, CargoIsRead, cargo_of, bytes_of, is_repetition, repeated_of, hex_pair, ArePairs, is_digit, is_well_begun, IsCount, IsPairs, count_after, count_of, bytes_after, if_some_and_few, pairs_of}
 
@@ -40,6 +41,30 @@ pair_step done text begun h b i {out} so is lt pair =
     let next : option_and_then (λ c. bytes_after (done ++ c ∷ []) (drop (suc i) text)) (hex_pair h (get_or text i 0)) ≡ out = now in
     rw one (rw pair at next)
 
+-- the first digit of a pair
+pub pair_begun : (done text : List ℕ) (begun : Option ℕ) (i : ℕ) {out : Option (List ℕ)} → bytes_after done (option_to_list begun ++ drop i text) ≡ out → begun ≡ None → i < length text
+    → bytes_after done (get_or text i 0 ∷ drop (i + 1) text) ≡ out
+pair_begun done text begun i {out} so is lt =
+    let one : i + 1 ≡ suc i = omega arith in
+    let now : bytes_after done (drop i text) ≡ out = rw is at so in
+    rw one (subst (λ l. bytes_after done l ≡ out) (drop-cons text i 0 lt) now)
+
+-- two characters that are no pair
+pub pair_wrong : (done text : List ℕ) (begun : Option ℕ) (h i : ℕ) {out : Option (List ℕ)} → bytes_after done (option_to_list begun ++ drop i text) ≡ out → begun ≡ Some h → i < length text → hex_pair h (get_or text i 0) ≡ None
+    → None ≡ out
+pair_wrong done text begun h i {out} so is lt wrong =
+    let cut : drop i text ≡ get_or text i 0 ∷ drop (suc i) text = drop-cons text i 0 lt in
+    let now : bytes_after done (h ∷ get_or text i 0 ∷ drop (suc i) text) ≡ out = rw (is, cut) at so in
+    let next : option_and_then (λ c. bytes_after (done ++ c ∷ []) (drop (suc i) text)) (hex_pair h (get_or text i 0)) ≡ out = now in
+    rw wrong at next
+
+-- the end of the text, behind a pair and within one
+pub pairs_end : (done text : List ℕ) (begun : Option ℕ) (i : ℕ) {out : Option (List ℕ)} → bytes_after done (option_to_list begun ++ drop i text) ≡ out → length text ≤ i → begun ≡ None → Some done ≡ out
+pairs_end done text begun i {out} so over is = rw (is, drop_all i text over) at so
+
+pub pairs_half : (done text : List ℕ) (begun : Option ℕ) (h i : ℕ) {out : Option (List ℕ)} → bytes_after done (option_to_list begun ++ drop i text) ≡ out → length text ≤ i → begun ≡ Some h → None ≡ out
+pairs_half done text begun h i {out} so over is = rw (is, drop_all i text over) at so
+
 abbrev add_digit : ℕ → ℕ → ℕ
 add_digit n c = 10 * n + (c - 48)
 
@@ -47,6 +72,18 @@ add_digit n c = 10 * n + (c - 48)
 value_grows : (n : ℕ) (cs : List ℕ) → n ≤ fold add_digit n cs
 value_grows n [] = omega arith
 value_grows n (c ∷ cs) = let more = value_grows (add_digit n c) cs in omega (arith, more)
+
+-- a digit more that is read
+pub digit_step : (n i : ℕ) (digits : List ℕ) {out : Option ℕ} → count_after n (drop i digits) ≡ out → i < length digits → 48 ≤ get_or digits i 0 → get_or digits i 0 ≤ 57 → add_digit n (get_or digits i 0) ≤ 4096
+    → count_after (add_digit n (get_or digits i 0)) (drop (i + 1) digits) ≡ out
+digit_step n i digits {out} so lt low high few =
+    let one : i + 1 ≡ suc i = omega arith in
+    let c = get_or digits i 0 in
+    let next = add_digit n c in
+    let passes : (is_digit c && nat_le next 4096) ≡ true =
+    and_from (is_digit c) (nat_le next 4096) (and_from (nat_le 48 c) (nat_le c 57) (le-leb 48 c low) (le-leb c 57 high)) (le-leb next 4096 few) in
+    let now : (if is_digit c && nat_le next 4096 then count_after next (drop (suc i) digits) else None) ≡ out = rw (drop-cons digits i 0 lt) at so in
+    rw one (rw passes at now)
 
 count_read : (n m : ℕ) (cs : List ℕ) → n ≤ 4096 → count_after n cs ≡ Some m → (list_all is_digit cs ≡ true) × (fold add_digit n cs ≡ m) × (m ≤ 4096)
 count_read n m [] few e = let s : n ≡ m = cc in (refl, s, omega (arith, s))

@@ -1,5 +1,6 @@
 -- Whose numbers a step changes.
-use Rattle.std.proofs.Common.{None, Option, Some, ap, arith, length, refl, sym, ℕ, ◌+◌, ◌-◌, ◌<◌, ◌≤◌, ◌∙◌, ◌≡◌}
+use Rattle.std.proofs.Common.{None, Option, Some, ap, arith, length, refl, subst, sym, ℕ, ◌+◌, ◌-◌, ◌<◌, ◌≤◌, ◌∙◌, ◌≡◌}
+use Rattle.std.proofs.lemmas.Option.{same_Some}
 use Rattle.std.specs.Prelude.{IfNone, IfSome, List, slice_get, unwrap_or}
 use Rattle.sw_cell.proofs.Dropping.{some_of}
 use Rattle.sw_cell.specs.SwitchParts.{IsSwitchFor, input_of}
@@ -10,14 +11,14 @@ use Rattle.sw_flow.specs.Places.{end_of, ends_of}
 use Rattle.sw_machine.proofs.Lists.{put_there}
 use Rattle.sw_machine.proofs.Wormhole.{held_once}
 use Rattle.sw_machine.specs.Network.{AtNode, AtSwitch, Network, reverse_of}
-use Rattle.sw_machine.specs.State.{State, after_accept, after_arrive, after_begin, after_drop_byte, after_drop_marker, after_emit, after_fct, after_fct_in, after_forward, after_grant, after_reply, after_spill}
-use Rattle.sw_machine.specs.Steps.{Accept, Arrive, Begin, Drop, Drops, Emit, Fct, FctIn, Forward, Grant, Reply, Spill}
+use Rattle.sw_machine.specs.State.{State, after_accept, after_arrive, after_drop_byte, after_drop_marker, after_emit, after_fct, after_fct_in, after_forward, after_grant, after_spill}
+use Rattle.sw_machine.specs.Steps.{Accept, Arrive, Begin, Drop, Drops, Emit, Fct, FctIn, Forward, Grant, Reply, Spill, Step}
 use Rattle.sw_machine.specs.declared.input.InputState.TheVariants.{Held}
 use Rattle.sw_model.proofs.Networks.{are_networks}
 use Rattle.sw_model.specs.Model.{network_of}
 use Rattle.sw_config.specs.Valid.{IsValid}
 use Rattle.sw_net.proofs.Delivered.{end_at_node}
-use Rattle.sw_net.specs.Changing.{ChangesOnly}
+use Rattle.sw_net.specs.Changing.{ChangesOnly, IsChanged, IsEndOf, passed_from}
 use Rattle.sw_net.specs.Net.{IsNetState, NetView}
 use Rattle.sw_net.specs.Numbers.{numbers_at}
 use Rattle.sw_route.specs.declared.look.Look.{Look}
@@ -102,6 +103,45 @@ module _ {R A : Type 0} (v : NetView R A) where
 
   pub reply_only : (n : ℕ) → ChangesOnly v (Reply n) (None, None)
   reply_only n = λ s t k leads e ne no. ap (λ (u : State). numbers_at net u e) leads.after
+
+  -- ---- by what the step is
+
+  sole : (step : Step) (end : Option ℕ) (m : ℕ) → end ≡ Some m → ChangesOnly v step (Some m, None) → ChangesOnly v step (end, None)
+  sole step end m is only = subst (λ o. ChangesOnly v step (o, None)) (sym is) only
+
+  none_of : (n : ℕ) (end : Option ℕ) → IsEndOf net n end → IfNone end (net.nodes ≤ n)
+  none_of n None is = is
+  none_of n (Some e) is = tt
+
+  out_of_node : (n : ℕ) (end : Option ℕ) → IsEndOf net n end → IfSome end (λ e. net.out n ≡ e)
+  out_of_node n None is = tt
+  out_of_node n (Some e) is = is.0
+
+  into_node : (n : ℕ) (end : Option ℕ) → IsEndOf net n end → IfSome end (λ e. net.into n ≡ partner e)
+  into_node n None is = tt
+  into_node n (Some e) is = is.1
+
+  no_some : {c : ℕ} → Some c ≡ None → ⊥
+  no_some is = cc
+
+  pub one_only : (step : Step) (end : Option ℕ) → IsChanged net step end → passed_from step ≡ None → ChangesOnly v step (end, None)
+  one_only (Fct c) end is none = sole (Fct c) end (partner c) is (fct_only c (partner c) refl)
+  one_only (FctIn c) end is none = sole (FctIn c) end c is (fct_in_only c c refl)
+  one_only (Arrive c) end is none = sole (Arrive c) end (partner c) is (arrive_only c (partner c) refl)
+  one_only (Grant d c) end is none = sole (Grant d c) end (partner c) is (grant_only d c (partner c) refl)
+  one_only (Drop c) end is none = sole (Drop c) end (partner c) is (drop_only c (partner c) refl)
+  one_only (Spill c) end is none = sole (Spill c) end (partner c) is (spill_only c (partner c) refl)
+  one_only (Forward c) end is none = absurd (no_some none)
+  one_only (Emit n) end is none = emit_only n end (none_of n end is) (out_of_node n end is)
+  one_only (Accept n) end is none = accept_only n end (none_of n end is) (into_node n end is)
+  one_only (Begin flow cargo last) end is none = subst (λ o. ChangesOnly v (Begin flow cargo last) (o, None)) (sym is) (begin_only flow cargo last)
+  one_only (Reply n) end is none = subst (λ o. ChangesOnly v (Reply n) (o, None)) (sym is) (reply_only n)
+
+  pub both_only : (step : Step) (end : Option ℕ) (c : ℕ) (o : Option ℕ) → IsChanged net step end → passed_from step ≡ Some c → ((s : State) → IsNetState v s → c < net.channels → (d : ℕ) → s.input c ≡ Held d → o ≡ Some d) → ChangesOnly v step (end, o)
+  both_only (Forward b) end c o is passed held =
+      subst (λ k. ChangesOnly v (Forward b) (k, o)) (sym is)
+      (forward_only b (partner b) o refl (subst (λ k. (s : State) → IsNetState v s → k < net.channels → (d : ℕ) → s.input k ≡ Held d → o ≡ Some d) (sym (same_Some b c passed)) held))
+  both_only step end c o is passed held = absurd (no_some (sym passed))
 
 -- ---- the output that an input holds
 

@@ -87,6 +87,9 @@ on_ok (Err e) then h = tt
 pub if_is : {T E : Type 0} (P : T → Type 0) (r : Result T E) (x : T) → r ≡ Ok x → IfOk r P → P x
 if_is {T} {E} P r x is h = subst (λ (k : Result T E). IfOk k P) is h
 
+pub if_err : {T E : Type 0} (P : T → Type 0) (r : Result T E) (e : E) → r ≡ Err e → IfOk r P
+if_err {T} {E} P r e is = subst (λ (k : Result T E). IfOk k P) (sym is) tt
+
 pub when_ok : {E P : Type 0} (r : Result Unit E) → r ≡ Ok tt → OnOk r P → P
 when_ok {E} {P} r is h = subst (λ (k : Result Unit E). OnOk k P) is h
 

@@ -1,5 +1,5 @@
 -- Arbiters by output: in the order of channels, and by switch and port.
-use Rattle.std.proofs.Common.{List, Option, Some, [], ap, append_assoc, arith, drop, length, map, refl, set, subst, suc, sym, take, zero, ℕ, ◌+◌, ◌++◌, ◌<◌, ◌∷◌, ◌∙◌, ◌≡◌, ⊎_elim}
+use Rattle.std.proofs.Common.{List, Option, Some, [], ap, append_assoc, arith, drop, length, refl, set, subst, suc, sym, take, zero, ℕ, ◌+◌, ◌++◌, ◌<◌, ◌∷◌, ◌∙◌, ◌≡◌, ⊎_elim}
 use Rattle.std.proofs.Math.Seq.{drop-length}
 use Rattle.std.proofs.lemmas.Bool.{cases_eq}
 use Rattle.std.proofs.lemmas.List.{append-nil, map-append}

@@ -4,7 +4,7 @@ use Rattle.std.proofs.Common.{ℕ, Bool, Err, List, Some, [], ◌∷◌, ap, ari
 use Rattle.std.proofs.lemmas.Bool.{cases_eq}
 use Rattle.std.proofs.lemmas.Option.{same_Some, slice_get-get_or, slice_get_within}
 use Rattle.std.specs.Prelude.{Ok, OnErr, Result, slice_get}
-use Rattle.sw_cell.specs.Answers.{Answers, Stores, done}
+use Rattle.sw_cell.specs.Answers.{Answers, done}
 use Rattle.sw_cell.specs.Places.{HasNamed, IsAt, IsDoneAt, IsUndeclared}
 use Rattle.sw_cell.specs.declared.cell.CellId.TheVariants as place
 use Rattle.sw_cell.specs.declared.fault.NetFault.{NetFault}
@@ -19,7 +19,7 @@ use Rattle.sw_machine.specs.Network.{AtNode, AtSwitch, Cell as Place}
 use Rattle.sw_machine.specs.Parts.{SamePart, cell_of}
 use Rattle.sw_machine.specs.Runs.{IsReached}
 use Rattle.sw_machine.specs.State.{State}
-use Rattle.sw_machine.specs.Steps.{Accept, Arrive, Begin, Drop, Emit, Fct, FctIn, Forward, Grant, IsPossible, Leads, Reply, Spill, Step}
+use Rattle.sw_machine.specs.Steps.{Accept, Arrive, Begin, Drop, Emit, Fct, FctIn, Forward, Grant, Leads, Reply, Spill, Step}
 use Rattle.sw_model.proofs.Networks.{are_networks}
 use Rattle.sw_model.specs.Model.{network_of}
 use Rattle.sw_net.proofs.Others.{node_stays, switch_stays}
@@ -61,6 +61,10 @@ module _ {X : Type 0} where
 
 -- ---- answers
 
+pub on_err_then : {T E P Q : Type 0} (r : Result T E) → (P → Q) → OnErr r P → OnErr r Q
+on_err_then (Ok x) then h = tt
+on_err_then (Err e) then h = then h
+
 pub on_err : {T E P : Type 0} (r : Result T E) → P → OnErr r P
 on_err (Ok x) h = tt
 on_err (Err e) h = h
@@ -77,6 +81,23 @@ is_declared d (Begin f cargo end) named not = not named
 is_declared d (Emit n) named not = not
 is_declared d (Accept n) named not = not
 is_declared d (Reply n) named not = not
+
+abbrev NodeAnswers : Declaration → ℕ → Node → Between → Step → Result Unit NetFault → Node → Between → Type 0
+NodeAnswers d n node b step result after c = Answers (network_of d) (IsNodeState (network_of d) n node b) step result (IsNodeState (network_of d) n after c)
+
+-- what came of a step of node n, where there was memory
+module _ (d : Declaration) (n : ℕ) (node : Node) (b : Between) (step : Step) (after : Node) (c : Between) where
+  pub node_done : (made : Bool) → HasNamed (network_of d) step → NodeMakes (network_of d) n node b step made after c → NodeAnswers d n node b step (done made) after c
+  node_done true named made = made
+  node_done false named made = (is_declared d step named, made.0)
+
+  pub node_done_cell : (made : Bool) → NodeMakes (network_of d) n node b step made after c → OnErr (done made) (after ≡ node)
+  node_done_cell true made = tt
+  node_done_cell false made = made.1
+
+  pub node_done_between : (made : Bool) → NodeMakes (network_of d) n node b step made after c → OnErr (done made) (c ≡ b)
+  node_done_between true made = tt
+  node_done_between false made = made.2
 
 module _ {R A : Type 0} (answer : R → ℕ → Look) (ports : A → ℕ) (d : Declaration) (nodes : List Node) (switches : List (Cell R A)) (b : Between) (is : IsNet answer ports (net_of d nodes switches b)) (step : Step) where
   stays : (s t : State) → IsReached (network_of d) s → Leads (network_of d) s step t → (place : Place) → place ≢ cell_of (network_of d) step → SamePart (network_of d) place s t
@@ -117,8 +138,9 @@ module _ {R A : Type 0} (answer : R → ℕ → Look) (ports : A → ℕ) (d : D
             },
           )
 
-      pub node_net : (made : Bool) (after : Node) (c : Between) → IsNodeFor d n after → NodeMakes (network_of d) n node b step made after c → IsNet answer ports (net_of d (set nodes n after) switches c)
-      node_net true after c for made = record {
+      pub node_net : (result : Result Unit NetFault) (after : Node) (c : Between) → IsNodeFor d n after → NodeAnswers d n node b step result after c → OnErr result (after ≡ node) → OnErr result (c ≡ b)
+          → IsNet answer ports (net_of d (set nodes n after) switches c)
+      node_net (Ok done) after c for made cell between = record {
         valid = is.valid;
         all_nodes = length-set nodes n after ∙ is.all_nodes;
         all_switches = is.all_switches;
@@ -126,20 +148,18 @@ module _ {R A : Type 0} (answer : R → ℕ → Look) (ports : A → ℕ) (d : D
         switches = is.switches;
         reached = ∥∥₁_map is.reached (λ k. let r = node_leads after c made k.0 k.1 in (r.0, r.2));
       }
-      node_net false after c for made = subst (IsNet answer ports) (sym (same_node after c made.1 made.2)) is
+      node_net (Err fault) after c for made cell between = subst (IsNet answer ports) (sym (same_node after c cell between)) is
 
-      pub node_answers : (made : Bool) (after : Node) (c : Between) → HasNamed (network_of d) step → NodeMakes (network_of d) n node b step made after c
-          → Answers (network_of d) (IsNetState (net_of d nodes switches b)) step (done made) (IsNetState (net_of d (set nodes n after) switches c))
-      node_answers true after c named made = λ s k. node_leads after c made s k
-      node_answers false after c named made = (is_declared d step named, λ s k p. made.0 s (node_state s k) p)
+      pub node_answers : (result : Result Unit NetFault) (after : Node) (c : Between) → NodeAnswers d n node b step result after c
+          → Answers (network_of d) (IsNetState (net_of d nodes switches b)) step result (IsNetState (net_of d (set nodes n after) switches c))
+      node_answers (Ok done) after c made = λ s k. node_leads after c made s k
+      node_answers (Err NotInFlow) after c made = made
+      node_answers (Err NotEnabled) after c made = (made.0, λ s k p. made.1 s (node_state s k) p)
+      node_answers (Err Memory) after c made = (made.0, λ s k. made.1 s (node_state s k))
 
-    pub node_wants : (after : NetView R A) → Stores step → ((s : State) → IsNodeState (network_of d) n node b s → IsPossible (network_of d) s step)
-        → Answers (network_of d) (IsNetState (net_of d nodes switches b)) step (Err Memory) (IsNetState after)
-    node_wants after stores possible = (stores, λ s k. possible s (node_state s k))
-
-    pub node_refused : (made : Bool) (after : Node) (c : Between) → NodeMakes (network_of d) n node b step made after c → OnErr (done made) (net_of d (set nodes n after) switches c ≡ net_of d nodes switches b)
-    node_refused true after c made = tt
-    node_refused false after c made = same_node after c made.1 made.2
+    pub node_refused : (result : Result Unit NetFault) (after : Node) (c : Between) → OnErr result (after ≡ node) → OnErr result (c ≡ b) → OnErr result (net_of d (set nodes n after) switches c ≡ net_of d nodes switches b)
+    node_refused (Ok done) after c cell between = tt
+    node_refused (Err fault) after c cell between = same_node after c cell between
 
   -- ---- a step of switch w
 
@@ -194,6 +214,19 @@ module _ {R A : Type 0} (answer : R → ℕ → Look) (ports : A → ℕ) (d : D
     switch_refused false after c made = same_switch after c made.1 made.2
 
 -- ---- the cell that the code finds
+
+module _ {R A : Type 0} (answer : R → ℕ → Look) (ports : A → ℕ) (v w : NetView R A) (same : v ≡ w) (is : IsNet answer ports v) where
+  pub node_within : (n : ℕ) → n < length w.declared.nodes → n < length v.nodes
+  node_within n lt = let count = ap (λ (k : NetView R A). length k.declared.nodes) same in let all = is.all_nodes in omega arith
+
+  pub switch_within : (n : ℕ) → n < length w.declared.switches → n < length v.switches
+  switch_within n lt = let count = ap (λ (k : NetView R A). length k.declared.switches) same in let all = is.all_switches in omega arith
+
+  pub node_read : (n : ℕ) (x : Node) → n < length w.declared.nodes → x ≡ get_or v.nodes n x → slice_get w.nodes n ≡ Some x
+  node_read n x lt e = subst (λ (k : NetView R A). slice_get k.nodes n ≡ Some x) same (slice_get-get_or v.nodes n x (node_within n lt) ∙ ap Some (sym e))
+
+  pub switch_read : (n : ℕ) (x : Cell R A) → n < length w.declared.switches → x ≡ get_or v.switches n x → slice_get w.switches n ≡ Some x
+  switch_read n x lt e = subst (λ (k : NetView R A). slice_get k.switches n ≡ Some x) same (slice_get-get_or v.switches n x (switch_within n lt) ∙ ap Some (sym e))
 
 module _ {R A : Type 0} (answer : R → ℕ → Look) (ports : A → ℕ) (v w : NetView R A) (same : v ≡ w) (is : IsNet answer ports v) (step : Step) where
   pub node_is_at : (n : ℕ) → IsAt w.declared step (place.Node n) → IsAt v.declared step (place.Node n)

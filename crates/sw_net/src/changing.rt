@@ -1,10 +1,11 @@
 //! Whose numbers a step changes.
-ghost use Rattle.std.specs.Prelude.{◌≡◌, ◌<◌, ◌≤◌, ℕ, IfNone, IfSome, Some, length};
+ghost use Rattle.std.specs.Prelude.{◌≡◌, ◌<◌, ℕ, Some, length};
 ghost use Rattle.sw_flow.specs.Places.{end_of, ends_of};
 ghost use Rattle.sw_machine.specs.State.{State};
 ghost use Rattle.sw_machine.specs.declared.input.InputState.TheVariants.{Held};
 ghost use Rattle.sw_model.specs.Model.{network_of};
 ghost use Rattle.sw_model.specs.Steps.{machine_step};
+ghost use Rattle.sw_net.specs.Changing.{IsChanged, IsEndOf, passed_from};
 ghost use Rattle.sw_topo.specs.Wiring.{out_of, partner};
 
 use crate::net::Net;
@@ -33,23 +34,42 @@ fn starter(network: &Network, w: u16, port: Port) -> Option<LinkEnd>
     }
 }
 
+/// The link end of the node of that number, if there is one.
+fn node_end(network: &Network, node: u16) -> Option<LinkEnd>
+    ensures { IsEndOf (network_of network.now) node result }
+{
+    if node >= network.nodes() {
+        return None;
+    }
+    let out = network.topology().out(node);
+    Some(LinkEnd::new(out.number()))
+}
+
+/// The link end whose numbers the step changes, apart from the output that it passes a character on
+/// to, and the channel that this character comes from.
+#[inline(always)]
+fn changed(network: &Network, step: &Step) -> (Option<LinkEnd>, Option<Chan>)
+    ensures end { IsChanged (network_of network.now) (machine_step step.now) result.0 }
+    ensures passed { result.1 ≡ passed_from (machine_step step.now) }
+{
+    match step {
+        Step::FctIn(channel) => (Some(LinkEnd::new(channel.number())), None),
+        Step::Fct(channel) => (Some(receiver(*channel)), None),
+        Step::Arrive(channel) => (Some(receiver(*channel)), None),
+        Step::Grant(_, channel) => (Some(receiver(*channel)), None),
+        Step::Drop(channel) => (Some(receiver(*channel)), None),
+        Step::Spill(channel) => (Some(receiver(*channel)), None),
+        Step::Forward(channel) => (Some(receiver(*channel)), Some(*channel)),
+        Step::Emit(node) => (node_end(network, *node), None),
+        Step::Accept(node) => (node_end(network, *node), None),
+        Step::Begin { .. } => (None, None),
+        Step::Reply(_) => (None, None),
+    }
+}
+
 impl<'n, R: Routing, A: Arbiter> Net<'n, R, A> {
     ghost use Rattle.sw_net.specs.Changing.{ChangesOnly};
     ghost use Rattle.sw_net.specs.Net.{IsNetState};
-
-    /// The link end of the node of that number, if there is one.
-    fn node_end(&self, node: u16) -> Option<LinkEnd>
-        ensures none { IfNone result ((network_of self.now.declared).nodes ≤ node) }
-        ensures out { IfSome result (λ e. (network_of self.now.declared).out node ≡ e) }
-        ensures into { IfSome result (λ e. (network_of self.now.declared).into node ≡ partner e) }
-    {
-        let network = self.network();
-        if node >= network.nodes() {
-            return None;
-        }
-        let out = network.topology().out(node);
-        Some(LinkEnd::new(out.number()))
-    }
 
     /// The output that the input of that port holds, if it holds one (ECSS-E-ST-50-12C, network
     /// layer: wormhole routing).
@@ -85,22 +105,13 @@ impl<'n, R: Routing, A: Arbiter> Net<'n, R, A> {
     /// each other step the numbers of one link end at most (ECSS-E-ST-50-12C, data link layer: flow
     /// control).
     #[inline(always)]
-    #[tactic(auto, using(crate::proofs::ChangedNumbers::fct_only, crate::proofs::ChangedNumbers::fct_in_only, crate::proofs::ChangedNumbers::arrive_only, crate::proofs::ChangedNumbers::grant_only, crate::proofs::ChangedNumbers::drop_only, crate::proofs::ChangedNumbers::spill_only, crate::proofs::ChangedNumbers::forward_only, crate::proofs::ChangedNumbers::emit_only, crate::proofs::ChangedNumbers::accept_only, crate::proofs::ChangedNumbers::begin_only, crate::proofs::ChangedNumbers::reply_only))]
     pub fn changing(&self, step: &Step) -> (Option<LinkEnd>, Option<LinkEnd>)
         ensures { ChangesOnly self.now (machine_step step.now) result }
     {
-        match step {
-            Step::FctIn(channel) => (Some(LinkEnd::new(channel.number())), None),
-            Step::Fct(channel) => (Some(receiver(*channel)), None),
-            Step::Arrive(channel) => (Some(receiver(*channel)), None),
-            Step::Grant(_, channel) => (Some(receiver(*channel)), None),
-            Step::Drop(channel) => (Some(receiver(*channel)), None),
-            Step::Spill(channel) => (Some(receiver(*channel)), None),
-            Step::Forward(channel) => (Some(receiver(*channel)), self.held_output(*channel)),
-            Step::Emit(node) => (self.node_end(*node), None),
-            Step::Accept(node) => (self.node_end(*node), None),
-            Step::Begin { .. } => (None, None),
-            Step::Reply(_) => (None, None),
+        let (end, passed) = changed(self.network(), step);
+        match passed {
+            Some(channel) => (end, self.held_output(channel)),
+            None => (end, None),
         }
     }
 }

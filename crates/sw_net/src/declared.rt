@@ -7,6 +7,7 @@ ghost use Rattle.sw_net.specs.New.{AreRoutes, IsNewNet};
 ghost use Rattle.sw_net.specs.Outputs.{AreByOutput};
 ghost use Rattle.sw_net.specs.Policies.{AreDeclaredPolicies, IsNewFor};
 
+use crate::make::push_made;
 use crate::net::Net;
 use either::Either;
 use std::alloc::{AllocError, Global};
@@ -44,9 +45,8 @@ fn declared_routes<'n>(
 {
     let mut all = Vec::new(alloc);
     for w in 0..network.switches() {
-        all.push(SwitchRoutes {
-            routing: network.routing(w),
-        })?;
+        let routing = network.routing(w);
+        push_made(&mut all, Ok(SwitchRoutes { routing }))?;
     }
     Ok(all)
 }

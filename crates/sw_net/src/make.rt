@@ -29,7 +29,10 @@ const PORTS: u8 = 32;
 const NO_LINK: usize = 8;
 
 /// Puts an element that was made at the end.
-fn push_made<T: Drop>(all: &mut Vec<T>, made: Result<T, AllocError>) -> Result<(), AllocError>
+pub(crate) fn push_made<T: Drop>(
+    all: &mut Vec<T>,
+    made: Result<T, AllocError>,
+) -> Result<(), AllocError>
     ensures { OnOk result (IsOneMore all.old.items made all.new.items) }
 {
     all.push(made?)?;

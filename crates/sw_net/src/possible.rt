@@ -4,9 +4,10 @@ ghost use Rattle.sw_cell.specs.Places.{IsAt};
 ghost use Rattle.sw_cell.specs.declared.cell.CellId.{CellId};
 ghost use Rattle.sw_cell.specs.Possible.{step_at_node, step_at_port};
 ghost use Rattle.sw_machine.specs.Network.{AtSwitch};
-ghost use Rattle.sw_machine.specs.Steps.{Grant};
+ghost use Rattle.sw_machine.specs.Steps.{Grant, is_begin};
 ghost use Rattle.sw_model.specs.Model.{network_of};
 ghost use Rattle.sw_model.specs.Steps.{machine_step};
+ghost use Rattle.sw_net.specs.Possible.{granted_by, kind_at_node, kind_at_port};
 ghost use Rattle.sw_topo.specs.Wiring.{partner};
 
 use crate::net::Net;
@@ -23,6 +24,57 @@ fn end_at(channel: Chan) -> LinkEnd
     ensures { result ≡ partner channel }
 {
     LinkEnd::new(channel.partner().number())
+}
+
+/// Whether the step begins a packet.
+fn begins(step: &Step) -> bool
+    ensures { result ≡ is_begin (machine_step step.now) }
+{
+    matches!(step, Step::Begin { .. })
+}
+
+/// Which step of a node it is, at whichever node. None where it begins a packet, or is never done at
+/// a node.
+fn node_kind(step: &Step) -> Option<NodeStep>
+    ensures { result ≡ kind_at_node (machine_step step.now) }
+{
+    match step {
+        Step::Fct(_) => Some(NodeStep::Fct),
+        Step::FctIn(_) => Some(NodeStep::FctIn),
+        Step::Arrive(_) => Some(NodeStep::Arrive),
+        Step::Emit(_) => Some(NodeStep::Emit),
+        Step::Accept(_) => Some(NodeStep::Accept),
+        Step::Reply(_) => Some(NodeStep::Reply),
+        Step::Begin { .. } => None,
+        Step::Grant(_, _) | Step::Drop(_) | Step::Forward(_) | Step::Spill(_) => None,
+    }
+}
+
+/// Which step of a port it is, and of which link end. None where it is a grant, or is never done at
+/// a switch.
+fn port_kind(step: &Step) -> Option<(LinkEnd, PortStep)>
+    ensures { result ≡ kind_at_port (machine_step step.now) }
+{
+    match step {
+        Step::Fct(channel) => Some((end_at(*channel), PortStep::Fct)),
+        Step::FctIn(channel) => Some((LinkEnd::new(channel.number()), PortStep::FctIn)),
+        Step::Arrive(channel) => Some((end_at(*channel), PortStep::Arrive)),
+        Step::Drop(channel) => Some((end_at(*channel), PortStep::DropFront)),
+        Step::Forward(channel) => Some((end_at(*channel), PortStep::Forward)),
+        Step::Spill(channel) => Some((end_at(*channel), PortStep::Spill)),
+        Step::Grant(_, _) | Step::Begin { .. } => None,
+        Step::Emit(_) | Step::Accept(_) | Step::Reply(_) => None,
+    }
+}
+
+/// The output that the step grants, and the channel whose input gets it. None where it is no grant.
+fn granted(step: &Step) -> Option<(Chan, Chan)>
+    ensures { result ≡ granted_by (machine_step step.now) }
+{
+    match step {
+        Step::Grant(output, channel) => Some((*output, *channel)),
+        _ => None,
+    }
 }
 
 impl<'n, R: Routing, A: Arbiter> Net<'n, R, A> {
@@ -74,15 +126,12 @@ impl<'n, R: Routing, A: Arbiter> Net<'n, R, A> {
         ensures { Tells self.now (machine_step step.now) result }
     {
         let _network = self.network();
-        match step {
-            Step::Fct(_) => self.can_at_node(n, NodeStep::Fct),
-            Step::FctIn(_) => self.can_at_node(n, NodeStep::FctIn),
-            Step::Arrive(_) => self.can_at_node(n, NodeStep::Arrive),
-            Step::Emit(_) => self.can_at_node(n, NodeStep::Emit),
-            Step::Accept(_) => self.can_at_node(n, NodeStep::Accept),
-            Step::Reply(_) => self.can_at_node(n, NodeStep::Reply),
-            Step::Begin { .. } => self.can_begin(n),
-            Step::Grant(_, _) | Step::Drop(_) | Step::Forward(_) | Step::Spill(_) => false,
+        if begins(step) {
+            return self.can_begin(n);
+        }
+        match node_kind(step) {
+            Some(kind) => self.can_at_node(n, kind),
+            None => false,
         }
     }
 
@@ -92,17 +141,12 @@ impl<'n, R: Routing, A: Arbiter> Net<'n, R, A> {
         ensures { Tells self.now (machine_step step.now) result }
     {
         let _network = self.network();
-        match step {
-            Step::Fct(channel) => self.can_at_port(w, end_at(*channel), PortStep::Fct),
-            Step::FctIn(channel) => {
-                self.can_at_port(w, LinkEnd::new(channel.number()), PortStep::FctIn)
-            }
-            Step::Arrive(channel) => self.can_at_port(w, end_at(*channel), PortStep::Arrive),
-            Step::Grant(output, channel) => self.can_grant(w, *output, *channel),
-            Step::Drop(channel) => self.can_at_port(w, end_at(*channel), PortStep::DropFront),
-            Step::Forward(channel) => self.can_at_port(w, end_at(*channel), PortStep::Forward),
-            Step::Spill(channel) => self.can_at_port(w, end_at(*channel), PortStep::Spill),
-            Step::Begin { .. } | Step::Emit(_) | Step::Accept(_) | Step::Reply(_) => false,
+        match port_kind(step) {
+            Some(asked) => self.can_at_port(w, asked.0, asked.1),
+            None => match granted(step) {
+                Some(grant) => self.can_grant(w, grant.0, grant.1),
+                None => false,
+            },
         }
     }
 

@@ -1,11 +1,12 @@
 //! A step of a link end.
-ghost use Rattle.std.specs.Prelude.{◌≡◌, ◌<◌, ◌*◌, IfNone, IfSome, Ok, OnErr, OnOk, false, length, true};
+ghost use Rattle.std.specs.Prelude.{◌≡◌, ◌<◌, ◌*◌, ℕ, IfNone, IfSome, Ok, OnErr, OnOk, false, length, true};
 ghost use Rattle.sw_cell.specs.Answers.{Stores};
 ghost use Rattle.sw_cell.specs.Possible.{step_at_node, step_at_port};
 ghost use Rattle.sw_cell.specs.declared.switch.PortStep.{PortStep};
 ghost use Rattle.sw_machine.specs.Network.{AtSwitch};
+ghost use Rattle.sw_machine.specs.Parts.{link_end_of};
 ghost use Rattle.sw_model.specs.Model.{network_of};
-ghost use Rattle.sw_net.specs.Making.{IsPlain};
+ghost use Rattle.sw_net.specs.Making.{IsPlain, told_if_made};
 ghost use Rattle.sw_model.specs.Steps.{machine_step};
 
 use crate::net::Net;
@@ -49,6 +50,17 @@ pub(crate) fn port_step(end: LinkEnd, step: PortStep) -> Step
     }
 }
 
+/// The step, if it was made.
+#[inline(always)]
+fn told(made: Result<(), AllocError>, step: Step) -> Result<Option<Step>, AllocError>
+    ensures { result ≡ told_if_made made step }
+{
+    match made {
+        Ok(()) => Ok(Some(step)),
+        Err(error) => Err(error),
+    }
+}
+
 impl<'n, R: Routing, A: Arbiter> Net<'n, R, A> {
     ghost use Rattle.sw_net.specs.Asked.{CanStep};
     ghost use Rattle.sw_net.specs.Making.{MovesAt};
@@ -74,6 +86,18 @@ impl<'n, R: Routing, A: Arbiter> Net<'n, R, A> {
                 NetFault::NotInFlow => unreachable!(),
             },
         }
+    }
+
+    /// Makes the step, which has to be possible, and no beginning or grant, and tells it.
+    #[inline(always)]
+    fn make_and_tell(&mut self, alloc: Global, step: Step) -> Result<Option<Step>, AllocError>
+        requires plain { IsPlain (machine_step step) }
+        requires possible { Tells self.old (machine_step step) true }
+        ensures network { self.new.declared ≡ self.old.declared }
+        ensures moves { (e : ℕ) → link_end_of (network_of self.old.declared) (machine_step step) ≡ e → MovesAt R.answer A.policy self.old e result self.new }
+    {
+        let made = self.make_plain(alloc, &step);
+        told(made, step)
     }
 
     /// A step of node `n` that is possible, other than to begin a packet.
@@ -123,8 +147,7 @@ impl<'n, R: Routing, A: Arbiter> Net<'n, R, A> {
             return Ok(None);
         };
         let step = node_step(self.network(), n, first);
-        self.make_plain(alloc, &step)?;
-        Ok(Some(step))
+        self.make_and_tell(alloc, step)
     }
 
     fn step_of_port(
@@ -141,9 +164,7 @@ impl<'n, R: Routing, A: Arbiter> Net<'n, R, A> {
         let Some(first) = self.first_at_port(w, end) else {
             return Ok(self.arbitrate(w, end));
         };
-        let step = port_step(end, first);
-        self.make_plain(alloc, &step)?;
-        Ok(Some(step))
+        self.make_and_tell(alloc, port_step(end, first))
     }
 
     /// Makes a step that belongs to the link end, if one is possible other than to begin a packet,

@@ -49,11 +49,11 @@ impl NodeCell {
         ensures { IfOk result (λ node. node ≡ new_node target capacity) }
     {
         Ok(NodeCell {
+            pending: HeapCircularBuffer::with_capacity(alloc, slots(target))?,
+            received: RxEnd::new(alloc, capacity)?,
             target: new_target(alloc, target)?,
             credit: TxEnd::new(),
-            received: RxEnd::new(alloc, capacity)?,
             sending: Sending::nothing(alloc),
-            pending: HeapCircularBuffer::with_capacity(alloc, slots(target))?,
             owed: 0,
             packets: Vec::new(alloc),
             bytes: Vec::new(alloc),

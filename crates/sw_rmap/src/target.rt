@@ -1,7 +1,8 @@
 //! Targets.
-ghost use Rattle.std.specs.Prelude.{◌≡◌, ◌<◌, ◌≤◌, ◌+◌, ◌-◌, true, length, take, option_map, replicate, IfOk, OnErr};
+ghost use Rattle.std.specs.Prelude.{◌≡◌, ◌<◌, ◌≤◌, ◌+◌, ◌-◌, true, if◌then◌else◌, Some, None, length, take, option_map, replicate, IfOk, OnErr};
 ghost use Rattle.sw_rmap.specs.Config.{IsTargetConfig};
-ghost use Rattle.sw_rmap.specs.Answers.{IsInWindow, answer, answer_to, found_by, is_success, stored};
+ghost use Rattle.sw_rmap.specs.Answers.{IsInWindow, answer, answer_to, body_len, found_by, is_success, memory_after, stored};
+ghost use Rattle.sw_rmap.specs.Replies.{is_answered, reply_of};
 
 use crate::command::Command;
 use crate::command_status::status;
@@ -85,7 +86,6 @@ impl Target {
         self.answer_to(alloc, &command, body, end)
     }
 
-    #[tactic(auto, unfolding(crate::specs::Answers::answer_to))]
     fn answer_to(
         &mut self,
         alloc: Global,
@@ -100,16 +100,44 @@ impl Target {
         let config = self.config;
         let status = status(config, command, body, end);
         let found = found(config, &self.memory, command, status);
-        let reply = if command.is_answered() {
-            Some(reply(alloc, command, status, found)?)
-        } else {
-            None
-        };
-        if status.is_success() && command.bits().is_write() {
-            let data = &body[..command.length() as usize];
-            store(&mut self.memory, offset(config, command), data);
-        }
+        let reply = reply_if_wanted(alloc, command, status, found)?;
+        store_if_written(config, &mut self.memory, command, body, status);
         Ok(reply)
+    }
+}
+
+/// The reply to the command, if it gets one.
+fn reply_if_wanted(
+    alloc: Global,
+    command: &Command,
+    status: Status,
+    found: &[u8],
+) -> Result<Option<Vec<u8>>, AllocError>
+    requires { length found.now < 16777216 }
+    ensures { IfOk result (λ reply. option_map (λ r. r.items) reply ≡ (if is_answered command.now then Some (reply_of command.now status found.now) else None)) }
+{
+    if !command.is_answered() {
+        return Ok(None);
+    }
+    Ok(Some(reply(alloc, command, status, found)?))
+}
+
+/// Stores the data of a write that succeeds.
+fn store_if_written(
+    config: TargetConfig,
+    memory: &mut [u8],
+    command: &Command,
+    body: &[u8],
+    status: Status,
+)
+    requires memory { length memory.old ≡ config.size }
+    requires within { is_success status ≡ true → IsInWindow config command.now }
+    requires whole { is_success status ≡ true → length body.now ≡ body_len command.now }
+    ensures { memory.new ≡ memory_after config command.now status body.now memory.old }
+{
+    if status.is_success() && command.bits().is_write() {
+        let data = &body[..command.length() as usize];
+        store(memory, offset(config, command), data);
     }
 }
 

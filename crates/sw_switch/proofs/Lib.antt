@@ -1,3 +1,4 @@
 pub mod Asking
+mod Entries
 mod Stays
 pub mod Waiting

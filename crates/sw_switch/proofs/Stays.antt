@@ -15,18 +15,7 @@ use Rattle.sw_switch.specs.Changes.{granted_to, passed, dropped, is_marker, is_d
 use Rattle.sw_switch.specs.Waiting.{Waits, Moves, forwards, drops, spills, issues, arrives, fct_received, Meanwhile, start, picked, picked_elsewhere, given, moved}
 use Rattle.sw_switch.specs.declared.input.Input.{Input}
 use Rattle.sw_switch.specs.declared.input.Input.TheVariants.{Idle, Held, Spilling}
-
-slice_get-set_other : {X : Type 0} (xs : List X) (i j : ℕ) (y : X) → j ≢ i → slice_get (slice_set xs i y) j ≡ slice_get xs j
-slice_get-set_other [] i j y other = refl
-slice_get-set_other (x ∷ xs) zero zero y other = absurd (other refl)
-slice_get-set_other (x ∷ xs) zero (suc j) y other = refl
-slice_get-set_other (x ∷ xs) (suc i) zero y other = refl
-slice_get-set_other (x ∷ xs) (suc i) (suc j) y other = slice_get-set_other xs i j y (λ e. other (ap suc e))
-
-slice_get-set_same : {X : Type 0} (xs : List X) (i : ℕ) (x y : X) → slice_get xs i ≡ Some x → slice_get (slice_set xs i y) i ≡ Some y
-slice_get-set_same [] i x y e = cc
-slice_get-set_same (z ∷ xs) zero x y e = refl
-slice_get-set_same (z ∷ xs) (suc i) x y e = slice_get-set_same xs i x y e
+use Rattle.sw_switch.proofs.Entries.{slice_get-set_other, slice_get-set_same}
 
 -- a new entry changes no front if it has that of the old one
 front-set : (ends : List Received) (i j : ℕ) (r d : Received) → slice_get r.buffer 0 ≡ slice_get (slice_index_or ends i d).buffer 0 →

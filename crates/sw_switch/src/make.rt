@@ -1,7 +1,8 @@
 //! A new switch.
-ghost use Rattle.std.specs.Prelude.{◌≡◌, ℕ, length, replicate, map, All, slice_get, Some, IfOk, vec_len};
+ghost use Rattle.std.specs.Prelude.{◌≡◌, ◌++◌, ◌∷◌, [], ℕ, length, replicate, map, All, slice_get, Some, IfOk, vec_len};
 ghost use Rattle.sw_link.specs.Ends.{IsCapacity};
 ghost use Rattle.sw_switch.specs.Cell.{HaveArbiters, new_end, new_cell};
+ghost use Rattle.sw_switch.specs.declared.input.Input.{Input};
 
 use crate::cell::SwitchCell;
 use crate::input::Input;
@@ -14,14 +15,22 @@ use sw_topo::PortSet;
 /// How many ports a switch has.
 const PORTS: usize = 32;
 
-fn no_credits(alloc: Global) -> Result<Vec<TxEnd>, AllocError>
-    ensures { IfOk result (λ ends. ends.items ≡ replicate 32 0) }
+fn no_credits(alloc: Global, ports: usize) -> Result<Vec<TxEnd>, AllocError>
+    ensures { IfOk result (λ ends. ends.items ≡ replicate ports 0) }
 {
     let mut ends = Vec::new(alloc);
-    for _ in 0..PORTS {
+    for _ in 0..ports {
         ends.push(TxEnd::new())?;
     }
     Ok(ends)
+}
+
+fn add_empty_end(alloc: Global, capacity: usize, ends: &mut Vec<RxEnd>) -> Result<(), AllocError>
+    requires { IsCapacity capacity }
+    ensures { IfOk result (λ _. ends.new.items ≡ ends.old.items ++ new_end capacity ∷ []) }
+{
+    ends.push(RxEnd::new(alloc, capacity)?)?;
+    Ok(())
 }
 
 fn empty_ends(alloc: Global, capacities: &[usize]) -> Result<Vec<RxEnd>, AllocError>
@@ -30,9 +39,24 @@ fn empty_ends(alloc: Global, capacities: &[usize]) -> Result<Vec<RxEnd>, AllocEr
 {
     let mut ends = Vec::new(alloc);
     for capacity in capacities {
-        ends.push(RxEnd::new(alloc, *capacity)?)?;
+        add_empty_end(alloc, *capacity, &mut ends)?;
     }
     Ok(ends)
+}
+
+/// What a new switch keeps of its ports: their credits, their inputs and their receiving ends.
+fn new_ports(
+    alloc: Global,
+    capacities: &[usize],
+) -> Result<(Vec<TxEnd>, Vec<Input>, Vec<RxEnd>), AllocError>
+    requires { All IsCapacity capacities.now }
+    ensures { IfOk result (λ ports. (ports.0.items ≡ replicate 32 0)
+        × (ports.1.items ≡ replicate 32 Input.Idle)
+        × (ports.2.items ≡ map new_end capacities.now)) }
+{
+    let credits = no_credits(alloc, PORTS)?;
+    let inputs = vec![in alloc; Input::Idle; PORTS]?;
+    Ok((credits, inputs, empty_ends(alloc, capacities)?))
 }
 
 impl<R: Routing + Drop, A: Arbiter + Drop> SwitchCell<R, A> {
@@ -56,13 +80,14 @@ impl<R: Routing + Drop, A: Arbiter + Drop> SwitchCell<R, A> {
         requires arbiter_ports { HaveArbiters A.ports linked arbiters.items }
         ensures { IfOk result (λ cell. cell ≡ new_cell routes linked capacities.now arbiters.items) }
     {
+        let (credits, inputs, received) = new_ports(alloc, capacities)?;
         Ok(SwitchCell {
             routes,
             linked,
             waiting: PortSet::EMPTY,
-            credits: no_credits(alloc)?,
-            inputs: vec![in alloc; Input::Idle; PORTS]?,
-            received: empty_ends(alloc, capacities)?,
+            credits,
+            inputs,
+            received,
             arbiters,
         })
     }

@@ -1,5 +1,5 @@
 //! Reading of one table, key by key.
-ghost use Rattle.std.specs.Prelude.{◌≡◌, ◌≤◌, ◌↔◌, All, IsTrue, IsSome, IfOk, IfSome, Option, option_map, string_bytes, find, not, map};
+ghost use Rattle.std.specs.Prelude.{◌≡◌, ◌≤◌, ◌↔◌, All, Err, IsTrue, IsSome, IfOk, IfSome, Option, option_map, string_bytes, find, not, map};
 ghost use Rattle.std.specs.BTreeMap.{keys};
 ghost use Rattle.std.specs.List.{list_all};
 ghost use Rattle.std.specs.List.Sorted.{IsStrictlySortedBy};
@@ -75,6 +75,14 @@ impl<'a> TableEntry<'a> {
         FileFault::Text(TextFault::Key(fault, self.section, key))
     }
 
+    /// Refuses a key that this table may not have.
+    fn refuse(&self, alloc: Global, key: &str) -> Result<(), FileFault>
+        ensures { Gives (λ x. x) result (Err (TextFault.UnknownKey self.now.section key.now)) }
+    {
+        let name = Name::new(alloc, key)?;
+        Err(FileFault::Text(TextFault::UnknownKey(self.section, name)))
+    }
+
     /// Refuses a table with a key that it may not have.
     ///
     /// # Errors
@@ -85,10 +93,7 @@ impl<'a> TableEntry<'a> {
     {
         match least_unknown(self.table, known) {
             None => Ok(()),
-            Some(key) => {
-                let name = Name::new(alloc, key)?;
-                Err(FileFault::Text(TextFault::UnknownKey(self.section, name)))
-            }
+            Some(key) => self.refuse(alloc, key),
         }
     }
 
@@ -102,10 +107,7 @@ impl<'a> TableEntry<'a> {
     {
         match self.optional(key) {
             None => Ok(()),
-            Some(_) => {
-                let name = Name::new(alloc, key.text())?;
-                Err(FileFault::Text(TextFault::UnknownKey(self.section, name)))
-            }
+            Some(_) => self.refuse(alloc, key.text()),
         }
     }
 

@@ -1,23 +1,12 @@
 //! Characters cut into packets.
-use std::alloc::Global;
-use std::process::Abort;
-use sw_char::{End, NChar, Packet, packets};
-
-fn is_packet(packet: &Packet, bytes: &[u8], end: End) -> bool {
-    packet.bytes.as_slice() == bytes && packet.end == end
-}
-
-fn has_one_packet(rt: &impl Abort, alloc: Global, chars: &[NChar], bytes: &[u8], rest: usize) {
-    let (whole, start) = packets(alloc, chars).expect(rt, "packets");
-    assert!(rt; whole.len() == 1);
-    for packet in &whole {
-        assert!(rt; is_packet(packet, bytes, End::Eop));
-    }
-    assert!(rt; start == rest);
-}
+use sw_char::{End, NChar, packets};
 
 #[test]
 fn one_packet_and_a_rest(rt: HostRuntime) {
     let chars = [NChar::Data(0xAA), NChar::Eop, NChar::Data(0xBB)];
-    has_one_packet(&rt, rt.alloc(), &chars, &[0xAA], 2);
+    let (whole, start) = packets(rt.alloc(), &chars).expect(&rt, "packets");
+    assert!(rt; start == 2);
+    assert!(rt; whole.len() == 1);
+    assert!(rt; whole[0].bytes.as_slice() == [0xAA].as_slice());
+    assert!(rt; whole[0].end == End::Eop);
 }

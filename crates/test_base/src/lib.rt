@@ -14,4 +14,6 @@ mod orders;
 #[cfg(test)]
 mod routes;
 #[cfg(test)]
+mod sets;
+#[cfg(test)]
 mod streams;

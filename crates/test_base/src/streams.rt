@@ -1,8 +1,10 @@
 //! Texts read and written whole, also where a call fails.
 ghost use Rattle.std.specs.Prelude.{Some};
 
+use std::alloc::Global;
 use std::io;
 use std::io::{Read, Write};
+use std::process::Abort;
 use std::test::*;
 use sw_text::{ReadError, WriteError, read_whole, write_whole};
 
@@ -58,32 +60,52 @@ impl Write for SlowWriter {
     }
 }
 
+// The reader gives this text up to the limit, or fails so.
+fn gives<R: Read>(
+    rt: &impl Abort,
+    alloc: Global,
+    reader: &mut R,
+    limit: usize,
+    wanted: Result<&[u8], &ReadError>,
+) {
+    let text = read_whole(alloc, reader, limit);
+    assert!(rt; text.as_deref() == wanted);
+}
+
 #[test]
 fn a_text_up_to_its_limit_is_read(rt: HostRuntime) {
     for limit in 0..8usize {
         let mut reader = &b"abcd"[..];
-        let text = read_whole(rt.alloc(), &mut reader, limit);
-        if limit < 4 {
-            assert_eq!(rt; text.err(), Some(ReadError::TooLong));
-            assert_eq!(rt; reader.len(), 3 - limit);
+        let wanted = if limit < 4 {
+            Err(&ReadError::TooLong)
         } else {
-            assert!(rt; text.is_ok_and(|text| text.as_slice() == b"abcd".as_slice()));
-        }
+            Ok(&b"abcd"[..])
+        };
+        gives(&rt, rt.alloc(), &mut reader, limit, wanted);
+        assert!(rt; reader.len() == 3usize.saturating_sub(limit));
     }
 }
 
 #[test]
 fn a_read_that_fails_is_not_tried_again(rt: HostRuntime) {
     for before_fault in 0..20usize {
-        let text = read_whole(rt.alloc(), &mut FailingReader { before_fault }, 40);
-        assert_eq!(rt; text.err(), Some(ReadError::Failed));
+        let mut reader = FailingReader { before_fault };
+        gives(&rt, rt.alloc(), &mut reader, 40, Err(&ReadError::Failed));
     }
+}
+
+const TEXT: &[u8] = b"place 0 0 A>B\n";
+
+// A writer with so much room takes the text, or fails and has its beginning.
+fn takes(rt: &impl Abort, writer: &mut SlowWriter, room: usize) {
+    let written = write_whole(writer, TEXT);
+    assert!(rt; written.is_ok() == (TEXT.len() <= room));
+    assert!(rt; writer.taken.as_slice() == &TEXT[..TEXT.len().min(room)]);
 }
 
 #[test]
 fn a_write_that_fails_leaves_a_beginning(rt: HostRuntime) {
-    let text = b"place 0 0 A>B\n";
-    for room in 0..text.len() + 2 {
+    for room in 0..TEXT.len() + 2 {
         for takes_none in [false, true] {
             let taken = Vec::new(rt.alloc());
             let mut writer = SlowWriter {
@@ -91,14 +113,7 @@ fn a_write_that_fails_leaves_a_beginning(rt: HostRuntime) {
                 room,
                 takes_none,
             };
-            let written = write_whole(&mut writer, text);
-            if room < text.len() {
-                assert_eq!(rt; written, Err(WriteError));
-                assert!(rt; writer.taken.as_slice() == &text[..room]);
-            } else {
-                assert_eq!(rt; written, Ok(()));
-                assert!(rt; writer.taken.as_slice() == text.as_slice());
-            }
+            takes(&rt, &mut writer, room);
         }
     }
 }

@@ -84,10 +84,7 @@ fn turns<R: Files + Print + AllocGlobal + Threads + Wait + Sync>(
 }
 
 /// What is found for the network with commands.
-fn commands<R: Files + Print + AllocGlobal + Threads + Wait + Sync>(
-    rt: &R,
-    network: &Network,
-) -> Result<()> {
+fn commands<R: Files + Print + AllocGlobal>(rt: &R, network: &Network) -> Result<()> {
     let alloc = rt.alloc();
     let load = texts::load_of(alloc, network, &bytes_of(rt, "rmap.load")?)?;
     packets::show_answers(rt, network, &load)?;

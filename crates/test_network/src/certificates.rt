@@ -8,9 +8,12 @@ use sw_topo::Chan;
 const TEXT: &[u8] =
     b"swcert 1\nchannels 2\nnumber 0\nnumber 65535\nflows 2\nflow 1\nplace 0 0\nflow 0\nend\n";
 
-fn writes(rt: &impl Abort, alloc: Global, certificate: &Certificate, wanted: &[u8]) {
-    let text = certificate.write(alloc).expect(rt, "text");
-    assert!(rt; text.as_slice() == wanted);
+// The certificate of two numbers and two flows, the first of which has these places.
+fn made(rt: &impl Abort, alloc: Global, places: &[Place]) -> Option<Certificate> {
+    let first = Vec::from_slice(alloc, places).expect(rt, "places");
+    let lists = vec![in alloc; first, Vec::new(alloc)].expect(rt, "lists");
+    let numbers = vec![in alloc; 0, 65535].expect(rt, "numbers");
+    Certificate::new(numbers, lists)
 }
 
 fn start() -> Place {
@@ -20,25 +23,14 @@ fn start() -> Place {
     }
 }
 
-// The certificate of two numbers and two flows, the first of which has these places.
-fn made(rt: &impl Abort, alloc: Global, places: &[Place]) -> Option<Certificate> {
-    let first = Vec::from_slice(alloc, places).expect(rt, "places");
-    let lists = vec![in alloc; first, Vec::new(alloc)].expect(rt, "lists");
-    let numbers = vec![in alloc; 0, 65535].expect(rt, "numbers");
-    Certificate::new(numbers, lists)
-}
-
-fn is_made_and_written(rt: &impl Abort, alloc: Global) {
+fn writes(rt: &impl Abort, alloc: Global, wanted: &[u8]) {
     let certificate = made(rt, alloc, &[start()]).expect(rt, "certificate");
-    writes(rt, alloc, &certificate, TEXT);
+    let text = certificate.write(alloc).expect(rt, "text");
+    assert!(rt; text.as_slice() == wanted);
 }
 
 #[test]
-fn a_certificate_is_made_and_written(rt: HostRuntime) {
-    is_made_and_written(&rt, rt.alloc());
-}
-
-#[test]
-fn no_place_is_listed_twice(rt: HostRuntime) {
+fn a_certificate_is_written_and_lists_no_place_twice(rt: HostRuntime) {
+    writes(&rt, rt.alloc(), TEXT);
     assert!(rt; made(&rt, rt.alloc(), &[start(), start()]).is_none());
 }

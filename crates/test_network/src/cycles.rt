@@ -1,109 +1,125 @@
 //! Cycles, and what is none.
-use crate::samples::{duel, turn};
-use std::alloc::{AllocError, Global};
+use crate::samples::{Sample, add_flows, add_parts};
+use std::alloc::Global;
 use std::process::Abort;
-use sw_config::Network;
+use sw_config::{Network, NetworkBuilder};
 use sw_cycle::{Cause, Cycle, check_cycle};
 use sw_flow::Place;
 use sw_topo::Chan;
 
-fn channels(alloc: Global, numbers: &[u16]) -> Result<Vec<Chan>, AllocError> {
+// Channels by number, and the causes: targets, and flow 0 by these places, if there are any.
+struct Case {
+    channels: &'static [u16],
+    targets: &'static [u16],
+    way: &'static [(u16, u8)],
+    is_cycle: bool,
+}
+
+const DUEL: &[Case] = &[
+    // Targets that answer each other are a cycle.
+    Case {
+        channels: &[0, 1],
+        targets: &[1, 0],
+        way: &[],
+        is_cycle: true,
+    },
+    // Each target is at its channel.
+    Case {
+        channels: &[0, 1],
+        targets: &[0, 1],
+        way: &[],
+        is_cycle: false,
+    },
+    // A cycle needs channels.
+    Case {
+        channels: &[],
+        targets: &[],
+        way: &[],
+        is_cycle: false,
+    },
+    // It needs its last cause.
+    Case {
+        channels: &[0],
+        targets: &[1],
+        way: &[],
+        is_cycle: false,
+    },
+    // No target has a number too high.
+    Case {
+        channels: &[0, 1],
+        targets: &[1, 9],
+        way: &[],
+        is_cycle: false,
+    },
+];
+
+const TURN: &[Case] = &[
+    // A flow may wait for itself.
+    Case {
+        channels: &[2],
+        targets: &[],
+        way: &[(0, 0), (2, 1), (2, 2)],
+        is_cycle: true,
+    },
+    // Places are given from the start of the flow.
+    Case {
+        channels: &[2],
+        targets: &[],
+        way: &[(2, 1), (2, 2)],
+        is_cycle: false,
+    },
+];
+
+fn channels(rt: &impl Abort, alloc: Global, numbers: &[u16]) -> Vec<Chan> {
     let mut channels = Vec::new(alloc);
     for number in numbers {
-        channels.push(Chan::new(*number))?;
+        channels.push(Chan::new(*number)).expect(rt, "channel");
     }
-    Ok(channels)
+    channels
 }
 
-fn target_causes(alloc: Global, targets: &[u16]) -> Result<Vec<Cause>, AllocError> {
+fn causes(rt: &impl Abort, alloc: Global, case: &Case) -> Vec<Cause> {
     let mut causes = Vec::new(alloc);
-    for target in targets {
-        causes.push(Cause::Target(*target))?;
+    for target in case.targets {
+        causes.push(Cause::Target(*target)).expect(rt, "cause");
     }
-    Ok(causes)
-}
-
-// A cycle over these channels, whose causes are these targets.
-fn cycle_of_targets(rt: &impl Abort, alloc: Global, numbers: &[u16], targets: &[u16]) -> Cycle {
-    Cycle {
-        channels: channels(alloc, numbers).expect(rt, "channels"),
-        causes: target_causes(alloc, targets).expect(rt, "causes"),
+    if !case.way.is_empty() {
+        let mut places = Vec::new(alloc);
+        for (channel, deleted) in case.way {
+            let channel = Chan::new(*channel);
+            let place = Place {
+                channel,
+                deleted: *deleted,
+            };
+            places.push(place).expect(rt, "place");
+        }
+        causes.push(Cause::Flow(0, places)).expect(rt, "cause");
     }
-}
-
-fn check(rt: &impl Abort, network: &Network, cycle: &Cycle, wanted: bool) {
-    assert!(rt; check_cycle(network, cycle) == wanted);
-}
-
-// Is it a cycle of the network, as is said? One function alone owns a network: to let one go is dear to prove.
-fn is_cycle(rt: &impl Abort, network: Network, cycle: &Cycle, wanted: bool) {
-    check(rt, &network, cycle, wanted)
-}
-
-// In the duel, are these targets the causes of a cycle over these channels?
-fn duel_waits(rt: &impl Abort, alloc: Global, numbers: &[u16], targets: &[u16], wanted: bool) {
-    let cycle = cycle_of_targets(rt, alloc, numbers, targets);
-    is_cycle(rt, duel(rt, alloc), &cycle, wanted);
-}
-
-#[test]
-fn targets_that_answer_each_other_are_a_cycle(rt: HostRuntime) {
-    duel_waits(&rt, rt.alloc(), &[0, 1], &[1, 0], true);
-}
-
-#[test]
-fn each_target_is_at_its_channel(rt: HostRuntime) {
-    duel_waits(&rt, rt.alloc(), &[0, 1], &[0, 1], false);
-}
-
-#[test]
-fn a_cycle_needs_channels(rt: HostRuntime) {
-    duel_waits(&rt, rt.alloc(), &[], &[], false);
-}
-
-#[test]
-fn a_cycle_needs_its_last_cause(rt: HostRuntime) {
-    duel_waits(&rt, rt.alloc(), &[0], &[1], false);
-}
-
-#[test]
-fn no_target_has_a_number_too_high(rt: HostRuntime) {
-    duel_waits(&rt, rt.alloc(), &[0, 1], &[1, 9], false);
-}
-
-fn at(channel: u16, deleted: u8) -> Place {
-    Place {
-        channel: Chan::new(channel),
-        deleted,
-    }
-}
-
-fn flow_causes(rt: &impl Abort, alloc: Global, way: &[Place]) -> Vec<Cause> {
-    let places = Vec::from_slice(alloc, way).expect(rt, "places");
-    let mut causes = Vec::new(alloc);
-    causes.push(Cause::Flow(0, places)).expect(rt, "cause");
     causes
 }
 
-// At the switch that turns the flow, channel 2 waits for itself by these places of flow 0.
-fn cycle_of_flow(rt: &impl Abort, alloc: Global, way: &[Place]) -> Cycle {
-    Cycle {
-        channels: channels(alloc, &[2]).expect(rt, "channels"),
-        causes: flow_causes(rt, alloc, way),
+fn check(rt: &impl Abort, alloc: Global, network: &Network, case: &Case) {
+    let cycle = Cycle {
+        channels: channels(rt, alloc, case.channels),
+        causes: causes(rt, alloc, case),
+    };
+    assert!(rt; check_cycle(network, &cycle) == case.is_cycle);
+}
+
+// One function alone owns a network: to let one go is dear to prove.
+fn check_all(rt: &impl Abort, alloc: Global, sample: &Sample, cases: &[Case]) {
+    let mut builder = NetworkBuilder::new(alloc);
+    add_parts(rt, alloc, &mut builder, sample);
+    let mut network = builder.wire(alloc).expect(rt, "network");
+    add_flows(rt, alloc, &mut network, sample);
+    for case in cases {
+        check(rt, alloc, &network, case);
     }
-}
-
-fn turn_waits(rt: &impl Abort, alloc: Global, way: &[Place], wanted: bool) {
-    let cycle = cycle_of_flow(rt, alloc, way);
-    is_cycle(rt, turn(rt, alloc), &cycle, wanted);
+    drop(network);
 }
 
 #[test]
-fn a_flow_may_wait_for_itself(rt: HostRuntime) {
-    turn_waits(&rt, rt.alloc(), &[at(0, 0), at(2, 1), at(2, 2)], true);
-}
-
-#[test]
-fn places_are_given_from_the_start_of_the_flow(rt: HostRuntime) {
-    turn_waits(&rt, rt.alloc(), &[at(2, 1), at(2, 2)], false);
+fn cycles_are_told_from_what_is_none(rt: HostRuntime) {
+    check_all(&rt, rt.alloc(), &Sample::Duel, DUEL);
+    check_all(&rt, rt.alloc(), &Sample::Turn, TURN);
 }

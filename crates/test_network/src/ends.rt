@@ -6,74 +6,63 @@ use std::process::Abort;
 use sw_char::NChar;
 use sw_link::RxEnd;
 
-// Eight N-Chars arrive, and no more are asked for.
-fn receive_eight(rt: &impl Abort, end: &mut RxEnd) {
-    for i in 0..8 {
+const EIGHT: &[NChar] = &[
+    NChar::Data(0),
+    NChar::Data(1),
+    NChar::Data(2),
+    NChar::Data(3),
+    NChar::Data(4),
+    NChar::Data(5),
+    NChar::Data(6),
+    NChar::Data(7),
+];
+
+// These N-Chars arrive, and no more are asked for.
+fn receive(rt: &impl Abort, end: &mut RxEnd, characters: &[NChar]) {
+    for character in characters {
         assert!(rt; !end.can_issue());
         assert!(rt; end.outstanding() > 0);
-        end.arrive(NChar::Data(i));
+        end.arrive(*character);
     }
 }
 
-// The eight are taken, and until then no more are asked for.
-fn take_eight(rt: &impl Abort, end: &mut RxEnd) {
-    for i in 0..8 {
+// They are taken, and until then no more are asked for.
+fn take(rt: &impl Abort, end: &mut RxEnd, characters: &[NChar]) {
+    for character in characters {
         assert!(rt; !end.can_issue());
         assert!(rt; end.len() > 0);
-        assert!(rt; end.front() == Some(NChar::Data(i)));
-        assert!(rt; end.take() == NChar::Data(i));
+        assert!(rt; end.front() == Some(*character));
+        assert!(rt; end.take() == *character);
     }
 }
 
-fn asks_after_eight(rt: &impl Abort, end: &mut RxEnd) {
-    assert!(rt; end.can_issue());
-    end.issue();
-    receive_eight(rt, end);
-    take_eight(rt, end);
-    assert!(rt; end.can_issue());
-}
-
-#[test]
-fn eight_must_arrive_and_be_taken(rt: HostRuntime) {
-    let mut end = RxEnd::new(rt.alloc(), 8).expect(&rt, "end");
-    asks_after_eight(&rt, &mut end);
-}
-
-fn asks_after_one(rt: &impl Abort, end: &mut RxEnd) {
-    assert!(rt; !end.can_issue());
-    assert!(rt; end.outstanding() > 0);
-    end.arrive(NChar::Eop);
-    assert!(rt; !end.can_issue());
-    assert!(rt; end.take() == NChar::Eop);
-    assert!(rt; end.can_issue());
-}
-
-// The end has asked for eight.
-fn asked_end(rt: &impl Abort, alloc: Global, capacity: usize) -> RxEnd
+// An end asks so often, these N-Chars arrive and are taken, and then it asks again or does not.
+fn asks(
+    rt: &impl Abort,
+    alloc: Global,
+    capacity: usize,
+    times: u8,
+    characters: &[NChar],
+    asks_again: bool,
+)
     requires { IsCapacity capacity }
 {
     let mut end = RxEnd::new(alloc, capacity).expect(rt, "end");
-    assert!(rt; end.can_issue());
-    end.issue();
-    end
-}
-
-#[test]
-fn one_free_place_more_is_enough(rt: HostRuntime) {
-    let mut end = asked_end(&rt, rt.alloc(), 15);
-    asks_after_one(&rt, &mut end);
-}
-
-fn asks_seven_times(rt: &impl Abort, end: &mut RxEnd) {
-    for _ in 0..7 {
+    for _ in 0..times {
         assert!(rt; end.can_issue());
         end.issue();
     }
-    assert!(rt; !end.can_issue());
+    receive(rt, &mut end, characters);
+    take(rt, &mut end, characters);
+    assert!(rt; end.can_issue() == asks_again);
 }
 
 #[test]
-fn seven_fcts_in_a_row(rt: HostRuntime) {
-    let mut end = RxEnd::new(rt.alloc(), 4096).expect(&rt, "end");
-    asks_seven_times(&rt, &mut end);
+fn an_end_asks_where_it_has_room(rt: HostRuntime) {
+    // Eight must arrive and be taken.
+    asks(&rt, rt.alloc(), 8, 1, EIGHT, true);
+    // One free place more is enough.
+    asks(&rt, rt.alloc(), 15, 1, &[NChar::Eop], true);
+    // Seven FCTs in a row.
+    asks(&rt, rt.alloc(), 4096, 7, &[], false);
 }

@@ -5,7 +5,6 @@
 #![tactic(auto)]
 
 #[cfg(test)]
-mod building;
 #[cfg(test)]
 mod certificates;
 #[cfg(test)]

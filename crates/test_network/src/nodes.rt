@@ -1,4 +1,8 @@
 //! A target's cell, and the machine's step by which a node takes a packet.
+ghost use Rattle.std.specs.Prelude.{IfSome};
+ghost use Rattle.sw_link.specs.Ends.{IsCapacity};
+ghost use Rattle.sw_rmap.specs.Config.{IsTargetConfig};
+
 use std::alloc::Global;
 use std::process::Abort;
 use sw_cell::node;
@@ -6,7 +10,7 @@ use sw_char::{End, NChar};
 use sw_node::NodeCell;
 use sw_rmap::TargetConfig;
 
-const CONFIG: TargetConfig = TargetConfig {
+const TARGET: TargetConfig = TargetConfig {
     logical: 0xFE,
     key: 0,
     start: 0,
@@ -14,20 +18,14 @@ const CONFIG: TargetConfig = TargetConfig {
     slots: 1,
 };
 
-fn target(rt: &impl Abort, alloc: Global) -> NodeCell {
-    NodeCell::new(alloc, Some(CONFIG), 64).expect(rt, "target")
-}
-
-fn begin(rt: &impl Abort, alloc: Global, node: &mut NodeCell) {
+// A packet is sent to its end.
+fn sends(rt: &impl Abort, alloc: Global, node: &mut NodeCell) {
     assert!(rt; node.can_begin());
     node.begin(alloc, &[3], &[0xAA], End::Eep)
         .expect(rt, "packet");
     assert!(rt; !node.can_begin());
     assert!(rt; node.credit() == 0);
     node.fct_in();
-}
-
-fn send(rt: &impl Abort, node: &mut NodeCell) {
     for _ in 0..3usize {
         assert!(rt; node.can_emit());
         let _ = node.emit();
@@ -35,25 +33,9 @@ fn send(rt: &impl Abort, node: &mut NodeCell) {
     assert!(rt; node.can_begin());
 }
 
-#[test]
-fn a_packet_is_sent_to_its_end(rt: HostRuntime) {
-    let mut node = target(&rt, rt.alloc());
-    begin(&rt, rt.alloc(), &mut node);
-    send(&rt, &mut node);
-}
-
 fn issue(rt: &impl Abort, node: &mut NodeCell) {
     assert!(rt; node.can_issue());
     node.issue();
-}
-
-fn receive(rt: &impl Abort, alloc: Global, node: &mut NodeCell) {
-    for character in [NChar::Data(0xAA), NChar::Eop] {
-        assert!(rt; node.outstanding() > 0);
-        node.arrive(character);
-        assert!(rt; node.can_accept());
-        node.accept(alloc).expect(rt, "memory");
-    }
 }
 
 fn has_one_packet(rt: &impl Abort, alloc: Global, node: &NodeCell) {
@@ -61,12 +43,16 @@ fn has_one_packet(rt: &impl Abort, alloc: Global, node: &NodeCell) {
     assert!(rt; packets.len() == 1);
 }
 
-#[test]
-fn a_packet_comes_out(rt: HostRuntime) {
-    let mut node = target(&rt, rt.alloc());
-    issue(&rt, &mut node);
-    receive(&rt, rt.alloc(), &mut node);
-    has_one_packet(&rt, rt.alloc(), &node);
+// A packet comes out.
+fn receives(rt: &impl Abort, alloc: Global, node: &mut NodeCell) {
+    issue(rt, node);
+    for character in [NChar::Data(0xAA), NChar::Eop] {
+        assert!(rt; node.outstanding() > 0);
+        node.arrive(character);
+        assert!(rt; node.can_accept());
+        node.accept(alloc).expect(rt, "memory");
+    }
+    has_one_packet(rt, alloc, node);
 }
 
 // Whether the node took what came.
@@ -75,6 +61,7 @@ fn accepts(rt: &impl Abort, alloc: Global, node: &mut NodeCell) -> bool {
 }
 
 fn takes_what_came(rt: &impl Abort, alloc: Global, node: &mut NodeCell) {
+    assert!(rt; node::can_begin(0, node));
     assert!(rt; !accepts(rt, alloc, node));
     issue(rt, node);
     assert!(rt; node.outstanding() > 0);
@@ -83,9 +70,29 @@ fn takes_what_came(rt: &impl Abort, alloc: Global, node: &mut NodeCell) {
     assert!(rt; node.packets().len() == 1);
 }
 
+enum Work {
+    Send,
+    Receive,
+    TakeWhatCame,
+}
+
+// One function alone owns a cell: to let one go is dear to prove.
+fn works(rt: &impl Abort, alloc: Global, target: Option<TargetConfig>, capacity: usize, work: &Work)
+    requires target { IfSome target IsTargetConfig }
+    requires capacity { IsCapacity capacity }
+{
+    let mut node = NodeCell::new(alloc, target, capacity).expect(rt, "node");
+    match work {
+        Work::Send => sends(rt, alloc, &mut node),
+        Work::Receive => receives(rt, alloc, &mut node),
+        Work::TakeWhatCame => takes_what_came(rt, alloc, &mut node),
+    }
+    drop(node);
+}
+
 #[test]
-fn a_node_takes_what_came(rt: HostRuntime) {
-    let mut node = NodeCell::new(rt.alloc(), None, 8).expect(&rt, "node");
-    assert!(rt; node::can_begin(0, &node));
-    takes_what_came(&rt, rt.alloc(), &mut node);
+fn nodes_send_and_take_packets(rt: HostRuntime) {
+    works(&rt, rt.alloc(), Some(TARGET), 64, &Work::Send);
+    works(&rt, rt.alloc(), Some(TARGET), 64, &Work::Receive);
+    works(&rt, rt.alloc(), None, 8, &Work::TakeWhatCame);
 }

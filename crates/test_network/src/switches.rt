@@ -22,13 +22,6 @@ fn arbiters(alloc: Global, ports: PortSet) -> Result<Vec<Option<RoundRobin>>, Al
     Ok(all)
 }
 
-// A switch with links at those ports. It is not dropped where a call fails: the test ends there. So there is less to prove.
-fn switch(rt: &impl Abort, alloc: Global, linked: PortSet) -> Cell {
-    let routes = TableRoutes::new(alloc);
-    let arbiters = arbiters(alloc, linked).expect(rt, "arbiters");
-    SwitchCell::new(alloc, routes, linked, &[64; 32], arbiters).expect(rt, "switch")
-}
-
 /// The port's end asks for eight N-Chars, and those arrive.
 fn receive(rt: &impl Abort, cell: &mut Cell, input: Port, characters: &[NChar]) {
     assert!(rt; cell.can_issue(input));
@@ -51,37 +44,35 @@ fn begin(rt: &impl Abort, cell: &mut Cell, one: Port, two: Port) {
     receive(rt, cell, one, &[NChar::Data(2), NChar::Data(0xaa)]);
     receive(rt, cell, two, &[NChar::Data(2), NChar::Data(0xbb)]);
     assert!(rt; cell.asks(two) == PortSet::single(one).with(two));
+    assert!(rt; cell.grant(two) == Some(one));
 }
 
-fn is_granted(rt: &impl Abort, cell: &mut Cell, out: Port, wanted: Option<Port>) {
-    assert!(rt; cell.grant(out) == wanted);
-}
-
-fn sends_what_it_has(rt: &impl Abort, cell: &mut Cell, one: Port, two: Port) {
+// The output stays with the packet of port 1 until its end.
+fn stays_with_a_packet(rt: &impl Abort, cell: &mut Cell, one: Port, two: Port) {
     assert!(rt; cell.front(one) == Some(NChar::Data(0xaa)));
     assert!(rt; forwarded(rt, cell, one) == (two, NChar::Data(0xaa)));
     assert!(rt; cell.front(one) == None);
-}
-
-fn finish(rt: &impl Abort, cell: &mut Cell, one: Port, two: Port) {
+    assert!(rt; cell.grant(two) == None);
     assert!(rt; cell.outstanding(one) > 0);
     cell.arrive(one, NChar::Eop);
     assert!(rt; forwarded(rt, cell, one) == (two, NChar::Eop));
+    assert!(rt; cell.grant(two) == Some(two));
 }
 
-fn stays_with_a_packet(rt: &impl Abort, cell: &mut Cell, one: Port, two: Port) {
-    begin(rt, cell, one, two);
-    is_granted(rt, cell, two, Some(one));
-    sends_what_it_has(rt, cell, one, two);
-    is_granted(rt, cell, two, None);
-    finish(rt, cell, one, two);
-    is_granted(rt, cell, two, Some(two));
-}
-
+// A switch whose ports 1 and 2 have links. It is not dropped where a call fails: the test ends there. So there is less to prove.
 fn shares_an_output(rt: &impl Abort, alloc: Global) {
     let one = Port::new(1).expect(rt, "port");
     let two = Port::new(2).expect(rt, "port");
-    let mut cell = switch(rt, alloc, PortSet::single(one).with(two));
+    let linked = PortSet::single(one).with(two);
+    let arbiters = arbiters(alloc, linked).expect(rt, "arbiters");
+    let mut cell = SwitchCell::new(
+        alloc,
+        TableRoutes::new(alloc),
+        linked,
+        &[64; 32],
+        arbiters,
+    ).expect(rt, "switch");
+    begin(rt, &mut cell, one, two);
     stays_with_a_packet(rt, &mut cell, one, two);
 }
 

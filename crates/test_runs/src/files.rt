@@ -5,21 +5,14 @@ use std::rt::Files;
 use std::{fs, io};
 use sw_config::Network;
 use sw_file::read_network;
-use sw_text::read_whole;
 
-/// The most bytes that a file may have.
-const MAX_TEXT: usize = 65_536;
-
+/// What is said of a file that does not have the text that it should.
 pub(crate) fn no_text() -> io::Error {
     io::Error::from(ErrorKind::InvalidData)
 }
 
-pub(crate) fn text_of<R: Files + AllocGlobal>(rt: &R, file: &str) -> io::Result<Vec<u8>> {
-    let mut reader = fs::open(rt, file)?;
-    read_whole(rt.alloc(), &mut reader, MAX_TEXT).map_err(|_| no_text())
-}
-
+/// The network that the file declares.
 pub(crate) fn network_of<R: Files + AllocGlobal>(rt: &R, file: &str) -> io::Result<Network> {
-    let text = text_of(rt, file)?;
+    let text = fs::read(rt, file)?;
     read_network(rt.alloc(), &text).map_err(|_| no_text())
 }

@@ -6,7 +6,7 @@ pub(crate) mod grants;
 pub(crate) mod outcomes;
 mod show;
 
-use crate::work::{Work, show_work};
+use crate::work::{ThreadsWork, show_work_by_threads};
 use std::io;
 use std::rt::Files;
 use std::sync::Wait;
@@ -21,7 +21,7 @@ fn show_arbitrations<R: Files + Print + AllocGlobal + Threads + Wait + Sync>(
 ) -> io::Result<()> {
     for &network in ARBITRATIONS {
         println!(rt; "> {network} grants.load")?;
-        show_work(rt, network, "grants.load", Work::Order)?;
+        show_work_by_threads(rt, network, "grants.load", ThreadsWork::Order)?;
     }
     Ok(())
 }
@@ -32,5 +32,5 @@ pub(crate) fn show_runs<R: Files + Print + AllocGlobal + Threads + Wait + Sync>(
 ) -> io::Result<()> {
     show_arbitrations(rt)?;
     println!(rt; "> turn.toml turn.load together")?;
-    show_work(rt, "turn.toml", "turn.load", Work::Gated)
+    show_work_by_threads(rt, "turn.toml", "turn.load", ThreadsWork::Gated)
 }

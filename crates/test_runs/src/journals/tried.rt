@@ -13,6 +13,15 @@ use sw_model::Step;
 use sw_net::Numbers;
 use sw_topo::{Chan, LinkEnd};
 
+/// Which steps are tried.
+#[derive(Clone, Copy)]
+pub(crate) enum Trial {
+    /// Of both nodes, and what each cell then has.
+    Both,
+    /// Three of the second node.
+    Three,
+}
+
 // Tries the step at the cell of that place, and prints what came of it.
 fn attempt<R: Print + AllocGlobal>(
     rt: &R,
@@ -161,29 +170,20 @@ fn try_three<R: Print + AllocGlobal>(
 }
 
 /// Tries steps of two nodes that are joined by a link, the first of which has one packet to send.
-pub(crate) fn try_line<R: Print + AllocGlobal>(
+pub(crate) fn try_steps<R: Print + AllocGlobal>(
     rt: &R,
     network: &Network,
     journal: Journal<'_>,
     cells: Vec<Cell>,
+    trial: Trial,
 ) -> io::Result<()>
     requires names { All (λ c. c.name ≡ journal.name) cells.items }
     requires network { journal.declared ≡ network.now }
 {
     let mut journal = journal;
     let mut cells = cells;
-    try_both(rt, network, &mut journal, &mut cells)
-}
-
-/// Tries steps when one is the most that there may be.
-pub(crate) fn try_full<R: Print + AllocGlobal>(
-    rt: &R,
-    journal: Journal<'_>,
-    cells: Vec<Cell>,
-) -> io::Result<()>
-    requires { All (λ c. c.name ≡ journal.name) cells.items }
-{
-    let mut journal = journal;
-    let mut cells = cells;
-    try_three(rt, &mut journal, &mut cells)
+    match trial {
+        Trial::Both => try_both(rt, network, &mut journal, &mut cells),
+        Trial::Three => try_three(rt, &mut journal, &mut cells),
+    }
 }

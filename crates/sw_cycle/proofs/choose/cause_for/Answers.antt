@@ -3,7 +3,7 @@ use Rattle.std.specs.Prelude.{slice_get}
 use Rattle.sw_topo.specs.declared.place.PlaceEnd.TheVariants.{Node, Switch}
 use Rattle.sw_topo.specs.Wiring.{Wiring, partner}
 use Rattle.sw_cycle.specs.Cycles.{IsTargetCause}
-use Rattle.sw_cycle.proofs.Found.{missing}
+use Rattle.sw_cycle.proofs.Found.{chosen_flow, first_of, missing, step_of}
 use Rattle.sw_cycle.proofs.Between.{between}
 use Rattle.sw_cycle.proofs.choose.cause_for.Goals as goal
 
@@ -32,3 +32,15 @@ returns c =
     let two : Some (Node b.node) ≡ Some (Node c.in-Node.node) = sym b.ends ∙ there in
     let same : b.node ≡ c.in-Node.node = cc in
     record { shows = subst (λ (n : ℕ). IsTargetCause d n c.args.from c.args.to) same b.cause; first = none }
+
+pub places_to-requires : goal.places_to-requires
+places_to-requires c =
+    let d = c.args.network.now in
+    let is = first_of d c.args.from c.args.to c.args.first c.in-Some.step c.in-Some.is c.requires.first in
+    step_of d c.args.from c.args.to c.in-Some.step is
+
+pub returns-in-Some : goal.returns-in-Some
+returns-in-Some c =
+    let d = c.args.network.now in
+    let is = first_of d c.args.from c.args.to c.args.first c.in-Some.step c.in-Some.is c.requires.first in
+    chosen_flow d c.args.from c.args.to c.in-Some.step is c.in_ok-places.places.items c.in_ok-places.ensures

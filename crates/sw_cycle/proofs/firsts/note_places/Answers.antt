@@ -1,6 +1,6 @@
 use Rattle.std.proofs.Common.{◌≡◌, ◌+◌, ℕ, ◌<◌, ◌↔◌, ◌∙◌, ◌++◌, ◌∷◌, [], Contains, List, Some, ap, length, sym, subst, take, arith}
 use Rattle.std.specs.Prelude.{slice_get}
-use Rattle.std.proofs.lemmas.List.{take_more}
+use Rattle.std.proofs.lemmas.List.{take_all, take_more}
 use Rattle.std.proofs.lemmas.List.Elements.{Contains-get_or}
 use Rattle.sw_flow.specs.declared.place.Place.{Place}
 use Rattle.sw_flow.proofs.Stepping.{places_are_in}
@@ -35,3 +35,18 @@ loop-place-preserved c =
     let p = c.place-item.result in
     let more : take (i + 1) xs ≡ take i xs ++ p ∷ [] = take_more xs i p c.loop-place-test.true ∙ ap (λ q. take i xs ++ q ∷ []) (sym c.place-item.is) in
     rw more (c.note_place.ensures (take i xs) c.loop-place.invariant)
+
+pub loop-place-init : goal.loop-place-init
+loop-place-init c = c.requires.first
+
+pub note_place-requires-clause-place : goal.note_place-requires-clause-place
+note_place-requires-clause-place c =
+    let p = c.place-item.result in
+    let listed = subst (λ (q : Place). Contains c.args.places.now q) (sym c.place-item.is) (Contains-get_or c.args.places.now c.loop-place.place-index p c.loop-place-test.true) in
+    (c.requires.places.member p).0 listed
+
+pub note_place-requires-clause-size : goal.note_place-requires-clause-size
+note_place-requires-clause-size c = c.loop-place.invariant.size
+
+pub returns : goal.returns
+returns c = rw (take_all c.loop-place.place-index c.args.places.now c.loop-place-test.false) at c.loop-place.invariant

@@ -1,10 +1,17 @@
-use Rattle.std.proofs.Common.{◌∷◌, [], take, get_or}
+use Rattle.std.proofs.Common.{◌<◌, ◌∷◌, [], length, take, get_or, arith}
 use Rattle.std.proofs.lemmas.List.{take_more}
+use Rattle.std.proofs.lemmas.List.Elements.{All-get_or}
 use Rattle.sw_graph.proofs.Adding.{added_more, added_none}
 use Rattle.sw_graph.proofs.search.add_all.Goals as goal
 
 pub loop-d-init : goal.loop-d-init
 loop-d-init c = added_none c.args.count c.args.steps.now c.args.level.now.items
+
+pub add_one-requires : goal.add_one-requires
+add_one-requires c =
+    let inside = All-get_or (λ d. d < length c.args.steps.now) c.args.ds.now c.loop-d.d-index 0 c.loop-d-test.true c.requires in
+    let size = c.loop-d.invariant.size in
+    omega arith
 
 pub loop-d-preserved : goal.loop-d-preserved
 loop-d-preserved c =

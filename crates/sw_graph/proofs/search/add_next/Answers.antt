@@ -11,6 +11,9 @@ use Rattle.sw_graph.proofs.search.add_next.Goals as goal
 pub loop-c-init : goal.loop-c-init
 loop-c-init c = added_none c.args.count c.args.steps.now c.args.level.now.items
 
+pub row_of-requires : goal.row_of-requires
+row_of-requires c = All-get_or (λ d. d < length c.args.rows.now) c.args.from.now c.loop-c.c-index 0 c.loop-c-test.true c.requires.inside
+
 pub add_all-requires : goal.add_all-requires
 add_all-requires c =
     let xs = c.args.from.now in

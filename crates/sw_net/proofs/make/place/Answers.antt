@@ -6,7 +6,6 @@ use Rattle.std.specs.Prelude.{option_map, slice_get}
 use Rattle.std.specs.Vec.{with_item}
 use Rattle.std.specs.Vec.Iter.{into_iter_items}
 use Rattle.sw_cell.proofs.Switches.{port_small}
-use Rattle.sw_flow.specs.Places.{ends_of}
 use Rattle.sw_net.proofs.New as new
 use Rattle.sw_net.proofs.Outputs.{node_placed, switch_placed}
 use Rattle.sw_net.proofs.Steps.{each_set}

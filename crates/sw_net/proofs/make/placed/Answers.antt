@@ -1,8 +1,9 @@
-use Rattle.std.proofs.Common.{Option, Some, drop, subst, sym, ℕ, ◌+◌, ◌≡◌}
+use Rattle.std.proofs.Common.{Err, Option, Some, arith, drop, length, rules, subst, sym, ℕ, ◌+◌, ◌≡◌}
 use Rattle.std.specs.Global.{Vec}
 use Rattle.std.specs.Prelude.{slice_get}
 use Rattle.std.specs.Vec.Iter.{into_iter_items}
 use Rattle.sw_flow.specs.Places.{ends_of}
+use Rattle.sw_net.proofs.New.{if_err}
 use Rattle.sw_net.proofs.Outputs.{all_placed, none_placed}
 use Rattle.sw_net.specs.New.{AreArbiters, ArePlaced, IsRow, rows_of}
 use Rattle.sw_net.proofs.make.placed.Goals as goal
@@ -38,3 +39,49 @@ place-requires-clause-arbiters g c =
 pub place-requires-clause-each : goal.place-requires-clause-each
 place-requires-clause-each g c =
     subst (λ k. (w : ℕ) (row : Vec (Option g.row.A.Denot)) → slice_get c.loop-number.rows.items w ≡ Some row → IsRow g.A.Arbiter.ports c.args.network.now k w row.items) (sym c.new.ensures) c.loop-number.invariant.each
+
+pub place-requires-clause-channel : goal.place-requires-clause-channel
+place-requires-clause-channel g c =
+    let is = c.new.ensures in
+    let within = c.loop-number-test.true in
+    let count : c.channels-number-end.result ≡ length (ends_of c.args.network.now) = c.channels-number-end.ensures.ends in
+    omega arith
+
+pub place-requires-clause-all : goal.place-requires-clause-all
+place-requires-clause-all g c = c.loop-number.invariant.all
+
+pub returns-clause-all : goal.returns-clause-all
+returns-clause-all g c = c.loop-number.invariant.all
+
+pub returns-clause-each : goal.returns-clause-each
+returns-clause-each g c =
+    let d = c.args.network.now in
+    let low = c.loop-number.auto.number-end in
+    let high = c.loop-number-test.false in
+    let count : c.channels-number-end.result ≡ length (ends_of c.args.network.now) = c.channels-number-end.ensures.ends in
+    let all : c.loop-number.number ≡ length (ends_of d) = omega arith in
+    subst (λ k. (w : ℕ) (row : Vec (Option g.row.A.Denot)) → slice_get c.loop-number.rows.items w ≡ Some row → IsRow g.A.Arbiter.ports d k w row.items) all c.loop-number.invariant.each
+
+pub returns-clause-stand : goal.returns-clause-stand
+returns-clause-stand g c =
+    let d = c.args.network.now in
+    let low = c.loop-number.auto.number-end in
+    let high = c.loop-number-test.false in
+    let count : c.channels-number-end.result ≡ length (ends_of c.args.network.now) = c.channels-number-end.ensures.ends in
+    let all : c.loop-number.number ≡ length (ends_of d) = omega arith in
+    all_placed d g.A.Arbiter.ports c.loop-number.number c.args.arbiters.items (into_iter_items c.loop-number.rest) (rows_of c.loop-number.rows.items) all c.loop-number.invariant.arbiters c.loop-number.invariant.placed
+
+pub returns-in_err-rows-clause-all : goal.returns-in_err-rows-clause-all
+returns-in_err-rows-clause-all g c =
+    let same : c.from_residual.result ≡ Err c.in_err-rows.field-0.0 = search rules in
+    if_err _ c.from_residual.result c.in_err-rows.field-0.0 same
+
+pub returns-in_err-rows-clause-each : goal.returns-in_err-rows-clause-each
+returns-in_err-rows-clause-each g c =
+    let same : c.from_residual.result ≡ Err c.in_err-rows.field-0.0 = search rules in
+    if_err _ c.from_residual.result c.in_err-rows.field-0.0 same
+
+pub returns-in_err-rows-clause-stand : goal.returns-in_err-rows-clause-stand
+returns-in_err-rows-clause-stand g c =
+    let same : c.from_residual.result ≡ Err c.in_err-rows.field-0.0 = search rules in
+    if_err _ c.from_residual.result c.in_err-rows.field-0.0 same

@@ -1,6 +1,7 @@
-use Rattle.std.proofs.Common.{ap, length, sym, ◌∙◌, ◌≡◌, ℕ}
+use Rattle.std.proofs.Common.{ap, arith, length, refl, sym, ◌∙◌, ◌≡◌, ℕ}
 use Rattle.std.specs.Prelude.{slice_get}
-use Rattle.sw_load.proofs.Sends.{flow_from, found_more, read_at, whole}
+use Rattle.std.proofs.lemmas.List.{take_all}
+use Rattle.sw_load.proofs.Sends.{flow_from, found_all, found_more, found_none, read_at, whole}
 use Rattle.sw_load.proofs.senders.Senders.new.Goals as goal
 use Rattle.sw_config.specs.Entries.{all_flows}
 
@@ -17,3 +18,15 @@ loop-place-preserved c =
     let e = whole c.loop-place.places.len c.add_places.new.rows rows c.loop-place.places.ok.0 size in
     let added = rw (c.deref_mut.ensures.value, c.count.ensures) at c.in_ok-add_places.ensures in
     rw e (found_more d load i p rows c.add_places.new.rows c.from-node.result read.0 read.1 from c.loop-place.invariant added)
+
+pub loop-place-init : goal.loop-place-init
+loop-place-init c = found_none c.args.network.now c.args.load.now c.in_ok-places.places.items _ c.in_ok-places.ensures.size c.in_ok-places.ensures.empty c.nodes.ensures.count
+
+pub returns : goal.returns
+returns c = record { network = refl; load = refl }
+
+pub invariant_of-result : goal.invariant_of-result
+invariant_of-result c =
+    let load = c.args.load.now in
+    let entries = ap length c.packets-packet-items.ensures in
+    found_all c.args.network.now load c.loop-place.place c.loop-place.places.items (take_all c.loop-place.place load (omega arith)) c.loop-place.invariant

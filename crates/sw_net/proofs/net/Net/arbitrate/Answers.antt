@@ -1,10 +1,10 @@
-use Rattle.std.proofs.Common.{None, ap, refl, rules, set, subst, sym, ◌≡◌}
+use Rattle.std.proofs.Common.{None, ap, arith, refl, rules, set, subst, sym, ◌≡◌}
 use Rattle.sw_cell.specs.Picks.{GrantsPick}
 use Rattle.sw_machine.specs.Network.{AtSwitch}
 use Rattle.sw_machine.specs.Steps.{Grant}
 use Rattle.sw_model.specs.Model.{network_of}
 use Rattle.sw_net.proofs.Making.{none_is_made, picked_moves, picked_net, switch_here}
-use Rattle.sw_net.proofs.Steps.{same_switch}
+use Rattle.sw_net.proofs.Steps.{same_switch, switch_within}
 use Rattle.sw_net.proofs.net.Net.arbitrate.Goals as goal
 use Rattle.sw_net.specs.Making.{Moves}
 use Rattle.sw_net.specs.Net.{IsNet, NetView, net_of}
@@ -54,3 +54,6 @@ invariant_of-self g c =
     let at = switch_here g.R.Routing.answer g.A.Arbiter.ports (net_of c.self.inside.network.now c.self.inside.nodes.items c.self.inside.switches.items c.self.inside.wires) c.args.self.now c.self.view_is c.self.invariant c.args.w c.index_mut-cell.result.now c.requires.switch c.index_mut-cell.ensures.value in
     let same = same_switch g.R.Routing.answer g.A.Arbiter.ports c.self.inside.network.now c.self.inside.nodes.items c.self.inside.switches.items c.self.inside.wires c.self.invariant (Grant c.args.end 0) c.args.w c.index_mut-cell.result.now at c.arbitrate.new.cell c.self.inside.wires c.in_err-channel.ensures.kept refl in
     subst (IsNet g.R.Routing.answer g.A.Arbiter.ports) (sym same) c.self.invariant
+
+pub index_mut-cell-requires : goal.index_mut-cell-requires
+index_mut-cell-requires g c = let within = switch_within g.R.Routing.answer g.A.Arbiter.ports (net_of c.self.inside.network.now c.self.inside.nodes.items c.self.inside.switches.items c.self.inside.wires) c.args.self.now c.self.view_is c.self.invariant c.args.w c.requires.switch in omega (arith, c.self.inside.switches.ok.0)

@@ -1,4 +1,6 @@
-use Rattle.std.proofs.Common.{ap, set, subst, sym, ◌∙◌}
+use Rattle.std.proofs.Common.{ap, arith, set, subst, sym, ◌∙◌, ◌≡◌}
+use Rattle.std.specs.Prelude.{OnErr}
+use Rattle.sw_cell.specs.Answers.{done}
 use Rattle.sw_net.proofs.Making.{same_arbiters}
 use Rattle.sw_net.proofs.Steps as steps
 use Rattle.sw_net.specs.Net.{NetAnswers, NetView, arbiters_of, net_of}
@@ -30,3 +32,19 @@ returns-clause-arbiters g c =
     let at = steps.switch_found g.R.Routing.answer g.A.Arbiter.ports (net_of c.self.inside.network.now c.self.inside.nodes.items c.self.inside.switches.items c.self.inside.wires) c.args.self.now c.self.view_is c.self.invariant (machine_step c.args.step.now) c.args.w c.index_mut-cell.result.now c.requires c.index_mut-cell.ensures.value in
     same_arbiters c.self.inside.switches.items c.args.w c.index_mut-cell.result.now c.step_switch.new.cell at c.step_switch.ensures.arbiters
     ∙ ap (λ (k : NetView g.row.R.Denot g.row.A.Denot). arbiters_of k.switches) c.self.view_is
+
+pub index_mut-cell-requires : goal.index_mut-cell-requires
+index_mut-cell-requires g c = let within = steps.switch_within g.R.Routing.answer g.A.Arbiter.ports (net_of c.self.inside.network.now c.self.inside.nodes.items c.self.inside.switches.items c.self.inside.wires) c.args.self.now c.self.view_is c.self.invariant c.args.w c.requires.inside in omega (arith, c.self.inside.switches.ok.0)
+
+pub step_switch-requires-clause-at : goal.step_switch-requires-clause-at
+step_switch-requires-clause-at g c = (steps.switch_is_at g.R.Routing.answer g.A.Arbiter.ports (net_of c.self.inside.network.now c.self.inside.nodes.items c.self.inside.switches.items c.self.inside.wires) c.args.self.now c.self.view_is c.self.invariant (machine_step c.args.step.now) c.args.w c.requires).cell
+
+pub returns-clause-network : goal.returns-clause-network
+returns-clause-network g c = ap (λ (k : NetView g.row.R.Denot g.row.A.Denot). k.declared) c.self.view_is
+
+pub returns-clause-refused : goal.returns-clause-refused
+returns-clause-refused g c =
+    let at = steps.switch_found g.R.Routing.answer g.A.Arbiter.ports (net_of c.self.inside.network.now c.self.inside.nodes.items c.self.inside.switches.items c.self.inside.wires) c.args.self.now c.self.view_is c.self.invariant (machine_step c.args.step.now) c.args.w c.index_mut-cell.result.now c.requires c.index_mut-cell.ensures.value in
+    let after = net_of c.self.inside.network.now c.self.inside.nodes.items (set c.self.inside.switches.items c.args.w c.step_switch.new.cell) c.step_switch.new.wires in
+    subst (λ r. OnErr r (after ≡ c.args.self.now)) (sym c.made_or_not.ensures)
+    (steps.on_err_then (done c.step_switch.result) (λ same. same ∙ c.self.view_is) (steps.switch_refused g.R.Routing.answer g.A.Arbiter.ports c.self.inside.network.now c.self.inside.nodes.items c.self.inside.switches.items c.self.inside.wires c.self.invariant (machine_step c.args.step.now) c.args.w c.index_mut-cell.result.now at c.step_switch.result c.step_switch.new.cell c.step_switch.new.wires c.step_switch.ensures.made))

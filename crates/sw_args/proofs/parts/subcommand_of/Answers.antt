@@ -1,0 +1,25 @@
+use Rattle.std.proofs.Common.{subst}
+use Rattle.std.proofs.lemmas.List.{take_all}
+use Rattle.std.proofs.lemmas.Result.{IfOk-weaker}
+use Rattle.clap.specs.Words.{new_app}
+use Rattle.sw_args.specs.CommandLine.{IsMade, hints_rule}
+use Rattle.sw_args.specs.Parts.{with_parts}
+use Rattle.sw_args.proofs.CommandLines.{with_argument, with_one_part}
+use Rattle.sw_args.proofs.parts.subcommand_of.Goals as goal
+
+pub loop-part-init : goal.loop-part-init
+loop-part-init c = c.bare_command-command.ensures
+
+pub loop-part-preserved : goal.loop-part-preserved
+loop-part-preserved c =
+    let row = c.args.subcommand.now in
+    with_one_part (new_app row.name.now) row.parts.now c.loop-part.part-index _ _ _ _ c.loop-part-test.true c.loop-part.invariant c.arg_of.ensures
+    c.in_ok-command.ensures
+
+pub returns : goal.returns
+returns c =
+    let row = c.args.subcommand.now in
+    let made = subst (λ parts. IsMade (with_parts (new_app row.name.now) parts) c.loop-part.command) (take_all _ row.parts.now c.loop-part-test.false) c.loop-part.invariant in
+    IfOk-weaker c.arg-2.result _ _
+    (λ new adds. with_argument c.loop-part.command c.arg_of-2.result new (with_parts (new_app row.name.now) row.parts.now) hints_rule made c.arg_of-2.ensures adds)
+    c.arg-2.ensures

@@ -1,6 +1,0 @@
-use Rattle.std.proofs.Common.{◌≡◌, length}
-use Rattle.sw_cycle.specs.Positions.{ArePositions}
-use Rattle.sw_cycle.proofs.positions.positions_of.Given as goal
-
-abbrev pub invariant-loop-position : goal.invariant-loop-position
-invariant-loop-position l = (length l.rows.items ≡ l.count) × ArePositions l.channels l.position l.rows.items

@@ -1,0 +1,68 @@
+//! What a network has come to, as it is printed.
+
+use crate::nets::stepping::Core;
+use std::io;
+use sw_char::{End, Packet};
+
+// The byte that stands here many times, and nothing else.
+fn repeated_byte(bytes: &[u8]) -> Option<u8> {
+    let (first, rest) = bytes.split_first()?;
+    if rest.len() > 99 && rest.iter().all(|byte| *byte == *first) {
+        Some(*first)
+    } else {
+        None
+    }
+}
+
+// A long row of one byte is printed once, with its length.
+fn show_bytes(rt: &impl Print, bytes: &[u8]) -> io::Result<()> {
+    if let Some(byte) = repeated_byte(bytes) {
+        let count = bytes.len();
+        return print!(rt; "{byte:02X}*{count}");
+    }
+    if bytes.is_empty() {
+        return print!(rt; "-");
+    }
+    for byte in bytes {
+        print!(rt; "{byte:02X}")?;
+    }
+    Ok(())
+}
+
+fn show_packet(rt: &impl Print, name: &str, packet: &Packet) -> io::Result<()> {
+    print!(rt; "packet {name} ")?;
+    show_bytes(rt, &packet.bytes)?;
+    match packet.end {
+        End::Eop => println!(rt; " EOP"),
+        End::Eep => println!(rt; " EEP"),
+    }
+}
+
+fn show_packets(rt: &impl Print, name: &str, came_out: &[Packet]) -> io::Result<()> {
+    let count = came_out.len();
+    println!(rt; "node {name} packets {count}")?;
+    for packet in came_out {
+        show_packet(rt, name, packet)?;
+    }
+    Ok(())
+}
+
+/// Prints how many characters wait, and the packets that came out at each node.
+pub(crate) fn show_parts<R: Print + AllocGlobal>(rt: &R, net: &Core<'_>) -> io::Result<()> {
+    let waiting = net.undelivered();
+    println!(rt; "undelivered {waiting}")?;
+    let network = net.network();
+    for node in 0..network.nodes() {
+        let came_out = net.came_out(rt.alloc(), node)?;
+        show_packets(rt, network.node_name(node), &came_out)?;
+    }
+    Ok(())
+}
+
+/// Prints the first link end that can make a step, if any can.
+pub(crate) fn show_first(rt: &impl Print, net: &Core<'_>) -> io::Result<()> {
+    match net.first_enabled() {
+        Some(end) => println!(rt; "first enabled {}", end.number()),
+        None => println!(rt; "first enabled none"),
+    }
+}
