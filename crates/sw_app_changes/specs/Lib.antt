@@ -1,3 +1,4 @@
+pub mod Faults
 pub mod MendTexts
 pub mod MendAnswers
 pub mod MendLaws

@@ -1,6 +1,7 @@
 //! The engines of `swcheck mend` and `swcheck margin`.
 #![tactic(auto)]
 
+mod faults;
 mod margin_answer;
 mod margin_engine;
 pub mod margin_laws;

@@ -6,7 +6,8 @@ ghost use Rattle.sw_output.specs.VerdictTexts.{misrouted_words};
 ghost use Rattle.sw_app_changes.specs.MarginAnswers.{IsBent, IsByVerdict, IsMarginAnswer, IsNetworkAnswer};
 ghost use Rattle.sw_app_changes.specs.MarginTexts.{margin_text, not_free_line};
 
-use crate::margin_texts::{margin_text, not_free_line};
+use crate::faults::fault_answer;
+use crate::margin_texts::margin_text;
 use std::alloc::{AllocError, Global};
 use sw_command::Answer;
 use sw_command::statuses::GOOD;
@@ -16,7 +17,6 @@ use sw_flow::{Place, RouteFault};
 use sw_margin::{Margins, margins};
 use sw_output::misrouted_text;
 use sw_search::{Verdict, VerdictWorkers, decide};
-use sw_toml_table::FileFault;
 
 // The answer by what the premises of the network stand.
 fn told(alloc: Global, network: &Network, margins: &Margins) -> Result<Answer, AllocError>
@@ -57,7 +57,7 @@ fn misrouted(
 fn not_free(alloc: Global) -> Result<Answer, AllocError>
     ensures { IfOk result (λ a. Says not_free_line 0 (string_bytes a.text) a.status) }
 {
-    let text = not_free_line(alloc)?;
+    let text = String::from_str(alloc, "not free\n")?;
     Ok(Answer { text, status: GOOD })
 }
 
@@ -98,8 +98,11 @@ pub(crate) fn margin_answer<W: VerdictWorkers>(
     ensures { IfOk result (λ a. IsMarginAnswer input.now (string_bytes a.text) a.status) }
 {
     match read_network(alloc, input) {
-        Ok(network) => network_answer(workers, alloc, &network),
-        Err(FileFault::Text(fault)) => Answer::of_fault(alloc, &fault),
-        Err(FileFault::Memory) => Err(AllocError),
+        Ok(network) => {
+            let answer = network_answer(workers, alloc, &network);
+            drop(network);
+            answer
+        }
+        Err(fault) => fault_answer(alloc, fault),
     }
 }

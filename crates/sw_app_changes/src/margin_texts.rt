@@ -3,7 +3,7 @@ ghost use Rattle.std.specs.Prelude.{◌≡◌, ◌<◌, ◌*◌, ◌++◌, IfOk,
 ghost use Rattle.sw_config.specs.Entries.{wiring_of};
 ghost use Rattle.sw_output.specs.ChannelTexts.{channel_text};
 ghost use Rattle.sw_output.specs.FlowTexts.{flow_name};
-ghost use Rattle.sw_app_changes.specs.MarginTexts.{answer_line, flows_words, loss_line, loss_lines, margin_text, not_free_line, stall_line, stays_words};
+ghost use Rattle.sw_app_changes.specs.MarginTexts.{answer_line, flows_words, loss_line, loss_lines, margin_text, stall_line, stays_words};
 
 use std::alloc::{AllocError, Global};
 use sw_config::Network;
@@ -134,11 +134,4 @@ pub(crate) fn margin_text(
     let answers = answer_lines(alloc, network, &told.answers)?;
     let losses = loss_lines(alloc, network, &told.losses)?;
     format!(in alloc; "{stalls}{answers}{losses}")
-}
-
-/// That there is nothing to bend.
-pub(crate) fn not_free_line(alloc: Global) -> Result<String, AllocError>
-    ensures { IfOk result (λ s. string_bytes s ≡ not_free_line) }
-{
-    String::from_str(alloc, "not free\n")
 }

@@ -8,7 +8,8 @@ ghost use Rattle.sw_search.specs.Verdicts.{IsVerdict};
 ghost use Rattle.sw_app_changes.specs.MendAnswers.{IsByVerdict, IsMendAnswer, IsMended, IsMendedBy, IsNetworkAnswer, IsPaired};
 ghost use Rattle.sw_app_changes.specs.MendTexts.{free_line, mends_status, mends_text, pairs_text};
 
-use crate::mend_texts::{free_line, mends_status, mends_text, pairs_text};
+use crate::faults::fault_answer;
+use crate::mend_texts::{mends_status, mends_text, pairs_text};
 use std::alloc::{AllocError, Global};
 use sw_command::Answer;
 use sw_command::statuses::{BAD, GOOD};
@@ -18,7 +19,6 @@ use sw_flow::{Place, RouteFault};
 use sw_mend::{Pair, Trial, mends, pair_mends};
 use sw_output::misrouted_text;
 use sw_search::{Verdict, VerdictWorkers, decide};
-use sw_toml_table::FileFault;
 
 // The answer by the changes that free the network.
 fn told(alloc: Global, network: &Network, changes: &[Trial]) -> Result<Answer, AllocError>
@@ -104,7 +104,7 @@ fn misrouted(
 fn free(alloc: Global) -> Result<Answer, AllocError>
     ensures { IfOk result (λ a. Says free_line 0 (string_bytes a.text) a.status) }
 {
-    let text = free_line(alloc)?;
+    let text = String::from_str(alloc, "free already\n")?;
     Ok(Answer { text, status: GOOD })
 }
 
@@ -148,8 +148,11 @@ pub(crate) fn mend_answer<W: VerdictWorkers>(
     ensures { IfOk result (λ a. IsMendAnswer pairs input.now (string_bytes a.text) a.status) }
 {
     match read_network(alloc, input) {
-        Ok(network) => network_answer(workers, alloc, pairs, &network),
-        Err(FileFault::Text(fault)) => Answer::of_fault(alloc, &fault),
-        Err(FileFault::Memory) => Err(AllocError),
+        Ok(network) => {
+            let answer = network_answer(workers, alloc, pairs, &network);
+            drop(network);
+            answer
+        }
+        Err(fault) => fault_answer(alloc, fault),
     }
 }

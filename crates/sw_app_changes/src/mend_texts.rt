@@ -1,6 +1,7 @@
 //! The lines of `mend`.
-ghost use Rattle.std.specs.Prelude.{◌≡◌, IfOk, flat_map, string_bytes};
-ghost use Rattle.sw_app_changes.specs.MendTexts.{change_words, free_line, mend_line, mends_status, mends_text, no_pair_line, none_line, pair_line, pairs_text, split_words, trial_words};
+ghost use Rattle.std.specs.Prelude.{◌≡◌, ◌∷◌, [], IfOk, flat_map, string_bytes};
+ghost use Rattle.sw_output.specs.Lines.{spaced};
+ghost use Rattle.sw_app_changes.specs.MendTexts.{change_words, mend_line, mends_status, mends_text, pair_line, pairs_text, split_words, trial_words};
 
 use std::alloc::{AllocError, Global};
 use sw_command::statuses::{BAD, GOOD};
@@ -9,25 +10,11 @@ use sw_mend::{Change, Pair, TargetLink, Trial};
 use sw_output::{entry_words, flow_name, node_name, switch_name};
 use sw_topo::Port;
 
-fn without_reply(alloc: Global, network: &Network, flow: u16) -> Result<String, AllocError>
-    ensures { IfOk result (λ s. string_bytes s ≡ change_words network.now (Change.WithoutReply flow)) }
+// The words, and the name behind a space.
+fn with_name(alloc: Global, words: &str, name: &str) -> Result<String, AllocError>
+    ensures { IfOk result (λ s. string_bytes s ≡ spaced (words.now ∷ name.now ∷ [])) }
 {
-    let name = flow_name(network, flow);
-    format!(in alloc; "without the reply of {name}")
-}
-
-fn without_flow(alloc: Global, network: &Network, flow: u16) -> Result<String, AllocError>
-    ensures { IfOk result (λ s. string_bytes s ≡ change_words network.now (Change.WithoutFlow flow)) }
-{
-    let name = flow_name(network, flow);
-    format!(in alloc; "without the flow {name}")
-}
-
-fn without_answers(alloc: Global, network: &Network, node: u16) -> Result<String, AllocError>
-    ensures { IfOk result (λ s. string_bytes s ≡ change_words network.now (Change.WithoutAnswers node)) }
-{
-    let name = node_name(network, node);
-    format!(in alloc; "without any reply of {name}")
+    format!(in alloc; "{words} {name}")
 }
 
 fn without_port(
@@ -58,13 +45,6 @@ fn without_entry(
     format!(in alloc; "without the entry for {words} at {name}")
 }
 
-fn without_flows_of(alloc: Global, network: &Network, node: u16) -> Result<String, AllocError>
-    ensures { IfOk result (λ s. string_bytes s ≡ change_words network.now (Change.WithoutFlowsOf node)) }
-{
-    let name = node_name(network, node);
-    format!(in alloc; "without the flows from and to {name}")
-}
-
 /// What is taken away.
 ///
 /// # Errors
@@ -74,16 +54,28 @@ pub fn change_words(alloc: Global, network: &Network, change: &Change) -> Result
     ensures { IfOk result (λ s. string_bytes s ≡ change_words network.now change.now) }
 {
     match change {
-        Change::WithoutReply(flow) => without_reply(alloc, network, *flow),
-        Change::WithoutFlow(flow) => without_flow(alloc, network, *flow),
-        Change::WithoutAnswers(node) => without_answers(alloc, network, *node),
+        Change::WithoutReply(flow) => {
+            with_name(alloc, "without the reply of", flow_name(network, *flow))
+        }
+        Change::WithoutFlow(flow) => {
+            with_name(alloc, "without the flow", flow_name(network, *flow))
+        }
+        Change::WithoutAnswers(node) => {
+            with_name(alloc, "without any reply of", node_name(network, *node))
+        }
         Change::WithoutPort {
             switch,
             entry,
             port,
         } => without_port(alloc, network, *switch, *entry, *port),
         Change::WithoutEntry { switch, entry } => without_entry(alloc, network, *switch, *entry),
-        Change::WithoutFlowsOf(node) => without_flows_of(alloc, network, *node),
+        Change::WithoutFlowsOf(node) => {
+            with_name(
+                alloc,
+                "without the flows from and to",
+                node_name(network, *node),
+            )
+        }
     }
 }
 
@@ -150,13 +142,6 @@ fn pair_lines(alloc: Global, network: &Network, pairs: &[Pair]) -> Result<String
     Ok(text)
 }
 
-// That no change frees the network.
-fn none_text(alloc: Global) -> Result<String, AllocError>
-    ensures { IfOk result (λ s. string_bytes s ≡ none_line) }
-{
-    String::from_str(alloc, "no single change frees it\n")
-}
-
 /// The lines of the changes that free the network, or that there is none.
 pub(crate) fn mends_text(
     alloc: Global,
@@ -166,7 +151,7 @@ pub(crate) fn mends_text(
     ensures { IfOk result (λ s. string_bytes s ≡ mends_text network.now changes.now) }
 {
     match changes {
-        [] => none_text(alloc),
+        [] => String::from_str(alloc, "no single change frees it\n"),
         _ => mend_lines(alloc, network, changes),
     }
 }
@@ -181,13 +166,6 @@ pub fn mends_status<T>(found: &[T]) -> u8
     }
 }
 
-// That no pair of changes frees the network.
-fn no_pair_text(alloc: Global) -> Result<String, AllocError>
-    ensures { IfOk result (λ s. string_bytes s ≡ no_pair_line) }
-{
-    String::from_str(alloc, "no pair of changes frees it\n")
-}
-
 /// The lines of the pairs of changes that free the network, or that there is none.
 pub(crate) fn pairs_text(
     alloc: Global,
@@ -197,14 +175,7 @@ pub(crate) fn pairs_text(
     ensures { IfOk result (λ s. string_bytes s ≡ pairs_text network.now pairs.now) }
 {
     match pairs {
-        [] => no_pair_text(alloc),
+        [] => String::from_str(alloc, "no pair of changes frees it\n"),
         _ => pair_lines(alloc, network, pairs),
     }
-}
-
-/// That there is nothing to mend.
-pub(crate) fn free_line(alloc: Global) -> Result<String, AllocError>
-    ensures { IfOk result (λ s. string_bytes s ≡ free_line) }
-{
-    String::from_str(alloc, "free already\n")
 }

@@ -129,7 +129,11 @@ pub(crate) fn draw_answer<W: VerdictWorkers>(
     ensures { IfOk result (λ a. IsDrawAnswer options.now input.now (string_bytes a.text) a.status) }
 {
     match read_network(alloc, input) {
-        Ok(network) => network_answer(workers, alloc, &network, options),
+        Ok(network) => {
+            let answer = network_answer(workers, alloc, &network, options);
+            drop(network);
+            answer
+        }
         Err(FileFault::Text(fault)) => Answer::of_fault(alloc, &fault),
         Err(FileFault::Memory) => Err(AllocError),
     }

@@ -35,7 +35,11 @@ pub(crate) fn explain_answer<W: VerdictWorkers>(
     ensures { IfOk result (λ a. IsExplainAnswer all input.now (string_bytes a.text) a.status) }
 {
     match read_network(alloc, input) {
-        Ok(network) => network_answer(workers, alloc, &network, all),
+        Ok(network) => {
+            let answer = network_answer(workers, alloc, &network, all);
+            drop(network);
+            answer
+        }
         Err(FileFault::Text(fault)) => Answer::of_fault(alloc, &fault),
         Err(FileFault::Memory) => Err(AllocError),
     }

@@ -72,7 +72,11 @@ pub(crate) fn rmap_answer(
     ensures { IfOk result (λ a. IsRmapAnswer request.now input.now (string_bytes a.text) a.status) }
 {
     match read_network(alloc, input) {
-        Ok(network) => network_answer(alloc, &network, request),
+        Ok(network) => {
+            let answer = network_answer(alloc, &network, request);
+            drop(network);
+            answer
+        }
         Err(FileFault::Text(fault)) => Answer::of_fault(alloc, &fault),
         Err(FileFault::Memory) => Err(AllocError),
     }

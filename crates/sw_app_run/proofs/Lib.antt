@@ -3,3 +3,4 @@ mod Filled
 pub mod ReplayReports
 pub mod OneReplay
 mod WitnessAnswered
+mod AnswerAlone

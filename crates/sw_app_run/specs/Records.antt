@@ -13,6 +13,8 @@ use Rattle.sw_output.specs.Lines.{line}
 use Rattle.sw_run.specs.Outcomes.{IsOutcome, steps_of}
 use Rattle.sw_run.specs.declared.outcome.Outcome.{Outcome}
 use Rattle.sw_schedule.specs.Runs.{readable_text}
+use Rattle.sw_toml_table.specs.declared.fault.FileFault.{FileFault}
+use Rattle.sw_toml_table.specs.declared.fault.FileFault.TheVariants.{Memory, Text}
 use Rattle.sw_toml_table.specs.declared.fault.TextFault.{TextFault}
 use Rattle.sw_app_run.specs.RunTexts.{outcome_text, stop_status}
 use Rattle.sw_app_run.specs.Summaries.{IsWantedSummary}
@@ -65,6 +67,17 @@ IsFileRecord wants limit second (Err fault) recorded = IsFault (line (fault_text
 -- of the bytes of a network file and of a load file, with the most steps of a run
 abbrev pub IsRecord : Wants → ℕ → Option (List ℕ) → Option (List ℕ) → Recorded → Type 0
 IsRecord wants limit first second recorded = IfGiven first (λ bytes. IsFileRecord wants limit second (network_text bytes)) recorded
+
+-- the answer that is told; none where the schedule is too long
+abbrev pub answer_told : Recorded → Option Answer
+answer_told (Fault answer) = Some answer
+answer_told (Run answer schedule summary) = Some answer
+answer_told TooLong = None
+
+-- the text's fault is told; want of memory has no answer
+abbrev pub IsFaultRecord : FileFault → Recorded → Type 0
+IsFaultRecord (Text fault) recorded = IsFault (line (fault_text fault ∷ [])) recorded
+IsFaultRecord Memory recorded = ⊥
 
 -- a write of the schedule failed: the writer has got a beginning of it that lacks something
 abbrev pub IsCutOff : Option (List ℕ) → Option (List ℕ) → List ℕ → Type 0

@@ -6,7 +6,7 @@ ghost use Rattle.sw_load.specs.Laws.{AreDeclared};
 ghost use Rattle.sw_load.specs.Load.{load_text};
 ghost use Rattle.sw_run.specs.Outcomes.{IsOutcome, steps_of};
 ghost use Rattle.sw_schedule.specs.Runs.{readable_text};
-ghost use Rattle.sw_app_run.specs.Records.{IfGiven, IsFileRecord, IsLoadRecord, IsOutcomeRecord, IsRecord, IsRecordOf, IsWithSchedule};
+ghost use Rattle.sw_app_run.specs.Records.{IfGiven, IsFaultRecord, IsFileRecord, IsLoadRecord, IsOutcomeRecord, IsRecord, IsRecordOf, IsWithSchedule};
 
 use crate::run_answer::Options;
 use crate::run_texts::{outcome_text, stop_status};
@@ -14,6 +14,7 @@ use crate::summaries::wanted_summary;
 use std::alloc::{AllocError, Global};
 use std::sync::Wait;
 use std::thread::Threads;
+use sw_app::fault_answer;
 use sw_command::{Answer, InputText};
 use sw_config::Network;
 use sw_file::read_network;
@@ -113,6 +114,14 @@ fn recorded_outcome(
     with_schedule(alloc, network, outcome, wants.schedule, answer, summary)
 }
 
+// Of a text's fault.
+fn fault_record(alloc: Global, fault: FileFault) -> Result<Recorded, AllocError>
+    ensures { IfOk result (IsFaultRecord fault) }
+{
+    let answer = fault_answer(alloc, fault)?;
+    Ok(Recorded::Fault(answer))
+}
+
 // Of a load.
 fn outcome_record<'a, G: Gate + Sync, T: Threads + Wait + Sync>(
     rt: &T,
@@ -158,8 +167,7 @@ fn load_record<G: Gate + Sync, T: Threads + Wait + Sync>(
             listed_are_declared();
             outcome_record(rt, alloc, network, &load, options, wants, gate)
         }
-        Err(FileFault::Text(fault)) => Ok(Recorded::Fault(Answer::of_fault(alloc, &fault)?)),
-        Err(FileFault::Memory) => Err(AllocError),
+        Err(fault) => fault_record(alloc, fault),
     }
 }
 
@@ -196,9 +204,12 @@ fn file_record<G: Gate + Sync, T: Threads + Wait + Sync>(
     ensures { IfOk result (IsFileRecord wants options.limit (given second.now) (network_text first.now)) }
 {
     match read_network(alloc, first) {
-        Ok(network) => network_record(rt, alloc, &network, second, options, wants, gate),
-        Err(FileFault::Text(fault)) => Ok(Recorded::Fault(Answer::of_fault(alloc, &fault)?)),
-        Err(FileFault::Memory) => Err(AllocError),
+        Ok(network) => {
+            let recorded = network_record(rt, alloc, &network, second, options, wants, gate);
+            drop(network);
+            recorded
+        }
+        Err(fault) => fault_record(alloc, fault),
     }
 }
 

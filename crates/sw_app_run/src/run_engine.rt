@@ -8,7 +8,8 @@ use std::alloc::Global;
 use std::io::{Read, Write};
 use std::sync::Wait;
 use std::thread::Threads;
-use sw_command::{Ended, read_two, tell, tell_memory, tell_two_unread};
+use sw_app::tell_answer;
+use sw_command::{Ended, read_two, tell_two_unread};
 use sw_run::Gate;
 
 /// What comes of a run of the second text's load on the network of the first text, by so many workers and in at most so many steps:
@@ -30,8 +31,8 @@ pub fn run<N: Read, L: Read, W: Write, G: Gate + Sync, T: Threads + Wait + Sync>
         Ok(inputs) => inputs,
         Err(error) => return tell_two_unread(writer, error),
     };
-    match run_answer(rt, alloc, &first, &second, options, gate) {
-        Ok(answer) => tell(writer, answer.text.as_str(), answer.status),
-        Err(_) => tell_memory(writer),
-    }
+    tell_answer(
+        writer,
+        run_answer(rt, alloc, &first, &second, options, gate),
+    )
 }

@@ -9,6 +9,7 @@ ghost use Rattle.sw_app_run.specs.WitnessAnswers.{IsNetworkAnswer, IsOfKind, IsO
 
 use crate::witness_texts::{free_line, none_found, unanswered_line, with_note};
 use std::alloc::{AllocError, Global};
+use sw_app::fault_answer;
 use sw_command::Answer;
 use sw_command::statuses::{BAD, GOOD};
 use sw_config::Network;
@@ -16,7 +17,6 @@ use sw_file::read_network;
 use sw_flow::{Place, RouteFault};
 use sw_output::misrouted_text;
 use sw_search::{Explanation, Tangle, VerdictWorkers, explain};
-use sw_toml_table::FileFault;
 use sw_witness::{find, is_free_without, never_answered};
 
 // The answer of a search, which tells also that the replies of these flows can't happen.
@@ -140,8 +140,11 @@ pub(crate) fn witness_answer<W: VerdictWorkers>(
     ensures { IfOk result (λ a. IsWitnessAnswer tries input.now (string_bytes a.text) a.status) }
 {
     match read_network(alloc, input) {
-        Ok(network) => network_answer(workers, alloc, &network, tries, seed),
-        Err(FileFault::Text(fault)) => Answer::of_fault(alloc, &fault),
-        Err(FileFault::Memory) => Err(AllocError),
+        Ok(network) => {
+            let answer = network_answer(workers, alloc, &network, tries, seed);
+            drop(network);
+            answer
+        }
+        Err(fault) => fault_answer(alloc, fault),
     }
 }

@@ -5,7 +5,8 @@ ghost use Rattle.sw_app_run.specs.WitnessAnswers.{IsWitnessAnswer};
 use crate::witness_answer::witness_answer;
 use std::alloc::Global;
 use std::io::{Read, Write};
-use sw_command::{Ended, MAX_TEXT, tell, tell_memory, tell_unread};
+use sw_app::tell_answer;
+use sw_command::{Ended, MAX_TEXT, tell_unread};
 use sw_search::VerdictWorkers;
 use sw_text::read_whole;
 
@@ -28,8 +29,5 @@ pub fn witness<T: VerdictWorkers, R: Read, W: Write>(
         Ok(input) => input,
         Err(error) => return tell_unread(writer, error),
     };
-    match witness_answer(workers, alloc, &input, tries, seed) {
-        Ok(answer) => tell(writer, answer.text.as_str(), answer.status),
-        Err(_) => tell_memory(writer),
-    }
+    tell_answer(writer, witness_answer(workers, alloc, &input, tries, seed))
 }

@@ -1,5 +1,7 @@
 pub mod Entries
 pub mod Grown
+mod Listed
+mod Whole
 pub mod Known
 pub mod Values
 pub mod Walked

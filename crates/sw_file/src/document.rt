@@ -1,12 +1,8 @@
 //! The network that a text declares.
-ghost use Rattle.std.specs.Prelude.{◌≡◌, ◌≤◌, [], length, vec_len, map, IfOk, OnOk};
+ghost use Rattle.std.specs.Prelude.{◌≡◌, ◌≤◌, [], vec_len, map, IfOk, OnOk};
 ghost use Rattle.toml.specs.View.{table_view};
 ghost use Rattle.sw_config.specs.Entries.{empty};
-ghost use Rattle.sw_toml_table.specs.Gives.{Gives, walk};
-ghost use Rattle.sw_file.specs.Nodes.{next_node};
-ghost use Rattle.sw_file.specs.Switches.{next_switch};
-ghost use Rattle.sw_file.specs.Links.{next_link};
-ghost use Rattle.sw_file.specs.FlowTables.{next_flow};
+ghost use Rattle.sw_toml_table.specs.Gives.{Gives};
 ghost use Rattle.sw_file.specs.Network.{version_of, entries, with_nodes, with_switches, with_links, with_parts, wired, with_flows, network_of, network_text};
 
 use crate::flows::add_flow;
@@ -57,24 +53,6 @@ fn entries<'a>(
     Ok(tables)
 }
 
-fn walk_nodes(
-    alloc: Global,
-    version: Version,
-    tables: &[&Table],
-    builder: &mut NetworkBuilder,
-) -> Result<(), FileFault>
-    requires few { length tables.now ≤ MAX_NODES }
-    requires none { builder.old.nodes ≡ [] }
-    requires nodes_first { builder.old.switches ≡ [] }
-    ensures gives { Gives (λ _. builder.new) result (walk (next_node version) builder.old (map (λ t. table_view t.now) tables.now)) }
-    ensures switches { OnOk result (builder.new.switches ≡ []) }
-{
-    for (i, table) in tables.iter().enumerate() {
-        add_node(alloc, version, i, table, builder)?;
-    }
-    Ok(())
-}
-
 #[tactic(auto, unfolding(crate::specs::Network::with_nodes))]
 fn read_nodes(
     alloc: Global,
@@ -90,21 +68,8 @@ fn read_nodes(
 {
     let over = TextFault::Topology(TopoFault::TooMany(Limit::Nodes));
     let tables = entries(alloc, document, Key::Node, MAX_NODES, over)?;
-    walk_nodes(alloc, version, &tables, builder)
-}
-
-fn walk_switches(
-    alloc: Global,
-    version: Version,
-    tables: &[&Table],
-    builder: &mut NetworkBuilder,
-) -> Result<(), FileFault>
-    requires few { length tables.now ≤ MAX_SWITCHES }
-    requires none { builder.old.switches ≡ [] }
-    ensures { Gives (λ _. builder.new) result (walk (next_switch version) builder.old (map (λ t. table_view t.now) tables.now)) }
-{
     for (i, table) in tables.iter().enumerate() {
-        add_switch(alloc, version, i, table, builder)?;
+        add_node(alloc, version, i, table, builder)?;
     }
     Ok(())
 }
@@ -122,19 +87,8 @@ fn read_switches(
 {
     let over = TextFault::Topology(TopoFault::TooMany(Limit::Switches));
     let tables = entries(alloc, document, Key::Switch, MAX_SWITCHES, over)?;
-    walk_switches(alloc, version, &tables, builder)
-}
-
-fn walk_links(
-    alloc: Global,
-    version: Version,
-    tables: &[&Table],
-    builder: &mut NetworkBuilder,
-) -> Result<(), FileFault>
-    ensures { Gives (λ _. builder.new) result (walk (next_link version) builder.old (map (λ t. table_view t.now) tables.now)) }
-{
     for (i, table) in tables.iter().enumerate() {
-        add_link(alloc, version, i, table, builder)?;
+        add_switch(alloc, version, i, table, builder)?;
     }
     Ok(())
 }
@@ -151,7 +105,10 @@ fn read_links(
 {
     let over = TextFault::Topology(TopoFault::TooMany(Limit::Links));
     let tables = entries(alloc, document, Key::Link, MAX_LINKS, over)?;
-    walk_links(alloc, version, &tables, builder)
+    for (i, table) in tables.iter().enumerate() {
+        add_link(alloc, version, i, table, builder)?;
+    }
+    Ok(())
 }
 
 #[tactic(auto, unfolding(crate::specs::Network::with_parts))]
@@ -181,8 +138,13 @@ fn parts(
     ensures { Gives (λ b. b) result (with_parts version empty (table_view document.now.table.now)) }
 {
     let mut builder = NetworkBuilder::new(alloc);
-    read_parts(alloc, version, document, &mut builder)?;
-    Ok(builder)
+    match read_parts(alloc, version, document, &mut builder) {
+        Ok(()) => Ok(builder),
+        Err(fault) => {
+            drop(builder);
+            Err(fault)
+        }
+    }
 }
 
 fn wired(alloc: Global, builder: NetworkBuilder) -> Result<Network, FileFault>
@@ -196,17 +158,6 @@ fn wired(alloc: Global, builder: NetworkBuilder) -> Result<Network, FileFault>
     }
 }
 
-fn walk_flows(alloc: Global, tables: &[&Table], network: &mut Network) -> Result<(), FileFault>
-    requires few { length tables.now ≤ MAX_FLOWS }
-    requires none { network.old.flows ≡ [] }
-    ensures { Gives (λ _. network.new) result (walk next_flow network.old (map (λ t. table_view t.now) tables.now)) }
-{
-    for (i, table) in tables.iter().enumerate() {
-        add_flow(alloc, i, table, network)?;
-    }
-    Ok(())
-}
-
 #[tactic(auto, unfolding(crate::specs::Network::with_flows))]
 fn read_flows(alloc: Global, document: &TableEntry, network: &mut Network) -> Result<(), FileFault>
     requires document { document.now.section ≡ Section.Document }
@@ -215,7 +166,10 @@ fn read_flows(alloc: Global, document: &TableEntry, network: &mut Network) -> Re
 {
     let over = TextFault::Key(KeyFault::OutOfRange, Section::Document, Key::Flow);
     let tables = entries(alloc, document, Key::Flow, MAX_FLOWS, over)?;
-    walk_flows(alloc, &tables, network)
+    for (i, table) in tables.iter().enumerate() {
+        add_flow(alloc, i, table, network)?;
+    }
+    Ok(())
 }
 
 fn with_flows(alloc: Global, document: &TableEntry, network: Network) -> Result<Network, FileFault>
@@ -224,8 +178,13 @@ fn with_flows(alloc: Global, document: &TableEntry, network: Network) -> Result<
     ensures { Gives (λ n. n) result (with_flows network (table_view document.now.table.now)) }
 {
     let mut network = network;
-    read_flows(alloc, document, &mut network)?;
-    Ok(network)
+    match read_flows(alloc, document, &mut network) {
+        Ok(()) => Ok(network),
+        Err(fault) => {
+            drop(network);
+            Err(fault)
+        }
+    }
 }
 
 #[tactic(auto, unfolding(crate::specs::Network::network_of))]

@@ -1,9 +1,9 @@
 //! Entries of `switch`.
-ghost use Rattle.std.specs.Prelude.{◌≡◌, ◌+◌, ◌<◌, ◌≤◌, [], All, length, map, IfOk, OnOk, Option};
+ghost use Rattle.std.specs.Prelude.{◌≡◌, ◌+◌, ◌<◌, ◌≤◌, All, length, IfOk, OnOk, Option};
 ghost use Rattle.toml.specs.View.{table_view};
 ghost use Rattle.sw_topo.specs.Ports.{port_set};
 ghost use Rattle.sw_route.specs.Looks.{IsRoute};
-ghost use Rattle.sw_toml_table.specs.Gives.{Gives, walk};
+ghost use Rattle.sw_toml_table.specs.Gives.{Gives};
 ghost use Rattle.sw_file.specs.Switches.{arbitration_named, arbitration_at, ports_at, route_of, next_route, routes_at, next_switch};
 
 use crate::keys::{route_keys, switch_keys};
@@ -112,21 +112,6 @@ fn add_route(
     }
 }
 
-fn walk_routes(
-    alloc: Global,
-    version: Version,
-    switch: usize,
-    tables: &[&Table],
-) -> Result<TableRoutes, FileFault>
-    ensures { Gives (λ t. t) result (walk (next_route version switch) [] (map (λ t. table_view t.now) tables.now)) }
-{
-    let mut routes = TableRoutes::new(alloc);
-    for (i, table) in tables.iter().enumerate() {
-        add_route(alloc, version, switch, i, table, &mut routes)?;
-    }
-    Ok(routes)
-}
-
 #[tactic(auto, unfolding(crate::specs::Switches::routes_at))]
 fn routes_at(
     alloc: Global,
@@ -138,7 +123,11 @@ fn routes_at(
     ensures { Gives (λ t. t) result (routes_at version index (table_view switch.now.table.now)) }
 {
     let tables = switch.tables_or_none(alloc, Key::Route)?;
-    walk_routes(alloc, version, index, &tables)
+    let mut routes = TableRoutes::new(alloc);
+    for (i, table) in tables.iter().enumerate() {
+        add_route(alloc, version, index, i, table, &mut routes)?;
+    }
+    Ok(routes)
 }
 
 /// Adds the switch that the table declares.

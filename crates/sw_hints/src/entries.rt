@@ -38,7 +38,6 @@ fn add_name<'a>(table: &'a Table, names: &mut Vec<&'a str>) -> Result<(), AllocE
 }
 
 // Adds the names in tables.
-#[tactic(auto, using(crate::proofs::Pieces::each_more))]
 fn add_names<'a>(tables: &[&'a Table], names: &mut Vec<&'a str>) -> Result<(), AllocError>
     ensures { IfOk result (λ _. map (λ t. t.now) names.new.items ≡ map (λ t. t.now) names.old.items ++ each_name (map (λ t. table_view t.now) tables.now)) }
 {

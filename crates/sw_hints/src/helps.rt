@@ -5,7 +5,9 @@ ghost use Rattle.std.specs.Str.{bytes_eq};
 ghost use Rattle.sw_toml_table.specs.Keys.{key_text};
 ghost use Rattle.sw_toml_table.specs.Table.{is_known};
 ghost use Rattle.toml.specs.View.{table_view};
+ghost use Rattle.sw_hints.specs.Entries.{names_of, part_names};
 ghost use Rattle.sw_hints.specs.Helps.{help_text, key_help, key_fault_help, known_name_help, meant_help, name_help, node_help, still_words, topology_help};
+ghost use Rattle.sw_hints.specs.Nearest.{like};
 
 use crate::entries::{names_of, part_names};
 use crate::key_words::{keys_of, new_keys_of, outer_keys, port_keys};
@@ -48,6 +50,13 @@ pub fn meant_help(alloc: Global, meant: Option<&str>) -> Result<String, AllocErr
     }
 }
 
+// The text that is most like the name, maybe.
+fn like_help(alloc: Global, name: &str, texts: &[&str]) -> Result<String, AllocError>
+    ensures { IfOk result (λ s. string_bytes s ≡ meant_help (like name.now (map (λ t. t.now) texts.now))) }
+{
+    meant_help(alloc, like(alloc, name, texts)?)
+}
+
 // What to do about a key that a table may not have.
 fn key_help(alloc: Global, section: Section, name: &str) -> Result<String, AllocError>
     ensures { IfOk result (λ s. string_bytes s ≡ key_help section name.now) }
@@ -68,7 +77,7 @@ fn key_help(alloc: Global, section: Section, name: &str) -> Result<String, Alloc
         );
     }
     let texts = key_texts(alloc, keys_of(section))?;
-    meant_help(alloc, like(alloc, name, &texts)?)
+    like_help(alloc, name, &texts)
 }
 
 // Is the name one of these?
@@ -97,7 +106,24 @@ fn node_help(
     if is_named(switches, name) {
         return format!(in alloc; "'{name}' is a switch: flows go from a node to a node");
     }
-    meant_help(alloc, like(alloc, name, nodes)?)
+    like_help(alloc, name, nodes)
+}
+
+// What to do about a name of no node and no switch.
+fn link_end_help(alloc: Global, document: &Table, name: &str) -> Result<String, AllocError>
+    ensures { IfOk result (λ s. string_bytes s ≡ meant_help (like name.now (part_names (table_view document.now)))) }
+{
+    let parts = part_names(alloc, document)?;
+    like_help(alloc, name, &parts)
+}
+
+// What to do about a name of no node in this document.
+fn flow_end_help(alloc: Global, document: &Table, name: &str) -> Result<String, AllocError>
+    ensures { IfOk result (λ s. string_bytes s ≡ node_help name.now (names_of Key.Node (table_view document.now)) (names_of Key.Switch (table_view document.now))) }
+{
+    let nodes = names_of(alloc, document, Key::Node)?;
+    let switches = names_of(alloc, document, Key::Switch)?;
+    node_help(alloc, name, &nodes, &switches)
 }
 
 // What to do about this name at this key.
@@ -110,15 +136,8 @@ fn known_name_help(
     ensures { IfOk result (λ s. string_bytes s ≡ known_name_help (table_view document.now) key name.now) }
 {
     match key {
-        Key::A | Key::B => {
-            let parts = part_names(alloc, document)?;
-            meant_help(alloc, like(alloc, name, &parts)?)
-        }
-        Key::From | Key::To => {
-            let nodes = names_of(alloc, document, Key::Node)?;
-            let switches = names_of(alloc, document, Key::Switch)?;
-            node_help(alloc, name, &nodes, &switches)
-        }
+        Key::A | Key::B => link_end_help(alloc, document, name),
+        Key::From | Key::To => flow_end_help(alloc, document, name),
         _ => Ok(String::new(alloc)),
     }
 }

@@ -84,7 +84,10 @@ pub fn network_hint(alloc: Global, path: &str, text: &[u8]) -> Result<Option<Str
     ensures { IfOk result (λ o. IsNetworkHint path.now text.now o) }
 {
     match read_network(alloc, text) {
-        Ok(_) => Ok(None),
+        Ok(network) => {
+            drop(network);
+            Ok(None)
+        }
         Err(FileFault::Text(fault)) => Ok(Some(hint_of(alloc, path, text, &fault)?)),
         Err(FileFault::Memory) => Err(AllocError),
     }

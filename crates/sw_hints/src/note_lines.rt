@@ -1,5 +1,6 @@
 //! The lines of what there is to note of a fault.
 ghost use Rattle.std.specs.Prelude.{◌≡◌, ◌≤◌, ◌++◌, IfOk, IfSome, codes, length, string_bytes};
+ghost use Rattle.std.specs.Fmt.{decimal};
 ghost use Rattle.sw_hints.specs.HintLines.{told};
 ghost use Rattle.sw_hints.specs.NoteLines.{AddsLine, AreNoteLines, IsNoteLine, IsNotePlace, entry_of, entry_text, note_words, subject};
 
@@ -9,20 +10,41 @@ use sw_notes::Note;
 use sw_position::{Sought, place_of, position_at};
 use sw_toml_table::Section;
 
+// A word, and a number behind it.
+fn numbered(alloc: Global, word: &str, number: usize) -> Result<String, AllocError>
+    ensures { IfOk result (λ s. string_bytes s ≡ word.now ++ decimal number) }
+{
+    format!(in alloc; "{word}{number}")
+}
+
+// The same, and what stands behind that.
+fn numbered_part(alloc: Global, word: &str, number: usize, part: &str) -> Result<String, AllocError>
+    ensures { IfOk result (λ s. string_bytes s ≡ word.now ++ (decimal number ++ part.now)) }
+{
+    format!(in alloc; "{word}{number}{part}")
+}
+
+// An entry of a routing table, by its number and its switch's.
+fn route_text(alloc: Global, switch: usize, route: usize) -> Result<String, AllocError>
+    ensures { IfOk result (λ s. string_bytes s ≡ entry_text (Section.Route switch route)) }
+{
+    format!(in alloc; "switch {switch} route {route}")
+}
+
 // A table of a file, by its number.
 fn entry_text(alloc: Global, section: Section) -> Result<String, AllocError>
     ensures { IfOk result (λ s. string_bytes s ≡ entry_text section) }
 {
     match section {
         Section::Document => String::from_str(alloc, "the document"),
-        Section::Node(i) => format!(in alloc; "node {i}"),
-        Section::Target(i) => format!(in alloc; "node {i} target"),
-        Section::Switch(i) => format!(in alloc; "switch {i}"),
-        Section::Route(i, j) => format!(in alloc; "switch {i} route {j}"),
-        Section::Link(i) => format!(in alloc; "link {i}"),
-        Section::Flow(i) => format!(in alloc; "flow {i}"),
-        Section::Reply(i) => format!(in alloc; "flow {i} reply"),
-        Section::Packet(i) => format!(in alloc; "packet {i}"),
+        Section::Node(i) => numbered(alloc, "node ", i),
+        Section::Target(i) => numbered_part(alloc, "node ", i, " target"),
+        Section::Switch(i) => numbered(alloc, "switch ", i),
+        Section::Route(i, j) => route_text(alloc, i, j),
+        Section::Link(i) => numbered(alloc, "link ", i),
+        Section::Flow(i) => numbered(alloc, "flow ", i),
+        Section::Reply(i) => numbered_part(alloc, "flow ", i, " reply"),
+        Section::Packet(i) => numbered(alloc, "packet ", i),
     }
 }
 
@@ -39,6 +61,27 @@ fn entry_of(note: Note) -> Option<Section>
     }
 }
 
+// That a link has the port of the link's end at this key.
+fn port_words(alloc: Global, end: &str) -> Result<String, AllocError>
+    ensures { IfOk result (λ s. string_bytes s ≡ codes "has the port of '" ++ (end.now ++ codes "' already")) }
+{
+    format!(in alloc; "has the port of '{end}' already")
+}
+
+// Which addresses an entry is for.
+fn range_words(alloc: Global, first: u64, last: u64) -> Result<String, AllocError>
+    ensures { IfOk result (λ s. string_bytes s ≡ codes "is for the addresses from " ++ (decimal first ++ (codes " to " ++ decimal last))) }
+{
+    format!(in alloc; "is for the addresses from {first} to {last}")
+}
+
+// That this is no logical address of an initiator.
+fn initiator_words(alloc: Global, initiator: u64) -> Result<String, AllocError>
+    ensures { IfOk result (λ s. string_bytes s ≡ codes "the initiator is " ++ (decimal initiator ++ codes ", which is no logical address")) }
+{
+    format!(in alloc; "the initiator is {initiator}, which is no logical address")
+}
+
 // What is noted.
 fn note_words(alloc: Global, note: Note) -> Result<String, AllocError>
     ensures { IfOk result (λ s. string_bytes s ≡ note_words note) }
@@ -47,18 +90,11 @@ fn note_words(alloc: Global, note: Note) -> Result<String, AllocError>
         Note::HasName(_) => String::from_str(alloc, "has the name already"),
         Note::Unlinked => String::from_str(alloc, "no link is at this node"),
         Note::LinkHere(_) => String::from_str(alloc, "is at this node"),
-        Note::HasPort(_, end) => {
-            let end = end.text();
-            format!(in alloc; "has the port of '{end}' already")
-        }
-        Note::IsFor(_, _, first, last) => {
-            format!(in alloc; "is for the addresses from {first} to {last}")
-        }
-        Note::LongPath(count) => format!(in alloc; "the path has {count} numbers"),
+        Note::HasPort(_, end) => port_words(alloc, end.text()),
+        Note::IsFor(_, _, first, last) => range_words(alloc, first, last),
+        Note::LongPath(count) => numbered_part(alloc, "the path has ", count, " numbers"),
         Note::LeadingZero => String::from_str(alloc, "the path begins with 0"),
-        Note::NoInitiator(initiator) => {
-            format!(in alloc; "the initiator is {initiator}, which is no logical address")
-        }
+        Note::NoInitiator(initiator) => initiator_words(alloc, initiator),
         Note::NoTarget(_) => {
             String::from_str(alloc, "is where the flow ends, and has no 'target'")
         }

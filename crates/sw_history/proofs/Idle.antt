@@ -79,12 +79,6 @@ none_mapped f P (Some x) m e none = tt
 
 -- ---- what may follow
 
--- whether a node begins a packet, by the packet
-pub begins_by : (h : HistoryView) (n : ℕ) {X : Type 0} (f : X → Begun) (o : Option X) → IfSome o (λ x. IsNext h (begin_of (f x))) → IfSome o (λ x. ((network_of h.declared).flow (f x).flow).from ≡ n)
-    → IfNone o (BeginsOne (network_of h.declared) (packets_of h.load) h.steps n → ⊥) → (IsTrue (is_some o) ↔ BeginsOne (network_of h.declared) (packets_of h.load) h.steps n)
-begins_by h n f None some from none = (λ t. absurd (false≢true t), λ one. absurd (none one))
-begins_by h n f (Some x) some from none = (λ t. record { packet = f x; from = from; follows = some }, λ one. refl)
-
 module _ {R A : Type 0} (v : NetView R A) (h : HistoryView) (begun : List ℕ) (kept : IsKept v h begun) where
   abbrev net : Network
   net = network_of h.declared
@@ -112,21 +106,6 @@ module _ {R A : Type 0} (v : NetView R A) (h : HistoryView) (begun : List ℕ) (
 
     begins_next : (b : Begun) → next ≡ Some b → BeginsNext net (packets_of h.load) h.steps (Begin b.flow b.cargo b.end)
     begins_next b is = ap (next_packet net (packets_of h.load) h.steps) (next_from h.declared h.load h.steps n b is) ∙ is
-
-    pub no_packet : (told : Bool) → told ≡ false → told ≡ is_some next → (IsTrue told ↔ BeginsOne net (packets_of h.load) h.steps n)
-    no_packet told none is = (
-      λ t. absurd (false≢true (sym none ∙ t)),
-      λ one. is ∙ ap is_some (one_next one),
-    )
-
-    pub packet : (told : Bool) → is_some next ≡ true → TellsBeginning v n told → (IsTrue told ↔ BeginsOne net (packets_of h.load) h.steps n)
-    packet true some tells =
-        let b = some_of next some in
-        (λ t. record { packet = b.0; from = next_from h.declared h.load h.steps n b.0 b.1; follows = (tells_next (Begin b.0.flow b.0.cargo b.0.end) true (tells_packet true tells b.0 b.1) (begins_next b.0 b.1)).0 refl }, λ one. refl)
-    packet false some tells = (
-      λ t. absurd (false≢true t),
-      λ one. (let b = one.packet in (tells_next (Begin b.flow b.cargo b.end) false (tells_packet false tells b (one_next one)) (begins_next b (one_next one))).1 one.follows),
-    )
 
     pub begins_packet : TellsBeginning v n true → (b : Begun) → next ≡ Some b → IsNext h (begin_of b)
     begins_packet tells b is = (tells_next (begin_of b) true (tells_packet true tells b is) (begins_next b is)).0 refl
@@ -173,29 +152,36 @@ module _ {R A : Type 0} (v : NetView R A) (h : HistoryView) (begun : List ℕ) (
   idle_but e none begins (Accept m) belongs may = moves e none (Accept m) refl belongs may
   idle_but e none begins (Reply m) belongs may = moves e none (Reply m) refl belongs may
 
+  -- by the packet that may be begun there
+  pub idle_by : (e : ℕ) → CanStep v e false → ((b : Begun) → IsNextAt h e (begin_of b) → ⊥) → IsIdle net (packets_of h.load) h.steps e
+  idle_by e none begins = idle_but e none (λ b belongs may. begins b (record { belongs = belongs; next = may }))
+
+  pub idle_told : (e : ℕ) → CanStep v e false → {X : Type 0} (f : X → Begun) (o : Option X) (told : Bool) → is_some o ≡ not told → IfSome o (λ x. IsNextAt h e (begin_of (f x)))
+      → IfNone o ((b : Begun) → IsNextAt h e (begin_of b) → ⊥) → (IsTrue told ↔ IsIdle net (packets_of h.load) h.steps e)
+  idle_told e none f None true is some begins = (λ t. idle_by e none begins, λ idle. refl)
+  idle_told e none f None false is some begins = absurd (false≢true is)
+  idle_told e none f (Some x) true is some begins = absurd (false≢true (sym is))
+  idle_told e none f (Some x) false is some begins = (λ t. absurd (false≢true t), λ idle. absurd (idle (begin_of (f x)) some.belongs some.next))
+
   module _ (valid : IsValid h.declared) where
     -- the packet begins where its link end starts
     begins_at : (b : Begun) → IsNext h (Begin b.flow b.cargo b.end) → net.start_of (net.out (net.flow b.flow).from) ≡ AtNode (net.flow b.flow).from
     begins_at b may = (link_ends net (are_networks h.declared valid) kept.state (Begin b.flow b.cargo b.end) ((follows (Begin b.flow b.cargo b.end)).0 may).0).1
 
-    pub switch_idle : (e w : ℕ) → CanStep v e false → net.start_of e ≡ AtSwitch w → IsIdle net (packets_of h.load) h.steps e
-    switch_idle e w none starts = idle_but e none (λ b belongs may.
-        let both : AtNode (net.flow b.flow).from ≡ AtSwitch w = sym (begins_at b may) ∙ ap net.start_of belongs ∙ starts in
+    pub switch_begins : (e w : ℕ) → net.start_of e ≡ AtSwitch w → (b : Begun) → IsNextAt h e (begin_of b) → ⊥
+    switch_begins e w starts b at =
+        let both : AtNode (net.flow b.flow).from ≡ AtSwitch w = sym (begins_at b at.next) ∙ ap net.start_of at.belongs ∙ starts in
         let bad : ⊥ = cc in
-        bad)
+        bad
 
-    module _ (e n : ℕ) (lt : e < net.channels) (none : CanStep v e false) (starts : net.start_of e ≡ AtNode n) where
-      pub idle_node : (BeginsOne net (packets_of h.load) h.steps n → ⊥) → IsIdle net (packets_of h.load) h.steps e
-      idle_node no_packet = idle_but e none (λ b belongs may.
-          let both : AtNode (net.flow b.flow).from ≡ AtNode n = sym (begins_at b may) ∙ ap net.start_of belongs ∙ starts in
+    module _ (e n : ℕ) (starts : net.start_of e ≡ AtNode n) where
+      pub node_begins : e < net.channels → {X : Type 0} (f : X → Begun) (o : Option X) → IfSome o (λ x. IsNext h (begin_of (f x))) → IfSome o (λ x. (net.flow (f x).flow).from ≡ n) → IfSome o (λ x. IsNextAt h e (begin_of (f x)))
+      node_begins lt f None may from = tt
+      node_begins lt f (Some x) may from = record { belongs = ap net.out from ∙ ((are_networks h.declared valid).starts_at_node e n lt starts).1; next = may }
+
+      pub none_begins : {X : Type 0} (o : Option X) → IfNone o (BeginsOne net (packets_of h.load) h.steps n → ⊥) → IfNone o ((b : Begun) → IsNextAt h e (begin_of b) → ⊥)
+      none_begins None none = λ b at.
+          let both : AtNode (net.flow b.flow).from ≡ AtNode n = sym (begins_at b at.next) ∙ ap net.start_of at.belongs ∙ starts in
           let same : (net.flow b.flow).from ≡ n = cc in
-          no_packet (record { packet = b; from = same; follows = may }))
-
-      busy_node : BeginsOne net (packets_of h.load) h.steps n → IsIdle net (packets_of h.load) h.steps e → ⊥
-      busy_node one idle =
-          let out = ((are_networks h.declared valid).starts_at_node e n lt starts).1 in
-          idle (Begin one.packet.flow one.packet.cargo one.packet.end) (ap net.out one.from ∙ out) one.follows
-
-      pub node_idle : (told : Bool) → (IsTrue told ↔ BeginsOne net (packets_of h.load) h.steps n) → (IsTrue (not told) ↔ IsIdle net (packets_of h.load) h.steps e)
-      node_idle true is = (λ t. absurd (false≢true t), λ idle. absurd (busy_node (is.0 refl) idle))
-      node_idle false is = (λ t. idle_node (λ one. false≢true (is.1 one)), λ idle. refl)
+          none (record { packet = b; from = same; follows = at.next })
+      none_begins (Some x) none = tt

@@ -1,5 +1,5 @@
 -- What a history keeps.
-use Rattle.std.proofs.Common.{◌≡◌, ◌<◌, ◌∙◌, [], ℕ, zero, suc, List, Some, length, refl, sym, ap}
+use Rattle.std.proofs.Common.{◌≡◌, ◌<◌, ◌≤◌, ◌∙◌, [], ℕ, zero, suc, List, None, Option, Some, arith, length, refl, sym, ap}
 use Rattle.std.specs.Prelude.{replicate, slice_get}
 use Rattle.std.proofs.lemmas.List.{length-replicate}
 use Rattle.sw_char.specs.declared.nchar.End.{End}
@@ -51,3 +51,14 @@ pub not_next : (h : HistoryView) (s : State) → LeadsTo h s → (flow : ℕ) (c
     → (next_packet (network_of h.declared) (packets_of h.load) h.steps node ≡ Some (record { flow = flow; cargo = cargo; end = end }) → ⊥) → IsNext h (Begin flow cargo end) → ⊥
 not_next h s leads flow cargo end node from other next =
     other (ap (next_packet (network_of h.declared) (packets_of h.load) h.steps) from ∙ (next_begins h s leads flow cargo end next).1)
+
+-- a packet of a flow that is not declared may not be begun
+pub undeclared : (h : HistoryView) (s : State) → LeadsTo h s → (d : Declaration) (flow count : ℕ) (cargo : List ℕ) (end : End) → d ≡ h.declared → count ≡ length d.flows → count ≤ flow → IsNext h (Begin flow cargo end) → ⊥
+undeclared h s leads d flow count cargo end same is large next =
+    let small = (next_begins h s leads flow cargo end next).0 in
+    let all = ap (λ (k : Declaration). length k.flows) same in
+    absurd (omega arith)
+
+pub none_or_some : {A : Type 0} (o : Option A) (x : A) → None ≡ o → o ≡ Some x → ⊥
+none_or_some None x e h = absurd cc
+none_or_some (Some y) x e h = absurd cc

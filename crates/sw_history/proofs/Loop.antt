@@ -1,10 +1,10 @@
 -- The loop that sends a load: how it starts, goes on and ends.
-use Rattle.std.proofs.Common.{List, Some, [], ap, append-nil, arith, drop, false, length, refl, subst, suc, sym, take, true, zero, ℕ, ◌+◌, ◌++◌, ◌∙◌, ◌≡◌, ◌≤◌}
-use Rattle.std.proofs.lemmas.List.{drop_all, length-replicate, take_all}
-use Rattle.std.specs.Prelude.{replicate, slice_get}
+use Rattle.std.proofs.Common.{Err, List, Ok, Result, Some, [], ap, arith, false, length, refl, subst, suc, sym, true, zero, ℕ, ◌+◌, ◌∙◌, ◌≡◌, ◌≤◌}
+use Rattle.std.proofs.lemmas.List.{length-replicate}
+use Rattle.std.specs.Prelude.{OnErr, replicate, slice_get}
 use Rattle.sw_history.proofs.Ends.{is_drained, not_over}
 use Rattle.sw_history.proofs.Way.{moved_on}
-use Rattle.sw_history.specs.Drained.{IsDrained}
+use Rattle.sw_history.specs.Drained.{IsDrained, IsUnderWay}
 use Rattle.sw_history.specs.Way.{BeginsOne, IsOnTheWay, MovesOne}
 use Rattle.sw_load.specs.History.{packets_at, packets_of}
 use Rattle.sw_load.specs.Limit.{enough_limit}
@@ -25,11 +25,6 @@ all_zero zero k count h = absurd cc
 all_zero (suc n) zero count h = cc
 all_zero (suc n) (suc k) count h = all_zero n k count h
 
--- a slice of a whole vector is written back
-pub written : (new items : List ℕ) (n : ℕ) → length new ≡ length items → n ≡ length items → take n (new ++ drop (length new) items) ≡ new
-written new items n same all =
-    ap (λ l. take n (new ++ l)) (drop_all (length new) items (omega arith)) ∙ ap (take n) (append-nil new) ∙ take_all n new (omega arith)
-
 module _ {R A : Type 0} (load : List LoadEntry) where
   pub new_way : (v : NetView R A) (begun : List ℕ) (nodes : ℕ) → begun ≡ replicate nodes 0 → IsNetState v (empty (network_of v.declared)) → nodes ≡ length v.declared.nodes → IsOnTheWay load v begun 0 0
   new_way v begun nodes is state all = record {
@@ -42,6 +37,13 @@ module _ {R A : Type 0} (load : List LoadEntry) where
     steps_are = refl;
     moves_are = refl;
   }
+
+  -- where a step fails, the state is still one that a history leads to
+  pub under_way : (v w : NetView R A) (begun : List ℕ) (long count : ℕ) → IsOnTheWay load v begun long count → w ≡ v → {X E : Type 0} (r : Result X E) → OnErr r (IsUnderWay load w)
+  under_way v w begun long count way same (Ok x) = tt
+  under_way v w begun long count way same (Err e) =
+      let is : IsUnderWay load v = record { steps = way.steps; state = way.state; history = way.history; in_net = way.in_net } in
+      subst (λ (k : NetView R A). IsUnderWay load k) (sym same) is
 
   pub no_more_moves : (v : NetView R A) (begun : List ℕ) (long count : ℕ) → IsOnTheWay load v begun long count → count ≤ long
   no_more_moves v begun long count way = let all = all_moves way.steps in let l = way.steps_are in let m = way.moves_are in omega arith

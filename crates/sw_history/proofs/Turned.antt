@@ -10,9 +10,11 @@ module _ {R A F : Type 0} (load : List LoadEntry) (step : F → ℕ → ℕ → 
   pub no_turn : (begun : List ℕ) → begun ≡ replicate (length v.declared.nodes) 0 → TurnsLead load step v f v begun f
   no_turn begun none = (0, (refl, none, refl))
 
-  pub begun_turn : (u w : NetView R A) (before after begun : List ℕ) (g : F) → TurnsLead load step v f u before g → HasBegunNext load u before w after → begun ≡ after → TurnsLead load step v f w begun g
-  begun_turn u w before after begun g turns one same =
-      (suc turns.0, (u, before, g, turns.1, inl (subst (λ (l : List ℕ). HasBegunNext load u before w l) (sym same) one, refl)))
+  pub turned : (u w : NetView R A) (begun : List ℕ) (g : F) → TurnsLead load step v f u begun g → w ≡ u → TurnsLead load step v f w begun g
+  turned u w begun g turns same = subst (λ (k : NetView R A). TurnsLead load step v f k begun g) (sym same) turns
+
+  pub begun_turn : (u w : NetView R A) (before after : List ℕ) (g : F) → TurnsLead load step v f u before g → HasBegunNext load u before w after → TurnsLead load step v f w after g
+  begun_turn u w before after g turns one = (suc turns.0, (u, before, g, turns.1, inl (one, refl)))
 
   pub moved_turn : (t u w : NetView R A) (before begun : List ℕ) (g h : F) (made : Bool) → made ≡ true → TurnsLead load step v f t before g → u ≡ t → begun ≡ before → NoneIsReady load t before → MovesPicked step u g made w h
       → TurnsLead load step v f w begun h

@@ -1,6 +1,6 @@
 -- Whether each node has begun all its packets.
-use Rattle.std.proofs.Common.{◌≡◌, ◌++◌, ◌<◌, ◌≤◌, ◌∷◌, ◌∙◌, [], ℕ, suc, List, None, Option, Some, ap, append-nil, arith, false, length, refl, sym, true, ⊎_elim}
-use Rattle.std.specs.Prelude.{is_some, slice_get}
+use Rattle.std.proofs.Common.{◌≡◌, ◌++◌, ◌<◌, ◌≤◌, ◌∷◌, ◌∙◌, [], ℕ, suc, Bool, List, None, Option, Some, ap, append-nil, arith, false, length, refl, sym, true, ⊎_elim}
+use Rattle.std.specs.Prelude.{is_some, option_map, slice_get}
 use Rattle.std.proofs.lemmas.Bool.{cases_lt}
 use Rattle.std.proofs.lemmas.Option.{slice_get_past}
 use Rattle.sw_cell.proofs.Network.{nodes_are}
@@ -21,6 +21,11 @@ use Rattle.sw_config.specs.Valid.{IsValid}
 none_of : {A : Type 0} (o : Option A) → is_some o ≡ false → o ≡ None
 none_of None h = refl
 none_of (Some x) h = absurd cc
+
+-- of what an option is mapped to it is told by the option
+pub mapped_told : {X Y : Type 0} (f : X → Y) (o : Option X) (m : Option Y) (told is : Bool) → option_map f o ≡ m → told ≡ is_some o → told ≡ is → is_some m ≡ is
+mapped_told f None m told is e t b = ap is_some (sym e) ∙ sym t ∙ b
+mapped_told f (Some x) m told is e t b = ap is_some (sym e) ∙ sym t ∙ b
 
 nothing_behind : {A : Type 0} (xs ys rest : List A) → ys ≡ xs ++ rest → slice_get ys (length xs) ≡ None → xs ≡ ys
 nothing_behind xs ys [] e h = sym (e ∙ append-nil xs)

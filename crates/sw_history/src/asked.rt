@@ -1,6 +1,6 @@
 //! What can be asked of a history.
-ghost use Rattle.std.specs.Prelude.{◌≡◌, ◌↔◌, ◌<◌, ◌*◌, IfOk, IsTrue, is_some, length, map};
-ghost use Rattle.sw_load.specs.History.{IsWhole, next_packet, packets_of};
+ghost use Rattle.std.specs.Prelude.{◌≡◌, ◌↔◌, ◌<◌, ◌*◌, IfOk, IsTrue, length, map};
+ghost use Rattle.sw_load.specs.History.{IsWhole, packets_of};
 ghost use Rattle.sw_machine.specs.State.{State};
 ghost use Rattle.sw_model.specs.Model.{network_of};
 ghost use Rattle.sw_net.specs.Net.{IsNetState};
@@ -15,12 +15,12 @@ use sw_load::Load;
 use sw_model::Step;
 use sw_net::Net;
 use sw_route::Routing;
-use sw_topo::{LinkEnd, PlaceEnd, PortSet};
+use sw_topo::{LinkEnd, PortSet};
 
 impl<'n, R: Routing, A: Arbiter> History<'n, R, A> {
     ghost use Rattle.sw_history.specs.Asking.{AreAsking};
     ghost use Rattle.sw_history.specs.History.{IsNext, IsSoundHistory, LeadsTo};
-    ghost use Rattle.sw_history.specs.Next.{BeginsOne, IsIdle};
+    ghost use Rattle.sw_history.specs.Next.{IsIdle};
 
     /// The network that makes the steps.
     pub fn network(&self) -> &'n Network
@@ -65,20 +65,12 @@ impl<'n, R: Routing, A: Arbiter> History<'n, R, A> {
         self.net.asks(end)
     }
 
-    /// Whether the node has a packet that it has not begun.
-    fn has_next(&self, node: u16) -> bool
-        requires { node < length self.now.declared.nodes }
-        ensures { result ≡ is_some (next_packet (network_of self.now.declared) (packets_of self.now.load) self.now.steps node) }
-    {
-        self.next(node).is_some()
-    }
-
     /// Whether the whole load is begun: each node has begun all its packets.
     pub fn is_whole(&self) -> bool
         ensures { IsTrue result ↔ IsWhole (network_of self.now.declared) (packets_of self.now.load) self.now.steps }
     {
         for node in 0..self.net.network().nodes() {
-            if self.has_next(node) {
+            if self.next(node).is_some() {
                 return false;
             }
         }
@@ -95,14 +87,6 @@ impl<'n, R: Routing, A: Arbiter> History<'n, R, A> {
         }
     }
 
-    /// Whether the node may begin its next packet.
-    fn begins(&self, node: u16) -> bool
-        requires { node < length self.now.declared.nodes }
-        ensures { IsTrue result ↔ BeginsOne (network_of self.now.declared) (packets_of self.now.load) self.now.steps node }
-    {
-        self.may_begin(node).is_some()
-    }
-
     /// Whether no step may be the next that belongs to the link end.
     pub fn is_idle(&self, end: LinkEnd) -> bool
         requires { end < 2 * length self.now.declared.links }
@@ -111,10 +95,7 @@ impl<'n, R: Routing, A: Arbiter> History<'n, R, A> {
         if self.net.enabled(end) {
             return false;
         }
-        match self.net.network().topology().start_of(end.sends()) {
-            PlaceEnd::Node(node) => !self.begins(node),
-            PlaceEnd::Switch(_, _) => true,
-        }
+        self.may_begin_at(end).is_none()
     }
 }
 
@@ -126,11 +107,12 @@ impl<'n, R: Routing + Drop, A: Arbiter + Drop> History<'n, R, A> {
         ensures { result ≡ self.entry.steps }
     {
         let History {
-            net: _,
+            net,
             senders,
             notes,
             begun: _,
         } = self;
+        drop(net);
         Record { senders, notes }
     }
 }

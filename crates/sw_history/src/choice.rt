@@ -2,6 +2,7 @@
 ghost use Rattle.std.specs.Prelude.{◌≡◌, ◌<◌, ◌*◌, IfNone, IfOk, IfSome, length};
 ghost use Rattle.sw_history.specs.Next.{begin_of};
 ghost use Rattle.sw_load.specs.History.{packet_of, packets_of};
+ghost use Rattle.sw_machine.specs.Begun.{Begun};
 ghost use Rattle.sw_model.specs.Model.{network_of};
 ghost use Rattle.sw_model.specs.Steps.{machine_step};
 
@@ -19,7 +20,7 @@ impl<'n, R: Routing, A: Arbiter> History<'n, R, A> {
     ghost use Rattle.sw_history.specs.Next.{BeginsOne, IsIdle};
 
     /// The packet that the node may begin as the next step.
-    pub(crate) fn may_begin(&self, node: u16) -> Option<&LoadPacket>
+    fn may_begin(&self, node: u16) -> Option<&LoadPacket>
         requires { node < length self.now.declared.nodes }
         ensures some { IfSome result (λ p. IsNext self.now (begin_of (packet_of p.now))) }
         ensures from { IfSome result (λ p. ((network_of self.now.declared).flow (packet_of p.now).flow).from ≡ node) }
@@ -29,6 +30,18 @@ impl<'n, R: Routing, A: Arbiter> History<'n, R, A> {
             return None;
         }
         self.next(node)
+    }
+
+    /// The packet that may be begun as the next step that belongs to the link end.
+    pub(crate) fn may_begin_at(&self, end: LinkEnd) -> Option<&LoadPacket>
+        requires { end < 2 * length self.now.declared.links }
+        ensures some { IfSome result (λ p. IsNextAt self.now end (begin_of (packet_of p.now))) }
+        ensures none { IfNone result ((b : Begun) → IsNextAt self.now end (begin_of b) → ⊥) }
+    {
+        match self.net.network().topology().start_of(end.sends()) {
+            PlaceEnd::Node(node) => self.may_begin(node),
+            PlaceEnd::Switch(_, _) => None,
+        }
     }
 
     /// A step that belongs to the link end and may be the next. Which one, where there are several, is
@@ -45,12 +58,9 @@ impl<'n, R: Routing, A: Arbiter> History<'n, R, A> {
         if let Some(step) = self.net.possible_at(end) {
             return Ok(Some(step));
         }
-        match self.net.network().topology().start_of(end.sends()) {
-            PlaceEnd::Node(node) => match self.may_begin(node) {
-                Some(packet) => Ok(Some(beginning(alloc, packet)?)),
-                None => Ok(None),
-            },
-            PlaceEnd::Switch(_, _) => Ok(None),
+        match self.may_begin_at(end) {
+            Some(packet) => Ok(Some(beginning(alloc, packet)?)),
+            None => Ok(None),
         }
     }
 }

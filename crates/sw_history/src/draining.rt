@@ -1,5 +1,5 @@
 //! A whole load, sent until nothing is left.
-ghost use Rattle.std.specs.Prelude.{◌≡◌, ℕ, IfOk, List, OnErr};
+ghost use Rattle.std.specs.Prelude.{◌≡◌, ℕ, IfOk, List, OnErr, length, replicate};
 ghost use Rattle.sw_history.specs.Drained.{IsDrained, IsUnderWay};
 ghost use Rattle.sw_history.specs.Turns.{TurnsLead};
 ghost use Rattle.sw_history.specs.Way.{MovesPicked};
@@ -10,6 +10,7 @@ ghost use Rattle.sw_net.specs.Net.{IsNetState};
 
 use crate::begin::begin_one;
 use crate::moves::{count_enabled, move_one};
+use crate::packets::nothing_begun;
 use std::alloc::{AllocError, Global};
 use sw_arb::Arbiter;
 use sw_check::Passed;
@@ -32,6 +33,40 @@ fn move_picked<R: Routing, A: Arbiter, F: FnMut(usize) -> usize>(
     let count = count_enabled(net);
     let index = if count == 0 { 0 } else { pick(count) };
     move_one(alloc, net, index)
+}
+
+/// Sends all packets, of which none is begun, turn by turn until nothing is undelivered.
+fn send_all<'n, R: Routing, A: Arbiter, F: FnMut(usize) -> usize>(
+    alloc: Global,
+    net: &mut Net<'n, R, A>,
+    passed: &Passed<'n>,
+    senders: &Senders<'_>,
+    begun: &mut [u32],
+    pick: &mut F,
+) -> Result<u64, AllocError>
+    requires empty { IsNetState net.old (empty (network_of net.old.declared)) }
+    requires passed { passed.now ≡ net.old.declared }
+    requires packets { AreDeclared net.old.declared senders.now.load }
+    requires network { senders.now.declared ≡ net.old.declared }
+    requires begun { begun.old ≡ replicate (length net.old.declared.nodes) 0 }
+    requires pick { (state : F) (count : _) → F.pre state count }
+    ensures network { net.new.declared ≡ net.old.declared }
+    ensures drained { IfOk result (λ count. IsDrained senders.now.load net.new count) }
+    ensures refused { OnErr result (IsUnderWay senders.now.load net.new) }
+    ensures turns { (counts : List ℕ) × (last : F) × TurnsLead senders.now.load F.step net.old pick.old net.new counts last }
+{
+    passed.is_deadlock_free();
+    let mut moves: u64 = 0;
+    for _ in 0..enough_limit(net.network(), senders.load()) {
+        if begin_one(alloc, net, senders, begun)? {
+            continue;
+        }
+        if !move_picked(alloc, net, pick)? {
+            return Ok(moves);
+        }
+        moves += 1;
+    }
+    unreachable!()
 }
 
 /// Sends the whole load through a network for which a certificate was accepted, from its empty state
@@ -62,19 +97,15 @@ pub fn drain<'n, R: Routing, A: Arbiter, F: FnMut(usize) -> usize>(
     ensures refused { OnErr result (IsUnderWay load.now net.new) }
     ensures turns { (begun : List ℕ) × (last : F) × TurnsLead load.now F.step net.old pick net.new begun last }
 {
-    passed.is_deadlock_free();
-    let network = net.network();
-    let mut begun = vec![in alloc; 0u32; network.nodes() as usize]?;
-    let senders = Senders::new(alloc, network, load)?;
-    let mut moves: u64 = 0;
-    for _ in 0..enough_limit(network, load) {
-        if begin_one(alloc, net, &senders, begun.as_mut_slice())? {
-            continue;
-        }
-        if !move_picked(alloc, net, &mut pick)? {
-            return Ok(moves);
-        }
-        moves += 1;
-    }
-    unreachable!()
+    let (mut begun, senders) = nothing_begun(alloc, net.network(), load)?;
+    let sent = send_all(
+        alloc,
+        net,
+        passed,
+        &senders,
+        begun.as_mut_slice(),
+        &mut pick,
+    );
+    drop(senders);
+    sent
 }

@@ -2,7 +2,7 @@
 
 use crate::fault::StepFault;
 use crate::making::make;
-use crate::packets::{count_begun, is_same};
+use crate::packets::{count_begun, is_same, nothing_begun};
 use crate::record::{Noted, plain};
 use std::alloc::{AllocError, Global};
 use std::marker::Model;
@@ -183,14 +183,17 @@ impl<'n, R: Routing + Drop, A: Arbiter + Drop> History<'n, R, A> {
         ensures load { IfOk result (λ h. h.load ≡ load.entry.now) }
         ensures steps { IfOk result (λ h. h.steps ≡ []) }
     {
-        let network = net.network();
-        let begun = vec![in alloc; 0u32; network.nodes() as usize]?;
-        let senders = Senders::new(alloc, network, load)?;
-        Ok(History {
-            net,
-            senders,
-            notes: Vec::new(alloc),
-            begun,
-        })
+        match nothing_begun(alloc, net.network(), load) {
+            Ok((begun, senders)) => Ok(History {
+                net,
+                senders,
+                notes: Vec::new(alloc),
+                begun,
+            }),
+            Err(refused) => {
+                drop(net);
+                Err(refused)
+            }
+        }
     }
 }

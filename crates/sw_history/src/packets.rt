@@ -1,16 +1,34 @@
 //! The packets of a load, by the node that sends them.
-ghost use Rattle.std.specs.Prelude.{◌≡◌, ◌↔◌, ◌<◌, IfSome, IsTrue, length, slice_index};
+ghost use Rattle.std.specs.Prelude.{◌≡◌, ◌↔◌, ◌<◌, IfOk, IfSome, IsTrue, length, replicate, slice_index};
 ghost use Rattle.sw_history.specs.Makes.{counted_with};
 ghost use Rattle.sw_load.specs.History.{packet_of};
+ghost use Rattle.sw_load.specs.Laws.{AreDeclared};
 
+use std::alloc::{AllocError, Global};
 use sw_char::End;
-use sw_load::LoadPacket;
+use sw_config::Network;
+use sw_load::{Load, LoadPacket, Senders};
 
 /// Whether the packet is of this flow, with this cargo and this end.
 pub(crate) fn is_same(packet: &LoadPacket, flow: u16, cargo: &[u8], end: End) -> bool
     ensures { IsTrue result ↔ (packet_of packet.now ≡ record { flow = flow; cargo = cargo.now; end = end }) }
 {
     packet.flow() == flow && packet.cargo() == cargo && packet.end() == end
+}
+
+/// How many packets each node has begun, of which there are none yet, and what each sends.
+pub(crate) fn nothing_begun<'n>(
+    alloc: Global,
+    network: &'n Network,
+    load: &'n Load,
+) -> Result<(Vec<u32>, Senders<'n>), AllocError>
+    requires { AreDeclared network.now load.now }
+    ensures begun { IfOk result (λ made. made.0.items ≡ replicate (length network.now.nodes) 0) }
+    ensures network { IfOk result (λ made. made.1.declared ≡ network.now) }
+    ensures load { IfOk result (λ made. made.1.load ≡ load.now) }
+{
+    let begun = vec![in alloc; 0u32; network.nodes() as usize]?;
+    Ok((begun, Senders::new(alloc, network, load)?))
 }
 
 /// Counts one more packet for the node that begins one, if any does.

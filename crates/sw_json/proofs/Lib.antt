@@ -6,3 +6,4 @@ pub mod PlainAnswers
 pub mod OneResult
 pub mod OneVerdict
 mod Memory
+mod OneMember

@@ -4,7 +4,8 @@ ghost use Rattle.serde_json.specs.View.{view};
 ghost use Rattle.sw_json.specs.AnswerValues.{answer_value, file_fault_value};
 
 use crate::files::Release;
-use serde_json::{Value, json};
+use crate::objects::{Member, object_of};
+use serde_json::Value;
 use std::alloc::{AllocError, Global};
 
 /// The result of a command of whose files the one of this path has the fault.
@@ -15,7 +16,12 @@ use std::alloc::{AllocError, Global};
 pub fn file_fault_value(alloc: Global, path: &str, fault: Value) -> Result<Value, AllocError>
     ensures { IfOk result (λ v. view v ≡ file_fault_value path.now (view fault)) }
 {
-    json!(in alloc; {"fault": fault, "kind": "fault", "path": path})
+    let members = vec![in alloc;
+        ("fault", Member::Value(fault)),
+        ("kind", Member::Text("fault")),
+        ("path", Member::Text(path)),
+    ]?;
+    object_of(alloc, members)
 }
 
 /// The answer of a command, by this release of the program: `files` are the objects of the files that it was given, in the order of its
@@ -24,24 +30,25 @@ pub fn file_fault_value(alloc: Global, path: &str, fault: Value) -> Result<Value
 /// # Errors
 ///
 /// There is no memory for the value.
-pub fn answer_value(
+pub fn answer_value<'a>(
     alloc: Global,
-    command: &str,
+    command: &'a str,
     files: Vec<Value>,
     found: Value,
     status: u8,
-    release: Release<'_>,
+    release: Release<'a>,
 ) -> Result<Value, AllocError>
     ensures { IfOk result (λ v. view v ≡ answer_value command.now (map view files.items) (view found) status release.entry.toolchain.now release.entry.version.now) }
 {
     let toolchain = release.toolchain;
     let version = release.version;
-    json!(in alloc; {
-        "files": files,
-        "result": found,
-        "command": command,
-        "status": status,
-        "toolchain": toolchain,
-        "version": version
-    })
+    let members = vec![in alloc;
+        ("command", Member::Text(command)),
+        ("files", Member::Value(Value::Array(files))),
+        ("result", Member::Value(found)),
+        ("status", Member::Number(u64::from(status))),
+        ("toolchain", Member::Text(toolchain)),
+        ("version", Member::Text(version)),
+    ]?;
+    object_of(alloc, members)
 }

@@ -7,8 +7,9 @@ ghost use Rattle.sw_cycle.specs.Cycles.{cause_of};
 ghost use Rattle.sw_search.specs.Verdicts.{IsCyclic};
 ghost use Rattle.sw_json.specs.VerdictValues.{cause_value, channel_value, cyclic_value};
 
+use crate::objects::{Member, object_of, object_of_text};
 use crate::places::{finish_text, start_text};
-use serde_json::{Value, json};
+use serde_json::Value;
 use std::alloc::{AllocError, Global};
 use sw_config::Network;
 use sw_cycle::{Cause, Cycle};
@@ -21,11 +22,11 @@ fn cause_value(alloc: Global, network: &Network, cause: &Cause) -> Result<Value,
     match cause {
         Cause::Target(node) => {
             let name = node_name(network, *node);
-            json!(in alloc; {"target": name})
+            object_of_text(alloc, "target", name)
         }
         Cause::Flow(flow, _) => {
             let name = flow_name(network, *flow);
-            json!(in alloc; {"flow": name})
+            object_of_text(alloc, "flow", name)
         }
     }
 }
@@ -43,7 +44,13 @@ fn channel_value(
     let end = finish_text(alloc, network, channel)?;
     let by = cause_value(alloc, network, cause)?;
     let number = channel.number();
-    json!(in alloc; {"by": by, "end": end, "start": start, "channel": number})
+    let members = vec![in alloc;
+        ("by", Member::Value(by)),
+        ("channel", Member::Number(u64::from(number))),
+        ("end", Member::Value(Value::String(end))),
+        ("start", Member::Value(Value::String(start))),
+    ]?;
+    object_of(alloc, members)
 }
 
 // Adds the value of a channel and its cause.
@@ -84,7 +91,11 @@ fn cycle_value(alloc: Global, network: &Network, cycle: &Cycle) -> Result<Value,
     ensures { IfOk result (λ v. view v ≡ cyclic_value network.now cycle.now) }
 {
     let channels = channel_values(alloc, network, &cycle.channels, &cycle.causes)?;
-    json!(in alloc; {"channels": channels, "kind": "cyclic"})
+    let members = vec![in alloc;
+        ("channels", Member::Value(Value::Array(channels))),
+        ("kind", Member::Text("cyclic")),
+    ]?;
+    object_of(alloc, members)
 }
 
 /// The channels of a cyclic network's cycle, each with what makes it wait for the next.

@@ -1,18 +1,28 @@
 //! Faults of texts as values.
-ghost use Rattle.std.specs.Prelude.{◌≡◌, ◌≤◌, IfOk, IfSome, length, option_map, string_bytes};
+ghost use Rattle.std.specs.Fmt.{decimal};
+ghost use Rattle.std.specs.Prelude.{◌≡◌, ◌≤◌, ◌∷◌, [], IfOk, IfSome, IsOkAnd, Some, length, option_map, string_bytes};
+ghost use Rattle.sw_output.specs.Lines.{spaced};
 ghost use Rattle.sw_position.specs.LineColumn.{column_of, line_of};
 ghost use Rattle.serde_json.specs.View.{view};
 ghost use Rattle.sw_json.specs.FaultValues.{IsFaultValue, fault_where, long_value, schedule_fault_value, told_fault, topology_where, unknown_flow_value};
 
 use crate::codes::fault_code;
+use crate::objects::{Member, object_of};
 use crate::simple::{count_or_null, text_or_null};
-use serde_json::{Value, json};
+use serde_json::Value;
 use std::alloc::{AllocError, Global};
 use sw_command::{fault_text, where_text};
 use sw_hints::fault_place;
 use sw_position::position_at;
 use sw_toml_table::TextFault;
 use sw_topo::{Limit, TopoFault};
+
+// What has the fault, by its kind and its number.
+fn numbered(alloc: Global, kind: &str, number: u64) -> Result<String, AllocError>
+    ensures { IfOk result (λ s. string_bytes s ≡ spaced (kind.now ∷ decimal number ∷ [])) }
+{
+    format!(in alloc; "{kind} {number}")
+}
 
 fn topology_where(alloc: Global, fault: TopoFault) -> Result<String, AllocError>
     ensures { IfOk result (λ s. string_bytes s ≡ topology_where fault) }
@@ -21,10 +31,17 @@ fn topology_where(alloc: Global, fault: TopoFault) -> Result<String, AllocError>
         TopoFault::TooMany(Limit::Nodes) => String::from_str(alloc, "node"),
         TopoFault::TooMany(Limit::Switches) => String::from_str(alloc, "switch"),
         TopoFault::TooMany(Limit::Links) => String::from_str(alloc, "link"),
-        TopoFault::PortTaken(link) => format!(in alloc; "link {link}"),
-        TopoFault::NodeLinks(node) => format!(in alloc; "node {node}"),
-        TopoFault::PortUnlinked(switch) => format!(in alloc; "switch {switch}"),
+        TopoFault::PortTaken(link) => numbered(alloc, "link", u64::from(link)),
+        TopoFault::NodeLinks(node) => numbered(alloc, "node", u64::from(node)),
+        TopoFault::PortUnlinked(switch) => numbered(alloc, "switch", u64::from(switch)),
     }
+}
+
+// The words, where there was memory for them.
+fn told(words: Result<String, AllocError>) -> Result<Option<String>, AllocError>
+    ensures { IfOk result (λ o. IsOkAnd words (λ s. option_map string_bytes o ≡ Some (string_bytes s))) }
+{
+    Ok(Some(words?))
 }
 
 // What has the fault. Of a text that is no TOML nothing.
@@ -33,38 +50,37 @@ fn fault_where(alloc: Global, fault: &TextFault) -> Result<Option<String>, Alloc
 {
     match fault {
         TextFault::Syntax => Ok(None),
-        TextFault::UnknownKey(section, key) => {
-            Ok(Some(where_text(alloc, *section, key.as_str())?))
-        }
-        TextFault::Key(_, section, key) => Ok(Some(where_text(alloc, *section, key.text())?)),
-        TextFault::Topology(fault) => Ok(Some(topology_where(alloc, *fault)?)),
+        TextFault::UnknownKey(section, key) => told(where_text(alloc, *section, key.as_str())),
+        TextFault::Key(_, section, key) => told(where_text(alloc, *section, key.text())),
+        TextFault::Topology(fault) => told(topology_where(alloc, *fault)),
         TextFault::DuplicateRoute(switch, route) => {
-            Ok(Some(format!(in alloc; "switch {switch} route {route}")?))
+            told(format!(in alloc; "switch {switch} route {route}"))
         }
-        TextFault::ReplyShape(flow) => Ok(Some(format!(in alloc; "flow {flow}")?)),
-        TextFault::NotInFlow(packet) => Ok(Some(format!(in alloc; "packet {packet}")?)),
+        TextFault::ReplyShape(flow) => told(numbered(alloc, "flow", *flow as u64)),
+        TextFault::NotInFlow(packet) => told(numbered(alloc, "packet", *packet as u64)),
     }
 }
 
 // A fault of these words, with its line and column.
-fn told_fault(
+fn told_fault<'a>(
     alloc: Global,
-    code: &str,
+    code: &'a str,
     line: Option<u64>,
     column: Option<u64>,
-    text: &str,
+    text: &'a str,
     place: Option<String>,
 ) -> Result<Value, AllocError>
     ensures { IfOk result (λ v. view v ≡ told_fault code.now line column text.now (option_map string_bytes place)) }
 {
-    json!(in alloc; {
-        "where": text_or_null(place),
-        "code": code,
-        "column": count_or_null(column),
-        "kind": "fault",
-        "line": count_or_null(line),
-        "text": text
-    })
+    let members = vec![in alloc;
+        ("code", Member::Text(code)),
+        ("column", Member::Value(count_or_null(column))),
+        ("kind", Member::Text("fault")),
+        ("line", Member::Value(count_or_null(line))),
+        ("text", Member::Text(text)),
+        ("where", Member::Value(text_or_null(place))),
+    ]?;
+    object_of(alloc, members)
 }
 
 // The line and the column of a byte of the text, where one is told.

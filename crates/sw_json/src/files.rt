@@ -1,11 +1,12 @@
 //! Files as values.
 ghost use Rattle.std.specs.Prelude.{◌≡◌, IfOk, map, string_bytes};
 ghost use Rattle.serde_json.specs.View.{view};
-ghost use Rattle.sw_json.specs.FileValues.{audit_value, bare_entry, kind_value, read_entry};
+ghost use Rattle.sw_json.specs.FileValues.{audit_value, bare_entry, entry_value, kind_value, read_entry};
 
 use crate::digests::digest_text;
 use crate::lists::text_values;
-use serde_json::{Value, json};
+use crate::objects::{Member, object_of, object_of_text};
+use serde_json::Value;
 use std::alloc::{AllocError, Global};
 
 /// What a program is: its version, and the toolchain that made it.
@@ -23,7 +24,31 @@ pub struct Release<'a> {
 pub fn kind_value(alloc: Global, kind: &str) -> Result<Value, AllocError>
     ensures { IfOk result (λ v. view v ≡ kind_value kind.now) }
 {
-    json!(in alloc; {"kind": kind})
+    object_of_text(alloc, "kind", kind)
+}
+
+// What is found of a file: how many bytes its text has and their SHA-256, or null for both.
+fn entry_value(
+    alloc: Global,
+    bytes: Value,
+    lint: &[String],
+    path: &str,
+    digest: Value,
+    status: u8,
+    verdict: Value,
+) -> Result<Value, AllocError>
+    ensures { IfOk result (λ v. view v ≡ entry_value (view bytes) (map string_bytes lint.now) path.now (view digest) status (view verdict)) }
+{
+    let lint = text_values(alloc, lint)?;
+    let members = vec![in alloc;
+        ("bytes", Member::Value(bytes)),
+        ("lint", Member::Value(Value::Array(lint))),
+        ("path", Member::Text(path)),
+        ("sha256", Member::Value(digest)),
+        ("status", Member::Number(u64::from(status))),
+        ("verdict", Member::Value(verdict)),
+    ]?;
+    object_of(alloc, members)
 }
 
 /// What is found of a file whose text was read. `lint` is what there is to note of its network.
@@ -42,16 +67,16 @@ pub fn read_entry(
     ensures { IfOk result (λ v. view v ≡ read_entry path.now text.now (map string_bytes lint.now) status (view verdict)) }
 {
     let digest = digest_text(alloc, text)?;
-    let lint = text_values(alloc, lint)?;
     let bytes = text.len();
-    json!(in alloc; {
-        "verdict": verdict,
-        "lint": lint,
-        "sha256": digest,
-        "bytes": bytes,
-        "path": path,
-        "status": status
-    })
+    entry_value(
+        alloc,
+        Value::from(bytes),
+        lint,
+        path,
+        Value::String(digest),
+        status,
+        verdict,
+    )
 }
 
 /// What is found of a file whose text was not read, or not whole.
@@ -67,14 +92,7 @@ pub fn bare_entry(
 ) -> Result<Value, AllocError>
     ensures { IfOk result (λ v. view v ≡ bare_entry path.now status (view verdict)) }
 {
-    json!(in alloc; {
-        "verdict": verdict,
-        "bytes": null,
-        "lint": [],
-        "path": path,
-        "sha256": null,
-        "status": status
-    })
+    entry_value(alloc, Value::Null, &[], path, Value::Null, status, verdict)
 }
 
 /// What is found of files, by this release of the program.
@@ -91,5 +109,10 @@ pub fn audit_value(
 {
     let toolchain = release.toolchain;
     let version = release.version;
-    json!(in alloc; {"files": files, "toolchain": toolchain, "version": version})
+    let members = vec![in alloc;
+        ("files", Member::Value(Value::Array(files))),
+        ("toolchain", Member::Text(toolchain)),
+        ("version", Member::Text(version)),
+    ]?;
+    object_of(alloc, members)
 }

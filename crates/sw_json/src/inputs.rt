@@ -4,7 +4,8 @@ ghost use Rattle.serde_json.specs.View.{view};
 ghost use Rattle.sw_json.specs.AnswerValues.{input_value, long_input};
 
 use crate::digests::digest_text;
-use serde_json::{Value, json};
+use crate::objects::{Member, object_of};
+use serde_json::Value;
 use std::alloc::{AllocError, Global};
 
 /// A file whose text was read.
@@ -17,7 +18,12 @@ pub fn input_value(alloc: Global, path: &str, text: &[u8]) -> Result<Value, Allo
 {
     let digest = digest_text(alloc, text)?;
     let bytes = text.len();
-    json!(in alloc; {"sha256": digest, "bytes": bytes, "path": path})
+    let members = vec![in alloc;
+        ("bytes", Member::Number(bytes as u64)),
+        ("path", Member::Text(path)),
+        ("sha256", Member::Value(Value::String(digest))),
+    ]?;
+    object_of(alloc, members)
 }
 
 /// A file whose text is longer than a text may be.
@@ -28,5 +34,10 @@ pub fn input_value(alloc: Global, path: &str, text: &[u8]) -> Result<Value, Allo
 pub fn long_input(alloc: Global, path: &str) -> Result<Value, AllocError>
     ensures { IfOk result (λ v. view v ≡ long_input path.now) }
 {
-    json!(in alloc; {"bytes": null, "path": path, "sha256": null})
+    let members = vec![in alloc;
+        ("bytes", Member::Value(Value::Null)),
+        ("path", Member::Text(path)),
+        ("sha256", Member::Value(Value::Null)),
+    ]?;
+    object_of(alloc, members)
 }

@@ -11,6 +11,7 @@ mod files;
 mod inputs;
 pub mod laws;
 mod lists;
+mod objects;
 mod outcome;
 mod places;
 mod simple;
@@ -28,6 +29,7 @@ pub use faults::{fault_value, long_value, schedule_fault_value, unknown_flow_val
 pub use files::{Release, audit_value, bare_entry, kind_value, read_entry};
 pub use inputs::{input_value, long_input};
 pub use lists::{flow_name_values, text_values};
+pub use objects::{Member, object_of};
 pub use outcome::Outcome;
 pub use places::{finish_text, misrouted_fault_value, place_value, place_values, start_text};
 pub use serde_json::Value;

@@ -8,7 +8,8 @@ ghost use Rattle.sw_json.specs.VerdictValues.{certificate_bytes, free_value, mis
 use crate::codes::route_fault_code;
 use crate::cycles::cyclic_value;
 use crate::digests::digest_text;
-use serde_json::{Value, json};
+use crate::objects::{Member, object_of};
+use serde_json::Value;
 use std::alloc::{AllocError, Global};
 use sw_cert::Certificate;
 use sw_config::Network;
@@ -33,17 +34,18 @@ fn free_value(
     let links = network.links();
     let nodes = network.nodes();
     let switches = network.switches();
-    json!(in alloc; {
-        "certificate_sha256": digest,
-        "channels": channels,
-        "flows": declared,
-        "height": height,
-        "kind": "free",
-        "links": links,
-        "nodes": nodes,
-        "replies": replies,
-        "switches": switches
-    })
+    let members = vec![in alloc;
+        ("certificate_sha256", Member::Value(Value::String(digest))),
+        ("channels", Member::Number(u64::from(channels))),
+        ("flows", Member::Number(u64::from(declared))),
+        ("height", Member::Number(u64::from(height))),
+        ("kind", Member::Text("free")),
+        ("links", Member::Number(u64::from(links))),
+        ("nodes", Member::Number(u64::from(nodes))),
+        ("replies", Member::Number(u64::from(replies))),
+        ("switches", Member::Number(u64::from(switches))),
+    ]?;
+    object_of(alloc, members)
 }
 
 fn misrouted_value(
@@ -60,14 +62,15 @@ fn misrouted_value(
     let code = route_fault_code(fault);
     let name = flow_name(network, flow);
     let text = misrouted_words(alloc, network, flow, place, fault)?;
-    json!(in alloc; {
-        "text": text,
-        "channel": channel,
-        "code": code,
-        "deleted": deleted,
-        "flow": name,
-        "kind": "misrouted"
-    })
+    let members = vec![in alloc;
+        ("channel", Member::Number(u64::from(channel))),
+        ("code", Member::Text(code)),
+        ("deleted", Member::Number(u64::from(deleted))),
+        ("flow", Member::Text(name)),
+        ("kind", Member::Text("misrouted")),
+        ("text", Member::Value(Value::String(text))),
+    ]?;
+    object_of(alloc, members)
 }
 
 /// The object that stands for a verdict on the network. `text` is the text of its certificate, empty where the verdict has none.

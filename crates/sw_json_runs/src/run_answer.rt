@@ -204,7 +204,11 @@ fn network_record<G: Gate + Sync, T: Threads + Wait + Sync>(
     ensures { IfOk result (IsNetworkRecord (answers_of call.now) call.now.path.now call.now.other.now text.now wants options.limit (given call.now.second.now) (network_text text.now)) }
 {
     match read_network(alloc, text) {
-        Ok(network) => load_file_record(rt, alloc, call, &network, options, wants, gate),
+        Ok(network) => {
+            let recorded = load_file_record(rt, alloc, call, &network, options, wants, gate);
+            drop(network);
+            recorded
+        }
         Err(fault) => {
             let found = unread_network(alloc, call.path, text, fault);
             fault_record(alloc, call, found)

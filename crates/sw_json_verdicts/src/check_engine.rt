@@ -8,6 +8,7 @@ ghost use Rattle.sw_check.specs.Refusals.{refusal_of};
 ghost use Rattle.sw_command.specs.Ends.{AreReadInOrder};
 ghost use Rattle.sw_command.specs.Inputs.{given};
 ghost use Rattle.sw_json.specs.FileValues.{kind_value};
+ghost use Rattle.sw_json.specs.Objects.{member_value};
 ghost use Rattle.sw_json.specs.Simple.{text_or_null};
 ghost use Rattle.sw_json.specs.Answering.{EndsByTwoFiles, IsOutcome, OfFile};
 ghost use Rattle.sw_json_verdicts.specs.CheckResults.{IsCertificateResult, IsCheckJson, IsCheckResult, IsJudgement, grammar_reason, reason_of, refused_value};
@@ -15,7 +16,6 @@ ghost use Rattle.sw_json_verdicts.specs.Reasons.{parts_view};
 
 use crate::laws::refusals_are_plain;
 use crate::reasons::{Parts, grammar_parts, parts_of};
-use serde_json::json;
 use std::alloc::{AllocError, Global};
 use std::io::{Read, Write};
 use sw_app::{grammar_words, refusal_words};
@@ -27,38 +27,37 @@ use sw_config::Network;
 use sw_file::read_network;
 use sw_json::laws::kinds_are_plain;
 use sw_json::{
-    Outcome, Release, Value, answer_to_two, count_or_null, kind_value, long_file, tell_answer,
-    tell_unread, unread_network,
+    Member, Outcome, Release, Value, answer_to_two, count_or_null, kind_value, long_file,
+    object_of, tell_answer, tell_unread, unread_network,
 };
 use sw_search::VerdictWorkers;
 
 // A text, or null where there is none.
-fn text_or_null(alloc: Global, text: Option<&str>) -> Result<Value, AllocError>
-    ensures { IfOk result (λ v. view v ≡ text_or_null (option_map (λ s. s.now) text.entry)) }
+fn text_or_null(text: Option<&str>) -> Member<'_>
+    ensures { member_value result ≡ text_or_null (option_map (λ s. s.now) text.entry) }
 {
     match text {
-        Some(text) => Value::try_from_str(alloc, text),
-        None => Ok(Value::Null),
+        Some(text) => Member::Text(text),
+        None => Member::Value(Value::Null),
     }
 }
 
 // A certificate that is refused: the reason's parts, and the line of the text answer.
-fn refused_value(alloc: Global, parts: Parts<'_>, text: &str) -> Result<Value, AllocError>
+fn refused_value<'a>(alloc: Global, parts: Parts<'a>, text: &'a str) -> Result<Value, AllocError>
     ensures { IfOk result (λ v. view v ≡ refused_value (parts_view parts.entry) text.now) }
 {
-    let flow = text_or_null(alloc, parts.flow)?;
-    let fault = text_or_null(alloc, parts.fault)?;
-    json!(in alloc; {
-        "fault": fault,
-        "flow": flow,
-        "text": text,
-        "channel": count_or_null(parts.channel),
-        "code": parts.code,
-        "deleted": count_or_null(parts.deleted),
-        "kind": "refused",
-        "line": count_or_null(parts.line),
-        "next": count_or_null(parts.next)
-    })
+    let members = vec![in alloc;
+        ("channel", Member::Value(count_or_null(parts.channel))),
+        ("code", Member::Text(parts.code)),
+        ("deleted", Member::Value(count_or_null(parts.deleted))),
+        ("fault", text_or_null(parts.fault)),
+        ("flow", text_or_null(parts.flow)),
+        ("kind", Member::Text("refused")),
+        ("line", Member::Value(count_or_null(parts.line))),
+        ("next", Member::Value(count_or_null(parts.next))),
+        ("text", Member::Text(text)),
+    ]?;
+    object_of(alloc, members)
 }
 
 // The result for a certificate that is refused.

@@ -10,7 +10,6 @@ ghost use Rattle.sw_app.specs.Kept.{kept};
 ghost use Rattle.sw_json_verdicts.specs.ReportResults.{IsFindingsResult, IsReportJson, KeepingOne, found_value, kept_of, report_value};
 
 use crate::laws::reports_are_plain;
-use serde_json::json;
 use std::alloc::{AllocError, Global};
 use std::io::{Read, Write};
 use sw_app::{EndedWith, kept_network};
@@ -19,8 +18,8 @@ use sw_command::{Ended, InputText, read_one};
 use sw_config::Network;
 use sw_file::read_network;
 use sw_json::{
-    Outcome, Release, Value, answer_to_one, long_file, tell_answer, tell_unread, unread_network,
-    verdict_value,
+    Member, Outcome, Release, Value, answer_to_one, long_file, object_of, tell_answer, tell_unread,
+    unread_network, verdict_value,
 };
 use sw_search::{Findings, Verdict, VerdictWorkers, survey};
 
@@ -52,18 +51,20 @@ fn told_report(
     ensures { IfOk result (λ v. view v ≡ report_value network.now findings.now.places findings.now.dependencies (view verdict)) }
 {
     let declared = network.declared_flows();
-    json!(in alloc; {
-        "verdict": verdict,
-        "channels": network.channels(),
-        "dependencies": findings.dependencies,
-        "flows": declared,
-        "kind": "report",
-        "links": network.links(),
-        "nodes": network.nodes(),
-        "places": findings.places,
-        "replies": network.flows() - declared,
-        "switches": network.switches()
-    })
+    let replies = network.flows() - declared;
+    let members = vec![in alloc;
+        ("channels", Member::Number(u64::from(network.channels()))),
+        ("dependencies", Member::Number(findings.dependencies)),
+        ("flows", Member::Number(u64::from(declared))),
+        ("kind", Member::Text("report")),
+        ("links", Member::Number(u64::from(network.links()))),
+        ("nodes", Member::Number(u64::from(network.nodes()))),
+        ("places", Member::Number(findings.places)),
+        ("replies", Member::Number(u64::from(replies))),
+        ("switches", Member::Number(u64::from(network.switches()))),
+        ("verdict", Member::Value(verdict)),
+    ]?;
+    object_of(alloc, members)
 }
 
 // The result that tells what was found.

@@ -9,7 +9,6 @@ ghost use Rattle.sw_json.specs.Answering.{EndsByOneFile, OfNetwork, OfNetworkFil
 ghost use Rattle.sw_json_verdicts.specs.RouteResults.{IsFlowResult, IsNamedResult, IsRouteJson, fault_or_null, route_kind, told_route};
 
 use crate::laws::routes_are_plain;
-use serde_json::json;
 use std::alloc::{AllocError, Global};
 use std::io::{Read, Write};
 use sw_command::statuses::{BAD, GOOD};
@@ -19,8 +18,8 @@ use sw_file::read_network;
 use sw_flow::{Place, RouteFault, first_fault, places};
 use sw_json::laws::faults_are_plain;
 use sw_json::{
-    Outcome, Release, Value, answer_to_one, file_fault, long_file, misrouted_fault_value,
-    place_values, tell_answer, tell_unread, unknown_flow_value, unread_network,
+    Member, Outcome, Release, Value, answer_to_one, file_fault, long_file, misrouted_fault_value,
+    object_of, place_values, tell_answer, tell_unread, unknown_flow_value, unread_network,
 };
 
 // A place with its fault, or null where there is none.
@@ -66,7 +65,13 @@ fn told_route(
     let name = flow.name();
     let fault = fault_or_null(alloc, fault)?;
     let places = place_values(alloc, network, places)?;
-    json!(in alloc; {"fault": fault, "places": places, "flow": name, "kind": kind})
+    let members = vec![in alloc;
+        ("fault", Member::Value(fault)),
+        ("flow", Member::Text(name)),
+        ("kind", Member::Text(kind)),
+        ("places", Member::Value(Value::Array(places))),
+    ]?;
+    object_of(alloc, members)
 }
 
 // The result for a flow.

@@ -1,29 +1,13 @@
 -- The link that a target can have of its own, and whether one is tried.
-use Rattle.std.proofs.Common.{◌≡◌, ℕ, ◌+◌, ◌<◌, ◌||◌, ◌&&◌, Bool, true, false, List, [], Option, Some, length, take, ap, arith, inl, inr, refl, sym, ◌∙◌}
-use Rattle.std.specs.Prelude.{is_some, option_and_then, slice_get, if◌then◌else◌}
+use Rattle.std.proofs.Common.{◌≡◌, ℕ, ◌<◌, ◌&&◌, Bool, true, false, List, [], Option, length, ap, arith, inl, inr, refl, sym, ◌∙◌}
+use Rattle.std.specs.Prelude.{is_some, option_and_then, if◌then◌else◌}
 use Rattle.std.specs.List.{list_any}
 use Rattle.std.specs.Option.{option_map_or, option_to_list}
-use Rattle.std.proofs.lemmas.List.Folds.{list_any_at, list_any_more}
-use Rattle.std.proofs.lemmas.Option.{get_or_from_slice_get, slice_get_cases, slice_get_within}
+use Rattle.std.proofs.lemmas.Option.{slice_get_cases}
 use Rattle.sw_config.specs.Entries.{NodeEntry, Declaration, target_of}
 use Rattle.sw_mend.specs.Changes.{made_at}
 use Rattle.sw_mend.specs.Splits.{is_asking, own_links, target_link}
 use Rattle.sw_mend.specs.declared.change.TargetLink.{TargetLink}
-
--- ---- whether one of a list passes
-
-module _ {A : Type 0} (test : A → Bool) where
-  pub one_passes : (xs : List A) (i : ℕ) (x : A) (b : Bool) → slice_get xs i ≡ Some x → b ≡ test x → b ≡ true → true ≡ list_any test xs
-  one_passes xs i x b here is passes =
-      sym (list_any_at test xs i x (slice_get_within xs i x here) (ap test (get_or_from_slice_get xs i x x here) ∙ sym is ∙ passes))
-
-  pub none_more : (xs : List A) (i : ℕ) (x : A) (b : Bool) → slice_get xs i ≡ Some x → list_any test (take i xs) ≡ false → b ≡ test x → b ≡ false
-      → list_any test (take (i + 1) xs) ≡ false
-  none_more xs i x b here none is fails =
-      list_any_more test xs i x (slice_get_within xs i x here)
-      ∙ (λ t. none t || (ap test (get_or_from_slice_get xs i x x here) ∙ sym is ∙ fails) t)
-
--- ---- the own link of a node
 
 own_at : (d : Declaration) (n : ℕ) → n < length d.nodes
     → made_at (own_links d) d.nodes n ≡ (if is_some (target_of d.nodes n) && list_any (is_asking n) d.flows then option_to_list (target_link d n) else [])

@@ -1,7 +1,7 @@
 -- Those pairs of changes that free the network, with one more second change, and with one more first.
-use Rattle.std.proofs.Common.{◌≡◌, ◌∙◌, ◌↔◌, ◌+◌, ◌<◌, ℕ, Bool, IsTrue, List, [], ◌∷◌, ◌++◌, append-nil, append_assoc, drop, get_or, length, map, refl, subst, sym, take, ap}
+use Rattle.std.proofs.Common.{◌≡◌, ◌∙◌, ◌↔◌, ◌+◌, ◌<◌, ◌≤◌, ℕ, Bool, IsTrue, List, [], ◌∷◌, ◌++◌, append-nil, append_assoc, drop, get_or, length, map, refl, subst, sym, take, ap}
 use Rattle.std.specs.Prelude.{if◌then◌else◌}
-use Rattle.std.proofs.lemmas.List.{drop_more, take_more, map-append}
+use Rattle.std.proofs.lemmas.List.{drop_more, take_all, take_more, map-append}
 use Rattle.sw_config.specs.Entries.{Declaration}
 use Rattle.sw_mend.specs.Changes.{pairs_of}
 use Rattle.sw_mend.specs.Mends.{AreThosePairs, FreesBoth}
@@ -32,6 +32,10 @@ added_more d first others i second old now after b lt at (those, are, so_far) de
           (told_one (FreesBoth d) (map (pair_with first) (take i others)) (pair_with first second) those (those ++ new) b are decided refl),
       more ∙ ap (λ (l : List Pair). l ++ new) so_far ∙ append_assoc old those new,
     )
+
+pub all_tried : (d : Declaration) (first : Change) (others : List Change) (i : ℕ) (old now : List Pair) → length others ≤ i → AreAdded d first (take i others) old now
+    → AreAdded d first others old now
+all_tried d first others i old now past = subst (λ (l : List Change). AreAdded d first l old now) (take_all i others past)
 
 -- whatever pairs of the changes left are those that free, behind what was told they are those of all the changes
 abbrev pub AreTold : Declaration → List Change → List Change → List Pair → Type 0

@@ -1,8 +1,8 @@
 -- Those of a list that free the network: of two lists joined, and with one more.
-use Rattle.std.proofs.Common.{◌≡◌, ◌↔◌, append-nil, append_assoc, map, subst, ◌+◌, ◌<◌, ℕ, Bool, true, false, IsTrue, List, [], ◌∷◌, ◌++◌, get_or, inl, inr, length, refl, sym, take, ap, ◌∙◌}
+use Rattle.std.proofs.Common.{◌≡◌, ◌↔◌, append-nil, append_assoc, map, subst, ◌+◌, ◌<◌, ◌≤◌, ℕ, Bool, true, false, IsTrue, List, [], ◌∷◌, ◌++◌, get_or, inl, inr, length, refl, sym, take, ap, ◌∙◌}
 use Rattle.std.specs.Prelude.{if◌then◌else◌}
 use Rattle.std.proofs.lemmas.Bool.{false≢true}
-use Rattle.std.proofs.lemmas.List.{map-append, take_more}
+use Rattle.std.proofs.lemmas.List.{map-append, take_all, take_more}
 use Rattle.sw_mend.specs.Changes.{by_number, made_at}
 use Rattle.sw_mend.specs.Mends.{AreAdded, AreThose}
 use Rattle.sw_mend.proofs.Numbered.{grown_at}
@@ -55,6 +55,14 @@ module _ {A B : Type 0} (IsFree : B → Type 0) (f : A → B) where
       let made : map f (take (i + 1) xs) ≡ map f (take i xs) ++ f x ∷ [] = ap (map f) cut ∙ map-append f (take i xs) (x ∷ []) in
       subst (λ (l : List B). AreAdded IsFree l before after) (sym made)
       (both_added IsFree (map f (take i xs)) (f x ∷ []) before now after so_far (one_added IsFree (f x) now after b decided more))
+
+  -- where all were tried
+  pub all_tried : (xs : List A) (i : ℕ) (before after : List B) → length xs ≤ i → AreAdded IsFree (map f (take i xs)) before after → AreAdded IsFree (map f xs) before after
+  all_tried xs i before after past = subst (λ (l : List A). AreAdded IsFree (map f l) before after) (take_all i xs past)
+
+  -- of the same list
+  pub added_as : (xs ys : List A) (before after : List B) → xs ≡ ys → AreAdded IsFree (map f xs) before after → AreAdded IsFree (map f ys) before after
+  added_as xs ys before after is = subst (λ (l : List A). AreAdded IsFree (map f l) before after) is
 
   -- of what is made by numbers
   pub made_added : {C : Type 0} (make : ℕ → C → List A) (xs : List C) (i : ℕ) (before now after : List B)

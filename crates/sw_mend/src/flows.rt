@@ -1,5 +1,5 @@
 //! The flows that changes leave.
-ghost use Rattle.std.specs.Prelude.{◌≡◌, ◌+◌, ◌<◌, ◌++◌, [], false, IfOk, OnOk, Ok, None, if◌then◌else◌, length, take};
+ghost use Rattle.std.specs.Prelude.{◌≡◌, ◌+◌, ◌<◌, ◌++◌, [], false, IfOk, OnOk, None, if◌then◌else◌, length, take};
 ghost use Rattle.std.specs.List.{list_any};
 ghost use Rattle.std.specs.Str.{bytes_eq};
 ghost use Rattle.sw_config.specs.Entries.{flow_names};
@@ -27,9 +27,12 @@ fn loses_flow(change: &Change, number: u16, flow: &Flow) -> bool
 fn is_lost(changes: &[Change], number: u16, flow: &Flow) -> bool
     ensures { result ≡ list_any (λ change. loses_flow change number flow.now) changes.now }
 {
-    changes
-        .iter()
-        .any(|change| loses_flow(change, number, flow))
+    for change in changes {
+        if loses_flow(change, number, flow) {
+            return true;
+        }
+    }
+    false
 }
 
 // Does the change leave the flow without its reply?
@@ -47,9 +50,12 @@ fn loses_reply(change: &Change, number: u16, flow: &Flow) -> bool
 fn is_unanswered(changes: &[Change], number: u16, flow: &Flow) -> bool
     ensures { result ≡ list_any (λ change. loses_reply change number flow.now) changes.now }
 {
-    changes
-        .iter()
-        .any(|change| loses_reply(change, number, flow))
+    for change in changes {
+        if loses_reply(change, number, flow) {
+            return true;
+        }
+    }
+    false
 }
 
 // Where the replies of the flow go.
@@ -80,21 +86,6 @@ fn kept_reply(
     copied_reply(alloc, flow)
 }
 
-// A copy of the flow, with these replies.
-pub(crate) fn with_reply(
-    alloc: Global,
-    flow: &Flow,
-    reply: Result<Option<Reply>, AllocError>,
-) -> Result<Flow, AllocError>
-    ensures copied { IfOk result (λ f. f ≡ record flow.now { reply = f.reply }) }
-    ensures reply { IfOk result (λ f. reply ≡ Ok f.reply) }
-{
-    let reply = reply?;
-    let name = String::from_str(alloc, flow.name())?;
-    let address = Vec::from_slice(alloc, flow.address())?;
-    Ok(Flow::new(name, flow.from(), flow.to(), address, flow.left(), reply))
-}
-
 // What is left of a flow that stays.
 fn kept_flow(
     alloc: Global,
@@ -104,7 +95,10 @@ fn kept_flow(
 ) -> Result<Flow, AllocError>
     ensures { IfOk result (λ f. f ≡ record flow.now { reply = if list_any (λ change. loses_reply change number flow.now) changes.now then None else flow.now.reply }) }
 {
-    with_reply(alloc, flow, kept_reply(alloc, changes, number, flow))
+    let name = String::from_str(alloc, flow.name())?;
+    let address = Vec::from_slice(alloc, flow.address())?;
+    let reply = kept_reply(alloc, changes, number, flow)?;
+    Ok(Flow::new(name, flow.from(), flow.to(), address, flow.left(), reply))
 }
 
 // Adds what is left of the flow.

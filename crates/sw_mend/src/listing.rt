@@ -11,39 +11,22 @@ use sw_config::{Flow, Network};
 use sw_route::Route;
 use sw_topo::PortSet;
 
-// Is the flow answered?
-fn is_answered(flow: &Flow) -> bool
-    ensures { result ≡ is_some flow.now.reply }
-{
-    flow.reply().is_some()
-}
-
 // The reply of a flow away, if it has one.
 fn add_answered(number: u16, flow: &Flow, changes: &mut Vec<Change>) -> Result<(), AllocError>
     ensures { OnOk result (changes.new.items ≡ changes.old.items ++ reply_away number flow.now) }
 {
-    if is_answered(flow) {
+    if flow.reply().is_some() {
         changes.push(Change::WithoutReply(number))?;
     }
     Ok(())
-}
-
-// The reply of the flow of that number away, if it has one.
-fn add_reply(network: &Network, number: u16, changes: &mut Vec<Change>) -> Result<(), AllocError>
-    requires { number < length network.now.flows }
-    ensures { OnOk result (changes.new.items ≡ changes.old.items ++ made_at reply_away network.now.flows number) }
-{
-    // All flows are more.
-    let _flows = network.declared_flows();
-    add_answered(number, network.flow(number), changes)
 }
 
 // One reply away.
 fn add_replies(network: &Network, changes: &mut Vec<Change>) -> Result<(), AllocError>
     ensures { OnOk result (changes.new.items ≡ changes.old.items ++ by_number reply_away 0 network.now.flows) }
 {
-    for flow in 0..network.declared_flows() {
-        add_reply(network, flow, changes)?;
+    for number in 0..network.declared_flows() {
+        add_answered(number, network.flow(number), changes)?;
     }
     Ok(())
 }
@@ -123,20 +106,12 @@ fn add_groups_of(switch: u16, routes: &[Route], changes: &mut Vec<Change>) -> Re
     Ok(())
 }
 
-// One port of one group of the switch's table away.
-fn add_groups(network: &Network, switch: u16, changes: &mut Vec<Change>) -> Result<(), AllocError>
-    requires { switch < length network.now.switches }
-    ensures { OnOk result (changes.new.items ≡ changes.old.items ++ made_at group_ports_away network.now.switches switch) }
-{
-    add_groups_of(switch, network.routes(switch), changes)
-}
-
 // One port of one group of some table away.
 fn add_all_groups(network: &Network, changes: &mut Vec<Change>) -> Result<(), AllocError>
     ensures { OnOk result (changes.new.items ≡ changes.old.items ++ by_number group_ports_away 0 network.now.switches) }
 {
     for switch in 0..network.switches() {
-        add_groups(network, switch, changes)?;
+        add_groups_of(switch, network.routes(switch), changes)?;
     }
     Ok(())
 }
@@ -155,20 +130,12 @@ fn add_entries_of(
     Ok(())
 }
 
-// One entry of the switch's table away.
-fn add_entries(network: &Network, switch: u16, changes: &mut Vec<Change>) -> Result<(), AllocError>
-    requires { switch < length network.now.switches }
-    ensures { OnOk result (changes.new.items ≡ changes.old.items ++ made_at entries_away network.now.switches switch) }
-{
-    add_entries_of(switch, network.routes(switch), changes)
-}
-
 // One entry of some table away.
 fn add_all_entries(network: &Network, changes: &mut Vec<Change>) -> Result<(), AllocError>
     ensures { OnOk result (changes.new.items ≡ changes.old.items ++ by_number entries_away 0 network.now.switches) }
 {
     for switch in 0..network.switches() {
-        add_entries(network, switch, changes)?;
+        add_entries_of(switch, network.routes(switch), changes)?;
     }
     Ok(())
 }

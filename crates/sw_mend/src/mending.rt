@@ -1,6 +1,5 @@
 //! The single changes that free a network.
-ghost use Rattle.std.specs.Prelude.{◌≡◌, ◌↔◌, ◌<◌, ◌++◌, ◌∷◌, [], IfOk, IfSome, IsTrue, OnOk, if◌then◌else◌, length, map};
-ghost use Rattle.std.specs.Option.{option_to_list};
+ghost use Rattle.std.specs.Prelude.{◌≡◌, ◌↔◌, ◌<◌, ◌++◌, ◌∷◌, [], IfOk, IsTrue, OnOk, if◌then◌else◌, length, map};
 ghost use Rattle.sw_config.specs.Valid.{IsValid};
 ghost use Rattle.sw_search.specs.Laws.{RoutedAndFree};
 ghost use Rattle.sw_mend.specs.Changes.{made_at};
@@ -18,6 +17,22 @@ use std::marker::Model;
 use sw_config::Network;
 use sw_search::{VerdictWorkers, is_free};
 
+// Is the changed network valid and free?
+pub(crate) fn is_freed<W: VerdictWorkers>(
+    workers: &W,
+    alloc: Global,
+    changed: Network,
+) -> Result<bool, AllocError>
+    ensures valid { IsValid changed }
+    ensures free { IfOk result (λ b. IsTrue b ↔ RoutedAndFree changed) }
+{
+    // Names the network, which is valid by its type.
+    let _topology = changed.topology();
+    let free = is_free(workers, alloc, &changed);
+    drop(changed);
+    free
+}
+
 // Does the change free the network?
 fn frees<W: VerdictWorkers>(
     workers: &W,
@@ -28,7 +43,7 @@ fn frees<W: VerdictWorkers>(
     ensures { IfOk result (λ b. IsTrue b ↔ Frees network.now (Without change.now)) }
 {
     let changed = network_with(alloc, network, change)?;
-    is_free(workers, alloc, &changed)
+    is_freed(workers, alloc, changed)
 }
 
 // Adds what is tried, if it frees the network.
@@ -58,19 +73,6 @@ fn add_mends<W: VerdictWorkers>(
     Ok(())
 }
 
-// Is the changed network valid and free?
-fn is_freed<W: VerdictWorkers>(
-    workers: &W,
-    alloc: Global,
-    changed: &Network,
-) -> Result<bool, AllocError>
-    ensures { IfOk result (λ b. IsTrue b ↔ (IsValid changed.now × RoutedAndFree changed.now)) }
-{
-    // Names the network, which is valid by its type.
-    let _topology = changed.topology();
-    is_free(workers, alloc, changed)
-}
-
 // Does the split free the network?
 fn split_frees<W: VerdictWorkers>(
     workers: &W,
@@ -82,7 +84,7 @@ fn split_frees<W: VerdictWorkers>(
     ensures { IfOk result (λ b. IsTrue b ↔ Frees network.now (Split link.now)) }
 {
     match network_split(alloc, network, link)? {
-        Some(changed) => is_freed(workers, alloc, &changed),
+        Some(changed) => is_freed(workers, alloc, changed),
         None => Ok(false),
     }
 }
@@ -102,23 +104,6 @@ fn add_split<W: VerdictWorkers>(
     add_if(freed, Trial::Split(*link), mends)
 }
 
-// Adds the split by that link, if there is one and it frees the network.
-fn add_split_by<W: VerdictWorkers>(
-    workers: &W,
-    alloc: Global,
-    network: &Network,
-    link: Option<TargetLink>,
-    mends: &mut Vec<Trial>,
-) -> Result<(), AllocError>
-    requires { IfSome link (IsTargetLink network.now) }
-    ensures { OnOk result (AreAdded (Frees network.now) (map Split (option_to_list link)) mends.old.items mends.new.items) }
-{
-    match link {
-        Some(link) => add_split(workers, alloc, network, &link, mends),
-        None => Ok(()),
-    }
-}
-
 // Adds the split of the node, if it frees the network.
 fn add_split_of<W: VerdictWorkers>(
     workers: &W,
@@ -130,8 +115,10 @@ fn add_split_of<W: VerdictWorkers>(
     requires { node < length network.now.nodes }
     ensures { OnOk result (AreAdded (Frees network.now) (map Split (made_at (own_links network.now) network.now.nodes node)) mends.old.items mends.new.items) }
 {
-    let link = own_link_of(network, node);
-    add_split_by(workers, alloc, network, link, mends)
+    match own_link_of(network, node) {
+        Some(link) => add_split(workers, alloc, network, &link, mends),
+        None => Ok(()),
+    }
 }
 
 // Adds those of the splits that free the network.

@@ -5,7 +5,7 @@ ghost use Rattle.sw_mend.specs.Changes.{made_at};
 ghost use Rattle.sw_mend.specs.Splits.{flow_moved, flow_split, last_deleted, renamed, target_part};
 
 use crate::change::TargetLink;
-use crate::flows::{copied_reply, with_reply};
+use crate::flows::copied_reply;
 use crate::links::is_asking;
 use std::alloc::{AllocError, Global};
 use std::marker::Model;
@@ -46,8 +46,8 @@ fn moved_address(alloc: Global, link: &TargetLink, flow: &Flow) -> Result<Vec<u8
     Ok(address)
 }
 
-// The flow to the node, by that address.
-fn moved_by(alloc: Global, flow: &Flow, node: u16, address: Vec<u8>) -> Result<Flow, AllocError>
+// A copy of the flow, to that node by that address.
+fn copied_by(alloc: Global, flow: &Flow, node: u16, address: Vec<u8>) -> Result<Flow, AllocError>
     ensures { IfOk result (λ f. f ≡ record flow.now { to = node; address = address.items }) }
 {
     let name = String::from_str(alloc, flow.name())?;
@@ -60,14 +60,15 @@ fn moved_flow(alloc: Global, node: u16, link: &TargetLink, flow: &Flow) -> Resul
     ensures { IfOk result (λ f. f ≡ flow_moved node link.now flow.now) }
 {
     let address = moved_address(alloc, link, flow)?;
-    moved_by(alloc, flow, node, address)
+    copied_by(alloc, flow, node, address)
 }
 
 // A copy of the flow.
 fn copied_flow(alloc: Global, flow: &Flow) -> Result<Flow, AllocError>
     ensures { IfOk result (λ f. f ≡ flow.now) }
 {
-    with_reply(alloc, flow, copied_reply(alloc, flow))
+    let address = Vec::from_slice(alloc, flow.address())?;
+    copied_by(alloc, flow, flow.to(), address)
 }
 
 // The flow as it goes after the split.

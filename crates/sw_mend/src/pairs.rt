@@ -7,10 +7,11 @@ ghost use Rattle.sw_mend.specs.declared.change.Pair.{Pair};
 
 use crate::change::{Change, Pair};
 use crate::listing::removals;
+use crate::mending::is_freed;
 use crate::rebuilt::network_with_all;
 use std::alloc::{AllocError, Global};
 use sw_config::Network;
-use sw_search::{VerdictWorkers, is_free};
+use sw_search::VerdictWorkers;
 
 // Do both changes free the network?
 fn frees_both<W: VerdictWorkers>(
@@ -23,7 +24,7 @@ fn frees_both<W: VerdictWorkers>(
     ensures { IfOk result (λ b. IsTrue b ↔ FreesBoth network.now (record { first = first.now; second = second.now })) }
 {
     let changed = network_with_all(alloc, network, &[*first, *second])?;
-    is_free(workers, alloc, &changed)
+    is_freed(workers, alloc, changed)
 }
 
 // The pair of the changes, if they free the network.

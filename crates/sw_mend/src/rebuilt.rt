@@ -52,8 +52,13 @@ fn without_flows(
     // Names the network, which is valid by its type.
     let _topology = network.topology();
     let mut builder = NetworkBuilder::new(alloc);
-    add_parts(alloc, network, changes, &mut builder)?;
-    wired(alloc, builder)
+    match add_parts(alloc, network, changes, &mut builder) {
+        Ok(()) => wired(alloc, builder),
+        Err(refused) => {
+            drop(builder);
+            Err(refused)
+        }
+    }
 }
 
 /// The network that the changes leave, one after the other: what is left after the first keeps its number for the next. The changed network
@@ -70,8 +75,13 @@ pub fn network_with_all(
     ensures { IfOk result (λ n. n ≡ changed_by_all network.now changes.now) }
 {
     let mut built = without_flows(alloc, network, changes)?;
-    add_flows(alloc, network, changes, &mut built)?;
-    Ok(built)
+    match add_flows(alloc, network, changes, &mut built) {
+        Ok(()) => Ok(built),
+        Err(refused) => {
+            drop(built);
+            Err(refused)
+        }
+    }
 }
 
 /// The network that the change leaves.

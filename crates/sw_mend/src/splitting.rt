@@ -21,8 +21,11 @@ fn is_taken(alloc: Global, network: &Network, name: &str) -> Result<bool, AllocE
     ensures { IfOk result (λ b. b ≡ list_any (bytes_eq name.now) (part_names network.now)) }
 {
     let mut builder = NetworkBuilder::new(alloc);
-    add_parts(alloc, network, &[], &mut builder)?;
-    Ok(builder.has_name(name))
+    let added = add_parts(alloc, network, &[], &mut builder);
+    let taken = builder.has_name(name);
+    drop(builder);
+    added?;
+    Ok(taken)
 }
 
 // The name of the node of its own for the target of that node.
@@ -123,8 +126,13 @@ fn without_flows(
     ensures { IfOk result (IsWired (record (split network.now link.now) { flows = [] })) }
 {
     let mut builder = NetworkBuilder::new(alloc);
-    add_split_parts(alloc, network, link, name, &mut builder)?;
-    wired(alloc, builder)
+    match add_split_parts(alloc, network, link, name, &mut builder) {
+        Ok(()) => wired(alloc, builder),
+        Err(refused) => {
+            drop(builder);
+            Err(refused)
+        }
+    }
 }
 
 // The same with its flows.
@@ -132,17 +140,38 @@ fn with_flows(
     alloc: Global,
     network: &Network,
     link: &TargetLink,
-    built: Option<Network>,
+    mut built: Network,
 ) -> Result<Option<Network>, AllocError>
     requires link { IsTargetLink network.now link.now }
-    requires built { IsWired (record (split network.now link.now) { flows = [] }) built }
+    requires built { built ≡ record (split network.now link.now) { flows = [] } }
+    ensures { IfOk result (λ n. n ≡ Some (split network.now link.now)) }
+{
+    match add_split_flows(alloc, network, link, &mut built) {
+        Ok(()) => Ok(Some(built)),
+        Err(refused) => {
+            drop(built);
+            Err(refused)
+        }
+    }
+}
+
+// The network after the split, whose target's own node has that name, if its wiring has no fault.
+fn split_by_name(
+    alloc: Global,
+    network: &Network,
+    link: &TargetLink,
+    name: &str,
+) -> Result<Option<Network>, AllocError>
+    requires link { IsTargetLink network.now link.now }
+    requires few { length network.now.nodes < MAX_NODES }
+    requires name { option_map (λ e. e.name ++ codes "-target") (slice_get network.now.nodes link.now.node) ≡ Some name.now }
     ensures { IfOk result (IsSplit network.now link.now) }
 {
-    match built {
-        Some(mut built) => {
-            add_split_flows(alloc, network, link, &mut built)?;
-            Ok(Some(built))
-        }
+    if is_taken(alloc, network, name)? {
+        return Ok(None);
+    }
+    match without_flows(alloc, network, link, name)? {
+        Some(built) => with_flows(alloc, network, link, built),
         None => Ok(None),
     }
 }
@@ -160,13 +189,9 @@ pub(crate) fn network_split(
     requires { IsTargetLink network.now link.now }
     ensures { IfOk result (IsSplit network.now link.now) }
 {
-    let name = target_name(alloc, network, link.node)?;
     if network.nodes() >= MAX_NODES {
         return Ok(None);
     }
-    if is_taken(alloc, network, name.as_str())? {
-        return Ok(None);
-    }
-    let built = without_flows(alloc, network, link, name.as_str())?;
-    with_flows(alloc, network, link, built)
+    let name = target_name(alloc, network, link.node)?;
+    split_by_name(alloc, network, link, name.as_str())
 }

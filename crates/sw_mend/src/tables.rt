@@ -27,9 +27,12 @@ fn loses_entry(change: &Change, switch: u16, entry: usize) -> bool
 fn is_lost(changes: &[Change], switch: u16, entry: usize) -> bool
     ensures { result ≡ list_any (λ change. loses_entry change switch entry) changes.now }
 {
-    changes
-        .iter()
-        .any(|change| loses_entry(change, switch, entry))
+    for change in changes {
+        if loses_entry(change, switch, entry) {
+            return true;
+        }
+    }
+    false
 }
 
 // The ports of the set, but that one.

@@ -1,6 +1,6 @@
 -- The places of those that pass, one after another.
 use Rattle.std.proofs.Common.{◌≡◌, ◌∙◌, ◌<◌, ◌≤◌, ◌+◌, ◌++◌, ℕ, suc, Bool, true, false, List, [], ◌∷◌, ap, arith, cond, get_or, length, map, refl, sym, take}
-use Rattle.std.proofs.lemmas.List.{length-take-le, take_more}
+use Rattle.std.proofs.lemmas.List.{append_assoc, length-take-le, map_more, take_more}
 use Rattle.toml.specs.Data.{Members}
 use Rattle.sw_notes.specs.Finding.{places_from}
 
@@ -32,3 +32,10 @@ place_next test f ts i place item before after within is at counted placed =
     ∙ ap (λ n. places_from test 0 (map f (take i ts)) ++ cond (test (f item)) (n ∷ []) []) at
     ∙ ap (λ t. places_from test 0 (map f (take i ts)) ++ cond (test (f t)) (i ∷ []) []) is
     ∙ sym (place_more test f ts i item within)
+
+-- one more turn of a walk that adds an element for each
+pub element_more : {T X : Type 0} (f : T → X) (ts : List T) (i : ℕ) (d : T) (start before after : List X) → i < length ts
+    → before ≡ start ++ map f (take i ts) → after ≡ before ++ f (get_or ts i d) ∷ [] → after ≡ start ++ map f (take (i + 1) ts)
+element_more f ts i d start before after within so_far adds =
+    adds ∙ ap (λ l. l ++ f (get_or ts i d) ∷ []) so_far ∙ append_assoc start (map f (take i ts)) (f (get_or ts i d) ∷ [])
+    ∙ ap (λ l. start ++ l) (sym (map_more f ts i d within))

@@ -1,5 +1,5 @@
 -- Tables and values of a document, by where they stand.
-use Rattle.std.specs.Prelude.{ℕ, List, Option, Some, None, option_and_then}
+use Rattle.std.specs.Prelude.{ℕ, List, Option, Some, option_and_then}
 use Rattle.toml.specs.Data.{Data, Members, get_member, as_table, at}
 use Rattle.sw_toml_table.specs.declared.keys.Key.{Key}
 use Rattle.sw_toml_table.specs.declared.keys.Key.TheVariants as key

@@ -55,19 +55,29 @@ impl Headers {
     }
 }
 
+// The first entry of a list of the document.
+fn first_entry(list: &str) -> Option<Section> {
+    let section = match list {
+        "node" => Section::Node(0),
+        "switch" => Section::Switch(0),
+        "link" => Section::Link(0),
+        "flow" => Section::Flow(0),
+        "packet" => Section::Packet(0),
+        _ => return None,
+    };
+    Some(section)
+}
+
 /// The table at a key of a table, or the first entry of the list there.
 pub(crate) fn child(parent: Section, name: &str) -> Option<Section> {
-    match (parent, name) {
-        (Section::Document, "node") => Some(Section::Node(0)),
-        (Section::Document, "switch") => Some(Section::Switch(0)),
-        (Section::Document, "link") => Some(Section::Link(0)),
-        (Section::Document, "flow") => Some(Section::Flow(0)),
-        (Section::Document, "packet") => Some(Section::Packet(0)),
-        (Section::Node(node), "target") => Some(Section::Target(node)),
-        (Section::Switch(switch), "route") => Some(Section::Route(switch, 0)),
-        (Section::Flow(flow), "reply") => Some(Section::Reply(flow)),
-        _ => None,
-    }
+    let (key, section) = match parent {
+        Section::Document => return first_entry(name),
+        Section::Node(node) => ("target", Section::Target(node)),
+        Section::Switch(switch) => ("route", Section::Route(switch, 0)),
+        Section::Flow(flow) => ("reply", Section::Reply(flow)),
+        _ => return None,
+    };
+    if name == key { Some(section) } else { None }
 }
 
 /// The entry behind this one in its list.

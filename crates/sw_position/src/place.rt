@@ -1,7 +1,6 @@
 //! Where a table or a key stands.
 ghost use Rattle.std.specs.Prelude.{◌≡◌, ◌++◌, ◌<◌, ◌≤◌, All, IfOk, IfSome, IsTrue, Ok, drop, length, option_map, take};
 ghost use Rattle.toml.specs.View.{table_view};
-ghost use Rattle.sw_toml_table.specs.Document.{document_of};
 ghost use Rattle.sw_position.specs.Places.{Holds, IsClosing, IsPiece, IsPlace, ReadsAs, has};
 
 use crate::lookup::{table_of, value_of};
@@ -11,6 +10,7 @@ use crate::walk::proposed;
 use std::alloc::{AllocError, Global};
 use sw_toml_table::{FileFault, read_document};
 use toml::Table;
+use toml_parser::ParseError;
 
 fn has(document: &Table, sought: Sought<'_>) -> bool
     ensures { result ≡ has sought.entry.section (option_map (λ s. s.now) sought.entry.key) (table_view document.now) }
@@ -35,17 +35,6 @@ fn closed(alloc: Global, beginning: &[u8], brackets: &[u8]) -> Result<Vec<u8>, A
     text.extend_from_slice(beginning)?;
     text.extend_from_slice(brackets)?;
     Ok(text)
-}
-
-// The document that the bytes are.
-fn document_of(alloc: Global, bytes: &[u8]) -> Result<Option<Table>, AllocError>
-    ensures { IfOk result (λ o. IfSome o (λ t. document_of bytes.now ≡ Ok (table_view t))) }
-{
-    match read_document(alloc, bytes) {
-        Ok(table) => Ok(Some(table)),
-        Err(FileFault::Text(_)) => Ok(None),
-        Err(FileFault::Memory) => Err(AllocError),
-    }
 }
 
 // The beginning of a text up to an offset.
@@ -81,9 +70,10 @@ fn holds(
         return Ok(false);
     }
     let closed = closed(alloc, beginning(text, offset), brackets)?;
-    match document_of(alloc, &closed)? {
-        Some(document) => Ok(has(&document, sought) == held),
-        None => Ok(false),
+    match read_document(alloc, &closed) {
+        Ok(document) => Ok(has(&document, sought) == held),
+        Err(FileFault::Text(_)) => Ok(false),
+        Err(FileFault::Memory) => Err(AllocError),
     }
 }
 
@@ -94,34 +84,40 @@ fn is_piece(alloc: Global, bytes: &[u8]) -> Result<bool, AllocError>
     if bytes == b"{".as_slice() {
         return Ok(true);
     }
-    let document = document_of(alloc, bytes)?;
-    Ok(document.is_some())
+    match read_document(alloc, bytes) {
+        Ok(_) => Ok(true),
+        Err(FileFault::Text(_)) => Ok(false),
+        Err(FileFault::Memory) => Err(AllocError),
+    }
 }
 
-// Whether the piece that was proposed brings what is sought.
-fn brings(
+// Where the piece that was proposed begins, if it brings what is sought.
+fn place_by(
     alloc: Global,
     text: &[u8],
     sought: Sought<'_>,
     proposal: &Proposal,
-) -> Result<bool, AllocError>
-    ensures { IfOk result (λ b. IsTrue b → IsPlace text.now sought.entry.section (option_map (λ s. s.now) sought.entry.key) proposal.now.from) }
+) -> Result<Option<usize>, AllocError>
+    ensures { IfOk result (λ o. IfSome o (IsPlace text.now sought.entry.section (option_map (λ s. s.now) sought.entry.key))) }
 {
     let from = proposal.from;
     let to = proposal.to;
     if from >= to {
-        return Ok(false);
+        return Ok(None);
     }
     if to > text.len() {
-        return Ok(false);
+        return Ok(None);
     }
-    if !holds(alloc, text, from, &proposal.before, sought, false)? {
-        return Ok(false);
+    if !holds(alloc, text, from, proposal.before(), sought, false)? {
+        return Ok(None);
     }
     if !holds(alloc, text, to, &proposal.behind, sought, true)? {
-        return Ok(false);
+        return Ok(None);
     }
-    is_piece(alloc, piece(text, from, to))
+    if !is_piece(alloc, piece(text, from, to))? {
+        return Ok(None);
+    }
+    Ok(Some(from))
 }
 
 /// Where what is sought begins in the text of a document, if that is found.
@@ -136,11 +132,9 @@ pub fn place_of(alloc: Global, text: &[u8], sought: Sought<'_>) -> Result<Option
     let Ok(words) = std::str::from_utf8(text) else {
         return Ok(None);
     };
-    let Some(proposal) = proposed(alloc, words, sought)? else {
-        return Ok(None);
-    };
-    if brings(alloc, text, sought, &proposal)? {
-        return Ok(Some(proposal.from));
+    match proposed(alloc, words, sought) {
+        Ok(Some(proposal)) => place_by(alloc, text, sought, &proposal),
+        Ok(None) | Err(ParseError::At(_, _, _)) => Ok(None),
+        Err(ParseError::OutOfMemory) => Err(AllocError),
     }
-    Ok(None)
 }

@@ -5,7 +5,7 @@ use crate::sought::Sought;
 use std::alloc::{AllocError, Global};
 use sw_toml_table::Section;
 use toml_parser::text::{first, skip, skip_blank, skip_ws};
-use toml_parser::{Key, ParseError, dotted_key, quoted, unquoted};
+use toml_parser::{ErrorKind, Key, ParseError, dotted_key, quoted, unquoted};
 
 /// A bracket that is open, and the section of the table that it opened, or of the entry that stands next in its list.
 #[derive(Clone, Copy)]
@@ -32,44 +32,29 @@ struct Walk<'a> {
     begun: Option<Begun>,
 }
 
-// The key at the front, and the rest.
-fn read_key(alloc: Global, rest: &str) -> Result<Option<(Key, &str)>, AllocError> {
-    match dotted_key(alloc, rest) {
-        Ok(read) => Ok(Some(read)),
-        Err(ParseError::OutOfMemory) => Err(AllocError),
-        Err(ParseError::At(_, _, _)) => Ok(None),
-    }
-}
-
-// What stands behind the text at the front.
-fn behind_text(alloc: Global, rest: &str) -> Result<Option<&str>, AllocError> {
+// What stands behind the text, number, date, true or false at the front.
+fn behind_scalar(alloc: Global, rest: &str) -> Result<&str, ParseError> {
     if first(rest) != b'"' && first(rest) != b'\'' {
-        return Ok(None);
+        let (_, after) = unquoted(alloc, rest)?;
+        return Ok(after);
     }
-    match quoted(alloc, rest) {
-        Ok((_, after)) => Ok(Some(after)),
-        Err(ParseError::OutOfMemory) => Err(AllocError),
-        Err(ParseError::At(_, _, _)) => Ok(None),
-    }
+    let (_, after) = quoted(alloc, rest)?;
+    Ok(after)
 }
 
-// What stands behind the number, date, true or false at the front.
-fn behind_word(alloc: Global, rest: &str) -> Result<Option<&str>, AllocError> {
-    match unquoted(alloc, rest) {
-        Ok((_, after)) => Ok(Some(after)),
-        Err(ParseError::OutOfMemory) => Err(AllocError),
-        Err(ParseError::At(_, _, _)) => Ok(None),
+// What closes a bracket.
+fn closing(frame: Frame) -> u8 {
+    match frame {
+        Frame::Table(_) => b'}',
+        Frame::List(_) => b']',
     }
 }
 
 // The brackets that close what is open.
-fn closing(alloc: Global, frames: &[Frame]) -> Result<Vec<u8>, AllocError> {
+fn all_closing(alloc: Global, frames: &[Frame]) -> Result<Vec<u8>, AllocError> {
     let mut brackets = Vec::new(alloc);
     for frame in frames.iter().rev() {
-        brackets.push(match frame {
-            Frame::Table(_) => b'}',
-            Frame::List(_) => b']',
-        })?;
+        brackets.push(closing(*frame))?;
     }
     Ok(brackets)
 }
@@ -83,20 +68,6 @@ fn parent_of(section: Option<Section>, path: &[String]) -> Option<Section> {
     parent
 }
 
-fn is_key_sought(sought: Sought<'_>, section: Option<Section>, name: &str) -> bool {
-    match (sought.key, section) {
-        (Some(key), Some(section)) => sought.section == section && key == name,
-        _ => false,
-    }
-}
-
-fn is_table_sought(sought: Sought<'_>, section: Option<Section>) -> bool {
-    match (sought.key, section) {
-        (None, Some(section)) => sought.section == section,
-        _ => false,
-    }
-}
-
 // Begins a piece, unless one was begun.
 fn begin(walk: &mut Walk<'_>, from: usize, before: usize, behind: usize) {
     if walk.begun.is_none() {
@@ -108,6 +79,26 @@ fn begin(walk: &mut Walk<'_>, from: usize, before: usize, behind: usize) {
     }
 }
 
+// Begins a piece at a key, if it is sought.
+fn begin_key(walk: &mut Walk<'_>, section: Option<Section>, name: &str, from: usize, open: usize) {
+    if walk.sought.key == Some(name) && section == Some(walk.sought.section) {
+        begin(walk, from, open, open);
+    }
+}
+
+// Begins a piece at a table, if it is sought.
+fn begin_table(
+    walk: &mut Walk<'_>,
+    section: Option<Section>,
+    from: usize,
+    before: usize,
+    behind: usize,
+) {
+    if walk.sought.key.is_none() && section == Some(walk.sought.section) {
+        begin(walk, from, before, behind);
+    }
+}
+
 // Reads the beginning of a value, or all of it.
 fn value<'t>(
     alloc: Global,
@@ -116,24 +107,19 @@ fn value<'t>(
     section: Option<Section>,
     at: usize,
     rest: &'t str,
-) -> Result<Option<&'t str>, AllocError> {
+) -> Result<&'t str, ParseError> {
     let byte = first(rest);
     if byte == b'[' {
         frames.push(Frame::List(section))?;
-        return Ok(Some(skip(rest, 1)));
+        return Ok(skip(rest, 1));
     }
     if byte == b'{' {
-        if is_table_sought(walk.sought, section) {
-            let open = frames.len();
-            begin(walk, at, open, open.saturating_add(1));
-        }
+        let open = frames.len();
+        begin_table(walk, section, at, open, open.saturating_add(1));
         frames.push(Frame::Table(section))?;
-        return Ok(Some(skip(rest, 1)));
+        return Ok(skip(rest, 1));
     }
-    if byte == b'"' || byte == b'\'' {
-        return behind_text(alloc, rest);
-    }
-    behind_word(alloc, rest)
+    behind_scalar(alloc, rest)
 }
 
 // Begins a piece where this key is sought, and tells the table that it leads to.
@@ -145,13 +131,9 @@ fn note_key(
     key: &Key,
 ) -> Option<Section> {
     let parent = parent_of(section, &key.path);
-    if is_key_sought(walk.sought, parent, key.last.as_str()) {
-        begin(walk, at, open, open);
-    }
+    begin_key(walk, parent, key.last.as_str(), at, open);
     if let Some(part) = key.path.first() {
-        if is_key_sought(walk.sought, section, part.as_str()) {
-            begin(walk, at, open, open);
-        }
+        begin_key(walk, section, part.as_str(), at, open);
     }
     child(parent?, key.last.as_str())
 }
@@ -164,53 +146,47 @@ fn member<'t>(
     section: Option<Section>,
     at: usize,
     rest: &'t str,
-) -> Result<Option<&'t str>, AllocError> {
-    let Some((key, after)) = read_key(alloc, rest)? else {
-        return Ok(None);
-    };
+) -> Result<&'t str, ParseError> {
+    let (key, after) = dotted_key(alloc, rest)?;
     let inner = note_key(walk, frames.len(), section, at, &key);
+    drop(key);
     if first(after) != b'=' {
-        return Ok(None);
+        return Err(ParseError::at(ErrorKind::MissingEquals, after));
     }
     let behind = skip_ws(skip(after, 1));
     let offset = at.saturating_add(rest.len().saturating_sub(behind.len()));
     value(alloc, walk, frames, inner, offset, behind)
 }
 
-// Notes the table of a header.
-fn note_header(walk: &mut Walk<'_>, at: usize, key: &Key, opens: bool) {
-    let mut parent = Some(Section::Document);
-    for part in &key.path {
-        parent = match parent {
-            Some(section) => walk.headers.entered(section, part.as_str(), false),
-            None => None,
-        };
+// The table of all parts of a header but the last.
+fn outer_of(headers: &mut Headers, path: &[String]) -> Option<Section> {
+    let mut parent = Section::Document;
+    for part in path {
+        parent = headers.entered(parent, part.as_str(), false)?;
     }
-    walk.section = match parent {
-        Some(section) => walk.headers.entered(section, key.last.as_str(), opens),
-        None => None,
-    };
-    if opens && is_table_sought(walk.sought, walk.section) {
-        begin(walk, at, 0, 0);
-    }
-    if is_key_sought(walk.sought, parent, key.last.as_str()) {
-        begin(walk, at, 0, 0);
-    }
+    Some(parent)
 }
 
-// What stands behind so many closing brackets.
-fn behind_brackets(rest: &str, two: bool) -> Option<&str> {
+// Notes the table of a header.
+fn note_header(walk: &mut Walk<'_>, at: usize, key: &Key, opens: bool) {
+    let parent = outer_of(&mut walk.headers, &key.path);
+    let section = match parent {
+        Some(outer) => walk.headers.entered(outer, key.last.as_str(), opens),
+        None => None,
+    };
+    walk.section = section;
+    if opens {
+        begin_table(walk, section, at, 0, 0);
+    }
+    begin_key(walk, parent, key.last.as_str(), at, 0);
+}
+
+// What stands behind a closing bracket.
+fn behind_bracket(rest: &str) -> Result<&str, ParseError> {
     if first(rest) != b']' {
-        return None;
+        return Err(ParseError::at(ErrorKind::UnclosedTable, rest));
     }
-    let after = skip(rest, 1);
-    if !two {
-        return Some(after);
-    }
-    if first(after) != b']' {
-        return None;
-    }
-    Some(skip(after, 1))
+    Ok(skip(rest, 1))
 }
 
 // Reads a header, behind its first bracket.
@@ -219,14 +195,18 @@ fn header<'t>(
     walk: &mut Walk<'_>,
     at: usize,
     rest: &'t str,
-) -> Result<Option<&'t str>, AllocError> {
+) -> Result<&'t str, ParseError> {
     let opens = first(rest) == b'[';
     let inner = if opens { skip(rest, 1) } else { rest };
-    let Some((key, after)) = read_key(alloc, skip_ws(inner))? else {
-        return Ok(None);
-    };
+    let (key, after) = dotted_key(alloc, skip_ws(inner))?;
     note_header(walk, at, &key, opens);
-    Ok(behind_brackets(after, opens))
+    drop(key);
+    let behind = behind_bracket(after)?;
+    if opens {
+        behind_bracket(behind)
+    } else {
+        Ok(behind)
+    }
 }
 
 // Reads what comes next in a list.
@@ -237,7 +217,7 @@ fn item<'t>(
     section: Option<Section>,
     at: usize,
     rest: &'t str,
-) -> Result<Option<&'t str>, AllocError> {
+) -> Result<&'t str, ParseError> {
     let byte = first(rest);
     if byte != b']' && byte != b',' {
         return value(alloc, walk, frames, section, at, rest);
@@ -246,7 +226,7 @@ fn item<'t>(
     if byte == b',' {
         frames.push(Frame::List(section.map(next_entry)))?;
     }
-    Ok(Some(skip(rest, 1)))
+    Ok(skip(rest, 1))
 }
 
 // Reads the next part of the text.
@@ -256,7 +236,7 @@ fn turn<'t>(
     frames: &mut Vec<Frame>,
     at: usize,
     rest: &'t str,
-) -> Result<Option<&'t str>, AllocError> {
+) -> Result<&'t str, ParseError> {
     let byte = first(rest);
     match frames.last().copied() {
         None => {
@@ -270,37 +250,58 @@ fn turn<'t>(
         Some(Frame::Table(section)) => {
             if byte == b'}' {
                 let _ = frames.pop();
-                return Ok(Some(skip(rest, 1)));
+                return Ok(skip(rest, 1));
             }
             if byte == b',' {
-                return Ok(Some(skip(rest, 1)));
+                return Ok(skip(rest, 1));
             }
             member(alloc, walk, frames, section, at, rest)
         }
     }
 }
 
-// The piece that ends here.
-fn ended(
+// The piece that was begun, if it ends where so many brackets are open.
+fn ended(walk: &Walk<'_>, open: usize) -> Option<Begun> {
+    match walk.begun {
+        Some(begun) if begun.behind == open => Some(begun),
+        _ => None,
+    }
+}
+
+// The piece that was begun, and ends here.
+fn proposal(
     alloc: Global,
-    walk: &Walk<'_>,
+    begun: Begun,
     frames: &[Frame],
     to: usize,
-) -> Result<Option<Proposal>, AllocError> {
-    let Some(begun) = walk.begun else {
-        return Ok(None);
-    };
-    if begun.behind != frames.len() || begun.before > frames.len() {
-        return Ok(None);
-    }
-    let behind = closing(alloc, frames)?;
-    let before = closing(alloc, &frames[..begun.before])?;
+) -> Result<Option<Proposal>, ParseError> {
+    let behind = all_closing(alloc, frames)?;
     Ok(Some(Proposal {
         from: begun.from,
         to,
-        before,
+        open: begun.before,
         behind,
     }))
+}
+
+// Walks on to the end of the piece that is begun first.
+fn walk_on(
+    alloc: Global,
+    walk: &mut Walk<'_>,
+    frames: &mut Vec<Frame>,
+    text: &str,
+) -> Result<Option<Proposal>, ParseError> {
+    let mut rest = text;
+    for _ in 0..text.len() {
+        rest = skip_blank(rest, true);
+        let at = text.len().saturating_sub(rest.len());
+        rest = turn(alloc, walk, frames, at, rest)?;
+        if let Some(begun) = ended(walk, frames.len()) {
+            let to = text.len().saturating_sub(rest.len());
+            return proposal(alloc, begun, frames, to);
+        }
+    }
+    Ok(None)
 }
 
 /// The place that a walk over the text meets first for what is sought.
@@ -308,7 +309,7 @@ pub(crate) fn proposed(
     alloc: Global,
     text: &str,
     sought: Sought<'_>,
-) -> Result<Option<Proposal>, AllocError> {
+) -> Result<Option<Proposal>, ParseError> {
     let mut walk = Walk {
         sought,
         headers: Headers::new(),
@@ -316,18 +317,5 @@ pub(crate) fn proposed(
         begun: None,
     };
     let mut frames = Vec::new(alloc);
-    let mut rest = text;
-    for _ in 0..text.len() {
-        rest = skip_blank(rest, true);
-        let at = text.len().saturating_sub(rest.len());
-        let Some(more) = turn(alloc, &mut walk, &mut frames, at, rest)? else {
-            return Ok(None);
-        };
-        rest = more;
-        let to = text.len().saturating_sub(rest.len());
-        if let Some(proposal) = ended(alloc, &walk, &frames, to)? {
-            return Ok(Some(proposal));
-        }
-    }
-    Ok(None)
+    walk_on(alloc, &mut walk, &mut frames, text)
 }

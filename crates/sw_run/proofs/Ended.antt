@@ -1,5 +1,6 @@
 -- From the journal at the end of a run to the outcome.
-use Rattle.std.proofs.Common.{List, ap, arith, length, subst, sym, ℕ, ◌∙◌, ◌≡◌, ◌≤◌}
+use Rattle.std.proofs.Common.{IfOk, List, Result, ap, arith, length, subst, sym, ℕ, ◌∙◌, ◌≡◌, ◌≤◌}
+use Rattle.std.specs.declared.alloc.AllocError.{AllocError}
 use Rattle.sw_history.proofs.Follows.{one_state_after}
 use Rattle.sw_journal.specs.Asked.{IsUndelivered}
 use Rattle.sw_journal.specs.Record.{JournalView, LeadsTo}
@@ -30,7 +31,7 @@ module _ (j : JournalView) (s : State) (o : Outcome) (leads : LeadsTo j s) (with
     });
   }
 
-  by_journal : EndsBy j o.stop → AreOutBy j (length j.declared.nodes) (came_out_of o) → IsUndelivered j o.undelivered → IsOutcome j.declared j.load j.limit o
+  pub by_journal : EndsBy j o.stop → AreOutBy j (length j.declared.nodes) (came_out_of o) → IsUndelivered j o.undelivered → IsOutcome j.declared j.load j.limit o
   by_journal ends out left = record {
     state = s;
     history = subst (λ l. IsHistory (network_of j.declared) (packets_of j.load) l s) (sym steps) leads;
@@ -43,11 +44,9 @@ module _ (j : JournalView) (s : State) (o : Outcome) (leads : LeadsTo j s) (with
     memory = λ e. unfinished (subst (EndsBy j) e ends) left;
   }
 
-  -- the same of the network, load and limit that the journal is of
-  pub is_outcome : (d : Declaration) (load : List LoadEntry) (limit nodes : ℕ) → j.declared ≡ d → j.load ≡ load → j.limit ≡ limit → nodes ≡ length d.nodes
-      → EndsBy j o.stop → AreOutBy j nodes (came_out_of o) → IsUndelivered j o.undelivered → IsOutcome d load limit o
-  is_outcome d load limit nodes same_network same_load same_limit all ends out left =
-      let all_nodes : nodes ≡ length j.declared.nodes = all ∙ ap (λ (x : Declaration). length x.nodes) (sym same_network) in
-      let is = by_journal ends (subst (λ n. AreOutBy j n (came_out_of o)) all_nodes out) left in
-      subst (λ x. IsOutcome x load limit o) same_network
-      (subst (λ x. IsOutcome j.declared x limit o) same_load (subst (λ x. IsOutcome j.declared j.load x o) same_limit is))
+-- the same of the network, load and limit that the journal is of
+pub of_run : (j : JournalView) (d : Declaration) (load : List LoadEntry) (limit : ℕ) (r : Result Outcome AllocError) → j.declared ≡ d → j.load ≡ load → j.limit ≡ limit
+    → IfOk r (IsOutcome j.declared j.load j.limit) → IfOk r (IsOutcome d load limit)
+of_run j d load limit r same_network same_load same_limit is =
+    subst (λ x. IfOk r (IsOutcome x load limit)) same_network
+    (subst (λ x. IfOk r (IsOutcome j.declared x limit)) same_load (subst (λ x. IfOk r (IsOutcome j.declared j.load x)) same_limit is))

@@ -1,5 +1,6 @@
 -- Grants by arbiters.
-use Rattle.std.proofs.Common.{IsBitSet, IsSome, List, Option, Some, ap, false, length, refl, subst, sym, true, ℕ, ◌<◌, ◌∙◌, ◌≡◌}
+use Rattle.atomic_table.specs.Seated.{TableId}
+use Rattle.std.proofs.Common.{Err, IsBitSet, IsSome, List, None, Ok, Option, Result, Some, ap, false, length, refl, subst, sym, true, ℕ, ◌<◌, ◌∙◌, ◌≡◌}
 use Rattle.std.specs.Prelude.{slice_get}
 use Rattle.sw_arb.specs.declared.policy.Policy.{Policy}
 use Rattle.sw_cell.proofs.Switches.{ends_at, one_end, port_small}
@@ -10,14 +11,17 @@ use Rattle.sw_config.specs.Entries.{Declaration, wiring_of}
 use Rattle.sw_config.specs.Valid.{IsValid}
 use Rattle.sw_flow.specs.Places.{end_of, ends_of}
 use Rattle.sw_journal.specs.Choices.{IsNext, IsStepOf}
-use Rattle.sw_journal.specs.Record.{CanCommit, JournalView, with_step}
+use Rattle.sw_journal.specs.Record.{CanCommit, CellView, Commits, JournalView, with_step}
+use Rattle.sw_journal.specs.declared.fault.JournalFault.{JournalFault}
+use Rattle.sw_journal.specs.declared.fault.JournalFault.TheVariants.{Full, Memory, NotEnabled}
+use Rattle.sw_load.specs.Load.{LoadEntry}
 use Rattle.sw_machine.specs.Network.{AtSwitch}
 use Rattle.sw_machine.specs.Parts.{link_end_of}
 use Rattle.sw_machine.specs.Steps as steps
 use Rattle.sw_model.specs.Model.{network_of}
 use Rattle.sw_net.specs.Asking.{IsInput}
-use Rattle.sw_run.specs.Arbiters.{PicksAt}
-use Rattle.sw_run.specs.Grants.{Advances, AreAskers, Grants, HasGranted, HasMoved, IsDecided, IsPicked, Takes, is_grant}
+use Rattle.sw_run.specs.Arbiters.{HasArbiters, PicksAt}
+use Rattle.sw_run.specs.Grants.{Advances, AreAskers, Grants, HasGranted, HasMoved, IsDecided, IsOutputOf, IsPicked, StandsAt, Takes, is_grant, turn_of}
 use Rattle.sw_run.specs.declared.turn.Turn.{Turn}
 use Rattle.sw_run.specs.declared.turn.Turn.TheVariants.{Idle, Moved, Over, Sent}
 use Rattle.sw_topo.proofs.Ends.{partner_back, port_found, port_starts}
@@ -72,6 +76,64 @@ granted j k id arbiters picked after e c Moved takes can is same room = record {
 granted j k id arbiters picked after e c (Sent at) takes can is same room = record { channel = c; next = can.1; made = takes.1; picked = subst (IsPicked j arbiters e c) (sym same) is }
 granted j k id arbiters picked after e c Idle takes can is same room = absurd (takes.0 can)
 granted j k id arbiters picked after e c Over takes can is same room = (takes, λ full. absurd (room full))
+
+-- ---- where nothing is granted
+
+no_bit : (port : ℕ) → IsBitSet 0 port → ⊥
+no_bit port set = set refl
+
+no_askers : (j : JournalView) (id : CellId) (e : ℕ) → StandsAt j.declared id e None → IsOutputOf j.declared id e → AreAskers j e 0
+no_askers j id e elsewhere output = record {
+  asks = λ port set. absurd (no_bit port set);
+  no_others = λ port c is unset. absurd (elsewhere is.switch is.output is.starts (output is.switch is.output is.starts));
+}
+
+pub grants_elsewhere : (j : JournalView) (id : CellId) (arbiters : List Policy) (e : ℕ) → StandsAt j.declared id e None → Grants j id arbiters e Idle j arbiters
+grants_elsewhere j id arbiters e elsewhere = (no_askers j id e elsewhere, refl, refl)
+
+pub grants_none : (j : JournalView) (id : CellId) (arbiters : List Policy) (e asking : ℕ) → asking ≡ 0 → AreAskers j e asking → Grants j id arbiters e Idle j arbiters
+grants_none j id arbiters e asking none ask = (λ output. subst (AreAskers j e) none ask, refl, refl)
+
+pub grants_full : (j : JournalView) (id : CellId) (arbiters : List Policy) (e : ℕ) → Grants j id arbiters e Over j arbiters
+grants_full j id arbiters e = (refl, λ full. refl)
+
+-- ---- what a commit answers
+
+module _ (j k : JournalView) (cell after : CellView) (step : steps.Step) where
+  pub takes : (made : Result Unit JournalFault) (sent : Option ℕ) (turn : Turn) → turn ≡ turn_of made sent → Commits j cell step made k after → Takes j cell.id step turn k
+  takes made sent turn is c = subst (λ t. Takes j cell.id step t k) (sym is) (by_answer made sent c)
+    where
+      by_answer : (made : Result Unit JournalFault) (sent : Option ℕ) → Commits j cell step made k after → Takes j cell.id step (turn_of made sent) k
+      by_answer (Ok done) None c = (c.0, c.2)
+      by_answer (Ok done) (Some at) c = (c.0, c.2)
+      by_answer (Err NotEnabled) sent c = (c.0, c.1)
+      by_answer (Err Full) sent c = c.2
+      by_answer (Err Memory) sent c = c.2
+
+  pub same_id : (made : Result Unit JournalFault) → Commits j cell step made k after → after.id ≡ cell.id
+  same_id (Ok done) c = c.3.id
+  same_id (Err NotEnabled) c = ap (λ (v : CellView). v.id) c.2
+  same_id (Err Full) c = ap (λ (v : CellView). v.id) c.3
+  same_id (Err Memory) c = ap (λ (v : CellView). v.id) c.3
+
+  pub same_name : (made : Result Unit JournalFault) → Commits j cell step made k after → after.name ≡ cell.name
+  same_name (Ok done) c = c.3.name
+  same_name (Err NotEnabled) c = ap (λ (v : CellView). v.name) c.2
+  same_name (Err Full) c = ap (λ (v : CellView). v.name) c.3
+  same_name (Err Memory) c = ap (λ (v : CellView). v.name) c.3
+
+  pub keeps_arbiters : (made : Result Unit JournalFault) (d : Declaration) (arbiters : List Policy) → Commits j cell step made k after → HasArbiters d cell.id arbiters → HasArbiters d after.id arbiters
+  keeps_arbiters made d arbiters c has = subst (λ id. HasArbiters d id arbiters) (sym (same_id made c)) has
+
+  -- the journal is still that of the run
+  abbrev IsOf : TableId → Declaration → List LoadEntry → ℕ → JournalView → Type 0
+  IsOf name d load limit v = (v.name ≡ name) × (v.declared ≡ d) × (v.load ≡ load) × (v.limit ≡ limit)
+
+  pub same_run : (made : Result Unit JournalFault) (name : TableId) (d : Declaration) (load : List LoadEntry) (limit : ℕ) → Commits j cell step made k after → IsOf name d load limit j → IsOf name d load limit k
+  same_run (Ok done) name d load limit c is = subst (IsOf name d load limit) (sym c.2) is
+  same_run (Err NotEnabled) name d load limit c is = subst (IsOf name d load limit) (sym c.1) is
+  same_run (Err Full) name d load limit c is = subst (IsOf name d load limit) (sym c.2) is
+  same_run (Err Memory) name d load limit c is = subst (IsOf name d load limit) (sym c.2) is
 
 same_history : (j k : JournalView) → k ≡ j → k.history ≡ j.history
 same_history j k e = ap (λ (v : JournalView). v.history) e

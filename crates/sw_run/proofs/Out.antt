@@ -1,5 +1,5 @@
 -- The packets that came out, node by node.
-use Rattle.std.proofs.Common.{List, Some, [], ap, arith, length, map, subst, suc, sym, zero, ℕ, ◌++◌, ◌+◌, ◌∙◌, ◌∷◌, ◌≡◌}
+use Rattle.std.proofs.Common.{List, Some, [], ap, arith, length, map, refl, subst, suc, sym, zero, ℕ, ◌++◌, ◌+◌, ◌∙◌, ◌∷◌, ◌≡◌}
 use Rattle.std.proofs.lemmas.List.{length-append, map-append}
 use Rattle.std.proofs.lemmas.Option.{same_Some}
 use Rattle.std.specs.Prelude.{slice_get}
@@ -14,6 +14,10 @@ with_last P [] x h last zero y e = subst (P zero) (same_Some x y e) last
 with_last P [] x h last (suc n) y e = absurd cc
 with_last P (z ∷ xs) x h last zero y e = h zero y e
 with_last P (z ∷ xs) x h last (suc n) y e = with_last (λ m. P (suc m)) xs x (λ m. h (suc m)) last n y e
+
+-- of no nodes
+pub out_none : {V : Type 0} (items : V → List Packet) (s : State) (all : List V) → all ≡ [] → AreOut 0 s (map items all)
+out_none items s all e = subst (λ l. AreOut 0 s (map items l)) (sym e) (record { all_nodes = refl; out = λ n packets at. absurd cc })
 
 -- with those of one node more
 pub out_more : {V : Type 0} (items : V → List Packet) (s : State) (n : ℕ) (all longer : List V) (packets : V) → AreOut n s (map items all) → CameOut s n (items packets) → longer ≡ all ++ packets ∷ []

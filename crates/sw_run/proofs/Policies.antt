@@ -1,7 +1,8 @@
 -- The arbiters of a run's switches.
-use Rattle.std.proofs.Common.{All, Err, IfOk, IsBitSet, IsSome, List, Ok, Result, Some, ap, length, refl, subst, sym, ℕ, ◌<◌, ◌∙◌, ◌≡◌}
+use Rattle.std.proofs.Common.{All, Err, IfOk, IsBitSet, IsSome, List, Ok, Result, Some, ap, get_or, length, refl, subst, sym, ℕ, ◌<◌, ◌∙◌, ◌≡◌}
 use Rattle.std.proofs.lemmas.List.{length-set}
 use Rattle.std.proofs.lemmas.List.Elements.{All-set, All-weaker}
+use Rattle.std.proofs.lemmas.Option.{slice_get-get_or}
 use Rattle.std.specs.Global.{Vec}
 use Rattle.std.specs.Prelude.{option_map, slice_get, slice_set}
 use Rattle.std.specs.declared.alloc.AllocError.{AllocError}
@@ -53,6 +54,9 @@ same_switch v w e = cc
 
 no_switch : (n w : ℕ) → AtNode n ≡ AtSwitch w → ⊥
 no_switch n w e = absurd cc
+
+pub found : (arbiters : List Policy) (out number : ℕ) (a : Policy) → number ≡ out → out < length arbiters → a ≡ get_or arbiters number a → slice_get arbiters out ≡ Some a
+found arbiters out number a same lt is = slice_get-get_or arbiters out a lt ∙ ap Some (ap (λ k. get_or arbiters k a) (sym same) ∙ sym is)
 
 module _ (d : Declaration) where
   is_for : (w : ℕ) (a : Policy) → IsNewFor d w a → IsArbiterFor d w a

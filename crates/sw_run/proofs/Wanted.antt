@@ -1,14 +1,13 @@
 -- What is wanted may follow.
-use Rattle.std.proofs.Common.{Bool, List, None, Option, Some, [], ap, arith, cond, false, le-leb, leb-true, nat_le, refl, suc, sym, true, zero, ℕ, ◌∙◌, ◌∷◌, ◌≡◌, ◌≤◌}
-use Rattle.std.specs.Prelude.{IsSome, find, if◌then◌else◌, nat_eq, option_map, slice_get, ◌&&◌}
+use Rattle.std.proofs.Common.{Bool, List, None, Option, Some, [], ap, arith, cond, false, le-leb, leb-true, nat_le, refl, subst, suc, sym, true, zero, ℕ, ◌∙◌, ◌∷◌, ◌≡◌, ◌≤◌}
+use Rattle.std.specs.Prelude.{IsSome, find, nat_eq, option_map, slice_get, ◌&&◌}
 use Rattle.sw_journal.proofs.FctNumbers.{decided, known}
 use Rattle.sw_journal.specs.Cells.{end_numbers}
 use Rattle.sw_journal.specs.Record.{CanCommit, CellView, IsNowCell, IsTrueView, JournalView}
 use Rattle.sw_machine.specs.Network.{reverse_of}
 use Rattle.sw_machine.specs.Steps as machine
-use Rattle.sw_model.specs.declared.step.Step.TheVariants.{Fct}
 use Rattle.sw_net.specs.declared.numbers.Numbers.{Numbers}
-use Rattle.sw_run.specs.Wanted.{TellsOf, TellsWhatMayFollow, wanted_fct}
+use Rattle.sw_run.specs.Wanted.{TellsOf, TellsWhatMayFollow, wants_by}
 use Rattle.sw_topo.specs.Wiring.{partner}
 
 reverse_back : (e : ℕ) → reverse_of (partner e) ≡ e
@@ -19,7 +18,7 @@ module _ (cell : CellView) (end : ℕ) (j : JournalView) (ok : IsTrueView j) (no
   May = CanCommit j cell.id (machine.Fct (partner end))
 
   by_tests : (n : Numbers) → (May → (8 ≤ n.room) × (n.outstanding ≤ 48)) → ((8 ≤ n.room) × (n.outstanding ≤ 48) → May) → (a b : Bool) → nat_le 8 n.room ≡ a → nat_le n.outstanding 48 ≡ b
-      → TellsOf j cell end (if a && b then Some (Fct (partner end)) else None)
+      → TellsOf j cell end (a && b)
   by_tests n there back true true room few = back (leb-true 8 n.room room, leb-true n.outstanding 48 few)
   by_tests n there back true false room few = λ may.
       let bad : false ≡ true = sym few ∙ le-leb n.outstanding 48 (there may).1 in
@@ -28,7 +27,7 @@ module _ (cell : CellView) (end : ℕ) (j : JournalView) (ok : IsTrueView j) (no
       let bad : false ≡ true = sym room ∙ le-leb 8 n.room (there may).0 in
       absurd cc
 
-  by_numbers : (o : Option Numbers) → end_numbers cell.ends end ≡ o → TellsOf j cell end (wanted_fct end o)
+  by_numbers : (o : Option Numbers) → end_numbers cell.ends end ≡ o → TellsOf j cell end (wants_by o)
   by_numbers None is = λ may.
       let some : IsSome (end_numbers cell.ends (reverse_of (partner end))) = known j ok cell now (partner end) may in
       let none = ap (end_numbers cell.ends) (reverse_back end) ∙ is in
@@ -41,8 +40,8 @@ module _ (cell : CellView) (end : ℕ) (j : JournalView) (ok : IsTrueView j) (no
       let may = decided j ok cell now (partner end) n (ap (end_numbers cell.ends) (reverse_back end) ∙ is) in
       by_tests n may.0 may.1 (nat_le 8 n.room) (nat_le n.outstanding 48) refl refl
 
-pub tells : (cell : CellView) (end : ℕ) → TellsWhatMayFollow cell end (wanted_fct end (end_numbers cell.ends end))
-tells cell end = λ j ok now. by_numbers cell end j ok now (end_numbers cell.ends end) refl
+pub tells : (cell : CellView) (end : ℕ) (o : Option Numbers) (wants : Bool) → o ≡ end_numbers cell.ends end → wants ≡ wants_by o → TellsWhatMayFollow cell end wants
+tells cell end o wants numbers is = λ j ok now. subst (TellsOf j cell end) (sym is) (by_numbers cell end j ok now o (sym numbers))
 
 -- ---- a link end that stands at a place of the list has numbers there
 
@@ -54,9 +53,18 @@ later_has : (end : ℕ) (q : ℕ × Numbers) (ends : List (ℕ × Numbers)) (b :
 later_has end q ends true has = refl
 later_has end q ends false has = has
 
-pub has_numbers : (end : ℕ) (ends : List (ℕ × Numbers)) (k : ℕ) (p : ℕ × Numbers) → slice_get ends k ≡ Some p → nat_eq p.0 end ≡ true → IsSome (end_numbers ends end)
+has_numbers : (end : ℕ) (ends : List (ℕ × Numbers)) (k : ℕ) (p : ℕ × Numbers) → slice_get ends k ≡ Some p → nat_eq p.0 end ≡ true → IsSome (end_numbers ends end)
 has_numbers end [] k p at is = absurd cc
 has_numbers end (q ∷ ends) zero p at is =
     let same : p ≡ q = cc in
     first_has end q ends (nat_eq q.0 end) (ap (λ (x : ℕ × Numbers). nat_eq x.0 end) (sym same) ∙ is)
 has_numbers end (q ∷ ends) (suc k) p at is = later_has end q ends (nat_eq q.0 end) (has_numbers end ends k p at is)
+
+placed : (end at : ℕ) (ends : List (ℕ × Numbers)) (k : ℕ) (o : Option (ℕ × Numbers)) → slice_get ends k ≡ o → option_map (λ (p : ℕ × Numbers). p.0) o ≡ Some at → nat_eq at end ≡ true → IsSome (end_numbers ends end)
+placed end at ends k None here is same = absurd cc
+placed end at ends k (Some p) here is same =
+    let one : p.0 ≡ at = cc in
+    has_numbers end ends k p here (ap (λ m. nat_eq m end) one ∙ same)
+
+pub numbered : (end at : ℕ) (ends : List (ℕ × Numbers)) (k : ℕ) → Some at ≡ option_map (λ (p : ℕ × Numbers). p.0) (slice_get ends k) → nat_eq at end ≡ true → IsSome (end_numbers ends end)
+numbered end at ends k is same = placed end at ends k (slice_get ends k) refl (sym is) same

@@ -1,5 +1,5 @@
 -- How a run grants the outputs of its switches.
-use Rattle.std.specs.Prelude.{Bool, List, None, Option, Some, false, length, slice_get, true, ℕ, ◌≡◌}
+use Rattle.std.specs.Prelude.{Bool, Err, List, None, Ok, Option, Result, Some, false, length, slice_get, true, ℕ, ◌≡◌}
 use Rattle.sw_arb.specs.declared.policy.Policy.{Policy}
 use Rattle.sw_cell.specs.Places.{machine_cell}
 use Rattle.sw_cell.specs.declared.cell.CellId.{CellId}
@@ -8,6 +8,8 @@ use Rattle.sw_flow.specs.Places.{ends_of}
 use Rattle.sw_history.specs.Asking.{AreAsking}
 use Rattle.sw_journal.specs.Choices.{IsNext, IsStepOf}
 use Rattle.sw_journal.specs.Record.{CanCommit, JournalView, with_step}
+use Rattle.sw_journal.specs.declared.fault.JournalFault.{JournalFault}
+use Rattle.sw_journal.specs.declared.fault.JournalFault.TheVariants.{Full, Memory, NotEnabled}
 use Rattle.sw_load.specs.History.{packets_of}
 use Rattle.sw_machine.specs.Network.{AtSwitch}
 use Rattle.sw_machine.specs.Steps.{Fct, Grant, Step}
@@ -67,6 +69,11 @@ pub record HasGranted (j : JournalView) (arbiters : List Policy) (e : ℕ) (k : 
 abbrev pub IsOutputOf : Declaration → CellId → ℕ → Type 0
 IsOutputOf d id e = (w out : ℕ) → slice_get (ends_of d) e ≡ Some (Switch w out) → machine_cell id ≡ AtSwitch w
 
+-- Some: the link end stands at this port of that switch, which is this cell; None: it stands at no port of the cell's
+abbrev pub StandsAt : Declaration → CellId → ℕ → Option (ℕ × ℕ) → Type 0
+StandsAt d id e (Some o) = (slice_get (ends_of d) e ≡ Some (Switch o.0 o.1)) × (machine_cell id ≡ AtSwitch o.0)
+StandsAt d id e None = (w out : ℕ) → slice_get (ends_of d) e ≡ Some (Switch w out) → machine_cell id ≡ AtSwitch w → ⊥
+
 -- What a grant of an output of the cell does. Moved, Sent: it is granted; Idle: no input asks, and nothing has changed; Over, which is told
 -- where the run is over: it is not granted, and where the journal is full, no arbiter has changed.
 abbrev pub Grants : JournalView → CellId → List Policy → ℕ → Turn → JournalView → List Policy → Type 0
@@ -82,6 +89,14 @@ Takes j id step Moved k = CanCommit j id step × (k ≡ with_step j step)
 Takes j id step (Sent at) k = CanCommit j id step × (k ≡ with_step j step)
 Takes j id step Idle k = (CanCommit j id step → ⊥) × (k ≡ j)
 Takes j id step Over k = k ≡ j
+
+-- what a turn was in which the journal answered so to a step, which sends something over the link of that link end, or over none
+abbrev pub turn_of : Result Unit JournalFault → Option ℕ → Turn
+turn_of (Ok done) None = Moved
+turn_of (Ok done) (Some at) = Sent at
+turn_of (Err NotEnabled) sent = Idle
+turn_of (Err Full) sent = Over
+turn_of (Err Memory) sent = Over
 
 -- what a call does that is to send the FCT of that link end of the cell, if it is given one
 abbrev pub Begins : JournalView → CellId → Option ℕ → Turn → JournalView → Type 0

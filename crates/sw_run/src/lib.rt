@@ -8,6 +8,7 @@ pub mod laws;
 mod locked_cell;
 mod locked_journal;
 mod naps;
+mod notes;
 mod outcome;
 mod progress;
 mod run_identity;

@@ -1,7 +1,8 @@
 //! The journal under its lock.
-ghost use Rattle.std.specs.Prelude.{◌≡◌, ◌≢◌, ◌⊎◌, ◌*◌, ◌<◌, IfOk, Some, length, map, slice_get};
+ghost use Rattle.std.specs.Prelude.{◌≡◌, ◌≢◌, ◌*◌, ◌<◌, IfOk, IsSome, Some, length, map, slice_get, true, []};
 ghost use Rattle.sw_cell.specs.Places.{machine_cell};
 ghost use Rattle.sw_flow.specs.Places.{ends_of};
+ghost use Rattle.sw_journal.specs.Cells.{end_numbers};
 ghost use Rattle.sw_journal.specs.Record.{CanCommit};
 ghost use Rattle.sw_machine.specs.Network.{AtSwitch};
 ghost use Rattle.sw_machine.specs.Parts.{link_end_of};
@@ -9,10 +10,12 @@ ghost use Rattle.sw_machine.specs.Steps.{Grant};
 ghost use Rattle.sw_model.specs.Model.{network_of};
 ghost use Rattle.sw_model.specs.Steps.{machine_step};
 ghost use Rattle.sw_run.specs.Ends.{AreOutBy, EndsBy};
-ghost use Rattle.sw_run.specs.Grants.{Advances, AreAskers, Begins, Grants, IsPicked, Takes, is_grant};
-ghost use Rattle.sw_run.specs.declared.turn.Turn.TheVariants.{Idle, Over};
+ghost use Rattle.sw_run.specs.Grants.{Advances, AreAskers, Begins, Grants, IsPicked, StandsAt, Takes, is_grant};
+ghost use Rattle.sw_run.specs.Outcomes.{IsOutcome};
 
-use crate::locked_cell::LockedCell;
+use crate::arbiters::pick_at;
+use crate::locked_cell::{LockedCell, has_at};
+use crate::notes::Notes;
 use crate::outcome::{Outcome, Stop};
 use crate::run_identity::RunIdentity;
 use crate::turn::Turn;
@@ -21,88 +24,40 @@ use std::marker::PhantomData;
 use sw_cell::CellId;
 use sw_char::Packet;
 use sw_config::Network;
-use sw_journal::{Journal, JournalFault};
+use sw_journal::{Cell, Journal};
 use sw_model::Step;
 use sw_topo::{Chan, LinkEnd, PlaceEnd, Port, PortSet};
 
-/// The journal of one run, and why the run is over, if it is.
+/// The journal of one run, and what is noted beside it.
 #[derive(Drop)]
 pub(crate) struct LockedJournal<'a, W: RunIdentity> {
     network: &'a Network,
     journal: Journal<'a>,
     limit: usize,
-    nodes: u16,
-    ends: u16,
-    /// So many link ends at least have no mark at the present length.
-    awake: u16,
-    stop: Option<Stop>,
-    /// By link end, to which link end the output was granted last that its input holds.
-    outputs: Vec<LinkEnd>,
+    pub(crate) notes: Notes,
     of: PhantomData<W>,
     ghost network_is: { network.now ≡ W.declared },
     ghost identity_is: { (journal.name ≡ W.name) × (journal.declared ≡ W.declared) × (journal.load ≡ W.load) × (journal.limit ≡ W.limit) },
     ghost limit_is: { limit ≡ W.limit },
-    ghost nodes_is: { nodes ≡ length W.declared.nodes },
-    ghost ends_is: { ends ≡ 2 * length W.declared.links },
 }
 
 impl<'a, W: RunIdentity> LockedJournal<'a, W> {
-    ghost use Rattle.sw_run.specs.Outcomes.{IsOutcome};
-
     pub(crate) fn new(
         network: &'a Network,
         journal: Journal<'a>,
         limit: usize,
-        nodes: u16,
-        ends: u16,
-        outputs: Vec<LinkEnd>,
+        notes: Notes,
     ) -> LockedJournal<'a, W>
         requires network { network.now ≡ W.declared }
         requires identity { (journal.name ≡ W.name) × (journal.declared ≡ W.declared) × (journal.load ≡ W.load) × (journal.limit ≡ W.limit) }
         requires limit { limit ≡ W.limit }
-        requires nodes { nodes ≡ length W.declared.nodes }
-        requires ends { ends ≡ 2 * length W.declared.links }
     {
         LockedJournal {
             network,
             journal,
             limit,
-            nodes,
-            ends,
-            awake: ends,
-            stop: None,
-            outputs,
+            notes,
             of: PhantomData,
-        }
-    }
-
-    /// Ends the run.
-    pub(crate) fn end(&mut self, stop: Stop) -> Turn
-        ensures over { result ≡ Over }
-        ensures journal { self.new.journal ≡ self.old.journal }
-    {
-        self.stop = Some(stop);
-        Turn::Over
-    }
-
-    /// Over the link of which link end the step of this link end sends something, if it does: an FCT,
-    /// or a character.
-    fn sends_over(&self, end: LinkEnd, step: &Step) -> Option<LinkEnd> {
-        match step {
-            Step::Fct(_) | Step::Emit(_) => Some(end),
-            Step::Forward(_) => self.outputs.get(end.number() as usize).copied(),
-            _ => None,
-        }
-    }
-
-    /// Remembers the output that an input is granted.
-    fn note(&mut self, step: &Step)
-        ensures { self.new.journal ≡ self.old.journal }
-    {
-        if let Step::Grant(output, input) = step {
-            if let Some(granted) = self.outputs.get_mut(input.partner().number() as usize) {
-                *granted = LinkEnd::new(output.number());
-            }
         }
     }
 
@@ -119,39 +74,9 @@ impl<'a, W: RunIdentity> LockedJournal<'a, W> {
         ensures cell { locked.new.cell.id ≡ locked.old.cell.id }
         ensures arbiters { locked.new.arbiters.items ≡ locked.old.arbiters.items }
     {
-        self.note(&step);
-        let sent = self.sends_over(end, &step);
-        match self.journal.commit(alloc, &mut locked.cell, step) {
-            Ok(()) => {
-                self.awake = self.ends;
-                match sent {
-                    Some(at) => Turn::Sent(at),
-                    None => Turn::Moved,
-                }
-            }
-            Err(JournalFault::NotEnabled) => Turn::Idle,
-            Err(JournalFault::Full) => self.end(Stop::JournalFull),
-            Err(JournalFault::Memory) => self.end(Stop::Memory),
-        }
-    }
-
-    /// Whether the link end has its mark at the present length.
-    fn is_marked(&self, end: LinkEnd) -> bool
-        requires { end < 2 * length W.declared.links }
-    {
-        self.journal.mark(end) == Some(self.journal.len() as u64)
-    }
-
-    /// One link end more has its mark at the present length. Where all have, nothing can go on.
-    fn rest(&mut self) -> Turn
-        ensures turn { (result ≡ Idle) ⊎ (result ≡ Over) }
-        ensures journal { self.new.journal ≡ self.old.journal }
-    {
-        if self.awake <= 1 {
-            return self.end(Stop::Stuck);
-        }
-        self.awake -= 1;
-        Turn::Idle
+        let sent = self.notes.sent_over(end, &step);
+        let made = self.journal.commit(alloc, &mut locked.cell, step);
+        self.notes.after(made, sent)
     }
 
     /// The channel that ends at the input that the output's arbiter picks, of those at these ports,
@@ -173,7 +98,7 @@ impl<'a, W: RunIdentity> LockedJournal<'a, W> {
         ensures cell { locked.new.cell ≡ locked.old.cell }
     {
         let topology = self.network.topology();
-        let input = locked.pick(w, out, asking);
+        let input = pick_at(&mut locked.arbiters, out, asking);
         let back = topology.out_of(w, input).unwrap();
         back.partner()
     }
@@ -188,14 +113,11 @@ impl<'a, W: RunIdentity> LockedJournal<'a, W> {
         if asking.is_empty() {
             return Turn::Idle;
         }
-        let PlaceEnd::Switch(w, out) = self.network.topology().start_of(end.sends()) else {
+        let Some((w, out)) = output_at(self.network, locked.cell.id(), end) else {
             return Turn::Idle;
         };
-        if !locked.id().is(CellId::Switch(w)) {
-            return Turn::Idle;
-        }
         if self.journal.len() == self.limit {
-            return self.end(Stop::JournalFull);
+            return self.notes.end(Stop::JournalFull);
         }
         let channel = self.picked(locked, w, out, end, asking);
         self.commit(alloc, locked, end, Step::Grant(end.sends(), channel))
@@ -215,9 +137,22 @@ impl<'a, W: RunIdentity> LockedJournal<'a, W> {
         }
     }
 
-    /// Makes a step of this link end of the cell, which stands at that place of the cell's list,
-    /// whatever the journal chooses, or marks the link end as idle. A grant goes to the input that
-    /// the output's arbiter picks.
+    /// Makes a step of this link end of the cell, whatever the journal chooses, or marks the link end
+    /// as idle. A grant goes to the input that the output's arbiter picks.
+    fn step_or_mark(&mut self, alloc: Global, locked: &mut LockedCell<W>, end: LinkEnd) -> Turn
+        requires within { end < 2 * length self.old.journal.declared.links }
+        requires listed { IsSome (end_numbers locked.old.cell.ends end) }
+        ensures { Advances self.old.journal locked.old.arbiters.items end result self.new.journal locked.new.arbiters.items }
+    {
+        match self.journal.choose_or_mark(alloc, end, &locked.cell) {
+            Ok(Some(step)) => self.make(alloc, locked, end, step),
+            Ok(None) => self.notes.rest(),
+            Err(_) => self.notes.end(Stop::Memory),
+        }
+    }
+
+    /// Makes a step of this link end of the cell, or marks it, unless the run is over or the link end
+    /// has its mark. The link end stands at that place of the cell's list.
     pub(crate) fn advance(
         &mut self,
         alloc: Global,
@@ -227,23 +162,19 @@ impl<'a, W: RunIdentity> LockedJournal<'a, W> {
     ) -> Turn
         ensures { Advances self.old.journal locked.old.arbiters.items end result self.new.journal locked.new.arbiters.items }
     {
-        if self.stop.is_some() {
+        if self.notes.stop().is_some() {
             return Turn::Over;
         }
-        if end.number() >= self.ends {
+        if !is_awake(
+            &self.journal,
+            self.network.channels(),
+            &locked.cell,
+            end,
+            place,
+        ) {
             return Turn::Idle;
         }
-        if self.is_marked(end) {
-            return Turn::Idle;
-        }
-        if !locked.has_at(place, end) {
-            return Turn::Idle;
-        }
-        match self.journal.choose_or_mark(alloc, end, &locked.cell) {
-            Ok(Some(step)) => self.make(alloc, locked, end, step),
-            Ok(None) => self.rest(),
-            Err(_) => self.end(Stop::Memory),
-        }
+        self.step_or_mark(alloc, locked, end)
     }
 
     /// The link end that was chosen before the journal was locked sends an FCT, if that may be the
@@ -257,7 +188,7 @@ impl<'a, W: RunIdentity> LockedJournal<'a, W> {
         ensures fct { Begins self.old.journal locked.old.cell.id first result self.new.journal }
         ensures arbiters { locked.new.arbiters.items ≡ locked.old.arbiters.items }
     {
-        if self.stop.is_some() {
+        if self.notes.stop().is_some() {
             return Turn::Over;
         }
         match first {
@@ -266,35 +197,85 @@ impl<'a, W: RunIdentity> LockedJournal<'a, W> {
         }
     }
 
-    /// Why the run ended, by what the journal tells of the state in which it did.
-    fn why(&self) -> Stop
-        ensures { EndsBy self.now.journal result }
-    {
-        if self.journal.is_drained() {
-            Stop::Drained
-        } else if self.journal.is_stuck() {
-            Stop::Stuck
-        } else if self.stop == Some(Stop::JournalFull) && self.journal.len() == self.limit {
-            Stop::JournalFull
-        } else {
-            Stop::Memory
-        }
-    }
-
     /// The outcome, at the end.
     pub(crate) fn outcome(self, alloc: Global) -> Result<Outcome<'a>, AllocError>
         ensures { IfOk result (IsOutcome W.declared W.load W.limit) }
     {
-        let stop = self.why();
-        let came_out = all_came_out(alloc, &self.journal, self.nodes)?;
-        let undelivered = self.journal.undelivered();
-        let history = self.journal.into_history();
-        Ok(Outcome {
-            stop,
-            history,
-            came_out,
-            undelivered,
-        })
+        let stop = why(&self.journal, self.notes.stop(), self.limit);
+        let came_out = all_came_out(alloc, &self.journal, self.network.nodes());
+        outcome_of(self.journal, stop, came_out)
+    }
+}
+
+/// The switch and its port at which the link end stands, if that switch is the cell.
+fn output_at(network: &Network, id: CellId, end: LinkEnd) -> Option<(u16, Port)>
+    requires { end < 2 * length network.now.links }
+    ensures { StandsAt network.now id end result }
+{
+    // Names how many link ends there are.
+    let _ = network.channels();
+    match network.topology().start_of(end.sends()) {
+        PlaceEnd::Switch(w, out) if id.is(CellId::Switch(w)) => Some((w, out)),
+        _ => None,
+    }
+}
+
+/// Whether the link end, which stands at that place of the cell's list, has no mark at the present
+/// length. There are so many link ends.
+fn is_awake(journal: &Journal<'_>, ends: u16, cell: &Cell, end: LinkEnd, place: usize) -> bool
+    requires { ends ≡ 2 * length journal.now.declared.links }
+    ensures { result ≡ true → (end < 2 * length journal.now.declared.links) × IsSome (end_numbers cell.now.ends end) }
+{
+    if end.number() >= ends {
+        return false;
+    }
+    if journal.mark(end) == Some(journal.len() as u64) {
+        return false;
+    }
+    has_at(cell, place, end)
+}
+
+/// Why the run ended, by what the journal tells of the state in which it did.
+fn why(journal: &Journal<'_>, stop: Option<Stop>, limit: usize) -> Stop
+    requires { limit ≡ journal.now.limit }
+    ensures { EndsBy journal.now result }
+{
+    if journal.is_drained() {
+        Stop::Drained
+    } else if journal.is_stuck() {
+        Stop::Stuck
+    } else if stop == Some(Stop::JournalFull) && journal.len() == limit {
+        Stop::JournalFull
+    } else {
+        Stop::Memory
+    }
+}
+
+/// What is told of the journal at the end, if there was memory for what came out.
+fn outcome_of<'a>(
+    journal: Journal<'a>,
+    stop: Stop,
+    came_out: Result<Vec<Vec<Packet>>, AllocError>,
+) -> Result<Outcome<'a>, AllocError>
+    requires stop { EndsBy journal stop }
+    requires came_out { IfOk came_out (λ all. AreOutBy journal (length journal.declared.nodes) (map (λ packets. packets.items) all.items)) }
+    ensures { IfOk result (IsOutcome journal.entry.declared journal.entry.load journal.entry.limit) }
+{
+    match came_out {
+        Ok(came_out) => {
+            let undelivered = journal.undelivered();
+            let history = journal.into_history();
+            Ok(Outcome {
+                stop,
+                history,
+                came_out,
+                undelivered,
+            })
+        }
+        Err(error) => {
+            drop(journal);
+            Err(error)
+        }
     }
 }
 
@@ -303,6 +284,23 @@ fn is_grant(step: &Step) -> bool
     ensures { result ≡ is_grant (machine_step step.now) }
 {
     matches!(step, Step::Grant(_, _))
+}
+
+/// Adds the packets that came out at each node.
+fn add_came_out(
+    alloc: Global,
+    journal: &Journal<'_>,
+    nodes: u16,
+    all: &mut Vec<Vec<Packet>>,
+) -> Result<(), AllocError>
+    requires nodes { nodes ≡ length journal.now.declared.nodes }
+    requires none { all.old.items ≡ [] }
+    ensures { IfOk result (λ _. AreOutBy journal.now nodes (map (λ packets. packets.items) all.new.items)) }
+{
+    for node in 0..nodes {
+        all.push(journal.came_out(alloc, node)?)?;
+    }
+    Ok(())
 }
 
 /// The packets that came out at each node.
@@ -315,8 +313,8 @@ fn all_came_out(
     ensures { IfOk result (λ all. AreOutBy journal.now nodes (map (λ packets. packets.items) all.items)) }
 {
     let mut all = Vec::with_capacity(alloc, nodes as usize)?;
-    for node in 0..nodes {
-        all.push(journal.came_out(alloc, node)?)?;
+    match add_came_out(alloc, journal, nodes, &mut all) {
+        Ok(()) => Ok(all),
+        Err(error) => Err(error),
     }
-    Ok(all)
 }

@@ -5,15 +5,17 @@ ghost use Rattle.sw_run.specs.Cells.{IsCellOf};
 ghost use Rattle.sw_run.specs.Wanted.{cell_place};
 
 use crate::gate::Gate;
-use crate::locked_cell::LockedCell;
+use crate::locked_cell::{LockedCell, end_at, first_wanted};
 use crate::locked_journal::LockedJournal;
 use crate::naps::Naps;
-use crate::outcome::{Outcome, Stop};
+use crate::notes::Notes;
+use crate::outcome::Outcome;
 use crate::run_identity::RunIdentity;
 use crate::turn::Turn;
 use std::alloc::{AllocError, Global};
+use std::sync::Mutex;
 use std::sync::atomic::{AtomicBool, AtomicU64, Ordering};
-use std::sync::{Mutex, Wait};
+use sw_cell::CellId;
 use sw_config::Network;
 use sw_journal::{Cell, Journal};
 use sw_topo::{LinkEnd, PlaceEnd};
@@ -29,7 +31,7 @@ const MOST_STEPS: usize = 256;
 /// cell's lock and the journal's, before it makes all steps that the cell has: what was sent until
 /// then is among what it finds.
 #[derive(Drop)]
-struct Slot<W: RunIdentity> {
+pub(crate) struct Slot<W: RunIdentity> {
     cell: Mutex<LockedCell<W>>,
     ready: AtomicBool,
 }
@@ -101,13 +103,13 @@ enum End {
 /// does not hang one either.
 #[derive(Drop)]
 pub(crate) struct RunState<'a, W: RunIdentity> {
-    network: &'a Network,
-    slots: Vec<Slot<W>>,
-    journal: Mutex<LockedJournal<'a, W>>,
+    pub(crate) network: &'a Network,
+    pub(crate) slots: Vec<Slot<W>>,
+    pub(crate) journal: Mutex<LockedJournal<'a, W>>,
     /// How many workers have a turn.
     turns: AtomicU64,
-    naps: Naps,
-    ghost network_is: { network.now ≡ W.declared },
+    /// Where workers sleep and are woken.
+    pub(crate) naps: Naps,
 }
 
 /// The place of the cell at which the link end stands: the nodes come first.
@@ -124,7 +126,7 @@ fn place_of(network: &Network, end: LinkEnd) -> usize
 }
 
 /// Each cell behind a lock of its own.
-fn locked<W: RunIdentity>(
+pub(crate) fn locked<W: RunIdentity>(
     alloc: Global,
     network: &Network,
     cells: Vec<Cell>,
@@ -139,59 +141,66 @@ fn locked<W: RunIdentity>(
     Ok(all)
 }
 
+/// Something was sent over the link of this link end: the cell at the other end may have a step.
+fn raise_over<W: RunIdentity>(network: &Network, slots: &[Slot<W>], end: LinkEnd) {
+    let other = LinkEnd::new(end.receives().number());
+    if other.number() >= network.channels() {
+        return;
+    }
+    if let Some(slot) = slots.get(place_of(network, other)) {
+        slot.raise();
+    }
+}
+
+/// The gate is told of the steps of a turn, when both locks are free.
+fn tell<G: Gate>(gate: &G, cell: CellId, made: Option<Made>) -> Found {
+    let Some(made) = made else {
+        return Found::Held;
+    };
+    for _ in 0..made.steps {
+        gate.committed(cell);
+    }
+    match made.end {
+        End::Over => Found::Over,
+        _ => Found::Work,
+    }
+}
+
 impl<'a, W: RunIdentity> RunState<'a, W> {
     ghost use Rattle.sw_run.specs.Outcomes.{IsOutcome};
 
+    /// With the notes and with the cells behind their locks, if there was memory for them.
     pub(crate) fn new(
-        alloc: Global,
         network: &'a Network,
         journal: Journal<'a>,
-        cells: Vec<Cell>,
         limit: usize,
+        notes: Result<Notes, AllocError>,
+        slots: Result<Vec<Slot<W>>, AllocError>,
     ) -> Result<RunState<'a, W>, AllocError>
         requires network { network.now ≡ W.declared }
         requires identity { (journal.name ≡ W.name) × (journal.declared ≡ W.declared) × (journal.load ≡ W.load) × (journal.limit ≡ W.limit) }
-        requires cells { All (IsCellOf W.declared W.name) cells.items }
         requires limit { limit ≡ W.limit }
     {
-        let outputs = vec![in alloc; LinkEnd::new(0); network.channels() as usize]?;
-        let slots = locked::<W>(alloc, network, cells)?;
-        let (nodes, ends) = (network.nodes(), network.channels());
-        let journal = LockedJournal::new(network, journal, limit, nodes, ends, outputs);
-        Ok(RunState {
-            network,
-            slots,
-            journal: Mutex::new(journal),
-            turns: AtomicU64::new(0),
-            naps: Naps::new(),
-        })
-    }
-
-    /// How many link ends there are.
-    pub(crate) fn ends(&self) -> u16
-        ensures { result ≡ 2 * length W.declared.links }
-    {
-        self.network.channels()
-    }
-
-    /// How many cells there are.
-    pub(crate) fn cells(&self) -> usize {
-        self.slots.len()
-    }
-
-    /// Where workers sleep and are woken.
-    pub(crate) fn naps(&self) -> &Naps {
-        &self.naps
-    }
-
-    /// Something was sent over the link of this link end: the cell at the other end may have a step.
-    fn raise_over(&self, end: LinkEnd) {
-        let other = LinkEnd::new(end.receives().number());
-        if other.number() >= self.ends() {
-            return;
-        }
-        if let Some(slot) = self.slots.get(place_of(self.network, other)) {
-            slot.raise();
+        match slots {
+            Ok(slots) => match notes {
+                Ok(notes) => Ok(RunState {
+                    network,
+                    slots,
+                    journal: Mutex::new(LockedJournal::new(network, journal, limit, notes)),
+                    turns: AtomicU64::new(0),
+                    naps: Naps::new(),
+                }),
+                Err(error) => {
+                    drop(journal);
+                    drop(slots);
+                    Err(error)
+                }
+            },
+            Err(error) => {
+                drop(journal);
+                drop(notes);
+                Err(error)
+            }
         }
     }
 
@@ -207,7 +216,7 @@ impl<'a, W: RunIdentity> RunState<'a, W> {
         for steps in 0..MOST_STEPS {
             match journal.advance(alloc, locked, end, place) {
                 Turn::Moved => {}
-                Turn::Sent(at) => self.raise_over(at),
+                Turn::Sent(at) => raise_over(self.network, &self.slots, at),
                 Turn::Idle => {
                     return Made {
                         steps,
@@ -239,8 +248,8 @@ impl<'a, W: RunIdentity> RunState<'a, W> {
             steps: 0,
             end: End::Idle,
         };
-        for place in 0..locked.ends() {
-            let Some(end) = locked.end_at(place) else {
+        for place in 0..locked.cell.ends().len() {
+            let Some(end) = end_at(&locked.cell, place) else {
                 return all;
             };
             let made = self.serve_end(alloc, journal, locked, end, place);
@@ -271,7 +280,7 @@ impl<'a, W: RunIdentity> RunState<'a, W> {
         match journal.begin(alloc, locked, first) {
             Turn::Moved => all.steps = 1,
             Turn::Sent(at) => {
-                self.raise_over(at);
+                raise_over(self.network, &self.slots, at);
                 all.steps = 1;
             }
             Turn::Idle => {}
@@ -300,8 +309,8 @@ impl<'a, W: RunIdentity> RunState<'a, W> {
         slot: &Slot<W>,
         locked: &mut LockedCell<W>,
     ) -> Option<Made> {
-        gate.deciding(locked.id());
-        let first = locked.first_wanted();
+        gate.deciding(locked.cell.id());
+        let first = first_wanted(&locked.cell);
         let mut journal = self.journal.try_lock()?;
         slot.lower();
         let made = self.serve(alloc, &mut journal, locked, first);
@@ -322,22 +331,13 @@ impl<'a, W: RunIdentity> RunState<'a, W> {
         let Some(mut locked) = slot.cell.try_lock() else {
             return Found::Held;
         };
-        let cell = locked.id();
+        let cell = locked.cell.id();
         self.turns.fetch_add(1, Ordering::SeqCst);
         self.naps.call();
         let made = self.decide(alloc, gate, slot, &mut locked);
         drop(locked);
         self.turns.fetch_sub(1, Ordering::SeqCst);
-        let Some(made) = made else {
-            return Found::Held;
-        };
-        for _ in 0..made.steps {
-            gate.committed(cell);
-        }
-        match made.end {
-            End::Over => Found::Over,
-            _ => Found::Work,
-        }
+        tell(gate, cell, made)
     }
 
     /// Where no worker has a turn, each cell is to have one more. Says whether it is so.
@@ -349,12 +349,6 @@ impl<'a, W: RunIdentity> RunState<'a, W> {
             slot.raise();
         }
         true
-    }
-
-    /// Ends the run, since there was no memory for a worker.
-    pub(crate) fn refuse<R: Wait>(&self, rt: &R) {
-        self.journal.lock(rt).end(Stop::Memory);
-        self.naps.end();
     }
 
     /// The outcome, when no worker is left.

@@ -5,10 +5,11 @@ ghost use Rattle.sw_run.specs.Cells.{IsCellOf};
 ghost use Rattle.sw_run.specs.Outcomes.{IsOutcome};
 
 use crate::gate::Gate;
+use crate::notes::Notes;
 use crate::outcome::Outcome;
 use crate::run_identity::RunIdentity;
-use crate::run_state::RunState;
-use crate::workers::start_all;
+use crate::run_state::{RunState, locked};
+use crate::workers::{RunCrew, start_all};
 use std::alloc::{AllocError, Global};
 use std::marker::Brand;
 use std::sync::Wait;
@@ -35,8 +36,16 @@ fn run_named<'a, W: RunIdentity + Send + Sync, G: Gate + Sync, R: Threads + Wait
     requires some { 0 < workers }
     ensures { IfOk result (IsOutcome W.declared W.load W.limit) }
 {
-    let shared: RunState<'a, W> = RunState::new(alloc, network, journal, cells, limit)?;
-    start_all(rt, alloc, &shared, gate, workers);
+    let notes = Notes::new(alloc, network.channels());
+    let slots = locked::<W>(alloc, network, cells);
+    let shared: RunState<'a, W> = RunState::new(network, journal, limit, notes, slots)?;
+    let crew = RunCrew {
+        rt,
+        alloc,
+        shared: &shared,
+        gate,
+    };
+    start_all(rt, &crew, workers);
     shared.outcome(alloc)
 }
 

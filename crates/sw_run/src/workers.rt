@@ -3,6 +3,7 @@ ghost use Rattle.std.specs.Prelude.{◌<◌};
 
 use crate::gate::Gate;
 use crate::naps::SHORTEST;
+use crate::outcome::Stop;
 use crate::run_identity::RunIdentity;
 use crate::run_state::{Found, RunState};
 use std::alloc::Global;
@@ -19,7 +20,7 @@ fn round<W: RunIdentity, G: Gate>(
     from: usize,
 ) -> Found {
     let mut all = Found::Nothing;
-    let cells = shared.cells();
+    let cells = shared.slots.len();
     let mut place = from;
     for _ in 0..cells {
         match shared.turn(alloc, gate, place) {
@@ -40,59 +41,71 @@ fn round<W: RunIdentity, G: Gate>(
     all
 }
 
-/// Goes on until the run is over. A worker with no cell has nothing to do.
-fn work<W: RunIdentity, G: Gate, R: Wait>(
-    rt: &R,
-    alloc: Global,
-    shared: &RunState<'_, W>,
-    gate: &G,
-    worker: usize,
-) {
-    if worker >= shared.cells() || shared.ends() == 0 {
-        return;
-    }
-    let naps = shared.naps();
-    let mut millis = SHORTEST;
-    for _ in rt.forever() {
-        let calls = naps.calls();
-        if naps.is_over() {
+/// What threads are started for.
+pub(crate) trait Crew {
+    /// What the worker of that number does.
+    fn work(&self, worker: usize);
+
+    /// There is no memory for one of the workers.
+    fn refuse(&self);
+}
+
+/// The crew of a run.
+#[derive(Drop)]
+pub(crate) struct RunCrew<'s, 'a, W: RunIdentity, G: Gate, R: Wait> {
+    pub(crate) rt: &'s R,
+    pub(crate) alloc: Global,
+    pub(crate) shared: &'s RunState<'a, W>,
+    pub(crate) gate: &'s G,
+}
+
+impl<'s, 'a, W: RunIdentity, G: Gate, R: Wait> Crew for RunCrew<'s, 'a, W, G, R> {
+    /// Goes on until the run is over. A worker with no cell has nothing to do.
+    fn work(&self, worker: usize) {
+        let shared = self.shared;
+        if worker >= shared.slots.len() || shared.network.channels() == 0 {
             return;
         }
-        match round(alloc, shared, gate, worker) {
-            Found::Work => {
-                if millis != SHORTEST {
-                    millis = SHORTEST;
-                    naps.tell_of_use();
-                }
+        let naps = &shared.naps;
+        let mut millis = SHORTEST;
+        for _ in self.rt.forever() {
+            let calls = naps.calls();
+            if naps.is_over() {
+                return;
             }
-            Found::Nothing => {
-                if !shared.raise_all() {
-                    millis = naps.sleep(rt, calls, millis);
+            match round(self.alloc, shared, self.gate, worker) {
+                Found::Work => {
+                    if millis != SHORTEST {
+                        millis = SHORTEST;
+                        naps.tell_of_use();
+                    }
                 }
+                Found::Nothing => {
+                    if !shared.raise_all() {
+                        millis = naps.sleep(self.rt, calls, millis);
+                    }
+                }
+                Found::Held => millis = naps.sleep(self.rt, calls, millis),
+                Found::Over => naps.end(),
             }
-            Found::Held => millis = naps.sleep(rt, calls, millis),
-            Found::Over => naps.end(),
         }
+    }
+
+    /// Ends the run.
+    fn refuse(&self) {
+        let _over = self.shared.journal.lock(self.rt).notes.end(Stop::Memory);
+        self.shared.naps.end();
     }
 }
 
 /// Starts the workers, and waits for them.
-pub(crate) fn start_all<W: RunIdentity + Send + Sync, G: Gate + Sync, R: Threads + Wait + Sync>(
-    rt: &R,
-    alloc: Global,
-    shared: &RunState<'_, W>,
-    gate: &G,
-    workers: usize,
-)
+pub(crate) fn start_all<C: Crew + Sync, R: Threads + Wait>(rt: &R, crew: &C, workers: usize)
     requires { 0 < workers }
 {
     thread::scope(thread::scope_env(), rt, |scope| {
         for worker in 0..workers {
-            if scope
-                .spawn(move || work(rt, alloc, shared, gate, worker))
-                .is_err()
-            {
-                shared.refuse(rt);
+            if scope.spawn(move || crew.work(worker)).is_err() {
+                crew.refuse();
             }
         }
     });

@@ -78,7 +78,11 @@ pub fn replay_hint(
     ensures { IfOk result (λ o. IsScheduleHint text.now path.now schedule.now o) }
 {
     match read_network(alloc, text) {
-        Ok(network) => text_hint(alloc, path, &network, schedule),
+        Ok(network) => {
+            let hint = text_hint(alloc, path, &network, schedule);
+            drop(network);
+            hint
+        }
         Err(FileFault::Text(_)) => Ok(None),
         Err(FileFault::Memory) => Err(AllocError),
     }

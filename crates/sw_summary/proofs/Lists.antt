@@ -1,17 +1,21 @@
 -- Lists that loops make.
-use Rattle.std.proofs.Common.{List, [], ap, arith, get_or, length, map, refl, suc, sym, take, zero, ℕ, ◌++◌, ◌+◌, ◌-◌, ◌<◌, ◌≤◌, ◌∙◌, ◌∷◌, ◌≡◌}
+use Rattle.std.proofs.Common.{List, [], ap, append_assoc, arith, get_or, length, map, refl, suc, sym, take, zero, ℕ, ◌++◌, ◌+◌, ◌-◌, ◌<◌, ◌≤◌, ◌∙◌, ◌∷◌, ◌≡◌}
 use Rattle.std.proofs.lemmas.List.{flat_map_more, get_or-map, map-append, take_more}
+use Rattle.std.proofs.lemmas.List.Elements.{filter-append}
 use Rattle.std.proofs.lemmas.List.Folds.{flat_map-map}
+use Rattle.std.proofs.lemmas.List.Sums.{fold-append}
 use Rattle.std.specs.Global.{Vec}
 use Rattle.std.specs.Prelude.{Some, slice_get}
 use Rattle.std.specs.List.{flat_map, range_with_len}
 use Rattle.sw_char.specs.PacketView.{PacketView}
+use Rattle.sw_char.specs.declared.nchar.End.TheVariants.{Eop}
 use Rattle.sw_parallel.proofs.Ranges.{range_from_more}
 use Rattle.sw_machine.specs.Begun.{beginning, beginnings}
 use Rattle.sw_model.specs.Steps.{machine_step}
 use Rattle.sw_model.specs.declared.step.Step.{Step}
-use Rattle.sw_summary.specs.Counts.{items_at, statuses, statuses_of, with_status}
-use Rattle.sw_summary.specs.Tallies.{Item, TallyView, taken, taken_all}
+use Rattle.sw_summary.specs.Counts.{items_at, replies_at, replies_of, statuses, statuses_of, with_status}
+use Rattle.sw_summary.specs.Replies.{is_reply, status_of}
+use Rattle.sw_summary.specs.Tallies.{Item, TallyView, counted, taken, taken_all, tallies}
 use Rattle.sw_summary.specs.Texts.{first_status_lines, status_line}
 
 pub beginnings_are : (steps : List Step) → flat_map (λ step. beginning (machine_step step)) steps ≡ beginnings (map machine_step steps)
@@ -83,3 +87,43 @@ pub packet_more : (n : ℕ) (packets : List PacketView) (i : ℕ) (q : PacketVie
 packet_more n packets i q k within at is =
     ap (items_at n) (take_more packets i q within ∙ ap (λ (p : PacketView). take i packets ++ p ∷ []) (sym at))
     ∙ map-append (at_node n) (take i packets) (q ∷ []) ∙ ap (λ (p : Item). items_at n (take i packets) ++ p ∷ []) (sym is)
+
+-- what is made of one element more comes behind what was made of those before, and behind what was there
+pub grown : {A : Type 0} (old so_far all before here after : List A) → before ≡ old ++ so_far → all ≡ so_far ++ here → after ≡ before ++ here → after ≡ old ++ all
+grown old so_far all before here after was more is =
+    is ∙ ap (λ l. l ++ here) was ∙ append_assoc old so_far here ∙ ap (λ l. old ++ l) (sym more)
+
+-- the elements that are made of one more
+pub made_more : {A B : Type 0} (f : A → List B) (xs : List A) (i : ℕ) (x : A) (before here after : List B) → i < length xs → x ≡ get_or xs i x → before ≡ flat_map f (take i xs)
+    → here ≡ f x → after ≡ before ++ here → after ≡ flat_map f (take (i + 1) xs)
+made_more f xs i x before here after within at so_far made is =
+    is ∙ ap (λ l. l ++ here) so_far ∙ ap (λ l. flat_map f (take i xs) ++ l) made ∙ flat_map_more f [] (take i xs) x
+    ∙ ap (flat_map f) (sym (take_more xs i x within ∙ ap (λ y. take i xs ++ y ∷ []) (sym at)))
+
+-- the replies among packets, and among one packet more
+replies_join : (ps qs : List PacketView) → replies_of (ps ++ qs) ≡ replies_of ps ++ replies_of qs
+replies_join ps qs = filter-append (λ p. is_reply p.bytes) ps qs
+
+one_more_packet : (packets : List PacketView) (i : ℕ) (q : PacketView) → i < length packets → q ≡ get_or packets i q → take (i + 1) packets ≡ take i packets ++ q ∷ []
+one_more_packet packets i q within at = take_more packets i q within ∙ ap (λ p. take i packets ++ p ∷ []) (sym at)
+
+pub reply_more : (n : ℕ) (packets : List PacketView) (i : ℕ) (q : PacketView) → i < length packets → q ≡ get_or packets i q
+    → replies_at n (take (i + 1) packets) ≡ replies_at n (take i packets) ++ replies_at n (q ∷ [])
+reply_more n packets i q within at =
+    let key : PacketView → Item = λ p. record { node = n; packet = record { bytes = take 1 p.bytes; end = Eop } } in
+    ap (replies_at n) (one_more_packet packets i q within at)
+    ∙ ap (map key) (replies_join (take i packets) (q ∷ [])) ∙ map-append key (replies_of (take i packets)) (replies_of (q ∷ []))
+
+pub status_of_more : (packets : List PacketView) (i : ℕ) (q : PacketView) → i < length packets → q ≡ get_or packets i q
+    → statuses_of (take (i + 1) packets) ≡ statuses_of (take i packets) ++ statuses_of (q ∷ [])
+status_of_more packets i q within at =
+    let status : PacketView → ℕ = λ p. status_of p.bytes in
+    ap statuses_of (one_more_packet packets i q within at)
+    ∙ ap (map status) (replies_join (take i packets) (q ∷ [])) ∙ map-append status (replies_of (take i packets)) (replies_of (q ∷ []))
+
+-- one key more is counted
+pub counted_more : (keys : List Item) (i : ℕ) (x k : Item) (before after : List TallyView) → i < length keys → x ≡ get_or keys i x → k ≡ x → before ≡ tallies (take i keys)
+    → after ≡ counted k before → after ≡ tallies (take (i + 1) keys)
+counted_more keys i x k before after within at same so_far is =
+    is ∙ ap (λ p. counted p before) same ∙ ap (counted x) so_far
+    ∙ sym (ap tallies (take_more keys i x within ∙ ap (λ y. take i keys ++ y ∷ []) (sym at)) ∙ fold-append (λ ts p. counted p ts) [] (take i keys) (x ∷ []))

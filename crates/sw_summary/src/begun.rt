@@ -1,5 +1,5 @@
 //! The packets that a history begins.
-ghost use Rattle.std.specs.Prelude.{◌≡◌, ◌≤◌, ◌++◌, IfOk, length, map, option_to_list};
+ghost use Rattle.std.specs.Prelude.{◌≡◌, ◌≤◌, ◌++◌, IfOk, length, map};
 ghost use Rattle.sw_machine.specs.Begun.{beginning, beginnings};
 ghost use Rattle.sw_model.specs.Steps.{machine_step};
 ghost use Rattle.sw_summary.specs.Counts.{form_of, forms, loaded, of_entry, of_flow};
@@ -27,28 +27,21 @@ impl<'a> Model for Begun<'a> {
     ghost view = { λ b. record { flow = b.flow; cargo = b.cargo.now; end = b.end } };
 }
 
-// The packet that the step begins.
-fn beginning(step: &Step) -> Option<Begun<'_>>
-    ensures { option_to_list result ≡ beginning (machine_step step.now) }
+// The packet that the step begins, if it begins one.
+fn push_beginning<'a>(all: &mut Vec<Begun<'a>>, step: &'a Step) -> Result<(), AllocError>
+    ensures { IfOk result (λ _. all.new.items ≡ all.old.items ++ beginning (machine_step step.now)) }
 {
     match step {
-        Step::Begin { flow, cargo, end } => Some(Begun {
-            flow: *flow,
-            cargo: cargo.as_slice(),
-            end: *end,
-        }),
-        _ => None,
+        Step::Begin { flow, cargo, end } => {
+            all.push(Begun {
+                flow: *flow,
+                cargo: cargo.as_slice(),
+                end: *end,
+            })?;
+            Ok(())
+        }
+        _ => Ok(()),
     }
-}
-
-// One packet more, if there is one.
-fn push_some<'a>(all: &mut Vec<Begun<'a>>, begun: Option<Begun<'a>>) -> Result<(), AllocError>
-    ensures { IfOk result (λ _. all.new.items ≡ all.old.items ++ option_to_list begun.entry) }
-{
-    if let Some(begun) = begun {
-        all.push(begun)?;
-    }
-    Ok(())
 }
 
 /// The packets that the steps begin.
@@ -57,7 +50,7 @@ pub(crate) fn beginnings<'a>(alloc: Global, steps: &'a [Step]) -> Result<Vec<Beg
 {
     let mut all = Vec::new(alloc);
     for step in steps {
-        push_some(&mut all, beginning(step))?;
+        push_beginning(&mut all, step)?;
     }
     Ok(all)
 }

@@ -4,13 +4,14 @@ ghost use Rattle.sw_summary.specs.Fills.{AreFillsOrNone};
 ghost use Rattle.sw_summary.specs.NotedFills.{AreNoted, Holds, MakesOrNot};
 ghost use Rattle.sw_model.specs.Model.{network_of};
 ghost use Rattle.sw_model.specs.Steps.{machine_step};
+ghost use Rattle.sw_net.specs.New.{IsNewNet};
 
 use std::alloc::{AllocError, Global};
-use sw_arb::Arbiter;
+use sw_arb::{Arbiter, Policy};
 use sw_cell::NetFault;
 use sw_config::Network;
 use sw_model::Step;
-use sw_net::{Net, declared_net};
+use sw_net::{Net, SwitchRoutes, declared_net};
 use sw_route::Routing;
 use sw_topo::{Chan, LinkEnd};
 
@@ -65,6 +66,25 @@ fn make<R: Routing, A: Arbiter>(
     }
 }
 
+// The fills of the new network's channels while the steps are made; none where one of them is not possible.
+fn noted_fills(
+    alloc: Global,
+    network: &Network,
+    net: &mut Net<'_, SwitchRoutes<'_>, Policy>,
+    steps: &[Step],
+) -> Result<Option<Vec<u16>>, AllocError>
+    requires { IsNewNet network.now net.old }
+    ensures { IfOk result (λ o. AreFillsOrNone (network_of network.now) (map machine_step steps.now) (option_map (λ v. v.items) o)) }
+{
+    let mut fills = vec![in alloc; 0u16; usize::from(network.channels())]?;
+    for step in steps {
+        if !make(alloc, net, step, &mut fills)? {
+            return Ok(None);
+        }
+    }
+    Ok(Some(fills))
+}
+
 /// The greatest fill of the receive buffer of each channel while the steps are made one after another from the empty network on; none
 /// where one of them is not possible.
 ///
@@ -79,11 +99,5 @@ pub fn greatest_fills(
     ensures { IfOk result (λ o. AreFillsOrNone (network_of network.now) (map machine_step steps.now) (option_map (λ v. v.items) o)) }
 {
     let mut net = declared_net(alloc, network)?;
-    let mut fills = vec![in alloc; 0u16; usize::from(network.channels())]?;
-    for step in steps {
-        if !make(alloc, &mut net, step, &mut fills)? {
-            return Ok(None);
-        }
-    }
-    Ok(Some(fills))
+    noted_fills(alloc, network, &mut net, steps)
 }

@@ -247,7 +247,11 @@ pub fn load_hint(
     ensures { IfOk result (λ o. IsLoadHint path.now network.now load.now o) }
 {
     match read_network(alloc, network) {
-        Ok(read) => hint_for(alloc, path, network, &read, load),
+        Ok(read) => {
+            let hint = hint_for(alloc, path, network, &read, load);
+            drop(read);
+            hint
+        }
         Err(FileFault::Text(_)) => Ok(None),
         Err(FileFault::Memory) => Err(AllocError),
     }

@@ -332,7 +332,11 @@ pub fn schedule_hint(
     ensures { IfOk result (λ o. option_map string_bytes o ≡ schedule_hint path.now network.now schedule.now) }
 {
     match read_network(alloc, network) {
-        Ok(read) => hint_for(alloc, path, network, &read, schedule),
+        Ok(read) => {
+            let hint = hint_for(alloc, path, network, &read, schedule);
+            drop(read);
+            hint
+        }
         Err(FileFault::Text(_)) => Ok(None),
         Err(FileFault::Memory) => Err(AllocError),
     }

@@ -134,7 +134,11 @@ pub fn refused_certificate_hint<W: VerdictWorkers>(
         certificate: certificate_path,
     };
     match read_network(alloc, text) {
-        Ok(network) => text_hint(workers, alloc, names, &network, certificate),
+        Ok(network) => {
+            let hint = text_hint(workers, alloc, names, &network, certificate);
+            drop(network);
+            hint
+        }
         Err(FileFault::Text(_)) => Ok(None),
         Err(FileFault::Memory) => Err(AllocError),
     }

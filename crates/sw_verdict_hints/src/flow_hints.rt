@@ -109,7 +109,11 @@ pub fn named_flow_hint(
     ensures { IfOk result (λ o. IsNamedFlowHint path.now text.now name.now o) }
 {
     match read_network(alloc, text) {
-        Ok(network) => hint_named(alloc, path, &network, name),
+        Ok(network) => {
+            let hint = hint_named(alloc, path, &network, name);
+            drop(network);
+            hint
+        }
         Err(FileFault::Text(_)) => Ok(None),
         Err(FileFault::Memory) => Err(AllocError),
     }

@@ -94,7 +94,11 @@ pub fn verdict_hint<W: VerdictWorkers>(
     ensures { IfOk result (λ o. IsVerdictHint path.now text.now o) }
 {
     match read_network(alloc, text) {
-        Ok(network) => network_hint(workers, alloc, path, &network),
+        Ok(network) => {
+            let hint = network_hint(workers, alloc, path, &network);
+            drop(network);
+            hint
+        }
         Err(FileFault::Text(_)) => Ok(None),
         Err(FileFault::Memory) => Err(AllocError),
     }
@@ -146,7 +150,11 @@ pub fn misrouted_verdict_hint<W: VerdictWorkers>(
     ensures { IfOk result (λ o. IsMisroutedHint path.now text.now o) }
 {
     match read_network(alloc, text) {
-        Ok(network) => misrouted_network_hint(workers, alloc, path, &network),
+        Ok(network) => {
+            let hint = misrouted_network_hint(workers, alloc, path, &network);
+            drop(network);
+            hint
+        }
         Err(FileFault::Text(_)) => Ok(None),
         Err(FileFault::Memory) => Err(AllocError),
     }

@@ -12,14 +12,8 @@ const PROTOCOL: u8 = 1;
 /// (ECSS-E-ST-50-52C, the fields of a command).
 const READ: u8 = 0x4C;
 
-/// Adds the path, with zeros before it so that it has a multiple of four bytes.
-fn push_path(bytes: &mut Vec<u8>, path: &[u8]) -> Result<(), AllocError> {
-    for _ in 0..(4 - path.len() % 4) % 4 {
-        bytes.push(0)?;
-    }
-    bytes.extend_from_slice(path)?;
-    Ok(())
-}
+/// What stands before a reply address that is no multiple of four bytes.
+const ZEROS: &[u8] = &[0, 0, 0];
 
 /// How many words of four bytes the reply address has, of 0 to 3.
 fn words(path: &[u8]) -> u8 {
@@ -33,33 +27,39 @@ fn words(path: &[u8]) -> u8 {
 
 /// The header but for its code: a read of the whole window, answered by the path.
 fn header(alloc: Global, target: &TargetConfig, reply: &Reply) -> Result<Vec<u8>, AllocError> {
-    let mut bytes = Vec::new(alloc);
     let path = reply.path();
-    bytes.extend_from_slice(&[target.logical, PROTOCOL, READ | words(path), target.key])?;
-    push_path(&mut bytes, path)?;
-    bytes.extend_from_slice(&[reply.initiator(), 0, 0])?;
-    bytes.extend_from_slice(&target.start.to_be_bytes()[3..])?;
-    bytes.extend_from_slice(&target.size.to_be_bytes()[1..])?;
-    Ok(bytes)
-}
-
-/// The bytes, but these in front in place of as many.
-fn with_front(alloc: Global, front: &[u8], bytes: &[u8]) -> Result<Vec<u8>, AllocError> {
-    let mut all = Vec::new(alloc);
-    all.extend_from_slice(front)?;
-    for byte in bytes.iter().skip(front.len()) {
-        all.push(*byte)?;
-    }
-    Ok(all)
+    let front = [target.logical, PROTOCOL, READ | words(path), target.key];
+    let zeros = &ZEROS[..(4 - path.len() % 4) % 4];
+    let initiator = [reply.initiator(), 0, 0];
+    let start = target.start.to_be_bytes();
+    let size = target.size.to_be_bytes();
+    [
+        front.as_slice(),
+        zeros,
+        path,
+        initiator.as_slice(),
+        &start[3..],
+        &size[1..],
+    ]
+    .concat(alloc)
 }
 
 /// The bytes but for so many in front.
-fn behind(alloc: Global, bytes: &[u8], count: usize) -> Result<Vec<u8>, AllocError> {
-    let mut all = Vec::new(alloc);
-    for byte in bytes.iter().skip(count) {
-        all.push(*byte)?;
-    }
-    Ok(all)
+fn behind(bytes: &[u8], count: usize) -> &[u8] {
+    &bytes[count.min(bytes.len())..]
+}
+
+/// The header and its code, but for the bytes in front that are left of the flow's address.
+fn behind_address(
+    alloc: Global,
+    left: &[u8],
+    target: &TargetConfig,
+    reply: &Reply,
+) -> Result<Vec<u8>, AllocError> {
+    let header = header(alloc, target, reply)?;
+    let bytes = [left, behind(&header, left.len())].concat(alloc)?;
+    let code = [crc(&bytes)];
+    [behind(&bytes, left.len()), code.as_slice()].concat(alloc)
 }
 
 /// The cargo of a command of the flow; none where the flow has no replies, or ends at no target.
@@ -74,12 +74,8 @@ pub(crate) fn command_cargo(
     if flow.to() >= network.nodes() {
         return Ok(None);
     }
-    let Some(target) = network.target(flow.to()) else {
-        return Ok(None);
-    };
-    let left = left_bytes(flow);
-    let mut bytes = with_front(alloc, left, &header(alloc, &target, reply)?)?;
-    let code = crc(&bytes);
-    bytes.push(code)?;
-    Ok(Some(behind(alloc, &bytes, left.len())?))
+    match network.target(flow.to()) {
+        Some(target) => Ok(Some(behind_address(alloc, left_bytes(flow), &target, reply)?)),
+        None => Ok(None),
+    }
 }

@@ -38,7 +38,7 @@ fn place_flow(
     let Some(way) = way_between(alloc, network, flow, from, to)? else {
         return Ok(());
     };
-    trial.note(flow_note(alloc, network, flow, from, to)?.as_str())?;
+    trial.note(flow_note(alloc, network, flow, from, to))?;
     if flow < network.declared_flows() {
         place_worm(alloc, network, trial, random, flow, &way)
     } else {
@@ -60,7 +60,7 @@ fn place_target(
     }
     match network.topology().end_of(from) {
         PlaceEnd::Node(node) => {
-            trial.note(target_note(alloc, network, node, from, to)?.as_str())?;
+            trial.note(target_note(alloc, network, node, from, to))?;
             fill_target(alloc, network, trial, random, node, from)
         }
         PlaceEnd::Switch(_, _) => Ok(()),
@@ -124,6 +124,22 @@ fn release(alloc: Global, trial: &mut Trial<'_>, random: &mut Random) -> Result<
     Ok(())
 }
 
+/// Places what makes the channels of one of the tangles wait for one another, and lets the network go on; whether it is locked up then.
+fn is_locked_up_by(
+    alloc: Global,
+    network: &Network,
+    tangles: &[Tangle],
+    trial: &mut Trial<'_>,
+    random: &mut Random,
+) -> Result<bool, AllocError> {
+    let number = random.below(tangles.len());
+    if let Some(tangle) = tangles.get(number) {
+        place_cycle(alloc, network, trial, random, tangle)?;
+    }
+    release(alloc, trial, random)?;
+    Ok(trial.is_locked_up())
+}
+
 /// One try: a schedule after which the network is locked up, if it came to that.
 fn one_try(
     alloc: Global,
@@ -132,12 +148,9 @@ fn one_try(
     random: &mut Random,
 ) -> Result<Option<String>, AllocError> {
     let mut trial = Trial::new(alloc, network)?;
-    let number = random.below(tangles.len());
-    if let Some(tangle) = tangles.get(number) {
-        place_cycle(alloc, network, &mut trial, random, tangle)?;
-    }
-    release(alloc, &mut trial, random)?;
-    Ok(trial.locked_up())
+    let locked = is_locked_up_by(alloc, network, tangles, &mut trial, random);
+    let text = trial.into_text();
+    if locked? { Ok(Some(text)) } else { Ok(None) }
 }
 
 /// The schedule of one try, if it leads into a lock-up.
@@ -178,9 +191,8 @@ pub fn find(
 {
     for turn in 0..tries {
         let mut random = Random::new(seed, turn);
-        let found = confirmed_try(alloc, network, tangles, &mut random)?;
-        if found.is_some() {
-            return Ok(found);
+        if let Some(text) = confirmed_try(alloc, network, tangles, &mut random)? {
+            return Ok(Some(text));
         }
     }
     Ok(None)

@@ -29,21 +29,19 @@ fn grant_line(alloc: Global, output: Chan, input: Chan) -> Result<String, AllocE
     format!(in alloc; "grant {output} {input}\n")
 }
 
-/// One byte, so many times.
-fn repeated_text(alloc: Global, byte: u8, times: usize) -> Result<String, AllocError> {
-    let pair = encode_upper(alloc, &[byte])?;
-    format!(in alloc; "{pair}*{times}")
-}
-
 /// The cargo's text: pairs, or one pair with a count where all bytes are the same.
 fn cargo_text(alloc: Global, cargo: &[u8]) -> Result<String, AllocError> {
-    let Some(first) = cargo.first() else {
+    let [first, rest @ ..] = cargo else {
         return Ok(String::new(alloc));
     };
-    if cargo.iter().all(|byte| byte == first) {
-        return repeated_text(alloc, *first, cargo.len());
+    // Is each byte the one before it?
+    if rest == &cargo[..rest.len()] {
+        let byte = *first;
+        let count = cargo.len();
+        format!(in alloc; "{byte:02X}*{count}")
+    } else {
+        encode_upper(alloc, cargo)
     }
-    encode_upper(alloc, cargo)
 }
 
 fn begin_line(

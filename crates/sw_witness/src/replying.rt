@@ -49,7 +49,7 @@ fn begin_command(
         cargo,
         end: End::Eop,
     };
-    trial.attempt(alloc, &step)
+    trial.make(alloc, step)
 }
 
 /// Is the flow one whose packets the node of that number answers?
@@ -124,10 +124,10 @@ fn answer(
 ) -> Result<(), AllocError> {
     for _ in 0..MOST_ROUNDS {
         let came = trial.advance(alloc, source, there)?;
-        let taken = trial.repeat(alloc, &Step::Accept(target), 64)?;
-        let replied = trial.attempt(alloc, &Step::Reply(target))?;
+        let taken = trial.repeat(alloc, Step::Accept(target), 64)?;
+        let replied = trial.make(alloc, Step::Reply(target))?;
         let went = trial.advance(alloc, target, back)?;
-        if !(came || taken || replied || went) {
+        if !(came | taken | replied | went) {
             break;
         }
     }

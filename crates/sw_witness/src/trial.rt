@@ -34,14 +34,13 @@ impl<'n> Trial<'n> {
         })
     }
 
-    /// Adds a line that a replay passes over.
-    pub(crate) fn note(&mut self, line: &str) -> Result<(), AllocError> {
-        self.text.push_str(line)?;
-        Ok(())
+    /// Adds a line, if there was memory for it.
+    pub(crate) fn note(&mut self, line: Result<String, AllocError>) -> Result<(), AllocError> {
+        self.text.push_str(line?.as_str())
     }
 
     /// Makes the step, if it is possible and the schedule may have one more.
-    pub(crate) fn attempt(&mut self, alloc: Global, step: &Step) -> Result<bool, AllocError> {
+    fn attempt(&mut self, alloc: Global, step: &Step) -> Result<bool, AllocError> {
         if self.steps >= MOST_STEPS {
             return Ok(false);
         }
@@ -57,12 +56,7 @@ impl<'n> Trial<'n> {
     }
 
     /// Makes the step as often as it is possible, at most so many times; whether it made any.
-    pub(crate) fn repeat(
-        &mut self,
-        alloc: Global,
-        step: &Step,
-        most: u32,
-    ) -> Result<bool, AllocError> {
+    fn attempt_often(&mut self, alloc: Global, step: &Step, most: u32) -> Result<bool, AllocError> {
         let mut moved = false;
         for _ in 0..most {
             if !self.attempt(alloc, step)? {
@@ -71,6 +65,21 @@ impl<'n> Trial<'n> {
             moved = true;
         }
         Ok(moved)
+    }
+
+    /// The same of a step that is let go of then.
+    pub(crate) fn repeat(
+        &mut self,
+        alloc: Global,
+        step: Step,
+        most: u32,
+    ) -> Result<bool, AllocError> {
+        self.attempt_often(alloc, &step, most)
+    }
+
+    /// Makes the step, if it is possible; whether it is.
+    pub(crate) fn make(&mut self, alloc: Global, step: Step) -> Result<bool, AllocError> {
+        self.attempt(alloc, &step)
     }
 
     /// Moves characters into a channel: from the channel before it, or from the node where it starts.
@@ -82,11 +91,11 @@ impl<'n> Trial<'n> {
         channel: Chan,
     ) -> Result<bool, AllocError> {
         match before {
-            None => self.repeat(alloc, &Step::Emit(node), 64),
+            None => self.repeat(alloc, Step::Emit(node), 64),
             Some(input) => {
-                let granted = self.attempt(alloc, &Step::Grant(channel, input))?;
-                let moved = self.repeat(alloc, &Step::Forward(input), 64)?;
-                Ok(granted || moved)
+                let granted = self.make(alloc, Step::Grant(channel, input))?;
+                let moved = self.repeat(alloc, Step::Forward(input), 64)?;
+                Ok(granted | moved)
             }
         }
     }
@@ -99,11 +108,11 @@ impl<'n> Trial<'n> {
         before: Option<Chan>,
         channel: Chan,
     ) -> Result<bool, AllocError> {
-        let asked = self.repeat(alloc, &Step::Fct(channel), 8)?;
-        let answered = self.repeat(alloc, &Step::FctIn(channel), 8)?;
+        let asked = self.repeat(alloc, Step::Fct(channel), 8)?;
+        let answered = self.repeat(alloc, Step::FctIn(channel), 8)?;
         let entered = self.enter(alloc, node, before, channel)?;
-        let arrived = self.repeat(alloc, &Step::Arrive(channel), 64)?;
-        Ok(asked || answered || entered || arrived)
+        let arrived = self.repeat(alloc, Step::Arrive(channel), 64)?;
+        Ok(asked | answered | entered | arrived)
     }
 
     /// Moves characters from a node along a way, and no further; whether any moved.
@@ -145,7 +154,7 @@ impl<'n> Trial<'n> {
             return Ok(false);
         }
         match self.net.possible_at(LinkEnd::new(number)) {
-            Some(step) => self.attempt(alloc, &step),
+            Some(step) => self.make(alloc, step),
             None => Ok(false),
         }
     }
@@ -167,12 +176,13 @@ impl<'n> Trial<'n> {
         Ok(moved)
     }
 
-    /// The schedule, if the network is locked up.
-    pub(crate) fn locked_up(self) -> Option<String> {
-        if self.net.quiet() && self.net.undelivered() > 0 {
-            Some(self.text)
-        } else {
-            None
-        }
+    /// Is the network locked up?
+    pub(crate) fn is_locked_up(&self) -> bool {
+        self.net.quiet() && self.net.undelivered() > 0
+    }
+
+    /// The schedule.
+    pub(crate) fn into_text(self) -> String {
+        self.text
     }
 }

@@ -45,9 +45,8 @@ pub(crate) fn way_between(
                 channel: from,
                 deleted,
             };
-            let way = way_to(alloc, network, flow, place)?;
-            if way.is_some() {
-                return Ok(way);
+            if let Some(way) = way_to(alloc, network, flow, place)? {
+                return Ok(Some(way));
             }
         }
     }
@@ -65,9 +64,8 @@ pub(crate) fn way_onto(
         return Ok(None);
     }
     for deleted in 0..MOST_DELETED + 1 {
-        let way = way_to(alloc, network, flow, Place { channel, deleted })?;
-        if way.is_some() {
-            return Ok(way);
+        if let Some(way) = way_to(alloc, network, flow, Place { channel, deleted })? {
+            return Ok(Some(way));
         }
     }
     Ok(None)

@@ -1,27 +1,41 @@
 //! Whether a network is free without replies that can't happen.
-ghost use Rattle.std.specs.Prelude.{◌≡◌, ◌↔◌, ◌∷◌, IfOk, IsTrue};
-ghost use Rattle.sw_witness.specs.Unanswered.{IsFreeWithout, never_answered, without_replies};
+ghost use Rattle.std.specs.Prelude.{◌≡◌, ◌↔◌, ◌∷◌, IfOk, IsTrue, map};
+ghost use Rattle.sw_mend.specs.Changes.{changed_by_all};
+ghost use Rattle.sw_mend.specs.declared.change.Change.TheVariants.{WithoutReply};
+ghost use Rattle.sw_search.specs.Laws.{RoutedAndFree};
+ghost use Rattle.sw_witness.specs.Unanswered.{IsFreeWithout, never_answered};
 
 use std::alloc::{AllocError, Global};
 use std::marker::Model;
 use sw_config::Network;
-use sw_mend::{Change, network_with};
+use sw_mend::{Change, network_with_all};
 use sw_search::{VerdictWorkers, is_free};
 
-// The network without the replies of these flows.
-fn without_replies(
+// The changes that take the replies of these flows away.
+fn replies_away(alloc: Global, first: u16, others: &[u16]) -> Result<Vec<Change>, AllocError>
+    ensures { IfOk result (λ v. v.items ≡ map WithoutReply (first ∷ others.now)) }
+{
+    let mut changes = Vec::new(alloc);
+    changes.push(Change::WithoutReply(first))?;
+    for flow in others {
+        changes.push(Change::WithoutReply(*flow))?;
+    }
+    Ok(changes)
+}
+
+// Is the network free after these changes?
+fn is_free_changed<W: VerdictWorkers>(
+    workers: &W,
     alloc: Global,
     network: &Network,
-    first: u16,
-    others: &[u16],
-) -> Result<Network, AllocError>
-    ensures { IfOk result (λ n. n ≡ without_replies network.now (first ∷ others.now)) }
+    changes: &[Change],
+) -> Result<bool, AllocError>
+    ensures { IfOk result (λ b. IsTrue b ↔ RoutedAndFree (changed_by_all network.now changes.now)) }
 {
-    let mut left = network_with(alloc, network, &Change::WithoutReply(first))?;
-    for flow in others {
-        left = network_with(alloc, &left, &Change::WithoutReply(*flow))?;
-    }
-    Ok(left)
+    let left = network_with_all(alloc, network, changes)?;
+    let free = is_free(workers, alloc, &left);
+    drop(left);
+    free
 }
 
 // Is the network free without the replies of these flows, which can't happen?
@@ -35,8 +49,8 @@ fn is_free_after<W: VerdictWorkers>(
     requires { first ∷ others.now ≡ never_answered network.now }
     ensures { IfOk result (λ b. IsTrue b ↔ IsFreeWithout network.now) }
 {
-    let left = without_replies(alloc, network, first, others)?;
-    is_free(workers, alloc, &left)
+    let changes = replies_away(alloc, first, others)?;
+    is_free_changed(workers, alloc, network, &changes)
 }
 
 /// Is there a reply that can't happen, and is the network free without these replies? Then it never locks up, though its verdict may be

@@ -61,7 +61,7 @@ fn begin(
         cargo: plain(alloc, count)?,
         end: End::Eop,
     };
-    trial.attempt(alloc, &step)
+    trial.make(alloc, step)
 }
 
 /// Sends long packets of the flow from the node along the way until one is held up at its source.

@@ -1,8 +1,7 @@
 -- The cells of a new journal have its name.
 use Rattle.atomic_table.specs.Seated.{TableId}
-use Rattle.std.proofs.Common.{All, List, Ok, ap, arith, get_or, length, map, subst, sym, ℕ, ◌<◌, ◌∙◌, ◌≡◌}
+use Rattle.std.proofs.Common.{All, List, ap, arith, get_or, length, map, subst, sym, ℕ, ◌<◌, ◌∙◌, ◌≡◌}
 use Rattle.std.proofs.lemmas.List.{get_or-map, length-map}
-use Rattle.std.specs.Prelude.{Err, IfOk, Result}
 use Rattle.sw_cell.specs.declared.cell.CellId.{CellId}
 use Rattle.sw_cell.specs.declared.cell.CellId.TheVariants.{Node}
 use Rattle.sw_journal.specs.Cells.{cells_of}
@@ -16,8 +15,3 @@ all_named d name ids k x lt =
 
 pub new_named : (d : Declaration) (name : TableId) (cells : List CellView) → cells ≡ new_cells d name → All {X = CellView} (λ c. c.name ≡ name) cells
 new_named d name cells is = subst (λ (l : List CellView). All {X = CellView} (λ c. c.name ≡ name) l) (sym is) (all_named d name (cells_of d))
-
--- what holds of a value, if what it follows from does
-pub if_ok : {T E : Type 0} {P Q : T → Type 0} (r : Result T E) → ((x : T) → P x → Q x) → IfOk r P → IfOk r Q
-if_ok (Ok x) then h = then x h
-if_ok (Err e) then h = tt

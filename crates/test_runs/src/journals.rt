@@ -1,6 +1,6 @@
 //! Steps of a journal that are tried one by one, and by two threads. How loads run to their end, by one worker too, is rows of `tests/run.rows`.
 
-mod opened;
+mod pair;
 pub(crate) mod show;
 mod told;
 mod tried;

@@ -15,14 +15,14 @@ use std::io;
 use std::rt::Files;
 
 /// Networks, each with a load whose limit is told.
-static LIMITS: [(&str, &str); 3] = [
+static LIMITS: &[(&str, &str)] = &[
     ("line.toml", "line.load"),
     ("turn.toml", "turn.load"),
     ("rmap.toml", "rmap.load"),
 ];
 
 /// Networks, each with a load whose packets begin as soon as they can.
-static LOADS: [(&str, &str); 13] = [
+static LOADS: &[(&str, &str)] = &[
     ("line.toml", "line.load"),
     ("line8.toml", "long.load"),
     ("star.toml", "star.load"),
@@ -50,7 +50,7 @@ fn show_drains<R: Files + Print + AllocGlobal>(rt: &R) -> io::Result<()> {
 
 // For each load the limit that no history of it reaches.
 fn show_limits<R: Files + Print + AllocGlobal>(rt: &R) -> io::Result<()> {
-    for (network, load) in LIMITS {
+    for &(network, load) in LIMITS {
         print!(rt; "{load} ")?;
         show_work(rt, network, load, Work::Limit)?;
     }
@@ -60,7 +60,7 @@ fn show_limits<R: Files + Print + AllocGlobal>(rt: &R) -> io::Result<()> {
 // For each load how many steps were made, what is left, and what came out.
 fn show_waitings<R: Files + Print + AllocGlobal>(rt: &R) -> io::Result<()> {
     println!(rt; "> packets that begin as soon as they can")?;
-    for (network, load) in LOADS {
+    for &(network, load) in LOADS {
         print!(rt; "{network} {load}: ")?;
         show_work(rt, network, load, Work::Waiting)?;
     }

@@ -71,7 +71,9 @@ fn show_owned<R: Files + Print + AllocGlobal>(
     load: &[u8],
     work: Work,
 ) -> io::Result<()> {
-    show_text(rt, &network, load, work)
+    let shown = show_text(rt, &network, load, work);
+    drop(network);
+    shown
 }
 
 fn show_owned_by_threads<R: Print + AllocGlobal + Threads + Wait + Sync>(
@@ -80,7 +82,9 @@ fn show_owned_by_threads<R: Print + AllocGlobal + Threads + Wait + Sync>(
     load: &[u8],
     work: ThreadsWork,
 ) -> io::Result<()> {
-    show_text_by_threads(rt, &network, load, work)
+    let shown = show_text_by_threads(rt, &network, load, work);
+    drop(network);
+    shown
 }
 
 /// Does it with the network and the load of these files, and prints what came of it.

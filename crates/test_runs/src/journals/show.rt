@@ -1,11 +1,11 @@
 //! Steps of a load's journal, as they are printed.
 ghost use Rattle.sw_load.specs.Laws.{AreDeclared};
 
-use crate::journals::opened::open;
+use crate::journals::pair::Pair;
 use crate::journals::tried::{Trial, try_steps};
 use crate::journals::two_threads::{TwoThreads, show_two_threads};
 use std::io;
-use std::sync::Wait;
+use std::sync::{Mutex, Wait};
 use std::thread::Threads;
 use sw_config::Network;
 use sw_load::laws::listed_are_declared;
@@ -20,10 +20,8 @@ fn show_tried<R: Print + AllocGlobal>(
 ) -> io::Result<()>
     requires { AreDeclared network.now load.now }
 {
-    match open(rt.alloc(), network, load, limit) {
-        Ok((journal, cells)) => try_steps(rt, network, journal, cells, trial),
-        Err(_) => println!(rt; "no journal"),
-    }
+    let mut pair = Pair::open(rt.alloc(), network, load, limit)?;
+    try_steps(rt, &mut pair, trial)
 }
 
 fn show_shared<R: Print + AllocGlobal + Threads + Wait + Sync>(
@@ -34,10 +32,8 @@ fn show_shared<R: Print + AllocGlobal + Threads + Wait + Sync>(
 ) -> io::Result<()>
     requires { AreDeclared network.now load.now }
 {
-    match open(rt.alloc(), network, load, 1000) {
-        Ok((journal, cells)) => show_two_threads(rt, journal, cells, work),
-        Err(_) => println!(rt; "no journal"),
-    }
+    let pair = Pair::open(rt.alloc(), network, load, 1000)?;
+    show_two_threads(rt, &Mutex::new(pair), work)
 }
 
 fn show_all<R: Print + AllocGlobal + Threads + Wait + Sync>(

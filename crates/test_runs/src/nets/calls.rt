@@ -56,15 +56,25 @@ fn show_step<R: Print + AllocGlobal>(
     show_made(rt, name, net.step(rt.alloc(), step))
 }
 
-// A packet of one byte goes from A to B.
-fn show_carry<R: Print + AllocGlobal>(rt: &R, net: &mut Core<'_>) -> io::Result<()> {
+// B lets A send, which A is told.
+fn show_credit<R: Print + AllocGlobal>(rt: &R, net: &mut Core<'_>) -> io::Result<()> {
     let channel = Chan::new(0);
     show_step(rt, net, "fct 0", &Step::Fct(channel))?;
-    show_step(rt, net, "fctin 0", &Step::FctIn(channel))?;
+    show_step(rt, net, "fctin 0", &Step::FctIn(channel))
+}
+
+// A character goes from A to B.
+fn show_character<R: Print + AllocGlobal>(rt: &R, net: &mut Core<'_>) -> io::Result<()> {
+    show_step(rt, net, "emit A", &Step::Emit(0))?;
+    show_step(rt, net, "arrive 0", &Step::Arrive(Chan::new(0)))?;
+    show_step(rt, net, "accept B", &Step::Accept(1))
+}
+
+// A packet of one byte goes from A to B.
+fn show_carry<R: Print + AllocGlobal>(rt: &R, net: &mut Core<'_>) -> io::Result<()> {
+    show_credit(rt, net)?;
     for _ in 0..2usize {
-        show_step(rt, net, "emit A", &Step::Emit(0))?;
-        show_step(rt, net, "arrive 0", &Step::Arrive(channel))?;
-        show_step(rt, net, "accept B", &Step::Accept(1))?;
+        show_character(rt, net)?;
     }
     Ok(())
 }

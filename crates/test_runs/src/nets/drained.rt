@@ -22,7 +22,7 @@ enum Choice {
     OutOfRange,
 }
 
-static CHOICES: [(&str, Choice); 3] = [
+static CHOICES: &[(&str, Choice)] = &[
     ("first", Choice::First),
     ("last", Choice::Last),
     ("out of range", Choice::OutOfRange),
@@ -80,7 +80,7 @@ fn show_choices<R: Print + AllocGlobal>(
 ) -> io::Result<()>
     requires { AreDeclared passed.now load.now }
 {
-    for (name, choice) in CHOICES {
+    for &(name, choice) in CHOICES {
         print!(rt; "{name}:")?;
         show_drain(rt, passed, load, sample, choice)?;
     }

@@ -1,16 +1,13 @@
 use Rattle.std.proofs.Common.{ap, Err}
-use Rattle.sw_command.proofs.Endings.{told_answer, told_memory, told_unread}
+use Rattle.sw_command.proofs.Endings.{told_unread}
+use Rattle.sw_app.proofs.Told.{answered}
 use Rattle.sw_app_run.specs.WitnessAnswers.{IsWitnessAnswer}
 use Rattle.sw_app_run.proofs.witness_engine.witness.Goals as goal
 
 pub returns-in-Err : goal.returns-in-Err
 returns-in-Err g c = told_unread (IsWitnessAnswer c.args.tries) _ _ _ _ _ _ (λ long. c.in-Err.ensures.long (ap Err long)) c.tell_unread.ensures
 
-pub returns-in-Ok-witness_answer : goal.returns-in-Ok-witness_answer
-returns-in-Ok-witness_answer g c =
-    told_answer (IsWitnessAnswer c.args.tries) _ _ _ _ _ c.deref.result.now c.as_str.result.now c.in-Ok-witness_answer.answer.status
-    (rw c.deref.ensures.value c.in-Ok.ensures.given) c.in-Ok.ensures.end (rw c.deref.ensures.value c.in-Ok.ensures.within)
-    (rw c.as_str.ensures.value c.in-Ok-witness_answer.ensures) c.tell.ensures
-
 pub returns : goal.returns
-returns g c = told_memory (IsWitnessAnswer c.args.tries) _ _ _ _ _ c.tell_memory.ensures
+returns g c =
+    answered (IsWitnessAnswer c.args.tries) _ _ _ _ _ c.deref.result.now c.witness_answer.result (rw c.deref.ensures.value c.in-Ok.ensures.given) c.in-Ok.ensures.end
+    (rw c.deref.ensures.value c.in-Ok.ensures.within) c.witness_answer.ensures c.tell_answer.ensures

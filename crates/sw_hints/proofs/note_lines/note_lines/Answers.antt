@@ -1,9 +1,9 @@
-use Rattle.std.proofs.Common.{◌<◌, length, rules, string_bytes}
+use Rattle.std.proofs.Common.{string_bytes}
 use Rattle.sw_hints.proofs.Noted.{lines_more}
 use Rattle.sw_hints.proofs.note_lines.note_lines.Goals as goal
 
 pub loop-note-preserved : goal.loop-note-preserved
 loop-note-preserved c =
-    let within : c.loop-note.note-index < length c.args.notes.now = search rules in
     let added = c.in_ok-add_line.ensures in
-    rw added.2 (lines_more c.args.text.now c.args.notes.now c.loop-note.note-index _ (string_bytes c.loop-note.lines) added.0 within c.loop-note.invariant added.1)
+    rw added.2
+    (lines_more c.args.text.now c.args.notes.now c.loop-note.note-index _ (string_bytes c.loop-note.lines) added.0 c.loop-note-test.true c.loop-note.invariant added.1)

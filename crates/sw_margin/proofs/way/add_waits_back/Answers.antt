@@ -1,7 +1,15 @@
-use Rattle.std.proofs.Common.{ℕ, ◌<◌, ◌++◌, ◌∷◌, [], length, sym, ap, ◌∙◌, arith}
+use Rattle.std.proofs.Common.{ℕ, ◌≡◌, ◌<◌, ◌-◌, ◌++◌, ◌∷◌, [], List, length, sym, ap, ◌∙◌, arith}
 use Rattle.sw_flow.specs.Places.{ends_of}
-use Rattle.sw_margin.proofs.Ways.{waits_more}
+use Rattle.sw_margin.proofs.Ways.{waits_begun, waits_from, waits_more}
 use Rattle.sw_margin.proofs.way.add_waits_back.Goals as goal
+
+pub loop-init : goal.loop-init
+loop-init c =
+    let d = c.args.network.now in
+    let whole : length (ends_of d) - 0 ≡ length (ends_of d) = omega arith in
+    ap (λ (n : ℕ). c.args.waits.now.items ++ waits_from d c.args.flow.now n c.start-place.result) whole
+    ∙ ap (λ (l : List (ℕ × ℕ)). c.args.waits.now.items ++ l)
+    (sym (waits_begun d c.args.flow.now c.start-place.result c.start-place.ensures.start c.start-place.ensures.whole))
 
 pub loop-preserved : goal.loop-preserved
 loop-preserved c =
@@ -10,3 +18,9 @@ loop-preserved c =
     let lt : c.loop.counter < length (ends_of d) = omega (arith, c.loop-test.true, c.channels-end.ensures.ends) in
     waits_more d c.args.flow.now (length (ends_of d)) c.loop.counter c.loop.place c.in-Some.next c.args.waits.now.items before _ lt (sym c.in-Some.ensures) c.loop.invariant
     (c.in_ok-push.ensures.items ∙ ap (λ (w : ℕ × ℕ). before ++ w ∷ []) c.wait_back.ensures)
+
+pub returns : goal.returns
+returns c =
+    let d = c.args.network.now in
+    let past : length (ends_of d) - c.loop.counter ≡ 0 = omega (arith, c.loop-test.false, c.channels-end.ensures.ends) in
+    ap (λ (n : ℕ). c.loop.waits.items ++ waits_from d c.args.flow.now n c.loop.place) (sym past) ∙ c.loop.invariant

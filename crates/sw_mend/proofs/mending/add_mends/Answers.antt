@@ -1,6 +1,7 @@
+use Rattle.std.proofs.Common.{arith}
 use Rattle.sw_mend.specs.Mends.{Frees}
 use Rattle.sw_mend.specs.declared.change.Trial.TheVariants.{Without}
-use Rattle.sw_mend.proofs.Told.{added_more, none_added}
+use Rattle.sw_mend.proofs.Told.{added_more, all_tried, none_added}
 use Rattle.sw_mend.proofs.mending.add_mends.Goals as goal
 
 pub loop-change-init : goal.loop-change-init
@@ -10,3 +11,8 @@ pub loop-change-preserved : goal.loop-change-preserved
 loop-change-preserved g c =
     added_more (Frees c.args.network.now) Without c.args.changes.now c.loop-change.change-index c.change-item.result _ _ _ _ c.loop-change-test.true c.change-item.is c.loop-change.invariant
     c.in_ok-freed.ensures c.in_ok-add_if.ensures
+
+pub returns : goal.returns
+returns g c =
+    all_tried (Frees c.args.network.now) Without c.args.changes.now c.loop-change.change-index c.args.mends.now.items c.loop-change.mends.items
+    (omega (arith, c.loop-change-test.false)) c.loop-change.invariant

@@ -1,4 +1,5 @@
-use Rattle.sw_mend.proofs.Paired.{added_more, none_added}
+use Rattle.std.proofs.Common.{arith}
+use Rattle.sw_mend.proofs.Paired.{added_more, all_tried, none_added}
 use Rattle.sw_mend.proofs.pairs.add_pairs_with.Goals as goal
 
 pub loop-second-init : goal.loop-second-init
@@ -8,3 +9,8 @@ pub loop-second-preserved : goal.loop-second-preserved
 loop-second-preserved g c =
     added_more c.args.network.now c.args.first.now c.args.others.now c.loop-second.second-index c.second-item.result _ _ _ _ c.loop-second-test.true c.second-item.is c.loop-second.invariant
     c.in_ok-frees.ensures c.in_ok-add_pair.ensures
+
+pub returns : goal.returns
+returns g c =
+    all_tried c.args.network.now c.args.first.now c.args.others.now c.loop-second.second-index c.args.pairs.now.items c.loop-second.pairs.items
+    (omega (arith, c.loop-second-test.false)) c.loop-second.invariant

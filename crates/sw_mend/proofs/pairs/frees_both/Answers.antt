@@ -4,4 +4,4 @@ use Rattle.sw_search.specs.Laws.{RoutedAndFree}
 use Rattle.sw_mend.proofs.pairs.frees_both.Goals as goal
 
 pub returns : goal.returns
-returns g c = subst (λ (d : Declaration). IfOk c.is_free.result (λ (b : Bool). IsTrue b ↔ RoutedAndFree d)) c.in_ok-changed.ensures c.is_free.ensures
+returns g c = subst (λ (d : Declaration). IfOk c.is_freed.result (λ (b : Bool). IsTrue b ↔ RoutedAndFree d)) c.in_ok-changed.ensures c.is_freed.ensures.free

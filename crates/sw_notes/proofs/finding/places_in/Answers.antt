@@ -1,4 +1,4 @@
-use Rattle.std.proofs.Common.{◌<◌, ◌+◌, ap, length, rules}
+use Rattle.std.proofs.Common.{◌+◌, ap}
 use Rattle.toml.specs.View.{table_view}
 use Rattle.sw_notes.specs.Passing.{passes}
 use Rattle.sw_notes.proofs.Placed.{place_next}
@@ -6,10 +6,9 @@ use Rattle.sw_notes.proofs.finding.places_in.Goals as goal
 
 pub loop-table-preserved : goal.loop-table-preserved
 loop-table-preserved c =
-    let within : c.loop-table.table-index < length c.args.tables.now = search rules in
     record {
       counted = ap (λ n. n + 1) c.loop-table.invariant.counted;
       placed =
           place_next (passes c.args.test.now) (λ t. table_view t.now) c.args.tables.now c.loop-table.table-index c.loop-table.place c.table-item.result c.loop-table.places.items
-          c.add_place.new.places.items within c.table-item.is c.loop-table.invariant.counted c.loop-table.invariant.placed c.in_ok-add_place.ensures;
+          c.add_place.new.places.items c.loop-table-test.true c.table-item.is c.loop-table.invariant.counted c.loop-table.invariant.placed c.in_ok-add_place.ensures;
     }

@@ -1,14 +1,19 @@
-use Rattle.std.proofs.Common.{List, ap, length, rules, ◌∙◌, ◌≤◌}
+use Rattle.std.proofs.Common.{List, ap, refl, ◌∙◌}
 use Rattle.std.proofs.lemmas.List.{take_all}
 use Rattle.std.specs.List.{flat_map}
 use Rattle.sw_machine.specs.Begun.{beginning}
 use Rattle.sw_model.specs.Steps.{machine_step}
 use Rattle.sw_model.specs.declared.step.Step.{Step}
-use Rattle.sw_summary.proofs.Lists.{beginnings_are}
+use Rattle.sw_summary.proofs.Lists.{beginnings_are, made_more}
 use Rattle.sw_summary.proofs.begun.beginnings.Goals as goal
+
+pub loop-step-preserved : goal.loop-step-preserved
+loop-step-preserved c =
+    made_more (λ (step : Step). beginning (machine_step step)) c.args.steps.now c.loop-step.step-index c.step-item.result c.loop-step.all.items _ _ c.loop-step-test.true c.step-item.is
+    c.loop-step.invariant refl c.in_ok-push_beginning.ensures
 
 pub returns : goal.returns
 returns c =
-    let ended : length c.args.steps.now ≤ c.loop-step.step-index = search rules in
-    c.loop-step.invariant ∙ ap (λ (l : List Step). flat_map (λ step. beginning (machine_step step)) l) (take_all c.loop-step.step-index c.args.steps.now ended)
+    c.loop-step.invariant
+    ∙ ap (λ (l : List Step). flat_map (λ step. beginning (machine_step step)) l) (take_all c.loop-step.step-index c.args.steps.now c.loop-step-test.false)
     ∙ beginnings_are c.args.steps.now

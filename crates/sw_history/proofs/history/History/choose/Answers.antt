@@ -1,18 +1,8 @@
-use Rattle.std.proofs.Common.{Some, ap, arith, length, subst, sym, ◌<◌, ◌∙◌, ◌≡◌}
-use Rattle.std.specs.Prelude.{slice_get}
-use Rattle.sw_cell.proofs.Network.{channels_are}
-use Rattle.sw_history.proofs.Idle.{idle_node, next_move, switch_idle}
+use Rattle.std.proofs.Common.{subst, sym}
+use Rattle.sw_history.proofs.Idle.{idle_by, next_move}
 use Rattle.sw_history.proofs.history.History.choose.Goals as goal
 use Rattle.sw_history.specs.History.{HistoryView, IsKept, IsNextAt}
-use Rattle.sw_model.proofs.Networks.{are_networks}
-use Rattle.sw_model.specs.Model.{network_of}
-use Rattle.sw_net.proofs.Told.{start_at_node, start_at_switch}
-use Rattle.sw_config.proofs.Steps.{length-link_ends}
-use Rattle.sw_config.specs.Entries.{Declaration, wiring_of}
-use Rattle.sw_config.specs.Valid.{IsValid}
 use Rattle.sw_model.specs.Steps.{machine_step}
-use Rattle.sw_topo.specs.Wiring.{Wiring}
-use Rattle.sw_topo.specs.declared.place.PlaceEnd.TheVariants.{Node, Switch}
 
 pub returns-in-Some-clause-some : goal.returns-in-Some-clause-some
 returns-in-Some-clause-some g c =
@@ -20,51 +10,12 @@ returns-in-Some-clause-some g c =
     let kept = subst (λ (k : HistoryView). IsKept in_self.net k in_self.begun.items) c.self.view_is c.self.invariant.0 in
     next_move in_self.net c.args.self.now in_self.begun.items kept c.args.end (machine_step c.in-Some.step) c.in-Some.ensures.some c.in-Some.ensures.possible
 
-pub start_of-requires : goal.start_of-requires
-start_of-requires g c =
-    let w = ap (λ (k : Wiring). length k.ends) c.topology.ensures.wiring in
-    let size = length-link_ends c.network.result.now.links in
-    let same = ap (λ (k : Declaration). length k.links) (c.network.ensures.network ∙ ap (λ (k : HistoryView). k.declared) c.self.view_is) in
-    let s = c.sends.ensures in
-    let r = c.requires in
-    omega arith
-
-pub returns-in_ok-beginning-in-Some-may_begin-clause-some : goal.returns-in_ok-beginning-in-Some-may_begin-clause-some
-returns-in_ok-beginning-in-Some-may_begin-clause-some g c =
-    let in_self = c.self.inside in
-    let now = c.args.self.now in
-    let net = network_of now.declared in
-    let kept = subst (λ (k : HistoryView). IsKept in_self.net k in_self.begun.items) c.self.view_is c.self.invariant.0 in
-    let valid = subst IsValid kept.network c.network.ensures.sound.valid in
-    let wires = c.topology.ensures.wiring ∙ ap wiring_of (c.network.ensures.network ∙ kept.network) in
-    let starts = start_at_node now.declared c.args.end c.in-Node.node (subst (λ (w : Wiring). slice_get w.ends c.args.end ≡ Some (Node c.in-Node.node)) wires (subst (λ k. slice_get c.topology.result.now.ends k ≡ Some (Node c.in-Node.node)) c.sends.ensures (c.in-Node.ensures.place))) in
-    let all = channels_are now.declared in
-    let size = length-link_ends now.declared.links in
-    let r = c.requires in
-    let lt : c.args.end < net.channels = omega arith in
-    let out = ((are_networks now.declared valid).starts_at_node c.args.end c.in-Node.node lt starts).1 in
-    subst (IsNextAt now c.args.end) (sym c.in_ok-beginning-in-Some-may_begin.ensures) (record { belongs = ap net.out c.in-Some-may_begin.ensures.from ∙ out; next = c.in-Some-may_begin.ensures.some })
+pub returns-in_ok-beginning-in-Some-may_begin_at-clause-some : goal.returns-in_ok-beginning-in-Some-may_begin_at-clause-some
+returns-in_ok-beginning-in-Some-may_begin_at-clause-some g c =
+    subst (IsNextAt c.args.self.now c.args.end) (sym c.in_ok-beginning-in-Some-may_begin_at.ensures) c.in-Some-may_begin_at.ensures.some
 
 pub returns-in-None-clause-none : goal.returns-in-None-clause-none
 returns-in-None-clause-none g c =
     let in_self = c.self.inside in
-    let now = c.args.self.now in
     let kept = subst (λ (k : HistoryView). IsKept in_self.net k in_self.begun.items) c.self.view_is c.self.invariant.0 in
-    let valid = subst IsValid kept.network c.network.ensures.sound.valid in
-    let wires = c.topology.ensures.wiring ∙ ap wiring_of (c.network.ensures.network ∙ kept.network) in
-    let starts = start_at_node now.declared c.args.end c.in-Node.node (subst (λ (w : Wiring). slice_get w.ends c.args.end ≡ Some (Node c.in-Node.node)) wires (subst (λ k. slice_get c.topology.result.now.ends k ≡ Some (Node c.in-Node.node)) c.sends.ensures (c.in-Node.ensures.place))) in
-    let all = channels_are now.declared in
-    let size = length-link_ends now.declared.links in
-    let r = c.requires in
-    let lt : c.args.end < (network_of now.declared).channels = omega arith in
-    idle_node in_self.net now in_self.begun.items kept valid c.args.end c.in-Node.node lt c.in_default.ensures.none starts c.in-None.ensures.none
-
-pub returns-in-Switch-clause-none : goal.returns-in-Switch-clause-none
-returns-in-Switch-clause-none g c =
-    let in_self = c.self.inside in
-    let now = c.args.self.now in
-    let kept = subst (λ (k : HistoryView). IsKept in_self.net k in_self.begun.items) c.self.view_is c.self.invariant.0 in
-    let valid = subst IsValid kept.network c.network.ensures.sound.valid in
-    let wires = c.topology.ensures.wiring ∙ ap wiring_of (c.network.ensures.network ∙ kept.network) in
-    let starts = start_at_switch now.declared c.args.end c.in-Switch.field-0 c.in-Switch.field-1 (subst (λ (w : Wiring). slice_get w.ends c.args.end ≡ Some (Switch c.in-Switch.field-0 c.in-Switch.field-1)) wires (subst (λ k. slice_get c.topology.result.now.ends k ≡ Some (Switch c.in-Switch.field-0 c.in-Switch.field-1)) c.sends.ensures (c.in-Switch.ensures.place))) in
-    switch_idle in_self.net now in_self.begun.items kept valid c.args.end c.in-Switch.field-0 c.in_default.ensures.none starts
+    idle_by in_self.net c.args.self.now in_self.begun.items kept c.args.end c.in_default.ensures.none c.in-None.ensures.none

@@ -1,23 +1,25 @@
-use Rattle.std.proofs.Common.{ap, arith, below_more, false, length, refl, subst, sym, ◌∙◌, ◌≡◌}
+use Rattle.std.proofs.Common.{ap, arith, below_more, false, length, refl, subst, true, ◌∙◌, ◌≡◌}
 use Rattle.std.specs.Prelude.{is_some}
 use Rattle.std.proofs.lemmas.Bool.{false≢true}
-use Rattle.sw_history.proofs.Whole.{not_whole, whole}
+use Rattle.sw_history.proofs.Whole.{mapped_told, not_whole, whole}
 use Rattle.sw_history.proofs.history.History.is_whole.Goals as goal
 use Rattle.sw_history.specs.History.{HistoryView, IsKept}
-use Rattle.sw_load.specs.History.{next_packet, packets_of}
+use Rattle.sw_load.specs.History.{next_packet, packet_of, packets_of}
 use Rattle.sw_model.specs.Model.{network_of}
 use Rattle.sw_config.specs.Entries.{Declaration}
 use Rattle.sw_config.specs.Valid.{IsValid}
 
-pub returns-then-has_next : goal.returns-then-has_next
-returns-then-has_next g c =
+pub returns-then-is_some : goal.returns-then-is_some
+returns-then-is_some g c =
     let now = c.args.self.now in
-    (λ t. absurd (false≢true t), λ all. absurd (not_whole now.declared now.load now.steps c.loop-node.node (sym c.has_next.ensures ∙ c.if-has_next.true) all))
+    let some = mapped_told (λ p. packet_of p.now) c.next.result (next_packet (network_of now.declared) (packets_of now.load) now.steps c.loop-node.node) c.is_some.result true c.next.ensures c.is_some.ensures c.if-is_some.true in
+    (λ t. absurd (false≢true t), λ all. absurd (not_whole now.declared now.load now.steps c.loop-node.node some all))
 
 pub loop-node-preserved : goal.loop-node-preserved
 loop-node-preserved g c =
     let now = c.args.self.now in
-    below_more (λ k. is_some (next_packet (network_of now.declared) (packets_of now.load) now.steps k) ≡ false) c.loop-node.node c.loop-node.invariant (sym c.has_next.ensures ∙ c.if-has_next.false)
+    let none = mapped_told (λ p. packet_of p.now) c.next.result (next_packet (network_of now.declared) (packets_of now.load) now.steps c.loop-node.node) c.is_some.result false c.next.ensures c.is_some.ensures c.if-is_some.false in
+    below_more (λ k. is_some (next_packet (network_of now.declared) (packets_of now.load) now.steps k) ≡ false) c.loop-node.node c.loop-node.invariant none
 
 pub returns : goal.returns
 returns g c =

@@ -6,20 +6,28 @@ use Rattle.sw_flow.specs.Places.{ends_of}
 use Rattle.sw_journal.specs.Record.{CanCommit}
 use Rattle.sw_machine.specs.Steps.{Grant}
 use Rattle.sw_run.proofs.Grants.{can_commit, is_picked, linked, switch_inside}
+use Rattle.sw_run.proofs.Policies.{keeps, within}
 use Rattle.sw_run.proofs.locked_journal.LockedJournal.picked.Goals as goal
 use Rattle.sw_run.specs.Grants.{IsPicked}
 use Rattle.sw_topo.specs.Wiring.{Wiring, out_of}
 use Rattle.sw_topo.specs.declared.place.PlaceEnd.TheVariants.{Switch}
 
-pub pick-input-requires-clause-linked : goal.pick-input-requires-clause-linked
-pick-input-requires-clause-linked g c =
+pub pick_at-input-requires-clause-within : goal.pick_at-input-requires-clause-within
+pick_at-input-requires-clause-within g c =
     let self = c.args.self.now in
+    let locked = c.args.locked.now in
     let j = self.journal in
     let same = self.network_is ∙ sym self.identity_is.1 in
     let valid = subst IsValid same c.topology-topology.ensures.valid in
     let starts = subst (λ (d : Declaration). slice_get (ends_of d) c.args.end ≡ Some (Switch c.args.w c.args.out)) (sym self.identity_is.1) c.requires.starts in
-    subst (λ (d : Declaration). (port : ℕ) → IsBitSet c.args.asking port → (port < 32) × IsSome (out_of (ends_of d) c.args.w port)) self.identity_is.1
-    (linked j valid c.args.end c.args.w c.args.out c.args.asking starts c.requires.ask)
+    let ports = subst (λ (d : Declaration). (port : ℕ) → IsBitSet c.args.asking port → (port < 32) × IsSome (out_of (ends_of d) c.args.w port)) self.identity_is.1
+    (linked j valid c.args.end c.args.w c.args.out c.args.asking starts c.requires.ask) in
+    within g.W.RunIdentity.declared locked.cell.id locked.arbiters.items c.args.w c.args.out c.args.asking locked.has_arbiters c.requires.at ports
+
+pub invariant_of-locked-clause-has_arbiters : goal.invariant_of-locked-clause-has_arbiters
+invariant_of-locked-clause-has_arbiters g c =
+    let locked = c.args.locked.now in
+    keeps g.W.RunIdentity.declared locked.cell.id locked.arbiters.items c.pick_at-input.new.arbiters.items c.args.out c.args.asking c.pick_at-input.result locked.has_arbiters c.pick_at-input.ensures.picks
 
 pub out_of-requires : goal.out_of-requires
 out_of-requires g c =
@@ -38,8 +46,8 @@ unwrap-back-requires g c =
     let same = self.network_is ∙ sym self.identity_is.1 in
     let valid = subst IsValid same c.topology-topology.ensures.valid in
     let starts = subst (λ (d : Declaration). slice_get (ends_of d) c.args.end ≡ Some (Switch c.args.w c.args.out)) (sym self.identity_is.1) c.requires.starts in
-    let is = c.out_of.ensures.channel ∙ ap (λ (x : Wiring). out_of x.ends c.args.w c.pick-input.result) (c.topology-topology.ensures.wiring ∙ ap wiring_of same) in
-    subst IsSome (sym is) (linked j valid c.args.end c.args.w c.args.out c.args.asking starts c.requires.ask c.pick-input.result c.pick-input.ensures.member).1
+    let is = c.out_of.ensures.channel ∙ ap (λ (x : Wiring). out_of x.ends c.args.w c.pick_at-input.result) (c.topology-topology.ensures.wiring ∙ ap wiring_of same) in
+    subst IsSome (sym is) (linked j valid c.args.end c.args.w c.args.out c.args.asking starts c.requires.ask c.pick_at-input.result c.pick_at-input.ensures.member).1
 
 pub returns-clause-can : goal.returns-clause-can
 returns-clause-can g c =
@@ -48,10 +56,10 @@ returns-clause-can g c =
     let same = self.network_is ∙ sym self.identity_is.1 in
     let valid = subst IsValid same c.topology-topology.ensures.valid in
     let starts = subst (λ (d : Declaration). slice_get (ends_of d) c.args.end ≡ Some (Switch c.args.w c.args.out)) (sym self.identity_is.1) c.requires.starts in
-    let is = c.out_of.ensures.channel ∙ ap (λ (x : Wiring). out_of x.ends c.args.w c.pick-input.result) (c.topology-topology.ensures.wiring ∙ ap wiring_of same) in
+    let is = c.out_of.ensures.channel ∙ ap (λ (x : Wiring). out_of x.ends c.args.w c.pick_at-input.result) (c.topology-topology.ensures.wiring ∙ ap wiring_of same) in
     let goes = sym is ∙ c.unwrap-back.ensures in
     subst (λ k. CanCommit j c.args.locked.now.cell.id (Grant c.args.end k)) (sym c.partner.ensures)
-    (can_commit j valid c.args.end c.args.w c.args.out c.args.asking starts c.requires.ask c.args.locked.now.cell.id c.pick-input.result c.unwrap-back.result c.requires.at c.pick-input.ensures.member goes)
+    (can_commit j valid c.args.end c.args.w c.args.out c.args.asking starts c.requires.ask c.args.locked.now.cell.id c.pick_at-input.result c.unwrap-back.result c.requires.at c.pick_at-input.ensures.member goes)
 
 pub returns-clause-picked : goal.returns-clause-picked
 returns-clause-picked g c =
@@ -60,7 +68,7 @@ returns-clause-picked g c =
     let same = self.network_is ∙ sym self.identity_is.1 in
     let valid = subst IsValid same c.topology-topology.ensures.valid in
     let starts = subst (λ (d : Declaration). slice_get (ends_of d) c.args.end ≡ Some (Switch c.args.w c.args.out)) (sym self.identity_is.1) c.requires.starts in
-    let is = c.out_of.ensures.channel ∙ ap (λ (x : Wiring). out_of x.ends c.args.w c.pick-input.result) (c.topology-topology.ensures.wiring ∙ ap wiring_of same) in
+    let is = c.out_of.ensures.channel ∙ ap (λ (x : Wiring). out_of x.ends c.args.w c.pick_at-input.result) (c.topology-topology.ensures.wiring ∙ ap wiring_of same) in
     let goes = sym is ∙ c.unwrap-back.ensures in
-    subst (λ k. IsPicked j c.args.locked.now.arbiters.items c.args.end k c.pick-input.new.self.arbiters.items) (sym c.partner.ensures)
-    (is_picked j valid c.args.end c.args.w c.args.out c.args.asking starts c.requires.ask c.args.locked.now.arbiters.items c.pick-input.new.self.arbiters.items c.pick-input.result c.unwrap-back.result goes c.pick-input.ensures.picks)
+    subst (λ k. IsPicked j c.args.locked.now.arbiters.items c.args.end k c.pick_at-input.new.arbiters.items) (sym c.partner.ensures)
+    (is_picked j valid c.args.end c.args.w c.args.out c.args.asking starts c.requires.ask c.args.locked.now.arbiters.items c.pick_at-input.new.arbiters.items c.pick_at-input.result c.unwrap-back.result goes c.pick_at-input.ensures.picks)

@@ -1,0 +1,18 @@
+-- A loop over the tables of one of the document's lists.
+use Rattle.std.proofs.Common.{◌≡◌, ℕ, ◌≤◌, ◌<◌, List, map, length, take, get_or, Result, Ok, Err}
+use Rattle.std.specs.Prelude.{IsErrAnd}
+use Rattle.sw_toml_table.specs.declared.fault.TextFault.{TextFault}
+use Rattle.sw_toml_table.specs.declared.fault.FileFault.{FileFault}
+use Rattle.sw_toml_table.specs.Gives.{◌>>=◌, Fails, Gives, walk}
+use Rattle.sw_toml_table.proofs.Walks.{walk_fails, walk_done}
+
+module _ {S X Y : Type 0} (step : ℕ → S → Y → Result S TextFault) (f : X → Y) (tables : Result (List Y) TextFault) (listed items : List X) (read : tables ≡ Ok (map f listed)) (same : items ≡ listed) where
+  -- the entry at i fails, and with it the loop
+  pub list_fails : {T : Type 0} (view : T → S) (s : S) (i : ℕ) (t : S) (x : X) (e : FileFault) (result : Result T FileFault) → IsErrAnd result (λ y. y ≡ e) → walk step s (take i (map f items)) ≡ Ok t → i < length items → x ≡ get_or items i x
+      → Fails e (step i t (f x)) → Gives view result (tables >>= λ ts. walk step s ts)
+  list_fails view s i t x e (Ok y) failed so_far lt at here = absurd failed
+  list_fails view s i t x e (Err y) failed so_far lt at here = rw (failed, read, ← same) (walk_fails step f s items i t x e so_far lt at here)
+
+  -- all entries were read
+  pub list_done : (s : S) (i : ℕ) (t : S) → walk step s (take i (map f items)) ≡ Ok t → length items ≤ i → (tables >>= λ ts. walk step s ts) ≡ Ok t
+  list_done s i t so_far le = rw (read, ← same) (walk_done step f s items i t so_far le)

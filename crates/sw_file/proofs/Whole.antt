@@ -1,0 +1,82 @@
+-- What an entry is where all of its readings went well.
+use Rattle.std.proofs.Common.{◌≡◌, ◌≤◌, ◌<◌, ◌-◌, ℕ, false, Bool, List, [], ◌∷◌, ◌++◌, length, Option, Some, Ok, refl, Fits, w8, w16, arith}
+use Rattle.std.specs.Prelude.{nat_lt, IfSome}
+use Rattle.std.proofs.lemmas.Bool.{lt-ltb, ltb-true, false_from_ne_true}
+use Rattle.toml.specs.Data.{Members}
+use Rattle.sw_topo.specs.declared.place.PlaceEnd.{PlaceEnd}
+use Rattle.sw_topo.specs.declared.place.PlaceEnd.TheVariants as ends
+use Rattle.sw_route.specs.declared.look.Route.{Route as RouteEntry}
+use Rattle.sw_arb.specs.declared.arbitration.Arbitration.{Arbitration}
+use Rattle.sw_rmap.specs.declared.config.TargetConfig.{TargetConfig}
+use Rattle.sw_config.specs.Entries.{Declaration, part_names}
+use Rattle.sw_toml_table.specs.declared.keys.Key.{Key}
+use Rattle.sw_toml_table.specs.declared.keys.Key.TheVariants.{Logical, TargetKey, Start, Slots, Address, Last, Delete, A, APort, B, BPort, Buffer, BufferA, BufferB}
+use Rattle.sw_toml_table.specs.declared.keys.Section.{Section}
+use Rattle.sw_toml_table.specs.declared.keys.Section.TheVariants as section
+use Rattle.sw_toml_table.specs.declared.keys.Version.{Version}
+use Rattle.sw_toml_table.specs.Table.{only_known, absent, number_at, number_or, flag_or_false}
+use Rattle.sw_file.specs.Keys.{node_keys, target_keys, switch_keys, route_keys, link_keys}
+use Rattle.sw_file.specs.Names.{new_name, place_at}
+use Rattle.sw_file.specs.Nodes.{size_at, config_of, target_or_none, node_of, next_node}
+use Rattle.sw_file.specs.Switches.{arbitration_at, ports_at, route_of, routes_at, switch_of, next_switch}
+use Rattle.sw_file.specs.Links.{end_at, link_of, next_link}
+
+pub fits_byte : (n most : ℕ) → n ≤ most → most ≤ 255 → Fits w8 n
+fits_byte n most le few = omega (arith, le, few)
+
+pub fits_two_bytes : (n most : ℕ) → n ≤ most → most ≤ 65535 → Fits w16 n
+fits_two_bytes n most le few = omega (arith, le, few)
+
+pub config_is : (version : Version) (i : ℕ) (ms : Members) (keys : List Key) (u : Unit {0}) (logical key start size slots : ℕ) → keys ≡ target_keys version → only_known (section.Target i) keys ms ≡ Ok u
+    → number_at (section.Target i) Logical 32 254 ms ≡ Ok logical → number_or (section.Target i) TargetKey 0 255 0 ms ≡ Ok key → number_or (section.Target i) Start 0 1099511627775 0 ms ≡ Ok start
+    → size_at i start ms ≡ Ok size → number_or (section.Target i) Slots 1 8 1 ms ≡ Ok slots
+    → config_of version i ms ≡ Ok (record { logical = logical; key = key; start = start; size = size; slots = slots })
+unfolding config_of
+config_is version i ms keys u logical key start size slots same known at_logical at_key at_start at_size at_slots =
+    let known_so : only_known (section.Target i) (target_keys version) ms ≡ Ok u = rw same at known in
+    rw (known_so, at_logical, at_key, at_start, at_size, at_slots) refl
+
+pub route_is : (version : Version) (s : Section) (ms : Members) (keys : List Key) (u : Unit {0}) (first last ports : ℕ) (delete : Bool) → keys ≡ route_keys version → only_known s keys ms ≡ Ok u
+    → number_at s Address 32 254 ms ≡ Ok first → number_or s Last first 254 first ms ≡ Ok last → ports_at s ms ≡ Ok ports → flag_or_false s Delete ms ≡ Ok delete
+    → route_of version s ms ≡ Ok (record { first = first; last = last; ports = ports; delete = delete })
+unfolding route_of
+route_is version s ms keys u first last ports delete same known at_first at_last at_ports at_delete =
+    let known_so : only_known s (route_keys version) ms ≡ Ok u = rw same at known in
+    rw (known_so, at_first, at_last, at_ports, at_delete) refl
+
+pub link_is : (version : Version) (i : ℕ) (d : Declaration) (ms : Members) (keys : List Key) (u : Unit {0}) (a b : PlaceEnd) (buffer buffer_a buffer_b : ℕ) → keys ≡ link_keys version → only_known (section.Link i) keys ms ≡ Ok u
+    → end_at (section.Link i) A APort (length d.nodes) (part_names d) ms ≡ Ok a → end_at (section.Link i) B BPort (length d.nodes) (part_names d) ms ≡ Ok b
+    → number_or (section.Link i) Buffer 8 4096 64 ms ≡ Ok buffer → number_or (section.Link i) BufferA 8 4096 buffer ms ≡ Ok buffer_a → number_or (section.Link i) BufferB 8 4096 buffer ms ≡ Ok buffer_b
+    → next_link version i d ms ≡ Ok (record d { links = d.links ++ record { a = a; b = b; buffer_a = buffer_a; buffer_b = buffer_b } ∷ [] })
+unfolding link_of next_link
+link_is version i d ms keys u a b buffer buffer_a buffer_b same known at_a at_b at_buffer at_buffer_a at_buffer_b =
+    let known_so : only_known (section.Link i) (link_keys version) ms ≡ Ok u = rw same at known in
+    rw (known_so, at_a, at_b, at_buffer, at_buffer_a, at_buffer_b) refl
+
+pub node_is : (version : Version) (i : ℕ) (d : Declaration) (ms : Members) (keys : List Key) (u : Unit {0}) (name : List ℕ) (target : Option TargetConfig) → keys ≡ node_keys → only_known (section.Node i) keys ms ≡ Ok u
+    → new_name (section.Node i) (part_names d) ms ≡ Ok name → target_or_none version i ms ≡ Ok target → next_node version i d ms ≡ Ok (record d { nodes = d.nodes ++ record { name = name; target = target } ∷ [] })
+unfolding node_of next_node
+node_is version i d ms keys u name target same known at_name at_target =
+    let known_so : only_known (section.Node i) node_keys ms ≡ Ok u = rw same at known in
+    rw (known_so, at_name, at_target) refl
+
+pub switch_is : (version : Version) (i : ℕ) (d : Declaration) (ms : Members) (keys : List Key) (u : Unit {0}) (name : List ℕ) (arbitration : Arbitration) (routes : List RouteEntry) → keys ≡ switch_keys → only_known (section.Switch i) keys ms ≡ Ok u
+    → new_name (section.Switch i) (part_names d) ms ≡ Ok name → arbitration_at i ms ≡ Ok arbitration → routes_at version i ms ≡ Ok routes
+    → next_switch version i d ms ≡ Ok (record d { switches = d.switches ++ record { name = name; arbitration = arbitration; routes = routes } ∷ [] })
+unfolding switch_of next_switch
+switch_is version i d ms keys u name arbitration routes same known at_name at_arbitration at_routes =
+    let known_so : only_known (section.Switch i) switch_keys ms ≡ Ok u = rw same at known in
+    rw (known_so, at_name, at_arbitration, at_routes) refl
+
+pub node_end_is : (s : Section) (key port : Key) (nodes : ℕ) (names : List (List ℕ)) (ms : Members) (place : ℕ) (u : Unit {0}) → place_at s key names ms ≡ Ok place → place < nodes → absent s port ms ≡ Ok u
+    → end_at s key port nodes names ms ≡ Ok (ends.Node place)
+unfolding end_at
+node_end_is s key port nodes names ms place u at_place below no_port = rw (at_place, lt-ltb place nodes below, no_port) refl
+
+pub switch_end_is : (s : Section) (key port : Key) (nodes count : ℕ) (names : List (List ℕ)) (ms : Members) (place number p : ℕ) (made : Option ℕ) → count ≡ nodes → place_at s key names ms ≡ Ok place → count ≤ place
+    → number_at s port 0 31 ms ≡ Ok number → made ≡ Some p → IfSome made (λ q. q ≡ number) → end_at s key port nodes names ms ≡ Ok (ends.Switch (place - count) p)
+unfolding end_at
+switch_end_is s key port nodes count names ms place number p made counted at_place past at_number is value =
+    let same : p ≡ number = rw is at value in
+    let after : nat_lt place nodes ≡ false = false_from_ne_true (nat_lt place nodes) (λ below. absurd (omega (arith, counted, past, ltb-true place nodes below))) in
+    rw (at_place, after, at_number, counted, same) refl

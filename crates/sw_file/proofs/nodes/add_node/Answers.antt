@@ -1,0 +1,16 @@
+use Rattle.std.proofs.Common.{Ok, sym, ap, ◌∙◌}
+use Rattle.toml.specs.View.{table_view}
+use Rattle.sw_file.proofs.Whole.{node_is}
+use Rattle.sw_file.proofs.nodes.add_node.Goals as goal
+
+pub add_node-requires-clause-new_name : goal.add_node-requires-clause-new_name
+add_node-requires-clause-new_name c = c.in_ok-name.ensures.fresh
+
+pub add_node-requires-clause-target : goal.add_node-requires-clause-target
+add_node-requires-clause-target c = c.in_ok-target.ensures.valid
+
+pub returns-clause-gives : goal.returns-clause-gives
+returns-clause-gives c =
+    node_is c.args.version c.args.index c.args.builder.now (table_view c.args.table.now) c.node_keys.result.now c.in_ok-only_known.field-0 c.in_ok-name.name.now c.in_ok-target.target
+    c.node_keys.ensures c.in_ok-only_known.ensures c.in_ok-name.ensures.gives c.in_ok-target.ensures.gives
+    ∙ ap Ok (sym c.in_ok-add_node.ensures.ok)

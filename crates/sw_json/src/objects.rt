@@ -1,0 +1,79 @@
+//! Objects by a list of their members: each is one way out less of the function that names them.
+ghost use Rattle.std.specs.Prelude.{◌≡◌, IfOk, OnOk, map};
+ghost use Rattle.serde_json.specs.Data.{member, no_members, object, put, string};
+ghost use Rattle.serde_json.specs.View.{members_view, view};
+ghost use Rattle.sw_json.specs.Objects.{member_value, object_of, with_members};
+
+use serde_json::{Map, Value, put};
+use std::alloc::{AllocError, Global};
+
+/// What stands at a name of an object: a text, a number, a truth value, or a value that was made before.
+#[derive(Drop)]
+pub enum Member<'a> {
+    Text(&'a str),
+    Number(u64),
+    Truth(bool),
+    Value(Value),
+}
+
+fn value_of(alloc: Global, member: Member<'_>) -> Result<Value, AllocError>
+    ensures { IfOk result (λ v. view v ≡ member_value member.entry) }
+{
+    match member {
+        Member::Text(text) => Value::try_from_str(alloc, text),
+        Member::Number(number) => Ok(Value::from(number)),
+        Member::Truth(truth) => Ok(Value::Bool(truth)),
+        Member::Value(value) => Ok(value),
+    }
+}
+
+// Puts one member among those of an object.
+fn add_member(
+    alloc: Global,
+    object: &mut Map<String, Value>,
+    name: &str,
+    member: Member<'_>,
+) -> Result<(), AllocError>
+    ensures { OnOk result (members_view object.new.entries ≡ put name.now (member_value member.entry) (members_view object.old.entries)) }
+{
+    put(object, alloc, name, value_of(alloc, member)?)
+}
+
+// Puts the members of a list among those of an object, one after another.
+fn add_members(
+    alloc: Global,
+    object: &mut Map<String, Value>,
+    members: Vec<(&str, Member<'_>)>,
+) -> Result<(), AllocError>
+    ensures { OnOk result (members_view object.new.entries ≡ with_members (map (λ m. (m.0.now, member_value m.1)) members.entry.items) (members_view object.old.entries)) }
+{
+    for (name, member) in members {
+        add_member(alloc, object, name, member)?;
+    }
+    Ok(())
+}
+
+/// The object that has a text alone.
+pub(crate) fn object_of_text<'a>(
+    alloc: Global,
+    name: &'a str,
+    text: &'a str,
+) -> Result<Value, AllocError>
+    ensures { IfOk result (λ v. view v ≡ object (member name.now (string text.now) no_members)) }
+{
+    let members = vec![in alloc; (name, Member::Text(text))]?;
+    object_of(alloc, members)
+}
+
+/// The object of these members, each with its name. Of more with one name the last counts.
+///
+/// # Errors
+///
+/// There is no memory for the value.
+pub fn object_of(alloc: Global, members: Vec<(&str, Member<'_>)>) -> Result<Value, AllocError>
+    ensures { IfOk result (λ v. view v ≡ object_of (map (λ m. (m.0.now, member_value m.1)) members.entry.items)) }
+{
+    let mut object = Map::new(alloc);
+    add_members(alloc, &mut object, members)?;
+    Ok(Value::Object(object))
+}

@@ -1,0 +1,18 @@
+use Rattle.std.proofs.Common.{◌∙◌, ap, sym}
+use Rattle.std.specs.Option.{option_to_list}
+use Rattle.std.proofs.lemmas.Result.{IfOk-weaker}
+use Rattle.sw_mend.specs.Mends.{Frees}
+use Rattle.sw_mend.specs.declared.change.Trial.TheVariants.{Split}
+use Rattle.sw_mend.proofs.Told.{added_as, none_added}
+use Rattle.sw_mend.proofs.mending.add_split_of.Goals as goal
+
+pub returns-in-Some : goal.returns-in-Some
+returns-in-Some g c =
+    let is = sym (ap option_to_list c.in-Some.is) ∙ c.own_link_of.ensures.link in
+    IfOk-weaker c.add_split.result _ _
+    (λ _ e. added_as (Frees c.args.network.now) Split _ _ c.args.mends.now.items c.add_split.new.mends.items is e) c.add_split.ensures
+
+pub returns-in-None : goal.returns-in-None
+returns-in-None g c =
+    let is = sym (ap option_to_list c.in-None.is) ∙ c.own_link_of.ensures.link in
+    added_as (Frees c.args.network.now) Split _ _ c.args.mends.now.items c.args.mends.now.items is (none_added (Frees c.args.network.now) c.args.mends.now.items)

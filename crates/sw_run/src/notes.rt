@@ -1,0 +1,97 @@
+//! What is noted beside the journal.
+ghost use Rattle.std.specs.Prelude.{◌≡◌, ◌⊎◌};
+ghost use Rattle.sw_run.specs.Grants.{turn_of};
+ghost use Rattle.sw_run.specs.declared.turn.Turn.TheVariants.{Idle, Over};
+
+use crate::outcome::Stop;
+use crate::turn::Turn;
+use std::alloc::{AllocError, Global};
+use sw_journal::JournalFault;
+use sw_model::Step;
+use sw_topo::LinkEnd;
+
+/// What is noted beside the journal of a run: whether the run goes on, and which outputs are granted.
+#[derive(Drop)]
+pub(crate) struct Notes {
+    /// How many link ends there are.
+    ends: u16,
+    /// So many link ends at least have no mark at the present length.
+    awake: u16,
+    /// Why the run is over, if it is.
+    stop: Option<Stop>,
+    /// By link end, to which link end the output was granted last that its input holds.
+    outputs: Vec<LinkEnd>,
+}
+
+impl Notes {
+    /// Of a run that goes on, in which none of so many link ends has a mark.
+    pub(crate) fn new(alloc: Global, ends: u16) -> Result<Notes, AllocError> {
+        let outputs = vec![in alloc; LinkEnd::new(0); ends as usize]?;
+        Ok(Notes {
+            ends,
+            awake: ends,
+            stop: None,
+            outputs,
+        })
+    }
+
+    /// Why the run is over, if it is.
+    pub(crate) fn stop(&self) -> Option<Stop> {
+        self.stop
+    }
+
+    /// Ends the run.
+    pub(crate) fn end(&mut self, stop: Stop) -> Turn
+        ensures { result ≡ Over }
+    {
+        self.stop = Some(stop);
+        Turn::Over
+    }
+
+    /// One link end more has its mark at the present length. Where all have, nothing can go on.
+    pub(crate) fn rest(&mut self) -> Turn
+        ensures { (result ≡ Idle) ⊎ (result ≡ Over) }
+    {
+        if self.awake <= 1 {
+            return self.end(Stop::Stuck);
+        }
+        self.awake -= 1;
+        Turn::Idle
+    }
+
+    /// Over the link of which link end the step of this link end sends something, if it does: an FCT,
+    /// or a character. The output that an input is granted is remembered.
+    pub(crate) fn sent_over(&mut self, end: LinkEnd, step: &Step) -> Option<LinkEnd> {
+        match step {
+            Step::Fct(_) | Step::Emit(_) => Some(end),
+            Step::Forward(_) => self.outputs.get(end.number() as usize).copied(),
+            Step::Grant(output, input) => {
+                if let Some(granted) = self.outputs.get_mut(input.partner().number() as usize) {
+                    *granted = LinkEnd::new(output.number());
+                }
+                None
+            }
+            _ => None,
+        }
+    }
+
+    /// What a turn was in which the journal answered so to a step, which sends something over the
+    /// link of that link end.
+    #[inline(always)]
+    pub(crate) fn after(&mut self, made: Result<(), JournalFault>, sent: Option<LinkEnd>) -> Turn
+        ensures { result ≡ turn_of made sent }
+    {
+        match made {
+            Ok(()) => {
+                self.awake = self.ends;
+                match sent {
+                    Some(at) => Turn::Sent(at),
+                    None => Turn::Moved,
+                }
+            }
+            Err(JournalFault::NotEnabled) => Turn::Idle,
+            Err(JournalFault::Full) => self.end(Stop::JournalFull),
+            Err(JournalFault::Memory) => self.end(Stop::Memory),
+        }
+    }
+}

@@ -1,0 +1,193 @@
+//! RMAP commands, and a target that answers them.
+use std::alloc::Global;
+use std::process::Abort;
+use sw_char::End;
+use sw_rmap::{Command, Target, TargetConfig, crc, reply_to, write_command};
+
+const CONFIG: TargetConfig = TargetConfig {
+    logical: 0xFE,
+    key: 0,
+    start: 0xA000_0000,
+    size: 64,
+    slots: 1,
+};
+
+const DATA: &[u8] = &[
+    0x01, 0x23, 0x45, 0x67, 0x89, 0xAB, 0xCD, 0xEF, 0x10, 0x11, 0x12, 0x13, 0x14, 0x15, 0x16, 0x17,
+];
+
+/// The example of a write in the standard (ECSS-E-ST-50-52C, annex A), with that key, that code of
+/// its header, and those bytes after its data.
+macro_rules! write_packet {
+    ($key:expr, $code:expr; $($after:expr),*) => {
+        &[
+            0xFE, 0x01, 0x6C, $key, 0x67, 0x00, 0x00, 0x00,
+            0xA0, 0x00, 0x00, 0x00, 0x00, 0x00, 0x10, $code,
+            0x01, 0x23, 0x45, 0x67, 0x89, 0xAB, 0xCD, 0xEF,
+            0x10, 0x11, 0x12, 0x13, 0x14, 0x15, 0x16, 0x17,
+            $($after),*
+        ]
+    };
+}
+
+/// The example of a read in the standard, with that code of its header.
+macro_rules! read_packet {
+    ($code:expr) => {
+        &[
+            0xFE, 0x01, 0x4C, 0x00, 0x67, 0x00, 0x01, 0x00,
+            0xA0, 0x00, 0x00, 0x00, 0x00, 0x00, 0x10, $code,
+        ]
+    };
+}
+
+const WRITE: &[u8] = write_packet!(0x00, 0x9F; 0x56);
+
+const READ: &[u8] = read_packet!(0xC9);
+
+const CODES: &[(&[u8], u8)] = &[
+    (&[], 0),
+    (&[0x01], 0x91),
+    (&[0x02], 0xE3),
+    (&[0x80], 0xE0),
+    (&[0xFF], 0xCF),
+    (&[0x01, 0x91], 0),
+    (&[1, 2, 3, 4, 5, 6, 7, 8], 0xB0),
+    (b"SpaceWire is beautiful!!", 0x84),
+];
+
+#[test]
+fn codes(rt: HostRuntime) {
+    for (bytes, code) in CODES {
+        assert!(rt; crc(bytes) == *code);
+    }
+}
+
+/// A packet, how it ends, what the target answers if it does, and its memory then, all of it.
+struct Case {
+    packet: &'static [u8],
+    end: End,
+    reply: Option<&'static [u8]>,
+    memory: &'static [u8],
+}
+
+/// The data, and then nothing.
+const WRITTEN: &[u8] = &[
+    0x01, 0x23, 0x45, 0x67, 0x89, 0xAB, 0xCD, 0xEF, 0x10, 0x11, 0x12, 0x13, 0x14, 0x15, 0x16, 0x17,
+    0, 0, 0, 0, 0, 0, 0, 0, 0, 0, 0, 0, 0, 0, 0, 0, 0, 0, 0, 0, 0, 0, 0, 0, 0, 0, 0, 0, 0, 0, 0, 0,
+    0, 0, 0, 0, 0, 0, 0, 0, 0, 0, 0, 0, 0, 0, 0, 0,
+];
+
+const ANSWERED: &[Case] = &[
+    Case {
+        packet: WRITE,
+        end: End::Eop,
+        reply: Some(&[0x67, 0x01, 0x2C, 0x00, 0xFE, 0x00, 0x00, 0xED]),
+        memory: WRITTEN,
+    },
+    // The header of the reply to the read, the data, and their code.
+    Case {
+        packet: READ,
+        end: End::Eop,
+        reply: Some(&[
+            0x67, 0x01, 0x0C, 0x00, 0xFE, 0x00, 0x01, 0x00, 0x00, 0x00, 0x10, 0x6D, 0x01, 0x23,
+            0x45, 0x67, 0x89, 0xAB, 0xCD, 0xEF, 0x10, 0x11, 0x12, 0x13, 0x14, 0x15, 0x16, 0x17,
+            0x56,
+        ]),
+        memory: WRITTEN,
+    },
+];
+
+const EMPTY: &[u8] = &[0; 64];
+
+const REFUSED: &[Case] = &[
+    // The header's code is wrong.
+    Case {
+        packet: write_packet!(0x00, 0x9E; 0x56),
+        end: End::Eop,
+        reply: None,
+        memory: EMPTY,
+    },
+    // Another key.
+    Case {
+        packet: write_packet!(0x01, 0xCD; 0x56),
+        end: End::Eop,
+        reply: Some(&[0x67, 0x01, 0x2C, 0x03, 0xFE, 0x00, 0x00, 0xB8]),
+        memory: EMPTY,
+    },
+    // The data's code is wrong.
+    Case {
+        packet: write_packet!(0x00, 0x9F; 0x57),
+        end: End::Eop,
+        reply: Some(&[0x67, 0x01, 0x2C, 0x04, 0xFE, 0x00, 0x00, 0x9E]),
+        memory: EMPTY,
+    },
+    // A byte too few, and one too many.
+    Case {
+        packet: write_packet!(0x00, 0x9F;),
+        end: End::Eop,
+        reply: Some(&[0x67, 0x01, 0x2C, 0x05, 0xFE, 0x00, 0x00, 0x12]),
+        memory: EMPTY,
+    },
+    Case {
+        packet: write_packet!(0x00, 0x9F; 0x56, 0x00),
+        end: End::Eop,
+        reply: Some(&[0x67, 0x01, 0x2C, 0x06, 0xFE, 0x00, 0x00, 0x47]),
+        memory: EMPTY,
+    },
+    // The packet was cut off.
+    Case {
+        packet: WRITE,
+        end: End::Eep,
+        reply: Some(&[0x67, 0x01, 0x2C, 0x07, 0xFE, 0x00, 0x00, 0xCB]),
+        memory: EMPTY,
+    },
+];
+
+fn answers(rt: &impl Abort, alloc: Global, target: &mut Target, case: &Case) {
+    let reply = target
+        .answer(alloc, case.packet, case.end)
+        .expect(rt, "memory");
+    assert!(rt; reply.as_deref() == case.reply);
+    assert!(rt; target.memory().starts_with(case.memory));
+}
+
+fn answers_each(rt: &impl Abort, alloc: Global, cases: &[Case]) {
+    let mut target = Target::new(alloc, CONFIG).expect(rt, "target");
+    for case in cases {
+        answers(rt, alloc, &mut target, case);
+    }
+    assert!(rt; target.memory().len() == EMPTY.len());
+}
+
+#[test]
+fn targets_write_and_refuse(rt: HostRuntime) {
+    answers_each(&rt, rt.alloc(), ANSWERED);
+    answers_each(&rt, rt.alloc(), REFUSED);
+}
+
+fn is_as_bytes(rt: &impl Abort, alloc: Global) {
+    let command = Command::read(WRITE).expect(rt, "command");
+    assert!(rt; (command.length(), command.instruction()) == (16, 0x6C));
+    let bytes = write_command(alloc, &command, DATA).expect(rt, "bytes");
+    assert!(rt; bytes.as_slice() == WRITE);
+}
+
+/// A packet, and the way back to where its reply goes.
+const WAYS: &[(&[u8], Option<&[u8]>)] = &[
+    (WRITE, Some(&[0x67])),
+    (READ, Some(&[0x67])),
+    (read_packet!(0xC8), None),
+];
+
+fn goes_back(rt: &impl Abort, alloc: Global) {
+    for (packet, wanted) in WAYS {
+        let way = reply_to(alloc, packet).expect(rt, "memory");
+        assert!(rt; way.as_deref() == *wanted);
+    }
+}
+
+#[test]
+fn commands_as_bytes_and_ways_back(rt: HostRuntime) {
+    is_as_bytes(&rt, rt.alloc());
+    goes_back(&rt, rt.alloc());
+}

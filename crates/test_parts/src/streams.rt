@@ -1,0 +1,119 @@
+//! Texts read and written whole, also where a call fails.
+ghost use Rattle.std.specs.Prelude.{Some};
+
+use std::alloc::Global;
+use std::io;
+use std::io::{Read, Write};
+use std::process::Abort;
+use std::test::*;
+use sw_text::{ReadError, WriteError, read_whole, write_whole};
+
+// Gives one byte a call, and fails at one call alone, the one after `before_fault` of them.
+#[derive(Drop)]
+struct FailingReader {
+    before_fault: usize,
+}
+
+impl Read for FailingReader {
+    fn read(&mut self, buf: &mut [u8]) -> io::Result<usize> {
+        if self.before_fault == 0 {
+            self.before_fault = usize::MAX;
+            return Err(io::Error::from(io::ErrorKind::Interrupted));
+        }
+        self.before_fault -= 1;
+        let Some(first) = buf.first_mut() else {
+            return Ok(0);
+        };
+        *first = b'a';
+        Ok(1)
+    }
+}
+
+// Takes one byte a call, and after `room` of them fails at one call, by an error or by taking none.
+#[derive(Drop)]
+struct SlowWriter {
+    taken: Vec<u8>,
+    room: usize,
+    takes_none: bool,
+}
+
+impl Write for SlowWriter {
+    ghost contents = { λ s. Some s.taken.items };
+
+    fn write(&mut self, buf: &[u8]) -> io::Result<usize> {
+        if self.taken.len() == self.room {
+            self.room = usize::MAX;
+            if self.takes_none {
+                return Ok(0);
+            }
+            return Err(io::Error::from(io::ErrorKind::Interrupted));
+        }
+        let Some(first) = buf.first() else {
+            return Ok(0);
+        };
+        self.taken.push(*first)?;
+        Ok(1)
+    }
+
+    fn flush(&mut self) -> io::Result<()> {
+        Ok(())
+    }
+}
+
+// The reader gives this text up to the limit, or fails so.
+fn gives<R: Read>(
+    rt: &impl Abort,
+    alloc: Global,
+    reader: &mut R,
+    limit: usize,
+    wanted: Result<&[u8], &ReadError>,
+) {
+    let text = read_whole(alloc, reader, limit);
+    assert!(rt; text.as_deref() == wanted);
+}
+
+#[test]
+fn a_text_up_to_its_limit_is_read(rt: HostRuntime) {
+    for limit in 0..8usize {
+        let mut reader = &b"abcd"[..];
+        let wanted = if limit < 4 {
+            Err(&ReadError::TooLong)
+        } else {
+            Ok(&b"abcd"[..])
+        };
+        gives(&rt, rt.alloc(), &mut reader, limit, wanted);
+        assert!(rt; reader.len() == 3usize.saturating_sub(limit));
+    }
+}
+
+#[test]
+fn a_read_that_fails_is_not_tried_again(rt: HostRuntime) {
+    for before_fault in 0..20usize {
+        let mut reader = FailingReader { before_fault };
+        gives(&rt, rt.alloc(), &mut reader, 40, Err(&ReadError::Failed));
+    }
+}
+
+const TEXT: &[u8] = b"place 0 0 A>B\n";
+
+// A writer with so much room takes the text, or fails and has its beginning.
+fn takes(rt: &impl Abort, writer: &mut SlowWriter, room: usize) {
+    let written = write_whole(writer, TEXT);
+    let found = (written.is_ok(), writer.taken.as_slice());
+    assert!(rt; found == (TEXT.len() <= room, &TEXT[..TEXT.len().min(room)]));
+}
+
+#[test]
+fn a_write_that_fails_leaves_a_beginning(rt: HostRuntime) {
+    for room in 0..TEXT.len() + 2 {
+        for takes_none in [false, true] {
+            let taken = Vec::new(rt.alloc());
+            let mut writer = SlowWriter {
+                taken,
+                room,
+                takes_none,
+            };
+            takes(&rt, &mut writer, room);
+        }
+    }
+}
