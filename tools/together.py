@@ -1,7 +1,10 @@
 """Which edits can be tried in one check, and which of them it refuses.
 
-Each function is proved from the contracts of those that it calls, and not from their bodies. So edits within the bodies of different functions do not
-touch one another: one check of these functions, with all of the edits made, tells of each edit whether its own function is still proved.
+Each function is proved from the contracts of those that it calls, and not from their bodies. So edits within the bodies of different functions do not touch
+one another: one check of these functions, with all of the edits made, tells of each edit whether its own function is still proved. An edit is made in a copy of
+its function, which stands beside it under a name of its own and calls what the function calls: so several edits of one function go into one check too, and the
+function stays as it is for those that call it. No copy is made of a function with files of proofs, since these go by its name, of what a trait asks for, and of
+what calls itself: such a function has one edit in a check, in its place.
 """
 import collections
 import functools
@@ -16,8 +19,18 @@ IMPL = re.compile(r"impl(?:<.*?>)? (?:([\w:]+)(?:<(.*)>)? for )?([\w:]+)")
 # A line that says where something is wrong.
 LOCATED = re.compile(r"(?:note: )?\S+:\d+:\d+:")
 
-# A function by the end of the name that a check prints, and where its body begins and ends in the text.
-Function = collections.namedtuple("Function", "name begin end")
+# So many edits go into one check, for its memory.
+MOST = 20
+
+# How the name of a copy without an edit ends.
+AS_IT_IS = "_as_it_is"
+
+# A function: its file, the end of the name that a check prints, whether it may have copies, and where in the text its lines begin (those above its signature
+# too), its signature, its body, the line that ends it, and what follows.
+Function = collections.namedtuple("Function", "path name has_copies start head begin end after")
+
+# A function as one check has it: in a copy whose name ends so, or in its place where that is "", and with this edit, or as it is where there is none.
+Variant = collections.namedtuple("Variant", "function copy edit")
 
 
 def owner_of(line):
@@ -33,15 +46,16 @@ def module_of(path):
 
 @functools.lru_cache(maxsize=None)
 def functions_in(path, text):
-    """The functions of a text, as `rt fmt` writes them."""
+    """The functions of a text, as `rt fmt` writes them, and whether they may have copies but for their proofs."""
     lines, at, starts = text.split("\n"), 0, []
     for line in lines:
         starts.append(at)
         at += len(line) + 1
-    found, owner = [], ""
+    found, owner, is_own = [], "", False
     for number, line in enumerate(lines):
         if line and line[0] not in " }":
-            owner = owner_of(line) if IMPL.match(line) else ""
+            impl = IMPL.match(line)
+            owner, is_own = owner_of(line) if impl else "", bool(impl) and not impl[1]
         head = FUNCTION.match(line)
         if not head:
             continue
@@ -49,13 +63,18 @@ def functions_in(path, text):
         opens = next((it for it in range(number, len(lines)) if lines[it].endswith("{") and (it == number or not lines[it].startswith(deeper))), None)
         closes = opens and next((it for it in range(opens + 1, len(lines)) if lines[it] == head[1] + "}"), None)
         if closes:
-            name = f"{owner if head[1] else module_of(path)}{head[2]}"
-            found.append(Function(name, starts[opens] + len(lines[opens]), starts[closes]))
+            first = next(it for it in range(number, -1, -1) if not lines[it - 1].startswith((head[1] + "#[", head[1] + "//")))
+            whole = (owner if head[1] else module_of(path)) + head[2]
+            begin, end = starts[opens] + len(lines[opens]), starts[closes]
+            is_cyclic = re.search(rf"\b{head[2]}\(", text[begin:end]) or "#[cycle" in text[starts[first]:starts[number]]
+            is_whole = not first or not lines[first - 1] or lines[first - 1].endswith("{")
+            has_copies = (is_own or not head[1]) and is_whole and not is_cyclic
+            found.append(Function(path, whole, has_copies, starts[first], starts[number], begin, end, end + len(lines[closes])))
     return found
 
 
 def function_of(edit, crate):
-    """The name of the one function in whose body all changes of the edit are, and None where there is no such function."""
+    """The one function in whose body all changes of the edit are, and None where there is no such function."""
     texts, why = rt.read_edit(edit, crate.folder)
     if why or len(texts) != 1:
         return None
@@ -65,7 +84,7 @@ def function_of(edit, crate):
     before = rt.rtlib.text_of(f"{crate.folder}/{path}")
     first = len(os.path.commonprefix([before, text]))
     last = len(before) - len(os.path.commonprefix([before[first:][::-1], text[first:][::-1]]))
-    around = [it.name for it in functions_in(path, before) if it.begin <= first and last <= it.end]
+    around = [it for it in functions_in(path, before) if it.begin <= first and last <= it.end]
     return around[-1] if around else None
 
 
@@ -75,9 +94,31 @@ def functions_of(crate):
     return [it for file in files for it in functions_in(os.path.relpath(file, crate.folder), rt.rtlib.text_of(file))]
 
 
-def names_of(crate):
-    """How often each name stands in the crate."""
-    return collections.Counter(it.name for it in functions_of(crate))
+def named_once(crate):
+    """The functions of the crate with whose names no other's ends, and whether they may have copies."""
+    made, proofs = functions_of(crate), [it.replace("/", "::").replace("::fn::", "::") for it in rt.rtlib.files_of(crate.folder) if it.endswith(".antt")]
+    once = [it for it in made if sum(f"::{other.name}".endswith(f"::{it.name}") for other in made) == 1]
+    return [it._replace(has_copies=it.has_copies and not any(f"::{it.name}::" in file for file in proofs)) for it in once]
+
+
+def name_of(variant):
+    """The end of the name that a check prints."""
+    return variant.function.name + variant.copy
+
+
+def batches(edits, crate):
+    """The edits in parts, each for one check. An edit of no one function's body is in none."""
+    parts, known = [], {it[:2]: it for it in named_once(crate)}
+    for edit in edits:
+        found = function_of(edit, crate)
+        function = found and known.get(found[:2])
+        if function:
+            fits = (it for it in parts if len(it) < MOST and (function.has_copies or is_made_beside(function, edit, it, crate)))
+            into = next(fits, None)
+            if into is None:
+                parts.append(into := [])
+            into.append(Variant(function, f"_edit_{len(into) + 1}" if function.has_copies else "", edit))
+    return parts
 
 
 def text_of(edits):
@@ -85,25 +126,63 @@ def text_of(edits):
     return "\n".join(map(rt.rtlib.text_of, edits))
 
 
-def batches(edits, crate):
-    """The edits by their functions' names, in parts, each for one check. An edit of no one function's body is in none."""
-    parts, names = [], names_of(crate)
-    for edit in edits:
-        name = function_of(edit, crate)
-        if name and names[name] == 1:
-            fits = (it for it in parts if name not in it and not rt.edited(text_of([*it.values(), edit]), crate.folder)[1])
-            into = next(fits, None)
-            if into is None:
-                parts.append(into := {})
-            into[name] = edit
-    return parts
+def is_made_beside(function, edit, batch, crate):
+    """Whether the edit can be made in its place beside those of the batch that are."""
+    placed = [it for it in batch if not it.copy]
+    return all(it.function != function for it in placed) and not rt.edited(text_of([*(it.edit for it in placed), edit]), crate.folder)[1]
+
+
+def text_in(function, texts, crate):
+    """The text of the function's file, which is among these or the crate's, and the function as it stands there."""
+    text = texts.get(function.path) or rt.rtlib.text_of(f"{crate.folder}/{function.path}")
+    return text, next(it for it in functions_in(function.path, text) if it.name == function.name)
+
+
+def copy_of(variant, crate):
+    """The text of the copy, with its edit."""
+    text, it = text_in(variant.function, rt.read_edit(variant.edit, crate.folder)[0] if variant.edit else {}, crate)
+    head = f"fn {it.name.split('::')[-1]}"
+    return text[it.start:it.head] + text[it.head:it.after].replace(head, head + variant.copy, 1)
+
+
+def texts_with(variants, crate):
+    """The texts of the crate's files that are others where it has these."""
+    placed = [it.edit for it in variants if it.edit and not it.copy]
+    texts = {**rt.edited(text_of(placed), crate.folder)[0]} if placed else {}
+    for variant in variants:
+        if variant.copy:
+            text, it = text_in(variant.function, texts, crate)
+            texts[it.path] = f"{text[:it.after]}\n\n{copy_of(variant, crate)}{text[it.after:]}"
+    return texts
+
+
+def checked(variants, crate, flags, kept):
+    """Checks these alone, and what they call, and returns the check's status, the lines that it says, and whether it tells of these. It reads no more of the
+    crate than they need."""
+    texts = texts_with(variants, crate)
+    ran = rt.checked(crate, texts, [*flags, *(word for it in variants for word in ("--only", name_of(it)))], kept)
+    lines = ran.stdout.rstrip("\n").split("\n")
+    tells = lines[-1].startswith("only=") and not rt.rtlib.STALE.search(ran.stdout) and not any(rt.unread(it, texts) for it in lines)
+    return ran.returncode, lines, tells
+
+
+def as_they_are(variants):
+    """The functions of these as they are, each once: in a copy where they may have one, and else in their place."""
+    return [*dict.fromkeys(Variant(it.function, it.copy and AS_IT_IS, None) for it in variants)]
+
+
+def are_proved(variants, crate, flags, kept):
+    """Whether a check finds that these are proved without their edits, and the lines that it says."""
+    status, lines, _ = checked(as_they_are(variants), crate, flags, kept)
+    return status == 0, lines
 
 
 def is_refused(name, lines):
     """Whether the lines of a check say that the function is not proved, or one that it has within it, for what is wrong in itself: an error stands
     before its line, or is one of its own answers. One that is not proved since it calls such a function has no error of its own."""
     module, _, last = name.rpartition("::")
-    of_it = re.compile(rf"fn \w+::(?:\w+::)*(?:{re.escape(name)}|{module + '::' if module else ''}fn::{last}::[^:]+): (not proved|no proof: .* did not prove .*)")
+    within = rf"(?:{module + '::' if module else ''}fn::{last}|fn::{re.escape(name)})::[^:]+"
+    of_it = re.compile(rf"fn \w+::(?:\w+::)*(?:{re.escape(name)}|{within}): (not proved|no proof: .* did not prove .*)")
     own = re.compile(rf"\S*proofs/(?:\S+/)?{re.escape(name.replace('::', '/'))}/\w+\.antt:\d+:\d+: error:")
     has_error = False
     for line in lines:
@@ -114,47 +193,53 @@ def is_refused(name, lines):
     return any(own.match(it) for it in lines) and any(said and said[1] == "not proved" for said in map(of_it.fullmatch, lines))
 
 
-def only(names):
-    """The words of a check of these functions alone. It reads no more of the crate than they need."""
-    return [it for name in names for it in ("--only", name)]
-
-
-def are_proved(crate, names, flags, kept):
-    """Whether a check finds that these functions are proved as they are, and what it says."""
-    ran = rt.checked(crate, {}, [*flags, *only(names)], kept)
-    return ran.returncode == 0, ran.stdout
-
-
-def witness_of(batch, crate):
-    """The shortest function of the crate that no edit of the batch changes. It is checked with them, and has to be proved: else the check tells nothing."""
-    names, made = names_of(crate), functions_of(crate)
-    return min((it.end - it.begin, it.name) for it in made if names[it.name] == 1 and it.name not in batch)[1]
-
-
 def is_proved(name, lines):
     """Whether the lines of a check say that the function is proved."""
     return any(re.fullmatch(rf"fn \w+::(?:\w+::)*{re.escape(name)}: proved", it) for it in lines)
 
 
+def calls_by_text(crate):
+    """The functions of the crate, and the names of all that each of them may call, by its text: those of the crate's functions."""
+    made = named_once(crate)
+    last = {it: it.name.split("::")[-1] for it in made}
+    called = re.compile(rf"\b({'|'.join({*last.values()})})\(")
+    calls = collections.defaultdict(set)
+    for it in made:
+        calls[last[it]] |= {*called.findall(text_in(it, {}, crate)[0][it.begin:it.end])}
+    for _ in calls:
+        for name in calls:
+            calls[name] |= {other for it in calls[name] for other in calls[it]}
+    return {it: calls[last[it]] for it in made}
+
+
+def witness_of(batch, crate):
+    """What is checked beside the batch and has to be proved, since the check tells nothing else: a copy of a function as it is, of the one that calls the fewest
+    others by its text, of these one that does not take `self` by value, and so lets it go, and of these the shortest. Where none may have a copy it is another
+    function of the crate."""
+    changed = [it.function.name for it in batch if not it.copy]
+    calls = {it: names for it, names in calls_by_text(crate).items() if it.name not in changed}
+
+    def cost(it):
+        text = text_in(it, {}, crate)[0][it.head:it.after]
+        return not it.has_copies, len(calls[it]), "(self" in text or "(mut self" in text, len(text), it.name
+
+    function = min(calls, key=cost)
+    return Variant(function, AS_IT_IS if function.has_copies else "", None)
+
+
 def refused(batch, crate, flags, kept):
-    """The edits of the batch that a check of its functions refuses, each by its own function, which are proved without them. Where a function calls
-    another of them, the check tells perhaps only that: so what it does not tell is checked once more, each edit by itself."""
+    """The edits of the batch that a check of it refuses, each by its own function, which is proved without it. What the check does not tell is checked once
+    more, each edit by itself: one may be in a function that calls one with an edit in its place, and where one can't be read none is told."""
     told = refused_at_once(batch, crate, flags, kept)
-    left = {name: edit for name, edit in batch.items() if edit not in told}
     if len(batch) > 1:
-        told |= {edit for name, edit in left.items() if refused_at_once({name: edit}, crate, flags, kept)}
+        told |= {it.edit for it in batch if it.edit not in told and refused_at_once([it], crate, flags, kept)}
     return told
 
 
 def refused_at_once(batch, crate, flags, kept):
-    """Those that one check refuses, in which a function without an edit is proved."""
-    texts, why = rt.edited(text_of(batch.values()), crate.folder)
-    if why:
-        return set()
+    """Those that one check refuses, in which its witness is proved."""
     witness = witness_of(batch, crate)
-    ran = rt.checked(crate, texts, [*flags, *only([*batch, witness])], kept)
-    lines = ran.stdout.rstrip("\n").split("\n")
-    is_read = lines[-1].startswith("only=") and not rt.rtlib.STALE.search(ran.stdout) and not any(rt.unread(it, texts) for it in lines)
-    if ran.returncode != 1 or not is_read or not is_proved(witness, lines):
+    status, lines, tells = checked([*batch, witness], crate, flags, kept)
+    if status != 1 or not tells or not is_proved(name_of(witness), lines):
         return set()
-    return {edit for name, edit in batch.items() if is_refused(name, lines)}
+    return {it.edit for it in batch if is_refused(name_of(it), lines)}

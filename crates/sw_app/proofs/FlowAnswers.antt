@@ -1,6 +1,6 @@
 -- What a text of places says of a flow.
-use Rattle.std.proofs.Common.{◌≡◌, ℕ, ◌<◌, List, [], ◌∷◌, ap, ◌∙◌, arith, inl, inr, length, refl, subst, sym}
-use Rattle.std.specs.Prelude.{codes, position, slice_get, Err, IfOk, IfSome, None, Ok, Option, Result, Some}
+use Rattle.std.proofs.Common.{◌≡◌, ℕ, ◌<◌, List, [], ◌∷◌, ◌++◌, ap, ◌∙◌, append_assoc, arith, inl, inr, length, refl, subst, sym}
+use Rattle.std.specs.Prelude.{codes, flat_map, position, slice_get, Err, IfOk, IfSome, None, Ok, Option, Result, Some}
 use Rattle.std.specs.Str.{bytes_eq}
 use Rattle.std.proofs.lemmas.Option.{slice_get_cases}
 use Rattle.sw_config.specs.Entries.{Declaration, FlowEntry, all_flows, flow_names}
@@ -11,7 +11,17 @@ use Rattle.sw_flow.specs.Places.{IsPlaceList, IsPlacesOf}
 use Rattle.sw_app.proofs.NamedFlows.{find_by-none, find_by-some}
 use Rattle.sw_output.specs.Lines.{line}
 use Rattle.sw_app.specs.RouteAnswers.{IsFlowAnswer, IsFoundAnswer, IsNamedAnswer}
-use Rattle.sw_app.specs.RouteTexts.{outcome_status, text_of}
+use Rattle.sw_app.specs.RouteTexts.{outcome_line, outcome_status, place_line, text_of}
+
+-- the text of a flow's name, the lines of its places and the last line
+pub text_is : (d : Declaration) (f : FlowEntry) (places : List Place) (fault : Option (Place × RouteFault)) (name lines outcome : List ℕ) → name ≡ f.name
+    → lines ≡ flat_map (place_line d) places → outcome ≡ outcome_line fault
+    → codes "flow " ++ (name ++ (codes "\n" ++ (lines ++ outcome))) ≡ text_of d f places fault
+text_is d f places fault name lines outcome named all_are last_is =
+    ap (λ n. codes "flow " ++ (n ++ (codes "\n" ++ (lines ++ outcome)))) named
+    ∙ ap (λ l. codes "flow " ++ (f.name ++ (codes "\n" ++ (l ++ outcome)))) all_are
+    ∙ ap (λ l. codes "flow " ++ (f.name ++ (codes "\n" ++ (flat_map (place_line d) places ++ l)))) last_is
+    ∙ ap (λ l. codes "flow " ++ l) (sym (append_assoc f.name (codes "\n") (flat_map (place_line d) places ++ outcome_line fault)))
 
 -- what holds of the flow that is there
 pub at_flow : (o : Option FlowEntry) (f : FlowEntry) (P : FlowEntry → Type 0) → o ≡ Some f → P f → IfSome o P

@@ -63,7 +63,7 @@ pub fn decide<T: VerdictWorkers, R: Read, W: Write>(
     ensures answer { EndsBy IsDecideAnswer (R.remaining reader.old) (R.remaining reader.new) (W.contents writer.old) (W.contents writer.new) result }
     ensures deadlock_free { result ≡ Ended.Status 0 → DecidesDeadlockFree (R.remaining reader.old) (R.remaining reader.new) (W.contents writer.old) (W.contents writer.new) }
 {
-    decide_keeping(workers, alloc, reader, 0, writer).ended
+    decide_keeping(workers, alloc, reader, 0, writer).into_ended()
 }
 
 /// The verdict as `decide` gives it, with the network, where its text has at most `most` bytes.
@@ -98,7 +98,7 @@ pub fn report<T: VerdictWorkers, R: Read, W: Write>(
 ) -> Ended
     ensures { EndsBy IsReportAnswer (R.remaining reader.old) (R.remaining reader.new) (W.contents writer.old) (W.contents writer.new) result }
 {
-    report_keeping(workers, alloc, reader, 0, writer).ended
+    report_keeping(workers, alloc, reader, 0, writer).into_ended()
 }
 
 /// The report as `report` gives it, with the network, where its text has at most `most` bytes.

@@ -27,6 +27,7 @@ impl EndedWith {
     pub fn into_ended(self) -> Ended
         ensures { result ≡ self.ended }
     {
+        drop(self.network);
         self.ended
     }
 }
@@ -35,5 +36,10 @@ impl EndedWith {
 pub fn kept_network(network: Network, length: usize, most: usize) -> Option<Network>
     ensures { result ≡ (if nat_le length most then Some network else None) }
 {
-    if length <= most { Some(network) } else { None }
+    if length <= most {
+        Some(network)
+    } else {
+        drop(network);
+        None
+    }
 }

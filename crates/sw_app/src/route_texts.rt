@@ -4,18 +4,25 @@ ghost use Rattle.sw_config.specs.Entries.{wiring_of};
 ghost use Rattle.sw_app.specs.RouteTexts.{outcome_line, place_line, text_of};
 
 use std::alloc::{AllocError, Global};
+use std::fmt::Write;
 use sw_config::{Flow, Network};
 use sw_flow::{Place, RouteFault};
 use sw_output::{channel_text, route_fault_text};
 
-fn place_line(alloc: Global, network: &Network, place: Place) -> Result<String, AllocError>
+// Adds the line of a place.
+fn add_place(
+    alloc: Global,
+    network: &Network,
+    place: Place,
+    text: &mut String,
+) -> Result<(), AllocError>
     requires { place.channel < length (wiring_of network.now).ends }
-    ensures { IfOk result (λ s. string_bytes s ≡ place_line network.now place) }
+    ensures { IfOk result (λ _. string_bytes text.new ≡ string_bytes text.old ++ place_line network.now place) }
 {
-    let text = channel_text(alloc, network, place.channel)?;
+    let ends = channel_text(alloc, network, place.channel)?;
     let channel = place.channel.number();
     let deleted = place.deleted;
-    format!(in alloc; "place {channel} {deleted} {text}\n")
+    write!(text, "place {channel} {deleted} {ends}\n")
 }
 
 // A line for each place.
@@ -25,7 +32,7 @@ fn places_text(alloc: Global, network: &Network, places: &[Place]) -> Result<Str
 {
     let mut text = String::new(alloc);
     for place in places {
-        text.push_str(place_line(alloc, network, *place)?.as_str())?;
+        add_place(alloc, network, *place, &mut text)?;
     }
     Ok(text)
 }
@@ -61,8 +68,7 @@ pub(crate) fn route_text(
     ensures { IfOk result (λ s. string_bytes s ≡ text_of network.now flow.now places.now fault) }
 {
     let name = flow.name();
-    let head = format!(in alloc; "flow {name}\n")?;
     let lines = places_text(alloc, network, places)?;
     let outcome = outcome_line(alloc, fault)?;
-    format!(in alloc; "{head}{lines}{outcome}")
+    format!(in alloc; "flow {name}\n{lines}{outcome}")
 }

@@ -7,10 +7,11 @@ ghost use Rattle.sw_app_audit.specs.AuditAnswers.{IsJson, IsText};
 ghost use Rattle.sw_app_audit.specs.AuditTexts.{finding_line, lines_text, objects};
 ghost use Rattle.sw_app_audit.specs.Judgements.{finding_of, findings_of, object_of};
 
-use crate::judged::{Judged, memory_entry};
+use crate::judged::{Judged, kind_entry};
 use crate::options::Options;
 use crate::statuses::is_told;
 use std::alloc::{AllocError, Global};
+use sw_command::statuses::NO_ROOM;
 use sw_hints::shown;
 use sw_json::laws::audits_are_plain;
 use sw_json::{Value, audit_value, text_of};
@@ -64,7 +65,7 @@ fn object_of(alloc: Global, path: &str, entry: Option<Value>) -> Result<Value, A
 {
     match entry {
         Some(value) => Ok(value),
-        None => memory_entry(alloc, path),
+        None => kind_entry(alloc, path, NO_ROOM, "memory"),
     }
 }
 

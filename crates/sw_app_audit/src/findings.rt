@@ -11,7 +11,7 @@ ghost use Rattle.sw_app_audit.specs.Judgements.{finding_of};
 ghost use Rattle.sw_app_audit.specs.Names.{certificate_name};
 ghost use Rattle.sw_app_audit.specs.Stores.{given_of};
 
-use crate::judged::{Judged, Named, memory_judged};
+use crate::judged::{Judged, Named, kind_entry, memory_judged};
 use crate::names::certificate_name;
 use crate::options::Options;
 use crate::statuses::{kept_status, verdict_word};
@@ -20,7 +20,7 @@ use std::alloc::{AllocError, Global};
 use sw_command::statuses::{BAD, FAULTY, GOOD, UNREAD_OR_UNWRITTEN};
 use sw_config::Network;
 use sw_file::read_network;
-use sw_json::{Value, bare_entry, fault_value, kind_value, long_value, read_entry, verdict_value};
+use sw_json::{Value, bare_entry, fault_value, long_value, read_entry, verdict_value};
 use sw_lint::lint_texts;
 use sw_search::{Verdict, VerdictWorkers, decide};
 use sw_toml_table::{FileFault, TextFault};
@@ -235,8 +235,7 @@ fn unread_judged(alloc: Global, options: &Options<'_>, path: &str) -> Result<Jud
             entry: None,
         });
     }
-    let verdict = kind_value(alloc, "unread")?;
-    let entry = bare_entry(alloc, path, UNREAD_OR_UNWRITTEN, verdict)?;
+    let entry = kind_entry(alloc, path, UNREAD_OR_UNWRITTEN, "unread")?;
     Ok(Judged {
         status: UNREAD_OR_UNWRITTEN,
         word: "unread",

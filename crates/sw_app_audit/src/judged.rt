@@ -37,13 +37,18 @@ pub(crate) fn memory_judged() -> Judged
     }
 }
 
-/// The object of a file for which memory was wanted.
+/// The object of a file for which this kind stands in the place of a verdict.
 ///
 /// # Errors
 ///
-/// There is no memory for that either.
-pub(crate) fn memory_entry(alloc: Global, path: &str) -> Result<Value, AllocError>
-    ensures { IfOk result (λ v. view v ≡ bare_entry path.now 5 (kind_value (codes "memory"))) }
+/// There is no memory for it.
+pub(crate) fn kind_entry(
+    alloc: Global,
+    path: &str,
+    status: u8,
+    kind: &str,
+) -> Result<Value, AllocError>
+    ensures { IfOk result (λ v. view v ≡ bare_entry path.now status (kind_value kind.now)) }
 {
-    bare_entry(alloc, path, NO_ROOM, kind_value(alloc, "memory")?)
+    bare_entry(alloc, path, status, kind_value(alloc, kind)?)
 }

@@ -1,2 +1,3 @@
+mod Added
+mod Lists
 mod NotFree
-mod Numbers

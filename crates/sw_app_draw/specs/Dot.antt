@@ -1,5 +1,5 @@
 -- Statements of DOT, the language of Graphviz.
-use Rattle.std.specs.Prelude.{ℕ, List, [], ◌∷◌, ◌++◌, codes, flat_map}
+use Rattle.std.specs.Prelude.{ℕ, List, [], ◌∷◌, ◌++◌, ◌==◌, codes, flat_map, if◌then◌else◌, length}
 
 -- an attribute of what is drawn: its name and its value
 pub record AttributeText : Type 0 where
@@ -22,3 +22,18 @@ attributes_text (a ∷ more) = codes " [" ++ (attribute_text a ++ (flat_map (λ 
 -- a line for a node or an edge, with its attributes
 abbrev pub statement : List ℕ → List AttributeText → List ℕ
 statement subject attributes = codes "  " ++ (subject ++ (attributes_text attributes ++ codes ";\n"))
+
+-- ---- how the attributes' text is made
+
+-- attributes with a comma between each two
+abbrev pub list_text : List AttributeText → List ℕ
+list_text [] = []
+list_text (a ∷ more) = attribute_text a ++ flat_map (λ b. codes ", " ++ attribute_text b) more
+
+-- what stands between the texts of two lists
+abbrev pub comma : List ℕ → List ℕ → List ℕ
+comma first second = if length first == 0 then [] else if length second == 0 then [] else codes ", "
+
+-- the texts of two lists as one
+abbrev pub joined : List ℕ → List ℕ → List ℕ
+joined first second = first ++ (comma first second ++ second)

@@ -1,11 +1,11 @@
 //! Channels in DOT.
-ghost use Rattle.std.specs.Prelude.{◌≡◌, ◌<◌, IfOk, flat_map, length, string_bytes};
+ghost use Rattle.std.specs.Prelude.{◌≡◌, ◌<◌, ◌++◌, IfOk, OnOk, flat_map, length, string_bytes};
 ghost use Rattle.std.specs.List.{range_with_len};
 ghost use Rattle.sw_config.specs.Entries.{wiring_of};
 ghost use Rattle.sw_topo.specs.Checked.{IsIn};
 ghost use Rattle.sw_app_draw.specs.DrawTexts.{channel_statement, edge_text, end_text};
 
-use crate::dot::{quoted, statement};
+use crate::dot::{add_statement, quoted};
 use crate::drawing::Drawing;
 use crate::marks::channel_attributes;
 use std::alloc::{AllocError, Global};
@@ -39,33 +39,34 @@ fn edge_text(alloc: Global, network: &Network, channel: Chan) -> Result<String, 
     format!(in alloc; "{start} -> {end}")
 }
 
-// An edge with what is told of the channel.
-fn channel_statement(
+// Adds an edge with what is told of the channel.
+fn add_channel(
+    text: &mut String,
     alloc: Global,
     network: &Network,
     drawing: &Drawing<'_>,
     number: u16,
-) -> Result<String, AllocError>
+) -> Result<(), AllocError>
     requires { number < length (wiring_of network.now).ends }
-    ensures { IfOk result (λ s. string_bytes s ≡ channel_statement network.now drawing.now number) }
+    ensures { OnOk result (string_bytes text.new ≡ string_bytes text.old ++ channel_statement network.now drawing.now number) }
 {
     let channel = Chan::new(number);
     let edge = edge_text(alloc, network, channel)?;
     let attributes = channel_attributes(alloc, drawing, channel)?;
-    statement(alloc, edge.as_str(), &attributes)
+    add_statement(text, &edge, &attributes)
 }
 
-/// A line for each channel.
-pub(crate) fn channel_statements(
+/// Adds a line for each channel.
+pub(crate) fn add_channels(
+    text: &mut String,
     alloc: Global,
     network: &Network,
     drawing: &Drawing<'_>,
-) -> Result<String, AllocError>
-    ensures { IfOk result (λ s. string_bytes s ≡ flat_map (channel_statement network.now drawing.now) (range_with_len 0 (length (wiring_of network.now).ends))) }
+) -> Result<(), AllocError>
+    ensures { OnOk result (string_bytes text.new ≡ string_bytes text.old ++ flat_map (channel_statement network.now drawing.now) (range_with_len 0 (length (wiring_of network.now).ends))) }
 {
-    let mut text = String::new(alloc);
     for number in 0..network.channels() {
-        text.push_str(channel_statement(alloc, network, drawing, number)?.as_str())?;
+        add_channel(text, alloc, network, drawing, number)?;
     }
-    Ok(text)
+    Ok(())
 }

@@ -1,7 +1,9 @@
 //! What `draw` answers.
 ghost use Rattle.std.specs.Prelude.{◌<◌, Some, IfOk, length, string_bytes};
+ghost use Rattle.sw_command.specs.Ends.{Says};
 ghost use Rattle.sw_config.specs.Entries.{all_flows};
 ghost use Rattle.sw_app_draw.specs.DrawAnswers.{IsDrawAnswer, IsDrawnAnswer, IsFlowAnswer, IsNamedAnswer};
+ghost use Rattle.sw_app_draw.specs.DrawTexts.{draw_text};
 ghost use Rattle.sw_app_draw.specs.Drawings.{IsCycleDrawn};
 
 use crate::draw_text::draw_text;
@@ -16,6 +18,18 @@ use sw_flow::{Place, places};
 use sw_search::VerdictWorkers;
 use sw_toml_table::FileFault;
 use sw_topo::Chan;
+
+// With these drawn over the network's parts.
+fn drawing_answer(
+    alloc: Global,
+    network: &Network,
+    drawing: &Drawing<'_>,
+) -> Result<Answer, AllocError>
+    ensures { IfOk result (λ a. Says (draw_text network.now drawing.now) 0 (string_bytes a.text) a.status) }
+{
+    let text = draw_text(alloc, network, drawing)?;
+    Ok(Answer { text, status: GOOD })
+}
 
 // With these places of a flow, this cycle, and the numbers if they are asked for.
 fn numbered_answer<W: VerdictWorkers>(
@@ -42,8 +56,7 @@ fn numbered_answer<W: VerdictWorkers>(
         cycle,
         numbers: numbers_of(&verdict),
     };
-    let text = draw_text(alloc, network, &drawing)?;
-    Ok(Answer { text, status: GOOD })
+    drawing_answer(alloc, network, &drawing)
 }
 
 // With these places of a flow, and what else is asked for.

@@ -1,10 +1,10 @@
 //! The text of a drawing.
-ghost use Rattle.std.specs.Prelude.{◌≡◌, IfOk, string_bytes};
+ghost use Rattle.std.specs.Prelude.{◌≡◌, ◌++◌, IfOk, OnOk, string_bytes};
 ghost use Rattle.sw_app_draw.specs.DrawTexts.{draw_text, head_text, parts_text};
 
-use crate::channels::channel_statements;
+use crate::channels::add_channels;
 use crate::drawing::Drawing;
-use crate::parts::{node_statements, switch_statements};
+use crate::parts::{add_nodes, add_switches};
 use std::alloc::{AllocError, Global};
 use sw_config::Network;
 
@@ -15,14 +15,18 @@ fn head_text() -> &'static str
     "digraph network {\n  node [shape=\"box\"];\n"
 }
 
-// A line for each node, each switch and each channel.
-fn parts_text(alloc: Global, network: &Network, drawing: &Drawing<'_>) -> Result<String, AllocError>
-    ensures { IfOk result (λ s. string_bytes s ≡ parts_text network.now drawing.now) }
+// Adds a line for each node, each switch and each channel.
+fn add_parts(
+    text: &mut String,
+    alloc: Global,
+    network: &Network,
+    drawing: &Drawing<'_>,
+) -> Result<(), AllocError>
+    ensures { OnOk result (string_bytes text.new ≡ string_bytes text.old ++ parts_text network.now drawing.now) }
 {
-    let nodes = node_statements(alloc, network)?;
-    let switches = switch_statements(alloc, network)?;
-    let channels = channel_statements(alloc, network, drawing)?;
-    format!(in alloc; "{nodes}{switches}{channels}")
+    add_nodes(text, alloc, network)?;
+    add_switches(text, alloc, network)?;
+    add_channels(text, alloc, network, drawing)
 }
 
 /// The network in DOT, with what is drawn over its parts.
@@ -33,7 +37,8 @@ pub(crate) fn draw_text(
 ) -> Result<String, AllocError>
     ensures { IfOk result (λ s. string_bytes s ≡ draw_text network.now drawing.now) }
 {
-    let head = head_text();
-    let parts = parts_text(alloc, network, drawing)?;
-    format!(in alloc; "{head}{parts}}}\n")
+    let mut text = String::from_str(alloc, head_text())?;
+    add_parts(&mut text, alloc, network, drawing)?;
+    text.push_str("}\n")?;
+    Ok(text)
 }

@@ -1,11 +1,11 @@
 //! The attributes of a channel: what is told of it by its style and its labels.
-ghost use Rattle.std.specs.Prelude.{◌≡◌, ◌<◌, ◌+◌, ◌^◌, ◌++◌, ◌==◌, OnOk, IfOk, codes, position, string_bytes};
-ghost use Rattle.std.specs.Fmt.{decimal};
+ghost use Rattle.std.specs.Prelude.{◌≡◌, ◌<◌, ◌+◌, ◌^◌, ◌++◌, ◌==◌, IfOk, position, string_bytes};
 ghost use Rattle.std.specs.List.{list_any};
 ghost use Rattle.sw_flow.specs.declared.place.Place.{Place};
+ghost use Rattle.sw_app_draw.specs.Dot.{list_text};
 ghost use Rattle.sw_app_draw.specs.DrawTexts.{channel_attributes, cycle_attributes, flow_attributes, number_attributes, step_attributes};
 
-use crate::dot::Attribute;
+use crate::dot::joined;
 use crate::drawing::Drawing;
 use std::alloc::{AllocError, Global};
 use sw_flow::Place;
@@ -25,79 +25,56 @@ fn place_in(cycle: &[Chan], channel: Chan) -> Option<usize>
     cycle.iter().position(|e| *e == channel)
 }
 
-fn channel_words(alloc: Global, channel: Chan) -> Result<String, AllocError>
-    ensures { IfOk result (λ s. string_bytes s ≡ codes "channel " ++ decimal channel) }
-{
-    let number = channel.number();
-    format!(in alloc; "channel {number}")
-}
-
-fn number_words(alloc: Global, number: usize) -> Result<String, AllocError>
-    ensures { IfOk result (λ s. string_bytes s ≡ decimal number) }
-{
-    format!(in alloc; "{number}")
-}
-
 // A channel of the flow is bold, and told by its number.
-fn add_flow(
-    alloc: Global,
-    attributes: &mut Vec<Attribute>,
-    places: &[Place],
-    channel: Chan,
-) -> Result<(), AllocError>
-    ensures { OnOk result (attributes.new.items ≡ attributes.old.items ++ flow_attributes places.now channel) }
+fn flow_attributes(alloc: Global, places: &[Place], channel: Chan) -> Result<String, AllocError>
+    ensures { IfOk result (λ s. string_bytes s ≡ list_text (flow_attributes places.now channel)) }
 {
-    if is_taken(places, channel) {
-        let words = channel_words(alloc, channel)?;
-        attributes.push(Attribute::new(alloc, "style", "bold")?)?;
-        attributes.push(Attribute::new(alloc, "xlabel", words.as_str())?)?;
+    if !is_taken(places, channel) {
+        return Ok(String::new(alloc));
     }
-    Ok(())
+    let number = channel.number();
+    format!(in alloc; "style=\"bold\", xlabel=\"channel {number}\"")
 }
 
 // A step of the cycle is red, and has its number.
-fn add_step(alloc: Global, attributes: &mut Vec<Attribute>, before: usize) -> Result<(), AllocError>
+fn step_attributes(alloc: Global, before: usize) -> Result<String, AllocError>
     requires { before + 1 < 2 ^ 64 }
-    ensures { OnOk result (attributes.new.items ≡ attributes.old.items ++ step_attributes before) }
+    ensures { IfOk result (λ s. string_bytes s ≡ list_text (step_attributes before)) }
 {
-    let words = number_words(alloc, before + 1)?;
-    attributes.push(Attribute::new(alloc, "color", "red")?)?;
-    attributes.push(Attribute::new(alloc, "fontcolor", "red")?)?;
-    attributes.push(Attribute::new(alloc, "label", words.as_str())?)?;
-    Ok(())
+    let number = before + 1;
+    format!(in alloc; "color=\"red\", fontcolor=\"red\", label=\"{number}\"")
 }
 
-fn add_cycle(
-    alloc: Global,
-    attributes: &mut Vec<Attribute>,
-    cycle: &[Chan],
-    channel: Chan,
-) -> Result<(), AllocError>
-    ensures { OnOk result (attributes.new.items ≡ attributes.old.items ++ cycle_attributes cycle.now channel) }
+fn cycle_attributes(alloc: Global, cycle: &[Chan], channel: Chan) -> Result<String, AllocError>
+    ensures { IfOk result (λ s. string_bytes s ≡ list_text (cycle_attributes cycle.now channel)) }
 {
     match place_in(cycle, channel) {
-        Some(before) => add_step(alloc, attributes, before),
-        None => Ok(()),
+        Some(before) => step_attributes(alloc, before),
+        None => Ok(String::new(alloc)),
     }
 }
 
 // The channel's number in the certificate.
-fn add_number(
-    alloc: Global,
-    attributes: &mut Vec<Attribute>,
-    numbers: &[u16],
-    channel: Chan,
-) -> Result<(), AllocError>
-    ensures { OnOk result (attributes.new.items ≡ attributes.old.items ++ number_attributes numbers.now channel) }
+fn number_attributes(alloc: Global, numbers: &[u16], channel: Chan) -> Result<String, AllocError>
+    ensures { IfOk result (λ s. string_bytes s ≡ list_text (number_attributes numbers.now channel)) }
 {
     match numbers.get(usize::from(channel.number())) {
-        Some(number) => {
-            let words = number_words(alloc, usize::from(*number))?;
-            attributes.push(Attribute::new(alloc, "label", words.as_str())?)?;
-            Ok(())
-        }
-        None => Ok(()),
+        Some(number) => format!(in alloc; "label=\"{number}\""),
+        None => Ok(String::new(alloc)),
     }
+}
+
+// What is told of the channel by the cycle and by the certificate.
+fn label_attributes(
+    alloc: Global,
+    drawing: &Drawing<'_>,
+    channel: Chan,
+) -> Result<String, AllocError>
+    ensures { IfOk result (λ s. string_bytes s ≡ list_text (cycle_attributes drawing.now.cycle channel ++ number_attributes drawing.now.numbers channel)) }
+{
+    let cycle = cycle_attributes(alloc, drawing.cycle, channel)?;
+    let number = number_attributes(alloc, drawing.numbers, channel)?;
+    joined(alloc, &cycle, &number)
 }
 
 /// What is told of the channel.
@@ -105,12 +82,10 @@ pub(crate) fn channel_attributes(
     alloc: Global,
     drawing: &Drawing<'_>,
     channel: Chan,
-) -> Result<Vec<Attribute>, AllocError>
-    ensures { IfOk result (λ v. v.items ≡ channel_attributes drawing.now channel) }
+) -> Result<String, AllocError>
+    ensures { IfOk result (λ s. string_bytes s ≡ list_text (channel_attributes drawing.now channel)) }
 {
-    let mut attributes = Vec::new(alloc);
-    add_flow(alloc, &mut attributes, drawing.places, channel)?;
-    add_cycle(alloc, &mut attributes, drawing.cycle, channel)?;
-    add_number(alloc, &mut attributes, drawing.numbers, channel)?;
-    Ok(attributes)
+    let flow = flow_attributes(alloc, drawing.places, channel)?;
+    let labels = label_attributes(alloc, drawing, channel)?;
+    joined(alloc, &flow, &labels)
 }

@@ -1,2 +1,3 @@
 pub mod OnChannels
 mod Steps
+mod Texts

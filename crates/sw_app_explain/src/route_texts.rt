@@ -1,47 +1,44 @@
 //! The text of a flow that is not well routed.
-ghost use Rattle.std.specs.Prelude.{◌≡◌, ◌<◌, ◌+◌, ◌^◌, All, IfOk, length, string_bytes};
+ghost use Rattle.std.specs.Prelude.{◌≡◌, ◌<◌, ◌+◌, ◌^◌, ◌++◌, All, IfOk, OnOk, length, string_bytes};
 ghost use Rattle.sw_config.specs.Entries.{wiring_of};
-ghost use Rattle.sw_app_explain.specs.ExplainTexts.{deleting_words, fault_line, fault_words, misrouted_line, misrouted_text, place_words, way_line, way_lines};
+ghost use Rattle.sw_search.specs.Explanations.{GoesWrong};
+ghost use Rattle.sw_app_explain.specs.ExplainTexts.{fault_words, misrouted_text, place_words, way_line, way_lines};
 
-use crate::words::{counted, numbered};
+use crate::words::ending;
 use std::alloc::{AllocError, Global};
+use std::fmt::Write;
 use sw_config::Network;
 use sw_flow::{Place, RouteFault};
 use sw_output::{channel_text, flow_name, route_fault_text};
-
-// A channel, and what is deleted there.
-fn deleting_words(alloc: Global, channel: &str, deleted: &str) -> Result<String, AllocError>
-    ensures { IfOk result (λ s. string_bytes s ≡ deleting_words channel.now deleted.now) }
-{
-    format!(in alloc; "{channel}, with {deleted} deleted")
-}
 
 // The channel of the place, and how many address bytes are deleted there.
 fn place_words(alloc: Global, network: &Network, place: Place) -> Result<String, AllocError>
     requires { place.channel < length (wiring_of network.now).ends }
     ensures { IfOk result (λ s. string_bytes s ≡ place_words network.now place) }
 {
+    let deleted = place.deleted;
+    let ending = ending(deleted as usize);
     let channel = channel_text(alloc, network, place.channel)?;
-    let deleted = counted(alloc, place.deleted as usize, "address byte")?;
-    deleting_words(alloc, channel.as_str(), deleted.as_str())
+    format!(in alloc; "{channel}, with {deleted} address byte{ending} deleted")
 }
 
-// The line of the place that comes behind so many others.
-fn way_line(
+// Adds the line of the place that comes behind so many others.
+fn add_way_line(
+    text: &mut String,
     alloc: Global,
     network: &Network,
     flow: u16,
     before: usize,
     place: Place,
-) -> Result<String, AllocError>
+) -> Result<(), AllocError>
     requires within { place.channel < length (wiring_of network.now).ends }
     requires few { before + 1 < 2 ^ 64 }
-    ensures { IfOk result (λ s. string_bytes s ≡ way_line network.now flow before place) }
+    ensures { OnOk result (string_bytes text.new ≡ string_bytes text.old ++ way_line network.now flow before place) }
 {
-    let number = numbered(alloc, before)?;
+    let number = before + 1;
     let name = flow_name(network, flow);
     let words = place_words(alloc, network, place)?;
-    format!(in alloc; "{number} a packet of {name} goes on {words}\n")
+    write!(text, "{number}. a packet of {name} goes on {words}\n")
 }
 
 // A line for each place.
@@ -56,7 +53,7 @@ fn way_lines(
 {
     let mut text = String::new(alloc);
     for (before, place) in places.iter().enumerate() {
-        text.push_str(way_line(alloc, network, flow, before, *place)?.as_str())?;
+        add_way_line(&mut text, alloc, network, flow, before, *place)?;
     }
     Ok(text)
 }
@@ -75,34 +72,21 @@ pub fn fault_words(fault: RouteFault) -> &'static str
     }
 }
 
-fn fault_line(alloc: Global, fault: RouteFault) -> Result<String, AllocError>
-    ensures { IfOk result (λ s. string_bytes s ≡ fault_line fault) }
-{
-    let name = route_fault_text(fault);
-    let words = fault_words(fault);
-    format!(in alloc; "{name}: {words}\n")
-}
-
-fn misrouted_line(alloc: Global, network: &Network, flow: u16) -> Result<String, AllocError>
-    ensures { IfOk result (λ s. string_bytes s ≡ misrouted_line network.now flow) }
-{
-    let name = flow_name(network, flow);
-    format!(in alloc; "misrouted {name}\n")
-}
-
 /// The flow, the places that its packets go over, and what is wrong at the last of them.
 pub(crate) fn misrouted_text(
     alloc: Global,
     network: &Network,
     flow: u16,
+    place: Place,
     fault: RouteFault,
     way: &[Place],
 ) -> Result<String, AllocError>
-    requires { All (λ p. p.channel < length (wiring_of network.now).ends) way.now }
+    requires { GoesWrong network.now flow place fault way.now }
     ensures { IfOk result (λ s. string_bytes s ≡ misrouted_text network.now flow fault way.now) }
 {
-    let head = misrouted_line(alloc, network, flow)?;
+    let name = flow_name(network, flow);
+    let fault_name = route_fault_text(fault);
+    let words = fault_words(fault);
     let lines = way_lines(alloc, network, flow, way)?;
-    let fault = fault_line(alloc, fault)?;
-    format!(in alloc; "{head}{lines}{fault}")
+    format!(in alloc; "misrouted {name}\n{lines}{fault_name}: {words}\n")
 }

@@ -1,5 +1,5 @@
 //! The text of a step of a cycle.
-ghost use Rattle.std.specs.Prelude.{◌≡◌, ◌≤◌, ◌<◌, ◌+◌, ◌++◌, IfOk, codes, length, string_bytes};
+ghost use Rattle.std.specs.Prelude.{◌≡◌, ◌≤◌, ◌<◌, ◌+◌, ◌++◌, IfOk, OnOk, codes, length, string_bytes};
 ghost use Rattle.std.specs.List.{flat_map};
 ghost use Rattle.sw_config.specs.Entries.{wiring_of};
 ghost use Rattle.sw_cycle.specs.Cycles.{cause_of};
@@ -7,6 +7,7 @@ ghost use Rattle.sw_output.specs.FlowTexts.{flow_name};
 ghost use Rattle.sw_app_explain.specs.ExplainTexts.{answering_words, flows_text, holding_words, more_text, names_text, named, step_words};
 
 use std::alloc::{AllocError, Global};
+use std::fmt::Write;
 use sw_config::Network;
 use sw_cycle::Cause;
 use sw_output::{channel_text, flow_name, node_name};
@@ -69,16 +70,15 @@ fn named(flows: &[u16], all: bool) -> &[u16]
     &flows[..MOST_NAMED]
 }
 
-// The names of more flows, each behind a comma.
-fn more_names(alloc: Global, network: &Network, flows: &[u16]) -> Result<String, AllocError>
-    ensures { IfOk result (λ s. string_bytes s ≡ flat_map (λ f. codes ", " ++ flow_name network.now f) flows.now) }
+// Adds the names of more flows, each behind a comma.
+fn add_names(text: &mut String, network: &Network, flows: &[u16]) -> Result<(), AllocError>
+    ensures { OnOk result (string_bytes text.new ≡ string_bytes text.old ++ flat_map (λ f. codes ", " ++ flow_name network.now f) flows.now) }
 {
-    let mut text = String::new(alloc);
     for flow in flows {
-        text.push_str(", ")?;
-        text.push_str(flow_name(network, *flow))?;
+        let name = flow_name(network, *flow);
+        write!(text, ", {name}")?;
     }
-    Ok(text)
+    Ok(())
 }
 
 /// The names of flows, with a comma between each two.
@@ -92,9 +92,9 @@ pub fn names_text(alloc: Global, network: &Network, flows: &[u16]) -> Result<Str
     match flows {
         [] => Ok(String::new(alloc)),
         [first, rest @ ..] => {
-            let name = flow_name(network, *first);
-            let more = more_names(alloc, network, rest)?;
-            format!(in alloc; "{name}{more}")
+            let mut text = String::from_str(alloc, flow_name(network, *first))?;
+            add_names(&mut text, network, rest)?;
+            Ok(text)
         }
     }
 }

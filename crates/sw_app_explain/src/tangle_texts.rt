@@ -1,14 +1,16 @@
 //! The text of tangles.
-ghost use Rattle.std.specs.Prelude.{◌≡◌, ◌<◌, ◌++◌, All, IfOk, codes, length, string_bytes};
+ghost use Rattle.std.specs.Prelude.{◌≡◌, ◌<◌, ◌++◌, All, IfOk, OnOk, codes, length, string_bytes};
 ghost use Rattle.std.specs.List.{flat_map};
 ghost use Rattle.std.specs.Fmt.{decimal};
 ghost use Rattle.sw_config.specs.Entries.{wiring_of};
+ghost use Rattle.sw_search.specs.Explanations.{IsTangled};
 ghost use Rattle.sw_search.specs.declared.tangle.Tangle.{Tangle};
-ghost use Rattle.sw_app_explain.specs.ExplainTexts.{counts_text, cycle_line, numbered_line, step_line, step_lines, step_text, tangle_text, tangles_text, total_line, IsOfChannels};
+ghost use Rattle.sw_app_explain.specs.ExplainTexts.{counts_text, step_line, step_lines, step_text, tangle_text, tangles_text, IsOfChannels};
 
 use crate::step_texts::{flows_text, step_words};
-use crate::words::{counted, numbered};
+use crate::words::ending;
 use std::alloc::{AllocError, Global};
+use std::fmt::Write;
 use sw_config::Network;
 use sw_cycle::Cycle;
 use sw_search::Tangle;
@@ -30,87 +32,74 @@ fn step_text(
     step_words(alloc, network, channels[i], to, &cycle.causes[i])
 }
 
-// A step with its number and the flows that make it.
-fn numbered_line(alloc: Global, number: &str, step: &str, flows: &str) -> Result<String, AllocError>
-    ensures { IfOk result (λ s. string_bytes s ≡ numbered_line number.now step.now flows.now) }
-{
-    format!(in alloc; "{number} {step}{flows}\n")
-}
-
-// The line of that channel of the cycle.
-fn step_line(
+// Adds the line of that channel of the cycle.
+fn add_step_line(
+    text: &mut String,
     alloc: Global,
     network: &Network,
     all: bool,
     cycle: &Cycle,
     flows: &[Vec<u16>],
     i: usize,
-) -> Result<String, AllocError>
+) -> Result<(), AllocError>
     requires within { All (λ c. c < length (wiring_of network.now).ends) cycle.now.channels }
     requires caused { length cycle.now.causes ≡ length cycle.now.channels }
     requires made { length flows.now ≡ length cycle.now.channels }
     requires inside { i < length cycle.now.channels }
-    ensures { IfOk result (λ s. string_bytes s ≡ step_line network.now all cycle.now flows.now i) }
+    ensures { OnOk result (string_bytes text.new ≡ string_bytes text.old ++ step_line network.now all cycle.now flows.now i) }
 {
-    let number = numbered(alloc, i)?;
+    let number = i + 1;
     let step = step_text(alloc, network, cycle, i)?;
     let flows = flows_text(alloc, network, &flows[i], all)?;
-    numbered_line(alloc, number.as_str(), step.as_str(), flows.as_str())
+    write!(text, "{number}. {step}{flows}\n")
 }
 
-// A line for each channel of the cycle.
-fn step_lines(
+// Adds a line for each channel of the cycle.
+fn add_step_lines(
+    text: &mut String,
     alloc: Global,
     network: &Network,
     all: bool,
     cycle: &Cycle,
     flows: &[Vec<u16>],
-) -> Result<String, AllocError>
+) -> Result<(), AllocError>
     requires within { All (λ c. c < length (wiring_of network.now).ends) cycle.now.channels }
     requires caused { length cycle.now.causes ≡ length cycle.now.channels }
     requires made { length flows.now ≡ length cycle.now.channels }
-    ensures { IfOk result (λ s. string_bytes s ≡ step_lines network.now all cycle.now flows.now) }
+    ensures { OnOk result (string_bytes text.new ≡ string_bytes text.old ++ step_lines network.now all cycle.now flows.now) }
 {
-    let mut text = String::new(alloc);
     for i in 0..cycle.channels.len() {
-        text.push_str(step_line(alloc, network, all, cycle, flows, i)?.as_str())?;
+        add_step_line(text, alloc, network, all, cycle, flows, i)?;
     }
-    Ok(text)
+    Ok(())
 }
 
-// How many channels a shortest cycle has.
-fn cycle_line(alloc: Global, count: usize) -> Result<String, AllocError>
-    ensures { IfOk result (λ s. string_bytes s ≡ cycle_line count) }
-{
-    let count = counted(alloc, count, "channel")?;
-    format!(in alloc; "shortest cycle: {count}\n")
-}
-
-// The shortest cycle of a tangle.
-fn tangle_text(
+// Adds the shortest cycle of a tangle.
+fn add_tangle(
+    text: &mut String,
     alloc: Global,
     network: &Network,
     all: bool,
     tangle: &Tangle,
-) -> Result<String, AllocError>
+) -> Result<(), AllocError>
     requires { IsOfChannels network.now tangle.now }
-    ensures { IfOk result (λ s. string_bytes s ≡ tangle_text network.now all tangle.now) }
+    ensures { OnOk result (string_bytes text.new ≡ string_bytes text.old ++ tangle_text network.now all tangle.now) }
 {
-    let head = cycle_line(alloc, tangle.cycle.channels.len())?;
-    let lines = step_lines(alloc, network, all, &tangle.cycle, &tangle.flows)?;
-    format!(in alloc; "{head}{lines}")
+    let count = tangle.cycle.channels.len();
+    let ending = ending(count);
+    write!(text, "shortest cycle: {count} channel{ending}\n")?;
+    add_step_lines(text, alloc, network, all, &tangle.cycle, &tangle.flows)
 }
 
-// How many channels each of more tangles has, each behind a comma.
-fn more_counts(alloc: Global, tangles: &[Tangle]) -> Result<String, AllocError>
-    ensures { IfOk result (λ s. string_bytes s ≡ flat_map (λ (u : Tangle). codes ", " ++ decimal u.channels) tangles.now) }
+// Adds how many channels each of more tangles has, each behind a comma.
+fn add_counts(text: &mut String, tangles: &[Tangle]) -> Result<(), AllocError>
+    ensures { OnOk result (string_bytes text.new ≡ string_bytes text.old ++ flat_map (λ (u : Tangle). codes ", " ++ decimal u.channels) tangles.now) }
 {
-    let mut text = String::new(alloc);
     for tangle in tangles {
         let count = tangle.channels;
-        text.push_str(format!(in alloc; ", {count}")?.as_str())?;
+        write!(text, ", {count}")?;
     }
-    Ok(text)
+    Ok(())
 }
 
 // How many channels each tangle has, with a comma between each two.
@@ -121,21 +110,11 @@ fn counts_text(alloc: Global, tangles: &[Tangle]) -> Result<String, AllocError>
         [] => Ok(String::new(alloc)),
         [first, rest @ ..] => {
             let count = first.channels;
-            let more = more_counts(alloc, rest)?;
-            format!(in alloc; "{count}{more}")
+            let mut text = format!(in alloc; "{count}")?;
+            add_counts(&mut text, rest)?;
+            Ok(text)
         }
     }
-}
-
-// How many tangles there are, and of how many channels each.
-fn total_line(alloc: Global, tangles: &[Tangle]) -> Result<String, AllocError>
-    ensures { IfOk result (λ s. string_bytes s ≡ total_line tangles.now) }
-{
-    let total = counted(alloc, tangles.len(), "tangle")?;
-    let counts = counts_text(alloc, tangles)?;
-    format!(in alloc;
-        "{total} of {counts} channels; buffers, slots and arbiters do not change this\n"
-    )
 }
 
 // The shortest cycle of each tangle.
@@ -150,7 +129,7 @@ fn cycles_text(
 {
     let mut text = String::new(alloc);
     for tangle in tangles {
-        text.push_str(tangle_text(alloc, network, all, tangle)?.as_str())?;
+        add_tangle(&mut text, alloc, network, all, tangle)?;
     }
     Ok(text)
 }
@@ -162,10 +141,16 @@ pub(crate) fn tangles_text(
     all: bool,
     tangles: &[Tangle],
 ) -> Result<String, AllocError>
-    requires { All (IsOfChannels network.now) tangles.now }
+    requires { IsTangled network.now tangles.now }
     ensures { IfOk result (λ s. string_bytes s ≡ tangles_text network.now all tangles.now) }
 {
+    // Names the network, which is valid by its type.
+    let _topology = network.topology();
+    let total = tangles.len();
+    let ending = ending(total);
     let cycles = cycles_text(alloc, network, all, tangles)?;
-    let total = total_line(alloc, tangles)?;
-    format!(in alloc; "{cycles}{total}")
+    let counts = counts_text(alloc, tangles)?;
+    format!(in alloc;
+        "{cycles}{total} tangle{ending} of {counts} channels; buffers, slots and arbiters do not change this\n"
+    )
 }

@@ -4,10 +4,9 @@ ghost use Rattle.sw_app_rmap.specs.declared.fault.RmapError.TheVariants.{Memory}
 ghost use Rattle.sw_app_rmap.specs.EntryTexts.{fault_line, fault_words};
 
 use std::alloc::{AllocError, Global};
-use thiserror::Error;
 
 /// Why a flow has no such packet.
-#[derive(Clone, Copy, Debug, PartialEq, Eq)]
+#[derive(Clone, Copy)]
 pub(crate) enum RmapFault {
     /// No declared flow has that name.
     UnknownFlow,
@@ -32,11 +31,9 @@ pub(crate) enum RmapFault {
 }
 
 /// Why there is no packet, or want of memory.
-#[derive(Clone, Copy, Debug, PartialEq, Eq, Error)]
+#[derive(Clone, Copy)]
 pub(crate) enum RmapError {
-    #[error("there is no such packet")]
     Fault(RmapFault),
-    #[error("out of memory")]
     Memory,
 }
 

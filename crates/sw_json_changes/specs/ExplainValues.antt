@@ -16,13 +16,16 @@ use Rattle.sw_output.specs.ChannelTexts.{node_name, start_text}
 
 -- ---- a flow that is not well routed
 
--- what is wrong at the last of the places that the flow's packets go over, the flow, and these places
-abbrev pub wrong_value : Declaration → ℕ → Place → RouteFault → List Place → Data
-wrong_value d flow place fault way =
+-- what is wrong at the last of the places that the flow's packets go over, the flow, and the values of these places
+abbrev pub misrouted_value : Declaration → ℕ → Place → RouteFault → List Data → Data
+misrouted_value d flow place fault way =
     object (member (codes "fault") (misrouted_fault_value place fault)
     (member (codes "flow") (flow_name_value d flow)
     (member (codes "kind") (string (codes "misrouted"))
-    (member (codes "way") (array (items_of (map (place_value d) way))) no_members))))
+    (member (codes "way") (array (items_of way)) no_members))))
+
+abbrev pub wrong_value : Declaration → ℕ → Place → RouteFault → List Place → Data
+wrong_value d flow place fault way = misrouted_value d flow place fault (map (place_value d) way)
 
 -- ---- channels that can wait for one another in circles
 

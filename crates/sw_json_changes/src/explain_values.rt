@@ -4,37 +4,43 @@ ghost use Rattle.serde_json.specs.View.{view};
 ghost use Rattle.sw_app_explain.specs.ExplainTexts.{IsOfChannels};
 ghost use Rattle.sw_config.specs.Entries.{wiring_of};
 ghost use Rattle.sw_cycle.specs.Cycles.{cause_of};
+ghost use Rattle.sw_json.specs.Objects.{member_value};
 ghost use Rattle.sw_search.specs.Explanations.{GoesWrong, IsExplanation, IsTangled};
-ghost use Rattle.sw_json_changes.specs.ExplainValues.{explain_value, step_value, step_values, tangle_value, tangles_value, target_value, wrong_value};
+ghost use Rattle.sw_json_changes.specs.ExplainValues.{explain_value, misrouted_value, step_value, step_values, tangle_value, tangles_value, target_value, wrong_value};
 
-use serde_json::{Value, json};
+use serde_json::Value;
 use std::alloc::{AllocError, Global};
 use sw_config::Network;
 use sw_cycle::Cause;
 use sw_flow::{Place, RouteFault};
 use sw_json::{
-    finish_text, flow_name_values, kind_value, misrouted_fault_value, place_values, start_text,
+    Member, finish_text, flow_name_values, kind_value, misrouted_fault_value, object_of,
+    place_values, start_text,
 };
 use sw_output::{flow_name, node_name};
 use sw_search::{Explanation, Tangle};
 use sw_topo::Chan;
 
-// The places that a flow's packets go over, and what is wrong at the last of them.
+// What is wrong at the last of the places that a flow's packets go over, and the values of these.
 fn misrouted_value(
     alloc: Global,
     network: &Network,
     flow: u16,
     place: Place,
     fault: RouteFault,
-    way: &[Place],
+    way: Vec<Value>,
 ) -> Result<Value, AllocError>
-    requires { All (λ p. p.channel < length (wiring_of network.now).ends) way.now }
-    ensures { IfOk result (λ v. view v ≡ wrong_value network.now flow place fault way.now) }
+    ensures { IfOk result (λ v. view v ≡ misrouted_value network.now flow place fault (map view way.items)) }
 {
     let fault = misrouted_fault_value(alloc, place, fault)?;
-    let way = place_values(alloc, network, way)?;
     let name = flow_name(network, flow);
-    json!(in alloc; {"fault": fault, "way": way, "flow": name, "kind": "misrouted"})
+    let members = vec![in alloc;
+        ("fault", Member::Value(fault)),
+        ("flow", Member::Text(name)),
+        ("kind", Member::Text("misrouted")),
+        ("way", Member::Value(Value::Array(way))),
+    ]?;
+    object_of(alloc, members)
 }
 
 // The same, of what is told of a network.
@@ -49,16 +55,17 @@ fn wrong_value(
     requires { GoesWrong network.now flow place fault way.now }
     ensures { IfOk result (λ v. view v ≡ wrong_value network.now flow place fault way.now) }
 {
+    let way = place_values(alloc, network, way)?;
     misrouted_value(alloc, network, flow, place, fault, way)
 }
 
 // The node whose target makes a channel wait for the next, or null where flows do.
-fn target_value(alloc: Global, network: &Network, cause: &Cause) -> Result<Value, AllocError>
-    ensures { IfOk result (λ v. view v ≡ target_value network.now (cause_of cause.now)) }
+fn target_value<'a>(network: &'a Network, cause: &Cause) -> Member<'a>
+    ensures { member_value result ≡ target_value network.now (cause_of cause.now) }
 {
     match cause {
-        Cause::Target(node) => Value::try_from_str(alloc, node_name(network, *node)),
-        Cause::Flow(_, _) => Ok(Value::Null),
+        Cause::Target(node) => Member::Text(node_name(network, *node)),
+        Cause::Flow(_, _) => Member::Value(Value::Null),
     }
 }
 
@@ -75,16 +82,16 @@ fn step_value(
 {
     let end = finish_text(alloc, network, channel)?;
     let start = start_text(alloc, network, channel)?;
-    let target = target_value(alloc, network, cause)?;
     let names = flow_name_values(alloc, network, flows)?;
     let number = channel.number();
-    json!(in alloc; {
-        "end": end,
-        "flows": names,
-        "start": start,
-        "target": target,
-        "channel": number
-    })
+    let members = vec![in alloc;
+        ("channel", Member::Number(u64::from(number))),
+        ("end", Member::Value(Value::String(end))),
+        ("flows", Member::Value(Value::Array(names))),
+        ("start", Member::Value(Value::String(start))),
+        ("target", target_value(network, cause)),
+    ]?;
+    object_of(alloc, members)
 }
 
 // Adds that of one channel.
@@ -137,22 +144,11 @@ fn tangle_value(alloc: Global, network: &Network, tangle: &Tangle) -> Result<Val
         &tangle.flows,
     )?;
     let count = tangle.channels;
-    json!(in alloc; {"cycle": steps, "channels": count})
-}
-
-// Adds that of one tangle.
-fn add_tangle(
-    alloc: Global,
-    network: &Network,
-    tangle: &Tangle,
-    values: &mut Vec<Value>,
-) -> Result<(), AllocError>
-    requires { IsOfChannels network.now tangle.now }
-    ensures { OnOk result (map view values.new.items ≡ map view values.old.items ++ tangle_value network.now tangle.now ∷ []) }
-{
-    let value = tangle_value(alloc, network, tangle)?;
-    values.push(value)?;
-    Ok(())
+    let members = vec![in alloc;
+        ("channels", Member::Number(count as u64)),
+        ("cycle", Member::Value(Value::Array(steps))),
+    ]?;
+    object_of(alloc, members)
 }
 
 // An object for each tangle.
@@ -166,7 +162,7 @@ fn tangle_values(
 {
     let mut values = Vec::new(alloc);
     for tangle in tangles {
-        add_tangle(alloc, network, tangle, &mut values)?;
+        values.push(tangle_value(alloc, network, tangle)?)?;
     }
     Ok(values)
 }
@@ -179,7 +175,11 @@ fn tangles_value(alloc: Global, network: &Network, tangles: &[Tangle]) -> Result
     // Names the network, which is valid by its type.
     let _topology = network.topology();
     let values = tangle_values(alloc, network, tangles)?;
-    json!(in alloc; {"tangles": values, "kind": "cyclic"})
+    let members = vec![in alloc;
+        ("kind", Member::Text("cyclic")),
+        ("tangles", Member::Value(Value::Array(values))),
+    ]?;
+    object_of(alloc, members)
 }
 
 /// The object that stands for what is told of a network.

@@ -4,10 +4,10 @@ ghost use Rattle.serde_json.specs.View.{view};
 ghost use Rattle.sw_config.specs.Entries.{wiring_of};
 ghost use Rattle.sw_json_changes.specs.MarginValues.{answered_value, loss_value, loss_values, lost_value, margins_value, stall_value};
 
-use serde_json::{Value, json};
+use serde_json::Value;
 use std::alloc::{AllocError, Global};
 use sw_config::Network;
-use sw_json::{finish_text, flow_name_values, start_text};
+use sw_json::{Member, finish_text, flow_name_values, object_of, start_text};
 use sw_margin::{Bend, Margins};
 use sw_output::{flow_name, node_name};
 use sw_topo::Chan;
@@ -18,7 +18,8 @@ fn stall_value(alloc: Global, network: &Network, bend: &Bend) -> Result<Value, A
 {
     let free = bend.stays_free;
     let name = node_name(network, bend.number);
-    json!(in alloc; {"free": free, "node": name})
+    let members = vec![in alloc; ("free", Member::Truth(free)), ("node", Member::Text(name))]?;
+    object_of(alloc, members)
 }
 
 // A flow that is answered.
@@ -27,7 +28,8 @@ fn answered_value(alloc: Global, network: &Network, bend: &Bend) -> Result<Value
 {
     let free = bend.stays_free;
     let name = flow_name(network, bend.number);
-    json!(in alloc; {"flow": name, "free": free})
+    let members = vec![in alloc; ("flow", Member::Text(name)), ("free", Member::Truth(free))]?;
+    object_of(alloc, members)
 }
 
 // The flows that are lost without the link of that channel.
@@ -44,7 +46,13 @@ fn lost_value(
     let start = start_text(alloc, network, channel)?;
     let names = flow_name_values(alloc, network, flows)?;
     let number = channel.number();
-    json!(in alloc; {"end": end, "flows": names, "start": start, "channel": number})
+    let members = vec![in alloc;
+        ("channel", Member::Number(u64::from(number))),
+        ("end", Member::Value(Value::String(end))),
+        ("flows", Member::Value(Value::Array(names))),
+        ("start", Member::Value(Value::String(start))),
+    ]?;
+    object_of(alloc, members)
 }
 
 // The flows that are lost without the link of that number.
@@ -129,10 +137,11 @@ pub(crate) fn margins_value(
     let answers = answer_list(alloc, network, &told.answers)?;
     let losses = loss_list(alloc, network, &told.losses)?;
     let stalls = stall_list(alloc, network, &told.stalls)?;
-    json!(in alloc; {
-        "answers": answers,
-        "losses": losses,
-        "stalls": stalls,
-        "kind": "margins"
-    })
+    let members = vec![in alloc;
+        ("answers", Member::Value(Value::Array(answers))),
+        ("kind", Member::Text("margins")),
+        ("losses", Member::Value(Value::Array(losses))),
+        ("stalls", Member::Value(Value::Array(stalls))),
+    ]?;
+    object_of(alloc, members)
 }

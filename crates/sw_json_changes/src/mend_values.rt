@@ -1,13 +1,16 @@
 //! What frees a network, as values.
-ghost use Rattle.std.specs.Prelude.{◌≡◌, ◌++◌, ◌∷◌, [], IfOk, OnOk, map, slice_get, string_bytes};
+ghost use Rattle.std.specs.Prelude.{◌≡◌, ◌∷◌, [], IfOk, IsOkAnd, codes, map, slice_get, string_bytes};
+ghost use Rattle.serde_json.specs.Data.{string};
 ghost use Rattle.serde_json.specs.View.{view};
 ghost use Rattle.sw_config.specs.Entries.{routes_of};
-ghost use Rattle.sw_json_changes.specs.MendValues.{change_value, first_value, last_value, mend_value, mend_words, mends_value, of_entry, of_flow, of_node, of_port, pair_value, pair_words, split_value, trial_value};
+ghost use Rattle.sw_json.specs.Objects.{member_value, object_of};
+ghost use Rattle.sw_json_changes.specs.MendValues.{change_value, first_value, last_value, mend_value, mend_words, mends_value, of_entry, of_port, pair_value, pair_words, split_value, told_mend, trial_value};
 
-use serde_json::{Value, json};
+use serde_json::Value;
 use std::alloc::{AllocError, Global};
 use sw_app_changes::{change_words, trial_words};
 use sw_config::Network;
+use sw_json::{Member, object_of};
 use sw_mend::{Change, Pair, TargetLink, Trial};
 use sw_output::{flow_name, node_name, switch_name};
 use sw_route::Route;
@@ -24,39 +27,36 @@ fn route_at(network: &Network, switch: u16, entry: usize) -> Option<Route>
 }
 
 // The first address that the entry is for.
-fn first_value(network: &Network, switch: u16, entry: usize) -> Value
-    ensures { view result ≡ first_value network.now switch entry }
+fn first_value(network: &Network, switch: u16, entry: usize) -> Member<'static>
+    ensures { member_value result ≡ first_value network.now switch entry }
 {
     match route_at(network, switch, entry) {
-        Some(route) => Value::from(route.first),
-        None => Value::Null,
+        Some(route) => Member::Number(u64::from(route.first)),
+        None => Member::Value(Value::Null),
     }
 }
 
 // The last address that the entry is for.
-fn last_value(network: &Network, switch: u16, entry: usize) -> Value
-    ensures { view result ≡ last_value network.now switch entry }
+fn last_value(network: &Network, switch: u16, entry: usize) -> Member<'static>
+    ensures { member_value result ≡ last_value network.now switch entry }
 {
     match route_at(network, switch, entry) {
-        Some(route) => Value::from(route.last),
-        None => Value::Null,
+        Some(route) => Member::Number(u64::from(route.last)),
+        None => Member::Value(Value::Null),
     }
 }
 
-// A change of what goes with a flow.
-fn of_flow(alloc: Global, network: &Network, kind: &str, flow: u16) -> Result<Value, AllocError>
-    ensures { IfOk result (λ v. view v ≡ of_flow network.now kind.now flow) }
+// A change of what goes with a flow or a node, which is told by its name under this key.
+fn named_change<'a>(
+    alloc: Global,
+    kind: &'a str,
+    key: &'a str,
+    name: &'a str,
+) -> Result<Value, AllocError>
+    ensures { IfOk result (λ v. view v ≡ object_of ((key.now, string name.now) ∷ (codes "kind", string kind.now) ∷ [])) }
 {
-    let name = flow_name(network, flow);
-    json!(in alloc; {"flow": name, "kind": kind})
-}
-
-// A change of what goes with a node.
-fn of_node(alloc: Global, network: &Network, kind: &str, node: u16) -> Result<Value, AllocError>
-    ensures { IfOk result (λ v. view v ≡ of_node network.now kind.now node) }
-{
-    let name = node_name(network, node);
-    json!(in alloc; {"kind": kind, "node": name})
+    let members = vec![in alloc; (key, Member::Text(name)), ("kind", Member::Text(kind))]?;
+    object_of(alloc, members)
 }
 
 // A port less for the addresses of a table entry.
@@ -71,13 +71,14 @@ fn of_port(
 {
     let port = port.number();
     let name = switch_name(network, switch);
-    json!(in alloc; {
-        "first": first_value(network, switch, entry),
-        "last": last_value(network, switch, entry),
-        "kind": "port",
-        "port": port,
-        "switch": name
-    })
+    let members = vec![in alloc;
+        ("first", first_value(network, switch, entry)),
+        ("kind", Member::Text("port")),
+        ("last", last_value(network, switch, entry)),
+        ("port", Member::Number(u64::from(port))),
+        ("switch", Member::Text(name)),
+    ]?;
+    object_of(alloc, members)
 }
 
 // A table entry less.
@@ -90,12 +91,13 @@ fn of_entry(
     ensures { IfOk result (λ v. view v ≡ of_entry network.now switch entry) }
 {
     let name = switch_name(network, switch);
-    json!(in alloc; {
-        "first": first_value(network, switch, entry),
-        "kind": "entry",
-        "last": last_value(network, switch, entry),
-        "switch": name
-    })
+    let members = vec![in alloc;
+        ("first", first_value(network, switch, entry)),
+        ("kind", Member::Text("entry")),
+        ("last", last_value(network, switch, entry)),
+        ("switch", Member::Text(name)),
+    ]?;
+    object_of(alloc, members)
 }
 
 // What is taken away.
@@ -103,16 +105,22 @@ fn change_value(alloc: Global, network: &Network, change: &Change) -> Result<Val
     ensures { IfOk result (λ v. view v ≡ change_value network.now change.now) }
 {
     match change {
-        Change::WithoutReply(flow) => of_flow(alloc, network, "reply", *flow),
-        Change::WithoutFlow(flow) => of_flow(alloc, network, "flow", *flow),
-        Change::WithoutAnswers(node) => of_node(alloc, network, "replies", *node),
+        Change::WithoutReply(flow) => {
+            named_change(alloc, "reply", "flow", flow_name(network, *flow))
+        }
+        Change::WithoutFlow(flow) => named_change(alloc, "flow", "flow", flow_name(network, *flow)),
+        Change::WithoutAnswers(node) => {
+            named_change(alloc, "replies", "node", node_name(network, *node))
+        }
         Change::WithoutPort {
             switch,
             entry,
             port,
         } => of_port(alloc, network, *switch, *entry, *port),
         Change::WithoutEntry { switch, entry } => of_entry(alloc, network, *switch, *entry),
-        Change::WithoutFlowsOf(node) => of_node(alloc, network, "flows", *node),
+        Change::WithoutFlowsOf(node) => {
+            named_change(alloc, "flows", "node", node_name(network, *node))
+        }
     }
 }
 
@@ -123,7 +131,13 @@ fn split_value(alloc: Global, network: &Network, link: &TargetLink) -> Result<Va
     let name = node_name(network, link.node);
     let port = link.port.number();
     let switch = switch_name(network, link.switch);
-    json!(in alloc; {"kind": "target link", "node": name, "port": port, "switch": switch})
+    let members = vec![in alloc;
+        ("kind", Member::Text("target link")),
+        ("node", Member::Text(name)),
+        ("port", Member::Number(u64::from(port))),
+        ("switch", Member::Text(switch)),
+    ]?;
+    object_of(alloc, members)
 }
 
 // What is taken away, or what the target of a node gets.
@@ -153,51 +167,39 @@ fn pair_words(alloc: Global, network: &Network, pair: &Pair) -> Result<String, A
     format!(in alloc; "free {first} and {second}")
 }
 
+// Changes that free the network together, with their line.
+fn told_mend(
+    alloc: Global,
+    changes: Vec<Value>,
+    text: Result<String, AllocError>,
+) -> Result<Value, AllocError>
+    ensures { IfOk result (λ v. IsOkAnd text (λ t. view v ≡ told_mend (map view changes.items) (string_bytes t))) }
+{
+    let text = text?;
+    let members = vec![in alloc;
+        ("changes", Member::Value(Value::Array(changes))),
+        ("text", Member::Value(Value::String(text))),
+    ]?;
+    object_of(alloc, members)
+}
+
 // A single change that frees the network.
 fn mend_value(alloc: Global, network: &Network, trial: &Trial) -> Result<Value, AllocError>
     ensures { IfOk result (λ v. view v ≡ mend_value network.now trial.now) }
 {
-    let text = mend_words(alloc, network, trial)?;
     let change = trial_value(alloc, network, trial)?;
-    json!(in alloc; {"changes": [change], "text": text})
+    let changes = vec![in alloc; change]?;
+    told_mend(alloc, changes, mend_words(alloc, network, trial))
 }
 
 // A pair of changes that free it.
 fn pair_value(alloc: Global, network: &Network, pair: &Pair) -> Result<Value, AllocError>
     ensures { IfOk result (λ v. view v ≡ pair_value network.now pair.now) }
 {
-    let text = pair_words(alloc, network, pair)?;
     let first = change_value(alloc, network, &pair.first)?;
     let second = change_value(alloc, network, &pair.second)?;
-    json!(in alloc; {"changes": [first, second], "text": text})
-}
-
-// Adds that of one change.
-fn add_mend(
-    alloc: Global,
-    network: &Network,
-    trial: &Trial,
-    values: &mut Vec<Value>,
-) -> Result<(), AllocError>
-    ensures { OnOk result (map view values.new.items ≡ map view values.old.items ++ mend_value network.now trial.now ∷ []) }
-{
-    let value = mend_value(alloc, network, trial)?;
-    values.push(value)?;
-    Ok(())
-}
-
-// Adds that of one pair.
-fn add_pair(
-    alloc: Global,
-    network: &Network,
-    pair: &Pair,
-    values: &mut Vec<Value>,
-) -> Result<(), AllocError>
-    ensures { OnOk result (map view values.new.items ≡ map view values.old.items ++ pair_value network.now pair.now ∷ []) }
-{
-    let value = pair_value(alloc, network, pair)?;
-    values.push(value)?;
-    Ok(())
+    let changes = vec![in alloc; first, second]?;
+    told_mend(alloc, changes, pair_words(alloc, network, pair))
 }
 
 // An object for each change.
@@ -206,7 +208,7 @@ fn mend_list(alloc: Global, network: &Network, changes: &[Trial]) -> Result<Vec<
 {
     let mut values = Vec::new(alloc);
     for change in changes {
-        add_mend(alloc, network, change, &mut values)?;
+        values.push(mend_value(alloc, network, change)?)?;
     }
     Ok(values)
 }
@@ -217,7 +219,7 @@ fn pair_list(alloc: Global, network: &Network, pairs: &[Pair]) -> Result<Vec<Val
 {
     let mut values = Vec::new(alloc);
     for pair in pairs {
-        add_pair(alloc, network, pair, &mut values)?;
+        values.push(pair_value(alloc, network, pair)?)?;
     }
     Ok(values)
 }
@@ -226,7 +228,11 @@ fn pair_list(alloc: Global, network: &Network, pairs: &[Pair]) -> Result<Vec<Val
 fn told_mends(alloc: Global, mends: Vec<Value>) -> Result<Value, AllocError>
     ensures { IfOk result (λ v. view v ≡ mends_value (map view mends.items)) }
 {
-    json!(in alloc; {"mends": mends, "kind": "mends"})
+    let members = vec![in alloc;
+        ("kind", Member::Text("mends")),
+        ("mends", Member::Value(Value::Array(mends))),
+    ]?;
+    object_of(alloc, members)
 }
 
 /// The object that stands for the single changes that free the network.

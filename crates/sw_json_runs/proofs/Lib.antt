@@ -5,3 +5,4 @@ pub mod RunTold
 mod OneReplay
 mod StatusOfReplay
 mod StatusesOfRuns
+mod Unread

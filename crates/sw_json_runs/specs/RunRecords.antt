@@ -17,6 +17,8 @@ use Rattle.sw_json.specs.declared.files.Release.{Release}
 use Rattle.sw_load.specs.Load.{LoadEntry, load_text}
 use Rattle.sw_run.specs.Outcomes.{IsOutcome as IsRunOutcome}
 use Rattle.sw_run.specs.declared.outcome.Outcome.{Outcome}
+use Rattle.sw_toml_table.specs.declared.fault.FileFault.{FileFault}
+use Rattle.sw_toml_table.specs.declared.fault.FileFault.TheVariants.{Text, Memory}
 use Rattle.sw_toml_table.specs.declared.fault.TextFault.{TextFault}
 use Rattle.sw_json.specs.Answering.{IsAnswer, IsFaultyFile, IsLongFile, IsMemoryTold, Results, read_value}
 use Rattle.sw_json_runs.specs.RunAnswers.{IsResultOf}
@@ -30,6 +32,11 @@ abbrev pub IsFault : Answers → Recorded → Type 0
 IsFault P (Fault answer) = P (string_bytes answer.text) answer.status
 IsFault P (Run answer schedule summary) = ⊥
 IsFault P TooLong = ⊥
+
+-- a file was not read, for its first fault; want of memory tells nothing
+abbrev pub IsUnreadRecord : Answering → List ℕ → List ℕ → FileFault → Recorded → Type 0
+IsUnreadRecord says path text (Text fault) recorded = IsFault (says (IsFaultyFile path text fault)) recorded
+IsUnreadRecord says path text Memory recorded = ⊥
 
 -- the object of the outcome, and what is wanted besides
 abbrev pub IsRecordOf : Answering → Wants → Declaration → List LoadEntry → Outcome → Recorded → Type 0

@@ -5,10 +5,11 @@ ghost use Rattle.sw_json_runs.specs.PacketValues.{by_node, counted_node_value, n
 ghost use Rattle.sw_output.specs.Tallies.{tallies};
 
 use hex::encode_upper;
-use serde_json::{Value, json};
+use serde_json::Value;
 use std::alloc::{AllocError, Global};
 use sw_char::Packet;
 use sw_config::Network;
+use sw_json::{Member, object_of};
 use sw_output::{Tally, packet_end_text, packet_tallies};
 
 fn packet_value(alloc: Global, packet: &Packet) -> Result<Value, AllocError>
@@ -16,7 +17,11 @@ fn packet_value(alloc: Global, packet: &Packet) -> Result<Value, AllocError>
 {
     let bytes = encode_upper(alloc, packet.bytes.as_slice())?;
     let end = packet_end_text(packet.end);
-    json!(in alloc; {"bytes": bytes, "end": end})
+    let members = vec![in alloc;
+        ("bytes", Member::Value(Value::String(bytes))),
+        ("end", Member::Text(end)),
+    ]?;
+    object_of(alloc, members)
 }
 
 fn tally_value(alloc: Global, tally: &Tally<'_>) -> Result<Value, AllocError>
@@ -26,7 +31,12 @@ fn tally_value(alloc: Global, tally: &Tally<'_>) -> Result<Value, AllocError>
     let packet = tally.packet;
     let bytes = encode_upper(alloc, packet.bytes.as_slice())?;
     let end = packet_end_text(packet.end);
-    json!(in alloc; {"bytes": bytes, "count": count, "end": end})
+    let members = vec![in alloc;
+        ("bytes", Member::Value(Value::String(bytes))),
+        ("count", Member::Number(count)),
+        ("end", Member::Text(end)),
+    ]?;
+    object_of(alloc, members)
 }
 
 // A value for each packet.
@@ -55,7 +65,11 @@ fn node_value(alloc: Global, name: &str, packets: &[Packet]) -> Result<Value, Al
     ensures { IfOk result (λ v. view v ≡ node_value name.now packets.now) }
 {
     let values = packet_values(alloc, packets)?;
-    json!(in alloc; {"packets": values, "name": name})
+    let members = vec![in alloc;
+        ("name", Member::Text(name)),
+        ("packets", Member::Value(Value::Array(values))),
+    ]?;
+    object_of(alloc, members)
 }
 
 // A value for each of the different packets.
@@ -71,7 +85,12 @@ fn counted_node_value(alloc: Global, name: &str, packets: &[Packet]) -> Result<V
 {
     let count = packets.len();
     let values = counted_values(alloc, packets)?;
-    json!(in alloc; {"packets": values, "count": count, "name": name})
+    let members = vec![in alloc;
+        ("count", Member::Number(count as u64)),
+        ("name", Member::Text(name)),
+        ("packets", Member::Value(Value::Array(values))),
+    ]?;
+    object_of(alloc, members)
 }
 
 /// A value for each node, with the packets that came out there.

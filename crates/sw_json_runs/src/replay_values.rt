@@ -1,14 +1,16 @@
 //! A replay as a value.
 ghost use Rattle.std.specs.Prelude.{◌≡◌, IfOk, length};
 ghost use Rattle.serde_json.specs.View.{view};
+ghost use Rattle.sw_json.specs.Objects.{member_value};
 ghost use Rattle.sw_json.specs.Simple.{text_or_null};
 ghost use Rattle.sw_replay.specs.Reports.{report_of};
 ghost use Rattle.sw_json_runs.specs.ReplayValues.{refusal_code, replay_code, replay_kind, replay_step, replay_value};
 
 use crate::came_out_values::node_values;
-use serde_json::{Value, json};
+use serde_json::Value;
 use std::alloc::{AllocError, Global};
 use sw_config::Network;
+use sw_json::{Member, object_of};
 use sw_replay::{ReplayEnd, Replayed, StepRefusal};
 
 fn refusal_code(refusal: StepRefusal) -> &'static str
@@ -30,12 +32,12 @@ fn replay_kind(outcome: ReplayEnd) -> &'static str
 }
 
 // Why a step was refused, or null.
-fn code_value(alloc: Global, outcome: ReplayEnd) -> Result<Value, AllocError>
-    ensures { IfOk result (λ v. view v ≡ text_or_null (replay_code outcome)) }
+fn code_value(outcome: ReplayEnd) -> Member<'static>
+    ensures { member_value result ≡ text_or_null (replay_code outcome) }
 {
     match outcome {
-        ReplayEnd::Made(_) => Ok(Value::Null),
-        ReplayEnd::Refused(_, refusal) => Value::try_from_str(alloc, refusal_code(refusal)),
+        ReplayEnd::Made(_) => Member::Value(Value::Null),
+        ReplayEnd::Refused(_, refusal) => Member::Text(refusal_code(refusal)),
     }
 }
 
@@ -67,12 +69,13 @@ pub(crate) fn replay_value(
     let stuck = replayed.stuck;
     let undelivered = replayed.undelivered;
     let nodes = node_values(alloc, network, replayed.came_out.as_slice())?;
-    json!(in alloc; {
-        "nodes": nodes,
-        "code": code_value(alloc, replayed.outcome)?,
-        "kind": kind,
-        "step": step,
-        "stuck": stuck,
-        "undelivered": undelivered
-    })
+    let members = vec![in alloc;
+        ("code", code_value(replayed.outcome)),
+        ("kind", Member::Text(kind)),
+        ("nodes", Member::Value(Value::Array(nodes))),
+        ("step", Member::Number(u64::from(step))),
+        ("stuck", Member::Truth(stuck)),
+        ("undelivered", Member::Number(undelivered)),
+    ]?;
+    object_of(alloc, members)
 }

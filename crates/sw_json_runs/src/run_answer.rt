@@ -5,10 +5,10 @@ ghost use Rattle.sw_command.specs.Inputs.{given};
 ghost use Rattle.sw_file.specs.Network.{network_text};
 ghost use Rattle.sw_load.specs.Laws.{AreDeclared};
 ghost use Rattle.sw_load.specs.Load.{load_text};
-ghost use Rattle.sw_json.specs.Answering.{IsOutcome};
+ghost use Rattle.sw_json.specs.Answering.{IsLongFile, IsOutcome};
 ghost use Rattle.sw_json_runs.specs.RunAnswers.{IsResultOf};
 ghost use Rattle.sw_json_runs.specs.RunCalls.{IsCallRecord, answers_of};
-ghost use Rattle.sw_json_runs.specs.RunRecords.{IsFault, IsLoadFileRecord, IsLoadRecord, IsNetworkRecord, IsOutcomeRecord, IsRecordOf};
+ghost use Rattle.sw_json_runs.specs.RunRecords.{IsFault, IsLoadFileRecord, IsLoadRecord, IsNetworkRecord, IsOutcomeRecord, IsRecordOf, IsUnreadRecord};
 
 use crate::run_values::run_value;
 use std::alloc::{AllocError, Global};
@@ -23,6 +23,7 @@ use sw_load::laws::listed_are_declared;
 use sw_load::{Load, read_load};
 use sw_parallel::OneByOne;
 use sw_run::{Gate, Outcome as RunOutcome, run};
+use sw_toml_table::FileFault;
 
 /// The files of a call, and the program's release.
 #[derive(Drop)]
@@ -95,6 +96,28 @@ fn fault_record(
     Ok(Recorded::Fault(answered(alloc, call, found)?))
 }
 
+// What is told of a file that was not read, if it was not for want of memory.
+fn unread_record(
+    alloc: Global,
+    call: &RunCall<'_>,
+    path: &str,
+    text: &[u8],
+    fault: FileFault,
+) -> Result<Recorded, AllocError>
+    ensures { IfOk result (IsUnreadRecord (answers_of call.now) path.now text.now fault) }
+{
+    let found = unread_network(alloc, path, text, fault);
+    fault_record(alloc, call, found)
+}
+
+// What is told of a file that is too long.
+fn long_record(alloc: Global, call: &RunCall<'_>, path: &str) -> Result<Recorded, AllocError>
+    ensures { IfOk result (IsFault (answers_of call.now (IsLongFile path.now))) }
+{
+    let found = long_file(alloc, path);
+    fault_record(alloc, call, found)
+}
+
 // What is told of the outcome.
 fn recorded_outcome(
     alloc: Global,
@@ -159,10 +182,7 @@ fn load_record<G: Gate + Sync, T: Threads + Wait + Sync>(
             listed_are_declared();
             outcome_record(rt, alloc, call, network, &load, options, wants, gate)
         }
-        Err(fault) => {
-            let found = unread_network(alloc, call.other, text, fault);
-            fault_record(alloc, call, found)
-        }
+        Err(fault) => unread_record(alloc, call, call.other, text, fault),
     }
 }
 
@@ -183,10 +203,7 @@ fn load_file_record<G: Gate + Sync, T: Threads + Wait + Sync>(
         InputText::Whole(text) => {
             load_record(rt, alloc, call, network, text, options, wants, gate)
         }
-        InputText::TooLong => {
-            let found = long_file(alloc, call.other);
-            fault_record(alloc, call, found)
-        }
+        InputText::TooLong => long_record(alloc, call, call.other),
     }
 }
 
@@ -209,10 +226,7 @@ fn network_record<G: Gate + Sync, T: Threads + Wait + Sync>(
             drop(network);
             recorded
         }
-        Err(fault) => {
-            let found = unread_network(alloc, call.path, text, fault);
-            fault_record(alloc, call, found)
-        }
+        Err(fault) => unread_record(alloc, call, call.path, text, fault),
     }
 }
 
@@ -234,9 +248,6 @@ pub(crate) fn call_record<G: Gate + Sync, T: Threads + Wait + Sync>(
 {
     match call.first {
         InputText::Whole(text) => network_record(rt, alloc, call, text, options, wants, gate),
-        InputText::TooLong => {
-            let found = long_file(alloc, call.path);
-            fault_record(alloc, call, found)
-        }
+        InputText::TooLong => long_record(alloc, call, call.path),
     }
 }

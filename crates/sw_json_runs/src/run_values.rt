@@ -4,10 +4,11 @@ ghost use Rattle.serde_json.specs.View.{view};
 ghost use Rattle.sw_json_runs.specs.RunValues.{run_value};
 
 use crate::came_out_values::counted_node_values;
-use serde_json::{Value, json};
+use serde_json::Value;
 use std::alloc::{AllocError, Global};
 use sw_app_run::stop_word;
 use sw_config::Network;
+use sw_json::{Member, object_of};
 use sw_run::Outcome;
 
 /// The object that stands for the outcome of a run.
@@ -26,5 +27,10 @@ pub(crate) fn run_value(
     let kind = stop_word(outcome.stop);
     let undelivered = outcome.undelivered;
     let nodes = counted_node_values(alloc, network, outcome.came_out.as_slice())?;
-    json!(in alloc; {"nodes": nodes, "kind": kind, "undelivered": undelivered})
+    let members = vec![in alloc;
+        ("kind", Member::Text(kind)),
+        ("nodes", Member::Value(Value::Array(nodes))),
+        ("undelivered", Member::Number(undelivered)),
+    ]?;
+    object_of(alloc, members)
 }

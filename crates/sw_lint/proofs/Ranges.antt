@@ -1,8 +1,8 @@
 -- What is made of numbers one after the other, and of entries, one more at a time.
-use Rattle.std.proofs.Common.{◌≡◌, ℕ, zero, suc, ◌+◌, ◌<◌, ◌≤◌, Bool, true, false, ◌||◌, ◌-◌, List, [], ◌∷◌, ◌++◌, length, take, get_or, Contains, Option, Some, None, refl, sym, ap, ap₂, ◌∙◌, arith, append-nil}
-use Rattle.std.specs.Prelude.{flat_map, fold, slice_get}
+use Rattle.std.proofs.Common.{◌≡◌, ℕ, zero, suc, ◌+◌, ◌<◌, ◌≤◌, Bool, true, false, ◌||◌, ◌-◌, List, [], ◌∷◌, ◌++◌, length, map, take, get_or, Contains, Option, Some, None, refl, sym, ap, ap₂, ◌∙◌, arith, append-nil, append_assoc}
+use Rattle.std.specs.Prelude.{flat_map, fold, slice_get, if◌then◌else◌}
 use Rattle.std.specs.List.{enumerate_from, list_any, range_with_len}
-use Rattle.std.proofs.lemmas.List.{flat_map_more, length-take-le, take_more}
+use Rattle.std.proofs.lemmas.List.{flat_map_more, length-take-le, map-append, take_more}
 use Rattle.std.proofs.lemmas.List.Sums.{fold_push}
 use Rattle.std.proofs.lemmas.Option.{get_or_from_slice_get, slice_get_within}
 use Rattle.sw_topo.specs.Checked.{first_of}
@@ -13,10 +13,10 @@ use Rattle.sw_lint.specs.declared.lint.Lint.{Lint}
 use Rattle.sw_lint.specs.Lints.{first_made, made_of}
 
 -- what is made of one number more comes behind
-pub grown : {B : Type 0} (make : ℕ → List B) (old before after : List B) (n : ℕ) → before ≡ old ++ flat_map make (range_with_len 0 n) → after ≡ before ++ make n
+pub grown : {B : Type 0} (make : ℕ → List B) (old before here after : List B) (n : ℕ) → before ≡ old ++ flat_map make (range_with_len 0 n) → here ≡ make n → after ≡ before ++ here
     → after ≡ old ++ flat_map make (range_with_len 0 (n + 1))
-grown make old before after n so_far more =
-    more ∙ ap (λ l. l ++ make n) so_far ∙ flat_map_more make old (range_with_len 0 n) n ∙ ap (λ l. old ++ flat_map make l) (sym (range_more n))
+grown make old before here after n so_far is more =
+    more ∙ ap (λ l. l ++ here) so_far ∙ ap (λ l. (old ++ flat_map make (range_with_len 0 n)) ++ l) is ∙ flat_map_more make old (range_with_len 0 n) n ∙ ap (λ l. old ++ flat_map make l) (sym (range_more n))
 
 pub begun : {B : Type 0} (make : ℕ → List B) (old : List B) → old ≡ old ++ flat_map make (range_with_len 0 0)
 begun make old = sym (append-nil old)
@@ -34,13 +34,21 @@ module _ (make : ℕ → Route → List Lint) where
   of_pair e = make e.0 e.1
 
   -- one entry more
-  pub grown_entry : (old before after : List Lint) (i : ℕ) (xs : List Route) (x : Route) → i < length xs → x ≡ get_or xs i x → before ≡ old ++ made_of make (take i xs) → after ≡ before ++ make i x
-      → after ≡ old ++ made_of make (take (i + 1) xs)
-  grown_entry old before after i xs x lt at so_far more =
+  pub grown_entry : (old before here after : List Lint) (i : ℕ) (xs : List Route) (x : Route) → i < length xs → x ≡ get_or xs i x → before ≡ old ++ made_of make (take i xs) → here ≡ make i x
+      → after ≡ before ++ here → after ≡ old ++ made_of make (take (i + 1) xs)
+  grown_entry old before here after i xs x lt at so_far is more =
       let long : length (take i xs) ≡ i = length-take-le i xs (omega arith) in
       let one : take (i + 1) xs ≡ take i xs ++ x ∷ [] = take_more xs i x lt ∙ ap (λ q. take i xs ++ q ∷ []) (sym at) in
-      more ∙ ap (λ l. l ++ make i x) so_far ∙ flat_map_more of_pair old (enumerate_from 0 (take i xs)) (i, x)
+      more ∙ ap (λ l. l ++ here) so_far ∙ ap (λ l. (old ++ made_of make (take i xs)) ++ l) is ∙ flat_map_more of_pair old (enumerate_from 0 (take i xs)) (i, x)
       ∙ ap (λ l. old ++ flat_map of_pair l) (sym (enumerate_more 0 i (take i xs) x (omega arith))) ∙ ap (λ l. old ++ made_of make l) (sym one)
+
+-- what is made of one element more
+pub grown_map : {A B : Type 0} (f : A → B) (old before after : List B) (i : ℕ) (xs : List A) (x : A) → i < length xs → x ≡ get_or xs i x → before ≡ old ++ map f (take i xs) → after ≡ before ++ f x ∷ []
+    → after ≡ old ++ map f (take (i + 1) xs)
+grown_map f old before after i xs x lt at so_far more =
+    let one : take (i + 1) xs ≡ take i xs ++ x ∷ [] = take_more xs i x lt ∙ ap (λ q. take i xs ++ q ∷ []) (sym at) in
+    more ∙ ap (λ l. l ++ f x ∷ []) so_far ∙ append_assoc old (map f (take i xs)) (f x ∷ [])
+    ∙ ap (λ l. old ++ l) (sym (map-append f (take i xs) (x ∷ [])) ∙ ap (map f) (sym one))
 
 -- ---- what is made the same way
 
@@ -55,6 +63,18 @@ made_from f g n (r ∷ rs) same = ap₂ (λ k l. k ++ l) (same n r (Contains-hea
 
 pub made_same : (f g : ℕ → Route → List Lint) (rs : List Route) → ((k : ℕ) (r : Route) → Contains rs r → f k r ≡ g k r) → made_of f rs ≡ made_of g rs
 made_same f g rs same = made_from f g 0 rs same
+
+abbrev of_none : ℕ × Route → List Lint
+of_none e = []
+
+none_made_from : (n : ℕ) (rs : List Route) → flat_map of_none (enumerate_from n rs) ≡ []
+none_made_from n [] = refl
+none_made_from n (r ∷ rs) = none_made_from (n + 1) rs
+
+-- where it is made under a condition
+pub made_if : (b : Bool) (f : ℕ → Route → List Lint) (rs : List Route) → made_of (λ e r. if b then f e r else []) rs ≡ (if b then made_of f rs else [])
+made_if true f rs = refl
+made_if false f rs = none_made_from 0 rs
 
 pub first_made_same : {A B : Type 0} (f g : A → Option B) (xs : List A) → ((x : A) → f x ≡ g x) → first_made f xs ≡ first_made g xs
 first_made_same f g [] same = refl

@@ -20,11 +20,11 @@ use Rattle.sw_lint.specs.declared.lint.Lint.{Lint}
 use Rattle.sw_lint.specs.declared.lint.Lint.TheVariants.{LeadsBack, NoFlows, UnusedEntry, UnusedNode, UnusedSwitch, UnusedTarget}
 use Rattle.sw_lint.specs.FlowPlaces.{FlowPlace, AreFlowPlaces}
 use Rattle.sw_lint.specs.Lints.{AreLints, addresses, asks_on, back_by, by_entries, comes_by, comes_to, doubtful, first_by, first_pair, is_group, is_matched, is_used_entry, is_used_switch, leads_back, linked, one_linked_port, opposed, starts_at, told_of, unused, unused_entries, unused_entry, unused_node, unused_switch, unused_target}
-use Rattle.sw_lint.specs.Marks.{AreFound, MarkLists, arrival_key, back_at, doubtful_by, end_key, first_led, led_key, no_places, start_key, with_place, is_marked, is_met_by, is_used_by, leads_back_by, nodes_of, note_at, opposed_by, pair_by, pair_of, unused_by, unused_entries_by, unused_entry_by, unused_node_by, unused_switch_by, unused_target_by}
+use Rattle.sw_lint.specs.Marks.{AreFound, MarkLists, arrival_key, back_at, doubtful_by, end_key, first_led, led_key, no_places, start_key, with_place, is_marked, is_met_by, is_used_by, leads_back_by, nodes_of, note_at, opposed_by, pair_by, pair_of, unused_by, unused_entry_by, unused_node_by, unused_switch_by, unused_target_by}
 use Rattle.sw_lint.proofs.Keys.{arrives_key, comes_key, comes_not, ends_key, leads, matched, starts_key}
 use Rattle.sw_lint.proofs.Noting.{AreMarks, asker, marks_of, no_flow_places, nodes_noted, number_of}
 use Rattle.sw_lint.proofs.Pairs.{pair_told}
-use Rattle.sw_lint.proofs.Ranges.{first_made_none, first_made_same, first_made_shifted, flat_map_same, list_any_shifted, made_same}
+use Rattle.sw_lint.proofs.Ranges.{first_made_none, first_made_same, first_made_shifted, flat_map_same, list_any_shifted, made_if, made_same}
 use Rattle.sw_lint.proofs.TableSteps.{is_key}
 use Rattle.sw_lint.proofs.Tests.{any_passes, find_none, find_same, list_any_same, passing, same_bool}
 
@@ -108,9 +108,10 @@ module _ (d : Declaration) (valid : IsValid d) (all : List FlowPlace) (m : MarkL
       let switches = flat_map_same (unused_switch_by m) (unused_switch d all) 0 (length d.switches) (λ s low lt. ap (λ b. if b then [] else UnusedSwitch s ∷ []) (used s (omega arith))) in
       let targets = flat_map_same (unused_target_by d (nodes_of d)) (unused_target d) 0 (length d.nodes) (λ k low lt.
       ap₂ (λ b c. if is_some (target_of d.nodes k) && (b && not c) then UnusedTarget k ∷ [] else []) (n.from k (omega (arith, n.long_from))) (n.to k (omega (arith, n.long_to)))) in
-      let entries = flat_map_same (unused_entries_by d m) (unused_entries d all) 0 (length d.switches) (λ s low lt.
-      ap₂ (λ b (l : List Lint). if b then l else []) (used s (omega arith)) (made_same (unused_entry_by m s) (unused_entry d all s) (routes_of d.switches s) (λ e r h.
-      ap (λ b. if b then [] else UnusedEntry s e ∷ []) (met s r (omega arith) (route_is d s r valid h))))) in
+      let entries = flat_map_same (λ s. by_entries d (unused_entry_by m s) s) (unused_entries d all) 0 (length d.switches) (λ s low lt.
+      made_same (unused_entry_by m s) (λ e r. if is_used_switch d all s then unused_entry d all s e r else []) (routes_of d.switches s) (λ e r h.
+      ap₂ (λ b c. if b then (if c then [] else UnusedEntry s e ∷ []) else []) (used s (omega arith)) (met s r (omega arith) (route_is d s r valid h)))
+      ∙ made_if (is_used_switch d all s) (unused_entry d all s) (routes_of d.switches s)) in
       ap₂ (λ k l. k ++ l) nodes (ap₂ (λ k l. k ++ l) switches (ap₂ (λ k l. k ++ l) targets entries))
 
   doubtful_same : doubtful_by d m ≡ doubtful d all

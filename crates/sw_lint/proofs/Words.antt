@@ -1,5 +1,5 @@
--- A channel that the network does not have.
-use Rattle.std.proofs.Common.{◌≡◌, ℕ, ◌*◌, ◌≤◌, [], ◌++◌, length, ap, ap₂, arith}
+-- Words of links: of one that the network does not have, and of one between two targets.
+use Rattle.std.proofs.Common.{◌≡◌, ℕ, ◌*◌, ◌≤◌, List, [], ◌∷◌, ◌++◌, length, ap, ap₂, append_assoc, arith}
 use Rattle.std.specs.Prelude.{codes}
 use Rattle.std.specs.Option.{option_map_or}
 use Rattle.std.proofs.lemmas.Option.{slice_get_past}
@@ -7,6 +7,7 @@ use Rattle.sw_topo.specs.Wiring.{partner}
 use Rattle.sw_config.specs.Entries.{Declaration}
 use Rattle.sw_config.proofs.Steps.{length-link_ends}
 use Rattle.sw_flow.specs.Places.{ends_of}
+use Rattle.sw_output.specs.Lines.{spaced}
 use Rattle.sw_output.specs.ChannelTexts.{channel_text, end_text, start_text}
 
 no_start : (d : Declaration) (c : ℕ) → length (ends_of d) ≤ c → start_text d c ≡ []
@@ -21,3 +22,10 @@ past_link d link past =
     let low : 2 * length d.links ≤ 2 * link = omega arith in
     let next = partner_past (length d.links) (2 * link) low in
     ap₂ (λ k l. k ++ (codes ">" ++ l)) (no_start d (2 * link) (omega arith)) (no_start d (partner (2 * link)) (omega arith))
+
+-- the line of two flows whose commands go over a link both ways
+pub opposed_is : (f e c g h p q r s t : List ℕ) → f ≡ p → e ≡ q → c ≡ r → g ≡ s → h ≡ t
+    → codes "commands of " ++ (f ++ (codes " to " ++ (e ++ (codes " go over " ++ (c ++ (codes " and of " ++ (g ++ (codes " to " ++ (h ++ codes " the other way: while both targets answer, each can wait for the other")))))))))
+    ≡ spaced (codes "commands of" ∷ spaced (p ∷ codes "to" ∷ q ∷ []) ∷ codes "go over" ∷ r ∷ codes "and of" ∷ spaced (s ∷ codes "to" ∷ t ∷ [])
+    ∷ codes "the other way: while both targets answer, each can wait for the other" ∷ [])
+opposed_is f e c g h p q r s t one one_end channel other other_end = rw (one, one_end, channel, other, other_end) (simp append_assoc)

@@ -14,6 +14,8 @@ use Rattle.sw_flow.specs.Places.{end_of, ends_of, IsPlaceList}
 use Rattle.sw_lint.specs.FlowPlaces.{FlowPlace, AreFlowPlaces, leading_byte, places_of_flow}
 use Rattle.sw_lint.specs.Lints.{by_entries, by_links, by_nodes, by_switches, first_made, is_group, linked, one_linked_port}
 use Rattle.sw_lint.specs.declared.asking.Asking.{Asking}
+use Rattle.sw_lint.specs.declared.entries.EntrySlip.{EntrySlip}
+use Rattle.sw_lint.specs.declared.entries.EntrySlip.TheVariants.{Unused, OneLinked, Back}
 use Rattle.sw_lint.specs.declared.lint.Lint.{Lint}
 use Rattle.sw_lint.specs.declared.lint.Lint.TheVariants.{UnusedNode, UnusedSwitch, UnusedTarget, UnusedEntry, LeadsBack, Opposed}
 
@@ -129,6 +131,10 @@ with_command m number f channel = record m {
   other = noted (if is_some f.reply && is_other (note_at m.asking channel) f.to then Some channel else None) number m.other;
 }
 
+-- there is no place for a mark
+abbrev pub no_rooms : MarkLists
+no_rooms = record { starts = []; ends = []; arrivals = []; led = []; asking = []; other = [] }
+
 -- nothing is noted
 abbrev pub no_places : Declaration → MarkLists
 no_places d = record {
@@ -180,10 +186,7 @@ abbrev pub is_met_by : MarkLists → ℕ → Route → Bool
 is_met_by m s r = list_any (is_marked m.arrivals) (row_of s r)
 
 abbrev pub unused_entry_by : MarkLists → ℕ → ℕ → Route → List Lint
-unused_entry_by m s e r = if is_met_by m s r then [] else UnusedEntry s e ∷ []
-
-abbrev pub unused_entries_by : Declaration → MarkLists → ℕ → List Lint
-unused_entries_by d m s = if is_used_by m s then by_entries d (unused_entry_by m s) s else []
+unused_entry_by m s e r = if is_used_by m s then (if is_met_by m s r then [] else UnusedEntry s e ∷ []) else []
 
 -- the first flow to the least address of the entry, on that channel
 abbrev pub first_led : MarkLists → Route → ℕ → Option ℕ
@@ -197,6 +200,12 @@ first_back_by d m s e r = first_made (λ port. option_map (λ flow. LeadsBack s 
 
 abbrev pub leads_back_by : Declaration → MarkLists → ℕ → ℕ → Route → List Lint
 leads_back_by d m s e r = if is_group (linked d s r) then option_to_list (first_back_by d m s e r) else []
+
+-- what is told of an entry, by what is looked for
+abbrev pub entry_lint_by : Declaration → MarkLists → EntrySlip → ℕ → ℕ → Route → List Lint
+entry_lint_by d m Unused = unused_entry_by m
+entry_lint_by d m OneLinked = one_linked_port d
+entry_lint_by d m Back = leads_back_by d m
 
 -- of the first flows with replies both ways over the link, and the first ones to other targets
 abbrev pub pair_of : ℕ → Option Asking → Option Asking → Option ℕ → Option ℕ → Option Lint
@@ -215,7 +224,7 @@ opposed_by m link = option_to_list (pair_by m link)
 abbrev pub unused_by : Declaration → NodeLists → MarkLists → List Lint
 unused_by d n m =
     by_nodes d (unused_node_by n)
-    ++ (by_switches d (unused_switch_by m) ++ (by_nodes d (unused_target_by d n) ++ by_switches d (unused_entries_by d m)))
+    ++ (by_switches d (unused_switch_by m) ++ (by_nodes d (unused_target_by d n) ++ by_switches d (λ s. by_entries d (unused_entry_by m s) s)))
 
 abbrev pub doubtful_by : Declaration → MarkLists → List Lint
 doubtful_by d m =

@@ -1,7 +1,7 @@
 //! All that is told of a network.
-ghost use Rattle.std.specs.Prelude.{◌≡◌, ◌++◌, ◌∷◌, [], IfOk};
+ghost use Rattle.std.specs.Prelude.{◌≡◌, ◌++◌, IfOk};
 ghost use Rattle.sw_lint.specs.Lints.{AreLints};
-ghost use Rattle.sw_lint.specs.Marks.{AreFound, doubtful_by, unused_by};
+ghost use Rattle.sw_lint.specs.Marks.{AreFound, doubtful_by, nodes_of, unused_by};
 
 use crate::doubtful::add_doubtful;
 use crate::lint::Lint;
@@ -11,17 +11,13 @@ use crate::unused::add_unused;
 use std::alloc::{AllocError, Global};
 use sw_config::Network;
 
-// What is told by what is noted.
-fn listed(
-    alloc: Global,
-    network: &Network,
-    nodes: &NodeMarks,
-    marks: &Marks,
-) -> Result<Vec<Lint>, AllocError>
-    ensures { IfOk result (λ v. v.items ≡ unused_by network.now nodes.now marks.now ++ doubtful_by network.now marks.now) }
+// What is told by what is noted of the places of flows.
+fn found_by(alloc: Global, network: &Network, marks: &Marks) -> Result<Vec<Lint>, AllocError>
+    ensures { IfOk result (λ v. v.items ≡ unused_by network.now (nodes_of network.now) marks.now ++ doubtful_by network.now marks.now) }
 {
+    let nodes = NodeMarks::of_network(alloc, network)?;
     let mut lints = Vec::new(alloc);
-    add_unused(network, nodes, marks, &mut lints)?;
+    add_unused(network, &nodes, marks, &mut lints)?;
     add_doubtful(network, marks, &mut lints)?;
     Ok(lints)
 }
@@ -30,18 +26,10 @@ fn listed(
 fn found(alloc: Global, network: &Network) -> Result<Vec<Lint>, AllocError>
     ensures { IfOk result (λ v. AreFound network.now v.items) }
 {
-    let nodes = NodeMarks::of_network(alloc, network)?;
     let marks = Marks::of_network(alloc, network)?;
-    listed(alloc, network, &nodes, &marks)
-}
-
-// That the network has no flows.
-fn no_flows(alloc: Global) -> Result<Vec<Lint>, AllocError>
-    ensures { IfOk result (λ v. v.items ≡ Lint.NoFlows ∷ []) }
-{
-    let mut lints = Vec::new(alloc);
-    lints.push(Lint::NoFlows)?;
-    Ok(lints)
+    let lints = found_by(alloc, network, &marks);
+    drop(marks);
+    lints
 }
 
 /// What in the network is probably a slip, in this order: that it has no flows, and then that alone; nodes, switches, targets and table
@@ -58,7 +46,7 @@ pub fn lints(alloc: Global, network: &Network) -> Result<Vec<Lint>, AllocError>
 {
     let _valid = network.flows();
     if network.declared_flows() == 0 {
-        return no_flows(alloc);
+        return Ok(vec![in alloc; Lint::NoFlows]?);
     }
     found(alloc, network)
 }

@@ -4,6 +4,7 @@
 mod alike;
 mod asking;
 mod doubtful;
+mod entries;
 mod finding;
 pub mod laws;
 mod lint;

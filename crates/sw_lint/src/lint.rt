@@ -1,5 +1,8 @@
 //! What is told of a network.
+ghost use Rattle.std.specs.Prelude.{◌≡◌, ◌++◌, OnOk};
+ghost use Rattle.std.specs.Option.{option_to_list};
 
+use std::alloc::AllocError;
 use sw_topo::Port;
 
 /// What is probably a slip in a network, although it is valid. Nodes, switches, links and flows are told by their numbers, and the entries
@@ -38,4 +41,14 @@ pub enum Lint {
         onward: u16,
         back: u16,
     },
+}
+
+/// Adds what is told, if there is something.
+pub(crate) fn add(found: Option<Lint>, lints: &mut Vec<Lint>) -> Result<(), AllocError>
+    ensures { OnOk result (lints.new.items ≡ lints.old.items ++ option_to_list found) }
+{
+    if let Some(lint) = found {
+        lints.push(lint)?;
+    }
+    Ok(())
 }

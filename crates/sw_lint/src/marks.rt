@@ -6,9 +6,7 @@ ghost use Rattle.sw_lint.specs.Marks.{in_row, is_other, switch_at};
 
 use crate::alike::is_like_last;
 use crate::asking::Asking;
-use crate::tables::{
-    first_noted, is_any_marked, is_marked, mark, no_askings, no_marks, no_numbers, note, note_at,
-};
+use crate::tables::{first_noted, is_any_marked, is_marked, mark, note, note_at};
 use std::alloc::{AllocError, Global};
 use std::marker::Model;
 use sw_config::{Flow, Network};
@@ -105,21 +103,35 @@ impl Marks {
     ghost use Rattle.sw_route.specs.declared.look.Route.{Route};
     ghost use Rattle.sw_config.specs.Entries.{all_flows};
     ghost use Rattle.sw_lint.specs.FlowPlaces.{places_of_flow};
-    ghost use Rattle.sw_lint.specs.Marks.{IsFlowNoted, IsNoted, first_led, is_met_by, is_used_by, no_places, note_at, with_command, with_ends, with_led, with_place};
+    ghost use Rattle.sw_lint.specs.Marks.{IsFlowNoted, IsNoted, first_led, is_met_by, is_used_by, no_places, no_rooms, note_at, with_command, with_ends, with_led, with_place};
 
-    fn new(alloc: Global, network: &Network) -> Result<Marks, AllocError>
-        ensures { IfOk result (λ m. m ≡ no_places network.now) }
+    // No places for marks yet.
+    fn empty(alloc: Global) -> Marks
+        ensures { result ≡ no_rooms }
+    {
+        Marks {
+            starts: Vec::new(alloc),
+            ends: Vec::new(alloc),
+            arrivals: Vec::new(alloc),
+            led: Vec::new(alloc),
+            asking: Vec::new(alloc),
+            other: Vec::new(alloc),
+        }
+    }
+
+    // Places for the marks of each switch and each channel, none set.
+    fn make_room(&mut self, network: &Network) -> Result<(), AllocError>
+        requires { self.old ≡ no_rooms }
+        ensures { OnOk result (self.new ≡ no_places network.now) }
     {
         let switches = usize::from(network.switches());
         let channels = usize::from(network.channels());
-        Ok(Marks {
-            starts: no_marks(alloc, switches)?,
-            ends: no_marks(alloc, switches)?,
-            arrivals: no_marks(alloc, 256 * switches)?,
-            led: no_numbers(alloc, 256 * channels)?,
-            asking: no_askings(alloc, channels)?,
-            other: no_numbers(alloc, channels)?,
-        })
+        self.starts.resize(switches, false)?;
+        self.ends.resize(switches, false)?;
+        self.arrivals.resize(256 * switches, false)?;
+        self.led.resize(256 * channels, None)?;
+        self.asking.resize(channels, None)?;
+        self.other.resize(channels, None)
     }
 
     // At the switches where the place's channel starts and ends.
@@ -192,17 +204,32 @@ impl Marks {
         Ok(())
     }
 
-    /// What is noted of the places of all flows of the network. Of a flow like the last one there is nothing new.
+    // The places of all flows of the network. Of a flow like the last one there is nothing new.
+    fn note_all(&mut self, alloc: Global, network: &Network) -> Result<(), AllocError>
+        requires { self.old ≡ no_rooms }
+        ensures { OnOk result (IsNoted network.now self.new) }
+    {
+        self.make_room(network)?;
+        for number in 0..network.flows() {
+            if !is_like_last(network, number) {
+                self.note_number(alloc, network, number)?;
+            }
+        }
+        Ok(())
+    }
+
+    /// What is noted of the places of all flows of the network.
     pub(crate) fn of_network(alloc: Global, network: &Network) -> Result<Marks, AllocError>
         ensures { IfOk result (IsNoted network.now) }
     {
-        let mut marks = Marks::new(alloc, network)?;
-        for number in 0..network.flows() {
-            if !is_like_last(network, number) {
-                marks.note_number(alloc, network, number)?;
+        let mut marks = Marks::empty(alloc);
+        match marks.note_all(alloc, network) {
+            Ok(()) => Ok(marks),
+            Err(refused) => {
+                drop(marks);
+                Err(refused)
             }
         }
-        Ok(marks)
     }
 
     /// Does a flow go over the switch?

@@ -1,7 +1,7 @@
 //! What is noted of nodes.
 ghost use Rattle.std.specs.Prelude.{◌≡◌, IfOk};
 
-use crate::tables::{is_marked, mark, no_marks};
+use crate::tables::{is_marked, mark};
 use std::alloc::{AllocError, Global};
 use std::marker::Model;
 use sw_config::{Flow, Network};
@@ -23,16 +23,7 @@ impl Model for NodeMarks {
 
 impl NodeMarks {
     ghost use Rattle.std.specs.Prelude.{◌&&◌, ◌||◌, fold, not};
-    ghost use Rattle.sw_lint.specs.Marks.{is_marked, no_nodes, nodes_of, with_flow};
-
-    fn new(alloc: Global, network: &Network) -> Result<NodeMarks, AllocError>
-        ensures { IfOk result (λ m. m ≡ no_nodes network.now) }
-    {
-        let nodes = usize::from(network.nodes());
-        let from = no_marks(alloc, nodes)?;
-        let to = no_marks(alloc, nodes)?;
-        Ok(NodeMarks { from, to })
-    }
+    ghost use Rattle.sw_lint.specs.Marks.{is_marked, nodes_of, with_flow};
 
     fn note(&mut self, flow: &Flow)
         ensures { self.new ≡ with_flow self.old flow.now }
@@ -54,7 +45,10 @@ impl NodeMarks {
     pub(crate) fn of_network(alloc: Global, network: &Network) -> Result<NodeMarks, AllocError>
         ensures { IfOk result (λ m. m ≡ nodes_of network.now) }
     {
-        let mut marks = NodeMarks::new(alloc, network)?;
+        let nodes = usize::from(network.nodes());
+        let from = vec![in alloc; false; nodes]?;
+        let to = vec![in alloc; false; nodes]?;
+        let mut marks = NodeMarks { from, to };
         marks.note_all(network);
         Ok(marks)
     }

@@ -1,18 +1,11 @@
 //! Tables of marks and of what is noted first.
-ghost use Rattle.std.specs.Prelude.{◌≡◌, ◌<◌, ◌+◌, ◌^◌, ℕ, false, None, Option, IfOk, option_map, replicate};
+ghost use Rattle.std.specs.Prelude.{◌≡◌, ◌<◌, ◌+◌, ◌^◌, ℕ, false, None, Option, option_map};
 ghost use Rattle.std.specs.List.{list_any, range_with_len};
 ghost use Rattle.sw_lint.specs.Lints.{first_made};
 ghost use Rattle.sw_lint.specs.Marks.{is_marked, marked, note_at, noted};
 
 use crate::asking::Asking;
 use std::alloc::{AllocError, Global};
-
-/// As many marks, none set.
-pub(crate) fn no_marks(alloc: Global, count: usize) -> Result<Vec<bool>, AllocError>
-    ensures { IfOk result (λ v. v.items ≡ replicate count false) }
-{
-    vec![in alloc; false; count]
-}
 
 /// Is the mark of that number set?
 pub(crate) fn is_marked(marks: &[bool], at: usize) -> bool
@@ -47,20 +40,6 @@ pub(crate) fn is_any_marked(marks: &[bool], from: usize, count: usize) -> bool
         }
     }
     false
-}
-
-/// Places for as many numbers, none noted.
-pub(crate) fn no_numbers(alloc: Global, count: usize) -> Result<Vec<Option<u16>>, AllocError>
-    ensures { IfOk result (λ v. v.items ≡ replicate count None) }
-{
-    vec![in alloc; None; count]
-}
-
-/// Places for as many answered flows, none noted.
-pub(crate) fn no_askings(alloc: Global, count: usize) -> Result<Vec<Option<Asking>>, AllocError>
-    ensures { IfOk result (λ v. v.items ≡ replicate count None) }
-{
-    vec![in alloc; None; count]
 }
 
 /// What is noted at that number.

@@ -1,7 +1,8 @@
 //! How it is told.
-ghost use Rattle.std.specs.Prelude.{◌≡◌, ◌*◌, IfOk, map, string_bytes};
+ghost use Rattle.std.specs.Prelude.{◌≡◌, ◌∷◌, [], ◌++◌, ◌*◌, IfOk, OnOk, map, string_bytes};
 ghost use Rattle.sw_output.specs.ChannelTexts.{channel_text};
-ghost use Rattle.sw_lint.specs.LintTexts.{AreLintTexts, command_words, end_name, entry_at_words, lint_text};
+ghost use Rattle.sw_output.specs.Lines.{spaced};
+ghost use Rattle.sw_lint.specs.LintTexts.{AreLintTexts, end_name, entry_at_words, lint_text};
 
 use crate::finding::lints;
 use crate::lint::Lint;
@@ -35,40 +36,17 @@ fn end_name(network: &Network, flow: u16) -> &str
     }
 }
 
-// The flow and the target to which it goes.
-fn command_words(alloc: Global, network: &Network, flow: u16) -> Result<String, AllocError>
-    ensures { IfOk result (λ s. string_bytes s ≡ command_words network.now flow) }
-{
-    let name = flow_name(network, flow);
-    let end = end_name(network, flow);
-    format!(in alloc; "{name} to {end}")
-}
-
 fn no_flows(alloc: Global, network: &Network) -> Result<String, AllocError>
     ensures { IfOk result (λ s. string_bytes s ≡ lint_text network.now Lint.NoFlows) }
 {
     String::from_str(alloc, "the network has no flows")
 }
 
-fn unused_node(alloc: Global, network: &Network, node: u16) -> Result<String, AllocError>
-    ensures { IfOk result (λ s. string_bytes s ≡ lint_text network.now (Lint.UnusedNode node)) }
+// What is told of a node or a switch, and its name.
+fn named(alloc: Global, told: &str, name: &str) -> Result<String, AllocError>
+    ensures { IfOk result (λ s. string_bytes s ≡ spaced (told.now ∷ name.now ∷ [])) }
 {
-    let name = node_name(network, node);
-    format!(in alloc; "no flow is from or to the node {name}")
-}
-
-fn unused_switch(alloc: Global, network: &Network, switch: u16) -> Result<String, AllocError>
-    ensures { IfOk result (λ s. string_bytes s ≡ lint_text network.now (Lint.UnusedSwitch switch)) }
-{
-    let name = switch_name(network, switch);
-    format!(in alloc; "no flow goes over the switch {name}")
-}
-
-fn unused_target(alloc: Global, network: &Network, node: u16) -> Result<String, AllocError>
-    ensures { IfOk result (λ s. string_bytes s ≡ lint_text network.now (Lint.UnusedTarget node)) }
-{
-    let name = node_name(network, node);
-    format!(in alloc; "no flow goes to the target {name}")
+    format!(in alloc; "{told} {name}")
 }
 
 fn unused_entry(
@@ -135,10 +113,12 @@ fn opposed(
     ensures { IfOk result (λ s. string_bytes s ≡ lint_text network.now (Lint.Opposed link onward back)) }
 {
     let channel = link_text(alloc, network, link)?;
-    let one = command_words(alloc, network, onward)?;
-    let other = command_words(alloc, network, back)?;
+    let one = flow_name(network, onward);
+    let one_end = end_name(network, onward);
+    let other = flow_name(network, back);
+    let other_end = end_name(network, back);
     format!(in alloc;
-        "commands of {one} go over {channel} and of {other} the other way: while both targets answer, each can wait for the other"
+        "commands of {one} to {one_end} go over {channel} and of {other} to {other_end} the other way: while both targets answer, each can wait for the other"
     )
 }
 
@@ -148,9 +128,21 @@ fn lint_text(alloc: Global, network: &Network, lint: &Lint) -> Result<String, Al
 {
     match lint {
         Lint::NoFlows => no_flows(alloc, network),
-        Lint::UnusedNode(node) => unused_node(alloc, network, *node),
-        Lint::UnusedSwitch(switch) => unused_switch(alloc, network, *switch),
-        Lint::UnusedTarget(node) => unused_target(alloc, network, *node),
+        Lint::UnusedNode(node) => named(
+            alloc,
+            "no flow is from or to the node",
+            node_name(network, *node),
+        ),
+        Lint::UnusedSwitch(switch) => named(
+            alloc,
+            "no flow goes over the switch",
+            switch_name(network, *switch),
+        ),
+        Lint::UnusedTarget(node) => named(
+            alloc,
+            "no flow goes to the target",
+            node_name(network, *node),
+        ),
         Lint::UnusedEntry { switch, entry } => unused_entry(alloc, network, *switch, *entry),
         Lint::OneLinkedPort {
             switch,
@@ -167,15 +159,46 @@ fn lint_text(alloc: Global, network: &Network, lint: &Lint) -> Result<String, Al
     }
 }
 
+// Adds the text of what is told.
+fn add_text(
+    alloc: Global,
+    network: &Network,
+    lint: &Lint,
+    texts: &mut Vec<String>,
+) -> Result<(), AllocError>
+    ensures { OnOk result (map string_bytes texts.new.items ≡ map string_bytes texts.old.items ++ lint_text network.now lint.now ∷ []) }
+{
+    texts.push(lint_text(alloc, network, lint)?)?;
+    Ok(())
+}
+
+// Adds the texts of all that is told.
+fn add_texts(
+    alloc: Global,
+    network: &Network,
+    lints: &[Lint],
+    texts: &mut Vec<String>,
+) -> Result<(), AllocError>
+    ensures { OnOk result (map string_bytes texts.new.items ≡ map string_bytes texts.old.items ++ map (lint_text network.now) lints.now) }
+{
+    for lint in lints {
+        add_text(alloc, network, lint, texts)?;
+    }
+    Ok(())
+}
+
 // The texts of all that is told.
 fn texts_of(alloc: Global, network: &Network, lints: &[Lint]) -> Result<Vec<String>, AllocError>
     ensures { IfOk result (λ v. map string_bytes v.items ≡ map (lint_text network.now) lints.now) }
 {
     let mut texts = Vec::new(alloc);
-    for lint in lints {
-        texts.push(lint_text(alloc, network, lint)?)?;
+    match add_texts(alloc, network, lints, &mut texts) {
+        Ok(()) => Ok(texts),
+        Err(refused) => {
+            drop(texts);
+            Err(refused)
+        }
     }
-    Ok(texts)
 }
 
 /// What in the network is probably a slip, each in a line of its own without LF, in the order of `lints`.

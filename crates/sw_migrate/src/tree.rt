@@ -1,7 +1,9 @@
 //! The tree of a file made one of version 2.
-ghost use Rattle.std.specs.Prelude.{◌≡◌, map, IfOk, OnOk};
+ghost use Rattle.std.specs.Prelude.{◌≡◌, map, pos, IfOk, OnOk};
+ghost use Rattle.toml.specs.Data.{integer};
 ghost use Rattle.toml.specs.View.{view, table_view};
 ghost use Rattle.sw_toml_table.specs.Gives.{Gives, each};
+ghost use Rattle.sw_toml_table.specs.declared.keys.Key.TheVariants.{Version};
 ghost use Rattle.sw_migrate.specs.Tree.{array_of, with_key, with_tables, row_table, merged_switch, new_switches, migrated};
 ghost use Rattle.sw_migrate.specs.Seen.{row_view};
 
@@ -123,6 +125,13 @@ fn new_switches(alloc: Global, table: &Table) -> Result<Vec<Table>, FileFault>
     merged_switches(alloc, &tables)
 }
 
+/// Says in the document's table that it is of version 2.
+fn put_version(alloc: Global, document: &mut Table) -> Result<(), AllocError>
+    ensures { OnOk result (table_view document.new ≡ with_key Version (integer (pos 2)) (table_view document.old)) }
+{
+    put(alloc, document, Key::Version, Value::Integer(2))
+}
+
 /// The document's table as one of version 2.
 #[tactic(auto, unfolding(crate::specs::Tree::migrated))]
 pub(crate) fn migrated(alloc: Global, table: Table) -> Result<Table, FileFault>
@@ -130,7 +139,7 @@ pub(crate) fn migrated(alloc: Global, table: Table) -> Result<Table, FileFault>
 {
     let switches = new_switches(alloc, &table)?;
     let mut new = table;
-    put(alloc, &mut new, Key::Version, Value::Integer(2))?;
+    put_version(alloc, &mut new)?;
     put_tables(alloc, &mut new, Key::Switch, switches)?;
     Ok(new)
 }

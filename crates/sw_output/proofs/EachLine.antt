@@ -1,8 +1,8 @@
 -- Lines that are written one after another.
-use Rattle.std.proofs.Common.{◌≡◌, ℕ, ◌+◌, ◌<◌, Bool, List, [], ◌∷◌, ◌++◌, ap, sym, ◌∙◌, get_or, length, take, append-nil, append_assoc, arith}
+use Rattle.std.proofs.Common.{◌≡◌, ℕ, ◌+◌, ◌<◌, ◌≤◌, Bool, List, [], ◌∷◌, ◌++◌, ap, sym, ◌∙◌, get_or, length, take, append-nil, append_assoc, arith}
 use Rattle.std.specs.Prelude.{if◌then◌else◌}
 use Rattle.std.specs.List.{filter, flat_map, range_with_len}
-use Rattle.std.proofs.lemmas.List.{flat_map_more, length-take-le, take_more}
+use Rattle.std.proofs.lemmas.List.{flat_map_more, length-take-le, take_all, take_more}
 use Rattle.std.proofs.lemmas.List.Elements.{filter-append}
 use Rattle.sw_parallel.proofs.Ranges.{range_more}
 
@@ -12,6 +12,18 @@ pub lines_more : (text : ℕ → List ℕ) (n : ℕ) (before line read after : L
 lines_more text n before line read after so_far same is more =
     more ∙ ap (λ l. l ++ read) so_far ∙ ap (λ l. flat_map text (range_with_len 0 n) ++ l) (is ∙ same)
     ∙ flat_map_more text [] (range_with_len 0 n) n ∙ ap (flat_map text) (sym (range_more n))
+
+-- the line of one element more, behind what stands there
+pub line_added : {X : Type 0} (f : X → List ℕ) (xs : List X) (i : ℕ) (x : X) (start before after : List ℕ) → i < length xs → x ≡ get_or xs i x
+    → before ≡ start ++ flat_map f (take i xs) → after ≡ before ++ f x → after ≡ start ++ flat_map f (take (i + 1) xs)
+line_added f xs i x start before after lt at so_far more =
+    let cut : take (i + 1) xs ≡ take i xs ++ x ∷ [] = take_more xs i x lt ∙ ap (λ y. take i xs ++ y ∷ []) (sym at) in
+    more ∙ ap (λ l. l ++ f x) so_far ∙ flat_map_more f start (take i xs) x ∙ ap (λ l. start ++ flat_map f l) (sym cut)
+
+-- the lines of all elements, behind what stands there
+pub all_added : {X : Type 0} (f : X → List ℕ) (xs : List X) (i : ℕ) (start text : List ℕ) → length xs ≤ i
+    → text ≡ start ++ flat_map f (take i xs) → text ≡ start ++ flat_map f xs
+all_added f xs i start text ended so_far = so_far ∙ ap (λ l. start ++ flat_map f l) (take_all i xs ended)
 
 -- one number more that may pass
 pub passing_more : (test : ℕ → Bool) (n : ℕ) (passes : Bool) (before after : List ℕ) → before ≡ filter test (range_with_len 0 n) → passes ≡ test n

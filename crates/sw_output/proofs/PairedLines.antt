@@ -1,9 +1,13 @@
 -- Lines that are written for the pairs of two lists.
-use Rattle.std.proofs.Common.{◌≡◌, ◌∙◌, ℕ, ◌+◌, ◌<◌, ◌≤◌, List, [], ◌∷◌, ◌++◌, ap, append-nil, arith, get_or, length, map, min, refl, sym, take}
+use Rattle.std.proofs.Common.{◌≡◌, ◌∙◌, ℕ, ◌+◌, ◌<◌, ◌≤◌, List, [], ◌∷◌, ◌++◌, ap, append-nil, append_assoc, arith, get_or, length, map, min, refl, sym, take}
 use Rattle.std.specs.List.{flat_map, zip}
+use Rattle.std.specs.Prelude.{codes}
 use Rattle.std.proofs.lemmas.Grind.{flat_map-append}
 use Rattle.std.proofs.lemmas.List.{take_all, take_more}
 use Rattle.std.proofs.lemmas.Slice.Zip.{get_or-zip, length-zip}
+use Rattle.sw_config.specs.Entries.{Declaration}
+use Rattle.sw_cycle.specs.Cycles.{CauseEntry, CycleEntry}
+use Rattle.sw_output.specs.VerdictTexts.{cycle_lines, cycle_text, cyclic_words}
 
 -- the lines of one more element
 flat_map-take_more : {X : Type 0} (f : X → List ℕ) (xs : List X) (i : ℕ) (d : X) → i < length xs
@@ -39,3 +43,13 @@ pub all_lines : {A B C : Type 0} (f : A × C → List ℕ) (h : B → C) (xs : L
 all_lines {A = A} {B = B} f h xs ys n text ended e =
     let whole : length (zip xs ys) ≤ n = rw (length-zip xs ys) (omega arith) in
     e ∙ (ap (flat_map (λ (p : A × B). f (p.0, h p.1))) (take_all n (zip xs ys) whole) ∙ flat_map_zip-map f h xs ys)
+
+-- the text of a cycle, from its words and its lines
+pub cycle_is : (d : Declaration) (cycle : CycleEntry) (counted channels : List ℕ) (causes : List CauseEntry) (words lines : List ℕ) → counted ≡ cycle.channels
+    → channels ≡ cycle.channels → causes ≡ cycle.causes → words ≡ cyclic_words (length counted) → lines ≡ cycle_lines d channels causes
+    → words ++ (codes "\n" ++ lines) ≡ cycle_text d cycle
+cycle_is d cycle counted channels causes words lines is_counted are_channels are_causes words_are lines_are =
+    ap (λ w. w ++ (codes "\n" ++ lines)) (words_are ∙ ap (λ (l : List ℕ). cyclic_words (length l)) is_counted)
+    ∙ ap (λ l. cyclic_words (length cycle.channels) ++ (codes "\n" ++ l))
+    (lines_are ∙ ap (λ (l : List ℕ). cycle_lines d l causes) are_channels ∙ ap (λ (l : List CauseEntry). cycle_lines d cycle.channels l) are_causes)
+    ∙ sym (append_assoc (cyclic_words (length cycle.channels)) (codes "\n") (cycle_lines d cycle.channels cycle.causes))

@@ -4,8 +4,8 @@ ghost use Rattle.sw_output.specs.ChannelTexts.{node_name};
 ghost use Rattle.sw_output.specs.PacketTexts.{by_node, node_line, packet_lines};
 ghost use Rattle.sw_output.specs.Tallies.{counted_lines};
 
-use crate::counted_lines::counted_lines;
-use crate::packet_lines::{node_line, packet_lines};
+use crate::counted_lines::add_counted;
+use crate::packet_lines::{add_node, add_packets};
 use std::alloc::{AllocError, Global};
 use sw_char::Packet;
 use sw_config::Network;
@@ -26,7 +26,7 @@ pub fn all_node_lines(
     let mut text = String::new(alloc);
     for n in 0..network.nodes() {
         let name = network.node_name(n);
-        text.push_str(node_line(alloc, name, &all[n as usize])?.as_str())?;
+        add_node(name, &all[n as usize], &mut text)?;
     }
     Ok(text)
 }
@@ -47,7 +47,7 @@ pub fn all_packet_lines(
     let mut text = String::new(alloc);
     for n in 0..network.nodes() {
         let name = network.node_name(n);
-        text.push_str(packet_lines(alloc, name, &all[n as usize])?.as_str())?;
+        add_packets(alloc, name, &all[n as usize], &mut text)?;
     }
     Ok(text)
 }
@@ -64,7 +64,7 @@ pub(crate) fn all_counted_lines(
     let mut text = String::new(alloc);
     for n in 0..network.nodes() {
         let name = network.node_name(n);
-        text.push_str(counted_lines(alloc, name, &all[n as usize])?.as_str())?;
+        add_counted(alloc, name, &all[n as usize], &mut text)?;
     }
     Ok(text)
 }

@@ -1,5 +1,5 @@
 //! The text of packets that came out, with how often they did.
-ghost use Rattle.std.specs.Prelude.{◌≡◌, IfOk, flat_map, length, map, string_bytes};
+ghost use Rattle.std.specs.Prelude.{◌≡◌, ◌++◌, IfOk, flat_map, length, map, string_bytes};
 ghost use Rattle.sw_output.specs.PacketTexts.{by_node, node_line, undelivered_line};
 ghost use Rattle.sw_output.specs.Tallies.{counted_line, counted_lines, sent_text};
 
@@ -7,40 +7,52 @@ use crate::all_nodes::{all_counted_lines, all_node_lines};
 use crate::packet_lines::{bytes_text, end_text, undelivered_line};
 use crate::tallies::{Tally, tallies};
 use std::alloc::{AllocError, Global};
+use std::fmt::Write;
 use sw_char::Packet;
 use sw_config::Network;
 
-fn counted_line(alloc: Global, name: &str, tally: &Tally<'_>) -> Result<String, AllocError>
-    ensures { IfOk result (λ s. string_bytes s ≡ counted_line name.now tally.now) }
+// Adds the line of a tally.
+fn add_tally(
+    alloc: Global,
+    name: &str,
+    tally: &Tally<'_>,
+    text: &mut String,
+) -> Result<(), AllocError>
+    ensures { IfOk result (λ _. string_bytes text.new ≡ string_bytes text.old ++ counted_line name.now tally.now) }
 {
     let count = tally.count;
     let packet = tally.packet;
     let bytes = bytes_text(alloc, &packet.bytes)?;
     let end = end_text(packet.end);
-    format!(in alloc; "packet {name} {count} {bytes} {end}\n")
+    write!(text, "packet {name} {count} {bytes} {end}\n")
 }
 
-// A line for each tally.
-fn tally_lines(alloc: Global, name: &str, all: &[Tally<'_>]) -> Result<String, AllocError>
-    ensures { IfOk result (λ s. string_bytes s ≡ flat_map (counted_line name.now) all.now) }
+// Adds a line for each tally.
+fn add_tallies(
+    alloc: Global,
+    name: &str,
+    all: &[Tally<'_>],
+    text: &mut String,
+) -> Result<(), AllocError>
+    ensures { IfOk result (λ _. string_bytes text.new ≡ string_bytes text.old ++ flat_map (counted_line name.now) all.now) }
 {
-    let mut text = String::new(alloc);
     for tally in all {
-        text.push_str(counted_line(alloc, name, tally)?.as_str())?;
+        add_tally(alloc, name, tally, text)?;
     }
-    Ok(text)
+    Ok(())
 }
 
-/// A line for each of the different packets that came out at a node.
-pub(crate) fn counted_lines(
+/// Adds a line for each of the different packets that came out at a node.
+pub(crate) fn add_counted(
     alloc: Global,
     name: &str,
     packets: &[Packet],
-) -> Result<String, AllocError>
-    ensures { IfOk result (λ s. string_bytes s ≡ counted_lines name.now packets.now) }
+    text: &mut String,
+) -> Result<(), AllocError>
+    ensures { IfOk result (λ _. string_bytes text.new ≡ string_bytes text.old ++ counted_lines name.now packets.now) }
 {
     let all = tallies(alloc, packets)?;
-    tally_lines(alloc, name, &all)
+    add_tallies(alloc, name, &all, text)
 }
 
 /// How many characters are undelivered, how many packets came out at each node, and which.

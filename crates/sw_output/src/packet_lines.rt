@@ -1,9 +1,10 @@
 //! The lines of packets.
-ghost use Rattle.std.specs.Prelude.{◌≡◌, IfOk, flat_map, length, string_bytes};
+ghost use Rattle.std.specs.Prelude.{◌≡◌, ◌++◌, IfOk, flat_map, length, string_bytes};
 ghost use Rattle.sw_output.specs.PacketTexts.{bytes_text, end_text, node_line, packet_line, packet_lines, undelivered_line};
 
 use hex::encode_upper;
 use std::alloc::{AllocError, Global};
+use std::fmt::Write;
 use sw_char::{End, Packet};
 
 /// How many characters are undelivered.
@@ -37,33 +38,39 @@ pub(crate) fn bytes_text(alloc: Global, bytes: &[u8]) -> Result<String, AllocErr
     }
 }
 
-/// How many packets came out at a node.
-pub(crate) fn node_line(alloc: Global, name: &str, packets: &[Packet]) -> Result<String, AllocError>
-    ensures { IfOk result (λ s. string_bytes s ≡ node_line name.now packets.now) }
+/// Adds how many packets came out at a node.
+pub(crate) fn add_node(name: &str, packets: &[Packet], text: &mut String) -> Result<(), AllocError>
+    ensures { IfOk result (λ _. string_bytes text.new ≡ string_bytes text.old ++ node_line name.now packets.now) }
 {
     let count = packets.len();
-    format!(in alloc; "node {name} packets {count}\n")
+    write!(text, "node {name} packets {count}\n")
 }
 
-fn packet_line(alloc: Global, name: &str, packet: &Packet) -> Result<String, AllocError>
-    ensures { IfOk result (λ s. string_bytes s ≡ packet_line name.now packet.now) }
+// Adds the line of a packet.
+fn add_packet(
+    alloc: Global,
+    name: &str,
+    packet: &Packet,
+    text: &mut String,
+) -> Result<(), AllocError>
+    ensures { IfOk result (λ _. string_bytes text.new ≡ string_bytes text.old ++ packet_line name.now packet.now) }
 {
     let bytes = bytes_text(alloc, &packet.bytes)?;
     let end = end_text(packet.end);
-    format!(in alloc; "packet {name} {bytes} {end}\n")
+    write!(text, "packet {name} {bytes} {end}\n")
 }
 
-/// A line for each packet that came out at a node.
-pub(crate) fn packet_lines(
+/// Adds a line for each packet that came out at a node.
+pub(crate) fn add_packets(
     alloc: Global,
     name: &str,
     packets: &[Packet],
-) -> Result<String, AllocError>
-    ensures { IfOk result (λ s. string_bytes s ≡ packet_lines name.now packets.now) }
+    text: &mut String,
+) -> Result<(), AllocError>
+    ensures { IfOk result (λ _. string_bytes text.new ≡ string_bytes text.old ++ packet_lines name.now packets.now) }
 {
-    let mut text = String::new(alloc);
     for packet in packets {
-        text.push_str(packet_line(alloc, name, packet)?.as_str())?;
+        add_packet(alloc, name, packet, text)?;
     }
-    Ok(text)
+    Ok(())
 }

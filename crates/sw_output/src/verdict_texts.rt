@@ -10,6 +10,7 @@ ghost use Rattle.sw_output.specs.VerdictTexts.{cause_words, cycle_line, cycle_li
 use crate::channel_texts::channel_text;
 use crate::flow_texts::{flow_name, place_words, route_fault_text};
 use std::alloc::{AllocError, Global};
+use std::fmt::Write;
 use sw_config::Network;
 use sw_cycle::{Cause, Cycle};
 use sw_flow::{Place, RouteFault};
@@ -52,21 +53,6 @@ fn cause_words(alloc: Global, network: &Network, cause: &Cause) -> Result<String
     }
 }
 
-fn cycle_line(
-    alloc: Global,
-    network: &Network,
-    channel: Chan,
-    cause: &Cause,
-) -> Result<String, AllocError>
-    requires { channel < length (wiring_of network.now).ends }
-    ensures { IfOk result (λ s. string_bytes s ≡ cycle_line network.now channel (cause_of cause.now)) }
-{
-    let ends = channel_text(alloc, network, channel)?;
-    let words = cause_words(alloc, network, cause)?;
-    let channel = channel.number();
-    format!(in alloc; "channel {channel} {ends} by {words}\n")
-}
-
 // Adds the line of a channel and its cause.
 fn add_cycle_line(
     alloc: Global,
@@ -78,8 +64,10 @@ fn add_cycle_line(
     requires { channel < length (wiring_of network.now).ends }
     ensures { IfOk result (λ _. string_bytes text.new ≡ string_bytes text.old ++ cycle_line network.now channel (cause_of cause.now)) }
 {
-    let line = cycle_line(alloc, network, channel, cause)?;
-    text.push_str(line.as_str())
+    let ends = channel_text(alloc, network, channel)?;
+    let words = cause_words(alloc, network, cause)?;
+    let channel = channel.number();
+    write!(text, "channel {channel} {ends} by {words}\n")
 }
 
 // A line for each channel, with its cause.
@@ -128,9 +116,8 @@ pub fn cycle_text(alloc: Global, network: &Network, cycle: &Cycle) -> Result<Str
     ensures { IfOk result (λ s. string_bytes s ≡ cycle_text network.now cycle.now) }
 {
     let words = cyclic_words(alloc, &cycle.channels)?;
-    let head = words_line(alloc, words.as_str())?;
     let lines = cycle_lines(alloc, network, &cycle.channels, &cycle.causes)?;
-    format!(in alloc; "{head}{lines}")
+    format!(in alloc; "{words}\n{lines}")
 }
 
 /// The flow, its place with a fault, and the fault.

@@ -1,5 +1,5 @@
 //! The hint of a schedule: of its first step that can't be made, or of the lock-up that it leads to.
-ghost use Rattle.std.specs.Prelude.{◌≡◌, IfOk, Ok, option_map, string_bytes};
+ghost use Rattle.std.specs.Prelude.{IfOk, Ok, option_map, string_bytes};
 ghost use Rattle.sw_schedule.specs.Schedule.{steps_of_text};
 ghost use Rattle.sw_step_hints.specs.StepHints.{IsEndHint, IsHintBy, IsScheduleHint};
 

@@ -56,21 +56,21 @@ fn add_stopped_lines(
     }
 }
 
-// What holds the network up, of these cells, which have these parts.
-fn all_holding(
+// Adds what holds the network up, of these cells, which have these parts.
+fn add_holding(
     alloc: Global,
     network: &Network,
     cells: &[CellId],
     parts: &[Part],
-) -> Result<Vec<String>, AllocError>
+    lines: &mut Vec<String>,
+) -> Result<(), AllocError>
     requires { All (IsIn network.now) cells.now }
-    ensures { IfOk result (λ all. map string_bytes all.items ≡ flat_map (λ p. holding_lines network.now p.0 p.1) (zip cells.now parts.now)) }
+    ensures { IfOk result (λ _. map string_bytes lines.new.items ≡ map string_bytes lines.old.items ++ flat_map (λ p. holding_lines network.now p.0 p.1) (zip cells.now parts.now)) }
 {
-    let mut lines = Vec::new(alloc);
     for (cell, part) in cells.iter().zip(parts) {
-        add_holding_lines(alloc, network, *cell, part, &mut lines)?;
+        add_holding_lines(alloc, network, *cell, part, lines)?;
     }
-    Ok(lines)
+    Ok(())
 }
 
 // Adds which of these cells, which have these parts, can't send on.
@@ -90,14 +90,34 @@ fn add_stopped(
     Ok(())
 }
 
-// What holds the network up, and then which nodes can't send on.
+// Adds what holds the network up, and then which nodes can't send on.
+fn add_lock_lines(
+    alloc: Global,
+    network: &Network,
+    cells: &[CellId],
+    parts: &[Part],
+    lines: &mut Vec<String>,
+) -> Result<(), AllocError>
+    requires { All (IsIn network.now) cells.now }
+    ensures { IfOk result (λ _. map string_bytes lines.new.items ≡ (map string_bytes lines.old.items ++ flat_map (λ p. holding_lines network.now p.0 p.1) (zip cells.now parts.now)) ++ flat_map (λ p. stopped_lines network.now p.0 p.1) (zip cells.now parts.now)) }
+{
+    add_holding(alloc, network, cells, parts, lines)?;
+    add_stopped(alloc, network, cells, parts, lines)
+}
+
+// All lines that are told of the network.
 fn lock_lines(alloc: Global, network: &Network, parts: &[Part]) -> Result<Vec<String>, AllocError>
     ensures { IfOk result (λ all. map string_bytes all.items ≡ lock_lines network.now parts.now) }
 {
     let cells = cells(alloc, network)?;
-    let mut lines = all_holding(alloc, network, &cells, parts)?;
-    add_stopped(alloc, network, &cells, parts, &mut lines)?;
-    Ok(lines)
+    let mut lines = Vec::new(alloc);
+    match add_lock_lines(alloc, network, &cells, parts, &mut lines) {
+        Ok(()) => Ok(lines),
+        Err(refused) => {
+            drop(lines);
+            Err(refused)
+        }
+    }
 }
 
 // How many lines are left out.
@@ -128,9 +148,11 @@ fn lock_text(
 ) -> Result<String, AllocError>
     ensures { IfOk result (λ s. string_bytes s ≡ lock_text path.now network.now parts.now) }
 {
-    let head = head_line(alloc, path, &[], None, "the network is locked up")?;
     let lines = lock_lines(alloc, network, parts)?;
-    let first = first_lines(alloc, &lines)?;
+    let first = first_lines(alloc, &lines);
+    drop(lines);
+    let first = first?;
+    let head = head_line(alloc, path, &[], None, "the network is locked up")?;
     format!(in alloc; "{head}{first}")
 }
 
@@ -149,6 +171,10 @@ pub(crate) fn lock_hint(
 {
     match locked_up_parts(alloc, network, schedule)? {
         None => Ok(None),
-        Some(parts) => Ok(Some(lock_text(alloc, path, network, &parts)?)),
+        Some(parts) => {
+            let text = lock_text(alloc, path, network, &parts);
+            drop(parts);
+            Ok(Some(text?))
+        }
     }
 }

@@ -1,7 +1,6 @@
 //! What is told of a step that can't be made.
 ghost use Rattle.std.specs.Prelude.{◌≡◌, IfOk, option_map, string_bytes};
-ghost use Rattle.sw_model.specs.Steps.{machine_step};
-ghost use Rattle.sw_step_hints.specs.StepHints.{step_expected, step_found, step_head, step_hint};
+ghost use Rattle.sw_step_hints.specs.StepHints.{refused, step_expected, step_found, step_head, step_hint, step_numbered};
 
 use crate::line::line_with;
 use crate::needs::{expected, refused};
@@ -10,22 +9,24 @@ use std::alloc::{AllocError, Global};
 use sw_config::Network;
 use sw_hints::{found_line, head_line, told};
 use sw_replay::StepRefusal;
-use sw_schedule::{Schedule, Step};
+use sw_schedule::Schedule;
 
 // Where, and why.
 fn step_head(
     alloc: Global,
     path: &str,
     at: Option<(u64, &[u8])>,
-    why: &str,
+    number: u32,
+    refusal: StepRefusal,
 ) -> Result<String, AllocError>
-    ensures { IfOk result (λ s. string_bytes s ≡ step_head path.now (option_map (λ r. (r.0, r.1.now)) at.entry) why.now) }
+    ensures { IfOk result (λ s. string_bytes s ≡ step_head path.now (option_map (λ r. (r.0, r.1.now)) at.entry) (refused number refusal)) }
 {
+    let why = refused(alloc, number, refusal)?;
     match at {
-        None => head_line(alloc, path, &[], None, why),
+        None => head_line(alloc, path, &[], None, why.as_str()),
         Some((line, _)) => {
             let place = format!(in alloc; "{path}:{line}")?;
-            head_line(alloc, place.as_str(), &[], None, why)
+            head_line(alloc, place.as_str(), &[], None, why.as_str())
         }
     }
 }
@@ -40,19 +41,22 @@ fn step_found(alloc: Global, at: Option<(u64, &[u8])>) -> Result<String, AllocEr
     }
 }
 
+// What is expected in place of the step of that number.
 fn step_expected(
     alloc: Global,
     network: &Network,
     refusal: StepRefusal,
-    step: Option<&Step>,
+    schedule: &Schedule,
+    number: u32,
 ) -> Result<String, AllocError>
-    ensures { IfOk result (λ s. string_bytes s ≡ step_expected network.now refusal (option_map (λ r. machine_step r.now) step.entry)) }
+    ensures { IfOk result (λ s. string_bytes s ≡ step_expected network.now refusal (step_numbered schedule.now number)) }
 {
-    match step {
+    match step_numbered(alloc, schedule.entries(), number)? {
         None => Ok(String::new(alloc)),
         Some(step) => {
-            let words = expected(alloc, network, refusal, step)?;
-            told(alloc, "expected", words.as_bytes())
+            let words = expected(alloc, network, refusal, &step);
+            drop(step);
+            told(alloc, "expected", words?.as_bytes())
         }
     }
 }
@@ -74,10 +78,8 @@ pub(crate) fn step_hint(
     ensures { IfOk result (λ s. string_bytes s ≡ step_hint path.now network.now text.now schedule.now number refusal) }
 {
     let at = line_with(alloc, network, text, number)?;
-    let why = refused(alloc, number, refusal)?;
-    let step = step_numbered(alloc, schedule.entries(), number)?;
-    let head = step_head(alloc, path, at, why.as_str())?;
+    let head = step_head(alloc, path, at, number, refusal)?;
     let found = step_found(alloc, at)?;
-    let expected = step_expected(alloc, network, refusal, step.as_ref())?;
+    let expected = step_expected(alloc, network, refusal, schedule, number)?;
     format!(in alloc; "{head}{found}{expected}")
 }

@@ -66,10 +66,14 @@ abbrev pub load_note : TextFault → Declaration → Members → List ℕ
 load_note (NotInFlow packet) d load = packet_note packet d load
 load_note fault d load = []
 
--- of the document that was read, or nothing
+-- the document that was read, if there is one
+abbrev pub document_in : Result Members TextFault → Option Members
+document_in (Ok document) = Some document
+document_in (Err fault) = None
+
+-- of that document, or nothing
 abbrev pub of_document : (Members → List ℕ) → Result Members TextFault → List ℕ
-of_document f (Ok document) = f document
-of_document f (Err fault) = []
+of_document f read = option_map_or f (document_in read) []
 
 abbrev pub help_in : TextFault → List ℕ → Members → List ℕ
 help_in fault load network = of_document (load_help fault network) (document_of load)

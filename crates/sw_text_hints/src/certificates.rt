@@ -1,9 +1,8 @@
 //! The hint of a certificate that can't be read.
 ghost use Rattle.std.specs.Prelude.{◌≡◌, ◌==◌, ◌<◌, IfOk, IfSome, length, option_copied, option_map, position, string_bytes};
 ghost use Rattle.sw_cert.specs.Grammar.{after_word};
-ghost use Rattle.sw_cert.specs.Text.{read_text};
 ghost use Rattle.sw_schedule.specs.Schedule.{text_lines};
-ghost use Rattle.sw_text_hints.specs.CertificateHints.{begins, certificate_hint, expected_after, expected_line, flows_before, found_in, hint_at, hint_by, line_before, line_hint, note_line, numbers_at, numbers_of, place_note, place_numbers, rises, rising_note, wrong_line};
+ghost use Rattle.sw_text_hints.specs.CertificateHints.{certificate_hint, expected_after, expected_line, flows_before, found_in, hint_at, hint_by, line_before, line_hint, note_line, numbers_at, place_note, place_numbers, rises, rising_note};
 
 use crate::wrong_word::nth_line;
 use std::alloc::{AllocError, Global};
@@ -11,25 +10,19 @@ use sw_cert::{Certificate, CertificateFault};
 use sw_hints::{found_line, shown, told};
 use sw_text::{cut, number};
 
-fn begins(line: &[u8], word: &[u8]) -> bool
-    ensures { result ≡ begins word.now line.now }
-{
-    line.starts_with(word)
-}
-
 // What may stand behind this line.
 fn expected_after(before: &[u8]) -> &'static str
     ensures { result.now ≡ expected_after before.now }
 {
     if before.is_empty() {
         "swcert 1"
-    } else if begins(before, b"swcert") {
+    } else if before.starts_with(b"swcert") {
         "channels N, N from 0 to 2048"
-    } else if begins(before, b"channels") {
+    } else if before.starts_with(b"channels") {
         "number V, V from 0 to 65535, for each channel, and then flows M, M from 0 to 8192"
-    } else if begins(before, b"number") {
+    } else if before.starts_with(b"number") {
         "number V, V from 0 to 65535, for each channel, and then flows M, M from 0 to 8192"
-    } else if begins(before, b"end") {
+    } else if before.starts_with(b"end") {
         "nothing behind the line 'end'"
     } else {
         "for each flow flow P, P from 0 to 67584, and P lines place C K, C from 0 to 65535, K from 0 to 32, rising by C and then by K; then end"
@@ -60,17 +53,12 @@ fn numbers_at(words: &[u8], at: usize) -> Option<(u32, u32)>
     Some((channel, deleted))
 }
 
-fn numbers_of(words: &[u8]) -> Option<(u32, u32)>
-    ensures { result ≡ numbers_of words.now }
-{
-    numbers_at(words, space_in(words)?)
-}
-
 // The numbers of a line of a place.
 fn place_numbers(line: &[u8]) -> Option<(u32, u32)>
     ensures { result ≡ place_numbers line.now }
 {
-    numbers_of(after_word(b"place ", line)?)
+    let words = after_word(b"place ", line)?;
+    numbers_at(words, space_in(words)?)
 }
 
 fn rises(before: (u32, u32), place: (u32, u32)) -> bool
@@ -90,13 +78,13 @@ fn flows_before(text: &[u8], line: usize) -> usize
         if left <= 1 {
             return flows;
         }
-        if begins(first, b"flow ") {
+        if first.starts_with(b"flow ") {
             flows += 1;
         }
         rest = more;
         left -= 1;
     }
-    if left > 1 && begins(rest, b"flow ") {
+    if left > 1 && rest.starts_with(b"flow ") {
         flows + 1
     } else {
         flows
@@ -231,17 +219,6 @@ fn hint_at(alloc: Global, path: &str, text: &[u8], number: usize) -> Result<Stri
     )
 }
 
-// The number of the first line that is not as the grammar asks.
-fn wrong_line(alloc: Global, text: &[u8]) -> Result<Option<usize>, AllocError>
-    ensures { IfOk result (λ o. o ≡ wrong_line (read_text text.now)) }
-{
-    match Certificate::read(alloc, text) {
-        Ok(_) => Ok(None),
-        Err(CertificateFault::Grammar(line)) => Ok(Some(line)),
-        Err(CertificateFault::Memory) => Err(AllocError),
-    }
-}
-
 /// The hint of the first line of a text that is not as the grammar of certificates asks; none where each is. `path` is told as the text's
 /// name.
 ///
@@ -255,8 +232,9 @@ pub fn certificate_hint(
 ) -> Result<Option<String>, AllocError>
     ensures { IfOk result (λ o. option_map string_bytes o ≡ certificate_hint path.now text.now) }
 {
-    match wrong_line(alloc, text)? {
-        Some(number) => Ok(Some(hint_at(alloc, path, text, number)?)),
-        None => Ok(None),
+    match Certificate::read(alloc, text) {
+        Ok(_) => Ok(None),
+        Err(CertificateFault::Grammar(line)) => Ok(Some(hint_at(alloc, path, text, line)?)),
+        Err(CertificateFault::Memory) => Err(AllocError),
     }
 }

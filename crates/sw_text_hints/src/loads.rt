@@ -1,8 +1,9 @@
 //! The hint of a load's fault.
-ghost use Rattle.std.specs.Prelude.{◌≡◌, IfOk, codes, map, string_bytes};
+ghost use Rattle.std.specs.Prelude.{◌≡◌, IfOk, codes, map, option_map, string_bytes};
 ghost use Rattle.toml.specs.View.{table_view};
+ghost use Rattle.sw_toml_table.specs.Document.{document_of};
 ghost use Rattle.sw_hints.specs.HintLines.{told};
-ghost use Rattle.sw_text_hints.specs.LoadHints.{IsFaultHint, IsHintFor, IsLoadHint, expected, flow_help, has_reply, help_in, help_of, key_help, load_help, load_note, meant, note_of, packet_note, way_words};
+ghost use Rattle.sw_text_hints.specs.LoadHints.{IsFaultHint, IsHintFor, IsLoadHint, document_in, expected, flow_help, has_reply, help_in, help_of, key_help, load_help, load_note, meant, note_of, packet_note, way_words};
 
 use std::alloc::{AllocError, Global};
 use sw_config::Network;
@@ -123,6 +124,24 @@ fn load_note(network: &Network, load: &Table, fault: &TextFault) -> &'static str
     }
 }
 
+/// The document of a text, if it is one.
+///
+/// # Errors
+///
+/// There is no memory for it.
+pub(crate) fn document_in(alloc: Global, text: &[u8]) -> Result<Option<Table>, AllocError>
+    ensures { IfOk result (λ o. option_map table_view o ≡ document_in (document_of text.now)) }
+{
+    match read_document(alloc, text) {
+        Ok(document) => Ok(Some(document)),
+        Err(FileFault::Text(fault)) => {
+            drop(fault);
+            Ok(None)
+        }
+        Err(FileFault::Memory) => Err(AllocError),
+    }
+}
+
 // What to do about a fault of this load.
 fn help_in(
     alloc: Global,
@@ -132,10 +151,9 @@ fn help_in(
 ) -> Result<String, AllocError>
     ensures { IfOk result (λ s. string_bytes s ≡ help_in fault.now load.now (table_view network.now)) }
 {
-    match read_document(alloc, load) {
-        Ok(load) => load_help(alloc, network, &load, fault),
-        Err(FileFault::Text(_)) => Ok(String::new(alloc)),
-        Err(FileFault::Memory) => Err(AllocError),
+    match document_in(alloc, load)? {
+        Some(load) => load_help(alloc, network, &load, fault),
+        None => Ok(String::new(alloc)),
     }
 }
 
@@ -148,10 +166,9 @@ fn help_of(
 ) -> Result<String, AllocError>
     ensures { IfOk result (λ s. string_bytes s ≡ help_of fault.now network.now load.now) }
 {
-    match read_document(alloc, network) {
-        Ok(network) => help_in(alloc, &network, load, fault),
-        Err(FileFault::Text(_)) => Ok(String::new(alloc)),
-        Err(FileFault::Memory) => Err(AllocError),
+    match document_in(alloc, network)? {
+        Some(network) => help_in(alloc, &network, load, fault),
+        None => Ok(String::new(alloc)),
     }
 }
 
@@ -164,10 +181,9 @@ fn note_of(
 ) -> Result<&'static str, AllocError>
     ensures { IfOk result (λ s. s.now ≡ note_of fault.now network.now load.now) }
 {
-    match read_document(alloc, load) {
-        Ok(load) => Ok(load_note(network, &load, fault)),
-        Err(FileFault::Text(_)) => Ok(""),
-        Err(FileFault::Memory) => Err(AllocError),
+    match document_in(alloc, load)? {
+        Some(load) => Ok(load_note(network, &load, fault)),
+        None => Ok(""),
     }
 }
 
@@ -225,8 +241,9 @@ fn hint_for(
     match read_load(alloc, network, load) {
         Ok(_) => Ok(None),
         Err(FileFault::Text(fault)) => {
-            let hint = hint_of(alloc, path, text, network, load, &fault)?;
-            Ok(Some(hint))
+            let hint = hint_of(alloc, path, text, network, load, &fault);
+            drop(fault);
+            Ok(Some(hint?))
         }
         Err(FileFault::Memory) => Err(AllocError),
     }
@@ -252,7 +269,10 @@ pub fn load_hint(
             drop(read);
             hint
         }
-        Err(FileFault::Text(_)) => Ok(None),
+        Err(FileFault::Text(fault)) => {
+            drop(fault);
+            Ok(None)
+        }
         Err(FileFault::Memory) => Err(AllocError),
     }
 }

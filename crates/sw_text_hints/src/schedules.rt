@@ -1,11 +1,12 @@
 //! The hint of a schedule's fault.
 ghost use Rattle.std.specs.Prelude.{◌≡◌, ◌≤◌, IfOk, codes, length, map, option_map, string_bytes};
 ghost use Rattle.toml.specs.View.{table_view};
-ghost use Rattle.sw_schedule.specs.Schedule.{steps_of_text};
+ghost use Rattle.sw_hints.specs.Entries.{names_of};
 ghost use Rattle.sw_hints.specs.HintLines.{told};
-ghost use Rattle.sw_text_hints.specs.ScheduleHints.{expected, head_by, head_lines, help_of, hint_for, like_help, limit_line, line_hint, offset_of, rest_of, schedule_hint, total_head, total_lines, verbs, wanted_words, what_words, word_help, word_lines, wrong_number};
+ghost use Rattle.sw_text_hints.specs.ScheduleHints.{expected, head_by, head_lines, help_of, hint_for, like_help, limit_line, line_hint, offset_of, schedule_hint, total_head, total_lines, verbs, wanted_words, what_words, word_help, word_lines};
 ghost use Rattle.sw_text_hints.specs.WrongWords.{wrong_view};
 
+use crate::loads::document_in;
 use crate::step_words::{Wanted, text_of};
 use crate::wrong_word::{Wrong, first_word, nth_line, wrong_of};
 use std::alloc::{AllocError, Global};
@@ -13,7 +14,7 @@ use sw_config::Network;
 use sw_file::read_network;
 use sw_hints::{found_line, like, meant_help, names_of, shown, told};
 use sw_schedule::{ScheduleFault, read_steps};
-use sw_toml_table::{FileFault, Key, read_document};
+use sw_toml_table::{FileFault, Key};
 use toml::Table;
 
 // What is wrong with a word that is none of what is wanted.
@@ -70,21 +71,14 @@ fn expected(alloc: Global, network: &Network, wanted: Wanted) -> Result<String, 
     }
 }
 
-// The rest of the line from the wrong word on.
-fn rest_of<'a>(wrong: &Wrong<'a>) -> &'a [u8]
-    ensures { result.now ≡ rest_of (wrong_view wrong.now) }
-{
-    match wrong.rest {
-        Some(rest) => rest,
-        None => &[],
-    }
-}
-
 // Where in the line the wrong word begins.
 fn offset_of(line: &[u8], wrong: &Wrong<'_>) -> usize
     ensures { result ≡ offset_of line.now (wrong_view wrong.now) }
 {
-    line.len().saturating_sub(rest_of(wrong).len())
+    match wrong.rest {
+        Some(rest) => line.len().saturating_sub(rest.len()),
+        None => line.len(),
+    }
 }
 
 // What to do about a word that is none of these.
@@ -111,6 +105,14 @@ fn verb_help(alloc: Global, word: &[u8]) -> Result<String, AllocError>
     )
 }
 
+// What to do about a word that no entry at this key has for its name.
+fn name_help(alloc: Global, network: &Table, key: Key, word: &[u8]) -> Result<String, AllocError>
+    ensures { IfOk result (λ s. string_bytes s ≡ like_help word.now (names_of key (table_view network.now))) }
+{
+    let names = names_of(alloc, network, key)?;
+    like_help(alloc, word, &names)
+}
+
 // What to do about a wrong word.
 fn word_help(
     alloc: Global,
@@ -122,14 +124,8 @@ fn word_help(
 {
     match wanted {
         Wanted::Verb => verb_help(alloc, word),
-        Wanted::Node => {
-            let names = names_of(alloc, network, Key::Node)?;
-            like_help(alloc, word, &names)
-        }
-        Wanted::Flow => {
-            let names = names_of(alloc, network, Key::Flow)?;
-            like_help(alloc, word, &names)
-        }
+        Wanted::Node => name_help(alloc, network, Key::Node, word),
+        Wanted::Flow => name_help(alloc, network, Key::Flow, word),
         _ => Ok(String::new(alloc)),
     }
 }
@@ -142,10 +138,9 @@ fn help_of(alloc: Global, network: &[u8], wrong: &Wrong<'_>) -> Result<String, A
         return Ok(String::new(alloc));
     };
     let (word, _) = first_word(rest);
-    match read_document(alloc, network) {
-        Ok(document) => word_help(alloc, &document, wrong.wanted, word),
-        Err(FileFault::Text(_)) => Ok(String::new(alloc)),
-        Err(FileFault::Memory) => Err(AllocError),
+    match document_in(alloc, network)? {
+        Some(document) => word_help(alloc, &document, wrong.wanted, word),
+        None => Ok(String::new(alloc)),
     }
 }
 
@@ -282,21 +277,6 @@ fn line_hint(
     }
 }
 
-// The number of the first wrong line of a schedule.
-fn wrong_number(
-    alloc: Global,
-    network: &Network,
-    schedule: &[u8],
-) -> Result<Option<u64>, AllocError>
-    ensures { IfOk result (λ o. o ≡ wrong_number (steps_of_text network.now schedule.now)) }
-{
-    match read_steps(alloc, network, schedule) {
-        Ok(_) => Ok(None),
-        Err(ScheduleFault::BadLine(number)) => Ok(Some(number)),
-        Err(ScheduleFault::Memory) => Err(AllocError),
-    }
-}
-
 // The hint of a schedule for this network.
 fn hint_for(
     alloc: Global,
@@ -307,13 +287,14 @@ fn hint_for(
 ) -> Result<Option<String>, AllocError>
     ensures { IfOk result (λ o. option_map string_bytes o ≡ hint_for path.now text.now network.now schedule.now) }
 {
-    match wrong_number(alloc, network, schedule)? {
-        Some(number) => {
+    match read_steps(alloc, network, schedule) {
+        Ok(_) => Ok(None),
+        Err(ScheduleFault::BadLine(number)) => {
             let line = nth_line(schedule, number);
             let lines = line_hint(alloc, path, text, network, number, line)?;
             Ok(Some(lines))
         }
-        None => Ok(None),
+        Err(ScheduleFault::Memory) => Err(AllocError),
     }
 }
 
@@ -337,7 +318,10 @@ pub fn schedule_hint(
             drop(read);
             hint
         }
-        Err(FileFault::Text(_)) => Ok(None),
+        Err(FileFault::Text(fault)) => {
+            drop(fault);
+            Ok(None)
+        }
         Err(FileFault::Memory) => Err(AllocError),
     }
 }

@@ -12,7 +12,7 @@ use sw_load::{count_of, hex_pair, pairs_of};
 use sw_text::number;
 
 /// What a word of a line has to be.
-#[derive(Clone, Copy, PartialEq, Eq)]
+#[derive(Clone, Copy)]
 pub(crate) enum Wanted {
     Verb,
     Channel,

@@ -1,9 +1,8 @@
 //! The first word of a schedule's line that is not as it has to be.
 ghost use Rattle.std.specs.Prelude.{◌≡◌, ◌∷◌, IfOk, option_map};
-ghost use Rattle.std.specs.List.{join_with_byte};
 ghost use Rattle.sw_schedule.specs.Lines.{words_of};
 ghost use Rattle.sw_schedule.specs.Schedule.{text_lines};
-ghost use Rattle.sw_text_hints.specs.StepWords.{behind_verb, wrong_of, wrong_step, wrong_word};
+ghost use Rattle.sw_text_hints.specs.StepWords.{wrong_of, wrong_step, wrong_word};
 ghost use Rattle.sw_text_hints.specs.WrongWords.{nth_line, rest_words, wrong_view};
 
 use crate::step_words::{Wanted, is_count, is_right, wanted_by};

@@ -2,3 +2,4 @@ pub mod Firsts
 mod LastPlace
 mod FlowWays
 mod FlowNames
+pub mod TextsMade

@@ -15,10 +15,13 @@ use Rattle.sw_hints.specs.Nearest.{like}
 use Rattle.sw_toml_table.specs.declared.fault.TextFault.{TextFault}
 use Rattle.sw_verdict_hints.specs.RouteHints.{flow_hint}
 
+-- the flow that is meant, maybe, where none has this name
+abbrev pub name_help : Declaration → List ℕ → List ℕ
+name_help d name = told (codes "help") (meant_help (like name (flow_names (all_flows d))))
+
 -- no flow has this name; the one that is meant, maybe
 abbrev pub unknown_hint : List ℕ → Declaration → List ℕ → List ℕ
-unknown_hint path d name =
-    head_line path [] None (codes "no flow has this name") ++ (told (codes "found") name ++ told (codes "help") (meant_help (like name (flow_names (all_flows d)))))
+unknown_hint path d name = head_line path [] None (codes "no flow has this name") ++ (told (codes "found") name ++ name_help d name)
 
 -- of the first fault at the places of flow i: a way of the flow from its start to there, and what to change; nothing where there is none
 abbrev pub IsHintAt : List ℕ → Declaration → ℕ → FlowEntry → Option (Place × RouteFault) → Option (List ℕ) → Type 0

@@ -2,3 +2,4 @@ pub mod RouteHints
 pub mod FlowHints
 pub mod VerdictHints
 pub mod CertificateHints
+pub mod MadeTexts

@@ -7,6 +7,7 @@ use crate::certificate_numbers::not_rising_lines;
 use crate::certificate_places::{
     faulty_lines, no_start_lines, not_closed_lines, wrong_count_lines,
 };
+use crate::made_texts::in_turn;
 use std::alloc::{AllocError, Global};
 use sw_cert::{Certificate, CertificateFault};
 use sw_check::{Refusal, check};
@@ -60,6 +61,7 @@ pub(crate) struct Names<'a> {
     pub(crate) certificate: &'a str,
 }
 
+#[tactic(auto, using(crate::proofs::TextsMade::in_turn_if))]
 fn refusal_hint(
     alloc: Global,
     names: Names<'_>,
@@ -69,10 +71,10 @@ fn refusal_hint(
 ) -> Result<String, AllocError>
     ensures { IfOk result (λ s. string_bytes s ≡ refusal_hint names.entry.certificate.now names.entry.network.now network.now certificate.now refusal) }
 {
-    let head = certificate_head(alloc, names.certificate, names.network)?;
-    let lines = refusal_lines(alloc, network, certificate, refusal)?;
-    let help = certificate_help(alloc, names.network)?;
-    format!(in alloc; "{head}{lines}{help}")
+    let head = certificate_head(alloc, names.certificate, names.network);
+    let lines = refusal_lines(alloc, network, certificate, refusal);
+    let help = certificate_help(alloc, names.network);
+    in_turn(alloc, head, lines, help)
 }
 
 // Of a certificate: none where it is accepted.
@@ -139,7 +141,10 @@ pub fn refused_certificate_hint<W: VerdictWorkers>(
             drop(network);
             hint
         }
-        Err(FileFault::Text(_)) => Ok(None),
+        Err(FileFault::Text(fault)) => {
+            drop(fault);
+            Ok(None)
+        }
         Err(FileFault::Memory) => Err(AllocError),
     }
 }

@@ -4,7 +4,8 @@ ghost use Rattle.std.specs.List.{list_any};
 ghost use Rattle.sw_flow.specs.Followers.{followers_of};
 ghost use Rattle.sw_verdict_hints.specs.CertificateHints.{above_words, cause_words, channel_words, goer, goes_on, goes_on_at, not_rising_lines, number_words, rising_found};
 
-use crate::certificate_places::{listed_for, two_lines};
+use crate::certificate_places::listed_for;
+use crate::made_texts::two_lines;
 use std::alloc::{AllocError, Global};
 use sw_cert::Certificate;
 use sw_config::{Flow, Network};
@@ -153,6 +154,7 @@ fn above_words(alloc: Global, least: u16, channel: u16) -> Result<String, AllocE
 /// # Errors
 ///
 /// There is no memory for the text.
+#[tactic(auto, using(crate::proofs::TextsMade::two_lines_if))]
 pub(crate) fn not_rising_lines(
     alloc: Global,
     network: &Network,
@@ -162,8 +164,8 @@ pub(crate) fn not_rising_lines(
 ) -> Result<String, AllocError>
     ensures { IfOk result (λ s. string_bytes s ≡ not_rising_lines network.now certificate.now channel next) }
 {
-    let found = rising_found(alloc, network, certificate, channel, next)?;
+    let found = rising_found(alloc, network, certificate, channel, next);
     let least = number_of(certificate.numbers(), channel);
-    let expected = above_words(alloc, least, next.number())?;
-    two_lines(alloc, found.as_str(), expected.as_str())
+    let expected = above_words(alloc, least, next.number());
+    two_lines(alloc, found, "expected", expected)
 }

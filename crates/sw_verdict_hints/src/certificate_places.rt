@@ -1,13 +1,12 @@
 //! What of the places that a certificate lists is wrong, in words.
-ghost use Rattle.std.specs.Prelude.{◌≡◌, ◌<◌, ◌≤◌, IfOk, find, length, not, string_bytes};
-ghost use Rattle.std.specs.Option.{option_map_or};
-ghost use Rattle.std.specs.List.{list_any};
+ghost use Rattle.std.specs.Prelude.{◌≡◌, ◌<◌, ◌≤◌, ◌++◌, IfOk, codes, find, length, not, string_bytes};
 ghost use Rattle.sw_config.specs.Entries.{all_flows};
 ghost use Rattle.sw_check.specs.Refusals.{is_in_range, is_listed, start_of};
-ghost use Rattle.sw_flow.specs.Places.{ends_of};
 ghost use Rattle.sw_topo.specs.Checked.{first_below};
-ghost use Rattle.sw_verdict_hints.specs.CertificateHints.{count_words, counts_lines, counts_of_contents, counts_of_network, faulty_lines, followed_words, is_of_size, is_outside_at, limits_words, listed_for, missing, missing_lines, no_start_lines, not_closed_lines, outside, outside_at, outside_lines, outside_lines_at, place_words, range_lines, range_words, two_lines, wrong_count_lines};
+ghost use Rattle.sw_verdict_hints.specs.CertificateHints.{count_words, counts_lines, counts_of_contents, counts_of_network, faulty_lines, followed_words, is_of_size, is_outside_at, limits_words, listed_for, missing, missing_lines, no_start_lines, not_closed_lines, outside, outside_at, outside_lines, place_words, range_lines, range_words, wrong_count_lines};
+ghost use Rattle.sw_verdict_hints.specs.RouteHints.{found_words};
 
+use crate::made_texts::two_lines;
 use crate::route_hints::found_words;
 use std::alloc::{AllocError, Global};
 use sw_cert::Certificate;
@@ -23,15 +22,6 @@ fn place_words(alloc: Global, place: &Place, flow: &str) -> Result<String, Alloc
     let channel = place.channel.number();
     let deleted = place.deleted;
     format!(in alloc; "place {channel} {deleted} of flow {flow}")
-}
-
-/// What was found, and what is expected.
-pub(crate) fn two_lines(alloc: Global, found: &str, expected: &str) -> Result<String, AllocError>
-    ensures { IfOk result (λ s. string_bytes s ≡ two_lines found.now expected.now) }
-{
-    let found = told(alloc, "found", found.as_bytes())?;
-    let expected = told(alloc, "expected", expected.as_bytes())?;
-    format!(in alloc; "{found}{expected}")
 }
 
 // ---- wrong counts
@@ -99,6 +89,7 @@ fn range_words(alloc: Global, network: &Network, flow: &Flow) -> Result<String, 
 }
 
 // Of the flow of that number, with a place that the network can't have.
+#[tactic(auto, using(crate::proofs::TextsMade::two_lines_if))]
 fn outside_lines(
     alloc: Global,
     network: &Network,
@@ -109,18 +100,11 @@ fn outside_lines(
 {
     if number < network.flows() {
         let flow = network.flow(number);
-        let found = place_words(alloc, place, flow.name())?;
-        let expected = range_words(alloc, network, flow)?;
-        two_lines(alloc, found.as_str(), expected.as_str())
+        let found = place_words(alloc, place, flow.name());
+        two_lines(alloc, found, "expected", range_words(alloc, network, flow))
     } else {
         Ok(String::new(alloc))
     }
-}
-
-fn is_outside_at(network: &Network, certificate: &Certificate, number: u16) -> bool
-    ensures { result ≡ is_outside_at network.now certificate.now.places number }
-{
-    outside_at(network, certificate, number).is_some()
 }
 
 // The first flow with such a place.
@@ -129,25 +113,11 @@ fn first_outside(network: &Network, certificate: &Certificate) -> Option<u16>
     ensures { result ≡ first_below (is_outside_at network.now certificate.now.places) (length (all_flows network.now)) }
 {
     for number in 0..network.flows() {
-        if is_outside_at(network, certificate, number) {
+        if outside_at(network, certificate, number).is_some() {
             return Some(number);
         }
     }
     None
-}
-
-fn outside_lines_at(
-    alloc: Global,
-    network: &Network,
-    certificate: &Certificate,
-    number: u16,
-) -> Result<String, AllocError>
-    ensures { IfOk result (λ s. string_bytes s ≡ outside_lines_at network.now certificate.now.places number) }
-{
-    match outside_at(network, certificate, number) {
-        Some(place) => outside_lines(alloc, network, number, &place),
-        None => Ok(String::new(alloc)),
-    }
 }
 
 fn range_lines(
@@ -157,8 +127,11 @@ fn range_lines(
 ) -> Result<String, AllocError>
     ensures { IfOk result (λ s. string_bytes s ≡ range_lines network.now certificate.now.places) }
 {
-    match first_outside(network, certificate) {
-        Some(number) => outside_lines_at(alloc, network, certificate, number),
+    let Some(number) = first_outside(network, certificate) else {
+        return Ok(String::new(alloc));
+    };
+    match outside_at(network, certificate, number) {
+        Some(place) => outside_lines(alloc, network, number, &place),
         None => Ok(String::new(alloc)),
     }
 }
@@ -182,6 +155,7 @@ fn counts_of_network(alloc: Global, network: &Network) -> Result<String, AllocEr
     count_words(alloc, network.channels() as usize, network.flows() as usize)
 }
 
+#[tactic(auto, using(crate::proofs::TextsMade::two_lines_if))]
 fn counts_lines(
     alloc: Global,
     network: &Network,
@@ -189,9 +163,8 @@ fn counts_lines(
 ) -> Result<String, AllocError>
     ensures { IfOk result (λ s. string_bytes s ≡ counts_lines network.now certificate.now) }
 {
-    let found = counts_of_contents(alloc, certificate)?;
-    let expected = counts_of_network(alloc, network)?;
-    two_lines(alloc, found.as_str(), expected.as_str())
+    let found = counts_of_contents(alloc, certificate);
+    two_lines(alloc, found, "expected", counts_of_network(alloc, network))
 }
 
 /// Of counts that are not the network's, or else of a place that it can't have.
@@ -251,7 +224,12 @@ pub(crate) fn no_start_lines(
 fn is_listed(listed: &[Place], place: &Place) -> bool
     ensures { result ≡ is_listed listed.now place.now }
 {
-    listed.iter().any(|found| *place == *found)
+    for found in listed {
+        if *place == *found {
+            return true;
+        }
+    }
+    false
 }
 
 // The first of the places that is not listed.
@@ -281,6 +259,7 @@ fn followed_words(alloc: Global, next: &Place, flow: &str) -> Result<String, All
     format!(in alloc; "{place}, which follows it")
 }
 
+#[tactic(auto, using(crate::proofs::TextsMade::two_lines_if))]
 fn missing_lines(
     alloc: Global,
     flow: &str,
@@ -289,9 +268,8 @@ fn missing_lines(
 ) -> Result<String, AllocError>
     ensures { IfOk result (λ s. string_bytes s ≡ missing_lines flow.now place.now next.now) }
 {
-    let found = place_words(alloc, place, flow)?;
-    let expected = followed_words(alloc, next, flow)?;
-    two_lines(alloc, found.as_str(), expected.as_str())
+    let found = place_words(alloc, place, flow);
+    two_lines(alloc, found, "expected", followed_words(alloc, next, flow))
 }
 
 /// Of a place that another follows, which is not listed.
@@ -318,11 +296,27 @@ pub(crate) fn not_closed_lines(
     }
 }
 
+// Where the flow's packets go wrong, and what happens there.
+fn faulty_found(
+    alloc: Global,
+    network: &Network,
+    flow: &str,
+    place: &Place,
+    fault: RouteFault,
+) -> Result<String, AllocError>
+    ensures { IfOk result (λ s. string_bytes s ≡ place_words place.now flow.now ++ (codes ", " ++ found_words network.now place.now fault)) }
+{
+    let words = place_words(alloc, place, flow)?;
+    let found = found_words(alloc, network, place, fault)?;
+    format!(in alloc; "{words}, {found}")
+}
+
 /// Of a place with a fault.
 ///
 /// # Errors
 ///
 /// There is no memory for the text.
+#[tactic(auto, using(crate::proofs::TextsMade::two_lines_if))]
 pub(crate) fn faulty_lines(
     alloc: Global,
     network: &Network,
@@ -332,13 +326,7 @@ pub(crate) fn faulty_lines(
 ) -> Result<String, AllocError>
     ensures { IfOk result (λ s. string_bytes s ≡ faulty_lines network.now number place.now fault) }
 {
-    let name = flow_name(network, number);
-    let place_text = place_words(alloc, place, name)?;
-    let words = found_words(alloc, network, place, fault)?;
-    let found = format!(in alloc; "{place_text}, {words}")?;
-    two_lines(
-        alloc,
-        found.as_str(),
-        "places of the flow alone, and none with a fault",
-    )
+    let found = faulty_found(alloc, network, flow_name(network, number), place, fault);
+    let expected = String::from_str(alloc, "places of the flow alone, and none with a fault");
+    two_lines(alloc, found, "expected", expected)
 }

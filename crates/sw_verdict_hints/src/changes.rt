@@ -1,7 +1,7 @@
 //! What to change, so that a flow is well routed.
-ghost use Rattle.std.specs.Prelude.{◌≡◌, ◌<◌, ◌≤◌, IfOk, Some, length, slice_index, string_bytes};
+ghost use Rattle.std.specs.Prelude.{◌≡◌, ◌<◌, IfOk, Some, length, slice_index, string_bytes};
 ghost use Rattle.sw_topo.specs.Checked.{IsIn};
-ghost use Rattle.sw_verdict_hints.specs.RouteHints.{address_words, ends_help, help_words, links_words, no_route_help, port_words, wrong_left_help, wrong_node_help};
+ghost use Rattle.sw_verdict_hints.specs.RouteHints.{address_words, ends_help, help_words, links_words, no_route_help, wrong_left_help, wrong_node_help};
 
 use crate::ways::number_words;
 use std::alloc::{AllocError, Global};
@@ -10,22 +10,14 @@ use sw_flow::RouteFault;
 use sw_output::{linked_ports, node_name, switch_name};
 use sw_topo::PlaceEnd;
 
-// The numbers of the switch's ports that have a link.
-fn port_words(alloc: Global, network: &Network, switch: u16) -> Result<String, AllocError>
-    requires { switch < length network.now.switches }
-    ensures { IfOk result (λ s. string_bytes s ≡ port_words network.now switch) }
-{
-    let ports = linked_ports(alloc, network, switch)?;
-    number_words(alloc, &ports)
-}
-
 // Where a packet can go on to from the switch.
 fn links_words(alloc: Global, network: &Network, switch: u16) -> Result<String, AllocError>
     requires { switch < length network.now.switches }
     ensures { IfOk result (λ s. string_bytes s ≡ links_words network.now switch) }
 {
     let name = switch_name(network, switch);
-    let ports = port_words(alloc, network, switch)?;
+    let linked = linked_ports(alloc, network, switch)?;
+    let ports = number_words(alloc, &linked)?;
     format!(in alloc; "{name} has links at ports{ports}")
 }
 

@@ -3,8 +3,9 @@ ghost use Rattle.std.specs.Prelude.{◌≡◌, IfOk, Some, map, option_map, posi
 ghost use Rattle.std.specs.Str.{bytes_eq};
 ghost use Rattle.sw_config.specs.Entries.{all_flows, flow_names};
 ghost use Rattle.sw_flow.specs.Places.{IsPlace};
-ghost use Rattle.sw_verdict_hints.specs.FlowHints.{IsHintAt, IsHintNamed, IsHintOn, IsNamedFlowHint, unknown_hint};
+ghost use Rattle.sw_verdict_hints.specs.FlowHints.{IsHintAt, IsHintNamed, IsHintOn, IsNamedFlowHint, name_help, unknown_hint};
 
+use crate::made_texts::in_turn;
 use crate::route_hints::flow_hint;
 use std::alloc::{AllocError, Global};
 use sw_config::{Flow, Network};
@@ -24,7 +25,17 @@ fn flow_names(alloc: Global, network: &Network) -> Result<Vec<&str>, AllocError>
     Ok(names)
 }
 
+// Which flow is meant, maybe, where none has this name.
+fn name_help(alloc: Global, network: &Network, name: &str) -> Result<String, AllocError>
+    ensures { IfOk result (λ s. string_bytes s ≡ name_help network.now name.now) }
+{
+    let names = flow_names(alloc, network)?;
+    let words = meant_help(alloc, like(alloc, name, &names)?)?;
+    told(alloc, "help", words.as_bytes())
+}
+
 // That no flow has this name, and which one is meant, maybe.
+#[tactic(auto, using(crate::proofs::TextsMade::in_turn_if))]
 fn unknown_hint(
     alloc: Global,
     path: &str,
@@ -33,12 +44,9 @@ fn unknown_hint(
 ) -> Result<String, AllocError>
     ensures { IfOk result (λ s. string_bytes s ≡ unknown_hint path.now network.now name.now) }
 {
-    let names = flow_names(alloc, network)?;
-    let help = meant_help(alloc, like(alloc, name, &names)?)?;
-    let head = head_line(alloc, path, &[], None, "no flow has this name")?;
-    let found = told(alloc, "found", name.as_bytes())?;
-    let help = told(alloc, "help", help.as_bytes())?;
-    format!(in alloc; "{head}{found}{help}")
+    let head = head_line(alloc, path, &[], None, "no flow has this name");
+    let found = told(alloc, "found", name.as_bytes());
+    in_turn(alloc, head, found, name_help(alloc, network, name))
 }
 
 // Of the flow of that number, whose place has this fault.
@@ -114,7 +122,10 @@ pub fn named_flow_hint(
             drop(network);
             hint
         }
-        Err(FileFault::Text(_)) => Ok(None),
+        Err(FileFault::Text(fault)) => {
+            drop(fault);
+            Ok(None)
+        }
         Err(FileFault::Memory) => Err(AllocError),
     }
 }

@@ -6,6 +6,7 @@ mod certificate_numbers;
 mod certificate_places;
 mod changes;
 mod flow_hints;
+mod made_texts;
 mod route_hints;
 mod verdict_hints;
 mod ways;

@@ -1,30 +1,19 @@
 //! The hint of a flow that is not well routed.
-ghost use Rattle.std.specs.Prelude.{◌≡◌, ◌<◌, All, IfOk, Some, length, string_bytes};
-ghost use Rattle.sw_topo.specs.Checked.{IsIn};
+ghost use Rattle.std.specs.Prelude.{◌≡◌, ◌<◌, All, IfOk, length, string_bytes};
 ghost use Rattle.sw_config.specs.Entries.{wiring_of};
 ghost use Rattle.sw_flow.specs.Places.{end_of};
 ghost use Rattle.sw_verdict_hints.specs.RouteHints.{flow_head, flow_hint, found_words, last_lines, place_name};
 
 use crate::changes::help_words;
+use crate::made_texts::{in_turn, two_lines};
 use crate::ways::way_lines;
 use std::alloc::{AllocError, Global};
 use sw_app_explain::fault_words;
 use sw_config::{Flow, Network};
 use sw_flow::{Place, RouteFault};
-use sw_hints::{head_line, told};
+use sw_hints::head_line;
 use sw_output::{node_name, switch_name};
 use sw_topo::{Chan, PlaceEnd};
-
-// The node or the switch that a channel ends at.
-fn place_name(network: &Network, end: PlaceEnd) -> &str
-    requires { IsIn (length network.now.nodes) (length network.now.switches) end }
-    ensures { result.now ≡ place_name network.now (Some end) }
-{
-    match end {
-        PlaceEnd::Node(node) => node_name(network, node),
-        PlaceEnd::Switch(switch, _) => switch_name(network, switch),
-    }
-}
 
 // The node or the switch at the end of a channel, as far as there is one.
 fn name_at(network: &Network, channel: Chan) -> &str
@@ -34,7 +23,10 @@ fn name_at(network: &Network, channel: Chan) -> &str
     if channel.number() >= topology.channels() {
         return "";
     }
-    place_name(network, topology.end_of(channel))
+    match topology.end_of(channel) {
+        PlaceEnd::Node(node) => node_name(network, node),
+        PlaceEnd::Switch(switch, _) => switch_name(network, switch),
+    }
 }
 
 /// What happens at the place.
@@ -63,6 +55,7 @@ fn flow_head(alloc: Global, path: &str, name: &str) -> Result<String, AllocError
 }
 
 // The lines behind the way: what happens at the place, and what to change.
+#[tactic(auto, using(crate::proofs::TextsMade::two_lines_if))]
 fn last_lines(
     alloc: Global,
     network: &Network,
@@ -75,11 +68,9 @@ fn last_lines(
     ensures { IfOk result (λ s. string_bytes s ≡ last_lines network.now number flow.now place.now fault) }
 {
     let end = network.topology().end_of(place.channel);
-    let found = found_words(alloc, network, place, fault)?;
-    let help = help_words(alloc, network, number, flow, place.deleted, fault, end)?;
-    let found = told(alloc, "found", found.as_bytes())?;
-    let help = told(alloc, "help", help.as_bytes())?;
-    format!(in alloc; "{found}{help}")
+    let found = found_words(alloc, network, place, fault);
+    let help = help_words(alloc, network, number, flow, place.deleted, fault, end);
+    two_lines(alloc, found, "help", help)
 }
 
 /// What is told of a flow that is not well routed: the way to its place with a fault, what happens there, and what to change.
@@ -87,6 +78,7 @@ fn last_lines(
 /// # Errors
 ///
 /// There is no memory for the text.
+#[tactic(auto, using(crate::proofs::TextsMade::in_turn_if))]
 pub(crate) fn flow_hint(
     alloc: Global,
     path: &str,
@@ -101,8 +93,8 @@ pub(crate) fn flow_hint(
     requires way { All (λ p. p.channel < length (wiring_of network.now).ends) way.now }
     ensures { IfOk result (λ s. string_bytes s ≡ flow_hint path.now network.now number flow.now place.now fault way.now) }
 {
-    let head = flow_head(alloc, path, flow.name())?;
-    let lines = way_lines(alloc, network, flow, way)?;
-    let last = last_lines(alloc, network, number, flow, place, fault)?;
-    format!(in alloc; "{head}{lines}{last}")
+    let head = flow_head(alloc, path, flow.name());
+    let lines = way_lines(alloc, network, flow, way);
+    let last = last_lines(alloc, network, number, flow, place, fault);
+    in_turn(alloc, head, lines, last)
 }

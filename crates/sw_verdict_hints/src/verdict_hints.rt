@@ -1,8 +1,9 @@
 //! The hint of a verdict that is not free, and of a misrouted one alone.
 ghost use Rattle.std.specs.Prelude.{◌≡◌, IfOk, option_map, string_bytes};
+ghost use Rattle.sw_file.specs.Network.{network_text};
 ghost use Rattle.sw_search.specs.Explanations.{GoesWrong, IsExplanation};
 ghost use Rattle.sw_verdict_hints.specs.RouteHints.{misrouted_hint};
-ghost use Rattle.sw_verdict_hints.specs.VerdictHints.{IsHintFor, IsMisroutedHint, IsMisroutedHintFor, IsVerdictHint, cyclic_hint, hint_by, misrouted_hint_by};
+ghost use Rattle.sw_verdict_hints.specs.VerdictHints.{IsHintFor, IsHintOf, IsMisroutedHint, IsVerdictHint, cyclic_hint, hint_by};
 
 use crate::route_hints::flow_hint;
 use std::alloc::{AllocError, Global};
@@ -12,6 +13,13 @@ use sw_flow::{Place, RouteFault};
 use sw_hints::head_line;
 use sw_search::{Explanation, VerdictWorkers, explain};
 use sw_toml_table::FileFault;
+
+/// Of which verdicts there is a hint.
+#[derive(Clone, Copy)]
+pub(crate) enum Hinted {
+    Each,
+    MisroutedAlone,
+}
 
 // Where to look at channels that can wait for one another in a circle.
 fn cyclic_hint(alloc: Global) -> Result<String, AllocError>
@@ -47,9 +55,10 @@ fn hint_by(
     path: &str,
     network: &Network,
     explanation: &Explanation,
+    hinted: Hinted,
 ) -> Result<Option<String>, AllocError>
     requires { IsExplanation network.now explanation.now }
-    ensures { IfOk result (λ o. option_map string_bytes o ≡ hint_by path.now network.now explanation.now) }
+    ensures { IfOk result (λ o. option_map string_bytes o ≡ hint_by hinted path.now network.now explanation.now) }
 {
     match explanation {
         Explanation::Misrouted {
@@ -58,7 +67,10 @@ fn hint_by(
             fault,
             way,
         } => Ok(Some(misrouted_hint(alloc, path, network, *flow, place, *fault, way)?)),
-        Explanation::Cyclic(_) => Ok(Some(cyclic_hint(alloc)?)),
+        Explanation::Cyclic(_) => match hinted {
+            Hinted::Each => Ok(Some(cyclic_hint(alloc)?)),
+            Hinted::MisroutedAlone => Ok(None),
+        },
         Explanation::Free => Ok(None),
     }
 }
@@ -69,11 +81,36 @@ fn network_hint<W: VerdictWorkers>(
     alloc: Global,
     path: &str,
     network: &Network,
+    hinted: Hinted,
 ) -> Result<Option<String>, AllocError>
-    ensures { IfOk result (λ o. IsHintFor path.now network.now (option_map string_bytes o)) }
+    ensures { IfOk result (λ o. IsHintFor hinted path.now network.now (option_map string_bytes o)) }
 {
     let explanation = explain(workers, alloc, network)?;
-    hint_by(alloc, path, network, &explanation)
+    hint_by(alloc, path, network, &explanation, hinted)
+}
+
+// Of the network of a text.
+fn text_hint<W: VerdictWorkers>(
+    workers: &W,
+    alloc: Global,
+    path: &str,
+    text: &[u8],
+    hinted: Hinted,
+) -> Result<Option<String>, AllocError>
+    ensures { IfOk result (λ o. IsHintOf hinted path.now (network_text text.now) (option_map string_bytes o)) }
+{
+    match read_network(alloc, text) {
+        Ok(network) => {
+            let hint = network_hint(workers, alloc, path, &network, hinted);
+            drop(network);
+            hint
+        }
+        Err(FileFault::Text(fault)) => {
+            drop(fault);
+            Ok(None)
+        }
+        Err(FileFault::Memory) => Err(AllocError),
+    }
 }
 
 /// The hint of the verdict on the network of a text: of a flow that is not well routed its way to where it goes wrong, and what to
@@ -93,44 +130,7 @@ pub fn verdict_hint<W: VerdictWorkers>(
 ) -> Result<Option<String>, AllocError>
     ensures { IfOk result (λ o. IsVerdictHint path.now text.now o) }
 {
-    match read_network(alloc, text) {
-        Ok(network) => {
-            let hint = network_hint(workers, alloc, path, &network);
-            drop(network);
-            hint
-        }
-        Err(FileFault::Text(_)) => Ok(None),
-        Err(FileFault::Memory) => Err(AllocError),
-    }
-}
-
-// Of what is told of a network, if a flow is not well routed.
-fn misrouted_hint_by(
-    alloc: Global,
-    path: &str,
-    network: &Network,
-    explanation: &Explanation,
-) -> Result<Option<String>, AllocError>
-    requires { IsExplanation network.now explanation.now }
-    ensures { IfOk result (λ o. option_map string_bytes o ≡ misrouted_hint_by path.now network.now explanation.now) }
-{
-    match explanation {
-        Explanation::Misrouted { .. } => hint_by(alloc, path, network, explanation),
-        Explanation::Free | Explanation::Cyclic(_) => Ok(None),
-    }
-}
-
-// Of a network, if a flow is not well routed.
-fn misrouted_network_hint<W: VerdictWorkers>(
-    workers: &W,
-    alloc: Global,
-    path: &str,
-    network: &Network,
-) -> Result<Option<String>, AllocError>
-    ensures { IfOk result (λ o. IsMisroutedHintFor path.now network.now (option_map string_bytes o)) }
-{
-    let explanation = explain(workers, alloc, network)?;
-    misrouted_hint_by(alloc, path, network, &explanation)
+    text_hint(workers, alloc, path, text, Hinted::Each)
 }
 
 /// The hint of the first flow that is not well routed in the network of a text, as `verdict_hint` tells it; none where each is, also
@@ -149,13 +149,5 @@ pub fn misrouted_verdict_hint<W: VerdictWorkers>(
 ) -> Result<Option<String>, AllocError>
     ensures { IfOk result (λ o. IsMisroutedHint path.now text.now o) }
 {
-    match read_network(alloc, text) {
-        Ok(network) => {
-            let hint = misrouted_network_hint(workers, alloc, path, &network);
-            drop(network);
-            hint
-        }
-        Err(FileFault::Text(_)) => Ok(None),
-        Err(FileFault::Memory) => Err(AllocError),
-    }
+    text_hint(workers, alloc, path, text, Hinted::MisroutedAlone)
 }

@@ -1,7 +1,6 @@
-//! The files of a run.
+//! The files of a case.
 
 use std::io::ErrorKind;
-use std::rt::Files;
 use std::{fs, io};
 use sw_config::Network;
 use sw_file::read_network;
@@ -12,7 +11,10 @@ pub(crate) fn no_text() -> io::Error {
 }
 
 /// The network that the file declares.
-pub(crate) fn network_of<R: Files + AllocGlobal>(rt: &R, file: &str) -> io::Result<Network> {
+pub(crate) fn network_of(rt: &HostRuntime, file: &str) -> io::Result<Network> {
     let text = fs::read(rt, file)?;
-    read_network(rt.alloc(), &text).map_err(|_| no_text())
+    match read_network(rt.alloc(), &text) {
+        Ok(network) => Ok(network),
+        Err(_) => Err(no_text()),
+    }
 }

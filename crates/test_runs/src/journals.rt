@@ -1,21 +1,54 @@
 //! Steps of a journal that are tried one by one, and by two threads. How loads run to their end, by one worker too, is rows of `tests/run.rows`.
+ghost use Rattle.sw_load.specs.Laws.{AreDeclared};
 
 mod pair;
-pub(crate) mod show;
-mod told;
-mod tried;
-mod two_threads;
+pub(crate) mod tried;
+pub(crate) mod two_threads;
 
-use crate::work::{ThreadsWork, show_work_by_threads};
+use crate::journals::pair::Pair;
+use crate::journals::tried::{Trial, show_tried};
+use crate::journals::two_threads::{Shared, TwoThreads, show_two_threads};
 use std::io;
-use std::rt::Files;
 use std::sync::Wait;
 use std::thread::Threads;
+use sw_config::Network;
+use sw_load::Load;
 
-/// Prints what came of each step that was tried.
-pub(crate) fn show_journals<R: Files + Print + AllocGlobal + Threads + Wait + Sync>(
-    rt: &R,
+/// What is done with a journal of two nodes, the first of which has one packet to send.
+#[derive(Clone, Copy)]
+pub(crate) enum JournalWork {
+    /// Steps are tried one by one.
+    Try(&'static [Trial]),
+    /// Two threads make steps.
+    ByTwo(TwoThreads),
+}
+
+fn show_shared<R: Threads + Wait + Sync>(
+    rt: &HostRuntime,
+    threads: &R,
+    shared: &Shared<'_>,
+    work: JournalWork,
 ) -> io::Result<()> {
-    println!(rt; "> try line.toml line.load")?;
-    show_work_by_threads(rt, "line.toml", "line.load", ThreadsWork::Steps)
+    match work {
+        JournalWork::Try(trials) => show_tried(rt, &mut shared.pair.lock(threads), trials),
+        JournalWork::ByTwo(work) => show_two_threads(rt, threads, shared, work),
+    }
+}
+
+/// Does it with a journal of so many steps at most, and prints what came of it.
+pub(crate) fn show_journal<R: Threads + Wait + Sync>(
+    rt: &HostRuntime,
+    threads: &R,
+    network: &Network,
+    load: &Load,
+    limit: usize,
+    work: JournalWork,
+) -> io::Result<()>
+    requires { AreDeclared network.now load.now }
+{
+    let pair = Pair::open(rt.alloc(), network, load, limit)?;
+    let shared = Shared::new(rt.alloc(), pair);
+    let shown = show_shared(rt, threads, &shared, work);
+    drop(shared);
+    shown
 }

@@ -2,26 +2,27 @@
 //! and by the engine of `swcheck run`, with a gate at which the workers wait for one another. It prints what came of them.
 #![tactic(auto)]
 
-mod calls;
+mod cases;
+mod engine;
 mod files;
 mod journals;
+mod moves;
 mod nets;
+mod numbers;
 mod runs;
 mod together;
 mod work;
 
-use crate::calls::gated::show_gated;
-use crate::journals::show_journals;
-use crate::nets::show_nets;
-use crate::runs::show_runs;
+use crate::cases::SECTIONS;
+use crate::engine::show_engine;
+use crate::work::show_cases;
 use std::io;
 
 fn main(rt: HostRuntime) -> io::Result<()> {
-    show_nets(&rt)?;
-    println!(rt; "# steps of journals")?;
-    show_journals(&rt)?;
-    println!(rt; "# runs by threads")?;
-    show_runs(&rt)?;
-    println!(rt; "# the engine of run")?;
-    show_gated(&rt, "turn.toml", "turn.load")
+    for &(heading, cases) in SECTIONS {
+        print!(rt; "{heading}")?;
+        show_cases(&rt, &rt, cases)?;
+    }
+    println!(rt; "# the engine of run\n> turn.toml turn.load together")?;
+    show_engine(&rt, &rt, "turn.toml", "turn.load")
 }

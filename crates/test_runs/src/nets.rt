@@ -1,76 +1,63 @@
-//! The network core and what stands on it: loads that are drained, the limits of histories, loads whose packets begin as soon as they
-//! can, and single calls.
+//! The network core and what stands on it, each time from the empty state on.
+ghost use Rattle.sw_load.specs.Laws.{AreDeclared};
+ghost use Rattle.sw_net.specs.New.{IsNewNet};
 
 pub(crate) mod calls;
-mod drained;
-pub(crate) mod drains;
-pub(crate) mod limits;
+pub(crate) mod drained;
 mod show;
-mod stepping;
-pub(crate) mod waiting;
+mod waiting;
 
-use crate::nets::drains::SAMPLES;
-use crate::work::{Work, show_work};
+use crate::nets::calls::{Call, show_calls};
+use crate::nets::drained::{Bounds, Choice, show_drain};
+use crate::nets::waiting::show_waiting;
 use std::io;
-use std::rt::Files;
+use sw_arb::Policy;
+use sw_config::Network;
+use sw_load::Load;
+use sw_net::{Net, SwitchRoutes, declared_net};
 
-/// Networks, each with a load whose limit is told.
-static LIMITS: &[(&str, &str)] = &[
-    ("line.toml", "line.load"),
-    ("turn.toml", "turn.load"),
-    ("rmap.toml", "rmap.load"),
-];
+/// The core of a network as its file declares it.
+pub(crate) type Core<'n> = Net<'n, SwitchRoutes<'n>, Policy>;
 
-/// Networks, each with a load whose packets begin as soon as they can.
-static LOADS: &[(&str, &str)] = &[
-    ("line.toml", "line.load"),
-    ("line8.toml", "long.load"),
-    ("star.toml", "star.load"),
-    ("region.toml", "region.load"),
-    ("group.toml", "group.load"),
-    ("bad.toml", "faults.load"),
-    ("turn.toml", "one_each.load"),
-    ("turn.toml", "turn.load"),
-    ("ring.toml", "turn.load"),
-    ("duel.toml", "answers.load"),
-    ("rmap.toml", "rmap.load"),
-    ("rmap2.toml", "rmap.load"),
-    ("mixed.toml", "mixed.load"),
-];
-
-// What came out at the nodes of each network, and whether the number of steps is within its bounds.
-fn show_drains<R: Files + Print + AllocGlobal>(rt: &R) -> io::Result<()> {
-    for sample in &SAMPLES {
-        let load = sample.load;
-        println!(rt; "> {load}")?;
-        show_work(rt, sample.network, load, Work::Drains(sample))?;
-    }
-    Ok(())
+/// What is done with the core.
+#[derive(Clone, Copy)]
+pub(crate) enum CoreWork {
+    /// It is drained of the load, with the link ends so chosen.
+    Drain(&'static Bounds, Choice),
+    /// The load's packets begin as soon as they can.
+    Wait,
+    /// Single calls are made.
+    Make(&'static [Call]),
 }
 
-// For each load the limit that no history of it reaches.
-fn show_limits<R: Files + Print + AllocGlobal>(rt: &R) -> io::Result<()> {
-    for &(network, load) in LIMITS {
-        print!(rt; "{load} ")?;
-        show_work(rt, network, load, Work::Limit)?;
+fn show_steps<'n>(
+    rt: &HostRuntime,
+    network: &'n Network,
+    net: &mut Core<'n>,
+    load: &Load,
+    work: CoreWork,
+) -> io::Result<()>
+    requires new { IsNewNet network.now net.old }
+    requires packets { AreDeclared network.now load.now }
+{
+    match work {
+        CoreWork::Drain(bounds, choice) => show_drain(rt, network, net, load, bounds, choice),
+        CoreWork::Wait => show_waiting(rt, net, load),
+        CoreWork::Make(calls) => show_calls(rt, net, calls),
     }
-    Ok(())
 }
 
-// For each load how many steps were made, what is left, and what came out.
-fn show_waitings<R: Files + Print + AllocGlobal>(rt: &R) -> io::Result<()> {
-    println!(rt; "> packets that begin as soon as they can")?;
-    for &(network, load) in LOADS {
-        print!(rt; "{network} {load}: ")?;
-        show_work(rt, network, load, Work::Waiting)?;
-    }
-    Ok(())
-}
-
-/// Prints what all of these answer.
-pub(crate) fn show_nets<R: Files + Print + AllocGlobal>(rt: &R) -> io::Result<()> {
-    show_drains(rt)?;
-    show_limits(rt)?;
-    show_waitings(rt)?;
-    show_work(rt, "line.toml", "line.load", Work::Calls)
+/// Does it with the network's core in its empty state, and prints what came of it.
+pub(crate) fn show_core(
+    rt: &HostRuntime,
+    network: &Network,
+    load: &Load,
+    work: CoreWork,
+) -> io::Result<()>
+    requires { AreDeclared network.now load.now }
+{
+    let mut net = declared_net(rt.alloc(), network)?;
+    let shown = show_steps(rt, network, &mut net, load, work);
+    drop(net);
+    shown
 }

@@ -1,36 +1,39 @@
 //! Runs of loads on their networks: in which order inputs are granted by one worker, and twelve workers that wait for one another. How
 //! runs end by other numbers of workers is rows of `tests/run.rows`.
+ghost use Rattle.sw_load.specs.Laws.{AreDeclared};
 
-pub(crate) mod gated;
-pub(crate) mod grants;
-pub(crate) mod outcomes;
-mod show;
+mod gated;
+mod grants;
 
-use crate::work::{ThreadsWork, show_work_by_threads};
+use crate::runs::gated::show_gated;
+use crate::runs::grants::show_grants;
 use std::io;
-use std::rt::Files;
 use std::sync::Wait;
 use std::thread::Threads;
+use sw_config::Network;
+use sw_load::Load;
 
-/// Networks that differ in the kind of their switch's arbiters alone.
-static ARBITRATIONS: &[&str] = &["fixed.toml", "round_robin.toml", "least_recent.toml"];
-
-/// Three inputs of a switch ask for one output.
-fn show_arbitrations<R: Files + Print + AllocGlobal + Threads + Wait + Sync>(
-    rt: &R,
-) -> io::Result<()> {
-    for &network in ARBITRATIONS {
-        println!(rt; "> {network} grants.load")?;
-        show_work_by_threads(rt, network, "grants.load", ThreadsWork::Order)?;
-    }
-    Ok(())
+/// What is run.
+#[derive(Clone, Copy)]
+pub(crate) enum RunWork {
+    /// One worker, and the packets are shown as they came out.
+    Order,
+    /// As many workers as link ends, which wait for one another.
+    Together,
 }
 
-/// Prints how each run ended.
-pub(crate) fn show_runs<R: Files + Print + AllocGlobal + Threads + Wait + Sync>(
-    rt: &R,
-) -> io::Result<()> {
-    show_arbitrations(rt)?;
-    println!(rt; "> turn.toml turn.load together")?;
-    show_work_by_threads(rt, "turn.toml", "turn.load", ThreadsWork::Gated)
+/// Runs the load with a limit that is enough, and prints what came of it.
+pub(crate) fn show_run<R: Threads + Wait + Sync>(
+    rt: &HostRuntime,
+    threads: &R,
+    network: &Network,
+    load: &Load,
+    work: RunWork,
+) -> io::Result<()>
+    requires { AreDeclared network.now load.now }
+{
+    match work {
+        RunWork::Order => show_grants(rt, threads, network, load),
+        RunWork::Together => show_gated(rt, threads, network, load),
+    }
 }

@@ -1,6 +1,6 @@
 //! The gate.
 
-use std::sync::atomic::{AtomicBool, AtomicUsize, Ordering};
+use std::sync::atomic::{AtomicBool, AtomicU64, Ordering};
 use std::thread;
 use sw_cell::CellId;
 use sw_run::Gate;
@@ -8,8 +8,19 @@ use sw_run::Gate;
 /// So often a worker looks before it gives up.
 const LOOKS: usize = 10_000_000;
 
-/// So many cells there are.
-const CELLS: usize = 6;
+/// The bits of all cells.
+const ALL: u64 = 0b11_1111;
+
+/// What a worker waits for.
+#[derive(Clone, Copy)]
+enum Awaited {
+    /// A decision on each cell.
+    All,
+    /// That, and a step of switch 1.
+    Step,
+    /// One more decision on switch 1.
+    Again,
+}
 
 /// Lets the first decision on each cell wait until there is one on each of the six cells: so each
 /// cell is decided under a lock of its own, by a thread of its own. That on switch 0 then waits
@@ -18,29 +29,29 @@ const CELLS: usize = 6;
 /// of three nodes and three switches.
 #[derive(Drop)]
 pub struct Together {
-    nodes: [AtomicBool; 3],
-    switches: [AtomicBool; 3],
-    raised: AtomicUsize,
+    decided: AtomicU64,
     stepped: AtomicBool,
     decided_again: AtomicBool,
     late: AtomicBool,
+}
+
+/// The cell's bit.
+fn bit_of(cell: CellId) -> u64 {
+    match cell {
+        CellId::Node(0) => 1,
+        CellId::Node(1) => 2,
+        CellId::Node(_) => 4,
+        CellId::Switch(0) => 8,
+        CellId::Switch(1) => 16,
+        CellId::Switch(_) => 32,
+    }
 }
 
 impl Together {
     /// A gate at which no cell was decided yet.
     pub fn new() -> Together {
         Together {
-            nodes: [
-                AtomicBool::new(false),
-                AtomicBool::new(false),
-                AtomicBool::new(false),
-            ],
-            switches: [
-                AtomicBool::new(false),
-                AtomicBool::new(false),
-                AtomicBool::new(false),
-            ],
-            raised: AtomicUsize::new(0),
+            decided: AtomicU64::new(0),
             stepped: AtomicBool::new(false),
             decided_again: AtomicBool::new(false),
             late: AtomicBool::new(false),
@@ -54,44 +65,27 @@ impl Together {
 
     /// Whether each of the cells was decided.
     pub fn have_all_come(&self) -> bool {
-        self.raised.load(Ordering::SeqCst) == CELLS
+        self.decided.load(Ordering::SeqCst) == ALL
     }
 
-    /// Raises the flag of the cell. Was it down?
+    /// Sets the bit of the cell. Was it clear?
     fn raise(&self, cell: CellId) -> bool {
-        let flag = match cell {
-            CellId::Node(n) => self.nodes.get(n as usize),
-            CellId::Switch(w) => self.switches.get(w as usize),
-        };
-        match flag {
-            Some(flag) => !flag.swap(true, Ordering::SeqCst),
-            None => false,
+        let bit = bit_of(cell);
+        self.decided.fetch_or(bit, Ordering::SeqCst) & bit == 0
+    }
+
+    fn has_come(&self, awaited: Awaited) -> bool {
+        match awaited {
+            Awaited::All => self.have_all_come(),
+            Awaited::Step => self.have_all_come() && self.stepped.load(Ordering::SeqCst),
+            Awaited::Again => self.decided_again.load(Ordering::SeqCst),
         }
     }
 
-    /// Whether all that the cell waits for has come.
-    fn may_go_on(&self, cell: CellId) -> bool {
-        if self.raised.load(Ordering::SeqCst) < CELLS {
-            return false;
-        }
-        cell != CellId::Switch(0) || self.stepped.load(Ordering::SeqCst)
-    }
-
-    /// Waits until the cell may go on. Once one worker gave up none waits.
-    fn wait(&self, cell: CellId) {
+    /// Waits until that has come. Once one worker gave up none waits.
+    fn wait(&self, awaited: Awaited) {
         for _ in 0..LOOKS {
-            if self.is_late() || self.may_go_on(cell) {
-                return;
-            }
-            thread::yield_now();
-        }
-        self.late.store(true, Ordering::SeqCst);
-    }
-
-    /// Waits until switch 1 was decided once more. Once one worker gave up none waits.
-    fn wait_for_another(&self) {
-        for _ in 0..LOOKS {
-            if self.is_late() || self.decided_again.load(Ordering::SeqCst) {
+            if self.is_late() || self.has_come(awaited) {
                 return;
             }
             thread::yield_now();
@@ -106,14 +100,18 @@ impl Gate for Together {
             self.decided_again.store(true, Ordering::SeqCst);
         }
         if self.raise(cell) {
-            self.raised.fetch_add(1, Ordering::SeqCst);
-            self.wait(cell);
+            let awaited = if cell == CellId::Switch(0) {
+                Awaited::Step
+            } else {
+                Awaited::All
+            };
+            self.wait(awaited);
         }
     }
 
     fn committed(&self, cell: CellId) {
         if cell == CellId::Switch(1) && !self.stepped.swap(true, Ordering::SeqCst) {
-            self.wait_for_another();
+            self.wait(Awaited::Again);
         }
     }
 }

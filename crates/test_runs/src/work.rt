@@ -1,110 +1,96 @@
 //! What is done with the files of a network and a load. One function alone owns the network: a path that drops one is dear to prove.
+ghost use Rattle.sw_load.specs.Laws.{AreDeclared};
 
-use crate::files::network_of;
-use crate::journals::show::show_steps;
-use crate::nets::calls::show_calls;
-use crate::nets::drains::{Sample, show_sample};
-use crate::nets::limits::show_limit;
-use crate::nets::waiting::show_waiting;
-use crate::runs::gated::show_gated;
-use crate::runs::grants::show_grants;
-use std::rt::Files;
+use crate::files::{network_of, no_text};
+use crate::journals::{JournalWork, show_journal};
+use crate::nets::{CoreWork, show_core};
+use crate::runs::{RunWork, show_run};
 use std::sync::Wait;
 use std::thread::Threads;
 use std::{fs, io};
 use sw_config::Network;
+use sw_load::laws::listed_are_declared;
+use sw_load::{Load, enough_limit, read_load};
 
-/// What is done with a network and a load in one thread.
+/// What is printed before, the files of a network and of a load, and what is done with them.
+pub(crate) type Case = (&'static str, &'static str, &'static str, Work);
+
+/// What is done with a network and a load.
 #[derive(Clone, Copy)]
 pub(crate) enum Work {
-    /// The network is drained of the load.
-    Drains(&'static Sample),
     /// The limit that no history of the load reaches is told.
     Limit,
-    /// The load's packets begin as soon as they can.
-    Waiting,
-    /// Single calls of the core are made. There is nothing to do with the load.
-    Calls,
+    /// The network's core makes steps from its empty state on.
+    Core(CoreWork),
+    /// Steps of a journal of the load are tried, which has so many steps at most.
+    Journal(usize, JournalWork),
+    /// The load is run by threads.
+    Run(RunWork),
 }
 
-/// What is done with a network and a load by threads.
-#[derive(Clone, Copy)]
-pub(crate) enum ThreadsWork {
-    /// Steps of the load's journal are tried one by one, and by two threads.
-    Steps,
-    /// It runs with one worker, and the packets are shown as they came out.
-    Order,
-    /// It runs with workers that wait for one another.
-    Gated,
+fn show_limit(rt: &HostRuntime, network: &Network, load: &Load) -> io::Result<()>
+    requires { AreDeclared network.now load.now }
+{
+    let limit = enough_limit(network, load);
+    println!(rt; "{limit}")
 }
 
-fn show_text<R: Files + Print + AllocGlobal>(
-    rt: &R,
+fn show_load<R: Threads + Wait + Sync>(
+    rt: &HostRuntime,
+    threads: &R,
     network: &Network,
-    load: &[u8],
+    load: &Load,
     work: Work,
-) -> io::Result<()> {
+) -> io::Result<()>
+    requires { AreDeclared network.now load.now }
+{
     match work {
-        Work::Drains(sample) => show_sample(rt, network, load, sample),
         Work::Limit => show_limit(rt, network, load),
-        Work::Waiting => show_waiting(rt, network, load),
-        Work::Calls => show_calls(rt, network),
+        Work::Core(work) => show_core(rt, network, load, work),
+        Work::Journal(limit, work) => show_journal(rt, threads, network, load, limit, work),
+        Work::Run(work) => show_run(rt, threads, network, load, work),
     }
 }
 
-fn show_text_by_threads<R: Print + AllocGlobal + Threads + Wait + Sync>(
-    rt: &R,
+// Does it with the load that the file declares.
+fn show_read<R: Threads + Wait + Sync>(
+    rt: &HostRuntime,
+    threads: &R,
     network: &Network,
-    load: &[u8],
-    work: ThreadsWork,
+    load: &str,
+    work: Work,
 ) -> io::Result<()> {
-    match work {
-        ThreadsWork::Steps => show_steps(rt, network, load),
-        ThreadsWork::Order => show_grants(rt, network, load),
-        ThreadsWork::Gated => show_gated(rt, network, load),
+    let text = fs::read(rt, load)?;
+    listed_are_declared();
+    match read_load(rt.alloc(), network, &text) {
+        Ok(load) => show_load(rt, threads, network, &load, work),
+        Err(_) => Err(no_text()),
     }
 }
 
-fn show_owned<R: Files + Print + AllocGlobal>(
-    rt: &R,
-    network: Network,
-    load: &[u8],
-    work: Work,
-) -> io::Result<()> {
-    let shown = show_text(rt, &network, load, work);
-    drop(network);
-    shown
-}
-
-fn show_owned_by_threads<R: Print + AllocGlobal + Threads + Wait + Sync>(
-    rt: &R,
-    network: Network,
-    load: &[u8],
-    work: ThreadsWork,
-) -> io::Result<()> {
-    let shown = show_text_by_threads(rt, &network, load, work);
-    drop(network);
-    shown
-}
-
-/// Does it with the network and the load of these files, and prints what came of it.
-pub(crate) fn show_work<R: Files + Print + AllocGlobal>(
-    rt: &R,
+// Does it with the network and the load that these files declare.
+fn show_work<R: Threads + Wait + Sync>(
+    rt: &HostRuntime,
+    threads: &R,
     network: &str,
     load: &str,
     work: Work,
 ) -> io::Result<()> {
-    let load = fs::read(rt, load)?;
-    show_owned(rt, network_of(rt, network)?, &load, work)
+    let network = network_of(rt, network)?;
+    let shown = show_read(rt, threads, &network, load, work);
+    drop(network);
+    shown
 }
 
-/// Does it with the network and the load of these files, and prints what came of it.
-pub(crate) fn show_work_by_threads<R: Files + Print + AllocGlobal + Threads + Wait + Sync>(
-    rt: &R,
-    network: &str,
-    load: &str,
-    work: ThreadsWork,
+/// Prints what comes of each case. `threads` is the same as `rt`, which is known to start threads and to wait in `main` alone.
+pub(crate) fn show_cases<R: Threads + Wait + Sync>(
+    rt: &HostRuntime,
+    threads: &R,
+    cases: &[Case],
 ) -> io::Result<()> {
-    let load = fs::read(rt, load)?;
-    show_owned_by_threads(rt, network_of(rt, network)?, &load, work)
+    for &(title, network, load, work) in cases {
+        print!(rt; "{title}")?;
+        show_work(rt, threads, network, load, work)?;
+    }
+    Ok(())
 }

@@ -1,16 +1,14 @@
 //! A journal of two nodes that are joined by a link.
-ghost use Rattle.std.specs.Prelude.{◌≡◌};
+ghost use Rattle.std.specs.Prelude.{◌≡◌, All};
 ghost use Rattle.sw_load.specs.Laws.{AreDeclared};
 ghost use Rattle.test_runs.specs.Names.{IsSameRun};
 
-use crate::files::no_text;
+use crate::moves::Move;
 use std::alloc::{AllocError, Global};
-use std::io;
 use sw_cell::CellId;
 use sw_config::Network;
 use sw_journal::{Cell, Journal, JournalFault, Part};
 use sw_load::Load;
-use sw_model::Step;
 use sw_net::Numbers;
 use sw_topo::LinkEnd;
 
@@ -29,6 +27,14 @@ impl Side {
             Side::Second => 1,
         }
     }
+
+    /// The name of the node's link end.
+    pub(crate) fn name(self) -> &'static str {
+        match self {
+            Side::First => "link end 0",
+            Side::Second => "link end 1",
+        }
+    }
 }
 
 /// A journal of two nodes that are joined by a link, and their cells.
@@ -36,11 +42,9 @@ impl Side {
 pub(crate) struct Pair<'n> {
     network: &'n Network,
     journal: Journal<'n>,
-    first: Cell,
-    second: Cell,
+    cells: Vec<Cell>,
     ghost network_is: { journal.declared ≡ network.now },
-    ghost first_is: { first.name ≡ journal.name },
-    ghost second_is: { second.name ≡ journal.name },
+    ghost cells_are: { All (λ c. c.name ≡ journal.name) cells.items },
 }
 
 // Whether the link end is one of the cell's, and idle: then that is marked.
@@ -58,50 +62,50 @@ impl<'n> Pair<'n> {
         network: &'n Network,
         load: &'n Load,
         limit: usize,
-    ) -> io::Result<Pair<'n>>
+    ) -> Result<Pair<'n>, AllocError>
         requires { AreDeclared network.now load.now }
     {
-        let (journal, mut cells) = Journal::new(alloc, network, load, limit)?;
-        let (Some(second), Some(first)) = (cells.pop(), cells.pop()) else {
-            return Err(no_text());
-        };
+        let (journal, cells) = Journal::new(alloc, network, load, limit)?;
         Ok(Pair {
             network,
             journal,
-            first,
-            second,
+            cells,
         })
     }
 
     /// Makes the step at the cell of that node.
-    pub(crate) fn commit(
+    pub(crate) fn make(
         &mut self,
         alloc: Global,
         side: Side,
-        step: Step,
+        tried: Move,
     ) -> Result<(), JournalFault> {
-        match side {
-            Side::First => self.journal.commit(alloc, &mut self.first, step),
-            Side::Second => self.journal.commit(alloc, &mut self.second, step),
+        let place = side.number() as usize;
+        if place >= self.cells.len() {
+            return Err(JournalFault::NotEnabled);
+        }
+        match tried.step(alloc) {
+            Ok(step) => self.journal.commit(alloc, &mut self.cells[place], step),
+            Err(_) => Err(JournalFault::Memory),
         }
     }
 
     /// The numbers of the node's link end.
     pub(crate) fn numbers(&self, side: Side) -> Option<Numbers> {
-        let end = LinkEnd::new(side.number());
-        match side {
-            Side::First => self.first.numbers(end),
-            Side::Second => self.second.numbers(end),
+        match self.cells.get(side.number() as usize) {
+            Some(cell) => cell.numbers(LinkEnd::new(side.number())),
+            None => None,
         }
     }
 
     /// Whether the node's link end is idle, which is marked then.
     pub(crate) fn declare_idle(&mut self, side: Side) -> bool {
-        let end = LinkEnd::new(side.number());
-        match side {
-            Side::First => declare_idle(&mut self.journal, &self.first, end),
-            Side::Second => declare_idle(&mut self.journal, &self.second, end),
+        let number = side.number();
+        let place = number as usize;
+        if place >= self.cells.len() {
+            return false;
         }
+        declare_idle(&mut self.journal, &self.cells[place], LinkEnd::new(number))
     }
 
     /// The mark of the node's link end.

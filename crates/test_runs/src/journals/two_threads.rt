@@ -1,15 +1,14 @@
 //! Two threads over one journal, each at a cell of its own.
 
 use crate::journals::pair::{Pair, Side};
-use crate::journals::tried::show_numbers;
+use crate::moves::Move;
+use crate::numbers::show_numbers;
 use std::alloc::Global;
 use std::sync::atomic::{AtomicU64, Ordering};
 use std::sync::{Mutex, Wait};
 use std::thread::Threads;
 use std::{io, thread};
-use sw_model::Step;
 use sw_net::Numbers;
-use sw_topo::Chan;
 
 /// So often a thread looks before it gives up.
 const LOOKS: usize = 10_000_000;
@@ -23,46 +22,69 @@ pub(crate) enum TwoThreads {
     ReadAndSend,
 }
 
-// An FCT of the second node, if it may follow.
-fn send(alloc: Global, pair: &mut Pair<'_>) -> bool {
-    let step = Step::Fct(Chan::new(0));
-    pair.commit(alloc, Side::Second, step).is_ok()
+/// What the first thread tells.
+#[derive(Clone, Copy)]
+enum Told {
+    /// It sent so many FCTs.
+    Sent(usize),
+    /// It read these numbers. Then, did it send an FCT?
+    Read(Option<Numbers>, bool),
 }
 
-// An FCT of the first node, if it may follow.
-fn send_back(alloc: Global, pair: &mut Pair<'_>) -> bool {
-    let step = Step::Fct(Chan::new(1));
-    pair.commit(alloc, Side::First, step).is_ok()
+/// What two threads share.
+#[derive(Drop)]
+pub(crate) struct Shared<'n> {
+    alloc: Global,
+    pub(crate) pair: Mutex<Pair<'n>>,
+    turns: AtomicU64,
 }
 
-// The first node takes an FCT, if one is under way.
-fn take(alloc: Global, pair: &mut Pair<'_>) -> bool {
-    let step = Step::FctIn(Chan::new(0));
-    pair.commit(alloc, Side::First, step).is_ok()
+impl<'n> Shared<'n> {
+    /// The pair, with no turn over.
+    pub(crate) fn new(alloc: Global, pair: Pair<'n>) -> Shared<'n> {
+        Shared {
+            alloc,
+            pair: Mutex::new(pair),
+            turns: AtomicU64::new(0),
+        }
+    }
+
+    // Makes the step at that node, if it may follow.
+    fn makes<R: Wait>(&self, rt: &R, side: Side, tried: Move) -> bool {
+        self.pair.lock(rt).make(self.alloc, side, tried).is_ok()
+    }
+
+    fn end_turn(&self, count: u64) {
+        self.turns.store(count, Ordering::SeqCst);
+    }
+
+    // Waits until so many turns are over. Are they?
+    fn wait_for(&self, count: u64) -> bool {
+        for _ in 0..LOOKS {
+            if self.turns.load(Ordering::SeqCst) == count {
+                return true;
+            }
+            thread::yield_now();
+        }
+        false
+    }
 }
 
 // How many of eight FCTs the second node sends.
-fn send_all<R: Wait>(rt: &R, alloc: Global, pair: &Mutex<Pair<'_>>) -> usize {
-    (0..8usize)
-        .filter(|_| send(alloc, &mut pair.lock(rt)))
-        .count()
+fn send_all<R: Wait>(rt: &R, shared: &Shared<'_>) -> usize {
+    let mut sent: usize = 0;
+    for _ in 0..8usize {
+        if shared.makes(rt, Side::Second, Move::Fct(0)) {
+            sent = sent.saturating_add(1);
+        }
+    }
+    sent
 }
 
 // Whether the first node takes one.
-fn take_one<R: Wait>(rt: &R, alloc: Global, pair: &Mutex<Pair<'_>>) -> bool {
+fn takes_one<R: Wait>(rt: &R, shared: &Shared<'_>) -> bool {
     for _ in 0..LOOKS {
-        if take(alloc, &mut pair.lock(rt)) {
-            return true;
-        }
-        thread::yield_now();
-    }
-    false
-}
-
-// Waits until so many turns are over. Are they?
-fn wait_for(turns: &AtomicU64, count: u64) -> bool {
-    for _ in 0..LOOKS {
-        if turns.load(Ordering::SeqCst) == count {
+        if shared.makes(rt, Side::First, Move::FctIn(0)) {
             return true;
         }
         thread::yield_now();
@@ -71,68 +93,75 @@ fn wait_for(turns: &AtomicU64, count: u64) -> bool {
 }
 
 // Reads the numbers of the second node's link end in the first turn, and sends an FCT of that node after the second.
-fn read_and_send<R: Wait>(
-    rt: &R,
-    alloc: Global,
-    pair: &Mutex<Pair<'_>>,
-    turns: &AtomicU64,
-) -> (Option<Numbers>, bool) {
-    let numbers = pair.lock(rt).numbers(Side::Second);
-    turns.store(1, Ordering::SeqCst);
-    let is_sent = wait_for(turns, 2) && send(alloc, &mut pair.lock(rt));
-    (numbers, is_sent)
+fn read_and_send<R: Wait>(rt: &R, shared: &Shared<'_>) -> Told {
+    let numbers = shared.pair.lock(rt).numbers(Side::Second);
+    shared.end_turn(1);
+    let is_sent = shared.wait_for(2) && shared.makes(rt, Side::Second, Move::Fct(0));
+    Told::Read(numbers, is_sent)
 }
 
-// Sends an FCT of the first node in the second turn.
-fn send_between<R: Wait>(rt: &R, alloc: Global, pair: &Mutex<Pair<'_>>, turns: &AtomicU64) -> bool {
-    let is_sent = wait_for(turns, 1) && send_back(alloc, &mut pair.lock(rt));
-    turns.store(2, Ordering::SeqCst);
+// Sends an FCT of the first node in the second turn. Is it sent?
+fn sends_between<R: Wait>(rt: &R, shared: &Shared<'_>) -> bool {
+    let is_sent = shared.wait_for(1) && shared.makes(rt, Side::First, Move::Fct(1));
+    shared.end_turn(2);
     is_sent
 }
 
-fn show_ends(rt: &impl Print, pair: &Pair<'_>) -> io::Result<()> {
-    show_numbers(rt, 0, pair.numbers(Side::First))?;
-    show_numbers(rt, 1, pair.numbers(Side::Second))
+fn first_thread<R: Wait>(rt: &R, shared: &Shared<'_>, work: TwoThreads) -> Told {
+    match work {
+        TwoThreads::SendAndTake => Told::Sent(send_all(rt, shared)),
+        TwoThreads::ReadAndSend => read_and_send(rt, shared),
+    }
 }
 
-fn show_shared<R: Print + AllocGlobal + Threads + Wait + Sync>(
-    rt: &R,
-    pair: &Mutex<Pair<'_>>,
+fn second_thread<R: Wait>(rt: &R, shared: &Shared<'_>, work: TwoThreads) -> bool {
+    match work {
+        TwoThreads::SendAndTake => takes_one(rt, shared),
+        TwoThreads::ReadAndSend => sends_between(rt, shared),
+    }
+}
+
+fn show_end<R: Wait>(
+    rt: &HostRuntime,
+    threads: &R,
+    shared: &Shared<'_>,
+    side: Side,
 ) -> io::Result<()> {
-    let alloc = rt.alloc();
-    show_ends(rt, &pair.lock(rt))?;
-    let (sent, taken) = thread::join(
-        rt,
-        || send_all(rt, alloc, pair),
-        || take_one(rt, alloc, pair),
-    );
-    println!(rt; "sent {sent}, one taken {taken}")?;
-    show_ends(rt, &pair.lock(rt))
+    let numbers = shared.pair.lock(threads).numbers(side);
+    show_numbers(rt, side.name(), numbers)
 }
 
-fn show_between<R: Print + AllocGlobal + Threads + Wait + Sync>(
-    rt: &R,
-    pair: &Mutex<Pair<'_>>,
-) -> io::Result<()> {
-    let (alloc, turns) = (rt.alloc(), AtomicU64::new(0));
-    let ((numbers, own), other) = thread::join(
-        rt,
-        || read_and_send(rt, alloc, pair, &turns),
-        || send_between(rt, alloc, pair, &turns),
-    );
-    show_numbers(rt, 1, numbers)?;
-    println!(rt; "another sent one {other}, then one sent {own}")?;
-    show_ends(rt, &pair.lock(rt))
+// Prints the numbers of both cells.
+fn show_ends<R: Wait>(rt: &HostRuntime, threads: &R, shared: &Shared<'_>) -> io::Result<()> {
+    show_end(rt, threads, shared, Side::First)?;
+    show_end(rt, threads, shared, Side::Second)
 }
 
-/// Two threads do this: prints the numbers that were read, and those of both cells after.
-pub(crate) fn show_two_threads<R: Print + AllocGlobal + Threads + Wait + Sync>(
-    rt: &R,
-    pair: &Mutex<Pair<'_>>,
+fn show_read(rt: &HostRuntime, numbers: Option<Numbers>, own: bool, other: bool) -> io::Result<()> {
+    show_numbers(rt, Side::Second.name(), numbers)?;
+    println!(rt; "another sent one {other}, then one sent {own}")
+}
+
+fn show_told(rt: &HostRuntime, first: Told, second: bool) -> io::Result<()> {
+    match first {
+        Told::Sent(sent) => println!(rt; "sent {sent}, one taken {second}"),
+        Told::Read(numbers, sent) => show_read(rt, numbers, sent, second),
+    }
+}
+
+/// Prints what the two threads tell, and the numbers of both cells before and after.
+pub(crate) fn show_two_threads<R: Threads + Wait + Sync>(
+    rt: &HostRuntime,
+    threads: &R,
+    shared: &Shared<'_>,
     work: TwoThreads,
 ) -> io::Result<()> {
-    match work {
-        TwoThreads::SendAndTake => show_shared(rt, pair),
-        TwoThreads::ReadAndSend => show_between(rt, pair),
-    }
+    show_ends(rt, threads, shared)?;
+    let (first, second) = thread::join(
+        threads,
+        || first_thread(threads, shared, work),
+        || second_thread(threads, shared, work),
+    );
+    show_told(rt, first, second)?;
+    show_ends(rt, threads, shared)
 }

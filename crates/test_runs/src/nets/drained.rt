@@ -1,32 +1,52 @@
 //! Networks that are drained.
+ghost use Rattle.std.specs.Prelude.{◌≡◌, IfOk};
 ghost use Rattle.sw_load.specs.Laws.{AreDeclared};
+ghost use Rattle.sw_net.specs.New.{IsNewNet};
 
-use crate::nets::drains::Sample;
-use crate::nets::stepping::Core;
-use std::io;
+use crate::files::no_text;
+use crate::nets::Core;
+use std::{fs, io};
 use sw_cert::Certificate;
 use sw_check::{Passed, check};
 use sw_config::Network;
 use sw_history::drain;
-use sw_load::laws::listed_are_declared;
-use sw_load::{Load, read_load};
-use sw_net::declared_net;
+use sw_load::Load;
 use sw_parallel::OneByOne;
+
+/// The file of a network's certificate, and the least and the most steps other than beginnings.
+pub(crate) struct Bounds {
+    pub(crate) certificate: &'static str,
+    pub(crate) least: u64,
+    pub(crate) most: u64,
+}
 
 /// Which of the link ends that can make a step makes it.
 #[derive(Clone, Copy)]
-enum Choice {
+pub(crate) enum Choice {
     First,
     Last,
     /// A number that none of them has.
     OutOfRange,
 }
 
-static CHOICES: &[(&str, Choice)] = &[
-    ("first", Choice::First),
-    ("last", Choice::Last),
-    ("out of range", Choice::OutOfRange),
-];
+fn certificate_of(rt: &HostRuntime, file: &str) -> io::Result<Certificate> {
+    let text = fs::read(rt, file)?;
+    match Certificate::read(rt.alloc(), &text) {
+        Ok(certificate) => Ok(certificate),
+        Err(_) => Err(no_text()),
+    }
+}
+
+// That the network passes with the certificate that the file has.
+fn passed_of<'n>(rt: &HostRuntime, network: &'n Network, file: &str) -> io::Result<Passed<'n>>
+    ensures { IfOk result (λ passed. passed ≡ network.entry.now) }
+{
+    let certificate = certificate_of(rt, file)?;
+    match check(&OneByOne, network, &certificate) {
+        Ok(passed) => Ok(passed),
+        Err(_) => Err(no_text()),
+    }
+}
 
 fn number_among(choice: Choice, count: usize) -> usize {
     match choice {
@@ -36,7 +56,8 @@ fn number_among(choice: Choice, count: usize) -> usize {
     }
 }
 
-fn show_packets<R: Print + AllocGlobal>(rt: &R, net: &Core<'_>) -> io::Result<()> {
+// How many packets came out at each node.
+fn show_counts(rt: &HostRuntime, net: &Core<'_>) -> io::Result<()> {
     for node in 0..net.network().nodes() {
         let count = net.came_out(rt.alloc(), node)?.len();
         print!(rt; " {count}")?;
@@ -44,72 +65,27 @@ fn show_packets<R: Print + AllocGlobal>(rt: &R, net: &Core<'_>) -> io::Result<()
     Ok(())
 }
 
-fn show_drained<R: Print + AllocGlobal>(
-    rt: &R,
-    net: &Core<'_>,
-    steps: u64,
-    sample: &Sample,
-) -> io::Result<()> {
-    show_packets(rt, net)?;
+fn show_drained(rt: &HostRuntime, net: &Core<'_>, steps: u64, bounds: &Bounds) -> io::Result<()> {
+    show_counts(rt, net)?;
     let left = net.undelivered();
-    let within = sample.least <= steps && steps <= sample.most;
+    let within = bounds.least <= steps && steps <= bounds.most;
     println!(rt; ", {left} left, steps within bounds: {within}")
 }
 
-fn show_drain<R: Print + AllocGlobal>(
-    rt: &R,
-    passed: &Passed<'_>,
+/// Prints what came out at the nodes, and whether the number of steps is within the bounds.
+pub(crate) fn show_drain<'n>(
+    rt: &HostRuntime,
+    network: &'n Network,
+    net: &mut Core<'n>,
     load: &Load,
-    sample: &Sample,
+    bounds: &Bounds,
     choice: Choice,
 ) -> io::Result<()>
-    requires { AreDeclared passed.now load.now }
+    requires new { IsNewNet network.now net.old }
+    requires packets { AreDeclared network.now load.now }
 {
-    let alloc = rt.alloc();
-    let mut net = declared_net(alloc, passed.network())?;
+    let passed = passed_of(rt, network, bounds.certificate)?;
     let pick = |count| number_among(choice, count);
-    let steps = drain(alloc, &mut net, passed, load, pick)?;
-    show_drained(rt, &net, steps, sample)
-}
-
-fn show_choices<R: Print + AllocGlobal>(
-    rt: &R,
-    passed: &Passed<'_>,
-    load: &Load,
-    sample: &Sample,
-) -> io::Result<()>
-    requires { AreDeclared passed.now load.now }
-{
-    for &(name, choice) in CHOICES {
-        print!(rt; "{name}:")?;
-        show_drain(rt, passed, load, sample, choice)?;
-    }
-    Ok(())
-}
-
-fn show_passed<R: Print + AllocGlobal>(
-    rt: &R,
-    passed: &Passed<'_>,
-    text: &[u8],
-    sample: &Sample,
-) -> io::Result<()> {
-    listed_are_declared();
-    match read_load(rt.alloc(), passed.network(), text) {
-        Ok(load) => show_choices(rt, passed, &load, sample),
-        Err(_) => println!(rt; "no load"),
-    }
-}
-
-/// Drains the network of the load that the text lists, once for each choice.
-pub(crate) fn show_drains<R: Print + AllocGlobal>(
-    rt: &R,
-    network: &Network,
-    certificate: &Certificate,
-    text: &[u8],
-    sample: &Sample,
-) -> io::Result<()> {
-    match check(&OneByOne, network, certificate) {
-        Ok(passed) => show_passed(rt, &passed, text, sample),
-        Err(_) => println!(rt; "not accepted"),
-    }
+    let steps = drain(rt.alloc(), net, &passed, load, pick)?;
+    show_drained(rt, net, steps, bounds)
 }

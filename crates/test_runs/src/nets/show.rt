@@ -1,27 +1,30 @@
 //! What a network has come to, as it is printed.
 
-use crate::nets::stepping::Core;
+use crate::nets::Core;
 use std::io;
 use sw_char::{End, Packet};
 
 // The byte that stands here many times, and nothing else.
 fn repeated_byte(bytes: &[u8]) -> Option<u8> {
-    let (first, rest) = bytes.split_first()?;
-    if rest.len() > 99 && rest.iter().all(|byte| *byte == *first) {
-        Some(*first)
-    } else {
-        None
+    let Some((&first, rest)) = bytes.split_first() else {
+        return None;
+    };
+    if rest.len() < 100 {
+        return None;
     }
+    for &byte in rest {
+        if byte != first {
+            return None;
+        }
+    }
+    Some(first)
 }
 
 // A long row of one byte is printed once, with its length.
-fn show_bytes(rt: &impl Print, bytes: &[u8]) -> io::Result<()> {
+fn show_bytes(rt: &HostRuntime, bytes: &[u8]) -> io::Result<()> {
     if let Some(byte) = repeated_byte(bytes) {
         let count = bytes.len();
         return print!(rt; "{byte:02X}*{count}");
-    }
-    if bytes.is_empty() {
-        return print!(rt; "-");
     }
     for byte in bytes {
         print!(rt; "{byte:02X}")?;
@@ -29,16 +32,17 @@ fn show_bytes(rt: &impl Print, bytes: &[u8]) -> io::Result<()> {
     Ok(())
 }
 
-fn show_packet(rt: &impl Print, name: &str, packet: &Packet) -> io::Result<()> {
+fn show_packet(rt: &HostRuntime, name: &str, packet: &Packet) -> io::Result<()> {
     print!(rt; "packet {name} ")?;
     show_bytes(rt, &packet.bytes)?;
-    match packet.end {
-        End::Eop => println!(rt; " EOP"),
-        End::Eep => println!(rt; " EEP"),
-    }
+    let end = match packet.end {
+        End::Eop => "EOP",
+        End::Eep => "EEP",
+    };
+    println!(rt; " {end}")
 }
 
-fn show_packets(rt: &impl Print, name: &str, came_out: &[Packet]) -> io::Result<()> {
+fn show_packets(rt: &HostRuntime, name: &str, came_out: &[Packet]) -> io::Result<()> {
     let count = came_out.len();
     println!(rt; "node {name} packets {count}")?;
     for packet in came_out {
@@ -47,20 +51,27 @@ fn show_packets(rt: &impl Print, name: &str, came_out: &[Packet]) -> io::Result<
     Ok(())
 }
 
-/// Prints how many characters wait, and the packets that came out at each node.
-pub(crate) fn show_parts<R: Print + AllocGlobal>(rt: &R, net: &Core<'_>) -> io::Result<()> {
+/// Prints how many characters wait.
+pub(crate) fn show_undelivered(rt: &HostRuntime, net: &Core<'_>) -> io::Result<()> {
     let waiting = net.undelivered();
-    println!(rt; "undelivered {waiting}")?;
+    println!(rt; "undelivered {waiting}")
+}
+
+/// Prints how many characters wait, and the packets that came out at each node.
+pub(crate) fn show_parts(rt: &HostRuntime, net: &Core<'_>) -> io::Result<()> {
+    show_undelivered(rt, net)?;
     let network = net.network();
     for node in 0..network.nodes() {
         let came_out = net.came_out(rt.alloc(), node)?;
-        show_packets(rt, network.node_name(node), &came_out)?;
+        let shown = show_packets(rt, network.node_name(node), &came_out);
+        drop(came_out);
+        shown?;
     }
     Ok(())
 }
 
 /// Prints the first link end that can make a step, if any can.
-pub(crate) fn show_first(rt: &impl Print, net: &Core<'_>) -> io::Result<()> {
+pub(crate) fn show_first(rt: &HostRuntime, net: &Core<'_>) -> io::Result<()> {
     match net.first_enabled() {
         Some(end) => println!(rt; "first enabled {}", end.number()),
         None => println!(rt; "first enabled none"),

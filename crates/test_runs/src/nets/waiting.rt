@@ -1,13 +1,15 @@
 //! A load whose packets each begin as soon as they can.
 
-use crate::files::no_text;
+use crate::nets::Core;
 use crate::nets::show::{show_first, show_parts};
-use crate::nets::stepping::{Core, MANY, attempt_begin, step_first};
 use std::alloc::{AllocError, Global};
 use std::io;
-use sw_config::Network;
-use sw_load::{Load, LoadPacket, read_load};
-use sw_net::declared_net;
+use sw_cell::NetFault;
+use sw_load::{Load, LoadPacket};
+use sw_model::Step;
+
+/// More steps than any run here takes.
+const MANY: u32 = 100_000;
 
 // How many packets each entry of the load has.
 fn counts(alloc: Global, load: &Load) -> Result<Vec<u16>, AllocError> {
@@ -16,6 +18,14 @@ fn counts(alloc: Global, load: &Load) -> Result<Vec<u16>, AllocError> {
         counts.push(packet.count())?;
     }
     Ok(counts)
+}
+
+fn beginning(alloc: Global, packet: &LoadPacket) -> Result<Step, AllocError> {
+    Ok(Step::Begin {
+        flow: packet.flow(),
+        cargo: Vec::from_slice(alloc, packet.cargo())?,
+        end: packet.end(),
+    })
 }
 
 // Begins a packet of the entry, if any is left and it can begin. How many packets were begun.
@@ -28,11 +38,15 @@ fn begin_one(
     if *left == 0 {
         return Ok(0);
     }
-    if !attempt_begin(alloc, net, packet)? {
-        return Ok(0);
+    let step = beginning(alloc, packet)?;
+    match net.step(alloc, &step) {
+        Ok(()) => {
+            *left = left.saturating_sub(1);
+            Ok(1)
+        }
+        Err(NetFault::NotEnabled) | Err(NetFault::NotInFlow) => Ok(0),
+        Err(NetFault::Memory) => Err(AllocError),
     }
-    *left = left.saturating_sub(1);
-    Ok(1)
 }
 
 // Begins a packet of each entry where that is possible. How many packets were begun.
@@ -49,17 +63,25 @@ fn begin_each(
     Ok(begun)
 }
 
+// Makes a step of the first link end that can make one, and tells whether there is one.
+fn step_first(alloc: Global, net: &mut Core<'_>) -> Result<bool, AllocError> {
+    let Some(end) = net.first_enabled() else {
+        return Ok(false);
+    };
+    if end.number() >= net.network().channels() {
+        return Ok(false);
+    }
+    let step = net.step_of(alloc, end)?;
+    Ok(step.is_some())
+}
+
 // Begins packets wherever that is possible, and makes steps of the first link end that can make one, until none can. How many steps
 // were made.
-fn make_steps(
-    alloc: Global,
-    net: &mut Core<'_>,
-    load: &Load,
-    left: &mut [u16],
-) -> Result<u32, AllocError> {
+fn make_steps(alloc: Global, net: &mut Core<'_>, load: &Load) -> Result<u32, AllocError> {
+    let mut left = counts(alloc, load)?;
     let mut made: u32 = 0;
     for _ in 0..MANY {
-        made = made.saturating_add(begin_each(alloc, net, load, left)?);
+        made = made.saturating_add(begin_each(alloc, net, load, &mut left)?);
         if !step_first(alloc, net)? {
             break;
         }
@@ -68,31 +90,10 @@ fn make_steps(
     Ok(made)
 }
 
-fn show_steps<R: Print + AllocGlobal>(rt: &R, net: &mut Core<'_>, load: &Load) -> io::Result<()> {
-    let mut left = counts(rt.alloc(), load)?;
-    let made = make_steps(rt.alloc(), net, load, &mut left)?;
+/// Prints how many steps were made, what is left, and what came out.
+pub(crate) fn show_waiting(rt: &HostRuntime, net: &mut Core<'_>, load: &Load) -> io::Result<()> {
+    let made = make_steps(rt.alloc(), net, load)?;
     print!(rt; "made {made}, ")?;
     show_first(rt, net)?;
     show_parts(rt, net)
-}
-
-fn show_from_empty<R: Print + AllocGlobal>(
-    rt: &R,
-    network: &Network,
-    load: &Load,
-) -> io::Result<()> {
-    let mut net = declared_net(rt.alloc(), network)?;
-    show_steps(rt, &mut net, load)
-}
-
-/// Prints how many steps were made, what is left, and what came out.
-pub(crate) fn show_waiting<R: Print + AllocGlobal>(
-    rt: &R,
-    network: &Network,
-    text: &[u8],
-) -> io::Result<()> {
-    match read_load(rt.alloc(), network, text) {
-        Ok(load) => show_from_empty(rt, network, &load),
-        Err(_) => Err(no_text()),
-    }
 }

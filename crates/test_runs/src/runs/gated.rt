@@ -1,33 +1,64 @@
 //! A run whose workers wait for one another.
+ghost use Rattle.sw_load.specs.Laws.{AreDeclared};
 
-use crate::runs::outcomes::{load_of, outcome_of};
-use crate::runs::show::show_outcome;
 use crate::together::Together;
 use std::io;
 use std::sync::Wait;
 use std::thread::Threads;
+use sw_char::Packet;
 use sw_config::Network;
-use sw_run::Outcome;
+use sw_load::{Load, enough_limit};
+use sw_run::{Outcome, Stop, run};
 
-fn show_late(
-    rt: &impl Print,
+fn name_of(stop: Stop) -> &'static str {
+    match stop {
+        Stop::Drained => "drained",
+        Stop::Stuck => "stuck",
+        Stop::JournalFull => "journal full",
+        Stop::Memory => "out of memory",
+    }
+}
+
+// How many packets came out at each node.
+fn show_counts(rt: &HostRuntime, network: &Network, came_out: &[Vec<Packet>]) -> io::Result<()> {
+    for node in 0..network.nodes() {
+        let Some(packets) = came_out.get(node as usize) else {
+            return Ok(());
+        };
+        let name = network.node_name(node);
+        let count = packets.len();
+        println!(rt; "node {name} packets {count}")?;
+    }
+    Ok(())
+}
+
+// Whether a worker gave up, whether each cell was decided, and how the run ended.
+fn show_outcome(
+    rt: &HostRuntime,
     network: &Network,
     outcome: &Outcome<'_>,
     gate: &Together,
 ) -> io::Result<()> {
     let (late, all) = (gate.is_late(), gate.have_all_come());
-    print!(rt; "late {late}, all came {all}: ")?;
-    show_outcome(rt, network, outcome)
+    let stop = name_of(outcome.stop);
+    let undelivered = outcome.undelivered;
+    println!(rt; "late {late}, all came {all}: {stop}, undelivered {undelivered}")?;
+    show_counts(rt, network, &outcome.came_out)
 }
 
 /// Runs with such a gate and as many workers as link ends.
-pub(crate) fn show_gated<R: Print + AllocGlobal + Threads + Wait + Sync>(
-    rt: &R,
+pub(crate) fn show_gated<R: Threads + Wait + Sync>(
+    rt: &HostRuntime,
+    threads: &R,
     network: &Network,
-    load: &[u8],
-) -> io::Result<()> {
+    load: &Load,
+) -> io::Result<()>
+    requires { AreDeclared network.now load.now }
+{
     let gate = Together::new();
-    let load = load_of(rt, network, load)?;
-    let outcome = outcome_of(rt, network, &load, 12, &gate)?;
-    show_late(rt, network, &outcome, &gate)
+    let limit = enough_limit(network, load) as usize;
+    let outcome = run(threads, rt.alloc(), network, load, 12, limit, &gate)?;
+    let shown = show_outcome(rt, network, &outcome, &gate);
+    drop(outcome);
+    shown
 }

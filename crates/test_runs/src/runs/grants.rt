@@ -1,22 +1,24 @@
 //! In which order the inputs of a switch are granted an output for which three of them ask.
+ghost use Rattle.sw_load.specs.Laws.{AreDeclared};
 
-use crate::runs::outcomes::{load_of, outcome_of};
 use std::io;
 use std::sync::Wait;
 use std::thread::Threads;
 use sw_char::Packet;
 use sw_config::Network;
-use sw_run::{Open, Outcome};
+use sw_load::{Load, enough_limit};
+use sw_run::{Open, run};
 
-fn show_packet(rt: &impl Print, packet: &Packet) -> io::Result<()> {
+fn show_packet(rt: &HostRuntime, packet: &Packet) -> io::Result<()> {
     match packet.bytes.first() {
         Some(byte) => print!(rt; " {byte:02X}"),
         None => Ok(()),
     }
 }
 
-fn show_order(rt: &impl Print, outcome: &Outcome<'_>) -> io::Result<()> {
-    for packets in &outcome.came_out {
+fn show_order(rt: &HostRuntime, came_out: &[Vec<Packet>]) -> io::Result<()> {
+    print!(rt; "order:")?;
+    for packets in came_out {
         for packet in packets {
             show_packet(rt, packet)?;
         }
@@ -25,13 +27,17 @@ fn show_order(rt: &impl Print, outcome: &Outcome<'_>) -> io::Result<()> {
 }
 
 /// Runs with one worker, and prints the first byte of each packet that came out, in their order.
-pub(crate) fn show_grants<R: Print + AllocGlobal + Threads + Wait + Sync>(
-    rt: &R,
+pub(crate) fn show_grants<R: Threads + Wait + Sync>(
+    rt: &HostRuntime,
+    threads: &R,
     network: &Network,
-    load: &[u8],
-) -> io::Result<()> {
-    print!(rt; "order:")?;
-    let load = load_of(rt, network, load)?;
-    let outcome = outcome_of(rt, network, &load, 1, &Open)?;
-    show_order(rt, &outcome)
+    load: &Load,
+) -> io::Result<()>
+    requires { AreDeclared network.now load.now }
+{
+    let limit = enough_limit(network, load) as usize;
+    let outcome = run(threads, rt.alloc(), network, load, 1, limit, &Open)?;
+    let shown = show_order(rt, &outcome.came_out);
+    drop(outcome);
+    shown
 }

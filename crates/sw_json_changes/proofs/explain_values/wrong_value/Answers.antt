@@ -1,5 +1,5 @@
 use Rattle.sw_app_explain.proofs.OnChannels.{way_within}
 use Rattle.sw_json_changes.proofs.explain_values.wrong_value.Goals as goal
 
-pub misrouted_value-requires : goal.misrouted_value-requires
-misrouted_value-requires c = way_within c.args.network.now c.args.flow c.args.place c.args.fault c.args.way.now c.requires
+pub place_values-requires : goal.place_values-requires
+place_values-requires c = way_within c.args.network.now c.args.flow c.args.place c.args.fault c.args.way.now c.requires

@@ -1,4 +1,5 @@
-use Rattle.std.proofs.Common.{arith}
+use Rattle.std.proofs.Common.{ap, arith}
+use Rattle.std.specs.Option.{option_to_list}
 use Rattle.sw_lint.specs.Marks.{opposed_by}
 use Rattle.sw_lint.proofs.Ranges.{begun, ended, grown}
 use Rattle.sw_lint.proofs.doubtful.add_opposed.Goals as goal
@@ -7,7 +8,7 @@ pub loop-link-init : goal.loop-link-init
 loop-link-init c = begun (opposed_by c.args.marks.now) c.args.lints.now.items
 
 pub loop-link-preserved : goal.loop-link-preserved
-loop-link-preserved c = grown (opposed_by c.args.marks.now) _ _ _ c.loop-link.link c.loop-link.invariant c.in_ok-add_link.ensures
+loop-link-preserved c = grown (opposed_by c.args.marks.now) _ _ _ _ c.loop-link.link c.loop-link.invariant (ap option_to_list c.pair_by.ensures) c.in_ok-add.ensures
 
 pub returns : goal.returns
 returns c =

@@ -6,7 +6,7 @@ use Rattle.sw_lint.proofs.finding.lints.Goals as goal
 pub returns-then-declared_flows-eq0 : goal.returns-then-declared_flows-eq0
 returns-then-declared_flows-eq0 c =
     let d = c.args.network.now in
-    IfOk-weaker c.no_flows.result _ _ (λ v e. told_without_flows d v.items (no_flows_listed d (omega (arith, c.if-declared_flows-eq0.true, c.declared_flows.ensures.count))) e) c.no_flows.ensures
+    told_without_flows d c.in_ok-vec.field-0.items (no_flows_listed d (omega (arith, c.if-declared_flows-eq0.true, c.declared_flows.ensures.count))) c.in_ok-vec.ensures.items
 
 pub returns : goal.returns
 returns c =

@@ -7,7 +7,7 @@ pub loop-node-init : goal.loop-node-init
 loop-node-init c = begun (unused_node_by c.args.nodes.now) c.args.lints.now.items
 
 pub loop-node-preserved : goal.loop-node-preserved
-loop-node-preserved c = grown (unused_node_by c.args.nodes.now) _ _ _ c.loop-node.node c.loop-node.invariant c.in_ok-add_node.ensures
+loop-node-preserved c = grown (unused_node_by c.args.nodes.now) _ _ _ _ c.loop-node.node c.loop-node.invariant c.unused_node.ensures c.in_ok-add.ensures
 
 pub returns : goal.returns
 returns c =

@@ -7,7 +7,7 @@ pub loop-switch-init : goal.loop-switch-init
 loop-switch-init c = begun (unused_switch_by c.args.marks.now) c.args.lints.now.items
 
 pub loop-switch-preserved : goal.loop-switch-preserved
-loop-switch-preserved c = grown (unused_switch_by c.args.marks.now) _ _ _ c.loop-switch.switch c.loop-switch.invariant c.in_ok-add_switch.ensures
+loop-switch-preserved c = grown (unused_switch_by c.args.marks.now) _ _ _ _ c.loop-switch.switch c.loop-switch.invariant c.unused_switch.ensures c.in_ok-add.ensures
 
 pub returns : goal.returns
 returns c =

@@ -1,12 +1,11 @@
-use Rattle.std.proofs.Common.{◌≡◌, ◌<◌, ◌++◌, List, ap, length, rules, string_bytes, ◌∙◌, ℕ}
+use Rattle.std.proofs.Common.{◌<◌, ap, length, rules, string_bytes}
 use Rattle.sw_output.specs.PacketTexts.{packet_lines}
 use Rattle.sw_output.proofs.NodeLines.{lines_more}
 use Rattle.sw_output.proofs.all_nodes.all_packet_lines.Goals as goal
 
 pub loop-n-preserved : goal.loop-n-preserved
 loop-n-preserved c =
-    let here : List ℕ = string_bytes c.in_ok-packet_lines.field-0 in
-    let line : here ≡ packet_lines c.node_name-name.result.now c.index-all-n.result.items = c.in_ok-packet_lines.ensures ∙ ap (packet_lines c.node_name-name.result.now) c.deref.ensures.value in
+    let name = c.node_name-name.result.now in
     let within : c.loop-n.n < length c.args.all.now = search rules in
-    let after : string_bytes c.push_str.new.self ≡ string_bytes c.loop-n.text ++ here = c.in_ok-push_str.ensures.bytes ∙ ap (λ (l : List ℕ). string_bytes c.loop-n.text ++ l) c.as_str.ensures.value in
-    lines_more packet_lines c.args.network.now c.args.all.now c.loop-n.n c.node_name-name.result.now (string_bytes c.loop-n.text) here (string_bytes c.push_str.new.self) c.index-all-n.result c.loop-n.invariant line c.node_name-name.ensures within c.index-all-n.is after
+    lines_more packet_lines c.args.network.now c.args.all.now c.loop-n.n name (string_bytes c.loop-n.text) (packet_lines name c.deref.result.now) (string_bytes c.add_packets.new.text)
+    c.index-all-n.result c.loop-n.invariant (ap (packet_lines name) c.deref.ensures.value) c.node_name-name.ensures within c.index-all-n.is c.in_ok-add_packets.ensures

@@ -1,0 +1,34 @@
+-- What is told of a file that was not read, by what was found of it.
+use Rattle.std.proofs.Common.{◌∙◌, ℕ, List, IfOk}
+use Rattle.std.specs.Prelude.{Err, IsOkAnd, Ok, Result}
+use Rattle.std.specs.declared.alloc.AllocError.{AllocError}
+use Rattle.serde_json.specs.Data.{Data}
+use Rattle.serde_json.specs.View.{view}
+use Rattle.sw_app_run.specs.declared.record_answer.Recorded.{Recorded}
+use Rattle.sw_app_run.specs.declared.record_answer.Recorded.TheVariants.{Fault, Run, TooLong}
+use Rattle.sw_json.specs.Answering.{IsAnswer, IsOutcome, IsUnreadNetwork}
+use Rattle.sw_json.specs.declared.files.Release.{Release}
+use Rattle.sw_json.specs.declared.outcome.Outcome.{Outcome}
+use Rattle.sw_toml_table.specs.declared.fault.FileFault.{FileFault}
+use Rattle.sw_toml_table.specs.declared.fault.FileFault.TheVariants.{Text, Memory}
+use Rattle.sw_json_runs.specs.RunRecords.{Answering, IsFault, IsUnreadRecord}
+
+module _ (command : List ℕ) (files : List Data) (release : Release) (path text : List ℕ) where
+  abbrev says : Answering
+  says R = IsAnswer command files release R
+
+  of_outcome : (fault : FileFault) (value : Data) (status : ℕ) (recorded : Recorded) → IsUnreadNetwork path text fault value status
+      → IsFault (says (IsOutcome value status)) recorded → IsUnreadRecord says path text fault recorded
+  of_outcome Memory value status recorded is h = absurd is
+  of_outcome (Text fault) value status (Fault answer) (told, is, tells) (found, same, spells) =
+      (found, (told, is, (same.0 ∙ tells.0, same.1 ∙ tells.1)), spells)
+  of_outcome (Text fault) value status (Run answer schedule summary) is h = absurd h
+  of_outcome (Text fault) value status TooLong is h = absurd h
+
+  pub unread : (fault : FileFault) (found : Result Outcome AllocError) (made : Result Recorded AllocError)
+      → IfOk found (λ o. IsUnreadNetwork path text fault (view o.result) o.status)
+      → IfOk made (λ r. IsOkAnd found (λ o. IsFault (says (IsOutcome (view o.result) o.status)) r)) → IfOk made (IsUnreadRecord says path text fault)
+  unread fault (Ok o) (Ok recorded) is h = of_outcome fault (view o.result) o.status recorded is h
+  unread fault (Err error) (Ok recorded) is h = absurd h
+  unread fault (Ok o) (Err error) is h = h
+  unread fault (Err other) (Err error) is h = h

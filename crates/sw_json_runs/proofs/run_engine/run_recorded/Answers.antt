@@ -1,0 +1,17 @@
+use Rattle.std.proofs.Common.{inl}
+use Rattle.sw_command.specs.Inputs.{given}
+use Rattle.sw_json_runs.proofs.run_engine.run_recorded.Goals as goal
+
+pub returns-in-Ok-call_record-clause-end : goal.returns-in-Ok-call_record-clause-end
+returns-in-Ok-call_record-clause-end g c =
+    inl (
+      c.in-Ok-call_record.recorded,
+      (
+        given c.in-Ok.inputs.0,
+        given c.in-Ok.inputs.1,
+        c.in-Ok.ensures.first,
+        c.in-Ok.ensures.second,
+        c.in-Ok-call_record.ensures,
+      ),
+      c.tell_recorded.ensures,
+    )

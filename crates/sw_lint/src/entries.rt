@@ -1,0 +1,184 @@
+//! What in the entries of routing tables is probably a slip.
+ghost use Rattle.std.specs.Prelude.{◌≡◌, ◌<◌, ◌++◌, OnOk, Some, filter, length, option_map};
+ghost use Rattle.std.specs.Option.{option_to_list};
+ghost use Rattle.sw_topo.specs.Ports.{ports_of};
+ghost use Rattle.sw_lint.specs.Lints.{by_entries, by_switches, is_group, linked, made_of, one_linked_port, only};
+ghost use Rattle.sw_lint.specs.Marks.{back_at, entry_lint_by, first_back_by, leads_back_by, unused_entry_by};
+
+use crate::lint::{Lint, add};
+use crate::marks::Marks;
+use std::alloc::AllocError;
+use sw_config::Network;
+use sw_route::Route;
+use sw_topo::{Port, PortSet};
+
+/// What is looked for in the entries of routing tables.
+#[derive(Clone, Copy)]
+pub(crate) enum EntrySlip {
+    /// A flow goes over the switch, but no packet comes that the entry is for.
+    Unused,
+    /// The entry names several ports, of which one alone has a link.
+    OneLinked,
+    /// The entry leads packets back by the way that they come.
+    Back,
+}
+
+// The entry, if a flow goes over the switch, but no packet comes that it is for.
+fn unused_entry(marks: &Marks, switch: u16, entry: usize, route: &Route) -> Option<Lint>
+    ensures { option_to_list result ≡ unused_entry_by marks.now switch entry route.now }
+{
+    if marks.is_used(switch) && !marks.is_met(switch, route) {
+        Some(Lint::UnusedEntry { switch, entry })
+    } else {
+        None
+    }
+}
+
+// The ports of the entry that have a link.
+fn linked(network: &Network, switch: u16, route: &Route) -> PortSet
+    requires { switch < length network.now.switches }
+    ensures { ports_of result ≡ linked network.now switch route.now }
+{
+    route.ports.meet(network.topology().linked(switch))
+}
+
+// Are there several?
+fn is_group(ports: PortSet) -> bool
+    ensures { result ≡ is_group (ports_of ports) }
+{
+    ports.len() > 1
+}
+
+// The one port of a set of one.
+fn only(set: PortSet) -> Option<Port>
+    ensures { result ≡ only (ports_of set) }
+{
+    let mut ports = set.ports();
+    let first = ports.next()?;
+    match ports.next() {
+        Some(_) => None,
+        None => Some(first),
+    }
+}
+
+// The entry, if it names several ports of which one alone has a link.
+fn one_linked_port(network: &Network, switch: u16, entry: usize, route: &Route) -> Option<Lint>
+    requires { switch < length network.now.switches }
+    ensures { option_to_list result ≡ one_linked_port network.now switch entry route.now }
+{
+    if !is_group(route.ports) {
+        return None;
+    }
+    let port = only(linked(network, switch, route))?;
+    Some(Lint::OneLinkedPort {
+        switch,
+        entry,
+        port,
+    })
+}
+
+// The first flow whose packets come by the port of the switch, to the least address of the entry.
+fn back_at(network: &Network, marks: &Marks, switch: u16, route: &Route, port: Port) -> Option<u16>
+    requires { switch < length network.now.switches }
+    ensures { result ≡ back_at network.now marks.now switch route.now port }
+{
+    let out = network.topology().out_of(switch, port)?;
+    marks.first_led(route, out.partner())
+}
+
+// The first port of the entry by which packets come that it is for.
+fn first_back(
+    network: &Network,
+    marks: &Marks,
+    switch: u16,
+    entry: usize,
+    route: &Route,
+) -> Option<Lint>
+    requires { switch < length network.now.switches }
+    ensures { result ≡ first_back_by network.now marks.now switch entry route.now }
+{
+    for port in route.ports.ports() {
+        if let Some(flow) = back_at(network, marks, switch, route, port) {
+            return Some(Lint::LeadsBack {
+                switch,
+                entry,
+                port,
+                flow,
+            });
+        }
+    }
+    None
+}
+
+// The entry, if several of its ports have links, and packets come by one of them that it is for.
+fn leads_back(
+    network: &Network,
+    marks: &Marks,
+    switch: u16,
+    entry: usize,
+    route: &Route,
+) -> Option<Lint>
+    requires { switch < length network.now.switches }
+    ensures { option_to_list result ≡ leads_back_by network.now marks.now switch entry route.now }
+{
+    if is_group(linked(network, switch, route)) {
+        first_back(network, marks, switch, entry, route)
+    } else {
+        None
+    }
+}
+
+// The entry, if it is what is looked for.
+fn entry_lint(
+    network: &Network,
+    marks: &Marks,
+    slip: EntrySlip,
+    switch: u16,
+    entry: usize,
+    route: &Route,
+) -> Option<Lint>
+    requires { switch < length network.now.switches }
+    ensures { option_to_list result ≡ entry_lint_by network.now marks.now slip switch entry route.now }
+{
+    match slip {
+        EntrySlip::Unused => unused_entry(marks, switch, entry, route),
+        EntrySlip::OneLinked => one_linked_port(network, switch, entry, route),
+        EntrySlip::Back => leads_back(network, marks, switch, entry, route),
+    }
+}
+
+// Those of the switch's table, of which these are the entries.
+fn add_entries_of(
+    network: &Network,
+    marks: &Marks,
+    slip: EntrySlip,
+    switch: u16,
+    routes: &[Route],
+    lints: &mut Vec<Lint>,
+) -> Result<(), AllocError>
+    requires { switch < length network.now.switches }
+    ensures { OnOk result (lints.new.items ≡ lints.old.items ++ made_of (entry_lint_by network.now marks.now slip switch) routes.now) }
+{
+    for (entry, route) in routes.iter().enumerate() {
+        add(
+            entry_lint(network, marks, slip, switch, entry, route),
+            lints,
+        )?;
+    }
+    Ok(())
+}
+
+/// The entries of all tables that are what is looked for.
+pub(crate) fn add_entries(
+    network: &Network,
+    marks: &Marks,
+    slip: EntrySlip,
+    lints: &mut Vec<Lint>,
+) -> Result<(), AllocError>
+    ensures { OnOk result (lints.new.items ≡ lints.old.items ++ by_switches network.now (λ s. by_entries network.now (entry_lint_by network.now marks.now slip s) s)) }
+{
+    for switch in 0..network.switches() {
+        add_entries_of(network, marks, slip, switch, network.routes(switch), lints)?;
+    }
+    Ok(())
+}
