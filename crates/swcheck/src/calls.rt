@@ -29,6 +29,17 @@ use sw_calls::{
 use sw_command::Ended;
 use sw_search::VerdictWorkers;
 
+/// An engine that reads one network file, and what is asked of it.
+#[derive(Drop)]
+enum Engine<'a> {
+    Explain { all: bool },
+    Draw(DrawOptions<'a>),
+    Rmap(Request<'a>),
+    Mend { pairs: bool },
+    Margin,
+    Witness { tries: u32, seed: u32 },
+}
+
 /// Does what the words say that the program was given, and answers its status. `host` is the same as `rt`, by its own type:
 /// threads that read files want that, and an audit has its files from it.
 pub(crate) fn run_program<
@@ -80,32 +91,14 @@ fn run_call<'a, R: Files + Print + Eprint + AllocGlobal + Threads + Wait + Sync,
     requires { HasWorkers call }
 {
     let mut writer = Noted::new("standard output", io::writer(rt));
-    let EndedWith { ended, network } = run_into(rt, workers, host, call, files, &mut writer);
+    let EndedWith { ended, network } = match run_json(rt, workers, host, call, &mut writer) {
+        Some(ended) => ended,
+        None => run_text(rt, workers, host, call, files, &mut writer),
+    };
     Made {
         ended,
         unwritten: writer.unwritten(),
         network,
-    }
-}
-
-fn run_into<
-    'a,
-    R: Files + Eprint + AllocGlobal + Threads + Wait + Sync,
-    C: VerdictWorkers,
-    W: Write,
->(
-    rt: &R,
-    workers: &C,
-    host: &HostRuntime,
-    call: Call<'a>,
-    files: &[&str],
-    writer: &mut Noted<'a, W>,
-) -> EndedWith
-    requires { HasWorkers call }
-{
-    match run_json(rt, workers, host, call, writer) {
-        Some(ended) => ended,
-        None => run_text(rt, workers, host, call, files, writer),
     }
 }
 
@@ -162,23 +155,22 @@ fn run_text<
             )
         }
         Call::Migrate { file } => migrate_file(rt, file, writer),
-        Call::Explain { file, all, .. } => run_explain(rt, workers, file, all, writer),
+        Call::Explain { file, all, .. } => {
+            run_engine(rt, workers, file, Engine::Explain { all }, writer)
+        }
         Call::Draw {
             file,
             flow,
             cycle,
             numbers,
-        } => run_draw(
-            rt,
-            workers,
-            file,
-            &DrawOptions {
+        } => {
+            let options = DrawOptions {
                 flow,
                 cycle,
                 numbers,
-            },
-            writer,
-        ),
+            };
+            run_engine(rt, workers, file, Engine::Draw(options), writer)
+        }
         Call::Rmap {
             file,
             flow,
@@ -188,22 +180,24 @@ fn run_text<
             unacknowledged,
             transaction,
         } => match access_of(action, value, unacknowledged) {
-            Some(access) => run_rmap(
-                rt,
-                file,
-                &Request {
+            Some(access) => {
+                let request = Request {
                     flow,
                     access,
                     address,
                     transaction,
-                },
-                writer,
-            ),
+                };
+                run_engine(rt, workers, file, Engine::Rmap(request), writer)
+            }
             None => no_access(rt),
         },
-        Call::Mend { file, pairs, .. } => run_mend(rt, workers, file, pairs, writer),
-        Call::Margin { file, .. } => run_margin(rt, workers, file, writer),
-        Call::Witness { file, tries, seed } => run_witness(rt, workers, file, tries, seed, writer),
+        Call::Mend { file, pairs, .. } => {
+            run_engine(rt, workers, file, Engine::Mend { pairs }, writer)
+        }
+        Call::Margin { file, .. } => run_engine(rt, workers, file, Engine::Margin, writer),
+        Call::Witness { file, tries, seed } => {
+            run_engine(rt, workers, file, Engine::Witness { tries, seed }, writer)
+        }
         Call::Audit {
             json,
             quiet,
@@ -229,30 +223,27 @@ fn run_replay<R: Files + AllocGlobal, W: Write>(
     replay(rt.alloc(), &mut network, &mut schedule, writer)
 }
 
-fn run_explain<R: Files + AllocGlobal, C: VerdictWorkers, W: Write>(
+// Has the engine read the network file.
+fn run_engine<R: Files + AllocGlobal, C: VerdictWorkers, W: Write>(
     rt: &R,
     workers: &C,
     file: &str,
-    all: bool,
+    engine: Engine<'_>,
     writer: &mut W,
 ) -> Ended {
     let Ok(mut reader) = fs::open(rt, file) else {
         return Ended::ReadFailed;
     };
-    explain(workers, rt.alloc(), &mut reader, all, writer)
-}
-
-fn run_draw<R: Files + AllocGlobal, C: VerdictWorkers, W: Write>(
-    rt: &R,
-    workers: &C,
-    file: &str,
-    options: &DrawOptions<'_>,
-    writer: &mut W,
-) -> Ended {
-    let Ok(mut reader) = fs::open(rt, file) else {
-        return Ended::ReadFailed;
-    };
-    draw(workers, rt.alloc(), &mut reader, options, writer)
+    match engine {
+        Engine::Explain { all } => explain(workers, rt.alloc(), &mut reader, all, writer),
+        Engine::Draw(options) => draw(workers, rt.alloc(), &mut reader, &options, writer),
+        Engine::Rmap(request) => rmap(rt.alloc(), &mut reader, &request, writer),
+        Engine::Mend { pairs } => mend(workers, rt.alloc(), pairs, &mut reader, writer),
+        Engine::Margin => margin(workers, rt.alloc(), &mut reader, writer),
+        Engine::Witness { tries, seed } => {
+            witness(workers, rt.alloc(), &mut reader, tries, seed, writer)
+        }
+    }
 }
 
 // What an RMAP command does: it reads so many bytes, or writes these. A read without its reply brings nothing, and there is no third.
@@ -273,57 +264,6 @@ fn access_of<'a>(action: &str, value: &'a str, unacknowledged: bool) -> Option<A
         return None;
     }
     Some(Access::Read { length: value })
-}
-
-fn run_rmap<R: Files + AllocGlobal, W: Write>(
-    rt: &R,
-    file: &str,
-    request: &Request<'_>,
-    writer: &mut W,
-) -> Ended {
-    let Ok(mut reader) = fs::open(rt, file) else {
-        return Ended::ReadFailed;
-    };
-    rmap(rt.alloc(), &mut reader, request, writer)
-}
-
-fn run_mend<R: Files + AllocGlobal, C: VerdictWorkers, W: Write>(
-    rt: &R,
-    workers: &C,
-    file: &str,
-    pairs: bool,
-    writer: &mut W,
-) -> Ended {
-    let Ok(mut reader) = fs::open(rt, file) else {
-        return Ended::ReadFailed;
-    };
-    mend(workers, rt.alloc(), pairs, &mut reader, writer)
-}
-
-fn run_margin<R: Files + AllocGlobal, C: VerdictWorkers, W: Write>(
-    rt: &R,
-    workers: &C,
-    file: &str,
-    writer: &mut W,
-) -> Ended {
-    let Ok(mut reader) = fs::open(rt, file) else {
-        return Ended::ReadFailed;
-    };
-    margin(workers, rt.alloc(), &mut reader, writer)
-}
-
-fn run_witness<R: Files + AllocGlobal, C: VerdictWorkers, W: Write>(
-    rt: &R,
-    workers: &C,
-    file: &str,
-    tries: u32,
-    seed: u32,
-    writer: &mut W,
-) -> Ended {
-    let Ok(mut reader) = fs::open(rt, file) else {
-        return Ended::ReadFailed;
-    };
-    witness(workers, rt.alloc(), &mut reader, tries, seed, writer)
 }
 
 /// An audit of these files.

@@ -72,15 +72,15 @@ fn second_hint<R: Files + AllocGlobal>(rt: &R, call: &Call<'_>, network: &[u8]) 
     let path = second_of(call)?;
     let text = text_of(rt, path, MAX_TEXT)?;
     match call {
-        Call::Run { .. } => load_hint(rt.alloc(), path, network, &text).ok()?,
-        Call::Replay { .. } => schedule_hint(rt.alloc(), path, network, &text).ok()?,
+        Call::Run { .. } => load_hint(rt.alloc(), path, network, &text).unwrap_or(None),
+        Call::Replay { .. } => schedule_hint(rt.alloc(), path, network, &text).unwrap_or(None),
         _ => None,
     }
 }
 
 // What to tell of the flow that a call names.
 fn flow_hint<R: AllocGlobal>(rt: &R, call: &Call<'_>, network: &[u8]) -> Option<String> {
-    named_flow_hint(rt.alloc(), file_of(call)?, network, flow_of(call)?).ok()?
+    named_flow_hint(rt.alloc(), file_of(call)?, network, flow_of(call)?).unwrap_or(None)
 }
 
 // What to tell of a fault: of the network file, or else of the other text or of the flow that the call names. Nothing where none has one, and
@@ -106,14 +106,16 @@ fn refusal_hint<R: Files + AllocGlobal, C: VerdictWorkers>(
     let text = text_of(rt, path, MOST_EXPLAINED)?;
     match certificate_hint(rt.alloc(), path, &text).ok()? {
         Some(hint) => Some(hint),
-        None => { refused_certificate_hint(workers, rt.alloc(), file, network, path, &text).ok()? }
+        None => refused_certificate_hint(workers, rt.alloc(), file, network, path, &text).unwrap_or(
+            None,
+        )
     }
 }
 
 // What to tell of a step that is refused, or of a network that the steps lock up.
 fn steps_hint<R: Files + AllocGlobal>(rt: &R, network: &[u8], path: &str) -> Option<String> {
     let text = text_of(rt, path, MOST_EXPLAINED)?;
-    replay_hint(rt.alloc(), network, path, &text).ok()?
+    replay_hint(rt.alloc(), network, path, &text).unwrap_or(None)
 }
 
 // What to tell of a verdict that is not free, of a flow that goes wrong, of a refused certificate or step, of a network that is locked up.
@@ -126,11 +128,11 @@ fn verdict_hint_of<R: Files + AllocGlobal, C: VerdictWorkers>(
     let text = text_of(rt, file, MOST_EXPLAINED)?;
     match call {
         Call::Route { .. } => flow_hint(rt, call, &text),
-        Call::Decide { .. } => verdict_hint(workers, rt.alloc(), file, &text).ok()?,
+        Call::Decide { .. } => verdict_hint(workers, rt.alloc(), file, &text).unwrap_or(None),
         Call::Check { .. } => refusal_hint(rt, workers, file, &text, second_of(call)?),
         Call::Replay { .. } => steps_hint(rt, &text, second_of(call)?),
         Call::Mend { .. } | Call::Witness { .. } => {
-            misrouted_verdict_hint(workers, rt.alloc(), file, &text).ok()?
+            misrouted_verdict_hint(workers, rt.alloc(), file, &text).unwrap_or(None)
         }
         _ => None,
     }

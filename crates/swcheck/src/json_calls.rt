@@ -22,6 +22,15 @@ use sw_json_runs::replay;
 use sw_json_verdicts::{check, report_keeping, route};
 use sw_search::VerdictWorkers;
 
+/// What the object of one network file tells.
+#[derive(Clone, Copy)]
+enum Object<'a> {
+    Route { flow: &'a str },
+    Explain,
+    Mend { pairs: bool },
+    Margin,
+}
+
 /// Makes the call, if an object of JSON is wanted of it, and tells how it ended. The network of `report` is handed on, to be noted on.
 pub(crate) fn run_json<
     'a,
@@ -46,7 +55,7 @@ pub(crate) fn run_json<
             file,
             flow,
             json: true,
-        } => run_route(rt, file, flow, writer),
+        } => run_object(rt, workers, file, Object::Route { flow }, writer),
         Call::Decide { file, json: true } => {
             run_audit(rt, workers, host, &[file], true, false, None, writer)
         }
@@ -84,28 +93,16 @@ pub(crate) fn run_json<
             file,
             json: true,
             ..
-        } => run_explain(rt, workers, file, writer),
+        } => run_object(rt, workers, file, Object::Explain, writer),
         Call::Mend {
             file,
             pairs,
             json: true,
-        } => run_mend(rt, workers, file, pairs, writer),
-        Call::Margin { file, json: true } => run_margin(rt, workers, file, writer),
+        } => run_object(rt, workers, file, Object::Mend { pairs }, writer),
+        Call::Margin { file, json: true } => run_object(rt, workers, file, Object::Margin, writer),
         _ => return None,
     };
     Some(EndedWith::without_network(ended))
-}
-
-fn run_route<R: Files + AllocGlobal, W: Write>(
-    rt: &R,
-    file: &str,
-    flow: &str,
-    writer: &mut W,
-) -> Ended {
-    let Ok(mut reader) = fs::open(rt, file) else {
-        return Ended::ReadFailed;
-    };
-    route(rt.alloc(), &mut reader, file, flow, RELEASE, writer)
 }
 
 fn run_check<R: Files + AllocGlobal, C: VerdictWorkers, W: Write>(
@@ -174,47 +171,31 @@ fn run_replay<R: Files + AllocGlobal, W: Write>(
     )
 }
 
-fn run_explain<R: Files + AllocGlobal, C: VerdictWorkers, W: Write>(
+// Has the object of the network file written.
+fn run_object<R: Files + AllocGlobal, C: VerdictWorkers, W: Write>(
     rt: &R,
     workers: &C,
     file: &str,
+    object: Object<'_>,
     writer: &mut W,
 ) -> Ended {
     let Ok(mut reader) = fs::open(rt, file) else {
         return Ended::ReadFailed;
     };
-    explain(workers, rt.alloc(), &mut reader, file, RELEASE, writer)
-}
-
-fn run_mend<R: Files + AllocGlobal, C: VerdictWorkers, W: Write>(
-    rt: &R,
-    workers: &C,
-    file: &str,
-    pairs: bool,
-    writer: &mut W,
-) -> Ended {
-    let Ok(mut reader) = fs::open(rt, file) else {
-        return Ended::ReadFailed;
-    };
-    mend(
-        workers,
-        rt.alloc(),
-        pairs,
-        &mut reader,
-        file,
-        RELEASE,
-        writer,
-    )
-}
-
-fn run_margin<R: Files + AllocGlobal, C: VerdictWorkers, W: Write>(
-    rt: &R,
-    workers: &C,
-    file: &str,
-    writer: &mut W,
-) -> Ended {
-    let Ok(mut reader) = fs::open(rt, file) else {
-        return Ended::ReadFailed;
-    };
-    margin(workers, rt.alloc(), &mut reader, file, RELEASE, writer)
+    match object {
+        Object::Route { flow } => route(rt.alloc(), &mut reader, file, flow, RELEASE, writer),
+        Object::Explain => explain(workers, rt.alloc(), &mut reader, file, RELEASE, writer),
+        Object::Mend { pairs } => {
+            mend(
+                workers,
+                rt.alloc(),
+                pairs,
+                &mut reader,
+                file,
+                RELEASE,
+                writer,
+            )
+        }
+        Object::Margin => margin(workers, rt.alloc(), &mut reader, file, RELEASE, writer),
+    }
 }
