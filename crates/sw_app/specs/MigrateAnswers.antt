@@ -1,8 +1,8 @@
 -- What `migrate` answers (this project's choice).
 use Rattle.std.specs.Prelude.{◌≡◌, ◌⊎◌, ℕ, List, [], ◌∷◌, codes}
-use Rattle.sw_migrate.specs.declared.fault.MigrateFault.{MigrateFault}
-use Rattle.sw_migrate.specs.declared.fault.MigrateFault.TheVariants.{Text, NotOld, Memory}
-use Rattle.sw_migrate.specs.Migration.{IsMigration, Refuses}
+use Rattle.sw_file.specs.declared.fault.MigrateFault.{MigrateFault}
+use Rattle.sw_file.specs.declared.fault.MigrateFault.TheVariants.{Text, NotOld, Memory}
+use Rattle.sw_file.specs.Migration.{IsMigration, Refuses}
 use Rattle.sw_command.specs.Ends.{Answers, Says}
 use Rattle.sw_command.specs.FaultTexts.{fault_text}
 use Rattle.sw_output.specs.Lines.{line}

@@ -96,7 +96,7 @@ fn file_answer<W: VerdictWorkers>(
     match read_network(alloc, first) {
         Ok(network) => {
             let answer = network_answer(workers, alloc, &network, second);
-            drop(network);
+            network.discard();
             answer
         }
         Err(fault) => fault_answer(alloc, fault),

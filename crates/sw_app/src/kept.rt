@@ -27,7 +27,7 @@ impl EndedWith {
     pub fn into_ended(self) -> Ended
         ensures { result ≡ self.ended }
     {
-        drop(self.network);
+        Network::discard_any(self.network);
         self.ended
     }
 }
@@ -39,7 +39,7 @@ pub fn kept_network(network: Network, length: usize, most: usize) -> Option<Netw
     if length <= most {
         Some(network)
     } else {
-        drop(network);
+        network.discard();
         None
     }
 }

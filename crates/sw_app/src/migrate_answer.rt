@@ -5,7 +5,7 @@ ghost use Rattle.sw_app.specs.MigrateAnswers.{IsMigrateAnswer, IsRefusedAnswer};
 use std::alloc::{AllocError, Global};
 use sw_command::statuses::{FAULTY, GOOD};
 use sw_command::{Answer, ByteAnswer};
-use sw_migrate::{MigrateFault, migrate};
+use sw_file::{MigrateFault, migrate};
 
 // The answer to a text that is not migrated, if it was not for want of memory.
 fn refused_answer(alloc: Global, fault: MigrateFault) -> Result<Answer, AllocError>

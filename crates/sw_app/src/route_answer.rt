@@ -59,7 +59,7 @@ pub(crate) fn route_answer(alloc: Global, input: &[u8], name: &str) -> Result<An
     match read_network(alloc, input) {
         Ok(network) => {
             let answer = named_answer(alloc, &network, name);
-            drop(network);
+            network.discard();
             answer
         }
         Err(fault) => fault_answer(alloc, fault),

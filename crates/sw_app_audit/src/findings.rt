@@ -197,7 +197,7 @@ fn text_judged<T: VerdictWorkers, S: Storage>(
     match read_network(alloc, text) {
         Ok(network) => {
             let judged = network_judged(workers, alloc, storage, options, named, text, &network);
-            drop(network);
+            network.discard();
             judged
         }
         Err(FileFault::Text(fault)) => fault_judged(alloc, options, named.path, text, &fault),

@@ -1,3 +1,6 @@
+pub mod OnChannels
+mod ExplainedSteps
+mod ExplainedTexts
 mod MendAnswered
 mod OneMendAnswer
 mod MarginAnswered

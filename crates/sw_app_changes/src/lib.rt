@@ -1,6 +1,9 @@
-//! The engines of `swcheck mend` and `swcheck margin`.
+//! The engines of `swcheck explain`, `swcheck mend` and `swcheck margin`.
 #![tactic(auto)]
 
+mod explain_answer;
+mod explain_engine;
+mod explain_texts;
 mod faults;
 mod margin_answer;
 mod margin_engine;
@@ -10,7 +13,16 @@ mod mend_answer;
 mod mend_engine;
 pub mod mend_laws;
 mod mend_texts;
+mod route_texts;
+mod step_texts;
+mod tangle_texts;
+mod words;
 
+pub use explain_engine::explain;
+pub use explain_texts::explain_status;
 pub use margin_engine::margin;
 pub use mend_engine::mend;
 pub use mend_texts::{change_words, mends_status, trial_words};
+pub use route_texts::fault_words;
+pub use step_texts::names_text;
+pub use words::numbered;

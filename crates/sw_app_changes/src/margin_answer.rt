@@ -100,7 +100,7 @@ pub(crate) fn margin_answer<W: VerdictWorkers>(
     match read_network(alloc, input) {
         Ok(network) => {
             let answer = network_answer(workers, alloc, &network);
-            drop(network);
+            network.discard();
             answer
         }
         Err(fault) => fault_answer(alloc, fault),

@@ -150,7 +150,7 @@ pub(crate) fn mend_answer<W: VerdictWorkers>(
     match read_network(alloc, input) {
         Ok(network) => {
             let answer = network_answer(workers, alloc, pairs, &network);
-            drop(network);
+            network.discard();
             answer
         }
         Err(fault) => fault_answer(alloc, fault),

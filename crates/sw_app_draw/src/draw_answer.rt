@@ -144,7 +144,7 @@ pub(crate) fn draw_answer<W: VerdictWorkers>(
     match read_network(alloc, input) {
         Ok(network) => {
             let answer = network_answer(workers, alloc, &network, options);
-            drop(network);
+            network.discard();
             answer
         }
         Err(FileFault::Text(fault)) => Answer::of_fault(alloc, &fault),

@@ -74,7 +74,7 @@ pub(crate) fn rmap_answer(
     match read_network(alloc, input) {
         Ok(network) => {
             let answer = network_answer(alloc, &network, request);
-            drop(network);
+            network.discard();
             answer
         }
         Err(FileFault::Text(fault)) => Answer::of_fault(alloc, &fault),

@@ -4,9 +4,9 @@ use Rattle.std.proofs.lemmas.List.{length-map}
 use Rattle.sw_machine.specs.Steps.{Step}
 use Rattle.sw_model.specs.Model.{network_of}
 use Rattle.sw_config.specs.Entries.{Declaration}
-use Rattle.sw_replay.specs.declared.replayed.Replayed.{Replayed}
-use Rattle.sw_replay.specs.Replays.{IsReplayed}
-use Rattle.sw_replay.specs.Reports.{report_of}
+use Rattle.sw_schedule.specs.declared.replayed.Replayed.{Replayed}
+use Rattle.sw_schedule.specs.Replays.{IsReplayed}
+use Rattle.sw_schedule.specs.Reports.{report_of}
 
 -- it tells of each node
 pub of_each_node : (d : Declaration) (steps : List Step) (r : Replayed) → IsReplayed d steps (report_of r) → length r.came_out.items ≡ length d.nodes

@@ -8,11 +8,11 @@ use Rattle.sw_machine.specs.Runs.{CameOut, IsLockedUp, undelivered}
 use Rattle.sw_machine.specs.State.{State, empty}
 use Rattle.sw_model.specs.Model.{network_of}
 use Rattle.sw_model.proofs.Flows.{some_at}
-use Rattle.sw_replay.specs.declared.replayed.ReplayEnd.TheVariants.{Made}
-use Rattle.sw_replay.specs.Replays.{Ends, IsReplayed}
-use Rattle.sw_replay.specs.Reports.{AreOutputs, Report}
-use Rattle.sw_replay.proofs.OneReport.{replays_are_determined}
-use Rattle.sw_replay.proofs.Stops.{one_end}
+use Rattle.sw_schedule.specs.declared.replayed.ReplayEnd.TheVariants.{Made}
+use Rattle.sw_schedule.specs.Replays.{Ends, IsReplayed}
+use Rattle.sw_schedule.specs.Reports.{AreOutputs, Report}
+use Rattle.sw_schedule.proofs.OneReport.{replays_are_determined}
+use Rattle.sw_schedule.proofs.Stops.{one_end}
 use Rattle.sw_run.specs.Outcomes.{AreOut, came_out_of, steps_of}
 use Rattle.sw_file.specs.Laws.{ReadNamesAreNames, ReadNetworksAreValid}
 use Rattle.sw_schedule.specs.TextLaws.{HasNames, ListedAreShort, SchedulesAreRead}

@@ -3,9 +3,9 @@ use Rattle.std.specs.Prelude.{◌≡◌, ℕ, true, false, List, Ok, Option, Som
 use Rattle.sw_config.specs.Entries.{Declaration}
 use Rattle.sw_file.specs.Network.{network_text}
 use Rattle.sw_load.specs.Load.{LoadEntry, load_text}
-use Rattle.sw_replay.specs.declared.replayed.ReplayEnd.TheVariants.{Made}
-use Rattle.sw_replay.specs.Replays.{IsReplayed}
-use Rattle.sw_replay.specs.Reports.{Report}
+use Rattle.sw_schedule.specs.declared.replayed.ReplayEnd.TheVariants.{Made}
+use Rattle.sw_schedule.specs.Replays.{IsReplayed}
+use Rattle.sw_schedule.specs.Reports.{Report}
 use Rattle.sw_run.specs.Outcomes.{IsOutcome, came_out_of, steps_of}
 use Rattle.sw_run.specs.declared.outcome.Outcome.{Outcome}
 use Rattle.sw_run.specs.declared.outcome.Stop.TheVariants.{Drained, Stuck}

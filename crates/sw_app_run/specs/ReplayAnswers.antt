@@ -4,8 +4,8 @@ use Rattle.std.specs.Fmt.{decimal}
 use Rattle.sw_file.specs.Network.{network_text}
 use Rattle.sw_machine.specs.Steps.{Step}
 use Rattle.sw_config.specs.Entries.{Declaration}
-use Rattle.sw_replay.specs.Replays.{IsReplayed}
-use Rattle.sw_replay.specs.Reports.{Report}
+use Rattle.sw_schedule.specs.Replays.{IsReplayed}
+use Rattle.sw_schedule.specs.Reports.{Report}
 use Rattle.sw_schedule.specs.Schedule.{steps_of_text}
 use Rattle.sw_toml_table.specs.declared.fault.TextFault.{TextFault}
 use Rattle.sw_command.specs.Ends.{Answers, IfLimited, Says}

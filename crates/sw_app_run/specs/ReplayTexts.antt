@@ -2,11 +2,11 @@
 use Rattle.std.specs.Prelude.{ℕ, Bool, false, true, List, [], ◌∷◌, ◌++◌, codes}
 use Rattle.std.specs.Fmt.{decimal}
 use Rattle.sw_config.specs.Entries.{Declaration}
-use Rattle.sw_replay.specs.declared.replayed.ReplayEnd.{ReplayEnd}
-use Rattle.sw_replay.specs.declared.replayed.ReplayEnd.TheVariants.{Made, Refused}
-use Rattle.sw_replay.specs.declared.replayed.StepRefusal.{StepRefusal}
-use Rattle.sw_replay.specs.declared.replayed.StepRefusal.TheVariants.{NotEnabled, NotInFlow}
-use Rattle.sw_replay.specs.Reports.{Report}
+use Rattle.sw_schedule.specs.declared.replayed.ReplayEnd.{ReplayEnd}
+use Rattle.sw_schedule.specs.declared.replayed.ReplayEnd.TheVariants.{Made, Refused}
+use Rattle.sw_schedule.specs.declared.replayed.StepRefusal.{StepRefusal}
+use Rattle.sw_schedule.specs.declared.replayed.StepRefusal.TheVariants.{NotEnabled, NotInFlow}
+use Rattle.sw_schedule.specs.Reports.{Report}
 use Rattle.sw_output.specs.PacketTexts.{by_node, node_line, packet_lines, undelivered_line}
 use Rattle.sw_output.specs.Lines.{line}
 

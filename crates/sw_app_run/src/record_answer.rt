@@ -206,7 +206,7 @@ fn file_record<G: Gate + Sync, T: Threads + Wait + Sync>(
     match read_network(alloc, first) {
         Ok(network) => {
             let recorded = network_record(rt, alloc, &network, second, options, wants, gate);
-            drop(network);
+            network.discard();
             recorded
         }
         Err(fault) => fault_record(alloc, fault),

@@ -13,8 +13,7 @@ use sw_command::statuses::FAULTY;
 use sw_command::{Answer, InputText};
 use sw_config::Network;
 use sw_file::read_network;
-use sw_replay::replay;
-use sw_schedule::{Schedule, ScheduleFault, read_steps};
+use sw_schedule::{Schedule, ScheduleFault, read_steps, replay};
 
 // The answer for a schedule.
 fn steps_answer(alloc: Global, network: &Network, schedule: &Schedule) -> Result<Answer, AllocError>
@@ -69,7 +68,7 @@ fn file_answer(alloc: Global, first: &[u8], second: &InputText) -> Result<Answer
     match read_network(alloc, first) {
         Ok(network) => {
             let answer = network_answer(alloc, &network, second);
-            drop(network);
+            network.discard();
             answer
         }
         Err(fault) => fault_answer(alloc, fault),

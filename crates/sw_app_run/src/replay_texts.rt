@@ -1,13 +1,13 @@
 //! The text of `replay`.
 ghost use Rattle.std.specs.Prelude.{◌≡◌, IfOk, length, map, string_bytes};
-ghost use Rattle.sw_replay.specs.Reports.{report_of};
+ghost use Rattle.sw_schedule.specs.Reports.{report_of};
 ghost use Rattle.sw_app_run.specs.ReplayTexts.{made_line, refusal_text, replay_status, replay_text, state_lines, stuck_line};
 
 use std::alloc::{AllocError, Global};
 use sw_command::statuses::{BAD, GOOD, LOCKED_UP};
 use sw_config::Network;
 use sw_output::{all_node_lines, all_packet_lines, undelivered_line};
-use sw_replay::{ReplayEnd, Replayed, StepRefusal};
+use sw_schedule::{ReplayEnd, Replayed, StepRefusal};
 
 fn refusal_text(refusal: StepRefusal) -> &'static str
     ensures { result.now ≡ refusal_text refusal }

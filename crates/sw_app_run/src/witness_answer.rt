@@ -142,7 +142,7 @@ pub(crate) fn witness_answer<W: VerdictWorkers>(
     match read_network(alloc, input) {
         Ok(network) => {
             let answer = network_answer(workers, alloc, &network, tries, seed);
-            drop(network);
+            network.discard();
             answer
         }
         Err(fault) => fault_answer(alloc, fault),

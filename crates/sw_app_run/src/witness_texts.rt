@@ -4,7 +4,7 @@ ghost use Rattle.sw_app_run.specs.WitnessAnswers.{free_line, none_found, unanswe
 ghost use Rattle.sw_witness.specs.Witnesses.{LocksUp};
 
 use std::alloc::{AllocError, Global};
-use sw_app_explain::names_text;
+use sw_app_changes::names_text;
 use sw_config::Network;
 use sw_witness::locks_up;
 

@@ -111,9 +111,8 @@ with_one_part app parts i d old new arg within made is adds =
     (with_argument old arg new (with_parts app (take i parts)) (part_rule (get_or parts i d)) made is adds)
 
 -- a command with one more subcommand of its table
-pub with_one_subcommand : (app : App) (rows : List Subcommand) (i : ℕ) (d : Subcommand) (old new sub : Command) → i < length rows
-    → IsOf (with_subcommands app (take i rows)) old → IsMade (subcommand_app (get_or rows i d)) sub → AddsSubcommand old sub new
+pub with_one_subcommand : (app : App) (rows : List Subcommand) (i : ℕ) (d : Subcommand) (new : Command) → i < length rows
+    → IsOf (with_subcommand (with_subcommands app (take i rows)) (subcommand_app (get_or rows i d)).top) new
     → IsOf (with_subcommands app (take (i + 1) rows)) new
-with_one_subcommand app rows i d old new sub within is made adds =
-    subst (λ (a : App). IsOf a new) (sym (fold_more (λ a row. with_subcommand a (subcommand_app row).top) app rows i d within))
-    (with_added old sub new (with_subcommands app (take i rows)) (subcommand_app (get_or rows i d)) is made adds)
+with_one_subcommand app rows i d new within is =
+    subst (λ (a : App). IsOf a new) (sym (fold_more (λ a row. with_subcommand a (subcommand_app row).top) app rows i d within)) is

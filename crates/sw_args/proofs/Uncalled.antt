@@ -41,22 +41,22 @@ numbered name values (Witness file tries seed) is = (
 numbered name values call is = other name _ values is.0 refl refl
 
 -- of a run
-pub without_workers : (values : List Row) (o : Option Call) → ((number : ℕ) → IsCount most_workers (codes "workers") values number → ⊥)
-    → IfNone o ((call : Call) → IsCallOf (codes "run") values call → ⊥)
-without_workers values o none = if_none o (λ call is. let workers = ((numbered _ values call is).0 refl).0 in none workers.0 workers.1)
+pub without_workers : (values : List Row) → ((number : ℕ) → IsCount most_workers (codes "workers") values number → ⊥)
+    → (call : Call) → IsCallOf (codes "run") values call → ⊥
+without_workers values none call is = let workers = ((numbered _ values call is).0 refl).0 in none workers.0 workers.1
 
-pub without_limit : (values : List Row) (o : Option Call) → ((number : ℕ) → IsCount most_steps (codes "limit") values number → ⊥)
-    → IfNone o ((call : Call) → IsCallOf (codes "run") values call → ⊥)
-without_limit values o none = if_none o (λ call is. let limit = ((numbered _ values call is).0 refl).1 in none limit.0 limit.1)
+pub without_limit : (values : List Row) → ((number : ℕ) → IsCount most_steps (codes "limit") values number → ⊥)
+    → (call : Call) → IsCallOf (codes "run") values call → ⊥
+without_limit values none call is = let limit = ((numbered _ values call is).0 refl).1 in none limit.0 limit.1
 
 -- of a search
-pub without_tries : (values : List Row) (o : Option Call) → ((number : ℕ) → IsCount most_tries (codes "tries") values number → ⊥)
-    → IfNone o ((call : Call) → IsCallOf (codes "witness") values call → ⊥)
-without_tries values o none = if_none o (λ call is. let tries = ((numbered _ values call is).1 refl).0 in none tries.0 tries.1)
+pub without_tries : (values : List Row) → ((number : ℕ) → IsCount most_tries (codes "tries") values number → ⊥)
+    → (call : Call) → IsCallOf (codes "witness") values call → ⊥
+without_tries values none call is = let tries = ((numbered _ values call is).1 refl).0 in none tries.0 tries.1
 
-pub without_seed : (values : List Row) (o : Option Call) → ((number : ℕ) → IsCount most_seed (codes "seed") values number → ⊥)
-    → IfNone o ((call : Call) → IsCallOf (codes "witness") values call → ⊥)
-without_seed values o none = if_none o (λ call is. let seed = ((numbered _ values call is).1 refl).1 in none seed.0 seed.1)
+pub without_seed : (values : List Row) → ((number : ℕ) → IsCount most_seed (codes "seed") values number → ⊥)
+    → (call : Call) → IsCallOf (codes "witness") values call → ⊥
+without_seed values none call is = let seed = ((numbered _ values call is).1 refl).1 in none seed.0 seed.1
 
 -- the name of a call is one of these
 named : (name : List ℕ) (values : List Row) (call : Call) → IsCallOf name values call

@@ -1,7 +1,7 @@
 //! The words of the command line.
 ghost use Rattle.std.specs.Prelude.{IfOk};
-ghost use Rattle.clap.specs.Words.{kind_of};
-ghost use Rattle.sw_args.specs.CommandLine.{IsOf, ShowsKind, swcheck_app, top_app};
+ghost use Rattle.clap.specs.Words.{App, kind_of, with_subcommand};
+ghost use Rattle.sw_args.specs.CommandLine.{IsMade, IsOf, ShowsKind, swcheck_app, top_app};
 ghost use Rattle.sw_args.specs.Parts.{HasBesides};
 
 use crate::call::WordsFault;
@@ -243,6 +243,22 @@ fn top_command<'a>(alloc: Global) -> Command<'a>
     command.version(RELEASE).subcommand_required(true)
 }
 
+// The command with the subcommand besides, if that was made.
+fn with_subcommand<'a>(
+    command: Command<'a>,
+    made: Result<Command<'a>, AllocError>,
+) -> Result<Command<'a>, AllocError>
+    ensures { (a b : App) → IsOf a command.entry → IfOk made.entry (IsMade b) → IfOk result (IsOf (with_subcommand a b.top)) }
+{
+    match made {
+        Ok(subcommand) => command.subcommand(subcommand),
+        Err(refused) => {
+            drop(command);
+            Err(refused)
+        }
+    }
+}
+
 // The command, if it was made, with the subcommands of a table besides, in their order.
 fn with_subcommands<'a>(
     alloc: Global,
@@ -253,8 +269,7 @@ fn with_subcommands<'a>(
 {
     let mut command = made?;
     for row in rows {
-        let subcommand = subcommand_of(alloc, row)?;
-        command = command.subcommand(subcommand)?;
+        command = with_subcommand(command, subcommand_of(alloc, row))?;
     }
     Ok(command)
 }

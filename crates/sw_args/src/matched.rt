@@ -9,7 +9,7 @@ use crate::call::{Asked, Call, WordsFault};
 use crate::command_line::{
     MOST_SEED, MOST_STEPS, MOST_TRIES, MOST_WORKERS, fault_of, swcheck_command,
 };
-use crate::values::{all_of, count_of, is_set, option_of, value_of};
+use crate::values::{all_of, count_of, is_set, value_of};
 use clap::ArgMatches;
 use std::alloc::{AllocError, Global};
 
@@ -56,12 +56,21 @@ fn run_call<'a>(file: &'a str, values: &ArgMatches<'a>) -> Option<Call<'a>>
     ensures calls { IfSome result (IsCallOf (codes "run") (rows_of (found_of values.now))) }
     ensures none { IfNone result ((call : Call) → IsCallOf (codes "run") (rows_of (found_of values.now)) call → ⊥) }
 {
+    let Some(load) = value_of(values, "LOAD") else {
+        return None;
+    };
+    let Some(workers) = count_of(values, "workers", MOST_WORKERS) else {
+        return None;
+    };
+    let Some(limit) = count_of(values, "limit", MOST_STEPS) else {
+        return None;
+    };
     Some(Call::Run {
         file,
-        load: value_of(values, "LOAD")?,
-        workers: count_of(values, "workers", MOST_WORKERS)?,
-        limit: count_of(values, "limit", MOST_STEPS)?,
-        schedule: option_of(values, "schedule"),
+        load,
+        workers,
+        limit,
+        schedule: value_of(values, "schedule"),
         summary: is_set(values, "summary"),
         json: is_set(values, "json"),
     })
@@ -73,14 +82,26 @@ fn rmap_call<'a>(file: &'a str, values: &ArgMatches<'a>) -> Option<Call<'a>>
     ensures calls { IfSome result (IsCallOf (codes "rmap") (rows_of (found_of values.now))) }
     ensures none { IfNone result ((call : Call) → IsCallOf (codes "rmap") (rows_of (found_of values.now)) call → ⊥) }
 {
+    let Some(flow) = value_of(values, "FLOW") else {
+        return None;
+    };
+    let Some(action) = value_of(values, "ACTION") else {
+        return None;
+    };
+    let Some(address) = value_of(values, "ADDRESS") else {
+        return None;
+    };
+    let Some(value) = value_of(values, "VALUE") else {
+        return None;
+    };
     Some(Call::Rmap {
         file,
-        flow: value_of(values, "FLOW")?,
-        action: value_of(values, "ACTION")?,
-        address: value_of(values, "ADDRESS")?,
-        value: value_of(values, "VALUE")?,
+        flow,
+        action,
+        address,
+        value,
         unacknowledged: is_set(values, "no-ack"),
-        transaction: option_of(values, "transaction"),
+        transaction: value_of(values, "transaction"),
     })
 }
 
@@ -90,11 +111,13 @@ fn witness_call<'a>(file: &'a str, values: &ArgMatches<'a>) -> Option<Call<'a>>
     ensures calls { IfSome result (IsCallOf (codes "witness") (rows_of (found_of values.now))) }
     ensures none { IfNone result ((call : Call) → IsCallOf (codes "witness") (rows_of (found_of values.now)) call → ⊥) }
 {
-    Some(Call::Witness {
-        file,
-        tries: count_of(values, "tries", MOST_TRIES)?,
-        seed: count_of(values, "seed", MOST_SEED)?,
-    })
+    let Some(tries) = count_of(values, "tries", MOST_TRIES) else {
+        return None;
+    };
+    let Some(seed) = count_of(values, "seed", MOST_SEED) else {
+        return None;
+    };
+    Some(Call::Witness { file, tries, seed })
 }
 
 // The call of `audit`.
@@ -104,7 +127,7 @@ fn audit_call<'a>(values: &ArgMatches<'a>) -> Call<'a>
     Call::Audit {
         json: is_set(values, "json"),
         quiet: is_set(values, "quiet"),
-        certificates: option_of(values, "certificates"),
+        certificates: value_of(values, "certificates"),
     }
 }
 
@@ -113,7 +136,7 @@ fn init_call<'a>(values: &ArgMatches<'a>) -> Call<'a>
     ensures { IsCallOf (codes "init") (rows_of (found_of values.now)) result }
 {
     Call::Init {
-        name: option_of(values, "NAME"),
+        name: value_of(values, "NAME"),
     }
 }
 
@@ -135,7 +158,7 @@ fn plain_call<'a>(name: &str, file: &'a str, values: &ArgMatches<'a>) -> Option<
         }),
         "draw" => Some(Call::Draw {
             file,
-            flow: option_of(values, "flow"),
+            flow: value_of(values, "flow"),
             cycle: is_set(values, "cycle"),
             numbers: is_set(values, "numbers"),
         }),
@@ -150,13 +173,13 @@ fn plain_call<'a>(name: &str, file: &'a str, values: &ArgMatches<'a>) -> Option<
 }
 
 // The call of a subcommand that wants a file.
-fn file_call<'a>(name: &str, file: &'a str, values: &ArgMatches<'a>) -> Option<Call<'a>>
-    requires file { first_of (codes "FILE") (rows_of (found_of values.now)) ≡ Some file.now }
+fn file_call<'a>(name: &str, values: &ArgMatches<'a>) -> Option<Call<'a>>
     requires no_audit { name.now ≢ codes "audit" }
     requires no_init { name.now ≢ codes "init" }
     ensures calls { IfSome result (IsCallOf name.now (rows_of (found_of values.now))) }
     ensures none { IfNone result ((call : Call) → IsCallOf name.now (rows_of (found_of values.now)) call → ⊥) }
 {
+    let file = value_of(values, "FILE")?;
     match name {
         "route" => route_call(file, values),
         "check" => check_call(file, values),
@@ -176,7 +199,7 @@ fn call_of<'a>(name: &str, values: &ArgMatches<'a>) -> Option<Call<'a>>
     match name {
         "audit" => Some(audit_call(values)),
         "init" => Some(init_call(values)),
-        _ => file_call(name, value_of(values, "FILE")?, values),
+        _ => file_call(name, values),
     }
 }
 
@@ -203,7 +226,7 @@ fn asked_of<'a>(
     Ok(Asked {
         call,
         files: all_of(alloc, values, "FILE")?,
-        hints: option_of(values, "hints"),
+        hints: value_of(values, "hints"),
     })
 }
 
@@ -218,9 +241,15 @@ fn told<'a>(
     match command.try_get_matches_from(words) {
         Ok(matches) => {
             let (call, values) = matched_call(&matches).unwrap();
-            Ok(Ok(asked_of(alloc, call, values)?))
+            let asked = asked_of(alloc, call, values);
+            drop(matches);
+            Ok(Ok(asked?))
         }
-        Err(error) => Ok(Err(fault_of(alloc, &error)?)),
+        Err(error) => {
+            let fault = fault_of(alloc, &error);
+            drop(error);
+            Ok(Err(fault?))
+        }
     }
 }
 

@@ -2,7 +2,7 @@
 ghost use Rattle.std.specs.Prelude.{◌≡◌, false, pos, IfOk};
 ghost use Rattle.clap.specs.declared.builder.value_parser.ValueParser.TheVariants.{Signed};
 ghost use Rattle.clap.specs.Words.{new_app, rule_of};
-ghost use Rattle.sw_args.specs.CommandLine.{IsMade, count_rule, flag_rule, option_rule, optional_value, required_value, required_values};
+ghost use Rattle.sw_args.specs.CommandLine.{IsMade};
 ghost use Rattle.sw_args.specs.Parts.{part_rule, subcommand_app};
 
 use clap::builder::ValueParser;
@@ -44,30 +44,6 @@ const HINTS: Part = (
     "auto: tell on standard error how to mend a network file; never: do not",
 );
 
-// A value that must be given.
-fn value_arg<'a>(alloc: Global, name: &'static str, help: &'static str) -> Arg<'a>
-    ensures { (rule_of result ≡ required_value name.now) × (result.global ≡ false) }
-{
-    Arg::new(alloc, name).required(true).help(help)
-}
-
-// Values of which one or more must be given.
-fn values_arg<'a>(alloc: Global, name: &'static str, help: &'static str) -> Arg<'a>
-    ensures { (rule_of result ≡ required_values name.now) × (result.global ≡ false) }
-{
-    Arg::new(alloc, name)
-        .required(true)
-        .action(ArgAction::Append)
-        .help(help)
-}
-
-// A value that may be left out.
-fn optional_arg<'a>(alloc: Global, name: &'static str, help: &'static str) -> Arg<'a>
-    ensures { (rule_of result ≡ optional_value name.now) × (result.global ≡ false) }
-{
-    Arg::new(alloc, name).help(help)
-}
-
 // A number from 1 up to the most.
 fn count_parser<'a>(most: u32) -> ValueParser<'a>
     ensures { result ≡ Signed (pos 1) (pos most) }
@@ -75,52 +51,22 @@ fn count_parser<'a>(most: u32) -> ValueParser<'a>
     clap::value_parser!(u32).range(1..=i64::from(most))
 }
 
-// An option whose value is a number from 1 up to the most, the usual one if it is left out.
-fn count_arg<'a>(
-    alloc: Global,
-    name: &'static str,
-    usual: &'static str,
-    most: u32,
-    help: &'static str,
-) -> Arg<'a>
-    ensures { (rule_of result ≡ count_rule name.now usual.now most) × (result.global ≡ false) }
-{
-    Arg::new(alloc, name)
-        .long(name)
-        .value_parser(count_parser(most))
-        .default_value(usual)
-        .help(help)
-}
-
-// An option that has no value: it is given or not.
-fn flag_arg<'a>(alloc: Global, name: &'static str, help: &'static str) -> Arg<'a>
-    ensures { (rule_of result ≡ flag_rule name.now) × (result.global ≡ false) }
-{
-    Arg::new(alloc, name)
-        .long(name)
-        .action(ArgAction::SetTrue)
-        .help(help)
-}
-
-// An option whose value is any text, which may be left out.
-fn option_arg<'a>(alloc: Global, name: &'static str, help: &'static str) -> Arg<'a>
-    ensures { (rule_of result ≡ option_rule name.now) × (result.global ≡ false) }
-{
-    Arg::new(alloc, name).long(name).help(help)
-}
-
 // The argument that the part is.
 fn arg_of<'a>(alloc: Global, part: Part) -> Arg<'a>
     ensures { (rule_of result ≡ part_rule part.entry) × (result.global ≡ false) }
 {
     let (name, takes, help) = part;
+    let arg = Arg::new(alloc, name).help(help);
     match takes {
-        Takes::Value => value_arg(alloc, name, help),
-        Takes::Values => values_arg(alloc, name, help),
-        Takes::Optional => optional_arg(alloc, name, help),
-        Takes::Count(usual, most) => count_arg(alloc, name, usual, most, help),
-        Takes::Flag => flag_arg(alloc, name, help),
-        Takes::Text => option_arg(alloc, name, help),
+        Takes::Value => arg.required(true),
+        Takes::Values => arg.required(true).action(ArgAction::Append),
+        Takes::Optional => arg,
+        Takes::Count(usual, most) => arg
+            .long(name)
+            .value_parser(count_parser(most))
+            .default_value(usual),
+        Takes::Flag => arg.long(name).action(ArgAction::SetTrue),
+        Takes::Text => arg.long(name),
     }
 }
 

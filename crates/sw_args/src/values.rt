@@ -1,23 +1,16 @@
 //! The values that clap found for a subcommand.
 ghost use Rattle.std.specs.Prelude.{◌≡◌, ◌<◌, ◌^◌, ℕ, option_map, IfOk, IfNone, IfSome};
 ghost use Rattle.clap.specs.Words.{first_of, found_of, rows_of};
-ghost use Rattle.sw_args.specs.CommandLine.{AreAll, IsCount, IsOption, IsSet, SaysNumber};
+ghost use Rattle.sw_args.specs.CommandLine.{AreAll, IsCount, IsSet, SaysNumber};
 
 use clap::ArgMatches;
 use std::alloc::{AllocError, Global};
 
-// The first value of an argument.
+// The first value of an argument, if it has one.
 pub(crate) fn value_of<'a>(values: &ArgMatches<'a>, name: &str) -> Option<&'a str>
     ensures { option_map (λ s. s.now) result ≡ first_of name.now (rows_of (found_of values.now)) }
 {
     values.get_str(name)
-}
-
-// The value of an option that may be left out.
-pub(crate) fn option_of<'a>(values: &ArgMatches<'a>, name: &str) -> Option<&'a str>
-    ensures { IsOption name.now (rows_of (found_of values.now)) result }
-{
-    value_of(values, name)
 }
 
 // The number that an option's value says.

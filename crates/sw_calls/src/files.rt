@@ -8,7 +8,7 @@ ghost use Rattle.sw_app.specs.Samples.{sample_named};
 ghost use Rattle.sw_app.specs.VerdictAnswers.{IsDecideAnswer, IsReportAnswer};
 ghost use Rattle.sw_calls.specs.Files.{ChecksFilesDeadlockFree, DecidesFileDeadlockFree, EndsByFile, EndsBySample, EndsByFiles};
 
-use crate::told::no_sample;
+use crate::told::tell_refused;
 use std::fs;
 use std::io::Write;
 use std::rt::Files;
@@ -102,6 +102,6 @@ pub fn write_sample<R: Eprint, W: Write>(rt: &R, name: Option<&str>, writer: &mu
 {
     match sample_named(name) {
         Some(sample) => init(sample, writer),
-        None => no_sample(rt),
+        None => tell_refused(rt, "NAME is bus, ring, housekeeping or regions"),
     }
 }

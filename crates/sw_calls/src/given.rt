@@ -3,7 +3,7 @@ ghost use Rattle.std.specs.Prelude.{◌≡◌, ◌⊎◌, IfErr, IfOk, map, stri
 ghost use Rattle.sw_args.specs.CommandLine.{Gives, HasWorkers};
 ghost use Rattle.sw_calls.specs.Given.{EndsRefused};
 
-use crate::told::{not_text, refused};
+use crate::told::{refused, tell_refused};
 use std::alloc::{AllocError, Global};
 use std::rt::Env;
 use std::{env, io};
@@ -23,7 +23,7 @@ pub fn given_texts<R: Env + Print + Eprint + AllocGlobal>(rt: &R) -> Result<Vec<
             rt,
             &WordsFault::Memory,
         )),
-        Err(_) => return Err(not_text(rt)),
+        Err(_) => return Err(tell_refused(rt, "the words are no UTF-8 text").status()),
     };
     match given.collect::<Vec<String>>(rt.alloc()) {
         Ok(texts) => Ok(texts),

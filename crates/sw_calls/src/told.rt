@@ -18,13 +18,6 @@ pub fn told_end(rt: &impl Eprint, ended: Ended) -> Ended
     ended
 }
 
-// The status of a write that failed, which is told.
-fn unwritten(rt: &impl Eprint) -> u8
-    ensures { result ≡ exit_status Ended.WriteFailed }
-{
-    told_end(rt, Ended::WriteFailed).status()
-}
-
 /// Tells why the words give no call.
 pub(crate) fn refused<R: Print + Eprint>(rt: &R, fault: &WordsFault) -> u8
     ensures { (result ≡ words_status fault.now) ⊎ (result ≡ exit_status Ended.WriteFailed) }
@@ -39,40 +32,21 @@ pub(crate) fn refused<R: Print + Eprint>(rt: &R, fault: &WordsFault) -> u8
     };
     match written {
         Ok(()) => fault.status(),
-        Err(_) => unwritten(rt),
+        Err(_) => told_end(rt, Ended::WriteFailed).status(),
     }
 }
 
-/// Tells that a word is no text.
-pub(crate) fn not_text(rt: &impl Eprint) -> u8
-    ensures { result ≡ 2 }
+/// Tells why words are refused that clap takes.
+pub fn tell_refused(rt: &impl Eprint, why: &str) -> Ended
+    ensures { result ≡ Ended.Status 2 }
 {
-    let _ = eprint!(rt; "error: the words are no UTF-8 text\n");
-    REFUSED
+    let _ = eprint!(rt; "error: {why}\n");
+    Ended::Status(REFUSED)
 }
 
 /// Tells that `--hints` has no such value.
 pub fn no_hints(rt: &impl Eprint) -> Ended
     ensures { result ≡ Ended.Status 2 }
 {
-    let _ = eprint!(rt; "error: --hints is auto or never\n");
-    Ended::Status(REFUSED)
-}
-
-/// Tells that there is no sample of that name.
-pub(crate) fn no_sample(rt: &impl Eprint) -> Ended
-    ensures { result ≡ Ended.Status 2 }
-{
-    let _ = eprint!(rt; "error: NAME is bus, ring, housekeeping or regions\n");
-    Ended::Status(REFUSED)
-}
-
-/// Tells that the program has no such call.
-pub(crate) fn no_call(rt: &impl Eprint) -> Ended
-    ensures { result ≡ Ended.Status 2 }
-{
-    let _ = eprint!(rt;
-        "error: this program has route, decide, check, report, migrate and init, without --json; swcheck has the rest\n"
-    );
-    Ended::Status(REFUSED)
+    tell_refused(rt, "--hints is auto or never")
 }

@@ -2,12 +2,16 @@
 use crate::files::{check_files, decide_file, migrate_file, report_file, route_file, write_sample};
 use crate::given::{given_call, given_texts, given_words};
 use crate::hints::hints_of;
-use crate::told::{no_call, no_hints, told_end};
+use crate::told::{no_hints, tell_refused, told_end};
 use std::io::{self, Write};
 use std::rt::{Env, Files};
 use sw_args::{Asked, Call};
 use sw_command::Ended;
 use sw_search::VerdictWorkers;
+
+// What is told of a call that the program does not have.
+const OTHER_CALL: &str =
+    "this program has route, decide, check, report, migrate and init, without --json; swcheck has the rest";
 
 /// Does what the words say that the program was given, and answers its status: `route`, `decide`, `check`, `report`, `migrate` and `init` with a
 /// text as their answer. It gives no hints.
@@ -15,20 +19,32 @@ pub fn run_verdicts<R: Env + Files + Print + Eprint + AllocGlobal, C: VerdictWor
     rt: &R,
     workers: &C,
 ) -> u8 {
-    match run_given(rt, workers) {
-        Ok(ended) => ended.status(),
+    match given_texts(rt) {
+        Ok(texts) => run_texts(rt, workers, texts.as_slice()),
         Err(status) => status,
     }
 }
 
-fn run_given<R: Env + Files + Print + Eprint + AllocGlobal, C: VerdictWorkers>(
+fn run_texts<R: Files + Print + Eprint + AllocGlobal, C: VerdictWorkers>(
     rt: &R,
     workers: &C,
-) -> Result<Ended, u8> {
-    let texts = given_texts(rt)?;
-    let words = given_words(rt, texts.as_slice())?;
-    let asked = given_call(rt, words.as_slice())?;
-    Ok(run_asked(rt, workers, &asked))
+    texts: &[String],
+) -> u8 {
+    match given_words(rt, texts) {
+        Ok(words) => run_words(rt, workers, words.as_slice()),
+        Err(status) => status,
+    }
+}
+
+fn run_words<R: Files + Print + Eprint + AllocGlobal, C: VerdictWorkers>(
+    rt: &R,
+    workers: &C,
+    words: &[&str],
+) -> u8 {
+    match given_call(rt, words) {
+        Ok(asked) => run_asked(rt, workers, &asked).status(),
+        Err(status) => status,
+    }
 }
 
 fn run_asked<R: Files + Print + Eprint + AllocGlobal, C: VerdictWorkers>(
@@ -43,24 +59,6 @@ fn run_asked<R: Files + Print + Eprint + AllocGlobal, C: VerdictWorkers>(
     told_end(rt, run_call(rt, workers, asked.call, &mut writer))
 }
 
-fn run_decide<R: Files + AllocGlobal, C: VerdictWorkers, W: Write>(
-    rt: &R,
-    workers: &C,
-    file: &str,
-    writer: &mut W,
-) -> Ended {
-    decide_file(rt, workers, file, 0, writer).into_ended()
-}
-
-fn run_report<R: Files + AllocGlobal, C: VerdictWorkers, W: Write>(
-    rt: &R,
-    workers: &C,
-    file: &str,
-    writer: &mut W,
-) -> Ended {
-    report_file(rt, workers, file, 0, writer).into_ended()
-}
-
 fn run_call<R: Files + Eprint + AllocGlobal, C: VerdictWorkers, W: Write>(
     rt: &R,
     workers: &C,
@@ -73,8 +71,12 @@ fn run_call<R: Files + Eprint + AllocGlobal, C: VerdictWorkers, W: Write>(
             flow,
             json: false,
         } => route_file(rt, file, flow, writer),
-        Call::Decide { file, json: false } => run_decide(rt, workers, file, writer),
-        Call::Report { file, json: false } => run_report(rt, workers, file, writer),
+        Call::Decide { file, json: false } => decide_file(
+            rt, workers, file, 0, writer,
+        ).into_ended(),
+        Call::Report { file, json: false } => report_file(
+            rt, workers, file, 0, writer,
+        ).into_ended(),
         Call::Check {
             file,
             certificate,
@@ -82,6 +84,6 @@ fn run_call<R: Files + Eprint + AllocGlobal, C: VerdictWorkers, W: Write>(
         } => check_files(rt, workers, file, certificate, writer),
         Call::Migrate { file } => migrate_file(rt, file, writer),
         Call::Init { name } => write_sample(rt, name, writer),
-        _ => no_call(rt),
+        _ => tell_refused(rt, OTHER_CALL),
     }
 }

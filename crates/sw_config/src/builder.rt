@@ -57,6 +57,9 @@ impl NetworkBuilder {
         }
     }
 
+    /// Lets go of what was added, as [`Network::discard`] does.
+    pub fn discard(self) {}
+
     /// How many nodes there are.
     pub fn node_count(&self) -> u16
         ensures count { result ≡ length self.now.nodes }

@@ -96,6 +96,12 @@ impl Network {
         Ok(())
     }
 
+    /// Lets the network go. `drop` does the same, and has the crate that calls it prove the drop of each part once more.
+    pub fn discard(self) {}
+
+    /// Lets go of the network that there may be, as [`Network::discard`] does.
+    pub fn discard_any(_network: Option<Network>) {}
+
     /// How its parts are joined.
     pub fn topology(&self) -> &Topology
         ensures wiring { result.now ≡ wiring_of self.now }

@@ -12,3 +12,20 @@ pub mod FlowTables
 pub mod Documents
 pub mod Valid
 pub mod Named
+mod Puts
+mod RowSteps
+mod LongestRows
+mod RowLooks
+mod RowsApart
+mod PutMembers
+mod RowEntries
+mod RowRoutes
+mod NewTables
+mod NewSwitches
+mod NewParts
+mod NewNetwork
+mod Plain
+mod PlainReaders
+mod PlainEntries
+mod PlainTree
+mod WholeMigration

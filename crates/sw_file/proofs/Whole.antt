@@ -53,20 +53,16 @@ link_is version i d ms keys u a b buffer buffer_a buffer_b same known at_a at_b 
     let known_so : only_known (section.Link i) (link_keys version) ms ≡ Ok u = rw same at known in
     rw (known_so, at_a, at_b, at_buffer, at_buffer_a, at_buffer_b) refl
 
-pub node_is : (version : Version) (i : ℕ) (d : Declaration) (ms : Members) (keys : List Key) (u : Unit {0}) (name : List ℕ) (target : Option TargetConfig) → keys ≡ node_keys → only_known (section.Node i) keys ms ≡ Ok u
+pub node_is : (version : Version) (i : ℕ) (d : Declaration) (ms : Members) (u : Unit {0}) (name : List ℕ) (target : Option TargetConfig) → only_known (section.Node i) node_keys ms ≡ Ok u
     → new_name (section.Node i) (part_names d) ms ≡ Ok name → target_or_none version i ms ≡ Ok target → next_node version i d ms ≡ Ok (record d { nodes = d.nodes ++ record { name = name; target = target } ∷ [] })
 unfolding node_of next_node
-node_is version i d ms keys u name target same known at_name at_target =
-    let known_so : only_known (section.Node i) node_keys ms ≡ Ok u = rw same at known in
-    rw (known_so, at_name, at_target) refl
+node_is version i d ms u name target known at_name at_target = rw (known, at_name, at_target) refl
 
-pub switch_is : (version : Version) (i : ℕ) (d : Declaration) (ms : Members) (keys : List Key) (u : Unit {0}) (name : List ℕ) (arbitration : Arbitration) (routes : List RouteEntry) → keys ≡ switch_keys → only_known (section.Switch i) keys ms ≡ Ok u
+pub switch_is : (version : Version) (i : ℕ) (d : Declaration) (ms : Members) (u : Unit {0}) (name : List ℕ) (arbitration : Arbitration) (routes : List RouteEntry) → only_known (section.Switch i) switch_keys ms ≡ Ok u
     → new_name (section.Switch i) (part_names d) ms ≡ Ok name → arbitration_at i ms ≡ Ok arbitration → routes_at version i ms ≡ Ok routes
     → next_switch version i d ms ≡ Ok (record d { switches = d.switches ++ record { name = name; arbitration = arbitration; routes = routes } ∷ [] })
 unfolding switch_of next_switch
-switch_is version i d ms keys u name arbitration routes same known at_name at_arbitration at_routes =
-    let known_so : only_known (section.Switch i) switch_keys ms ≡ Ok u = rw same at known in
-    rw (known_so, at_name, at_arbitration, at_routes) refl
+switch_is version i d ms u name arbitration routes known at_name at_arbitration at_routes = rw (known, at_name, at_arbitration, at_routes) refl
 
 pub node_end_is : (s : Section) (key port : Key) (nodes : ℕ) (names : List (List ℕ)) (ms : Members) (place : ℕ) (u : Unit {0}) → place_at s key names ms ≡ Ok place → place < nodes → absent s port ms ≡ Ok u
     → end_at s key port nodes names ms ≡ Ok (ends.Node place)

@@ -1,5 +1,5 @@
--- What reading a network file comes to.
-use Rattle.std.specs.Prelude.{◌≡◌, ◌≢◌, ◌↔◌, ℕ, true, All, AllPairs, List, [], length, take, slice_get, Some, Result, Ok}
+-- What reading a network file comes to, and what the rows of a migrated one are.
+use Rattle.std.specs.Prelude.{◌≡◌, ◌≢◌, ◌↔◌, ℕ, suc, true, false, All, AllPairs, List, [], length, take, slice_get, Some, Result, Ok}
 use Rattle.toml.specs.Data.{Members}
 use Rattle.sw_config.specs.Entries.{Declaration, part_names, flow_names, all_flows}
 use Rattle.sw_config.specs.Valid.{IsValid}
@@ -18,6 +18,7 @@ use Rattle.sw_file.specs.Links.{link_of}
 use Rattle.sw_file.specs.FlowTables.{flow_of}
 use Rattle.sw_file.specs.Network.{version_of, network_of, network_text}
 use Rattle.sw_file.specs.Tables.{IsNetworkText}
+use Rattle.sw_file.specs.Rows.{Entry, Row, goes_on, rows}
 
 -- the document's list at the key has one table for each entry, and entry i is what table i declares
 pub record Declares {A : Type 0} (key : Key) (ms : Members) (declared : ℕ → Members → Result A TextFault) (entries : List A) : Type 0 where
@@ -93,3 +94,7 @@ pub record HasNames (d : Declaration) : Type 0 where
 -- so it is in each network that is read
 abbrev pub ReadNamesAreNames : Type 0
 ReadNamesAreNames = (bytes : List ℕ) (d : Declaration) → network_text bytes ≡ Ok d → HasNames d
+
+-- Rows are the longest: no row's first entry goes on with the row before it.
+abbrev pub RowsAreLongest : Type 0
+RowsAreLongest = (es : List Entry) (i : ℕ) (r s : Row) → slice_get (rows es) i ≡ Some r → slice_get (rows es) (suc i) ≡ Some s → goes_on r s.first ≡ false

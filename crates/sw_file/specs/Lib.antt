@@ -7,4 +7,8 @@ pub mod FlowTables
 pub mod Network
 pub mod Values
 pub mod Tables
+pub mod Rows
+pub mod Tree
+pub mod Migration
+pub mod Seen
 pub mod Laws

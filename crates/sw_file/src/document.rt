@@ -6,7 +6,7 @@ ghost use Rattle.sw_toml_table.specs.Gives.{Gives};
 ghost use Rattle.sw_file.specs.Network.{version_of, entries, with_nodes, with_switches, with_links, with_parts, wired, with_flows, network_of, network_text};
 
 use crate::flows::add_flow;
-use crate::keys::document_keys;
+use crate::keys::DOCUMENT_KEYS;
 use crate::links::add_link;
 use crate::nodes::add_node;
 use crate::switches::add_switch;
@@ -25,7 +25,7 @@ fn version_of(alloc: Global, document: &TableEntry) -> Result<Version, FileFault
     requires { document.now.section ≡ Section.Document }
     ensures { Gives (λ v. v) result (version_of (table_view document.now.table.now)) }
 {
-    document.only_known(alloc, document_keys())?;
+    document.only_known(alloc, DOCUMENT_KEYS)?;
     let number = document.number(Key::Version, 1, 2)?;
     Ok(if number == 1 {
         Version::One
@@ -141,7 +141,7 @@ fn parts(
     match read_parts(alloc, version, document, &mut builder) {
         Ok(()) => Ok(builder),
         Err(fault) => {
-            drop(builder);
+            builder.discard();
             Err(fault)
         }
     }
@@ -181,7 +181,7 @@ fn with_flows(alloc: Global, document: &TableEntry, network: Network) -> Result<
     match read_flows(alloc, document, &mut network) {
         Ok(()) => Ok(network),
         Err(fault) => {
-            drop(network);
+            network.discard();
             Err(fault)
         }
     }

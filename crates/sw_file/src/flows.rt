@@ -10,7 +10,7 @@ ghost use Rattle.sw_toml_table.specs.Gives.{Gives};
 ghost use Rattle.sw_file.specs.Names.{new_name, place_at};
 ghost use Rattle.sw_file.specs.FlowTables.{node_names, address_at, addressed, reply_of, reply_or_none, can_reply, replies_at, with_replies, flow_of, next_flow};
 
-use crate::keys::{flow_keys, reply_keys};
+use crate::keys::{FLOW_KEYS, REPLY_KEYS};
 use std::alloc::Global;
 use std::marker::Model;
 use sw_config::{Flow, Network, Reply};
@@ -77,7 +77,7 @@ fn reply_of(alloc: Global, index: usize, table: &Table) -> Result<Reply, FileFau
         section: Section::Reply(index),
         table,
     };
-    reply.only_known(alloc, reply_keys())?;
+    reply.only_known(alloc, REPLY_KEYS)?;
     let path = reply.numbers_or_none(alloc, Key::Path, 255)?;
     let initiator = reply.number(Key::Initiator, 0, 255)? as u8;
     Ok(Reply::new(path, initiator))
@@ -174,7 +174,7 @@ fn flow_of(
     ensures fresh { IfOk result (λ f. list_any (bytes_eq f.name) (flow_names network.now.flows) ≡ false) }
     ensures valid { IfOk result (IsFlow network.now.nodes) }
 {
-    flow.only_known(alloc, flow_keys())?;
+    flow.only_known(alloc, FLOW_KEYS)?;
     let name = new_flow_name(flow, network)?;
     let from = node_at(flow, Key::From, network)?;
     let to = node_at(flow, Key::To, network)?;

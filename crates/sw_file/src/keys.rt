@@ -1,20 +1,31 @@
 //! Which keys the tables of a network file may have.
 ghost use Rattle.std.specs.Prelude.{◌≡◌};
-ghost use Rattle.sw_file.specs.Keys.{document_keys, node_keys, target_keys, switch_keys, route_keys, link_keys, flow_keys, reply_keys};
+ghost use Rattle.sw_file.specs.Keys.{target_keys, route_keys, link_keys};
 
 use sw_toml_table::{Key, Version};
 
-pub(crate) fn document_keys() -> &'static [Key]
-    ensures { result.now ≡ document_keys }
-{
-    &[Key::Version, Key::Node, Key::Switch, Key::Link, Key::Flow]
-}
+pub(crate) const DOCUMENT_KEYS: &[Key] = &[
+    Key::Version,
+    Key::Node,
+    Key::Switch,
+    Key::Link,
+    Key::Flow,
+];
 
-pub(crate) fn node_keys() -> &'static [Key]
-    ensures { result.now ≡ node_keys }
-{
-    &[Key::Name, Key::Target]
-}
+pub(crate) const NODE_KEYS: &[Key] = &[Key::Name, Key::Target];
+
+pub(crate) const SWITCH_KEYS: &[Key] = &[Key::Name, Key::Arbiter, Key::Route];
+
+pub(crate) const FLOW_KEYS: &[Key] = &[
+    Key::Name,
+    Key::From,
+    Key::To,
+    Key::Address,
+    Key::Left,
+    Key::Reply,
+];
+
+pub(crate) const REPLY_KEYS: &[Key] = &[Key::Path, Key::Initiator];
 
 pub(crate) fn target_keys(version: Version) -> &'static [Key]
     ensures { result.now ≡ target_keys version }
@@ -29,12 +40,6 @@ pub(crate) fn target_keys(version: Version) -> &'static [Key]
             Key::Slots,
         ],
     }
-}
-
-pub(crate) fn switch_keys() -> &'static [Key]
-    ensures { result.now ≡ switch_keys }
-{
-    &[Key::Name, Key::Arbiter, Key::Route]
 }
 
 pub(crate) fn route_keys(version: Version) -> &'static [Key]
@@ -61,23 +66,4 @@ pub(crate) fn link_keys(version: Version) -> &'static [Key]
             Key::BufferB,
         ],
     }
-}
-
-pub(crate) fn flow_keys() -> &'static [Key]
-    ensures { result.now ≡ flow_keys }
-{
-    &[
-        Key::Name,
-        Key::From,
-        Key::To,
-        Key::Address,
-        Key::Left,
-        Key::Reply,
-    ]
-}
-
-pub(crate) fn reply_keys() -> &'static [Key]
-    ensures { result.now ≡ reply_keys }
-{
-    &[Key::Path, Key::Initiator]
 }

@@ -1,5 +1,5 @@
-//! What reading a network file comes to.
-ghost use Rattle.sw_file.specs.Laws.{ReadsEachEntry, RefusesUnknownKeys, NetworksAreReadExactly, ReadNetworksAreValid, ReadNamesAreNames};
+//! What reading a network file comes to, and what the rows of a migrated one are.
+ghost use Rattle.sw_file.specs.Laws.{ReadsEachEntry, RefusesUnknownKeys, NetworksAreReadExactly, ReadNetworksAreValid, ReadNamesAreNames, RowsAreLongest};
 
 /// Each entry of a network that is read is what the table of its number declares.
 pub fn each_entry_is_read()
@@ -27,4 +27,9 @@ pub fn read_networks_are_valid()
 /// its flows, the reply flows too, have one name.
 pub fn read_names_are_names()
     ensures { ReadNamesAreNames }
+{}
+
+/// Rows are the longest.
+pub fn rows_are_longest()
+    ensures { RowsAreLongest }
 {}

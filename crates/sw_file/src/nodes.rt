@@ -9,7 +9,7 @@ ghost use Rattle.sw_toml_table.specs.Gives.{Gives};
 ghost use Rattle.sw_file.specs.Names.{new_name};
 ghost use Rattle.sw_file.specs.Nodes.{size_at, config_of, target_or_none, next_node};
 
-use crate::keys::{node_keys, target_keys};
+use crate::keys::{NODE_KEYS, target_keys};
 use std::alloc::Global;
 use std::marker::Model;
 use sw_config::NetworkBuilder;
@@ -119,7 +119,7 @@ pub(crate) fn add_node(
         section: Section::Node(index),
         table,
     };
-    node.only_known(alloc, node_keys())?;
+    node.only_known(alloc, NODE_KEYS)?;
     let name = new_part_name(&node, builder)?;
     let target = target_or_none(alloc, version, index, &node)?;
     builder.add_node(alloc, name, target)?;

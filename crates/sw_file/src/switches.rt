@@ -6,7 +6,7 @@ ghost use Rattle.sw_route.specs.Looks.{IsRoute};
 ghost use Rattle.sw_toml_table.specs.Gives.{Gives};
 ghost use Rattle.sw_file.specs.Switches.{arbitration_named, arbitration_at, ports_at, route_of, next_route, routes_at, next_switch};
 
-use crate::keys::{route_keys, switch_keys};
+use crate::keys::{SWITCH_KEYS, route_keys};
 use crate::nodes::new_part_name;
 use std::alloc::Global;
 use std::marker::Model;
@@ -147,7 +147,7 @@ pub(crate) fn add_switch(
         section: Section::Switch(index),
         table,
     };
-    switch.only_known(alloc, switch_keys())?;
+    switch.only_known(alloc, SWITCH_KEYS)?;
     let name = new_part_name(&switch, builder)?;
     let arbitration = arbitration_at(index, &switch)?;
     let routes = routes_at(alloc, version, index, &switch)?;

@@ -1,18 +1,13 @@
 -- What the entries of a document say, as far as they say it.
-use Rattle.std.specs.Prelude.{ℕ, List, Option, ◌++◌, flat_map, option_and_then, option_to_list}
-use Rattle.toml.specs.Data.{Members, as_str, get_member}
+use Rattle.std.specs.Prelude.{ℕ, List, ◌++◌, flat_map, option_to_list}
+use Rattle.toml.specs.Data.{Members}
 use Rattle.sw_toml_table.specs.declared.keys.Key.{Key}
 use Rattle.sw_toml_table.specs.declared.keys.Key.TheVariants.{Name, Node, Switch}
-use Rattle.sw_toml_table.specs.Keys.{key_text}
-use Rattle.sw_notes.specs.Entries.{tables_of}
-
--- the name in a table
-abbrev pub name_in : Members → Option (List ℕ)
-name_in table = option_and_then as_str (get_member (key_text Name) table)
+use Rattle.sw_notes.specs.Entries.{tables_of, text_in}
 
 -- the names in tables, in their order
 abbrev pub each_name : List Members → List (List ℕ)
-each_name tables = flat_map (λ t. option_to_list (name_in t)) tables
+each_name tables = flat_map (λ t. option_to_list (text_in Name t)) tables
 
 -- the names of a list of the document
 abbrev pub names_of : Key → Members → List (List ℕ)

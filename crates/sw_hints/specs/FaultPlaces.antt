@@ -12,8 +12,8 @@ use Rattle.sw_toml_table.specs.declared.fault.KeyFault.TheVariants.{MissingKey}
 use Rattle.sw_toml_table.specs.declared.fault.TextFault.{TextFault}
 use Rattle.sw_toml_table.specs.declared.fault.TextFault.TheVariants.{Syntax, UnknownKey, Key, Topology, DuplicateRoute, ReplyShape, NotInFlow}
 use Rattle.sw_toml_table.specs.Keys.{key_text}
-use Rattle.sw_position.specs.declared.sought.Sought.{Sought}
-use Rattle.sw_position.specs.Places.{IsPlace}
+use Rattle.sw_notes.specs.declared.sought.Sought.{Sought}
+use Rattle.sw_notes.specs.Places.{IsPlace}
 
 -- a table, or a key of it
 abbrev pub Shown : Type 0

@@ -2,7 +2,7 @@
 use Rattle.std.specs.Prelude.{ℕ, List, [], ◌∷◌, ◌++◌, ◌==◌, Option, Some, None, codes, drop, not, take}
 use Rattle.std.specs.Fmt.{decimal}
 use Rattle.std.specs.List.{prefix_len}
-use Rattle.sw_position.specs.LineColumn.{column_of, line_of}
+use Rattle.sw_notes.specs.LineColumn.{column_of, line_of}
 use Rattle.sw_hints.specs.Shown.{shown}
 
 -- what stands before the first LF

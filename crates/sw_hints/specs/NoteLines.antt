@@ -4,8 +4,8 @@ use Rattle.std.specs.Fmt.{decimal}
 use Rattle.sw_toml_table.specs.declared.keys.Section.{Section}
 use Rattle.sw_toml_table.specs.declared.keys.Section.TheVariants.{Document, Node, Target, Switch, Route, Link, Flow, Reply, Packet}
 use Rattle.sw_toml_table.specs.Keys.{key_text}
-use Rattle.sw_position.specs.LineColumn.{column_of, line_of}
-use Rattle.sw_position.specs.Places.{IsPlace}
+use Rattle.sw_notes.specs.LineColumn.{column_of, line_of}
+use Rattle.sw_notes.specs.Places.{IsPlace}
 use Rattle.sw_notes.specs.declared.note.Note.{Note}
 use Rattle.sw_notes.specs.declared.note.Note.TheVariants.{HasName, Unlinked, LinkHere, HasPort, IsFor, LongPath, LeadingZero, NoInitiator, NoTarget}
 use Rattle.sw_hints.specs.HintLines.{told}

@@ -105,6 +105,13 @@ fn topology_expected(fault: TopoFault) -> &'static str
     }
 }
 
+// What is to stand in the place of a key that is missing.
+fn missing_text(alloc: Global, name: &str, words: &str) -> Result<String, AllocError>
+    ensures { IfOk result (λ s. string_bytes s ≡ name.now ++ (codes " = " ++ words.now)) }
+{
+    format!(in alloc; "{name} = {words}")
+}
+
 /// What would be right.
 ///
 /// # Errors
@@ -117,9 +124,7 @@ pub fn expected_text(alloc: Global, fault: &TextFault) -> Result<String, AllocEr
         TextFault::Syntax => String::from_str(alloc, "a TOML 1.1 text"),
         TextFault::UnknownKey(section, _) => one_of(alloc, keys_of(*section)),
         TextFault::Key(KeyFault::MissingKey, section, key) => {
-            let name = key.text();
-            let words = value_words(*section, *key);
-            format!(in alloc; "{name} = {words}")
+            missing_text(alloc, key.text(), value_words(*section, *key))
         }
         TextFault::Key(_, section, key) => String::from_str(alloc, value_words(*section, *key)),
         TextFault::Topology(fault) => String::from_str(alloc, topology_expected(*fault)),

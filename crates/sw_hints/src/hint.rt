@@ -1,7 +1,9 @@
 //! The hint of a fault.
-ghost use Rattle.std.specs.Prelude.{◌≡◌, IfOk, IfSome, string_bytes};
+ghost use Rattle.std.specs.Prelude.{◌≡◌, ◌≤◌, IfOk, IfSome, length, string_bytes};
 ghost use Rattle.sw_toml_table.specs.Document.{document_of};
-ghost use Rattle.sw_hints.specs.Hints.{AreNotes, IsHelp, IsHint, IsNetworkHint, notes_by};
+ghost use Rattle.sw_hints.specs.FaultWords.{expected_text, what_text};
+ghost use Rattle.sw_hints.specs.HintLines.{hint_lines};
+ghost use Rattle.sw_hints.specs.Hints.{AreNotes, IsHelp, IsHint, IsNetworkHint, help_by, notes_by};
 
 use crate::fault_words::{expected_text, what_text};
 use crate::helps::help_text;
@@ -10,7 +12,7 @@ use crate::note_lines::note_lines;
 use crate::places::fault_place;
 use std::alloc::{AllocError, Global};
 use sw_file::read_network;
-use sw_notes::{Note, notes_of};
+use sw_notes::{Note, notes_of, text_fault};
 use sw_toml_table::{FileFault, TextFault, read_document};
 
 // What to do about a fault of a text.
@@ -19,8 +21,10 @@ fn help_of(alloc: Global, text: &[u8], fault: &TextFault) -> Result<String, Allo
 {
     match read_document(alloc, text) {
         Ok(document) => help_text(alloc, &document, fault),
-        Err(FileFault::Text(_)) => Ok(String::new(alloc)),
-        Err(FileFault::Memory) => Err(AllocError),
+        Err(refused) => {
+            text_fault(refused)?;
+            Ok(String::new(alloc))
+        }
     }
 }
 
@@ -30,8 +34,10 @@ fn notes_by(alloc: Global, text: &[u8], fault: &TextFault) -> Result<Vec<Note>, 
 {
     match read_document(alloc, text) {
         Ok(document) => notes_of(alloc, &document, fault),
-        Err(FileFault::Text(_)) => Ok(Vec::new(alloc)),
-        Err(FileFault::Memory) => Err(AllocError),
+        Err(refused) => {
+            text_fault(refused)?;
+            Ok(Vec::new(alloc))
+        }
     }
 }
 
@@ -41,6 +47,33 @@ fn note_lines_of(alloc: Global, text: &[u8], fault: &TextFault) -> Result<String
 {
     let notes = notes_by(alloc, text, fault)?;
     note_lines(alloc, text, &notes)
+}
+
+// The hint of a fault, told of a place and of the lines of its notes.
+fn hint_at(
+    alloc: Global,
+    path: &str,
+    text: &[u8],
+    fault: &TextFault,
+    place: Option<usize>,
+    notes: &str,
+) -> Result<String, AllocError>
+    requires { IfSome place (λ at. at ≤ length text.now) }
+    ensures { IfOk result (λ s. string_bytes s ≡ hint_lines path.now text.now place (what_text fault.now) (expected_text fault.now) (help_by (document_of text.now) fault.now) notes.now) }
+{
+    let what = what_text(alloc, fault)?;
+    let expected = expected_text(alloc, fault)?;
+    let help = help_of(alloc, text, fault)?;
+    hint_lines(
+        alloc,
+        path,
+        text,
+        place,
+        what.as_str(),
+        expected.as_str(),
+        help.as_str(),
+        notes,
+    )
 }
 
 /// What is told of a fault of a text to who has to mend it: where it stands, what stands there, what would be right, what to do, and
@@ -59,20 +92,8 @@ pub fn hint_of(
     ensures { IfOk result (λ s. IsHint path.now text.now fault.now (string_bytes s)) }
 {
     let place = fault_place(alloc, text, fault)?;
-    let what = what_text(alloc, fault)?;
-    let expected = expected_text(alloc, fault)?;
-    let help = help_of(alloc, text, fault)?;
     let notes = note_lines_of(alloc, text, fault)?;
-    hint_lines(
-        alloc,
-        path,
-        text,
-        place,
-        what.as_str(),
-        expected.as_str(),
-        help.as_str(),
-        notes.as_str(),
-    )
+    hint_at(alloc, path, text, fault, place, notes.as_str())
 }
 
 /// The hint of the first fault of a network file; none where the text is a network.
@@ -85,7 +106,7 @@ pub fn network_hint(alloc: Global, path: &str, text: &[u8]) -> Result<Option<Str
 {
     match read_network(alloc, text) {
         Ok(network) => {
-            drop(network);
+            network.discard();
             Ok(None)
         }
         Err(FileFault::Text(fault)) => Ok(Some(hint_of(alloc, path, text, &fault)?)),

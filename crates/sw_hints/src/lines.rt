@@ -1,11 +1,12 @@
 //! The lines of a hint.
-ghost use Rattle.std.specs.Prelude.{◌≡◌, ◌≤◌, ◌==◌, IfOk, IfSome, drop, length, not, string_bytes, take};
+ghost use Rattle.std.specs.Prelude.{◌≡◌, ◌≤◌, ◌==◌, ◌++◌, IfOk, IfSome, codes, drop, length, not, string_bytes, take};
+ghost use Rattle.std.specs.Fmt.{decimal};
 ghost use Rattle.std.specs.List.{prefix_len};
 ghost use Rattle.sw_hints.specs.HintLines.{first_line, found_line, found_part, head_line, hint_lines, place_text, told};
 
 use crate::escaped::shown;
 use std::alloc::{AllocError, Global};
-use sw_position::position_at;
+use sw_notes::{Position, position_at};
 
 /// The most bytes of a text's line that are shown.
 const MOST_FOUND: usize = 72;
@@ -48,6 +49,15 @@ fn found_part(text: &[u8], at: usize) -> &[u8]
     most(first_line(behind(text, at)))
 }
 
+// A place behind a path.
+fn placed(alloc: Global, path: &str, place: Position) -> Result<String, AllocError>
+    ensures { IfOk result (λ s. string_bytes s ≡ path.now ++ (codes ":" ++ (decimal place.line ++ (codes ":" ++ decimal place.column)))) }
+{
+    let line = place.line;
+    let column = place.column;
+    format!(in alloc; "{path}:{line}:{column}")
+}
+
 // Where a byte of the text stands.
 fn place_text(
     alloc: Global,
@@ -61,12 +71,7 @@ fn place_text(
     let path = shown(alloc, path.as_bytes())?;
     match place {
         None => Ok(path),
-        Some(at) => {
-            let position = position_at(text, at);
-            let line = position.line;
-            let column = position.column;
-            format!(in alloc; "{path}:{line}:{column}")
-        }
+        Some(at) => placed(alloc, path.as_str(), position_at(text, at)),
     }
 }
 

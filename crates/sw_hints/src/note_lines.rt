@@ -6,8 +6,7 @@ ghost use Rattle.sw_hints.specs.NoteLines.{AddsLine, AreNoteLines, IsNoteLine, I
 
 use crate::lines::told;
 use std::alloc::{AllocError, Global};
-use sw_notes::Note;
-use sw_position::{Sought, place_of, position_at};
+use sw_notes::{Note, Position, Sought, place_of, position_at};
 use sw_toml_table::Section;
 
 // A word, and a number behind it.
@@ -101,6 +100,15 @@ fn note_words(alloc: Global, note: Note) -> Result<String, AllocError>
     }
 }
 
+// An entry, and the line and column where it stands.
+fn placed(alloc: Global, entry: &str, place: Position) -> Result<String, AllocError>
+    ensures { IfOk result (λ s. string_bytes s ≡ entry.now ++ (codes " at " ++ (decimal place.line ++ (codes ":" ++ (decimal place.column ++ codes " "))))) }
+{
+    let line = place.line;
+    let column = place.column;
+    format!(in alloc; "{entry} at {line}:{column} ")
+}
+
 // An entry, and the line and column where it stands, if that was found.
 fn subject(
     alloc: Global,
@@ -117,12 +125,7 @@ fn subject(
     let entry = entry_text(alloc, section)?;
     match place {
         None => format!(in alloc; "{entry} "),
-        Some(at) => {
-            let position = position_at(text, at);
-            let line = position.line;
-            let column = position.column;
-            format!(in alloc; "{entry} at {line}:{column} ")
-        }
+        Some(at) => placed(alloc, entry.as_str(), position_at(text, at)),
     }
 }
 

@@ -3,7 +3,7 @@ ghost use Rattle.std.specs.Prelude.{◌≡◌, ◌≤◌, IfOk, IfSome, length, 
 ghost use Rattle.sw_hints.specs.FaultPlaces.{IsFaultPlace, long_list, sought_of, sought_view, table_to_show, topology_sought};
 
 use std::alloc::{AllocError, Global};
-use sw_position::{Sought, place_of};
+use sw_notes::{Sought, place_of};
 use sw_toml_table::{Key, KeyFault, Section, TextFault};
 use sw_topo::{Limit, TopoFault};
 

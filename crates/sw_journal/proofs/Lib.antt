@@ -5,4 +5,5 @@ mod Commit
 pub mod FctNumbers
 mod Opened
 mod Idle
+mod Looked
 mod Chosen

@@ -10,20 +10,22 @@ use Rattle.std.specs.List.{range_with_len}
 use Rattle.std.specs.Prelude.{slice_get}
 use Rattle.sw_cell.specs.Places.{machine_cell}
 use Rattle.sw_cell.specs.declared.cell.CellId.{CellId}
-use Rattle.sw_history.specs.History.{HistoryView}
+use Rattle.sw_history.specs.History.{HistoryView, LeadsTo}
 use Rattle.sw_journal.proofs.Commit.{view_of}
 use Rattle.sw_journal.proofs.Told.{is_same_cell}
 use Rattle.sw_journal.specs.Cells.{all_known, same_cell}
 use Rattle.sw_journal.specs.Opening.{numbered_of}
 use Rattle.sw_journal.specs.Record.{JournalView, IsKept}
 use Rattle.sw_parallel.proofs.Ranges.{range_more}
-use Rattle.sw_load.specs.History.{packets_at, packets_of}
+use Rattle.sw_load.specs.History.{IsHistory, packets_at, packets_of}
 use Rattle.sw_load.specs.Load.{LoadEntry}
 use Rattle.sw_machine.specs.Network.{AtNode, AtSwitch, Cell, Network}
 use Rattle.sw_machine.specs.State.{State, empty}
+use Rattle.sw_machine.specs.Steps.{Step}
 use Rattle.sw_model.proofs.Networks.{are_networks}
 use Rattle.sw_model.specs.Model.{cell_of, network_of}
 use Rattle.sw_net.proofs.Delivered.{channel_count}
+use Rattle.sw_net.specs.Net.{IsNetState, NetView}
 use Rattle.sw_net.specs.Numbers.{numbers_at}
 use Rattle.sw_net.specs.declared.numbers.Numbers.{Numbers}
 use Rattle.sw_config.specs.Entries.{Declaration, wiring_of}
@@ -111,3 +113,13 @@ kept_first name d h limit n marks me valid count declared steps none seat =
       seat = seat;
     } in
     subst (λ (a : JournalView). IsKept a me) (sym (account_first name d h h.load limit n marks count declared refl steps none)) first
+
+-- ---- its network
+
+-- the network of a history of no steps is in its empty state
+pub state_first : {R A : Type 0} (h : HistoryView) (net : NetView R A) → net.declared ≡ h.declared → h.steps ≡ [] → ((s : State) → LeadsTo h s → IsNetState net s) → IsNetState net (empty (network_of net.declared))
+state_first h net declared none reached =
+    let n = network_of h.declared in
+    let packets = packets_of h.load in
+    let leads = subst (λ (steps : List Step). IsHistory n packets steps (empty n)) (sym none) (record { run = refl; in_order = λ m. (packets_at n m packets, refl) }) in
+    subst (λ (d : Declaration). IsNetState net (empty (network_of d))) (sym declared) (reached (empty n) leads)

@@ -1,5 +1,5 @@
 //! A cell of a run.
-ghost use Rattle.std.specs.Prelude.{◌≡◌, find, nat_eq, option_copied};
+ghost use Rattle.std.specs.Prelude.{◌≡◌};
 
 use crate::cell_table::CellSeat;
 use std::marker::Model;
@@ -46,19 +46,15 @@ impl Cell {
         self.ends.as_slice()
     }
 
-    fn entry(&self, end: LinkEnd) -> Option<&(LinkEnd, Numbers)>
-        ensures { option_copied result ≡ find (λ p. nat_eq p.0 end) self.now.ends }
-    {
-        self.ends.iter().find(|p| p.0 == end)
-    }
-
     /// The numbers of the link end. None where it is not one of this cell's.
     pub fn numbers(&self, end: LinkEnd) -> Option<Numbers>
         ensures { result ≡ end_numbers self.now.ends end }
     {
-        match self.entry(end) {
-            Some(p) => Some(p.1),
-            None => None,
+        for (own, numbers) in self.ends() {
+            if own.number() == end.number() {
+                return Some(*numbers);
+            }
         }
+        None
     }
 }

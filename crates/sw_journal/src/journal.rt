@@ -6,9 +6,9 @@ ghost use Rattle.sw_model.specs.Steps.{machine_step};
 use crate::cell::Cell;
 use crate::cell_table::{CellSeat, CellTable};
 use crate::fault::JournalFault;
-use crate::opening::opening;
+use crate::opening::{Beginning, opened};
 use crate::renewal::{changing, renew_after};
-use crate::seats::{begin, meet, part};
+use crate::seats::{meet, part};
 use std::alloc::{AllocError, Global};
 use std::marker::Model;
 use sw_arb::Policy;
@@ -81,22 +81,33 @@ impl<'n> Journal<'n> {
         ensures journal { IfOk result (λ r. IsNew network.now load.now limit r.0) }
         ensures cells { IfOk result (λ r. r.1.items ≡ new_cells network.now r.0.name) }
     {
-        let net = declared_net(alloc, network)?;
-        let channels = net.network().channels() as usize;
-        let marks = vec![in alloc; None; channels]?;
-        let (table, mut seat) = begin(alloc)?;
-        let cells = opening(alloc, &net, &table, &mut seat)?;
-        let places = places_of(alloc, channels, &cells)?;
-        let history = History::new(alloc, net, load)?;
-        let journal = Journal {
-            history,
-            limit,
-            marks,
-            table,
-            seat,
-            places,
-        };
-        Ok((journal, cells))
+        let history = History::new(alloc, declared_net(alloc, network)?, load)?;
+        match opened(alloc, history.net()) {
+            Ok(
+                Beginning {
+                    marks,
+                    places,
+                    table,
+                    seat,
+                    cells,
+                },
+            ) => {
+                let journal = Journal {
+                    history,
+                    limit,
+                    marks,
+                    table,
+                    seat,
+                    places,
+                };
+                Ok((journal, cells))
+            }
+            Err(refused) => {
+                // Its network is let go there, and not once more here.
+                drop(history.into_steps());
+                Err(refused)
+            }
+        }
     }
 
     /// How many steps there are.
@@ -169,26 +180,6 @@ impl<'n> Journal<'n> {
         cell.seat = part(table, seat);
         Ok(())
     }
-}
-
-// The link ends of the cell stand at these places of its list.
-fn set_places(places: &mut [u16], cell: &Cell) {
-    let mut place = 0u16;
-    for (end, _) in cell.ends() {
-        if let Some(at) = places.get_mut(end.number() as usize) {
-            *at = place;
-        }
-        place = place.saturating_add(1);
-    }
-}
-
-// By link end, at which place of its cell's list it stands.
-fn places_of(alloc: Global, channels: usize, cells: &[Cell]) -> Result<Vec<u16>, AllocError> {
-    let mut places = vec![in alloc; 0u16; channels]?;
-    for cell in cells {
-        set_places(&mut places, cell);
-    }
-    Ok(places)
 }
 
 // Whether the step is done at that cell.

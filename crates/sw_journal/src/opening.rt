@@ -1,7 +1,8 @@
 //! A new journal, and its cells.
-ghost use Rattle.std.specs.Prelude.{◌≡◌, ◌++◌, ◌<◌, ◌≤◌, ◌*◌, [], ◌∷◌, IfOk, OnOk, List, length};
+ghost use Rattle.std.specs.Prelude.{◌≡◌, ◌++◌, ◌<◌, ◌≤◌, ◌*◌, [], ◌∷◌, IfOk, None, OnOk, List, length, replicate};
 ghost use Rattle.sw_cell.specs.Places.{machine_cell};
 ghost use Rattle.sw_cell.specs.declared.cell.CellId.{CellId};
+ghost use Rattle.sw_config.specs.Valid.{IsValid};
 ghost use Rattle.sw_journal.specs.Cells.{all_known, cells_of, numbered, same_cell};
 ghost use Rattle.sw_journal.specs.Opening.{AreOpened, node_ids, numbered_of};
 ghost use Rattle.sw_journal.specs.Record.{new_cells};
@@ -12,7 +13,7 @@ ghost use Rattle.sw_journal.specs.Views.{knower};
 
 use crate::cell::Cell;
 use crate::cell_table::{CellSeat, CellTable};
-use crate::seats::{grow, part};
+use crate::seats::{begin, grow, part};
 use std::alloc::{AllocError, Global};
 use sw_arb::Policy;
 use sw_cell::CellId;
@@ -154,4 +155,59 @@ pub(crate) fn opening(
     open_nodes(alloc, net, table, seat, &mut cells)?;
     open_switches(alloc, net, table, seat, &mut cells)?;
     Ok(cells)
+}
+
+// The link ends of the cell stand at these places of its list.
+fn set_places(places: &mut [u16], cell: &Cell) {
+    let mut place = 0u16;
+    for (end, _) in cell.ends() {
+        if let Some(at) = places.get_mut(end.number() as usize) {
+            *at = place;
+        }
+        place = place.saturating_add(1);
+    }
+}
+
+// The same of all cells.
+fn set_all_places(places: &mut [u16], cells: &[Cell]) {
+    for cell in cells {
+        set_places(places, cell);
+    }
+}
+
+// What a new journal begins with beside its history, and its cells.
+pub(crate) struct Beginning {
+    pub(crate) marks: Vec<Option<u64>>,
+    pub(crate) places: Vec<u16>,
+    pub(crate) table: CellTable,
+    pub(crate) seat: CellSeat,
+    pub(crate) cells: Vec<Cell>,
+}
+
+// What they are for a network in its empty state.
+pub(crate) fn opened(
+    alloc: Global,
+    net: &Net<'_, SwitchRoutes<'_>, Policy>,
+) -> Result<Beginning, AllocError>
+    requires { IsNetState net.now (empty (network_of net.now.declared)) }
+    ensures valid { IfOk result (λ _. IsValid net.now.declared) }
+    ensures marks { IfOk result (λ o. o.marks.items ≡ replicate (2 * length net.now.declared.links) None) }
+    ensures table { IfOk result (λ o. 0 < o.table.shared.table_id.words) }
+    ensures seat { IfOk result (λ o. o.seat.table_id ≡ o.table.shared.table_id) }
+    ensures known { IfOk result (λ o. o.seat.me ≡ (knower (all_known net.now.declared (empty (network_of net.now.declared))), [])) }
+    ensures cells { IfOk result (λ o. o.cells.items ≡ new_cells net.now.declared o.table.shared.table_id) }
+{
+    let channels = net.network().channels() as usize;
+    let marks = vec![in alloc; None; channels]?;
+    let mut places = vec![in alloc; 0u16; channels]?;
+    let (table, mut seat) = begin(alloc)?;
+    let cells = opening(alloc, net, &table, &mut seat)?;
+    set_all_places(&mut places, &cells);
+    Ok(Beginning {
+        marks,
+        places,
+        table,
+        seat,
+        cells,
+    })
 }

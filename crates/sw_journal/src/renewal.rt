@@ -101,8 +101,13 @@ fn renew(
 fn seen_at(ends: &[(LinkEnd, Numbers)], end: LinkEnd, places: &[u16]) -> Option<usize>
     ensures { IfSome result (λ k. option_map (λ p. p.0) (slice_get ends.now k) ≡ Some end) }
 {
-    let place = usize::from(*places.get(end.number() as usize)?);
-    let seen = ends.get(place)?;
+    let Some(place) = places.get(end.number() as usize) else {
+        return None;
+    };
+    let place = usize::from(*place);
+    let Some(seen) = ends.get(place) else {
+        return None;
+    };
     if seen.0.number() == end.number() {
         Some(place)
     } else {
@@ -142,31 +147,7 @@ fn renew_end(
     renew(net, table, seat, ends, &(own, None));
 }
 
-// Each of the two has its numbers in the net from now on, and the table is told.
-#[inline(always)]
-fn renew_two(
-    net: &Net<'_, SwitchRoutes<'_>, Policy>,
-    table: &CellTable,
-    seat: &mut CellSeat,
-    ends: &mut Vec<(LinkEnd, Numbers)>,
-    these: &(Option<LinkEnd>, Option<LinkEnd>),
-    places: &[u16],
-)
-    requires table { 0 < table.now.shared.table_id.words }
-    requires seat { (seat.old.table_id ≡ table.now.shared.table_id) × (seat.old.me.0.keeps ≡ true) × (seat.old.me.0.claims ≡ true) }
-    requires known { seat.old.me.0.known.ends ≡ ends.old.items }
-    requires same { slice_get seat.old.me.0.all seat.old.me.0.cell ≡ Some seat.old.me.0.known }
-    requires within { All (λ p. p.0 < 2 * length net.now.declared.links) ends.old.items }
-    requires once { AreOnce (map (λ p. p.0) ends.old.items) }
-    ensures numbers { AreRenewed net.now these.now ends.old.items ends.new.items }
-    ensures table { seat.new.table_id ≡ seat.old.table_id }
-    ensures seat { seat.new.me ≡ (with_known seat.old.me.0 (record { id = seat.old.me.0.known.id; ends = ends.new.items }), seat.old.me.1) }
-{
-    renew_end(net, table, seat, ends, these.0, places);
-    renew_end(net, table, seat, ends, these.1, places);
-}
-
-// The same, in the state after the history.
+// Each of the two has its numbers in the state after the history from now on, and the table is told.
 #[inline(always)]
 pub(crate) fn renew_after(
     history: &History<'_, SwitchRoutes<'_>, Policy>,
@@ -186,5 +167,7 @@ pub(crate) fn renew_after(
     ensures table { seat.new.table_id ≡ seat.old.table_id }
     ensures seat { seat.new.me ≡ (with_known seat.old.me.0 (record { id = seat.old.me.0.known.id; ends = ends.new.items }), seat.old.me.1) }
 {
-    renew_two(history.net(), table, seat, ends, these, places);
+    let after = history.net();
+    renew_end(after, table, seat, ends, these.0, places);
+    renew_end(after, table, seat, ends, these.1, places);
 }

@@ -7,3 +7,4 @@ pub mod OneResult
 pub mod OneVerdict
 mod Memory
 mod OneMember
+pub mod Added

@@ -6,7 +6,7 @@ use Rattle.sw_command.specs.FaultTexts.{fault_text, limit_text, where_text}
 use Rattle.sw_hints.specs.FaultPlaces.{IsFaultPlace}
 use Rattle.sw_json.specs.Simple.{count_or_null, text_or_null}
 use Rattle.sw_output.specs.Lines.{spaced}
-use Rattle.sw_position.specs.LineColumn.{column_of, line_of}
+use Rattle.sw_notes.specs.LineColumn.{column_of, line_of}
 use Rattle.sw_toml_table.specs.declared.fault.KeyFault.{KeyFault}
 use Rattle.sw_toml_table.specs.declared.fault.KeyFault.TheVariants.{MissingKey, WrongType, OutOfRange, DuplicateName, UnknownName}
 use Rattle.sw_toml_table.specs.declared.fault.TextFault.{TextFault}

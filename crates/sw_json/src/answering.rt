@@ -11,6 +11,7 @@ use crate::faults::{fault_value, long_value};
 use crate::files::Release;
 use crate::inputs::{input_value, long_input};
 use crate::laws::{answers_are_plain, faults_are_plain, file_faults_are_plain, inputs_are_plain};
+use crate::lists::add_value;
 use crate::outcome::Outcome;
 use crate::texts::text_of;
 use serde_json::Value;
@@ -92,7 +93,7 @@ fn one_file(alloc: Global, path: &str, text: &InputText) -> Result<Vec<Value>, A
     ensures { IfOk result (λ v. map view v.items ≡ read_value path.now (given text.now) ∷ []) }
 {
     let mut files = Vec::new(alloc);
-    files.push(read_value(alloc, path, text)?)?;
+    add_value(&mut files, read_value(alloc, path, text))?;
     Ok(files)
 }
 
@@ -106,7 +107,7 @@ fn two_files(
     ensures { IfOk result (λ v. map view v.items ≡ read_value paths.entry.0.now (given first.now) ∷ read_value paths.entry.1.now (given second.now) ∷ []) }
 {
     let mut files = one_file(alloc, paths.0, first)?;
-    files.push(read_value(alloc, paths.1, second)?)?;
+    add_value(&mut files, read_value(alloc, paths.1, second))?;
     Ok(files)
 }
 

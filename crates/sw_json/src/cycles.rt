@@ -1,5 +1,5 @@
 //! Cycles as values.
-ghost use Rattle.std.specs.Prelude.{◌≡◌, ◌<◌, ◌++◌, ◌∷◌, [], All, IfOk, length, map};
+ghost use Rattle.std.specs.Prelude.{◌≡◌, ◌<◌, All, IfOk, length, map};
 ghost use Rattle.std.specs.List.{zip};
 ghost use Rattle.serde_json.specs.View.{view};
 ghost use Rattle.sw_config.specs.Entries.{wiring_of};
@@ -7,7 +7,8 @@ ghost use Rattle.sw_cycle.specs.Cycles.{cause_of};
 ghost use Rattle.sw_search.specs.Verdicts.{IsCyclic};
 ghost use Rattle.sw_json.specs.VerdictValues.{cause_value, channel_value, cyclic_value};
 
-use crate::objects::{Member, object_of, object_of_text};
+use crate::lists::add_value;
+use crate::objects::{Member, object_of_four, object_of_text, object_of_two};
 use crate::places::{finish_text, start_text};
 use serde_json::Value;
 use std::alloc::{AllocError, Global};
@@ -44,28 +45,13 @@ fn channel_value(
     let end = finish_text(alloc, network, channel)?;
     let by = cause_value(alloc, network, cause)?;
     let number = channel.number();
-    let members = vec![in alloc;
+    object_of_four(
+        alloc,
         ("by", Member::Value(by)),
         ("channel", Member::Number(u64::from(number))),
         ("end", Member::Value(Value::String(end))),
         ("start", Member::Value(Value::String(start))),
-    ]?;
-    object_of(alloc, members)
-}
-
-// Adds the value of a channel and its cause.
-fn add_channel_value(
-    alloc: Global,
-    network: &Network,
-    channel: Chan,
-    cause: &Cause,
-    values: &mut Vec<Value>,
-) -> Result<(), AllocError>
-    requires { channel < length (wiring_of network.now).ends }
-    ensures { IfOk result (λ _. map view values.new.items ≡ map view values.old.items ++ channel_value network.now (channel, cause_of cause.now) ∷ []) }
-{
-    values.push(channel_value(alloc, network, channel, cause)?)?;
-    Ok(())
+    )
 }
 
 // A value for each channel, with its cause.
@@ -80,7 +66,7 @@ fn channel_values(
 {
     let mut values = Vec::new(alloc);
     for (channel, cause) in channels.iter().zip(causes) {
-        add_channel_value(alloc, network, *channel, cause, &mut values)?;
+        add_value(&mut values, channel_value(alloc, network, *channel, cause))?;
     }
     Ok(values)
 }
@@ -91,11 +77,11 @@ fn cycle_value(alloc: Global, network: &Network, cycle: &Cycle) -> Result<Value,
     ensures { IfOk result (λ v. view v ≡ cyclic_value network.now cycle.now) }
 {
     let channels = channel_values(alloc, network, &cycle.channels, &cycle.causes)?;
-    let members = vec![in alloc;
+    object_of_two(
+        alloc,
         ("channels", Member::Value(Value::Array(channels))),
         ("kind", Member::Text("cyclic")),
-    ]?;
-    object_of(alloc, members)
+    )
 }
 
 /// The channels of a cyclic network's cycle, each with what makes it wait for the next.

@@ -2,18 +2,18 @@
 ghost use Rattle.std.specs.Fmt.{decimal};
 ghost use Rattle.std.specs.Prelude.{◌≡◌, ◌≤◌, ◌∷◌, [], IfOk, IfSome, IsOkAnd, Some, length, option_map, string_bytes};
 ghost use Rattle.sw_output.specs.Lines.{spaced};
-ghost use Rattle.sw_position.specs.LineColumn.{column_of, line_of};
+ghost use Rattle.sw_notes.specs.LineColumn.{column_of, line_of};
 ghost use Rattle.serde_json.specs.View.{view};
 ghost use Rattle.sw_json.specs.FaultValues.{IsFaultValue, fault_where, long_value, schedule_fault_value, told_fault, topology_where, unknown_flow_value};
 
 use crate::codes::fault_code;
-use crate::objects::{Member, object_of};
+use crate::objects::{Member, object_of_six};
 use crate::simple::{count_or_null, text_or_null};
 use serde_json::Value;
 use std::alloc::{AllocError, Global};
 use sw_command::{fault_text, where_text};
 use sw_hints::fault_place;
-use sw_position::position_at;
+use sw_notes::position_at;
 use sw_toml_table::TextFault;
 use sw_topo::{Limit, TopoFault};
 
@@ -72,15 +72,15 @@ fn told_fault<'a>(
 ) -> Result<Value, AllocError>
     ensures { IfOk result (λ v. view v ≡ told_fault code.now line column text.now (option_map string_bytes place)) }
 {
-    let members = vec![in alloc;
+    object_of_six(
+        alloc,
         ("code", Member::Text(code)),
         ("column", Member::Value(count_or_null(column))),
         ("kind", Member::Text("fault")),
         ("line", Member::Value(count_or_null(line))),
         ("text", Member::Text(text)),
         ("where", Member::Value(text_or_null(place))),
-    ]?;
-    object_of(alloc, members)
+    )
 }
 
 // The line and the column of a byte of the text, where one is told.

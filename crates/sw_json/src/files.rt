@@ -5,7 +5,7 @@ ghost use Rattle.sw_json.specs.FileValues.{audit_value, bare_entry, entry_value,
 
 use crate::digests::digest_text;
 use crate::lists::text_values;
-use crate::objects::{Member, object_of, object_of_text};
+use crate::objects::{Member, object_of_six, object_of_text, object_of_three};
 use serde_json::Value;
 use std::alloc::{AllocError, Global};
 
@@ -40,15 +40,15 @@ fn entry_value(
     ensures { IfOk result (λ v. view v ≡ entry_value (view bytes) (map string_bytes lint.now) path.now (view digest) status (view verdict)) }
 {
     let lint = text_values(alloc, lint)?;
-    let members = vec![in alloc;
+    object_of_six(
+        alloc,
         ("bytes", Member::Value(bytes)),
         ("lint", Member::Value(Value::Array(lint))),
         ("path", Member::Text(path)),
         ("sha256", Member::Value(digest)),
         ("status", Member::Number(u64::from(status))),
         ("verdict", Member::Value(verdict)),
-    ]?;
-    object_of(alloc, members)
+    )
 }
 
 /// What is found of a file whose text was read. `lint` is what there is to note of its network.
@@ -109,10 +109,10 @@ pub fn audit_value(
 {
     let toolchain = release.toolchain;
     let version = release.version;
-    let members = vec![in alloc;
+    object_of_three(
+        alloc,
         ("files", Member::Value(Value::Array(files))),
         ("toolchain", Member::Text(toolchain)),
         ("version", Member::Text(version)),
-    ]?;
-    object_of(alloc, members)
+    )
 }

@@ -1,5 +1,5 @@
-//! Lists of texts as values.
-ghost use Rattle.std.specs.Prelude.{◌≡◌, IfOk, map, string_bytes};
+//! Lists of values.
+ghost use Rattle.std.specs.Prelude.{◌≡◌, ◌++◌, ◌∷◌, [], IfOk, IsOkAnd, OnOk, map, string_bytes};
 ghost use Rattle.serde_json.specs.Data.{string};
 ghost use Rattle.serde_json.specs.View.{view};
 ghost use Rattle.sw_json.specs.PlaceValues.{flow_name_value};
@@ -8,6 +8,21 @@ use serde_json::Value;
 use std::alloc::{AllocError, Global};
 use sw_config::Network;
 use sw_output::flow_name;
+
+/// Adds a value to a list, if there was memory for it. A loop that makes values so has one way out a turn.
+///
+/// # Errors
+///
+/// There is no memory for the longer list, or there was none for the value.
+pub fn add_value(
+    values: &mut Vec<Value>,
+    value: Result<Value, AllocError>,
+) -> Result<(), AllocError>
+    ensures { OnOk result (IsOkAnd value (λ v. values.new.items ≡ values.old.items ++ v ∷ [])) }
+{
+    values.push(value?)?;
+    Ok(())
+}
 
 /// A value for each text.
 ///
@@ -19,7 +34,7 @@ pub fn text_values(alloc: Global, texts: &[String]) -> Result<Vec<Value>, AllocE
 {
     let mut values = Vec::new(alloc);
     for text in texts {
-        values.push(Value::try_from_str(alloc, text.as_str())?)?;
+        add_value(&mut values, Value::try_from_str(alloc, text.as_str()))?;
     }
     Ok(values)
 }
@@ -38,7 +53,10 @@ pub fn flow_name_values(
 {
     let mut values = Vec::new(alloc);
     for flow in flows {
-        values.push(Value::try_from_str(alloc, flow_name(network, *flow))?)?;
+        add_value(
+            &mut values,
+            Value::try_from_str(alloc, flow_name(network, *flow)),
+        )?;
     }
     Ok(values)
 }

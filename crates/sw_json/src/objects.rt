@@ -1,5 +1,5 @@
 //! Objects by a list of their members: each is one way out less of the function that names them.
-ghost use Rattle.std.specs.Prelude.{◌≡◌, IfOk, OnOk, map};
+ghost use Rattle.std.specs.Prelude.{◌≡◌, ◌∷◌, [], IfOk, OnOk, map};
 ghost use Rattle.serde_json.specs.Data.{member, no_members, object, put, string};
 ghost use Rattle.serde_json.specs.View.{members_view, view};
 ghost use Rattle.sw_json.specs.Objects.{member_value, object_of, with_members};
@@ -76,4 +76,93 @@ pub fn object_of(alloc: Global, members: Vec<(&str, Member<'_>)>) -> Result<Valu
     let mut object = Map::new(alloc);
     add_members(alloc, &mut object, members)?;
     Ok(Value::Object(object))
+}
+
+/// The object of two members. Who calls it makes no list, so the crate that does has no proof of how a list of members is let go where there
+/// is no memory for it; so it is with the calls for more members below.
+///
+/// # Errors
+///
+/// There is no memory for the value.
+pub fn object_of_two<'a>(
+    alloc: Global,
+    first: (&'a str, Member<'a>),
+    second: (&'a str, Member<'a>),
+) -> Result<Value, AllocError>
+    ensures { IfOk result (λ v. view v ≡ object_of (map (λ m. (m.0.now, member_value m.1)) (first.entry ∷ second.entry ∷ []))) }
+{
+    object_of(alloc, vec![in alloc; first, second]?)
+}
+
+/// The object of three members.
+///
+/// # Errors
+///
+/// There is no memory for the value.
+pub fn object_of_three<'a>(
+    alloc: Global,
+    first: (&'a str, Member<'a>),
+    second: (&'a str, Member<'a>),
+    third: (&'a str, Member<'a>),
+) -> Result<Value, AllocError>
+    ensures { IfOk result (λ v. view v ≡ object_of (map (λ m. (m.0.now, member_value m.1)) (first.entry ∷ second.entry ∷ third.entry ∷ []))) }
+{
+    object_of(alloc, vec![in alloc; first, second, third]?)
+}
+
+/// The object of four members.
+///
+/// # Errors
+///
+/// There is no memory for the value.
+pub fn object_of_four<'a>(
+    alloc: Global,
+    first: (&'a str, Member<'a>),
+    second: (&'a str, Member<'a>),
+    third: (&'a str, Member<'a>),
+    fourth: (&'a str, Member<'a>),
+) -> Result<Value, AllocError>
+    ensures { IfOk result (λ v. view v ≡ object_of (map (λ m. (m.0.now, member_value m.1)) (first.entry ∷ second.entry ∷ third.entry ∷ fourth.entry ∷ []))) }
+{
+    object_of(alloc, vec![in alloc; first, second, third, fourth]?)
+}
+
+/// The object of five members.
+///
+/// # Errors
+///
+/// There is no memory for the value.
+pub fn object_of_five<'a>(
+    alloc: Global,
+    first: (&'a str, Member<'a>),
+    second: (&'a str, Member<'a>),
+    third: (&'a str, Member<'a>),
+    fourth: (&'a str, Member<'a>),
+    fifth: (&'a str, Member<'a>),
+) -> Result<Value, AllocError>
+    ensures { IfOk result (λ v. view v ≡ object_of (map (λ m. (m.0.now, member_value m.1)) (first.entry ∷ second.entry ∷ third.entry ∷ fourth.entry ∷ fifth.entry ∷ []))) }
+{
+    object_of(alloc, vec![in alloc; first, second, third, fourth, fifth]?)
+}
+
+/// The object of six members.
+///
+/// # Errors
+///
+/// There is no memory for the value.
+pub fn object_of_six<'a>(
+    alloc: Global,
+    first: (&'a str, Member<'a>),
+    second: (&'a str, Member<'a>),
+    third: (&'a str, Member<'a>),
+    fourth: (&'a str, Member<'a>),
+    fifth: (&'a str, Member<'a>),
+    sixth: (&'a str, Member<'a>),
+) -> Result<Value, AllocError>
+    ensures { IfOk result (λ v. view v ≡ object_of (map (λ m. (m.0.now, member_value m.1)) (first.entry ∷ second.entry ∷ third.entry ∷ fourth.entry ∷ fifth.entry ∷ sixth.entry ∷ []))) }
+{
+    object_of(
+        alloc,
+        vec![in alloc; first, second, third, fourth, fifth, sixth]?,
+    )
 }

@@ -6,7 +6,8 @@ ghost use Rattle.sw_output.specs.ChannelTexts.{start_text};
 ghost use Rattle.sw_json.specs.PlaceValues.{finish_text, misrouted_fault_value, misrouted_place_words, place_value};
 
 use crate::codes::route_fault_code;
-use crate::objects::{Member, object_of};
+use crate::lists::add_value;
+use crate::objects::{Member, object_of_four};
 use serde_json::Value;
 use std::alloc::{AllocError, Global};
 use sw_config::Network;
@@ -51,13 +52,13 @@ pub fn place_value(alloc: Global, network: &Network, place: Place) -> Result<Val
     let deleted = place.deleted;
     let end = finish_text(alloc, network, place.channel)?;
     let start = start_text(alloc, network, place.channel)?;
-    let members = vec![in alloc;
+    object_of_four(
+        alloc,
         ("channel", Member::Number(u64::from(channel))),
         ("deleted", Member::Number(u64::from(deleted))),
         ("end", Member::Value(Value::String(end))),
         ("start", Member::Value(Value::String(start))),
-    ]?;
-    object_of(alloc, members)
+    )
 }
 
 /// An object for each of the places.
@@ -75,7 +76,7 @@ pub fn place_values(
 {
     let mut values = Vec::new(alloc);
     for place in places {
-        values.push(place_value(alloc, network, *place)?)?;
+        add_value(&mut values, place_value(alloc, network, *place))?;
     }
     Ok(values)
 }
@@ -110,11 +111,11 @@ pub fn misrouted_fault_value(
     let deleted = place.deleted;
     let code = route_fault_code(fault);
     let text = misrouted_place_words(alloc, place, fault)?;
-    let members = vec![in alloc;
+    object_of_four(
+        alloc,
         ("channel", Member::Number(u64::from(channel))),
         ("code", Member::Text(code)),
         ("deleted", Member::Number(u64::from(deleted))),
         ("text", Member::Value(Value::String(text))),
-    ]?;
-    object_of(alloc, members)
+    )
 }

@@ -8,7 +8,7 @@ ghost use Rattle.sw_json.specs.VerdictValues.{certificate_bytes, free_value, mis
 use crate::codes::route_fault_code;
 use crate::cycles::cyclic_value;
 use crate::digests::digest_text;
-use crate::objects::{Member, object_of};
+use crate::objects::{Member, object_of, object_of_six};
 use serde_json::Value;
 use std::alloc::{AllocError, Global};
 use sw_cert::Certificate;
@@ -62,15 +62,15 @@ fn misrouted_value(
     let code = route_fault_code(fault);
     let name = flow_name(network, flow);
     let text = misrouted_words(alloc, network, flow, place, fault)?;
-    let members = vec![in alloc;
+    object_of_six(
+        alloc,
         ("channel", Member::Number(u64::from(channel))),
         ("code", Member::Text(code)),
         ("deleted", Member::Number(u64::from(deleted))),
         ("flow", Member::Text(name)),
         ("kind", Member::Text("misrouted")),
         ("text", Member::Value(Value::String(text))),
-    ]?;
-    object_of(alloc, members)
+    )
 }
 
 /// The object that stands for a verdict on the network. `text` is the text of its certificate, empty where the verdict has none.

@@ -3,7 +3,7 @@ use Rattle.std.proofs.Common.{IfOk}
 use Rattle.std.specs.Prelude.{Result, Ok, Err}
 use Rattle.std.specs.declared.alloc.AllocError.{AllocError}
 use Rattle.serde_json.specs.View.{view}
-use Rattle.sw_app_explain.specs.ExplainTexts.{explain_status}
+use Rattle.sw_app_changes.specs.ExplainTexts.{explain_status}
 use Rattle.sw_config.specs.Entries.{Declaration}
 use Rattle.sw_search.specs.Explanations.{IsExplanation}
 use Rattle.sw_search.specs.declared.explanation.Explanation.{Explanation}

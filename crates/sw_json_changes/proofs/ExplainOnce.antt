@@ -5,8 +5,8 @@ use Rattle.std.specs.Prelude.{Err, None, Ok, Option, Result, Some, slice_get}
 use Rattle.std.proofs.lemmas.List.Elements.{All-cons, All-contains, All-nil, Contains-get_or}
 use Rattle.std.proofs.lemmas.Option.{slice_get_within}
 use Rattle.serde_json.specs.Data.{Data}
-use Rattle.sw_app_explain.specs.ExplainAnswers as text
-use Rattle.sw_app_explain.specs.ExplainTexts.{explain_status}
+use Rattle.sw_app_changes.specs.ExplainAnswers as text
+use Rattle.sw_app_changes.specs.ExplainTexts.{explain_status}
 use Rattle.sw_command.specs.Ends.{IfLimited}
 use Rattle.sw_config.specs.Entries.{Declaration, all_flows}
 use Rattle.sw_cycle.specs.Causes.{GoesOn, IsChosenCause}

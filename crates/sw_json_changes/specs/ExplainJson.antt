@@ -1,6 +1,6 @@
 -- What `explain --json` answers (this project's choice).
 use Rattle.std.specs.Prelude.{ℕ, List, codes}
-use Rattle.sw_app_explain.specs.ExplainTexts.{explain_status}
+use Rattle.sw_app_changes.specs.ExplainTexts.{explain_status}
 use Rattle.sw_json.specs.Answering.{AnswersToOne, IsAnswerToOne, IsOutcome, OfNetworkFile, Results}
 use Rattle.sw_json_changes.specs.ExplainValues.{explain_value}
 use Rattle.sw_config.specs.Entries.{Declaration}

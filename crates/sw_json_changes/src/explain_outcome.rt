@@ -1,7 +1,7 @@
 //! What `explain` finds.
 ghost use Rattle.std.specs.Prelude.{IfOk};
 ghost use Rattle.serde_json.specs.View.{view};
-ghost use Rattle.sw_app_explain.specs.ExplainTexts.{explain_status};
+ghost use Rattle.sw_app_changes.specs.ExplainTexts.{explain_status};
 ghost use Rattle.sw_command.specs.Inputs.{given};
 ghost use Rattle.sw_search.specs.Explanations.{IsExplanation};
 ghost use Rattle.sw_file.specs.Network.{network_text};
@@ -12,7 +12,7 @@ ghost use Rattle.sw_json_changes.specs.ExplainValues.{explain_value};
 use crate::explain_laws::explanations_are_plain;
 use crate::explain_values::explain_value;
 use std::alloc::{AllocError, Global};
-use sw_app_explain::explain_status;
+use sw_app_changes::explain_status;
 use sw_command::InputText;
 use sw_config::Network;
 use sw_file::read_network;
@@ -54,7 +54,7 @@ fn of_text<W: VerdictWorkers>(
     match read_network(alloc, text) {
         Ok(network) => {
             let found = of_network(workers, alloc, &network);
-            drop(network);
+            network.discard();
             found
         }
         Err(fault) => unread_network(alloc, path, text, fault),

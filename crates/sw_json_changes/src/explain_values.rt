@@ -1,12 +1,12 @@
 //! Why a network can lock up, as values.
-ghost use Rattle.std.specs.Prelude.{◌≡◌, ◌<◌, ◌++◌, ◌∷◌, [], All, IfOk, OnOk, length, map};
+ghost use Rattle.std.specs.Prelude.{◌≡◌, ◌<◌, All, IfOk, length, map};
 ghost use Rattle.serde_json.specs.View.{view};
-ghost use Rattle.sw_app_explain.specs.ExplainTexts.{IsOfChannels};
+ghost use Rattle.sw_app_changes.specs.ExplainTexts.{IsOfChannels};
 ghost use Rattle.sw_config.specs.Entries.{wiring_of};
 ghost use Rattle.sw_cycle.specs.Cycles.{cause_of};
 ghost use Rattle.sw_json.specs.Objects.{member_value};
 ghost use Rattle.sw_search.specs.Explanations.{GoesWrong, IsExplanation, IsTangled};
-ghost use Rattle.sw_json_changes.specs.ExplainValues.{explain_value, misrouted_value, step_value, step_values, tangle_value, tangles_value, target_value, wrong_value};
+ghost use Rattle.sw_json_changes.specs.ExplainValues.{explain_value, step_value, step_values, tangle_value, tangles_value, target_value, wrong_value};
 
 use serde_json::Value;
 use std::alloc::{AllocError, Global};
@@ -14,36 +14,14 @@ use sw_config::Network;
 use sw_cycle::Cause;
 use sw_flow::{Place, RouteFault};
 use sw_json::{
-    Member, finish_text, flow_name_values, kind_value, misrouted_fault_value, object_of,
-    place_values, start_text,
+    Member, add_value, finish_text, flow_name_values, kind_value, misrouted_fault_value,
+    object_of_five, object_of_four, object_of_two, place_values, start_text,
 };
 use sw_output::{flow_name, node_name};
 use sw_search::{Explanation, Tangle};
 use sw_topo::Chan;
 
 // What is wrong at the last of the places that a flow's packets go over, and the values of these.
-fn misrouted_value(
-    alloc: Global,
-    network: &Network,
-    flow: u16,
-    place: Place,
-    fault: RouteFault,
-    way: Vec<Value>,
-) -> Result<Value, AllocError>
-    ensures { IfOk result (λ v. view v ≡ misrouted_value network.now flow place fault (map view way.items)) }
-{
-    let fault = misrouted_fault_value(alloc, place, fault)?;
-    let name = flow_name(network, flow);
-    let members = vec![in alloc;
-        ("fault", Member::Value(fault)),
-        ("flow", Member::Text(name)),
-        ("kind", Member::Text("misrouted")),
-        ("way", Member::Value(Value::Array(way))),
-    ]?;
-    object_of(alloc, members)
-}
-
-// The same, of what is told of a network.
 fn wrong_value(
     alloc: Global,
     network: &Network,
@@ -55,8 +33,16 @@ fn wrong_value(
     requires { GoesWrong network.now flow place fault way.now }
     ensures { IfOk result (λ v. view v ≡ wrong_value network.now flow place fault way.now) }
 {
+    let fault = misrouted_fault_value(alloc, place, fault)?;
     let way = place_values(alloc, network, way)?;
-    misrouted_value(alloc, network, flow, place, fault, way)
+    let name = flow_name(network, flow);
+    object_of_four(
+        alloc,
+        ("fault", Member::Value(fault)),
+        ("flow", Member::Text(name)),
+        ("kind", Member::Text("misrouted")),
+        ("way", Member::Value(Value::Array(way))),
+    )
 }
 
 // The node whose target makes a channel wait for the next, or null where flows do.
@@ -84,31 +70,14 @@ fn step_value(
     let start = start_text(alloc, network, channel)?;
     let names = flow_name_values(alloc, network, flows)?;
     let number = channel.number();
-    let members = vec![in alloc;
+    object_of_five(
+        alloc,
         ("channel", Member::Number(u64::from(number))),
         ("end", Member::Value(Value::String(end))),
         ("flows", Member::Value(Value::Array(names))),
         ("start", Member::Value(Value::String(start))),
         ("target", target_value(network, cause)),
-    ]?;
-    object_of(alloc, members)
-}
-
-// Adds that of one channel.
-fn add_step(
-    alloc: Global,
-    network: &Network,
-    channel: Chan,
-    cause: &Cause,
-    flows: &[u16],
-    values: &mut Vec<Value>,
-) -> Result<(), AllocError>
-    requires { channel < length (wiring_of network.now).ends }
-    ensures { OnOk result (map view values.new.items ≡ map view values.old.items ++ step_value network.now channel (cause_of cause.now) flows.now ∷ []) }
-{
-    let value = step_value(alloc, network, channel, cause, flows)?;
-    values.push(value)?;
-    Ok(())
+    )
 }
 
 // An object for each channel of a cycle.
@@ -126,7 +95,8 @@ fn step_values(
 {
     let mut values = Vec::new(alloc);
     for (i, channel) in channels.iter().enumerate() {
-        add_step(alloc, network, *channel, &causes[i], &flows[i], &mut values)?;
+        let value = step_value(alloc, network, *channel, &causes[i], &flows[i]);
+        add_value(&mut values, value)?;
     }
     Ok(values)
 }
@@ -144,11 +114,11 @@ fn tangle_value(alloc: Global, network: &Network, tangle: &Tangle) -> Result<Val
         &tangle.flows,
     )?;
     let count = tangle.channels;
-    let members = vec![in alloc;
+    object_of_two(
+        alloc,
         ("channels", Member::Number(count as u64)),
         ("cycle", Member::Value(Value::Array(steps))),
-    ]?;
-    object_of(alloc, members)
+    )
 }
 
 // An object for each tangle.
@@ -162,7 +132,7 @@ fn tangle_values(
 {
     let mut values = Vec::new(alloc);
     for tangle in tangles {
-        values.push(tangle_value(alloc, network, tangle)?)?;
+        add_value(&mut values, tangle_value(alloc, network, tangle))?;
     }
     Ok(values)
 }
@@ -175,11 +145,11 @@ fn tangles_value(alloc: Global, network: &Network, tangles: &[Tangle]) -> Result
     // Names the network, which is valid by its type.
     let _topology = network.topology();
     let values = tangle_values(alloc, network, tangles)?;
-    let members = vec![in alloc;
+    object_of_two(
+        alloc,
         ("kind", Member::Text("cyclic")),
         ("tangles", Member::Value(Value::Array(values))),
-    ]?;
-    object_of(alloc, members)
+    )
 }
 
 /// The object that stands for what is told of a network.

@@ -1,5 +1,5 @@
 //! How far the premises of a free network bend, as values.
-ghost use Rattle.std.specs.Prelude.{◌≡◌, ◌<◌, ◌*◌, ◌++◌, ◌∷◌, [], IfOk, OnOk, length, map};
+ghost use Rattle.std.specs.Prelude.{◌≡◌, ◌<◌, ◌*◌, IfOk, length, map};
 ghost use Rattle.serde_json.specs.View.{view};
 ghost use Rattle.sw_config.specs.Entries.{wiring_of};
 ghost use Rattle.sw_json_changes.specs.MarginValues.{answered_value, loss_value, loss_values, lost_value, margins_value, stall_value};
@@ -7,7 +7,9 @@ ghost use Rattle.sw_json_changes.specs.MarginValues.{answered_value, loss_value,
 use serde_json::Value;
 use std::alloc::{AllocError, Global};
 use sw_config::Network;
-use sw_json::{Member, finish_text, flow_name_values, object_of, start_text};
+use sw_json::{
+    Member, add_value, finish_text, flow_name_values, object_of_four, object_of_two, start_text,
+};
 use sw_margin::{Bend, Margins};
 use sw_output::{flow_name, node_name};
 use sw_topo::Chan;
@@ -18,8 +20,11 @@ fn stall_value(alloc: Global, network: &Network, bend: &Bend) -> Result<Value, A
 {
     let free = bend.stays_free;
     let name = node_name(network, bend.number);
-    let members = vec![in alloc; ("free", Member::Truth(free)), ("node", Member::Text(name))]?;
-    object_of(alloc, members)
+    object_of_two(
+        alloc,
+        ("free", Member::Truth(free)),
+        ("node", Member::Text(name)),
+    )
 }
 
 // A flow that is answered.
@@ -28,8 +33,11 @@ fn answered_value(alloc: Global, network: &Network, bend: &Bend) -> Result<Value
 {
     let free = bend.stays_free;
     let name = flow_name(network, bend.number);
-    let members = vec![in alloc; ("flow", Member::Text(name)), ("free", Member::Truth(free))]?;
-    object_of(alloc, members)
+    object_of_two(
+        alloc,
+        ("flow", Member::Text(name)),
+        ("free", Member::Truth(free)),
+    )
 }
 
 // The flows that are lost without the link of that channel.
@@ -46,13 +54,13 @@ fn lost_value(
     let start = start_text(alloc, network, channel)?;
     let names = flow_name_values(alloc, network, flows)?;
     let number = channel.number();
-    let members = vec![in alloc;
+    object_of_four(
+        alloc,
         ("channel", Member::Number(u64::from(number))),
         ("end", Member::Value(Value::String(end))),
         ("flows", Member::Value(Value::Array(names))),
         ("start", Member::Value(Value::String(start))),
-    ]?;
-    object_of(alloc, members)
+    )
 }
 
 // The flows that are lost without the link of that number.
@@ -70,22 +78,6 @@ fn loss_value(
     lost_value(alloc, network, Chan::new((2 * link) as u16), flows)
 }
 
-// Adds those of one link.
-fn add_loss(
-    alloc: Global,
-    network: &Network,
-    link: usize,
-    flows: &[u16],
-    values: &mut Vec<Value>,
-) -> Result<(), AllocError>
-    requires { 2 * link < length (wiring_of network.now).ends }
-    ensures { OnOk result (map view values.new.items ≡ map view values.old.items ++ loss_value network.now link flows.now ∷ []) }
-{
-    let value = loss_value(alloc, network, link, flows)?;
-    values.push(value)?;
-    Ok(())
-}
-
 // An object for each link.
 fn loss_list(
     alloc: Global,
@@ -98,7 +90,7 @@ fn loss_list(
     let _channels = network.channels();
     let mut values = Vec::new(alloc);
     for (link, flows) in losses.iter().enumerate() {
-        add_loss(alloc, network, link, flows, &mut values)?;
+        add_value(&mut values, loss_value(alloc, network, link, flows))?;
     }
     Ok(values)
 }
@@ -109,7 +101,7 @@ fn stall_list(alloc: Global, network: &Network, stalls: &[Bend]) -> Result<Vec<V
 {
     let mut values = Vec::new(alloc);
     for bend in stalls {
-        values.push(stall_value(alloc, network, bend)?)?;
+        add_value(&mut values, stall_value(alloc, network, bend))?;
     }
     Ok(values)
 }
@@ -120,7 +112,7 @@ fn answer_list(alloc: Global, network: &Network, answers: &[Bend]) -> Result<Vec
 {
     let mut values = Vec::new(alloc);
     for bend in answers {
-        values.push(answered_value(alloc, network, bend)?)?;
+        add_value(&mut values, answered_value(alloc, network, bend))?;
     }
     Ok(values)
 }
@@ -137,11 +129,11 @@ pub(crate) fn margins_value(
     let answers = answer_list(alloc, network, &told.answers)?;
     let losses = loss_list(alloc, network, &told.losses)?;
     let stalls = stall_list(alloc, network, &told.stalls)?;
-    let members = vec![in alloc;
+    object_of_four(
+        alloc,
         ("answers", Member::Value(Value::Array(answers))),
         ("kind", Member::Text("margins")),
         ("losses", Member::Value(Value::Array(losses))),
         ("stalls", Member::Value(Value::Array(stalls))),
-    ]?;
-    object_of(alloc, members)
+    )
 }

@@ -128,7 +128,7 @@ fn of_text<W: VerdictWorkers>(
     match read_network(alloc, text) {
         Ok(network) => {
             let found = of_network(workers, alloc, pairs, &network);
-            drop(network);
+            network.discard();
             found
         }
         Err(fault) => unread_network(alloc, path, text, fault),

@@ -10,7 +10,7 @@ use serde_json::Value;
 use std::alloc::{AllocError, Global};
 use sw_app_changes::{change_words, trial_words};
 use sw_config::Network;
-use sw_json::{Member, object_of};
+use sw_json::{Member, add_value, object_of_five, object_of_four, object_of_two};
 use sw_mend::{Change, Pair, TargetLink, Trial};
 use sw_output::{flow_name, node_name, switch_name};
 use sw_route::Route;
@@ -26,23 +26,18 @@ fn route_at(network: &Network, switch: u16, entry: usize) -> Option<Route>
     network.routes(switch).get(entry).copied()
 }
 
-// The first address that the entry is for.
-fn first_value(network: &Network, switch: u16, entry: usize) -> Member<'static>
-    ensures { member_value result ≡ first_value network.now switch entry }
+// The addresses that the entry is for: the first, and the last.
+fn addresses(network: &Network, switch: u16, entry: usize) -> (Member<'static>, Member<'static>)
+    ensures first { member_value result.0 ≡ first_value network.now switch entry }
+    ensures last { member_value result.1 ≡ last_value network.now switch entry }
 {
     match route_at(network, switch, entry) {
-        Some(route) => Member::Number(u64::from(route.first)),
-        None => Member::Value(Value::Null),
-    }
-}
-
-// The last address that the entry is for.
-fn last_value(network: &Network, switch: u16, entry: usize) -> Member<'static>
-    ensures { member_value result ≡ last_value network.now switch entry }
-{
-    match route_at(network, switch, entry) {
-        Some(route) => Member::Number(u64::from(route.last)),
-        None => Member::Value(Value::Null),
+        Some(route) => {
+            let first = Member::Number(u64::from(route.first));
+            let last = Member::Number(u64::from(route.last));
+            (first, last)
+        }
+        None => (Member::Value(Value::Null), Member::Value(Value::Null)),
     }
 }
 
@@ -55,8 +50,11 @@ fn named_change<'a>(
 ) -> Result<Value, AllocError>
     ensures { IfOk result (λ v. view v ≡ object_of ((key.now, string name.now) ∷ (codes "kind", string kind.now) ∷ [])) }
 {
-    let members = vec![in alloc; (key, Member::Text(name)), ("kind", Member::Text(kind))]?;
-    object_of(alloc, members)
+    object_of_two(
+        alloc,
+        (key, Member::Text(name)),
+        ("kind", Member::Text(kind)),
+    )
 }
 
 // A port less for the addresses of a table entry.
@@ -71,14 +69,15 @@ fn of_port(
 {
     let port = port.number();
     let name = switch_name(network, switch);
-    let members = vec![in alloc;
-        ("first", first_value(network, switch, entry)),
+    let (first, last) = addresses(network, switch, entry);
+    object_of_five(
+        alloc,
+        ("first", first),
         ("kind", Member::Text("port")),
-        ("last", last_value(network, switch, entry)),
+        ("last", last),
         ("port", Member::Number(u64::from(port))),
         ("switch", Member::Text(name)),
-    ]?;
-    object_of(alloc, members)
+    )
 }
 
 // A table entry less.
@@ -91,13 +90,14 @@ fn of_entry(
     ensures { IfOk result (λ v. view v ≡ of_entry network.now switch entry) }
 {
     let name = switch_name(network, switch);
-    let members = vec![in alloc;
-        ("first", first_value(network, switch, entry)),
+    let (first, last) = addresses(network, switch, entry);
+    object_of_four(
+        alloc,
+        ("first", first),
         ("kind", Member::Text("entry")),
-        ("last", last_value(network, switch, entry)),
+        ("last", last),
         ("switch", Member::Text(name)),
-    ]?;
-    object_of(alloc, members)
+    )
 }
 
 // What is taken away.
@@ -131,13 +131,13 @@ fn split_value(alloc: Global, network: &Network, link: &TargetLink) -> Result<Va
     let name = node_name(network, link.node);
     let port = link.port.number();
     let switch = switch_name(network, link.switch);
-    let members = vec![in alloc;
+    object_of_four(
+        alloc,
         ("kind", Member::Text("target link")),
         ("node", Member::Text(name)),
         ("port", Member::Number(u64::from(port))),
         ("switch", Member::Text(switch)),
-    ]?;
-    object_of(alloc, members)
+    )
 }
 
 // What is taken away, or what the target of a node gets.
@@ -176,19 +176,19 @@ fn told_mend(
     ensures { IfOk result (λ v. IsOkAnd text (λ t. view v ≡ told_mend (map view changes.items) (string_bytes t))) }
 {
     let text = text?;
-    let members = vec![in alloc;
+    object_of_two(
+        alloc,
         ("changes", Member::Value(Value::Array(changes))),
         ("text", Member::Value(Value::String(text))),
-    ]?;
-    object_of(alloc, members)
+    )
 }
 
 // A single change that frees the network.
 fn mend_value(alloc: Global, network: &Network, trial: &Trial) -> Result<Value, AllocError>
     ensures { IfOk result (λ v. view v ≡ mend_value network.now trial.now) }
 {
-    let change = trial_value(alloc, network, trial)?;
-    let changes = vec![in alloc; change]?;
+    let mut changes = Vec::new(alloc);
+    add_value(&mut changes, trial_value(alloc, network, trial))?;
     told_mend(alloc, changes, mend_words(alloc, network, trial))
 }
 
@@ -196,9 +196,9 @@ fn mend_value(alloc: Global, network: &Network, trial: &Trial) -> Result<Value, 
 fn pair_value(alloc: Global, network: &Network, pair: &Pair) -> Result<Value, AllocError>
     ensures { IfOk result (λ v. view v ≡ pair_value network.now pair.now) }
 {
-    let first = change_value(alloc, network, &pair.first)?;
-    let second = change_value(alloc, network, &pair.second)?;
-    let changes = vec![in alloc; first, second]?;
+    let mut changes = Vec::new(alloc);
+    add_value(&mut changes, change_value(alloc, network, &pair.first))?;
+    add_value(&mut changes, change_value(alloc, network, &pair.second))?;
     told_mend(alloc, changes, pair_words(alloc, network, pair))
 }
 
@@ -208,7 +208,7 @@ fn mend_list(alloc: Global, network: &Network, changes: &[Trial]) -> Result<Vec<
 {
     let mut values = Vec::new(alloc);
     for change in changes {
-        values.push(mend_value(alloc, network, change)?)?;
+        add_value(&mut values, mend_value(alloc, network, change))?;
     }
     Ok(values)
 }
@@ -219,7 +219,7 @@ fn pair_list(alloc: Global, network: &Network, pairs: &[Pair]) -> Result<Vec<Val
 {
     let mut values = Vec::new(alloc);
     for pair in pairs {
-        values.push(pair_value(alloc, network, pair)?)?;
+        add_value(&mut values, pair_value(alloc, network, pair))?;
     }
     Ok(values)
 }
@@ -228,11 +228,11 @@ fn pair_list(alloc: Global, network: &Network, pairs: &[Pair]) -> Result<Vec<Val
 fn told_mends(alloc: Global, mends: Vec<Value>) -> Result<Value, AllocError>
     ensures { IfOk result (λ v. view v ≡ mends_value (map view mends.items)) }
 {
-    let members = vec![in alloc;
+    object_of_two(
+        alloc,
         ("kind", Member::Text("mends")),
         ("mends", Member::Value(Value::Array(mends))),
-    ]?;
-    object_of(alloc, members)
+    )
 }
 
 /// The object that stands for the single changes that free the network.

@@ -4,8 +4,8 @@ use Rattle.std.specs.Prelude.{Err, Ok, Result}
 use Rattle.sw_app_run.specs.ReplayTexts.{replay_status}
 use Rattle.sw_config.specs.Entries.{Declaration}
 use Rattle.sw_machine.specs.Steps.{Step}
-use Rattle.sw_replay.proofs.OneReport.{replays_are_determined}
-use Rattle.sw_replay.specs.Reports.{Report}
+use Rattle.sw_schedule.proofs.OneReport.{replays_are_determined}
+use Rattle.sw_schedule.specs.Reports.{Report}
 use Rattle.sw_schedule.specs.Schedule.{steps_of_text}
 use Rattle.sw_json.proofs.OneResult.{AreOne, one_answer, one_of_file, one_of_network_file, one_outcome}
 use Rattle.sw_json.specs.Answering.{read_value}

@@ -9,7 +9,7 @@ use Rattle.sw_config.specs.Entries.{Declaration}
 use Rattle.sw_json.proofs.Plain.{count_plain, flag_plain, made_plain, no_more, object_plain, text_or_null_plain, text_plain, with_member}
 use Rattle.sw_json.specs.Plain.{IsPlain}
 use Rattle.sw_output.specs.ChannelTexts.{node_name}
-use Rattle.sw_replay.specs.Reports.{Report}
+use Rattle.sw_schedule.specs.Reports.{Report}
 use Rattle.sw_json_runs.specs.PacketValues.{by_node, node_value, packet_value}
 use Rattle.sw_json_runs.specs.ReplayValues.{replay_code, replay_value}
 

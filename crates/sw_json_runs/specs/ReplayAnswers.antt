@@ -7,8 +7,8 @@ use Rattle.sw_json.specs.AnswerValues.{file_fault_value}
 use Rattle.sw_json.specs.FaultValues.{schedule_fault_value}
 use Rattle.sw_json.specs.declared.files.Release.{Release}
 use Rattle.sw_machine.specs.Steps.{Step}
-use Rattle.sw_replay.specs.Replays.{IsReplayed}
-use Rattle.sw_replay.specs.Reports.{Report}
+use Rattle.sw_schedule.specs.Replays.{IsReplayed}
+use Rattle.sw_schedule.specs.Reports.{Report}
 use Rattle.sw_schedule.specs.Schedule.{steps_of_text}
 use Rattle.sw_json.specs.Answering.{IsAnswerToTwo, IsOutcome, OfFile, OfNetworkFile, Results}
 use Rattle.sw_json_runs.specs.ReplayValues.{replay_value}

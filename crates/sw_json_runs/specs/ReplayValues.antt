@@ -4,11 +4,11 @@ use Rattle.serde_json.specs.Data.{Data, array, boolean, object, string, member, 
 use Rattle.serde_json.specs.View.{items_of}
 use Rattle.sw_config.specs.Entries.{Declaration}
 use Rattle.sw_json.specs.Simple.{count_value, text_or_null}
-use Rattle.sw_replay.specs.Reports.{Report}
-use Rattle.sw_replay.specs.declared.replayed.ReplayEnd.{ReplayEnd}
-use Rattle.sw_replay.specs.declared.replayed.ReplayEnd.TheVariants.{Made, Refused}
-use Rattle.sw_replay.specs.declared.replayed.StepRefusal.{StepRefusal}
-use Rattle.sw_replay.specs.declared.replayed.StepRefusal.TheVariants.{NotEnabled, NotInFlow}
+use Rattle.sw_schedule.specs.Reports.{Report}
+use Rattle.sw_schedule.specs.declared.replayed.ReplayEnd.{ReplayEnd}
+use Rattle.sw_schedule.specs.declared.replayed.ReplayEnd.TheVariants.{Made, Refused}
+use Rattle.sw_schedule.specs.declared.replayed.StepRefusal.{StepRefusal}
+use Rattle.sw_schedule.specs.declared.replayed.StepRefusal.TheVariants.{NotEnabled, NotInFlow}
 use Rattle.sw_json_runs.specs.PacketValues.{by_node, node_value}
 
 abbrev pub refusal_code : StepRefusal → List ℕ

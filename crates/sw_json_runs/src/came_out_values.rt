@@ -9,7 +9,7 @@ use serde_json::Value;
 use std::alloc::{AllocError, Global};
 use sw_char::Packet;
 use sw_config::Network;
-use sw_json::{Member, object_of};
+use sw_json::{Member, add_value, object_of_three, object_of_two};
 use sw_output::{Tally, packet_end_text, packet_tallies};
 
 fn packet_value(alloc: Global, packet: &Packet) -> Result<Value, AllocError>
@@ -17,11 +17,11 @@ fn packet_value(alloc: Global, packet: &Packet) -> Result<Value, AllocError>
 {
     let bytes = encode_upper(alloc, packet.bytes.as_slice())?;
     let end = packet_end_text(packet.end);
-    let members = vec![in alloc;
+    object_of_two(
+        alloc,
         ("bytes", Member::Value(Value::String(bytes))),
         ("end", Member::Text(end)),
-    ]?;
-    object_of(alloc, members)
+    )
 }
 
 fn tally_value(alloc: Global, tally: &Tally<'_>) -> Result<Value, AllocError>
@@ -31,12 +31,12 @@ fn tally_value(alloc: Global, tally: &Tally<'_>) -> Result<Value, AllocError>
     let packet = tally.packet;
     let bytes = encode_upper(alloc, packet.bytes.as_slice())?;
     let end = packet_end_text(packet.end);
-    let members = vec![in alloc;
+    object_of_three(
+        alloc,
         ("bytes", Member::Value(Value::String(bytes))),
         ("count", Member::Number(count)),
         ("end", Member::Text(end)),
-    ]?;
-    object_of(alloc, members)
+    )
 }
 
 // A value for each packet.
@@ -45,7 +45,7 @@ fn packet_values(alloc: Global, packets: &[Packet]) -> Result<Vec<Value>, AllocE
 {
     let mut values = Vec::new(alloc);
     for packet in packets {
-        values.push(packet_value(alloc, packet)?)?;
+        add_value(&mut values, packet_value(alloc, packet))?;
     }
     Ok(values)
 }
@@ -56,7 +56,7 @@ fn tally_values(alloc: Global, all: &[Tally<'_>]) -> Result<Vec<Value>, AllocErr
 {
     let mut values = Vec::new(alloc);
     for tally in all {
-        values.push(tally_value(alloc, tally)?)?;
+        add_value(&mut values, tally_value(alloc, tally))?;
     }
     Ok(values)
 }
@@ -65,11 +65,11 @@ fn node_value(alloc: Global, name: &str, packets: &[Packet]) -> Result<Value, Al
     ensures { IfOk result (λ v. view v ≡ node_value name.now packets.now) }
 {
     let values = packet_values(alloc, packets)?;
-    let members = vec![in alloc;
+    object_of_two(
+        alloc,
         ("name", Member::Text(name)),
         ("packets", Member::Value(Value::Array(values))),
-    ]?;
-    object_of(alloc, members)
+    )
 }
 
 // A value for each of the different packets.
@@ -85,12 +85,12 @@ fn counted_node_value(alloc: Global, name: &str, packets: &[Packet]) -> Result<V
 {
     let count = packets.len();
     let values = counted_values(alloc, packets)?;
-    let members = vec![in alloc;
+    object_of_three(
+        alloc,
         ("count", Member::Number(count as u64)),
         ("name", Member::Text(name)),
         ("packets", Member::Value(Value::Array(values))),
-    ]?;
-    object_of(alloc, members)
+    )
 }
 
 /// A value for each node, with the packets that came out there.
@@ -105,7 +105,7 @@ pub(crate) fn node_values(
     let mut values = Vec::new(alloc);
     for n in 0..network.nodes() {
         let name = network.node_name(n);
-        values.push(node_value(alloc, name, &all[n as usize])?)?;
+        add_value(&mut values, node_value(alloc, name, &all[n as usize]))?;
     }
     Ok(values)
 }
@@ -122,7 +122,10 @@ pub(crate) fn counted_node_values(
     let mut values = Vec::new(alloc);
     for n in 0..network.nodes() {
         let name = network.node_name(n);
-        values.push(counted_node_value(alloc, name, &all[n as usize])?)?;
+        add_value(
+            &mut values,
+            counted_node_value(alloc, name, &all[n as usize]),
+        )?;
     }
     Ok(values)
 }

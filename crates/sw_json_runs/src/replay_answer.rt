@@ -17,8 +17,7 @@ use sw_config::Network;
 use sw_file::read_network;
 use sw_json::laws::faults_are_plain;
 use sw_json::{Outcome, file_fault, long_file, schedule_fault_value, unread_network};
-use sw_replay::replay;
-use sw_schedule::{Schedule, ScheduleFault, read_steps};
+use sw_schedule::{Schedule, ScheduleFault, read_steps, replay};
 
 // What comes of a schedule's steps.
 fn steps_outcome(
@@ -86,7 +85,7 @@ fn network_outcome(
     match read_network(alloc, text) {
         Ok(network) => {
             let outcome = schedule_file_outcome(alloc, paths.1, &network, second);
-            drop(network);
+            network.discard();
             outcome
         }
         Err(fault) => unread_network(alloc, paths.0, text, fault),

@@ -3,15 +3,15 @@ ghost use Rattle.std.specs.Prelude.{◌≡◌, IfOk, length};
 ghost use Rattle.serde_json.specs.View.{view};
 ghost use Rattle.sw_json.specs.Objects.{member_value};
 ghost use Rattle.sw_json.specs.Simple.{text_or_null};
-ghost use Rattle.sw_replay.specs.Reports.{report_of};
+ghost use Rattle.sw_schedule.specs.Reports.{report_of};
 ghost use Rattle.sw_json_runs.specs.ReplayValues.{refusal_code, replay_code, replay_kind, replay_step, replay_value};
 
 use crate::came_out_values::node_values;
 use serde_json::Value;
 use std::alloc::{AllocError, Global};
 use sw_config::Network;
-use sw_json::{Member, object_of};
-use sw_replay::{ReplayEnd, Replayed, StepRefusal};
+use sw_json::{Member, object_of_six};
+use sw_schedule::{ReplayEnd, Replayed, StepRefusal};
 
 fn refusal_code(refusal: StepRefusal) -> &'static str
     ensures { result.now ≡ refusal_code refusal }
@@ -69,13 +69,13 @@ pub(crate) fn replay_value(
     let stuck = replayed.stuck;
     let undelivered = replayed.undelivered;
     let nodes = node_values(alloc, network, replayed.came_out.as_slice())?;
-    let members = vec![in alloc;
+    object_of_six(
+        alloc,
         ("code", code_value(replayed.outcome)),
         ("kind", Member::Text(kind)),
         ("nodes", Member::Value(Value::Array(nodes))),
         ("step", Member::Number(u64::from(step))),
         ("stuck", Member::Truth(stuck)),
         ("undelivered", Member::Number(undelivered)),
-    ]?;
-    object_of(alloc, members)
+    )
 }

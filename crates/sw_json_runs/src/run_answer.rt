@@ -223,7 +223,7 @@ fn network_record<G: Gate + Sync, T: Threads + Wait + Sync>(
     match read_network(alloc, text) {
         Ok(network) => {
             let recorded = load_file_record(rt, alloc, call, &network, options, wants, gate);
-            drop(network);
+            network.discard();
             recorded
         }
         Err(fault) => unread_record(alloc, call, call.path, text, fault),

@@ -8,7 +8,7 @@ use serde_json::Value;
 use std::alloc::{AllocError, Global};
 use sw_app_run::stop_word;
 use sw_config::Network;
-use sw_json::{Member, object_of};
+use sw_json::{Member, object_of_three};
 use sw_run::Outcome;
 
 /// The object that stands for the outcome of a run.
@@ -27,10 +27,10 @@ pub(crate) fn run_value(
     let kind = stop_word(outcome.stop);
     let undelivered = outcome.undelivered;
     let nodes = counted_node_values(alloc, network, outcome.came_out.as_slice())?;
-    let members = vec![in alloc;
+    object_of_three(
+        alloc,
         ("kind", Member::Text(kind)),
         ("nodes", Member::Value(Value::Array(nodes))),
         ("undelivered", Member::Number(undelivered)),
-    ]?;
-    object_of(alloc, members)
+    )
 }

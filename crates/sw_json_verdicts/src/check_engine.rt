@@ -161,7 +161,7 @@ fn text_outcome<T: VerdictWorkers>(
     match read_network(alloc, text) {
         Ok(network) => {
             let found = second_outcome(workers, alloc, &network, paths.1, second);
-            drop(network);
+            network.discard();
             found
         }
         Err(fault) => unread_network(alloc, paths.0, text, fault),

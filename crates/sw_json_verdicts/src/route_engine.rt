@@ -115,7 +115,7 @@ fn text_outcome(alloc: Global, path: &str, text: &[u8], name: &str) -> Result<Ou
     match read_network(alloc, text) {
         Ok(network) => {
             let found = named_outcome(alloc, path, &network, name);
-            drop(network);
+            network.discard();
             found
         }
         Err(fault) => unread_network(alloc, path, text, fault),

@@ -12,3 +12,4 @@ pub mod LinkedPorts
 pub mod Words
 pub mod Lawful
 pub mod Worded
+mod KindsOfSlips

@@ -1,5 +1,5 @@
 -- What is noted of the places of flows, in one pass over them, and what is told by it.
-use Rattle.std.specs.Prelude.{◌≡◌, ℕ, ◌+◌, ◌*◌, ◌-◌, ◌==◌, ◌&&◌, ◌||◌, Bool, false, true, nat_lt, not, is_some, List, [], ◌∷◌, ◌++◌, fold, length, Option, Some, None, option_and_then, option_map, replicate, slice_get, slice_index_or, slice_set, if◌then◌else◌}
+use Rattle.std.specs.Prelude.{◌≡◌, ℕ, ◌+◌, ◌*◌, ◌-◌, ◌==◌, ◌&&◌, ◌||◌, Bool, false, true, nat_lt, not, is_some, List, [], ◌∷◌, ◌++◌, flat_map, fold, length, Option, Some, None, option_and_then, option_map, replicate, slice_get, slice_index_or, slice_set, if◌then◌else◌}
 use Rattle.std.specs.List.{list_any, range_with_len}
 use Rattle.std.specs.Option.{option_to_list}
 use Rattle.sw_topo.specs.Checked.{first_of}
@@ -17,6 +17,8 @@ use Rattle.sw_lint.specs.declared.asking.Asking.{Asking}
 use Rattle.sw_lint.specs.declared.entries.EntrySlip.{EntrySlip}
 use Rattle.sw_lint.specs.declared.entries.EntrySlip.TheVariants.{Unused, OneLinked, Back}
 use Rattle.sw_lint.specs.declared.lint.Lint.{Lint}
+use Rattle.sw_lint.specs.declared.slips.Slip.{Slip}
+use Rattle.sw_lint.specs.declared.slips.Slip.TheVariants as slip
 use Rattle.sw_lint.specs.declared.lint.Lint.TheVariants.{UnusedNode, UnusedSwitch, UnusedTarget, UnusedEntry, LeadsBack, Opposed}
 
 -- ---- tables
@@ -230,6 +232,28 @@ abbrev pub doubtful_by : Declaration → MarkLists → List Lint
 doubtful_by d m =
     by_switches d (λ s. by_entries d (one_linked_port d s) s)
     ++ (by_switches d (λ s. by_entries d (leads_back_by d m s) s) ++ by_links d (opposed_by m))
+
+-- ---- one kind of slip after the other
+
+-- how many nodes, switches or links there are to look at
+abbrev pub count_of : Declaration → Slip → ℕ
+count_of d slip.Node = length d.nodes
+count_of d slip.Switch = length d.switches
+count_of d slip.Target = length d.nodes
+count_of d (slip.Entry entry) = length d.switches
+count_of d slip.Link = length d.links
+
+-- what is told of the one of that number
+abbrev pub slip_at : Declaration → NodeLists → MarkLists → Slip → ℕ → List Lint
+slip_at d n m slip.Node = unused_node_by n
+slip_at d n m slip.Switch = unused_switch_by m
+slip_at d n m slip.Target = unused_target_by d n
+slip_at d n m (slip.Entry entry) = λ s. by_entries d (entry_lint_by d m entry s) s
+slip_at d n m slip.Link = opposed_by m
+
+-- of all of them
+abbrev pub slip_lints : Declaration → NodeLists → MarkLists → Slip → List Lint
+slip_lints d n m kind = flat_map (slip_at d n m kind) (range_with_len 0 (count_of d kind))
 
 -- all that is told by what is noted of all flows
 pub record AreFound (d : Declaration) (lints : List Lint) : Type 0 where

@@ -2,7 +2,7 @@
 ghost use Rattle.std.specs.Prelude.{◌≡◌, ◌<◌, ◌++◌, OnOk, Some, filter, length, option_map};
 ghost use Rattle.std.specs.Option.{option_to_list};
 ghost use Rattle.sw_topo.specs.Ports.{ports_of};
-ghost use Rattle.sw_lint.specs.Lints.{by_entries, by_switches, is_group, linked, made_of, one_linked_port, only};
+ghost use Rattle.sw_lint.specs.Lints.{is_group, linked, made_of, one_linked_port, only};
 ghost use Rattle.sw_lint.specs.Marks.{back_at, entry_lint_by, first_back_by, leads_back_by, unused_entry_by};
 
 use crate::lint::{Lint, add};
@@ -147,8 +147,8 @@ fn entry_lint(
     }
 }
 
-// Those of the switch's table, of which these are the entries.
-fn add_entries_of(
+/// Those of the switch's table, of which these are the entries.
+pub(crate) fn add_entries_of(
     network: &Network,
     marks: &Marks,
     slip: EntrySlip,
@@ -164,21 +164,6 @@ fn add_entries_of(
             entry_lint(network, marks, slip, switch, entry, route),
             lints,
         )?;
-    }
-    Ok(())
-}
-
-/// The entries of all tables that are what is looked for.
-pub(crate) fn add_entries(
-    network: &Network,
-    marks: &Marks,
-    slip: EntrySlip,
-    lints: &mut Vec<Lint>,
-) -> Result<(), AllocError>
-    ensures { OnOk result (lints.new.items ≡ lints.old.items ++ by_switches network.now (λ s. by_entries network.now (entry_lint_by network.now marks.now slip s) s)) }
-{
-    for switch in 0..network.switches() {
-        add_entries_of(network, marks, slip, switch, network.routes(switch), lints)?;
     }
     Ok(())
 }

@@ -1,25 +1,50 @@
 //! All that is told of a network.
-ghost use Rattle.std.specs.Prelude.{◌≡◌, ◌++◌, IfOk};
+ghost use Rattle.std.specs.Prelude.{◌≡◌, ◌++◌, IfOk, flat_map};
 ghost use Rattle.sw_lint.specs.Lints.{AreLints};
-ghost use Rattle.sw_lint.specs.Marks.{AreFound, doubtful_by, nodes_of, unused_by};
+ghost use Rattle.sw_lint.specs.Marks.{AreFound, doubtful_by, nodes_of, slip_lints, unused_by};
 
-use crate::doubtful::add_doubtful;
+use crate::entries::EntrySlip;
 use crate::lint::Lint;
 use crate::marks::Marks;
 use crate::node_marks::NodeMarks;
-use crate::unused::add_unused;
+use crate::slips::{Slip, add_slips};
 use std::alloc::{AllocError, Global};
 use sw_config::Network;
+
+// What is looked for, in the order in which it is told.
+const SLIPS: &[Slip] = &[
+    Slip::Node,
+    Slip::Switch,
+    Slip::Target,
+    Slip::Entry(EntrySlip::Unused),
+    Slip::Entry(EntrySlip::OneLinked),
+    Slip::Entry(EntrySlip::Back),
+    Slip::Link,
+];
+
+// What is told by what is noted, one kind of slip after the other.
+fn told_by(
+    alloc: Global,
+    network: &Network,
+    nodes: &NodeMarks,
+    marks: &Marks,
+    slips: &[Slip],
+) -> Result<Vec<Lint>, AllocError>
+    ensures { IfOk result (λ v. v.items ≡ flat_map (slip_lints network.now nodes.now marks.now) slips.now) }
+{
+    let mut lints = Vec::new(alloc);
+    for slip in slips {
+        add_slips(network, nodes, marks, slip, &mut lints)?;
+    }
+    Ok(lints)
+}
 
 // What is told by what is noted of the places of flows.
 fn found_by(alloc: Global, network: &Network, marks: &Marks) -> Result<Vec<Lint>, AllocError>
     ensures { IfOk result (λ v. v.items ≡ unused_by network.now (nodes_of network.now) marks.now ++ doubtful_by network.now marks.now) }
 {
     let nodes = NodeMarks::of_network(alloc, network)?;
-    let mut lints = Vec::new(alloc);
-    add_unused(network, &nodes, marks, &mut lints)?;
-    add_doubtful(network, marks, &mut lints)?;
-    Ok(lints)
+    told_by(alloc, network, &nodes, marks, SLIPS)
 }
 
 // What is told of a network with flows.

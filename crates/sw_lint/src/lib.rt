@@ -10,6 +10,7 @@ pub mod laws;
 mod lint;
 mod marks;
 mod node_marks;
+mod slips;
 mod tables;
 mod texts;
 mod unused;

@@ -91,11 +91,12 @@ pub flow_gone : (changes : List Change) (number : ℕ) (f : FlowEntry) (before :
 flow_gone changes number f before lost is gone =
     sym (ap (λ (l : List FlowEntry). before ++ l) (flow_left changes number f ∙ ap (λ (b : Bool). if b then [] else flow_stays changes number f ∷ []) (sym is ∙ gone)) ∙ append-nil before)
 
-pub flow_added : (changes : List Change) (number : ℕ) (f kept : FlowEntry) (before : List FlowEntry) (lost : Bool) → lost ≡ flow_lost changes number f → lost ≡ false
-    → kept ≡ flow_stays changes number f → before ++ kept ∷ [] ≡ before ++ flow_after_all changes number f
-flow_added changes number f kept before lost is stays same =
+pub flow_added : (changes : List Change) (number : ℕ) (f kept : FlowEntry) (before : List FlowEntry) (lost silent : Bool) → lost ≡ flow_lost changes number f → lost ≡ false
+    → silent ≡ reply_lost changes number f → kept ≡ record f { reply = if silent then None else f.reply } → before ++ kept ∷ [] ≡ before ++ flow_after_all changes number f
+flow_added changes number f kept before lost silent is stays silent_is same =
+    let kept_is : kept ≡ flow_stays changes number f = same ∙ ap (λ (b : Bool). record f { reply = if b then None else f.reply }) silent_is in
     sym (ap (λ (l : List FlowEntry). before ++ l) (flow_left changes number f ∙ ap (λ (b : Bool). if b then [] else flow_stays changes number f ∷ []) (sym is ∙ stays)
-    ∙ ap (λ (x : FlowEntry). x ∷ []) (sym same)))
+    ∙ ap (λ (x : FlowEntry). x ∷ []) (sym kept_is)))
 
 pub route_gone : (changes : List Change) (switch entry : ℕ) (r : Route) (before : List Route) (lost : Bool) → lost ≡ entry_lost changes switch entry → lost ≡ true
     → before ≡ before ++ route_after_all changes switch entry r

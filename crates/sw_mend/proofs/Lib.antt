@@ -14,3 +14,4 @@ mod MovedFlows
 mod Passes
 mod OwnLinks
 mod Rewired
+mod OfKinds

@@ -1,5 +1,5 @@
 -- What is made of elements by their numbers, one element more.
-use Rattle.std.proofs.Common.{◌≡◌, ℕ, zero, suc, ◌+◌, ◌<◌, List, [], ◌∷◌, ◌++◌, length, take, get_or, inl, inr, Option, Some, None, refl, sym, ap, ◌∙◌, arith, append-nil, append_assoc}
+use Rattle.std.proofs.Common.{◌≡◌, ℕ, zero, suc, ◌+◌, ◌<◌, List, [], ◌∷◌, ◌++◌, length, take, get_or, inl, inr, Some, refl, sym, ap, ◌∙◌, arith, append-nil, append_assoc}
 use Rattle.std.specs.Prelude.{slice_get}
 use Rattle.std.specs.Option.{option_map_or}
 use Rattle.std.proofs.lemmas.List.{take_all}
@@ -62,16 +62,3 @@ module _ {A B : Type 0} (make : ℕ → A → List B) where
   pub made_more : (before after : List B) (i : ℕ) (xs : List A) (x : A) → i < length xs → x ≡ get_or xs i x → before ≡ by_number make 0 (take i xs)
       → after ≡ before ++ make i x → after ≡ by_number make 0 (take (i + 1) xs)
   made_more before after i xs x lt at so_far more = grown_read [] before (make i x) after i xs x lt at so_far refl more
-
--- what is made of a list within an element that is looked up, by the numbers within it
-within : {A B C : Type 0} (each : ℕ → C → List B) (part : A → List C) (o : Option A)
-    → by_number each 0 (option_map_or part o []) ≡ option_map_or (λ x. by_number each 0 (part x)) o []
-within each part None = refl
-within each part (Some x) = refl
-
-pub grown_within : {A B C : Type 0} (each : ℕ → ℕ → C → List B) (part : A → List C) (old before after : List B) (i : ℕ) (xs : List A) (here : List C)
-    → here ≡ option_map_or part (slice_get xs i) [] → before ≡ old ++ by_number (λ n x. by_number (each n) 0 (part x)) 0 (take i xs)
-    → after ≡ before ++ by_number (each i) 0 here → after ≡ old ++ by_number (λ n x. by_number (each n) 0 (part x)) 0 (take (i + 1) xs)
-grown_within each part old before after i xs here is so_far more =
-    grown_at (λ n x. by_number (each n) 0 (part x)) old before after i xs so_far
-    (more ∙ ap (λ l. before ++ by_number (each i) 0 l) is ∙ ap (λ l. before ++ l) (within (each i) part (slice_get xs i)))

@@ -6,18 +6,11 @@ use Rattle.std.proofs.lemmas.Bool.{false≢true}
 use Rattle.sw_topo.proofs.Converse.{no_fault}
 use Rattle.sw_config.specs.Entries.{Declaration, NodeEntry, SwitchEntry, empty, part_names, wiring_of}
 use Rattle.sw_config.specs.Valid.{IsValid}
-use Rattle.sw_mend.specs.Changes.{by_number, changed_by_all, made_at, switch_after_all}
+use Rattle.sw_mend.specs.Changes.{by_number, made_at, switch_after_all}
 use Rattle.sw_mend.specs.Splits.{own_link, split, target_part}
 use Rattle.sw_mend.specs.declared.change.TargetLink.{TargetLink}
 use Rattle.sw_mend.proofs.AfterAll.{same_tables}
-use Rattle.sw_mend.proofs.Kept.{same_part_names}
 use Rattle.sw_mend.proofs.Named.{IsOwnName, one_node_more, own_name_absent}
-
--- the names of parts that were built as they were
-pub asked_name : (d built : Declaration) (name : List ℕ) (b : Bool) → built ≡ record (changed_by_all d []) { flows = [] } → b ≡ list_any (bytes_eq name) (part_names built)
-    → b ≡ list_any (bytes_eq name) (part_names d)
-asked_name d built name b is asked =
-    asked ∙ ap (λ (e : Declaration). list_any (bytes_eq name) (part_names e)) is ∙ ap (list_any (bytes_eq name)) (same_part_names [] d)
 
 -- its name is taken
 pub taken : (d : Declaration) (link : TargetLink) (name : List ℕ) (b : Bool) → link.node < length d.nodes → IsOwnName d.nodes link.node name

@@ -1,4 +1,5 @@
 pub mod Changes
+pub mod Kinds
 pub mod Splits
 pub mod Mends
 pub mod Laws

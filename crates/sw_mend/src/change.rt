@@ -4,7 +4,7 @@ use sw_topo::Port;
 
 /// One thing taken out of a network: all else stays as it is. Nodes, switches, flows and the entries of a routing table are told by
 /// their numbers, counted from 0. A change of something that is not there changes nothing.
-#[derive(Clone, Copy, Debug, PartialEq, Eq)]
+#[derive(Clone, Copy, PartialEq, Eq)]
 pub enum Change {
     /// The flow has no reply.
     WithoutReply(u16),
@@ -28,7 +28,7 @@ pub enum Change {
 }
 
 /// Two changes of one network, both made: the first and then the second.
-#[derive(Clone, Copy, Debug, PartialEq, Eq)]
+#[derive(Clone, Copy, PartialEq, Eq)]
 pub struct Pair {
     pub first: Change,
     pub second: Change,

@@ -58,10 +58,13 @@ fn is_unanswered(changes: &[Change], number: u16, flow: &Flow) -> bool
     false
 }
 
-// Where the replies of the flow go.
-pub(crate) fn copied_reply(alloc: Global, flow: &Flow) -> Result<Option<Reply>, AllocError>
-    ensures { IfOk result (λ r. r ≡ flow.now.reply) }
+// Where the replies of the flow go, unless they are taken away.
+fn kept_reply(alloc: Global, flow: &Flow, is_unanswered: bool) -> Result<Option<Reply>, AllocError>
+    ensures { IfOk result (λ r. r ≡ if is_unanswered then None else flow.now.reply) }
 {
+    if is_unanswered {
+        return Ok(None);
+    }
     match flow.reply() {
         Some(reply) => {
             let path = Vec::from_slice(alloc, reply.path())?;
@@ -71,34 +74,31 @@ pub(crate) fn copied_reply(alloc: Global, flow: &Flow) -> Result<Option<Reply>, 
     }
 }
 
-// Where the replies of the flow go, if they are left.
-fn kept_reply(
+/// A copy of the flow, to that node by that address, and without its reply where that is taken away.
+pub(crate) fn copied_by(
     alloc: Global,
-    changes: &[Change],
-    number: u16,
     flow: &Flow,
-) -> Result<Option<Reply>, AllocError>
-    ensures { IfOk result (λ r. r ≡ if list_any (λ change. loses_reply change number flow.now) changes.now then None else flow.now.reply) }
-{
-    if is_unanswered(changes, number, flow) {
-        return Ok(None);
-    }
-    copied_reply(alloc, flow)
-}
-
-// What is left of a flow that stays.
-fn kept_flow(
-    alloc: Global,
-    changes: &[Change],
-    number: u16,
-    flow: &Flow,
+    node: u16,
+    address: Vec<u8>,
+    is_unanswered: bool,
 ) -> Result<Flow, AllocError>
-    ensures { IfOk result (λ f. f ≡ record flow.now { reply = if list_any (λ change. loses_reply change number flow.now) changes.now then None else flow.now.reply }) }
+    ensures { IfOk result (λ f. f ≡ record flow.now { to = node; address = address.items; reply = if is_unanswered then None else flow.now.reply }) }
 {
     let name = String::from_str(alloc, flow.name())?;
+    let reply = kept_reply(alloc, flow, is_unanswered)?;
+    Ok(Flow::new(name, flow.from(), node, address, flow.left(), reply))
+}
+
+/// A copy of the flow, without its reply where that is taken away.
+pub(crate) fn copied_flow(
+    alloc: Global,
+    flow: &Flow,
+    is_unanswered: bool,
+) -> Result<Flow, AllocError>
+    ensures { IfOk result (λ f. f ≡ record flow.now { reply = if is_unanswered then None else flow.now.reply }) }
+{
     let address = Vec::from_slice(alloc, flow.address())?;
-    let reply = kept_reply(alloc, changes, number, flow)?;
-    Ok(Flow::new(name, flow.from(), flow.to(), address, flow.left(), reply))
+    copied_by(alloc, flow, flow.to(), address, is_unanswered)
 }
 
 // Adds what is left of the flow.
@@ -117,7 +117,7 @@ fn add_left(
     if is_lost(changes, number, flow) {
         return Ok(());
     }
-    let kept = kept_flow(alloc, changes, number, flow)?;
+    let kept = copied_flow(alloc, flow, is_unanswered(changes, number, flow))?;
     built.add_flow(alloc, kept)
 }
 

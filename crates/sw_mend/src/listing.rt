@@ -1,65 +1,69 @@
 //! What is tried of what can be taken away.
-ghost use Rattle.std.specs.Prelude.{◌≡◌, ◌<◌, ◌++◌, IfOk, OnOk, is_some, length, map};
+ghost use Rattle.std.specs.Prelude.{◌≡◌, ◌<◌, ◌++◌, ◌∷◌, [], IfOk, OnOk, flat_map, if◌then◌else◌, map};
 ghost use Rattle.sw_topo.specs.Ports.{ports_of};
 ghost use Rattle.sw_mend.specs.declared.change.Change.TheVariants.{WithoutPort};
-ghost use Rattle.sw_mend.specs.Changes.{answers_away, by_number, entries_away, entry_away, flow_away, flows_away, group_ports_away, made_at, parts_away, ports_away, removals, reply_away, units_away};
+ghost use Rattle.sw_mend.specs.Changes.{by_number, entry_away, ports_away};
+ghost use Rattle.sw_mend.specs.Kinds.{away_at, count_of, kind_away};
 
 use crate::change::Change;
 use std::alloc::{AllocError, Global};
 use std::marker::Model;
-use sw_config::{Flow, Network};
+use sw_config::Network;
 use sw_route::Route;
 use sw_topo::PortSet;
 
-// The reply of a flow away, if it has one.
-fn add_answered(number: u16, flow: &Flow, changes: &mut Vec<Change>) -> Result<(), AllocError>
-    ensures { OnOk result (changes.new.items ≡ changes.old.items ++ reply_away number flow.now) }
+/// What is taken away before nodes are split, in the order in which it is tried.
+pub(crate) const PARTS: &[Kind] = &[
+    Kind::Reply,
+    Kind::Flow,
+    Kind::Answers,
+    Kind::Port,
+    Kind::Entry,
+];
+
+/// What is taken away after that.
+pub(crate) const UNITS: &[Kind] = &[Kind::Unit];
+
+/// All that can be taken away, in its order.
+pub(crate) const PARTS_AND_UNITS: &[Kind] = &[
+    Kind::Reply,
+    Kind::Flow,
+    Kind::Answers,
+    Kind::Port,
+    Kind::Entry,
+    Kind::Unit,
+];
+
+/// What is taken away of each flow, node or switch.
+#[derive(Clone, Copy)]
+pub(crate) enum Kind {
+    /// The reply of a flow.
+    Reply,
+    /// A flow.
+    Flow,
+    /// The answers of a target.
+    Answers,
+    /// A port of a group of a switch's table.
+    Port,
+    /// An entry of a switch's table.
+    Entry,
+    /// The flows of a node.
+    Unit,
+}
+
+/// Adds the thing.
+pub(crate) fn add<T: Copy>(thing: T, things: &mut Vec<T>) -> Result<(), AllocError>
+    ensures { OnOk result (things.new.items ≡ things.old.items ++ thing ∷ []) }
 {
-    if flow.reply().is_some() {
-        changes.push(Change::WithoutReply(number))?;
-    }
+    things.push(thing)?;
     Ok(())
 }
 
-// One reply away.
-fn add_replies(network: &Network, changes: &mut Vec<Change>) -> Result<(), AllocError>
-    ensures { OnOk result (changes.new.items ≡ changes.old.items ++ by_number reply_away 0 network.now.flows) }
+/// Adds the thing, if so.
+pub(crate) fn add_if<T: Copy>(is_so: bool, thing: T, things: &mut Vec<T>) -> Result<(), AllocError>
+    ensures { OnOk result (things.new.items ≡ things.old.items ++ (if is_so then thing ∷ [] else [])) }
 {
-    for number in 0..network.declared_flows() {
-        add_answered(number, network.flow(number), changes)?;
-    }
-    Ok(())
-}
-
-// One flow away.
-fn add_flows(network: &Network, changes: &mut Vec<Change>) -> Result<(), AllocError>
-    ensures { OnOk result (changes.new.items ≡ changes.old.items ++ by_number flow_away 0 network.now.flows) }
-{
-    for flow in 0..network.declared_flows() {
-        changes.push(Change::WithoutFlow(flow))?;
-    }
-    Ok(())
-}
-
-// The answers of the node away, if it is a target.
-fn add_target(network: &Network, node: u16, changes: &mut Vec<Change>) -> Result<(), AllocError>
-    requires { node < length network.now.nodes }
-    ensures { OnOk result (changes.new.items ≡ changes.old.items ++ made_at answers_away network.now.nodes node) }
-{
-    if network.is_target(node) {
-        changes.push(Change::WithoutAnswers(node))?;
-    }
-    Ok(())
-}
-
-// The answers of one target away.
-fn add_targets(network: &Network, changes: &mut Vec<Change>) -> Result<(), AllocError>
-    ensures { OnOk result (changes.new.items ≡ changes.old.items ++ by_number answers_away 0 network.now.nodes) }
-{
-    for node in 0..network.nodes() {
-        add_target(network, node, changes)?;
-    }
-    Ok(())
+    if is_so { add(thing, things) } else { Ok(()) }
 }
 
 // One port of the set away.
@@ -72,11 +76,12 @@ fn add_each(
     ensures { OnOk result (changes.new.items ≡ changes.old.items ++ map (λ port. WithoutPort switch entry port) (ports_of set)) }
 {
     for port in set.ports() {
-        changes.push(Change::WithoutPort {
+        let change = Change::WithoutPort {
             switch,
             entry,
             port,
-        })?;
+        };
+        add(change, changes)?;
     }
     Ok(())
 }
@@ -91,9 +96,10 @@ fn add_group(
     ensures { OnOk result (changes.new.items ≡ changes.old.items ++ ports_away switch entry route.now) }
 {
     if route.ports.len() > 1 {
-        add_each(switch, entry, route.ports, changes)?;
+        add_each(switch, entry, route.ports, changes)
+    } else {
+        Ok(())
     }
-    Ok(())
 }
 
 // One port of one group of these away.
@@ -102,16 +108,6 @@ fn add_groups_of(switch: u16, routes: &[Route], changes: &mut Vec<Change>) -> Re
 {
     for (entry, route) in routes.iter().enumerate() {
         add_group(switch, entry, route, changes)?;
-    }
-    Ok(())
-}
-
-// One port of one group of some table away.
-fn add_all_groups(network: &Network, changes: &mut Vec<Change>) -> Result<(), AllocError>
-    ensures { OnOk result (changes.new.items ≡ changes.old.items ++ by_number group_ports_away 0 network.now.switches) }
-{
-    for switch in 0..network.switches() {
-        add_groups_of(switch, network.routes(switch), changes)?;
     }
     Ok(())
 }
@@ -125,58 +121,69 @@ fn add_entries_of(
     ensures { OnOk result (changes.new.items ≡ changes.old.items ++ by_number (entry_away switch) 0 routes.now) }
 {
     for entry in 0..routes.len() {
-        changes.push(Change::WithoutEntry { switch, entry })?;
+        add(Change::WithoutEntry { switch, entry }, changes)?;
     }
     Ok(())
 }
 
-// One entry of some table away.
-fn add_all_entries(network: &Network, changes: &mut Vec<Change>) -> Result<(), AllocError>
-    ensures { OnOk result (changes.new.items ≡ changes.old.items ++ by_number entries_away 0 network.now.switches) }
+// What is taken away of the flow, the node or the switch of that number.
+fn add_at(
+    network: &Network,
+    kind: Kind,
+    number: u16,
+    changes: &mut Vec<Change>,
+) -> Result<(), AllocError>
+    requires { number < count_of network.now kind }
+    ensures { OnOk result (changes.new.items ≡ changes.old.items ++ away_at network.now kind number) }
 {
-    for switch in 0..network.switches() {
-        add_entries_of(switch, network.routes(switch), changes)?;
+    match kind {
+        Kind::Reply => {
+            let is_answered = network.flow(number).reply().is_some();
+            add_if(is_answered, Change::WithoutReply(number), changes)
+        }
+        Kind::Flow => add(Change::WithoutFlow(number), changes),
+        Kind::Answers => {
+            let is_target = network.is_target(number);
+            add_if(is_target, Change::WithoutAnswers(number), changes)
+        }
+        Kind::Port => add_groups_of(number, network.routes(number), changes),
+        Kind::Entry => add_entries_of(number, network.routes(number), changes),
+        Kind::Unit => add(Change::WithoutFlowsOf(number), changes),
     }
-    Ok(())
 }
 
-// The flows of one unit away.
-fn add_units(network: &Network, changes: &mut Vec<Change>) -> Result<(), AllocError>
-    ensures { OnOk result (changes.new.items ≡ changes.old.items ++ by_number flows_away 0 network.now.nodes) }
+// How many flows, nodes or switches there are to take it from.
+fn count_of(network: &Network, kind: Kind) -> u16
+    ensures { result ≡ count_of network.now kind }
 {
-    for node in 0..network.nodes() {
-        changes.push(Change::WithoutFlowsOf(node))?;
+    match kind {
+        Kind::Reply | Kind::Flow => network.declared_flows(),
+        Kind::Answers | Kind::Unit => network.nodes(),
+        Kind::Port | Kind::Entry => network.switches(),
+    }
+}
+
+// All that is taken away of that kind, by numbers.
+fn add_all(network: &Network, kind: &Kind, changes: &mut Vec<Change>) -> Result<(), AllocError>
+    ensures { OnOk result (changes.new.items ≡ changes.old.items ++ kind_away network.now kind.now) }
+{
+    for number in 0..count_of(network, *kind) {
+        add_at(network, *kind, number, changes)?;
     }
     Ok(())
 }
 
-/// What is taken away before nodes are split, in the order in which it is tried.
-pub(crate) fn parts_away(alloc: Global, network: &Network) -> Result<Vec<Change>, AllocError>
-    ensures { IfOk result (λ v. v.items ≡ parts_away network.now) }
+/// All that is taken away of these kinds, one kind after the other.
+pub(crate) fn removals(
+    alloc: Global,
+    network: &Network,
+    kinds: &[Kind],
+) -> Result<Vec<Change>, AllocError>
+    ensures { IfOk result (λ v. v.items ≡ flat_map (kind_away network.now) kinds.now) }
 {
     let mut changes = Vec::new(alloc);
-    add_replies(network, &mut changes)?;
-    add_flows(network, &mut changes)?;
-    add_targets(network, &mut changes)?;
-    add_all_groups(network, &mut changes)?;
-    add_all_entries(network, &mut changes)?;
-    Ok(changes)
-}
-
-/// What is taken away after that.
-pub(crate) fn units_away(alloc: Global, network: &Network) -> Result<Vec<Change>, AllocError>
-    ensures { IfOk result (λ v. v.items ≡ units_away network.now) }
-{
-    let mut changes = Vec::new(alloc);
-    add_units(network, &mut changes)?;
-    Ok(changes)
-}
-
-/// All that is tried of what can be taken away, in its order.
-pub(crate) fn removals(alloc: Global, network: &Network) -> Result<Vec<Change>, AllocError>
-    ensures { IfOk result (λ v. v.items ≡ removals network.now) }
-{
-    let mut changes = parts_away(alloc, network)?;
-    add_units(network, &mut changes)?;
+    for kind in kinds {
+        add_all(network, kind, &mut changes)?;
+    }
     Ok(changes)
 }

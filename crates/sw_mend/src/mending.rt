@@ -1,16 +1,17 @@
 //! The single changes that free a network.
-ghost use Rattle.std.specs.Prelude.{◌≡◌, ◌↔◌, ◌<◌, ◌++◌, ◌∷◌, [], IfOk, IsTrue, OnOk, if◌then◌else◌, length, map};
+ghost use Rattle.std.specs.Prelude.{◌↔◌, ◌<◌, IfOk, IsTrue, OnOk, flat_map, length, map};
 ghost use Rattle.sw_config.specs.Valid.{IsValid};
 ghost use Rattle.sw_search.specs.Laws.{RoutedAndFree};
-ghost use Rattle.sw_mend.specs.Changes.{made_at};
+ghost use Rattle.sw_mend.specs.Changes.{changed_by_all, made_at};
+ghost use Rattle.sw_mend.specs.Kinds.{kind_away};
 ghost use Rattle.sw_mend.specs.Mends.{AreAdded, AreMends, Frees};
 ghost use Rattle.sw_mend.specs.Splits.{IsTargetLink, own_links, splits};
 ghost use Rattle.sw_mend.specs.declared.change.Trial.TheVariants.{Without, Split};
 
 use crate::change::{Change, TargetLink, Trial};
 use crate::links::own_link_of;
-use crate::listing::{parts_away, units_away};
-use crate::rebuilt::network_with;
+use crate::listing::{Kind, PARTS, UNITS, add_if, removals};
+use crate::rebuilt::network_with_all;
 use crate::splitting::network_split;
 use std::alloc::{AllocError, Global};
 use std::marker::Model;
@@ -18,7 +19,7 @@ use sw_config::Network;
 use sw_search::{VerdictWorkers, is_free};
 
 // Is the changed network valid and free?
-pub(crate) fn is_freed<W: VerdictWorkers>(
+fn is_freed<W: VerdictWorkers>(
     workers: &W,
     alloc: Global,
     changed: Network,
@@ -29,31 +30,21 @@ pub(crate) fn is_freed<W: VerdictWorkers>(
     // Names the network, which is valid by its type.
     let _topology = changed.topology();
     let free = is_free(workers, alloc, &changed);
-    drop(changed);
+    changed.discard();
     free
 }
 
-// Does the change free the network?
-fn frees<W: VerdictWorkers>(
+/// Do the changes, all made, free the network?
+pub(crate) fn frees<W: VerdictWorkers>(
     workers: &W,
     alloc: Global,
     network: &Network,
-    change: &Change,
+    changes: &[Change],
 ) -> Result<bool, AllocError>
-    ensures { IfOk result (λ b. IsTrue b ↔ Frees network.now (Without change.now)) }
+    ensures { IfOk result (λ b. IsTrue b ↔ RoutedAndFree (changed_by_all network.now changes.now)) }
 {
-    let changed = network_with(alloc, network, change)?;
+    let changed = network_with_all(alloc, network, changes)?;
     is_freed(workers, alloc, changed)
-}
-
-// Adds what is tried, if it frees the network.
-fn add_if<T: Copy>(frees: bool, tried: T, mends: &mut Vec<T>) -> Result<(), AllocError>
-    ensures { OnOk result (mends.new.items ≡ mends.old.items ++ (if frees then tried ∷ [] else [])) }
-{
-    if frees {
-        mends.push(tried)?;
-    }
-    Ok(())
 }
 
 // Adds those of the changes that free the network.
@@ -67,10 +58,24 @@ fn add_mends<W: VerdictWorkers>(
     ensures { OnOk result (AreAdded (Frees network.now) (map Without changes.now) mends.old.items mends.new.items) }
 {
     for change in changes {
-        let freed = frees(workers, alloc, network, change)?;
+        let freed = frees(workers, alloc, network, &[*change])?;
         add_if(freed, Trial::Without(*change), mends)?;
     }
     Ok(())
+}
+
+// Adds those of what is taken away of these kinds that free the network.
+fn add_removals<W: VerdictWorkers>(
+    workers: &W,
+    alloc: Global,
+    network: &Network,
+    kinds: &[Kind],
+    mends: &mut Vec<Trial>,
+) -> Result<(), AllocError>
+    ensures { OnOk result (AreAdded (Frees network.now) (map Without (flat_map (kind_away network.now) kinds.now)) mends.old.items mends.new.items) }
+{
+    let changes = removals(alloc, network, kinds)?;
+    add_mends(workers, alloc, network, &changes, mends)
 }
 
 // Does the split free the network?
@@ -89,22 +94,7 @@ fn split_frees<W: VerdictWorkers>(
     }
 }
 
-// Adds the split, if it frees the network.
-fn add_split<W: VerdictWorkers>(
-    workers: &W,
-    alloc: Global,
-    network: &Network,
-    link: &TargetLink,
-    mends: &mut Vec<Trial>,
-) -> Result<(), AllocError>
-    requires { IsTargetLink network.now link.now }
-    ensures { OnOk result (AreAdded (Frees network.now) (Split link.now ∷ []) mends.old.items mends.new.items) }
-{
-    let freed = split_frees(workers, alloc, network, link)?;
-    add_if(freed, Trial::Split(*link), mends)
-}
-
-// Adds the split of the node, if it frees the network.
+// Adds the split of the node, if it can be split and that frees the network.
 fn add_split_of<W: VerdictWorkers>(
     workers: &W,
     alloc: Global,
@@ -116,7 +106,10 @@ fn add_split_of<W: VerdictWorkers>(
     ensures { OnOk result (AreAdded (Frees network.now) (map Split (made_at (own_links network.now) network.now.nodes node)) mends.old.items mends.new.items) }
 {
     match own_link_of(network, node) {
-        Some(link) => add_split(workers, alloc, network, &link, mends),
+        Some(link) => {
+            let freed = split_frees(workers, alloc, network, &link)?;
+            add_if(freed, Trial::Split(link), mends)
+        }
         None => Ok(()),
     }
 }
@@ -151,10 +144,8 @@ pub fn mends<W: VerdictWorkers>(
     ensures { IfOk result (λ v. AreMends network.now v.items) }
 {
     let mut mends = Vec::new(alloc);
-    let parts = parts_away(alloc, network)?;
-    add_mends(workers, alloc, network, &parts, &mut mends)?;
+    add_removals(workers, alloc, network, PARTS, &mut mends)?;
     add_splits(workers, alloc, network, &mut mends)?;
-    let units = units_away(alloc, network)?;
-    add_mends(workers, alloc, network, &units, &mut mends)?;
+    add_removals(workers, alloc, network, UNITS, &mut mends)?;
     Ok(mends)
 }

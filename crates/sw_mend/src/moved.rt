@@ -5,7 +5,7 @@ ghost use Rattle.sw_mend.specs.Changes.{made_at};
 ghost use Rattle.sw_mend.specs.Splits.{flow_moved, flow_split, last_deleted, renamed, target_part};
 
 use crate::change::TargetLink;
-use crate::flows::copied_reply;
+use crate::flows::{copied_by, copied_flow};
 use crate::links::is_asking;
 use std::alloc::{AllocError, Global};
 use std::marker::Model;
@@ -46,29 +46,12 @@ fn moved_address(alloc: Global, link: &TargetLink, flow: &Flow) -> Result<Vec<u8
     Ok(address)
 }
 
-// A copy of the flow, to that node by that address.
-fn copied_by(alloc: Global, flow: &Flow, node: u16, address: Vec<u8>) -> Result<Flow, AllocError>
-    ensures { IfOk result (λ f. f ≡ record flow.now { to = node; address = address.items }) }
-{
-    let name = String::from_str(alloc, flow.name())?;
-    let reply = copied_reply(alloc, flow)?;
-    Ok(Flow::new(name, flow.from(), node, address, flow.left(), reply))
-}
-
 // The flow to its target's own node.
 fn moved_flow(alloc: Global, node: u16, link: &TargetLink, flow: &Flow) -> Result<Flow, AllocError>
     ensures { IfOk result (λ f. f ≡ flow_moved node link.now flow.now) }
 {
     let address = moved_address(alloc, link, flow)?;
-    copied_by(alloc, flow, node, address)
-}
-
-// A copy of the flow.
-fn copied_flow(alloc: Global, flow: &Flow) -> Result<Flow, AllocError>
-    ensures { IfOk result (λ f. f ≡ flow.now) }
-{
-    let address = Vec::from_slice(alloc, flow.address())?;
-    copied_by(alloc, flow, flow.to(), address)
+    copied_by(alloc, flow, node, address, false)
 }
 
 // The flow as it goes after the split.
@@ -78,7 +61,7 @@ fn split_flow(alloc: Global, node: u16, link: &TargetLink, flow: &Flow) -> Resul
     if is_asking(link.node, flow) {
         moved_flow(alloc, node, link, flow)
     } else {
-        copied_flow(alloc, flow)
+        copied_flow(alloc, flow, false)
     }
 }
 

@@ -1,49 +1,15 @@
 //! The pairs of what can be taken away that free a network.
-ghost use Rattle.std.specs.Prelude.{◌≡◌, ◌↔◌, ◌++◌, ◌∷◌, [], List, IfOk, IsTrue, OnOk, if◌then◌else◌, map};
+ghost use Rattle.std.specs.Prelude.{◌≡◌, ◌++◌, List, IfOk, OnOk, map};
 ghost use Rattle.sw_mend.specs.Changes.{pairs_of};
-ghost use Rattle.sw_mend.specs.Mends.{AreThosePairs, ArePairMends, FreesBoth};
-ghost use Rattle.sw_mend.specs.declared.change.Change.{Change};
+ghost use Rattle.sw_mend.specs.Mends.{AreThosePairs, ArePairMends};
 ghost use Rattle.sw_mend.specs.declared.change.Pair.{Pair};
 
 use crate::change::{Change, Pair};
-use crate::listing::removals;
-use crate::mending::is_freed;
-use crate::rebuilt::network_with_all;
+use crate::listing::{PARTS_AND_UNITS, add_if, removals};
+use crate::mending::frees;
 use std::alloc::{AllocError, Global};
 use sw_config::Network;
 use sw_search::VerdictWorkers;
-
-// Do both changes free the network?
-fn frees_both<W: VerdictWorkers>(
-    workers: &W,
-    alloc: Global,
-    network: &Network,
-    first: &Change,
-    second: &Change,
-) -> Result<bool, AllocError>
-    ensures { IfOk result (λ b. IsTrue b ↔ FreesBoth network.now (record { first = first.now; second = second.now })) }
-{
-    let changed = network_with_all(alloc, network, &[*first, *second])?;
-    is_freed(workers, alloc, changed)
-}
-
-// The pair of the changes, if they free the network.
-fn add_pair(
-    frees: bool,
-    first: &Change,
-    second: &Change,
-    pairs: &mut Vec<Pair>,
-) -> Result<(), AllocError>
-    ensures { OnOk result (pairs.new.items ≡ pairs.old.items ++ (if frees then record { first = first.now; second = second.now } ∷ [] else [])) }
-{
-    if frees {
-        pairs.push(Pair {
-            first: *first,
-            second: *second,
-        })?;
-    }
-    Ok(())
-}
 
 // Adds those of the pairs of the first change and one of the others that free the network.
 fn add_pairs_with<W: VerdictWorkers>(
@@ -57,8 +23,12 @@ fn add_pairs_with<W: VerdictWorkers>(
     ensures { OnOk result ((those : List Pair) × AreThosePairs network.now (map (λ second. record { first = first.now; second = second }) others.now) those × (pairs.new.items ≡ pairs.old.items ++ those)) }
 {
     for second in others {
-        let frees = frees_both(workers, alloc, network, first, second)?;
-        add_pair(frees, first, second, pairs)?;
+        let freed = frees(workers, alloc, network, &[*first, *second])?;
+        let pair = Pair {
+            first: *first,
+            second: *second,
+        };
+        add_if(freed, pair, pairs)?;
     }
     Ok(())
 }
@@ -100,6 +70,6 @@ pub fn pair_mends<W: VerdictWorkers>(
 ) -> Result<Vec<Pair>, AllocError>
     ensures { IfOk result (λ v. ArePairMends network.now v.items) }
 {
-    let changes = removals(alloc, network)?;
+    let changes = removals(alloc, network, PARTS_AND_UNITS)?;
     pairs_that_free(workers, alloc, network, &changes)
 }

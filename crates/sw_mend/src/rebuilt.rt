@@ -55,7 +55,7 @@ fn without_flows(
     match add_parts(alloc, network, changes, &mut builder) {
         Ok(()) => wired(alloc, builder),
         Err(refused) => {
-            drop(builder);
+            builder.discard();
             Err(refused)
         }
     }
@@ -78,7 +78,7 @@ pub fn network_with_all(
     match add_flows(alloc, network, changes, &mut built) {
         Ok(()) => Ok(built),
         Err(refused) => {
-            drop(built);
+            built.discard();
             Err(refused)
         }
     }

@@ -1,5 +1,5 @@
 //! The network in which a node is split, built anew.
-ghost use Rattle.std.specs.Prelude.{◌≡◌, ◌<◌, ◌≤◌, ◌++◌, ◌∷◌, [], false, codes, IfOk, OnOk, length, slice_get, option_map, Some, string_bytes};
+ghost use Rattle.std.specs.Prelude.{◌≡◌, ◌<◌, ◌≤◌, ◌++◌, ◌∷◌, [], false, codes, IfOk, OnOk, length, map, slice_get, option_map, Some, string_bytes};
 ghost use Rattle.std.specs.List.{list_any};
 ghost use Rattle.std.specs.Str.{bytes_eq};
 ghost use Rattle.sw_config.specs.Entries.{empty, part_names};
@@ -16,16 +16,23 @@ use sw_config::{Network, NetworkBuilder};
 use sw_topo::limits::MAX_NODES;
 use sw_topo::{PlaceEnd, TopoError};
 
-// Has a node or a switch that name?
-fn is_taken(alloc: Global, network: &Network, name: &str) -> Result<bool, AllocError>
-    ensures { IfOk result (λ b. b ≡ list_any (bytes_eq name.now) (part_names network.now)) }
+// Has a switch that name?
+fn is_switch_name(network: &Network, name: &str) -> bool
+    ensures { result ≡ list_any (bytes_eq name.now) (map (λ s. s.name) network.now.switches) }
 {
-    let mut builder = NetworkBuilder::new(alloc);
-    let added = add_parts(alloc, network, &[], &mut builder);
-    let taken = builder.has_name(name);
-    drop(builder);
-    added?;
-    Ok(taken)
+    for switch in 0..network.switches() {
+        if name == network.switch_name(switch) {
+            return true;
+        }
+    }
+    false
+}
+
+// Has a node or a switch that name?
+fn is_taken(network: &Network, name: &str) -> bool
+    ensures { result ≡ list_any (bytes_eq name.now) (part_names network.now) }
+{
+    network.node_named(name).is_some() || is_switch_name(network, name)
 }
 
 // The name of the node of its own for the target of that node.
@@ -33,9 +40,8 @@ fn target_name(alloc: Global, network: &Network, node: u16) -> Result<String, Al
     requires { node < length network.now.nodes }
     ensures { IfOk result (λ s. option_map (λ e. e.name ++ codes "-target") (slice_get network.now.nodes node) ≡ Some (string_bytes s)) }
 {
-    let mut name = String::from_str(alloc, network.node_name(node))?;
-    name.push_str("-target")?;
-    Ok(name)
+    let name = network.node_name(node);
+    format!(in alloc; "{name}-target")
 }
 
 // Adds the node of its own for the target.
@@ -129,7 +135,7 @@ fn without_flows(
     match add_split_parts(alloc, network, link, name, &mut builder) {
         Ok(()) => wired(alloc, builder),
         Err(refused) => {
-            drop(builder);
+            builder.discard();
             Err(refused)
         }
     }
@@ -149,7 +155,7 @@ fn with_flows(
     match add_split_flows(alloc, network, link, &mut built) {
         Ok(()) => Ok(Some(built)),
         Err(refused) => {
-            drop(built);
+            built.discard();
             Err(refused)
         }
     }
@@ -167,7 +173,7 @@ fn split_by_name(
     requires name { option_map (λ e. e.name ++ codes "-target") (slice_get network.now.nodes link.now.node) ≡ Some name.now }
     ensures { IfOk result (IsSplit network.now link.now) }
 {
-    if is_taken(alloc, network, name)? {
+    if is_taken(network, name) {
         return Ok(None);
     }
     match without_flows(alloc, network, link, name)? {

@@ -1,1 +1,2 @@
+pub mod Pieces
 pub mod Placed

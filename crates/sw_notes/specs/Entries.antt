@@ -1,6 +1,8 @@
 -- What the entries of a document say, as far as they say it (this project's choice).
 use Rattle.std.specs.Prelude.{ℕ, List, Option, Some, None, [], Result, Ok, Err, option_and_then, option_map}
 use Rattle.toml.specs.Data.{Data, Members, as_integer, as_str, get_member}
+use Rattle.sw_toml_table.specs.declared.fault.FileFault.{FileFault}
+use Rattle.sw_toml_table.specs.declared.fault.FileFault.TheVariants.{Text, Memory}
 use Rattle.sw_toml_table.specs.declared.fault.TextFault.{TextFault}
 use Rattle.sw_toml_table.specs.declared.keys.Key.{Key}
 use Rattle.sw_toml_table.specs.declared.keys.Key.TheVariants.{Address, Last}
@@ -8,7 +10,7 @@ use Rattle.sw_toml_table.specs.declared.keys.Section.{Section}
 use Rattle.sw_toml_table.specs.declared.keys.Section.TheVariants.{Document}
 use Rattle.sw_toml_table.specs.Keys.{key_text}
 use Rattle.sw_toml_table.specs.Table.{in_range, numbers_or_none, tables_or_none}
-use Rattle.sw_position.specs.Lookup.{value_of}
+use Rattle.sw_notes.specs.Lookup.{value_of}
 
 -- the text at a key of a table of the document
 abbrev pub text_of : Section → Key → Members → Option (List ℕ)
@@ -18,6 +20,11 @@ text_of section key document = option_and_then as_str (value_of section (key_tex
 abbrev pub as_read : {A : Type 0} → Result (List A) TextFault → List A
 as_read (Ok items) = items
 as_read (Err fault) = []
+
+-- a text has this fault: there was memory to read it
+abbrev pub IsOfText : FileFault → Type 0
+IsOfText (Text fault) = Unit {0}
+IsOfText Memory = ⊥
 
 -- the tables of a list of a table
 abbrev pub tables_of : Key → Members → List Members

@@ -10,7 +10,7 @@ use Rattle.sw_toml_table.specs.declared.keys.Section.TheVariants as section
 use Rattle.sw_toml_table.specs.declared.fault.KeyFault.TheVariants.{DuplicateName}
 use Rattle.sw_toml_table.specs.declared.fault.TextFault.{TextFault}
 use Rattle.sw_toml_table.specs.declared.fault.TextFault.TheVariants.{Key, Topology, DuplicateRoute, ReplyShape}
-use Rattle.sw_position.specs.Lookup.{table_of}
+use Rattle.sw_notes.specs.Lookup.{table_of}
 use Rattle.sw_notes.specs.declared.note.Note.{Note}
 use Rattle.sw_notes.specs.declared.note.Note.TheVariants.{HasName, Unlinked, LinkHere, HasPort, IsFor}
 use Rattle.sw_notes.specs.Entries.{number_in, range_in, text_in, text_of}
@@ -22,6 +22,12 @@ use Rattle.sw_notes.specs.ReplyNotes.{named, reply_notes}
 abbrev pub or_else : {A : Type 0} → Option A → Option A → Option A
 or_else (Some x) other = Some x
 or_else None other = other
+
+-- an entry of the nodes, the switches or the flows, by its number
+abbrev pub entry_in : TableKey → ℕ → Section
+entry_in key.Switch = section.Switch
+entry_in key.Flow = section.Flow
+entry_in _ = section.Node
 
 -- the first entry of the name, of all those that share one set of names with this one: nodes and switches share one, flows have their own
 abbrev pub holder : Section → List ℕ → Members → Option Section

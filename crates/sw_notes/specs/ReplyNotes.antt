@@ -4,7 +4,7 @@ use Rattle.toml.specs.Data.{Members}
 use Rattle.sw_toml_table.specs.declared.keys.Key.{Key}
 use Rattle.sw_toml_table.specs.declared.keys.Key.TheVariants as key
 use Rattle.sw_toml_table.specs.declared.keys.Section.TheVariants as section
-use Rattle.sw_position.specs.Lookup.{table_of}
+use Rattle.sw_notes.specs.Lookup.{table_of}
 use Rattle.sw_notes.specs.declared.note.Note.{Note}
 use Rattle.sw_notes.specs.declared.note.Note.TheVariants.{LongPath, LeadingZero, NoInitiator, NoTarget}
 use Rattle.sw_notes.specs.Entries.{bytes_in, number_in, text_of}

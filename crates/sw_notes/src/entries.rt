@@ -6,9 +6,10 @@ ghost use Rattle.sw_toml_table.specs.Keys.{key_text};
 ghost use Rattle.sw_toml_table.specs.Table.{in_range};
 ghost use Rattle.sw_notes.specs.Entries.{bytes_in, last_in, number_in, range_in, tables_of, text_in, text_of};
 
+use crate::lookup::value_of;
+use crate::unread::text_fault;
 use std::alloc::{AllocError, Global};
-use sw_position::value_of;
-use sw_toml_table::{FileFault, Key, Section, TableEntry};
+use sw_toml_table::{Key, Section, TableEntry};
 use toml::{Table, Value};
 
 /// The text at a key of a table of the document.
@@ -39,8 +40,10 @@ pub fn tables_of<'a>(
     };
     match entry.tables_or_none(alloc, list) {
         Ok(tables) => Ok(tables),
-        Err(FileFault::Text(_)) => Ok(Vec::new(alloc)),
-        Err(FileFault::Memory) => Err(AllocError),
+        Err(fault) => {
+            text_fault(fault)?;
+            Ok(Vec::new(alloc))
+        }
     }
 }
 
@@ -54,8 +57,10 @@ pub(crate) fn bytes_in(alloc: Global, table: &Table, list: Key) -> Result<Vec<u8
     };
     match entry.numbers_or_none(alloc, list, 255) {
         Ok(bytes) => Ok(bytes),
-        Err(FileFault::Text(_)) => Ok(Vec::new(alloc)),
-        Err(FileFault::Memory) => Err(AllocError),
+        Err(fault) => {
+            text_fault(fault)?;
+            Ok(Vec::new(alloc))
+        }
     }
 }
 
@@ -67,7 +72,7 @@ fn value_in(table: &Table, key: Key) -> Option<&Value>
 }
 
 /// The text at a key of a table.
-pub(crate) fn text_in(table: &Table, key: Key) -> Option<&str>
+pub fn text_in(table: &Table, key: Key) -> Option<&str>
     ensures { option_map (λ t. t.now) result ≡ text_in key (table_view table.now) }
 {
     match value_in(table, key) {

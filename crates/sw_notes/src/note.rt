@@ -1,4 +1,7 @@
 //! What there is to note of a fault.
+ghost use Rattle.std.specs.Prelude.{◌≡◌, ◌++◌, ◌∷◌, [], IfOk};
+
+use std::alloc::AllocError;
 use sw_toml_table::{Key, Section};
 
 /// What there is to note of a fault: another entry of the file, or a condition that failed.
@@ -22,4 +25,16 @@ pub enum Note {
     NoInitiator(u64),
     /// The node that the flow goes to is no target.
     NoTarget(usize),
+}
+
+/// Adds a note.
+///
+/// # Errors
+///
+/// There is no memory for a longer list.
+pub(crate) fn add_note(note: Note, notes: &mut Vec<Note>) -> Result<(), AllocError>
+    ensures { IfOk result (λ _. notes.new.items ≡ notes.old.items ++ note ∷ []) }
+{
+    notes.push(note)?;
+    Ok(())
 }

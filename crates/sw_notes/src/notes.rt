@@ -1,17 +1,17 @@
 //! What there is to note of a fault.
 ghost use Rattle.std.specs.Prelude.{◌≡◌, ◌++◌, IfOk, map, option_map, option_to_list, take};
 ghost use Rattle.toml.specs.View.{table_view};
-ghost use Rattle.sw_notes.specs.Notes.{earlier, end_in, end_of, first_at, first_for, holder, is_for, link_notes, name_note, node_notes, notes_of, port_note, range_of, route_note, topology_notes};
+ghost use Rattle.sw_notes.specs.Notes.{earlier, end_in, end_of, entry_in, first_at, first_for, holder, is_for, link_notes, name_note, node_notes, notes_of, port_note, range_of, route_note, topology_notes};
 ghost use Rattle.sw_notes.specs.ReplyNotes.{named};
 ghost use Rattle.sw_notes.specs.declared.note.Note.TheVariants.{LinkHere};
 
 use crate::entries::{number_in, range_in, text_in, text_of};
 use crate::finding::{first_place, places_of};
-use crate::note::Note;
+use crate::lookup::table_of;
+use crate::note::{Note, add_note};
 use crate::passing::Test;
-use crate::reply_notes::reply_notes;
+use crate::reply_notes::add_reply;
 use std::alloc::{AllocError, Global};
-use sw_position::table_of;
 use sw_toml_table::{Key, KeyFault, Section, TextFault};
 use sw_topo::TopoFault;
 use toml::Table;
@@ -31,32 +31,28 @@ pub(crate) fn named(
     first_place(alloc, document, list, &Test::Named(name))
 }
 
-// The first node of the name, as an entry.
-fn node_named(alloc: Global, document: &Table, name: &str) -> Result<Option<Section>, AllocError>
-    ensures { IfOk result (λ o. o ≡ option_map Section.Node (named Key.Node name.now (table_view document.now))) }
+// An entry of the nodes, the switches or the flows.
+fn entry_in(list: Key, number: usize) -> Section
+    ensures { result ≡ entry_in list number }
 {
-    match named(alloc, document, Key::Node, name)? {
-        Some(node) => Ok(Some(Section::Node(node))),
-        None => Ok(None),
+    match list {
+        Key::Switch => Section::Switch(number),
+        Key::Flow => Section::Flow(number),
+        _ => Section::Node(number),
     }
 }
 
-// The first switch of the name, as an entry.
-fn switch_named(alloc: Global, document: &Table, name: &str) -> Result<Option<Section>, AllocError>
-    ensures { IfOk result (λ o. o ≡ option_map Section.Switch (named Key.Switch name.now (table_view document.now))) }
+// The first node, switch or flow of the name, as an entry.
+fn entry_named(
+    alloc: Global,
+    document: &Table,
+    list: Key,
+    name: &str,
+) -> Result<Option<Section>, AllocError>
+    ensures { IfOk result (λ o. o ≡ option_map (entry_in list) (named list name.now (table_view document.now))) }
 {
-    match named(alloc, document, Key::Switch, name)? {
-        Some(switch) => Ok(Some(Section::Switch(switch))),
-        None => Ok(None),
-    }
-}
-
-// The first flow of the name, as an entry.
-fn flow_named(alloc: Global, document: &Table, name: &str) -> Result<Option<Section>, AllocError>
-    ensures { IfOk result (λ o. o ≡ option_map Section.Flow (named Key.Flow name.now (table_view document.now))) }
-{
-    match named(alloc, document, Key::Flow, name)? {
-        Some(flow) => Ok(Some(Section::Flow(flow))),
+    match named(alloc, document, list, name)? {
+        Some(number) => Ok(Some(entry_in(list, number))),
         None => Ok(None),
     }
 }
@@ -71,26 +67,31 @@ fn holder(
     ensures { IfOk result (λ o. o ≡ holder section name.now (table_view document.now)) }
 {
     match section {
-        Section::Node(_) => node_named(alloc, document, name),
-        Section::Switch(_) => match node_named(alloc, document, name)? {
+        Section::Node(_) => entry_named(alloc, document, Key::Node, name),
+        Section::Switch(_) => match entry_named(alloc, document, Key::Node, name)? {
             Some(node) => Ok(Some(node)),
-            None => switch_named(alloc, document, name),
+            None => entry_named(alloc, document, Key::Switch, name),
         },
-        Section::Flow(_) => flow_named(alloc, document, name),
+        Section::Flow(_) => entry_named(alloc, document, Key::Flow, name),
         _ => Ok(None),
     }
 }
 
-// Which entry has the name of this one already.
-fn name_note(alloc: Global, document: &Table, section: Section) -> Result<Option<Note>, AllocError>
-    ensures { IfOk result (λ o. o ≡ name_note section (table_view document.now)) }
+// Adds which entry has the name of this one already.
+fn add_holder(
+    alloc: Global,
+    document: &Table,
+    section: Section,
+    notes: &mut Vec<Note>,
+) -> Result<(), AllocError>
+    ensures { IfOk result (λ _. notes.new.items ≡ notes.old.items ++ option_to_list (name_note section (table_view document.now))) }
 {
     let Some(name) = text_of(document, section, Key::Name) else {
-        return Ok(None);
+        return Ok(());
     };
     match holder(alloc, document, section, name)? {
-        Some(entry) => Ok(Some(Note::HasName(entry))),
-        None => Ok(None),
+        Some(entry) => add_note(Note::HasName(entry), notes),
+        None => Ok(()),
     }
 }
 
@@ -139,17 +140,22 @@ fn earlier(before: usize, place: Option<usize>) -> Option<usize>
     }
 }
 
-// Which link has the port of an end of this one already.
-fn port_note(alloc: Global, document: &Table, link: usize) -> Result<Option<Note>, AllocError>
-    ensures { IfOk result (λ o. o ≡ port_note link (table_view document.now)) }
+// Adds which link has the port of an end of this one already.
+fn add_port(
+    alloc: Global,
+    document: &Table,
+    link: usize,
+    notes: &mut Vec<Note>,
+) -> Result<(), AllocError>
+    ensures { IfOk result (λ _. notes.new.items ≡ notes.old.items ++ option_to_list (port_note link (table_view document.now))) }
 {
     let first = first_at(alloc, document, link, Key::A, Key::APort)?;
     if let Some(other) = earlier(link, first) {
-        return Ok(Some(Note::HasPort(other, Key::A)));
+        return add_note(Note::HasPort(other, Key::A), notes);
     }
     match first_at(alloc, document, link, Key::B, Key::BPort)? {
-        Some(other) => Ok(Some(Note::HasPort(other, Key::B))),
-        None => Ok(None),
+        Some(other) => add_note(Note::HasPort(other, Key::B), notes),
+        None => Ok(()),
     }
 }
 
@@ -179,29 +185,37 @@ fn first_for(
     }
 }
 
-// Which addresses an entry is for.
-fn is_for(document: &Table, switch: usize, route: usize) -> Option<Note>
-    ensures { result ≡ is_for switch route (table_view document.now) }
+// Adds which addresses an entry is for.
+fn add_range(
+    document: &Table,
+    switch: usize,
+    route: usize,
+    notes: &mut Vec<Note>,
+) -> Result<(), AllocError>
+    ensures { IfOk result (λ _. notes.new.items ≡ notes.old.items ++ option_to_list (is_for switch route (table_view document.now))) }
 {
-    let (first, last) = range_of(document, switch, route)?;
-    Some(Note::IsFor(switch, route, first, last))
+    match range_of(document, switch, route) {
+        Some((first, last)) => add_note(Note::IsFor(switch, route, first, last), notes),
+        None => Ok(()),
+    }
 }
 
-// Which entry is for an address of this one already.
-fn route_note(
+// Adds which entry is for an address of this one already.
+fn add_route(
     alloc: Global,
     document: &Table,
     switch: usize,
     route: usize,
-) -> Result<Option<Note>, AllocError>
-    ensures { IfOk result (λ o. o ≡ route_note switch route (table_view document.now)) }
+    notes: &mut Vec<Note>,
+) -> Result<(), AllocError>
+    ensures { IfOk result (λ _. notes.new.items ≡ notes.old.items ++ option_to_list (route_note switch route (table_view document.now))) }
 {
     let Some((first, last)) = range_of(document, switch, route) else {
-        return Ok(None);
+        return Ok(());
     };
     match first_for(alloc, document, switch, first, last)? {
-        Some(other) => Ok(is_for(document, switch, other)),
-        None => Ok(None),
+        Some(other) => add_range(document, switch, other, notes),
+        None => Ok(()),
     }
 }
 
@@ -217,59 +231,74 @@ fn add_links(links: &[usize], notes: &mut Vec<Note>) -> Result<(), AllocError>
     ensures { IfOk result (λ _. notes.new.items ≡ notes.old.items ++ map LinkHere links.now) }
 {
     for link in links {
-        notes.push(Note::LinkHere(*link))?;
+        add_note(Note::LinkHere(*link), notes)?;
     }
     Ok(())
 }
 
-// The links that are at a node, or that there is none.
-fn link_notes(alloc: Global, links: &[usize]) -> Result<Vec<Note>, AllocError>
-    ensures { IfOk result (λ v. v.items ≡ link_notes links.now) }
+// Adds the links that are at a node, or that there is none.
+fn add_links_or_none(links: &[usize], notes: &mut Vec<Note>) -> Result<(), AllocError>
+    ensures { IfOk result (λ _. notes.new.items ≡ notes.old.items ++ link_notes links.now) }
 {
-    let mut notes = Vec::new(alloc);
     match links {
-        [] => notes.push(Note::Unlinked)?,
-        links => add_links(most(links), &mut notes)?,
+        [] => add_note(Note::Unlinked, notes),
+        links => add_links(most(links), notes),
     }
-    Ok(notes)
 }
 
-// The links that are at the node of this number.
-fn node_notes(alloc: Global, document: &Table, node: usize) -> Result<Vec<Note>, AllocError>
-    ensures { IfOk result (λ v. v.items ≡ node_notes node (table_view document.now)) }
+// Adds the links that are at the node of this number.
+fn add_node(
+    alloc: Global,
+    document: &Table,
+    node: usize,
+    notes: &mut Vec<Note>,
+) -> Result<(), AllocError>
+    ensures { IfOk result (λ _. notes.new.items ≡ notes.old.items ++ node_notes node (table_view document.now)) }
 {
     match text_of(document, Section::Node(node), Key::Name) {
         Some(name) => {
             let links = places_of(alloc, document, Key::Link, &Test::IsAt(name))?;
-            link_notes(alloc, &links)
+            add_links_or_none(&links, notes)
         }
-        None => Ok(Vec::new(alloc)),
+        None => Ok(()),
     }
 }
 
-// The note, as a list.
-fn listed(alloc: Global, note: Option<Note>) -> Result<Vec<Note>, AllocError>
-    ensures { IfOk result (λ v. v.items ≡ option_to_list note) }
-{
-    let mut notes = Vec::new(alloc);
-    if let Some(note) = note {
-        notes.push(note)?;
-    }
-    Ok(notes)
-}
-
-// What there is to note of a fault of the wiring.
-fn topology_notes(
+// Adds what there is to note of a fault of the wiring.
+fn add_topology(
     alloc: Global,
     document: &Table,
     fault: TopoFault,
-) -> Result<Vec<Note>, AllocError>
-    ensures { IfOk result (λ v. v.items ≡ topology_notes fault (table_view document.now)) }
+    notes: &mut Vec<Note>,
+) -> Result<(), AllocError>
+    ensures { IfOk result (λ _. notes.new.items ≡ notes.old.items ++ topology_notes fault (table_view document.now)) }
 {
     match fault {
-        TopoFault::PortTaken(link) => listed(alloc, port_note(alloc, document, link as usize)?),
-        TopoFault::NodeLinks(node) => node_notes(alloc, document, node as usize),
-        TopoFault::TooMany(_) | TopoFault::PortUnlinked(_) => Ok(Vec::new(alloc)),
+        TopoFault::PortTaken(link) => add_port(alloc, document, link as usize, notes),
+        TopoFault::NodeLinks(node) => add_node(alloc, document, node as usize, notes),
+        TopoFault::TooMany(_) | TopoFault::PortUnlinked(_) => Ok(()),
+    }
+}
+
+// Adds what there is to note of a fault.
+fn add_notes(
+    alloc: Global,
+    document: &Table,
+    fault: &TextFault,
+    notes: &mut Vec<Note>,
+) -> Result<(), AllocError>
+    ensures { IfOk result (λ _. notes.new.items ≡ notes.old.items ++ notes_of fault.now (table_view document.now)) }
+{
+    match fault {
+        TextFault::Key(KeyFault::DuplicateName, section, _) => {
+            add_holder(alloc, document, *section, notes)
+        }
+        TextFault::Topology(fault) => add_topology(alloc, document, *fault, notes),
+        TextFault::DuplicateRoute(switch, route) => {
+            add_route(alloc, document, *switch, *route, notes)
+        }
+        TextFault::ReplyShape(flow) => add_reply(alloc, document, *flow, notes),
+        _ => Ok(()),
     }
 }
 
@@ -282,15 +311,7 @@ fn topology_notes(
 pub fn notes_of(alloc: Global, document: &Table, fault: &TextFault) -> Result<Vec<Note>, AllocError>
     ensures { IfOk result (λ v. v.items ≡ notes_of fault.now (table_view document.now)) }
 {
-    match fault {
-        TextFault::Key(KeyFault::DuplicateName, section, _) => {
-            listed(alloc, name_note(alloc, document, *section)?)
-        }
-        TextFault::Topology(fault) => topology_notes(alloc, document, *fault),
-        TextFault::DuplicateRoute(switch, route) => {
-            listed(alloc, route_note(alloc, document, *switch, *route)?)
-        }
-        TextFault::ReplyShape(flow) => reply_notes(alloc, document, *flow),
-        _ => Ok(Vec::new(alloc)),
-    }
+    let mut notes = Vec::new(alloc);
+    add_notes(alloc, document, fault, &mut notes)?;
+    Ok(notes)
 }

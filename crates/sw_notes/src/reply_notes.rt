@@ -4,10 +4,10 @@ ghost use Rattle.toml.specs.View.{table_view};
 ghost use Rattle.sw_notes.specs.ReplyNotes.{end_node, initiator_notes, is_zero_led, node_note, path_notes, reply_notes, shape_notes, table_notes, target_notes};
 
 use crate::entries::{bytes_in, number_in, text_of};
-use crate::note::Note;
+use crate::lookup::table_of;
+use crate::note::{Note, add_note};
 use crate::notes::named;
 use std::alloc::{AllocError, Global};
-use sw_position::table_of;
 use sw_toml_table::{Key, Section};
 use toml::Table;
 
@@ -28,10 +28,10 @@ fn add_path(path: &[u8], notes: &mut Vec<Note>) -> Result<(), AllocError>
     ensures { IfOk result (λ _. notes.new.items ≡ notes.old.items ++ path_notes path.now) }
 {
     if path.len() > MOST_STEPS {
-        notes.push(Note::LongPath(path.len()))?;
+        add_note(Note::LongPath(path.len()), notes)?;
     }
     if is_zero_led(path) {
-        notes.push(Note::LeadingZero)?;
+        return add_note(Note::LeadingZero, notes);
     }
     Ok(())
 }
@@ -40,12 +40,12 @@ fn add_path(path: &[u8], notes: &mut Vec<Note>) -> Result<(), AllocError>
 fn add_initiator(initiator: Option<u64>, notes: &mut Vec<Note>) -> Result<(), AllocError>
     ensures { IfOk result (λ _. notes.new.items ≡ notes.old.items ++ initiator_notes initiator) }
 {
-    if let Some(initiator) = initiator {
-        if initiator < 32 || initiator > 254 {
-            notes.push(Note::NoInitiator(initiator))?;
+    match initiator {
+        Some(initiator) if initiator < 32 || initiator > 254 => {
+            add_note(Note::NoInitiator(initiator), notes)
         }
+        _ => Ok(()),
     }
-    Ok(())
 }
 
 // Adds what is wrong in the table of the replies.
@@ -73,7 +73,7 @@ fn add_node(document: &Table, node: usize, notes: &mut Vec<Note>) -> Result<(), 
 {
     match table_of(document, Section::Target(node)) {
         Some(_) => Ok(()),
-        None => Ok(notes.push(Note::NoTarget(node))?),
+        None => add_note(Note::NoTarget(node), notes),
     }
 }
 
@@ -102,20 +102,19 @@ fn add_target(
     }
 }
 
-/// Each condition that failed.
+/// Adds each condition that failed.
 ///
 /// # Errors
 ///
 /// There is no memory for the list.
-pub(crate) fn reply_notes(
+pub(crate) fn add_reply(
     alloc: Global,
     document: &Table,
     flow: usize,
-) -> Result<Vec<Note>, AllocError>
-    ensures { IfOk result (λ v. v.items ≡ reply_notes flow (table_view document.now)) }
+    notes: &mut Vec<Note>,
+) -> Result<(), AllocError>
+    ensures { IfOk result (λ _. notes.new.items ≡ notes.old.items ++ reply_notes flow (table_view document.now)) }
 {
-    let mut notes = Vec::new(alloc);
-    add_table(alloc, table_of(document, Section::Reply(flow)), &mut notes)?;
-    add_target(alloc, document, flow, &mut notes)?;
-    Ok(notes)
+    add_table(alloc, table_of(document, Section::Reply(flow)), notes)?;
+    add_target(alloc, document, flow, notes)
 }

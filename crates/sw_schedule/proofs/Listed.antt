@@ -1,6 +1,6 @@
 -- The cargo of a load that was read.
-use Rattle.std.proofs.Common.{arith, zero, suc, ◌≡◌, ◌+◌, ◌-◌, ◌*◌, ◌<◌, ◌∷◌, [], ℕ, Bool, true, false, ◌&&◌, List, All, length, replicate, take, refl, sym, ap, subst, ◌⊎◌, inl, inr}
-use Rattle.std.specs.Prelude.{Err, Ok, Option, Some, None, Result, slice_get, option_and_then, option_map, nat_le, if◌then◌else◌}
+use Rattle.std.proofs.Common.{arith, zero, suc, ◌≡◌, ◌+◌, ◌-◌, ◌*◌, ◌<◌, ◌∷◌, [], ℕ, ◌&&◌, List, All, length, replicate, take, refl, sym, ap, subst, ◌⊎◌, inl, inr}
+use Rattle.std.specs.Prelude.{Ok, Option, Some, None, slice_get, option_and_then, option_map, nat_le}
 use Rattle.std.proofs.lemmas.Bool.{and_parts, cases_Bool, leb-true}
 use Rattle.std.proofs.lemmas.List.Elements.{All-nil, All-cons, All-replicate}
 use Rattle.toml.specs.Data.{Members}

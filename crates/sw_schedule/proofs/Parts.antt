@@ -1,13 +1,13 @@
 -- Lines that are read, as the parts that they say.
 use Rattle.std.proofs.Common.{◌≡◌, ℕ, ◌+◌, ◌≤◌, true, List, [], ◌∷◌, ◌++◌, length, map, refl, sym, ap, subst, ◌∙◌, inl, inr, arith, append_assoc, append-nil, length-append, Option, Some, None}
-use Rattle.std.specs.Prelude.{nat_le, Result, Ok, Err, if◌then◌else◌}
+use Rattle.std.specs.Prelude.{nat_le, Result, Ok, Err}
 use Rattle.std.specs.Option.{option_map_or}
 use Rattle.std.specs.List.{flat_map}
 use Rattle.std.proofs.lemmas.Bool.{cases_Bool, leb-true, le-leb}
 use Rattle.sw_machine.specs.Steps.{Step}
 use Rattle.sw_config.specs.Entries.{Declaration}
 use Rattle.sw_schedule.specs.Lines.{is_skipped, steps_of_line}
-use Rattle.sw_schedule.specs.Schedule.{and_then, with_lines}
+use Rattle.sw_schedule.specs.Schedule.{and_then, with_lines, with_steps}
 use Rattle.sw_schedule.specs.Laws.{AreRead, AreStepsOf}
 
 abbrev joined : List (List Step) → List Step
@@ -26,15 +26,12 @@ record Go (d : Declaration) (before : List Step) (lines : List (List ℕ)) (step
 err_ok : (n : ℕ) (steps : List Step) → ◌≡◌ {A = Result (List Step) ℕ} (Err n) (Ok steps) → ⊥
 err_ok n steps e = cc
 
-abbrev limited : ℕ → List Step → List Step → Result (List Step) ℕ
-limited n before more = if nat_le (length before + length more) 1000000 then Ok (before ++ more) else Err n
-
 goes : (d : Declaration) (n : ℕ) (before : List Step) (lines : List (List ℕ)) (steps : List Step) → length before ≤ 1000000 → with_lines d n before lines ≡ Ok steps → Go d before lines steps
 goes d n before [] steps few e = let same : before ≡ steps = cc in record { parts = []; each = refl; all = sym same ∙ sym (append-nil before); few = subst (λ s. length s ≤ 1000000) same few }
 goes d n before (line ∷ lines) steps few e = by_line (λ more le. goes d (n + 1) (before ++ more) lines steps le) (steps_of_line d line) refl e
   where
     by_line : ((more : List Step) → length (before ++ more) ≤ 1000000 → with_lines d (n + 1) (before ++ more) lines ≡ Ok steps → Go d (before ++ more) lines steps)
-        → (o : Option (List Step)) → steps_of_line d line ≡ o → and_then (λ s. with_lines d (n + 1) s lines) (option_map_or (limited n before) o (Err n)) ≡ Ok steps → Go d before (line ∷ lines) steps
+        → (o : Option (List Step)) → steps_of_line d line ≡ o → and_then (λ s. with_lines d (n + 1) s lines) (option_map_or (with_steps n before) o (Err n)) ≡ Ok steps → Go d before (line ∷ lines) steps
     by_line later None is h = absurd (err_ok n steps h)
     by_line later (Some more) is h = elim (cases_Bool (nat_le (length before + length more) 1000000)) [
       | inl t ↦

@@ -19,7 +19,8 @@ use Rattle.sw_schedule.specs.WrittenLines.{step_line}
 use Rattle.sw_schedule.specs.Runs.{entries_of, entry_line, readable_text, schedule_text, short_text}
 use Rattle.sw_schedule.proofs.Entries.{Each, IsRight, entries_right, entries_steps}
 use Rattle.sw_schedule.proofs.Histories.{history_writable}
-use Rattle.sw_schedule.proofs.WrittenLines.{IsWritable, Reads, Says, entry_says, entry_text, step_read}
+use Rattle.sw_schedule.proofs.Written.{Reads}
+use Rattle.sw_schedule.proofs.WrittenLines.{IsWritable, Says, entry_says, entry_text, step_read}
 use Rattle.sw_topo.proofs.Converse.{no_fault}
 
 abbrev SaysSteps : Declaration → Repeated → Type 0

@@ -9,6 +9,7 @@ use Rattle.std.proofs.lemmas.List.Elements.{All-nil, All-cons, All-append}
 use Rattle.std.proofs.lemmas.List.Splits.{slice_split_at, slice_split_none}
 use Rattle.sw_output.specs.Lines.{spaced}
 use Rattle.sw_schedule.specs.Lines.{is_skipped, words_of}
+use Rattle.sw_schedule.specs.Spelling.{IsWord}
 
 abbrev pub Free : ℕ → List ℕ → Type 0
 Free byte w = All (λ b. (b == byte) ≡ false) w
@@ -40,20 +41,15 @@ word_free byte (b ∷ w) e =
 pub both_free : (byte : ℕ) (xs ys : List ℕ) → Free byte xs → Free byte ys → Free byte (xs ++ ys)
 both_free byte xs ys h k = All-append (λ b. (b == byte) ≡ false) xs ys h k
 
--- neither a space nor LF stands in it
-pub record Plain (w : List ℕ) : Type 0 where
-  pub no_space : Free 32 w
-  pub no_lf : Free 10 w
-
-pub decimal_plain : (n : ℕ) → n < 2 ^ 30 → Plain (decimal n)
+pub decimal_plain : (n : ℕ) → n < 2 ^ 30 → IsWord (decimal n)
 decimal_plain n lt = record { no_space = decimal_free 32 n (omega arith) lt; no_lf = decimal_free 10 n (omega arith) lt }
 
-pub literal_plain : (w : List ℕ) → list_all (λ b. not (b == 32)) w ≡ true → list_all (λ b. not (b == 10)) w ≡ true → Plain w
+pub literal_plain : (w : List ℕ) → list_all (λ b. not (b == 32)) w ≡ true → list_all (λ b. not (b == 10)) w ≡ true → IsWord w
 literal_plain w s l = record { no_space = word_free 32 w s; no_lf = word_free 10 w l }
 
 abbrev pub ArePlain : List (List ℕ) → Type 0
 ArePlain [] = Unit {0}
-ArePlain (w ∷ ws) = Plain w × ArePlain ws
+ArePlain (w ∷ ws) = IsWord w × ArePlain ws
 
 pub word_and : (w rest : List ℕ) → Free 32 w → words_of (w ++ (32 ∷ rest)) ≡ w ∷ words_of rest
 word_and w rest h = slice_split_at (λ b. b == 32) w 32 rest h refl

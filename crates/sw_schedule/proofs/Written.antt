@@ -1,145 +1,108 @@
 -- Lines that write steps are read as these steps.
-use Rattle.std.proofs.Common.{◌≡◌, ℕ, ◌+◌, ◌*◌, ◌%◌, ◌^◌, ◌<◌, ◌≤◌, Bool, true, false, not, List, [], ◌∷◌, ◌++◌, length, refl, sym, ap, subst, ◌∙◌, arith, append_assoc, append-nil, length-append, ne_eqb, Option, Some, None}
-use Rattle.std.specs.Prelude.{◌==◌, nat_le, codes, All, Ok, option_and_then}
+use Rattle.std.proofs.Common.{◌≡◌, ℕ, ◌+◌, ◌*◌, ◌<◌, ◌≤◌, true, false, not, List, [], ◌∷◌, ◌++◌, length, refl, sym, ap, subst, ◌∙◌, arith, append_assoc, append-nil, length-append, Option, Some, None}
+use Rattle.std.specs.Prelude.{◌==◌, nat_le, codes, Ok, option_and_then}
 use Rattle.std.specs.Fmt.{decimal}
 use Rattle.std.specs.List.{flat_map, list_all, slice_split}
-use Rattle.std.proofs.lemmas.Bool.{and_parts, false≢true, le-leb, lt-ltb}
-use Rattle.std.proofs.lemmas.Fmt.{decimal_by_steps}
-use Rattle.std.proofs.lemmas.List.Elements.{All-nil, All-cons, All-append}
-use Rattle.std.proofs.lemmas.List.Splits.{slice_split_at, slice_split_none}
+use Rattle.std.proofs.lemmas.Bool.{le-leb, lt-ltb}
+use Rattle.std.proofs.lemmas.List.Splits.{slice_split_at}
 use Rattle.sw_char.specs.declared.nchar.End.{End}
 use Rattle.sw_char.specs.declared.nchar.End.TheVariants.{Eop, Eep}
 use Rattle.sw_machine.specs.Steps.{Step, Fct, FctIn, Arrive, Grant, Drop, Forward, Spill, Begin, Emit, Accept, Reply}
 use Rattle.sw_config.specs.Entries.{Declaration}
+use Rattle.sw_output.specs.Lines.{spaced}
 use Rattle.sw_text.proofs.Numbers.{spelled_read}
-use Rattle.sw_load.specs.Cargo.{bytes_of}
-use Rattle.sw_schedule.specs.Lines.{at_channel, at_node, channel_of, count_of, end_of, flow_of, is_skipped, node_of, step_of, steps_of_line, words_of}
+use Rattle.sw_schedule.specs.Lines.{at_channel, at_node, channel_of, count_of, end_of, is_skipped, repeated_of, step_of, steps_of_line, words_of}
 use Rattle.sw_schedule.specs.Schedule.{steps_of_text, with_line, with_lines}
-use Rattle.sw_schedule.specs.Spelling.{AllWritten, IsWord, Writes, end_text}
+use Rattle.sw_schedule.specs.Spelling.{AllWritten, IsAtChannel, IsAtNode, IsBegin, IsGrant, IsWord, Writes, end_text}
 use Rattle.sw_schedule.proofs.Reading.{right_line, skipped_line}
+use Rattle.sw_schedule.proofs.Words.{ArePlain, Free, decimal_plain, literal_plain, spaced_free, words_read}
 
-abbrev Free : ℕ → List ℕ → Type 0
-Free byte w = All (λ b. (b == byte) ≡ false) w
+-- a line that is read as this step
+pub record Reads (d : Declaration) (step : Step) (line : List ℕ) : Type 0 where
+  pub no_lf : Free 10 line
+  pub shown : is_skipped line ≡ false
+  pub once : repeated_of d (words_of line) ≡ Some (record { count = 1; step = step })
+  pub said : step_of d (words_of line) ≡ Some step
 
-digit_free : (byte d : ℕ) → byte < 48 → d < 10 → Free byte ((48 + d) ∷ [])
-digit_free byte d low lt = All-cons (λ b. (b == byte) ≡ false) (48 + d) [] (ne_eqb (48 + d) byte (λ e. omega arith)) (All-nil (λ b. (b == byte) ≡ false))
+pub read_once : (d : Declaration) (step : Step) (line : List ℕ) → Reads d step line → steps_of_line d line ≡ Some (step ∷ [])
+unfolding steps_of_line
+read_once d step line reads = rw (reads.shown, reads.once) refl
 
-decimal_free : (byte n : ℕ) → byte < 48 → n < 2 ^ 30 → Free byte (decimal n)
-decimal_free byte n low lt =
-    decimal_by_steps (λ n ds. Free byte ds) (λ n small. digit_free byte n low small)
-    (λ n ds big h. All-append (λ b. (b == byte) ≡ false) ds ((48 + n % 10) ∷ []) h (digit_free byte (n % 10) low (omega arith))) n (omega arith)
+-- words that begin with a verb, which is no count
+words_said : (d : Declaration) (step : Step) (verb : List ℕ) (words : List (List ℕ)) → ArePlain (verb ∷ words) → is_skipped (spaced (verb ∷ words)) ≡ false → count_of verb ≡ None
+    → step_of d (verb ∷ words) ≡ Some step → Reads d step (spaced (verb ∷ words))
+words_said d step verb words plain shown count said =
+    let same = words_read verb words plain in
+    record {
+      no_lf = spaced_free verb words plain;
+      shown = shown;
+      once = rw (same, count, said) refl;
+      said = rw same said;
+    }
 
-word_free : (byte : ℕ) (w : List ℕ) → list_all (λ b. not (b == byte)) w ≡ true → Free byte w
-word_free byte [] e = All-nil (λ b. (b == byte) ≡ false)
-word_free byte (b ∷ w) e =
-    let h = and_parts (not (b == byte)) (list_all (λ b. not (b == byte)) w) e in
-    All-cons (λ b. (b == byte) ≡ false) b w (not_true (b == byte) h.0) (word_free byte w h.1)
-  where
-    not_true : (x : Bool) → not x ≡ true → x ≡ false
-    not_true true k = absurd (false≢true k)
-    not_true false k = refl
+-- a word that begins no skipped line, and that is no count
+record IsVerb (verb : List ℕ) : Type 0 where
+  plain : IsWord verb
+  shown : (rest : List ℕ) → is_skipped (verb ++ (32 ∷ rest)) ≡ false
+  count : count_of verb ≡ None
 
-both_free : (byte : ℕ) (xs ys : List ℕ) → Free byte xs → Free byte ys → Free byte (xs ++ ys)
-both_free byte xs ys h k = All-append (λ b. (b == byte) ≡ false) xs ys h k
-
-one_word : (w : List ℕ) → Free 32 w → words_of w ≡ w ∷ []
-one_word w h = slice_split_none (λ b. b == 32) w h
-
-word_and : (w rest : List ℕ) → Free 32 w → words_of (w ++ (32 ∷ rest)) ≡ w ∷ words_of rest
-word_and w rest h = slice_split_at (λ b. b == 32) w 32 rest h refl
+literal_verb : (verb : List ℕ) → list_all (λ b. not (b == 32)) verb ≡ true → list_all (λ b. not (b == 10)) verb ≡ true → ((rest : List ℕ) → is_skipped (verb ++ (32 ∷ rest)) ≡ false)
+    → count_of verb ≡ None → IsVerb verb
+literal_verb verb no_space no_lf shown count = record { plain = literal_plain verb no_space no_lf; shown = shown; count = count }
 
 channel_read : (d : Declaration) (c : ℕ) → c < 2 * length d.links → c ≤ 65535 → channel_of d (decimal c) ≡ Some c
-channel_read d c lt few = rw (spelled_read 65535 c (omega arith) few) (rw (lt-ltb c (2 * length d.links) lt) refl)
-
-line_said : (d : Declaration) (line verb : List ℕ) (words : List (List ℕ)) (s : Step) → is_skipped line ≡ false → words_of line ≡ verb ∷ words → count_of verb ≡ None → step_of d (verb ∷ words) ≡ Some s → steps_of_line d line ≡ Some (s ∷ [])
-unfolding steps_of_line
-line_said d line verb words s skip cut count step = rw (skip, cut, count, step) refl
-
-at_channel_said : (d : Declaration) (verb : List ℕ) (c : ℕ) (s : Step) → channel_of d (decimal c) ≡ Some c → at_channel verb c ≡ Some s → step_of d (verb ∷ decimal c ∷ []) ≡ Some s
-at_channel_said d verb c s ch at = rw (ch, at) refl
+channel_read d c lt few = rw (spelled_read 65535 c (omega arith) few, lt-ltb c (2 * length d.links) lt) refl
 
 never : (o : Option ℕ) (f : ℕ → Option Step) → ((c : ℕ) → f c ≡ None) → option_and_then f o ≡ None
 never None f h = refl
 never (Some c) f h = h c
 
-at_node_said : (d : Declaration) (verb name : List ℕ) (n : ℕ) (s : Step) → ((c : ℕ) → at_channel verb c ≡ None) → node_of d name ≡ Some n → at_node verb n ≡ Some s → step_of d (verb ∷ name ∷ []) ≡ Some s
-at_node_said d verb name n s never_at node at = rw (never (channel_of d name) (at_channel verb) never_at, node, at) refl
+module _ (d : Declaration) (verb before : List ℕ) (is : IsVerb verb) (same : (rest : List ℕ) → before ++ rest ≡ verb ++ (32 ∷ rest)) where
+  channel_line : (c : ℕ) (s : Step) (line : List ℕ) → IsAtChannel d before c line → at_channel verb c ≡ Some s → Reads d s line
+  channel_line c s line w at =
+      let few = w.few in
+      let said : step_of d (verb ∷ decimal c ∷ []) ≡ Some s = rw (channel_read d c w.in_net few, at) refl in
+      subst (Reads d s) (sym (w.written ∙ same (decimal c))) (words_said d s verb (decimal c ∷ []) (is.plain, (decimal_plain c (omega (arith, few)), tt)) (is.shown (decimal c)) is.count said)
 
-module _ (d : Declaration) (verb before : List ℕ) (cut : (w : List ℕ) → words_of (before ++ w) ≡ verb ∷ words_of w) (shown : (w : List ℕ) → is_skipped (before ++ w) ≡ false) (count : count_of verb ≡ None) where
-  channel_line : (c : ℕ) (s : Step) (line : List ℕ) → c < 2 * length d.links → c ≤ 65535 → line ≡ before ++ decimal c → at_channel verb c ≡ Some s → steps_of_line d line ≡ Some (s ∷ [])
-  channel_line c s line lt few is at =
-      ap (steps_of_line d) is
-      ∙ line_said d (before ++ decimal c) verb (decimal c ∷ []) s (shown (decimal c)) (cut (decimal c) ∙ ap (λ ws. verb ∷ ws) (one_word (decimal c) (decimal_free 32 c (omega arith) (omega (arith, few))))) count (at_channel_said d verb c s (channel_read d c lt few) at)
+  node_line : (n : ℕ) (s : Step) (line : List ℕ) → IsAtNode d before n line → ((c : ℕ) → at_channel verb c ≡ None) → at_node verb n ≡ Some s → Reads d s line
+  node_line n s line w never_at at =
+      let said : step_of d (verb ∷ w.name ∷ []) ≡ Some s = rw (never (channel_of d w.name) (at_channel verb) never_at, w.node, at) refl in
+      subst (Reads d s) (sym (w.written ∙ same w.name)) (words_said d s verb (w.name ∷ []) (is.plain, (w.word, tt)) (is.shown w.name) is.count said)
 
-  node_line : (n : ℕ) (s : Step) (line name : List ℕ) → IsWord name → ((c : ℕ) → at_channel verb c ≡ None) → node_of d name ≡ Some n → line ≡ before ++ name → at_node verb n ≡ Some s → steps_of_line d line ≡ Some (s ∷ [])
-  node_line n s line name word never_at node is at =
-      ap (steps_of_line d) is
-      ∙ line_said d (before ++ name) verb (name ∷ []) s (shown name) (cut name ∙ ap (λ ws. verb ∷ ws) (one_word name word.no_space)) count (at_node_said d verb name n s never_at node at)
+grant_line : (d : Declaration) (o i : ℕ) (line : List ℕ) → IsGrant d o i line → Reads d (Grant o i) line
+grant_line d o i line w =
+    let output = w.few.0 in
+    let input = w.few.1 in
+    subst (Reads d (Grant o i)) (sym w.written)
+    (words_said d (Grant o i) (codes "grant") (decimal o ∷ decimal i ∷ []) (literal_plain (codes "grant") refl refl, (decimal_plain o (omega (arith, output)), (decimal_plain i (omega (arith, input)), tt))) refl refl
+    (rw (channel_read d o w.output_in_net output, channel_read d i w.input_in_net input) refl))
 
-grant_line : (d : Declaration) (o i : ℕ) (line : List ℕ) → o < 2 * length d.links → i < 2 * length d.links → o ≤ 65535 → i ≤ 65535 → line ≡ codes "grant " ++ (decimal o ++ (32 ∷ decimal i)) → steps_of_line d line ≡ Some (Grant o i ∷ [])
-grant_line d o i line lo li fo fi is =
-    let words : words_of (codes "grant " ++ (decimal o ++ (32 ∷ decimal i))) ≡ codes "grant" ∷ decimal o ∷ decimal i ∷ [] =
-    ap (λ ws. codes "grant" ∷ ws) (word_and (decimal o) (decimal i) (decimal_free 32 o (omega arith) (omega (arith, fo))) ∙ ap (λ ws. decimal o ∷ ws) (one_word (decimal i) (decimal_free 32 i (omega arith) (omega (arith, fi))))) in
-    ap (steps_of_line d) is
-    ∙ line_said d (codes "grant " ++ (decimal o ++ (32 ∷ decimal i))) (codes "grant") (decimal o ∷ decimal i ∷ []) (Grant o i) refl words refl (rw (channel_read d o lo fo, channel_read d i li fi) refl)
-
-end_word : (e : End) → Free 32 (end_text e)
-end_word Eop = word_free 32 (codes "EOP") refl
-end_word Eep = word_free 32 (codes "EEP") refl
-
-end_line : (e : End) → Free 10 (end_text e)
-end_line Eop = word_free 10 (codes "EOP") refl
-end_line Eep = word_free 10 (codes "EEP") refl
+end_plain : (e : End) → IsWord (end_text e)
+end_plain Eop = literal_plain (codes "EOP") refl refl
+end_plain Eep = literal_plain (codes "EEP") refl refl
 
 end_read : (e : End) → end_of (end_text e) ≡ Some e
 end_read Eop = refl
 end_read Eep = refl
 
-begin_line : (d : Declaration) (f : ℕ) (cargo : List ℕ) (e : End) (name text line : List ℕ) → IsWord name → IsWord text → flow_of d name ≡ Some f → bytes_of text ≡ Some cargo → line ≡ codes "begin " ++ (name ++ (32 ∷ (end_text e ++ (32 ∷ text)))) → steps_of_line d line ≡ Some (Begin f cargo e ∷ [])
-begin_line d f cargo e name text line wn wt named spelled is =
-    let words : words_of (codes "begin " ++ (name ++ (32 ∷ (end_text e ++ (32 ∷ text))))) ≡ codes "begin" ∷ name ∷ end_text e ∷ text ∷ [] =
-    ap (λ ws. codes "begin" ∷ ws) (word_and name (end_text e ++ (32 ∷ text)) wn.no_space ∙ ap (λ ws. name ∷ ws) (word_and (end_text e) text (end_word e) ∙ ap (λ ws. end_text e ∷ ws) (one_word text wt.no_space))) in
-    ap (steps_of_line d) is
-    ∙ line_said d (codes "begin " ++ (name ++ (32 ∷ (end_text e ++ (32 ∷ text))))) (codes "begin") (name ∷ end_text e ∷ text ∷ []) (Begin f cargo e) refl words refl (rw (named, end_read e, spelled) refl)
+begin_line : (d : Declaration) (f : ℕ) (cargo : List ℕ) (e : End) (line : List ℕ) → IsBegin d f cargo e line → Reads d (Begin f cargo e) line
+begin_line d f cargo e line w =
+    subst (Reads d (Begin f cargo e)) (sym w.written)
+    (words_said d (Begin f cargo e) (codes "begin") (w.name ∷ end_text e ∷ w.text ∷ []) (literal_plain (codes "begin") refl refl, (w.words.0, (end_plain e, (w.words.1, tt)))) refl refl
+    (rw (w.named, end_read e, w.spelled) refl))
 
-writes_read : (d : Declaration) (s : Step) (line : List ℕ) → Writes d s line → steps_of_line d line ≡ Some (s ∷ [])
-writes_read d (Fct c) line w = channel_line d (codes "fct") (codes "fct ") (λ x. refl) (λ x. refl) refl c (Fct c) line w.in_net w.few w.written refl
-writes_read d (FctIn c) line w = channel_line d (codes "fctin") (codes "fctin ") (λ x. refl) (λ x. refl) refl c (FctIn c) line w.in_net w.few w.written refl
-writes_read d (Arrive c) line w = channel_line d (codes "arrive") (codes "arrive ") (λ x. refl) (λ x. refl) refl c (Arrive c) line w.in_net w.few w.written refl
-writes_read d (Grant o i) line w = grant_line d o i line w.output_in_net w.input_in_net w.few.0 w.few.1 w.written
-writes_read d (Drop c) line w = channel_line d (codes "drop") (codes "drop ") (λ x. refl) (λ x. refl) refl c (Drop c) line w.in_net w.few w.written refl
-writes_read d (Forward c) line w = channel_line d (codes "forward") (codes "forward ") (λ x. refl) (λ x. refl) refl c (Forward c) line w.in_net w.few w.written refl
-writes_read d (Spill c) line w = channel_line d (codes "spill") (codes "spill ") (λ x. refl) (λ x. refl) refl c (Spill c) line w.in_net w.few w.written refl
-writes_read d (Begin f cargo e) line w = begin_line d f cargo e w.name w.text line w.words.0 w.words.1 w.named w.spelled w.written
-writes_read d (Emit n) line w = node_line d (codes "emit") (codes "emit ") (λ x. refl) (λ x. refl) refl n (Emit n) line w.name w.word (λ c. refl) w.node w.written refl
-writes_read d (Accept n) line w = node_line d (codes "accept") (codes "accept ") (λ x. refl) (λ x. refl) refl n (Accept n) line w.name w.word (λ c. refl) w.node w.written refl
-writes_read d (Reply n) line w = node_line d (codes "reply") (codes "reply ") (λ x. refl) (λ x. refl) refl n (Reply n) line w.name w.word (λ c. refl) w.node w.written refl
-
-channel_free : (verb line : List ℕ) (c : ℕ) → Free 10 verb → c ≤ 65535 → line ≡ verb ++ decimal c → Free 10 line
-channel_free verb line c h few is = subst (Free 10) (sym is) (both_free 10 verb (decimal c) h (decimal_free 10 c (omega arith) (omega (arith, few))))
-
-node_free : (verb name line : List ℕ) → Free 10 verb → IsWord name → line ≡ verb ++ name → Free 10 line
-node_free verb name line h word is = subst (Free 10) (sym is) (both_free 10 verb name h word.no_lf)
-
-after_space : (w : List ℕ) → Free 10 w → Free 10 (32 ∷ w)
-after_space w h = All-cons (λ b. (b == 10) ≡ false) 32 w refl h
-
-writes_free : (d : Declaration) (s : Step) (line : List ℕ) → Writes d s line → Free 10 line
-writes_free d (Fct c) line w = channel_free (codes "fct ") line c (word_free 10 (codes "fct ") refl) w.few w.written
-writes_free d (FctIn c) line w = channel_free (codes "fctin ") line c (word_free 10 (codes "fctin ") refl) w.few w.written
-writes_free d (Arrive c) line w = channel_free (codes "arrive ") line c (word_free 10 (codes "arrive ") refl) w.few w.written
-writes_free d (Grant o i) line w =
-    subst (Free 10) (sym w.written) (both_free 10 (codes "grant ") (decimal o ++ (32 ∷ decimal i)) (word_free 10 (codes "grant ") refl)
-    (both_free 10 (decimal o) (32 ∷ decimal i) (decimal_free 10 o (omega arith) (let f = w.few.0 in omega (arith, f))) (after_space (decimal i) (decimal_free 10 i (omega arith) (let f = w.few.1 in omega (arith, f))))))
-writes_free d (Drop c) line w = channel_free (codes "drop ") line c (word_free 10 (codes "drop ") refl) w.few w.written
-writes_free d (Forward c) line w = channel_free (codes "forward ") line c (word_free 10 (codes "forward ") refl) w.few w.written
-writes_free d (Spill c) line w = channel_free (codes "spill ") line c (word_free 10 (codes "spill ") refl) w.few w.written
-writes_free d (Begin f cargo e) line w =
-    subst (Free 10) (sym w.written) (both_free 10 (codes "begin ") (w.name ++ (32 ∷ (end_text e ++ (32 ∷ w.text)))) (word_free 10 (codes "begin ") refl)
-    (both_free 10 w.name (32 ∷ (end_text e ++ (32 ∷ w.text))) w.words.0.no_lf (after_space (end_text e ++ (32 ∷ w.text)) (both_free 10 (end_text e) (32 ∷ w.text) (end_line e) (after_space w.text w.words.1.no_lf)))))
-writes_free d (Emit n) line w = node_free (codes "emit ") w.name line (word_free 10 (codes "emit ") refl) w.word w.written
-writes_free d (Accept n) line w = node_free (codes "accept ") w.name line (word_free 10 (codes "accept ") refl) w.word w.written
-writes_free d (Reply n) line w = node_free (codes "reply ") w.name line (word_free 10 (codes "reply ") refl) w.word w.written
+pub writes_read : (d : Declaration) (s : Step) (line : List ℕ) → Writes d s line → Reads d s line
+writes_read d (Fct c) line w = channel_line d (codes "fct") (codes "fct ") (literal_verb (codes "fct") refl refl (λ rest. refl) refl) (λ rest. refl) c (Fct c) line w refl
+writes_read d (FctIn c) line w = channel_line d (codes "fctin") (codes "fctin ") (literal_verb (codes "fctin") refl refl (λ rest. refl) refl) (λ rest. refl) c (FctIn c) line w refl
+writes_read d (Arrive c) line w = channel_line d (codes "arrive") (codes "arrive ") (literal_verb (codes "arrive") refl refl (λ rest. refl) refl) (λ rest. refl) c (Arrive c) line w refl
+writes_read d (Grant o i) line w = grant_line d o i line w
+writes_read d (Drop c) line w = channel_line d (codes "drop") (codes "drop ") (literal_verb (codes "drop") refl refl (λ rest. refl) refl) (λ rest. refl) c (Drop c) line w refl
+writes_read d (Forward c) line w = channel_line d (codes "forward") (codes "forward ") (literal_verb (codes "forward") refl refl (λ rest. refl) refl) (λ rest. refl) c (Forward c) line w refl
+writes_read d (Spill c) line w = channel_line d (codes "spill") (codes "spill ") (literal_verb (codes "spill") refl refl (λ rest. refl) refl) (λ rest. refl) c (Spill c) line w refl
+writes_read d (Begin f cargo e) line w = begin_line d f cargo e line w
+writes_read d (Emit n) line w = node_line d (codes "emit") (codes "emit ") (literal_verb (codes "emit") refl refl (λ rest. refl) refl) (λ rest. refl) n (Emit n) line w (λ c. refl) refl
+writes_read d (Accept n) line w = node_line d (codes "accept") (codes "accept ") (literal_verb (codes "accept") refl refl (λ rest. refl) refl) (λ rest. refl) n (Accept n) line w (λ c. refl) refl
+writes_read d (Reply n) line w = node_line d (codes "reply") (codes "reply ") (literal_verb (codes "reply") refl refl (λ rest. refl) refl) (λ rest. refl) n (Reply n) line w (λ c. refl) refl
 
 abbrev with_lf : List ℕ → List ℕ
 with_lf line = line ++ 10 ∷ []
@@ -150,11 +113,11 @@ cut_lines d [] (l ∷ ls) h = absurd h
 cut_lines d (s ∷ ss) [] h = absurd h
 cut_lines d (s ∷ ss) (l ∷ ls) h =
     ap (slice_split (λ b. b == 10)) (append_assoc l (10 ∷ []) (flat_map with_lf ls))
-    ∙ slice_split_at (λ b. b == 10) l 10 (flat_map with_lf ls) (writes_free d s l h.0) refl
+    ∙ slice_split_at (λ b. b == 10) l 10 (flat_map with_lf ls) (writes_read d s l h.0).no_lf refl
     ∙ ap (λ x. l ∷ x) (cut_lines d ss ls h.1)
 
 adds_one : (d : Declaration) (n : ℕ) (before : List Step) (s : Step) (line : List ℕ) → Writes d s line → length before + 1 ≤ 1000000 → with_line d n before line ≡ Ok (before ++ s ∷ [])
-adds_one d n before s line w few = let fits : nat_le (length before + 1) 1000000 ≡ true = le-leb (length before + 1) 1000000 few in rw (writes_read d s line w, fits) refl
+adds_one d n before s line w few = let fits : nat_le (length before + 1) 1000000 ≡ true = le-leb (length before + 1) 1000000 few in rw (read_once d s line (writes_read d s line w), fits) refl
 
 reads_all : (d : Declaration) (n : ℕ) (before steps : List Step) (lines : List (List ℕ)) → AllWritten d steps lines → length before + length steps ≤ 1000000 → with_lines d n before (lines ++ [] ∷ []) ≡ Ok (before ++ steps)
 reads_all d n before [] [] h few = right_line d n before [] [] before (skipped_line d n before [] (omega (arith, few)) refl) ∙ ap Ok (sym (append-nil before))

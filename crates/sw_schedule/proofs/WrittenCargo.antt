@@ -1,21 +1,22 @@
 -- What is written of a cargo is read as its bytes.
-use Rattle.std.proofs.Common.{◌≡◌, ℕ, ◌+◌, ◌-◌, ◌*◌, ◌/◌, ◌%◌, ◌^◌, ◌<◌, ◌≤◌, Bool, true, false, not, ◌&&◌, List, [], ◌∷◌, ◌++◌, length, replicate, Option, Some, None, refl, sym, ap, subst, ◌∙◌, ◌⊎◌, inl, inr, arith, eqb-true, ne_eqb}
-use Rattle.std.specs.Prelude.{◌==◌, All, fold, nat_le, slice_index, unwrap_or}
+use Rattle.std.proofs.Common.{◌≡◌, ℕ, ◌+◌, ◌-◌, ◌*◌, ◌/◌, ◌%◌, ◌^◌, ◌<◌, ◌≤◌, true, false, not, List, [], ◌∷◌, ◌++◌, length, replicate, Some, refl, sym, ap, subst, ◌∙◌, ◌⊎◌, inl, inr, arith, eqb-true, ne_eqb}
+use Rattle.std.specs.Prelude.{◌==◌, All, fold, nat_le}
 use Rattle.std.specs.Fmt.{decimal}
 use Rattle.std.specs.List.{list_all}
-use Rattle.std.proofs.lemmas.Bool.{agree_below_at, and_parts, and_from, cases_Bool, le-leb, not-true}
+use Rattle.std.proofs.lemmas.Bool.{and_parts, and_from, cases_Bool, le-leb}
 use Rattle.std.proofs.lemmas.Fmt.{decimal_by_steps}
 use Rattle.std.proofs.lemmas.List.Elements.{All-nil, All-cons, All-head, All-tail}
-use Rattle.hex.specs.Hex.{encode_upper, encode_with, upper_digits}
-use Rattle.sw_load.specs.Cargo.{ArePairs, CargoIsRead, IsCargo, IsCount, IsPairs, IsRepeated, bytes_of, cargo_of, decimal_value, hex_pair, hex_value, is_digit, is_well_begun, without_spaces}
+use Rattle.hex.specs.Hex.{encode_upper, encode_with}
+use Rattle.sw_load.specs.Cargo.{CargoIsRead, IsCargo, IsCount, IsPairs, IsRepeated, bytes_of, cargo_of, decimal_value, is_digit, is_well_begun, without_spaces}
 use Rattle.sw_load.proofs.Digits.{IsBytes, are_pairs, digit, digit_right, pair}
+use Rattle.sw_schedule.specs.Spelling.{IsWord}
 use Rattle.sw_schedule.specs.TextLaws.{IsShort}
 use Rattle.sw_schedule.specs.WrittenLines.{cargo_text}
-use Rattle.sw_schedule.proofs.Words.{Free, Plain, both_free, decimal_plain}
+use Rattle.sw_schedule.proofs.Words.{Free, both_free, decimal_plain}
 
 -- ---- the pairs of bytes
 
-pairs_plain : (bytes : List ℕ) → IsBytes bytes → Plain (encode_upper bytes)
+pairs_plain : (bytes : List ℕ) → IsBytes bytes → IsWord (encode_upper bytes)
 unfolding encode_with
 pairs_plain [] h = record { no_space = All-nil (λ b. (b == 32) ≡ false); no_lf = All-nil (λ b. (b == 10) ≡ false) }
 pairs_plain (b ∷ bytes) h =
@@ -103,7 +104,7 @@ recursive [] h = tt
 recursive (b ∷ bytes) h = (All-head (λ b. b < 256) b bytes h, recursive bytes (All-tail (λ b. b < 256) b bytes h))
 
 pub record Spells (text cargo : List ℕ) : Type 0 where
-  pub plain : Plain text
+  pub plain : IsWord text
   pub read : bytes_of text ≡ Some cargo
 
 repeated : CargoIsRead → (b : ℕ) (bytes : List ℕ) → IsBytes (b ∷ bytes) → length (b ∷ bytes) ≤ 4096 → list_all (λ c. c == b) bytes ≡ true
@@ -115,7 +116,7 @@ repeated is_read b bytes h few t =
     let one = pairs_plain (b ∷ []) (h.0, tt) in
     let number = decimal_plain n low in
     let text = encode_upper (b ∷ []) ++ (42 ∷ decimal n) in
-    let plain : Plain text = record {
+    let plain : IsWord text = record {
       no_space = both_free 32 (encode_upper (b ∷ [])) (42 ∷ decimal n) one.no_space (All-cons (λ b. (b == 32) ≡ false) 42 (decimal n) refl number.no_space);
       no_lf = both_free 10 (encode_upper (b ∷ [])) (42 ∷ decimal n) one.no_lf (All-cons (λ b. (b == 10) ≡ false) 42 (decimal n) refl number.no_lf);
     } in

@@ -1,6 +1,6 @@
 -- The line of a step, with a count or without, is read as that step.
-use Rattle.std.proofs.Common.{◌≡◌, ℕ, ◌*◌, ◌^◌, ◌<◌, ◌≤◌, false, List, [], ◌∷◌, ◌++◌, length, replicate, Option, Some, None, refl, inl, inr, arith, ne_eqb, lt-ltb, eqb-true}
-use Rattle.std.specs.Prelude.{◌==◌, codes, option_and_then, if◌then◌else◌}
+use Rattle.std.proofs.Common.{◌≡◌, ℕ, ◌*◌, ◌^◌, ◌<◌, ◌≤◌, false, List, [], ◌∷◌, ◌++◌, length, replicate, Some, refl, ap, inl, inr, arith, ne_eqb, eqb-true}
+use Rattle.std.specs.Prelude.{◌==◌, codes, if◌then◌else◌}
 use Rattle.std.specs.Fmt.{decimal}
 use Rattle.std.proofs.lemmas.Bool.{cases_Bool}
 use Rattle.std.proofs.lemmas.List.Elements.{All-cons}
@@ -12,14 +12,15 @@ use Rattle.sw_load.specs.Cargo.{CargoIsRead}
 use Rattle.sw_machine.specs.Steps.{Step, Fct, FctIn, Arrive, Grant, Drop, Forward, Spill, Begin, Emit, Accept, Reply}
 use Rattle.sw_output.specs.ChannelTexts.{node_name}
 use Rattle.sw_output.specs.FlowTexts.{flow_name}
-use Rattle.sw_output.specs.Lines.{spaced}
-use Rattle.sw_output.specs.PacketTexts.{end_text}
-use Rattle.sw_schedule.specs.Lines.{Repeated, at_channel, at_node, channel_of, count_of, end_of, is_skipped, node_of, repeated_of, step_of, steps_of_line, words_of}
+use Rattle.sw_output.specs.PacketTexts as told
+use Rattle.sw_schedule.specs.Lines.{Repeated, count_of, steps_of_line}
+use Rattle.sw_schedule.specs.Spelling.{IsAtChannel, IsAtNode, IsBegin, IsGrant, Writes, end_text}
 use Rattle.sw_schedule.specs.TextLaws.{HasNames, IsShort}
 use Rattle.sw_schedule.specs.WrittenLines.{cargo_text, step_line}
+use Rattle.sw_schedule.proofs.Written.{Reads, read_once, writes_read}
 use Rattle.sw_schedule.proofs.WrittenCargo.{cargo_spelled}
 use Rattle.sw_schedule.proofs.WrittenNames.{flow_found, flow_plain, node_found, node_plain}
-use Rattle.sw_schedule.proofs.Words.{ArePlain, Free, Plain, both_free, decimal_plain, literal_plain, number_shown, spaced_free, word_and, words_read}
+use Rattle.sw_schedule.proofs.Words.{Free, both_free, decimal_plain, number_shown, word_and}
 use Rattle.sw_text.proofs.Numbers.{spelled_read}
 
 -- the step is of channels, nodes and flows of the network, and its cargo is short
@@ -36,69 +37,47 @@ IsWritable d (Emit n) = n < length d.nodes
 IsWritable d (Accept n) = n < length d.nodes
 IsWritable d (Reply n) = n < length d.nodes
 
--- a line that is read as this step
-pub record Reads (d : Declaration) (step : Step) (line : List ℕ) : Type 0 where
-  pub no_lf : Free 10 line
-  pub shown : is_skipped line ≡ false
-  pub once : repeated_of d (words_of line) ≡ Some (record { count = 1; step = step })
-  pub said : step_of d (words_of line) ≡ Some step
-
--- words that begin with a verb, which is no count
-words_said : (d : Declaration) (step : Step) (verb : List ℕ) (words : List (List ℕ)) → ArePlain (verb ∷ words) → is_skipped (spaced (verb ∷ words)) ≡ false → count_of verb ≡ None
-    → step_of d (verb ∷ words) ≡ Some step → Reads d step (spaced (verb ∷ words))
-words_said d step verb words plain shown count said =
-    let same = words_read verb words plain in
-    record {
-      no_lf = spaced_free verb words plain;
-      shown = shown;
-      once = rw (same, count, said) refl;
-      said = rw same said;
-    }
-
-never : (o : Option ℕ) (f : ℕ → Option Step) → ((c : ℕ) → f c ≡ None) → option_and_then f o ≡ None
-never None f h = refl
-never (Some c) f h = h c
-
-end_plain : (e : End) → Plain (end_text e)
-end_plain Eop = literal_plain (codes "EOP") refl refl
-end_plain Eep = literal_plain (codes "EEP") refl refl
-
-end_read : (e : End) → end_of (end_text e) ≡ Some e
-end_read Eop = refl
-end_read Eep = refl
+same_end : (e : End) → told.end_text e ≡ end_text e
+same_end Eop = refl
+same_end Eep = refl
 
 module _ (is_read : CargoIsRead) (d : Declaration) (valid : IsValid d) (names : HasNames d) (few : length d.links ≤ 1024) where
-  channel_plain : (c : ℕ) → c < 2 * length d.links → Plain (decimal c)
-  channel_plain c lt = decimal_plain c (omega (arith, lt, few))
+  channel_written : (verb : List ℕ) (c : ℕ) → c < 2 * length d.links → IsAtChannel d verb c (verb ++ decimal c)
+  channel_written verb c lt = record { in_net = lt; few = omega (arith, lt, few); written = refl }
 
-  channel_read : (c : ℕ) → c < 2 * length d.links → channel_of d (decimal c) ≡ Some c
-  channel_read c lt = rw (spelled_read 65535 c (omega arith) (omega (arith, lt, few)), lt-ltb c (2 * length d.links) lt) refl
+  node_written : (verb : List ℕ) (n : ℕ) → n < length d.nodes → IsAtNode d verb n (verb ++ node_name d n)
+  node_written verb n lt = record { name = node_name d n; word = node_plain d valid names n lt; node = node_found d valid names n lt; written = refl }
 
-  at_channel_said : (verb : List ℕ) (c : ℕ) (s : Step) → c < 2 * length d.links → at_channel verb c ≡ Some s → step_of d (verb ∷ decimal c ∷ []) ≡ Some s
-  at_channel_said verb c s lt at = rw (channel_read c lt, at) refl
+  grant_written : (o i : ℕ) → o < 2 * length d.links → i < 2 * length d.links → IsGrant d o i (step_line d (Grant o i))
+  grant_written o i output input = record { output_in_net = output; input_in_net = input; few = (omega (arith, output, few), omega (arith, input, few)); written = refl }
 
-  at_node_said : (verb name : List ℕ) (n : ℕ) (s : Step) → ((c : ℕ) → at_channel verb c ≡ None) → node_of d name ≡ Some n → at_node verb n ≡ Some s → step_of d (verb ∷ name ∷ []) ≡ Some s
-  at_node_said verb name n s never_at node at = rw (never (channel_of d name) (at_channel verb) never_at, node, at) refl
+  begin_written : (f : ℕ) (cargo : List ℕ) (e : End) → f < length d.flows → 1 ≤ length cargo → IsShort cargo → IsBegin d f cargo e (step_line d (Begin f cargo e))
+  begin_written f cargo e lt some short =
+      let spells = cargo_spelled is_read cargo short some in
+      record {
+        name = flow_name d f;
+        text = cargo_text cargo;
+        words = (flow_plain d valid names f lt, spells.plain);
+        named = flow_found d valid names f lt;
+        spelled = spells.read;
+        written = ap (λ end. codes "begin " ++ (flow_name d f ++ (32 ∷ (end ++ (32 ∷ cargo_text cargo))))) (same_end e);
+      }
 
-  grant_said : (o i : ℕ) → o < 2 * length d.links → i < 2 * length d.links → step_of d (codes "grant" ∷ decimal o ∷ decimal i ∷ []) ≡ Some (Grant o i)
-  grant_said o i lo li = rw (channel_read o lo, channel_read i li) refl
+  line_written : (s : Step) → IsWritable d s → Writes d s (step_line d s)
+  line_written (Fct c) lt = channel_written (codes "fct ") c lt
+  line_written (FctIn c) lt = channel_written (codes "fctin ") c lt
+  line_written (Arrive c) lt = channel_written (codes "arrive ") c lt
+  line_written (Grant o i) lt = grant_written o i lt.0 lt.1
+  line_written (Drop c) lt = channel_written (codes "drop ") c lt
+  line_written (Forward c) lt = channel_written (codes "forward ") c lt
+  line_written (Spill c) lt = channel_written (codes "spill ") c lt
+  line_written (Begin f cargo e) h = begin_written f cargo e h.0 h.1 h.2
+  line_written (Emit n) lt = node_written (codes "emit ") n lt
+  line_written (Accept n) lt = node_written (codes "accept ") n lt
+  line_written (Reply n) lt = node_written (codes "reply ") n lt
 
   pub step_read : (s : Step) → IsWritable d s → Reads d s (step_line d s)
-  step_read (Fct c) lt = words_said d (Fct c) (codes "fct") (decimal c ∷ []) (literal_plain (codes "fct") refl refl, (channel_plain c lt, tt)) refl refl (at_channel_said (codes "fct") c (Fct c) lt refl)
-  step_read (FctIn c) lt = words_said d (FctIn c) (codes "fctin") (decimal c ∷ []) (literal_plain (codes "fctin") refl refl, (channel_plain c lt, tt)) refl refl (at_channel_said (codes "fctin") c (FctIn c) lt refl)
-  step_read (Arrive c) lt = words_said d (Arrive c) (codes "arrive") (decimal c ∷ []) (literal_plain (codes "arrive") refl refl, (channel_plain c lt, tt)) refl refl (at_channel_said (codes "arrive") c (Arrive c) lt refl)
-  step_read (Grant o i) lt =
-      words_said d (Grant o i) (codes "grant") (decimal o ∷ decimal i ∷ []) (literal_plain (codes "grant") refl refl, (channel_plain o lt.0, (channel_plain i lt.1, tt))) refl refl (grant_said o i lt.0 lt.1)
-  step_read (Drop c) lt = words_said d (Drop c) (codes "drop") (decimal c ∷ []) (literal_plain (codes "drop") refl refl, (channel_plain c lt, tt)) refl refl (at_channel_said (codes "drop") c (Drop c) lt refl)
-  step_read (Forward c) lt = words_said d (Forward c) (codes "forward") (decimal c ∷ []) (literal_plain (codes "forward") refl refl, (channel_plain c lt, tt)) refl refl (at_channel_said (codes "forward") c (Forward c) lt refl)
-  step_read (Spill c) lt = words_said d (Spill c) (codes "spill") (decimal c ∷ []) (literal_plain (codes "spill") refl refl, (channel_plain c lt, tt)) refl refl (at_channel_said (codes "spill") c (Spill c) lt refl)
-  step_read (Begin f cargo e) h =
-      let spells = cargo_spelled is_read cargo h.2 h.1 in
-      words_said d (Begin f cargo e) (codes "begin") (flow_name d f ∷ end_text e ∷ cargo_text cargo ∷ []) (literal_plain (codes "begin") refl refl, (flow_plain d valid names f h.0, (end_plain e, (spells.plain, tt)))) refl refl
-      (rw (flow_found d valid names f h.0, end_read e, spells.read) refl)
-  step_read (Emit n) lt = words_said d (Emit n) (codes "emit") (node_name d n ∷ []) (literal_plain (codes "emit") refl refl, (node_plain d valid names n lt, tt)) refl refl (at_node_said (codes "emit") (node_name d n) n (Emit n) (λ c. refl) (node_found d valid names n lt) refl)
-  step_read (Accept n) lt = words_said d (Accept n) (codes "accept") (node_name d n ∷ []) (literal_plain (codes "accept") refl refl, (node_plain d valid names n lt, tt)) refl refl (at_node_said (codes "accept") (node_name d n) n (Accept n) (λ c. refl) (node_found d valid names n lt) refl)
-  step_read (Reply n) lt = words_said d (Reply n) (codes "reply") (node_name d n ∷ []) (literal_plain (codes "reply") refl refl, (node_plain d valid names n lt, tt)) refl refl (at_node_said (codes "reply") (node_name d n) n (Reply n) (λ c. refl) (node_found d valid names n lt) refl)
+  step_read s h = writes_read d s (step_line d s) (line_written s h)
 
 -- ---- with a count
 
@@ -123,8 +102,7 @@ counted d count step line some few reads =
     }
 
 once : (d : Declaration) (step : Step) (line : List ℕ) → Reads d step line → Says d (step ∷ []) line
-unfolding steps_of_line
-once d step line reads = record { no_lf = reads.no_lf; says = rw (reads.shown, reads.once) refl }
+once d step line reads = record { no_lf = reads.no_lf; says = read_once d step line reads }
 
 pub entry_says : (d : Declaration) (r : Repeated) → 1 ≤ r.count → r.count ≤ 100000 → Reads d r.step (step_line d r.step) → Says d (replicate r.count r.step) (entry_text d r)
 entry_says d r some few reads = elim (cases_Bool (r.count == 1)) [

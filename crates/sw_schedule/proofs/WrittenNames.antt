@@ -16,8 +16,9 @@ use Rattle.sw_config.proofs.Positions.{position-in_first}
 use Rattle.sw_output.specs.ChannelTexts.{node_name}
 use Rattle.sw_output.specs.FlowTexts.{flow_name}
 use Rattle.sw_schedule.specs.Lines.{flow_of, node_of}
+use Rattle.sw_schedule.specs.Spelling.{IsWord}
 use Rattle.sw_schedule.specs.TextLaws.{HasNames}
-use Rattle.sw_schedule.proofs.Words.{Free, Plain}
+use Rattle.sw_schedule.proofs.Words.{Free}
 use Rattle.sw_toml_table.specs.Names.{is_name, is_name_byte}
 
 -- ---- the bytes of a name
@@ -65,7 +66,7 @@ third true true c h = h
 bytes_of_name : (name : List ℕ) → is_name name ≡ true → list_all is_name_byte name ≡ true
 bytes_of_name name h = third (nat_le 1 (length name)) (nat_le (length name) 32) (list_all is_name_byte name) h
 
-pub name_plain : (name : List ℕ) → is_name name ≡ true → Plain name
+pub name_plain : (name : List ℕ) → is_name name ≡ true → IsWord name
 name_plain name h = let bytes = bytes_of_name name h in record { no_space = bytes_free 32 refl name bytes; no_lf = bytes_free 10 refl name bytes }
 
 name_is_text : (name : List ℕ) → is_name name ≡ true → is_utf8 name ≡ true
@@ -105,7 +106,7 @@ module _ (d : Declaration) (valid : IsValid d) (names : HasNames d) where
       subst (λ name. is_name name ≡ true) (node_at d.nodes n (map (λ (s : SwitchEntry). s.name) d.switches) lt)
       (All-get_or (λ name. is_name name ≡ true) (part_names d) n [] (few_nodes n lt) names.parts)
 
-  pub node_plain : (n : ℕ) → n < length d.nodes → Plain (node_name d n)
+  pub node_plain : (n : ℕ) → n < length d.nodes → IsWord (node_name d n)
   node_plain n lt = name_plain (node_name d n) (node_is_name n lt)
 
   pub node_found : (n : ℕ) → n < length d.nodes → node_of d (node_name d n) ≡ Some n
@@ -123,7 +124,7 @@ module _ (d : Declaration) (valid : IsValid d) (names : HasNames d) where
       subst (λ name. is_name name ≡ true) (flow_at d.flows (reply_flows d.flows) i lt)
       (All-get_or (λ name. is_name name ≡ true) (flow_names d.flows) i [] (few_flows i lt) names.flows)
 
-  pub flow_plain : (i : ℕ) → i < length d.flows → Plain (flow_name d i)
+  pub flow_plain : (i : ℕ) → i < length d.flows → IsWord (flow_name d i)
   flow_plain i lt = name_plain (flow_name d i) (flow_is_name i lt)
 
   pub flow_found : (i : ℕ) → i < length d.flows → flow_of d (flow_name d i) ≡ Some i

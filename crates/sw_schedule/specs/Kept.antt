@@ -3,26 +3,19 @@ use Rattle.std.specs.Prelude.{ℕ, List, replicate}
 use Rattle.sw_machine.specs.Steps as machine
 use Rattle.sw_schedule.specs.declared.cargo.Cargo.{Cargo}
 use Rattle.sw_schedule.specs.declared.cargo.Cargo.TheVariants as cargo
-use Rattle.sw_schedule.specs.declared.schedule_entry.Kept.{Kept}
-use Rattle.sw_schedule.specs.declared.schedule_entry.Kept.TheVariants.{Whole, OneByte}
+use Rattle.sw_schedule.specs.declared.schedule_entry.Beginning.{Beginning}
 use Rattle.sw_schedule.specs.declared.schedule_entry.Plain.{Plain}
 use Rattle.sw_schedule.specs.declared.schedule_entry.Plain.TheVariants as plain
 use Rattle.sw_schedule.specs.declared.schedule_entry.Packed.{Packed}
 use Rattle.sw_schedule.specs.declared.schedule_entry.Packed.TheVariants as packed
-use Rattle.sw_model.specs.Steps.{machine_step}
 
 abbrev pub cargo_bytes : Cargo → List ℕ
 cargo_bytes (cargo.Bytes bytes) = bytes.items
 cargo_bytes (cargo.Repeated byte times) = replicate times byte
 
-abbrev pub kept_step : Kept → machine.Step
-kept_step (Whole step) = machine_step step
-kept_step (OneByte flow byte times end) = machine.Begin flow (replicate times byte) end
-
--- the step begins a packet
-abbrev pub Begins : machine.Step → Type 0
-Begins (machine.Begin flow cargo end) = Unit {0}
-Begins step = ⊥
+-- the step that begins a packet
+abbrev pub begin_step : Beginning → machine.Step
+begin_step b = machine.Begin b.flow (cargo_bytes b.cargo) b.end
 
 -- the step without cargo
 abbrev pub plain_step : Plain → machine.Step
@@ -45,4 +38,4 @@ packed_count (packed.WithCargo count step) = count
 -- the step
 abbrev pub packed_step : Packed → machine.Step
 packed_step (packed.Plain count step) = plain_step step
-packed_step (packed.WithCargo count step) = kept_step step.value
+packed_step (packed.WithCargo count step) = begin_step step.value

@@ -7,3 +7,7 @@ pub mod WrittenLines
 pub mod Runs
 pub mod Views
 pub mod TextLaws
+pub mod Reports
+pub mod Replays
+pub mod Nets
+pub mod Locked

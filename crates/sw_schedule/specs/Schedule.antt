@@ -17,9 +17,13 @@ pub record IsTotal (entries : List Repeated) (total : ℕ) : Type 0 where
   pub same : total ≡ length (steps_of entries)
   pub few : total ≤ 1000000
 
--- the steps with those of line n, of at most 1,000,000 in all, or the number of the line
+-- the steps with these of line n, of at most 1,000,000 in all, or the number of the line
+abbrev pub with_steps : ℕ → List Step → List Step → Result (List Step) ℕ
+with_steps n before steps = if nat_le (length before + length steps) 1000000 then Ok (before ++ steps) else Err n
+
+-- the steps with those of line n, or the number of the line
 abbrev pub with_line : Declaration → ℕ → List Step → List ℕ → Result (List Step) ℕ
-with_line d n before line = option_map_or (λ steps. if nat_le (length before + length steps) 1000000 then Ok (before ++ steps) else Err n) (steps_of_line d line) (Err n)
+with_line d n before line = option_map_or (with_steps n before) (steps_of_line d line) (Err n)
 
 -- goes on from what was read
 abbrev pub and_then : {A B : Type 0} → (A → Result B ℕ) → Result A ℕ → Result B ℕ

@@ -14,17 +14,36 @@ pub(crate) enum Cargo {
     Repeated(u8, u16),
 }
 
+impl Cargo {
+    /// The bytes, written out.
+    pub(crate) fn bytes(&self, alloc: Global) -> Result<Vec<u8>, AllocError>
+        ensures { IfOk result (λ bytes. bytes.items ≡ cargo_bytes self.now) }
+    {
+        match self {
+            Cargo::Bytes(bytes) => Vec::from_slice(alloc, bytes),
+            Cargo::Repeated(byte, times) => vec![in alloc; *byte; *times as usize],
+        }
+    }
+}
+
 fn pairs_of(alloc: Global, text: &[u8]) -> Result<Option<Cargo>, AllocError>
     ensures { IfOk result (λ o. option_map cargo_bytes o ≡ pairs_of text.now) }
 {
-    Ok(sw_load::pairs_of(alloc, text)?.map(Cargo::Bytes))
+    match sw_load::pairs_of(alloc, text)? {
+        Some(bytes) => Ok(Some(Cargo::Bytes(bytes))),
+        None => Ok(None),
+    }
 }
 
 fn repeated_of(high: u8, low: u8, digits: &[u8]) -> Option<Cargo>
     ensures { option_map cargo_bytes result ≡ repeated_of high low digits.now }
 {
-    let byte = hex_pair(high, low)?;
-    let times = count_of(digits)?;
+    let Some(byte) = hex_pair(high, low) else {
+        return None;
+    };
+    let Some(times) = count_of(digits) else {
+        return None;
+    };
     Some(Cargo::Repeated(byte, times))
 }
 

@@ -1,10 +1,17 @@
-//! The text of a schedule, which lists steps of a network: it is read, and written of steps that were made.
+//! A schedule, which lists steps of a network: its text is read, and written of steps that were made, and the network core makes its steps
+//! one after another, up to the first that is refused.
 #![tactic(auto)]
 
 mod cargo;
 pub mod laws;
 mod line;
+mod locked_up;
+mod made_steps;
 mod names;
+pub mod replay_laws;
+mod replay_report;
+mod replayed;
+mod replaying;
 mod schedule;
 mod schedule_entry;
 mod step_parts;
@@ -12,7 +19,12 @@ pub mod text_laws;
 mod writing;
 mod written_line;
 
+pub use locked_up::{cells, locked_up_parts};
+pub use replayed::{ReplayEnd, Replayed, StepRefusal};
+pub use replaying::replay;
 pub use schedule::{MAX_STEPS, Schedule, ScheduleFault, read_steps};
 pub use schedule_entry::ScheduleEntry;
+pub use sw_cell::CellId;
 pub use sw_model::Step;
-pub use writing::write_steps;
+pub use sw_net::{Input, NodePart, Part, PortPart};
+pub use writing::{add_entry, write_steps};

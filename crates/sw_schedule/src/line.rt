@@ -1,70 +1,75 @@
 //! What a line of a schedule says.
-ghost use Rattle.std.specs.Prelude.{◌≡◌, ◌≤◌, ◌==◌, ◌∷◌, [], IfOk, IfSome, option_and_then, option_map, IfNone};
+ghost use Rattle.std.specs.Prelude.{◌≡◌, ◌==◌, ◌∷◌, [], IfOk, IfSome, option_and_then, option_map, IfNone};
 ghost use Rattle.std.specs.List.{slice_split};
-ghost use Rattle.sw_schedule.specs.Kept.{kept_step};
+ghost use Rattle.sw_schedule.specs.Kept.{begin_step, plain_step};
 ghost use Rattle.sw_schedule.specs.Lines.{at_channel, at_node, begin_of, channel_of, grant_of, is_skipped, node_of, repeated_of, step_of, words_of};
 ghost use Rattle.sw_config.specs.Entries.{Declaration};
 
 use crate::cargo::cargo_of;
 use crate::names::{channel_of, count_of, end_of, flow_of, node_of};
-use crate::schedule_entry::{Kept, ScheduleEntry, begin};
+use crate::schedule_entry::{Beginning, Plain, ScheduleEntry};
 use std::alloc::{AllocError, Global};
 use sw_config::Network;
-use sw_model::Step;
 use sw_text::cut;
 use sw_topo::Chan;
 
 /// A step at one channel.
-fn at_channel(verb: &[u8], channel: Chan) -> Option<Kept>
-    ensures { option_map kept_step result ≡ at_channel verb.now channel }
+fn at_channel(verb: &[u8], channel: Chan) -> Option<Plain>
+    ensures { option_map plain_step result ≡ at_channel verb.now channel }
 {
     if verb == b"fct".as_slice() {
-        Some(Kept::Whole(Step::Fct(channel)))
+        Some(Plain::Fct(channel))
     } else if verb == b"fctin".as_slice() {
-        Some(Kept::Whole(Step::FctIn(channel)))
+        Some(Plain::FctIn(channel))
     } else if verb == b"arrive".as_slice() {
-        Some(Kept::Whole(Step::Arrive(channel)))
+        Some(Plain::Arrive(channel))
     } else if verb == b"drop".as_slice() {
-        Some(Kept::Whole(Step::Drop(channel)))
+        Some(Plain::Drop(channel))
     } else if verb == b"forward".as_slice() {
-        Some(Kept::Whole(Step::Forward(channel)))
+        Some(Plain::Forward(channel))
     } else if verb == b"spill".as_slice() {
-        Some(Kept::Whole(Step::Spill(channel)))
+        Some(Plain::Spill(channel))
     } else {
         None
     }
 }
 
 /// A step at a node.
-fn at_node(verb: &[u8], node: u16) -> Option<Kept>
-    ensures { option_map kept_step result ≡ at_node verb.now node }
+fn at_node(verb: &[u8], node: u16) -> Option<Plain>
+    ensures { option_map plain_step result ≡ at_node verb.now node }
 {
     if verb == b"emit".as_slice() {
-        Some(Kept::Whole(Step::Emit(node)))
+        Some(Plain::Emit(node))
     } else if verb == b"accept".as_slice() {
-        Some(Kept::Whole(Step::Accept(node)))
+        Some(Plain::Accept(node))
     } else if verb == b"reply".as_slice() {
-        Some(Kept::Whole(Step::Reply(node)))
+        Some(Plain::Reply(node))
     } else {
         None
     }
 }
 
-fn of_channel(network: &Network, verb: &[u8], place: &[u8]) -> Option<Kept>
-    ensures { option_map kept_step result ≡ option_and_then (at_channel verb.now) (channel_of network.now place.now) }
+fn of_channel(network: &Network, verb: &[u8], place: &[u8]) -> Option<Plain>
+    ensures { option_map plain_step result ≡ option_and_then (at_channel verb.now) (channel_of network.now place.now) }
 {
-    at_channel(verb, channel_of(network, place)?)
+    match channel_of(network, place) {
+        Some(channel) => at_channel(verb, channel),
+        None => None,
+    }
 }
 
-fn of_node(network: &Network, verb: &[u8], place: &[u8]) -> Option<Kept>
-    ensures { option_map kept_step result ≡ option_and_then (at_node verb.now) (node_of network.now place.now) }
+fn of_node(network: &Network, verb: &[u8], place: &[u8]) -> Option<Plain>
+    ensures { option_map plain_step result ≡ option_and_then (at_node verb.now) (node_of network.now place.now) }
 {
-    at_node(verb, node_of(network, place)?)
+    match node_of(network, place) {
+        Some(node) => at_node(verb, node),
+        None => None,
+    }
 }
 
 /// The step of two words.
-fn of_place(network: &Network, verb: &[u8], place: &[u8]) -> Option<Kept>
-    ensures { option_map kept_step result ≡ step_of network.now (verb.now ∷ place.now ∷ []) }
+fn of_place(network: &Network, verb: &[u8], place: &[u8]) -> Option<Plain>
+    ensures { option_map plain_step result ≡ step_of network.now (verb.now ∷ place.now ∷ []) }
 {
     match of_channel(network, verb, place) {
         Some(step) => Some(step),
@@ -73,15 +78,19 @@ fn of_place(network: &Network, verb: &[u8], place: &[u8]) -> Option<Kept>
 }
 
 /// The step of three words.
-fn grant_of(network: &Network, verb: &[u8], output: &[u8], input: &[u8]) -> Option<Kept>
-    ensures { option_map kept_step result ≡ grant_of network.now verb.now output.now input.now }
+fn grant_of(network: &Network, verb: &[u8], output: &[u8], input: &[u8]) -> Option<Plain>
+    ensures { option_map plain_step result ≡ grant_of network.now verb.now output.now input.now }
 {
     if verb != b"grant".as_slice() {
         return None;
     }
-    let output = channel_of(network, output)?;
-    let input = channel_of(network, input)?;
-    Some(Kept::Whole(Step::Grant(output, input)))
+    let Some(output) = channel_of(network, output) else {
+        return None;
+    };
+    match channel_of(network, input) {
+        Some(input) => Some(Plain::Grant(output, input)),
+        None => None,
+    }
 }
 
 /// The step of four words.
@@ -92,8 +101,8 @@ fn begin_of(
     flow: &[u8],
     end: &[u8],
     cargo: &[u8],
-) -> Result<Option<Kept>, AllocError>
-    ensures { IfOk result (λ o. option_map kept_step o ≡ begin_of network.now verb.now flow.now end.now cargo.now) }
+) -> Result<Option<Beginning>, AllocError>
+    ensures { IfOk result (λ o. option_map begin_step o ≡ begin_of network.now verb.now flow.now end.now cargo.now) }
 {
     if verb != b"begin".as_slice() {
         return Ok(None);
@@ -105,26 +114,58 @@ fn begin_of(
         return Ok(None);
     };
     match cargo_of(alloc, cargo)? {
-        Some(cargo) => Ok(Some(begin(flow, cargo, end))),
+        Some(cargo) => Ok(Some(Beginning { flow, cargo, end })),
         None => Ok(None),
     }
 }
 
-/// The step that the words of a text write, if they write one.
-fn step_of(alloc: Global, network: &Network, text: &[u8]) -> Result<Option<Kept>, AllocError>
-    ensures { IfOk result (λ o. option_map kept_step o ≡ step_of network.now (words_of text.now)) }
+/// The entry of a step without cargo, if there is one.
+fn plain_entry(count: u32, step: Option<Plain>) -> Option<ScheduleEntry>
+    ensures { result ≡ option_map (λ s. record { count = count; step = plain_step s }) step }
+{
+    match step {
+        Some(step) => Some(ScheduleEntry::plain(count, step)),
+        None => None,
+    }
+}
+
+/// The entry of a step that begins a packet, if there is one.
+fn begin_entry(
+    alloc: Global,
+    count: u32,
+    step: Option<Beginning>,
+) -> Result<Option<ScheduleEntry>, AllocError>
+    ensures { IfOk result (λ o. o ≡ option_map (λ s. record { count = count; step = begin_step s }) step) }
+{
+    match step {
+        Some(step) => Ok(Some(ScheduleEntry::with_cargo(alloc, count, step)?)),
+        None => Ok(None),
+    }
+}
+
+/// The entry of the step that the words of a text write, if they write one, which is made so many times.
+fn counted_entry(
+    alloc: Global,
+    network: &Network,
+    count: u32,
+    text: &[u8],
+) -> Result<Option<ScheduleEntry>, AllocError>
+    ensures { IfOk result (λ o. o ≡ option_map (λ s. record { count = count; step = s }) (step_of network.now (words_of text.now))) }
 {
     let Some((verb, rest)) = cut(text, b' ') else {
         return Ok(None);
     };
     let Some((first, rest)) = cut(rest, b' ') else {
-        return Ok(of_place(network, verb, rest));
+        return Ok(plain_entry(count, of_place(network, verb, rest)));
     };
     let Some((second, rest)) = cut(rest, b' ') else {
-        return Ok(grant_of(network, verb, first, rest));
+        return Ok(plain_entry(count, grant_of(network, verb, first, rest)));
     };
     match cut(rest, b' ') {
-        None => begin_of(alloc, network, verb, first, second, rest),
+        None => {
+            let step = begin_of(alloc, network, verb, first, second, rest)?;
+            begin_entry(alloc, count, step)
+        }
         Some(_) => Ok(None),
     }
 }
@@ -143,18 +184,13 @@ pub(crate) fn is_skipped(line: &[u8]) -> bool
 fn counted<'a>(line: &'a [u8]) -> Option<(u32, &'a [u8])>
     ensures some { IfSome result (λ r. (d : Declaration) → repeated_of d (words_of line.entry.now) ≡ option_map (λ s. record { count = r.0; step = s }) (step_of d (words_of r.1.now))) }
     ensures none { IfNone result ((d : Declaration) → repeated_of d (words_of line.entry.now) ≡ option_map (λ s. record { count = 1; step = s }) (step_of d (words_of line.entry.now))) }
-    ensures few { IfSome result (λ r. r.0 ≤ 100000) }
 {
-    let (word, rest) = cut(line, b' ')?;
-    Some((count_of(word)?, rest))
-}
-
-fn entry(alloc: Global, count: u32, step: Option<Kept>) -> Result<Option<ScheduleEntry>, AllocError>
-    ensures { IfOk result (λ o. o ≡ option_map (λ s. record { count = count; step = kept_step s }) step) }
-{
-    match step {
-        Some(step) => Ok(Some(ScheduleEntry::new(alloc, count, step)?)),
-        None => Ok(None),
+    let Some((word, rest)) = cut(line, b' ') else {
+        return None;
+    };
+    match count_of(word) {
+        Some(count) => Some((count, rest)),
+        None => None,
     }
 }
 
@@ -164,11 +200,10 @@ pub(crate) fn entry_of(
     network: &Network,
     line: &[u8],
 ) -> Result<Option<ScheduleEntry>, AllocError>
-    ensures entry { IfOk result (λ o. o ≡ repeated_of network.now (words_of line.now)) }
-    ensures few { IfOk result (λ o. IfSome o (λ e. e.count ≤ 100000)) }
+    ensures { IfOk result (λ o. o ≡ repeated_of network.now (words_of line.now)) }
 {
     match counted(line) {
-        Some((count, rest)) => entry(alloc, count, step_of(alloc, network, rest)?),
-        None => entry(alloc, 1, step_of(alloc, network, line)?),
+        Some((count, rest)) => counted_entry(alloc, network, count, rest),
+        None => counted_entry(alloc, network, 1, line),
     }
 }

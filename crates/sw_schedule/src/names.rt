@@ -1,5 +1,5 @@
 //! What single words of a schedule's line name.
-ghost use Rattle.std.specs.Prelude.{◌≡◌, ◌<◌, ◌≤◌, ◌*◌, false, true, length, map, position, IfNone, IfSome};
+ghost use Rattle.std.specs.Prelude.{◌≡◌, ◌<◌, ◌*◌, false, true, length, map, position, IfNone, IfSome};
 ghost use Rattle.std.specs.Str.{bytes_eq, is_utf8};
 ghost use Rattle.sw_config.specs.Entries.{flow_names};
 ghost use Rattle.sw_schedule.specs.Lines.{channel_of, count_of, end_of, flow_of, node_of};
@@ -41,7 +41,10 @@ fn text_of<'a>(word: &'a [u8]) -> Option<&'a str>
 pub(crate) fn node_of(network: &Network, word: &[u8]) -> Option<u16>
     ensures { result ≡ node_of network.now word.now }
 {
-    network.node_named(text_of(word)?)
+    match text_of(word) {
+        Some(name) => network.node_named(name),
+        None => None,
+    }
 }
 
 /// The number of the declared flow of that name.
@@ -60,7 +63,10 @@ fn declared_flow(network: &Network, name: &str) -> Option<u16>
 pub(crate) fn flow_of(network: &Network, word: &[u8]) -> Option<u16>
     ensures { result ≡ flow_of network.now word.now }
 {
-    declared_flow(network, text_of(word)?)
+    match text_of(word) {
+        Some(name) => declared_flow(network, name),
+        None => None,
+    }
 }
 
 /// The end marker of that name.
@@ -78,8 +84,7 @@ pub(crate) fn end_of(word: &[u8]) -> Option<End>
 
 /// How often a step is made, if the word says it: 1 to 100,000.
 pub(crate) fn count_of(word: &[u8]) -> Option<u32>
-    ensures count { result ≡ count_of word.now }
-    ensures few { IfSome result (λ n. n ≤ 100000) }
+    ensures { result ≡ count_of word.now }
 {
     let count = number(word, MAX_COUNT)?;
     if count == 0 { None } else { Some(count) }

@@ -1,6 +1,6 @@
 //! Schedules, and their text.
-ghost use Rattle.std.specs.Prelude.{◌≡◌, ◌+◌, ◌++◌, ◌≤◌, [], OnOk, length, replicate};
-ghost use Rattle.sw_schedule.specs.Schedule.{Reads, steps_of, steps_of_text, with_line};
+ghost use Rattle.std.specs.Prelude.{◌≡◌, ◌≤◌, [], length, replicate};
+ghost use Rattle.sw_schedule.specs.Schedule.{Reads, steps_of, steps_of_text, with_line, with_steps};
 ghost use Rattle.sw_schedule.specs.declared.schedule.ScheduleFault.TheVariants.{Memory};
 
 use crate::line::{entry_of, is_skipped};
@@ -90,12 +90,14 @@ impl Schedule {
         self.total
     }
 
-    /// Adds a step at the end, as many times as it is made.
-    pub(crate) fn add(&mut self, entry: ScheduleEntry) -> Result<(), AllocError>
-        requires { length self.old + entry.count ≤ MAX_STEPS }
-        ensures { OnOk result (self.new ≡ self.old ++ replicate entry.count entry.step) }
+    /// Adds the step of line `number` at the end, as many times as it is made, if there are not too many steps then.
+    fn add(&mut self, entry: ScheduleEntry, number: u64) -> Result<(), ScheduleFault>
+        ensures { Reads (λ _. self.new) result (with_steps number self.old (replicate entry.count entry.step)) }
     {
         let count = entry.count();
+        if count > MAX_STEPS - self.total {
+            return Err(ScheduleFault::BadLine(number));
+        }
         self.entries.push(entry)?;
         self.total += count;
         Ok(())
@@ -113,13 +115,14 @@ fn add_line(
 ) -> Result<(), ScheduleFault>
     ensures { Reads (λ _. schedule.new) result (with_line network.now number schedule.old line.now) }
 {
-    let before = schedule.total();
+    // Tells that there are not too many steps before.
+    let _total = schedule.total();
     if is_skipped(line) {
         return Ok(());
     }
     match entry_of(alloc, network, line)? {
-        Some(entry) if before + entry.count() <= MAX_STEPS => Ok(schedule.add(entry)?),
-        _ => Err(ScheduleFault::BadLine(number)),
+        Some(entry) => schedule.add(entry, number),
+        None => Err(ScheduleFault::BadLine(number)),
     }
 }
 

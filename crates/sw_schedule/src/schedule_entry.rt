@@ -1,7 +1,6 @@
 //! A step of a schedule, and how many times it is made.
-ghost use Rattle.std.specs.Prelude.{◌≡◌, IfNone, IfOk, IfSome};
-ghost use Rattle.sw_schedule.specs.Kept.{Begins, cargo_bytes, kept_step, plain_step};
-ghost use Rattle.sw_machine.specs.Steps.{Begin};
+ghost use Rattle.std.specs.Prelude.{◌≡◌, IfOk};
+ghost use Rattle.sw_schedule.specs.Kept.{begin_step, plain_step};
 ghost use Rattle.sw_model.specs.Steps.{machine_step};
 
 use crate::cargo::Cargo;
@@ -10,33 +9,6 @@ use std::marker::Model;
 use sw_char::End;
 use sw_model::Step;
 use sw_topo::Chan;
-
-/// A step in no more memory than a few times its text: cargo of one repeated byte is written out for each caller.
-#[derive(Drop)]
-pub(crate) enum Kept {
-    Whole(Step),
-    OneByte {
-        flow: u16,
-        byte: u8,
-        times: u16,
-        end: End,
-    },
-}
-
-/// The step that begins a packet.
-pub(crate) fn begin(flow: u16, cargo: Cargo, end: End) -> Kept
-    ensures { kept_step result ≡ Begin flow (cargo_bytes cargo) end }
-{
-    match cargo {
-        Cargo::Bytes(cargo) => Kept::Whole(Step::Begin { flow, cargo, end }),
-        Cargo::Repeated(byte, times) => Kept::OneByte {
-            flow,
-            byte,
-            times,
-            end,
-        },
-    }
-}
 
 /// A step without cargo.
 #[derive(Clone, Copy)]
@@ -51,26 +23,6 @@ pub(crate) enum Plain {
     Emit(u16),
     Accept(u16),
     Reply(u16),
-}
-
-/// The step, if it has no cargo.
-fn plain_of(step: &Step) -> Option<Plain>
-    ensures plain { IfSome result (λ p. plain_step p ≡ machine_step step.now) }
-    ensures cargo { IfNone result (Begins (machine_step step.now)) }
-{
-    match step {
-        Step::Fct(channel) => Some(Plain::Fct(*channel)),
-        Step::FctIn(channel) => Some(Plain::FctIn(*channel)),
-        Step::Arrive(channel) => Some(Plain::Arrive(*channel)),
-        Step::Grant(output, input) => Some(Plain::Grant(*output, *input)),
-        Step::Drop(channel) => Some(Plain::Drop(*channel)),
-        Step::Forward(channel) => Some(Plain::Forward(*channel)),
-        Step::Spill(channel) => Some(Plain::Spill(*channel)),
-        Step::Begin { .. } => None,
-        Step::Emit(node) => Some(Plain::Emit(*node)),
-        Step::Accept(node) => Some(Plain::Accept(*node)),
-        Step::Reply(node) => Some(Plain::Reply(*node)),
-    }
 }
 
 /// The step itself.
@@ -91,41 +43,30 @@ fn step_of(plain: Plain) -> Step
     }
 }
 
-/// The kept step, if it has no cargo.
-fn plain_kept(kept: &Kept) -> Option<Plain>
-    ensures plain { IfSome result (λ p. plain_step p ≡ kept_step kept.now) }
-    ensures cargo { IfNone result (Begins (kept_step kept.now)) }
-{
-    match kept {
-        Kept::Whole(step) => plain_of(step),
-        Kept::OneByte { .. } => None,
-    }
+/// A step that begins a packet, in no more memory than a few times its text.
+#[derive(Drop)]
+pub(crate) struct Beginning {
+    pub(crate) flow: u16,
+    pub(crate) cargo: Cargo,
+    pub(crate) end: End,
 }
 
-/// The kept step, with its cargo written out.
-fn whole_step(alloc: Global, kept: &Kept) -> Result<Step, AllocError>
-    ensures { IfOk result (λ s. machine_step s ≡ kept_step kept.now) }
+/// The step itself, with its cargo written out.
+fn begin(alloc: Global, beginning: &Beginning) -> Result<Step, AllocError>
+    ensures { IfOk result (λ s. machine_step s ≡ begin_step beginning.now) }
 {
-    match kept {
-        Kept::Whole(step) => step.clone(),
-        Kept::OneByte {
-            flow,
-            byte,
-            times,
-            end,
-        } => Ok(Step::Begin {
-            flow: *flow,
-            cargo: vec![in alloc; *byte; *times as usize]?,
-            end: *end,
-        }),
-    }
+    Ok(Step::Begin {
+        flow: beginning.flow,
+        cargo: beginning.cargo.bytes(alloc)?,
+        end: beginning.end,
+    })
 }
 
 /// How many times a step is made, and the step, in 16 bytes: what has cargo stands elsewhere.
 #[derive(Drop)]
 pub(crate) enum Packed {
     Plain(u32, Plain),
-    WithCargo(u32, Box<Kept>),
+    WithCargo(u32, Box<Beginning>),
 }
 
 /// A step, and how many times it is made, one after another.
@@ -144,14 +85,24 @@ impl Model for ScheduleEntry {
 }
 
 impl ScheduleEntry {
-    pub(crate) fn new(alloc: Global, count: u32, step: Kept) -> Result<ScheduleEntry, AllocError>
-        ensures { IfOk result (λ e. e ≡ record { count = count; step = kept_step step }) }
+    pub(crate) fn plain(count: u32, step: Plain) -> ScheduleEntry
+        ensures { result ≡ record { count = count; step = plain_step step } }
     {
-        let packed = match plain_kept(&step) {
-            Some(plain) => Packed::Plain(count, plain),
-            None => Packed::WithCargo(count, Box::new(alloc, step)?),
-        };
-        Ok(ScheduleEntry { packed })
+        ScheduleEntry {
+            packed: Packed::Plain(count, step),
+        }
+    }
+
+    pub(crate) fn with_cargo(
+        alloc: Global,
+        count: u32,
+        step: Beginning,
+    ) -> Result<ScheduleEntry, AllocError>
+        ensures { IfOk result (λ e. e ≡ record { count = count; step = begin_step step }) }
+    {
+        Ok(ScheduleEntry {
+            packed: Packed::WithCargo(count, Box::new(alloc, step)?),
+        })
     }
 
     /// How many times the step is made: 1 to 100,000 in a schedule that was read.
@@ -173,7 +124,7 @@ impl ScheduleEntry {
     {
         match &self.packed {
             Packed::Plain(_, plain) => Ok(step_of(*plain)),
-            Packed::WithCargo(_, kept) => whole_step(alloc, kept),
+            Packed::WithCargo(_, beginning) => begin(alloc, beginning),
         }
     }
 }

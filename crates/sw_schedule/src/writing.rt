@@ -1,12 +1,15 @@
 //! The text of steps.
-ghost use Rattle.std.specs.Prelude.{◌≡◌, ◌++◌, ◌==◌, IfOk, map, option_map, string_bytes, OnOk};
+ghost use Rattle.std.specs.Prelude.{◌≡◌, ◌++◌, ◌∷◌, ◌&&◌, [], IfOk, map, nat_lt, option_map, string_bytes};
 ghost use Rattle.sw_model.specs.Steps.{machine_step};
-ghost use Rattle.sw_schedule.specs.Runs.{entry_line, readable_text, schedule_text, short_text};
+ghost use Rattle.sw_output.specs.Lines.{line};
+ghost use Rattle.sw_schedule.specs.Runs.{entry_line, is_same, readable_text, schedule_text, short_text};
+ghost use Rattle.sw_schedule.specs.WrittenLines.{step_line};
 
 use crate::schedule::MAX_STEPS;
 use crate::step_parts::is_same;
-use crate::written_line::step_line;
+use crate::written_line::add_step;
 use std::alloc::{AllocError, Global};
+use std::fmt::Write;
 use sw_config::Network;
 use sw_model::Step;
 
@@ -16,35 +19,45 @@ const MAX_COUNT: u32 = 100_000;
 // The most bytes that the text of a schedule may have.
 const MAX_BYTES: usize = 67_108_864;
 
-// The line of a step that is made so often.
-fn entry_line(
+// Adds the line of a step that is made once.
+fn add_once(
     alloc: Global,
     network: &Network,
     step: &Step,
-    count: u32,
-) -> Result<String, AllocError>
-    ensures { IfOk result (λ s. string_bytes s ≡ entry_line network.now (record { count = count; step = machine_step step.now })) }
+    text: &mut String,
+) -> Result<(), AllocError>
+    ensures { IfOk result (λ _. string_bytes text.new ≡ string_bytes text.old ++ line (step_line network.now (machine_step step.now) ∷ [])) }
 {
-    let line = step_line(alloc, network, step)?;
-    if count == 1 {
-        format!(in alloc; "{line}\n")
-    } else {
-        format!(in alloc; "{count} {line}\n")
-    }
+    add_step(alloc, network, step, text)?;
+    text.push_str("\n")
 }
 
-// Adds the line of a step that is made so often.
-fn push_entry(
+/// Adds the line of a step that is made so often, one time after another.
+///
+/// # Errors
+///
+/// There is no memory for the text.
+pub fn add_entry(
     alloc: Global,
     network: &Network,
     step: &Step,
     count: u32,
     text: &mut String,
 ) -> Result<(), AllocError>
-    ensures { OnOk result (string_bytes text.new ≡ string_bytes text.old ++ entry_line network.now (record { count = count; step = machine_step step.now })) }
+    ensures { IfOk result (λ _. string_bytes text.new ≡ string_bytes text.old ++ entry_line network.now (record { count = count; step = machine_step step.now })) }
 {
-    let line = entry_line(alloc, network, step, count)?;
-    text.push_str(line.as_str())
+    if count == 1 {
+        return add_once(alloc, network, step, text);
+    }
+    write!(text, "{count} ")?;
+    add_once(alloc, network, step, text)
+}
+
+// Whether the step is one more of the last one's line, which has it so often.
+fn is_one_more(count: u32, step: &Step, last: &Step) -> bool
+    ensures { result ≡ (nat_lt count 100000 && is_same (machine_step step.now) (machine_step last.now)) }
+{
+    count < MAX_COUNT && is_same(step, last)
 }
 
 // The text of these steps, if it is no longer than a schedule's may be.
@@ -62,10 +75,10 @@ fn short_text(
     let mut last = first;
     let mut count = 1;
     for step in rest {
-        if count < MAX_COUNT && is_same(step, last) {
+        if is_one_more(count, step, last) {
             count += 1;
         } else {
-            push_entry(alloc, network, last, count, &mut text)?;
+            add_entry(alloc, network, last, count, &mut text)?;
             if text.len() > MAX_BYTES {
                 return Ok(None);
             }
@@ -73,7 +86,7 @@ fn short_text(
             count = 1;
         }
     }
-    push_entry(alloc, network, last, count, &mut text)?;
+    add_entry(alloc, network, last, count, &mut text)?;
     if text.len() > MAX_BYTES {
         Ok(None)
     } else {

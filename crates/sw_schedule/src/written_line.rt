@@ -1,5 +1,5 @@
 //! The line of a step.
-ghost use Rattle.std.specs.Prelude.{◌≡◌, ◌∷◌, ◌==◌, [], IfOk, codes, string_bytes};
+ghost use Rattle.std.specs.Prelude.{◌≡◌, ◌∷◌, ◌++◌, ◌==◌, [], IfOk, codes, string_bytes};
 ghost use Rattle.std.specs.Fmt.{decimal};
 ghost use Rattle.std.specs.List.{list_all};
 ghost use Rattle.sw_model.specs.Steps.{machine_step};
@@ -11,32 +11,33 @@ ghost use Rattle.sw_schedule.specs.WrittenLines.{cargo_text, step_line};
 
 use hex::encode_upper;
 use std::alloc::{AllocError, Global};
+use std::fmt::Write;
 use sw_char::End;
 use sw_config::Network;
 use sw_model::Step;
 use sw_output::{flow_name, node_name};
 use sw_topo::Chan;
 
-fn channel_line(alloc: Global, verb: &str, channel: Chan) -> Result<String, AllocError>
-    ensures { IfOk result (λ s. string_bytes s ≡ spaced (verb.now ∷ decimal channel ∷ [])) }
+fn add_channel(verb: &str, channel: Chan, text: &mut String) -> Result<(), AllocError>
+    ensures { IfOk result (λ _. string_bytes text.new ≡ string_bytes text.old ++ spaced (verb.now ∷ decimal channel ∷ [])) }
 {
     let number = channel.number();
-    format!(in alloc; "{verb} {number}")
+    write!(text, "{verb} {number}")
 }
 
-fn grant_line(alloc: Global, output: Chan, input: Chan) -> Result<String, AllocError>
-    ensures { IfOk result (λ s. string_bytes s ≡ spaced (codes "grant" ∷ decimal output ∷ decimal input ∷ [])) }
+fn add_grant(output: Chan, input: Chan, text: &mut String) -> Result<(), AllocError>
+    ensures { IfOk result (λ _. string_bytes text.new ≡ string_bytes text.old ++ spaced (codes "grant" ∷ decimal output ∷ decimal input ∷ [])) }
 {
     let output = output.number();
     let input = input.number();
-    format!(in alloc; "grant {output} {input}")
+    write!(text, "grant {output} {input}")
 }
 
-fn node_line(alloc: Global, network: &Network, verb: &str, node: u16) -> Result<String, AllocError>
-    ensures { IfOk result (λ s. string_bytes s ≡ spaced (verb.now ∷ node_name network.now node ∷ [])) }
+fn add_node(network: &Network, verb: &str, node: u16, text: &mut String) -> Result<(), AllocError>
+    ensures { IfOk result (λ _. string_bytes text.new ≡ string_bytes text.old ++ spaced (verb.now ∷ node_name network.now node ∷ [])) }
 {
     let name = node_name(network, node);
-    format!(in alloc; "{verb} {name}")
+    write!(text, "{verb} {name}")
 }
 
 fn end_text(end: End) -> &'static str
@@ -73,40 +74,44 @@ fn cargo_text(alloc: Global, cargo: &[u8]) -> Result<String, AllocError>
     }
 }
 
-fn begin_line(
+fn add_beginning(
     alloc: Global,
     network: &Network,
     flow: u16,
     cargo: &[u8],
     end: End,
-) -> Result<String, AllocError>
-    ensures { IfOk result (λ s. string_bytes s ≡ spaced (codes "begin" ∷ flow_name network.now flow ∷ end_text end ∷ cargo_text cargo.now ∷ [])) }
+    text: &mut String,
+) -> Result<(), AllocError>
+    ensures { IfOk result (λ _. string_bytes text.new ≡ string_bytes text.old ++ spaced (codes "begin" ∷ flow_name network.now flow ∷ end_text end ∷ cargo_text cargo.now ∷ [])) }
 {
     let name = flow_name(network, flow);
     let end = end_text(end);
     let cargo = cargo_text(alloc, cargo)?;
-    format!(in alloc; "begin {name} {end} {cargo}")
+    write!(text, "begin {name} {end} {cargo}")
 }
 
-/// The line that writes the step once, without its LF.
-///
-/// # Errors
-///
-/// There is no memory for the text.
-pub(crate) fn step_line(alloc: Global, network: &Network, step: &Step) -> Result<String, AllocError>
-    ensures { IfOk result (λ s. string_bytes s ≡ step_line network.now (machine_step step.now)) }
+/// Adds the line that writes the step once, without its LF.
+pub(crate) fn add_step(
+    alloc: Global,
+    network: &Network,
+    step: &Step,
+    text: &mut String,
+) -> Result<(), AllocError>
+    ensures { IfOk result (λ _. string_bytes text.new ≡ string_bytes text.old ++ step_line network.now (machine_step step.now)) }
 {
     match step {
-        Step::Fct(channel) => channel_line(alloc, "fct", *channel),
-        Step::FctIn(channel) => channel_line(alloc, "fctin", *channel),
-        Step::Arrive(channel) => channel_line(alloc, "arrive", *channel),
-        Step::Grant(output, input) => grant_line(alloc, *output, *input),
-        Step::Drop(channel) => channel_line(alloc, "drop", *channel),
-        Step::Forward(channel) => channel_line(alloc, "forward", *channel),
-        Step::Spill(channel) => channel_line(alloc, "spill", *channel),
-        Step::Begin { flow, cargo, end } => begin_line(alloc, network, *flow, cargo, *end),
-        Step::Emit(node) => node_line(alloc, network, "emit", *node),
-        Step::Accept(node) => node_line(alloc, network, "accept", *node),
-        Step::Reply(node) => node_line(alloc, network, "reply", *node),
+        Step::Fct(channel) => add_channel("fct", *channel, text),
+        Step::FctIn(channel) => add_channel("fctin", *channel, text),
+        Step::Arrive(channel) => add_channel("arrive", *channel, text),
+        Step::Grant(output, input) => add_grant(*output, *input, text),
+        Step::Drop(channel) => add_channel("drop", *channel, text),
+        Step::Forward(channel) => add_channel("forward", *channel, text),
+        Step::Spill(channel) => add_channel("spill", *channel, text),
+        Step::Begin { flow, cargo, end } => {
+            add_beginning(alloc, network, *flow, cargo, *end, text)
+        }
+        Step::Emit(node) => add_node(network, "emit", *node, text),
+        Step::Accept(node) => add_node(network, "accept", *node, text),
+        Step::Reply(node) => add_node(network, "reply", *node, text),
     }
 }

@@ -6,10 +6,11 @@ use Rattle.std.proofs.lemmas.List.Folds.{flat_map-map}
 use Rattle.std.proofs.lemmas.List.{length-map, take-map, take_all, take_min, take_more}
 use Rattle.std.proofs.lemmas.Slice.Zip.{get_or-zip, length-zip}
 use Rattle.std.specs.List.{concat, flat_map, zip}
-use Rattle.std.specs.Prelude.{IfOk, String}
+use Rattle.std.specs.Fmt.{decimal}
+use Rattle.std.specs.Prelude.{◌==◌, IfOk, String, codes, if◌then◌else◌}
 use Rattle.std.specs.declared.alloc.Global.{Global}
 use Rattle.sw_config.specs.Entries.{Declaration}
-use Rattle.sw_step_hints.specs.LockHints.{first_lines, left_out, waiting_line, waiting_text}
+use Rattle.sw_step_hints.specs.LockHints.{first_lines, left_out, replies, waiting_line, waiting_text}
 
 -- what the first i of a list tell behind others, and then the next
 pub next_lines : {X Y : Type 0} (f : X → List Y) (xs : List X) (i n : ℕ) (x : X) (others before after : List Y) → i < length xs → x ≡ get_or xs i x → n ≡ i + 1
@@ -52,6 +53,14 @@ first_if r xs count first more few first_lines_are rest text =
     let same : length xs - count ≡ length (map string_bytes xs) - 40 = rw (length-map xs string_bytes, few) (omega arith) in
     let whole : first ++ more ≡ first_lines (map string_bytes xs) = ap (λ l. l ++ more) told ∙ ap (λ l. concat (take 40 (map string_bytes xs)) ++ l) (rest ∙ ap left_out same) in
     subst (λ (t : List ℕ). IfOk r (λ s. string_bytes s ≡ t)) whole text
+
+-- of a target that owes so many replies
+pub owing_if : (name noun text : List ℕ) (n : ℕ) → noun ≡ (if n == 1 then codes " reply" else codes " replies")
+    → text ≡ codes "  " ++ (name ++ (codes " owes " ++ (decimal n ++ (noun ++ codes " and takes nothing until one has left\n"))))
+    → text ≡ codes "  " ++ (name ++ (codes " owes " ++ (replies n ++ codes " and takes nothing until one has left\n")))
+owing_if name noun text n is told =
+    told ∙ ap (λ t. codes "  " ++ (name ++ (codes " owes " ++ (decimal n ++ (t ++ codes " and takes nothing until one has left\n"))))) is
+    ∙ ap (λ t. codes "  " ++ (name ++ (codes " owes " ++ t))) (sym (append_assoc (decimal n) (if n == 1 then codes " reply" else codes " replies") (codes " and takes nothing until one has left\n")))
 
 -- of an input that waits for the first of these ports, or one of the others
 pub waits_if : (d : Declaration) (w port first : ℕ) (xs : List ℕ) (s : List ℕ) → 1 ≤ length xs → first ≡ get_or xs 0 first

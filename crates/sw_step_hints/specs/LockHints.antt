@@ -15,12 +15,14 @@ use Rattle.sw_net.specs.Kept.{NodeView, PortView}
 use Rattle.sw_net.specs.declared.part.Part.{Part}
 use Rattle.sw_net.specs.declared.part.Part.TheVariants.{Node, Switch}
 use Rattle.sw_output.specs.ChannelTexts.{channel_text, node_name}
-use Rattle.sw_replay.specs.Locked.{TellsLocked, cells_of}
+use Rattle.sw_schedule.specs.Locked.{TellsLocked, cells_of}
 use Rattle.sw_rmap.specs.declared.config.TargetConfig.{TargetConfig}
 use Rattle.sw_switch.specs.declared.input.Input.{Input}
 use Rattle.sw_switch.specs.declared.input.Input.TheVariants.{Held, Idle, Spilling}
 use Rattle.sw_topo.specs.Ports.{ports_of}
 use Rattle.sw_topo.specs.Wiring.{out, out_of, partner}
+use Rattle.sw_step_hints.specs.declared.lock_up.Told.{Told}
+use Rattle.sw_step_hints.specs.declared.lock_up.Told.TheVariants as told
 
 -- ---- names of channels
 
@@ -131,6 +133,11 @@ holding_lines d cell part = []
 abbrev pub stopped_lines : Declaration → CellId → Part → List (List ℕ)
 stopped_lines d (place.Node n) (Node part) = option_to_list (sending_line d n part)
 stopped_lines d cell part = []
+
+-- the one or the other
+abbrev pub cell_lines : Declaration → Told → CellId → Part → List (List ℕ)
+cell_lines d told.Held = holding_lines d
+cell_lines d told.Stopped = stopped_lines d
 
 -- what holds the network up, cell by cell, and then which nodes can't send on
 abbrev pub lock_lines : Declaration → List Part → List (List ℕ)

@@ -8,12 +8,12 @@ use Rattle.sw_hints.specs.HintLines.{found_line, head_line, told}
 use Rattle.sw_machine.specs.Steps.{Step, Fct, FctIn, Arrive, Grant, Drop, Forward, Spill, Begin, Emit, Accept, Reply}
 use Rattle.sw_output.specs.ChannelTexts.{node_name}
 use Rattle.sw_output.specs.FlowTexts.{flow_name}
-use Rattle.sw_replay.specs.declared.replayed.ReplayEnd.{ReplayEnd}
-use Rattle.sw_replay.specs.declared.replayed.ReplayEnd.TheVariants.{Made, Refused}
-use Rattle.sw_replay.specs.declared.replayed.StepRefusal.{StepRefusal}
-use Rattle.sw_replay.specs.declared.replayed.StepRefusal.TheVariants.{NotEnabled, NotInFlow}
-use Rattle.sw_replay.specs.Replays.{IsReplayed}
-use Rattle.sw_replay.specs.Reports.{Report}
+use Rattle.sw_schedule.specs.declared.replayed.ReplayEnd.{ReplayEnd}
+use Rattle.sw_schedule.specs.declared.replayed.ReplayEnd.TheVariants.{Made, Refused}
+use Rattle.sw_schedule.specs.declared.replayed.StepRefusal.{StepRefusal}
+use Rattle.sw_schedule.specs.declared.replayed.StepRefusal.TheVariants.{NotEnabled, NotInFlow}
+use Rattle.sw_schedule.specs.Replays.{IsReplayed}
+use Rattle.sw_schedule.specs.Reports.{Report}
 use Rattle.sw_schedule.specs.Schedule.{steps_of_text, text_lines}
 use Rattle.sw_step_hints.specs.LockHints.{IsLockHint}
 use Rattle.sw_toml_table.specs.declared.fault.TextFault.{TextFault}

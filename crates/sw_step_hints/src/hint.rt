@@ -8,8 +8,7 @@ use crate::refused_step::step_hint;
 use std::alloc::{AllocError, Global};
 use sw_config::Network;
 use sw_file::read_network;
-use sw_replay::{ReplayEnd, replay};
-use sw_schedule::{Schedule, ScheduleFault, read_steps};
+use sw_schedule::{ReplayEnd, Schedule, ScheduleFault, read_steps, replay};
 use sw_toml_table::FileFault;
 
 // Of how far the steps were made.
@@ -80,7 +79,7 @@ pub fn replay_hint(
     match read_network(alloc, text) {
         Ok(network) => {
             let hint = text_hint(alloc, path, &network, schedule);
-            drop(network);
+            network.discard();
             hint
         }
         Err(FileFault::Text(_)) => Ok(None),

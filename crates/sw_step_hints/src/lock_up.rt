@@ -2,15 +2,14 @@
 ghost use Rattle.std.specs.Prelude.{◌≡◌, ◌++◌, All, IfOk, flat_map, map, option_map, string_bytes};
 ghost use Rattle.std.specs.List.{zip};
 ghost use Rattle.sw_cell.specs.Places.{IsIn};
-ghost use Rattle.sw_step_hints.specs.LockHints.{IsLockHint, first_lines, holding_lines, left_out, lock_lines, lock_text, stopped_lines};
+ghost use Rattle.sw_step_hints.specs.LockHints.{IsLockHint, cell_lines, first_lines, holding_lines, left_out, lock_lines, lock_text, stopped_lines};
 
 use crate::lock_up_nodes::{owing_line, sending_line};
 use crate::lock_up_switches::{add_line, add_switch_lines};
 use std::alloc::{AllocError, Global};
 use sw_config::Network;
 use sw_hints::head_line;
-use sw_replay::{CellId, Part, cells, locked_up_parts};
-use sw_schedule::Schedule;
+use sw_schedule::{CellId, Part, Schedule, cells, locked_up_parts};
 
 // The most lines that are told.
 const MOST_LINES: usize = 40;
@@ -56,36 +55,47 @@ fn add_stopped_lines(
     }
 }
 
-// Adds what holds the network up, of these cells, which have these parts.
-fn add_holding(
-    alloc: Global,
-    network: &Network,
-    cells: &[CellId],
-    parts: &[Part],
-    lines: &mut Vec<String>,
-) -> Result<(), AllocError>
-    requires { All (IsIn network.now) cells.now }
-    ensures { IfOk result (λ _. map string_bytes lines.new.items ≡ map string_bytes lines.old.items ++ flat_map (λ p. holding_lines network.now p.0 p.1) (zip cells.now parts.now)) }
-{
-    for (cell, part) in cells.iter().zip(parts) {
-        add_holding_lines(alloc, network, *cell, part, lines)?;
-    }
-    Ok(())
+/// What is told of cells.
+#[derive(Clone, Copy)]
+pub(crate) enum Told {
+    /// What is held and waited for there.
+    Held,
+    /// That it can't send on.
+    Stopped,
 }
 
-// Adds which of these cells, which have these parts, can't send on.
-fn add_stopped(
+// Adds what is told of the cell, which has this part.
+fn add_lines(
     alloc: Global,
     network: &Network,
+    told: Told,
+    cell: CellId,
+    part: &Part,
+    lines: &mut Vec<String>,
+) -> Result<(), AllocError>
+    requires { IsIn network.now cell }
+    ensures { IfOk result (λ _. map string_bytes lines.new.items ≡ map string_bytes lines.old.items ++ cell_lines network.now told cell part.now) }
+{
+    match told {
+        Told::Held => add_holding_lines(alloc, network, cell, part, lines),
+        Told::Stopped => add_stopped_lines(alloc, network, cell, part, lines),
+    }
+}
+
+// Adds what is told of these cells, which have these parts.
+fn add_cells(
+    alloc: Global,
+    network: &Network,
+    told: Told,
     cells: &[CellId],
     parts: &[Part],
     lines: &mut Vec<String>,
 ) -> Result<(), AllocError>
     requires { All (IsIn network.now) cells.now }
-    ensures { IfOk result (λ _. map string_bytes lines.new.items ≡ map string_bytes lines.old.items ++ flat_map (λ p. stopped_lines network.now p.0 p.1) (zip cells.now parts.now)) }
+    ensures { IfOk result (λ _. map string_bytes lines.new.items ≡ map string_bytes lines.old.items ++ flat_map (λ p. cell_lines network.now told p.0 p.1) (zip cells.now parts.now)) }
 {
     for (cell, part) in cells.iter().zip(parts) {
-        add_stopped_lines(alloc, network, *cell, part, lines)?;
+        add_lines(alloc, network, told, *cell, part, lines)?;
     }
     Ok(())
 }
@@ -101,8 +111,8 @@ fn add_lock_lines(
     requires { All (IsIn network.now) cells.now }
     ensures { IfOk result (λ _. map string_bytes lines.new.items ≡ (map string_bytes lines.old.items ++ flat_map (λ p. holding_lines network.now p.0 p.1) (zip cells.now parts.now)) ++ flat_map (λ p. stopped_lines network.now p.0 p.1) (zip cells.now parts.now)) }
 {
-    add_holding(alloc, network, cells, parts, lines)?;
-    add_stopped(alloc, network, cells, parts, lines)
+    add_cells(alloc, network, Told::Held, cells, parts, lines)?;
+    add_cells(alloc, network, Told::Stopped, cells, parts, lines)
 }
 
 // All lines that are told of the network.

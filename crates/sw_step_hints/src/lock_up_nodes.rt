@@ -1,14 +1,14 @@
 //! What is told of a node where the network is locked up.
-ghost use Rattle.std.specs.Prelude.{◌≡◌, ◌<◌, IfOk, length, option_map, string_bytes};
-ghost use Rattle.sw_step_hints.specs.LockHints.{has_to_wait, is_full, node_output, owing_line, replies, sending_line, stopped_text};
+ghost use Rattle.std.specs.Prelude.{◌≡◌, ◌<◌, ◌==◌, IfOk, codes, if◌then◌else◌, length, option_map, string_bytes};
+ghost use Rattle.sw_step_hints.specs.LockHints.{has_to_wait, is_full, node_output, owing_line, sending_line, stopped_text};
 ghost use Rattle.sw_output.specs.ChannelTexts.{node_name};
 
 use crate::channel_names::node_output;
 use std::alloc::{AllocError, Global};
 use sw_config::Network;
 use sw_output::node_name;
-use sw_replay::NodePart;
 use sw_rmap::TargetConfig;
+use sw_schedule::NodePart;
 
 // It is a target, and owes as many replies as it has slots.
 fn is_full(target: Option<TargetConfig>, owed: u8) -> bool
@@ -20,14 +20,11 @@ fn is_full(target: Option<TargetConfig>, owed: u8) -> bool
     }
 }
 
-fn replies(alloc: Global, count: u8) -> Result<String, AllocError>
-    ensures { IfOk result (λ s. string_bytes s ≡ replies count) }
+// What so many replies are called.
+fn replies_word(count: u8) -> &'static str
+    ensures { result.now ≡ if count == 1 then codes " reply" else codes " replies" }
 {
-    if count == 1 {
-        format!(in alloc; "{count} reply")
-    } else {
-        format!(in alloc; "{count} replies")
-    }
+    if count == 1 { " reply" } else { " replies" }
 }
 
 /// That the node is a target which takes nothing, if it is.
@@ -35,6 +32,7 @@ fn replies(alloc: Global, count: u8) -> Result<String, AllocError>
 /// # Errors
 ///
 /// There is no memory for the text.
+#[tactic(auto, using(crate::proofs::Lines::owing_if))]
 pub(crate) fn owing_line(
     alloc: Global,
     network: &Network,
@@ -48,8 +46,11 @@ pub(crate) fn owing_line(
         return Ok(None);
     }
     let name = node_name(network, node);
-    let replies = replies(alloc, part.owed)?;
-    let line = format!(in alloc; "  {name} owes {replies} and takes nothing until one has left\n")?;
+    let owed = part.owed;
+    let replies = replies_word(owed);
+    let line = format!(in alloc;
+        "  {name} owes {owed}{replies} and takes nothing until one has left\n"
+    )?;
     Ok(Some(line))
 }
 
@@ -60,20 +61,14 @@ fn has_to_wait(part: &NodePart) -> bool
     !part.to_send.is_empty() && part.credit == 0
 }
 
-// Of a node that can't send on the channel.
-fn stopped_text(alloc: Global, node: &str, channel: &str) -> Result<String, AllocError>
-    ensures { IfOk result (λ s. string_bytes s ≡ stopped_text node.now channel.now) }
-{
-    format!(in alloc; "  {node} sends a packet on {channel}, which has no credit\n")
-}
-
 // Of a node that can't send on.
 fn sending_text(alloc: Global, network: &Network, node: u16) -> Result<String, AllocError>
     requires { node < length network.now.nodes }
     ensures { IfOk result (λ s. string_bytes s ≡ stopped_text (node_name network.now node) (node_output network.now node)) }
 {
+    let name = node_name(network, node);
     let output = node_output(alloc, network, node)?;
-    stopped_text(alloc, node_name(network, node), output.as_str())
+    format!(in alloc; "  {name} sends a packet on {output}, which has no credit\n")
 }
 
 /// That the node can't send on, if so.

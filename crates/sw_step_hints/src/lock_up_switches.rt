@@ -1,21 +1,25 @@
 //! What is told of a switch where the network is locked up.
-ghost use Rattle.std.specs.Prelude.{◌≡◌, ◌<◌, ◌++◌, IfOk, flat_map, length, map, option_map, option_to_list, string_bytes};
+ghost use Rattle.std.specs.Prelude.{◌≡◌, ◌<◌, ◌++◌, IfOk, OnOk, flat_map, length, map, option_map, option_to_list, string_bytes};
 ghost use Rattle.sw_step_hints.specs.LockHints.{credit_words, has_no_credit, held_line, idle_line, named_ports, or_output, port_line, switch_lines, waiting_line, waiting_text};
 
 use crate::channel_names::{port_input, port_output};
 use std::alloc::{AllocError, Global};
+use std::fmt::Write;
 use sw_char::NChar;
 use sw_config::Network;
-use sw_replay::{Input, PortPart};
+use sw_schedule::{Input, PortPart};
 use sw_topo::Port;
 
 // One of these parts is that port's, and has no credit.
 fn has_no_credit(port: Port, parts: &[PortPart]) -> bool
     ensures { result ≡ has_no_credit port parts.now }
 {
-    parts
-        .iter()
-        .any(|part| part.port == port && part.credit == 0)
+    for part in parts {
+        if part.port == port && part.credit == 0 {
+            return true;
+        }
+    }
+    false
 }
 
 fn credit_words(port: Port, parts: &[PortPart]) -> &'static str
@@ -82,18 +86,19 @@ fn named_ports(
     Ok(all)
 }
 
-// One channel more that an input waits for.
-fn or_output(
+// Adds one channel more that an input waits for.
+fn add_output(
+    text: &mut String,
     alloc: Global,
     network: &Network,
     switch: u16,
     port: Port,
-) -> Result<String, AllocError>
+) -> Result<(), AllocError>
     requires { switch < length network.now.switches }
-    ensures { IfOk result (λ s. string_bytes s ≡ or_output network.now switch port) }
+    ensures { OnOk result (string_bytes text.new ≡ string_bytes text.old ++ or_output network.now switch port) }
 {
     let output = port_output(alloc, network, switch, port)?;
-    format!(in alloc; " or {output}")
+    write!(text, " or {output}")
 }
 
 // More channels that it waits for.
@@ -108,7 +113,7 @@ fn more_outputs(
 {
     let mut text = String::new(alloc);
     for port in ports {
-        text.push_str(or_output(alloc, network, switch, *port)?.as_str())?;
+        add_output(&mut text, alloc, network, switch, *port)?;
     }
     Ok(text)
 }

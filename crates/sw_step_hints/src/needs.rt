@@ -6,8 +6,7 @@ ghost use Rattle.sw_step_hints.specs.StepHints.{about, expected, needs, refused}
 use std::alloc::{AllocError, Global};
 use sw_config::Network;
 use sw_output::{flow_name, node_name};
-use sw_replay::StepRefusal;
-use sw_schedule::Step;
+use sw_schedule::{Step, StepRefusal};
 use sw_topo::Chan;
 
 // Words, a channel's number, and words.

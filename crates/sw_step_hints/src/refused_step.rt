@@ -8,8 +8,7 @@ use crate::step::step_numbered;
 use std::alloc::{AllocError, Global};
 use sw_config::Network;
 use sw_hints::{found_line, head_line, told};
-use sw_replay::StepRefusal;
-use sw_schedule::Schedule;
+use sw_schedule::{Schedule, StepRefusal};
 
 // Where, and why.
 fn step_head(

@@ -9,7 +9,7 @@ use Rattle.sw_flow.specs.Faults.{first_fault_of}
 use Rattle.sw_flow.specs.Places.{IsPlace, IsPlaceList, IsPlacesOf}
 use Rattle.sw_flow.specs.Ways.{IsWayIfPlace, IsWayTo}
 use Rattle.sw_flow.proofs.Stepping.{places_are_in}
-use Rattle.sw_app_explain.proofs.OnChannels.{from_start}
+use Rattle.sw_app_changes.proofs.OnChannels.{from_start}
 use Rattle.sw_search.proofs.Went.{faulty_listed}
 
 module _ (d : Declaration) (i : ℕ) (f : FlowEntry) (numbered : slice_get (all_flows d) i ≡ Some f) where

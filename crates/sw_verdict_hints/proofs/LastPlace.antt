@@ -5,7 +5,7 @@ use Rattle.sw_config.specs.Entries.{Declaration, wiring_of}
 use Rattle.sw_search.specs.Explanations.{GoesWrong}
 use Rattle.sw_flow.specs.declared.fault.RouteFault.{RouteFault}
 use Rattle.sw_flow.specs.declared.place.Place.{Place}
-use Rattle.sw_app_explain.proofs.OnChannels.{way_within}
+use Rattle.sw_app_changes.proofs.OnChannels.{way_within}
 
 last_on : {A : Type 0} (P : A → Type 0) (before : List A) (x : A) → All P (before ++ x ∷ []) → P x
 last_on P [] x all = All-head P x [] all

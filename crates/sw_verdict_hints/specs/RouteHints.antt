@@ -11,7 +11,7 @@ use Rattle.sw_flow.specs.declared.place.Place.{Place}
 use Rattle.sw_flow.specs.Places.{end_of}
 use Rattle.sw_output.specs.ChannelTexts.{channel_text, node_name, switch_name}
 use Rattle.sw_output.specs.LinkedPorts.{linked_ports}
-use Rattle.sw_app_explain.specs.ExplainTexts.{fault_words, numbered}
+use Rattle.sw_app_changes.specs.ExplainTexts.{fault_words, numbered}
 use Rattle.sw_hints.specs.HintLines.{head_line, told}
 
 -- ---- the way of a packet

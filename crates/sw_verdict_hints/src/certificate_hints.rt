@@ -138,7 +138,7 @@ pub fn refused_certificate_hint<W: VerdictWorkers>(
     match read_network(alloc, text) {
         Ok(network) => {
             let hint = text_hint(workers, alloc, names, &network, certificate);
-            drop(network);
+            network.discard();
             hint
         }
         Err(FileFault::Text(fault)) => {

@@ -119,7 +119,7 @@ pub fn named_flow_hint(
     match read_network(alloc, text) {
         Ok(network) => {
             let hint = hint_named(alloc, path, &network, name);
-            drop(network);
+            network.discard();
             hint
         }
         Err(FileFault::Text(fault)) => {

@@ -8,7 +8,7 @@ use crate::changes::help_words;
 use crate::made_texts::{in_turn, two_lines};
 use crate::ways::way_lines;
 use std::alloc::{AllocError, Global};
-use sw_app_explain::fault_words;
+use sw_app_changes::fault_words;
 use sw_config::{Flow, Network};
 use sw_flow::{Place, RouteFault};
 use sw_hints::head_line;

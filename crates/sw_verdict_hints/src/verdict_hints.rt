@@ -102,7 +102,7 @@ fn text_hint<W: VerdictWorkers>(
     match read_network(alloc, text) {
         Ok(network) => {
             let hint = network_hint(workers, alloc, path, &network, hinted);
-            drop(network);
+            network.discard();
             hint
         }
         Err(FileFault::Text(fault)) => {

@@ -4,7 +4,7 @@ ghost use Rattle.sw_config.specs.Entries.{wiring_of};
 ghost use Rattle.sw_verdict_hints.specs.RouteHints.{left_words, number_word, way_line, way_lines_from};
 
 use std::alloc::{AllocError, Global};
-use sw_app_explain::numbered;
+use sw_app_changes::numbered;
 use sw_config::{Flow, Network};
 use sw_flow::Place;
 use sw_output::channel_text;

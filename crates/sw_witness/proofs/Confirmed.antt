@@ -5,10 +5,10 @@ use Rattle.sw_config.specs.Entries.{Declaration}
 use Rattle.sw_machine.specs.State.{empty}
 use Rattle.sw_machine.specs.Steps.{Step}
 use Rattle.sw_model.specs.Model.{network_of}
-use Rattle.sw_replay.specs.declared.replayed.ReplayEnd.{ReplayEnd}
-use Rattle.sw_replay.specs.declared.replayed.ReplayEnd.TheVariants.{Made}
-use Rattle.sw_replay.specs.Replays.{Ends, IsReplayed}
-use Rattle.sw_replay.specs.Reports.{Report}
+use Rattle.sw_schedule.specs.declared.replayed.ReplayEnd.{ReplayEnd}
+use Rattle.sw_schedule.specs.declared.replayed.ReplayEnd.TheVariants.{Made}
+use Rattle.sw_schedule.specs.Replays.{Ends, IsReplayed}
+use Rattle.sw_schedule.specs.Reports.{Report}
 use Rattle.sw_witness.specs.Witnesses.{LeadsToLockUp}
 
 pub leads : (d : Declaration) (steps : List Step) (r : Report) (count : ℕ) → IsReplayed d steps r → r.outcome ≡ Made count → IsTrue r.stuck → LeadsToLockUp d steps

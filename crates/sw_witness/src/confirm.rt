@@ -4,8 +4,7 @@ ghost use Rattle.sw_witness.specs.Witnesses.{LeadsToLockUp, LocksUp};
 
 use std::alloc::{AllocError, Global};
 use sw_config::Network;
-use sw_replay::{ReplayEnd, replay};
-use sw_schedule::{Schedule, ScheduleFault, read_steps};
+use sw_schedule::{ReplayEnd, Schedule, ScheduleFault, read_steps, replay};
 
 /// Whether the steps of the schedule lead into a lock-up: they are replayed.
 fn leads_to_lock_up(

@@ -6,7 +6,6 @@ mod command;
 mod confirm;
 mod finding;
 pub mod laws;
-mod line;
 mod notes;
 mod random;
 mod replying;

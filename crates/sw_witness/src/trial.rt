@@ -1,6 +1,5 @@
 //! A network whose steps are written down.
 
-use crate::line::step_line;
 use std::alloc::{AllocError, Global};
 use sw_arb::Policy;
 use sw_cell::NetFault;
@@ -8,6 +7,7 @@ use sw_config::Network;
 use sw_flow::Place;
 use sw_model::Step;
 use sw_net::{Net, SwitchRoutes, declared_net};
+use sw_schedule::add_entry;
 use sw_topo::{Chan, LinkEnd};
 
 /// A schedule has at most so many steps.
@@ -49,8 +49,7 @@ impl<'n> Trial<'n> {
             Err(NetFault::Memory) => return Err(AllocError),
             Err(NetFault::NotEnabled | NetFault::NotInFlow) => return Ok(false),
         }
-        let line = step_line(alloc, self.net.network(), step)?;
-        self.text.push_str(line.as_str())?;
+        add_entry(alloc, self.net.network(), step, 1, &mut self.text)?;
         self.steps += 1;
         Ok(true)
     }

@@ -34,7 +34,7 @@ fn is_free_changed<W: VerdictWorkers>(
 {
     let left = network_with_all(alloc, network, changes)?;
     let free = is_free(workers, alloc, &left);
-    drop(left);
+    left.discard();
     free
 }
 

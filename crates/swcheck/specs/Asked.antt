@@ -47,6 +47,14 @@ is_json (Mend file pairs json) = json
 is_json (Margin file json) = json
 is_json _ = false
 
+-- whether that object is one of an engine that reads one network file and hands no network on
+abbrev pub has_object : Call → Bool
+has_object (Route file flow json) = json
+has_object (Explain file all json) = json
+has_object (Mend file pairs json) = json
+has_object (Margin file json) = json
+has_object _ = false
+
 -- the flow that a call names, if it names one
 abbrev pub flow_of : Call → Option (List ℕ)
 flow_of (Route file flow json) = Some flow.now

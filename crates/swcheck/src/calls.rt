@@ -4,41 +4,29 @@ ghost use Rattle.sw_args.specs.CommandLine.{HasWorkers};
 ghost use Rattle.swcheck.specs.Accesses.{IsAccess, IsNoAccess};
 
 use crate::disk::{Disk, RELEASE};
+use crate::engines::{Engine, SecondEngine, run_engine, run_second};
 use crate::hints::{MOST_EXPLAINED, hinted};
 use crate::json_calls::run_json;
 use crate::noted::{Made, Noted};
-use crate::recorded::{Extras, Shape, run_load};
-use crate::told::no_access;
-use std::io::Write;
+use crate::recorded::{Job, Shape, run_load};
+use std::io::{self, Write};
 use std::rt::{Env, Files};
 use std::sync::Wait;
 use std::thread::Threads;
-use std::{fs, io};
 use sw_app::EndedWith;
 use sw_app_audit::audit;
-use sw_app_changes::{margin, mend};
-use sw_app_draw::{DrawOptions, draw};
-use sw_app_explain::explain;
-use sw_app_rmap::{Access, Request, rmap};
-use sw_app_run::{Options, replay, witness};
+use sw_app_draw::DrawOptions;
+use sw_app_rmap::{Access, Request};
 use sw_args::{Asked, Call};
 use sw_calls::{
     check_files, decide_file, given_call, given_texts, given_words, hints_of, migrate_file,
-    no_hints, report_file, route_file, told_end, write_sample,
+    no_hints, report_file, route_file, tell_refused, told_end, write_sample,
 };
 use sw_command::Ended;
 use sw_search::VerdictWorkers;
 
-/// An engine that reads one network file, and what is asked of it.
-#[derive(Drop)]
-enum Engine<'a> {
-    Explain { all: bool },
-    Draw(DrawOptions<'a>),
-    Rmap(Request<'a>),
-    Mend { pairs: bool },
-    Margin,
-    Witness { tries: u32, seed: u32 },
-}
+// What is told of words of `rmap` that ask for no command.
+const NO_ACCESS: &str = "ACTION is read or write, and --no-ack goes with write alone";
 
 /// Does what the words say that the program was given, and answers its status. `host` is the same as `rt`, by its own type:
 /// threads that read files want that, and an audit has its files from it.
@@ -46,20 +34,34 @@ pub(crate) fn run_program<
     R: Env + Files + Print + Eprint + AllocGlobal + Threads + Wait + Sync,
     C: VerdictWorkers,
 >(rt: &R, workers: &C, host: &HostRuntime) -> u8 {
-    match run_given(rt, workers, host) {
-        Ok(ended) => ended.status(),
+    match given_texts(rt) {
+        Ok(texts) => run_texts(rt, workers, host, texts.as_slice()),
         Err(status) => status,
     }
 }
 
-fn run_given<
-    R: Env + Files + Print + Eprint + AllocGlobal + Threads + Wait + Sync,
-    C: VerdictWorkers,
->(rt: &R, workers: &C, host: &HostRuntime) -> Result<Ended, u8> {
-    let texts = given_texts(rt)?;
-    let words = given_words(rt, texts.as_slice())?;
-    let asked = given_call(rt, words.as_slice())?;
-    Ok(run_asked(rt, workers, host, &asked))
+fn run_texts<R: Files + Print + Eprint + AllocGlobal + Threads + Wait + Sync, C: VerdictWorkers>(
+    rt: &R,
+    workers: &C,
+    host: &HostRuntime,
+    texts: &[String],
+) -> u8 {
+    match given_words(rt, texts) {
+        Ok(words) => run_words(rt, workers, host, words.as_slice()),
+        Err(status) => status,
+    }
+}
+
+fn run_words<R: Files + Print + Eprint + AllocGlobal + Threads + Wait + Sync, C: VerdictWorkers>(
+    rt: &R,
+    workers: &C,
+    host: &HostRuntime,
+    words: &[&str],
+) -> u8 {
+    match given_call(rt, words) {
+        Ok(asked) => run_asked(rt, workers, host, &asked).status(),
+        Err(status) => status,
+    }
 }
 
 fn run_asked<R: Files + Print + Eprint + AllocGlobal + Threads + Wait + Sync, C: VerdictWorkers>(
@@ -74,8 +76,11 @@ fn run_asked<R: Files + Print + Eprint + AllocGlobal + Threads + Wait + Sync, C:
     match hints_of(asked.hints) {
         Some(hints) => {
             let made = run_call(rt, workers, host, call, &asked.files);
-            told_end(rt, made.ended);
-            hinted(rt, workers, &call, hints, &made)
+            told_end(rt, made.end.ended);
+            let ended = hinted(rt, workers, &call, hints, &made);
+            // The network is let go where engines let theirs go.
+            made.end.into_ended();
+            ended
         }
         None => no_hints(rt),
     }
@@ -91,14 +96,54 @@ fn run_call<'a, R: Files + Print + Eprint + AllocGlobal + Threads + Wait + Sync,
     requires { HasWorkers call }
 {
     let mut writer = Noted::new("standard output", io::writer(rt));
-    let EndedWith { ended, network } = match run_json(rt, workers, host, call, &mut writer) {
-        Some(ended) => ended,
+    let end = match run_json(rt, workers, host, call, &mut writer) {
+        Some(end) => end,
         None => run_text(rt, workers, host, call, files, &mut writer),
     };
     Made {
-        ended,
-        unwritten: writer.unwritten(),
-        network,
+        end,
+        unwritten: writer.unwritten,
+    }
+}
+
+// The network file of a call, and the engine that is to read it, if the call has such; an RMAP command that there is not has none.
+fn engine_of<'a>(call: &Call<'a>) -> Option<(&'a str, Engine<'a>)> {
+    match *call {
+        Call::Explain { file, all, .. } => Some((file, Engine::Explain { all })),
+        Call::Draw {
+            file,
+            flow,
+            cycle,
+            numbers,
+        } => {
+            let options = DrawOptions {
+                flow,
+                cycle,
+                numbers,
+            };
+            Some((file, Engine::Draw(options)))
+        }
+        Call::Rmap {
+            file,
+            flow,
+            action,
+            address,
+            value,
+            unacknowledged,
+            transaction,
+        } => {
+            let request = Request {
+                flow,
+                access: access_of(action, value, unacknowledged)?,
+                address,
+                transaction,
+            };
+            Some((file, Engine::Rmap(request)))
+        }
+        Call::Mend { file, pairs, .. } => Some((file, Engine::Mend { pairs })),
+        Call::Margin { file, .. } => Some((file, Engine::Margin)),
+        Call::Witness { file, tries, seed } => Some((file, Engine::Witness { tries, seed })),
+        _ => None,
     }
 }
 
@@ -127,7 +172,9 @@ fn run_text<
             certificate,
             ..
         } => check_files(rt, workers, file, certificate, writer),
-        Call::Replay { file, schedule, .. } => run_replay(rt, file, schedule, writer),
+        Call::Replay { file, schedule, .. } => {
+            run_second(rt, workers, file, schedule, SecondEngine::Replay, writer)
+        }
         Call::Run {
             file,
             load,
@@ -137,67 +184,27 @@ fn run_text<
             summary,
             ..
         } => {
-            let options = Options {
-                workers: workers as usize,
-                limit: limit as usize,
-            };
-            run_load(
-                rt,
-                file,
+            let job = Job {
+                network: file,
                 load,
-                options,
-                &Extras {
-                    schedule,
-                    summary,
-                    shape: Shape::Text,
-                },
-                writer,
-            )
+                workers,
+                limit,
+                schedule,
+                summary,
+                shape: Shape::Text,
+            };
+            run_load(rt, &job, writer)
         }
         Call::Migrate { file } => migrate_file(rt, file, writer),
-        Call::Explain { file, all, .. } => {
-            run_engine(rt, workers, file, Engine::Explain { all }, writer)
-        }
-        Call::Draw {
-            file,
-            flow,
-            cycle,
-            numbers,
-        } => {
-            let options = DrawOptions {
-                flow,
-                cycle,
-                numbers,
-            };
-            run_engine(rt, workers, file, Engine::Draw(options), writer)
-        }
-        Call::Rmap {
-            file,
-            flow,
-            action,
-            address,
-            value,
-            unacknowledged,
-            transaction,
-        } => match access_of(action, value, unacknowledged) {
-            Some(access) => {
-                let request = Request {
-                    flow,
-                    access,
-                    address,
-                    transaction,
-                };
-                run_engine(rt, workers, file, Engine::Rmap(request), writer)
-            }
-            None => no_access(rt),
+        Call::Explain { .. }
+        | Call::Draw { .. }
+        | Call::Rmap { .. }
+        | Call::Mend { .. }
+        | Call::Margin { .. }
+        | Call::Witness { .. } => match engine_of(&call) {
+            Some((file, engine)) => run_engine(rt, workers, file, &engine, writer),
+            None => tell_refused(rt, NO_ACCESS),
         },
-        Call::Mend { file, pairs, .. } => {
-            run_engine(rt, workers, file, Engine::Mend { pairs }, writer)
-        }
-        Call::Margin { file, .. } => run_engine(rt, workers, file, Engine::Margin, writer),
-        Call::Witness { file, tries, seed } => {
-            run_engine(rt, workers, file, Engine::Witness { tries, seed }, writer)
-        }
         Call::Audit {
             json,
             quiet,
@@ -206,44 +213,6 @@ fn run_text<
         Call::Init { name } => write_sample(rt, name, writer),
     };
     EndedWith::without_network(ended)
-}
-
-fn run_replay<R: Files + AllocGlobal, W: Write>(
-    rt: &R,
-    file: &str,
-    path: &str,
-    writer: &mut W,
-) -> Ended {
-    let Ok(mut network) = fs::open(rt, file) else {
-        return Ended::ReadFailed;
-    };
-    let Ok(mut schedule) = fs::open(rt, path) else {
-        return Ended::ReadFailed;
-    };
-    replay(rt.alloc(), &mut network, &mut schedule, writer)
-}
-
-// Has the engine read the network file.
-fn run_engine<R: Files + AllocGlobal, C: VerdictWorkers, W: Write>(
-    rt: &R,
-    workers: &C,
-    file: &str,
-    engine: Engine<'_>,
-    writer: &mut W,
-) -> Ended {
-    let Ok(mut reader) = fs::open(rt, file) else {
-        return Ended::ReadFailed;
-    };
-    match engine {
-        Engine::Explain { all } => explain(workers, rt.alloc(), &mut reader, all, writer),
-        Engine::Draw(options) => draw(workers, rt.alloc(), &mut reader, &options, writer),
-        Engine::Rmap(request) => rmap(rt.alloc(), &mut reader, &request, writer),
-        Engine::Mend { pairs } => mend(workers, rt.alloc(), pairs, &mut reader, writer),
-        Engine::Margin => margin(workers, rt.alloc(), &mut reader, writer),
-        Engine::Witness { tries, seed } => {
-            witness(workers, rt.alloc(), &mut reader, tries, seed, writer)
-        }
-    }
 }
 
 // What an RMAP command does: it reads so many bytes, or writes these. A read without its reply brings nothing, and there is no third.
@@ -267,7 +236,7 @@ fn access_of<'a>(action: &str, value: &'a str, unacknowledged: bool) -> Option<A
 }
 
 /// An audit of these files.
-pub(crate) fn run_audit<R: Files + AllocGlobal + Threads + Sync, C: VerdictWorkers, W: Write>(
+pub(crate) fn run_audit<R: AllocGlobal + Threads + Sync, C: VerdictWorkers, W: Write>(
     rt: &R,
     workers: &C,
     host: &HostRuntime,

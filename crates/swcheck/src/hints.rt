@@ -7,10 +7,10 @@ use crate::asked::{file_of, flow_of, second_of};
 use crate::noted::Made;
 use crate::notes::{is_noted, notes_on};
 use crate::told::tell_text;
-use crate::unread::{tell_unread, tell_unwritten};
+use crate::unread::{tell_failed, unread};
+use std::alloc::Global;
 use std::fs;
 use std::rt::Files;
-use std::thread::Threads;
 use sw_args::Call;
 use sw_calls::Hints;
 use sw_command::statuses::{BAD, FAULTY, LOCKED_UP};
@@ -59,28 +59,49 @@ pub(crate) const MOST_EXPLAINED: usize = 262_144;
 
 // The text of a file of at most so many bytes, if it can be read once more: a pipe can't.
 fn text_of<R: Files + AllocGlobal>(rt: &R, file: &str, most: usize) -> Option<Vec<u8>> {
-    let kind = fs::metadata(rt, file).ok()?;
+    let Ok(kind) = fs::metadata(rt, file) else {
+        return None;
+    };
     if !kind.is_file() {
         return None;
     }
-    let mut reader = fs::open(rt, file).ok()?;
-    read_whole(rt.alloc(), &mut reader, most).ok()
+    match fs::open(rt, file) {
+        Ok(mut reader) => read_whole(rt.alloc(), &mut reader, most).ok(),
+        Err(_) => None,
+    }
 }
 
-// What to tell of a fault of the second text that a call reads.
-fn second_hint<R: Files + AllocGlobal>(rt: &R, call: &Call<'_>, network: &[u8]) -> Option<String> {
-    let path = second_of(call)?;
-    let text = text_of(rt, path, MAX_TEXT)?;
+// What to tell of a fault of the second text of a run or a replay.
+fn second_hint(
+    alloc: Global,
+    call: &Call<'_>,
+    network: &[u8],
+    path: &str,
+    text: &[u8],
+) -> Option<String> {
     match call {
-        Call::Run { .. } => load_hint(rt.alloc(), path, network, &text).unwrap_or(None),
-        Call::Replay { .. } => schedule_hint(rt.alloc(), path, network, &text).unwrap_or(None),
+        Call::Run { .. } => load_hint(alloc, path, network, text).unwrap_or(None),
+        Call::Replay { .. } => schedule_hint(alloc, path, network, text).unwrap_or(None),
         _ => None,
     }
 }
 
+// The same of the second text that a call reads, if it reads one.
+fn second_fault_hint<R: Files + AllocGlobal>(
+    rt: &R,
+    call: &Call<'_>,
+    network: &[u8],
+) -> Option<String> {
+    let path = second_of(call)?;
+    match text_of(rt, path, MAX_TEXT) {
+        Some(text) => second_hint(rt.alloc(), call, network, path, &text),
+        None => None,
+    }
+}
+
 // What to tell of the flow that a call names.
-fn flow_hint<R: AllocGlobal>(rt: &R, call: &Call<'_>, network: &[u8]) -> Option<String> {
-    named_flow_hint(rt.alloc(), file_of(call)?, network, flow_of(call)?).unwrap_or(None)
+fn flow_hint(alloc: Global, call: &Call<'_>, network: &[u8]) -> Option<String> {
+    named_flow_hint(alloc, file_of(call)?, network, flow_of(call)?).unwrap_or(None)
 }
 
 // What to tell of a fault: of the network file, or else of the other text or of the flow that the call names. Nothing where none has one, and
@@ -90,8 +111,8 @@ fn fault_hint<R: Files + AllocGlobal>(rt: &R, call: &Call<'_>) -> Option<String>
     let text = text_of(rt, file, MAX_TEXT)?;
     match network_hint(rt.alloc(), file, &text).ok()? {
         Some(hint) => Some(hint),
-        None if flow_of(call).is_some() => flow_hint(rt, call, &text),
-        None => second_hint(rt, call, &text),
+        None if flow_of(call).is_some() => flow_hint(rt.alloc(), call, &text),
+        None => second_fault_hint(rt, call, &text),
     }
 }
 
@@ -119,28 +140,41 @@ fn steps_hint<R: Files + AllocGlobal>(rt: &R, network: &[u8], path: &str) -> Opt
 }
 
 // What to tell of a verdict that is not free, of a flow that goes wrong, of a refused certificate or step, of a network that is locked up.
+fn verdict_hint_on<R: Files + AllocGlobal, C: VerdictWorkers>(
+    rt: &R,
+    workers: &C,
+    call: &Call<'_>,
+    file: &str,
+    network: &[u8],
+) -> Option<String> {
+    match call {
+        Call::Route { .. } => flow_hint(rt.alloc(), call, network),
+        Call::Decide { .. } => verdict_hint(workers, rt.alloc(), file, network).unwrap_or(None),
+        Call::Check { certificate, .. } => refusal_hint(rt, workers, file, network, certificate),
+        Call::Replay { schedule, .. } => steps_hint(rt, network, schedule),
+        Call::Mend { .. } | Call::Witness { .. } => {
+            misrouted_verdict_hint(workers, rt.alloc(), file, network).unwrap_or(None)
+        }
+        _ => None,
+    }
+}
+
+// The same of the network file that a call reads, if it reads one.
 fn verdict_hint_of<R: Files + AllocGlobal, C: VerdictWorkers>(
     rt: &R,
     workers: &C,
     call: &Call<'_>,
 ) -> Option<String> {
     let file = file_of(call)?;
-    let text = text_of(rt, file, MOST_EXPLAINED)?;
-    match call {
-        Call::Route { .. } => flow_hint(rt, call, &text),
-        Call::Decide { .. } => verdict_hint(workers, rt.alloc(), file, &text).unwrap_or(None),
-        Call::Check { .. } => refusal_hint(rt, workers, file, &text, second_of(call)?),
-        Call::Replay { .. } => steps_hint(rt, &text, second_of(call)?),
-        Call::Mend { .. } | Call::Witness { .. } => {
-            misrouted_verdict_hint(workers, rt.alloc(), file, &text).unwrap_or(None)
-        }
-        _ => None,
+    match text_of(rt, file, MOST_EXPLAINED) {
+        Some(text) => verdict_hint_on(rt, workers, call, file, &text),
+        None => None,
     }
 }
 
 // Tells what is to be noted on the network that the call handed on. In the object that `decide` gives the notes stand in it.
 fn tell_notes<R: Eprint + AllocGlobal>(rt: &R, made: &Made<'_>) {
-    if let Some(network) = &made.network {
+    if let Some(network) = &made.end.network {
         tell_text(rt, notes_on(rt.alloc(), network));
     }
 }
@@ -148,10 +182,10 @@ fn tell_notes<R: Eprint + AllocGlobal>(rt: &R, made: &Made<'_>) {
 // Tells which of the call's files can't be read, and why.
 fn tell_unread_files<R: Files + Eprint + AllocGlobal>(rt: &R, call: &Call<'_>) {
     if let Some(file) = file_of(call) {
-        tell_unread(rt, file);
+        tell_failed(rt, unread(rt, file));
     }
     if let Some(second) = second_of(call) {
-        tell_unread(rt, second);
+        tell_failed(rt, unread(rt, second));
     }
 }
 
@@ -175,17 +209,17 @@ pub(crate) fn hinted<R: Files + Eprint + AllocGlobal, C: VerdictWorkers>(
     hints: Hints,
     made: &Made<'_>,
 ) -> Ended
-    ensures { result ≡ made.now.ended }
+    ensures { result ≡ made.now.end.ended }
 {
-    match due_of(hints, made.ended) {
+    match due_of(hints, made.end.ended) {
         Due::Fault => tell_text(rt, fault_hint(rt, call)),
         Due::Verdict => tell_text(rt, verdict_hint_of(rt, workers, call)),
         Due::Unread => tell_unread_files(rt, call),
-        Due::Unwritten => tell_unwritten(rt, made.unwritten),
+        Due::Unwritten => tell_failed(rt, made.unwritten),
         Due::Nothing => {}
     }
-    if is_noted(hints, made.ended) {
+    if is_noted(hints, made.end.ended) {
         tell_notes(rt, made);
     }
-    made.ended
+    made.end.ended
 }

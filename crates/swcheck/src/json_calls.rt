@@ -1,34 +1,44 @@
 //! The calls whose answer is an object of JSON. That of `decide` is an audit's of one file.
 ghost use Rattle.std.specs.Prelude.{◌≡◌, is_some};
 ghost use Rattle.sw_args.specs.CommandLine.{HasWorkers};
-ghost use Rattle.swcheck.specs.Asked.{is_json};
+ghost use Rattle.swcheck.specs.Asked.{has_object, is_json};
 
 use crate::calls::run_audit;
 use crate::disk::RELEASE;
+use crate::engines::{Engine, SecondEngine, run_engine, run_second};
 use crate::hints::MOST_EXPLAINED;
 use crate::noted::Noted;
-use crate::recorded::{Extras, Shape, run_load};
+use crate::recorded::{Job, Shape, run_load};
 use std::fs;
 use std::io::Write;
 use std::rt::Files;
 use std::sync::Wait;
 use std::thread::Threads;
 use sw_app::EndedWith;
-use sw_app_run::Options;
 use sw_args::Call;
 use sw_command::Ended;
-use sw_json_changes::{explain, margin, mend};
-use sw_json_runs::replay;
-use sw_json_verdicts::{check, report_keeping, route};
+use sw_json_verdicts::report_keeping;
 use sw_search::VerdictWorkers;
 
-/// What the object of one network file tells.
-#[derive(Clone, Copy)]
-enum Object<'a> {
-    Route { flow: &'a str },
-    Explain,
-    Mend { pairs: bool },
-    Margin,
+// The engine that reads one network file for the object of JSON that a call asks for, if there is such.
+fn object_of<'a>(call: &Call<'a>) -> Option<Engine<'a>>
+    ensures { is_some result ≡ has_object call.now }
+{
+    match *call {
+        Call::Route {
+            flow,
+            json: true,
+            ..
+        } => Some(Engine::RouteObject { flow }),
+        Call::Explain { json: true, .. } => Some(Engine::ExplainObject),
+        Call::Mend {
+            pairs,
+            json: true,
+            ..
+        } => Some(Engine::MendObject { pairs }),
+        Call::Margin { json: true, .. } => Some(Engine::MarginObject),
+        _ => None,
+    }
 }
 
 /// Makes the call, if an object of JSON is wanted of it, and tells how it ended. The network of `report` is handed on, to be noted on.
@@ -51,11 +61,6 @@ pub(crate) fn run_json<
         Call::Report { file, json: true } => {
             return Some(run_report(rt, workers, file, writer));
         }
-        Call::Route {
-            file,
-            flow,
-            json: true,
-        } => run_object(rt, workers, file, Object::Route { flow }, writer),
         Call::Decide { file, json: true } => {
             run_audit(rt, workers, host, &[file], true, false, None, writer)
         }
@@ -63,12 +68,26 @@ pub(crate) fn run_json<
             file,
             certificate,
             json: true,
-        } => run_check(rt, workers, file, certificate, writer),
+        } => run_second(
+            rt,
+            workers,
+            file,
+            certificate,
+            SecondEngine::CheckObject,
+            writer,
+        ),
         Call::Replay {
             file,
             schedule,
             json: true,
-        } => run_replay(rt, file, schedule, writer),
+        } => run_second(
+            rt,
+            workers,
+            file,
+            schedule,
+            SecondEngine::ReplayObject,
+            writer,
+        ),
         Call::Run {
             file,
             load,
@@ -78,55 +97,39 @@ pub(crate) fn run_json<
             summary,
             json: true,
         } => {
-            let options = Options {
-                workers: workers as usize,
-                limit: limit as usize,
-            };
-            let extras = Extras {
+            let job = Job {
+                network: file,
+                load,
+                workers,
+                limit,
                 schedule,
                 summary,
                 shape: Shape::Json,
             };
-            run_load(rt, file, load, options, &extras, writer)
+            run_load(rt, &job, writer)
         }
-        Call::Explain {
+        Call::Route {
             file,
             json: true,
             ..
-        } => run_object(rt, workers, file, Object::Explain, writer),
-        Call::Mend {
+        }
+        | Call::Explain {
             file,
-            pairs,
             json: true,
-        } => run_object(rt, workers, file, Object::Mend { pairs }, writer),
-        Call::Margin { file, json: true } => run_object(rt, workers, file, Object::Margin, writer),
+            ..
+        }
+        | Call::Mend {
+            file,
+            json: true,
+            ..
+        }
+        | Call::Margin { file, json: true } => match object_of(&call) {
+            Some(object) => run_engine(rt, workers, file, &object, writer),
+            None => return None,
+        },
         _ => return None,
     };
     Some(EndedWith::without_network(ended))
-}
-
-fn run_check<R: Files + AllocGlobal, C: VerdictWorkers, W: Write>(
-    rt: &R,
-    workers: &C,
-    file: &str,
-    path: &str,
-    writer: &mut W,
-) -> Ended {
-    let Ok(mut network) = fs::open(rt, file) else {
-        return Ended::ReadFailed;
-    };
-    let Ok(mut certificate) = fs::open(rt, path) else {
-        return Ended::ReadFailed;
-    };
-    check(
-        workers,
-        rt.alloc(),
-        &mut network,
-        &mut certificate,
-        (file, path),
-        RELEASE,
-        writer,
-    )
 }
 
 fn run_report<R: Files + AllocGlobal, C: VerdictWorkers, W: Write>(
@@ -135,67 +138,16 @@ fn run_report<R: Files + AllocGlobal, C: VerdictWorkers, W: Write>(
     file: &str,
     writer: &mut W,
 ) -> EndedWith {
-    let Ok(mut reader) = fs::open(rt, file) else {
-        return EndedWith::without_network(Ended::ReadFailed);
-    };
-    report_keeping(
-        workers,
-        rt.alloc(),
-        &mut reader,
-        file,
-        RELEASE,
-        MOST_EXPLAINED,
-        writer,
-    )
-}
-
-fn run_replay<R: Files + AllocGlobal, W: Write>(
-    rt: &R,
-    file: &str,
-    path: &str,
-    writer: &mut W,
-) -> Ended {
-    let Ok(mut network) = fs::open(rt, file) else {
-        return Ended::ReadFailed;
-    };
-    let Ok(mut schedule) = fs::open(rt, path) else {
-        return Ended::ReadFailed;
-    };
-    replay(
-        rt.alloc(),
-        &mut network,
-        &mut schedule,
-        (file, path),
-        RELEASE,
-        writer,
-    )
-}
-
-// Has the object of the network file written.
-fn run_object<R: Files + AllocGlobal, C: VerdictWorkers, W: Write>(
-    rt: &R,
-    workers: &C,
-    file: &str,
-    object: Object<'_>,
-    writer: &mut W,
-) -> Ended {
-    let Ok(mut reader) = fs::open(rt, file) else {
-        return Ended::ReadFailed;
-    };
-    match object {
-        Object::Route { flow } => route(rt.alloc(), &mut reader, file, flow, RELEASE, writer),
-        Object::Explain => explain(workers, rt.alloc(), &mut reader, file, RELEASE, writer),
-        Object::Mend { pairs } => {
-            mend(
-                workers,
-                rt.alloc(),
-                pairs,
-                &mut reader,
-                file,
-                RELEASE,
-                writer,
-            )
-        }
-        Object::Margin => margin(workers, rt.alloc(), &mut reader, file, RELEASE, writer),
+    match fs::open(rt, file) {
+        Ok(mut reader) => report_keeping(
+            workers,
+            rt.alloc(),
+            &mut reader,
+            file,
+            RELEASE,
+            MOST_EXPLAINED,
+            writer,
+        ),
+        Err(_) => EndedWith::without_network(Ended::ReadFailed),
     }
 }

@@ -5,6 +5,7 @@
 mod asked;
 mod calls;
 mod disk;
+mod engines;
 mod hints;
 mod json_calls;
 mod noted;

@@ -2,22 +2,20 @@
 ghost use Rattle.std.specs.Prelude.{◌≡◌};
 
 use std::io::{self, ErrorKind, Write};
-use sw_command::Ended;
-use sw_config::Network;
+use sw_app::EndedWith;
 
-/// What could not be written, and why.
+/// What could not be read or written, and why.
 #[derive(Clone, Copy)]
-pub(crate) struct Unwritten<'a> {
+pub(crate) struct Failed<'a> {
     pub(crate) path: &'a str,
     pub(crate) kind: ErrorKind,
 }
 
-/// How a call ended, what could not be written, as far as that is known, and the network to note on, if there is one.
+/// How a call ended, with the network to note on, if there is one, and what could not be written, as far as that is known.
 #[derive(Drop)]
 pub(crate) struct Made<'a> {
-    pub(crate) ended: Ended,
-    pub(crate) unwritten: Option<Unwritten<'a>>,
-    pub(crate) network: Option<Network>,
+    pub(crate) end: EndedWith,
+    pub(crate) unwritten: Option<Failed<'a>>,
 }
 
 /// A writer to what goes by this name. It writes as the one in it does.
@@ -25,7 +23,8 @@ pub(crate) struct Made<'a> {
 pub(crate) struct Noted<'a, W> {
     writer: W,
     path: &'a str,
-    unwritten: Option<Unwritten<'a>>,
+    /// What could not be written last.
+    pub(crate) unwritten: Option<Failed<'a>>,
 }
 
 impl<'a, W: Write> Noted<'a, W> {
@@ -38,20 +37,6 @@ impl<'a, W: Write> Noted<'a, W> {
             unwritten: None,
         }
     }
-
-    /// What could not be written last.
-    pub(crate) fn unwritten(&self) -> Option<Unwritten<'a>>
-        ensures { result ≡ self.now.unwritten }
-    {
-        self.unwritten
-    }
-
-    /// Notes what could not be written elsewhere.
-    pub(crate) fn note(&mut self, unwritten: Option<Unwritten<'a>>)
-        ensures { self.new ≡ record self.old { unwritten = unwritten.entry } }
-    {
-        self.unwritten = unwritten;
-    }
 }
 
 impl<W: Write> Write for Noted<'_, W> {
@@ -61,7 +46,7 @@ impl<W: Write> Write for Noted<'_, W> {
         let written = self.writer.write(buf);
         if let Err(error) = &written {
             let kind = error.kind();
-            self.unwritten = Some(Unwritten {
+            self.unwritten = Some(Failed {
                 path: self.path,
                 kind,
             });

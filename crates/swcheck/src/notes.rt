@@ -2,7 +2,8 @@
 ghost use Rattle.std.specs.Prelude.{◌≡◌};
 ghost use Rattle.swcheck.specs.Asked.{is_noted};
 
-use std::alloc::Global;
+use std::alloc::{AllocError, Global};
+use std::fmt::Write;
 use sw_calls::Hints;
 use sw_command::Ended;
 use sw_command::statuses::{BAD, GOOD};
@@ -19,23 +20,19 @@ pub(crate) fn is_noted(hints: Hints, ended: Ended) -> bool
     }
 }
 
-// One note as a line, behind the others.
-fn add_note(lines: &mut String, lint: &str) -> Option<()> {
-    lines.push_str("note: ").ok()?;
-    lines.push_str(lint).ok()?;
-    lines.push('\n').ok()
-}
-
-fn note_lines(alloc: Global, lints: &[String]) -> Option<String> {
+// A line for each note.
+fn note_lines(alloc: Global, lints: &[String]) -> Result<String, AllocError> {
     let mut lines = String::new(alloc);
     for lint in lints {
-        add_note(&mut lines, lint)?;
+        write!(lines, "note: {lint}\n")?;
     }
-    Some(lines)
+    Ok(lines)
 }
 
 /// A line for each note on the network. Nothing where there is no memory for it.
 pub(crate) fn notes_on(alloc: Global, network: &Network) -> Option<String> {
-    let lints = lint_texts(alloc, network).ok()?;
-    note_lines(alloc, &lints)
+    match lint_texts(alloc, network) {
+        Ok(lints) => note_lines(alloc, &lints).ok(),
+        Err(_) => None,
+    }
 }

@@ -3,8 +3,9 @@ ghost use Rattle.std.specs.Prelude.{◌≡◌, ◌<◌, Option, String};
 ghost use Rattle.std.specs.declared.alloc.Global.{Global};
 
 use crate::disk::RELEASE;
-use crate::noted::{Noted, Unwritten};
-use crate::told::{no_output, tell_long, tell_text};
+use crate::engines::opened;
+use crate::noted::{Failed, Noted};
+use crate::told::{tell_long, tell_text};
 use std::fs;
 use std::io::{self, Read, Write};
 use std::os::unix::fs::MetadataExt;
@@ -12,6 +13,7 @@ use std::rt::Files;
 use std::sync::Wait;
 use std::thread::Threads;
 use sw_app_run::{Open, Options, RecordEnd, Wants, run_recorded};
+use sw_calls::tell_refused;
 use sw_command::Ended;
 
 /// What an answer is written as.
@@ -21,22 +23,17 @@ pub(crate) enum Shape {
     Json,
 }
 
-/// What a run's answer is to be, and what is wanted besides: the file in which its steps are to be written, and a summary on standard error.
+/// What is run, by so many threads and in at most so many steps, what the answer is written as, and what is wanted besides: the file in which
+/// the steps are to be written, and a summary on standard error.
 #[derive(Clone, Copy)]
-pub(crate) struct Extras<'a> {
+pub(crate) struct Job<'a> {
+    pub(crate) network: &'a str,
+    pub(crate) load: &'a str,
+    pub(crate) workers: u32,
+    pub(crate) limit: u32,
     pub(crate) schedule: Option<&'a str>,
     pub(crate) summary: bool,
     pub(crate) shape: Shape,
-}
-
-// What is run, as what it is told, and what is wanted besides.
-#[derive(Clone, Copy)]
-struct Job<'a> {
-    network: &'a str,
-    load: &'a str,
-    shape: Shape,
-    options: Options,
-    wants: Wants,
 }
 
 // How the call ends that ended so. That a schedule is too long is told, and so is a summary, but where a write failed.
@@ -57,8 +54,10 @@ fn ended_of(rt: &impl Eprint, end: RecordEnd) -> Ended
 
 // The device and the number of a file, if there is one.
 fn identity_of<R: Files>(rt: &R, path: &str) -> Option<(u64, u64)> {
-    let known = fs::metadata(rt, path).ok()?;
-    Some((known.dev(), known.ino()))
+    match fs::metadata(rt, path) {
+        Ok(known) => Some((known.dev(), known.ino())),
+        Err(_) => None,
+    }
 }
 
 // Whether both paths lead to one file.
@@ -78,16 +77,24 @@ fn run_job<R: AllocGlobal + Threads + Wait + Sync, N: Read, L: Read, W: Write, S
     writer: &mut W,
     schedule: &mut S,
 ) -> RecordEnd
-    requires { 0 < job.now.options.workers }
+    requires { 0 < job.now.workers }
 {
+    let options = Options {
+        workers: job.workers as usize,
+        limit: job.limit as usize,
+    };
+    let wants = Wants {
+        schedule: job.schedule.is_some(),
+        summary: job.summary,
+    };
     match job.shape {
         Shape::Text => run_recorded(
             rt,
             rt.alloc(),
             network,
             load,
-            job.options,
-            job.wants,
+            options,
+            wants,
             writer,
             schedule,
             &Open,
@@ -99,8 +106,8 @@ fn run_job<R: AllocGlobal + Threads + Wait + Sync, N: Read, L: Read, W: Write, S
             load,
             (job.network, job.load),
             RELEASE,
-            job.options,
-            job.wants,
+            options,
+            wants,
             writer,
             schedule,
             &Open,
@@ -108,43 +115,41 @@ fn run_job<R: AllocGlobal + Threads + Wait + Sync, N: Read, L: Read, W: Write, S
     }
 }
 
-// Runs the load, and writes the run's steps as a schedule to a file, which is made, or emptied, before the run.
-fn run_scheduled<
+// Runs the load. Where a schedule is wanted, the run's steps are written to that file, which is made, or emptied, before the run.
+fn run_opened<
     'a,
     R: Files + Eprint + AllocGlobal + Threads + Wait + Sync,
     N: Read,
     L: Read,
     W: Write,
->(
-    rt: &R,
-    job: &Job<'_>,
-    network: &mut N,
-    load: &mut L,
-    path: &'a str,
-    writer: &mut Noted<'a, W>,
-) -> Ended
-    requires { 0 < job.now.options.workers }
+>(rt: &R, job: &Job<'a>, network: &mut N, load: &mut L, writer: &mut Noted<'a, W>) -> Ended
+    requires { 0 < job.now.workers }
 {
-    let file = match fs::create(rt, path) {
-        Ok(file) => file,
+    let Some(path) = job.schedule else {
+        let end = run_job(rt, job, network, load, writer, &mut io::sink());
+        return ended_of(rt, end);
+    };
+    match fs::create(rt, path) {
+        Ok(file) => {
+            let mut schedule = Noted::new(path, file);
+            let end = run_job(rt, job, network, load, writer, &mut schedule);
+            if schedule.unwritten.is_some() {
+                writer.unwritten = schedule.unwritten;
+            }
+            ended_of(rt, end)
+        }
         Err(error) => {
             let kind = error.kind();
-            writer.note(Some(Unwritten { path, kind }));
-            return Ended::WriteFailed;
+            writer.unwritten = Some(Failed { path, kind });
+            Ended::WriteFailed
         }
-    };
-    let mut schedule = Noted::new(path, file);
-    let end = run_job(rt, job, network, load, writer, &mut schedule);
-    if schedule.unwritten().is_some() {
-        writer.note(schedule.unwritten());
     }
-    ended_of(rt, end)
 }
 
 // Whether the schedule is to be written over a file that is read.
-fn is_read<R: Files>(rt: &R, schedule: Option<&str>, file: &str, load: &str) -> bool {
-    match schedule {
-        Some(path) => are_same(rt, path, file) || are_same(rt, path, load),
+fn is_read<R: Files>(rt: &R, job: &Job<'_>) -> bool {
+    match job.schedule {
+        Some(path) => are_same(rt, path, job.network) || are_same(rt, path, job.load),
         None => false,
     }
 }
@@ -152,38 +157,16 @@ fn is_read<R: Files>(rt: &R, schedule: Option<&str>, file: &str, load: &str) -> 
 /// Runs the load, and tells what is wanted besides. The schedule's file may be none of those that are read.
 pub(crate) fn run_load<'a, R: Files + Eprint + AllocGlobal + Threads + Wait + Sync, W: Write>(
     rt: &R,
-    file: &str,
-    load: &str,
-    options: Options,
-    extras: &Extras<'a>,
+    job: &Job<'a>,
     writer: &mut Noted<'a, W>,
 ) -> Ended
-    requires { 0 < options.workers }
+    requires { 0 < job.now.workers }
 {
-    if is_read(rt, extras.schedule, file, load) {
-        return no_output(rt);
+    if is_read(rt, job) {
+        return tell_refused(rt, "--schedule names a file that is read");
     }
-    let job = Job {
-        network: file,
-        load,
-        shape: extras.shape,
-        options,
-        wants: Wants {
-            schedule: extras.schedule.is_some(),
-            summary: extras.summary,
-        },
-    };
-    let Ok(mut network) = fs::open(rt, file) else {
-        return Ended::ReadFailed;
-    };
-    let Ok(mut load) = fs::open(rt, load) else {
-        return Ended::ReadFailed;
-    };
-    match extras.schedule {
-        Some(path) => run_scheduled(rt, &job, &mut network, &mut load, path, writer),
-        None => {
-            let end = run_job(rt, &job, &mut network, &mut load, writer, &mut io::sink());
-            ended_of(rt, end)
-        }
+    match opened(rt, job.network, job.load) {
+        Some((mut network, mut load)) => run_opened(rt, job, &mut network, &mut load, writer),
+        None => Ended::ReadFailed,
     }
 }

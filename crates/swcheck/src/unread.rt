@@ -2,7 +2,7 @@
 ghost use Rattle.std.specs.Prelude.{◌≡◌, IfOk, string_bytes};
 ghost use Rattle.swcheck.specs.Unread.{reason_of, unread_text};
 
-use crate::noted::Unwritten;
+use crate::noted::Failed;
 use crate::told::tell_text;
 use std::alloc::{AllocError, Global};
 use std::fs;
@@ -64,45 +64,39 @@ fn unread_text(alloc: Global, path: &str, kind: ErrorKind) -> Result<String, All
     head_line(alloc, path, &[], None, reason_of(kind))
 }
 
-// Why a file or a folder can't be read, if it can't: it is opened once more, and a byte of it is read. A pipe is not asked: it would lose
-// the byte, or have none yet.
-fn kind_of<R: Files>(rt: &R, path: &str) -> Option<ErrorKind> {
+/// Why a file or a folder can't be read, if it can't: it is opened once more, and a byte of it is read. A pipe is not asked: it would lose
+/// the byte, or have none yet.
+pub(crate) fn unread<'a, R: Files>(rt: &R, path: &'a str) -> Option<Failed<'a>> {
     let known = match fs::metadata(rt, path) {
         Ok(known) => known,
-        Err(error) => return Some(error.kind()),
+        Err(error) => return Some(Failed {
+            path,
+            kind: error.kind(),
+        }),
     };
     if !known.is_file() && !known.is_dir() {
         return None;
     }
     let mut reader = match fs::open(rt, path) {
         Ok(reader) => reader,
-        Err(error) => return Some(error.kind()),
+        Err(error) => return Some(Failed {
+            path,
+            kind: error.kind(),
+        }),
     };
     let mut byte = [0];
     match reader.read(&mut byte) {
         Ok(_) => None,
-        Err(error) => Some(error.kind()),
+        Err(error) => Some(Failed {
+            path,
+            kind: error.kind(),
+        }),
     }
 }
 
-fn text_of<R: Files + AllocGlobal>(rt: &R, path: &str) -> Option<String> {
-    let kind = kind_of(rt, path)?;
-    unread_text(rt.alloc(), path, kind).ok()
-}
-
-/// Tells why a file can't be read; nothing where it can.
-pub(crate) fn tell_unread<R: Files + Eprint + AllocGlobal>(rt: &R, path: &str) {
-    tell_text(rt, text_of(rt, path));
-}
-
-// Why a write failed.
-fn unwritten_text<R: AllocGlobal>(rt: &R, unwritten: Unwritten<'_>) -> Option<String> {
-    unread_text(rt.alloc(), unwritten.path, unwritten.kind).ok()
-}
-
-/// Tells what could not be written, and why, as far as that is known.
-pub(crate) fn tell_unwritten<R: Eprint + AllocGlobal>(rt: &R, unwritten: Option<Unwritten<'_>>) {
-    if let Some(unwritten) = unwritten {
-        tell_text(rt, unwritten_text(rt, unwritten));
+/// Tells what could not be read or written, and why, as far as that is known.
+pub(crate) fn tell_failed<R: Eprint + AllocGlobal>(rt: &R, failed: Option<Failed<'_>>) {
+    if let Some(failed) = failed {
+        tell_text(rt, unread_text(rt.alloc(), failed.path, failed.kind).ok());
     }
 }

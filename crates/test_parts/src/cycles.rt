@@ -115,7 +115,7 @@ fn check_all(rt: &impl Abort, alloc: Global, sample: &Sample, cases: &[Case]) {
     for case in cases {
         check(rt, alloc, &network, case);
     }
-    drop(network);
+    network.discard();
 }
 
 #[test]

@@ -78,7 +78,7 @@ fn show_work<R: Threads + Wait + Sync>(
 ) -> io::Result<()> {
     let network = network_of(rt, network)?;
     let shown = show_read(rt, threads, &network, load, work);
-    drop(network);
+    network.discard();
     shown
 }
 

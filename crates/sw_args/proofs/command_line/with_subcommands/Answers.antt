@@ -7,8 +7,8 @@ use Rattle.sw_args.proofs.command_line.with_subcommands.Goals as goal
 
 pub loop-row-preserved : goal.loop-row-preserved
 loop-row-preserved c = λ app is.
-    with_one_subcommand app c.args.rows.now c.loop-row.row-index _ _ _ _ c.loop-row-test.true (c.loop-row.invariant app is) c.in_ok-subcommand.ensures
-    c.in_ok-command-2.ensures
+    with_one_subcommand app c.args.rows.now c.loop-row.row-index _ _ c.loop-row-test.true
+    (c.in_ok-command-2.ensures _ _ (c.loop-row.invariant app is) c.subcommand_of.ensures)
 
 pub returns : goal.returns
 returns c = λ app is.

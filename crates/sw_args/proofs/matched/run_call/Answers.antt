@@ -2,10 +2,8 @@ use Rattle.clap.specs.Words.{found_of, rows_of}
 use Rattle.sw_args.proofs.Uncalled.{without_workers, without_limit}
 use Rattle.sw_args.proofs.matched.run_call.Goals as goal
 
-pub returns-in_err-count_of-clause-none : goal.returns-in_err-count_of-clause-none
-returns-in_err-count_of-clause-none c =
-    without_workers (rows_of (found_of c.args.values.now)) c.from_residual-in_err-count_of.result c.in_err-count_of.ensures.none
+pub returns-in_default-count_of-clause-none : goal.returns-in_default-count_of-clause-none
+returns-in_default-count_of-clause-none c = without_workers (rows_of (found_of c.args.values.now)) c.in_default-count_of.ensures.none
 
-pub returns-in_err-count_of-2-clause-none : goal.returns-in_err-count_of-2-clause-none
-returns-in_err-count_of-2-clause-none c =
-    without_limit (rows_of (found_of c.args.values.now)) c.from_residual-in_err-count_of-2.result c.in_err-count_of-2.ensures.none
+pub returns-in_default-count_of-2-clause-none : goal.returns-in_default-count_of-2-clause-none
+returns-in_default-count_of-2-clause-none c = without_limit (rows_of (found_of c.args.values.now)) c.in_default-count_of-2.ensures.none

@@ -11,6 +11,6 @@ add_node-requires-clause-target c = c.in_ok-target.ensures.valid
 
 pub returns-clause-gives : goal.returns-clause-gives
 returns-clause-gives c =
-    node_is c.args.version c.args.index c.args.builder.now (table_view c.args.table.now) c.node_keys.result.now c.in_ok-only_known.field-0 c.in_ok-name.name.now c.in_ok-target.target
-    c.node_keys.ensures c.in_ok-only_known.ensures c.in_ok-name.ensures.gives c.in_ok-target.ensures.gives
+    node_is c.args.version c.args.index c.args.builder.now (table_view c.args.table.now) c.in_ok-only_known.field-0 c.in_ok-name.name.now c.in_ok-target.target
+    c.in_ok-only_known.ensures c.in_ok-name.ensures.gives c.in_ok-target.ensures.gives
     ∙ ap Ok (sym c.in_ok-add_node.ensures.ok)

@@ -8,6 +8,6 @@ add_switch-requires-clause-new_name c = c.in_ok-name.ensures.fresh
 
 pub returns-clause-gives : goal.returns-clause-gives
 returns-clause-gives c =
-    switch_is c.args.version c.args.index c.args.builder.now (table_view c.args.table.now) c.switch_keys.result.now c.in_ok-only_known.field-0 c.in_ok-name.name.now c.in_ok-arbitration.arbitration c.in_ok-routes.routes
-    c.switch_keys.ensures c.in_ok-only_known.ensures c.in_ok-name.ensures.gives c.in_ok-arbitration.ensures c.in_ok-routes.ensures
+    switch_is c.args.version c.args.index c.args.builder.now (table_view c.args.table.now) c.in_ok-only_known.field-0 c.in_ok-name.name.now c.in_ok-arbitration.arbitration c.in_ok-routes.routes
+    c.in_ok-only_known.ensures c.in_ok-name.ensures.gives c.in_ok-arbitration.ensures c.in_ok-routes.ensures
     ∙ ap Ok (sym c.in_ok-add_switch.ensures.ok)

@@ -12,7 +12,7 @@ pub returns-clause-numbers : goal.returns-clause-numbers
 returns-clause-numbers c = λ s state.
     let at : slice_get c.args.ends.now.items c.args.place ≡ Some c.index.result.now = slice_get_read c.args.ends.now.items (length c.args.ends.now.items) c.args.place c.index.result.now refl c.requires.place c.index.ensures in
     let p = c.index.result.now in
-    let one : is_one_of c.args.these.now p.0 ≡ true = search rules in
+    let one : is_one_of c.args.these.now p.0 ≡ true = sym c.is_one_of.ensures ∙ c.if-not-is_one_of.false in
     set_renewed c.args.these.now (network_of c.args.net.now.declared) s c.args.place c.args.ends.now.items p (p.0, c.numbers-numbers.result) at (one_renewed c.args.these.now (network_of c.args.net.now.declared) s p c.numbers-numbers.result one (c.numbers-numbers.ensures s state))
 
 pub returns-clause-names : goal.returns-clause-names
@@ -30,7 +30,7 @@ pub returns-then-eq-clause-numbers : goal.returns-then-eq-clause-numbers
 returns-then-eq-clause-numbers c = λ s state.
     let at : slice_get c.args.ends.now.items c.args.place ≡ Some c.index.result.now = slice_get_read c.args.ends.now.items (length c.args.ends.now.items) c.args.place c.index.result.now refl c.requires.place c.index.ensures in
     let p = c.index.result.now in
-    let one : is_one_of c.args.these.now p.0 ≡ true = search rules in
+    let one : is_one_of c.args.these.now p.0 ≡ true = sym c.is_one_of.ensures ∙ c.if-not-is_one_of.false in
     let same : c.numbers-numbers.result ≡ p.1 = search rules in
     same_renewed c.args.these.now (network_of c.args.net.now.declared) s c.args.place c.args.ends.now.items p at (one_renewed c.args.these.now (network_of c.args.net.now.declared) s p p.1 one (sym same ∙ c.numbers-numbers.ensures s state))
 
@@ -41,7 +41,7 @@ pub returns-then-not-is_one_of-clause-numbers : goal.returns-then-not-is_one_of-
 returns-then-not-is_one_of-clause-numbers c = λ s state.
     let at : slice_get c.args.ends.now.items c.args.place ≡ Some c.index.result.now = slice_get_read c.args.ends.now.items (length c.args.ends.now.items) c.args.place c.index.result.now refl c.requires.place c.index.ensures in
     let p = c.index.result.now in
-    let none : is_one_of c.args.these.now p.0 ≡ false = search rules in
+    let none : is_one_of c.args.these.now p.0 ≡ false = sym c.is_one_of.ensures ∙ c.if-not-is_one_of.true in
     same_renewed c.args.these.now (network_of c.args.net.now.declared) s c.args.place c.args.ends.now.items p at (other_renewed c.args.these.now (network_of c.args.net.now.declared) s p none)
 
 pub returns-then-not-is_one_of-clause-seat : goal.returns-then-not-is_one_of-clause-seat

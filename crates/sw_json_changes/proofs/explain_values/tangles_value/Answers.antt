@@ -1,4 +1,4 @@
-use Rattle.sw_app_explain.proofs.OnChannels.{tangled_within}
+use Rattle.sw_app_changes.proofs.OnChannels.{tangled_within}
 use Rattle.sw_json_changes.proofs.explain_values.tangles_value.Goals as goal
 
 pub tangle_values-requires : goal.tangle_values-requires

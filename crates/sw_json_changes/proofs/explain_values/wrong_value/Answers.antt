@@ -1,4 +1,4 @@
-use Rattle.sw_app_explain.proofs.OnChannels.{way_within}
+use Rattle.sw_app_changes.proofs.OnChannels.{way_within}
 use Rattle.sw_json_changes.proofs.explain_values.wrong_value.Goals as goal
 
 pub place_values-requires : goal.place_values-requires

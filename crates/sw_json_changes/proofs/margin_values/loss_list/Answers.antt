@@ -1,5 +1,6 @@
 use Rattle.std.proofs.Common.{◌<◌, arith, length, map}
 use Rattle.serde_json.specs.View.{view}
+use Rattle.sw_json.proofs.Added.{added}
 use Rattle.sw_json_changes.proofs.LossValues.{losses_more}
 use Rattle.sw_json_changes.proofs.margin_values.loss_list.Goals as goal
 
@@ -7,4 +8,5 @@ pub loop-link-preserved : goal.loop-link-preserved
 loop-link-preserved c =
     let within : c.loop-link.link < length c.args.losses.now = omega arith in
     losses_more c.args.network.now c.loop-link.link c.args.losses.now c.index-losses-link.result c.deref.result.now (map view c.loop-link.values.items)
-    (map view c.add_loss.new.values.items) within c.index-losses-link.is c.deref.ensures.value c.loop-link.invariant c.in_ok-add_loss.ensures
+    (map view c.add_value.new.values.items) within c.index-losses-link.is c.deref.ensures.value c.loop-link.invariant
+    (added c.loss_value.result _ c.loop-link.values.items c.add_value.new.values.items c.loss_value.ensures c.in_ok-add_value.ensures)

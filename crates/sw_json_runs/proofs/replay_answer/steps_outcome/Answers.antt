@@ -2,7 +2,7 @@ use Rattle.std.proofs.Common.{arith}
 use Rattle.serde_json.specs.View.{view}
 use Rattle.sw_app_run.proofs.ReplayReports.{of_each_node}
 use Rattle.sw_json.proofs.PlainAnswers.{flat_of, whole_of}
-use Rattle.sw_replay.specs.Reports.{report_of}
+use Rattle.sw_schedule.specs.Reports.{report_of}
 use Rattle.sw_json_runs.proofs.ReplayPlain.{replay_plain}
 use Rattle.sw_json_runs.specs.ReplayValues.{replay_value}
 use Rattle.sw_json_runs.proofs.replay_answer.steps_outcome.Goals as goal

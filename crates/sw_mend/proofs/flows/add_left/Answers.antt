@@ -13,5 +13,6 @@ returns-then-is_lost c =
 pub returns : goal.returns
 returns c =
     let built : Declaration = c.args.built.now in
-    let more = flow_added c.args.changes.now c.args.number c.args.flow.now c.in_ok-kept.kept built.flows c.is_lost.result c.is_lost.ensures c.if-is_lost.false c.in_ok-kept.ensures in
+    let more = flow_added c.args.changes.now c.args.number c.args.flow.now c.in_ok-kept.kept built.flows c.is_lost.result c.is_unanswered.result c.is_lost.ensures c.if-is_lost.false
+    c.is_unanswered.ensures c.in_ok-kept.ensures in
     IfOk-weaker c.add_flow.result _ _ (λ _ e. e ∙ ap (λ (l : List FlowEntry). record built { flows = l }) more) c.add_flow.ensures.ok

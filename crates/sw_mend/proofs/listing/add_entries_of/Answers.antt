@@ -5,4 +5,4 @@ use Rattle.sw_mend.proofs.listing.add_entries_of.Goals as goal
 
 pub loop-entry-preserved : goal.loop-entry-preserved
 loop-entry-preserved c =
-    grown_by_number (entry_away c.args.switch) _ _ _ _ c.loop-entry.entry c.args.routes.now c.loop-entry-test.true c.loop-entry.invariant (λ x. refl) c.in_ok-push.ensures.items
+    grown_by_number (entry_away c.args.switch) _ _ _ _ c.loop-entry.entry c.args.routes.now c.loop-entry-test.true c.loop-entry.invariant (λ x. refl) c.in_ok-add.ensures

@@ -1,9 +1,10 @@
-use Rattle.std.proofs.Common.{◌∙◌, List, map, subst}
+use Rattle.std.proofs.Common.{List, map, subst}
 use Rattle.sw_mend.specs.Changes.{parts_away, units_away}
 use Rattle.sw_mend.specs.Mends.{AreAdded, Frees}
 use Rattle.sw_mend.specs.Splits.{splits}
 use Rattle.sw_mend.specs.declared.change.Change.{Change}
 use Rattle.sw_mend.specs.declared.change.Trial.TheVariants.{Split, Without}
+use Rattle.sw_mend.proofs.OfKinds.{parts_are, units_are}
 use Rattle.sw_mend.proofs.Told.{all_added}
 use Rattle.sw_mend.proofs.mending.mends.Goals as goal
 
@@ -11,7 +12,7 @@ pub returns : goal.returns
 returns g c =
     let d = c.args.network.now in
     let parts =
-    subst (λ (l : List Change). AreAdded (Frees d) (map Without l) c.new-mends.result.items c.add_mends.new.mends.items) (c.deref.ensures.value ∙ c.in_ok-parts.ensures) c.in_ok-add_mends.ensures in
+    subst (λ (l : List Change). AreAdded (Frees d) (map Without l) c.new-mends.result.items c.add_removals.new.mends.items) (parts_are d) c.in_ok-add_removals.ensures in
     let units =
-    subst (λ (l : List Change). AreAdded (Frees d) (map Without l) c.add_splits.new.mends.items c.add_mends-2.new.mends.items) (c.deref-2.ensures.value ∙ c.in_ok-units.ensures) c.in_ok-add_mends-2.ensures in
+    subst (λ (l : List Change). AreAdded (Frees d) (map Without l) c.add_splits.new.mends.items c.add_removals-2.new.mends.items) (units_are d) c.in_ok-add_removals-2.ensures in
     all_added (Frees d) (map Without (parts_away d)) (map Split (splits d)) (map Without (units_away d)) _ _ _ _ c.new-mends.ensures.items parts c.in_ok-add_splits.ensures units

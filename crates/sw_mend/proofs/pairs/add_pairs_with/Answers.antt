@@ -8,7 +8,7 @@ loop-second-init g c = none_added c.args.network.now c.args.first.now _
 pub loop-second-preserved : goal.loop-second-preserved
 loop-second-preserved g c =
     added_more c.args.network.now c.args.first.now c.args.others.now c.loop-second.second-index c.second-item.result _ _ _ _ c.loop-second-test.true c.second-item.is c.loop-second.invariant
-    c.in_ok-frees.ensures c.in_ok-add_pair.ensures
+    c.in_ok-freed.ensures c.in_ok-add_if.ensures
 
 pub returns : goal.returns
 returns g c =

@@ -1,4 +1,4 @@
-use Rattle.sw_app_explain.proofs.OnChannels.{way_within}
+use Rattle.sw_app_changes.proofs.OnChannels.{way_within}
 use Rattle.sw_verdict_hints.proofs.LastPlace.{place_within}
 use Rattle.sw_verdict_hints.proofs.verdict_hints.misrouted_hint.Goals as goal
 

@@ -1,22 +1,29 @@
-use Rattle.std.proofs.Common.{None, ap, replicate, rules, length, ◌*◌, ◌∙◌, ◌≡◌}
-use Rattle.sw_journal.proofs.Opened.{account_first, kept_first}
-use Rattle.sw_journal.proofs.journal.Journal.new.Goals as goal
+use Rattle.std.proofs.Common.{ap, length, refl, sym, ◌*◌, ◌∙◌}
 use Rattle.sw_config.specs.Entries.{Declaration}
+use Rattle.sw_journal.proofs.Opened.{account_first, kept_first, state_first}
+use Rattle.sw_journal.proofs.journal.Journal.new.Goals as goal
+use Rattle.sw_journal.specs.Record.{new_cells}
+
+pub opened-requires : goal.opened-requires
+opened-requires c = state_first c.in_ok-history.history c.net.result.now c.net.ensures.declared c.in_ok-history.ensures.steps c.net.ensures.state
 
 pub invariant_of-journal : goal.invariant_of-journal
 invariant_of-journal c =
-    let net = c.in_ok-net.net in
-    let valid = c.network.ensures.sound.valid in
-    let links = c.channels-channels.ensures.count ∙ ap (λ (d : Declaration). 2 * length d.links) c.network.ensures.network in
-    let none : c.in_ok-marks.marks.items ≡ replicate c.channels-channels.result None = search rules in (
-      kept_first _ net.declared c.in_ok-history.history _ c.channels-channels.result _ c.opening.new.seat.me valid links c.in_ok-history.ensures.network c.in_ok-history.ensures.steps none c.in_ok-cells.ensures.known,
-      c.in_ok-cells.ensures.seat ∙ c.in_ok-table.ensures.name,
-      c.in_ok-table.ensures.table,
+    let d = c.net.result.now.declared in
+    let made = c.in-Ok.ensures in (
+      kept_first _ d c.in_ok-history.history _ (2 * length d.links) _ _ made.valid refl (sym c.net.ensures.declared) c.in_ok-history.ensures.steps made.marks made.known,
+      made.seat,
+      made.table,
     )
 
-pub returns-clause-journal : goal.returns-clause-journal
-returns-clause-journal c =
-    let own = c.in_ok-net.ensures.new.network in
-    let links = c.channels-channels.ensures.count ∙ ap (λ (d : Declaration). 2 * length d.links) (c.network.ensures.network ∙ own) in
-    let none : c.in_ok-marks.marks.items ≡ replicate c.channels-channels.result None = search rules in
-    account_first _ c.args.network.now c.in_ok-history.history c.args.load.now c.args.limit c.channels-channels.result _ links (c.in_ok-history.ensures.network ∙ own) c.in_ok-history.ensures.load c.in_ok-history.ensures.steps none
+pub returns-in-Ok-clause-journal : goal.returns-in-Ok-clause-journal
+returns-in-Ok-clause-journal c =
+    let h = c.in_ok-history.history in
+    let own = c.in_ok-history.ensures.network ∙ c.in_ok-declared_net.ensures.new.network in
+    let links = ap (λ (d : Declaration). 2 * length d.links) (c.net.ensures.declared ∙ own) in
+    account_first _ c.args.network.now h c.args.load.now c.args.limit _ _ links own c.in_ok-history.ensures.load c.in_ok-history.ensures.steps c.in-Ok.ensures.marks
+
+pub returns-in-Ok-clause-cells : goal.returns-in-Ok-clause-cells
+returns-in-Ok-clause-cells c =
+    let own = c.net.ensures.declared ∙ c.in_ok-history.ensures.network ∙ c.in_ok-declared_net.ensures.new.network in
+    c.in-Ok.ensures.cells ∙ ap (λ (d : Declaration). new_cells d c.in-Ok.field-0.table.shared.table_id) own

@@ -1,0 +1,14 @@
+use Rattle.std.proofs.Common.{string_bytes}
+use Rattle.std.proofs.lemmas.Result.{IfOk-weaker}
+use Rattle.sw_command.specs.Ends.{Says}
+use Rattle.sw_app_changes.specs.ExplainAnswers.{IsNetworkAnswer}
+use Rattle.sw_app_changes.specs.ExplainTexts.{explain_status, explain_text}
+use Rattle.sw_app_changes.proofs.explain_answer.network_answer.Goals as goal
+
+pub returns : goal.returns
+returns g c =
+    let d = c.args.network.now in
+    let all = c.args.all in
+    let e = c.in_ok-explanation.explanation in
+    IfOk-weaker c.told_answer.result (λ a. Says (explain_text d all e) (explain_status e) (string_bytes a.text) a.status) (λ a. IsNetworkAnswer all d (string_bytes a.text) a.status)
+    (λ a says. (e, c.in_ok-explanation.ensures, says)) c.told_answer.ensures

@@ -1,0 +1,52 @@
+//! The text of what is told of a network.
+ghost use Rattle.std.specs.Prelude.{◌≡◌, IfOk, string_bytes};
+ghost use Rattle.sw_search.specs.Explanations.{IsExplanation};
+ghost use Rattle.sw_app_changes.specs.ExplainTexts.{explain_status, explain_text, free_text};
+
+use crate::route_texts::misrouted_text;
+use crate::tangle_texts::tangles_text;
+use std::alloc::{AllocError, Global};
+use sw_command::statuses::{BAD, GOOD};
+use sw_config::Network;
+use sw_search::Explanation;
+
+fn free_text(alloc: Global) -> Result<String, AllocError>
+    ensures { IfOk result (λ s. string_bytes s ≡ free_text) }
+{
+    String::from_str(
+        alloc,
+        "free\nno channels can wait for one another in a circle; swcheck decide writes the certificate\nbuffers, slots and arbiters do not change this\ntaken for granted: nodes take what comes, sources end their packets, links lose and change nothing, only declared packets are sent\n",
+    )
+}
+
+/// The text of what is told of a network; with all flows of a step, or six and how many more there are.
+pub(crate) fn explain_text(
+    alloc: Global,
+    network: &Network,
+    all: bool,
+    explanation: &Explanation,
+) -> Result<String, AllocError>
+    requires { IsExplanation network.now explanation.now }
+    ensures { IfOk result (λ s. string_bytes s ≡ explain_text network.now all explanation.now) }
+{
+    match explanation {
+        Explanation::Misrouted {
+            flow,
+            place,
+            fault,
+            way,
+        } => misrouted_text(alloc, network, *flow, *place, *fault, way),
+        Explanation::Cyclic(tangles) => tangles_text(alloc, network, all, tangles),
+        Explanation::Free => free_text(alloc),
+    }
+}
+
+/// The status of what is told: 0 where the network never locks up.
+pub fn explain_status(explanation: &Explanation) -> u8
+    ensures { result ≡ explain_status explanation.now }
+{
+    match explanation {
+        Explanation::Misrouted { .. } | Explanation::Cyclic(_) => BAD,
+        Explanation::Free => GOOD,
+    }
+}

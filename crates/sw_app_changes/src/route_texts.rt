@@ -1,0 +1,92 @@
+//! The text of a flow that is not well routed.
+ghost use Rattle.std.specs.Prelude.{◌≡◌, ◌<◌, ◌+◌, ◌^◌, ◌++◌, All, IfOk, OnOk, length, string_bytes};
+ghost use Rattle.sw_config.specs.Entries.{wiring_of};
+ghost use Rattle.sw_search.specs.Explanations.{GoesWrong};
+ghost use Rattle.sw_app_changes.specs.ExplainTexts.{fault_words, misrouted_text, place_words, way_line, way_lines};
+
+use crate::words::ending;
+use std::alloc::{AllocError, Global};
+use std::fmt::Write;
+use sw_config::Network;
+use sw_flow::{Place, RouteFault};
+use sw_output::{channel_text, flow_name, route_fault_text};
+
+// The channel of the place, and how many address bytes are deleted there.
+fn place_words(alloc: Global, network: &Network, place: Place) -> Result<String, AllocError>
+    requires { place.channel < length (wiring_of network.now).ends }
+    ensures { IfOk result (λ s. string_bytes s ≡ place_words network.now place) }
+{
+    let deleted = place.deleted;
+    let ending = ending(deleted as usize);
+    let channel = channel_text(alloc, network, place.channel)?;
+    format!(in alloc; "{channel}, with {deleted} address byte{ending} deleted")
+}
+
+// Adds the line of the place that comes behind so many others.
+fn add_way_line(
+    text: &mut String,
+    alloc: Global,
+    network: &Network,
+    flow: u16,
+    before: usize,
+    place: Place,
+) -> Result<(), AllocError>
+    requires within { place.channel < length (wiring_of network.now).ends }
+    requires few { before + 1 < 2 ^ 64 }
+    ensures { OnOk result (string_bytes text.new ≡ string_bytes text.old ++ way_line network.now flow before place) }
+{
+    let number = before + 1;
+    let name = flow_name(network, flow);
+    let words = place_words(alloc, network, place)?;
+    write!(text, "{number}. a packet of {name} goes on {words}\n")
+}
+
+// A line for each place.
+fn way_lines(
+    alloc: Global,
+    network: &Network,
+    flow: u16,
+    places: &[Place],
+) -> Result<String, AllocError>
+    requires { All (λ p. p.channel < length (wiring_of network.now).ends) places.now }
+    ensures { IfOk result (λ s. string_bytes s ≡ way_lines network.now flow places.now) }
+{
+    let mut text = String::new(alloc);
+    for (before, place) in places.iter().enumerate() {
+        add_way_line(&mut text, alloc, network, flow, before, *place)?;
+    }
+    Ok(text)
+}
+
+/// What is wrong where packets go no further.
+pub fn fault_words(fault: RouteFault) -> &'static str
+    ensures { result.now ≡ fault_words fault }
+{
+    match fault {
+        RouteFault::AddressEnds => "a switch is reached with no address byte left",
+        RouteFault::NoRoute => "the switch has no linked port for the next address byte",
+        RouteFault::WrongNode => "a node is reached that is not the flow's 'to'",
+        RouteFault::WrongLeft => {
+            "the flow's 'to' is reached with another number of address bytes than 'left'"
+        }
+    }
+}
+
+/// The flow, the places that its packets go over, and what is wrong at the last of them.
+pub(crate) fn misrouted_text(
+    alloc: Global,
+    network: &Network,
+    flow: u16,
+    place: Place,
+    fault: RouteFault,
+    way: &[Place],
+) -> Result<String, AllocError>
+    requires { GoesWrong network.now flow place fault way.now }
+    ensures { IfOk result (λ s. string_bytes s ≡ misrouted_text network.now flow fault way.now) }
+{
+    let name = flow_name(network, flow);
+    let fault_name = route_fault_text(fault);
+    let words = fault_words(fault);
+    let lines = way_lines(alloc, network, flow, way)?;
+    format!(in alloc; "misrouted {name}\n{lines}{fault_name}: {words}\n")
+}

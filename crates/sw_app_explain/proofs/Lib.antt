@@ -1,3 +1,0 @@
-pub mod OnChannels
-mod Steps
-mod Texts

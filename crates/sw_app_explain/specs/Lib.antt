@@ -1,2 +1,0 @@
-pub mod ExplainTexts
-pub mod ExplainAnswers

@@ -1,0 +1,169 @@
+//! The tree of a file made one of version 2.
+ghost use Rattle.std.specs.Prelude.{◌≡◌, map, pos, IfOk, Ok, OnOk};
+ghost use Rattle.toml.specs.Data.{integer};
+ghost use Rattle.toml.specs.View.{view, table_view};
+ghost use Rattle.sw_toml_table.specs.Gives.{Gives, each};
+ghost use Rattle.sw_toml_table.specs.declared.keys.Key.TheVariants.{Route, Version};
+ghost use Rattle.sw_file.specs.Tree.{array_of, with_key, with_tables, row_table, merged_switch, new_switches, migrated};
+ghost use Rattle.sw_file.specs.Rows.{rows};
+ghost use Rattle.sw_file.specs.Seen.{entry_view, row_view};
+
+use crate::rows::{RouteEntry, Row, entries_of, rows};
+use std::alloc::{AllocError, Global};
+use sw_toml_table::{FileFault, Key, Section, TableEntry};
+use toml::{Table, Value};
+
+fn put(alloc: Global, table: &mut Table, key: Key, value: Value) -> Result<(), AllocError>
+    ensures { OnOk result (table_view table.new ≡ with_key key (view value) (table_view table.old)) }
+{
+    let name = String::from_str(alloc, key.text())?;
+    table.insert(name, value)?;
+    Ok(())
+}
+
+fn values_of(alloc: Global, tables: Vec<Table>) -> Result<Vec<Value>, AllocError>
+    ensures { IfOk result (λ v. v.items ≡ map Value.Table tables.items) }
+{
+    let mut values = Vec::with_capacity(alloc, tables.len())?;
+    for table in tables {
+        values.push(Value::Table(table))?;
+    }
+    Ok(values)
+}
+
+/// The tables as the value of a key.
+fn array_of(alloc: Global, tables: Vec<Table>) -> Result<Value, AllocError>
+    ensures { IfOk result (λ v. view v ≡ array_of (map table_view tables.items)) }
+{
+    Ok(Value::Array(values_of(alloc, tables)?))
+}
+
+fn put_tables(
+    alloc: Global,
+    table: &mut Table,
+    key: Key,
+    tables: Vec<Table>,
+) -> Result<(), AllocError>
+    ensures { OnOk result (table_view table.new ≡ with_tables key (map table_view tables.items) (table_view table.old)) }
+{
+    if table.contains_key(key.text()) {
+        let value = array_of(alloc, tables)?;
+        put(alloc, table, key, value)?;
+    }
+    Ok(())
+}
+
+fn copied(table: &Table) -> Result<Table, AllocError>
+    ensures { IfOk result (λ t. table_view t ≡ table_view table.now) }
+{
+    table.clone()
+}
+
+fn row_table(alloc: Global, row: &Row) -> Result<Table, AllocError>
+    ensures { IfOk result (λ t. table_view t ≡ row_table (row_view row.now)) }
+{
+    let mut table = copied(row.first.table)?;
+    if row.first.address != row.last {
+        put(
+            alloc,
+            &mut table,
+            Key::Last,
+            Value::Integer(row.last as i64),
+        )?;
+    }
+    Ok(table)
+}
+
+fn row_tables(alloc: Global, rows: &[Row]) -> Result<Vec<Table>, AllocError>
+    ensures { IfOk result (λ v. map table_view v.items ≡ map row_table (map row_view rows.now)) }
+{
+    let mut tables = Vec::with_capacity(alloc, rows.len())?;
+    for row in rows {
+        let table = row_table(alloc, row)?;
+        tables.push(table)?;
+    }
+    Ok(tables)
+}
+
+/// A copy of the switch's table, with these tables as its routing table, if it has one.
+fn with_routes(alloc: Global, table: &Table, routes: Vec<Table>) -> Result<Table, AllocError>
+    ensures { IfOk result (λ t. table_view t ≡ with_tables Route (map table_view routes.items) (table_view table.now)) }
+{
+    let mut merged = copied(table)?;
+    match put_tables(alloc, &mut merged, Key::Route, routes) {
+        Ok(()) => Ok(merged),
+        Err(refused) => {
+            drop(merged);
+            Err(refused)
+        }
+    }
+}
+
+/// A copy of the switch's table, with an entry for each row of these.
+fn merged_table<'a>(
+    alloc: Global,
+    table: &Table,
+    entries: &'a [RouteEntry<'a>],
+) -> Result<Table, FileFault>
+    ensures { Gives (λ t. table_view t) result (Ok (with_tables Route (map row_table (rows (map entry_view entries.now))) (table_view table.now))) }
+{
+    let rows = rows(alloc, entries)?;
+    let routes = row_tables(alloc, &rows)?;
+    let merged = with_routes(alloc, table, routes)?;
+    Ok(merged)
+}
+
+#[tactic(auto, unfolding(crate::specs::Tree::merged_switch))]
+fn merged_switch(alloc: Global, table: &Table) -> Result<Table, FileFault>
+    ensures { Gives (λ t. table_view t) result (merged_switch (table_view table.now)) }
+{
+    let switch = TableEntry {
+        section: Section::Document,
+        table,
+    };
+    let tables = switch.tables_or_none(alloc, Key::Route)?;
+    let entries = entries_of(alloc, &tables)?;
+    merged_table(alloc, table, &entries)
+}
+
+fn merged_switches(alloc: Global, tables: &[&Table]) -> Result<Vec<Table>, FileFault>
+    ensures { Gives (λ v. map table_view v.items) result (each merged_switch (map (λ t. table_view t.now) tables.now)) }
+{
+    let mut switches = Vec::new(alloc);
+    for table in tables {
+        let switch = merged_switch(alloc, table)?;
+        switches.push(switch)?;
+    }
+    Ok(switches)
+}
+
+/// The tables of the document's switches, their routing tables merged.
+#[tactic(auto, unfolding(crate::specs::Tree::new_switches))]
+fn new_switches(alloc: Global, table: &Table) -> Result<Vec<Table>, FileFault>
+    ensures { Gives (λ v. map table_view v.items) result (new_switches (table_view table.now)) }
+{
+    let document = TableEntry {
+        section: Section::Document,
+        table,
+    };
+    let tables = document.tables_or_none(alloc, Key::Switch)?;
+    merged_switches(alloc, &tables)
+}
+
+/// Says in the document's table that it is of version 2.
+fn put_version(alloc: Global, document: &mut Table) -> Result<(), AllocError>
+    ensures { OnOk result (table_view document.new ≡ with_key Version (integer (pos 2)) (table_view document.old)) }
+{
+    put(alloc, document, Key::Version, Value::Integer(2))
+}
+
+/// Makes the document's table one of version 2.
+#[tactic(auto, unfolding(crate::specs::Tree::migrated))]
+pub(crate) fn migrate_table(alloc: Global, document: &mut Table) -> Result<(), FileFault>
+    ensures { Gives (λ _. table_view document.new) result (migrated (table_view document.old)) }
+{
+    let switches = new_switches(alloc, document)?;
+    put_version(alloc, document)?;
+    put_tables(alloc, document, Key::Switch, switches)?;
+    Ok(())
+}

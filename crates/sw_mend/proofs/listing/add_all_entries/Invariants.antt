@@ -1,6 +1,0 @@
-use Rattle.std.proofs.Common.{◌≡◌, ◌++◌, take}
-use Rattle.sw_mend.specs.Changes.{by_number, entries_away}
-use Rattle.sw_mend.proofs.listing.add_all_entries.Given as goal
-
-abbrev pub invariant-loop-switch : goal.invariant-loop-switch
-invariant-loop-switch l = l.changes.items ≡ l.initial.changes.items ++ by_number entries_away 0 (take l.switch l.network.switches)

@@ -1,6 +1,0 @@
-use Rattle.std.proofs.Common.{◌≡◌, ◌++◌, take}
-use Rattle.sw_mend.specs.Changes.{by_number, flow_away}
-use Rattle.sw_mend.proofs.listing.add_flows.Given as goal
-
-abbrev pub invariant-loop-flow : goal.invariant-loop-flow
-invariant-loop-flow l = l.changes.items ≡ l.initial.changes.items ++ by_number flow_away 0 (take l.flow l.network.flows)

@@ -1,5 +1,0 @@
-pub mod Rows
-pub mod Tree
-pub mod Migration
-pub mod Laws
-pub mod Seen

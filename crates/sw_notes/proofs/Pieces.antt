@@ -1,0 +1,13 @@
+-- Pieces that bring what is sought.
+use Rattle.std.proofs.Common.{◌≡◌, ◌<◌, ◌≤◌, ℕ, true, false, List, Option, drop, length, take}
+use Rattle.sw_toml_table.specs.declared.keys.Section.{Section}
+use Rattle.sw_notes.specs.Places.{Holds, IsPiece, IsPlace}
+
+as_piece : (p q : List ℕ) → p ≡ q → IsPiece p → IsPiece q
+as_piece p q is piece = rw is at piece
+
+-- a piece is a place of what the text has behind it and not before it
+pub piece_place : (text piece : List ℕ) (s : Section) (key : Option (List ℕ)) (from to : ℕ) → piece ≡ drop from (take to text) → from < to
+    → to ≤ length text → Holds false s key (take from text) → Holds true s key (take to text) → IsPiece piece → IsPlace text s key from
+piece_place text piece s key from to is order within before behind piece_is =
+    (to, order, within, before, behind, as_piece piece (drop from (take to text)) is piece_is)

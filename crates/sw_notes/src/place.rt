@@ -1,0 +1,142 @@
+//! Where a table or a key stands.
+ghost use Rattle.std.specs.Prelude.{◌≡◌, ◌++◌, ◌<◌, ◌≤◌, All, IfOk, IfSome, IsTrue, Ok, drop, length, option_map, take};
+ghost use Rattle.toml.specs.View.{table_view};
+ghost use Rattle.sw_notes.specs.Places.{Holds, IsClosing, IsPiece, IsPlace, ReadsAs, has};
+
+use crate::lookup::{table_of, value_of};
+use crate::proposal::Proposal;
+use crate::sought::Sought;
+use crate::unread::text_fault;
+use crate::walk::proposed;
+use std::alloc::{AllocError, Global};
+use sw_toml_table::read_document;
+use toml::Table;
+use toml_parser::ParseError;
+
+fn has(document: &Table, sought: Sought<'_>) -> bool
+    ensures { result ≡ has sought.entry.section (option_map (λ s. s.now) sought.entry.key) (table_view document.now) }
+{
+    match sought.key {
+        None => table_of(document, sought.section).is_some(),
+        Some(key) => value_of(document, sought.section, key).is_some(),
+    }
+}
+
+fn are_closing(brackets: &[u8]) -> bool
+    ensures { IsTrue result → All IsClosing brackets.now }
+{
+    brackets.iter().all(|byte| *byte == b']' || *byte == b'}')
+}
+
+// A beginning of a text, closed by brackets.
+fn closed(alloc: Global, beginning: &[u8], brackets: &[u8]) -> Result<Vec<u8>, AllocError>
+    ensures { IfOk result (λ v. v.items ≡ beginning.now ++ brackets.now) }
+{
+    [beginning, brackets].concat(alloc)
+}
+
+// The beginning of a text up to an offset.
+fn beginning(text: &[u8], offset: usize) -> &[u8]
+    requires { offset ≤ length text.now }
+    ensures { result.now ≡ take offset text.now }
+{
+    &text[..offset]
+}
+
+// What stands in a text from one offset to the other.
+fn piece(text: &[u8], from: usize, to: usize) -> &[u8]
+    requires order { from ≤ to }
+    requires within { to ≤ length text.now }
+    ensures { result.now ≡ drop from (take to text.now) }
+{
+    &beginning(text, to)[from..]
+}
+
+// Whether the text up to an offset, closed by brackets, is a document that has what is sought, or has not.
+fn holds(
+    alloc: Global,
+    text: &[u8],
+    offset: usize,
+    brackets: &[u8],
+    sought: Sought<'_>,
+    held: bool,
+) -> Result<bool, AllocError>
+    requires { offset ≤ length text.now }
+    ensures { IfOk result (λ b. IsTrue b → Holds held sought.entry.section (option_map (λ s. s.now) sought.entry.key) (take offset text.now)) }
+{
+    if !are_closing(brackets) {
+        return Ok(false);
+    }
+    let closed = closed(alloc, beginning(text, offset), brackets)?;
+    match read_document(alloc, &closed) {
+        Ok(document) => Ok(has(&document, sought) == held),
+        Err(fault) => {
+            text_fault(fault)?;
+            Ok(false)
+        }
+    }
+}
+
+// Whether the bytes are an opening brace or statements.
+fn is_piece(alloc: Global, bytes: &[u8]) -> Result<bool, AllocError>
+    ensures { IfOk result (λ b. IsTrue b → IsPiece bytes.now) }
+{
+    if bytes == b"{".as_slice() {
+        return Ok(true);
+    }
+    match read_document(alloc, bytes) {
+        Ok(_) => Ok(true),
+        Err(fault) => {
+            text_fault(fault)?;
+            Ok(false)
+        }
+    }
+}
+
+// Where the piece that was proposed begins, if it brings what is sought.
+fn place_by(
+    alloc: Global,
+    text: &[u8],
+    sought: Sought<'_>,
+    proposal: &Proposal,
+) -> Result<Option<usize>, AllocError>
+    ensures { IfOk result (λ o. IfSome o (IsPlace text.now sought.entry.section (option_map (λ s. s.now) sought.entry.key))) }
+{
+    let from = proposal.from;
+    let to = proposal.to;
+    if from >= to {
+        return Ok(None);
+    }
+    if to > text.len() {
+        return Ok(None);
+    }
+    if !holds(alloc, text, from, proposal.before(), sought, false)? {
+        return Ok(None);
+    }
+    if !holds(alloc, text, to, &proposal.behind, sought, true)? {
+        return Ok(None);
+    }
+    if !is_piece(alloc, piece(text, from, to))? {
+        return Ok(None);
+    }
+    Ok(Some(from))
+}
+
+/// Where what is sought begins in the text of a document, if that is found.
+///
+/// # Errors
+///
+/// There is no memory for the documents that parts of the text are.
+pub fn place_of(alloc: Global, text: &[u8], sought: Sought<'_>) -> Result<Option<usize>, AllocError>
+    ensures place { IfOk result (λ o. IfSome o (IsPlace text.now sought.entry.section (option_map (λ s. s.now) sought.entry.key))) }
+    ensures within { IfOk result (λ o. IfSome o (λ at. at ≤ length text.now)) }
+{
+    let Ok(words) = std::str::from_utf8(text) else {
+        return Ok(None);
+    };
+    match proposed(alloc, words, sought) {
+        Ok(Some(proposal)) => place_by(alloc, text, sought, &proposal),
+        Ok(None) | Err(ParseError::At(_, _, _)) => Ok(None),
+        Err(ParseError::OutOfMemory) => Err(AllocError),
+    }
+}

@@ -1,3 +1,0 @@
-pub mod LineColumn
-pub mod Lookup
-pub mod Places

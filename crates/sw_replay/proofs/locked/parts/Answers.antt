@@ -1,6 +1,0 @@
-use Rattle.std.proofs.Common.{◌∙◌}
-use Rattle.sw_replay.proofs.PartLists.{parts_if}
-use Rattle.sw_replay.proofs.locked.parts.Goals as goal
-
-pub returns : goal.returns
-returns g c = parts_if c.args.net.now _ _ c.parts_of.result c.network.ensures.network (c.deref.ensures.value ∙ c.in_ok-cells.ensures.cells) c.parts_of.ensures

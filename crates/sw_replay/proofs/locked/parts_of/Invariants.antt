@@ -1,6 +1,0 @@
-use Rattle.std.proofs.Common.{take}
-use Rattle.sw_replay.proofs.locked.parts_of.Given as goal
-use Rattle.sw_replay.specs.Locked.{ArePartsAt}
-
-abbrev pub invariant-loop-cell : goal.invariant-loop-cell
-invariant-loop-cell g l = ArePartsAt l.net (take l.cell-index l.cells) l.all.items

@@ -1,5 +1,0 @@
-use Rattle.sw_replay.proofs.Outputs.{AreFirst}
-use Rattle.sw_replay.proofs.report.outputs.Given as goal
-
-abbrev pub invariant-loop-n : goal.invariant-loop-n
-invariant-loop-n g l = AreFirst l.net l.n l.all.items

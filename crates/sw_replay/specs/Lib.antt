@@ -1,4 +1,0 @@
-pub mod Reports
-pub mod Replays
-pub mod Nets
-pub mod Locked

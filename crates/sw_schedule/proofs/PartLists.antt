@@ -1,0 +1,45 @@
+-- The cells of a network, and what each has, one after another.
+use Rattle.std.proofs.Common.{◌≡◌, ◌∙◌, ℕ, ◌+◌, ◌<◌, ◌≤◌, ◌++◌, ◌∷◌, List, Result, [], ap, append_assoc, arith, get_or, length, map, subst, sym, take}
+use Rattle.std.proofs.lemmas.List.FromFn.{map-range_with_len_more}
+use Rattle.std.proofs.lemmas.List.{take_all, take_more}
+use Rattle.std.specs.Global.{Vec}
+use Rattle.std.specs.List.{AllZip, range_with_len}
+use Rattle.std.specs.Prelude.{IfOk}
+use Rattle.sw_cell.specs.declared.cell.CellId.{CellId}
+use Rattle.sw_config.specs.Entries.{Declaration}
+use Rattle.sw_net.specs.Net.{NetView}
+use Rattle.sw_net.specs.declared.part.Part.{Part}
+use Rattle.sw_schedule.specs.Locked.{ArePartsAt, ArePartsOfNet, cells_of}
+
+-- one number more
+pub one_more : {X : Type 0} (f : ℕ → X) (all more : List X) (n : ℕ) → all ≡ map f (range_with_len 0 n) → more ≡ all ++ f n ∷ [] → more ≡ map f (range_with_len 0 (n + 1))
+one_more f all more n so_far is = is ∙ ap (λ l. l ++ f n ∷ []) so_far ∙ sym (map-range_with_len_more f 0 n n (omega arith))
+
+-- the same behind others
+pub one_more_behind : {X : Type 0} (f : ℕ → X) (others all more : List X) (n : ℕ) → all ≡ others ++ map f (range_with_len 0 n) → more ≡ all ++ f n ∷ []
+    → more ≡ others ++ map f (range_with_len 0 (n + 1))
+one_more_behind f others all more n so_far is =
+    is ∙ ap (λ l. l ++ f n ∷ []) so_far ∙ append_assoc others (map f (range_with_len 0 n)) (f n ∷ [])
+    ∙ ap (λ l. others ++ l) (sym (map-range_with_len_more f 0 n n (omega arith)))
+
+AllZip_push : {A B : Type 0} (Q : A → B → Type 0) (xs : List A) (ys : List B) (x : A) (y : B) → AllZip Q xs ys → Q x y → AllZip Q (xs ++ x ∷ []) (ys ++ y ∷ [])
+AllZip_push Q [] [] x y all one = (one, tt)
+AllZip_push Q [] (b ∷ ys) x y all one = absurd all
+AllZip_push Q (a ∷ xs) [] x y all one = absurd all
+AllZip_push Q (a ∷ xs) (b ∷ ys) x y all one = (all.0, AllZip_push Q xs ys x y all.1 one)
+
+-- what each of the first has, and the next
+pub next_part : {A B : Type 0} (Q : A → B → Type 0) (xs : List A) (i : ℕ) (d : A) (ys more : List B) (y : B) → i < length xs → more ≡ ys ++ y ∷ []
+    → AllZip Q (take i xs) ys → Q (get_or xs i d) y → AllZip Q (take (i + 1) xs) more
+next_part {A} {B} Q xs i d ys more y lt is all one =
+    subst (λ (l : List A). AllZip Q l more) (sym (take_more xs i d lt))
+    (subst (λ (l : List B). AllZip Q (take i xs ++ get_or xs i d ∷ []) l) (sym is) (AllZip_push Q (take i xs) ys (get_or xs i d) y all one))
+
+-- what all of them have
+pub all_parts : {A B : Type 0} (Q : A → B → Type 0) (xs : List A) (i : ℕ) (ys : List B) → length xs ≤ i → AllZip Q (take i xs) ys → AllZip Q xs ys
+all_parts {A} {B} Q xs i ys ended all = subst (λ (l : List A). AllZip Q l ys) (take_all i xs ended) all
+
+-- what the cells of the net's network have
+pub parts_if : {R A E : Type 0} (v : NetView R A) (d : Declaration) (cells : List CellId) (r : Result (Vec Part) E) → d ≡ v.declared → cells ≡ cells_of d
+    → IfOk r (λ (all : Vec Part). ArePartsAt v cells all.items) → IfOk r (λ (all : Vec Part). ArePartsOfNet v all.items)
+parts_if v d cells r same is told = subst (λ (l : List CellId). IfOk r (λ (all : Vec Part). ArePartsAt v l all.items)) (is ∙ ap cells_of same) told

@@ -1,0 +1,123 @@
+//! Where a replay ends in a lock-up: what each cell has of the state.
+ghost use Rattle.std.specs.Prelude.{◌≡◌, All, IfOk, option_map};
+ghost use Rattle.sw_cell.specs.Places.{IsIn};
+ghost use Rattle.sw_net.specs.New.{IsNewNet};
+ghost use Rattle.sw_schedule.specs.Locked.{ArePartsAt, ArePartsOfNet, TellsLocked, TellsLockedAt, TellsLockedParts, cells_of};
+
+use crate::made_steps::make_all;
+use crate::replay_report::is_locked_up;
+use crate::replayed::ReplayEnd;
+use crate::schedule::Schedule;
+use std::alloc::{AllocError, Global};
+use sw_arb::{Arbiter, Policy};
+use sw_cell::CellId;
+use sw_config::Network;
+use sw_net::{Net, Part, SwitchRoutes, declared_net};
+use sw_route::Routing;
+
+/// The cells of the network: the nodes by number, and then the switches by number.
+///
+/// # Errors
+///
+/// There is no memory for them.
+pub fn cells(alloc: Global, network: &Network) -> Result<Vec<CellId>, AllocError>
+    ensures cells { IfOk result (λ all. all.items ≡ cells_of network.now) }
+    ensures inside { IfOk result (λ all. All (IsIn network.now) all.items) }
+{
+    let mut all = Vec::new(alloc);
+    for n in 0..network.nodes() {
+        all.push(CellId::Node(n))?;
+    }
+    for w in 0..network.switches() {
+        all.push(CellId::Switch(w))?;
+    }
+    Ok(all)
+}
+
+/// What each of these cells, which are the network's, has.
+fn parts_of<R: Routing, A: Arbiter>(
+    alloc: Global,
+    net: &Net<'_, R, A>,
+    cells: &[CellId],
+) -> Result<Vec<Part>, AllocError>
+    requires { All (IsIn net.now.declared) cells.now }
+    ensures { IfOk result (λ all. ArePartsAt net.now cells.now all.items) }
+{
+    let mut all = Vec::new(alloc);
+    for cell in cells {
+        all.push(net.part(alloc, *cell)?)?;
+    }
+    Ok(all)
+}
+
+/// What each of its cells has.
+fn parts<R: Routing, A: Arbiter>(
+    alloc: Global,
+    net: &Net<'_, R, A>,
+) -> Result<Vec<Part>, AllocError>
+    ensures { IfOk result (λ all. ArePartsOfNet net.now all.items) }
+{
+    let cells = cells(alloc, net.network())?;
+    parts_of(alloc, net, &cells)
+}
+
+/// What each cell has, if the network is locked up.
+fn locked_parts<R: Routing, A: Arbiter>(
+    alloc: Global,
+    net: &Net<'_, R, A>,
+) -> Result<Option<Vec<Part>>, AllocError>
+    ensures { IfOk result (λ o. TellsLockedParts net.now (option_map (λ all. all.items) o)) }
+{
+    if is_locked_up(net, net.undelivered()) {
+        Ok(Some(parts(alloc, net)?))
+    } else {
+        Ok(None)
+    }
+}
+
+/// The same where all steps were made, and none where one was refused.
+fn parts_at<R: Routing, A: Arbiter>(
+    alloc: Global,
+    net: &Net<'_, R, A>,
+    outcome: ReplayEnd,
+) -> Result<Option<Vec<Part>>, AllocError>
+    ensures { IfOk result (λ o. TellsLockedAt net.now outcome (option_map (λ all. all.items) o)) }
+{
+    match outcome {
+        ReplayEnd::Made(_) => locked_parts(alloc, net),
+        ReplayEnd::Refused(_, _) => Ok(None),
+    }
+}
+
+/// What each cell has where all steps are made on a network that is still empty, if it is locked up then.
+fn parts_after(
+    alloc: Global,
+    net: &mut Net<'_, SwitchRoutes<'_>, Policy>,
+    schedule: &Schedule,
+) -> Result<Option<Vec<Part>>, AllocError>
+    requires { IsNewNet net.old.declared net.old }
+    ensures { IfOk result (λ o. TellsLocked net.old.declared schedule.now (option_map (λ all. all.items) o)) }
+{
+    // Tells that there are at most as many steps as a schedule may have.
+    let _total = schedule.total();
+    let outcome = make_all(alloc, net, schedule.entries())?;
+    parts_at(alloc, net, outcome)
+}
+
+/// Makes the steps of the schedule one after another, from the empty network on. Where all are
+/// made and the network is locked up then, this is what each cell has of the state, the nodes by
+/// number and then the switches by number; else none.
+///
+/// # Errors
+///
+/// There is no memory for the network, for what a step stores or for what is told.
+pub fn locked_up_parts(
+    alloc: Global,
+    network: &Network,
+    schedule: &Schedule,
+) -> Result<Option<Vec<Part>>, AllocError>
+    ensures { IfOk result (λ o. TellsLocked network.now schedule.now (option_map (λ all. all.items) o)) }
+{
+    let mut net = declared_net(alloc, network)?;
+    parts_after(alloc, &mut net, schedule)
+}

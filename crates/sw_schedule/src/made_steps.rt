@@ -1,0 +1,87 @@
+//! Steps that are made one after another, up to the first that is refused.
+ghost use Rattle.std.specs.Prelude.{◌≡◌, ◌≤◌, IfOk, length, replicate};
+ghost use Rattle.sw_schedule.specs.Nets.{IsWithin, NetEnds, NetMakesOr};
+ghost use Rattle.sw_schedule.specs.Schedule.{steps_of};
+ghost use Rattle.sw_model.specs.Steps.{machine_step};
+
+use crate::replayed::{ReplayEnd, StepRefusal};
+use crate::schedule_entry::ScheduleEntry;
+use std::alloc::{AllocError, Global};
+use sw_arb::Arbiter;
+use sw_cell::NetFault;
+use sw_model::Step;
+use sw_net::Net;
+use sw_route::Routing;
+
+/// Makes the step, or tells why it is refused.
+fn make<R: Routing, A: Arbiter>(
+    alloc: Global,
+    net: &mut Net<'_, R, A>,
+    step: &Step,
+) -> Result<Option<StepRefusal>, AllocError>
+    ensures network { net.new.declared ≡ net.old.declared }
+    ensures made { IfOk result (λ r. NetMakesOr net.old (machine_step step.now) r net.new) }
+{
+    match net.step(alloc, step) {
+        Ok(()) => Ok(None),
+        Err(NetFault::NotEnabled) => Ok(Some(StepRefusal::NotEnabled)),
+        Err(NetFault::NotInFlow) => Ok(Some(StepRefusal::NotInFlow)),
+        Err(NetFault::Memory) => Err(AllocError),
+    }
+}
+
+/// Makes the step so many times, up to where it is refused.
+fn make_repeated<R: Routing, A: Arbiter>(
+    alloc: Global,
+    net: &mut Net<'_, R, A>,
+    step: &Step,
+    count: u32,
+) -> Result<ReplayEnd, AllocError>
+    ensures network { net.new.declared ≡ net.old.declared }
+    ensures ends { IfOk result (λ o. NetEnds net.old (replicate count (machine_step step.now)) o net.new) }
+    ensures within { IfOk result (IsWithin count) }
+{
+    for made in 0..count {
+        match make(alloc, net, step)? {
+            None => {}
+            Some(refusal) => return Ok(ReplayEnd::Refused(made + 1, refusal)),
+        }
+    }
+    Ok(ReplayEnd::Made(count))
+}
+
+/// Makes the steps of an entry, up to the first that is refused.
+fn make_entry<R: Routing, A: Arbiter>(
+    alloc: Global,
+    net: &mut Net<'_, R, A>,
+    entry: &ScheduleEntry,
+) -> Result<ReplayEnd, AllocError>
+    ensures network { net.new.declared ≡ net.old.declared }
+    ensures ends { IfOk result (λ o. NetEnds net.old (replicate entry.now.count entry.now.step) o net.new) }
+    ensures within { IfOk result (IsWithin entry.now.count) }
+{
+    let step = entry.step(alloc)?;
+    make_repeated(alloc, net, &step, entry.count())
+}
+
+/// Makes the steps of entries, up to the first that is refused.
+pub(crate) fn make_all<R: Routing, A: Arbiter>(
+    alloc: Global,
+    net: &mut Net<'_, R, A>,
+    entries: &[ScheduleEntry],
+) -> Result<ReplayEnd, AllocError>
+    requires { length (steps_of entries.now) ≤ 1000000 }
+    ensures network { net.new.declared ≡ net.old.declared }
+    ensures ends { IfOk result (λ o. NetEnds net.old (steps_of entries.now) o net.new) }
+{
+    let mut before: u32 = 0;
+    for entry in entries {
+        match make_entry(alloc, net, entry)? {
+            ReplayEnd::Made(count) => before += count,
+            ReplayEnd::Refused(number, refusal) => {
+                return Ok(ReplayEnd::Refused(before + number, refusal));
+            }
+        }
+    }
+    Ok(ReplayEnd::Made(before))
+}

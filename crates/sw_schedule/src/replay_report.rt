@@ -1,0 +1,53 @@
+//! What is told of the state in which a replay ends.
+ghost use Rattle.std.specs.Prelude.{◌≡◌, ◌↔◌, IfOk, IsTrue, map};
+ghost use Rattle.sw_net.specs.Delivery.{IsUndelivered};
+ghost use Rattle.sw_schedule.specs.Nets.{AreOutputsOfNet, IsTrueOfNet, TellsLockedUp};
+ghost use Rattle.sw_schedule.specs.Reports.{report_of};
+
+use crate::replayed::{ReplayEnd, Replayed};
+use std::alloc::{AllocError, Global};
+use sw_arb::Arbiter;
+use sw_char::Packet;
+use sw_net::Net;
+use sw_route::Routing;
+
+/// The packets that came out at each node.
+fn outputs<R: Routing, A: Arbiter>(
+    alloc: Global,
+    net: &Net<'_, R, A>,
+) -> Result<Vec<Vec<Packet>>, AllocError>
+    ensures { IfOk result (λ all. AreOutputsOfNet net.now (map (λ packets. packets.items) all.items)) }
+{
+    let mut all = Vec::new(alloc);
+    for n in 0..net.network().nodes() {
+        all.push(net.came_out(alloc, n)?)?;
+    }
+    Ok(all)
+}
+
+/// Whether the network is locked up, where so many characters are undelivered.
+pub(crate) fn is_locked_up<R: Routing, A: Arbiter>(net: &Net<'_, R, A>, remaining: u64) -> bool
+    requires { IsUndelivered net.now remaining }
+    ensures { TellsLockedUp net.now result }
+{
+    net.quiet() && remaining > 0
+}
+
+/// What is told of the network's state.
+pub(crate) fn report<R: Routing, A: Arbiter>(
+    alloc: Global,
+    net: &Net<'_, R, A>,
+    outcome: ReplayEnd,
+) -> Result<Replayed, AllocError>
+    ensures outcome { IfOk result (λ r. r.outcome ≡ outcome) }
+    ensures report { IfOk result (λ r. IsTrueOfNet net.now (report_of r)) }
+{
+    let undelivered = net.undelivered();
+    let came_out = outputs(alloc, net)?;
+    Ok(Replayed {
+        outcome,
+        undelivered,
+        stuck: is_locked_up(net, undelivered),
+        came_out,
+    })
+}

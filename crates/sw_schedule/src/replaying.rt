@@ -1,0 +1,42 @@
+//! The replay of a schedule.
+ghost use Rattle.std.specs.Prelude.{IfOk};
+ghost use Rattle.sw_net.specs.New.{IsNewNet};
+ghost use Rattle.sw_schedule.specs.Replays.{IsReplayed};
+ghost use Rattle.sw_schedule.specs.Reports.{report_of};
+
+use crate::made_steps::make_all;
+use crate::replay_report::report;
+use crate::replayed::Replayed;
+use crate::schedule::Schedule;
+use std::alloc::{AllocError, Global};
+use sw_arb::Policy;
+use sw_config::Network;
+use sw_net::{Net, SwitchRoutes, declared_net};
+
+/// The replay on a network that is still empty.
+fn replay_on(
+    alloc: Global,
+    net: &mut Net<'_, SwitchRoutes<'_>, Policy>,
+    schedule: &Schedule,
+) -> Result<Replayed, AllocError>
+    requires { IsNewNet net.old.declared net.old }
+    ensures { IfOk result (λ r. IsReplayed net.old.declared schedule.now (report_of r)) }
+{
+    // Tells that there are at most as many steps as a schedule may have.
+    let _total = schedule.total();
+    let outcome = make_all(alloc, net, schedule.entries())?;
+    report(alloc, net, outcome)
+}
+
+/// Makes the steps of the schedule one after another, from the empty network on, up to the first
+/// that is refused, and tells what holds then.
+///
+/// # Errors
+///
+/// There is no memory for the network, for what a step stores or for what is told.
+pub fn replay(alloc: Global, network: &Network, schedule: &Schedule) -> Result<Replayed, AllocError>
+    ensures { IfOk result (λ r. IsReplayed network.now schedule.now (report_of r)) }
+{
+    let mut net = declared_net(alloc, network)?;
+    replay_on(alloc, &mut net, schedule)
+}
