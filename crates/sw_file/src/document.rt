@@ -187,17 +187,6 @@ fn with_flows(alloc: Global, document: &TableEntry, network: Network) -> Result<
     }
 }
 
-#[tactic(auto, unfolding(crate::specs::Network::network_of))]
-fn network_of(alloc: Global, document: &TableEntry) -> Result<Network, FileFault>
-    requires { document.now.section ≡ Section.Document }
-    ensures { Gives (λ n. n) result (network_of (table_view document.now.table.now)) }
-{
-    let version = version_of(alloc, document)?;
-    let builder = parts(alloc, version, document)?;
-    let network = wired(alloc, builder)?;
-    with_flows(alloc, document, network)
-}
-
 /// The version of the file whose document has this table.
 ///
 /// # Errors
@@ -218,6 +207,7 @@ pub fn declared_version(alloc: Global, table: &Table) -> Result<Version, FileFau
 /// # Errors
 ///
 /// `Text`: the first fault that is met in it. `Memory`: there is no memory for what is read; this tells nothing of the table.
+#[tactic(auto, unfolding(crate::specs::Network::network_of))]
 pub fn declared_network(alloc: Global, table: &Table) -> Result<Network, FileFault>
     ensures { Gives (λ n. n) result (network_of (table_view table.now)) }
 {
@@ -225,7 +215,10 @@ pub fn declared_network(alloc: Global, table: &Table) -> Result<Network, FileFau
         section: Section::Document,
         table,
     };
-    network_of(alloc, &document)
+    let version = version_of(alloc, &document)?;
+    let builder = parts(alloc, version, &document)?;
+    let network = wired(alloc, builder)?;
+    with_flows(alloc, &document, network)
 }
 
 /// Reads a network file of version 1 or 2: the network that it declares.

@@ -1,12 +1,14 @@
 -- What a call answers where a step is possible.
 use mathlib.Core.Logic.{∥∥₁_elim}
-use Rattle.std.proofs.Common.{List, None, Ok, Option, Some, ap, arith, length, subst, true, ℕ, ◌*◌, ◌<◌, ◌∙◌, ◌≡◌}
+use Rattle.std.proofs.Common.{List, None, Ok, Option, Some, arith, length, subst, true, ℕ, ◌*◌, ◌<◌, ◌≡◌}
 use Rattle.std.specs.Prelude.{Err, IfSome, Result}
 use Rattle.std.specs.declared.alloc.AllocError.{AllocError}
 use Rattle.sw_cell.specs.declared.fault.NetFault.{NetFault}
 use Rattle.sw_cell.specs.declared.fault.NetFault.TheVariants.{NotEnabled, NotInFlow}
 use Rattle.sw_char.specs.declared.nchar.End.{End}
+use Rattle.sw_history.specs.Way.{HasMoved}
 use Rattle.sw_machine.specs.Steps.{Begin}
+use Rattle.sw_model.specs.Steps.{machine_step}
 use Rattle.sw_net.proofs.Delivered.{channel_count}
 use Rattle.sw_net.specs.Asked.{CanStep, IsFirst}
 use Rattle.sw_net.specs.Making.{MovesAt}
@@ -17,9 +19,6 @@ use Rattle.sw_model.specs.declared.step.Step.{Step as CodeStep}
 
 none_is : (x y : ⊥) → x ≡ y
 none_is x y = absurd x
-
-pub same_begin : (f g : ℕ) (c d : List ℕ) (e h : End) → f ≡ g → c ≡ d → e ≡ h → Begin f c e ≡ Begin g d h
-same_begin f g c d e h x y z = ap (λ k. Begin k c e) x ∙ ap (λ k. Begin g k e) y ∙ ap (λ k. Begin g d k) z
 
 module _ {R A : Type 0} (answer : R → ℕ → Look) (arbiter_ports : A → ℕ) (policy : A → ℕ → ℕ → A → Type 0) (v : NetView R A) (is : IsNet answer arbiter_ports v) where
   module _ (f : ℕ) (cargo : List ℕ) (end : End) (possible : Tells v (Begin f cargo end) true) (r : Result Unit NetFault) (w : NetView R A) (h : NetAnswers v (Begin f cargo end) r w) where
@@ -32,6 +31,12 @@ module _ {R A : Type 0} (answer : R → ℕ → Look) (arbiter_ports : A → ℕ
   -- a link end that can step does
   pub not_idle : (e : ℕ) → CanStep v e true → (r : Result (Option CodeStep) AllocError) (w : NetView R A) → MovesAt answer policy v e r w → r ≡ Ok None → ⊥
   not_idle e can r w h nothing = let never = (subst (λ k. MovesAt answer policy v e k w) nothing h).0 in ∥∥₁_elim is.reached none_is (λ k. never k.0 k.1 (can k.0 k.1))
+
+-- a step that was made
+pub has_moved : {R A : Type 0} (answer : R → ℕ → Look) (policy : A → ℕ → ℕ → A → Type 0) (v w : NetView R A) (e : ℕ) (r : Result (Option CodeStep) AllocError) (step : CodeStep) → MovesAt answer policy v e r w → r ≡ Ok (Some step) → HasMoved v e w
+has_moved answer policy v w e r step h is =
+    let moves = subst (λ k. MovesAt answer policy v e k w) is h in
+    record { step = machine_step step; belongs = moves.move.belongs; no_begin = moves.move.no_begin; made = moves.made }
 
 pub first_within : {R A : Type 0} (v : NetView R A) (o : Option ℕ) → IsFirst v o → IfSome o (λ e. e < 2 * length v.declared.links)
 first_within v None h = tt

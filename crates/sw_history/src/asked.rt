@@ -112,7 +112,7 @@ impl<'n, R: Routing + Drop, A: Arbiter + Drop> History<'n, R, A> {
             notes,
             begun: _,
         } = self;
-        drop(net);
+        net.discard();
         Record { senders, notes }
     }
 }

@@ -1,16 +1,16 @@
 //! The nodes begin their packets.
 ghost use Rattle.std.specs.Prelude.{◌≡◌, ◌<◌, IfNone, IfOk, IfSome, Ok, OnErr, OnOk, length, slice_index, true};
-ghost use Rattle.sw_history.specs.Way.{BeginsOne, HasBegun, HasBegunNext, IsReady, NoneIsReady};
+ghost use Rattle.sw_history.specs.Way.{BeginsOne, IsReady, NoneIsReady};
 ghost use Rattle.sw_load.specs.Laws.{AreDeclared};
 ghost use Rattle.sw_machine.specs.Steps.{Begin};
 ghost use Rattle.sw_net.specs.Net.{NetAnswers};
 ghost use Rattle.sw_net.specs.Possible.{Tells};
 
+use crate::record::beginning;
 use std::alloc::{AllocError, Global};
 use sw_arb::Arbiter;
 use sw_cell::NetFault;
 use sw_load::{LoadPacket, Senders};
-use sw_model::Step;
 use sw_net::Net;
 use sw_route::Routing;
 
@@ -66,49 +66,14 @@ fn begin_packet<R: Routing, A: Arbiter>(
     ensures refused { OnErr result (net.new ≡ net.old) }
 {
     let _network = net.network();
-    let step = Step::Begin {
-        flow: packet.flow(),
-        cargo: Vec::from_slice(alloc, packet.cargo())?,
-        end: packet.end(),
-    };
-    match net.step(alloc, &step) {
+    let begin = beginning(alloc, packet)?;
+    match net.step(alloc, &begin) {
         Ok(()) => Ok(()),
         Err(fault) => match fault {
             NetFault::Memory => Err(AllocError),
             NetFault::NotEnabled => unreachable!(),
             NetFault::NotInFlow => unreachable!(),
         },
-    }
-}
-
-/// The node begins its next packet, which has to be possible, and is counted.
-fn begin_at<R: Routing, A: Arbiter>(
-    alloc: Global,
-    net: &mut Net<'_, R, A>,
-    senders: &Senders<'_>,
-    begun: &mut [u32],
-    node: u16,
-) -> Result<(), AllocError>
-    requires packets { AreDeclared net.old.declared senders.now.load }
-    requires network { senders.now.declared ≡ net.old.declared }
-    requires nodes { length begun.old ≡ length net.old.declared.nodes }
-    requires node { node < length begun.old }
-    requires ready { IsReady senders.now.load net.old node (slice_index begun.old node) true }
-    ensures network { net.new.declared ≡ net.old.declared }
-    ensures nodes { length begun.new ≡ length begun.old }
-    ensures begun { OnOk result (HasBegun senders.now.load net.old begun.old net.new begun.new) }
-    ensures next { OnOk result (HasBegunNext senders.now.load net.old begun.old net.new begun.new) }
-    ensures refused { OnErr result (net.new ≡ net.old) }
-{
-    // Names the total, which bounds what a node begins.
-    let _total = senders.load().total();
-    match senders.packet(node, begun[node as usize]) {
-        Some(packet) => {
-            begin_packet(alloc, net, packet)?;
-            begun[node as usize] += 1;
-            Ok(())
-        }
-        None => unreachable!(),
     }
 }
 
@@ -130,6 +95,14 @@ pub(crate) fn begin_one<R: Routing, A: Arbiter>(
     let Some(node) = find_ready(net, senders, begun) else {
         return Ok(false);
     };
-    begin_at(alloc, net, senders, begun, node)?;
-    Ok(true)
+    // Names the total, which bounds what a node begins.
+    let _total = senders.load().total();
+    match senders.packet(node, begun[node as usize]) {
+        Some(packet) => {
+            begin_packet(alloc, net, packet)?;
+            begun[node as usize] += 1;
+            Ok(true)
+        }
+        None => unreachable!(),
+    }
 }

@@ -16,21 +16,8 @@ use sw_route::Routing;
 use sw_topo::{LinkEnd, PlaceEnd};
 
 impl<'n, R: Routing, A: Arbiter> History<'n, R, A> {
-    ghost use Rattle.sw_history.specs.History.{IsNext, IsNextAt};
-    ghost use Rattle.sw_history.specs.Next.{BeginsOne, IsIdle};
-
-    /// The packet that the node may begin as the next step.
-    fn may_begin(&self, node: u16) -> Option<&LoadPacket>
-        requires { node < length self.now.declared.nodes }
-        ensures some { IfSome result (λ p. IsNext self.now (begin_of (packet_of p.now))) }
-        ensures from { IfSome result (λ p. ((network_of self.now.declared).flow (packet_of p.now).flow).from ≡ node) }
-        ensures none { IfNone result (BeginsOne (network_of self.now.declared) (packets_of self.now.load) self.now.steps node → ⊥) }
-    {
-        if !self.net.can_begin(node) {
-            return None;
-        }
-        self.next(node)
-    }
+    ghost use Rattle.sw_history.specs.History.{IsNextAt};
+    ghost use Rattle.sw_history.specs.Next.{IsIdle};
 
     /// The packet that may be begun as the next step that belongs to the link end.
     pub(crate) fn may_begin_at(&self, end: LinkEnd) -> Option<&LoadPacket>
@@ -38,8 +25,13 @@ impl<'n, R: Routing, A: Arbiter> History<'n, R, A> {
         ensures some { IfSome result (λ p. IsNextAt self.now end (begin_of (packet_of p.now))) }
         ensures none { IfNone result ((b : Begun) → IsNextAt self.now end (begin_of b) → ⊥) }
     {
-        match self.net.network().topology().start_of(end.sends()) {
-            PlaceEnd::Node(node) => self.may_begin(node),
+        match self.net.place_of(end) {
+            PlaceEnd::Node(node) => {
+                if !self.net.can_begin(node) {
+                    return None;
+                }
+                self.next(node)
+            }
             PlaceEnd::Switch(_, _) => None,
         }
     }

@@ -191,7 +191,7 @@ impl<'n, R: Routing + Drop, A: Arbiter + Drop> History<'n, R, A> {
                 begun,
             }),
             Err(refused) => {
-                drop(net);
+                net.discard();
                 Err(refused)
             }
         }

@@ -1,8 +1,8 @@
 //! The steps other than beginnings.
-ghost use Rattle.std.specs.Prelude.{◌≡◌, ◌<◌, ◌*◌, IfNone, IfOk, IfSome, OnErr, OnOk, length, true};
+ghost use Rattle.std.specs.Prelude.{◌≡◌, ◌<◌, ◌*◌, IfNone, IfOk, IfSome, OnErr, length, true};
 ghost use Rattle.sw_history.specs.Enabled.{CanStepBelow, IsChosen, IsNth};
-ghost use Rattle.sw_history.specs.Way.{HasMoved, MovesOne};
-ghost use Rattle.sw_net.specs.Asked.{CanStep, IsQuietNet};
+ghost use Rattle.sw_history.specs.Way.{MovesOne};
+ghost use Rattle.sw_net.specs.Asked.{IsQuietNet};
 
 use std::alloc::{AllocError, Global};
 use sw_arb::Arbiter;
@@ -54,25 +54,6 @@ fn enabled_at<R: Routing, A: Arbiter>(net: &Net<'_, R, A>, index: usize) -> Opti
     }
 }
 
-/// The link end, which can step, makes a step.
-fn move_at<R: Routing, A: Arbiter>(
-    alloc: Global,
-    net: &mut Net<'_, R, A>,
-    end: LinkEnd,
-) -> Result<(), AllocError>
-    requires within { end < 2 * length net.old.declared.links }
-    requires enabled { CanStep net.old end true }
-    ensures network { net.new.declared ≡ net.old.declared }
-    ensures moved { OnOk result (HasMoved net.old end net.new) }
-    ensures refused { OnErr result (net.new ≡ net.old) }
-{
-    let _network = net.network();
-    match net.step_of(alloc, end)? {
-        Some(_) => Ok(()),
-        None => unreachable!(),
-    }
-}
-
 /// One of the link ends that can step makes a step: that one with so many before it that can, or the
 /// first. The answer is no where none can.
 pub(crate) fn move_one<R: Routing, A: Arbiter>(
@@ -84,9 +65,15 @@ pub(crate) fn move_one<R: Routing, A: Arbiter>(
     ensures moves { IfOk result (λ made. MovesOne net.old index made net.new) }
     ensures refused { OnErr result (net.new ≡ net.old) }
 {
+    let _network = net.network();
     let Some(end) = enabled_at(net, index) else {
         return Ok(false);
     };
-    move_at(alloc, net, end)?;
-    Ok(true)
+    match net.step_of(alloc, end) {
+        Ok(made) => match made {
+            Some(_) => Ok(true),
+            None => unreachable!(),
+        },
+        Err(refused) => Err(refused),
+    }
 }

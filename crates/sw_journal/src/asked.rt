@@ -123,4 +123,9 @@ impl<'n> Journal<'n> {
         } = self;
         history.into_steps()
     }
+
+    /// Lets the journal go. `drop` does the same, and has the crate that calls it prove the drop of each part once more.
+    pub fn discard(self) {
+        drop(self.into_history());
+    }
 }

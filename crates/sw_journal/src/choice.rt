@@ -49,12 +49,13 @@ impl<'n> Journal<'n> {
         requires within { end < 2 * length self.old.declared.links }
         ensures { ChoosesOrMarks self.old end result self.new }
     {
-        match self.choose(alloc, end)? {
-            Some(step) => Ok(Some(step)),
-            None => {
+        match self.choose(alloc, end) {
+            Ok(Some(step)) => Ok(Some(step)),
+            Ok(None) => {
                 self.set_mark(end);
                 Ok(None)
             }
+            Err(refused) => Err(refused),
         }
     }
 }

@@ -157,21 +157,16 @@ pub(crate) fn opening(
     Ok(cells)
 }
 
-// The link ends of the cell stand at these places of its list.
-fn set_places(places: &mut [u16], cell: &Cell) {
-    let mut place = 0u16;
-    for (end, _) in cell.ends() {
-        if let Some(at) = places.get_mut(end.number() as usize) {
-            *at = place;
-        }
-        place = place.saturating_add(1);
-    }
-}
-
-// The same of all cells.
-fn set_all_places(places: &mut [u16], cells: &[Cell]) {
+// The link ends of each cell stand at these places of its list.
+fn set_places(places: &mut [u16], cells: &[Cell]) {
     for cell in cells {
-        set_places(places, cell);
+        let mut place = 0u16;
+        for (end, _) in cell.ends() {
+            if let Some(at) = places.get_mut(end.number() as usize) {
+                *at = place;
+            }
+            place = place.saturating_add(1);
+        }
     }
 }
 
@@ -202,7 +197,7 @@ pub(crate) fn opened(
     let mut places = vec![in alloc; 0u16; channels]?;
     let (table, mut seat) = begin(alloc)?;
     let cells = opening(alloc, net, &table, &mut seat)?;
-    set_all_places(&mut places, &cells);
+    set_places(&mut places, &cells);
     Ok(Beginning {
         marks,
         places,

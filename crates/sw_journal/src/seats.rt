@@ -1,6 +1,6 @@
 //! What is done with the seats of the table.
 ghost use Rattle.std.specs.Prelude.{◌≡◌, ◌<◌, [], IfOk, Some, slice_get, true};
-ghost use Rattle.sw_journal.specs.Views.{changed, grown, held_of, kept_of, knower, opened, pushed, shown};
+ghost use Rattle.sw_journal.specs.Views.{changed, grown, held_of, kept_of, knower, shown};
 
 use crate::cell_table::{
     AddLinkEnd, CellSeat, CellTable, Change, Compare, HandOver, OpenCell, SetNumbers,
@@ -23,37 +23,17 @@ pub fn begin(alloc: Global) -> Result<(CellTable, CellSeat), AllocError>
     CellTable::of_words(alloc, &[0], &())
 }
 
-/// A new cell with no link end, for which the journal's seat stands from now on.
-fn open(table: &CellTable, seat: &mut CellSeat, id: CellId)
-    requires table { 0 < table.now.shared.table_id.words }
-    requires seat { (seat.old.table_id ≡ table.now.shared.table_id) × (seat.old.me.0.keeps ≡ true) }
-    ensures { (seat.new.table_id ≡ seat.old.table_id) × (seat.new.me ≡ (opened seat.old.me.0 id, seat.old.me.1)) }
-{
-    table
-        .shared
-        .compare_exchange_with::<OpenCell>(seat, 0, 0, 0, &Change::Cell(id));
-}
-
-/// The cell that the journal's seat stands for has one more link end, with these numbers.
-fn push(table: &CellTable, seat: &mut CellSeat, end: LinkEnd, numbers: Numbers)
-    requires table { 0 < table.now.shared.table_id.words }
-    requires seat { (seat.old.table_id ≡ table.now.shared.table_id) × (seat.old.me.0.keeps ≡ true) × (seat.old.me.0.claims ≡ true) }
-    ensures { (seat.new.table_id ≡ seat.old.table_id) × (seat.new.me ≡ (pushed seat.old.me.0 end numbers, seat.old.me.1)) }
-{
-    table
-        .shared
-        .compare_exchange_with::<AddLinkEnd>(seat, 0, 0, 0, &Change::End(end, numbers));
-}
-
 /// A new cell with these link ends, for which the journal's seat stands from now on.
 pub fn grow(table: &CellTable, seat: &mut CellSeat, id: CellId, ends: &[(LinkEnd, Numbers)])
     requires table { 0 < table.now.shared.table_id.words }
     requires seat { (seat.old.table_id ≡ table.now.shared.table_id) × (seat.old.me.0.keeps ≡ true) }
     ensures { (seat.new.table_id ≡ seat.old.table_id) × (seat.new.me ≡ (grown seat.old.me.0 (record { id = id; ends = ends.now }), seat.old.me.1)) }
 {
-    open(table, seat, id);
+    let shared = &table.shared;
+    shared.compare_exchange_with::<OpenCell>(seat, 0, 0, 0, &Change::Cell(id));
     for (end, numbers) in ends {
-        push(table, seat, *end, *numbers);
+        let change = Change::End(*end, *numbers);
+        shared.compare_exchange_with::<AddLinkEnd>(seat, 0, 0, 0, &change);
     }
 }
 

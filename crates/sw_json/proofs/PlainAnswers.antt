@@ -1,6 +1,7 @@
 -- Values that have a text which reads back.
 use Rattle.std.proofs.Common.{◌≡◌, ◌≤◌, ℕ, false, List, [], ◌∷◌, arith, subst, sym}
-use Rattle.std.specs.Prelude.{All, None, Option, Some}
+use Rattle.std.specs.Prelude.{All, Err, IfOk, None, Ok, Option, Result, Some}
+use Rattle.std.specs.declared.alloc.AllocError.{AllocError}
 use Rattle.std.proofs.lemmas.List.Elements.{All-cons, All-nil}
 use Rattle.serde_json.specs.Data.{Data, depth}
 use Rattle.serde_json.specs.Written.{has_float}
@@ -29,6 +30,12 @@ pub two_files_are_plain : InputsArePlain → (path other : List ℕ) (first seco
     → All (IsPlain 1) (read_value path first ∷ read_value other second ∷ [])
 two_files_are_plain plain path other first second =
     All-cons (IsPlain 1) (read_value path first) (read_value other second ∷ []) (read_is_plain plain path first) (one_file_is_plain plain other second)
+
+-- so they are where there was memory for them
+pub files_are_plain : {F : Type 0} (show : F → List Data) (files : Result F AllocError) (known : List Data) → All (IsPlain 1) known
+    → IfOk files (λ f. show f ≡ known) → IfOk files (λ f. All (IsPlain 1) (show f))
+files_are_plain show (Ok f) known plain is = subst (All (IsPlain 1)) (sym is) plain
+files_are_plain show (Err e) known plain is = tt
 
 -- ---- the answer round a result
 

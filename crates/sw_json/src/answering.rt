@@ -111,36 +111,24 @@ fn two_files(
     Ok(files)
 }
 
-// The answer of a command of these files, with what it found.
-fn answer_of(
-    alloc: Global,
-    command: &str,
-    release: Release<'_>,
-    files: Vec<Value>,
-    found: Outcome,
-) -> Result<Answer, AllocError>
-    requires { All (IsPlain 1) (map view files.items) }
-    ensures { IfOk result (λ a. IsAnswer command.now (map view files.items) release.entry (IsOutcome (view found.result) found.status) (string_bytes a.text) a.status) }
-{
-    answers_are_plain();
-    let status = found.status;
-    let value = answer_value(alloc, command, files, found.result, status, release)?;
-    let text = text_of(alloc, &value)?;
-    Ok(Answer { text, status })
-}
-
-// The same, where there may have been no memory for what it found.
+// The answer of a command of these files, with what it found, if there was memory for both.
 fn answer_with(
     alloc: Global,
     command: &str,
     release: Release<'_>,
-    files: Vec<Value>,
+    files: Result<Vec<Value>, AllocError>,
     found: Result<Outcome, AllocError>,
 ) -> Result<Answer, AllocError>
-    requires { All (IsPlain 1) (map view files.items) }
-    ensures { IfOk result (λ a. IsOkAnd found (λ o. IsAnswer command.now (map view files.items) release.entry (IsOutcome (view o.result) o.status) (string_bytes a.text) a.status)) }
+    requires { IfOk files (λ f. All (IsPlain 1) (map view f.items)) }
+    ensures { IfOk result (λ a. IsOkAnd files (λ f. IsOkAnd found (λ o. IsAnswer command.now (map view f.items) release.entry (IsOutcome (view o.result) o.status) (string_bytes a.text) a.status))) }
 {
-    answer_of(alloc, command, release, files, found?)
+    answers_are_plain();
+    let files = files?;
+    let found = found?;
+    let status = found.status;
+    let value = answer_value(alloc, command, files, found.result, status, release)?;
+    let text = text_of(alloc, &value)?;
+    Ok(Answer { text, status })
 }
 
 /// The answer of a command of one file, with what it found.
@@ -159,7 +147,7 @@ pub fn answer_to_one(
     ensures { IfOk result (λ a. IsOkAnd found (λ o. IsAnswer command.now (read_value path.now (given text.now) ∷ []) release.entry (IsOutcome (view o.result) o.status) (string_bytes a.text) a.status)) }
 {
     inputs_are_plain();
-    let files = one_file(alloc, path, text)?;
+    let files = one_file(alloc, path, text);
     answer_with(alloc, command, release, files, found)
 }
 
@@ -180,7 +168,7 @@ pub fn answer_to_two(
     ensures { IfOk result (λ a. IsOkAnd found (λ o. IsAnswer command.now (read_value paths.entry.0.now (given first.now) ∷ read_value paths.entry.1.now (given second.now) ∷ []) release.entry (IsOutcome (view o.result) o.status) (string_bytes a.text) a.status)) }
 {
     inputs_are_plain();
-    let files = two_files(alloc, paths, first, second)?;
+    let files = two_files(alloc, paths, first, second);
     answer_with(alloc, command, release, files, found)
 }
 

@@ -3,12 +3,10 @@ use mathlib.Core.Logic.{∥∥₁_elim}
 use Rattle.std.proofs.Common.{List, None, Ok, Option, Some, ap, arith, false, get_or, length, refl, set, subst, sym, true, ℕ, ◌<◌, ◌∙◌, ◌≡◌}
 use Rattle.std.proofs.Math.Seq.{map-set_same}
 use Rattle.std.proofs.lemmas.Option.{get_or_from_slice_get, slice_get-get_or}
-use Rattle.std.specs.Prelude.{Err, IfNone, IfSome, OnErr, OnOk, Result, slice_get}
-use Rattle.std.specs.declared.alloc.AllocError.{AllocError}
-use Rattle.sw_cell.specs.Answers.{Stores}
+use Rattle.std.specs.Prelude.{Err, IfNone, IfSome, OnErr, Result, slice_get}
 use Rattle.sw_cell.specs.Places.{IsUndeclared}
 use Rattle.sw_cell.specs.declared.fault.NetFault.{NetFault}
-use Rattle.sw_cell.specs.declared.fault.NetFault.TheVariants.{NotEnabled, NotInFlow}
+use Rattle.sw_cell.specs.declared.fault.NetFault.TheVariants.{Memory, NotEnabled, NotInFlow}
 use Rattle.sw_cell.proofs.LinkEnds.{none_at_port}
 use Rattle.sw_cell.proofs.Switches.{ends_at}
 use Rattle.sw_cell.specs.Picks.{CannotGrant, GrantsPick}
@@ -27,14 +25,13 @@ use Rattle.sw_net.proofs.Possibles.{node_told, switch_told}
 use Rattle.sw_net.proofs.Steps.{same_switch, switch_leads, switch_net, switch_state}
 use Rattle.sw_net.proofs.Told.{node_tells}
 use Rattle.sw_net.specs.Asked.{CanStep}
-use Rattle.sw_net.specs.Making.{IsDecided, IsMoveOf, IsPlain, Moves, MovesAt, told_if_made}
+use Rattle.sw_net.specs.Making.{IsDecided, IsMoveOf, IsPlain, Moves, MovesAt, WantsRoom}
 use Rattle.sw_net.specs.Net.{IsNet, NetAnswers, NetView, arbiters_of, net_of}
 use Rattle.sw_net.specs.Possible.{Tells}
 use Rattle.sw_config.specs.Entries.{Declaration}
 use Rattle.sw_config.specs.Valid.{IsValid}
 use Rattle.sw_node.specs.Node.{Node}
 use Rattle.sw_route.specs.declared.look.Look.{Look}
-use Rattle.sw_model.specs.Steps.{machine_step}
 use Rattle.sw_model.specs.declared.step.Step.{Step as CodeStep}
 use Rattle.sw_switch.specs.Cell.{Cell}
 use Rattle.sw_topo.proofs.Ends.{partner_back}
@@ -92,12 +89,11 @@ module _ {R A : Type 0} (answer : R → ℕ → Look) (policy : A → ℕ → �
 pub plain_move : {R A : Type 0} (v : NetView R A) (e : ℕ) (step : Step) → IsPlain step → link_end_of (network_of v.declared) step ≡ e → IsMoveOf v e step
 plain_move v e step plain belongs = record { belongs = belongs; no_begin = plain_begins_nothing step plain }
 
--- what is told of a possible step, by what came of it
-module _ {R A : Type 0} (answer : R → ℕ → Look) (policy : A → ℕ → ℕ → A → Type 0) (v w : NetView R A) (e : ℕ) (step : CodeStep) (plain : IsPlain (machine_step step)) (possible : Tells v (machine_step step) true) (belongs : link_end_of (network_of v.declared) (machine_step step) ≡ e) where
-  pub plain_told : (made : Result Unit AllocError) → OnOk made (NetAnswers v (machine_step step) (Ok tt) w) → OnOk made (arbiters_of w.switches ≡ arbiters_of v.switches) → OnErr made (Stores (machine_step step)) → OnErr made (w ≡ v)
-      → MovesAt answer policy v e (told_if_made made step) w
-  plain_told (Ok done) answers arbiters stores refused = plain_moves answer policy v w e (machine_step step) plain belongs answers arbiters
-  plain_told (Err error) answers arbiters stores refused = (record { step = machine_step step; move = plain_move v e (machine_step step) plain belongs; stores = stores; possible = possible }, refused)
+-- a possible step that is not made for want of memory
+pub wants_room : {R A : Type 0} (v w : NetView R A) (e : ℕ) (step : Step) → IsPlain step → Tells v step true → link_end_of (network_of v.declared) step ≡ e → (r : Result Unit NetFault) → NetAnswers v step r w → OnErr r (w ≡ v) → r ≡ Err Memory → WantsRoom v e × (w ≡ v)
+wants_room v w e step plain possible belongs r h same is =
+    let stores = (subst (λ k. NetAnswers v step k w) is h).0 in
+    (record { step = step; move = plain_move v e step plain belongs; stores = stores; possible = possible }, subst (λ k. OnErr k (w ≡ v)) is same)
 
 none_is : (x y : ⊥) → x ≡ y
 none_is x y = absurd x
@@ -169,10 +165,6 @@ module _ {R A : Type 0} (v : NetView R A) (w : ℕ) (cell : Cell R A) (at : slic
   pub port_has_none : (o : Option PortStep) → PortHas v.declared w cell v.between e o → IfNone o ((step : PortStep) → Tells v (step_at_port e step) false)
   port_has_none None h = λ step. switch_told v w cell (step_at_port e step) false at (h step)
   port_has_none (Some step) h = tt
-
-pub any_none : {X : Type 0} (o : Option X) (P : Type 0) → P → IfNone o P
-any_none None P p = p
-any_none (Some x) P p = tt
 
 pub then_none : {X : Type 0} (o : Option X) (P Q : Type 0) → (P → Q) → IfNone o P → IfNone o Q
 then_none None P Q then none = then none

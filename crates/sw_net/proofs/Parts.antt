@@ -6,13 +6,17 @@ use Rattle.std.specs.List.{range_with_len}
 use Rattle.std.specs.Prelude.{IsBitSet, IsSome, bit_and, is_some, slice_get, unwrap_or}
 use Rattle.sw_cell.proofs.Dropping.{some_of}
 use Rattle.sw_cell.specs.SwitchParts.{IsSwitchFor, input_of}
+use Rattle.sw_cell.specs.declared.cell.CellId.TheVariants as cells
 use Rattle.sw_flow.specs.Places.{end_of, ends_of}
 use Rattle.sw_machine.specs.State.{State}
 use Rattle.sw_machine.specs.declared.input.InputState.{InputState}
 use Rattle.sw_model.specs.Model.{network_of}
 use Rattle.sw_net.specs.Kept.{NodeView, PortView, kept_at_port, kept_by_node}
 use Rattle.sw_net.specs.Net.{IsNetState, NetView}
-use Rattle.sw_net.specs.Parts.{ArePortsOf, IsNodeOf, IsPortOf, IsSameInput, linked_ports}
+use Rattle.sw_net.specs.KeptParts.{IsKept}
+use Rattle.sw_net.specs.Parts.{ArePortsOf, IsNodeOf, IsPartOf, IsPortOf, IsSameInput, linked_ports}
+use Rattle.sw_net.specs.declared.part.Part.{Part}
+use Rattle.sw_net.specs.declared.part.Part.TheVariants as told
 use Rattle.sw_config.specs.Entries.{wiring_of}
 use Rattle.sw_node.specs.Node.{Node}
 use Rattle.sw_route.specs.declared.look.Look.{Look}
@@ -53,7 +57,7 @@ ports_kept cell (p ∷ l) = ap (λ (ps : List ℕ). p ∷ ps) (ports_kept cell l
 -- ---- cells
 
 module _ {R A : Type 0} (v : NetView R A) (s : State) (k : IsNetState v s) where
-  pub node_is : (n : ℕ) (node : Node) (part : NodeView) → slice_get v.nodes n ≡ Some node → part ≡ kept_by_node node → IsNodeOf (network_of v.declared) s n part
+  node_is : (n : ℕ) (node : Node) (part : NodeView) → slice_get v.nodes n ≡ Some node → part ≡ kept_by_node node → IsNodeOf (network_of v.declared) s n part
   node_is n node part at is =
       let p = k.nodes n node at in
       record {
@@ -66,6 +70,9 @@ module _ {R A : Type 0} (v : NetView R A) (s : State) (k : IsNetState v s) where
         buffer = ap (λ (x : NodeView). x.buffer) is ∙ sym p.buffer;
         outstanding = ap (λ (x : NodeView). x.outstanding) is ∙ sym p.outstanding;
       }
+
+  pub node_part_is : (n : ℕ) (node : Node) (part : Part) → slice_get v.nodes n ≡ Some node → part ≡ told.Node (kept_by_node node) → IsPartOf v.declared s (cells.Node n) part
+  node_part_is n node part at is = subst (IsPartOf v.declared s (cells.Node n)) (sym is) (node_is n node (kept_by_node node) at refl)
 
   module _ (answer : R → ℕ → Look) (arbiter_ports : A → ℕ) (w : ℕ) (cell : Cell R A) (at : slice_get v.switches w ≡ Some cell) (for : IsSwitchFor answer arbiter_ports v.declared w cell) where
     port_is : (port : ℕ) → IsSome (out_of (ends_of v.declared) w port) → IsPortOf v.declared s w (kept_at_port cell port)
@@ -87,7 +94,7 @@ module _ {R A : Type 0} (v : NetView R A) (s : State) (k : IsNetState v s) where
           outstanding = sym q.outstanding;
         }
 
-    pub ports_are : (parts : List PortView) → parts ≡ map (kept_at_port cell) (ports_of cell.linked) → ArePortsOf v.declared s w parts
+    ports_are : (parts : List PortView) → parts ≡ map (kept_at_port cell) (ports_of cell.linked) → ArePortsOf v.declared s w parts
     ports_are parts is =
         let all = linked_ports (ends_of v.declared) w in
         let linked = linked_are (ends_of v.declared) w cell.linked for.linked in
@@ -97,3 +104,7 @@ module _ {R A : Type 0} (v : NetView R A) (s : State) (k : IsNetState v s) where
           ports = ports_kept cell all;
           each = All-map (IsPortOf v.declared s w) (kept_at_port cell) all (λ i x lt. port_is (get_or all i x) (passes i x lt));
         })
+
+    pub switch_part_is : (part : Part) → IsKept cell part → IsPartOf v.declared s (cells.Switch w) part
+    switch_part_is (told.Node part) is = absurd is
+    switch_part_is (told.Switch parts) is = ports_are parts.items is

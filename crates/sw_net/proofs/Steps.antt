@@ -65,10 +65,6 @@ pub on_err_then : {T E P Q : Type 0} (r : Result T E) → (P → Q) → OnErr r 
 on_err_then (Ok x) then h = tt
 on_err_then (Err e) then h = then h
 
-pub on_err : {T E P : Type 0} (r : Result T E) → P → OnErr r P
-on_err (Ok x) h = tt
-on_err (Err e) h = h
-
 pub is_declared : (d : Declaration) (step : Step) → HasNamed (network_of d) step → IsUndeclared (network_of d) step → ⊥
 is_declared d (Fct c) named not = not
 is_declared d (FctIn c) named not = not

@@ -5,6 +5,7 @@ pub mod Asking
 pub mod Delivery
 pub mod Making
 pub mod Kept
+pub mod KeptParts
 pub mod Numbers
 pub mod Outputs
 pub mod Parts

@@ -58,8 +58,3 @@ abbrev pub IsPlain : Step → Type 0
 IsPlain (Grant d c) = ⊥
 IsPlain (Begin flow cargo end) = ⊥
 IsPlain step = Unit {0}
-
--- the step is told, if it was made
-abbrev pub told_if_made : Result Unit AllocError → CodeStep → Result (Option CodeStep) AllocError
-told_if_made (Ok done) step = Ok (Some step)
-told_if_made (Err error) step = Err error

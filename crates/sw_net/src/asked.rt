@@ -1,7 +1,10 @@
 //! What can be asked of a network.
 ghost use Rattle.std.specs.Prelude.{◌≡◌, ◌<◌, ◌*◌, IfOk, Some, length, slice_get};
+ghost use Rattle.sw_flow.specs.Places.{ends_of};
 ghost use Rattle.sw_machine.specs.Runs.{CameOut};
 ghost use Rattle.sw_machine.specs.State.{State};
+ghost use Rattle.sw_model.specs.Model.{network_of};
+ghost use Rattle.sw_topo.specs.Checked.{IsIn};
 
 use crate::net::Net;
 use std::alloc::{AllocError, Global};
@@ -40,12 +43,24 @@ impl<'n, R: Routing, A: Arbiter> Net<'n, R, A> {
         &self.switches[w as usize]
     }
 
+    /// Where the link end stands.
+    #[inline(always)]
+    pub fn place_of(&self, end: LinkEnd) -> PlaceEnd
+        requires { end < 2 * length self.now.declared.links }
+        ensures starts { slice_get (ends_of self.now.declared) end ≡ Some result }
+        ensures inside { IsIn (length self.now.declared.nodes) (length self.now.declared.switches) result }
+        ensures within { end < (network_of self.now.declared).channels }
+        ensures sound { IsNet R.answer A.ports self.now }
+    {
+        self.network().topology().start_of(end.sends())
+    }
+
     /// Whether some step that belongs to the link end is possible, other than to begin a packet.
     pub fn enabled(&self, end: LinkEnd) -> bool
         requires { end < 2 * length self.now.declared.links }
         ensures { CanStep self.now end result }
     {
-        match self.network().topology().start_of(end.sends()) {
+        match self.place_of(end) {
             PlaceEnd::Node(n) => node::enabled(self.network, n, self.node(n), &self.wires),
             PlaceEnd::Switch(w, _) => {
                 switch::enabled(self.network, w, end, self.switch(w), &self.wires)

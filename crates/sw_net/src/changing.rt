@@ -17,7 +17,7 @@ use sw_switch::Input;
 use sw_topo::{Chan, LinkEnd, PlaceEnd, Port};
 
 /// The link end that receives on the channel.
-fn receiver(channel: Chan) -> LinkEnd
+pub(crate) fn receiver(channel: Chan) -> LinkEnd
     ensures { result ≡ partner channel }
 {
     LinkEnd::new(channel.partner().number())

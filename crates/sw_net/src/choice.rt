@@ -39,7 +39,9 @@ impl<'n, R: Routing, A: Arbiter> Net<'n, R, A> {
         ensures none { IfNone result ((channel : ℕ) → Tells self.now (Grant end channel) false) }
     {
         let network = self.network();
-        let port = self.switch(w).asks(out).first()?;
+        let Some(port) = self.switch(w).asks(out).first() else {
+            return None;
+        };
         let back = network.topology().out_of(w, port).unwrap();
         Some(Step::Grant(end.sends(), back.partner()))
     }
@@ -69,7 +71,7 @@ impl<'n, R: Routing, A: Arbiter> Net<'n, R, A> {
         ensures possible { IfSome result (λ step. Tells self.now (machine_step step) true) }
         ensures none { IfNone result (CanStep self.now end false) }
     {
-        match self.network().topology().start_of(end.sends()) {
+        match self.place_of(end) {
             PlaceEnd::Node(n) => self.possible_at_node(n),
             PlaceEnd::Switch(w, out) => self.possible_at_port(w, out, end),
         }

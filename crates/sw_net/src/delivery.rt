@@ -7,7 +7,7 @@ use sw_route::Routing;
 use sw_topo::{Chan, PlaceEnd};
 
 impl<'n, R: Routing, A: Arbiter> Net<'n, R, A> {
-    ghost use Rattle.sw_net.specs.Delivery.{IsAtNode, IsAtNodes, IsBuffered, IsInChannel, IsInChannels, IsUndelivered};
+    ghost use Rattle.sw_net.specs.Delivery.{IsAtNodes, IsBuffered, IsInChannel, IsInChannels, IsUndelivered};
 
     /// How many are in the buffer where the channel ends.
     fn buffered(&self, channel: Chan) -> usize
@@ -40,21 +40,13 @@ impl<'n, R: Routing, A: Arbiter> Net<'n, R, A> {
         count
     }
 
-    /// How many the node has still to send, those of its replies with them.
-    fn at_node(&self, n: u16) -> u64
-        requires { n < length self.now.declared.nodes }
-        ensures { IsAtNode self.now n result }
-    {
-        let _network = self.network();
-        self.node(n).undelivered()
-    }
-
+    /// How many the nodes have still to send, those of their replies with them.
     fn at_nodes(&self) -> u64
         ensures { IsAtNodes self.now (length self.now.declared.nodes) result }
     {
         let mut count: u64 = 0;
         for n in 0..self.network().nodes() {
-            count += self.at_node(n);
+            count += self.node(n).undelivered();
         }
         count
     }

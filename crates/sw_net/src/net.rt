@@ -27,3 +27,8 @@ impl<'n, R: Routing, A: Arbiter> Model for Net<'n, R, A> {
 
     ghost invariant = { λ n. IsNet R.answer A.ports (net_of n.network.now n.nodes.items n.switches.items n.wires) };
 }
+
+impl<'n, R: Routing + Drop, A: Arbiter + Drop> Net<'n, R, A> {
+    /// Lets the cells go. `drop` does the same, and has the crate that calls it prove the drop of each part once more.
+    pub fn discard(self) {}
+}

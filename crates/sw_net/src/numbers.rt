@@ -20,12 +20,17 @@ pub struct Numbers {
     pub room: u16,
 }
 
-/// The room that is left in a receive buffer.
-fn room(capacity: u16, buffered: usize, outstanding: u8) -> u16
-    ensures { result ≡ capacity - buffered - outstanding }
+/// The numbers of a link end whose receive buffer has this capacity, and so many characters.
+#[inline(always)]
+fn numbers_of(capacity: u16, credit: u8, outstanding: u8, buffered: usize) -> Numbers
+    ensures { result ≡ record { credit = credit; outstanding = outstanding; room = capacity - buffered - outstanding } }
 {
     let free = usize::from(capacity).saturating_sub(buffered);
-    free.saturating_sub(usize::from(outstanding)) as u16
+    Numbers {
+        credit,
+        outstanding,
+        room: free.saturating_sub(usize::from(outstanding)) as u16,
+    }
 }
 
 impl<'n, R: Routing, A: Arbiter> Net<'n, R, A> {
@@ -39,24 +44,19 @@ impl<'n, R: Routing, A: Arbiter> Net<'n, R, A> {
     {
         let network = self.network();
         let capacity = network.capacity(end.receives());
-        match network.topology().start_of(end.sends()) {
+        match self.place_of(end) {
             PlaceEnd::Node(n) => {
                 let node = self.node(n);
-                let outstanding = node.outstanding();
-                Numbers {
-                    credit: node.credit(),
-                    outstanding,
-                    room: room(capacity, node.buffered(), outstanding),
-                }
+                numbers_of(capacity, node.credit(), node.outstanding(), node.buffered())
             }
             PlaceEnd::Switch(w, port) => {
                 let switch = self.switch(w);
-                let outstanding = switch.outstanding(port);
-                Numbers {
-                    credit: switch.credit(port),
-                    outstanding,
-                    room: room(capacity, switch.buffered(port), outstanding),
-                }
+                numbers_of(
+                    capacity,
+                    switch.credit(port),
+                    switch.outstanding(port),
+                    switch.buffered(port),
+                )
             }
         }
     }

@@ -1,11 +1,12 @@
 //! What a cell has of a network's state.
-ghost use Rattle.std.specs.Prelude.{◌≡◌, ◌<◌, ◌++◌, IfOk, length, map};
+ghost use Rattle.std.specs.Prelude.{◌≡◌, ◌++◌, IfOk};
 ghost use Rattle.sw_cell.specs.Places.{IsIn};
 ghost use Rattle.sw_machine.specs.State.{State};
-ghost use Rattle.sw_model.specs.Model.{network_of};
 ghost use Rattle.sw_net.specs.Kept.{kept_at_port, kept_by_node};
-ghost use Rattle.sw_topo.specs.Ports.{ports_of};
+ghost use Rattle.sw_net.specs.KeptParts.{IsKept};
+ghost use Rattle.sw_net.specs.declared.part.Part.TheVariants.{Node};
 
+use crate::make::push_made;
 use crate::net::Net;
 use std::alloc::{AllocError, Global};
 use std::marker::Model;
@@ -107,11 +108,11 @@ fn joined(alloc: Global, first: &[NChar], second: &[NChar]) -> Result<Vec<NChar>
 }
 
 /// What the node keeps.
-fn node_part(alloc: Global, node: &NodeCell) -> Result<NodePart, AllocError>
-    ensures { IfOk result (λ part. part ≡ kept_by_node node.now) }
+fn node_part(alloc: Global, node: &NodeCell) -> Result<Part, AllocError>
+    ensures { IfOk result (λ part. part ≡ Node (kept_by_node node.now)) }
 {
     let (first, second) = node.buffer();
-    Ok(NodePart {
+    Ok(Part::Node(NodePart {
         to_send: node.to_send(alloc)?,
         pending: node.pending(alloc)?,
         owed: node.owed() as u8,
@@ -120,7 +121,7 @@ fn node_part(alloc: Global, node: &NodeCell) -> Result<NodePart, AllocError>
         credit: node.credit(),
         buffer: joined(alloc, first, second)?,
         outstanding: node.outstanding(),
-    })
+    }))
 }
 
 /// What the switch keeps at the port.
@@ -142,37 +143,22 @@ fn port_part<R: Routing, A: Arbiter>(
 }
 
 /// What the switch keeps at its ports with a link.
-fn port_parts<R: Routing, A: Arbiter>(
+fn switch_part<R: Routing, A: Arbiter>(
     alloc: Global,
     switch: &SwitchCell<R, A>,
-) -> Result<Vec<PortPart>, AllocError>
-    ensures { IfOk result (λ parts. parts.items ≡ map (kept_at_port switch.now) (ports_of switch.now.linked)) }
+) -> Result<Part, AllocError>
+    ensures { IfOk result (IsKept switch.now) }
 {
     let mut parts = Vec::new(alloc);
     for port in switch.linked().ports() {
-        parts.push(port_part(alloc, switch, port)?)?;
+        push_made(&mut parts, port_part(alloc, switch, port))?;
     }
-    Ok(parts)
+    Ok(Part::Switch(parts))
 }
 
 impl<'n, R: Routing, A: Arbiter> Net<'n, R, A> {
     ghost use Rattle.sw_net.specs.Net.{IsNetState};
-    ghost use Rattle.sw_net.specs.Parts.{ArePortsOf, IsNodeOf, IsPartOf};
-
-    fn part_of_node(&self, alloc: Global, n: u16) -> Result<NodePart, AllocError>
-        requires { n < length self.now.declared.nodes }
-        ensures { IfOk result (λ part. (s : State) → IsNetState self.now s → IsNodeOf (network_of self.now.declared) s n part) }
-    {
-        node_part(alloc, self.node(n))
-    }
-
-    fn part_of_switch(&self, alloc: Global, w: u16) -> Result<Vec<PortPart>, AllocError>
-        requires { w < length self.now.declared.switches }
-        ensures { IfOk result (λ parts. (s : State) → IsNetState self.now s → ArePortsOf self.now.declared s w parts.items) }
-    {
-        let _network = self.network();
-        port_parts(alloc, self.switch(w))
-    }
+    ghost use Rattle.sw_net.specs.Parts.{IsPartOf};
 
     /// What the cell, which is one of the network's, has of the network's state.
     ///
@@ -183,9 +169,10 @@ impl<'n, R: Routing, A: Arbiter> Net<'n, R, A> {
         requires { IsIn self.now.declared cell }
         ensures { IfOk result (λ part. (s : State) → IsNetState self.now s → IsPartOf self.now.declared s cell part) }
     {
+        let _network = self.network();
         match cell {
-            CellId::Node(n) => Ok(Part::Node(self.part_of_node(alloc, n)?)),
-            CellId::Switch(w) => Ok(Part::Switch(self.part_of_switch(alloc, w)?)),
+            CellId::Node(n) => node_part(alloc, self.node(n)),
+            CellId::Switch(w) => switch_part(alloc, self.switch(w)),
         }
     }
 }

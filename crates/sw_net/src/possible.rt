@@ -2,14 +2,12 @@
 ghost use Rattle.std.specs.Prelude.{◌≡◌, ◌<◌, length};
 ghost use Rattle.sw_cell.specs.Places.{IsAt};
 ghost use Rattle.sw_cell.specs.declared.cell.CellId.{CellId};
-ghost use Rattle.sw_cell.specs.Possible.{step_at_node, step_at_port};
-ghost use Rattle.sw_machine.specs.Network.{AtSwitch};
-ghost use Rattle.sw_machine.specs.Steps.{Grant, is_begin};
+ghost use Rattle.sw_machine.specs.Steps.{is_begin};
 ghost use Rattle.sw_model.specs.Model.{network_of};
 ghost use Rattle.sw_model.specs.Steps.{machine_step};
 ghost use Rattle.sw_net.specs.Possible.{granted_by, kind_at_node, kind_at_port};
-ghost use Rattle.sw_topo.specs.Wiring.{partner};
 
+use crate::changing::receiver;
 use crate::net::Net;
 use sw_arb::Arbiter;
 use sw_cell::node::NodeStep;
@@ -18,13 +16,6 @@ use sw_cell::{CellId, cell_of, node, switch};
 use sw_model::Step;
 use sw_route::Routing;
 use sw_topo::{Chan, LinkEnd};
-
-/// The link end where the channel ends.
-fn end_at(channel: Chan) -> LinkEnd
-    ensures { result ≡ partner channel }
-{
-    LinkEnd::new(channel.partner().number())
-}
 
 /// Whether the step begins a packet.
 fn begins(step: &Step) -> bool
@@ -56,12 +47,12 @@ fn port_kind(step: &Step) -> Option<(LinkEnd, PortStep)>
     ensures { result ≡ kind_at_port (machine_step step.now) }
 {
     match step {
-        Step::Fct(channel) => Some((end_at(*channel), PortStep::Fct)),
+        Step::Fct(channel) => Some((receiver(*channel), PortStep::Fct)),
         Step::FctIn(channel) => Some((LinkEnd::new(channel.number()), PortStep::FctIn)),
-        Step::Arrive(channel) => Some((end_at(*channel), PortStep::Arrive)),
-        Step::Drop(channel) => Some((end_at(*channel), PortStep::DropFront)),
-        Step::Forward(channel) => Some((end_at(*channel), PortStep::Forward)),
-        Step::Spill(channel) => Some((end_at(*channel), PortStep::Spill)),
+        Step::Arrive(channel) => Some((receiver(*channel), PortStep::Arrive)),
+        Step::Drop(channel) => Some((receiver(*channel), PortStep::DropFront)),
+        Step::Forward(channel) => Some((receiver(*channel), PortStep::Forward)),
+        Step::Spill(channel) => Some((receiver(*channel), PortStep::Spill)),
         Step::Grant(_, _) | Step::Begin { .. } => None,
         Step::Emit(_) | Step::Accept(_) | Step::Reply(_) => None,
     }
@@ -90,47 +81,17 @@ impl<'n, R: Routing, A: Arbiter> Net<'n, R, A> {
         node::can_begin(node, self.node(node))
     }
 
-    /// Whether that step of node `n` is possible.
-    fn can_at_node(&self, n: u16, step: NodeStep) -> bool
-        requires { n < length self.now.declared.nodes }
-        ensures { Tells self.now (step_at_node (network_of self.now.declared) n step) result }
-    {
-        let network = self.network();
-        node::is_possible(network, n, step, self.node(n), &self.wires)
-    }
-
-    /// Whether that step of the link end, which stands at switch `w`, is possible.
-    fn can_at_port(&self, w: u16, end: LinkEnd, step: PortStep) -> bool
-        requires switch { w < length self.now.declared.switches }
-        requires at { (network_of self.now.declared).start_of end ≡ AtSwitch w }
-        ensures { Tells self.now (step_at_port end step) result }
-    {
-        let network = self.network();
-        switch::is_possible(network, w, end, step, self.switch(w), &self.wires)
-    }
-
-    /// Whether the output where a channel starts can be granted to the input where the other ends,
-    /// at switch `w`.
-    fn can_grant(&self, w: u16, output: Chan, channel: Chan) -> bool
-        requires switch { w < length self.now.declared.switches }
-        requires at { (network_of self.now.declared).end_of channel ≡ AtSwitch w }
-        ensures { Tells self.now (Grant output channel) result }
-    {
-        let network = self.network();
-        switch::can_grant(network, w, output, channel, self.switch(w))
-    }
-
     /// Whether the step, which is one at node `n`, is possible.
     fn is_possible_at_node(&self, n: u16, step: &Step) -> bool
         requires { IsAt self.now.declared (machine_step step.now) (CellId.Node n) }
         ensures { Tells self.now (machine_step step.now) result }
     {
-        let _network = self.network();
+        let network = self.network();
         if begins(step) {
             return self.can_begin(n);
         }
         match node_kind(step) {
-            Some(kind) => self.can_at_node(n, kind),
+            Some(kind) => node::is_possible(network, n, kind, self.node(n), &self.wires),
             None => false,
         }
     }
@@ -140,11 +101,12 @@ impl<'n, R: Routing, A: Arbiter> Net<'n, R, A> {
         requires { IsAt self.now.declared (machine_step step.now) (CellId.Switch w) }
         ensures { Tells self.now (machine_step step.now) result }
     {
-        let _network = self.network();
+        let network = self.network();
+        let cell = self.switch(w);
         match port_kind(step) {
-            Some(asked) => self.can_at_port(w, asked.0, asked.1),
+            Some(asked) => switch::is_possible(network, w, asked.0, asked.1, cell, &self.wires),
             None => match granted(step) {
-                Some(grant) => self.can_grant(w, grant.0, grant.1),
+                Some(grant) => switch::can_grant(network, w, grant.0, grant.1, cell),
                 None => false,
             },
         }

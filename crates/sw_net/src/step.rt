@@ -82,9 +82,10 @@ impl<'n, R: Routing, A: Arbiter> Net<'n, R, A> {
         ensures arbiters { arbiters_of self.new.switches ≡ arbiters_of self.old.switches }
         ensures refused { OnErr result (self.new ≡ self.old) }
     {
-        match cell_of(self.network, step)? {
-            CellId::Node(n) => self.step_node(alloc, n, step),
-            CellId::Switch(w) => self.step_switch(w, step),
+        match cell_of(self.network, step) {
+            Ok(CellId::Node(n)) => self.step_node(alloc, n, step),
+            Ok(CellId::Switch(w)) => self.step_switch(w, step),
+            Err(fault) => Err(fault),
         }
     }
 }

@@ -1,12 +1,11 @@
 //! A step of a link end.
-ghost use Rattle.std.specs.Prelude.{◌≡◌, ◌<◌, ◌*◌, ℕ, IfNone, IfSome, Ok, OnErr, OnOk, false, length, true};
-ghost use Rattle.sw_cell.specs.Answers.{Stores};
+ghost use Rattle.std.specs.Prelude.{◌≡◌, ◌<◌, ◌*◌, ℕ, IfNone, IfSome, Ok, false, length, true};
 ghost use Rattle.sw_cell.specs.Possible.{step_at_node, step_at_port};
 ghost use Rattle.sw_cell.specs.declared.switch.PortStep.{PortStep};
 ghost use Rattle.sw_machine.specs.Network.{AtSwitch};
 ghost use Rattle.sw_machine.specs.Parts.{link_end_of};
 ghost use Rattle.sw_model.specs.Model.{network_of};
-ghost use Rattle.sw_net.specs.Making.{IsPlain, told_if_made};
+ghost use Rattle.sw_net.specs.Making.{IsPlain};
 ghost use Rattle.sw_model.specs.Steps.{machine_step};
 
 use crate::net::Net;
@@ -50,43 +49,10 @@ pub(crate) fn port_step(end: LinkEnd, step: PortStep) -> Step
     }
 }
 
-/// The step, if it was made.
-#[inline(always)]
-fn told(made: Result<(), AllocError>, step: Step) -> Result<Option<Step>, AllocError>
-    ensures { result ≡ told_if_made made step }
-{
-    match made {
-        Ok(()) => Ok(Some(step)),
-        Err(error) => Err(error),
-    }
-}
-
 impl<'n, R: Routing, A: Arbiter> Net<'n, R, A> {
     ghost use Rattle.sw_net.specs.Asked.{CanStep};
     ghost use Rattle.sw_net.specs.Making.{MovesAt};
-    ghost use Rattle.sw_net.specs.Net.{NetAnswers, arbiters_of};
     ghost use Rattle.sw_net.specs.Possible.{Tells};
-
-    /// Makes the step, which has to be possible, and no beginning or grant.
-    fn make_plain(&mut self, alloc: Global, step: &Step) -> Result<(), AllocError>
-        requires plain { IsPlain (machine_step step.now) }
-        requires possible { Tells self.old (machine_step step.now) true }
-        ensures network { self.new.declared ≡ self.old.declared }
-        ensures made { OnOk result (NetAnswers self.old (machine_step step.now) (Ok tt) self.new) }
-        ensures arbiters { OnOk result (arbiters_of self.new.switches ≡ arbiters_of self.old.switches) }
-        ensures stores { OnErr result (Stores (machine_step step.now)) }
-        ensures refused { OnErr result (self.new ≡ self.old) }
-    {
-        let _network = self.network();
-        match self.step(alloc, step) {
-            Ok(()) => Ok(()),
-            Err(fault) => match fault {
-                NetFault::Memory => Err(AllocError),
-                NetFault::NotEnabled => unreachable!(),
-                NetFault::NotInFlow => unreachable!(),
-            },
-        }
-    }
 
     /// Makes the step, which has to be possible, and no beginning or grant, and tells it.
     #[inline(always)]
@@ -96,8 +62,15 @@ impl<'n, R: Routing, A: Arbiter> Net<'n, R, A> {
         ensures network { self.new.declared ≡ self.old.declared }
         ensures moves { (e : ℕ) → link_end_of (network_of self.old.declared) (machine_step step) ≡ e → MovesAt R.answer A.policy self.old e result self.new }
     {
-        let made = self.make_plain(alloc, &step);
-        told(made, step)
+        let _network = self.network();
+        match self.step(alloc, &step) {
+            Ok(()) => Ok(Some(step)),
+            Err(fault) => match fault {
+                NetFault::Memory => Err(AllocError),
+                NetFault::NotEnabled => unreachable!(),
+                NetFault::NotInFlow => unreachable!(),
+            },
+        }
     }
 
     /// A step of node `n` that is possible, other than to begin a packet.
@@ -180,7 +153,7 @@ impl<'n, R: Routing, A: Arbiter> Net<'n, R, A> {
         ensures network { self.new.declared ≡ self.old.declared }
         ensures moves { MovesAt R.answer A.policy self.old end result self.new }
     {
-        match self.network().topology().start_of(end.sends()) {
+        match self.place_of(end) {
             PlaceEnd::Node(n) => self.step_of_node(alloc, n),
             PlaceEnd::Switch(w, _) => self.step_of_port(alloc, w, end),
         }

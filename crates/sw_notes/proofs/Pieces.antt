@@ -1,7 +1,18 @@
 -- Pieces that bring what is sought.
-use Rattle.std.proofs.Common.{◌≡◌, ◌<◌, ◌≤◌, ℕ, true, false, List, Option, drop, length, take}
+use Rattle.std.proofs.Common.{◌≡◌, ◌∙◌, ◌++◌, ◌∷◌, ◌<◌, ◌≤◌, ℕ, true, false, [], All, List, Option, ap, drop, length, take}
+use Rattle.std.proofs.lemmas.List.{append_assoc}
+use Rattle.std.proofs.lemmas.List.Elements.{All-push}
 use Rattle.sw_toml_table.specs.declared.keys.Section.{Section}
-use Rattle.sw_notes.specs.Places.{Holds, IsPiece, IsPlace}
+use Rattle.sw_notes.specs.Places.{Holds, IsClosing, IsPiece, IsPlace}
+
+-- one more bracket closes what was closed before
+pub one_closes : (start before after : List ℕ) (bracket : ℕ) → (closing : List ℕ) × All IsClosing closing × (before ≡ start ++ closing)
+    → after ≡ before ++ bracket ∷ [] → IsClosing bracket → (closing : List ℕ) × All IsClosing closing × (after ≡ start ++ closing)
+one_closes start before after bracket (closing, all, is) adds closes = (
+  closing ++ bracket ∷ [],
+  All-push IsClosing closing bracket all closes,
+  adds ∙ ap (λ l. l ++ bracket ∷ []) is ∙ append_assoc start closing (bracket ∷ []),
+)
 
 as_piece : (p q : List ℕ) → p ≡ q → IsPiece p → IsPiece q
 as_piece p q is piece = rw is at piece

@@ -1,5 +1,5 @@
 -- The places of those that pass, one after another.
-use Rattle.std.proofs.Common.{◌≡◌, ◌∙◌, ◌<◌, ◌≤◌, ◌+◌, ◌++◌, ℕ, suc, Bool, true, false, List, [], ◌∷◌, ap, arith, cond, get_or, length, map, refl, sym, take}
+use Rattle.std.proofs.Common.{◌≡◌, ◌∙◌, ◌<◌, ◌≤◌, ◌+◌, ◌++◌, ℕ, suc, Bool, true, false, List, [], ◌∷◌, ap, arith, cond, get_or, length, map, sym, take}
 use Rattle.std.proofs.lemmas.List.{append_assoc, length-take-le, map_more, take_more}
 use Rattle.toml.specs.Data.{Members}
 use Rattle.sw_notes.specs.Finding.{places_from}

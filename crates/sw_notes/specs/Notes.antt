@@ -1,5 +1,5 @@
 -- What there is to note of a fault (this project's choice).
-use Rattle.std.specs.Prelude.{ℕ, List, [], ◌∷◌, ◌++◌, Option, Some, None, if◌then◌else◌, map, nat_lt, option_and_then, option_map, option_to_list, take}
+use Rattle.std.specs.Prelude.{ℕ, List, [], ◌∷◌, Option, Some, None, if◌then◌else◌, map, nat_lt, option_and_then, option_map, option_to_list, take}
 use Rattle.toml.specs.Data.{Members}
 use Rattle.sw_topo.specs.declared.fault.TopoFault.{TopoFault}
 use Rattle.sw_topo.specs.declared.fault.TopoFault.TheVariants.{TooMany, PortTaken, NodeLinks, PortUnlinked}
@@ -15,7 +15,7 @@ use Rattle.sw_notes.specs.declared.note.Note.{Note}
 use Rattle.sw_notes.specs.declared.note.Note.TheVariants.{HasName, Unlinked, LinkHere, HasPort, IsFor}
 use Rattle.sw_notes.specs.Entries.{number_in, range_in, text_in, text_of}
 use Rattle.sw_notes.specs.Finding.{first_place, places_of}
-use Rattle.sw_notes.specs.Passing.{has_end, is_at, is_named, overlaps}
+use Rattle.sw_notes.specs.Passing.{has_end, is_at, overlaps}
 use Rattle.sw_notes.specs.ReplyNotes.{named, reply_notes}
 
 -- the first, or where there is none the second

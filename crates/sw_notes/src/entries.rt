@@ -6,7 +6,7 @@ ghost use Rattle.sw_toml_table.specs.Keys.{key_text};
 ghost use Rattle.sw_toml_table.specs.Table.{in_range};
 ghost use Rattle.sw_notes.specs.Entries.{bytes_in, last_in, number_in, range_in, tables_of, text_in, text_of};
 
-use crate::lookup::value_of;
+use crate::lookup::{member_of, value_of};
 use crate::unread::text_fault;
 use std::alloc::{AllocError, Global};
 use sw_toml_table::{Key, Section, TableEntry};
@@ -64,18 +64,11 @@ pub(crate) fn bytes_in(alloc: Global, table: &Table, list: Key) -> Result<Vec<u8
     }
 }
 
-// What stands at a key of a table.
-fn value_in(table: &Table, key: Key) -> Option<&Value>
-    ensures { option_map (λ v. view v.now) result ≡ get_member (key_text key) (table_view table.now) }
-{
-    table.get(key.text())
-}
-
 /// The text at a key of a table.
 pub fn text_in(table: &Table, key: Key) -> Option<&str>
     ensures { option_map (λ t. t.now) result ≡ text_in key (table_view table.now) }
 {
-    match value_in(table, key) {
+    match member_of(Some(table), key.text()) {
         Some(value) => value.as_str(),
         None => None,
     }
@@ -98,7 +91,7 @@ fn number_of(value: &Value, low: u64, high: u64) -> Option<u64>
 pub(crate) fn number_in(table: &Table, key: Key, low: u64, high: u64) -> Option<u64>
     ensures { result ≡ number_in key low high (table_view table.now) }
 {
-    match value_in(table, key) {
+    match member_of(Some(table), key.text()) {
         Some(value) => number_of(value, low, high),
         None => None,
     }
@@ -108,7 +101,7 @@ pub(crate) fn number_in(table: &Table, key: Key, low: u64, high: u64) -> Option<
 fn last_in(route: &Table, first: u64) -> Option<u64>
     ensures { result ≡ last_in first (table_view route.now) }
 {
-    match value_in(route, Key::Last) {
+    match member_of(Some(route), Key::Last.text()) {
         Some(value) => number_of(value, first, 254),
         None => Some(first),
     }
@@ -118,7 +111,11 @@ fn last_in(route: &Table, first: u64) -> Option<u64>
 pub(crate) fn range_in(route: &Table) -> Option<(u64, u64)>
     ensures { result ≡ range_in (table_view route.now) }
 {
-    let first = number_in(route, Key::Address, 32, 254)?;
-    let last = last_in(route, first)?;
-    Some((first, last))
+    let Some(first) = number_in(route, Key::Address, 32, 254) else {
+        return None;
+    };
+    match last_in(route, first) {
+        Some(last) => Some((first, last)),
+        None => None,
+    }
 }

@@ -35,49 +35,48 @@ impl Headers {
         }
     }
 
-    /// The table that a part of a header leads to, from the table of the parts before it. `opens`: it opens an entry.
-    pub(crate) fn entered(&mut self, parent: Section, name: &str, opens: bool) -> Option<Section> {
-        let section = match child(parent, name)? {
-            Section::Node(_) => Section::Node(number(&mut self.nodes, opens)),
-            Section::Switch(_) => {
+    // The entry of a list of the document.
+    fn entry(&mut self, list: &str, opens: bool) -> Option<Section> {
+        let section = match list {
+            "node" => Section::Node(number(&mut self.nodes, opens)),
+            "switch" => {
                 if opens {
                     self.routes = 0;
                 }
                 Section::Switch(number(&mut self.switches, opens))
             }
-            Section::Route(switch, _) => Section::Route(switch, number(&mut self.routes, opens)),
-            Section::Link(_) => Section::Link(number(&mut self.links, opens)),
-            Section::Flow(_) => Section::Flow(number(&mut self.flows, opens)),
-            Section::Packet(_) => Section::Packet(number(&mut self.packets, opens)),
-            section => section,
+            "link" => Section::Link(number(&mut self.links, opens)),
+            "flow" => Section::Flow(number(&mut self.flows, opens)),
+            "packet" => Section::Packet(number(&mut self.packets, opens)),
+            _ => return None,
         };
         Some(section)
     }
-}
 
-// The first entry of a list of the document.
-fn first_entry(list: &str) -> Option<Section> {
-    let section = match list {
-        "node" => Section::Node(0),
-        "switch" => Section::Switch(0),
-        "link" => Section::Link(0),
-        "flow" => Section::Flow(0),
-        "packet" => Section::Packet(0),
-        _ => return None,
-    };
-    Some(section)
-}
-
-/// The table at a key of a table, or the first entry of the list there.
-pub(crate) fn child(parent: Section, name: &str) -> Option<Section> {
-    let (key, section) = match parent {
-        Section::Document => return first_entry(name),
-        Section::Node(node) => ("target", Section::Target(node)),
-        Section::Switch(switch) => ("route", Section::Route(switch, 0)),
-        Section::Flow(flow) => ("reply", Section::Reply(flow)),
-        _ => return None,
-    };
-    if name == key { Some(section) } else { None }
+    /// The table that a part of a key leads to, from the table of the parts before it. `opens`: it opens an entry.
+    pub(crate) fn entered(
+        &mut self,
+        parent: Option<Section>,
+        name: &str,
+        opens: bool,
+    ) -> Option<Section> {
+        let (key, section) = match parent? {
+            Section::Document => return self.entry(name, opens),
+            Section::Node(node) => ("target", Section::Target(node)),
+            Section::Switch(switch) => ("route", Section::Route(switch, 0)),
+            Section::Flow(flow) => ("reply", Section::Reply(flow)),
+            _ => return None,
+        };
+        if name != key {
+            return None;
+        }
+        match section {
+            Section::Route(switch, _) => {
+                Some(Section::Route(switch, number(&mut self.routes, opens)))
+            }
+            section => Some(section),
+        }
+    }
 }
 
 /// The entry behind this one in its list.

@@ -4,6 +4,7 @@
 
 mod entries;
 mod finding;
+mod frame;
 mod header;
 mod line_column;
 mod lookup;

@@ -7,8 +7,8 @@ ghost use Rattle.sw_notes.specs.Lookup.{entry_of, inner_of, table_of, value_of};
 use sw_toml_table::{Key, Section};
 use toml::{Table, Value};
 
-// What stands at this key of a table, if there is one.
-fn member_of<'a>(table: Option<&'a Table>, key: &str) -> Option<&'a Value>
+/// What stands at this key of a table, if there is one.
+pub(crate) fn member_of<'a>(table: Option<&'a Table>, key: &str) -> Option<&'a Value>
     ensures { option_map (λ v. view v.now) result ≡ option_and_then (get_member key.now) (option_map (λ t. table_view t.now) table.entry) }
 {
     match table {

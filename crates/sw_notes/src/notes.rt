@@ -1,7 +1,7 @@
 //! What there is to note of a fault.
 ghost use Rattle.std.specs.Prelude.{◌≡◌, ◌++◌, IfOk, map, option_map, option_to_list, take};
 ghost use Rattle.toml.specs.View.{table_view};
-ghost use Rattle.sw_notes.specs.Notes.{earlier, end_in, end_of, entry_in, first_at, first_for, holder, is_for, link_notes, name_note, node_notes, notes_of, port_note, range_of, route_note, topology_notes};
+ghost use Rattle.sw_notes.specs.Notes.{earlier, end_of, entry_in, first_at, first_for, holder, link_notes, name_note, node_notes, notes_of, port_note, range_of, route_note};
 ghost use Rattle.sw_notes.specs.ReplyNotes.{named};
 ghost use Rattle.sw_notes.specs.declared.note.Note.TheVariants.{LinkHere};
 
@@ -18,18 +18,6 @@ use toml::Table;
 
 /// The most links of a node that are noted.
 const MOST_LINKS: usize = 8;
-
-/// The first entry of a list of the document that has this name.
-pub(crate) fn named(
-    alloc: Global,
-    document: &Table,
-    list: Key,
-    name: &str,
-) -> Result<Option<usize>, AllocError>
-    ensures { IfOk result (λ o. o ≡ named list name.now (table_view document.now)) }
-{
-    first_place(alloc, document, list, &Test::Named(name))
-}
 
 // An entry of the nodes, the switches or the flows.
 fn entry_in(list: Key, number: usize) -> Section
@@ -51,7 +39,7 @@ fn entry_named(
 ) -> Result<Option<Section>, AllocError>
     ensures { IfOk result (λ o. o ≡ option_map (entry_in list) (named list name.now (table_view document.now))) }
 {
-    match named(alloc, document, list, name)? {
+    match first_place(alloc, document, list, &Test::Named(name))? {
         Some(number) => Ok(Some(entry_in(list, number))),
         None => Ok(None),
     }
@@ -95,21 +83,18 @@ fn add_holder(
     }
 }
 
-// The switch and the port at an end of a link.
-fn end_in(link: &Table, key: Key, port_key: Key) -> Option<(&str, u64)>
-    ensures { option_map (λ end. (end.0.now, end.1)) result ≡ end_in key port_key (table_view link.now) }
-{
-    let name = text_in(link, key)?;
-    let port = number_in(link, port_key, 0, 31)?;
-    Some((name, port))
-}
-
-// The same, of the link of this number.
+// The switch and the port at an end of the link of this number.
 fn end_of(document: &Table, link: usize, key: Key, port_key: Key) -> Option<(&str, u64)>
     ensures { option_map (λ end. (end.0.now, end.1)) result ≡ end_of key port_key link (table_view document.now) }
 {
-    match table_of(document, Section::Link(link)) {
-        Some(table) => end_in(table, key, port_key),
+    let Some(table) = table_of(document, Section::Link(link)) else {
+        return None;
+    };
+    let Some(name) = text_in(table, key) else {
+        return None;
+    };
+    match number_in(table, port_key, 0, 31) {
+        Some(port) => Some((name, port)),
         None => None,
     }
 }
@@ -185,22 +170,7 @@ fn first_for(
     }
 }
 
-// Adds which addresses an entry is for.
-fn add_range(
-    document: &Table,
-    switch: usize,
-    route: usize,
-    notes: &mut Vec<Note>,
-) -> Result<(), AllocError>
-    ensures { IfOk result (λ _. notes.new.items ≡ notes.old.items ++ option_to_list (is_for switch route (table_view document.now))) }
-{
-    match range_of(document, switch, route) {
-        Some((first, last)) => add_note(Note::IsFor(switch, route, first, last), notes),
-        None => Ok(()),
-    }
-}
-
-// Adds which entry is for an address of this one already.
+// Adds which entry is for an address of this one already, and which addresses it is for.
 fn add_route(
     alloc: Global,
     document: &Table,
@@ -213,8 +183,11 @@ fn add_route(
     let Some((first, last)) = range_of(document, switch, route) else {
         return Ok(());
     };
-    match first_for(alloc, document, switch, first, last)? {
-        Some(other) => add_range(document, switch, other, notes),
+    let Some(other) = first_for(alloc, document, switch, first, last)? else {
+        return Ok(());
+    };
+    match range_of(document, switch, other) {
+        Some((first, last)) => add_note(Note::IsFor(switch, other, first, last), notes),
         None => Ok(()),
     }
 }
@@ -264,22 +237,6 @@ fn add_node(
     }
 }
 
-// Adds what there is to note of a fault of the wiring.
-fn add_topology(
-    alloc: Global,
-    document: &Table,
-    fault: TopoFault,
-    notes: &mut Vec<Note>,
-) -> Result<(), AllocError>
-    ensures { IfOk result (λ _. notes.new.items ≡ notes.old.items ++ topology_notes fault (table_view document.now)) }
-{
-    match fault {
-        TopoFault::PortTaken(link) => add_port(alloc, document, link as usize, notes),
-        TopoFault::NodeLinks(node) => add_node(alloc, document, node as usize, notes),
-        TopoFault::TooMany(_) | TopoFault::PortUnlinked(_) => Ok(()),
-    }
-}
-
 // Adds what there is to note of a fault.
 fn add_notes(
     alloc: Global,
@@ -293,7 +250,12 @@ fn add_notes(
         TextFault::Key(KeyFault::DuplicateName, section, _) => {
             add_holder(alloc, document, *section, notes)
         }
-        TextFault::Topology(fault) => add_topology(alloc, document, *fault, notes),
+        TextFault::Topology(TopoFault::PortTaken(link)) => {
+            add_port(alloc, document, *link as usize, notes)
+        }
+        TextFault::Topology(TopoFault::NodeLinks(node)) => {
+            add_node(alloc, document, *node as usize, notes)
+        }
         TextFault::DuplicateRoute(switch, route) => {
             add_route(alloc, document, *switch, *route, notes)
         }

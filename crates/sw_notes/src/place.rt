@@ -1,8 +1,9 @@
 //! Where a table or a key stands.
-ghost use Rattle.std.specs.Prelude.{◌≡◌, ◌++◌, ◌<◌, ◌≤◌, All, IfOk, IfSome, IsTrue, Ok, drop, length, option_map, take};
+ghost use Rattle.std.specs.Prelude.{◌≡◌, ◌++◌, ◌<◌, ◌≤◌, ℕ, List, All, IfOk, IfSome, IsTrue, Ok, drop, length, option_map, take};
 ghost use Rattle.toml.specs.View.{table_view};
 ghost use Rattle.sw_notes.specs.Places.{Holds, IsClosing, IsPiece, IsPlace, ReadsAs, has};
 
+use crate::frame::Frame;
 use crate::lookup::{table_of, value_of};
 use crate::proposal::Proposal;
 use crate::sought::Sought;
@@ -13,8 +14,8 @@ use sw_toml_table::read_document;
 use toml::Table;
 use toml_parser::ParseError;
 
-fn has(document: &Table, sought: Sought<'_>) -> bool
-    ensures { result ≡ has sought.entry.section (option_map (λ s. s.now) sought.entry.key) (table_view document.now) }
+fn has(document: &Table, sought: &Sought<'_>) -> bool
+    ensures { result ≡ has sought.now.section (option_map (λ s. s.now) sought.now.key) (table_view document.now) }
 {
     match sought.key {
         None => table_of(document, sought.section).is_some(),
@@ -22,52 +23,39 @@ fn has(document: &Table, sought: Sought<'_>) -> bool
     }
 }
 
-fn are_closing(brackets: &[u8]) -> bool
-    ensures { IsTrue result → All IsClosing brackets.now }
+// The beginning of a text, with what closes the brackets that are open behind it.
+fn closed(alloc: Global, beginning: &[u8], open: &[Frame]) -> Result<Vec<u8>, AllocError>
+    ensures { IfOk result (λ v. (closing : List ℕ) × All IsClosing closing × (v.items ≡ beginning.now ++ closing)) }
 {
-    brackets.iter().all(|byte| *byte == b']' || *byte == b'}')
-}
-
-// A beginning of a text, closed by brackets.
-fn closed(alloc: Global, beginning: &[u8], brackets: &[u8]) -> Result<Vec<u8>, AllocError>
-    ensures { IfOk result (λ v. v.items ≡ beginning.now ++ brackets.now) }
-{
-    [beginning, brackets].concat(alloc)
-}
-
-// The beginning of a text up to an offset.
-fn beginning(text: &[u8], offset: usize) -> &[u8]
-    requires { offset ≤ length text.now }
-    ensures { result.now ≡ take offset text.now }
-{
-    &text[..offset]
+    let mut text = beginning.to_vec(alloc)?;
+    for frame in open.iter().rev() {
+        text.push(frame.closing())?;
+    }
+    Ok(text)
 }
 
 // What stands in a text from one offset to the other.
-fn piece(text: &[u8], from: usize, to: usize) -> &[u8]
+fn between(text: &[u8], from: usize, to: usize) -> &[u8]
     requires order { from ≤ to }
     requires within { to ≤ length text.now }
     ensures { result.now ≡ drop from (take to text.now) }
 {
-    &beginning(text, to)[from..]
+    &text[..to][from..]
 }
 
-// Whether the text up to an offset, closed by brackets, is a document that has what is sought, or has not.
+// Whether the text up to an offset, where these brackets are open, is a document that has what is sought, or has not.
 fn holds(
     alloc: Global,
     text: &[u8],
     offset: usize,
-    brackets: &[u8],
-    sought: Sought<'_>,
+    open: &[Frame],
+    sought: &Sought<'_>,
     held: bool,
 ) -> Result<bool, AllocError>
     requires { offset ≤ length text.now }
-    ensures { IfOk result (λ b. IsTrue b → Holds held sought.entry.section (option_map (λ s. s.now) sought.entry.key) (take offset text.now)) }
+    ensures { IfOk result (λ b. IsTrue b → Holds held sought.now.section (option_map (λ s. s.now) sought.now.key) (take offset text.now)) }
 {
-    if !are_closing(brackets) {
-        return Ok(false);
-    }
-    let closed = closed(alloc, beginning(text, offset), brackets)?;
+    let closed = closed(alloc, &text[..offset], open)?;
     match read_document(alloc, &closed) {
         Ok(document) => Ok(has(&document, sought) == held),
         Err(fault) => {
@@ -81,7 +69,7 @@ fn holds(
 fn is_piece(alloc: Global, bytes: &[u8]) -> Result<bool, AllocError>
     ensures { IfOk result (λ b. IsTrue b → IsPiece bytes.now) }
 {
-    if bytes == b"{".as_slice() {
+    if let [b'{'] = bytes {
         return Ok(true);
     }
     match read_document(alloc, bytes) {
@@ -93,30 +81,31 @@ fn is_piece(alloc: Global, bytes: &[u8]) -> Result<bool, AllocError>
     }
 }
 
-// Where the piece that was proposed begins, if it brings what is sought.
+// Where the piece that was proposed begins, behind which these brackets are open, if it brings what is sought.
 fn place_by(
     alloc: Global,
     text: &[u8],
-    sought: Sought<'_>,
-    proposal: &Proposal,
+    sought: &Sought<'_>,
+    piece: Proposal,
+    frames: &[Frame],
 ) -> Result<Option<usize>, AllocError>
-    ensures { IfOk result (λ o. IfSome o (IsPlace text.now sought.entry.section (option_map (λ s. s.now) sought.entry.key))) }
+    ensures { IfOk result (λ o. IfSome o (IsPlace text.now sought.now.section (option_map (λ s. s.now) sought.now.key))) }
 {
-    let from = proposal.from;
-    let to = proposal.to;
+    let Proposal { from, to, open } = piece;
     if from >= to {
         return Ok(None);
     }
     if to > text.len() {
         return Ok(None);
     }
-    if !holds(alloc, text, from, proposal.before(), sought, false)? {
+    let before = &frames[..open.min(frames.len())];
+    if !holds(alloc, text, from, before, sought, false)? {
         return Ok(None);
     }
-    if !holds(alloc, text, to, &proposal.behind, sought, true)? {
+    if !holds(alloc, text, to, frames, sought, true)? {
         return Ok(None);
     }
-    if !is_piece(alloc, piece(text, from, to))? {
+    if !is_piece(alloc, between(text, from, to))? {
         return Ok(None);
     }
     Ok(Some(from))
@@ -134,8 +123,9 @@ pub fn place_of(alloc: Global, text: &[u8], sought: Sought<'_>) -> Result<Option
     let Ok(words) = std::str::from_utf8(text) else {
         return Ok(None);
     };
-    match proposed(alloc, words, sought) {
-        Ok(Some(proposal)) => place_by(alloc, text, sought, &proposal),
+    let mut frames = Vec::new(alloc);
+    match proposed(alloc, words, &sought, &mut frames) {
+        Ok(Some(piece)) => place_by(alloc, text, &sought, piece, &frames),
         Ok(None) | Err(ParseError::At(_, _, _)) => Ok(None),
         Err(ParseError::OutOfMemory) => Err(AllocError),
     }

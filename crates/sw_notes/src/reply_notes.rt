@@ -1,27 +1,19 @@
 //! Why the replies of a flow can't come back.
 ghost use Rattle.std.specs.Prelude.{◌≡◌, ◌++◌, IfOk, option_map};
 ghost use Rattle.toml.specs.View.{table_view};
-ghost use Rattle.sw_notes.specs.ReplyNotes.{end_node, initiator_notes, is_zero_led, node_note, path_notes, reply_notes, shape_notes, table_notes, target_notes};
+ghost use Rattle.sw_notes.specs.ReplyNotes.{end_node, initiator_notes, path_notes, reply_notes, table_notes, target_notes};
 
 use crate::entries::{bytes_in, number_in, text_of};
+use crate::finding::first_place;
 use crate::lookup::table_of;
 use crate::note::{Note, add_note};
-use crate::notes::named;
+use crate::passing::Test;
 use std::alloc::{AllocError, Global};
 use sw_toml_table::{Key, Section};
 use toml::Table;
 
 /// The most numbers that a path of replies has.
 const MOST_STEPS: usize = 12;
-
-fn is_zero_led(path: &[u8]) -> bool
-    ensures { result ≡ is_zero_led path.now }
-{
-    match path {
-        [] => false,
-        [byte, ..] => *byte == 0,
-    }
-}
 
 // Adds what is wrong with the path.
 fn add_path(path: &[u8], notes: &mut Vec<Note>) -> Result<(), AllocError>
@@ -30,10 +22,10 @@ fn add_path(path: &[u8], notes: &mut Vec<Note>) -> Result<(), AllocError>
     if path.len() > MOST_STEPS {
         add_note(Note::LongPath(path.len()), notes)?;
     }
-    if is_zero_led(path) {
-        return add_note(Note::LeadingZero, notes);
+    match path {
+        [0, ..] => add_note(Note::LeadingZero, notes),
+        _ => Ok(()),
     }
-    Ok(())
 }
 
 // Adds what is wrong with the initiator.
@@ -48,33 +40,16 @@ fn add_initiator(initiator: Option<u64>, notes: &mut Vec<Note>) -> Result<(), Al
     }
 }
 
-// Adds what is wrong in the table of the replies.
-fn add_shape(alloc: Global, reply: &Table, notes: &mut Vec<Note>) -> Result<(), AllocError>
-    ensures { IfOk result (λ _. notes.new.items ≡ notes.old.items ++ shape_notes (table_view reply.now)) }
+// Adds what is wrong in the table of the replies, where there is one.
+fn add_shape(alloc: Global, reply: Option<&Table>, notes: &mut Vec<Note>) -> Result<(), AllocError>
+    ensures { IfOk result (λ _. notes.new.items ≡ notes.old.items ++ table_notes (option_map (λ t. table_view t.now) reply.entry)) }
 {
+    let Some(reply) = reply else {
+        return Ok(());
+    };
     let path = bytes_in(alloc, reply, Key::Path)?;
     add_path(&path, notes)?;
     add_initiator(number_in(reply, Key::Initiator, 0, 255), notes)
-}
-
-// Adds the same, where there is such a table.
-fn add_table(alloc: Global, reply: Option<&Table>, notes: &mut Vec<Note>) -> Result<(), AllocError>
-    ensures { IfOk result (λ _. notes.new.items ≡ notes.old.items ++ table_notes (option_map (λ t. table_view t.now) reply.entry)) }
-{
-    match reply {
-        Some(reply) => add_shape(alloc, reply, notes),
-        None => Ok(()),
-    }
-}
-
-// Adds that the node is no target, if it is none.
-fn add_node(document: &Table, node: usize, notes: &mut Vec<Note>) -> Result<(), AllocError>
-    ensures { IfOk result (λ _. notes.new.items ≡ notes.old.items ++ node_note node (table_view document.now)) }
-{
-    match table_of(document, Section::Target(node)) {
-        Some(_) => Ok(()),
-        None => add_note(Note::NoTarget(node), notes),
-    }
 }
 
 // The node that a flow goes to.
@@ -82,7 +57,7 @@ fn end_node(alloc: Global, document: &Table, flow: usize) -> Result<Option<usize
     ensures { IfOk result (λ o. o ≡ end_node flow (table_view document.now)) }
 {
     match text_of(document, Section::Flow(flow), Key::To) {
-        Some(name) => named(alloc, document, Key::Node, name),
+        Some(name) => first_place(alloc, document, Key::Node, &Test::Named(name)),
         None => Ok(None),
     }
 }
@@ -96,9 +71,12 @@ fn add_target(
 ) -> Result<(), AllocError>
     ensures { IfOk result (λ _. notes.new.items ≡ notes.old.items ++ target_notes flow (table_view document.now)) }
 {
-    match end_node(alloc, document, flow)? {
-        Some(node) => add_node(document, node, notes),
-        None => Ok(()),
+    let Some(node) = end_node(alloc, document, flow)? else {
+        return Ok(());
+    };
+    match table_of(document, Section::Target(node)) {
+        Some(_) => Ok(()),
+        None => add_note(Note::NoTarget(node), notes),
     }
 }
 
@@ -115,6 +93,6 @@ pub(crate) fn add_reply(
 ) -> Result<(), AllocError>
     ensures { IfOk result (λ _. notes.new.items ≡ notes.old.items ++ reply_notes flow (table_view document.now)) }
 {
-    add_table(alloc, table_of(document, Section::Reply(flow)), notes)?;
+    add_shape(alloc, table_of(document, Section::Reply(flow)), notes)?;
     add_target(alloc, document, flow, notes)
 }

@@ -1,6 +1,7 @@
 //! Texts that could not be read.
-ghost use Rattle.std.specs.Prelude.{IfOk};
+ghost use Rattle.std.specs.Prelude.{◌≡◌, IfErr, IfOk};
 ghost use Rattle.sw_notes.specs.Entries.{IsOfText};
+ghost use Rattle.sw_toml_table.specs.declared.fault.FileFault.TheVariants.{Memory};
 
 use std::alloc::AllocError;
 use sw_toml_table::FileFault;
@@ -11,7 +12,8 @@ use sw_toml_table::FileFault;
 ///
 /// It is no fault of the text: there was no memory to read it.
 pub fn text_fault(fault: FileFault) -> Result<(), AllocError>
-    ensures { IfOk result (λ _. IsOfText fault) }
+    ensures of_the_text { IfOk result (λ _. IsOfText fault) }
+    ensures unread { IfErr result (λ _. fault ≡ Memory) }
 {
     match fault {
         FileFault::Text(_) => Ok(()),

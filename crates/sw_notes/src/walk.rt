@@ -1,18 +1,12 @@
 //! A walk over a text that proposes a place. What it proposes is checked by `place`: no claim rests on it.
-use crate::header::{Headers, child, next_entry};
+use crate::frame::Frame;
+use crate::header::Headers;
 use crate::proposal::Proposal;
 use crate::sought::Sought;
-use std::alloc::{AllocError, Global};
+use std::alloc::Global;
 use sw_toml_table::Section;
 use toml_parser::text::{first, skip, skip_blank, skip_ws};
-use toml_parser::{ErrorKind, Key, ParseError, dotted_key, quoted, unquoted};
-
-/// A bracket that is open, and the section of the table that it opened, or of the entry that stands next in its list.
-#[derive(Clone, Copy)]
-enum Frame {
-    Table(Option<Section>),
-    List(Option<Section>),
-}
+use toml_parser::{ErrorKind, Key, ParseError, dotted_key, quoted, starts_string, unquoted};
 
 /// The piece that was begun: where, and how many brackets are open before it and at its end.
 #[derive(Clone, Copy)]
@@ -25,7 +19,7 @@ struct Begun {
 /// What a walk knows beside the brackets that are open.
 #[derive(Clone, Copy)]
 struct Walk<'a> {
-    sought: Sought<'a>,
+    sought: &'a Sought<'a>,
     headers: Headers,
     /// The table of the last header.
     section: Option<Section>,
@@ -34,37 +28,23 @@ struct Walk<'a> {
 
 // What stands behind the text, number, date, true or false at the front.
 fn behind_scalar(alloc: Global, rest: &str) -> Result<&str, ParseError> {
-    if first(rest) != b'"' && first(rest) != b'\'' {
-        let (_, after) = unquoted(alloc, rest)?;
-        return Ok(after);
+    if starts_string(rest) {
+        return match quoted(alloc, rest) {
+            Ok((_, after)) => Ok(after),
+            Err(fault) => Err(fault),
+        };
     }
-    let (_, after) = quoted(alloc, rest)?;
-    Ok(after)
-}
-
-// What closes a bracket.
-fn closing(frame: Frame) -> u8 {
-    match frame {
-        Frame::Table(_) => b'}',
-        Frame::List(_) => b']',
+    match unquoted(alloc, rest) {
+        Ok((_, after)) => Ok(after),
+        Err(fault) => Err(fault),
     }
-}
-
-// The brackets that close what is open.
-fn all_closing(alloc: Global, frames: &[Frame]) -> Result<Vec<u8>, AllocError> {
-    let mut brackets = Vec::new(alloc);
-    for frame in frames {
-        brackets.push(closing(*frame))?;
-    }
-    brackets.reverse();
-    Ok(brackets)
 }
 
 // The table of all parts of a key but the last, from a table on.
-fn parent_of(section: Option<Section>, path: &[String]) -> Option<Section> {
+fn parent_of(headers: &mut Headers, section: Option<Section>, path: &[String]) -> Option<Section> {
     let mut parent = section;
     for part in path {
-        parent = child(parent?, part.as_str());
+        parent = headers.entered(parent, part.as_str(), false);
     }
     parent
 }
@@ -120,7 +100,7 @@ fn note_key(
     at: usize,
     key: &Key,
 ) -> Option<Section> {
-    let parent = parent_of(section, &key.path);
+    let parent = parent_of(&mut walk.headers, section, &key.path);
     let piece = Begun {
         from: at,
         before: open,
@@ -130,10 +110,7 @@ fn note_key(
     if let Some(part) = key.path.first() {
         begin(walk, section, Some(part.as_str()), piece);
     }
-    match parent {
-        Some(table) => child(table, key.last.as_str()),
-        None => None,
-    }
+    walk.headers.entered(parent, key.last.as_str(), false)
 }
 
 // Reads a key, `=`, and the beginning of the value or all of it.
@@ -156,22 +133,10 @@ fn member<'t>(
     value(alloc, walk, frames, inner, offset, behind)
 }
 
-// The table of all parts of a header but the last.
-fn outer_of(headers: &mut Headers, path: &[String]) -> Option<Section> {
-    let mut parent = Section::Document;
-    for part in path {
-        parent = headers.entered(parent, part.as_str(), false)?;
-    }
-    Some(parent)
-}
-
 // Notes the table of a header.
 fn note_header(walk: &mut Walk<'_>, at: usize, key: &Key, opens: bool) {
-    let parent = outer_of(&mut walk.headers, &key.path);
-    let section = match parent {
-        Some(outer) => walk.headers.entered(outer, key.last.as_str(), opens),
-        None => None,
-    };
+    let parent = parent_of(&mut walk.headers, Some(Section::Document), &key.path);
+    let section = walk.headers.entered(parent, key.last.as_str(), opens);
     walk.section = section;
     let piece = Begun {
         from: at,
@@ -182,14 +147,6 @@ fn note_header(walk: &mut Walk<'_>, at: usize, key: &Key, opens: bool) {
         begin(walk, section, None, piece);
     }
     begin(walk, parent, Some(key.last.as_str()), piece);
-}
-
-// What stands behind a closing bracket.
-fn behind_bracket(rest: &str) -> Result<&str, ParseError> {
-    if first(rest) != b']' {
-        return Err(ParseError::at(ErrorKind::UnclosedTable, rest));
-    }
-    Ok(skip(rest, 1))
 }
 
 // Reads a header, behind its first bracket.
@@ -204,32 +161,11 @@ fn header<'t>(
     let (key, after) = dotted_key(alloc, skip_ws(inner))?;
     note_header(walk, at, &key, opens);
     drop(key);
-    let behind = behind_bracket(after)?;
-    if opens {
-        behind_bracket(behind)
-    } else {
-        Ok(behind)
+    let closing = if opens { "]]" } else { "]" };
+    match after.strip_prefix(closing) {
+        Some(behind) => Ok(behind),
+        None => Err(ParseError::at(ErrorKind::UnclosedTable, after)),
     }
-}
-
-// Reads what comes next in a list.
-fn item<'t>(
-    alloc: Global,
-    walk: &mut Walk<'_>,
-    frames: &mut Vec<Frame>,
-    section: Option<Section>,
-    at: usize,
-    rest: &'t str,
-) -> Result<&'t str, ParseError> {
-    let byte = first(rest);
-    if byte != b']' && byte != b',' {
-        return value(alloc, walk, frames, section, at, rest);
-    }
-    let _ = frames.pop();
-    if byte == b',' {
-        return opened(frames, Frame::List(section.map(next_entry)), skip(rest, 1));
-    }
-    Ok(skip(rest, 1))
 }
 
 // Reads the next part of the text.
@@ -241,50 +177,37 @@ fn turn<'t>(
     rest: &'t str,
 ) -> Result<&'t str, ParseError> {
     let byte = first(rest);
-    match frames.last().copied() {
-        None => {
-            if byte == b'[' {
-                return header(alloc, walk, at, skip(rest, 1));
-            }
-            let section = walk.section;
-            member(alloc, walk, frames, section, at, rest)
+    let Some(frame) = frames.last().copied() else {
+        if byte == b'[' {
+            return header(alloc, walk, at, skip(rest, 1));
         }
-        Some(Frame::List(section)) => item(alloc, walk, frames, section, at, rest),
-        Some(Frame::Table(section)) => {
-            if byte == b'}' {
-                let _ = frames.pop();
-                return Ok(skip(rest, 1));
-            }
-            if byte == b',' {
-                return Ok(skip(rest, 1));
-            }
-            member(alloc, walk, frames, section, at, rest)
-        }
+        let section = walk.section;
+        return member(alloc, walk, frames, section, at, rest);
+    };
+    if byte == frame.closing() {
+        let _ = frames.pop();
+        return Ok(skip(rest, 1));
+    }
+    if byte == b',' {
+        let _ = frames.pop();
+        return opened(frames, frame.next(), skip(rest, 1));
+    }
+    match frame {
+        Frame::Table(section) => member(alloc, walk, frames, section, at, rest),
+        Frame::List(section) => value(alloc, walk, frames, section, at, rest),
     }
 }
 
-// The piece that was begun, if it ends where so many brackets are open.
-fn ended(walk: &Walk<'_>, open: usize) -> Option<Begun> {
+// The piece that was begun, if it ends here, where so many brackets are open.
+fn ended(walk: &Walk<'_>, open: usize, to: usize) -> Option<Proposal> {
     match walk.begun {
-        Some(begun) if begun.behind == open => Some(begun),
+        Some(begun) if begun.behind == open => Some(Proposal {
+            from: begun.from,
+            to,
+            open: begun.before,
+        }),
         _ => None,
     }
-}
-
-// The piece that was begun, and ends here.
-fn proposal(
-    alloc: Global,
-    begun: Begun,
-    frames: &[Frame],
-    to: usize,
-) -> Result<Option<Proposal>, ParseError> {
-    let behind = all_closing(alloc, frames)?;
-    Ok(Some(Proposal {
-        from: begun.from,
-        to,
-        open: begun.before,
-        behind,
-    }))
 }
 
 // Walks on to the end of the piece that is begun first.
@@ -299,19 +222,21 @@ fn walk_on(
         rest = skip_blank(rest, true);
         let at = text.len().saturating_sub(rest.len());
         rest = turn(alloc, walk, frames, at, rest)?;
-        if let Some(begun) = ended(walk, frames.len()) {
-            let to = text.len().saturating_sub(rest.len());
-            return proposal(alloc, begun, frames, to);
+        let to = text.len().saturating_sub(rest.len());
+        let piece = ended(walk, frames.len(), to);
+        if piece.is_some() {
+            return Ok(piece);
         }
     }
     Ok(None)
 }
 
-/// The place that a walk over the text meets first for what is sought.
+/// The place that a walk over the text meets first for what is sought. `frames`, which are empty, become the brackets that are open behind it.
 pub(crate) fn proposed(
     alloc: Global,
     text: &str,
-    sought: Sought<'_>,
+    sought: &Sought<'_>,
+    frames: &mut Vec<Frame>,
 ) -> Result<Option<Proposal>, ParseError> {
     let mut walk = Walk {
         sought,
@@ -319,6 +244,5 @@ pub(crate) fn proposed(
         section: Some(Section::Document),
         begun: None,
     };
-    let mut frames = Vec::new(alloc);
-    walk_on(alloc, &mut walk, &mut frames, text)
+    walk_on(alloc, &mut walk, frames, text)
 }

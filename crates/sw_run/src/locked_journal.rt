@@ -28,13 +28,12 @@ use sw_journal::{Cell, Journal};
 use sw_model::Step;
 use sw_topo::{Chan, LinkEnd, PlaceEnd, Port, PortSet};
 
-/// The journal of one run, and what is noted beside it.
-#[derive(Drop)]
+/// The journal of one run, and what is noted beside it. It is let go by `outcome` and by `discard` alone.
 pub(crate) struct LockedJournal<'a, W: RunIdentity> {
     network: &'a Network,
     journal: Journal<'a>,
     limit: usize,
-    pub(crate) notes: Notes,
+    notes: Notes,
     of: PhantomData<W>,
     ghost network_is: { network.now ≡ W.declared },
     ghost identity_is: { (journal.name ≡ W.name) × (journal.declared ≡ W.declared) × (journal.load ≡ W.load) × (journal.limit ≡ W.limit) },
@@ -42,23 +41,47 @@ pub(crate) struct LockedJournal<'a, W: RunIdentity> {
 }
 
 impl<'a, W: RunIdentity> LockedJournal<'a, W> {
+    /// With the notes, if there was memory for them.
     pub(crate) fn new(
         network: &'a Network,
         journal: Journal<'a>,
         limit: usize,
-        notes: Notes,
-    ) -> LockedJournal<'a, W>
+        notes: Result<Notes, AllocError>,
+    ) -> Result<LockedJournal<'a, W>, AllocError>
         requires network { network.now ≡ W.declared }
         requires identity { (journal.name ≡ W.name) × (journal.declared ≡ W.declared) × (journal.load ≡ W.load) × (journal.limit ≡ W.limit) }
         requires limit { limit ≡ W.limit }
     {
-        LockedJournal {
-            network,
-            journal,
-            limit,
-            notes,
-            of: PhantomData,
+        match notes {
+            Ok(notes) => Ok(LockedJournal {
+                network,
+                journal,
+                limit,
+                notes,
+                of: PhantomData,
+            }),
+            Err(error) => {
+                journal.discard();
+                Err(error)
+            }
         }
+    }
+
+    /// Lets the journal go.
+    pub(crate) fn discard(self) {
+        let LockedJournal {
+            network: _,
+            journal,
+            limit: _,
+            notes: _,
+            of: _,
+        } = self;
+        journal.discard();
+    }
+
+    /// Ends the run for want of memory.
+    pub(crate) fn refuse(&mut self) {
+        let _over = self.notes.end(Stop::Memory);
     }
 
     /// Makes the step of this link end at the cell, if it may be the next.
@@ -201,9 +224,16 @@ impl<'a, W: RunIdentity> LockedJournal<'a, W> {
     pub(crate) fn outcome(self, alloc: Global) -> Result<Outcome<'a>, AllocError>
         ensures { IfOk result (IsOutcome W.declared W.load W.limit) }
     {
-        let stop = why(&self.journal, self.notes.stop(), self.limit);
-        let came_out = all_came_out(alloc, &self.journal, self.network.nodes());
-        outcome_of(self.journal, stop, came_out)
+        let LockedJournal {
+            network,
+            journal,
+            limit,
+            notes,
+            of: _,
+        } = self;
+        let stop = why(&journal, notes.stop(), limit);
+        let came_out = all_came_out(alloc, &journal, network.nodes());
+        outcome_of(journal, stop, came_out)
     }
 }
 
@@ -244,7 +274,7 @@ fn why(journal: &Journal<'_>, stop: Option<Stop>, limit: usize) -> Stop
         Stop::Drained
     } else if journal.is_stuck() {
         Stop::Stuck
-    } else if stop == Some(Stop::JournalFull) && journal.len() == limit {
+    } else if matches!(stop, Some(Stop::JournalFull)) && journal.len() == limit {
         Stop::JournalFull
     } else {
         Stop::Memory
@@ -273,7 +303,7 @@ fn outcome_of<'a>(
             })
         }
         Err(error) => {
-            drop(journal);
+            journal.discard();
             Err(error)
         }
     }

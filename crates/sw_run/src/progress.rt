@@ -22,10 +22,11 @@ fn show<R: Wait + Clock + Eprint>(rt: &R, state: &AtomicU64) {
         if state.load(Ordering::SeqCst) == OVER {
             break;
         }
-        let seconds = begun.elapsed(rt).map_or(shown, |gone| gone.as_secs());
-        if seconds > shown {
-            shown = seconds;
-            let _ = eprint!(rt; "{shown} s\r");
+        if let Ok(gone) = begun.elapsed(rt) {
+            if gone.as_secs() > shown {
+                shown = gone.as_secs();
+                let _ = eprint!(rt; "{shown} s\r");
+            }
         }
         state.park_timeout(rt, GOES_ON as u32, Duration::from_millis(100));
     }

@@ -1,5 +1,5 @@
 //! What the workers of a run share.
-ghost use Rattle.std.specs.Prelude.{◌≡◌, ◌*◌, ◌<◌, All, IfOk, IfSome, length, slice_get};
+ghost use Rattle.std.specs.Prelude.{◌≡◌, ◌*◌, ◌<◌, All, IfSome, length, slice_get};
 ghost use Rattle.sw_config.specs.Entries.{wiring_of};
 ghost use Rattle.sw_run.specs.Cells.{IsCellOf};
 ghost use Rattle.sw_run.specs.Wanted.{cell_place};
@@ -8,8 +8,6 @@ use crate::gate::Gate;
 use crate::locked_cell::{LockedCell, end_at, first_wanted};
 use crate::locked_journal::LockedJournal;
 use crate::naps::Naps;
-use crate::notes::Notes;
-use crate::outcome::Outcome;
 use crate::run_identity::RunIdentity;
 use crate::turn::Turn;
 use std::alloc::{AllocError, Global};
@@ -17,7 +15,7 @@ use std::sync::Mutex;
 use std::sync::atomic::{AtomicBool, AtomicU64, Ordering};
 use sw_cell::CellId;
 use sw_config::Network;
-use sw_journal::{Cell, Journal};
+use sw_journal::Cell;
 use sw_topo::{LinkEnd, PlaceEnd};
 
 /// In one turn, so many steps are made at each link end before the next has its own; a cell that
@@ -37,14 +35,11 @@ pub(crate) struct Slot<W: RunIdentity> {
 }
 
 impl<W: RunIdentity> Slot<W> {
-    fn new(alloc: Global, network: &Network, cell: Cell) -> Result<Slot<W>, AllocError>
-        requires network { network.now ≡ W.declared }
-        requires cell { IsCellOf W.declared W.name cell }
-    {
-        Ok(Slot {
-            cell: Mutex::new(LockedCell::new(alloc, network, cell)?),
+    fn new(cell: LockedCell<W>) -> Slot<W> {
+        Slot {
+            cell: Mutex::new(cell),
             ready: AtomicBool::new(true),
-        })
+        }
     }
 
     fn is_ready(&self) -> bool {
@@ -64,7 +59,7 @@ impl<W: RunIdentity> Slot<W> {
 }
 
 /// What came of a turn, or of turns of several cells.
-#[derive(Clone, Copy, PartialEq, Eq)]
+#[derive(Clone, Copy)]
 pub(crate) enum Found {
     /// A cell had its turn.
     Work,
@@ -84,7 +79,7 @@ struct Made {
 }
 
 /// How a turn ended.
-#[derive(Clone, Copy, PartialEq, Eq)]
+#[derive(Clone, Copy)]
 enum End {
     /// No step is left.
     Idle,
@@ -102,10 +97,10 @@ enum End {
 /// wrong costs time, and never ends a run: and since each such round makes a step or ends the run, it
 /// does not hang one either.
 #[derive(Drop)]
-pub(crate) struct RunState<'a, W: RunIdentity> {
+pub(crate) struct RunState<'j, 'a, W: RunIdentity> {
     pub(crate) network: &'a Network,
     pub(crate) slots: Vec<Slot<W>>,
-    pub(crate) journal: Mutex<LockedJournal<'a, W>>,
+    pub(crate) journal: Mutex<&'j mut LockedJournal<'a, W>>,
     /// How many workers have a turn.
     turns: AtomicU64,
     /// Where workers sleep and are woken.
@@ -136,7 +131,7 @@ pub(crate) fn locked<W: RunIdentity>(
 {
     let mut all: Vec<Slot<W>> = Vec::with_capacity(alloc, cells.len())?;
     for cell in cells {
-        all.push(Slot::new(alloc, network, cell)?)?;
+        all.push(Slot::new(LockedCell::new(alloc, network, cell)?))?;
     }
     Ok(all)
 }
@@ -166,41 +161,18 @@ fn tell<G: Gate>(gate: &G, cell: CellId, made: Option<Made>) -> Found {
     }
 }
 
-impl<'a, W: RunIdentity> RunState<'a, W> {
-    ghost use Rattle.sw_run.specs.Outcomes.{IsOutcome};
-
-    /// With the notes and with the cells behind their locks, if there was memory for them.
+impl<'j, 'a, W: RunIdentity> RunState<'j, 'a, W> {
     pub(crate) fn new(
         network: &'a Network,
-        journal: Journal<'a>,
-        limit: usize,
-        notes: Result<Notes, AllocError>,
-        slots: Result<Vec<Slot<W>>, AllocError>,
-    ) -> Result<RunState<'a, W>, AllocError>
-        requires network { network.now ≡ W.declared }
-        requires identity { (journal.name ≡ W.name) × (journal.declared ≡ W.declared) × (journal.load ≡ W.load) × (journal.limit ≡ W.limit) }
-        requires limit { limit ≡ W.limit }
-    {
-        match slots {
-            Ok(slots) => match notes {
-                Ok(notes) => Ok(RunState {
-                    network,
-                    slots,
-                    journal: Mutex::new(LockedJournal::new(network, journal, limit, notes)),
-                    turns: AtomicU64::new(0),
-                    naps: Naps::new(),
-                }),
-                Err(error) => {
-                    drop(journal);
-                    drop(slots);
-                    Err(error)
-                }
-            },
-            Err(error) => {
-                drop(journal);
-                drop(notes);
-                Err(error)
-            }
+        journal: &'j mut LockedJournal<'a, W>,
+        slots: Vec<Slot<W>>,
+    ) -> RunState<'j, 'a, W> {
+        RunState {
+            network,
+            slots,
+            journal: Mutex::new(journal),
+            turns: AtomicU64::new(0),
+            naps: Naps::new(),
         }
     }
 
@@ -254,7 +226,7 @@ impl<'a, W: RunIdentity> RunState<'a, W> {
             };
             let made = self.serve_end(alloc, journal, locked, end, place);
             all.steps = all.steps.saturating_add(made.steps);
-            if made.end == End::Over {
+            if matches!(made.end, End::Over) {
                 all.end = End::Over;
                 return all;
             }
@@ -293,7 +265,7 @@ impl<'a, W: RunIdentity> RunState<'a, W> {
             let made = self.serve_ends(alloc, journal, locked);
             all.steps = all.steps.saturating_add(made.steps);
             all.end = made.end;
-            if made.end != End::More || all.steps >= MOST_STEPS {
+            if !matches!(made.end, End::More) || all.steps >= MOST_STEPS {
                 return all;
             }
         }
@@ -314,7 +286,7 @@ impl<'a, W: RunIdentity> RunState<'a, W> {
         let mut journal = self.journal.try_lock()?;
         slot.lower();
         let made = self.serve(alloc, &mut journal, locked, first);
-        if made.end == End::More {
+        if matches!(made.end, End::More) {
             slot.raise();
         }
         Some(made)
@@ -349,19 +321,5 @@ impl<'a, W: RunIdentity> RunState<'a, W> {
             slot.raise();
         }
         true
-    }
-
-    /// The outcome, when no worker is left.
-    pub(crate) fn outcome(self, alloc: Global) -> Result<Outcome<'a>, AllocError>
-        ensures { IfOk result (IsOutcome W.declared W.load W.limit) }
-    {
-        let RunState {
-            network: _,
-            slots: _,
-            journal,
-            turns: _,
-            naps: _,
-        } = self;
-        journal.into_inner().outcome(alloc)
     }
 }

@@ -5,6 +5,7 @@ ghost use Rattle.sw_run.specs.Cells.{IsCellOf};
 ghost use Rattle.sw_run.specs.Outcomes.{IsOutcome};
 
 use crate::gate::Gate;
+use crate::locked_journal::LockedJournal;
 use crate::notes::Notes;
 use crate::outcome::Outcome;
 use crate::run_identity::RunIdentity;
@@ -17,6 +18,32 @@ use std::thread::Threads;
 use sw_config::Network;
 use sw_journal::{Cell, Journal};
 use sw_load::Load;
+
+/// The workers work on the cells and the journal of one run, until it is over.
+fn work_all<'a, W: RunIdentity + Send + Sync, G: Gate + Sync, R: Threads + Wait + Sync>(
+    rt: &R,
+    alloc: Global,
+    network: &'a Network,
+    journal: &mut LockedJournal<'a, W>,
+    cells: Vec<Cell>,
+    workers: usize,
+    gate: &G,
+) -> Result<(), AllocError>
+    requires network { network.now ≡ W.declared }
+    requires cells { All (IsCellOf W.declared W.name) cells.items }
+    requires some { 0 < workers }
+{
+    let slots = locked::<W>(alloc, network, cells)?;
+    let shared = RunState::new(network, journal, slots);
+    let crew = RunCrew {
+        rt,
+        alloc,
+        shared: &shared,
+        gate,
+    };
+    start_all(rt, &crew, workers);
+    Ok(())
+}
 
 /// Runs the workers on the cells and the journal of one run.
 fn run_named<'a, W: RunIdentity + Send + Sync, G: Gate + Sync, R: Threads + Wait + Sync>(
@@ -37,16 +64,14 @@ fn run_named<'a, W: RunIdentity + Send + Sync, G: Gate + Sync, R: Threads + Wait
     ensures { IfOk result (IsOutcome W.declared W.load W.limit) }
 {
     let notes = Notes::new(alloc, network.channels());
-    let slots = locked::<W>(alloc, network, cells);
-    let shared: RunState<'a, W> = RunState::new(network, journal, limit, notes, slots)?;
-    let crew = RunCrew {
-        rt,
-        alloc,
-        shared: &shared,
-        gate,
-    };
-    start_all(rt, &crew, workers);
-    shared.outcome(alloc)
+    let mut journal = LockedJournal::<'a, W>::new(network, journal, limit, notes)?;
+    match work_all(rt, alloc, network, &mut journal, cells, workers, gate) {
+        Ok(()) => journal.outcome(alloc),
+        Err(error) => {
+            journal.discard();
+            Err(error)
+        }
+    }
 }
 
 /// Sends the packets of the load over the network, by so many threads, until nothing can go on or

@@ -3,7 +3,7 @@
 use sw_topo::LinkEnd;
 
 /// What a link end did.
-#[derive(Clone, Copy, PartialEq, Eq)]
+#[derive(Clone, Copy)]
 pub(crate) enum Turn {
     /// It made a step that no other cell can see.
     Moved,

@@ -3,7 +3,6 @@ ghost use Rattle.std.specs.Prelude.{◌<◌};
 
 use crate::gate::Gate;
 use crate::naps::SHORTEST;
-use crate::outcome::Stop;
 use crate::run_identity::RunIdentity;
 use crate::run_state::{Found, RunState};
 use std::alloc::Global;
@@ -15,7 +14,7 @@ use std::thread::Threads;
 /// others.
 fn round<W: RunIdentity, G: Gate>(
     alloc: Global,
-    shared: &RunState<'_, W>,
+    shared: &RunState<'_, '_, W>,
     gate: &G,
     from: usize,
 ) -> Found {
@@ -27,7 +26,7 @@ fn round<W: RunIdentity, G: Gate>(
             Found::Work => all = Found::Work,
             Found::Nothing => {}
             Found::Held => {
-                if all == Found::Nothing {
+                if matches!(all, Found::Nothing) {
                     all = Found::Held;
                 }
             }
@@ -52,14 +51,14 @@ pub(crate) trait Crew {
 
 /// The crew of a run.
 #[derive(Drop)]
-pub(crate) struct RunCrew<'s, 'a, W: RunIdentity, G: Gate, R: Wait> {
+pub(crate) struct RunCrew<'s, 'j, 'a, W: RunIdentity, G: Gate, R: Wait> {
     pub(crate) rt: &'s R,
     pub(crate) alloc: Global,
-    pub(crate) shared: &'s RunState<'a, W>,
+    pub(crate) shared: &'s RunState<'j, 'a, W>,
     pub(crate) gate: &'s G,
 }
 
-impl<'s, 'a, W: RunIdentity, G: Gate, R: Wait> Crew for RunCrew<'s, 'a, W, G, R> {
+impl<'s, 'j, 'a, W: RunIdentity, G: Gate, R: Wait> Crew for RunCrew<'s, 'j, 'a, W, G, R> {
     /// Goes on until the run is over. A worker with no cell has nothing to do.
     fn work(&self, worker: usize) {
         let shared = self.shared;
@@ -93,7 +92,7 @@ impl<'s, 'a, W: RunIdentity, G: Gate, R: Wait> Crew for RunCrew<'s, 'a, W, G, R>
 
     /// Ends the run.
     fn refuse(&self) {
-        let _over = self.shared.journal.lock(self.rt).notes.end(Stop::Memory);
+        self.shared.journal.lock(self.rt).refuse();
         self.shared.naps.end();
     }
 }

@@ -119,5 +119,7 @@ pub fn locked_up_parts(
     ensures { IfOk result (λ o. TellsLocked network.now schedule.now (option_map (λ all. all.items) o)) }
 {
     let mut net = declared_net(alloc, network)?;
-    parts_after(alloc, &mut net, schedule)
+    let parts = parts_after(alloc, &mut net, schedule);
+    net.discard();
+    parts
 }

@@ -38,5 +38,7 @@ pub fn replay(alloc: Global, network: &Network, schedule: &Schedule) -> Result<R
     ensures { IfOk result (λ r. IsReplayed network.now schedule.now (report_of r)) }
 {
     let mut net = declared_net(alloc, network)?;
-    replay_on(alloc, &mut net, schedule)
+    let replayed = replay_on(alloc, &mut net, schedule);
+    net.discard();
+    replayed
 }

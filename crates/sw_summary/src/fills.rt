@@ -99,5 +99,7 @@ pub fn greatest_fills(
     ensures { IfOk result (λ o. AreFillsOrNone (network_of network.now) (map machine_step steps.now) (option_map (λ v. v.items) o)) }
 {
     let mut net = declared_net(alloc, network)?;
-    noted_fills(alloc, network, &mut net, steps)
+    let fills = noted_fills(alloc, network, &mut net, steps);
+    net.discard();
+    fills
 }

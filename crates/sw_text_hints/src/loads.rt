@@ -13,7 +13,7 @@ use sw_hints::{
     what_text,
 };
 use sw_load::read_load;
-use sw_notes::text_of;
+use sw_notes::{text_fault, text_of};
 use sw_toml_table::{FileFault, Key, KeyFault, Section, TextFault, read_document};
 use toml::Table;
 
@@ -134,11 +134,10 @@ pub(crate) fn document_in(alloc: Global, text: &[u8]) -> Result<Option<Table>, A
 {
     match read_document(alloc, text) {
         Ok(document) => Ok(Some(document)),
-        Err(FileFault::Text(fault)) => {
-            drop(fault);
+        Err(refused) => {
+            text_fault(refused)?;
             Ok(None)
         }
-        Err(FileFault::Memory) => Err(AllocError),
     }
 }
 
@@ -266,13 +265,12 @@ pub fn load_hint(
     match read_network(alloc, network) {
         Ok(read) => {
             let hint = hint_for(alloc, path, network, &read, load);
-            drop(read);
+            read.discard();
             hint
         }
-        Err(FileFault::Text(fault)) => {
-            drop(fault);
+        Err(refused) => {
+            text_fault(refused)?;
             Ok(None)
         }
-        Err(FileFault::Memory) => Err(AllocError),
     }
 }

@@ -13,8 +13,9 @@ use std::alloc::{AllocError, Global};
 use sw_config::Network;
 use sw_file::read_network;
 use sw_hints::{found_line, like, meant_help, names_of, shown, told};
+use sw_notes::text_fault;
 use sw_schedule::{ScheduleFault, read_steps};
-use sw_toml_table::{FileFault, Key};
+use sw_toml_table::Key;
 use toml::Table;
 
 // What is wrong with a word that is none of what is wanted.
@@ -315,13 +316,12 @@ pub fn schedule_hint(
     match read_network(alloc, network) {
         Ok(read) => {
             let hint = hint_for(alloc, path, network, &read, schedule);
-            drop(read);
+            read.discard();
             hint
         }
-        Err(FileFault::Text(fault)) => {
-            drop(fault);
+        Err(refused) => {
+            text_fault(refused)?;
             Ok(None)
         }
-        Err(FileFault::Memory) => Err(AllocError),
     }
 }

@@ -3,3 +3,4 @@ mod LastPlace
 mod FlowWays
 mod FlowNames
 pub mod TextsMade
+mod WordsBehind

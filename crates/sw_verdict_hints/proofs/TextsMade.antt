@@ -4,7 +4,24 @@ use Rattle.std.specs.Prelude.{String}
 use Rattle.std.specs.declared.alloc.Global.{Global}
 use Rattle.std.proofs.lemmas.Result.{IfOk-weaker}
 use Rattle.sw_hints.specs.HintLines.{told}
-use Rattle.sw_verdict_hints.specs.MadeTexts.{AreInTurn, AreTwoLines}
+use Rattle.sw_verdict_hints.specs.MadeTexts.{AreInTurn, AreTwoLines, IsTold}
+
+line_is : {E : Type 0} (words : Result (String Global) E) (word a line : List ℕ) → IfOk words (λ s. string_bytes s ≡ a) → IsTold word words line → line ≡ told word a
+line_is (Ok w) word a line is_a is = is ∙ ap (told word) is_a
+line_is (Err e) word a line is_a is = absurd is
+
+-- the line of a text
+pub told_if : {E : Type 0} (r words : Result (String Global) E) (word a : List ℕ) → IfOk r (λ s. IsTold word words (string_bytes s)) → IfOk words (λ s. string_bytes s ≡ a)
+    → IfOk r (λ s. string_bytes s ≡ told word a)
+told_if r words word a made is_a =
+    IfOk-weaker r (λ s. IsTold word words (string_bytes s)) (λ s. string_bytes s ≡ told word a) (λ s is. line_is words word a (string_bytes s) is_a is) made
+
+-- the lines of two texts, each told by itself
+pub lines_told : {E : Type 0} (found behind : Result (String Global) E) (word a b lines : List ℕ) → IsTold (codes "found") found a → IsTold word behind b
+    → lines ≡ a ++ b → AreTwoLines found word behind lines
+lines_told (Ok f) (Ok e) word a b lines is_a is_b are = are ∙ ap (λ t. t ++ b) is_a ∙ ap (λ t. told (codes "found") (string_bytes f) ++ t) is_b
+lines_told (Ok f) (Err x) word a b lines is_a is_b are = absurd is_b
+lines_told (Err x) behind word a b lines is_a is_b are = absurd is_a
 
 lines_are : {E : Type 0} (found behind : Result (String Global) E) (word a b lines : List ℕ) → IfOk found (λ s. string_bytes s ≡ a)
     → IfOk behind (λ s. string_bytes s ≡ b) → AreTwoLines found word behind lines → lines ≡ told (codes "found") a ++ told word b

@@ -7,15 +7,15 @@ use crate::certificate_numbers::not_rising_lines;
 use crate::certificate_places::{
     faulty_lines, no_start_lines, not_closed_lines, wrong_count_lines,
 };
-use crate::made_texts::in_turn;
+use crate::made_texts::{in_turn, told_of};
 use std::alloc::{AllocError, Global};
 use sw_cert::{Certificate, CertificateFault};
 use sw_check::{Refusal, check};
 use sw_config::Network;
 use sw_file::read_network;
-use sw_hints::{head_line, told};
+use sw_hints::head_line;
+use sw_notes::text_fault;
 use sw_search::VerdictWorkers;
-use sw_toml_table::FileFault;
 
 fn refusal_lines(
     alloc: Global,
@@ -45,13 +45,14 @@ fn certificate_head(alloc: Global, certificate: &str, network: &str) -> Result<S
     head_line(alloc, certificate, &[], None, words.as_str())
 }
 
+#[tactic(auto, using(crate::proofs::TextsMade::told_if))]
 fn certificate_help(alloc: Global, network: &str) -> Result<String, AllocError>
     ensures { IfOk result (λ s. string_bytes s ≡ certificate_help network.now) }
 {
     let words = format!(in alloc;
         "swcheck decide {network} writes a certificate where there is one"
-    )?;
-    told(alloc, "help", words.as_bytes())
+    );
+    told_of(alloc, "help", words)
 }
 
 /// The names of the two files.
@@ -141,10 +142,9 @@ pub fn refused_certificate_hint<W: VerdictWorkers>(
             network.discard();
             hint
         }
-        Err(FileFault::Text(fault)) => {
-            drop(fault);
+        Err(refused) => {
+            text_fault(refused)?;
             Ok(None)
         }
-        Err(FileFault::Memory) => Err(AllocError),
     }
 }

@@ -1,11 +1,11 @@
 //! Which numbers of a certificate do not rise, in words.
-ghost use Rattle.std.specs.Prelude.{◌≡◌, ◌≤◌, ◌==◌, ◌&&◌, IfOk, length, slice_index, string_bytes};
+ghost use Rattle.std.specs.Prelude.{◌≡◌, ◌≤◌, ◌==◌, ◌++◌, ◌&&◌, IfOk, codes, length, slice_index, string_bytes};
 ghost use Rattle.std.specs.List.{list_any};
 ghost use Rattle.sw_flow.specs.Followers.{followers_of};
 ghost use Rattle.sw_verdict_hints.specs.CertificateHints.{above_words, cause_words, channel_words, goer, goes_on, goes_on_at, not_rising_lines, number_words, rising_found};
 
 use crate::certificate_places::listed_for;
-use crate::made_texts::two_lines;
+use crate::made_texts::{in_turn, two_lines};
 use std::alloc::{AllocError, Global};
 use sw_cert::Certificate;
 use sw_config::{Flow, Network};
@@ -35,17 +35,19 @@ fn number_of(numbers: &[u16], channel: Chan) -> u16
     }
 }
 
+// The channel and its number, behind these words.
 fn number_words(
     alloc: Global,
+    before: &str,
     network: &Network,
     numbers: &[u16],
     channel: Chan,
 ) -> Result<String, AllocError>
-    ensures { IfOk result (λ s. string_bytes s ≡ number_words network.now numbers.now channel) }
+    ensures { IfOk result (λ s. string_bytes s ≡ before.now ++ number_words network.now numbers.now channel) }
 {
     let number = number_of(numbers, channel);
     let words = channel_words(alloc, network, channel)?;
-    format!(in alloc; "number {number} at {words}")
+    format!(in alloc; "{before}number {number} at {words}")
 }
 
 // Is one of the places on the channel?
@@ -114,15 +116,16 @@ fn goer(network: &Network, certificate: &Certificate, from: Chan, to: Chan) -> O
     None
 }
 
+// The cause, behind a comma.
 fn cause_words(alloc: Global, network: &Network, flow: Option<u16>) -> Result<String, AllocError>
-    ensures { IfOk result (λ s. string_bytes s ≡ cause_words network.now flow) }
+    ensures { IfOk result (λ s. string_bytes s ≡ codes ", " ++ cause_words network.now flow) }
 {
     match flow {
         Some(number) => {
             let name = flow_name(network, number);
-            format!(in alloc; "to which flow {name} goes on")
+            format!(in alloc; ", to which flow {name} goes on")
         }
-        None => String::from_str(alloc, "on which its target answers"),
+        None => String::from_str(alloc, ", on which its target answers"),
     }
 }
 
@@ -137,10 +140,10 @@ fn rising_found(
     ensures { IfOk result (λ s. string_bytes s ≡ rising_found network.now certificate.now channel next) }
 {
     let numbers = certificate.numbers();
-    let first = number_words(alloc, network, numbers, channel)?;
-    let second = number_words(alloc, network, numbers, next)?;
-    let cause = cause_words(alloc, network, goer(network, certificate, channel, next))?;
-    format!(in alloc; "{first}, and {second}, {cause}")
+    let first = number_words(alloc, "", network, numbers, channel);
+    let second = number_words(alloc, ", and ", network, numbers, next);
+    let cause = cause_words(alloc, network, goer(network, certificate, channel, next));
+    in_turn(alloc, first, second, cause)
 }
 
 fn above_words(alloc: Global, least: u16, channel: u16) -> Result<String, AllocError>

@@ -3,7 +3,7 @@ ghost use Rattle.std.specs.Prelude.{◌≡◌, ◌<◌, ◌≤◌, ◌++◌, IfO
 ghost use Rattle.sw_config.specs.Entries.{all_flows};
 ghost use Rattle.sw_check.specs.Refusals.{is_in_range, is_listed, start_of};
 ghost use Rattle.sw_topo.specs.Checked.{first_below};
-ghost use Rattle.sw_verdict_hints.specs.CertificateHints.{count_words, counts_lines, counts_of_contents, counts_of_network, faulty_lines, followed_words, is_of_size, is_outside_at, limits_words, listed_for, missing, missing_lines, no_start_lines, not_closed_lines, outside, outside_at, outside_lines, place_words, range_lines, range_words, wrong_count_lines};
+ghost use Rattle.sw_verdict_hints.specs.CertificateHints.{count_words, counts_lines, faulty_lines, is_of_size, is_outside_at, limits_words, listed_for, missing, missing_lines, no_start_lines, not_closed_lines, outside, outside_at, outside_lines, place_words, range_lines, range_words, wrong_count_lines};
 ghost use Rattle.sw_verdict_hints.specs.RouteHints.{found_words};
 
 use crate::made_texts::two_lines;
@@ -22,6 +22,15 @@ fn place_words(alloc: Global, place: &Place, flow: &str) -> Result<String, Alloc
     let channel = place.channel.number();
     let deleted = place.deleted;
     format!(in alloc; "place {channel} {deleted} of flow {flow}")
+}
+
+// The same with words behind it.
+fn place_with(alloc: Global, place: &Place, flow: &str, words: &str) -> Result<String, AllocError>
+    ensures { IfOk result (λ s. string_bytes s ≡ place_words place.now flow.now ++ (codes ", " ++ words.now)) }
+{
+    let channel = place.channel.number();
+    let deleted = place.deleted;
+    format!(in alloc; "place {channel} {deleted} of flow {flow}, {words}")
 }
 
 // ---- wrong counts
@@ -143,19 +152,6 @@ fn is_of_size(network: &Network, certificate: &Certificate) -> bool
         && certificate.flows() == network.flows() as usize
 }
 
-fn counts_of_contents(alloc: Global, certificate: &Certificate) -> Result<String, AllocError>
-    ensures { IfOk result (λ s. string_bytes s ≡ counts_of_contents certificate.now) }
-{
-    count_words(alloc, certificate.numbers().len(), certificate.flows())
-}
-
-fn counts_of_network(alloc: Global, network: &Network) -> Result<String, AllocError>
-    ensures { IfOk result (λ s. string_bytes s ≡ counts_of_network network.now) }
-{
-    count_words(alloc, network.channels() as usize, network.flows() as usize)
-}
-
-#[tactic(auto, using(crate::proofs::TextsMade::two_lines_if))]
 fn counts_lines(
     alloc: Global,
     network: &Network,
@@ -163,8 +159,9 @@ fn counts_lines(
 ) -> Result<String, AllocError>
     ensures { IfOk result (λ s. string_bytes s ≡ counts_lines network.now certificate.now) }
 {
-    let found = counts_of_contents(alloc, certificate);
-    two_lines(alloc, found, "expected", counts_of_network(alloc, network))
+    let found = count_words(alloc, certificate.numbers().len(), certificate.flows());
+    let expected = count_words(alloc, network.channels() as usize, network.flows() as usize);
+    two_lines(alloc, found, "expected", expected)
 }
 
 /// Of counts that are not the network's, or else of a place that it can't have.
@@ -213,8 +210,7 @@ pub(crate) fn no_start_lines(
     if number < network.flows() {
         let flow = network.flow(number);
         let start = start_of(network, flow);
-        let place = place_words(alloc, &start, flow.name())?;
-        let words = format!(in alloc; "{place}, where it starts")?;
+        let words = place_with(alloc, &start, flow.name(), "where it starts")?;
         told(alloc, "expected", words.as_bytes())
     } else {
         Ok(String::new(alloc))
@@ -252,13 +248,6 @@ fn missing(network: &Network, flow: &Flow, listed: &[Place], place: &Place) -> O
     first_unlisted(listed, followers_in(network, flow, *place))
 }
 
-fn followed_words(alloc: Global, next: &Place, flow: &str) -> Result<String, AllocError>
-    ensures { IfOk result (λ s. string_bytes s ≡ followed_words next.now flow.now) }
-{
-    let place = place_words(alloc, next, flow)?;
-    format!(in alloc; "{place}, which follows it")
-}
-
 #[tactic(auto, using(crate::proofs::TextsMade::two_lines_if))]
 fn missing_lines(
     alloc: Global,
@@ -269,7 +258,8 @@ fn missing_lines(
     ensures { IfOk result (λ s. string_bytes s ≡ missing_lines flow.now place.now next.now) }
 {
     let found = place_words(alloc, place, flow);
-    two_lines(alloc, found, "expected", followed_words(alloc, next, flow))
+    let expected = place_with(alloc, next, flow, "which follows it");
+    two_lines(alloc, found, "expected", expected)
 }
 
 /// Of a place that another follows, which is not listed.
@@ -306,9 +296,8 @@ fn faulty_found(
 ) -> Result<String, AllocError>
     ensures { IfOk result (λ s. string_bytes s ≡ place_words place.now flow.now ++ (codes ", " ++ found_words network.now place.now fault)) }
 {
-    let words = place_words(alloc, place, flow)?;
-    let found = found_words(alloc, network, place, fault)?;
-    format!(in alloc; "{words}, {found}")
+    let words = found_words(alloc, network, place, fault)?;
+    place_with(alloc, place, flow, words.as_str())
 }
 
 /// Of a place with a fault.

@@ -3,7 +3,7 @@ ghost use Rattle.std.specs.Prelude.{◌≡◌, ◌<◌, IfOk, Some, length, slic
 ghost use Rattle.sw_topo.specs.Checked.{IsIn};
 ghost use Rattle.sw_verdict_hints.specs.RouteHints.{address_words, ends_help, help_words, links_words, no_route_help, wrong_left_help, wrong_node_help};
 
-use crate::ways::number_words;
+use crate::ways::add_numbers;
 use std::alloc::{AllocError, Global};
 use sw_config::{Flow, Network};
 use sw_flow::RouteFault;
@@ -17,8 +17,9 @@ fn links_words(alloc: Global, network: &Network, switch: u16) -> Result<String, 
 {
     let name = switch_name(network, switch);
     let linked = linked_ports(alloc, network, switch)?;
-    let ports = number_words(alloc, &linked)?;
-    format!(in alloc; "{name} has links at ports{ports}")
+    let mut text = format!(in alloc; "{name} has links at ports")?;
+    add_numbers(&mut text, &linked)?;
+    Ok(text)
 }
 
 // Where the address bytes of the flow of this number stand.

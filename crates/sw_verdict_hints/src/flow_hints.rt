@@ -3,16 +3,18 @@ ghost use Rattle.std.specs.Prelude.{◌≡◌, IfOk, Some, map, option_map, posi
 ghost use Rattle.std.specs.Str.{bytes_eq};
 ghost use Rattle.sw_config.specs.Entries.{all_flows, flow_names};
 ghost use Rattle.sw_flow.specs.Places.{IsPlace};
+ghost use Rattle.sw_hints.specs.Helps.{meant_help};
+ghost use Rattle.sw_hints.specs.Nearest.{like};
 ghost use Rattle.sw_verdict_hints.specs.FlowHints.{IsHintAt, IsHintNamed, IsHintOn, IsNamedFlowHint, name_help, unknown_hint};
 
-use crate::made_texts::in_turn;
+use crate::made_texts::{in_turn, told_of};
 use crate::route_hints::flow_hint;
 use std::alloc::{AllocError, Global};
 use sw_config::{Flow, Network};
 use sw_file::read_network;
 use sw_flow::{Place, RouteFault, first_fault, places, way_to};
 use sw_hints::{head_line, like, meant_help, told};
-use sw_toml_table::FileFault;
+use sw_notes::text_fault;
 
 // The names of all flows.
 fn flow_names(alloc: Global, network: &Network) -> Result<Vec<&str>, AllocError>
@@ -25,13 +27,20 @@ fn flow_names(alloc: Global, network: &Network) -> Result<Vec<&str>, AllocError>
     Ok(names)
 }
 
-// Which flow is meant, maybe, where none has this name.
+// Which flow is meant, maybe.
+fn meant_name(alloc: Global, network: &Network, name: &str) -> Result<String, AllocError>
+    ensures { IfOk result (λ s. string_bytes s ≡ meant_help (like name.now (flow_names (all_flows network.now)))) }
+{
+    let names = flow_names(alloc, network)?;
+    meant_help(alloc, like(alloc, name, &names)?)
+}
+
+// The line of it, where none has this name.
+#[tactic(auto, using(crate::proofs::TextsMade::told_if))]
 fn name_help(alloc: Global, network: &Network, name: &str) -> Result<String, AllocError>
     ensures { IfOk result (λ s. string_bytes s ≡ name_help network.now name.now) }
 {
-    let names = flow_names(alloc, network)?;
-    let words = meant_help(alloc, like(alloc, name, &names)?)?;
-    told(alloc, "help", words.as_bytes())
+    told_of(alloc, "help", meant_name(alloc, network, name))
 }
 
 // That no flow has this name, and which one is meant, maybe.
@@ -122,10 +131,9 @@ pub fn named_flow_hint(
             network.discard();
             hint
         }
-        Err(FileFault::Text(fault)) => {
-            drop(fault);
+        Err(refused) => {
+            text_fault(refused)?;
             Ok(None)
         }
-        Err(FileFault::Memory) => Err(AllocError),
     }
 }

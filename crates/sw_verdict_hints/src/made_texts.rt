@@ -1,9 +1,24 @@
 //! Texts of others that are made.
 ghost use Rattle.std.specs.Prelude.{IfOk, string_bytes};
-ghost use Rattle.sw_verdict_hints.specs.MadeTexts.{AreInTurn, AreTwoLines};
+ghost use Rattle.sw_verdict_hints.specs.MadeTexts.{AreInTurn, AreTwoLines, IsTold};
 
 use std::alloc::{AllocError, Global};
 use sw_hints::told;
+
+/// A line that this word begins.
+///
+/// # Errors
+///
+/// There was no memory for what is told, or there is none for the line.
+pub(crate) fn told_of(
+    alloc: Global,
+    word: &str,
+    words: Result<String, AllocError>,
+) -> Result<String, AllocError>
+    ensures { IfOk result (λ s. IsTold word.now words (string_bytes s)) }
+{
+    told(alloc, word, words?.as_bytes())
+}
 
 /// A line of what was found, and one that this word begins.
 ///
@@ -18,8 +33,8 @@ pub(crate) fn two_lines(
 ) -> Result<String, AllocError>
     ensures { IfOk result (λ s. AreTwoLines found word.now behind (string_bytes s)) }
 {
-    let found = told(alloc, "found", found?.as_bytes())?;
-    let behind = told(alloc, word, behind?.as_bytes())?;
+    let found = told_of(alloc, "found", found)?;
+    let behind = told_of(alloc, word, behind)?;
     format!(in alloc; "{found}{behind}")
 }
 

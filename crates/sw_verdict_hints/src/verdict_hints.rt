@@ -11,8 +11,8 @@ use sw_config::Network;
 use sw_file::read_network;
 use sw_flow::{Place, RouteFault};
 use sw_hints::head_line;
+use sw_notes::text_fault;
 use sw_search::{Explanation, VerdictWorkers, explain};
-use sw_toml_table::FileFault;
 
 /// Of which verdicts there is a hint.
 #[derive(Clone, Copy)]
@@ -105,11 +105,10 @@ fn text_hint<W: VerdictWorkers>(
             network.discard();
             hint
         }
-        Err(FileFault::Text(fault)) => {
-            drop(fault);
+        Err(refused) => {
+            text_fault(refused)?;
             Ok(None)
         }
-        Err(FileFault::Memory) => Err(AllocError),
     }
 }
 

@@ -57,9 +57,9 @@ fn behind_address(
     reply: &Reply,
 ) -> Result<Vec<u8>, AllocError> {
     let header = header(alloc, target, reply)?;
-    let bytes = [left, behind(&header, left.len())].concat(alloc)?;
-    let code = [crc(&bytes)];
-    [behind(&bytes, left.len()), code.as_slice()].concat(alloc)
+    let bytes = behind(&header, left.len());
+    let code = [crc(&[left, bytes].concat(alloc)?)];
+    [bytes, code.as_slice()].concat(alloc)
 }
 
 /// The cargo of a command of the flow; none where the flow has no replies, or ends at no target.

@@ -13,6 +13,21 @@ fn channel_words(alloc: Global, network: &Network, channel: Chan) -> Result<Stri
     channel_text(alloc, network, channel)
 }
 
+/// A line with these words, the name behind the first of them, and a channel behind each other.
+fn note(
+    alloc: Global,
+    network: &Network,
+    words: [&str; 3],
+    name: &str,
+    from: Chan,
+    to: Chan,
+) -> Result<String, AllocError> {
+    let [begun, held, wanted] = words;
+    let from = channel_words(alloc, network, from)?;
+    let to = channel_words(alloc, network, to)?;
+    format!(in alloc; "# {begun}{name} {held} {from} {wanted} {to}\n")
+}
+
 /// That packets of the flow are to hold the one channel and to wait for the other.
 pub(crate) fn flow_note(
     alloc: Global,
@@ -21,10 +36,8 @@ pub(crate) fn flow_note(
     from: Chan,
     to: Chan,
 ) -> Result<String, AllocError> {
-    let name = flow_name(network, flow);
-    let from = channel_words(alloc, network, from)?;
-    let to = channel_words(alloc, network, to)?;
-    format!(in alloc; "# a packet of {name} is to hold {from} and to wait for {to}\n")
+    let words = ["a packet of ", "is to hold", "and to wait for"];
+    note(alloc, network, words, flow_name(network, flow), from, to)
 }
 
 /// That the target is to take nothing from the one channel until a reply has left on the other.
@@ -35,8 +48,6 @@ pub(crate) fn target_note(
     from: Chan,
     to: Chan,
 ) -> Result<String, AllocError> {
-    let name = node_name(network, node);
-    let from = channel_words(alloc, network, from)?;
-    let to = channel_words(alloc, network, to)?;
-    format!(in alloc; "# {name} is to take nothing from {from} until its reply has left on {to}\n")
+    let words = ["", "is to take nothing from", "until its reply has left on"];
+    note(alloc, network, words, node_name(network, node), from, to)
 }

@@ -4,9 +4,9 @@ use crate::command::command_cargo;
 use crate::random::Random;
 use crate::trial::Trial;
 use crate::way::way_onto;
+use crate::worm::{begin, place_packets};
 use std::alloc::{AllocError, Global};
-use sw_char::End;
-use sw_config::{Flow, Network};
+use sw_config::Network;
 use sw_flow::Place;
 use sw_model::Step;
 use sw_topo::Chan;
@@ -31,44 +31,27 @@ fn answered_flow(network: &Network, reply: u16) -> Option<u16> {
     None
 }
 
-/// Begins a command of the flow.
-fn begin_command(
-    alloc: Global,
-    network: &Network,
-    trial: &mut Trial<'_>,
-    flow: u16,
-) -> Result<bool, AllocError> {
-    if flow >= network.flows() {
-        return Ok(false);
+/// Is the declared flow of that number one whose packets the node answers?
+fn is_answered_at(network: &Network, number: u16, node: u16) -> bool {
+    if number >= network.declared_flows() {
+        return false;
     }
-    let Some(cargo) = command_cargo(alloc, network, network.flow(flow))? else {
-        return Ok(false);
-    };
-    let step = Step::Begin {
-        flow,
-        cargo,
-        end: End::Eop,
-    };
-    trial.make(alloc, step)
-}
-
-/// Is the flow one whose packets the node of that number answers?
-fn is_answered_at(flow: &Flow, node: u16) -> bool {
+    let flow = network.flow(number);
     flow.to() == node && flow.reply().is_some()
 }
 
-/// A declared flow whose packets the node answers, from that number on.
+/// A declared flow whose packets the node answers, the first from that number on, or from 0 on.
 fn flow_to(network: &Network, node: u16, first: u16) -> Option<u16> {
     let flows = network.declared_flows();
-    for flow in first..flows {
-        if is_answered_at(network.flow(flow), node) {
+    let mut flow = first;
+    for _ in 0..flows {
+        if flow >= flows {
+            flow = 0;
+        }
+        if is_answered_at(network, flow, node) {
             return Some(flow);
         }
-    }
-    for flow in 0..flows {
-        if is_answered_at(network.flow(flow), node) {
-            return Some(flow);
-        }
+        flow = flow.saturating_add(1);
     }
     None
 }
@@ -84,14 +67,13 @@ fn place_commands(
     if flow >= network.flows() {
         return Ok(());
     }
-    let source = network.flow(flow).from();
-    for _ in 0..MOST_COMMANDS {
-        if !begin_command(alloc, network, trial, flow)? {
-            break;
+    let entry = network.flow(flow);
+    match command_cargo(alloc, network, entry)? {
+        Some(cargo) => {
+            place_packets(alloc, trial, flow, entry.from(), &cargo, MOST_COMMANDS, way)
         }
-        trial.place(alloc, source, way)?;
+        None => Ok(()),
     }
-    Ok(())
 }
 
 /// Fills the channel into a target with commands that it answers.
@@ -125,7 +107,7 @@ fn answer(
     for _ in 0..MOST_ROUNDS {
         let came = trial.advance(alloc, source, there)?;
         let taken = trial.repeat(alloc, Step::Accept(target), 64)?;
-        let replied = trial.make(alloc, Step::Reply(target))?;
+        let replied = trial.repeat(alloc, Step::Reply(target), 1)?;
         let went = trial.advance(alloc, target, back)?;
         if !(came | taken | replied | went) {
             break;
@@ -147,8 +129,11 @@ fn place_answers(
         return Ok(());
     }
     let entry = network.flow(flow);
+    let Some(cargo) = command_cargo(alloc, network, entry)? else {
+        return Ok(());
+    };
     for _ in 0..MOST_COMMANDS {
-        if !begin_command(alloc, network, trial, flow)? {
+        if !begin(alloc, trial, flow, &cargo)? {
             break;
         }
         answer(alloc, trial, entry.from(), entry.to(), there, back)?;

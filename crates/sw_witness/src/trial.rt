@@ -16,8 +16,7 @@ const MOST_STEPS: u32 = 1_000_000;
 /// How often the channels of a way are gone over to place a packet, at most.
 const MOST_ROUNDS: u32 = 20_000;
 
-/// A network in some state, and the schedule of the steps that led there.
-#[derive(Drop)]
+/// A network in some state, and the schedule of the steps that led there. It is not let go but by `into_text`.
 pub(crate) struct Trial<'n> {
     net: Net<'n, SwitchRoutes<'n>, Policy>,
     text: String,
@@ -76,11 +75,6 @@ impl<'n> Trial<'n> {
         self.attempt_often(alloc, &step, most)
     }
 
-    /// Makes the step, if it is possible; whether it is.
-    pub(crate) fn make(&mut self, alloc: Global, step: Step) -> Result<bool, AllocError> {
-        self.attempt(alloc, &step)
-    }
-
     /// Moves characters into a channel: from the channel before it, or from the node where it starts.
     fn enter(
         &mut self,
@@ -92,7 +86,7 @@ impl<'n> Trial<'n> {
         match before {
             None => self.repeat(alloc, Step::Emit(node), 64),
             Some(input) => {
-                let granted = self.make(alloc, Step::Grant(channel, input))?;
+                let granted = self.repeat(alloc, Step::Grant(channel, input), 1)?;
                 let moved = self.repeat(alloc, Step::Forward(input), 64)?;
                 Ok(granted | moved)
             }
@@ -153,7 +147,7 @@ impl<'n> Trial<'n> {
             return Ok(false);
         }
         match self.net.possible_at(LinkEnd::new(number)) {
-            Some(step) => self.make(alloc, step),
+            Some(step) => self.repeat(alloc, step, 1),
             None => Ok(false),
         }
     }
@@ -162,15 +156,13 @@ impl<'n> Trial<'n> {
     pub(crate) fn sweep(&mut self, alloc: Global, first: u16) -> Result<bool, AllocError> {
         let channels = self.net.network().channels();
         let mut moved = false;
-        for number in first..channels {
-            if self.move_at(alloc, number)? {
-                moved = true;
+        let mut number = first;
+        for _ in 0..channels {
+            if number >= channels {
+                number = 0;
             }
-        }
-        for number in 0..first {
-            if self.move_at(alloc, number)? {
-                moved = true;
-            }
+            moved |= self.move_at(alloc, number)?;
+            number = number.saturating_add(1);
         }
         Ok(moved)
     }
@@ -182,6 +174,12 @@ impl<'n> Trial<'n> {
 
     /// The schedule.
     pub(crate) fn into_text(self) -> String {
-        self.text
+        let Trial {
+            net,
+            text,
+            steps: _,
+        } = self;
+        net.discard();
+        text
     }
 }

@@ -44,37 +44,33 @@ fn short_cargo(network: &Network, address: usize, way: &[Place]) -> usize {
         .clamp(1, MOST_CARGO)
 }
 
-/// So many bytes that are no command.
-fn plain(alloc: Global, count: usize) -> Result<Vec<u8>, AllocError> {
-    vec![in alloc; 0; count]
-}
-
-/// Begins a packet of the flow with plain cargo.
-fn begin(
+/// Begins a packet of the flow with this cargo.
+pub(crate) fn begin(
     alloc: Global,
     trial: &mut Trial<'_>,
     flow: u16,
-    count: usize,
+    cargo: &[u8],
 ) -> Result<bool, AllocError> {
     let step = Step::Begin {
         flow,
-        cargo: plain(alloc, count)?,
+        cargo: cargo.to_vec(alloc)?,
         end: End::Eop,
     };
-    trial.make(alloc, step)
+    trial.repeat(alloc, step, 1)
 }
 
-/// Sends long packets of the flow from the node along the way until one is held up at its source.
-fn place_long(
+/// Sends packets of the flow from the node along the way until one is held up at its source, at most so many.
+pub(crate) fn place_packets(
     alloc: Global,
     trial: &mut Trial<'_>,
     flow: u16,
     node: u16,
-    count: usize,
+    cargo: &[u8],
+    most: u32,
     way: &[Place],
 ) -> Result<(), AllocError> {
-    for _ in 0..MOST_PACKETS {
-        if !begin(alloc, trial, flow, count)? {
+    for _ in 0..most {
+        if !begin(alloc, trial, flow, cargo)? {
             break;
         }
         trial.place(alloc, node, way)?;
@@ -82,8 +78,8 @@ fn place_long(
     Ok(())
 }
 
-/// Places a packet of the declared flow at the end of the way: a long one, whose tail is held up at its source, or a short one,
-/// which fills the last channel of the way.
+/// Places packets of the declared flow, whose cargo is no command, at the end of the way: long ones, the tail of the last of which is
+/// held up at its source, or a short one, which fills the last channel of the way.
 pub(crate) fn place_worm(
     alloc: Global,
     network: &Network,
@@ -96,13 +92,11 @@ pub(crate) fn place_worm(
         return Ok(());
     }
     let entry = network.flow(flow);
-    let node = entry.from();
-    if random.below(3) > 0 {
-        return place_long(alloc, trial, flow, node, long_cargo(network, way), way);
-    }
-    let count = short_cargo(network, entry.address().len(), way);
-    if begin(alloc, trial, flow, count)? {
-        trial.place(alloc, node, way)?;
-    }
-    Ok(())
+    let (count, most) = if random.below(3) > 0 {
+        (long_cargo(network, way), MOST_PACKETS)
+    } else {
+        (short_cargo(network, entry.address().len(), way), 1)
+    };
+    let cargo = vec![in alloc; 0; count]?;
+    place_packets(alloc, trial, flow, entry.from(), &cargo, most, way)
 }

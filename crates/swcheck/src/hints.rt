@@ -104,19 +104,63 @@ fn flow_hint(alloc: Global, call: &Call<'_>, network: &[u8]) -> Option<String> {
     named_flow_hint(alloc, file_of(call)?, network, flow_of(call)?).unwrap_or(None)
 }
 
+// What to tell of the flow that a call names, or else of its second text.
+fn named_hint<R: Files + AllocGlobal>(rt: &R, call: &Call<'_>, network: &[u8]) -> Option<String> {
+    if flow_of(call).is_some() {
+        flow_hint(rt.alloc(), call, network)
+    } else {
+        second_fault_hint(rt, call, network)
+    }
+}
+
+// What to tell of a fault of the network file, or else of what else the call names. Nothing where there is no memory for it.
+fn fault_hint_on<R: Files + AllocGlobal>(
+    rt: &R,
+    call: &Call<'_>,
+    file: &str,
+    network: &[u8],
+) -> Option<String> {
+    match network_hint(rt.alloc(), file, network) {
+        Ok(Some(hint)) => Some(hint),
+        Ok(None) => named_hint(rt, call, network),
+        Err(_) => None,
+    }
+}
+
 // What to tell of a fault: of the network file, or else of the other text or of the flow that the call names. Nothing where none has one, and
 // where one can't be read or there is no memory for it.
 fn fault_hint<R: Files + AllocGlobal>(rt: &R, call: &Call<'_>) -> Option<String> {
     let file = file_of(call)?;
-    let text = text_of(rt, file, MAX_TEXT)?;
-    match network_hint(rt.alloc(), file, &text).ok()? {
-        Some(hint) => Some(hint),
-        None if flow_of(call).is_some() => flow_hint(rt.alloc(), call, &text),
-        None => second_fault_hint(rt, call, &text),
+    match text_of(rt, file, MAX_TEXT) {
+        Some(text) => fault_hint_on(rt, call, file, &text),
+        None => None,
     }
 }
 
 // What to tell of a certificate that is refused: the line that can't be read, or else what it is refused for.
+fn refusal_hint_on<C: VerdictWorkers>(
+    workers: &C,
+    alloc: Global,
+    file: &str,
+    network: &[u8],
+    path: &str,
+    certificate: &[u8],
+) -> Option<String> {
+    match certificate_hint(alloc, path, certificate) {
+        Ok(Some(hint)) => Some(hint),
+        Ok(None) => refused_certificate_hint(
+            workers,
+            alloc,
+            file,
+            network,
+            path,
+            certificate,
+        ).unwrap_or(None),
+        Err(_) => None,
+    }
+}
+
+// The same of the certificate of a file.
 fn refusal_hint<R: Files + AllocGlobal, C: VerdictWorkers>(
     rt: &R,
     workers: &C,
@@ -124,19 +168,18 @@ fn refusal_hint<R: Files + AllocGlobal, C: VerdictWorkers>(
     network: &[u8],
     path: &str,
 ) -> Option<String> {
-    let text = text_of(rt, path, MOST_EXPLAINED)?;
-    match certificate_hint(rt.alloc(), path, &text).ok()? {
-        Some(hint) => Some(hint),
-        None => refused_certificate_hint(workers, rt.alloc(), file, network, path, &text).unwrap_or(
-            None,
-        )
+    match text_of(rt, path, MOST_EXPLAINED) {
+        Some(text) => refusal_hint_on(workers, rt.alloc(), file, network, path, &text),
+        None => None,
     }
 }
 
 // What to tell of a step that is refused, or of a network that the steps lock up.
 fn steps_hint<R: Files + AllocGlobal>(rt: &R, network: &[u8], path: &str) -> Option<String> {
-    let text = text_of(rt, path, MOST_EXPLAINED)?;
-    replay_hint(rt.alloc(), network, path, &text).unwrap_or(None)
+    match text_of(rt, path, MOST_EXPLAINED) {
+        Some(text) => replay_hint(rt.alloc(), network, path, &text).unwrap_or(None),
+        None => None,
+    }
 }
 
 // What to tell of a verdict that is not free, of a flow that goes wrong, of a refused certificate or step, of a network that is locked up.

@@ -1,114 +1,76 @@
-//! Networks, all that they declare, their verdicts and their files of another version.
-ghost use Rattle.std.specs.Prelude.{◌<◌, ◌*◌, length};
-ghost use Rattle.sw_config.specs.Entries.{all_flows};
+//! Networks on which something is done.
 
-use crate::certificates::written;
-use crate::files::bytes_of;
-use anyhow::{Result, bail};
+use crate::histories::add_load;
+use crate::steps::add_commands;
 use std::alloc::{AllocError, Global};
-use std::rt::Files;
 use sw_config::Network;
-use sw_file::{MigrateFault, migrate, read_network};
-use sw_flow::{Place, places};
-use sw_parallel::OneByOne;
-use sw_search::{Verdict, decide};
-use sw_toml_table::FileFault;
-use sw_topo::Chan;
+use sw_file::read_network;
 
-fn read(alloc: Global, text: &[u8]) -> Result<Network> {
-    match read_network(alloc, text) {
-        Ok(network) => Ok(network),
-        Err(FileFault::Memory) => Ok(read_network(alloc, text)?),
-        Err(FileFault::Text(_)) => bail!("a fault"),
+/// Three switches in a ring, a node at each.
+const TURN: &[u8] = b"version = 1
+node = [{ name = 'N0' }, { name = 'N1' }, { name = 'N2' }]
+switch = [{ name = 'S0' }, { name = 'S1' }, { name = 'S2' }]
+link = [{ a = 'N0', b = 'S0', b_port = 1, buffer = 8 },
+        { a = 'N1', b = 'S1', b_port = 1, buffer = 8 },
+        { a = 'N2', b = 'S2', b_port = 1, buffer = 8 },
+        { a = 'S0', a_port = 2, b = 'S1', b_port = 3, buffer = 8 },
+        { a = 'S1', a_port = 2, b = 'S2', b_port = 3, buffer = 8 },
+        { a = 'S2', a_port = 2, b = 'S0', b_port = 3, buffer = 8 }]
+flow = [{ name = 'f0', from = 'N0', to = 'N2', address = [2, 2, 1] },
+        { name = 'f1', from = 'N1', to = 'N0', address = [2, 2, 1] },
+        { name = 'f2', from = 'N2', to = 'N1', address = [3, 1] }]
+";
+
+/// A node and an RMAP target.
+const RMAP: &[u8] = b"version = 2
+node = [{ name = 'I' },
+        { name = 'T', target = { logical = 254, start = 2684354560, size = 64, slots = 2 } }]
+link = [{ a = 'I', b = 'T' }]
+flow = [{ name = 'w', from = 'I', to = 'T', reply = { initiator = 103 } }]
+";
+
+/// What is done on a network.
+#[derive(Clone, Copy)]
+enum Work {
+    Load,
+    Commands,
+}
+
+fn add_work(
+    alloc: Global,
+    network: &Network,
+    work: Work,
+    text: &mut String,
+) -> Result<(), AllocError> {
+    match work {
+        Work::Load => add_load(alloc, network, text),
+        Work::Commands => add_commands(alloc, network, text),
     }
 }
 
-/// The network of a file.
-pub fn network_of<R: Files + AllocGlobal>(rt: &R, file: &str) -> Result<Network> {
-    let text = bytes_of(rt, file)?;
-    read(rt.alloc(), &text)
-}
-
-fn node_line(alloc: Global, network: &Network, node: u16) -> Result<String, AllocError>
-    requires { node < length network.now.nodes }
-{
-    let (name, target) = (network.node_name(node), network.target(node));
-    format!(in alloc; "node {name} {target:?}\n")
-}
-
-fn channel_line(alloc: Global, network: &Network, number: u16) -> Result<String, AllocError>
-    requires { number < 2 * length network.now.links }
-{
-    // Names how many channels there are.
-    let _ = network.channels();
-    let channel = Chan::new(number);
-    let start = network.topology().start_of(channel);
-    let capacity = network.capacity(channel);
-    format!(in alloc; "channel {number} {start:?} {capacity}\n")
-}
-
-fn flow_line(alloc: Global, network: &Network, number: u16) -> Result<String, AllocError>
-    requires { number < length (all_flows network.now) }
-{
-    let flow = network.flow(number);
-    let (name, from, to) = (flow.name(), flow.from(), flow.to());
-    let (address, left) = (flow.address(), flow.left());
-    format!(in alloc; "flow {name} {from} {to} {address:?} {left}\n")
-}
-
-fn lines_of(alloc: Global, network: &Network) -> Result<String, AllocError> {
-    let mut text = String::new(alloc);
-    for node in 0..network.nodes() {
-        text.push_str(node_line(alloc, network, node)?.as_str())?;
-    }
-    for number in 0..network.channels() {
-        text.push_str(channel_line(alloc, network, number)?.as_str())?;
-    }
-    for number in 0..network.flows() {
-        text.push_str(flow_line(alloc, network, number)?.as_str())?;
-    }
-    Ok(text)
-}
-
-/// What the network declares.
-pub fn text_of(alloc: Global, network: &Network) -> Result<String, AllocError> {
-    match lines_of(alloc, network) {
-        Ok(text) => Ok(text),
-        Err(_) => lines_of(alloc, network),
+// Adds what comes of the work on the network of a file, which has no fault.
+fn add_of_file(
+    alloc: Global,
+    file: &[u8],
+    work: Work,
+    text: &mut String,
+) -> Result<(), AllocError> {
+    match read_network(alloc, file) {
+        Ok(network) => {
+            let added = add_work(alloc, &network, work, text);
+            network.discard();
+            added
+        }
+        Err(_) => Err(AllocError),
     }
 }
 
-/// The places of a flow.
-pub fn route(alloc: Global, network: &Network, flow: u16) -> Result<Vec<Place>> {
-    if flow >= network.flows() {
-        bail!("no flow");
-    }
-    match places(alloc, network, flow) {
-        Ok(places) => Ok(places),
-        Err(_) => Ok(places(alloc, network, flow)?),
-    }
+/// Adds all that a network comes to by a step of a history.
+pub fn add_begun(alloc: Global, text: &mut String) -> Result<(), AllocError> {
+    add_of_file(alloc, TURN, Work::Load, text)
 }
 
-fn verdict_on(alloc: Global, network: &Network) -> Result<Verdict, AllocError> {
-    match decide(&OneByOne, alloc, network) {
-        Ok(verdict) => Ok(verdict),
-        Err(_) => decide(&OneByOne, alloc, network),
-    }
-}
-
-/// The certificate that the network never locks up.
-pub fn certified(alloc: Global, network: &Network) -> Result<Vec<u8>> {
-    match verdict_on(alloc, network)? {
-        Verdict::Free(certificate) => Ok(written(alloc, &certificate)?),
-        _ => bail!("another verdict"),
-    }
-}
-
-/// The file of version 1 as one of version 2.
-pub fn migrated(alloc: Global, text: &[u8]) -> Result<Vec<u8>> {
-    match migrate(alloc, text) {
-        Ok(new) => Ok(new),
-        Err(MigrateFault::Memory) => Ok(migrate(alloc, text)?),
-        Err(_) => bail!("a fault"),
-    }
+/// Adds all that a network comes to by steps of its core.
+pub fn add_stepped(alloc: Global, text: &mut String) -> Result<(), AllocError> {
+    add_of_file(alloc, RMAP, Work::Commands, text)
 }

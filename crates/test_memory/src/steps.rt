@@ -1,81 +1,120 @@
 //! Steps of the core, and all that its cells have.
+ghost use Rattle.sw_cell.specs.Places.{IsIn};
 
-use crate::runs::empty_net;
-use crate::texts::schedule_of;
-use anyhow::{Result, bail, ensure};
+use crate::targets::READ;
 use std::alloc::{AllocError, Global};
 use sw_arb::Policy;
-use sw_cell::{CellId, NetFault};
+use sw_cell::CellId;
+use sw_char::End;
 use sw_config::Network;
 use sw_model::Step;
-use sw_net::{Net, SwitchRoutes};
-use sw_schedule::ScheduleEntry;
+use sw_net::{Net, SwitchRoutes, declared_net};
+use sw_topo::Chan;
 
 /// The core of a network as its file declares it.
 pub type Core<'n> = Net<'n, SwitchRoutes<'n>, Policy>;
 
-/// All that each cell has, and how many characters are undelivered.
-pub fn parts_of(alloc: Global, net: &Core<'_>) -> Result<String, AllocError> {
+fn add_part(
+    alloc: Global,
+    net: &Core<'_>,
+    cell: CellId,
+    text: &mut String,
+) -> Result<(), AllocError>
+    requires { IsIn net.now.declared cell }
+{
+    let part = net.part(alloc, cell)?;
+    write!(text, "{part:?}\n")
+}
+
+/// Adds how many characters are undelivered, and all that each cell has.
+pub fn add_parts(alloc: Global, net: &Core<'_>, text: &mut String) -> Result<(), AllocError> {
     let undelivered = net.undelivered();
-    let mut text = format!(in alloc; "undelivered {undelivered}\n")?;
+    write!(text, "undelivered {undelivered}\n")?;
     for node in 0..net.network().nodes() {
-        let part = net.part(alloc, CellId::Node(node))?;
-        text.push_str(format!(in alloc; "{part:?}\n")?.as_str())?;
+        add_part(alloc, net, CellId::Node(node), text)?;
     }
     for switch in 0..net.network().switches() {
-        let part = net.part(alloc, CellId::Switch(switch))?;
-        text.push_str(format!(in alloc; "{part:?}\n")?.as_str())?;
-    }
-    Ok(text)
-}
-
-/// All that the network has come to.
-pub fn text_of(alloc: Global, net: &Core<'_>) -> Result<String, AllocError> {
-    match parts_of(alloc, net) {
-        Ok(text) => Ok(text),
-        Err(_) => parts_of(alloc, net),
-    }
-}
-
-fn make(alloc: Global, net: &mut Core<'_>, step: &Step) -> Result<()> {
-    let before = text_of(alloc, net)?;
-    match net.step(alloc, step) {
-        Ok(()) => return Ok(()),
-        Err(NetFault::Memory) => ensure!(text_of(alloc, net)? == before, "the network has changed"),
-        Err(_) => bail!("a refusal"),
-    }
-    Ok(net.step(alloc, step)?)
-}
-
-fn step_of(alloc: Global, entry: &ScheduleEntry) -> Result<Step, AllocError> {
-    match entry.step(alloc) {
-        Ok(step) => Ok(step),
-        Err(_) => entry.step(alloc),
-    }
-}
-
-fn make_all(alloc: Global, net: &mut Core<'_>, entries: &[ScheduleEntry]) -> Result<()> {
-    for entry in entries {
-        let step = step_of(alloc, entry)?;
-        for _ in 0..entry.count() {
-            make(alloc, net, &step)?;
-        }
+        add_part(alloc, net, CellId::Switch(switch), text)?;
     }
     Ok(())
 }
 
-fn replay(alloc: Global, net: &mut Core<'_>, entries: &[ScheduleEntry]) -> Result<String> {
-    make_all(alloc, net, entries)?;
-    Ok(text_of(alloc, net)?)
+/// The same as a text of its own.
+pub fn text_of(alloc: Global, net: &Core<'_>) -> Result<String, AllocError> {
+    let mut text = String::new(alloc);
+    match add_parts(alloc, net, &mut text) {
+        Ok(()) => Ok(text),
+        Err(refused) => Err(refused),
+    }
 }
 
-fn replay_on(alloc: Global, network: &Network, entries: &[ScheduleEntry]) -> Result<String> {
-    let mut net = empty_net(alloc, network)?;
-    replay(alloc, &mut net, entries)
+/// The step that begins a packet of the first flow with this cargo.
+pub fn beginning(alloc: Global, cargo: &[u8]) -> Result<Step, AllocError> {
+    Ok(Step::Begin {
+        flow: 0,
+        cargo: Vec::from_slice(alloc, cargo)?,
+        end: End::Eop,
+    })
 }
 
-/// All that the network has come to after the schedule's steps.
-pub fn replayed(alloc: Global, network: &Network, text: &[u8]) -> Result<String> {
-    let schedule = schedule_of(alloc, network, text)?;
-    replay_on(alloc, network, schedule.entries())
+// Makes the step, at once or again after a refusal that changed nothing; else that is told.
+fn make(
+    alloc: Global,
+    net: &mut Core<'_>,
+    step: &Step,
+    text: &mut String,
+) -> Result<(), AllocError> {
+    let before = text_of(alloc, net)?;
+    if net.step(alloc, step).is_ok() {
+        return Ok(());
+    }
+    if text_of(alloc, net)? == before && net.step(alloc, step).is_ok() {
+        return Ok(());
+    }
+    write!(text, "a step was not made\n")
+}
+
+// Makes the step so many times.
+fn make_each(
+    alloc: Global,
+    net: &mut Core<'_>,
+    step: Step,
+    times: u32,
+    text: &mut String,
+) -> Result<(), AllocError> {
+    for _ in 0..times {
+        make(alloc, net, &step, text)?;
+    }
+    Ok(())
+}
+
+// Makes the steps of a read command, which goes over the first channel to the second node, after so many FCTs from there.
+fn make_command(
+    alloc: Global,
+    net: &mut Core<'_>,
+    credits: u32,
+    text: &mut String,
+) -> Result<(), AllocError> {
+    let channel = Chan::new(0);
+    let length = READ.len() as u32 + 1;
+    make_each(alloc, net, beginning(alloc, READ)?, 1, text)?;
+    make_each(alloc, net, Step::Fct(channel), credits, text)?;
+    make_each(alloc, net, Step::FctIn(channel), credits, text)?;
+    make_each(alloc, net, Step::Emit(0), length, text)?;
+    make_each(alloc, net, Step::Arrive(channel), length, text)?;
+    make_each(alloc, net, Step::Accept(1), length, text)
+}
+
+fn add_made(alloc: Global, net: &mut Core<'_>, text: &mut String) -> Result<(), AllocError> {
+    make_command(alloc, net, 3, text)?;
+    make_command(alloc, net, 2, text)?;
+    add_parts(alloc, net, text)
+}
+
+/// Adds all that the network comes to by the steps of two commands.
+pub fn add_commands(alloc: Global, network: &Network, text: &mut String) -> Result<(), AllocError> {
+    let mut net = declared_net(alloc, network)?;
+    let added = add_made(alloc, &mut net, text);
+    net.discard();
+    added
 }

@@ -1,58 +1,75 @@
 //! Routing tables and wirings.
-ghost use Rattle.std.specs.Prelude.{◌≡◌, ◌<◌, IfOk};
+ghost use Rattle.std.specs.Prelude.{◌≡◌, ◌<◌, ◌≤◌};
 
-use anyhow::{Result, bail, ensure};
-use std::alloc::Global;
-use sw_route::{IntervalRoutes, RouteError, Routing, TableRoutes};
-use sw_topo::{Builder, PlaceEnd, Port, PortSet, TopoError, Topology};
+use std::alloc::{AllocError, Global};
+use sw_route::{IntervalRoutes, Routing, TableRoutes};
+use sw_topo::{Builder, PlaceEnd, Port, PortSet, TopoError};
 
-fn add(table: &mut TableRoutes, first: u8, last: u8) -> Result<()> {
-    ensure!(32 <= first && first <= last && last <= 254, "no range");
+// Whether the entry was added, at once or again after a refusal that changed nothing.
+fn is_range_added(table: &mut TableRoutes, first: u8, last: u8) -> bool
+    requires low { 32 ≤ first }
+    requires rising { first ≤ last }
+    requires high { last ≤ 254 }
+{
     let before = table.len();
-    match table.add_range(first, last, PortSet::EMPTY, false) {
-        Ok(()) => return Ok(()),
-        Err(RouteError::Memory) => {}
-        Err(RouteError::Duplicate) => bail!("a duplicate"),
+    if table.add_range(first, last, PortSet::EMPTY, false).is_ok() {
+        return true;
     }
-    ensure!(table.len() == before, "the table has changed");
-    Ok(table.add_range(first, last, PortSet::EMPTY, false)?)
+    if table.len() != before {
+        return false;
+    }
+    table.add_range(first, last, PortSet::EMPTY, false).is_ok()
 }
 
-fn add_one(table: &mut TableRoutes, address: u8) -> Result<()> {
-    ensure!(32 <= address && address <= 254, "no address");
+// The same of an entry for one address.
+fn is_added(table: &mut TableRoutes, address: u8) -> bool
+    requires low { 32 ≤ address }
+    requires high { address ≤ 254 }
+{
     let before = table.len();
-    match table.add(address, PortSet::EMPTY, true) {
-        Ok(()) => return Ok(()),
-        Err(RouteError::Memory) => {}
-        Err(RouteError::Duplicate) => bail!("a duplicate"),
+    if table.add(address, PortSet::EMPTY, true).is_ok() {
+        return true;
     }
-    ensure!(table.len() == before, "the table has changed");
-    Ok(table.add(address, PortSet::EMPTY, true)?)
+    if table.len() != before {
+        return false;
+    }
+    table.add(address, PortSet::EMPTY, true).is_ok()
 }
 
-/// A table of many entries, and its intervals.
-pub fn table(alloc: Global) -> Result<u64> {
+// Whether many entries were added.
+fn are_added(table: &mut TableRoutes) -> bool {
+    for i in 0..20u8 {
+        if !is_range_added(table, 32 + 4 * i, 34 + 4 * i) {
+            return false;
+        }
+        if !is_added(table, 35 + 4 * i) {
+            return false;
+        }
+    }
+    true
+}
+
+/// How many entries a table has, if each was added and its intervals answer so; else 0.
+pub fn entries(alloc: Global) -> Result<usize, AllocError> {
     let mut table = TableRoutes::new(alloc);
-    for i in 0..20 {
-        add(&mut table, 32 + 4 * i, 34 + 4 * i)?;
-        add_one(&mut table, 35 + 4 * i)?;
+    let all = are_added(&mut table);
+    let intervals = IntervalRoutes::from_table(alloc, &table)?;
+    if all && intervals.look(35).delete {
+        Ok(table.len())
+    } else {
+        Ok(0)
     }
-    let intervals = match IntervalRoutes::from_table(alloc, &table) {
-        Ok(intervals) => intervals,
-        Err(_) => IntervalRoutes::from_table(alloc, &table)?,
-    };
-    ensure!(intervals.look(35).delete, "another answer");
-    Ok(table.len() as u64)
 }
 
-fn link(builder: &mut Builder, node: u16, switch: u16, port: u8) -> Result<()>
+// Adds the link, at once or again.
+fn link(builder: &mut Builder, node: u16, switch: u16, port: u8) -> Result<(), AllocError>
     requires node { node < builder.old.nodes }
     requires switch { switch < builder.old.switches }
-    ensures { IfOk result (λ done. (builder.new.nodes ≡ builder.old.nodes) × (builder.new.switches ≡ builder.old.switches)) }
+    requires port { port < 32 }
+    ensures nodes { builder.new.nodes ≡ builder.old.nodes }
+    ensures switches { builder.new.switches ≡ builder.old.switches }
 {
-    let Some(port) = Port::new(port) else {
-        bail!("no port");
-    };
+    let port = Port::new(port).unwrap();
     let (a, b) = (PlaceEnd::Node(node), PlaceEnd::Switch(switch, port));
     match builder.link(a, b) {
         Ok(()) => Ok(()),
@@ -60,25 +77,27 @@ fn link(builder: &mut Builder, node: u16, switch: u16, port: u8) -> Result<()>
     }
 }
 
-fn star(alloc: Global) -> Result<Builder> {
-    let mut builder = Builder::new(alloc);
+// Adds a star of three nodes.
+fn add_star(builder: &mut Builder) -> Result<(), AllocError>
+    requires nodes { builder.old.nodes ≡ 0 }
+    requires switches { builder.old.switches ≡ 0 }
+{
     let nodes = [builder.node(), builder.node(), builder.node()];
     let switch = builder.switch();
-    link(&mut builder, nodes[0], switch, 1)?;
-    link(&mut builder, nodes[1], switch, 2)?;
-    link(&mut builder, nodes[2], switch, 3)?;
-    Ok(builder)
+    link(builder, nodes[0], switch, 1)?;
+    link(builder, nodes[1], switch, 2)?;
+    link(builder, nodes[2], switch, 3)
 }
 
-fn finished(alloc: Global) -> Result<Topology> {
-    match star(alloc)?.finish(alloc) {
-        Ok(topology) => Ok(topology),
-        Err(TopoError::Memory) => Ok(star(alloc)?.finish(alloc)?),
-        Err(TopoError::Fault(_)) => bail!("a fault"),
+/// How many channels a star has. 0 where a link was not added, or twice: then a node has other than one.
+pub fn channels(alloc: Global) -> Result<u16, AllocError> {
+    let mut builder = Builder::new(alloc);
+    if add_star(&mut builder).is_err() {
+        return Ok(0);
     }
-}
-
-/// A star of three nodes.
-pub fn wiring(alloc: Global) -> Result<u64> {
-    Ok(u64::from(finished(alloc)?.channels()))
+    match builder.finish(alloc) {
+        Ok(topology) => Ok(topology.channels()),
+        Err(TopoError::Memory) => Err(AllocError),
+        Err(TopoError::Fault(_)) => Ok(0),
+    }
 }

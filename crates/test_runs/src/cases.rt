@@ -72,7 +72,7 @@ const LIMITS: &[Case] = &[
 /// Loads whose packets begin as soon as they can.
 const WAITS: &[Case] = &[
     (
-        "line.toml line.load: ",
+        "> packets that begin as soon as they can\nline.toml line.load: ",
         "line.toml",
         "line.load",
         Core(Wait),
@@ -170,7 +170,7 @@ const CALLS: &[Case] = &[
 /// Steps of a journal, and those of two threads.
 const JOURNALS: &[Case] = &[
     (
-        "> try line.toml line.load\n",
+        "# steps of journals\n> try line.toml line.load\n",
         "line.toml",
         "line.load",
         Journal(1000, Try(BOTH)),
@@ -198,7 +198,7 @@ const JOURNALS: &[Case] = &[
 /// Runs: three inputs of a switch ask for one output, with each kind of arbiter, and workers wait for one another.
 const RUNS: &[Case] = &[
     (
-        "> fixed.toml grants.load\n",
+        "# runs by threads\n> fixed.toml grants.load\n",
         "fixed.toml",
         "grants.load",
         Run(Order),
@@ -223,12 +223,5 @@ const RUNS: &[Case] = &[
     ),
 ];
 
-/// What is printed before some cases, and they.
-pub(crate) const SECTIONS: &[(&str, &[Case])] = &[
-    ("", DRAINS),
-    ("", LIMITS),
-    ("> packets that begin as soon as they can\n", WAITS),
-    ("", CALLS),
-    ("# steps of journals\n", JOURNALS),
-    ("# runs by threads\n", RUNS),
-];
+/// All cases, list by list.
+pub(crate) const SECTIONS: &[&[Case]] = &[DRAINS, LIMITS, WAITS, CALLS, JOURNALS, RUNS];

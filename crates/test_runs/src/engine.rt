@@ -49,7 +49,7 @@ pub(crate) fn show_engine<R: Threads + Wait + Sync>(
     network: &str,
     load: &str,
 ) -> io::Result<()> {
-    let gate = Together::new();
+    let gate = Together::new(false);
     match ended_of(rt, threads, network, load, &gate) {
         Ok(Ended::Status(status)) => show_late(rt, status, &gate),
         Ok(Ended::ReadFailed) | Ok(Ended::WriteFailed) => Err(no_text()),

@@ -7,9 +7,9 @@ pub(crate) mod two_threads;
 
 use crate::journals::pair::Pair;
 use crate::journals::tried::{Trial, show_tried};
-use crate::journals::two_threads::{Shared, TwoThreads, show_two_threads};
+use crate::journals::two_threads::{TwoThreads, show_two_threads};
 use std::io;
-use std::sync::Wait;
+use std::sync::{Mutex, Wait};
 use std::thread::Threads;
 use sw_config::Network;
 use sw_load::Load;
@@ -23,15 +23,15 @@ pub(crate) enum JournalWork {
     ByTwo(TwoThreads),
 }
 
-fn show_shared<R: Threads + Wait + Sync>(
+fn show_pair<R: Threads + Wait + Sync>(
     rt: &HostRuntime,
     threads: &R,
-    shared: &Shared<'_>,
+    pair: &mut Mutex<Pair<'_>>,
     work: JournalWork,
 ) -> io::Result<()> {
     match work {
-        JournalWork::Try(trials) => show_tried(rt, &mut shared.pair.lock(threads), trials),
-        JournalWork::ByTwo(work) => show_two_threads(rt, threads, shared, work),
+        JournalWork::Try(trials) => show_tried(rt, pair.get_mut(), trials),
+        JournalWork::ByTwo(work) => show_two_threads(rt, threads, pair, work),
     }
 }
 
@@ -46,9 +46,8 @@ pub(crate) fn show_journal<R: Threads + Wait + Sync>(
 ) -> io::Result<()>
     requires { AreDeclared network.now load.now }
 {
-    let pair = Pair::open(rt.alloc(), network, load, limit)?;
-    let shared = Shared::new(rt.alloc(), pair);
-    let shown = show_shared(rt, threads, &shared, work);
-    drop(shared);
+    let mut pair = Mutex::new(Pair::open(rt.alloc(), network, load, limit)?);
+    let shown = show_pair(rt, threads, &mut pair, work);
+    pair.into_inner().discard();
     shown
 }

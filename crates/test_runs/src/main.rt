@@ -19,10 +19,9 @@ use crate::work::show_cases;
 use std::io;
 
 fn main(rt: HostRuntime) -> io::Result<()> {
-    for &(heading, cases) in SECTIONS {
-        print!(rt; "{heading}")?;
+    for &cases in SECTIONS {
         show_cases(&rt, &rt, cases)?;
     }
-    println!(rt; "# the engine of run\n> turn.toml turn.load together")?;
+    rt.println("# the engine of run\n> turn.toml turn.load together")?;
     show_engine(&rt, &rt, "turn.toml", "turn.load")
 }

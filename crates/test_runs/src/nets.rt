@@ -10,11 +10,14 @@ mod waiting;
 use crate::nets::calls::{Call, show_calls};
 use crate::nets::drained::{Bounds, Choice, show_drain};
 use crate::nets::waiting::show_waiting;
+use std::alloc::{AllocError, Global};
 use std::io;
 use sw_arb::Policy;
 use sw_config::Network;
 use sw_load::Load;
+use sw_model::Step;
 use sw_net::{Net, SwitchRoutes, declared_net};
+use sw_topo::LinkEnd;
 
 /// The core of a network as its file declares it.
 pub(crate) type Core<'n> = Net<'n, SwitchRoutes<'n>, Policy>;
@@ -28,6 +31,20 @@ pub(crate) enum CoreWork {
     Wait,
     /// Single calls are made.
     Make(&'static [Call]),
+}
+
+// Makes a step of the link end, if it can make one. Then, is that an FCT?
+fn make_step(alloc: Global, net: &mut Core<'_>, end: LinkEnd) -> Result<Option<bool>, AllocError> {
+    if end.number() >= net.network().channels() {
+        return Ok(None);
+    }
+    let made = net.step_of(alloc, end)?;
+    let is_fct = match &made {
+        Some(step) => Some(matches!(step, Step::Fct(_))),
+        None => None,
+    };
+    drop(made);
+    Ok(is_fct)
 }
 
 fn show_steps<'n>(
@@ -58,6 +75,6 @@ pub(crate) fn show_core(
 {
     let mut net = declared_net(rt.alloc(), network)?;
     let shown = show_steps(rt, network, &mut net, load, work);
-    drop(net);
+    net.discard();
     shown
 }

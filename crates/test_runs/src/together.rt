@@ -48,13 +48,13 @@ fn bit_of(cell: CellId) -> u64 {
 }
 
 impl Together {
-    /// A gate at which no cell was decided yet.
-    pub fn new() -> Together {
+    /// A gate at which no cell was decided yet. At one that is open no worker waits, as if one had given up.
+    pub fn new(is_open: bool) -> Together {
         Together {
             decided: AtomicU64::new(0),
             stepped: AtomicBool::new(false),
             decided_again: AtomicBool::new(false),
-            late: AtomicBool::new(false),
+            late: AtomicBool::new(is_open),
         }
     }
 

@@ -89,7 +89,7 @@ pub(crate) fn show_cases<R: Threads + Wait + Sync>(
     cases: &[Case],
 ) -> io::Result<()> {
     for &(title, network, load, work) in cases {
-        print!(rt; "{title}")?;
+        rt.print(title)?;
         show_work(rt, threads, network, load, work)?;
     }
     Ok(())

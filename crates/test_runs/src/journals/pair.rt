@@ -37,8 +37,7 @@ impl Side {
     }
 }
 
-/// A journal of two nodes that are joined by a link, and their cells.
-#[derive(Drop)]
+/// A journal of two nodes that are joined by a link, and their cells. It is let go by `discard` alone.
 pub(crate) struct Pair<'n> {
     network: &'n Network,
     journal: Journal<'n>,
@@ -71,6 +70,16 @@ impl<'n> Pair<'n> {
             journal,
             cells,
         })
+    }
+
+    /// Lets it go.
+    pub(crate) fn discard(self) {
+        let Pair {
+            network: _,
+            journal,
+            cells: _,
+        } = self;
+        journal.discard();
     }
 
     /// Makes the step at the cell of that node.

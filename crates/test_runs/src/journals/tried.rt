@@ -47,7 +47,7 @@ pub(crate) const THREE: &[Trial] = &[
 // Tries the step at the cell of that node, and prints what came of it.
 fn attempt(rt: &HostRuntime, pair: &mut Pair<'_>, side: Side, tried: Move) -> io::Result<()> {
     match pair.make(rt.alloc(), side, tried) {
-        Ok(()) => println!(rt; "made"),
+        Ok(()) => rt.println("made"),
         Err(fault) => println!(rt; "{fault}"),
     }
 }

@@ -5,7 +5,7 @@ use crate::moves::Move;
 use crate::numbers::show_numbers;
 use std::alloc::Global;
 use std::sync::atomic::{AtomicU64, Ordering};
-use std::sync::{Mutex, Wait};
+use std::sync::{Mutex, MutexGuard, Wait};
 use std::thread::Threads;
 use std::{io, thread};
 use sw_net::Numbers;
@@ -31,37 +31,54 @@ enum Told {
     Read(Option<Numbers>, bool),
 }
 
-/// What two threads share.
-#[derive(Drop)]
-pub(crate) struct Shared<'n> {
-    alloc: Global,
-    pub(crate) pair: Mutex<Pair<'n>>,
-    turns: AtomicU64,
+// The cells of both nodes. What works with them names no journal, and is cheaper to prove.
+trait Cells {
+    /// The numbers of the node's link end.
+    fn numbers(&self, side: Side) -> Option<Numbers>;
+
+    /// Makes the step at that node, if it may follow. Is it made?
+    fn makes(&self, side: Side, tried: Move) -> bool;
 }
 
-impl<'n> Shared<'n> {
-    /// The pair, with no turn over.
-    pub(crate) fn new(alloc: Global, pair: Pair<'n>) -> Shared<'n> {
-        Shared {
-            alloc,
-            pair: Mutex::new(pair),
-            turns: AtomicU64::new(0),
-        }
+/// The cells of a journal that two threads share.
+#[derive(Drop)]
+struct LockedCells<'s, 'n, R: Wait> {
+    rt: &'s R,
+    alloc: Global,
+    pair: &'s Mutex<Pair<'n>>,
+}
+
+impl<'s, 'n, R: Wait> Cells for LockedCells<'s, 'n, R> {
+    fn numbers(&self, side: Side) -> Option<Numbers> {
+        let pair = self.pair.lock(self.rt);
+        let numbers = pair.numbers(side);
+        MutexGuard::unlock(pair);
+        numbers
     }
 
-    // Makes the step at that node, if it may follow.
-    fn makes<R: Wait>(&self, rt: &R, side: Side, tried: Move) -> bool {
-        self.pair.lock(rt).make(self.alloc, side, tried).is_ok()
+    fn makes(&self, side: Side, tried: Move) -> bool {
+        let mut pair = self.pair.lock(self.rt);
+        let is_made = pair.make(self.alloc, side, tried).is_ok();
+        MutexGuard::unlock(pair);
+        is_made
     }
+}
 
-    fn end_turn(&self, count: u64) {
-        self.turns.store(count, Ordering::SeqCst);
+/// How many turns are over.
+#[derive(Drop)]
+struct Turns {
+    count: AtomicU64,
+}
+
+impl Turns {
+    fn end(&self, count: u64) {
+        self.count.store(count, Ordering::SeqCst);
     }
 
     // Waits until so many turns are over. Are they?
     fn wait_for(&self, count: u64) -> bool {
         for _ in 0..LOOKS {
-            if self.turns.load(Ordering::SeqCst) == count {
+            if self.count.load(Ordering::SeqCst) == count {
                 return true;
             }
             thread::yield_now();
@@ -71,10 +88,10 @@ impl<'n> Shared<'n> {
 }
 
 // How many of eight FCTs the second node sends.
-fn send_all<R: Wait>(rt: &R, shared: &Shared<'_>) -> usize {
+fn send_all<C: Cells>(cells: &C) -> usize {
     let mut sent: usize = 0;
     for _ in 0..8usize {
-        if shared.makes(rt, Side::Second, Move::Fct(0)) {
+        if cells.makes(Side::Second, Move::Fct(0)) {
             sent = sent.saturating_add(1);
         }
     }
@@ -82,9 +99,9 @@ fn send_all<R: Wait>(rt: &R, shared: &Shared<'_>) -> usize {
 }
 
 // Whether the first node takes one.
-fn takes_one<R: Wait>(rt: &R, shared: &Shared<'_>) -> bool {
+fn takes_one<C: Cells>(cells: &C) -> bool {
     for _ in 0..LOOKS {
-        if shared.makes(rt, Side::First, Move::FctIn(0)) {
+        if cells.makes(Side::First, Move::FctIn(0)) {
             return true;
         }
         thread::yield_now();
@@ -93,48 +110,38 @@ fn takes_one<R: Wait>(rt: &R, shared: &Shared<'_>) -> bool {
 }
 
 // Reads the numbers of the second node's link end in the first turn, and sends an FCT of that node after the second.
-fn read_and_send<R: Wait>(rt: &R, shared: &Shared<'_>) -> Told {
-    let numbers = shared.pair.lock(rt).numbers(Side::Second);
-    shared.end_turn(1);
-    let is_sent = shared.wait_for(2) && shared.makes(rt, Side::Second, Move::Fct(0));
+fn read_and_send<C: Cells>(cells: &C, turns: &Turns) -> Told {
+    let numbers = cells.numbers(Side::Second);
+    turns.end(1);
+    let is_sent = turns.wait_for(2) && cells.makes(Side::Second, Move::Fct(0));
     Told::Read(numbers, is_sent)
 }
 
 // Sends an FCT of the first node in the second turn. Is it sent?
-fn sends_between<R: Wait>(rt: &R, shared: &Shared<'_>) -> bool {
-    let is_sent = shared.wait_for(1) && shared.makes(rt, Side::First, Move::Fct(1));
-    shared.end_turn(2);
+fn sends_between<C: Cells>(cells: &C, turns: &Turns) -> bool {
+    let is_sent = turns.wait_for(1) && cells.makes(Side::First, Move::Fct(1));
+    turns.end(2);
     is_sent
 }
 
-fn first_thread<R: Wait>(rt: &R, shared: &Shared<'_>, work: TwoThreads) -> Told {
+fn first_thread<C: Cells>(cells: &C, turns: &Turns, work: TwoThreads) -> Told {
     match work {
-        TwoThreads::SendAndTake => Told::Sent(send_all(rt, shared)),
-        TwoThreads::ReadAndSend => read_and_send(rt, shared),
+        TwoThreads::SendAndTake => Told::Sent(send_all(cells)),
+        TwoThreads::ReadAndSend => read_and_send(cells, turns),
     }
 }
 
-fn second_thread<R: Wait>(rt: &R, shared: &Shared<'_>, work: TwoThreads) -> bool {
+fn second_thread<C: Cells>(cells: &C, turns: &Turns, work: TwoThreads) -> bool {
     match work {
-        TwoThreads::SendAndTake => takes_one(rt, shared),
-        TwoThreads::ReadAndSend => sends_between(rt, shared),
+        TwoThreads::SendAndTake => takes_one(cells),
+        TwoThreads::ReadAndSend => sends_between(cells, turns),
     }
-}
-
-fn show_end<R: Wait>(
-    rt: &HostRuntime,
-    threads: &R,
-    shared: &Shared<'_>,
-    side: Side,
-) -> io::Result<()> {
-    let numbers = shared.pair.lock(threads).numbers(side);
-    show_numbers(rt, side.name(), numbers)
 }
 
 // Prints the numbers of both cells.
-fn show_ends<R: Wait>(rt: &HostRuntime, threads: &R, shared: &Shared<'_>) -> io::Result<()> {
-    show_end(rt, threads, shared, Side::First)?;
-    show_end(rt, threads, shared, Side::Second)
+fn show_ends<C: Cells>(rt: &HostRuntime, cells: &C) -> io::Result<()> {
+    show_numbers(rt, Side::First.name(), cells.numbers(Side::First))?;
+    show_numbers(rt, Side::Second.name(), cells.numbers(Side::Second))
 }
 
 fn show_read(rt: &HostRuntime, numbers: Option<Numbers>, own: bool, other: bool) -> io::Result<()> {
@@ -149,19 +156,37 @@ fn show_told(rt: &HostRuntime, first: Told, second: bool) -> io::Result<()> {
     }
 }
 
-/// Prints what the two threads tell, and the numbers of both cells before and after.
+// Prints what the two threads tell, and the numbers of both cells before and after.
+fn show_threads<C: Cells + Sync, R: Threads>(
+    rt: &HostRuntime,
+    threads: &R,
+    cells: &C,
+    work: TwoThreads,
+) -> io::Result<()> {
+    let turns = Turns {
+        count: AtomicU64::new(0),
+    };
+    show_ends(rt, cells)?;
+    let (first, second) = thread::join(
+        threads,
+        || first_thread(cells, &turns, work),
+        || second_thread(cells, &turns, work),
+    );
+    show_told(rt, first, second)?;
+    show_ends(rt, cells)
+}
+
+/// Prints what two threads tell that make steps at the pair's cells, and the numbers of both before and after.
 pub(crate) fn show_two_threads<R: Threads + Wait + Sync>(
     rt: &HostRuntime,
     threads: &R,
-    shared: &Shared<'_>,
+    pair: &Mutex<Pair<'_>>,
     work: TwoThreads,
 ) -> io::Result<()> {
-    show_ends(rt, threads, shared)?;
-    let (first, second) = thread::join(
-        threads,
-        || first_thread(threads, shared, work),
-        || second_thread(threads, shared, work),
-    );
-    show_told(rt, first, second)?;
-    show_ends(rt, threads, shared)
+    let cells = LockedCells {
+        rt: threads,
+        alloc: rt.alloc(),
+        pair,
+    };
+    show_threads(rt, threads, &cells, work)
 }

@@ -1,10 +1,10 @@
 //! Single calls of the core, over one link between A and B.
 
 use crate::moves::Move;
-use crate::nets::Core;
 use crate::nets::show::{show_first, show_parts, show_undelivered};
+use crate::nets::{Core, make_step};
 use crate::numbers::show_numbers;
-use std::alloc::{AllocError, Global};
+use std::alloc::Global;
 use std::io;
 use sw_cell::NetFault;
 use sw_model::Step;
@@ -66,7 +66,9 @@ fn make(alloc: Global, net: &mut Core<'_>, tried: Move) -> Result<(), NetFault> 
     let Ok(step) = tried.step(alloc) else {
         return Err(NetFault::Memory);
     };
-    net.step(alloc, &step)
+    let made = net.step(alloc, &step);
+    drop(step);
+    made
 }
 
 fn show_made(rt: &HostRuntime, name: &str, made: Result<(), NetFault>) -> io::Result<()> {
@@ -102,24 +104,16 @@ fn show_possible(rt: &HostRuntime, net: &Core<'_>) -> io::Result<()> {
     let channels = net.network().channels();
     let nodes = net.network().nodes();
     println!(rt;
-        "channels {channels}, nodes {nodes}\ncan begin A: {}",
-        can_begin(net, 0)
-    )?;
-    let (last, beyond) = (can_send_fct(net, 1), can_send_fct(net, 2));
-    println!(rt; "possible fct 1: {last}, fct 2: {beyond}")
-}
-
-// Makes a step of the link end. Is it an FCT?
-fn sends_fct(alloc: Global, net: &mut Core<'_>, end: LinkEnd) -> Result<bool, AllocError> {
-    if end.number() >= net.network().channels() {
-        return Ok(false);
-    }
-    let made = net.step_of(alloc, end)?;
-    Ok(matches!(made, Some(Step::Fct(_))))
+        "channels {channels}, nodes {nodes}\ncan begin A: {}\npossible fct 1: {}, fct 2: {}",
+        can_begin(net, 0),
+        can_send_fct(net, 1),
+        can_send_fct(net, 2)
+    )
 }
 
 fn show_sent(rt: &HostRuntime, net: &mut Core<'_>) -> io::Result<()> {
-    let is_fct = sends_fct(rt.alloc(), net, LinkEnd::new(END))?;
+    let made = make_step(rt.alloc(), net, LinkEnd::new(END))?;
+    let is_fct = matches!(made, Some(true));
     println!(rt; "the link end sends an FCT: {is_fct}")
 }
 

@@ -5,6 +5,7 @@ ghost use Rattle.sw_net.specs.New.{IsNewNet};
 
 use crate::files::no_text;
 use crate::nets::Core;
+use crate::nets::show::{Detail, show_nodes};
 use std::{fs, io};
 use sw_cert::Certificate;
 use sw_check::{Passed, check};
@@ -56,17 +57,8 @@ fn number_among(choice: Choice, count: usize) -> usize {
     }
 }
 
-// How many packets came out at each node.
-fn show_counts(rt: &HostRuntime, net: &Core<'_>) -> io::Result<()> {
-    for node in 0..net.network().nodes() {
-        let count = net.came_out(rt.alloc(), node)?.len();
-        print!(rt; " {count}")?;
-    }
-    Ok(())
-}
-
 fn show_drained(rt: &HostRuntime, net: &Core<'_>, steps: u64, bounds: &Bounds) -> io::Result<()> {
-    show_counts(rt, net)?;
+    show_nodes(rt, net, Detail::Counts)?;
     let left = net.undelivered();
     let within = bounds.least <= steps && steps <= bounds.most;
     println!(rt; ", {left} left, steps within bounds: {within}")

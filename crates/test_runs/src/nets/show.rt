@@ -4,6 +4,13 @@ use crate::nets::Core;
 use std::io;
 use sw_char::{End, Packet};
 
+/// What is printed of the packets that came out at a node.
+#[derive(Clone, Copy)]
+pub(crate) enum Detail {
+    Counts,
+    Packets,
+}
+
 // The byte that stands here many times, and nothing else.
 fn repeated_byte(bytes: &[u8]) -> Option<u8> {
     let Some((&first, rest)) = bytes.split_first() else {
@@ -35,11 +42,10 @@ fn show_bytes(rt: &HostRuntime, bytes: &[u8]) -> io::Result<()> {
 fn show_packet(rt: &HostRuntime, name: &str, packet: &Packet) -> io::Result<()> {
     print!(rt; "packet {name} ")?;
     show_bytes(rt, &packet.bytes)?;
-    let end = match packet.end {
-        End::Eop => "EOP",
-        End::Eep => "EEP",
-    };
-    println!(rt; " {end}")
+    rt.println(match packet.end {
+        End::Eop => " EOP",
+        End::Eep => " EEP",
+    })
 }
 
 fn show_packets(rt: &HostRuntime, name: &str, came_out: &[Packet]) -> io::Result<()> {
@@ -57,23 +63,40 @@ pub(crate) fn show_undelivered(rt: &HostRuntime, net: &Core<'_>) -> io::Result<(
     println!(rt; "undelivered {waiting}")
 }
 
-/// Prints how many characters wait, and the packets that came out at each node.
-pub(crate) fn show_parts(rt: &HostRuntime, net: &Core<'_>) -> io::Result<()> {
-    show_undelivered(rt, net)?;
+fn show_came_out(
+    rt: &HostRuntime,
+    name: &str,
+    came_out: &[Packet],
+    detail: Detail,
+) -> io::Result<()> {
+    match detail {
+        Detail::Counts => print!(rt; " {}", came_out.len()),
+        Detail::Packets => show_packets(rt, name, came_out),
+    }
+}
+
+/// Prints what came out at each node. This function alone owns packets.
+pub(crate) fn show_nodes(rt: &HostRuntime, net: &Core<'_>, detail: Detail) -> io::Result<()> {
     let network = net.network();
     for node in 0..network.nodes() {
         let came_out = net.came_out(rt.alloc(), node)?;
-        let shown = show_packets(rt, network.node_name(node), &came_out);
+        let shown = show_came_out(rt, network.node_name(node), &came_out, detail);
         drop(came_out);
         shown?;
     }
     Ok(())
 }
 
+/// Prints how many characters wait, and the packets that came out at each node.
+pub(crate) fn show_parts(rt: &HostRuntime, net: &Core<'_>) -> io::Result<()> {
+    show_undelivered(rt, net)?;
+    show_nodes(rt, net, Detail::Packets)
+}
+
 /// Prints the first link end that can make a step, if any can.
 pub(crate) fn show_first(rt: &HostRuntime, net: &Core<'_>) -> io::Result<()> {
     match net.first_enabled() {
         Some(end) => println!(rt; "first enabled {}", end.number()),
-        None => println!(rt; "first enabled none"),
+        None => rt.println("first enabled none"),
     }
 }

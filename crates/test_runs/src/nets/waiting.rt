@@ -1,7 +1,7 @@
 //! A load whose packets each begin as soon as they can.
 
-use crate::nets::Core;
 use crate::nets::show::{show_first, show_parts};
+use crate::nets::{Core, make_step};
 use std::alloc::{AllocError, Global};
 use std::io;
 use sw_cell::NetFault;
@@ -28,51 +28,55 @@ fn beginning(alloc: Global, packet: &LoadPacket) -> Result<Step, AllocError> {
     })
 }
 
-// Begins a packet of the entry, if any is left and it can begin. How many packets were begun.
+// Begins a packet of the entry, if any is left and it can begin, and counts it.
 fn begin_one(
     alloc: Global,
     net: &mut Core<'_>,
     packet: &LoadPacket,
     left: &mut u16,
-) -> Result<u32, AllocError> {
+    made: &mut u32,
+) -> Result<(), AllocError> {
     if *left == 0 {
-        return Ok(0);
+        return Ok(());
     }
     let step = beginning(alloc, packet)?;
-    match net.step(alloc, &step) {
+    let tried = net.step(alloc, &step);
+    drop(step);
+    match tried {
         Ok(()) => {
             *left = left.saturating_sub(1);
-            Ok(1)
+            *made = made.saturating_add(1);
+            Ok(())
         }
-        Err(NetFault::NotEnabled) | Err(NetFault::NotInFlow) => Ok(0),
+        Err(NetFault::NotEnabled) | Err(NetFault::NotInFlow) => Ok(()),
         Err(NetFault::Memory) => Err(AllocError),
     }
 }
 
-// Begins a packet of each entry where that is possible. How many packets were begun.
+// Begins a packet of each entry where that is possible, and counts them.
 fn begin_each(
     alloc: Global,
     net: &mut Core<'_>,
     load: &Load,
     left: &mut [u16],
-) -> Result<u32, AllocError> {
-    let mut begun: u32 = 0;
+    made: &mut u32,
+) -> Result<(), AllocError> {
     for (packet, left) in load.packets().iter().zip(left.iter_mut()) {
-        begun = begun.saturating_add(begin_one(alloc, net, packet, left)?);
+        begin_one(alloc, net, packet, left, made)?;
     }
-    Ok(begun)
+    Ok(())
 }
 
-// Makes a step of the first link end that can make one, and tells whether there is one.
-fn step_first(alloc: Global, net: &mut Core<'_>) -> Result<bool, AllocError> {
+// Makes a step of the first link end that can make one, and counts it. Is there one?
+fn step_first(alloc: Global, net: &mut Core<'_>, made: &mut u32) -> Result<bool, AllocError> {
     let Some(end) = net.first_enabled() else {
         return Ok(false);
     };
-    if end.number() >= net.network().channels() {
-        return Ok(false);
+    let is_made = make_step(alloc, net, end)?.is_some();
+    if is_made {
+        *made = made.saturating_add(1);
     }
-    let step = net.step_of(alloc, end)?;
-    Ok(step.is_some())
+    Ok(is_made)
 }
 
 // Begins packets wherever that is possible, and makes steps of the first link end that can make one, until none can. How many steps
@@ -81,11 +85,10 @@ fn make_steps(alloc: Global, net: &mut Core<'_>, load: &Load) -> Result<u32, All
     let mut left = counts(alloc, load)?;
     let mut made: u32 = 0;
     for _ in 0..MANY {
-        made = made.saturating_add(begin_each(alloc, net, load, &mut left)?);
-        if !step_first(alloc, net)? {
+        begin_each(alloc, net, load, &mut left, &mut made)?;
+        if !step_first(alloc, net, &mut made)? {
             break;
         }
-        made = made.saturating_add(1);
     }
     Ok(made)
 }

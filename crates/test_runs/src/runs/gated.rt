@@ -1,14 +1,10 @@
 //! A run whose workers wait for one another.
-ghost use Rattle.sw_load.specs.Laws.{AreDeclared};
 
 use crate::together::Together;
 use std::io;
-use std::sync::Wait;
-use std::thread::Threads;
 use sw_char::Packet;
 use sw_config::Network;
-use sw_load::{Load, enough_limit};
-use sw_run::{Outcome, Stop, run};
+use sw_run::{Outcome, Stop};
 
 fn name_of(stop: Stop) -> &'static str {
     match stop {
@@ -32,8 +28,8 @@ fn show_counts(rt: &HostRuntime, network: &Network, came_out: &[Vec<Packet>]) ->
     Ok(())
 }
 
-// Whether a worker gave up, whether each cell was decided, and how the run ended.
-fn show_outcome(
+/// Prints whether a worker gave up, whether each cell was decided, and how the run ended.
+pub(crate) fn show_gated(
     rt: &HostRuntime,
     network: &Network,
     outcome: &Outcome<'_>,
@@ -44,21 +40,4 @@ fn show_outcome(
     let undelivered = outcome.undelivered;
     println!(rt; "late {late}, all came {all}: {stop}, undelivered {undelivered}")?;
     show_counts(rt, network, &outcome.came_out)
-}
-
-/// Runs with such a gate and as many workers as link ends.
-pub(crate) fn show_gated<R: Threads + Wait + Sync>(
-    rt: &HostRuntime,
-    threads: &R,
-    network: &Network,
-    load: &Load,
-) -> io::Result<()>
-    requires { AreDeclared network.now load.now }
-{
-    let gate = Together::new();
-    let limit = enough_limit(network, load) as usize;
-    let outcome = run(threads, rt.alloc(), network, load, 12, limit, &gate)?;
-    let shown = show_outcome(rt, network, &outcome, &gate);
-    drop(outcome);
-    shown
 }

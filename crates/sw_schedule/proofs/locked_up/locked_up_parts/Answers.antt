@@ -7,9 +7,9 @@ use Rattle.sw_schedule.proofs.NetSteps.{new_here}
 use Rattle.sw_schedule.specs.Locked.{TellsLocked}
 use Rattle.sw_schedule.proofs.locked_up.locked_up_parts.Goals as goal
 
-pub parts_after-requires : goal.parts_after-requires
-parts_after-requires c = new_here c.args.network.now c.in_ok-net.net c.in_ok-net.ensures.new
+pub parts_after-parts-requires : goal.parts_after-parts-requires
+parts_after-parts-requires c = new_here c.args.network.now c.in_ok-net.net c.in_ok-net.ensures.new
 
 pub returns : goal.returns
 returns c =
-    subst (λ (d : Declaration). IfOk c.parts_after.result (λ o. TellsLocked d c.args.schedule.now (option_map (λ (all : Vec Part). all.items) o))) c.in_ok-net.ensures.new.network c.parts_after.ensures
+    subst (λ (d : Declaration). IfOk c.parts_after-parts.result (λ o. TellsLocked d c.args.schedule.now (option_map (λ (all : Vec Part). all.items) o))) c.in_ok-net.ensures.new.network c.parts_after-parts.ensures

@@ -1,57 +1,62 @@
-use Rattle.std.proofs.Common.{Some, ap, arith, length, subst, ◌<◌, ◌∙◌, ◌≡◌}
+use Rattle.std.proofs.Common.{None, Some, ap, arith, length, subst, ◌<◌, ◌≡◌}
 use Rattle.std.specs.Prelude.{slice_get}
-use Rattle.sw_cell.proofs.Network.{channels_are}
-use Rattle.sw_history.proofs.Idle.{node_begins, none_begins, switch_begins}
+use Rattle.sw_config.specs.Entries.{Declaration}
+use Rattle.sw_config.specs.Valid.{IsValid}
+use Rattle.sw_flow.specs.Places.{ends_of}
+use Rattle.sw_history.proofs.Idle.{begins_packet, begun_all, cannot_begin, if_mapped, next_from, node_begins, none_begins, none_mapped, switch_begins}
 use Rattle.sw_history.proofs.history.History.may_begin_at.Goals as goal
-use Rattle.sw_history.specs.History.{HistoryView, IsKept}
+use Rattle.sw_history.specs.History.{HistoryView, IsKept, IsNext}
+use Rattle.sw_history.specs.Next.{begin_of}
 use Rattle.sw_load.specs.History.{packet_of}
+use Rattle.sw_machine.specs.Begun.{Begun}
 use Rattle.sw_model.specs.Model.{network_of}
 use Rattle.sw_net.proofs.Told.{start_at_node, start_at_switch}
-use Rattle.sw_config.proofs.Steps.{length-link_ends}
-use Rattle.sw_config.specs.Entries.{Declaration, wiring_of}
-use Rattle.sw_config.specs.Valid.{IsValid}
-use Rattle.sw_topo.specs.Wiring.{Wiring}
 use Rattle.sw_topo.specs.declared.place.PlaceEnd.TheVariants.{Node, Switch}
 
-pub start_of-requires : goal.start_of-requires
-start_of-requires g c =
-    let w = ap (λ (k : Wiring). length k.ends) c.topology.ensures.wiring in
-    let size = length-link_ends c.network.result.now.links in
-    let same = ap (λ (k : Declaration). length k.links) (c.network.ensures.network ∙ ap (λ (k : HistoryView). k.declared) c.self.view_is) in
-    let s = c.sends.ensures in
+pub place_of-requires : goal.place_of-requires
+place_of-requires g c =
+    let same = ap (λ (k : HistoryView). length k.declared.links) c.self.view_is in
     let r = c.requires in
-    omega arith
+    omega (arith, same, r)
 
-pub returns-in-Node-clause-some : goal.returns-in-Node-clause-some
-returns-in-Node-clause-some g c =
+pub returns-then-not-can_begin-clause-none : goal.returns-then-not-can_begin-clause-none
+returns-then-not-can_begin-clause-none g c =
     let in_self = c.self.inside in
     let now = c.args.self.now in
     let kept = subst (λ (k : HistoryView). IsKept in_self.net k in_self.begun.items) c.self.view_is c.self.invariant.0 in
-    let valid = subst IsValid kept.network c.network.ensures.sound.valid in
-    let wires = c.topology.ensures.wiring ∙ ap wiring_of (c.network.ensures.network ∙ kept.network) in
-    let starts = start_at_node now.declared c.args.end c.in-Node.node (subst (λ (w : Wiring). slice_get w.ends c.args.end ≡ Some (Node c.in-Node.node)) wires (subst (λ k. slice_get c.topology.result.now.ends k ≡ Some (Node c.in-Node.node)) c.sends.ensures (c.in-Node.ensures.place))) in
-    let all = channels_are now.declared in
-    let size = length-link_ends now.declared.links in
-    let r = c.requires in
-    let lt : c.args.end < (network_of now.declared).channels = omega arith in
-    node_begins in_self.net now in_self.begun.items kept valid c.args.end c.in-Node.node starts lt (λ p. packet_of p.now) c.may_begin.result c.may_begin.ensures.some c.may_begin.ensures.from
+    let valid = subst IsValid kept.network c.place_of.ensures.sound.valid in
+    let starts = start_at_node now.declared c.args.end c.in-Node.node (subst (λ (d : Declaration). slice_get (ends_of d) c.args.end ≡ Some (Node c.in-Node.node)) kept.network c.in-Node.ensures.starts) in
+    none_begins in_self.net now in_self.begun.items kept valid c.args.end c.in-Node.node starts {X = Begun} None (cannot_begin in_self.net now in_self.begun.items kept c.in-Node.node c.if-not-can_begin.ensures)
 
-pub returns-in-Node-clause-none : goal.returns-in-Node-clause-none
-returns-in-Node-clause-none g c =
+pub returns-else-not-can_begin-clause-some : goal.returns-else-not-can_begin-clause-some
+returns-else-not-can_begin-clause-some g c =
     let in_self = c.self.inside in
     let now = c.args.self.now in
+    let node = c.in-Node.node in
     let kept = subst (λ (k : HistoryView). IsKept in_self.net k in_self.begun.items) c.self.view_is c.self.invariant.0 in
-    let valid = subst IsValid kept.network c.network.ensures.sound.valid in
-    let wires = c.topology.ensures.wiring ∙ ap wiring_of (c.network.ensures.network ∙ kept.network) in
-    let starts = start_at_node now.declared c.args.end c.in-Node.node (subst (λ (w : Wiring). slice_get w.ends c.args.end ≡ Some (Node c.in-Node.node)) wires (subst (λ k. slice_get c.topology.result.now.ends k ≡ Some (Node c.in-Node.node)) c.sends.ensures (c.in-Node.ensures.place))) in
-    none_begins in_self.net now in_self.begun.items kept valid c.args.end c.in-Node.node starts c.may_begin.result c.may_begin.ensures.none
+    let valid = subst IsValid kept.network c.place_of.ensures.sound.valid in
+    let starts = start_at_node now.declared c.args.end node (subst (λ (d : Declaration). slice_get (ends_of d) c.args.end ≡ Some (Node node)) kept.network c.in-Node.ensures.starts) in
+    let lt = subst (λ (d : Declaration). c.args.end < (network_of d).channels) kept.network c.place_of.ensures.within in
+    let some = if_mapped (λ p. packet_of p.now) (λ b. IsNext now (begin_of b)) c.next.result _ c.next.ensures (begins_packet in_self.net now in_self.begun.items kept node c.if-not-can_begin.ensures) in
+    let from = if_mapped (λ p. packet_of p.now) (λ b. ((network_of now.declared).flow b.flow).from ≡ node) c.next.result _ c.next.ensures (next_from now.declared now.load now.steps node) in
+    node_begins in_self.net now in_self.begun.items kept valid c.args.end node starts lt (λ p. packet_of p.now) c.next.result some from
+
+pub returns-else-not-can_begin-clause-none : goal.returns-else-not-can_begin-clause-none
+returns-else-not-can_begin-clause-none g c =
+    let in_self = c.self.inside in
+    let now = c.args.self.now in
+    let node = c.in-Node.node in
+    let kept = subst (λ (k : HistoryView). IsKept in_self.net k in_self.begun.items) c.self.view_is c.self.invariant.0 in
+    let valid = subst IsValid kept.network c.place_of.ensures.sound.valid in
+    let starts = start_at_node now.declared c.args.end node (subst (λ (d : Declaration). slice_get (ends_of d) c.args.end ≡ Some (Node node)) kept.network c.in-Node.ensures.starts) in
+    none_begins in_self.net now in_self.begun.items kept valid c.args.end node starts c.next.result
+    (none_mapped (λ p. packet_of p.now) _ c.next.result _ c.next.ensures (begun_all in_self.net now in_self.begun.items kept node))
 
 pub returns-in-Switch-clause-none : goal.returns-in-Switch-clause-none
 returns-in-Switch-clause-none g c =
     let in_self = c.self.inside in
     let now = c.args.self.now in
     let kept = subst (λ (k : HistoryView). IsKept in_self.net k in_self.begun.items) c.self.view_is c.self.invariant.0 in
-    let valid = subst IsValid kept.network c.network.ensures.sound.valid in
-    let wires = c.topology.ensures.wiring ∙ ap wiring_of (c.network.ensures.network ∙ kept.network) in
-    let starts = start_at_switch now.declared c.args.end c.in-Switch.field-0 c.in-Switch.field-1 (subst (λ (w : Wiring). slice_get w.ends c.args.end ≡ Some (Switch c.in-Switch.field-0 c.in-Switch.field-1)) wires (subst (λ k. slice_get c.topology.result.now.ends k ≡ Some (Switch c.in-Switch.field-0 c.in-Switch.field-1)) c.sends.ensures (c.in-Switch.ensures.place))) in
+    let valid = subst IsValid kept.network c.place_of.ensures.sound.valid in
+    let starts = start_at_switch now.declared c.args.end c.in-Switch.field-0 c.in-Switch.field-1 (subst (λ (d : Declaration). slice_get (ends_of d) c.args.end ≡ Some (Switch c.in-Switch.field-0 c.in-Switch.field-1)) kept.network c.in-Switch.ensures.starts) in
     switch_begins in_self.net now in_self.begun.items kept valid c.args.end c.in-Switch.field-0 starts

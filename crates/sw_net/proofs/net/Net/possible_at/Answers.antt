@@ -1,45 +1,22 @@
-use Rattle.std.proofs.Common.{Some, ap, arith, false, length, subst, ◌<◌, ◌∙◌, ◌≡◌, ℕ}
-use Rattle.std.specs.Prelude.{IfNone, IfSome, slice_get}
+use Rattle.std.proofs.Common.{false, subst, ℕ}
+use Rattle.std.specs.Prelude.{IfNone, IfSome}
 use Rattle.sw_model.proofs.Networks.{are_networks}
-use Rattle.sw_model.specs.Model.{network_of}
-use Rattle.sw_net.proofs.Delivered.{channel_count}
+use Rattle.sw_model.specs.Steps.{machine_step}
 use Rattle.sw_net.proofs.Told.{start_at_node}
 use Rattle.sw_net.proofs.net.Net.possible_at.Goals as goal
 use Rattle.sw_net.specs.Asked.{CanStep}
 use Rattle.sw_net.specs.Making.{IsMoveOf}
-use Rattle.sw_config.proofs.Steps.{length-link_ends}
-use Rattle.sw_config.specs.Entries.{Declaration, wiring_of}
-use Rattle.sw_model.specs.Steps.{machine_step}
-use Rattle.sw_topo.specs.Wiring.{Wiring}
-use Rattle.sw_topo.specs.declared.place.PlaceEnd.TheVariants.{Node}
-
-pub start_of-requires : goal.start_of-requires
-start_of-requires g c =
-    let w = ap (λ (k : Wiring). length k.ends) c.topology.ensures.wiring in
-    let size = length-link_ends c.network.result.now.links in
-    let same = ap (λ (k : Declaration). length k.links) c.network.ensures.network in
-    let s = c.sends.ensures in
-    let r = c.requires in
-    omega arith
 
 pub returns-in-Node-clause-some : goal.returns-in-Node-clause-some
 returns-in-Node-clause-some g c =
     let v = c.args.self.now in
-    let wires = c.topology.ensures.wiring ∙ ap wiring_of c.network.ensures.network in
-    let starts = start_at_node v.declared c.args.end c.in-Node.n (subst (λ (w : Wiring). slice_get w.ends c.args.end ≡ Some (Node c.in-Node.n)) wires (subst (λ k. slice_get c.topology.result.now.ends k ≡ Some (Node c.in-Node.n)) c.sends.ensures (c.in-Node.ensures.place))) in
-    let all = channel_count v.declared in
-    let r = c.requires in
-    let lt : c.args.end < (network_of v.declared).channels = omega arith in
-    let out = ((are_networks v.declared c.network.ensures.sound.valid).starts_at_node c.args.end c.in-Node.n lt starts).1 in
+    let starts = start_at_node v.declared c.args.end c.in-Node.n c.in-Node.ensures.starts in
+    let out = ((are_networks v.declared c.place_of.ensures.sound.valid).starts_at_node c.args.end c.in-Node.n c.place_of.ensures.within starts).1 in
     subst (λ (k : ℕ). IfSome c.possible_at_node.result (λ step. IsMoveOf v k (machine_step step))) out c.possible_at_node.ensures.some
 
 pub returns-in-Node-clause-none : goal.returns-in-Node-clause-none
 returns-in-Node-clause-none g c =
     let v = c.args.self.now in
-    let wires = c.topology.ensures.wiring ∙ ap wiring_of c.network.ensures.network in
-    let starts = start_at_node v.declared c.args.end c.in-Node.n (subst (λ (w : Wiring). slice_get w.ends c.args.end ≡ Some (Node c.in-Node.n)) wires (subst (λ k. slice_get c.topology.result.now.ends k ≡ Some (Node c.in-Node.n)) c.sends.ensures (c.in-Node.ensures.place))) in
-    let all = channel_count v.declared in
-    let r = c.requires in
-    let lt : c.args.end < (network_of v.declared).channels = omega arith in
-    let out = ((are_networks v.declared c.network.ensures.sound.valid).starts_at_node c.args.end c.in-Node.n lt starts).1 in
+    let starts = start_at_node v.declared c.args.end c.in-Node.n c.in-Node.ensures.starts in
+    let out = ((are_networks v.declared c.place_of.ensures.sound.valid).starts_at_node c.args.end c.in-Node.n c.place_of.ensures.within starts).1 in
     subst (λ (k : ℕ). IfNone c.possible_at_node.result (CanStep v k false)) out c.possible_at_node.ensures.none
