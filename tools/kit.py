@@ -6,6 +6,7 @@ libraries are computed once a run. Nothing else differs, and no file may be edit
 import importlib.machinery
 import importlib.util
 import os
+import re
 import shutil
 import sys
 
@@ -42,6 +43,16 @@ rtlib.Crate.below = once(rtlib.Crate.below)
 def crates(top=TOP):
     """Returns the crates that crates.txt lists, each after those that it uses."""
     return sorted(rtlib.crates_below(top), key=lambda it: len(it.below()))
+
+
+def proved_in(log):
+    """Returns the names of the crates that the log of an `rt ci` says it proved, in this run or an earlier one."""
+    return {*re.findall(r"^rt: (\w+) (?:proved$|is kept:)", rtlib.text_of(log), re.M)}
+
+
+def has_ended(log):
+    """Returns whether the `rt ci` that writes the log has come to its last line."""
+    return bool(re.search(r"^\d+ passed, \d+ failed$", rtlib.text_of(log), re.M))
 
 
 if __name__ == "__main__":

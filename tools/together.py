@@ -5,11 +5,17 @@ one another: one check of these functions, with all of the edits made, tells of 
 its function, which stands beside it under a name of its own and calls what the function calls: so several edits of one function go into one check too, and the
 function stays as it is for those that call it. No copy is made of a function with files of proofs, since these go by its name, of what a trait asks for, and of
 what calls itself: such a function has one edit in a check, in its place.
+
+Each other function, of which the check would prove the body since an edited one calls it, has in the check a body that never returns, and with that any
+contract: what its caller is proved from is the contract, which stays.
 """
 import collections
+import copy
 import functools
 import os
 import re
+import shutil
+import tempfile
 
 from kit import rt
 
@@ -22,12 +28,23 @@ LOCATED = re.compile(r"(?:note: )?\S+:\d+:\d+:")
 # So many edits go into one check, for its memory.
 MOST = 20
 
+# What stands in place of a body that a check does not look at, and the module that it calls.
+NO_BODY = " crate::never_returns::never_returns(); unreachable!() "
+NEVER_RETURNS = """//! What stands in place of the bodies that a check of edits does not look at.
+ghost use Rattle.std.specs.Prelude.{◌<◌};
+
+unsafe extern "C" {
+    pub(crate) safe fn never_returns() -> u8
+        ensures { result < 0 };
+}
+"""
+
 # How the name of a copy without an edit ends.
 AS_IT_IS = "_as_it_is"
 
-# A function: its file, the end of the name that a check prints, whether it may have copies, and where in the text its lines begin (those above its signature
-# too), its signature, its body, the line that ends it, and what follows.
-Function = collections.namedtuple("Function", "path name has_copies start head begin end after")
+# A function: its file, the end of the name that a check prints, whether it may have copies, whether it calls itself, and where in the text its lines begin
+# (those above its signature too), its signature, its body, the line that ends it, and what follows.
+Function = collections.namedtuple("Function", "path name has_copies is_cyclic start head begin end after")
 
 # A function as one check has it: in a copy whose name ends so, or in its place where that is "", and with this edit, or as it is where there is none.
 Variant = collections.namedtuple("Variant", "function copy edit")
@@ -60,32 +77,40 @@ def functions_in(path, text):
         if not head:
             continue
         deeper = head[1] + " "
-        opens = next((it for it in range(number, len(lines)) if lines[it].endswith("{") and (it == number or not lines[it].startswith(deeper))), None)
+        # (an empty body stands in one line with what ends it, and a method of a trait may have none)
+        last = next((it for it in range(number + 1, len(lines)) if not lines[it] or FUNCTION.match(lines[it])), len(lines))
+        ends = next((it for it in range(number, last) if lines[it].endswith(("{", "{}", ";")) and (it == number or not lines[it].startswith(deeper))), None)
+        opens = ends if ends is not None and lines[ends].endswith("{") else None
         closes = opens and next((it for it in range(opens + 1, len(lines)) if lines[it] == head[1] + "}"), None)
         if closes:
             first = next(it for it in range(number, -1, -1) if not lines[it - 1].startswith((head[1] + "#[", head[1] + "//")))
             whole = (owner if head[1] else module_of(path)) + head[2]
             begin, end = starts[opens] + len(lines[opens]), starts[closes]
-            is_cyclic = re.search(rf"\b{head[2]}\(", text[begin:end]) or "#[cycle" in text[starts[first]:starts[number]]
+            is_cyclic = bool(re.search(rf"\b{head[2]}\(", text[begin:end])) or "#[cycle" in text[starts[first]:starts[number]]
             is_whole = not first or not lines[first - 1] or lines[first - 1].endswith("{")
             has_copies = (is_own or not head[1]) and is_whole and not is_cyclic
-            found.append(Function(path, whole, has_copies, starts[first], starts[number], begin, end, end + len(lines[closes])))
+            found.append(Function(path, whole, has_copies, is_cyclic, starts[first], starts[number], begin, end, end + len(lines[closes])))
     return found
 
 
-def function_of(edit, crate):
-    """The one function in whose body all changes of the edit are, and None where there is no such function."""
+def functions_of_edit(edit, crate):
+    """The functions whose bodies the edit changes, and whether it changes one body alone. There are none where it changes a signature, or no body."""
     texts, why = rt.read_edit(edit, crate.folder)
     if why or len(texts) != 1:
-        return None
+        return [], False
     (path, text), = texts.items()
     if not path.startswith("src/"):
-        return None
+        return [], False
     before = rt.rtlib.text_of(f"{crate.folder}/{path}")
     first = len(os.path.commonprefix([before, text]))
     last = len(before) - len(os.path.commonprefix([before[first:][::-1], text[first:][::-1]]))
     around = [it for it in functions_in(path, before) if it.begin <= first and last <= it.end]
-    return around[-1] if around else None
+    if around:
+        return [around[-1]], True
+    pairs = [*zip(functions_in(path, before), functions_in(path, text))]
+    changed = [(it, now) for it, now in pairs if before[it.head:it.after] != text[now.head:now.after]]
+    is_same = all(it.name == now.name and before[it.head:it.begin] == text[now.head:now.begin] for it, now in changed)
+    return [it for it, _ in changed] if is_same else [], False
 
 
 def functions_of(crate):
@@ -107,18 +132,24 @@ def name_of(variant):
 
 
 def batches(edits, crate):
-    """The edits in parts, each for one check. An edit of no one function's body is in none."""
-    parts, known = [], {it[:2]: it for it in named_once(crate)}
+    """The edits in parts, each for one check. One that changes several functions, or a type too, has a check of its own, which looks at these functions. An edit of
+    no function's body is in none."""
+    parts, alone, known = [], [], {it[:2]: it for it in named_once(crate)}
     for edit in edits:
-        found = function_of(edit, crate)
-        function = found and known.get(found[:2])
-        if function:
-            fits = (it for it in parts if len(it) < MOST and (function.has_copies or is_made_beside(function, edit, it, crate)))
-            into = next(fits, None)
-            if into is None:
-                parts.append(into := [])
-            into.append(Variant(function, f"_edit_{len(into) + 1}" if function.has_copies else "", edit))
-    return parts
+        found, is_one = functions_of_edit(edit, crate)
+        functions = [known.get(it[:2]) for it in found]
+        if not functions or None in functions:
+            continue
+        if not is_one:
+            alone.append([Variant(it, "", edit) for it in functions])
+            continue
+        function, = functions
+        fits = (it for it in parts if len(it) < MOST and (function.has_copies or is_made_beside(function, edit, it, crate)))
+        into = next(fits, None)
+        if into is None:
+            parts.append(into := [])
+        into.append(Variant(function, f"_edit_{len(into) + 1}" if function.has_copies else "", edit))
+    return parts + alone
 
 
 def text_of(edits):
@@ -147,7 +178,7 @@ def copy_of(variant, crate):
 
 def texts_with(variants, crate):
     """The texts of the crate's files that are others where it has these."""
-    placed = [it.edit for it in variants if it.edit and not it.copy]
+    placed = dict.fromkeys(it.edit for it in variants if it.edit and not it.copy)
     texts = {**rt.edited(text_of(placed), crate.folder)[0]} if placed else {}
     for variant in variants:
         if variant.copy:
@@ -156,11 +187,46 @@ def texts_with(variants, crate):
     return texts
 
 
+def is_folder_of(function, folder):
+    """Whether the folder, by its path below proofs/, is that of the function's own proofs. Those of a method stand by its type, wherever its impl is written."""
+    path = function.name.replace("::", "/")
+    return f"/{folder}".endswith(f"/{path}") if function.name[0].isupper() else folder == path
+
+
+def needs_no_body(function, text):
+    """Whether a check that looks at another function alone may do without this one's body, which calls something."""
+    signature, body = text[function.head:function.begin], text[function.begin:function.end]
+    return "(" in body and not function.is_cyclic and not re.search(r"\b(const|extern|unsafe)\b", signature.partition("(")[0])
+
+
+def without_bodies(variants, texts, crate):
+    """The texts of the crate's files that are others where it has these texts and no bodies but those of the variants, and the functions that have none."""
+    looked_at, bare = {name_of(it) for it in variants}, []
+    made = {**{it.path: rt.rtlib.text_of(f"{crate.folder}/{it.path}") for it in functions_of(crate)}, **texts}
+    for path, text in made.items():
+        for it in reversed(functions_in(path, text)):
+            if it.name not in looked_at and needs_no_body(it, text):
+                made[path] = made[path][:it.begin] + NO_BODY + made[path][it.end:]
+                bare.append(it)
+    root = f"src/{'main' if crate.is_program else 'lib'}.rt"
+    text = made.get(root) or rt.rtlib.text_of(f"{crate.folder}/{root}")
+    return {**made, root: f"{text}\nmod never_returns;\n", "src/never_returns.rt": NEVER_RETURNS}, bare
+
+
 def checked(variants, crate, flags, kept):
-    """Checks these alone, and what they call, and returns the check's status, the lines that it says, and whether it tells of these. It reads no more of the
-    crate than they need."""
-    texts = texts_with(variants, crate)
-    ran = rt.checked(crate, texts, [*flags, *(word for it in variants for word in ("--only", name_of(it)))], kept)
+    """Checks these alone, over the contracts of what they call, and returns the check's status, the lines that it says, and whether it tells of these. It reads
+    no more of the crate than they need."""
+    texts, bare = without_bodies(variants, texts_with(variants, crate), crate)
+    words = [*flags, "--links", f"{crate.name}=nothing", *(word for it in variants for word in ("--only", name_of(it)))]
+    with tempfile.TemporaryDirectory(prefix="bare-") as room:
+        for part in filter(os.path.isdir, (f"{crate.folder}/{it}" for it in rt.rtlib.PARTS)):
+            shutil.copytree(part, f"{room}/{os.path.basename(part)}")
+        for at, _, _ in [*os.walk(f"{room}/proofs")]:
+            if any(is_folder_of(it, os.path.relpath(at, f"{room}/proofs")) for it in bare):
+                shutil.rmtree(at)
+        there = copy.copy(crate)
+        there.folder = room
+        ran = rt.checked(there, texts, words, kept)
     lines = ran.stdout.rstrip("\n").split("\n")
     tells = lines[-1].startswith("only=") and not rt.rtlib.STALE.search(ran.stdout) and not any(rt.unread(it, texts) for it in lines)
     return ran.returncode, lines, tells

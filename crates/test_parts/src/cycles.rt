@@ -109,7 +109,7 @@ fn check(rt: &impl Abort, alloc: Global, network: &Network, case: &Case) {
 // One function alone owns a network: to let one go is dear to prove.
 fn check_all(rt: &impl Abort, alloc: Global, sample: &Sample, cases: &[Case]) {
     let mut builder = NetworkBuilder::new(alloc);
-    add_parts(rt, alloc, &mut builder, sample);
+    assert!(rt; add_parts(alloc, &mut builder, sample));
     let mut network = builder.wire(alloc).expect(rt, "network");
     add_flows(rt, alloc, &mut network, sample);
     for case in cases {

@@ -2,7 +2,6 @@
 ghost use Rattle.sw_link.specs.Ends.{IsCapacity};
 
 use std::alloc::Global;
-use std::process::Abort;
 use sw_char::NChar;
 use sw_link::RxEnd;
 
@@ -17,51 +16,47 @@ const EIGHT: &[NChar] = &[
     NChar::Data(7),
 ];
 
-// These N-Chars arrive, and no more are asked for.
-fn receive(rt: &impl Abort, end: &mut RxEnd, characters: &[NChar]) {
-    for character in characters {
-        assert!(rt; !end.can_issue());
-        assert!(rt; end.outstanding() > 0);
-        end.arrive(*character);
-    }
-}
-
-// They are taken, and until then no more are asked for.
-fn take(rt: &impl Abort, end: &mut RxEnd, characters: &[NChar]) {
-    for character in characters {
-        assert!(rt; end.len() > 0);
-        let found = (end.can_issue(), end.front(), end.take());
-        assert!(rt; found == (false, Some(*character), *character));
-    }
-}
-
-// An end asks so often, these N-Chars arrive and are taken, and then it asks again or does not.
-fn asks(
-    rt: &impl Abort,
-    alloc: Global,
-    capacity: usize,
-    times: u8,
-    characters: &[NChar],
-    asks_again: bool,
-)
-    requires { IsCapacity capacity }
-{
-    let mut end = RxEnd::new(alloc, capacity).expect(rt, "end");
+// An end asks so often, these N-Chars arrive and are taken, until when it asks for no more, and then it asks again or does not.
+fn takes(end: &mut RxEnd, times: u8, characters: &[NChar], asks_again: bool) -> bool {
     for _ in 0..times {
-        assert!(rt; end.can_issue());
+        if !end.can_issue() {
+            return false;
+        }
         end.issue();
     }
-    receive(rt, &mut end, characters);
-    take(rt, &mut end, characters);
-    assert!(rt; end.can_issue() == asks_again);
+    for character in characters {
+        if end.can_issue() || end.outstanding() == 0 {
+            return false;
+        }
+        end.arrive(*character);
+    }
+    for character in characters {
+        if end.can_issue() || end.front() != Some(*character) || end.len() == 0 {
+            return false;
+        }
+        if end.take() != *character {
+            return false;
+        }
+    }
+    end.can_issue() == asks_again
+}
+
+// So does a new end for so many.
+fn asks(alloc: Global, capacity: usize, times: u8, characters: &[NChar], asks_again: bool) -> bool
+    requires { IsCapacity capacity }
+{
+    match RxEnd::new(alloc, capacity) {
+        Ok(mut end) => takes(&mut end, times, characters, asks_again),
+        Err(_) => false,
+    }
 }
 
 #[test]
 fn an_end_asks_where_it_has_room(rt: HostRuntime) {
-    // Eight must arrive and be taken.
-    asks(&rt, rt.alloc(), 8, 1, EIGHT, true);
-    // One free place more is enough.
-    asks(&rt, rt.alloc(), 15, 1, &[NChar::Eop], true);
-    // Seven FCTs in a row.
-    asks(&rt, rt.alloc(), 4096, 7, &[], false);
+    // Eight must arrive and be taken, one free place more is enough, and seven FCTs are sent in a row.
+    assert!(rt;
+        asks(rt.alloc(), 8, 1, EIGHT, true)
+            && asks(rt.alloc(), 15, 1, &[NChar::Eop], true)
+            && asks(rt.alloc(), 4096, 7, &[], false)
+    );
 }

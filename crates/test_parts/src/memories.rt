@@ -1,6 +1,5 @@
 //! RMAP commands, and a target that answers them.
 use std::alloc::Global;
-use std::process::Abort;
 use sw_char::End;
 use sw_rmap::{Command, Target, TargetConfig, crc, reply_to, write_command};
 
@@ -143,33 +142,41 @@ const REFUSED: &[Case] = &[
     },
 ];
 
-fn answers(rt: &impl Abort, alloc: Global, target: &mut Target, case: &Case) {
-    let reply = target
-        .answer(alloc, case.packet, case.end)
-        .expect(rt, "memory");
-    assert!(rt; reply.as_deref() == case.reply);
-    assert!(rt; target.memory().starts_with(case.memory));
+fn answers(alloc: Global, target: &mut Target, cases: &[Case]) -> bool {
+    for case in cases {
+        let Ok(reply) = target.answer(alloc, case.packet, case.end) else {
+            return false;
+        };
+        if reply.as_deref() != case.reply || !target.memory().starts_with(case.memory) {
+            return false;
+        }
+    }
+    target.memory().len() == EMPTY.len()
 }
 
-fn answers_each(rt: &impl Abort, alloc: Global, cases: &[Case]) {
-    let mut target = Target::new(alloc, CONFIG).expect(rt, "target");
-    for case in cases {
-        answers(rt, alloc, &mut target, case);
+fn answers_each(alloc: Global, cases: &[Case]) -> bool {
+    match Target::new(alloc, CONFIG) {
+        Ok(mut target) => answers(alloc, &mut target, cases),
+        Err(_) => false,
     }
-    assert!(rt; target.memory().len() == EMPTY.len());
 }
 
 #[test]
 fn targets_write_and_refuse(rt: HostRuntime) {
-    answers_each(&rt, rt.alloc(), ANSWERED);
-    answers_each(&rt, rt.alloc(), REFUSED);
+    assert!(rt; answers_each(rt.alloc(), ANSWERED) && answers_each(rt.alloc(), REFUSED));
 }
 
-fn is_as_bytes(rt: &impl Abort, alloc: Global) {
-    let command = Command::read(WRITE).expect(rt, "command");
-    assert!(rt; (command.length(), command.instruction()) == (16, 0x6C));
-    let bytes = write_command(alloc, &command, DATA).expect(rt, "bytes");
-    assert!(rt; bytes.as_slice() == WRITE);
+fn is_as_bytes(alloc: Global) -> bool {
+    let Some(command) = Command::read(WRITE) else {
+        return false;
+    };
+    if (command.length(), command.instruction()) != (16, 0x6C) {
+        return false;
+    }
+    match write_command(alloc, &command, DATA) {
+        Ok(bytes) => bytes.as_slice() == WRITE,
+        Err(_) => false,
+    }
 }
 
 /// A packet, and the way back to where its reply goes.
@@ -179,15 +186,19 @@ const WAYS: &[(&[u8], Option<&[u8]>)] = &[
     (read_packet!(0xC8), None),
 ];
 
-fn goes_back(rt: &impl Abort, alloc: Global) {
+fn go_back(alloc: Global) -> bool {
     for (packet, wanted) in WAYS {
-        let way = reply_to(alloc, packet).expect(rt, "memory");
-        assert!(rt; way.as_deref() == *wanted);
+        let Ok(way) = reply_to(alloc, packet) else {
+            return false;
+        };
+        if way.as_deref() != *wanted {
+            return false;
+        }
     }
+    true
 }
 
 #[test]
 fn commands_as_bytes_and_ways_back(rt: HostRuntime) {
-    is_as_bytes(&rt, rt.alloc());
-    goes_back(&rt, rt.alloc());
+    assert!(rt; is_as_bytes(rt.alloc()) && go_back(rt.alloc()));
 }

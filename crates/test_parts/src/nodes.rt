@@ -4,7 +4,6 @@ ghost use Rattle.sw_link.specs.Ends.{IsCapacity};
 ghost use Rattle.sw_rmap.specs.Config.{IsTargetConfig};
 
 use std::alloc::Global;
-use std::process::Abort;
 use sw_cell::node;
 use sw_char::{End, NChar};
 use sw_node::NodeCell;
@@ -19,56 +18,62 @@ const TARGET: TargetConfig = TargetConfig {
 };
 
 // A packet is sent to its end.
-fn sends(rt: &impl Abort, alloc: Global, node: &mut NodeCell) {
-    assert!(rt; node.can_begin());
-    node.begin(alloc, &[3], &[0xAA], End::Eep)
-        .expect(rt, "packet");
-    assert!(rt; !node.can_begin());
-    assert!(rt; node.credit() == 0);
+fn sends(alloc: Global, node: &mut NodeCell) -> bool {
+    if !node.can_begin() || node.begin(alloc, &[3], &[0xAA], End::Eep).is_err() {
+        return false;
+    }
+    if node.can_begin() || node.credit() != 0 {
+        return false;
+    }
     node.fct_in();
     for _ in 0..3usize {
-        assert!(rt; node.can_emit());
+        if !node.can_emit() {
+            return false;
+        }
         let _ = node.emit();
     }
-    assert!(rt; node.can_begin());
+    node.can_begin()
 }
 
-fn issue(rt: &impl Abort, node: &mut NodeCell) {
-    assert!(rt; node.can_issue());
-    node.issue();
-}
-
-fn has_one_packet(rt: &impl Abort, alloc: Global, node: &NodeCell) {
-    let packets = node.came_out(alloc).expect(rt, "packets");
-    assert!(rt; packets.len() == 1);
+fn has_one_packet(alloc: Global, node: &NodeCell) -> bool {
+    match node.came_out(alloc) {
+        Ok(packets) => packets.len() == 1,
+        Err(_) => false,
+    }
 }
 
 // A packet comes out.
-fn receives(rt: &impl Abort, alloc: Global, node: &mut NodeCell) {
-    issue(rt, node);
-    for character in &[NChar::Data(0xAA), NChar::Eop] {
-        assert!(rt; node.outstanding() > 0);
-        node.arrive(*character);
-        assert!(rt; node.can_accept());
-        node.accept(alloc).expect(rt, "memory");
+fn receives(alloc: Global, node: &mut NodeCell) -> bool {
+    if !node.can_issue() {
+        return false;
     }
-    has_one_packet(rt, alloc, node);
+    node.issue();
+    for character in &[NChar::Data(0xAA), NChar::Eop] {
+        if node.outstanding() == 0 {
+            return false;
+        }
+        node.arrive(*character);
+        if !node.can_accept() || node.accept(alloc).is_err() {
+            return false;
+        }
+    }
+    has_one_packet(alloc, node)
 }
 
-// Whether the node took what came.
-fn accept(rt: &impl Abort, alloc: Global, node: &mut NodeCell, takes: bool) {
-    let taken = node::accept(alloc, 0, node).expect(rt, "memory");
-    assert!(rt; taken == takes);
-}
-
-fn takes_what_came(rt: &impl Abort, alloc: Global, node: &mut NodeCell) {
-    assert!(rt; node::can_begin(0, node));
-    accept(rt, alloc, node, false);
-    issue(rt, node);
-    assert!(rt; node.outstanding() > 0);
+// The machine's step takes nothing before something came.
+fn takes_what_came(alloc: Global, node: &mut NodeCell) -> bool {
+    if !node::can_begin(0, node) || !matches!(node::accept(alloc, 0, node), Ok(false)) {
+        return false;
+    }
+    if !node.can_issue() {
+        return false;
+    }
+    node.issue();
+    if node.outstanding() == 0 {
+        return false;
+    }
     node.arrive(NChar::Eop);
-    accept(rt, alloc, node, true);
-    assert!(rt; node.packets().len() == 1);
+    matches!(node::accept(alloc, 0, node), Ok(true)) && node.packets().len() == 1
 }
 
 enum Work {
@@ -78,22 +83,29 @@ enum Work {
 }
 
 // One function alone owns a cell: to let one go is dear to prove.
-fn works(rt: &impl Abort, alloc: Global, target: Option<TargetConfig>, capacity: usize, work: &Work)
+fn works(alloc: Global, target: Option<TargetConfig>, capacity: usize, work: &Work) -> bool
     requires target { IfSome target IsTargetConfig }
     requires capacity { IsCapacity capacity }
 {
-    let mut node = NodeCell::new(alloc, target, capacity).expect(rt, "node");
-    match work {
-        Work::Send => sends(rt, alloc, &mut node),
-        Work::Receive => receives(rt, alloc, &mut node),
-        Work::TakeWhatCame => takes_what_came(rt, alloc, &mut node),
+    match NodeCell::new(alloc, target, capacity) {
+        Ok(mut node) => {
+            let does_it = match work {
+                Work::Send => sends(alloc, &mut node),
+                Work::Receive => receives(alloc, &mut node),
+                Work::TakeWhatCame => takes_what_came(alloc, &mut node),
+            };
+            drop(node);
+            does_it
+        }
+        Err(_) => false,
     }
-    drop(node);
 }
 
 #[test]
 fn nodes_send_and_take_packets(rt: HostRuntime) {
-    works(&rt, rt.alloc(), Some(TARGET), 64, &Work::Send);
-    works(&rt, rt.alloc(), Some(TARGET), 64, &Work::Receive);
-    works(&rt, rt.alloc(), None, 8, &Work::TakeWhatCame);
+    assert!(rt;
+        works(rt.alloc(), Some(TARGET), 64, &Work::Send)
+            && works(rt.alloc(), Some(TARGET), 64, &Work::Receive)
+            && works(rt.alloc(), None, 8, &Work::TakeWhatCame)
+    );
 }

@@ -3,21 +3,25 @@ ghost use Rattle.std.specs.Prelude.{◌<◌, ◌↔◌, All, IsTrue};
 ghost use Rattle.sw_graph.specs.Rows.{IsGraph};
 
 use std::alloc::Global;
-use std::process::Abort;
 use sw_graph::{Order, RoundWorkers, order};
 use sw_parallel::{OneByOne, SideBySide};
 
-// The rows of as many members with these steps.
-fn relation(rt: &impl Abort, alloc: Global, count: usize, steps: &[(u16, u16)]) -> Vec<Vec<u16>> {
-    let mut rows = Vec::new(alloc);
+// Adds the rows of as many members with these steps.
+fn add_rows(alloc: Global, rows: &mut Vec<Vec<u16>>, count: usize, steps: &[(u16, u16)]) -> bool {
     for _ in 0..count {
-        rows.push(Vec::new(alloc)).expect(rt, "memory");
+        if rows.push(Vec::new(alloc)).is_err() {
+            return false;
+        }
     }
     for (from, to) in steps {
-        let row = rows.get_mut(usize::from(*from)).expect(rt, "a member");
-        row.push(*to).expect(rt, "memory");
+        let Some(row) = rows.get_mut(usize::from(*from)) else {
+            return false;
+        };
+        if row.push(*to).is_err() {
+            return false;
+        }
     }
-    rows
+    true
 }
 
 fn is_row(row: &Vec<u16>, count: usize) -> bool
@@ -41,28 +45,29 @@ fn answer(order: &Order) -> Result<&[u16], &[u16]> {
 }
 
 fn answers<C: RoundWorkers>(
-    rt: &impl Abort,
     workers: &C,
     alloc: Global,
     rows: &[Vec<u16>],
     wanted: Result<&[u16], &[u16]>,
-) {
-    assert!(rt; rows.len() < 65536);
-    assert!(rt; is_graph(rows));
-    let order = order(workers, alloc, rows).expect(rt, "order");
-    assert!(rt; answer(&order) == wanted);
+) -> bool {
+    if 65536 <= rows.len() || !is_graph(rows) {
+        return false;
+    }
+    match order(workers, alloc, rows) {
+        Ok(order) => answer(&order) == wanted,
+        Err(_) => false,
+    }
 }
 
 fn has_order<C: RoundWorkers>(
-    rt: &impl Abort,
     workers: &C,
     alloc: Global,
     count: usize,
     steps: &[(u16, u16)],
     wanted: Result<&[u16], &[u16]>,
-) {
-    let rows = relation(rt, alloc, count, steps);
-    answers(rt, workers, alloc, &rows, wanted);
+) -> bool {
+    let mut rows = Vec::new(alloc);
+    add_rows(alloc, &mut rows, count, steps) && answers(workers, alloc, &rows, wanted)
 }
 
 /// How many members, the steps between them, and the levels or the cycle.
@@ -99,20 +104,23 @@ const CASES: &[Case] = &[
 #[test]
 fn relations_have_levels_or_a_cycle(rt: HostRuntime) {
     for (count, steps, wanted) in CASES {
-        has_order(&rt, &OneByOne, rt.alloc(), *count, steps, *wanted);
+        assert!(rt; has_order(&OneByOne, rt.alloc(), *count, steps, *wanted));
     }
 }
 
 // Of so many members the last leads to the first.
-fn falls_from_one<C: RoundWorkers>(rt: &impl Abort, workers: &C, alloc: Global, count: usize) {
-    let mut levels = Vec::new(alloc);
-    levels.push(1).expect(rt, "memory");
-    levels.resize(count, 0).expect(rt, "memory");
-    has_order(rt, workers, alloc, count, &[(4999, 0)], Ok(&levels));
-}
-
 #[test]
 fn many_members_are_shared_or_taken_one_by_one(rt: HostRuntime) {
-    falls_from_one(&rt, &SideBySide::new(&rt), rt.alloc(), 5000);
-    falls_from_one(&rt, &OneByOne, rt.alloc(), 5000);
+    let mut levels = Vec::new(rt.alloc());
+    levels.push(1).expect(&rt, "memory");
+    levels.resize(5000, 0).expect(&rt, "memory");
+    let shared = has_order(
+        &SideBySide::new(&rt),
+        rt.alloc(),
+        5000,
+        &[(4999, 0)],
+        Ok(&levels),
+    );
+    let alone = has_order(&OneByOne, rt.alloc(), 5000, &[(4999, 0)], Ok(&levels));
+    assert!(rt; shared && alone);
 }

@@ -3,13 +3,14 @@ ghost use Rattle.std.specs.Prelude.{◌≡◌, ◌≤◌, ◌<◌, [], length, I
 ghost use Rattle.sw_config.specs.Valid.{IsReply};
 ghost use Rattle.sw_rmap.specs.Config.{IsTargetConfig};
 
+use crate::sets::port;
 use std::alloc::Global;
 use std::process::Abort;
 use sw_arb::Arbitration;
 use sw_config::{Flow, Network, NetworkBuilder, Reply};
 use sw_rmap::TargetConfig;
 use sw_route::TableRoutes;
-use sw_topo::{PlaceEnd, Port};
+use sw_topo::PlaceEnd;
 
 const TARGET: TargetConfig = TargetConfig {
     logical: 80,
@@ -27,62 +28,57 @@ pub enum Sample {
 }
 
 fn add_node(
-    rt: &impl Abort,
     alloc: Global,
     builder: &mut NetworkBuilder,
     name: &str,
     target: Option<TargetConfig>,
-)
+) -> bool
     requires nodes_first { builder.old.switches ≡ [] }
     requires target { IfSome target IsTargetConfig }
     ensures { builder.new.switches ≡ [] }
 {
-    assert!(rt; builder.node_count() < 1024);
-    assert!(rt; !builder.has_name(name));
-    builder.add_node(alloc, name, target).expect(rt, "node");
+    if 1024 <= builder.node_count() || builder.has_name(name) {
+        return false;
+    }
+    builder.add_node(alloc, name, target).is_ok()
 }
 
-fn add_pair(rt: &impl Abort, alloc: Global, builder: &mut NetworkBuilder)
+fn add_pair(alloc: Global, builder: &mut NetworkBuilder) -> bool
     requires { builder.old.switches ≡ [] }
 {
-    add_node(rt, alloc, builder, "A", Some(TARGET));
-    add_node(rt, alloc, builder, "B", Some(TARGET));
-    assert!(rt; builder.node_count() == 2);
-    builder
-        .add_link(PlaceEnd::Node(0), PlaceEnd::Node(1), 64, 64)
-        .expect(rt, "link");
+    add_node(alloc, builder, "A", Some(TARGET))
+        && add_node(alloc, builder, "B", Some(TARGET))
+        && builder.node_count() == 2
+        && builder
+            .add_link(PlaceEnd::Node(0), PlaceEnd::Node(1), 64, 64)
+            .is_ok()
 }
 
-/// The port of that number.
-pub fn port(rt: &impl Abort, number: u8) -> Port {
-    Port::new(number).expect(rt, "a port is below 32")
-}
-
-fn add_turn(rt: &impl Abort, alloc: Global, builder: &mut NetworkBuilder)
+fn add_turn(alloc: Global, builder: &mut NetworkBuilder) -> bool
     requires { builder.old.switches ≡ [] }
 {
-    add_node(rt, alloc, builder, "A", None);
-    assert!(rt; !builder.has_name("S"));
-    builder
-        .add_switch(alloc, "S", Arbitration::Fixed, TableRoutes::new(alloc))
-        .expect(rt, "switch");
-    assert!(rt; builder.node_count() == 1);
-    let near = PlaceEnd::Switch(0, port(rt, 1));
-    builder
-        .add_link(PlaceEnd::Node(0), near, 8, 8)
-        .expect(rt, "link");
-    let from = PlaceEnd::Switch(0, port(rt, 2));
-    let to = PlaceEnd::Switch(0, port(rt, 3));
-    builder.add_link(from, to, 8, 8).expect(rt, "link");
+    if !add_node(alloc, builder, "A", None) || builder.has_name("S") {
+        return false;
+    }
+    let table = TableRoutes::new(alloc);
+    let added = builder.add_switch(alloc, "S", Arbitration::Fixed, table);
+    if added.is_err() || builder.node_count() != 1 {
+        return false;
+    }
+    let near = PlaceEnd::Switch(0, port(1));
+    let from = PlaceEnd::Switch(0, port(2));
+    let to = PlaceEnd::Switch(0, port(3));
+    builder.add_link(PlaceEnd::Node(0), near, 8, 8).is_ok()
+        && builder.add_link(from, to, 8, 8).is_ok()
 }
 
 /// Adds the nodes, the switch and the links.
-pub fn add_parts(rt: &impl Abort, alloc: Global, builder: &mut NetworkBuilder, sample: &Sample)
+pub fn add_parts(alloc: Global, builder: &mut NetworkBuilder, sample: &Sample) -> bool
     requires { builder.old.switches ≡ [] }
 {
     match sample {
-        Sample::Duel => add_pair(rt, alloc, builder),
-        Sample::Turn => add_turn(rt, alloc, builder),
+        Sample::Duel => add_pair(alloc, builder),
+        Sample::Turn => add_turn(alloc, builder),
     }
 }
 
@@ -101,8 +97,7 @@ fn add_flow(
     requires address { length address.now ≤ 32 }
     requires reply { IfSome reply (IsReply network.old.nodes ends.1) }
 {
-    assert!(rt; network.declared_flows() < 4096);
-    assert!(rt; !network.has_flow_name(name));
+    assert!(rt; network.declared_flows() < 4096 && !network.has_flow_name(name));
     let name = String::from_str(alloc, name).expect(rt, "name");
     let address = Vec::from_slice(alloc, address).expect(rt, "address");
     let flow = Flow::new(name, ends.0, ends.1, address, 0, reply);
@@ -118,9 +113,7 @@ fn add_commands(
     from: u16,
     to: u16,
 ) {
-    assert!(rt; from < network.nodes());
-    assert!(rt; to < network.nodes());
-    assert!(rt; network.is_target(to));
+    assert!(rt; from < network.nodes() && to < network.nodes() && network.is_target(to));
     let reply = Reply::new(Vec::new(alloc), 80);
     add_flow(rt, alloc, network, name, (from, to), &[], Some(reply));
 }

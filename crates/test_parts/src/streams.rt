@@ -4,7 +4,6 @@ ghost use Rattle.std.specs.Prelude.{Some};
 use std::alloc::Global;
 use std::io;
 use std::io::{Read, Write};
-use std::process::Abort;
 use std::test::*;
 use sw_text::{ReadError, WriteError, read_whole, write_whole};
 
@@ -62,14 +61,13 @@ impl Write for SlowWriter {
 
 // The reader gives this text up to the limit, or fails so.
 fn gives<R: Read>(
-    rt: &impl Abort,
     alloc: Global,
     reader: &mut R,
     limit: usize,
     wanted: Result<&[u8], &ReadError>,
-) {
+) -> bool {
     let text = read_whole(alloc, reader, limit);
-    assert!(rt; text.as_deref() == wanted);
+    text.as_deref() == wanted
 }
 
 #[test]
@@ -81,8 +79,8 @@ fn a_text_up_to_its_limit_is_read(rt: HostRuntime) {
         } else {
             Ok(&b"abcd"[..])
         };
-        gives(&rt, rt.alloc(), &mut reader, limit, wanted);
-        assert!(rt; reader.len() == 3usize.saturating_sub(limit));
+        let is_given = gives(rt.alloc(), &mut reader, limit, wanted);
+        assert!(rt; is_given && reader.len() == 3usize.saturating_sub(limit));
     }
 }
 
@@ -90,30 +88,26 @@ fn a_text_up_to_its_limit_is_read(rt: HostRuntime) {
 fn a_read_that_fails_is_not_tried_again(rt: HostRuntime) {
     for before_fault in 0..20usize {
         let mut reader = FailingReader { before_fault };
-        gives(&rt, rt.alloc(), &mut reader, 40, Err(&ReadError::Failed));
+        assert!(rt; gives(rt.alloc(), &mut reader, 40, Err(&ReadError::Failed)));
     }
 }
 
 const TEXT: &[u8] = b"place 0 0 A>B\n";
 
 // A writer with so much room takes the text, or fails and has its beginning.
-fn takes(rt: &impl Abort, writer: &mut SlowWriter, room: usize) {
-    let written = write_whole(writer, TEXT);
-    let found = (written.is_ok(), writer.taken.as_slice());
-    assert!(rt; found == (TEXT.len() <= room, &TEXT[..TEXT.len().min(room)]));
+fn takes(alloc: Global, room: usize, takes_none: bool) -> bool {
+    let mut writer = SlowWriter {
+        taken: Vec::new(alloc),
+        room,
+        takes_none,
+    };
+    let is_whole = write_whole(&mut writer, TEXT).is_ok();
+    is_whole == (TEXT.len() <= room) && writer.taken.as_slice() == &TEXT[..TEXT.len().min(room)]
 }
 
 #[test]
 fn a_write_that_fails_leaves_a_beginning(rt: HostRuntime) {
     for room in 0..TEXT.len() + 2 {
-        for takes_none in [false, true] {
-            let taken = Vec::new(rt.alloc());
-            let mut writer = SlowWriter {
-                taken,
-                room,
-                takes_none,
-            };
-            takes(&rt, &mut writer, room);
-        }
+        assert!(rt; takes(rt.alloc(), room, false) && takes(rt.alloc(), room, true));
     }
 }

@@ -4,4 +4,4 @@ use Rattle.sw_link.specs.Ends.{IsCapacity}
 use Rattle.test_parts.proofs.switches.shares_an_output.Goals as goal
 
 pub new-requires-2-clause-capacities : goal.new-requires-2-clause-capacities
-new-requires-2-clause-capacities g c = All-replicate IsCapacity 32 64 (omega arith, omega arith)
+new-requires-2-clause-capacities c = All-replicate IsCapacity 32 64 (omega arith, omega arith)
