@@ -279,15 +279,17 @@ def calls_by_text(crate):
 
 
 def witness_of(batch, crate):
-    """What is checked beside the batch and has to be proved, since the check tells nothing else: a copy of a function as it is, of the one that calls the fewest
-    others by its text, of these one that does not take `self` by value, and so lets it go, and of these the shortest. Where none may have a copy it is another
-    function of the crate."""
-    changed = [it.function.name for it in batch if not it.copy]
-    calls = {it: names for it, names in calls_by_text(crate).items() if it.name not in changed}
+    """What is checked beside the batch and has to be proved, since the check tells nothing else: a copy of a function as it is, of one that calls others, so that
+    it shows that their contracts are enough, and calls none that is edited in its place. Of these it is one that the batch edits, where there is one, then one that
+    calls the fewest others by its text, then one that does not take `self` by value, and so lets it go, and of these the shortest. Where none may have a copy it is
+    another function of the crate."""
+    changed, edited = {it.function.name for it in batch if not it.copy}, {it.function.name for it in batch}
+    last = {it.split("::")[-1] for it in changed}
+    calls = {it: names for it, names in calls_by_text(crate).items() if it.name not in changed and not names & last}
 
     def cost(it):
         text = text_in(it, {}, crate)[0][it.head:it.after]
-        return not it.has_copies, len(calls[it]), "(self" in text or "(mut self" in text, len(text), it.name
+        return not it.has_copies, not calls[it], it.name not in edited, len(calls[it]), "(self" in text or "(mut self" in text, len(text), it.name
 
     function = min(calls, key=cost)
     return Variant(function, AS_IT_IS if function.has_copies else "", None)

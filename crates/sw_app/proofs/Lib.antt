@@ -1,4 +1,3 @@
-mod Lines
 pub mod NamedFlows
 pub mod PlaceChannels
 pub mod FlowAnswers

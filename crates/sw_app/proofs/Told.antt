@@ -1,5 +1,5 @@
--- What an engine that told an answer has done.
-use Rattle.std.proofs.Common.{◌≡◌, ◌⊎◌, ℕ, ◌≤◌, Bool, true, false, List, arith, inl, inr, length, refl, subst}
+-- What status 0 shows of an engine that told an answer.
+use Rattle.std.proofs.Common.{◌≡◌, ◌⊎◌, ℕ, Bool, true, false, List, arith, inl, inr, length, refl, subst}
 use Rattle.std.specs.Prelude.{Err, IfOk, IsSomeAnd, None, Ok, Option, Result, Some, if◌then◌else◌, nat_le, string_bytes}
 use Rattle.std.specs.Io.KnownBytes.{Consumes, IsAtEnd}
 use Rattle.std.proofs.lemmas.Bool.Decides.{nat_tests}
@@ -8,39 +8,11 @@ use Rattle.sw_command.specs.declared.answer.Answer.{Answer}
 use Rattle.sw_command.specs.declared.answer.ByteAnswer.{ByteAnswer}
 use Rattle.sw_command.specs.declared.write_answer.Ended.{Ended}
 use Rattle.sw_command.specs.declared.write_answer.Ended.TheVariants.{Status}
-use Rattle.sw_command.specs.Ends.{Answers, AnswersToTwo, EndsBy, EndsByTwo, GivesAll, GivesText}
-use Rattle.sw_command.proofs.Endings.{told_answer, told_answer_of_two, told_memory, told_memory_of_two}
+use Rattle.sw_command.specs.Ends.{GivesAll, GivesText}
+use Rattle.sw_command.specs.Told.{IsAnswerTold, IsByteAnswerTold}
 use Rattle.sw_app.specs.CheckAnswers.{AreShownDeadlockFree}
-use Rattle.sw_app.specs.Endings.{IsAnswerTold, IsByteAnswerTold}
 use Rattle.sw_app.specs.VerdictAnswers.{DecidesDeadlockFree}
 use Rattle.sw_app.proofs.ShownFree.{memory_not_zero, told_zero, writes_accepted}
-
--- ---- what was told is an answer
-
-pub answered : (P : List ℕ → Answers) (before after old new : Option (List ℕ)) (ended : Ended) (read : List ℕ) (answer : Result Answer AllocError)
-    → Consumes before after read → IsAtEnd after → length read ≤ 67108864 → IfOk answer (λ a. P read (string_bytes a.text) a.status)
-    → IsAnswerTold answer old new ended → EndsBy P before after old new ended
-answered P before after old new ended read (Ok a) given end within met is =
-    told_answer P before after old new ended read (string_bytes a.text) a.status given end within met is
-answered P before after old new ended read (Err none) given end within met is = told_memory P before after old new ended is
-
-pub answered_bytes : (P : List ℕ → Answers) (before after old new : Option (List ℕ)) (ended : Ended) (read : List ℕ) (answer : Result ByteAnswer AllocError)
-    → Consumes before after read → IsAtEnd after → length read ≤ 67108864 → IfOk answer (λ a. P read a.text.items a.status)
-    → IsByteAnswerTold answer old new ended → EndsBy P before after old new ended
-answered_bytes P before after old new ended read (Ok a) given end within met is =
-    told_answer P before after old new ended read a.text.items a.status given end within met is
-answered_bytes P before after old new ended read (Err none) given end within met is = told_memory P before after old new ended is
-
-pub answered_of_two : (P : AnswersToTwo) (first first_after second second_after old new : Option (List ℕ)) (ended : Ended) (one other : Option (List ℕ))
-    (answer : Result Answer AllocError) → GivesText first first_after one → GivesText second second_after other
-    → IfOk answer (λ a. P one other (string_bytes a.text) a.status) → IsAnswerTold answer old new ended
-    → EndsByTwo P first first_after second second_after old new ended
-answered_of_two P first first_after second second_after old new ended one other (Ok a) is_first is_second met is =
-    told_answer_of_two P first first_after second second_after old new ended one other (string_bytes a.text) a.status is_first is_second met is
-answered_of_two P first first_after second second_after old new ended one other (Err none) is_first is_second met is =
-    told_memory_of_two P first first_after second second_after old new ended is
-
--- ---- what status 0 shows
 
 pub accepted_written : (before after old new : Option (List ℕ)) (read : List ℕ) (answer : Result ByteAnswer AllocError) (ended : Ended) → Consumes before after read
     → IsAtEnd after → IfOk answer (λ a. a.status ≡ 0 → AreShownDeadlockFree read a.text.items) → IsByteAnswerTold answer old new ended → ended ≡ Status 0

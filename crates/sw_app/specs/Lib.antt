@@ -1,4 +1,3 @@
-pub mod Endings
 pub mod RouteTexts
 pub mod RouteAnswers
 pub mod CheckTexts

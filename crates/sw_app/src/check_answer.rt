@@ -12,12 +12,11 @@ ghost use Rattle.sw_command.specs.Inputs.{given};
 ghost use Rattle.sw_app.specs.CheckAnswers.{AreShownDeadlockFree, IsCertificateAnswer, IsCheckAnswer, IsJudgement, IsNetworkAnswer, IsShownDeadlockFree};
 
 use crate::check_texts::{grammar_line, refusal_line};
-use crate::endings::fault_answer;
 use std::alloc::{AllocError, Global};
 use sw_cert::{Certificate, CertificateFault};
 use sw_check::check;
 use sw_command::statuses::{BAD, GOOD};
-use sw_command::{Answer, InputText};
+use sw_command::{Answer, InputText, fault_answer};
 use sw_config::Network;
 use sw_file::read_network;
 use sw_search::VerdictWorkers;

@@ -8,14 +8,15 @@ ghost use Rattle.sw_app.specs.RouteAnswers.{IsRouteAnswer};
 ghost use Rattle.sw_app.specs.VerdictAnswers.{DecidesDeadlockFree, IsDecideAnswer, IsReportAnswer};
 
 use crate::check_answer::check_answer;
-use crate::endings::{tell_answer, tell_byte_answer};
 use crate::kept::EndedWith;
 use crate::migrate_answer::migrate_answer;
 use crate::route_answer::route_answer;
 use crate::verdict_answers::{decide_answer, report_answer};
 use std::alloc::Global;
 use std::io::{Read, Write};
-use sw_command::{Ended, MAX_TEXT, read_two, tell_two_unread, tell_unread};
+use sw_command::{
+    Ended, MAX_TEXT, read_two, tell_answer, tell_byte_answer, tell_two_unread, tell_unread,
+};
 use sw_search::VerdictWorkers;
 use sw_text::read_whole;
 

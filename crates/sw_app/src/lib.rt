@@ -3,7 +3,6 @@
 
 mod check_answer;
 mod check_texts;
-mod endings;
 mod engines;
 mod init_engine;
 mod kept;
@@ -16,7 +15,6 @@ mod verdict_answers;
 mod verdict_texts;
 
 pub use check_texts::{grammar_words, refusal_words};
-pub use endings::{fault_answer, tell_answer};
 pub use engines::{check, decide, decide_keeping, migrate, report, report_keeping, route};
 pub use init_engine::init;
 pub use kept::{EndedWith, kept_network};

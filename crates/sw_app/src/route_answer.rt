@@ -4,11 +4,10 @@ ghost use Rattle.sw_config.specs.Entries.{all_flows};
 ghost use Rattle.sw_app.specs.RouteAnswers.{IsFlowAnswer, IsNamedAnswer, IsRouteAnswer};
 ghost use Rattle.sw_app.specs.RouteTexts.{outcome_status};
 
-use crate::endings::fault_answer;
 use crate::route_texts::route_text;
 use std::alloc::{AllocError, Global};
-use sw_command::Answer;
 use sw_command::statuses::{BAD, FAULTY, GOOD};
+use sw_command::{Answer, fault_answer};
 use sw_config::Network;
 use sw_file::read_network;
 use sw_flow::{Place, RouteFault, first_fault, places};

@@ -2,15 +2,14 @@
 ghost use Rattle.std.specs.Prelude.{◌≡◌, IfOk, length, string_bytes};
 ghost use Rattle.sw_app.specs.Kept.{kept};
 ghost use Rattle.sw_app.specs.CheckAnswers.{AreShownDeadlockFree, IsShownDeadlockFree};
-ghost use Rattle.sw_app.specs.Endings.{IsFaultAnswer};
+ghost use Rattle.sw_command.specs.Told.{IsFaultAnswer};
 ghost use Rattle.sw_app.specs.VerdictAnswers.{IsDecideAnswer, IsFindingsAnswer, IsReportAnswer, IsVerdictAnswer, SaysFindings};
 
-use crate::endings::fault_answer;
 use crate::kept::kept_network;
 use crate::verdict_texts::{verdict_status, verdict_text, verdict_words};
 use std::alloc::{AllocError, Global};
 use sw_command::statuses::GOOD;
-use sw_command::{Answer, ByteAnswer};
+use sw_command::{Answer, ByteAnswer, fault_answer};
 use sw_config::Network;
 use sw_file::read_network;
 use sw_output::report_text;

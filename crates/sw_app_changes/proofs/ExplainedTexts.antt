@@ -2,8 +2,6 @@
 use Rattle.std.proofs.Common.{◌≡◌, ◌∙◌, ◌<◌, ℕ, ◌+◌, All, Bool, List, [], ◌∷◌, ◌++◌, Vec, Global, ap, append-nil, append_assoc, codes, get_or, length, refl, subst, sym, take}
 use Rattle.std.specs.Fmt.{decimal}
 use Rattle.std.specs.List.{flat_map, range_with_len}
-use Rattle.std.proofs.lemmas.Grind.{flat_map-append}
-use Rattle.std.proofs.lemmas.List.{take_more}
 use Rattle.std.proofs.lemmas.List.Elements.{All-get_or}
 use Rattle.sw_config.specs.Entries.{Declaration}
 use Rattle.sw_cycle.specs.Cycles.{CycleEntry}
@@ -11,7 +9,6 @@ use Rattle.sw_flow.specs.declared.fault.RouteFault.{RouteFault}
 use Rattle.sw_flow.specs.declared.place.Place.{Place}
 use Rattle.sw_graph.specs.Rows.{row}
 use Rattle.sw_output.specs.ChannelTexts.{channel_text}
-use Rattle.sw_output.proofs.EachLine.{lines_more}
 use Rattle.sw_output.specs.FlowTexts.{flow_name, route_fault_text}
 use Rattle.sw_search.specs.declared.tangle.Tangle.{Tangle}
 use Rattle.sw_app_changes.specs.ExplainTexts.{counted, counts_text, cycle_line, ending, fault_line, fault_words, flows_text, misrouted_text, numbered, place_words, step_line, step_lines, step_text, tangle_text, tangles_text, way_line, way_lines}
@@ -19,13 +16,6 @@ use Rattle.sw_app_changes.specs.ExplainTexts.{counted, counts_text, cycle_line, 
 -- each of some things has it
 pub each_is : {X : Type 0} (P : X → Type 0) (xs : List X) (i : ℕ) (x : X) → i < length xs → x ≡ get_or xs i x → All P xs → P x
 each_is P xs i x lt is all = subst P (sym is) (All-get_or P xs i x lt all)
-
--- the text of one thing more
-pub each_added : {X : Type 0} (f : X → List ℕ) (xs : List X) (i : ℕ) (x : X) (before after : List ℕ) → i < length xs → x ≡ get_or xs i x
-    → before ≡ flat_map f (take i xs) → after ≡ before ++ f x → after ≡ flat_map f (take (i + 1) xs)
-each_added f xs i x before after lt is so_far more =
-    let cut : take (i + 1) xs ≡ take i xs ++ x ∷ [] = take_more xs i x lt ∙ ap (λ y. take i xs ++ y ∷ []) (sym is) in
-    more ∙ ap (λ l. l ++ f x) so_far ∙ ap (λ l. flat_map f (take i xs) ++ l) (sym (append-nil (f x))) ∙ sym (flat_map-append f (take i xs) (x ∷ [])) ∙ sym (ap (flat_map f) cut)
 
 -- a number of things in the midst of a text
 counted_then : (n : ℕ) (noun rest : List ℕ) → counted n noun ++ rest ≡ decimal n ++ (codes " " ++ ((noun ++ ending n) ++ rest))
@@ -59,13 +49,6 @@ pub step_told : (d : Declaration) (all : Bool) (cycle : CycleEntry) (rows : List
     → step_line d all cycle rows i ≡ decimal (i + 1) ++ (codes ". " ++ (step ++ (flows ++ codes "\n")))
 step_told d all cycle rows i step flows step_is flows_are =
     rw (step_is, flows_are) (numbered_then i (codes " " ++ (step_text d cycle i ++ (flows_text d all (row rows i) ++ codes "\n"))))
-
--- the line of one number more
-pub line_added : (line : ℕ → List ℕ) (n : ℕ) (start before after : List ℕ) → before ≡ start ++ flat_map line (range_with_len 0 n) → after ≡ before ++ line n
-    → after ≡ start ++ flat_map line (range_with_len 0 (n + 1))
-line_added line n start before after so_far more =
-    let lines = flat_map line (range_with_len 0 n) in
-    more ∙ ap (λ l. l ++ line n) so_far ∙ append_assoc start lines (line n) ∙ ap (λ l. start ++ l) (lines_more line n lines (line n) (line n) (lines ++ line n) refl refl refl refl)
 
 -- the line of how many channels a tangle's cycle has, and then its steps
 pub tangle_added : (d : Declaration) (all : Bool) (t : Tangle) (n : ℕ) (end start first after : List ℕ) → n ≡ length t.cycle.channels → end ≡ ending n

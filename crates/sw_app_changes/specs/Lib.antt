@@ -1,6 +1,5 @@
 pub mod ExplainTexts
 pub mod ExplainAnswers
-pub mod Faults
 pub mod MendTexts
 pub mod MendAnswers
 pub mod MendLaws

@@ -5,7 +5,7 @@ ghost use Rattle.sw_app_changes.specs.ExplainAnswers.{IsExplainAnswer};
 use crate::explain_answer::explain_answer;
 use std::alloc::Global;
 use std::io::{Read, Write};
-use sw_command::{Ended, MAX_TEXT, tell, tell_memory, tell_unread};
+use sw_command::{Ended, MAX_TEXT, tell_answer, tell_unread};
 use sw_search::VerdictWorkers;
 use sw_text::read_whole;
 
@@ -26,8 +26,5 @@ pub fn explain<T: VerdictWorkers, R: Read, W: Write>(
         Ok(input) => input,
         Err(error) => return tell_unread(writer, error),
     };
-    match explain_answer(workers, alloc, &input, all) {
-        Ok(answer) => tell(writer, answer.text.as_str(), answer.status),
-        Err(_) => tell_memory(writer),
-    }
+    tell_answer(writer, explain_answer(workers, alloc, &input, all))
 }

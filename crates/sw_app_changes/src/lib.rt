@@ -4,7 +4,6 @@
 mod explain_answer;
 mod explain_engine;
 mod explain_texts;
-mod faults;
 mod margin_answer;
 mod margin_engine;
 pub mod margin_laws;

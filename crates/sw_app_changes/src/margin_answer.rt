@@ -6,11 +6,10 @@ ghost use Rattle.sw_output.specs.VerdictTexts.{misrouted_words};
 ghost use Rattle.sw_app_changes.specs.MarginAnswers.{IsBent, IsByVerdict, IsMarginAnswer, IsNetworkAnswer};
 ghost use Rattle.sw_app_changes.specs.MarginTexts.{margin_text, not_free_line};
 
-use crate::faults::fault_answer;
 use crate::margin_texts::margin_text;
 use std::alloc::{AllocError, Global};
-use sw_command::Answer;
 use sw_command::statuses::GOOD;
+use sw_command::{Answer, fault_answer};
 use sw_config::Network;
 use sw_file::read_network;
 use sw_flow::{Place, RouteFault};

@@ -5,7 +5,7 @@ ghost use Rattle.sw_app_changes.specs.MarginAnswers.{IsMarginAnswer};
 use crate::margin_answer::margin_answer;
 use std::alloc::Global;
 use std::io::{Read, Write};
-use sw_command::{Ended, MAX_TEXT, tell, tell_memory, tell_unread};
+use sw_command::{Ended, MAX_TEXT, tell_answer, tell_unread};
 use sw_search::VerdictWorkers;
 use sw_text::read_whole;
 
@@ -24,8 +24,5 @@ pub fn margin<T: VerdictWorkers, R: Read, W: Write>(
         Ok(input) => input,
         Err(error) => return tell_unread(writer, error),
     };
-    match margin_answer(workers, alloc, &input) {
-        Ok(answer) => tell(writer, answer.text.as_str(), answer.status),
-        Err(_) => tell_memory(writer),
-    }
+    tell_answer(writer, margin_answer(workers, alloc, &input))
 }

@@ -8,11 +8,10 @@ ghost use Rattle.sw_search.specs.Verdicts.{IsVerdict};
 ghost use Rattle.sw_app_changes.specs.MendAnswers.{IsByVerdict, IsMendAnswer, IsMended, IsMendedBy, IsNetworkAnswer, IsPaired};
 ghost use Rattle.sw_app_changes.specs.MendTexts.{free_line, mends_status, mends_text, pairs_text};
 
-use crate::faults::fault_answer;
 use crate::mend_texts::{mends_status, mends_text, pairs_text};
 use std::alloc::{AllocError, Global};
-use sw_command::Answer;
 use sw_command::statuses::{BAD, GOOD};
+use sw_command::{Answer, fault_answer};
 use sw_config::Network;
 use sw_file::read_network;
 use sw_flow::{Place, RouteFault};

@@ -6,7 +6,7 @@ use crate::draw_answer::draw_answer;
 use crate::options::DrawOptions;
 use std::alloc::Global;
 use std::io::{Read, Write};
-use sw_command::{Ended, MAX_TEXT, tell, tell_memory, tell_unread};
+use sw_command::{Ended, MAX_TEXT, tell_answer, tell_unread};
 use sw_search::VerdictWorkers;
 use sw_text::read_whole;
 
@@ -27,8 +27,5 @@ pub fn draw<T: VerdictWorkers, R: Read, W: Write>(
         Ok(input) => input,
         Err(error) => return tell_unread(writer, error),
     };
-    match draw_answer(workers, alloc, &input, options) {
-        Ok(answer) => tell(writer, answer.text.as_str(), answer.status),
-        Err(_) => tell_memory(writer),
-    }
+    tell_answer(writer, draw_answer(workers, alloc, &input, options))
 }

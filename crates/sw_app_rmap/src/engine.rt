@@ -6,7 +6,7 @@ use crate::request::Request;
 use crate::rmap_answer::rmap_answer;
 use std::alloc::Global;
 use std::io::{Read, Write};
-use sw_command::{Ended, MAX_TEXT, tell, tell_memory, tell_unread};
+use sw_command::{Ended, MAX_TEXT, tell_answer, tell_unread};
 use sw_text::read_whole;
 
 /// Writes the entry of a load whose packet brings the target of a flow the command that is asked for (ECSS-E-ST-50-52C): 0 where there is
@@ -23,8 +23,5 @@ pub fn rmap<R: Read, W: Write>(
         Ok(input) => input,
         Err(error) => return tell_unread(writer, error),
     };
-    match rmap_answer(alloc, &input, request) {
-        Ok(answer) => tell(writer, answer.text.as_str(), answer.status),
-        Err(_) => tell_memory(writer),
-    }
+    tell_answer(writer, rmap_answer(alloc, &input, request))
 }

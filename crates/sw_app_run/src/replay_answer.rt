@@ -8,9 +8,8 @@ ghost use Rattle.sw_app_run.specs.ReplayAnswers.{IsReplayAnswer, IsReplayOf, IsS
 
 use crate::replay_texts::{replay_status, replay_text};
 use std::alloc::{AllocError, Global};
-use sw_app::fault_answer;
 use sw_command::statuses::FAULTY;
-use sw_command::{Answer, InputText};
+use sw_command::{Answer, InputText, fault_answer};
 use sw_config::Network;
 use sw_file::read_network;
 use sw_schedule::{Schedule, ScheduleFault, read_steps, replay};

@@ -8,8 +8,7 @@ use std::alloc::Global;
 use std::io::{Read, Write};
 use std::sync::Wait;
 use std::thread::Threads;
-use sw_app::tell_answer;
-use sw_command::{Ended, read_two, tell_two_unread};
+use sw_command::{Ended, read_two, tell_answer, tell_two_unread};
 use sw_run::Gate;
 
 /// What comes of a run of the second text's load on the network of the first text, by so many workers and in at most so many steps:

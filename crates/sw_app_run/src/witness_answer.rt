@@ -9,9 +9,8 @@ ghost use Rattle.sw_app_run.specs.WitnessAnswers.{IsNetworkAnswer, IsOfKind, IsO
 
 use crate::witness_texts::{free_line, none_found, unanswered_line, with_note};
 use std::alloc::{AllocError, Global};
-use sw_app::fault_answer;
-use sw_command::Answer;
 use sw_command::statuses::{BAD, GOOD};
+use sw_command::{Answer, fault_answer};
 use sw_config::Network;
 use sw_file::read_network;
 use sw_flow::{Place, RouteFault};

@@ -5,8 +5,7 @@ ghost use Rattle.sw_app_run.specs.WitnessAnswers.{IsWitnessAnswer};
 use crate::witness_answer::witness_answer;
 use std::alloc::Global;
 use std::io::{Read, Write};
-use sw_app::tell_answer;
-use sw_command::{Ended, MAX_TEXT, tell_unread};
+use sw_command::{Ended, MAX_TEXT, tell_answer, tell_unread};
 use sw_search::VerdictWorkers;
 use sw_text::read_whole;
 

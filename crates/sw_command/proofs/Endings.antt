@@ -1,16 +1,20 @@
 -- What an engine that told a text has done.
 use Rattle.std.proofs.Common.{◌≡◌, ℕ, ◌≤◌, List, [], ◌∷◌, true, false, arith, codes, inl, inr, length, refl, subst, sym}
-use Rattle.std.specs.Prelude.{Option, Some, nat_le}
+use Rattle.std.specs.Prelude.{Option, Some, nat_le, Result, Ok, Err, IfOk, string_bytes}
+use Rattle.std.specs.declared.alloc.AllocError.{AllocError}
 use Rattle.std.specs.Io.KnownBytes.{Consumes, IsAtEnd}
 use Rattle.std.proofs.lemmas.Bool.Decides.{nat_tests}
 use Rattle.sw_text.specs.Reading.{Takes}
 use Rattle.sw_text.specs.declared.read_stream.ReadError.{ReadError}
 use Rattle.sw_text.specs.declared.read_stream.ReadError.TheVariants.{TooLong, Failed, Memory}
+use Rattle.sw_command.specs.declared.answer.Answer.{Answer}
+use Rattle.sw_command.specs.declared.answer.ByteAnswer.{ByteAnswer}
 use Rattle.sw_command.specs.declared.read_texts.InputError.{InputError}
 use Rattle.sw_command.specs.declared.read_texts.InputError.TheVariants as input
 use Rattle.sw_command.specs.declared.write_answer.Ended.{Ended}
 use Rattle.sw_command.specs.declared.write_answer.Ended.TheVariants.{Status, ReadFailed, WriteFailed}
 use Rattle.sw_command.specs.Ends.{Answers, AreUnreadTold, AnswersBy, AnswersByTwo, AnswersToTwo, EndsBy, EndsByTwo, GivesText, IfShort, IsMemoryTold, IsTold, IsUnreadTold, OrMemory}
+use Rattle.sw_command.specs.Told.{IsAnswerTold, IsByteAnswerTold}
 use Rattle.sw_output.specs.Lines.{line}
 
 -- a text that may be told was told
@@ -78,3 +82,27 @@ pub told_answer_of_two : (P : AnswersToTwo) (first first_after second second_aft
     → P one other text status → IsTold old new text status ended → EndsByTwo P first first_after second second_after old new ended
 told_answer_of_two P first first_after second second_after old new ended one other text status is_first is_second answer is =
     told_of_two P first first_after second second_after old new ended text status (inl (one, other, is_first, is_second, answer)) is
+
+-- an answer, or that memory was wanted
+pub answered : (P : List ℕ → Answers) (before after old new : Option (List ℕ)) (ended : Ended) (read : List ℕ) (answer : Result Answer AllocError)
+    → Consumes before after read → IsAtEnd after → length read ≤ 67108864 → IfOk answer (λ a. P read (string_bytes a.text) a.status)
+    → IsAnswerTold answer old new ended → EndsBy P before after old new ended
+answered P before after old new ended read (Ok a) given end within met is =
+    told_answer P before after old new ended read (string_bytes a.text) a.status given end within met is
+answered P before after old new ended read (Err none) given end within met is = told_memory P before after old new ended is
+
+pub answered_bytes : (P : List ℕ → Answers) (before after old new : Option (List ℕ)) (ended : Ended) (read : List ℕ) (answer : Result ByteAnswer AllocError)
+    → Consumes before after read → IsAtEnd after → length read ≤ 67108864 → IfOk answer (λ a. P read a.text.items a.status)
+    → IsByteAnswerTold answer old new ended → EndsBy P before after old new ended
+answered_bytes P before after old new ended read (Ok a) given end within met is =
+    told_answer P before after old new ended read a.text.items a.status given end within met is
+answered_bytes P before after old new ended read (Err none) given end within met is = told_memory P before after old new ended is
+
+pub answered_of_two : (P : AnswersToTwo) (first first_after second second_after old new : Option (List ℕ)) (ended : Ended) (one other : Option (List ℕ))
+    (answer : Result Answer AllocError) → GivesText first first_after one → GivesText second second_after other
+    → IfOk answer (λ a. P one other (string_bytes a.text) a.status) → IsAnswerTold answer old new ended
+    → EndsByTwo P first first_after second second_after old new ended
+answered_of_two P first first_after second second_after old new ended one other (Ok a) is_first is_second met is =
+    told_answer_of_two P first first_after second second_after old new ended one other (string_bytes a.text) a.status is_first is_second met is
+answered_of_two P first first_after second second_after old new ended one other (Err none) is_first is_second met is =
+    told_memory_of_two P first first_after second second_after old new ended is

@@ -1,3 +1,4 @@
 pub mod FaultTexts
 pub mod Ends
 pub mod Inputs
+pub mod Told

@@ -1,12 +1,13 @@
 //! Answers of an engine.
 ghost use Rattle.std.specs.Prelude.{◌≡◌, ◌∷◌, [], IfOk, codes, string_bytes};
 ghost use Rattle.sw_command.specs.FaultTexts.{fault_text};
+ghost use Rattle.sw_command.specs.Told.{IsFaultAnswer};
 ghost use Rattle.sw_output.specs.Lines.{line};
 
 use crate::fault_texts::fault_text;
 use crate::statuses::FAULTY;
 use std::alloc::{AllocError, Global};
-use sw_toml_table::TextFault;
+use sw_toml_table::{FileFault, TextFault};
 
 /// What an engine writes, and the status that says what it is.
 #[derive(Drop)]
@@ -65,5 +66,19 @@ impl Answer {
             text: self.text.into_bytes(),
             status: self.status,
         }
+    }
+}
+
+/// The answer to a text that was not read as a network, if it was not for want of memory.
+///
+/// # Errors
+///
+/// There is no memory for it, or there was none for the network.
+pub fn fault_answer(alloc: Global, fault: FileFault) -> Result<Answer, AllocError>
+    ensures { IfOk result (λ a. IsFaultAnswer fault (string_bytes a.text) a.status) }
+{
+    match fault {
+        FileFault::Text(fault) => Answer::of_fault(alloc, &fault),
+        FileFault::Memory => Err(AllocError),
     }
 }

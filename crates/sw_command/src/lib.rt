@@ -7,7 +7,9 @@ mod read_texts;
 pub mod statuses;
 mod write_answer;
 
-pub use answer::{Answer, ByteAnswer};
+pub use answer::{Answer, ByteAnswer, fault_answer};
 pub use fault_texts::{fault_text, where_text};
 pub use read_texts::{InputError, InputText, read_one, read_two, tell_two_unread};
-pub use write_answer::{Ended, MAX_TEXT, tell, tell_bytes, tell_memory, tell_unread};
+pub use write_answer::{
+    Ended, MAX_TEXT, tell, tell_answer, tell_byte_answer, tell_bytes, tell_memory, tell_unread,
+};

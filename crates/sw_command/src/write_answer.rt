@@ -1,8 +1,11 @@
 //! How an engine ends.
 ghost use Rattle.std.specs.Prelude.{◌≡◌};
 ghost use Rattle.sw_command.specs.Ends.{IsMemoryTold, IsTold, IsUnreadTold};
+ghost use Rattle.sw_command.specs.Told.{IsAnswerTold, IsByteAnswerTold};
 
+use crate::answer::{Answer, ByteAnswer};
 use crate::statuses::{FAULTY, NO_ROOM, UNREAD_OR_UNWRITTEN};
+use std::alloc::AllocError;
 use std::io::Write;
 use sw_text::{ReadError, write_whole};
 
@@ -56,6 +59,26 @@ pub fn tell_memory<W: Write>(writer: &mut W) -> Ended
     ensures { IsMemoryTold (W.contents writer.old) (W.contents writer.new) result }
 {
     tell(writer, "fault memory\n", NO_ROOM)
+}
+
+/// Writes an answer, or that memory was wanted.
+pub fn tell_answer<W: Write>(writer: &mut W, answer: Result<Answer, AllocError>) -> Ended
+    ensures { IsAnswerTold answer (W.contents writer.old) (W.contents writer.new) result }
+{
+    match answer {
+        Ok(answer) => tell(writer, answer.text.as_str(), answer.status),
+        Err(_) => tell_memory(writer),
+    }
+}
+
+/// The same, where the answer is at hand as bytes.
+pub fn tell_byte_answer<W: Write>(writer: &mut W, answer: Result<ByteAnswer, AllocError>) -> Ended
+    ensures { IsByteAnswerTold answer (W.contents writer.old) (W.contents writer.new) result }
+{
+    match answer {
+        Ok(answer) => tell_bytes(writer, &answer.text, answer.status),
+        Err(_) => tell_memory(writer),
+    }
 }
 
 /// Tells why a text was not read: of a read that failed nothing is written.

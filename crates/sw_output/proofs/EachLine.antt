@@ -1,5 +1,5 @@
 -- Lines that are written one after another.
-use Rattle.std.proofs.Common.{◌≡◌, ℕ, ◌+◌, ◌<◌, ◌≤◌, Bool, List, [], ◌∷◌, ◌++◌, ap, sym, ◌∙◌, get_or, length, take, append-nil, append_assoc, arith}
+use Rattle.std.proofs.Common.{◌≡◌, ℕ, ◌+◌, ◌<◌, ◌≤◌, Bool, List, [], ◌∷◌, ◌++◌, ap, sym, ◌∙◌, get_or, length, take, append-nil, append_assoc, arith, refl}
 use Rattle.std.specs.Prelude.{if◌then◌else◌}
 use Rattle.std.specs.List.{filter, flat_map, range_with_len}
 use Rattle.std.proofs.lemmas.List.{flat_map_more, length-take-le, take_all, take_more}
@@ -12,6 +12,13 @@ pub lines_more : (text : ℕ → List ℕ) (n : ℕ) (before line read after : L
 lines_more text n before line read after so_far same is more =
     more ∙ ap (λ l. l ++ read) so_far ∙ ap (λ l. flat_map text (range_with_len 0 n) ++ l) (is ∙ same)
     ∙ flat_map_more text [] (range_with_len 0 n) n ∙ ap (flat_map text) (sym (range_more n))
+
+-- the line of one number more, behind what stands there
+pub number_added : (line : ℕ → List ℕ) (n : ℕ) (start before after : List ℕ) → before ≡ start ++ flat_map line (range_with_len 0 n) → after ≡ before ++ line n
+    → after ≡ start ++ flat_map line (range_with_len 0 (n + 1))
+number_added line n start before after so_far more =
+    let lines = flat_map line (range_with_len 0 n) in
+    more ∙ ap (λ l. l ++ line n) so_far ∙ append_assoc start lines (line n) ∙ ap (λ l. start ++ l) (lines_more line n lines (line n) (line n) (lines ++ line n) refl refl refl refl)
 
 -- the line of one element more, behind what stands there
 pub line_added : {X : Type 0} (f : X → List ℕ) (xs : List X) (i : ℕ) (x : X) (start before after : List ℕ) → i < length xs → x ≡ get_or xs i x

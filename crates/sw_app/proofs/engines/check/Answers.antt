@@ -1,8 +1,8 @@
 use Rattle.sw_app.specs.CheckAnswers.{AreShownDeadlockFree, IsCheckAnswer}
 use Rattle.sw_command.specs.Inputs.{given}
-use Rattle.sw_command.proofs.Endings.{told_unread_of_two}
+use Rattle.sw_command.proofs.Endings.{answered_of_two, told_unread_of_two}
 use Rattle.sw_app.proofs.ShownFree.{two_unread_not_zero}
-use Rattle.sw_app.proofs.Told.{answered_of_two, shown_of_two}
+use Rattle.sw_app.proofs.Told.{shown_of_two}
 use Rattle.sw_app.proofs.engines.check.Goals as goal
 
 pub returns-in-Err-clause-answer : goal.returns-in-Err-clause-answer
