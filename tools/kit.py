@@ -46,13 +46,14 @@ def crates(top=TOP):
 
 
 def proved_in(log):
-    """Returns the names of the crates that the log of an `rt ci` says it proved, in this run or an earlier one."""
-    return {*re.findall(r"^rt: (\w+) (?:proved$|is kept:)", rtlib.text_of(log), re.M)}
+    """Returns the names of the crates that the log of an `rt ci` says it proved, in this run or an earlier one: none where there is no log."""
+    return {*re.findall(r"^rt: (\w+) (?:proved$|is kept:)", rtlib.text_of(log) or "", re.M)}
 
 
 def has_ended(log):
-    """Returns whether the `rt ci` that writes the log has come to its last line."""
-    return bool(re.search(r"^\d+ passed, \d+ failed$", rtlib.text_of(log), re.M))
+    """Returns whether the `rt ci` that writes the log has come to its last line, or was broken off and its log taken away."""
+    said = rtlib.text_of(log)
+    return said is None or bool(re.search(r"^\d+ passed, \d+ failed$", said, re.M))
 
 
 if __name__ == "__main__":

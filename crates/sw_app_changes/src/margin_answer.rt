@@ -1,20 +1,17 @@
 //! What `margin` answers.
-ghost use Rattle.std.specs.Prelude.{◌≡◌, ◌∷◌, [], IfOk, length, string_bytes};
+ghost use Rattle.std.specs.Prelude.{◌≡◌, IfOk, length, string_bytes};
 ghost use Rattle.sw_command.specs.Ends.{Says};
-ghost use Rattle.sw_output.specs.Lines.{line};
-ghost use Rattle.sw_output.specs.VerdictTexts.{misrouted_words};
 ghost use Rattle.sw_app_changes.specs.MarginAnswers.{IsBent, IsByVerdict, IsMarginAnswer, IsNetworkAnswer};
 ghost use Rattle.sw_app_changes.specs.MarginTexts.{margin_text, not_free_line};
 
 use crate::margin_texts::margin_text;
+use crate::misrouted::misrouted_answer;
 use std::alloc::{AllocError, Global};
 use sw_command::statuses::GOOD;
 use sw_command::{Answer, fault_answer};
 use sw_config::Network;
 use sw_file::read_network;
-use sw_flow::{Place, RouteFault};
 use sw_margin::{Margins, margins};
-use sw_output::misrouted_text;
 use sw_search::{Verdict, VerdictWorkers, decide};
 
 // The answer by what the premises of the network stand.
@@ -38,20 +35,6 @@ fn bent<W: VerdictWorkers>(
     told(alloc, network, &found)
 }
 
-// The answer where a flow is not well routed.
-fn misrouted(
-    alloc: Global,
-    network: &Network,
-    flow: u16,
-    place: Place,
-    fault: RouteFault,
-) -> Result<Answer, AllocError>
-    ensures { IfOk result (λ a. Says (line (misrouted_words network.now flow place fault ∷ [])) 0 (string_bytes a.text) a.status) }
-{
-    let text = misrouted_text(alloc, network, flow, place, fault)?;
-    Ok(Answer { text, status: GOOD })
-}
-
 // The answer where channels can wait for one another.
 fn not_free(alloc: Global) -> Result<Answer, AllocError>
     ensures { IfOk result (λ a. Says not_free_line 0 (string_bytes a.text) a.status) }
@@ -70,7 +53,9 @@ fn by_verdict<W: VerdictWorkers>(
     ensures { IfOk result (λ a. IsByVerdict network.now verdict.now (string_bytes a.text) a.status) }
 {
     match verdict {
-        Verdict::Misrouted(flow, place, fault) => misrouted(alloc, network, *flow, *place, *fault),
+        Verdict::Misrouted(flow, place, fault) => misrouted_answer(
+            alloc, network, *flow, *place, *fault, GOOD,
+        ),
         Verdict::Cyclic(_) => not_free(alloc),
         Verdict::Free(_) => bent(workers, alloc, network),
     }

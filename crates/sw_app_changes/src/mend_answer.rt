@@ -1,22 +1,19 @@
 //! What `mend` answers.
-ghost use Rattle.std.specs.Prelude.{◌∷◌, [], IfOk, string_bytes};
+ghost use Rattle.std.specs.Prelude.{IfOk, string_bytes};
 ghost use Rattle.sw_command.specs.Ends.{Says};
 ghost use Rattle.sw_mend.specs.Mends.{AreMends, ArePairMends};
-ghost use Rattle.sw_output.specs.Lines.{line};
-ghost use Rattle.sw_output.specs.VerdictTexts.{misrouted_words};
 ghost use Rattle.sw_search.specs.Verdicts.{IsVerdict};
 ghost use Rattle.sw_app_changes.specs.MendAnswers.{IsByVerdict, IsMendAnswer, IsMended, IsMendedBy, IsNetworkAnswer, IsPaired};
 ghost use Rattle.sw_app_changes.specs.MendTexts.{free_line, mends_status, mends_text, pairs_text};
 
 use crate::mend_texts::{mends_status, mends_text, pairs_text};
+use crate::misrouted::misrouted_answer;
 use std::alloc::{AllocError, Global};
 use sw_command::statuses::{BAD, GOOD};
 use sw_command::{Answer, fault_answer};
 use sw_config::Network;
 use sw_file::read_network;
-use sw_flow::{Place, RouteFault};
 use sw_mend::{Pair, Trial, mends, pair_mends};
-use sw_output::misrouted_text;
 use sw_search::{Verdict, VerdictWorkers, decide};
 
 // The answer by the changes that free the network.
@@ -85,20 +82,6 @@ fn mended<W: VerdictWorkers>(
     mended_by(workers, alloc, pairs, network, &changes)
 }
 
-// The answer where a flow is not well routed.
-fn misrouted(
-    alloc: Global,
-    network: &Network,
-    flow: u16,
-    place: Place,
-    fault: RouteFault,
-) -> Result<Answer, AllocError>
-    ensures { IfOk result (λ a. Says (line (misrouted_words network.now flow place fault ∷ [])) 1 (string_bytes a.text) a.status) }
-{
-    let text = misrouted_text(alloc, network, flow, place, fault)?;
-    Ok(Answer { text, status: BAD })
-}
-
 // The answer where there is nothing to mend.
 fn free(alloc: Global) -> Result<Answer, AllocError>
     ensures { IfOk result (λ a. Says free_line 0 (string_bytes a.text) a.status) }
@@ -118,7 +101,9 @@ fn by_verdict<W: VerdictWorkers>(
     ensures { IfOk result (λ a. IsByVerdict pairs network.now verdict.now (string_bytes a.text) a.status) }
 {
     match verdict {
-        Verdict::Misrouted(flow, place, fault) => misrouted(alloc, network, *flow, *place, *fault),
+        Verdict::Misrouted(flow, place, fault) => misrouted_answer(
+            alloc, network, *flow, *place, *fault, BAD,
+        ),
         Verdict::Cyclic(_) => mended(workers, alloc, pairs, network),
         Verdict::Free(_) => free(alloc),
     }

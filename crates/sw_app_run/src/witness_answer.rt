@@ -1,20 +1,17 @@
 //! What `witness` answers.
-ghost use Rattle.std.specs.Prelude.{◌∷◌, [], IfOk, string_bytes};
+ghost use Rattle.std.specs.Prelude.{IfOk, string_bytes};
 ghost use Rattle.sw_command.specs.Ends.{Says};
 ghost use Rattle.sw_search.specs.Explanations.{IsExplanation};
-ghost use Rattle.sw_output.specs.Lines.{line};
-ghost use Rattle.sw_output.specs.VerdictTexts.{misrouted_words};
 ghost use Rattle.sw_witness.specs.Unanswered.{never_answered};
 ghost use Rattle.sw_app_run.specs.WitnessAnswers.{IsNetworkAnswer, IsOfKind, IsOfTangled, IsSearched, IsWitnessAnswer, free_line, unanswered_line};
 
 use crate::witness_texts::{free_line, none_found, unanswered_line, with_note};
 use std::alloc::{AllocError, Global};
+use sw_app_changes::misrouted_answer;
 use sw_command::statuses::{BAD, GOOD};
 use sw_command::{Answer, fault_answer};
 use sw_config::Network;
 use sw_file::read_network;
-use sw_flow::{Place, RouteFault};
-use sw_output::misrouted_text;
 use sw_search::{Explanation, Tangle, VerdictWorkers, explain};
 use sw_witness::{find, is_free_without, never_answered};
 
@@ -68,20 +65,6 @@ fn tangled<W: VerdictWorkers>(
     }
 }
 
-// The answer where a flow is not well routed.
-fn misrouted(
-    alloc: Global,
-    network: &Network,
-    flow: u16,
-    place: Place,
-    fault: RouteFault,
-) -> Result<Answer, AllocError>
-    ensures { IfOk result (λ a. Says (line (misrouted_words network.now flow place fault ∷ [])) 1 (string_bytes a.text) a.status) }
-{
-    let text = misrouted_text(alloc, network, flow, place, fault)?;
-    Ok(Answer { text, status: BAD })
-}
-
 // The answer where there is nothing to look for.
 fn free(alloc: Global) -> Result<Answer, AllocError>
     ensures { IfOk result (λ a. Says free_line 1 (string_bytes a.text) a.status) }
@@ -108,7 +91,7 @@ fn answer_of<W: VerdictWorkers>(
             place,
             fault,
             ..
-        } => misrouted(alloc, network, *flow, *place, *fault),
+        } => misrouted_answer(alloc, network, *flow, *place, *fault, BAD),
         Explanation::Cyclic(tangles) => tangled(workers, alloc, network, tangles, tries, seed),
         Explanation::Free => free(alloc),
     }
