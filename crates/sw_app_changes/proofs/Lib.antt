@@ -2,6 +2,7 @@ pub mod OnChannels
 mod ExplainedSteps
 mod ExplainedTexts
 mod MendAnswered
+pub mod OneMending
 mod OneMendAnswer
 mod MarginAnswered
 mod LossLines

@@ -1,6 +1,25 @@
--- Laws of the answers.
+-- Laws of what is found, and of the answers.
 use Rattle.std.specs.Prelude.{◌≡◌, Bool, ℕ, List}
+use Rattle.sw_config.specs.Entries.{Declaration}
+use Rattle.sw_app_changes.specs.declared.mending.Mending.{Mending}
+use Rattle.sw_app_changes.specs.declared.mending.Mending.TheVariants.{Misrouted, Free, Single, Pairs}
 use Rattle.sw_app_changes.specs.MendAnswers.{IsMendAnswer}
+use Rattle.sw_app_changes.specs.Mendings.{IsMending}
+
+-- the same is found: of one kind, with the same flow, place and fault, or with the same changes
+abbrev pub IsSameMending : Mending → Mending → Type 0
+IsSameMending (Misrouted i p fault) (Misrouted j q other) = (i ≡ j) × (p ≡ q) × (fault ≡ other)
+IsSameMending (Misrouted i p fault) m = ⊥
+IsSameMending Free Free = Unit {0}
+IsSameMending Free m = ⊥
+IsSameMending (Single told) (Single other) = told.items ≡ other.items
+IsSameMending (Single told) m = ⊥
+IsSameMending (Pairs told) (Pairs other) = told.items ≡ other.items
+IsSameMending (Pairs told) m = ⊥
+
+-- a network has one mending, with pairs asked for or not
+abbrev pub MendingsAreDetermined : Type 0
+MendingsAreDetermined = (pairs : Bool) (d : Declaration) (m n : Mending) → IsMending pairs d m → IsMending pairs d n → IsSameMending m n
 
 -- `mend` has one answer for each file, with `--pairs` and without
 abbrev pub MendHasOneAnswer : Type 0

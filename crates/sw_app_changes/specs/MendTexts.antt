@@ -12,6 +12,9 @@ use Rattle.sw_output.specs.ChannelTexts.{node_name, switch_name}
 use Rattle.sw_output.specs.EntryTexts.{entry_words}
 use Rattle.sw_output.specs.FlowTexts.{flow_name}
 use Rattle.sw_output.specs.Lines.{line, spaced}
+use Rattle.sw_output.specs.VerdictTexts.{misrouted_words}
+use Rattle.sw_app_changes.specs.declared.mending.Mending.{Mending}
+use Rattle.sw_app_changes.specs.declared.mending.Mending.TheVariants.{Misrouted, Free, Single, Pairs}
 
 -- what is taken away
 abbrev pub change_words : Declaration → Change → List ℕ
@@ -68,3 +71,17 @@ pairs_text d (pair ∷ pairs) = flat_map (pair_line d) (pair ∷ pairs)
 -- that there is nothing to mend
 abbrev pub free_line : List ℕ
 free_line = line (codes "free already" ∷ [])
+
+-- what is found of a network
+abbrev pub mending_text : Declaration → Mending → List ℕ
+mending_text d (Misrouted flow place fault) = line (misrouted_words d flow place fault ∷ [])
+mending_text d Free = free_line
+mending_text d (Single told) = mends_text d told.items
+mending_text d (Pairs told) = pairs_text d told.items
+
+-- 0 where the network is free, or some change or some pair frees it
+abbrev pub mending_status : Mending → ℕ
+mending_status (Misrouted flow place fault) = 1
+mending_status Free = 0
+mending_status (Single told) = mends_status told.items
+mending_status (Pairs told) = mends_status told.items

@@ -1,13 +1,14 @@
 //! The lines of `mend`.
 ghost use Rattle.std.specs.Prelude.{◌≡◌, ◌∷◌, [], IfOk, flat_map, string_bytes};
 ghost use Rattle.sw_output.specs.Lines.{spaced};
-ghost use Rattle.sw_app_changes.specs.MendTexts.{change_words, mend_line, mends_status, mends_text, pair_line, pairs_text, split_words, trial_words};
+ghost use Rattle.sw_app_changes.specs.MendTexts.{change_words, mend_line, mending_status, mending_text, mends_status, mends_text, pair_line, pairs_text, split_words, trial_words};
 
+use crate::mending::Mending;
 use std::alloc::{AllocError, Global};
 use sw_command::statuses::{BAD, GOOD};
 use sw_config::Network;
 use sw_mend::{Change, Pair, TargetLink, Trial};
-use sw_output::{entry_words, flow_name, node_name, switch_name};
+use sw_output::{entry_words, flow_name, misrouted_text, node_name, switch_name};
 use sw_topo::Port;
 
 // The words, and the name behind a space.
@@ -142,12 +143,8 @@ fn pair_lines(alloc: Global, network: &Network, pairs: &[Pair]) -> Result<String
     Ok(text)
 }
 
-/// The lines of the changes that free the network, or that there is none.
-pub(crate) fn mends_text(
-    alloc: Global,
-    network: &Network,
-    changes: &[Trial],
-) -> Result<String, AllocError>
+// The lines of the changes that free the network, or that there is none.
+fn mends_text(alloc: Global, network: &Network, changes: &[Trial]) -> Result<String, AllocError>
     ensures { IfOk result (λ s. string_bytes s ≡ mends_text network.now changes.now) }
 {
     match changes {
@@ -156,8 +153,36 @@ pub(crate) fn mends_text(
     }
 }
 
-/// 0 where some change, or some pair of them, frees the network.
-pub fn mends_status<T>(found: &[T]) -> u8
+// The lines of the pairs of changes that free it, or that there is none.
+fn pairs_text(alloc: Global, network: &Network, pairs: &[Pair]) -> Result<String, AllocError>
+    ensures { IfOk result (λ s. string_bytes s ≡ pairs_text network.now pairs.now) }
+{
+    match pairs {
+        [] => String::from_str(alloc, "no pair of changes frees it\n"),
+        _ => pair_lines(alloc, network, pairs),
+    }
+}
+
+/// The lines of what is found of the network.
+pub(crate) fn mending_text(
+    alloc: Global,
+    network: &Network,
+    mending: &Mending,
+) -> Result<String, AllocError>
+    ensures { IfOk result (λ s. string_bytes s ≡ mending_text network.now mending.now) }
+{
+    match mending {
+        Mending::Misrouted(flow, place, fault) => {
+            misrouted_text(alloc, network, *flow, *place, *fault)
+        }
+        Mending::Free => String::from_str(alloc, "free already\n"),
+        Mending::Single(changes) => mends_text(alloc, network, changes),
+        Mending::Pairs(pairs) => pairs_text(alloc, network, pairs),
+    }
+}
+
+// 0 where some change, or some pair of them, frees the network.
+fn mends_status<T>(found: &[T]) -> u8
     ensures { result ≡ mends_status found.now }
 {
     match found {
@@ -166,16 +191,14 @@ pub fn mends_status<T>(found: &[T]) -> u8
     }
 }
 
-/// The lines of the pairs of changes that free the network, or that there is none.
-pub(crate) fn pairs_text(
-    alloc: Global,
-    network: &Network,
-    pairs: &[Pair],
-) -> Result<String, AllocError>
-    ensures { IfOk result (λ s. string_bytes s ≡ pairs_text network.now pairs.now) }
+/// The status of what is found: 0 where the network is free, or some change or some pair of them frees it.
+pub fn mending_status(mending: &Mending) -> u8
+    ensures { result ≡ mending_status mending.now }
 {
-    match pairs {
-        [] => String::from_str(alloc, "no pair of changes frees it\n"),
-        _ => pair_lines(alloc, network, pairs),
+    match mending {
+        Mending::Misrouted(_, _, _) => BAD,
+        Mending::Free => GOOD,
+        Mending::Single(changes) => mends_status(changes),
+        Mending::Pairs(pairs) => mends_status(pairs),
     }
 }

@@ -1,15 +1,19 @@
 -- The values of what frees a network have no floats and are not deep.
-use Rattle.std.proofs.Common.{[], ◌∷◌, All}
+use Rattle.std.proofs.Common.{[], ◌∷◌, All, arith}
 use Rattle.std.proofs.lemmas.List.Elements.{All-cons, All-nil}
+use Rattle.sw_app_changes.specs.declared.mending.Mending.{Mending}
+use Rattle.sw_app_changes.specs.declared.mending.Mending.TheVariants.{Misrouted, Free, Single, Pairs}
 use Rattle.sw_config.specs.Entries.{Declaration}
 use Rattle.sw_json.specs.Plain.{IsPlain}
-use Rattle.sw_json.proofs.Plain.{count_or_null_plain, count_plain, list_plain, made_plain, no_more, object_plain, text_plain, with_member}
+use Rattle.sw_json.proofs.Plain.{count_or_null_plain, count_plain, list_plain, made_plain, no_more, object_plain, plain_at_more, text_plain, with_member}
+use Rattle.sw_json.proofs.PlainValues.{verdict_plain}
 use Rattle.sw_mend.specs.declared.change.Change.{Change}
 use Rattle.sw_mend.specs.declared.change.Change.TheVariants.{WithoutReply, WithoutFlow, WithoutAnswers, WithoutPort, WithoutEntry, WithoutFlowsOf}
 use Rattle.sw_mend.specs.declared.change.Pair.{Pair}
 use Rattle.sw_mend.specs.declared.change.Trial.{Trial}
 use Rattle.sw_mend.specs.declared.change.Trial.TheVariants.{Without, Split}
-use Rattle.sw_json_changes.specs.MendValues.{change_value, mend_value, pair_value, trial_value}
+use Rattle.sw_search.specs.declared.verdict.Verdict.TheVariants as verdict
+use Rattle.sw_json_changes.specs.MendValues.{change_value, mend_value, mending_value, pair_value, trial_value}
 use Rattle.sw_json_changes.specs.MendLaws.{MendsArePlain}
 
 change_plain : (d : Declaration) (change : Change) → IsPlain 1 (change_value d change)
@@ -43,3 +47,9 @@ mends_plain = record {
   single = λ d told. object_plain 4 (with_member text_plain (with_member (made_plain 3 (mend_value d) (mend_plain d) told) no_more));
   pairs = λ d told. object_plain 4 (with_member text_plain (with_member (made_plain 3 (pair_value d) (pair_plain d) told) no_more));
 }
+
+pub mending_plain : (d : Declaration) (m : Mending) → IsPlain 5 (mending_value d m)
+mending_plain d (Misrouted i p fault) = plain_at_more 4 5 _ (omega arith) (verdict_plain d (verdict.Misrouted i p fault))
+mending_plain d Free = object_plain 4 (with_member text_plain no_more)
+mending_plain d (Single told) = mends_plain.single d told.items
+mending_plain d (Pairs told) = mends_plain.pairs d told.items

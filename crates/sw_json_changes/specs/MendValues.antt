@@ -4,9 +4,13 @@ use Rattle.std.specs.Option.{option_map}
 use Rattle.serde_json.specs.Data.{Data, array, object, string, member, no_members}
 use Rattle.serde_json.specs.View.{items_of}
 use Rattle.sw_app_changes.specs.MendTexts.{change_words, trial_words}
+use Rattle.sw_app_changes.specs.declared.mending.Mending.{Mending}
+use Rattle.sw_app_changes.specs.declared.mending.Mending.TheVariants.{Misrouted, Free, Single, Pairs}
 use Rattle.sw_config.specs.Entries.{Declaration, routes_of}
+use Rattle.sw_json.specs.FileValues.{kind_value}
 use Rattle.sw_json.specs.PlaceValues.{flow_name_value}
 use Rattle.sw_json.specs.Simple.{count_or_null, count_value}
+use Rattle.sw_json.specs.VerdictValues.{verdict_value}
 use Rattle.sw_mend.specs.declared.change.Change.{Change}
 use Rattle.sw_mend.specs.declared.change.Change.TheVariants.{WithoutReply, WithoutFlow, WithoutAnswers, WithoutPort, WithoutEntry, WithoutFlowsOf}
 use Rattle.sw_mend.specs.declared.change.Pair.{Pair}
@@ -15,6 +19,7 @@ use Rattle.sw_mend.specs.declared.change.Trial.{Trial}
 use Rattle.sw_mend.specs.declared.change.Trial.TheVariants.{Without, Split}
 use Rattle.sw_output.specs.ChannelTexts.{node_name, switch_name}
 use Rattle.sw_output.specs.Lines.{spaced}
+use Rattle.sw_search.specs.declared.verdict.Verdict.TheVariants as verdict
 
 -- ---- a change
 
@@ -99,8 +104,15 @@ mend_value d change = told_mend (trial_value d change ∷ []) (mend_words d chan
 abbrev pub pair_value : Declaration → Pair → Data
 pair_value d pair = told_mend (change_value d pair.first ∷ change_value d pair.second ∷ []) (pair_words d pair)
 
--- all that is told
+-- all that frees it
 abbrev pub mends_value : List Data → Data
 mends_value mends =
     object (member (codes "kind") (string (codes "mends"))
     (member (codes "mends") (array (items_of mends)) no_members))
+
+-- what is found: the verdict, where a flow is not well routed; else that the network is free, or what frees it
+abbrev pub mending_value : Declaration → Mending → Data
+mending_value d (Misrouted flow place fault) = verdict_value d (verdict.Misrouted flow place fault)
+mending_value d Free = kind_value (codes "free")
+mending_value d (Single told) = mends_value (map (mend_value d) told.items)
+mending_value d (Pairs told) = mends_value (map (pair_value d) told.items)

@@ -2,8 +2,6 @@
 ghost use Rattle.sw_json_changes.specs.MendLaws.{MendHasOneAnswer, MendHasStatusOfText, MendTextsAreLines, MendsArePlain};
 
 use sw_app_changes::mend_laws as text_laws;
-use sw_mend::laws::{mends_are_determined, pairs_are_determined};
-use sw_search::laws::verdicts_are_determined;
 
 /// The value of what frees a network has a text that reads back.
 pub fn mends_are_plain()
@@ -14,9 +12,7 @@ pub fn mends_are_plain()
 pub fn mend_has_one_answer()
     ensures { MendHasOneAnswer }
 {
-    mends_are_determined();
-    pairs_are_determined();
-    verdicts_are_determined();
+    text_laws::mendings_are_determined();
 }
 
 /// Its status is that of the text answer to the same file.

@@ -1,19 +1,26 @@
 //! What frees a network, as values.
-ghost use Rattle.std.specs.Prelude.{◌≡◌, ◌∷◌, [], IfOk, IsOkAnd, codes, map, slice_get, string_bytes};
+ghost use Rattle.std.specs.Prelude.{◌≡◌, ◌∷◌, [], Bool, IfOk, IsOkAnd, codes, map, slice_get, string_bytes};
 ghost use Rattle.serde_json.specs.Data.{string};
 ghost use Rattle.serde_json.specs.View.{view};
+ghost use Rattle.sw_app_changes.specs.Mendings.{IsMending};
 ghost use Rattle.sw_config.specs.Entries.{routes_of};
 ghost use Rattle.sw_json.specs.Objects.{member_value, object_of};
-ghost use Rattle.sw_json_changes.specs.MendValues.{change_value, first_value, last_value, mend_value, mend_words, mends_value, of_entry, of_port, pair_value, pair_words, split_value, told_mend, trial_value};
+ghost use Rattle.sw_json.specs.VerdictValues.{verdict_value};
+ghost use Rattle.sw_search.specs.Verdicts.{IsVerdict};
+ghost use Rattle.sw_json_changes.specs.MendValues.{change_value, first_value, last_value, mend_value, mend_words, mending_value, mends_value, of_entry, of_port, pair_value, pair_words, split_value, told_mend, trial_value};
 
 use serde_json::Value;
 use std::alloc::{AllocError, Global};
-use sw_app_changes::{change_words, trial_words};
+use sw_app_changes::{Mending, change_words, trial_words};
 use sw_config::Network;
-use sw_json::{Member, add_value, object_of_five, object_of_four, object_of_two};
+use sw_flow::{Place, RouteFault};
+use sw_json::{
+    Member, add_value, kind_value, object_of_five, object_of_four, object_of_two, verdict_value,
+};
 use sw_mend::{Change, Pair, TargetLink, Trial};
 use sw_output::{flow_name, node_name, switch_name};
 use sw_route::Route;
+use sw_search::Verdict;
 use sw_topo::Port;
 
 // The entry of that number of the switch's table, if there is one.
@@ -235,26 +242,52 @@ fn told_mends(alloc: Global, mends: Vec<Value>) -> Result<Value, AllocError>
     )
 }
 
-/// The object that stands for the single changes that free the network.
-pub(crate) fn mends_value(
-    alloc: Global,
-    network: &Network,
-    changes: &[Trial],
-) -> Result<Value, AllocError>
+// The object that stands for the single changes that free the network.
+fn mends_value(alloc: Global, network: &Network, changes: &[Trial]) -> Result<Value, AllocError>
     ensures { IfOk result (λ v. view v ≡ mends_value (map (mend_value network.now) changes.now)) }
 {
     let mends = mend_list(alloc, network, changes)?;
     told_mends(alloc, mends)
 }
 
-/// The object that stands for the pairs of changes that free it.
-pub(crate) fn pairs_value(
-    alloc: Global,
-    network: &Network,
-    pairs: &[Pair],
-) -> Result<Value, AllocError>
+// The object that stands for the pairs of changes that free it.
+fn pairs_value(alloc: Global, network: &Network, pairs: &[Pair]) -> Result<Value, AllocError>
     ensures { IfOk result (λ v. view v ≡ mends_value (map (pair_value network.now) pairs.now)) }
 {
     let mends = pair_list(alloc, network, pairs)?;
     told_mends(alloc, mends)
+}
+
+// The verdict that a flow is not well routed.
+fn misrouted_value(
+    alloc: Global,
+    network: &Network,
+    flow: u16,
+    place: Place,
+    fault: RouteFault,
+) -> Result<Value, AllocError>
+    requires { IsVerdict network.now (Verdict.Misrouted flow place fault) }
+    ensures { IfOk result (λ v. view v ≡ verdict_value network.now (Verdict.Misrouted flow place fault)) }
+{
+    let verdict = Verdict::Misrouted(flow, place, fault);
+    verdict_value(alloc, network, &verdict, &[])
+}
+
+/// The object that stands for what is found of the network.
+pub(crate) fn mending_value(
+    alloc: Global,
+    network: &Network,
+    mending: &Mending,
+) -> Result<Value, AllocError>
+    requires { (pairs : Bool) × IsMending pairs network.now mending.now }
+    ensures { IfOk result (λ v. view v ≡ mending_value network.now mending.now) }
+{
+    match mending {
+        Mending::Misrouted(flow, place, fault) => {
+            misrouted_value(alloc, network, *flow, *place, *fault)
+        }
+        Mending::Free => kind_value(alloc, "free"),
+        Mending::Single(changes) => mends_value(alloc, network, changes),
+        Mending::Pairs(pairs) => pairs_value(alloc, network, pairs),
+    }
 }

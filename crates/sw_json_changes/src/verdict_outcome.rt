@@ -1,16 +1,14 @@
 //! Verdicts as what is found.
-ghost use Rattle.std.specs.Prelude.{◌≡◌, [], IfOk, codes};
+ghost use Rattle.std.specs.Prelude.{◌≡◌, [], IfOk};
 ghost use Rattle.serde_json.specs.View.{view};
-ghost use Rattle.sw_json.specs.FileValues.{kind_value};
 ghost use Rattle.sw_json.specs.VerdictValues.{certificate_bytes, verdict_value};
 ghost use Rattle.sw_search.specs.Verdicts.{IsVerdict};
 ghost use Rattle.sw_json.specs.Answering.{IsOutcome};
 
 use std::alloc::{AllocError, Global};
-use sw_command::statuses::GOOD;
 use sw_config::Network;
-use sw_json::laws::{kinds_are_plain, verdicts_are_plain};
-use sw_json::{Outcome, kind_value, verdict_value};
+use sw_json::laws::verdicts_are_plain;
+use sw_json::{Outcome, verdict_value};
 use sw_search::Verdict;
 
 /// A verdict that has no certificate, with this status.
@@ -27,16 +25,4 @@ pub(crate) fn verdict_outcome(
     verdicts_are_plain();
     let result = verdict_value(alloc, network, verdict, &[])?;
     Ok(Outcome { result, status })
-}
-
-/// That the network is free, and no more.
-pub(crate) fn free_outcome(alloc: Global) -> Result<Outcome, AllocError>
-    ensures { IfOk result (λ o. IsOutcome (kind_value (codes "free")) 0 (view o.result) o.status) }
-{
-    kinds_are_plain();
-    let result = kind_value(alloc, "free")?;
-    Ok(Outcome {
-        result,
-        status: GOOD,
-    })
 }

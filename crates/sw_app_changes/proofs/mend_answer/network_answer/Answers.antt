@@ -2,4 +2,4 @@ use Rattle.sw_app_changes.proofs.MendAnswered.{answered}
 use Rattle.sw_app_changes.proofs.mend_answer.network_answer.Goals as goal
 
 pub returns : goal.returns
-returns g c = answered c.args.pairs c.args.network.now c.in_ok-verdict.verdict c.by_verdict.result c.in_ok-verdict.ensures.verdict c.by_verdict.ensures
+returns g c = answered c.args.pairs c.args.network.now c.in_ok-found.found c.told.result c.in_ok-found.ensures c.told.ensures

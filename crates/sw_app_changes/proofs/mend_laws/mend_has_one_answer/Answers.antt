@@ -2,4 +2,4 @@ use Rattle.sw_app_changes.proofs.OneMendAnswer.{one_answer}
 use Rattle.sw_app_changes.proofs.mend_laws.mend_has_one_answer.Goals as goal
 
 pub returns : goal.returns
-returns c = one_answer c.mends_are_determined.ensures c.pairs_are_determined.ensures c.verdicts_are_determined.ensures
+returns c = one_answer c.mendings_are_determined.ensures
