@@ -4,7 +4,6 @@
 
 mod cases;
 mod engine;
-mod files;
 mod journals;
 mod moves;
 mod nets;
@@ -14,14 +13,14 @@ mod together;
 mod work;
 
 use crate::cases::SECTIONS;
-use crate::engine::show_engine;
-use crate::work::show_cases;
+use crate::work::show_case;
 use std::io;
 
 fn main(rt: HostRuntime) -> io::Result<()> {
     for &cases in SECTIONS {
-        show_cases(&rt, &rt, cases)?;
+        for case in cases {
+            show_case(&rt, &rt, case)?;
+        }
     }
-    rt.println("# the engine of run\n> turn.toml turn.load together")?;
-    show_engine(&rt, &rt, "turn.toml", "turn.load")
+    Ok(())
 }

@@ -1,15 +1,15 @@
-//! Steps of two nodes that are joined by a link.
+//! Steps as tables have them.
 
 use std::alloc::{AllocError, Global};
 use sw_char::End;
 use sw_model::Step;
 use sw_topo::Chan;
 
-/// A step of one of two nodes, each of which sends on the channel of its own number.
+/// A step of a node, by the number of its flow, of its channel or of the node.
 #[derive(Clone, Copy)]
-pub(crate) enum Move {
-    /// A packet of the first flow, with this cargo, begins.
-    Begin(&'static [u8]),
+pub(crate) enum Move<'c> {
+    /// A packet of the flow begins, with this cargo and this end.
+    Begin(u16, &'c [u8], End),
     Fct(u16),
     FctIn(u16),
     Emit(u16),
@@ -17,14 +17,14 @@ pub(crate) enum Move {
     Accept(u16),
 }
 
-impl Move {
+impl Move<'_> {
     /// The step that it is.
     pub(crate) fn step(self, alloc: Global) -> Result<Step, AllocError> {
         Ok(match self {
-            Move::Begin(cargo) => Step::Begin {
-                flow: 0,
+            Move::Begin(flow, cargo, end) => Step::Begin {
+                flow,
                 cargo: Vec::from_slice(alloc, cargo)?,
-                end: End::Eop,
+                end,
             },
             Move::Fct(channel) => Step::Fct(Chan::new(channel)),
             Move::FctIn(channel) => Step::FctIn(Chan::new(channel)),

@@ -7,12 +7,14 @@ pub(crate) mod drained;
 mod show;
 mod waiting;
 
+use crate::moves::Move;
 use crate::nets::calls::{Call, show_calls};
 use crate::nets::drained::{Bounds, Choice, show_drain};
 use crate::nets::waiting::show_waiting;
-use std::alloc::{AllocError, Global};
+use std::alloc::Global;
 use std::io;
 use sw_arb::Policy;
+use sw_cell::NetFault;
 use sw_config::Network;
 use sw_load::Load;
 use sw_model::Step;
@@ -33,18 +35,26 @@ pub(crate) enum CoreWork {
     Make(&'static [Call]),
 }
 
-// Makes a step of the link end, if it can make one. Then, is that an FCT?
-fn make_step(alloc: Global, net: &mut Core<'_>, end: LinkEnd) -> Result<Option<bool>, AllocError> {
-    if end.number() >= net.network().channels() {
-        return Ok(None);
+// Makes the step, if it can be made.
+fn make(alloc: Global, net: &mut Core<'_>, tried: Move<'_>) -> Result<(), NetFault> {
+    match tried.step(alloc) {
+        Ok(step) => net.step(alloc, &step),
+        Err(_) => Err(NetFault::Memory),
     }
-    let made = net.step_of(alloc, end)?;
+}
+
+// Makes a step of the link end, if it can make one. Then, is that an FCT?
+fn make_step(alloc: Global, net: &mut Core<'_>, end: LinkEnd) -> Option<bool> {
+    if end.number() >= net.network().channels() {
+        return None;
+    }
+    let made = net.step_of(alloc, end).unwrap_or(None);
     let is_fct = match &made {
         Some(step) => Some(matches!(step, Step::Fct(_))),
         None => None,
     };
     drop(made);
-    Ok(is_fct)
+    is_fct
 }
 
 fn show_steps<'n>(

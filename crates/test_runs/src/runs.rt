@@ -14,7 +14,7 @@ use std::sync::Wait;
 use std::thread::Threads;
 use sw_config::Network;
 use sw_load::{Load, enough_limit};
-use sw_run::{Outcome, run};
+use sw_run::run;
 
 /// What is run.
 #[derive(Clone, Copy)]
@@ -23,19 +23,6 @@ pub(crate) enum RunWork {
     Order,
     /// As many workers as link ends, which wait for one another.
     Together,
-}
-
-fn show_outcome(
-    rt: &HostRuntime,
-    network: &Network,
-    outcome: &Outcome<'_>,
-    gate: &Together,
-    work: RunWork,
-) -> io::Result<()> {
-    match work {
-        RunWork::Order => show_order(rt, &outcome.came_out),
-        RunWork::Together => show_gated(rt, network, outcome, gate),
-    }
 }
 
 // One worker, or as many as link ends.
@@ -62,7 +49,10 @@ pub(crate) fn show_run<R: Threads + Wait + Sync>(
     let limit = enough_limit(network, load) as usize;
     let workers = workers_of(work);
     let outcome = run(threads, rt.alloc(), network, load, workers, limit, &gate)?;
-    let shown = show_outcome(rt, network, &outcome, &gate, work);
+    let shown = match work {
+        RunWork::Order => show_order(rt, &outcome.came_out),
+        RunWork::Together => show_gated(rt, network, &outcome, &gate),
+    };
     drop(outcome);
     shown
 }

@@ -1,14 +1,17 @@
 //! What is done with the files of a network and a load. One function alone owns the network: a path that drops one is dear to prove.
 ghost use Rattle.sw_load.specs.Laws.{AreDeclared};
 
-use crate::files::{network_of, no_text};
-use crate::journals::{JournalWork, show_journal};
+use crate::engine::show_engine;
+use crate::journals::show_journal;
+use crate::journals::tried::Trial;
 use crate::nets::{CoreWork, show_core};
 use crate::runs::{RunWork, show_run};
+use std::io::ErrorKind;
 use std::sync::Wait;
 use std::thread::Threads;
 use std::{fs, io};
 use sw_config::Network;
+use sw_file::read_network;
 use sw_load::laws::listed_are_declared;
 use sw_load::{Load, enough_limit, read_load};
 
@@ -23,16 +26,16 @@ pub(crate) enum Work {
     /// The network's core makes steps from its empty state on.
     Core(CoreWork),
     /// Steps of a journal of the load are tried, which has so many steps at most.
-    Journal(usize, JournalWork),
+    Journal(usize, &'static [Trial]),
     /// The load is run by threads.
     Run(RunWork),
+    /// It is run by the engine of `swcheck run`, which reads both texts.
+    Engine,
 }
 
-fn show_limit(rt: &HostRuntime, network: &Network, load: &Load) -> io::Result<()>
-    requires { AreDeclared network.now load.now }
-{
-    let limit = enough_limit(network, load);
-    println!(rt; "{limit}")
+/// What is said of a file that does not have the text that it should.
+pub(crate) fn no_text() -> io::Error {
+    io::Error::from(ErrorKind::InvalidData)
 }
 
 fn show_load<R: Threads + Wait + Sync>(
@@ -45,52 +48,58 @@ fn show_load<R: Threads + Wait + Sync>(
     requires { AreDeclared network.now load.now }
 {
     match work {
-        Work::Limit => show_limit(rt, network, load),
+        Work::Limit | Work::Engine => println!(rt; "{}", enough_limit(network, load)),
         Work::Core(work) => show_core(rt, network, load, work),
-        Work::Journal(limit, work) => show_journal(rt, threads, network, load, limit, work),
+        Work::Journal(limit, trials) => show_journal(rt, threads, network, load, limit, trials),
         Work::Run(work) => show_run(rt, threads, network, load, work),
     }
 }
 
-// Does it with the load that the file declares.
+// Does it with the load that the text declares.
 fn show_read<R: Threads + Wait + Sync>(
     rt: &HostRuntime,
     threads: &R,
     network: &Network,
-    load: &str,
+    load: &[u8],
     work: Work,
 ) -> io::Result<()> {
-    let text = fs::read(rt, load)?;
     listed_are_declared();
-    match read_load(rt.alloc(), network, &text) {
+    match read_load(rt.alloc(), network, load) {
         Ok(load) => show_load(rt, threads, network, &load, work),
         Err(_) => Err(no_text()),
     }
 }
 
-// Does it with the network and the load that these files declare.
-fn show_work<R: Threads + Wait + Sync>(
+// Does it with the network and the load that the texts declare.
+fn show_texts<R: Threads + Wait + Sync>(
     rt: &HostRuntime,
     threads: &R,
-    network: &str,
-    load: &str,
+    network: &[u8],
+    load: &[u8],
     work: Work,
 ) -> io::Result<()> {
-    let network = network_of(rt, network)?;
-    let shown = show_read(rt, threads, &network, load, work);
-    network.discard();
-    shown
+    match read_network(rt.alloc(), network) {
+        Ok(network) => {
+            let shown = show_read(rt, threads, &network, load, work);
+            network.discard();
+            shown
+        }
+        Err(_) => Err(no_text()),
+    }
 }
 
-/// Prints what comes of each case. `threads` is the same as `rt`, which is known to start threads and to wait in `main` alone.
-pub(crate) fn show_cases<R: Threads + Wait + Sync>(
+/// Prints what comes of the case. `threads` is the same as `rt`, which is known to start threads and to wait in `main` alone.
+pub(crate) fn show_case<R: Threads + Wait + Sync>(
     rt: &HostRuntime,
     threads: &R,
-    cases: &[Case],
+    case: &Case,
 ) -> io::Result<()> {
-    for &(title, network, load, work) in cases {
-        rt.print(title)?;
-        show_work(rt, threads, network, load, work)?;
+    let (title, network, load, work) = *case;
+    rt.print(title)?;
+    let network = fs::read(rt, network)?;
+    let load = fs::read(rt, load)?;
+    match work {
+        Work::Engine => show_engine(rt, threads, &network, &load),
+        _ => show_texts(rt, threads, &network, &load, work),
     }
-    Ok(())
 }

@@ -4,10 +4,12 @@ ghost use Rattle.sw_load.specs.Laws.{AreDeclared};
 ghost use Rattle.test_runs.specs.Names.{IsSameRun};
 
 use crate::moves::Move;
+use crate::work::no_text;
 use std::alloc::{AllocError, Global};
+use std::io;
 use sw_cell::CellId;
 use sw_config::Network;
-use sw_journal::{Cell, Journal, JournalFault, Part};
+use sw_journal::{Cell, Journal, JournalFault};
 use sw_load::Load;
 use sw_net::Numbers;
 use sw_topo::LinkEnd;
@@ -87,7 +89,7 @@ impl<'n> Pair<'n> {
         &mut self,
         alloc: Global,
         side: Side,
-        tried: Move,
+        tried: Move<'_>,
     ) -> Result<(), JournalFault> {
         let place = side.number() as usize;
         if place >= self.cells.len() {
@@ -126,12 +128,15 @@ impl<'n> Pair<'n> {
         self.journal.mark(LinkEnd::new(number))
     }
 
-    /// What the node has.
-    pub(crate) fn part(&self, alloc: Global, side: Side) -> Result<Option<Part>, AllocError> {
+    /// Prints what the node has.
+    pub(crate) fn tell(&self, rt: &HostRuntime, side: Side) -> io::Result<()> {
         let node = side.number();
         if node >= self.network.nodes() {
-            return Ok(None);
+            return Err(no_text());
         }
-        Ok(Some(self.journal.state_of(alloc, CellId::Node(node))?))
+        match self.journal.state_of(rt.alloc(), CellId::Node(node)) {
+            Ok(part) => println!(rt; "node {node} has Some({part:?})"),
+            Err(refused) => Err(io::Error::from(refused)),
+        }
     }
 }

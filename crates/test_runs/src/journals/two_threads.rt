@@ -13,22 +13,86 @@ use sw_net::Numbers;
 /// So often a thread looks before it gives up.
 const LOOKS: usize = 10_000_000;
 
-/// What two threads do at the cells of two nodes.
-#[derive(Clone, Copy)]
-pub(crate) enum TwoThreads {
-    /// One sends FCTs at the second, and the other takes one at the first.
-    SendAndTake,
-    /// One reads the numbers of the second and sends an FCT there; in between the other sends one at the first.
-    ReadAndSend,
+/// What one thread does at the cell of a node: it reads its numbers, ends a turn, waits until another is over, tries a step, and ends one
+/// more turn. Turn 0 is over from the beginning.
+struct Deed {
+    side: Side,
+    ends: u64,
+    waits: u64,
+    /// It takes an FCT that came on the channel of this number, or else sends one on it.
+    takes: bool,
+    channel: u16,
+    /// So often the step is tried.
+    tries: usize,
+    /// So often it is made.
+    wanted: usize,
+    then_ends: u64,
 }
 
-/// What the first thread tells.
+/// What two threads do at the cells of two nodes.
+pub(crate) struct TwoThreads {
+    one: Deed,
+    other: Deed,
+    /// Whether the numbers that the first of them read are told.
+    tells: bool,
+}
+
+/// One sends FCTs at the second node, and the other takes one at the first.
+pub(crate) const SEND_AND_TAKE: TwoThreads = TwoThreads {
+    one: Deed {
+        side: Side::Second,
+        ends: 0,
+        waits: 0,
+        takes: false,
+        channel: 0,
+        tries: 8,
+        wanted: 8,
+        then_ends: 0,
+    },
+    other: Deed {
+        side: Side::First,
+        ends: 0,
+        waits: 0,
+        takes: true,
+        channel: 0,
+        tries: LOOKS,
+        wanted: 1,
+        then_ends: 0,
+    },
+    tells: false,
+};
+
+/// One reads the numbers of the second node in the first turn, and sends an FCT there after the second, in which the other sends one at the
+/// first node.
+pub(crate) const READ_AND_SEND: TwoThreads = TwoThreads {
+    one: Deed {
+        side: Side::Second,
+        ends: 1,
+        waits: 2,
+        takes: false,
+        channel: 0,
+        tries: 1,
+        wanted: 1,
+        then_ends: 2,
+    },
+    other: Deed {
+        side: Side::First,
+        ends: 0,
+        waits: 1,
+        takes: false,
+        channel: 1,
+        tries: 1,
+        wanted: 1,
+        then_ends: 2,
+    },
+    tells: true,
+};
+
+/// What a thread tells: the numbers that it read, and how often it made its step.
 #[derive(Clone, Copy)]
-enum Told {
-    /// It sent so many FCTs.
-    Sent(usize),
-    /// It read these numbers. Then, did it send an FCT?
-    Read(Option<Numbers>, bool),
+struct Told {
+    numbers: Option<Numbers>,
+    made: usize,
 }
 
 // The cells of both nodes. What works with them names no journal, and is cheaper to prove.
@@ -37,7 +101,7 @@ trait Cells {
     fn numbers(&self, side: Side) -> Option<Numbers>;
 
     /// Makes the step at that node, if it may follow. Is it made?
-    fn makes(&self, side: Side, tried: Move) -> bool;
+    fn makes(&self, side: Side, tried: Move<'_>) -> bool;
 }
 
 /// The cells of a journal that two threads share.
@@ -56,7 +120,7 @@ impl<'s, 'n, R: Wait> Cells for LockedCells<'s, 'n, R> {
         numbers
     }
 
-    fn makes(&self, side: Side, tried: Move) -> bool {
+    fn makes(&self, side: Side, tried: Move<'_>) -> bool {
         let mut pair = self.pair.lock(self.rt);
         let is_made = pair.make(self.alloc, side, tried).is_ok();
         MutexGuard::unlock(pair);
@@ -71,14 +135,15 @@ struct Turns {
 }
 
 impl Turns {
+    // So many turns are over, if no more are.
     fn end(&self, count: u64) {
-        self.count.store(count, Ordering::SeqCst);
+        self.count.fetch_max(count, Ordering::SeqCst);
     }
 
     // Waits until so many turns are over. Are they?
     fn wait_for(&self, count: u64) -> bool {
         for _ in 0..LOOKS {
-            if self.count.load(Ordering::SeqCst) == count {
+            if self.count.load(Ordering::SeqCst) >= count {
                 return true;
             }
             thread::yield_now();
@@ -87,101 +152,77 @@ impl Turns {
     }
 }
 
-// How many of eight FCTs the second node sends.
-fn send_all<C: Cells>(cells: &C) -> usize {
-    let mut sent: usize = 0;
-    for _ in 0..8usize {
-        if cells.makes(Side::Second, Move::Fct(0)) {
-            sent = sent.saturating_add(1);
+// Tries the step, and counts how often it is made.
+fn made_of<C: Cells>(cells: &C, deed: &Deed) -> usize {
+    let tried = if deed.takes {
+        Move::FctIn(deed.channel)
+    } else {
+        Move::Fct(deed.channel)
+    };
+    let mut made: usize = 0;
+    for _ in 0..deed.tries {
+        if cells.makes(deed.side, tried) {
+            made = made.saturating_add(1);
         }
-    }
-    sent
-}
-
-// Whether the first node takes one.
-fn takes_one<C: Cells>(cells: &C) -> bool {
-    for _ in 0..LOOKS {
-        if cells.makes(Side::First, Move::FctIn(0)) {
-            return true;
+        if made == deed.wanted {
+            break;
         }
         thread::yield_now();
     }
-    false
+    made
 }
 
-// Reads the numbers of the second node's link end in the first turn, and sends an FCT of that node after the second.
-fn read_and_send<C: Cells>(cells: &C, turns: &Turns) -> Told {
-    let numbers = cells.numbers(Side::Second);
-    turns.end(1);
-    let is_sent = turns.wait_for(2) && cells.makes(Side::Second, Move::Fct(0));
-    Told::Read(numbers, is_sent)
-}
-
-// Sends an FCT of the first node in the second turn. Is it sent?
-fn sends_between<C: Cells>(cells: &C, turns: &Turns) -> bool {
-    let is_sent = turns.wait_for(1) && cells.makes(Side::First, Move::Fct(1));
-    turns.end(2);
-    is_sent
-}
-
-fn first_thread<C: Cells>(cells: &C, turns: &Turns, work: TwoThreads) -> Told {
-    match work {
-        TwoThreads::SendAndTake => Told::Sent(send_all(cells)),
-        TwoThreads::ReadAndSend => read_and_send(cells, turns),
-    }
-}
-
-fn second_thread<C: Cells>(cells: &C, turns: &Turns, work: TwoThreads) -> bool {
-    match work {
-        TwoThreads::SendAndTake => takes_one(cells),
-        TwoThreads::ReadAndSend => sends_between(cells, turns),
-    }
-}
-
-// Prints the numbers of both cells.
-fn show_ends<C: Cells>(rt: &HostRuntime, cells: &C) -> io::Result<()> {
-    show_numbers(rt, Side::First.name(), cells.numbers(Side::First))?;
-    show_numbers(rt, Side::Second.name(), cells.numbers(Side::Second))
+fn done_of<C: Cells>(cells: &C, turns: &Turns, deed: &Deed) -> Told {
+    let numbers = cells.numbers(deed.side);
+    turns.end(deed.ends);
+    let made = if turns.wait_for(deed.waits) {
+        made_of(cells, deed)
+    } else {
+        0
+    };
+    turns.end(deed.then_ends);
+    Told { numbers, made }
 }
 
 fn show_read(rt: &HostRuntime, numbers: Option<Numbers>, own: bool, other: bool) -> io::Result<()> {
-    show_numbers(rt, Side::Second.name(), numbers)?;
-    println!(rt; "another sent one {other}, then one sent {own}")
+    show_numbers(rt, Side::Second.name(), numbers).and(println!(rt;
+        "another sent one {other}, then one sent {own}"
+    ))
 }
 
-fn show_told(rt: &HostRuntime, first: Told, second: bool) -> io::Result<()> {
-    match first {
-        Told::Sent(sent) => println!(rt; "sent {sent}, one taken {second}"),
-        Told::Read(numbers, sent) => show_read(rt, numbers, sent, second),
+fn show_told(rt: &HostRuntime, tells: bool, first: Told, second: Told) -> io::Result<()> {
+    let (sent, other) = (first.made, second.made == 1);
+    if tells {
+        show_read(rt, first.numbers, sent == 1, other)
+    } else {
+        println!(rt; "sent {sent}, one taken {other}")
     }
 }
 
-// Prints what the two threads tell, and the numbers of both cells before and after.
+// Prints what the two threads tell.
 fn show_threads<C: Cells + Sync, R: Threads>(
     rt: &HostRuntime,
     threads: &R,
     cells: &C,
-    work: TwoThreads,
+    work: &TwoThreads,
 ) -> io::Result<()> {
     let turns = Turns {
         count: AtomicU64::new(0),
     };
-    show_ends(rt, cells)?;
     let (first, second) = thread::join(
         threads,
-        || first_thread(cells, &turns, work),
-        || second_thread(cells, &turns, work),
+        || done_of(cells, &turns, &work.one),
+        || done_of(cells, &turns, &work.other),
     );
-    show_told(rt, first, second)?;
-    show_ends(rt, cells)
+    show_told(rt, work.tells, first, second)
 }
 
-/// Prints what two threads tell that make steps at the pair's cells, and the numbers of both before and after.
+/// Prints what two threads tell that make steps at the pair's cells.
 pub(crate) fn show_two_threads<R: Threads + Wait + Sync>(
     rt: &HostRuntime,
     threads: &R,
     pair: &Mutex<Pair<'_>>,
-    work: TwoThreads,
+    work: &TwoThreads,
 ) -> io::Result<()> {
     let cells = LockedCells {
         rt: threads,

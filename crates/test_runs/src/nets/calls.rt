@@ -1,12 +1,13 @@
 //! Single calls of the core, over one link between A and B.
 
 use crate::moves::Move;
-use crate::nets::show::{show_first, show_parts, show_undelivered};
-use crate::nets::{Core, make_step};
+use crate::nets::show::{show_first, show_parts};
+use crate::nets::{Core, make, make_step};
 use crate::numbers::show_numbers;
 use std::alloc::Global;
 use std::io;
 use sw_cell::NetFault;
+use sw_char::End;
 use sw_model::Step;
 use sw_net::Numbers;
 use sw_topo::{Chan, LinkEnd};
@@ -14,34 +15,59 @@ use sw_topo::{Chan, LinkEnd};
 /// The number of A's link end.
 const END: u16 = 0;
 
-/// A call, or some.
+/// What can be counted.
+#[derive(Clone, Copy)]
+pub(crate) enum Count {
+    /// The characters that wait.
+    Undelivered,
+    Channels,
+    Nodes,
+}
+
+/// What can be so.
+#[derive(Clone, Copy)]
+pub(crate) enum Asked {
+    /// The node of this number can begin a packet.
+    CanBegin(u16),
+    /// An FCT can be sent on the channel of this number.
+    CanSendFct(u16),
+    /// A's link end makes a step, which is an FCT.
+    SendsFct,
+    /// No input asks for A's link end.
+    NoneAsk,
+}
+
+/// A call, with what is printed before its answer and after it.
 #[derive(Clone, Copy)]
 pub(crate) enum Call {
     /// A step of that name is tried.
-    Make(&'static str, Move),
-    /// How many characters wait.
-    Undelivered,
-    /// What came out, and the first link end that can make a step.
+    Make(&'static str, Move<'static>),
+    /// How many there are.
+    Tell(&'static str, Count, &'static str),
+    /// Whether that is so.
+    Ask(&'static str, Asked, &'static str),
+    /// What waits, and what came out.
     Parts,
+    /// The first link end that can make a step.
+    First,
     /// The numbers of A's link end.
     Numbers,
-    /// How many channels and nodes there are, and which steps are possible.
-    Possible,
-    /// A's link end makes a step.
-    Send,
-    /// Which inputs ask for A's link end.
-    Asking,
 }
+
+const UNDELIVERED: Call = Call::Tell("undelivered ", Count::Undelivered, "\n");
+
+/// A packet of one byte begins.
+const BEGIN: Call = Call::Make("begin AA", Move::Begin(0, &[0xAA], End::Eop));
 
 /// No packet has no cargo, and only one of two waits at A. B lets A send, which A is told, and then the packet's byte and its end go from A
 /// to B.
 pub(crate) const PACKET: &[Call] = &[
-    Call::Make("begin with no cargo", Move::Begin(&[])),
-    Call::Undelivered,
-    Call::Make("begin AA", Move::Begin(&[0xAA])),
-    Call::Undelivered,
-    Call::Make("begin AA", Move::Begin(&[0xAA])),
-    Call::Undelivered,
+    Call::Make("begin with no cargo", Move::Begin(0, &[], End::Eop)),
+    UNDELIVERED,
+    BEGIN,
+    UNDELIVERED,
+    BEGIN,
+    UNDELIVERED,
     Call::Make("fct 0", Move::Fct(0)),
     Call::Make("fctin 0", Move::FctIn(0)),
     Call::Make("emit A", Move::Emit(0)),
@@ -51,36 +77,27 @@ pub(crate) const PACKET: &[Call] = &[
     Call::Make("arrive 0", Move::Arrive(0)),
     Call::Make("accept B", Move::Accept(1)),
     Call::Parts,
+    Call::First,
 ];
 
 /// A link end tells its numbers, and makes a step.
 pub(crate) const LINK_END: &[Call] = &[
     Call::Numbers,
-    Call::Possible,
-    Call::Send,
+    Call::Tell("channels ", Count::Channels, ", "),
+    Call::Tell("nodes ", Count::Nodes, "\n"),
+    Call::Ask("can begin A: ", Asked::CanBegin(0), "\n"),
+    Call::Ask("possible fct 1: ", Asked::CanSendFct(1), ", "),
+    Call::Ask("fct 2: ", Asked::CanSendFct(2), "\n"),
+    Call::Ask("the link end sends an FCT: ", Asked::SendsFct, "\n"),
     Call::Numbers,
-    Call::Asking,
+    Call::Ask("no input asks: ", Asked::NoneAsk, "\n"),
 ];
-
-fn make(alloc: Global, net: &mut Core<'_>, tried: Move) -> Result<(), NetFault> {
-    let Ok(step) = tried.step(alloc) else {
-        return Err(NetFault::Memory);
-    };
-    let made = net.step(alloc, &step);
-    drop(step);
-    made
-}
 
 fn show_made(rt: &HostRuntime, name: &str, made: Result<(), NetFault>) -> io::Result<()> {
     match made {
         Ok(()) => println!(rt; "{name}: made"),
         Err(fault) => println!(rt; "{name}: {fault}"),
     }
-}
-
-fn show_came_out(rt: &HostRuntime, net: &Core<'_>) -> io::Result<()> {
-    show_parts(rt, net)?;
-    show_first(rt, net)
 }
 
 fn numbers_of(net: &Core<'_>, end: LinkEnd) -> Option<Numbers> {
@@ -91,53 +108,39 @@ fn numbers_of(net: &Core<'_>, end: LinkEnd) -> Option<Numbers> {
     }
 }
 
-fn can_begin(net: &Core<'_>, node: u16) -> bool {
-    node < net.network().nodes() && net.can_begin(node)
+fn count_of(net: &Core<'_>, count: Count) -> u64 {
+    match count {
+        Count::Undelivered => net.undelivered(),
+        Count::Channels => u64::from(net.network().channels()),
+        Count::Nodes => u64::from(net.network().nodes()),
+    }
 }
 
-fn can_send_fct(net: &Core<'_>, channel: u16) -> bool {
-    let step = Step::Fct(Chan::new(channel));
-    net.is_possible(&step)
-}
-
-fn show_possible(rt: &HostRuntime, net: &Core<'_>) -> io::Result<()> {
-    let channels = net.network().channels();
-    let nodes = net.network().nodes();
-    println!(rt;
-        "channels {channels}, nodes {nodes}\ncan begin A: {}\npossible fct 1: {}, fct 2: {}",
-        can_begin(net, 0),
-        can_send_fct(net, 1),
-        can_send_fct(net, 2)
-    )
-}
-
-fn show_sent(rt: &HostRuntime, net: &mut Core<'_>) -> io::Result<()> {
-    let made = make_step(rt.alloc(), net, LinkEnd::new(END))?;
-    let is_fct = matches!(made, Some(true));
-    println!(rt; "the link end sends an FCT: {is_fct}")
-}
-
-fn show_asking(rt: &HostRuntime, net: &Core<'_>) -> io::Result<()> {
-    let none_ask = net.asks(LinkEnd::new(END)).is_empty();
-    println!(rt; "no input asks: {none_ask}")
+fn is_so(alloc: Global, net: &mut Core<'_>, asked: Asked) -> bool {
+    match asked {
+        Asked::CanBegin(node) => node < net.network().nodes() && net.can_begin(node),
+        Asked::CanSendFct(channel) => net.is_possible(&Step::Fct(Chan::new(channel))),
+        Asked::SendsFct => matches!(make_step(alloc, net, LinkEnd::new(END)), Some(true)),
+        Asked::NoneAsk => net.asks(LinkEnd::new(END)).is_empty(),
+    }
 }
 
 fn show_call(rt: &HostRuntime, net: &mut Core<'_>, call: Call) -> io::Result<()> {
     match call {
         Call::Make(name, tried) => show_made(rt, name, make(rt.alloc(), net, tried)),
-        Call::Undelivered => show_undelivered(rt, net),
-        Call::Parts => show_came_out(rt, net),
+        Call::Tell(name, count, end) => print!(rt; "{name}{}{end}", count_of(net, count)),
+        Call::Ask(name, asked, end) => print!(rt; "{name}{}{end}", is_so(rt.alloc(), net, asked)),
+        Call::Parts => show_parts(rt, net),
+        Call::First => show_first(rt, net),
         Call::Numbers => show_numbers(rt, "numbers", numbers_of(net, LinkEnd::new(END))),
-        Call::Possible => show_possible(rt, net),
-        Call::Send => show_sent(rt, net),
-        Call::Asking => show_asking(rt, net),
     }
 }
 
 /// Prints what each answers.
 pub(crate) fn show_calls(rt: &HostRuntime, net: &mut Core<'_>, calls: &[Call]) -> io::Result<()> {
+    let mut shown = Ok(());
     for &call in calls {
-        show_call(rt, net, call)?;
+        shown = shown.and(show_call(rt, net, call));
     }
-    Ok(())
+    shown
 }

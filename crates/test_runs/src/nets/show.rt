@@ -1,8 +1,11 @@
 //! What a network has come to, as it is printed.
 
 use crate::nets::Core;
+use hex::encode_upper;
+use std::alloc::{AllocError, Global};
 use std::io;
-use sw_char::{End, Packet};
+use sw_char::Packet;
+use sw_output::packet_end_text;
 
 /// What is printed of the packets that came out at a node.
 #[derive(Clone, Copy)]
@@ -27,40 +30,26 @@ fn repeated_byte(bytes: &[u8]) -> Option<u8> {
     Some(first)
 }
 
-// A long row of one byte is printed once, with its length.
-fn show_bytes(rt: &HostRuntime, bytes: &[u8]) -> io::Result<()> {
-    if let Some(byte) = repeated_byte(bytes) {
-        let count = bytes.len();
-        return print!(rt; "{byte:02X}*{count}");
+// The digits of the bytes. A long row of one byte is told once, with its length.
+fn digits_of(alloc: Global, bytes: &[u8]) -> Result<String, AllocError> {
+    match repeated_byte(bytes) {
+        Some(byte) => format!(in alloc; "{byte:02X}*{}", bytes.len()),
+        None => encode_upper(alloc, bytes),
     }
-    for byte in bytes {
-        print!(rt; "{byte:02X}")?;
-    }
-    Ok(())
 }
 
 fn show_packet(rt: &HostRuntime, name: &str, packet: &Packet) -> io::Result<()> {
-    print!(rt; "packet {name} ")?;
-    show_bytes(rt, &packet.bytes)?;
-    rt.println(match packet.end {
-        End::Eop => " EOP",
-        End::Eep => " EEP",
-    })
+    let digits = digits_of(rt.alloc(), &packet.bytes)?;
+    let end = packet_end_text(packet.end);
+    println!(rt; "packet {name} {digits} {end}")
 }
 
 fn show_packets(rt: &HostRuntime, name: &str, came_out: &[Packet]) -> io::Result<()> {
-    let count = came_out.len();
-    println!(rt; "node {name} packets {count}")?;
+    let mut shown = println!(rt; "node {name} packets {}", came_out.len());
     for packet in came_out {
-        show_packet(rt, name, packet)?;
+        shown = shown.and(show_packet(rt, name, packet));
     }
-    Ok(())
-}
-
-/// Prints how many characters wait.
-pub(crate) fn show_undelivered(rt: &HostRuntime, net: &Core<'_>) -> io::Result<()> {
-    let waiting = net.undelivered();
-    println!(rt; "undelivered {waiting}")
+    shown
 }
 
 fn show_came_out(
@@ -78,19 +67,19 @@ fn show_came_out(
 /// Prints what came out at each node. This function alone owns packets.
 pub(crate) fn show_nodes(rt: &HostRuntime, net: &Core<'_>, detail: Detail) -> io::Result<()> {
     let network = net.network();
+    let mut shown = Ok(());
     for node in 0..network.nodes() {
-        let came_out = net.came_out(rt.alloc(), node)?;
-        let shown = show_came_out(rt, network.node_name(node), &came_out, detail);
-        drop(came_out);
-        shown?;
+        shown = shown.and(match net.came_out(rt.alloc(), node) {
+            Ok(came_out) => show_came_out(rt, network.node_name(node), &came_out, detail),
+            Err(refused) => Err(io::Error::from(refused)),
+        });
     }
-    Ok(())
+    shown
 }
 
 /// Prints how many characters wait, and the packets that came out at each node.
 pub(crate) fn show_parts(rt: &HostRuntime, net: &Core<'_>) -> io::Result<()> {
-    show_undelivered(rt, net)?;
-    show_nodes(rt, net, Detail::Packets)
+    println!(rt; "undelivered {}", net.undelivered()).and(show_nodes(rt, net, Detail::Packets))
 }
 
 /// Prints the first link end that can make a step, if any can.

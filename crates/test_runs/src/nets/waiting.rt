@@ -1,102 +1,58 @@
 //! A load whose packets each begin as soon as they can.
 
+use crate::moves::Move;
 use crate::nets::show::{show_first, show_parts};
-use crate::nets::{Core, make_step};
-use std::alloc::{AllocError, Global};
+use crate::nets::{Core, make, make_step};
+use std::alloc::Global;
 use std::io;
-use sw_cell::NetFault;
 use sw_load::{Load, LoadPacket};
-use sw_model::Step;
 
 /// More steps than any run here takes.
 const MANY: u32 = 100_000;
 
-// How many packets each entry of the load has.
-fn counts(alloc: Global, load: &Load) -> Result<Vec<u16>, AllocError> {
-    let mut counts = Vec::new(alloc);
-    for packet in load.packets() {
-        counts.push(packet.count())?;
-    }
-    Ok(counts)
+/// As many entries as a load here may have.
+const ENTRIES: usize = 16;
+
+// Begins a packet of the entry, of which so many were begun, if one is left and can begin. Does one?
+fn begins(alloc: Global, net: &mut Core<'_>, packet: &LoadPacket, begun: u16) -> bool {
+    let tried = Move::Begin(packet.flow(), packet.cargo(), packet.end());
+    begun < packet.count() && make(alloc, net, tried).is_ok()
 }
 
-fn beginning(alloc: Global, packet: &LoadPacket) -> Result<Step, AllocError> {
-    Ok(Step::Begin {
-        flow: packet.flow(),
-        cargo: Vec::from_slice(alloc, packet.cargo())?,
-        end: packet.end(),
-    })
-}
-
-// Begins a packet of the entry, if any is left and it can begin, and counts it.
-fn begin_one(
-    alloc: Global,
-    net: &mut Core<'_>,
-    packet: &LoadPacket,
-    left: &mut u16,
-    made: &mut u32,
-) -> Result<(), AllocError> {
-    if *left == 0 {
-        return Ok(());
-    }
-    let step = beginning(alloc, packet)?;
-    let tried = net.step(alloc, &step);
-    drop(step);
-    match tried {
-        Ok(()) => {
-            *left = left.saturating_sub(1);
-            *made = made.saturating_add(1);
-            Ok(())
+// Begins a packet of each entry where that is possible, and counts them. How many began?
+fn begin_each(alloc: Global, net: &mut Core<'_>, packets: &[LoadPacket], begun: &mut [u16]) -> u32 {
+    let mut made: u32 = 0;
+    for number in 0..begun.len() {
+        if number < packets.len() && begins(alloc, net, &packets[number], begun[number]) {
+            begun[number] = begun[number].saturating_add(1);
+            made = made.saturating_add(1);
         }
-        Err(NetFault::NotEnabled) | Err(NetFault::NotInFlow) => Ok(()),
-        Err(NetFault::Memory) => Err(AllocError),
     }
-}
-
-// Begins a packet of each entry where that is possible, and counts them.
-fn begin_each(
-    alloc: Global,
-    net: &mut Core<'_>,
-    load: &Load,
-    left: &mut [u16],
-    made: &mut u32,
-) -> Result<(), AllocError> {
-    for (packet, left) in load.packets().iter().zip(left.iter_mut()) {
-        begin_one(alloc, net, packet, left, made)?;
-    }
-    Ok(())
-}
-
-// Makes a step of the first link end that can make one, and counts it. Is there one?
-fn step_first(alloc: Global, net: &mut Core<'_>, made: &mut u32) -> Result<bool, AllocError> {
-    let Some(end) = net.first_enabled() else {
-        return Ok(false);
-    };
-    let is_made = make_step(alloc, net, end)?.is_some();
-    if is_made {
-        *made = made.saturating_add(1);
-    }
-    Ok(is_made)
+    made
 }
 
 // Begins packets wherever that is possible, and makes steps of the first link end that can make one, until none can. How many steps
-// were made.
-fn make_steps(alloc: Global, net: &mut Core<'_>, load: &Load) -> Result<u32, AllocError> {
-    let mut left = counts(alloc, load)?;
+// were made?
+fn make_steps(alloc: Global, net: &mut Core<'_>, load: &Load) -> u32 {
+    let mut begun = [0; ENTRIES];
     let mut made: u32 = 0;
     for _ in 0..MANY {
-        begin_each(alloc, net, load, &mut left, &mut made)?;
-        if !step_first(alloc, net, &mut made)? {
+        made = made.saturating_add(begin_each(alloc, net, load.packets(), &mut begun));
+        let Some(end) = net.first_enabled() else {
+            break;
+        };
+        if make_step(alloc, net, end).is_none() {
             break;
         }
+        made = made.saturating_add(1);
     }
-    Ok(made)
+    made
 }
 
 /// Prints how many steps were made, what is left, and what came out.
 pub(crate) fn show_waiting(rt: &HostRuntime, net: &mut Core<'_>, load: &Load) -> io::Result<()> {
-    let made = make_steps(rt.alloc(), net, load)?;
-    print!(rt; "made {made}, ")?;
-    show_first(rt, net)?;
-    show_parts(rt, net)
+    let made = make_steps(rt.alloc(), net, load);
+    print!(rt; "made {made}, ")
+        .and(show_first(rt, net))
+        .and(show_parts(rt, net))
 }

@@ -2,30 +2,18 @@
 
 use crate::together::Together;
 use std::io;
+use sw_app_run::stop_word;
 use sw_char::Packet;
 use sw_config::Network;
-use sw_run::{Outcome, Stop};
-
-fn name_of(stop: Stop) -> &'static str {
-    match stop {
-        Stop::Drained => "drained",
-        Stop::Stuck => "stuck",
-        Stop::JournalFull => "journal full",
-        Stop::Memory => "out of memory",
-    }
-}
+use sw_output::all_node_lines;
+use sw_run::Outcome;
 
 // How many packets came out at each node.
 fn show_counts(rt: &HostRuntime, network: &Network, came_out: &[Vec<Packet>]) -> io::Result<()> {
-    for node in 0..network.nodes() {
-        let Some(packets) = came_out.get(node as usize) else {
-            return Ok(());
-        };
-        let name = network.node_name(node);
-        let count = packets.len();
-        println!(rt; "node {name} packets {count}")?;
+    if came_out.len() != usize::from(network.nodes()) {
+        return Ok(());
     }
-    Ok(())
+    rt.print(all_node_lines(rt.alloc(), network, came_out)?)
 }
 
 /// Prints whether a worker gave up, whether each cell was decided, and how the run ended.
@@ -36,8 +24,11 @@ pub(crate) fn show_gated(
     gate: &Together,
 ) -> io::Result<()> {
     let (late, all) = (gate.is_late(), gate.have_all_come());
-    let stop = name_of(outcome.stop);
+    let stop = stop_word(outcome.stop);
     let undelivered = outcome.undelivered;
-    println!(rt; "late {late}, all came {all}: {stop}, undelivered {undelivered}")?;
-    show_counts(rt, network, &outcome.came_out)
+    println!(rt; "late {late}, all came {all}: {stop}, undelivered {undelivered}").and(show_counts(
+        rt,
+        network,
+        &outcome.came_out,
+    ))
 }

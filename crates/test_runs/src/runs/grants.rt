@@ -12,11 +12,11 @@ fn show_packet(rt: &HostRuntime, packet: &Packet) -> io::Result<()> {
 
 /// Prints the first byte of each packet that came out, in their order.
 pub(crate) fn show_order(rt: &HostRuntime, came_out: &[Vec<Packet>]) -> io::Result<()> {
-    rt.print("order:")?;
+    let mut shown = rt.print("order:");
     for packets in came_out {
         for packet in packets {
-            show_packet(rt, packet)?;
+            shown = shown.and(show_packet(rt, packet));
         }
     }
-    println!(rt)
+    shown.and(println!(rt))
 }
