@@ -2,11 +2,19 @@
 
 use crate::together::Together;
 use std::io;
-use sw_app_run::stop_word;
 use sw_char::Packet;
 use sw_config::Network;
 use sw_output::all_node_lines;
-use sw_run::Outcome;
+use sw_run::{Outcome, Stop};
+
+fn name_of(stop: Stop) -> &'static str {
+    match stop {
+        Stop::Drained => "drained",
+        Stop::Stuck => "stuck",
+        Stop::JournalFull => "journal full",
+        Stop::Memory => "out of memory",
+    }
+}
 
 // How many packets came out at each node.
 fn show_counts(rt: &HostRuntime, network: &Network, came_out: &[Vec<Packet>]) -> io::Result<()> {
@@ -24,7 +32,7 @@ pub(crate) fn show_gated(
     gate: &Together,
 ) -> io::Result<()> {
     let (late, all) = (gate.is_late(), gate.have_all_come());
-    let stop = stop_word(outcome.stop);
+    let stop = name_of(outcome.stop);
     let undelivered = outcome.undelivered;
     println!(rt; "late {late}, all came {all}: {stop}, undelivered {undelivered}").and(show_counts(
         rt,
