@@ -14,11 +14,9 @@ use crate::request::Request;
 use std::alloc::Global;
 use std::marker::Model;
 use sw_config::{Flow, Network};
+use sw_load::MAX_CARGO;
 use sw_model::left_bytes;
 use sw_rmap::TargetConfig;
-
-/// A load says at most this many bytes of a cargo.
-const MAX_CARGO: usize = 4096;
 
 /// A packet: the number of its flow, and its bytes behind the flow's address.
 #[derive(Drop)]

@@ -15,7 +15,7 @@ use Rattle.sw_command.specs.declared.write_answer.Ended.{Ended}
 use Rattle.sw_command.specs.declared.write_answer.Ended.TheVariants.{Status, ReadFailed, WriteFailed}
 use Rattle.sw_command.specs.Ends.{Answers, AreUnreadTold, AnswersBy, AnswersByTwo, AnswersToTwo, EndsBy, EndsByTwo, GivesText, IfShort, IsMemoryTold, IsTold, IsUnreadTold, OrMemory}
 use Rattle.sw_command.specs.Told.{IsAnswerTold, IsByteAnswerTold}
-use Rattle.sw_output.specs.Lines.{line}
+use Rattle.sw_text.specs.Lines.{line}
 
 -- a text that may be told was told
 told : (P : List ℕ → Answers) (before after old new : Option (List ℕ)) (ended : Ended) (text : List ℕ) (status : ℕ)

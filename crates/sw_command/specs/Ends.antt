@@ -8,7 +8,7 @@ use Rattle.sw_command.specs.declared.read_texts.InputError.{InputError}
 use Rattle.sw_command.specs.declared.read_texts.InputError.TheVariants as input
 use Rattle.sw_command.specs.declared.write_answer.Ended.{Ended}
 use Rattle.sw_command.specs.declared.write_answer.Ended.TheVariants.{Status, ReadFailed, WriteFailed}
-use Rattle.sw_output.specs.Lines.{line}
+use Rattle.sw_text.specs.Lines.{line}
 
 -- the status that the program exits with: 6 where a read or a write failed
 abbrev pub exit_status : Ended → ℕ

@@ -12,7 +12,7 @@ use Rattle.sw_toml_table.specs.declared.fault.KeyFault.TheVariants.{MissingKey, 
 use Rattle.sw_toml_table.specs.declared.fault.TextFault.{TextFault}
 use Rattle.sw_toml_table.specs.declared.fault.TextFault.TheVariants.{Syntax, UnknownKey, Key, Topology, DuplicateRoute, ReplyShape, NotInFlow}
 use Rattle.sw_toml_table.specs.Keys.{key_text}
-use Rattle.sw_output.specs.Lines.{spaced}
+use Rattle.sw_text.specs.Lines.{spaced}
 
 -- where a key stands
 abbrev pub where_text : Section → List ℕ → List ℕ

@@ -8,7 +8,7 @@ use Rattle.sw_command.specs.declared.answer.ByteAnswer.{ByteAnswer}
 use Rattle.sw_command.specs.declared.write_answer.Ended.{Ended}
 use Rattle.sw_command.specs.Ends.{Answers, IsMemoryTold, IsTold, Says}
 use Rattle.sw_command.specs.FaultTexts.{fault_text}
-use Rattle.sw_output.specs.Lines.{line}
+use Rattle.sw_text.specs.Lines.{line}
 
 -- the answer was told, or that memory was wanted
 abbrev pub IsAnswerTold : Result Answer AllocError → Option (List ℕ) → Option (List ℕ) → Ended → Type 0

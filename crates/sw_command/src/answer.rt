@@ -2,7 +2,7 @@
 ghost use Rattle.std.specs.Prelude.{◌≡◌, ◌∷◌, [], IfOk, codes, string_bytes};
 ghost use Rattle.sw_command.specs.FaultTexts.{fault_text};
 ghost use Rattle.sw_command.specs.Told.{IsFaultAnswer};
-ghost use Rattle.sw_output.specs.Lines.{line};
+ghost use Rattle.sw_text.specs.Lines.{line};
 
 use crate::fault_texts::fault_text;
 use crate::statuses::FAULTY;

@@ -3,10 +3,10 @@ ghost use Rattle.std.specs.Prelude.{◌≡◌, Err, IfOk, Ok};
 ghost use Rattle.sw_command.specs.Ends.{AreReadInOrder, AreUnreadTold, GivesText, IsReadWhole};
 ghost use Rattle.sw_command.specs.Inputs.{given};
 
-use crate::write_answer::{Ended, MAX_TEXT, tell_memory};
+use crate::write_answer::{Ended, tell_memory};
 use std::alloc::Global;
 use std::io::{Read, Write};
-use sw_text::{ReadError, read_whole};
+use sw_text::{MAX_TEXT, ReadError, read_whole};
 
 /// A text that was read.
 #[derive(Drop)]

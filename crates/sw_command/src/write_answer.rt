@@ -9,9 +9,6 @@ use std::alloc::AllocError;
 use std::io::Write;
 use sw_text::{ReadError, write_whole};
 
-/// The most bytes that an input text may have.
-pub const MAX_TEXT: usize = 67_108_864;
-
 /// How an engine ended.
 #[derive(Clone, Copy, PartialEq, Eq)]
 pub enum Ended {

@@ -4,8 +4,8 @@ ghost use Rattle.sw_load.specs.Cargo.{without_spaces, hex_value, hex_pair, is_we
 
 use std::alloc::{AllocError, Global};
 
-/// A cargo text spells at most this many bytes.
-const MAX_BYTES: usize = 4096;
+/// The most bytes that the text of a cargo may spell, in a load and in a schedule.
+pub const MAX_CARGO: usize = 4096;
 
 fn without_spaces(alloc: Global, text: &str) -> Result<Vec<u8>, AllocError>
     ensures { IfOk result (λ v. v.items ≡ without_spaces text.now) }
@@ -109,7 +109,7 @@ pub fn pairs_of(alloc: Global, text: &[u8]) -> Result<Option<Vec<u8>>, AllocErro
     ensures { IfOk result (λ o. option_map (λ v. v.items) o ≡ pairs_of text.now) }
 {
     match pairs(alloc, text)? {
-        Some(bytes) if !bytes.is_empty() && bytes.len() <= MAX_BYTES => Ok(Some(bytes)),
+        Some(bytes) if !bytes.is_empty() && bytes.len() <= MAX_CARGO => Ok(Some(bytes)),
         _ => Ok(None),
     }
 }

@@ -10,7 +10,7 @@ mod load;
 mod reading;
 mod senders;
 
-pub use cargo::{count_of, hex_pair, pairs_of};
+pub use cargo::{MAX_CARGO, count_of, hex_pair, pairs_of};
 pub use limit::enough_limit;
 pub use load::{Load, LoadPacket, MAX_PACKETS};
 pub use reading::read_load;

@@ -12,7 +12,7 @@ use arrayvec::ArrayVec;
 use std::marker::Model;
 
 /// The protocol identifier of RMAP (ECSS-E-ST-50-51C).
-pub(crate) const PROTOCOL: u8 = 1;
+pub const PROTOCOL: u8 = 1;
 
 /// A command's header, which is no reply's and whose fields are in their ranges
 /// (ECSS-E-ST-50-52C, the fields of a command).

@@ -13,7 +13,7 @@ mod target;
 mod writing;
 
 pub use checksum::crc;
-pub use command::Command;
+pub use command::{Command, PROTOCOL};
 pub use config::TargetConfig;
 pub use reply::reply_to;
 pub use target::Target;

@@ -20,11 +20,13 @@ mod writing;
 mod written_line;
 
 pub use locked_up::{cells, locked_up_parts};
+pub use names::MAX_COUNT;
 pub use replayed::{ReplayEnd, Replayed, StepRefusal};
 pub use replaying::replay;
 pub use schedule::{MAX_STEPS, Schedule, ScheduleFault, read_steps};
 pub use schedule_entry::ScheduleEntry;
 pub use sw_cell::CellId;
+pub use sw_load::MAX_CARGO;
 pub use sw_model::Step;
 pub use sw_net::{Input, NodePart, Part, PortPart};
 pub use writing::{add_entry, write_steps};

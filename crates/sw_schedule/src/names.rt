@@ -10,8 +10,8 @@ use sw_config::Network;
 use sw_text::number;
 use sw_topo::Chan;
 
-/// A line has its step at most this many times.
-const MAX_COUNT: u32 = 100_000;
+/// How often a line of a schedule may have its step.
+pub const MAX_COUNT: u32 = 100_000;
 
 /// The channel of that number, if the network has one.
 pub(crate) fn channel_of(network: &Network, word: &[u8]) -> Option<Chan>

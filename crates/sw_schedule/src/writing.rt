@@ -5,6 +5,7 @@ ghost use Rattle.sw_output.specs.Lines.{line};
 ghost use Rattle.sw_schedule.specs.Runs.{entry_line, is_same, readable_text, schedule_text, short_text};
 ghost use Rattle.sw_schedule.specs.WrittenLines.{step_line};
 
+use crate::names::MAX_COUNT;
 use crate::schedule::MAX_STEPS;
 use crate::step_parts::is_same;
 use crate::written_line::add_step;
@@ -12,12 +13,7 @@ use std::alloc::{AllocError, Global};
 use std::fmt::Write;
 use sw_config::Network;
 use sw_model::Step;
-
-// A line has its step at most this many times.
-const MAX_COUNT: u32 = 100_000;
-
-// The most bytes that the text of a schedule may have.
-const MAX_BYTES: usize = 67_108_864;
+use sw_text::MAX_TEXT;
 
 // Adds the line of a step that is made once.
 fn add_once(
@@ -79,7 +75,7 @@ fn short_text(
             count += 1;
         } else {
             add_entry(alloc, network, last, count, &mut text)?;
-            if text.len() > MAX_BYTES {
+            if text.len() > MAX_TEXT {
                 return Ok(None);
             }
             last = step;
@@ -87,7 +83,7 @@ fn short_text(
         }
     }
     add_entry(alloc, network, last, count, &mut text)?;
-    if text.len() > MAX_BYTES {
+    if text.len() > MAX_TEXT {
         Ok(None)
     } else {
         Ok(Some(text))

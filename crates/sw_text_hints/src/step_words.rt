@@ -9,6 +9,7 @@ use std::alloc::{AllocError, Global};
 use std::str;
 use sw_config::Network;
 use sw_load::{count_of, hex_pair, pairs_of};
+use sw_schedule::MAX_COUNT;
 use sw_text::number;
 
 /// What a word of a line has to be.
@@ -104,7 +105,7 @@ pub(crate) fn is_right(
 pub(crate) fn is_count(word: &[u8]) -> bool
     ensures { result ≡ is_count word.now }
 {
-    match number(word, 100_000) {
+    match number(word, MAX_COUNT) {
         Some(count) => count != 0,
         None => false,
     }

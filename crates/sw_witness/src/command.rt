@@ -3,10 +3,7 @@
 use std::alloc::{AllocError, Global};
 use sw_config::{Flow, Network, Reply};
 use sw_model::left_bytes;
-use sw_rmap::{TargetConfig, crc};
-
-/// The protocol identifier of RMAP (ECSS-E-ST-50-51C).
-const PROTOCOL: u8 = 1;
+use sw_rmap::{PROTOCOL, TargetConfig, crc};
 
 /// The instruction of a read with increment that wants a reply, but for the length of the reply address
 /// (ECSS-E-ST-50-52C, the fields of a command).

@@ -7,11 +7,8 @@ use sw_config::Network;
 use sw_flow::Place;
 use sw_model::Step;
 use sw_net::{Net, SwitchRoutes, declared_net};
-use sw_schedule::add_entry;
+use sw_schedule::{MAX_STEPS, add_entry};
 use sw_topo::{Chan, LinkEnd};
-
-/// A schedule has at most so many steps.
-const MOST_STEPS: u32 = 1_000_000;
 
 /// How often the channels of a way are gone over to place a packet, at most.
 const MOST_ROUNDS: u32 = 20_000;
@@ -40,7 +37,7 @@ impl<'n> Trial<'n> {
 
     /// Makes the step, if it is possible and the schedule may have one more.
     fn attempt(&mut self, alloc: Global, step: &Step) -> Result<bool, AllocError> {
-        if self.steps >= MOST_STEPS {
+        if self.steps >= MAX_STEPS {
             return Ok(false);
         }
         match self.net.step(alloc, step) {

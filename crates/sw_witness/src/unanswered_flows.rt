@@ -8,9 +8,7 @@ use std::alloc::{AllocError, Global};
 use std::marker::Model;
 use sw_config::{Flow, Network};
 use sw_model::left_bytes;
-
-/// The protocol identifier of RMAP (ECSS-E-ST-50-51C).
-const PROTOCOL: u8 = 1;
+use sw_rmap::PROTOCOL;
 
 // Is the protocol identifier left, and another than RMAP's?
 fn has_other_protocol(left: &[u8]) -> bool

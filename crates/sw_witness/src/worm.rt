@@ -7,9 +7,7 @@ use sw_char::End;
 use sw_config::Network;
 use sw_flow::Place;
 use sw_model::Step;
-
-/// A cargo that a schedule writes has at most so many bytes.
-const MOST_CARGO: usize = 4096;
+use sw_schedule::MAX_CARGO;
 
 /// How many long packets follow one another, at most.
 const MOST_PACKETS: u32 = 40;
@@ -29,7 +27,7 @@ fn long_cargo(network: &Network, way: &[Place]) -> usize {
     for place in way {
         all = all.saturating_add(room(network, *place));
     }
-    all.min(MOST_CARGO)
+    all.min(MAX_CARGO)
 }
 
 /// How much cargo fills the last channel of the way just so, behind what is left there of that much address.
@@ -41,7 +39,7 @@ fn short_cargo(network: &Network, address: usize, way: &[Place]) -> usize {
     let taken = left.saturating_add(1);
     room(network, *last)
         .saturating_sub(taken)
-        .clamp(1, MOST_CARGO)
+        .clamp(1, MAX_CARGO)
 }
 
 /// Begins a packet of the flow with this cargo.

@@ -3,10 +3,10 @@ use Rattle.sw_model.specs.Steps.{machine_step}
 use Rattle.sw_schedule.specs.Runs.{schedule_text}
 use Rattle.sw_schedule.proofs.TextSoFar.{all_written, entry_ends, once_again, short_enough, text_from, too_long}
 use Rattle.sw_schedule.proofs.writing.short_text.Goals as goal
-use Rattle.sw_schedule.proofs.writing.short_text.Goals.{then-is_one_more, else-is_one_more+in_ok-add_entry+else-len-gt-MAX_BYTES}
+use Rattle.sw_schedule.proofs.writing.short_text.Goals.{then-is_one_more, else-is_one_more+in_ok-add_entry+else-len-gt-MAX_TEXT}
 
-pub returns-then-len-gt-MAX_BYTES : goal.returns-then-len-gt-MAX_BYTES
-returns-then-len-gt-MAX_BYTES c =
+pub returns-then-len-gt-MAX_TEXT : goal.returns-then-len-gt-MAX_TEXT
+returns-then-len-gt-MAX_TEXT c =
     let d = c.args.network.now in
     let rest = take (length c.args.steps.now - 1) (drop 1 c.args.steps.now) in
     let whole = schedule_text d (map machine_step c.args.steps.now) in
@@ -15,7 +15,7 @@ returns-then-len-gt-MAX_BYTES c =
     entry_ends d rest whole (string_bytes c.loop-step.text) c.loop-step.last.now c.loop-step.count c.loop-step.step-index c.loop-step.invariant c.step-item.result after
     c.loop-step-test.true c.step-item.is (sym c.is_one_more.ensures ∙ c.if-is_one_more.false) c.in_ok-add_entry.ensures in
     let size : c.len.result ≡ length after = search rules in
-    sym (too_long after (text_from d c.step-item.result 1 (drop (c.loop-step.step-index + 1) rest)) whole ended.goes (omega (arith, size, c.if-len-gt-MAX_BYTES.true)))
+    sym (too_long after (text_from d c.step-item.result 1 (drop (c.loop-step.step-index + 1) rest)) whole ended.goes (omega (arith, size, c.if-len-gt-MAX_TEXT.true)))
 
 pub loop-step-preserved : goal.loop-step-preserved
 loop-step-preserved c =
@@ -29,14 +29,14 @@ loop-step-preserved c =
           rw (w.text-is, w.last-is, w.count-is)
           (once_again d rest whole text c.loop-step.last.now c.loop-step.count at c.loop-step.invariant c.step-item.result c.loop-step-test.true c.step-item.is
           (sym c.is_one_more.ensures ∙ w.if-is_one_more.true))
-      | else-is_one_more+in_ok-add_entry+else-len-gt-MAX_BYTES w ↦
+      | else-is_one_more+in_ok-add_entry+else-len-gt-MAX_TEXT w ↦
           rw (w.text-is, w.last-is, w.count-is)
           (entry_ends d rest whole text c.loop-step.last.now c.loop-step.count at c.loop-step.invariant c.step-item.result (string_bytes w.add_entry.new.text) c.loop-step-test.true
           c.step-item.is (sym c.is_one_more.ensures ∙ w.if-is_one_more.false) w.in_ok-add_entry.ensures)
     ]
 
-pub returns-then-len-gt-MAX_BYTES-2 : goal.returns-then-len-gt-MAX_BYTES-2
-returns-then-len-gt-MAX_BYTES-2 c =
+pub returns-then-len-gt-MAX_TEXT-2 : goal.returns-then-len-gt-MAX_TEXT-2
+returns-then-len-gt-MAX_TEXT-2 c =
     let d = c.args.network.now in
     let rest = take (length c.args.steps.now - 1) (drop 1 c.args.steps.now) in
     let whole = schedule_text d (map machine_step c.args.steps.now) in
@@ -45,10 +45,10 @@ returns-then-len-gt-MAX_BYTES-2 c =
     all_written d rest whole (string_bytes c.loop-step.text) c.loop-step.last.now c.loop-step.count c.loop-step.step-index c.loop-step.invariant after c.loop-step-test.false
     c.in_ok-add_entry-2.ensures in
     let size : c.len-2.result ≡ length after = search rules in
-    sym (too_long after [] whole (append-nil after ∙ is) (omega (arith, size, c.if-len-gt-MAX_BYTES-2.true)))
+    sym (too_long after [] whole (append-nil after ∙ is) (omega (arith, size, c.if-len-gt-MAX_TEXT-2.true)))
 
-pub returns-else-len-gt-MAX_BYTES-2 : goal.returns-else-len-gt-MAX_BYTES-2
-returns-else-len-gt-MAX_BYTES-2 c =
+pub returns-else-len-gt-MAX_TEXT-2 : goal.returns-else-len-gt-MAX_TEXT-2
+returns-else-len-gt-MAX_TEXT-2 c =
     let d = c.args.network.now in
     let rest = take (length c.args.steps.now - 1) (drop 1 c.args.steps.now) in
     let whole = schedule_text d (map machine_step c.args.steps.now) in
@@ -57,4 +57,4 @@ returns-else-len-gt-MAX_BYTES-2 c =
     all_written d rest whole (string_bytes c.loop-step.text) c.loop-step.last.now c.loop-step.count c.loop-step.step-index c.loop-step.invariant after c.loop-step-test.false
     c.in_ok-add_entry-2.ensures in
     let size : c.len-2.result ≡ length after = search rules in
-    short_enough after whole is (omega (arith, size, c.if-len-gt-MAX_BYTES-2.false))
+    short_enough after whole is (omega (arith, size, c.if-len-gt-MAX_TEXT-2.false))
