@@ -1,6 +1,6 @@
 /* swcheck for programs in C: the verdict on a SpaceWire network, and the check of a certificate, over bytes.
  *
- * Link a program with libsw_c.a, which `rt lib` makes in crates/sw_c/out, and with liblibc_c.a of the kit, by which it takes memory
+ * Link a program with libsw_c.a, which tools/c_library makes in crates/sw_c/out, and with liblibc_c.a of the kit, by which it takes memory
  * from the program's malloc, realloc and free. Those three have to be of one allocator, and blocks of malloc and realloc aligned as C has it.
  *
  * Each call works in its caller's own thread, starts none, waits for none, and keeps nothing between calls: calls may go on side by side in

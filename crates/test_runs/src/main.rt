@@ -1,10 +1,12 @@
 //! Runs the network core and what stands on it, makes steps of journals, in one thread and in two, and runs loads by the threads of `sw_run`
-//! and by the engine of `swcheck run`, with a gate at which the workers wait for one another. It prints what came of them.
+//! and by the engine of `swcheck run`, with a gate at which the workers wait for one another; then makes calls again after want of memory. It
+//! prints what came of them. Given a word, it makes those calls alone.
 #![tactic(auto)]
 
 mod cases;
 mod engine;
 mod journals;
+mod memory;
 mod moves;
 mod nets;
 mod numbers;
@@ -13,14 +15,24 @@ mod together;
 mod work;
 
 use crate::cases::SECTIONS;
+use crate::memory::show_memory;
 use crate::work::show_case;
-use std::io;
+use std::sync::Wait;
+use std::thread::Threads;
+use std::{env, io};
 
-fn main(rt: HostRuntime) -> io::Result<()> {
+fn show_cases<R: Threads + Wait + Sync>(rt: &HostRuntime, threads: &R) -> io::Result<()> {
     for &cases in SECTIONS {
         for case in cases {
-            show_case(&rt, &rt, case)?;
+            show_case(rt, threads, case)?;
         }
     }
     Ok(())
+}
+
+fn main(rt: HostRuntime) -> io::Result<()> {
+    if env::args(&rt)?.count() == 1 {
+        show_cases(&rt, &rt)?;
+    }
+    show_memory(&rt)
 }

@@ -2,7 +2,7 @@
 ghost use Rattle.std.specs.Prelude.{◌≡◌, ◌<◌, true};
 ghost use Rattle.sw_load.specs.Laws.{AreDeclared};
 
-use crate::steps::{add_parts, beginning, text_of};
+use crate::memory::steps::{add_parts, beginning, text_of};
 use std::alloc::{AllocError, Global};
 use sw_arb::Policy;
 use sw_config::Network;

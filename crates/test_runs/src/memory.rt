@@ -1,10 +1,9 @@
-//! Makes the calls that change something and want memory for it, and makes each again where memory was refused: what it may change has to be then
-//! as it was before. So it prints the same whichever allocation of such a call is refused. Where memory is refused to what such a call needs, or
-//! to a call that changes nothing, the program ends and tells that there was no memory.
+//! Calls that change something and want memory for it. Each is made again where memory was refused: what it may change has to be then as it was
+//! before. So this prints the same whichever allocation of such a call is refused. Where memory is refused to what such a call needs, or to a call
+//! that changes nothing, it ends with the error that there was no memory.
 //!
 //! `bench/refusals` runs it with the first allocation refused, then with the second, and so on. Of the calls that change nothing it has those that
 //! `swcheck` makes with none of the words that `bench/refusals` gives it: the others are tried there.
-#![tactic(auto)]
 
 mod histories;
 mod networks;
@@ -29,8 +28,9 @@ fn add_all(alloc: Global, text: &mut String) -> Result<(), AllocError> {
     networks::add_stepped(alloc, text)
 }
 
-fn main(rt: HostRuntime) -> io::Result<()> {
+/// Prints what each call comes to.
+pub(crate) fn show_memory(rt: &HostRuntime) -> io::Result<()> {
     let mut text = String::new(rt.alloc());
     add_all(rt.alloc(), &mut text)?;
-    print!(rt; "{text}")
+    print!(rt; "# calls made again after want of memory\n{text}")
 }

@@ -1,7 +1,7 @@
 //! Steps of the core, and all that its cells have.
 ghost use Rattle.sw_cell.specs.Places.{IsIn};
 
-use crate::targets::READ;
+use crate::memory::targets::READ;
 use std::alloc::{AllocError, Global};
 use sw_arb::Policy;
 use sw_cell::CellId;

@@ -1,7 +1,7 @@
 //! Networks on which something is done.
 
-use crate::histories::add_load;
-use crate::steps::add_commands;
+use crate::memory::histories::add_load;
+use crate::memory::steps::add_commands;
 use std::alloc::{AllocError, Global};
 use sw_config::Network;
 use sw_file::read_network;
