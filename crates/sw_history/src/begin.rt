@@ -67,7 +67,9 @@ fn begin_packet<R: Routing, A: Arbiter>(
 {
     let _network = net.network();
     let begin = beginning(alloc, packet)?;
-    match net.step(alloc, &begin) {
+    let made = net.step(alloc, &begin);
+    drop(begin);
+    match made {
         Ok(()) => Ok(()),
         Err(fault) => match fault {
             NetFault::Memory => Err(AllocError),

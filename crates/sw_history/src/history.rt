@@ -153,7 +153,9 @@ impl<'n, R: Routing, A: Arbiter> History<'n, R, A> {
         let _total = self.senders.load().total();
         let beginner = self.beginner(&step)?;
         let note = self.note(&step, beginner);
-        make(&mut self.net, alloc, &step)?;
+        let made = make(&mut self.net, alloc, &step);
+        drop(step);
+        made?;
         count_begun(self.begun.as_mut_slice(), beginner);
         self.notes.push_reserved(note);
         Ok(())

@@ -90,9 +90,6 @@ if_is {T} {E} P r x is h = subst (λ (k : Result T E). IfOk k P) is h
 pub if_err : {T E : Type 0} (P : T → Type 0) (r : Result T E) (e : E) → r ≡ Err e → IfOk r P
 if_err {T} {E} P r e is = subst (λ (k : Result T E). IfOk k P) (sym is) tt
 
-pub when_ok : {E P : Type 0} (r : Result Unit E) → r ≡ Ok tt → OnOk r P → P
-when_ok {E} {P} r is h = subst (λ (k : Result Unit E). OnOk k P) is h
-
 -- ---- channels
 
 pub in_links : (d : Declaration) (c : ℕ) → c < length (ends_of d) → c < 2 * length d.links
@@ -179,9 +176,10 @@ module _ {A : Type 0} (arbiter_ports : A → ℕ) (d : Declaration) where
   switch_next c w port a arbiters more at is h =
       subst (λ l. AreArbiters arbiter_ports d l (a ∷ more)) (drop_next (ends_of d) c (Switch w port) at) (subst (AreArbiters arbiter_ports d (drop c (ends_of d))) is h)
 
-  pub none_missing : (c w port : ℕ) (arbiters : List A) → slice_get (ends_of d) c ≡ Some (Switch w port) → length arbiters ≡ 0 → AreArbiters arbiter_ports d (drop c (ends_of d)) arbiters → ⊥
-  none_missing c w port arbiters at none h =
-      subst (λ l. AreArbiters arbiter_ports d l []) (drop_next (ends_of d) c (Switch w port) at) (subst (AreArbiters arbiter_ports d (drop c (ends_of d))) (nothing_left arbiters none) h)
+  -- there is one for a channel that starts at a switch
+  pub some_left : (c w port : ℕ) (arbiters : List A) → slice_get (ends_of d) c ≡ Some (Switch w port) → AreArbiters arbiter_ports d (drop c (ends_of d)) arbiters → 0 < length arbiters
+  some_left c w port [] at h = absurd (subst (λ l. AreArbiters arbiter_ports d l []) (drop_next (ends_of d) c (Switch w port) at) h)
+  some_left c w port (a ∷ more) at h = omega arith
 
 -- ---- switches
 

@@ -157,6 +157,5 @@ module _ {R A : Type 0} where
       ∙ ap (λ r. arbiters_of cells ++ r ∷ rows_of more) same
       ∙ ap (λ l. arbiters_of cells ++ rows_of l) (sym next)
 
-  pub all_rows : (none cells : List (Cell R A)) (rest rows : List (Vec (Option A))) → none ≡ [] → length rest ≡ 0 → arbiters_of cells ++ rows_of rest ≡ arbiters_of none ++ rows_of rows → arbiters_of cells ≡ rows_of rows
-  all_rows none cells rest rows no_cells no_rest same =
-      sym (append-nil (arbiters_of cells)) ∙ ap (λ l. arbiters_of cells ++ rows_of l) (sym (nothing_left rest no_rest)) ∙ same ∙ ap (λ l. arbiters_of l ++ rows_of rows) no_cells
+  pub all_rows : (cells : List (Cell R A)) (rest rows : List (Vec (Option A))) → length rest ≡ 0 → arbiters_of cells ++ rows_of rest ≡ rows_of rows → arbiters_of cells ≡ rows_of rows
+  all_rows cells rest rows no_rest same = sym (append-nil (arbiters_of cells)) ∙ ap (λ l. arbiters_of cells ++ rows_of l) (sym (nothing_left rest no_rest)) ∙ same

@@ -5,7 +5,7 @@ ghost use Rattle.sw_machine.specs.State.{State};
 ghost use Rattle.sw_machine.specs.declared.input.InputState.TheVariants.{Held};
 ghost use Rattle.sw_model.specs.Model.{network_of};
 ghost use Rattle.sw_model.specs.Steps.{machine_step};
-ghost use Rattle.sw_net.specs.Changing.{IsChanged, IsEndOf, passed_from};
+ghost use Rattle.sw_net.specs.Changing.{IsChanged, IsEndOf};
 ghost use Rattle.sw_topo.specs.Wiring.{out_of, partner};
 
 use crate::net::Net;
@@ -46,24 +46,21 @@ fn node_end(network: &Network, node: u16) -> Option<LinkEnd>
 }
 
 /// The link end whose numbers the step changes, apart from the output that it passes a character on
-/// to, and the channel that this character comes from.
+/// to.
 #[inline(always)]
-fn changed(network: &Network, step: &Step) -> (Option<LinkEnd>, Option<Chan>)
-    ensures end { IsChanged (network_of network.now) (machine_step step.now) result.0 }
-    ensures passed { result.1 ≡ passed_from (machine_step step.now) }
+fn changed(network: &Network, step: &Step) -> Option<LinkEnd>
+    ensures { IsChanged (network_of network.now) (machine_step step.now) result }
 {
     match step {
-        Step::FctIn(channel) => (Some(LinkEnd::new(channel.number())), None),
-        Step::Fct(channel) => (Some(receiver(*channel)), None),
-        Step::Arrive(channel) => (Some(receiver(*channel)), None),
-        Step::Grant(_, channel) => (Some(receiver(*channel)), None),
-        Step::Drop(channel) => (Some(receiver(*channel)), None),
-        Step::Spill(channel) => (Some(receiver(*channel)), None),
-        Step::Forward(channel) => (Some(receiver(*channel)), Some(*channel)),
-        Step::Emit(node) => (node_end(network, *node), None),
-        Step::Accept(node) => (node_end(network, *node), None),
-        Step::Begin { .. } => (None, None),
-        Step::Reply(_) => (None, None),
+        Step::FctIn(channel) => Some(LinkEnd::new(channel.number())),
+        Step::Fct(channel)
+        | Step::Arrive(channel)
+        | Step::Grant(_, channel)
+        | Step::Drop(channel)
+        | Step::Spill(channel)
+        | Step::Forward(channel) => Some(receiver(*channel)),
+        Step::Emit(node) | Step::Accept(node) => node_end(network, *node),
+        Step::Begin { .. } | Step::Reply(_) => None,
     }
 }
 
@@ -108,10 +105,10 @@ impl<'n, R: Routing, A: Arbiter> Net<'n, R, A> {
     pub fn changing(&self, step: &Step) -> (Option<LinkEnd>, Option<LinkEnd>)
         ensures { ChangesOnly self.now (machine_step step.now) result }
     {
-        let (end, passed) = changed(self.network(), step);
-        match passed {
-            Some(channel) => (end, self.held_output(channel)),
-            None => (end, None),
+        let end = changed(self.network(), step);
+        match step {
+            Step::Forward(channel) => (end, self.held_output(*channel)),
+            _ => (end, None),
         }
     }
 }

@@ -1,5 +1,5 @@
 //! A new network.
-ghost use Rattle.std.specs.Prelude.{◌≡◌, ◌<◌, ◌+◌, ◌++◌, ℕ, All, List, Option, IfOk, Ok, OnOk, Some, drop, length, slice_get};
+ghost use Rattle.std.specs.Prelude.{◌≡◌, ◌<◌, ◌+◌, ◌++◌, ℕ, All, List, Option, IfOk, OnOk, Some, drop, length, slice_get};
 ghost use Rattle.std.specs.Global.{Vec};
 ghost use Rattle.std.specs.Vec.Iter.{into_iter_items};
 ghost use Rattle.sw_flow.specs.Places.{ends_of};
@@ -7,7 +7,6 @@ ghost use Rattle.sw_link.specs.Ends.{IsCapacity};
 ghost use Rattle.sw_net.specs.Net.{arbiters_of};
 ghost use Rattle.sw_net.specs.New.{AreArbiters, AreLeft, ArePlaced, AreRoutes, IsNewNet, IsNewNode, IsNewSwitch, IsOneMore, IsRow, port_capacity, rows_of};
 ghost use Rattle.sw_net.specs.Outputs.{AreByOutput, StandsAt};
-ghost use Rattle.sw_config.specs.Entries.{look_at};
 ghost use Rattle.sw_node.specs.Node.{Node};
 ghost use Rattle.sw_switch.specs.Cell.{Cell};
 
@@ -37,25 +36,6 @@ pub(crate) fn push_made<T: Drop>(
 {
     all.push(made?)?;
     Ok(())
-}
-
-/// The value, if all that it needs was done.
-fn when_done<T: Drop>(done: Result<(), AllocError>, value: T) -> Result<T, AllocError>
-    ensures { IfOk result (λ v. (done ≡ Ok tt) × (v ≡ value)) }
-{
-    done?;
-    Ok(value)
-}
-
-/// Both, if both were made.
-fn both<T: Drop, U: Drop>(
-    first: Result<T, AllocError>,
-    second: Result<U, AllocError>,
-) -> Result<(T, U), AllocError>
-    ensures { IfOk result (λ p. (first ≡ Ok p.0) × (second ≡ Ok p.1)) }
-{
-    let first = first?;
-    Ok((first, second?))
 }
 
 /// What the channel that comes to the port can hold.
@@ -147,13 +127,10 @@ fn place<A: Arbiter + Drop>(
 {
     match network.topology().start_of(channel) {
         PlaceEnd::Node(_) => {}
-        PlaceEnd::Switch(w, port) => match arbiters.next() {
-            Some(arbiter) => {
-                let row = &mut rows[w as usize];
-                row[port.number() as usize] = Some(arbiter);
-            }
-            None => unreachable!(),
-        },
+        PlaceEnd::Switch(w, port) => {
+            let row = &mut rows[w as usize];
+            row[port.number() as usize] = arbiters.next();
+        }
     }
 }
 
@@ -176,27 +153,6 @@ fn placed<A: Arbiter + Drop>(
     Ok(rows)
 }
 
-fn new_switch<R: Routing + Drop, A: Arbiter + Drop>(
-    alloc: Global,
-    network: &Network,
-    w: u16,
-    routes: R,
-    capacities: &[usize],
-    arbiters: Vec<Option<A>>,
-) -> Result<SwitchCell<R, A>, AllocError>
-    requires switch { w < length network.now.switches }
-    requires whole { length capacities.now ≡ 32 }
-    requires capacities { All IsCapacity capacities.now }
-    requires each { (port capacity : ℕ) → slice_get capacities.now port ≡ Some capacity → capacity ≡ port_capacity network.now w port }
-    requires routes { (byte : ℕ) → R.answer routes byte ≡ look_at network.now.switches w byte }
-    requires arbiters { IsRow A.ports network.now (length (ends_of network.now)) w arbiters.items }
-    ensures new { IfOk result (IsNewSwitch R.answer A.ports network.now w) }
-    ensures arbiters { IfOk result (λ cell. cell.arbiters ≡ arbiters.items) }
-{
-    let linked = network.topology().linked(w);
-    SwitchCell::new(alloc, routes, linked, capacities, arbiters)
-}
-
 /// The next switch has the next routing and the next row.
 fn push_switch<R: Routing + Drop, A: Arbiter + Drop>(
     alloc: Global,
@@ -214,25 +170,9 @@ fn push_switch<R: Routing + Drop, A: Arbiter + Drop>(
     let capacities = capacities(alloc, network, w)?;
     let table = tables.next().unwrap();
     let row = rows.next().unwrap();
-    let switch = new_switch(alloc, network, w, table, &capacities, row);
+    let linked = network.topology().linked(w);
+    let switch = SwitchCell::new(alloc, table, linked, &capacities, row);
     push_made(switches, switch)
-}
-
-fn push_switches<R: Routing + Drop, A: Arbiter + Drop>(
-    alloc: Global,
-    network: &Network,
-    tables: &mut IntoIter<R>,
-    rows: &mut IntoIter<Vec<Option<A>>>,
-    switches: &mut Vec<SwitchCell<R, A>>,
-) -> Result<(), AllocError>
-    requires { AreLeft R.answer A.ports network.now 0 (into_iter_items tables.old) (into_iter_items rows.old) switches.old.items }
-    ensures left { OnOk result (AreLeft R.answer A.ports network.now (length network.now.switches) (into_iter_items tables.new) (into_iter_items rows.new) switches.new.items) }
-    ensures rows { OnOk result (arbiters_of switches.new.items ++ rows_of (into_iter_items rows.new) ≡ arbiters_of switches.old.items ++ rows_of (into_iter_items rows.old)) }
-{
-    for w in 0..network.switches() {
-        push_switch(alloc, network, w, tables, rows, switches)?;
-    }
-    Ok(())
 }
 
 fn new_switches<R: Routing + Drop, A: Arbiter + Drop>(
@@ -251,8 +191,10 @@ fn new_switches<R: Routing + Drop, A: Arbiter + Drop>(
     let mut switches = Vec::new(alloc);
     let mut tables = routes.into_iter();
     let mut arbiters = rows.into_iter();
-    let done = push_switches(alloc, network, &mut tables, &mut arbiters, &mut switches);
-    when_done(done, switches)
+    for w in 0..network.switches() {
+        push_switch(alloc, network, w, &mut tables, &mut arbiters, &mut switches)?;
+    }
+    Ok(switches)
 }
 
 impl<'n, R: Routing + Drop, A: Arbiter + Drop> Net<'n, R, A> {
@@ -276,12 +218,9 @@ impl<'n, R: Routing + Drop, A: Arbiter + Drop> Net<'n, R, A> {
         ensures arbiters { IfOk result (λ net. AreByOutput (StandsAt (arbiters_of net.switches)) (ends_of network.entry.now) arbiters.items) }
     {
         let rows = placed(alloc, network, arbiters)?;
-        let cells = both(
-            new_nodes(alloc, network),
-            new_switches(alloc, network, routes, rows),
-        );
-        let wires = Wires::new(alloc, network.topology().channels() as usize);
-        let ((nodes, switches), wires) = both(cells, wires)?;
+        let switches = new_switches(alloc, network, routes, rows)?;
+        let nodes = new_nodes(alloc, network)?;
+        let wires = Wires::new(alloc, network.topology().channels() as usize)?;
         Ok(Net {
             network,
             nodes,

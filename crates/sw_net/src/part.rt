@@ -102,9 +102,7 @@ pub enum Part {
 fn joined(alloc: Global, first: &[NChar], second: &[NChar]) -> Result<Vec<NChar>, AllocError>
     ensures { IfOk result (λ all. all.items ≡ first.now ++ second.now) }
 {
-    let mut all = Vec::from_slice(alloc, first)?;
-    all.extend_from_slice(second)?;
-    Ok(all)
+    [first, second].concat(alloc)
 }
 
 /// What the node keeps.

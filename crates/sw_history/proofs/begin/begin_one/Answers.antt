@@ -1,4 +1,4 @@
-use Rattle.std.proofs.Common.{Some, ap, arith, refl, subst, sym, ◌∙◌, ◌≡◌}
+use Rattle.std.proofs.Common.{Some, ap, arith, length, length-set, refl, subst, sym, ◌+◌, ◌<◌, ◌∙◌, ◌≡◌}
 use Rattle.std.proofs.lemmas.Option.{slice_get-get_or}
 use Rattle.std.specs.Prelude.{slice_get, slice_index}
 use Rattle.sw_history.proofs.Begun.{declared_at, few_packets}
@@ -52,3 +52,21 @@ returns-clause-begins g c =
         counts = refl;
       },
     )
+
+pub find_ready-requires : goal.find_ready-requires
+find_ready-requires g c = record { packets = c.requires.packets; network = c.requires.network; nodes = c.requires.nodes }
+
+pub bounds-begun-node : goal.bounds-begun-node
+bounds-begun-node g c = c.in-Some.ensures.within
+
+pub packet-requires : goal.packet-requires
+packet-requires g c = subst (λ (d : Declaration). c.in-Some.node < length d.nodes) (sym c.requires.network) (subst (λ n. c.in-Some.node < n) c.requires.nodes c.in-Some.ensures.within)
+
+pub returns-clause-network : goal.returns-clause-network
+returns-clause-network g c = c.begin_packet.ensures.network
+
+pub returns-clause-nodes : goal.returns-clause-nodes
+returns-clause-nodes g c = length-set c.args.begun.now c.in-Some.node (slice_index c.args.begun.now c.in-Some.node + 1)
+
+pub returns-clause-refused : goal.returns-clause-refused
+returns-clause-refused g c = tt

@@ -1,10 +1,12 @@
-use Rattle.std.proofs.Common.{List, length, refl, subst}
+use Rattle.std.proofs.Common.{List, ap, length, refl, subst, sym, ◌∙◌}
 use Rattle.std.specs.Prelude.{IfOk, OnErr, replicate}
+use Rattle.sw_config.specs.Entries.{Declaration}
 use Rattle.sw_history.proofs.Loop.{new_way, under_way}
 use Rattle.sw_history.proofs.Turned.{no_turn}
 use Rattle.sw_history.proofs.draining.drain.Goals as goal
 use Rattle.sw_history.specs.Drained.{IsDrained, IsUnderWay}
 use Rattle.sw_history.specs.Turns.{TurnsLead}
+use Rattle.sw_load.specs.Laws.{AreDeclared}
 use Rattle.sw_load.specs.Load.{LoadEntry}
 
 pub returns-in_err-begun-clause-refused : goal.returns-in_err-begun-clause-refused
@@ -28,3 +30,19 @@ pub returns-clause-turns : goal.returns-clause-turns
 returns-clause-turns g c =
     let turns = c.send_all-sent.ensures.turns in
     (turns.0, turns.1, subst (λ (l : List LoadEntry). TurnsLead l (goal.F-step g) c.args.net.now c.args.pick c.send_all-sent.new.net turns.0 turns.1) c.in_ok-begun.ensures.load turns.2)
+
+pub nothing_begun-requires : goal.nothing_begun-requires
+nothing_begun-requires g c = subst (λ (d : Declaration). AreDeclared d c.args.load.now) (sym c.network.ensures.network) c.requires.packets
+
+pub send_all-sent-requires : goal.send_all-sent-requires
+send_all-sent-requires g c = record {
+  empty = c.requires.empty;
+  passed = c.requires.passed;
+  packets = subst (λ (l : List LoadEntry). AreDeclared c.args.net.now.declared l) (sym c.in_ok-begun.ensures.load) c.requires.packets;
+  network = c.in_ok-begun.ensures.network ∙ c.network.ensures.network;
+  begun = c.as_mut_slice.ensures.value ∙ c.in_ok-begun.ensures.begun ∙ ap (λ (d : Declaration). replicate (length d.nodes) 0) c.network.ensures.network;
+  pick = c.requires.pick;
+}
+
+pub returns-clause-network : goal.returns-clause-network
+returns-clause-network g c = c.send_all-sent.ensures.network

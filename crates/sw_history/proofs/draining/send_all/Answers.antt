@@ -1,10 +1,11 @@
-use Rattle.std.proofs.Common.{ap, arith, false, refl, rules, subst, sym, true, ◌∙◌, ◌≡◌}
+use Rattle.std.proofs.Common.{List, ap, arith, false, refl, rules, subst, sym, true, ◌∙◌, ◌≡◌}
 use Rattle.sw_history.proofs.Loop.{finished, never_over, new_way, one_moved, under_way}
 use Rattle.sw_history.proofs.Turned.{begun_turn, moved_turn, no_turn, turned}
 use Rattle.sw_history.proofs.draining.send_all.Goals as goal
 use Rattle.sw_history.specs.Way.{BeginsOne, MovesOne}
 use Rattle.sw_load.specs.History.{packets_of}
 use Rattle.sw_load.specs.Laws.{AreDeclared}
+use Rattle.sw_load.specs.Load.{LoadEntry}
 use Rattle.sw_load.specs.Limit.{enough_limit}
 use Rattle.sw_machine.specs.DeadlockFreedom.{IsDeadlockFree}
 use Rattle.sw_model.specs.Model.{network_of}
@@ -105,3 +106,22 @@ unreachable-requires g c =
     let over : c.loop.counter ≡ c.enough_limit-end.result = omega arith in
     never_over load c.loop.net c.loop.begun c.loop.counter c.loop.moves c.loop.invariant.1 d c.loop.invariant.0 valid c.requires.packets cert free
     (over ∙ c.enough_limit-end.ensures ∙ ap (λ l. enough_limit (network_of c.network.result.now) (packets_of l)) c.load.ensures ∙ ap (λ (e : Declaration). enough_limit (network_of e) (packets_of load)) c.network.ensures.network)
+
+pub enough_limit-end-requires : goal.enough_limit-end-requires
+enough_limit-end-requires g c =
+    subst (λ (e : Declaration). AreDeclared e c.load.result.now) (sym c.network.ensures.network) (subst (λ (l : List LoadEntry). AreDeclared c.args.net.now.declared l) (sym c.load.ensures) c.requires.packets)
+
+pub move_picked-requires : goal.move_picked-requires
+move_picked-requires g c = record { pick = c.requires.pick }
+
+pub returns-in_err-begin_one-clause-network : goal.returns-in_err-begin_one-clause-network
+returns-in_err-begin_one-clause-network g c = c.begin_one.ensures.network ∙ c.loop.invariant.0
+
+pub returns-in_err-move_picked-clause-network : goal.returns-in_err-move_picked-clause-network
+returns-in_err-move_picked-clause-network g c = c.move_picked.ensures.network ∙ c.begin_one.ensures.network ∙ c.loop.invariant.0
+
+pub returns-then-not-branch-clause-network : goal.returns-then-not-branch-clause-network
+returns-then-not-branch-clause-network g c = c.move_picked.ensures.network ∙ c.begin_one.ensures.network ∙ c.loop.invariant.0
+
+pub returns-then-not-branch-clause-refused : goal.returns-then-not-branch-clause-refused
+returns-then-not-branch-clause-refused g c = tt

@@ -14,17 +14,17 @@ use Rattle.sw_model.specs.Model.{network_of}
 use Rattle.sw_net.specs.Net.{NetView}
 use Rattle.sw_model.specs.Steps.{machine_step}
 
-pub returns-in_err-make : goal.returns-in_err-make
-returns-in_err-make g c =
+pub returns-in_err-made : goal.returns-in_err-made
+returns-in_err-made g c =
     let in_self = c.self.inside in
     let now = c.args.self.now in
     let step = machine_step c.args.step in
     let kept = subst (λ (k : HistoryView). IsKept in_self.net k in_self.begun.items) c.self.view_is c.self.invariant.0 in
-    let same : c.from_residual-in_err-make.result ≡ Err c.in_err-make.field-0.0 = search rules in
+    let same : c.from_residual-in_err-made.result ≡ Err c.in_err-made.field-0.0 = search rules in
     let view : NetView g.row.R.Denot g.row.A.Denot → HistoryView = λ n. record { declared = n.declared; load = in_self.senders.load; steps = map (noted_step in_self.senders) in_self.notes.items; room = vec_capacity in_self.notes - vec_len in_self.notes } in
-    let stays = ap view c.in_err-make.ensures.refused ∙ c.self.view_is in
-    subst (λ r. Adds now step r (view c.make.new.net)) (sym same)
-    (refused in_self.net c.make.new.net now (view c.make.new.net) in_self.begun.items step c.in_err-make.field-0.0 kept c.in_ok-beginner.ensures.next c.in_err-make.ensures.answers stays)
+    let stays = ap view c.in_err-made.ensures.refused ∙ c.self.view_is in
+    subst (λ r. Adds now step r (view c.make-made.new.net)) (sym same)
+    (refused in_self.net c.make-made.new.net now (view c.make-made.new.net) in_self.begun.items step c.in_err-made.field-0.0 kept c.in_ok-beginner.ensures.next c.in_err-made.ensures.answers stays)
 
 pub count_begun-requires-clause-few : goal.count_begun-requires-clause-few
 count_begun-requires-clause-few g c =
@@ -56,8 +56,8 @@ invariant_of-self-2 g c =
     let inside = subst (λ (k : HistoryView). IsCounted k.declared (k.steps ++ step ∷ []) (counted_with in_self.begun.items who)) (sym c.self.view_is) counted in
     let room = vec_capacity in_self.notes - vec_len in_self.notes in
     let less = vec_capacity c.push_reserved.new.self - vec_len c.push_reserved.new.self in
-    let is = add_is_kept in_self.net c.make.new.net in_self.senders.load (map (noted_step in_self.senders) in_self.notes.items) step room less in_self.begun.items (counted_with in_self.begun.items who) c.make.ensures.network c.self.invariant.0 next c.in_ok-make.ensures.answers long inside in
-    rw (last, items) (is, c.self.invariant.1 ∙ sym c.make.ensures.network, sound)
+    let is = add_is_kept in_self.net c.make-made.new.net in_self.senders.load (map (noted_step in_self.senders) in_self.notes.items) step room less in_self.begun.items (counted_with in_self.begun.items who) c.make-made.ensures.network c.self.invariant.0 next c.in_ok-made.ensures.answers long inside in
+    rw (last, items) (is, c.self.invariant.1 ∙ sym c.make-made.ensures.network, sound)
 
 pub returns : goal.returns
 returns g c =
@@ -67,12 +67,12 @@ returns g c =
     let kept = subst (λ (k : HistoryView). IsKept in_self.net k in_self.begun.items) c.self.view_is c.self.invariant.0 in
     let senders = same_senders in_self.senders in_self.net.declared now c.self.invariant.1 (ap (λ (k : HistoryView). k.declared) c.self.view_is) (ap (λ (k : HistoryView). k.load) c.self.view_is) in
     let last = noted_more in_self.senders now in_self.notes.items c.push_reserved.new.self.items c.note-note.result step senders c.push_reserved.ensures.items c.note-note.ensures.step ∙ ap (λ (k : HistoryView). k.steps ++ step ∷ []) c.self.view_is in
-    let declared = c.make.ensures.network ∙ ap (λ (k : HistoryView). k.declared) c.self.view_is in
+    let declared = c.make-made.ensures.network ∙ ap (λ (k : HistoryView). k.declared) c.self.view_is in
     let load = ap (λ (k : HistoryView). k.load) c.self.view_is in
     let room = ap (λ (k : HistoryView). k.room) c.self.view_is in
     let capacity = c.push_reserved.ensures.capacity in
     let len = c.push_reserved.ensures.len in
     let left : vec_capacity c.push_reserved.new.self - vec_len c.push_reserved.new.self ≡ now.room - 1 = omega arith in (
-      made_may_follow in_self.net c.make.new.net now in_self.begun.items step kept c.in_ok-beginner.ensures.next c.in_ok-make.ensures.answers,
-      same_view now c.make.new.net.declared in_self.senders.load (map (noted_step in_self.senders) c.push_reserved.new.self.items) _ declared load (now.steps ++ step ∷ []) last (now.room - 1) left,
+      made_may_follow in_self.net c.make-made.new.net now in_self.begun.items step kept c.in_ok-beginner.ensures.next c.in_ok-made.ensures.answers,
+      same_view now c.make-made.new.net.declared in_self.senders.load (map (noted_step in_self.senders) c.push_reserved.new.self.items) _ declared load (now.steps ++ step ∷ []) last (now.room - 1) left,
     )

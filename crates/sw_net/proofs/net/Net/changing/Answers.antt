@@ -1,19 +1,26 @@
-use Rattle.std.proofs.Common.{subst, sym, ◌∙◌}
+use Rattle.std.proofs.Common.{None, ap, refl, subst, ◌≡◌}
 use Rattle.sw_config.specs.Entries.{Declaration}
 use Rattle.sw_model.specs.Model.{network_of}
 use Rattle.sw_model.specs.Steps.{machine_step}
+use Rattle.sw_model.specs.declared.step.Step.{Step}
+use Rattle.sw_model.specs.declared.step.Step.TheVariants.{Forward}
 use Rattle.sw_net.proofs.ChangedNumbers.{both_only, one_only}
 use Rattle.sw_net.proofs.net.Net.changing.Goals as goal
-use Rattle.sw_net.specs.Changing.{IsChanged}
+use Rattle.sw_net.specs.Changing.{IsChanged, passed_from}
+use Rattle.sw_topo.specs.declared.place.Chan.{Chan}
 
-pub returns-in-Some : goal.returns-in-Some
-returns-in-Some g c =
-    let step = machine_step c.args.step.now in
-    let changed = subst (λ (d : Declaration). IsChanged (network_of d) step c.changed-end.result.0) c.network.ensures.network c.changed-end.ensures.end in
-    both_only c.args.self.now step c.changed-end.result.0 c.in-Some.channel c.held_output.result changed (sym c.changed-end.ensures.passed ∙ c.in-Some.is) c.held_output.ensures
+none_passed : (step : Step) → ((channel : Chan) → step ≡ Forward channel → ⊥) → passed_from (machine_step step) ≡ None
+none_passed (Forward channel) other = absurd (other channel refl)
+none_passed step other = refl
 
-pub returns-in-None : goal.returns-in-None
-returns-in-None g c =
+pub returns-in-Forward : goal.returns-in-Forward
+returns-in-Forward g c =
     let step = machine_step c.args.step.now in
-    let changed = subst (λ (d : Declaration). IsChanged (network_of d) step c.changed-end.result.0) c.network.ensures.network c.changed-end.ensures.end in
-    one_only c.args.self.now step c.changed-end.result.0 changed (sym c.changed-end.ensures.passed ∙ c.in-None.is)
+    let changed = subst (λ (d : Declaration). IsChanged (network_of d) step c.changed-end.result) c.network.ensures.network c.changed-end.ensures in
+    both_only c.args.self.now step c.changed-end.result c.in-Forward.channel c.held_output.result changed (ap (λ (s : Step). passed_from (machine_step s)) c.in-Forward.is) c.held_output.ensures
+
+pub returns-in_default : goal.returns-in_default
+returns-in_default g c =
+    let step = machine_step c.args.step.now in
+    let changed = subst (λ (d : Declaration). IsChanged (network_of d) step c.changed-end.result) c.network.ensures.network c.changed-end.ensures in
+    one_only c.args.self.now step c.changed-end.result changed (none_passed c.args.step.now c.in_default.not-Forward)

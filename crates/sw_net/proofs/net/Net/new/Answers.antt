@@ -10,31 +10,21 @@ use Rattle.sw_link.specs.Between.{empty_between}
 pub invariant_of-result : goal.invariant_of-result
 invariant_of-result g c =
     let d = c.args.network.now in
-    let ok = c.in_ok-nodes in
+    let nodes = c.in_ok-nodes in
+    let switches = c.in_ok-switches in
     let count = c.channels.ensures.channels ∙ ap (λ (k : Wiring). length k.ends) c.topology.ensures.wiring ∙ sym (channels_are d) in
-    let both = new.if_is _ c.both-cells.result (ok.nodes, ok.switches) ok.ensures.0 c.both-cells.ensures in
-    let wires = new.if_is _ c.new-wires.result ok.wires ok.ensures.1 c.new-wires.ensures in
-    new.new_net g.R.Routing.answer g.A.Arbiter.ports d c.topology.ensures.valid ok.nodes.items ok.switches.items ok.wires
-    (wires ∙ ap empty_between count) (new.if_is _ c.new_nodes.result ok.nodes both.0 c.new_nodes.ensures.each) (new.if_is _ c.new_switches.result ok.switches both.1 c.new_switches.ensures.each)
-    (new.if_is _ c.new_nodes.result ok.nodes both.0 c.new_nodes.ensures.all) (new.if_is _ c.new_switches.result ok.switches both.1 c.new_switches.ensures.all)
+    new.new_net g.R.Routing.answer g.A.Arbiter.ports d c.topology.ensures.valid nodes.nodes.items switches.switches.items c.in_ok-wires.wires
+    (c.in_ok-wires.ensures ∙ ap empty_between count) nodes.ensures.each switches.ensures.each nodes.ensures.all switches.ensures.all
 
 pub returns-clause-new : goal.returns-clause-new
 returns-clause-new g c =
     let d = c.args.network.now in
-    let ok = c.in_ok-nodes in
     let count = c.channels.ensures.channels ∙ ap (λ (k : Wiring). length k.ends) c.topology.ensures.wiring ∙ sym (channels_are d) in
-    let both = new.if_is _ c.both-cells.result (ok.nodes, ok.switches) ok.ensures.0 c.both-cells.ensures in
-    let wires = new.if_is _ c.new-wires.result ok.wires ok.ensures.1 c.new-wires.ensures in
     record {
       network = refl;
-      empty = new.new_state g.R.Routing.answer g.A.Arbiter.ports d c.topology.ensures.valid ok.nodes.items ok.switches.items ok.wires
-          (wires ∙ ap empty_between count) (new.if_is _ c.new_nodes.result ok.nodes both.0 c.new_nodes.ensures.each) (new.if_is _ c.new_switches.result ok.switches both.1 c.new_switches.ensures.each);
+      empty = new.new_state g.R.Routing.answer g.A.Arbiter.ports d c.topology.ensures.valid c.in_ok-nodes.nodes.items c.in_ok-switches.switches.items c.in_ok-wires.wires
+          (c.in_ok-wires.ensures ∙ ap empty_between count) c.in_ok-nodes.ensures.each c.in_ok-switches.ensures.each;
     }
 
 pub returns-clause-arbiters : goal.returns-clause-arbiters
-returns-clause-arbiters g c =
-    let d = c.args.network.now in
-    let ok = c.in_ok-nodes in
-    let both = new.if_is _ c.both-cells.result (ok.nodes, ok.switches) ok.ensures.0 c.both-cells.ensures in
-    let rows = new.if_is _ c.new_switches.result ok.switches both.1 c.new_switches.ensures.rows in
-    subst (λ k. AreByOutput (StandsAt k) (ends_of d) c.args.arbiters.items) (sym rows) c.in_ok-rows.ensures.stand
+returns-clause-arbiters g c = subst (λ k. AreByOutput (StandsAt k) (ends_of c.args.network.now) c.args.arbiters.items) (sym c.in_ok-switches.ensures.rows) c.in_ok-rows.ensures.stand
