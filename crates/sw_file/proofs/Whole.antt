@@ -1,6 +1,7 @@
 -- What an entry is where all of its readings went well.
 use Rattle.std.proofs.Common.{◌≡◌, ◌≤◌, ◌<◌, ◌-◌, ℕ, false, Bool, List, [], ◌∷◌, ◌++◌, length, Option, Some, Ok, refl, Fits, w8, w16, arith}
-use Rattle.std.specs.Prelude.{nat_lt, IfSome}
+use Rattle.std.specs.Prelude.{nat_lt, position, IfSome}
+use Rattle.std.specs.Str.{bytes_eq}
 use Rattle.std.proofs.lemmas.Bool.{lt-ltb, ltb-true, false_from_ne_true}
 use Rattle.toml.specs.Data.{Members}
 use Rattle.sw_topo.specs.declared.place.PlaceEnd.{PlaceEnd}
@@ -14,7 +15,7 @@ use Rattle.sw_toml_table.specs.declared.keys.Key.TheVariants.{Logical, TargetKey
 use Rattle.sw_toml_table.specs.declared.keys.Section.{Section}
 use Rattle.sw_toml_table.specs.declared.keys.Section.TheVariants as section
 use Rattle.sw_toml_table.specs.declared.keys.Version.{Version}
-use Rattle.sw_toml_table.specs.Table.{only_known, absent, number_at, number_or, flag_or_false}
+use Rattle.sw_toml_table.specs.Table.{only_known, absent, text_at, number_at, number_or, flag_or_false}
 use Rattle.sw_file.specs.Keys.{node_keys, target_keys, switch_keys, route_keys, link_keys}
 use Rattle.sw_file.specs.Names.{new_name, place_at}
 use Rattle.sw_file.specs.Nodes.{size_at, config_of, target_or_none, node_of, next_node}
@@ -63,6 +64,10 @@ pub switch_is : (version : Version) (i : ℕ) (d : Declaration) (ms : Members) (
     → next_switch version i d ms ≡ Ok (record d { switches = d.switches ++ record { name = name; arbitration = arbitration; routes = routes } ∷ [] })
 unfolding switch_of next_switch
 switch_is version i d ms u name arbitration routes known at_name at_arbitration at_routes = rw (known, at_name, at_arbitration, at_routes) refl
+
+pub place_is : (s : Section) (key : Key) (names : List (List ℕ)) (ms : Members) (name : List ℕ) (place : ℕ) → text_at s key ms ≡ Ok name → Some place ≡ position (bytes_eq name) names → place_at s key names ms ≡ Ok place
+unfolding place_at
+place_is s key names ms name place at_name found = rw (at_name, ← found) refl
 
 pub node_end_is : (s : Section) (key port : Key) (nodes : ℕ) (names : List (List ℕ)) (ms : Members) (place : ℕ) (u : Unit {0}) → place_at s key names ms ≡ Ok place → place < nodes → absent s port ms ≡ Ok u
     → end_at s key port nodes names ms ≡ Ok (ends.Node place)

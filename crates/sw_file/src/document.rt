@@ -20,20 +20,6 @@ use sw_topo::limits::{MAX_FLOWS, MAX_LINKS, MAX_NODES, MAX_SWITCHES};
 use sw_topo::{Limit, TopoError, TopoFault};
 use toml::Table;
 
-#[tactic(auto, unfolding(crate::specs::Network::version_of))]
-fn version_of(alloc: Global, document: &TableEntry) -> Result<Version, FileFault>
-    requires { document.now.section ≡ Section.Document }
-    ensures { Gives (λ v. v) result (version_of (table_view document.now.table.now)) }
-{
-    document.only_known(alloc, DOCUMENT_KEYS)?;
-    let number = document.number(Key::Version, 1, 2)?;
-    Ok(if number == 1 {
-        Version::One
-    } else {
-        Version::Two
-    })
-}
-
 /// The tables of one of the document's lists, if there are not too many of them.
 fn entries<'a>(
     alloc: Global,
@@ -192,6 +178,7 @@ fn with_flows(alloc: Global, document: &TableEntry, network: Network) -> Result<
 /// # Errors
 ///
 /// `Text`: the document has a key that it may not have, or its version is none of 1 and 2. `Memory`: there is no memory for a name.
+#[tactic(auto, unfolding(crate::specs::Network::version_of))]
 pub fn declared_version(alloc: Global, table: &Table) -> Result<Version, FileFault>
     ensures { Gives (λ v. v) result (version_of (table_view table.now)) }
 {
@@ -199,7 +186,13 @@ pub fn declared_version(alloc: Global, table: &Table) -> Result<Version, FileFau
         section: Section::Document,
         table,
     };
-    version_of(alloc, &document)
+    document.only_known(alloc, DOCUMENT_KEYS)?;
+    let number = document.number(Key::Version, 1, 2)?;
+    Ok(if number == 1 {
+        Version::One
+    } else {
+        Version::Two
+    })
 }
 
 /// The network that the table of a document declares.
@@ -215,7 +208,7 @@ pub fn declared_network(alloc: Global, table: &Table) -> Result<Network, FileFau
         section: Section::Document,
         table,
     };
-    let version = version_of(alloc, &document)?;
+    let version = declared_version(alloc, table)?;
     let builder = parts(alloc, version, &document)?;
     let network = wired(alloc, builder)?;
     with_flows(alloc, &document, network)

@@ -1,5 +1,5 @@
 //! Entries of `flow`.
-ghost use Rattle.std.specs.Prelude.{◌≡◌, ◌+◌, ◌≤◌, ◌<◌, false, length, vec_len, IfOk, IfSome, IsTrue, OnOk, Ok, Option, Result, option_map};
+ghost use Rattle.std.specs.Prelude.{◌≡◌, ◌+◌, ◌≤◌, ◌<◌, false, length, vec_len, IfOk, IfSome, OnOk, Ok, Option, Result, Some};
 ghost use Rattle.std.specs.List.{list_any};
 ghost use Rattle.std.specs.Str.{bytes_eq};
 ghost use Rattle.toml.specs.View.{table_view};
@@ -7,8 +7,8 @@ ghost use Rattle.sw_config.specs.Entries.{ReplyEntry, flow_names};
 ghost use Rattle.sw_config.specs.Valid.{has_no_leading_zero, IsFlow, IsReply};
 ghost use Rattle.sw_toml_table.specs.declared.fault.TextFault.{TextFault};
 ghost use Rattle.sw_toml_table.specs.Gives.{Gives};
-ghost use Rattle.sw_file.specs.Names.{new_name, place_at};
-ghost use Rattle.sw_file.specs.FlowTables.{node_names, address_at, addressed, reply_of, reply_or_none, can_reply, replies_at, with_replies, flow_of, next_flow};
+ghost use Rattle.sw_file.specs.Names.{place_at};
+ghost use Rattle.sw_file.specs.FlowTables.{node_names, addressed, reply_of, can_reply, replies_at, with_replies, flow_of, next_flow};
 
 use crate::keys::{FLOW_KEYS, REPLY_KEYS};
 use std::alloc::Global;
@@ -17,19 +17,6 @@ use sw_config::{Flow, Network, Reply};
 use sw_toml_table::{FileFault, Key, KeyFault, Section, TableEntry, TextFault};
 use sw_topo::limits::{MAX_ADDRESS, MAX_FLOWS};
 use toml::Table;
-
-/// The name of a flow, which none before it has.
-#[tactic(auto, unfolding(crate::specs::Names::new_name))]
-fn new_flow_name<'a>(entry: &TableEntry<'a>, network: &Network) -> Result<&'a str, FileFault>
-    ensures gives { Gives (λ s. s.now) result (new_name entry.now.section (flow_names network.now.flows) (table_view entry.now.table.now)) }
-    ensures fresh { IfOk result (λ s. list_any (bytes_eq s.now) (flow_names network.now.flows) ≡ false) }
-{
-    let name = entry.name()?;
-    if network.has_flow_name(name) {
-        return Err(entry.fault(KeyFault::DuplicateName, Key::Name));
-    }
-    Ok(name)
-}
 
 #[tactic(auto, unfolding(crate::specs::Names::place_at))]
 fn node_at(flow: &TableEntry, key: Key, network: &Network) -> Result<u16, FileFault>
@@ -43,28 +30,18 @@ fn node_at(flow: &TableEntry, key: Key, network: &Network) -> Result<u16, FileFa
     }
 }
 
-#[tactic(auto, unfolding(crate::specs::FlowTables::address_at))]
-fn address_at(alloc: Global, index: usize, flow: &TableEntry) -> Result<Vec<u8>, FileFault>
-    requires { flow.now.section ≡ Section.Flow index }
-    ensures gives { Gives (λ v. v.items) result (address_at index (table_view flow.now.table.now)) }
-    ensures few { IfOk result (λ v. vec_len v ≤ 32) }
-{
-    let address = flow.numbers_or_none(alloc, Key::Address, 255)?;
-    if address.len() > MAX_ADDRESS as usize {
-        return Err(flow.fault(KeyFault::OutOfRange, Key::Address));
-    }
-    Ok(address)
-}
-
 /// The address bytes of the flow, and how many of them are left at its end.
-#[tactic(auto, unfolding(crate::specs::FlowTables::addressed))]
+#[tactic(auto, unfolding(crate::specs::FlowTables::addressed, crate::specs::FlowTables::address_at))]
 fn addressed(alloc: Global, index: usize, flow: &TableEntry) -> Result<(Vec<u8>, u8), FileFault>
     requires { flow.now.section ≡ Section.Flow index }
     ensures gives { Gives (λ a. (a.0.items, a.1)) result (addressed index (table_view flow.now.table.now)) }
     ensures few { IfOk result (λ a. vec_len a.0 ≤ 32) }
     ensures left { IfOk result (λ a. a.1 ≤ vec_len a.0) }
 {
-    let address = address_at(alloc, index, flow)?;
+    let address = flow.numbers_or_none(alloc, Key::Address, 255)?;
+    if address.len() > MAX_ADDRESS as usize {
+        return Err(flow.fault(KeyFault::OutOfRange, Key::Address));
+    }
     let left = flow.number_or(Key::Left, 0, address.len() as u64, 0)? as u8;
     Ok((address, left))
 }
@@ -83,20 +60,6 @@ fn reply_of(alloc: Global, index: usize, table: &Table) -> Result<Reply, FileFau
     Ok(Reply::new(path, initiator))
 }
 
-#[tactic(auto, unfolding(crate::specs::FlowTables::reply_or_none))]
-fn reply_or_none(alloc: Global, index: usize, flow: &TableEntry) -> Result<Option<Reply>, FileFault>
-    requires { flow.now.section ≡ Section.Flow index }
-    ensures { Gives (λ r. r) result (reply_or_none index (table_view flow.now.table.now)) }
-{
-    match flow.table_or_none(Key::Reply)? {
-        Some(table) => {
-            let reply = reply_of(alloc, index, table)?;
-            Ok(Some(reply))
-        }
-        None => Ok(None),
-    }
-}
-
 fn has_no_leading_zero(bytes: &[u8]) -> bool
     ensures { result ≡ has_no_leading_zero bytes.now }
 {
@@ -106,24 +69,19 @@ fn has_no_leading_zero(bytes: &[u8]) -> bool
     }
 }
 
-fn can_reply(network: &Network, to: u16, reply: Option<&Reply>) -> bool
+fn can_reply(network: &Network, to: u16, reply: &Reply) -> bool
     requires { to < length network.now.nodes }
-    ensures { result ≡ can_reply network.now.nodes to (option_map (λ r. r.now) reply.entry) }
+    ensures { result ≡ can_reply network.now.nodes to (Some reply.now) }
 {
-    match reply {
-        None => true,
-        Some(reply) => {
-            reply.path().len() <= 12
-                && has_no_leading_zero(reply.path())
-                && 32 <= reply.initiator()
-                && reply.initiator() <= 254
-                && network.is_target(to)
-        }
-    }
+    reply.path().len() <= 12
+        && has_no_leading_zero(reply.path())
+        && 32 <= reply.initiator()
+        && reply.initiator() <= 254
+        && network.is_target(to)
 }
 
 /// Where the replies of the flow go, which come back from the node `to`.
-#[tactic(auto, unfolding(crate::specs::FlowTables::replies_at))]
+#[tactic(auto, unfolding(crate::specs::FlowTables::replies_at, crate::specs::FlowTables::reply_or_none))]
 fn replies_at(
     alloc: Global,
     index: usize,
@@ -136,11 +94,14 @@ fn replies_at(
     ensures gives { Gives (λ r. r) result (replies_at index network.now.nodes to (table_view flow.now.table.now)) }
     ensures valid { IfOk result (λ r. IfSome r (IsReply network.now.nodes to)) }
 {
-    let reply = reply_or_none(alloc, index, flow)?;
-    if !can_reply(network, to, reply.as_ref()) {
+    let Some(table) = flow.table_or_none(Key::Reply)? else {
+        return Ok(None);
+    };
+    let reply = reply_of(alloc, index, table)?;
+    if !can_reply(network, to, &reply) {
         return Err(FileFault::Text(TextFault::ReplyShape(index)));
     }
-    Ok(reply)
+    Ok(Some(reply))
 }
 
 /// The flow whose replies were read last.
@@ -162,7 +123,7 @@ fn with_replies(
     Ok(Flow::new(name, from, to, address, left, reply))
 }
 
-#[tactic(auto, unfolding(crate::specs::FlowTables::flow_of))]
+#[tactic(auto, unfolding(crate::specs::FlowTables::flow_of, crate::specs::Names::new_name))]
 fn flow_of(
     alloc: Global,
     index: usize,
@@ -175,7 +136,10 @@ fn flow_of(
     ensures valid { IfOk result (IsFlow network.now.nodes) }
 {
     flow.only_known(alloc, FLOW_KEYS)?;
-    let name = new_flow_name(flow, network)?;
+    let name = flow.name()?;
+    if network.has_flow_name(name) {
+        return Err(flow.fault(KeyFault::DuplicateName, Key::Name));
+    }
     let from = node_at(flow, Key::From, network)?;
     let to = node_at(flow, Key::To, network)?;
     let (address, left) = addressed(alloc, index, flow)?;

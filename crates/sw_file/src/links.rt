@@ -1,10 +1,9 @@
 //! Entries of `link`.
-ghost use Rattle.std.specs.Prelude.{◌≡◌, ◌+◌, ◌<◌, length, IfOk};
+ghost use Rattle.std.specs.Prelude.{◌≡◌, length, IfOk};
 ghost use Rattle.toml.specs.View.{table_view};
 ghost use Rattle.sw_topo.specs.Checked.{IsIn};
 ghost use Rattle.sw_config.specs.Entries.{part_names};
 ghost use Rattle.sw_toml_table.specs.Gives.{Gives};
-ghost use Rattle.sw_file.specs.Names.{place_at};
 ghost use Rattle.sw_file.specs.Links.{end_at, next_link};
 
 use crate::keys::link_keys;
@@ -15,19 +14,7 @@ use sw_toml_table::{FileFault, Key, KeyFault, Section, TableEntry, Version};
 use sw_topo::{PlaceEnd, Port};
 use toml::Table;
 
-#[tactic(auto, unfolding(crate::specs::Names::place_at))]
-fn part_at(link: &TableEntry, key: Key, builder: &NetworkBuilder) -> Result<usize, FileFault>
-    ensures gives { Gives (λ n. n) result (place_at link.now.section key (part_names builder.now) (table_view link.now.table.now)) }
-    ensures within { IfOk result (λ n. n < length builder.now.nodes + length builder.now.switches) }
-{
-    let name = link.text(key)?;
-    match builder.part_named(name) {
-        Some(part) => Ok(part),
-        None => Err(link.fault(KeyFault::UnknownName, key)),
-    }
-}
-
-#[tactic(auto, unfolding(crate::specs::Links::end_at))]
+#[tactic(auto, unfolding(crate::specs::Links::end_at, crate::specs::Names::place_at))]
 fn link_end(
     alloc: Global,
     link: &TableEntry,
@@ -38,7 +25,10 @@ fn link_end(
     ensures gives { Gives (λ e. e) result (end_at link.now.section key port_key (length builder.now.nodes) (part_names builder.now) (table_view link.now.table.now)) }
     ensures inside { IfOk result (IsIn (length builder.now.nodes) (length builder.now.switches)) }
 {
-    let part = part_at(link, key, builder)?;
+    let name = link.text(key)?;
+    let Some(part) = builder.part_named(name) else {
+        return Err(link.fault(KeyFault::UnknownName, key));
+    };
     let nodes = builder.node_count() as usize;
     if part < nodes {
         link.absent(alloc, port_key)?;

@@ -4,7 +4,7 @@ ghost use Rattle.toml.specs.Data.{integer};
 ghost use Rattle.toml.specs.View.{view, table_view};
 ghost use Rattle.sw_toml_table.specs.Gives.{Gives, each};
 ghost use Rattle.sw_toml_table.specs.declared.keys.Key.TheVariants.{Route, Version};
-ghost use Rattle.sw_file.specs.Tree.{array_of, with_key, with_tables, row_table, merged_switch, new_switches, migrated};
+ghost use Rattle.sw_file.specs.Tree.{with_key, with_tables, row_table, merged_switch, new_switches, migrated};
 ghost use Rattle.sw_file.specs.Rows.{rows};
 ghost use Rattle.sw_file.specs.Seen.{entry_view, row_view};
 
@@ -24,20 +24,14 @@ fn put(alloc: Global, table: &mut Table, key: Key, value: Value) -> Result<(), A
 fn values_of(alloc: Global, tables: Vec<Table>) -> Result<Vec<Value>, AllocError>
     ensures { IfOk result (λ v. v.items ≡ map Value.Table tables.items) }
 {
-    let mut values = Vec::with_capacity(alloc, tables.len())?;
+    let mut values = Vec::new(alloc);
     for table in tables {
         values.push(Value::Table(table))?;
     }
     Ok(values)
 }
 
-/// The tables as the value of a key.
-fn array_of(alloc: Global, tables: Vec<Table>) -> Result<Value, AllocError>
-    ensures { IfOk result (λ v. view v ≡ array_of (map table_view tables.items)) }
-{
-    Ok(Value::Array(values_of(alloc, tables)?))
-}
-
+/// Makes the tables the value of the key, if the table has it.
 fn put_tables(
     alloc: Global,
     table: &mut Table,
@@ -46,11 +40,11 @@ fn put_tables(
 ) -> Result<(), AllocError>
     ensures { OnOk result (table_view table.new ≡ with_tables key (map table_view tables.items) (table_view table.old)) }
 {
-    if table.contains_key(key.text()) {
-        let value = array_of(alloc, tables)?;
-        put(alloc, table, key, value)?;
+    if !table.contains_key(key.text()) {
+        return Ok(());
     }
-    Ok(())
+    let values = values_of(alloc, tables)?;
+    put(alloc, table, key, Value::Array(values))
 }
 
 fn copied(table: &Table) -> Result<Table, AllocError>
@@ -77,7 +71,7 @@ fn row_table(alloc: Global, row: &Row) -> Result<Table, AllocError>
 fn row_tables(alloc: Global, rows: &[Row]) -> Result<Vec<Table>, AllocError>
     ensures { IfOk result (λ v. map table_view v.items ≡ map row_table (map row_view rows.now)) }
 {
-    let mut tables = Vec::with_capacity(alloc, rows.len())?;
+    let mut tables = Vec::new(alloc);
     for row in rows {
         let table = row_table(alloc, row)?;
         tables.push(table)?;

@@ -3,7 +3,7 @@ ghost use Rattle.std.specs.Prelude.{◌≡◌, ◌+◌, ◌≤◌, map, IfOk, op
 ghost use Rattle.toml.specs.View.{table_view};
 ghost use Rattle.sw_toml_table.specs.Gives.{Gives, walk};
 ghost use Rattle.sw_model.specs.Packets.{is_declared_packet};
-ghost use Rattle.sw_load.specs.Load.{document_keys, packet_keys, packet_count, flow_at, cargo_at, marker_of, marker_at, count_at, packet_of, next_packet, load_of, load_text};
+ghost use Rattle.sw_load.specs.Load.{packet_count, flow_at, cargo_at, marker_of, marker_at, count_at, packet_of, next_packet, load_of, load_text};
 
 use crate::cargo::cargo_of;
 use crate::load::{Load, LoadPacket, MAX_PACKETS};
@@ -18,17 +18,9 @@ use toml::Table;
 /// A load has at most this many entries.
 const MAX_ENTRIES: usize = 4096;
 
-fn document_keys() -> &'static [Key]
-    ensures { result.now ≡ document_keys }
-{
-    &[Key::Packet]
-}
+const DOCUMENT_KEYS: &[Key] = &[Key::Packet];
 
-fn packet_keys() -> &'static [Key]
-    ensures { result.now ≡ packet_keys }
-{
-    &[Key::Flow, Key::Cargo, Key::End, Key::Count]
-}
+const PACKET_KEYS: &[Key] = &[Key::Flow, Key::Cargo, Key::End, Key::Count];
 
 #[tactic(auto, unfolding(crate::specs::Load::flow_at))]
 fn flow_at(index: usize, packet: &TableEntry, network: &Network) -> Result<u16, FileFault>
@@ -113,7 +105,7 @@ fn add_packet(
         section: Section::Packet(index),
         table,
     };
-    packet.only_known(alloc, packet_keys())?;
+    packet.only_known(alloc, PACKET_KEYS)?;
     let flow = flow_at(index, &packet, network)?;
     let cargo = cargo_at(alloc, index, &packet)?;
     let end = marker_at(index, &packet)?;
@@ -144,7 +136,7 @@ fn load_of(alloc: Global, network: &Network, document: &TableEntry) -> Result<Lo
     requires { document.now.section ≡ Section.Document }
     ensures { Gives (λ l. l) result (load_of network.now (table_view document.now.table.now)) }
 {
-    document.only_known(alloc, document_keys())?;
+    document.only_known(alloc, DOCUMENT_KEYS)?;
     let tables = document.tables_or_none(alloc, Key::Packet)?;
     if tables.len() > MAX_ENTRIES {
         return Err(document.fault(KeyFault::OutOfRange, Key::Packet));

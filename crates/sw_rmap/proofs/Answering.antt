@@ -13,7 +13,7 @@ use Rattle.sw_rmap.specs.Instruction.{packet_type, is_write, increments, is_read
 use Rattle.sw_rmap.specs.CommandView.{CommandView}
 use Rattle.sw_rmap.specs.Commands.{instruction_of, is_command, fields_of, read, body_of}
 use Rattle.sw_rmap.specs.Replies.{is_answered, path_of, way_back, reply_to, left_form, reply_of}
-use Rattle.sw_rmap.specs.Answers.{cases_of, first_of, status_of, is_success, body_len, found_by, stored, memory_after, answer_to, answer_where, answer}
+use Rattle.sw_rmap.specs.Answers.{IsInWindow, cases_of, first_of, status_of, is_success, body_len, found_by, stored, memory_after, answer_to, answer_where, answer}
 use Rattle.sw_rmap.specs.Laws.{AnswersByTheWayBack, RepliesGetNoReply, OnlySuccessStores, MemoryKeepsItsLength, WriteThenRead}
 
 pub answer-read : (t : TargetConfig) (memory bytes : List ℕ) (end : End) (c : CommandView) → read bytes ≡ Some c → answer t memory bytes end ≡ answer_to t memory c (body_of bytes) end
@@ -150,6 +150,13 @@ right t c body end h =
     let least : body_len c ≤ length body = ltb-false _ _ last.1.1.0 in
     let most : length body ≤ body_len c = ltb-false _ _ last.1.1.1.0 in
     record { low = ltb-false _ _ q.1; high = ltb-false _ _ p.1; whole = omega arith }
+
+-- what a status that is so found means where it is success
+pub in_window : (t : TargetConfig) (c : CommandView) (body : List ℕ) (end : End) (status : Status) → status ≡ status_of t c body end → is_success status ≡ true → IsInWindow t c
+in_window t c body end status is done = let r = right t c body end (ap is_success (sym is) ∙ done) in record { low = r.low; high = r.high }
+
+pub whole_body : (t : TargetConfig) (c : CommandView) (body : List ℕ) (end : End) (status : Status) → status ≡ status_of t c body end → is_success status ≡ true → length body ≡ body_len c
+whole_body t c body end status is done = (right t c body end (ap is_success (sym is) ∙ done)).whole
 
 length-stored : (memory bytes : List ℕ) (at : ℕ) → at + length bytes ≤ length memory → length (stored memory at bytes) ≡ length memory
 length-stored memory bytes at fits =

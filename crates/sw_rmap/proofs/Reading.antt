@@ -1,10 +1,10 @@
 -- What is known of a packet that is read.
-use Rattle.std.proofs.Common.{◌≡◌, ℕ, ◌+◌, ◌≤◌, List, length, Some, drop, refl, ap}
+use Rattle.std.proofs.Common.{◌≡◌, ℕ, ◌+◌, ◌≤◌, true, List, length, get_or, Some, take, drop, refl, ap}
 use Rattle.std.proofs.lemmas.Bool.{and_parts, not-true, ltb-false}
 use Rattle.std.proofs.lemmas.Option.{cond_some}
 use Rattle.sw_rmap.specs.Instruction.{reply_address_len}
-use Rattle.sw_rmap.specs.CommandView.{CommandView}
-use Rattle.sw_rmap.specs.Commands.{instruction_of, is_command, fields_of, read, body_of}
+use Rattle.sw_rmap.specs.CommandView.{CommandView, command}
+use Rattle.sw_rmap.specs.Commands.{number_of, instruction_of, is_command, fields_of, read, body_of}
 
 pub record IsRead (bytes : List ℕ) (c : CommandView) : Type 0 where
   pub long : 16 + reply_address_len (instruction_of bytes) ≤ length bytes
@@ -28,3 +28,11 @@ read_long bytes c h = rw (instruction-read bytes c h) (is_read bytes c h).long
 
 pub body-read : (bytes : List ℕ) (c : CommandView) → read bytes ≡ Some c → drop (16 + reply_address_len c.instruction) bytes ≡ body_of bytes
 body-read bytes c h = ap (λ i. drop (16 + reply_address_len i) bytes) (instruction-read bytes c h)
+
+-- a command whose fields are what stands at their places
+pub read_fields : (bytes kept back : List ℕ) (path count transaction address data_length : ℕ) → is_command bytes ≡ true → path ≡ reply_address_len (get_or bytes 2 0) → kept ≡ take count (drop 4 bytes) → count ≡ path
+    → back ≡ drop (4 + path) bytes → transaction ≡ number_of (take 2 (drop 1 back)) → address ≡ number_of (take 5 (drop 3 back)) → data_length ≡ number_of (take 3 (drop 8 back))
+    → Some (command (get_or bytes 0 0) (get_or bytes 2 0) (get_or bytes 3 0) kept (get_or back 0 0) transaction address data_length) ≡ read bytes
+unfolding read fields_of
+read_fields bytes kept back path count transaction address data_length here at_path at_kept same at_back at_transaction at_address at_length =
+    rw (here, at_transaction, at_address, at_length, at_kept, same, at_back, at_path) refl

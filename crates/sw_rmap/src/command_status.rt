@@ -1,7 +1,7 @@
 //! Which status a command has.
-ghost use Rattle.std.specs.Prelude.{◌≡◌, ◌+◌, true, length};
+ghost use Rattle.std.specs.Prelude.{◌≡◌, length};
 ghost use Rattle.sw_rmap.specs.Config.{IsTargetConfig};
-ghost use Rattle.sw_rmap.specs.Answers.{IsInWindow, body_len, is_corrupt, is_error_end, is_refused, is_success, status_of};
+ghost use Rattle.sw_rmap.specs.Answers.{body_len, is_corrupt, is_error_end, is_refused, status_of};
 
 use crate::checksum::crc;
 use crate::command::Command;
@@ -13,9 +13,7 @@ use sw_char::End;
 #[tactic(auto, unfolding(crate::specs::Answers::status_of))]
 pub(crate) fn status(config: TargetConfig, command: &Command, body: &[u8], end: End) -> Status
     requires { IsTargetConfig config }
-    ensures value { result ≡ status_of config command.now body.now end }
-    ensures within { is_success result ≡ true → IsInWindow config command.now }
-    ensures whole { is_success result ≡ true → length body.now ≡ body_len command.now }
+    ensures { result ≡ status_of config command.now body.now end }
 {
     if !command.bits().is_known() {
         Status::UnusedCode

@@ -3,7 +3,7 @@ ghost use Rattle.std.specs.Prelude.{◌≡◌, ◌==◌, ◌≤◌, not};
 ghost use Rattle.sw_rmap.specs.Instruction as bits;
 
 /// An instruction (ECSS-E-ST-50-52C, the instruction field of a command).
-#[derive(Clone, Copy, PartialEq, Eq)]
+#[derive(Clone, Copy)]
 pub(crate) struct Instruction(pub(crate) u8);
 
 impl Instruction {

@@ -3,7 +3,7 @@ ghost use Rattle.std.specs.Prelude.{◌≡◌};
 ghost use Rattle.sw_rmap.specs.Answers.{is_success};
 
 /// The status in a reply (ECSS-E-ST-50-52C, error and status codes): the number of a variant is its code.
-#[derive(Clone, Copy, PartialEq, Eq)]
+#[derive(Clone, Copy)]
 pub(crate) enum Status {
     /// The command was carried out.
     Success = 0,

@@ -37,13 +37,14 @@ fn push_header(out: &mut Vec<u8>, command: &Command) -> Result<(), AllocError>
         command.instruction(),
         command.key(),
     ];
+    let initiator = command.initiator();
+    let [t1, t0] = command.transaction().to_be_bytes();
+    let [_, _, _, a4, a3, a2, a1, a0] = command.address().to_be_bytes();
+    let [_, l2, l1, l0] = command.length().to_be_bytes();
+    let back = [initiator, t1, t0, a4, a3, a2, a1, a0, l2, l1, l0];
     out.extend_from_slice(&front)?;
     out.extend_from_slice(command.reply_address())?;
-    out.push(command.initiator())?;
-    out.extend_from_slice(&command.transaction().to_be_bytes())?;
-    out.extend_from_slice(&command.address().to_be_bytes()[3..])?;
-    out.extend_from_slice(&command.length().to_be_bytes()[1..])?;
-    Ok(())
+    out.extend_from_slice(&back)
 }
 
 /// Adds the bytes, and then their code.
@@ -51,6 +52,5 @@ pub(crate) fn push_with_crc(out: &mut Vec<u8>, bytes: &[u8]) -> Result<(), Alloc
     ensures { OnOk result (out.new.items ≡ out.old.items ++ with_crc bytes.now) }
 {
     out.extend_from_slice(bytes)?;
-    out.push(crc(bytes))?;
-    Ok(())
+    out.extend_from_slice(&[crc(bytes)])
 }

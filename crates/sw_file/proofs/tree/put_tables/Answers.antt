@@ -1,17 +1,21 @@
-use Rattle.std.proofs.Common.{◌≡◌, true, false, refl, ◌∙◌, sym}
+use Rattle.std.proofs.Common.{◌≡◌, true, false, refl, ap, ◌∙◌, sym, map}
 use Rattle.std.specs.Prelude.{is_some}
-use Rattle.toml.specs.Data.{get_member}
-use Rattle.toml.specs.View.{table_view}
+use Rattle.toml.specs.Data.{array, get_member}
+use Rattle.toml.specs.declared.value.Value.{Array}
+use Rattle.toml.specs.View.{view, items_view, table_view}
+use Rattle.toml.proofs.Views.{view-Array}
 use Rattle.sw_toml_table.specs.Keys.{key_text}
-use Rattle.sw_file.proofs.Puts.{contains}
+use Rattle.sw_file.specs.Tree.{array_of}
+use Rattle.sw_file.proofs.Puts.{contains, tables_view}
 use Rattle.sw_file.proofs.tree.put_tables.Goals as goal
 
-pub returns-in_ok-put : goal.returns-in_ok-put
-returns-in_ok-put c =
-    let there : is_some (get_member (key_text c.args.key) (table_view c.args.table.now)) ≡ true = rw (← c.text.ensures) (sym (c.if-contains_key.ensures ∙ contains c.text.result.now c.args.table.now.entries)) in
-    rw (there, c.in_ok-put.ensures, c.in_ok-value.ensures) refl
+pub returns : goal.returns
+returns c =
+    let there : is_some (get_member (key_text c.args.key) (table_view c.args.table.now)) ≡ true = rw (← c.text.ensures) (sym (sym c.if-not-contains_key.false ∙ c.contains_key.ensures ∙ contains c.text.result.now c.args.table.now.entries)) in
+    let value : view (Array c.in_ok-values.values) ≡ array_of (map table_view c.args.tables.items) = view-Array c.in_ok-values.values ∙ ap array (ap items_view c.in_ok-values.ensures ∙ tables_view c.args.tables.items) in
+    rw there (rw value at c.put.ensures)
 
-pub returns-else-contains_key : goal.returns-else-contains_key
-returns-else-contains_key c =
-    let absent : is_some (get_member (key_text c.args.key) (table_view c.args.table.now)) ≡ false = rw (← c.text.ensures) (sym (c.if-contains_key.ensures ∙ contains c.text.result.now c.args.table.now.entries)) in
+pub returns-then-not-contains_key : goal.returns-then-not-contains_key
+returns-then-not-contains_key c =
+    let absent : is_some (get_member (key_text c.args.key) (table_view c.args.table.now)) ≡ false = rw (← c.text.ensures) (sym (sym c.if-not-contains_key.true ∙ c.contains_key.ensures ∙ contains c.text.result.now c.args.table.now.entries)) in
     rw absent refl

@@ -6,6 +6,7 @@ use Rattle.sw_rmap.specs.declared.status.Status.{Status}
 use Rattle.sw_rmap.specs.Answers.{answer_to, found_by, memory_after, status_of}
 use Rattle.sw_rmap.specs.CommandView.{CommandView}
 use Rattle.sw_rmap.specs.Replies.{is_answered, reply_of}
+use Rattle.sw_rmap.proofs.Answering.{in_window, whole_body}
 use Rattle.sw_rmap.proofs.target.Target.answer_to.Goals as goal
 
 -- the answer by its parts
@@ -19,7 +20,7 @@ pub returns-clause-answer : goal.returns-clause-answer
 returns-clause-answer c =
     rw (← c.self.view_is) (
     answer_to-parts c.self.inside.config c.self.inside.memory.items c.args.command.now c.args.body.now c.args.end c.status-status.result c.found-found.result.now _ _
-    c.status-status.ensures.value (rw c.deref.ensures.value at c.found-found.ensures.value) c.in_ok-reply.ensures
+    c.status-status.ensures (rw c.deref.ensures.value at c.found-found.ensures.value) c.in_ok-reply.ensures
     (take_at _ _ _ (c.store_if_written.auto.memory ∙ c.deref_mut.ensures.len) ∙ rw c.deref_mut.ensures.value at c.store_if_written.ensures)
     )
 
@@ -31,6 +32,15 @@ invariant_of-self c = (
 
 pub store_if_written-requires-clause-memory : goal.store_if_written-requires-clause-memory
 store_if_written-requires-clause-memory c = ap length c.deref_mut.ensures.value ∙ c.self.invariant.1
+
+pub found-found-requires-clause-within : goal.found-found-requires-clause-within
+found-found-requires-clause-within c = in_window c.self.inside.config c.args.command.now c.args.body.now c.args.end c.status-status.result c.status-status.ensures
+
+pub store_if_written-requires-clause-within : goal.store_if_written-requires-clause-within
+store_if_written-requires-clause-within c = in_window c.self.inside.config c.args.command.now c.args.body.now c.args.end c.status-status.result c.status-status.ensures
+
+pub store_if_written-requires-clause-whole : goal.store_if_written-requires-clause-whole
+store_if_written-requires-clause-whole c = whole_body c.self.inside.config c.args.command.now c.args.body.now c.args.end c.status-status.result c.status-status.ensures
 
 pub found-found-requires-clause-memory : goal.found-found-requires-clause-memory
 found-found-requires-clause-memory c = ap length c.deref.ensures.value ∙ c.self.invariant.1
