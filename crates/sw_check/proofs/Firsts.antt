@@ -1,14 +1,15 @@
 -- The first refusal of all flows, from the refusal of each.
-use Rattle.std.proofs.Common.{◌≡◌, ℕ, suc, ◌+◌, List, [], ◌∷◌, length, Option, Some, None, MatchOption, refl, ap, ◌∙◌, subst, arith}
+use Rattle.std.proofs.Common.{◌≡◌, ℕ, zero, suc, ◌+◌, ◌<◌, ◌≤◌, List, [], ◌∷◌, length, Option, Some, None, MatchOption, drop, refl, sym, ap, ◌∙◌, subst, arith}
 use Rattle.std.specs.Prelude.{slice_get}
 use Rattle.std.specs.List.{range_with_len}
+use Rattle.std.proofs.lemmas.List.{drop_all}
 use Rattle.sw_parallel.specs.Found.{IsFirstFound}
 use Rattle.sw_topo.specs.Checked.{first_of}
 use Rattle.sw_config.specs.Entries.{FlowEntry}
 use Rattle.sw_flow.specs.declared.place.Place.{Place}
 use Rattle.sw_check.specs.declared.refusal.Refusal.{Refusal}
 use Rattle.sw_check.specs.Refusals.{by_flow}
-use Rattle.sw_check.specs.Numbered.{refusal_at}
+use Rattle.sw_check.specs.Numbered.{refusal_at, refusal_of_both}
 
 -- ---- flow by flow
 
@@ -43,3 +44,22 @@ module _ (r : ℕ → FlowEntry → List Place → Option Refusal) where
       → IsFirstFound (λ i o. o ≡ refusal_at r fs pss i) (range_with_len 0 n) found → found ≡ by_flow r 0 fs pss
   is_by_flow fs pss found n count same h =
       first_by_flow 0 fs pss (refusal_at r fs pss) found same (λ i f ps here there. let number : i ≡ 0 + i = omega arith in subst (λ (k : ℕ). refusal_at r fs pss k ≡ r k f ps) number (at_here fs pss i f ps here there)) (subst (λ (m : ℕ). IsFirstFound (λ i o. o ≡ refusal_at r fs pss i) (range_with_len 0 m) found) count h)
+
+  -- ---- one flow after another
+
+  from_one_on : (j : ℕ) (fs : List FlowEntry) (pss : List (List Place)) (n : ℕ) → n < length fs → length pss ≡ length fs
+      → by_flow r j (drop n fs) (drop n pss) ≡ first_of (refusal_of_both (r j) (slice_get fs n) (slice_get pss n)) (by_flow r (suc j) (drop (suc n) fs) (drop (suc n) pss))
+  from_one_on j [] pss n lt same = absurd (omega arith)
+  from_one_on j (f ∷ fs) [] n lt same = absurd (omega arith)
+  from_one_on j (f ∷ fs) (ps ∷ pss) zero lt same = refl
+  from_one_on j (f ∷ fs) (ps ∷ pss) (suc n) lt same = from_one_on j fs pss n (omega arith) (omega arith)
+
+  pub one_passed : (fs : List FlowEntry) (pss : List (List Place)) (n : ℕ) (o : Option Refusal) → n < length fs → length pss ≡ length fs → o ≡ refusal_at r fs pss n
+      → by_flow r n (drop n fs) (drop n pss) ≡ first_of o (by_flow r (n + 1) (drop (n + 1) fs) (drop (n + 1) pss))
+  one_passed fs pss n o lt same is =
+      let next : suc n ≡ n + 1 = omega arith in
+      from_one_on n fs pss n lt same ∙ ap (λ (k : ℕ). first_of (refusal_at r fs pss n) (by_flow r k (drop k fs) (drop k pss))) next
+      ∙ ap (λ (p : Option Refusal). first_of p (by_flow r (n + 1) (drop (n + 1) fs) (drop (n + 1) pss))) (sym is)
+
+  pub all_passed : (fs : List FlowEntry) (pss : List (List Place)) (n : ℕ) → length fs ≤ n → by_flow r n (drop n fs) (drop n pss) ≡ None
+  all_passed fs pss n past = ap (λ (l : List FlowEntry). by_flow r n l (drop n pss)) (drop_all n fs past)

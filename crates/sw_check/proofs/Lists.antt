@@ -1,5 +1,5 @@
 -- First refusals of lists, and what lists keep.
-use Rattle.std.proofs.Common.{◌≡◌, ℕ, zero, suc, ◌+◌, ◌<◌, ◌≤◌, ◌&&◌, ◌||◌, Bool, true, false, cond, List, [], ◌∷◌, length, drop, Option, Some, None, option_map, Contains, refl, sym, ap, subst, ◌⊎◌, inl, inr, arith}
+use Rattle.std.proofs.Common.{◌≡◌, ℕ, zero, suc, ◌+◌, ◌<◌, ◌≤◌, ◌&&◌, ◌||◌, Bool, true, false, cond, List, [], ◌∷◌, length, drop, drop-cons, get_or, Option, Some, None, option_map, Contains, refl, sym, ap, ◌∙◌, subst, ◌⊎◌, inl, inr, arith}
 use Rattle.std.specs.Prelude.{slice_get}
 use Rattle.std.specs.List.{list_all}
 use Rattle.std.proofs.lemmas.Bool.{cases_eq, eq-eqb, ne_eqb}
@@ -51,6 +51,13 @@ module _ {X : Type 0} where
   pub refused_none : (r : X → Option Refusal) (xs : List X) → ((x : X) → Contains xs x → r x ≡ None) → first_refusal r xs ≡ None
   refused_none r [] each = refl
   refused_none r (y ∷ ys) each = both_none (r y) (first_refusal r ys) (each y (Contains-head y ys)) (refused_none r ys (λ x m. each x (Contains-later y x ys m)))
+
+  -- one element after another
+  pub one_refused : (r : X → Option Refusal) (xs : List X) (i : ℕ) (x : X) (o : Option Refusal) → i < length xs → x ≡ get_or xs i x → o ≡ r x → first_refusal r (drop i xs) ≡ first_of o (first_refusal r (drop (i + 1) xs))
+  one_refused r xs i x o lt is told =
+      let next : suc i ≡ i + 1 = omega arith in
+      let cut : drop i xs ≡ x ∷ drop (i + 1) xs = drop-cons xs i x lt ∙ ap (λ y. y ∷ drop (suc i) xs) (sym is) ∙ ap (λ k. x ∷ drop k xs) next in
+      ap (first_refusal r) cut ∙ ap (λ (p : Option Refusal). first_of p (first_refusal r (drop (i + 1) xs))) (sym told)
 
   pub all_each : (test : X → Bool) (xs : List X) → list_all test xs ≡ true → (x : X) → Contains xs x → test x ≡ true
   all_each test [] h x m = absurd (omega (arith, m.1))

@@ -12,7 +12,7 @@ use std::thread::Threads;
 use sw_cert::Certificate;
 use sw_config::Network;
 use sw_flow::flows_a_thread;
-use sw_parallel::{OneByOne, SideBySide, Workers, one_by_one, side_by_side};
+use sw_parallel::{OneByOne, SideBySide, Workers, side_by_side};
 
 /// Who checks the flows of a certificate.
 pub trait CheckWorkers: Workers {
@@ -67,14 +67,12 @@ impl<R: Threads + Sync> CheckWorkers for SideBySide<'_, R> {
 
 impl CheckWorkers for OneByOne {
     fn refusal_of_flows(&self, network: &Network, certificate: &Certificate) -> Option<Refusal> {
-        one_by_one::first_found(
-            network.flows(),
-            |flow: u16| -> Option<Refusal>
-                requires inside { flow < length (all_flows network.now) }
-                requires lists { length certificate.now.places ≡ length (all_flows network.now) }
-                ensures { result ≡ refusal_at (refusal_of_flow network.entry.now) (all_flows network.entry.now) certificate.entry.now.places flow }
-            { closed_refusal(network, certificate, flow) },
-        )
+        for number in 0..network.flows() {
+            if let Some(refusal) = closed_refusal(network, certificate, number) {
+                return Some(refusal);
+            }
+        }
+        None
     }
 
     fn not_rising_along_flows(
@@ -82,13 +80,11 @@ impl CheckWorkers for OneByOne {
         network: &Network,
         certificate: &Certificate,
     ) -> Option<Refusal> {
-        one_by_one::first_found(
-            network.flows(),
-            |flow: u16| -> Option<Refusal>
-                requires inside { flow < length (all_flows network.now) }
-                requires lists { length certificate.now.places ≡ length (all_flows network.now) }
-                ensures { result ≡ refusal_at (not_rising_along network.entry.now certificate.entry.now.numbers) (all_flows network.entry.now) certificate.entry.now.places flow }
-            { rising_refusal(network, certificate, flow) },
-        )
+        for number in 0..network.flows() {
+            if let Some(refusal) = rising_refusal(network, certificate, number) {
+                return Some(refusal);
+            }
+        }
+        None
     }
 }

@@ -1,8 +1,9 @@
 -- First steps, one place and one flow more at a time.
-use Rattle.std.proofs.Common.{◌≡◌, ℕ, zero, suc, ◌+◌, ◌<◌, ◌≤◌, List, [], ◌∷◌, ◌++◌, length, get_or, set, Option, Some, None, Contains, refl, sym, ap, ◌∙◌, subst, inl, inr, arith, get_or-set_same, get_or-set_other, length-set}
+use Rattle.std.proofs.Common.{◌≡◌, ℕ, zero, suc, ◌+◌, ◌<◌, ◌≤◌, List, [], ◌∷◌, ◌++◌, length, get_or, replicate, set, Option, Some, None, Contains, refl, sym, ap, ◌∙◌, subst, inl, inr, arith, get_or-set_same, get_or-set_other, length-set}
 use Rattle.std.specs.Prelude.{MatchOption, slice_get, slice_index_or}
 use Rattle.std.proofs.Math.Nat.{mod-eq_of_lt}
 use Rattle.std.proofs.lemmas.Bool.{cases_eq, cases_lt}
+use Rattle.std.proofs.lemmas.List.{get_or-replicate, length-replicate}
 use Rattle.std.proofs.lemmas.List.Elements.{Contains-append_cases, Contains-append_left}
 use Rattle.std.proofs.lemmas.Option.{slice_get-get_or, slice_get_within}
 use Rattle.sw_config.specs.Entries.{FlowEntry, Declaration, all_flows}
@@ -13,6 +14,16 @@ use Rattle.sw_cycle.specs.declared.steps.Step.{Step}
 use Rattle.sw_cycle.specs.Causes.{GoesOn, IsChosenCause, IsStep, NoneBelow, NoneGoesOn}
 use Rattle.sw_cycle.specs.Firsts.{AreFirst, IsFirstStep, IsNotedAt, IsStepAfter, IsTaken, NoneYet}
 use Rattle.sw_cycle.proofs.Stepped.{no_step}
+
+-- ---- before the first flow
+
+pub none_first : (d : Declaration) (channels : List ℕ) (steps : List (Option Step)) → steps ≡ replicate (length channels) None → AreFirst d (NoneBelow d 0) channels steps
+none_first d channels steps blank = record {
+  size = ap length blank ∙ length-replicate (length channels) None;
+  each = λ i lt.
+      let none : slice_index_or steps i None ≡ None = ap (λ (l : List (Option Step)). slice_index_or l i None) blank ∙ get_or-replicate (length channels) i None None lt in
+      subst (λ (o : Option Step). MatchOption o (NoneBelow d 0 (round channels i) (round channels (i + 1))) (IsFirstStep d (round channels i) (round channels (i + 1)))) (sym none) (λ j below goes. absurd (omega (arith, below)));
+}
 
 -- ---- what is missing
 

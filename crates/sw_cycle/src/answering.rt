@@ -1,16 +1,10 @@
 //! The nodes that answer.
-ghost use Rattle.std.specs.Prelude.{◌+◌, ◌<◌, ◌↔◌, IfOk, IsSome, IsTrue, length};
+ghost use Rattle.std.specs.Prelude.{◌+◌, ◌<◌, IfOk, length};
 ghost use Rattle.sw_config.specs.Entries.{all_flows};
 ghost use Rattle.sw_cycle.specs.Answering.{AreMarked};
 
 use std::alloc::{AllocError, Global};
-use sw_config::{Flow, Network};
-
-fn has_replies(flow: &Flow) -> bool
-    ensures { IsTrue result ↔ IsSome flow.now.reply }
-{
-    flow.reply().is_some()
-}
+use sw_config::Network;
 
 /// Sets the mark of the node where the flow of that number ends, if its packets are answered.
 fn mark_target(network: &Network, number: u16, marks: &mut [bool])
@@ -19,7 +13,7 @@ fn mark_target(network: &Network, number: u16, marks: &mut [bool])
     ensures { AreMarked network.now (number + 1) marks.new }
 {
     let flow = network.flow(number);
-    if has_replies(flow) {
+    if flow.reply().is_some() {
         marks[usize::from(flow.to())] = true;
     }
 }

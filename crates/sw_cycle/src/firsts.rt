@@ -1,5 +1,5 @@
 //! The first steps of flows from each channel of a round to the next one.
-ghost use Rattle.std.specs.Prelude.{◌≡◌, ◌+◌, ◌<◌, ◌≤◌, ℕ, All, Contains, IfOk, Some, [], length, slice_get, ◌↔◌};
+ghost use Rattle.std.specs.Prelude.{◌≡◌, ◌<◌, ◌≤◌, ℕ, All, Contains, IfOk, Some, [], length, slice_get, ◌↔◌};
 ghost use Rattle.std.specs.List.{AllZip};
 ghost use Rattle.sw_config.specs.Entries.{all_flows};
 ghost use Rattle.sw_flow.specs.Places.{IsPlace, IsPlaceList, ends_of};
@@ -108,26 +108,6 @@ fn note_places(
     }
 }
 
-/// Takes the places of the flow of that number into account.
-fn note_flow(
-    network: &Network,
-    places: &[Vec<Place>],
-    number: u16,
-    channels: &[Chan],
-    positions: &[Vec<usize>],
-    steps: &mut [Option<Step>],
-)
-    requires lists { AllZip (λ f ps. IsPlaceList network.now f ps.items) (all_flows network.now) places.now }
-    requires inside { number < length (all_flows network.now) }
-    requires count { length positions.now ≡ length (ends_of network.now) }
-    requires positions { ArePositions channels.now (length channels.now) positions.now }
-    requires first { AreFirst network.now (NoneBelow network.now number) channels.now steps.old }
-    ensures { AreFirst network.now (NoneBelow network.now (number + 1)) channels.now steps.new }
-{
-    let (flow, listed) = flow_and_places(network, places, number);
-    note_places(network, number, flow, listed, channels, positions, steps);
-}
-
 /// Takes the places of all flows into account.
 fn note_flows(
     network: &Network,
@@ -143,7 +123,8 @@ fn note_flows(
     ensures { AreFirst network.now (NoneGoesOn network.now) channels.now steps.new }
 {
     for number in 0..network.flows() {
-        note_flow(network, places, number, channels, positions, steps);
+        let (flow, listed) = flow_and_places(network, places, number);
+        note_places(network, number, flow, listed, channels, positions, steps);
     }
 }
 
@@ -161,8 +142,8 @@ pub(crate) fn first_steps(
     requires inside { All (λ c. c < length (ends_of network.now)) channels.now }
     ensures { IfOk result (λ v. AreFirst network.now (NoneGoesOn network.now) channels.now v.items) }
 {
-    let positions = positions_of(alloc, usize::from(network.channels()), channels)?;
     let mut steps = vec![in alloc; None; channels.len()]?;
+    let positions = positions_of(alloc, usize::from(network.channels()), channels)?;
     note_flows(network, places, channels, &positions, &mut steps);
     Ok(steps)
 }

@@ -57,28 +57,6 @@ fn places_on(places: &[Place], channel: Chan) -> &[Place]
     &places[first..after]
 }
 
-/// Does the flow of that number, which has these places, go on from the one channel to the other?
-fn goes_on(
-    network: &Network,
-    number: u16,
-    flow: &Flow,
-    places: &[Place],
-    from: Chan,
-    to: Chan,
-) -> bool
-    requires short { length flow.now.address ≤ 32 }
-    requires numbered { slice_get (all_flows network.now) number ≡ Some flow.now }
-    requires places { IsPlaceList network.now flow.now places.now }
-    ensures { IsTrue result ↔ GoesOn network.now number from to }
-{
-    for place in places_on(places, from) {
-        if follower_between(network, flow, *place, from, to).is_some() {
-            return true;
-        }
-    }
-    false
-}
-
 /// Marks the channels of the places.
 fn mark_places(places: &[Place], marks: &mut [bool])
     requires { (p : Place) → Contains places.now p → p.channel < length marks.old }
@@ -124,7 +102,12 @@ fn goes_on_from(
     if !is_marked(marks, from.number()) {
         return false;
     }
-    goes_on(network, number, flow, places, from, to)
+    for place in places_on(places, from) {
+        if follower_between(network, flow, *place, from, to).is_some() {
+            return true;
+        }
+    }
+    false
 }
 
 /// Takes one more flow into account at one step of the round.

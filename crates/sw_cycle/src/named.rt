@@ -42,17 +42,6 @@ fn named_at(network: &Network, flow: &Flow, place: Place) -> (PortSet, bool)
     }
 }
 
-/// Adds the ports, which are named at the place, to the set of its channel.
-fn add_named(network: &Network, flow: &Flow, place: &Place, ports: PortSet, sets: &mut [PortSet])
-    requires size { length sets.old ≡ length (ends_of network.now) }
-    requires inside { place.now.channel < length sets.old }
-    requires ports { ports ≡ ports_named network.now flow.now place.now.channel place.now.deleted }
-    ensures { AreAdded network.now flow.now (place.now ∷ []) sets.old sets.new }
-{
-    let channel = usize::from(place.channel.number());
-    sets[channel] = sets[channel].union(ports);
-}
-
 /// Adds the ports that are named at a place to the set of its channel, and says whether nothing is
 /// wrong with the place.
 fn add_place(network: &Network, flow: &Flow, place: &Place, sets: &mut [PortSet]) -> bool
@@ -62,7 +51,8 @@ fn add_place(network: &Network, flow: &Flow, place: &Place, sets: &mut [PortSet]
     ensures sound { IsTrue result ↔ (fault_of network.now flow.now place.now.channel place.now.deleted ≡ None) }
 {
     let (ports, is_sound) = named_at(network, flow, *place);
-    add_named(network, flow, place, ports, sets);
+    let channel = usize::from(place.channel.number());
+    sets[channel] = sets[channel].union(ports);
     is_sound
 }
 

@@ -12,7 +12,7 @@ use std::alloc::{AllocError, Global};
 use std::thread::Threads;
 use sw_config::Network;
 use sw_flow::Place;
-use sw_parallel::{OneByOne, SideBySide, Workers, one_by_one, side_by_side};
+use sw_parallel::{OneByOne, SideBySide, Workers, side_by_side};
 use sw_topo::PortSet;
 
 /// The number of the first flow of a chunk, and behind the last chunk the number of flows.
@@ -112,15 +112,11 @@ impl PortWorkers for OneByOne {
         network: &Network,
         places: &[Vec<Place>],
     ) -> Result<Vec<Named>, AllocError> {
-        one_by_one::map_all(
-            alloc,
-            64,
-            |number: u16| -> Result<Named, AllocError>
-                requires lists { AllZip (λ f ps. IsPlaceList network.now f ps.items) (all_flows network.now) places.now }
-                requires number { number < 64 }
-                ensures { IfOk result (λ n. IsNamedChunk network.entry.now number n) }
-            { named_by_chunk(alloc, network, places, number) },
-        )
+        let mut parts = Vec::new(alloc);
+        for chunk in 0..64 {
+            parts.push(named_by_chunk(alloc, network, places, chunk)?)?;
+        }
+        Ok(parts)
     }
 }
 

@@ -15,32 +15,8 @@ pub(crate) struct Step {
     pub(crate) next: Place,
 }
 
-/// The place on the channel to which the flow goes from this place by one step.
-fn follower_on(network: &Network, flow: &Flow, place: Place, channel: Chan) -> Option<Place>
-    requires { length flow.now.address ≤ 32 }
-    ensures on { IfSome result (λ next. next.channel ≡ channel) }
-    ensures some { IfSome result (GoesTo network.now flow.now place) }
-    ensures none { IfNone result ((m : ℕ) → Follows network.now flow.now place.channel place.deleted channel m → ⊥) }
-{
-    let kept = Place {
-        channel,
-        deleted: place.deleted,
-    };
-    if follows(network, flow, place, kept) {
-        return Some(kept);
-    }
-    let fewer = Place {
-        channel,
-        deleted: place.deleted.checked_add(1)?,
-    };
-    if follows(network, flow, place, fewer) {
-        Some(fewer)
-    } else {
-        None
-    }
-}
-
 /// The place on the second channel to which the flow goes by one step from this place, if that is on the first.
+#[tactic(auto, using(crate::proofs::Stepped::no_other))]
 pub(crate) fn follower_between(
     network: &Network,
     flow: &Flow,
@@ -54,8 +30,22 @@ pub(crate) fn follower_between(
     ensures goes { IfSome result (GoesTo network.now flow.now place) }
     ensures none { IfNone result (place.channel ≡ from → (m : ℕ) → Follows network.now flow.now place.channel place.deleted to m → ⊥) }
 {
-    if place.channel == from {
-        follower_on(network, flow, place, to)
+    if place.channel != from {
+        return None;
+    }
+    let kept = Place {
+        channel: to,
+        deleted: place.deleted,
+    };
+    if follows(network, flow, place, kept) {
+        return Some(kept);
+    }
+    let fewer = Place {
+        channel: to,
+        deleted: place.deleted.checked_add(1)?,
+    };
+    if follows(network, flow, place, fewer) {
+        Some(fewer)
     } else {
         None
     }

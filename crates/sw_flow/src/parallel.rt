@@ -10,7 +10,7 @@ use crate::routes::places;
 use std::alloc::{AllocError, Global};
 use std::thread::Threads;
 use sw_config::Network;
-use sw_parallel::{OneByOne, SideBySide, Workers, one_by_one, side_by_side};
+use sw_parallel::{OneByOne, SideBySide, Workers, side_by_side};
 
 /// A thread takes as long to start as some hundred places to find: it is worth it where so many may be found in it.
 const PLACES_A_THREAD: usize = 4096;
@@ -51,14 +51,11 @@ impl<R: Threads + Sync> PlaceWorkers for SideBySide<'_, R> {
 
 impl PlaceWorkers for OneByOne {
     fn all_places(&self, alloc: Global, network: &Network) -> Result<Vec<Vec<Place>>, AllocError> {
-        one_by_one::map_all(
-            alloc,
-            network.flows(),
-            |number: u16| -> Result<Vec<Place>, AllocError>
-                requires { number < length (all_flows network.now) }
-                ensures { IfOk result (λ v. IsPlacesOf network.entry.now number v.items) }
-            { places(alloc, network, number) },
-        )
+        let mut all = Vec::new(alloc);
+        for number in 0..network.flows() {
+            all.push(places(alloc, network, number)?)?;
+        }
+        Ok(all)
     }
 }
 

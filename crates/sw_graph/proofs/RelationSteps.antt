@@ -152,6 +152,29 @@ kept_members P (x ∷ xs) ys (false, told, h) c =
 pub free_are : (g : List (Vec ℕ Global)) (done : List Bool) (left items : List ℕ) → AreKept (λ x b. IsTrue b ↔ AllDone done (row g x)) left items → AreFree g done left items
 free_are g done left items kept c = kept_members (λ x. AllDone done (row g x)) left items kept c
 
+-- one member more, of which all predecessors are done
+pub free_kept : (g : List (Vec ℕ Global)) (done : List Bool) (left items : List ℕ) (x : ℕ) → AreFree g done left items → AllDone done (row g x) → AreFree g done (left ++ x ∷ []) (items ++ x ∷ [])
+free_kept g done left items x free is c = (
+  λ h. elim (Contains-push_cases items x c h) [
+    | inl old ↦ let known = (free c).0 old in (Contains-append_left left (x ∷ []) c known.0, known.1)
+    | inr same ↦ (subst (Contains (left ++ x ∷ [])) same (Contains-push left x), subst (λ (y : ℕ). AllDone done (row g y)) same is)
+  ],
+  λ h. elim (Contains-push_cases left x c h.0) [
+    | inl old ↦ Contains-append_left items (x ∷ []) c ((free c).1 (old, h.1))
+    | inr same ↦ subst (Contains (items ++ x ∷ [])) same (Contains-push items x)
+  ],
+)
+
+-- one member more, of which a predecessor is not done
+pub free_passed : (g : List (Vec ℕ Global)) (done : List Bool) (left items : List ℕ) (x : ℕ) → AreFree g done left items → (AllDone done (row g x) → ⊥) → AreFree g done (left ++ x ∷ []) items
+free_passed g done left items x free other c = (
+  λ h. let known = (free c).0 h in (Contains-append_left left (x ∷ []) c known.0, known.1),
+  λ h. elim (Contains-push_cases left x c h.0) [
+    | inl old ↦ (free c).1 (old, h.1)
+    | inr same ↦ absurd (other (subst (λ (y : ℕ). AllDone done (row g y)) (sym same) h.1))
+  ],
+)
+
 -- what a slice's owner holds after a call that keeps its length
 pub whole : {A : Type 0} (len : ℕ) (new old : List A) → len ≡ length old → length new ≡ length old → take len (new ++ drop (length new) old) ≡ new
 whole len new old a b = let e : len ≡ length new = omega arith in ap (λ k. take k (new ++ drop (length new) old)) e ∙ take-append_seam new (drop (length new) old)

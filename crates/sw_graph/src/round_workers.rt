@@ -5,9 +5,10 @@ ghost use Rattle.sw_graph.specs.Rounds.{AllDone, AreFree};
 ghost use Rattle.sw_graph.specs.Rows.{row};
 
 use crate::marks::is_marked;
+use crate::rows::row_of;
 use std::alloc::{AllocError, Global};
 use std::thread::Threads;
-use sw_parallel::{OneByOne, SideBySide, Workers, one_by_one, side_by_side};
+use sw_parallel::{OneByOne, SideBySide, Workers, side_by_side};
 
 /// The fewest members that a thread is started for. Below twice as many a round goes through one
 /// thread: to look at a member's predecessors takes some hundred nanoseconds, and a thread some ten
@@ -56,7 +57,7 @@ impl<R: Threads + Sync> RoundWorkers for SideBySide<'_, R> {
             |c: u16| -> bool
                 requires { c < length predecessors.now }
                 ensures { IsTrue result ↔ AllDone done.entry.now (row predecessors.entry.now c) }
-            { all_done(&predecessors[usize::from(c)], done) },
+            { all_done(row_of(predecessors, c), done) },
         )
     }
 }
@@ -69,13 +70,12 @@ impl RoundWorkers for OneByOne {
         done: &[bool],
         left: &[u16],
     ) -> Result<Vec<u16>, AllocError> {
-        one_by_one::keep(
-            alloc,
-            left,
-            |member: u16| -> bool
-                requires { member < length predecessors.now }
-                ensures { IsTrue result ↔ AllDone done.entry.now (row predecessors.entry.now member) }
-            { all_done(&predecessors[usize::from(member)], done) },
-        )
+        let mut free = Vec::new(alloc);
+        for member in left {
+            if all_done(row_of(predecessors, *member), done) {
+                free.push(*member)?;
+            }
+        }
+        Ok(free)
     }
 }

@@ -4,4 +4,4 @@ pub mod NodeLines
 pub mod Order
 pub mod Counts
 mod Sums
-mod ThreeLines
+mod ReportLines

@@ -4,7 +4,7 @@ ghost use Rattle.std.specs.List.{reduce};
 ghost use Rattle.sw_config.specs.Entries.{wiring_of};
 ghost use Rattle.sw_cycle.specs.Cycles.{cause_of};
 ghost use Rattle.sw_output.specs.ChannelTexts.{node_name, switch_name};
-ghost use Rattle.sw_output.specs.Lines.{line};
+ghost use Rattle.sw_output.specs.Lines.{line, spaced};
 ghost use Rattle.sw_output.specs.VerdictTexts.{cause_words, cycle_line, cycle_lines, cycle_text, cyclic_words, free_words, height, misrouted_words};
 
 use crate::channel_texts::channel_text;
@@ -38,18 +38,13 @@ pub fn switch_name(network: &Network, switch: u16) -> &str
     }
 }
 
-fn cause_words(alloc: Global, network: &Network, cause: &Cause) -> Result<String, AllocError>
-    ensures { IfOk result (λ s. string_bytes s ≡ cause_words network.now (cause_of cause.now)) }
+// What kind of cause it is, and the name of its node or flow.
+fn cause_parts<'a>(network: &'a Network, cause: &Cause) -> (&'static str, &'a str)
+    ensures { spaced (result.0.now ∷ result.1.now ∷ []) ≡ cause_words network.now (cause_of cause.now) }
 {
     match cause {
-        Cause::Target(node) => {
-            let name = node_name(network, *node);
-            format!(in alloc; "target {name}")
-        }
-        Cause::Flow(flow, _) => {
-            let name = flow_name(network, *flow);
-            format!(in alloc; "flow {name}")
-        }
+        Cause::Target(node) => ("target", node_name(network, *node)),
+        Cause::Flow(flow, _) => ("flow", flow_name(network, *flow)),
     }
 }
 
@@ -64,27 +59,27 @@ fn add_cycle_line(
     requires { channel < length (wiring_of network.now).ends }
     ensures { IfOk result (λ _. string_bytes text.new ≡ string_bytes text.old ++ cycle_line network.now channel (cause_of cause.now)) }
 {
+    let (kind, name) = cause_parts(network, cause);
     let ends = channel_text(alloc, network, channel)?;
-    let words = cause_words(alloc, network, cause)?;
     let channel = channel.number();
-    write!(text, "channel {channel} {ends} by {words}\n")
+    write!(text, "channel {channel} {ends} by {kind} {name}\n")
 }
 
-// A line for each channel, with its cause.
-fn cycle_lines(
+// Adds a line for each channel, with its cause.
+fn add_cycle_lines(
     alloc: Global,
     network: &Network,
     channels: &[Chan],
     causes: &[Cause],
-) -> Result<String, AllocError>
+    text: &mut String,
+) -> Result<(), AllocError>
     requires { All (λ c. c < length (wiring_of network.now).ends) channels.now }
-    ensures { IfOk result (λ s. string_bytes s ≡ cycle_lines network.now channels.now (map cause_of causes.now)) }
+    ensures { IfOk result (λ _. string_bytes text.new ≡ string_bytes text.old ++ cycle_lines network.now channels.now (map cause_of causes.now)) }
 {
-    let mut text = String::new(alloc);
     for (channel, cause) in channels.iter().zip(causes) {
-        add_cycle_line(alloc, network, *channel, cause, &mut text)?;
+        add_cycle_line(alloc, network, *channel, cause, text)?;
     }
-    Ok(text)
+    Ok(())
 }
 
 /// How many channels a cycle has.
@@ -115,9 +110,10 @@ pub fn cycle_text(alloc: Global, network: &Network, cycle: &Cycle) -> Result<Str
     requires { All (λ c. c < length (wiring_of network.now).ends) cycle.now.channels }
     ensures { IfOk result (λ s. string_bytes s ≡ cycle_text network.now cycle.now) }
 {
-    let words = cyclic_words(alloc, &cycle.channels)?;
-    let lines = cycle_lines(alloc, network, &cycle.channels, &cycle.causes)?;
-    format!(in alloc; "{words}\n{lines}")
+    let count = cycle.channels.len();
+    let mut text = format!(in alloc; "cyclic {count}\n")?;
+    add_cycle_lines(alloc, network, &cycle.channels, &cycle.causes, &mut text)?;
+    Ok(text)
 }
 
 /// The flow, its place with a fault, and the fault.

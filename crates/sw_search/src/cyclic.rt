@@ -11,7 +11,7 @@ use sw_flow::Place;
 use sw_topo::Chan;
 
 /// The channels of these numbers.
-fn channels_of(alloc: Global, members: &[u16]) -> Result<Vec<Chan>, AllocError>
+pub(crate) fn channels_of(alloc: Global, members: &[u16]) -> Result<Vec<Chan>, AllocError>
     ensures { IfOk result (λ v. v.items ≡ members.now) }
 {
     let mut channels = Vec::with_capacity(alloc, members.len())?;

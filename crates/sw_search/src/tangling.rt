@@ -1,10 +1,11 @@
 //! The tangles of a network.
-ghost use Rattle.std.specs.Prelude.{◌≡◌, IfOk};
+ghost use Rattle.std.specs.Prelude.{IfOk};
 ghost use Rattle.sw_graph.specs.Parts.{AreParts, IsPart};
 ghost use Rattle.sw_search.specs.Lists.{AreListed};
 ghost use Rattle.sw_search.specs.Verdicts.{depends};
 ghost use Rattle.sw_search.specs.Tangles.{AreTangles, IsTangle};
 
+use crate::cyclic::channels_of;
 use crate::tangle::Tangle;
 use crate::workers::VerdictWorkers;
 use std::alloc::{AllocError, Global};
@@ -12,18 +13,6 @@ use sw_config::Network;
 use sw_cycle::{Cycle, causes, dependencies, flows_of_steps};
 use sw_flow::Place;
 use sw_graph::{Part, parts};
-use sw_topo::Chan;
-
-/// The channels of these numbers.
-fn channels_of(alloc: Global, members: &[u16]) -> Result<Vec<Chan>, AllocError>
-    ensures { IfOk result (λ v. v.items ≡ members.now) }
-{
-    let mut channels = Vec::with_capacity(alloc, members.len())?;
-    for member in members {
-        channels.push(Chan::new(*member))?;
-    }
-    Ok(channels)
-}
 
 /// The tangle of a part of the dependencies.
 fn tangle(

@@ -13,7 +13,7 @@ use sw_config::Network;
 use sw_cycle::PortWorkers;
 use sw_flow::{Place, PlaceWorkers, RouteFault, flows_a_thread};
 use sw_graph::RoundWorkers;
-use sw_parallel::{OneByOne, SideBySide, one_by_one, side_by_side};
+use sw_parallel::{OneByOne, SideBySide, side_by_side};
 
 /// Who finds what a verdict rests on, and reads certificates.
 pub trait VerdictWorkers: CheckWorkers + PlaceWorkers + PortWorkers + ReadWorkers + RoundWorkers {
@@ -61,14 +61,10 @@ impl VerdictWorkers for OneByOne {
         network: &Network,
         places: &[Vec<Place>],
     ) -> Result<Vec<Option<(Place, RouteFault)>>, AllocError> {
-        one_by_one::map_all(
-            alloc,
-            network.flows(),
-            |number: u16| -> Result<Option<(Place, RouteFault)>, AllocError>
-                requires lists { AreListed network.now places.now }
-                requires inside { number < length (all_flows network.now) }
-                ensures { IfOk result (IsFirstFault network.entry.now number) }
-            { Ok(fault_of_flow(network, number, places)) },
-        )
+        let mut faults = Vec::new(alloc);
+        for number in 0..network.flows() {
+            faults.push(fault_of_flow(network, number, places))?;
+        }
+        Ok(faults)
     }
 }

@@ -1,7 +1,17 @@
-use Rattle.std.proofs.Common.{◌≡◌, ◌∙◌, List, Vec, Global, ℕ, length, ap, sym, subst}
+use Rattle.std.proofs.Common.{◌≡◌, ◌∙◌, List, None, Vec, Global, ℕ, length, replicate, ap, sym, subst, rules}
 use Rattle.sw_cycle.specs.Positions.{ArePositions}
+use Rattle.sw_cycle.specs.Causes.{NoneBelow}
+use Rattle.sw_cycle.specs.Firsts.{AreFirst}
+use Rattle.sw_cycle.proofs.Found.{none_first}
 use Rattle.sw_cycle.proofs.Naming.{whole}
 use Rattle.sw_cycle.proofs.firsts.first_steps.Goals as goal
+
+pub note_flows-requires-clause-first : goal.note_flows-requires-clause-first
+note_flows-requires-clause-first c =
+    let d = c.args.network.now in
+    let channels = c.args.channels.now in
+    let blank : c.in_ok-steps.steps.items ≡ replicate (length channels) None = search rules in
+    subst (AreFirst d (NoneBelow d 0) channels) (sym c.deref_mut.ensures.value) (none_first d channels c.in_ok-steps.steps.items blank)
 
 pub note_flows-requires-clause-positions : goal.note_flows-requires-clause-positions
 note_flows-requires-clause-positions c =

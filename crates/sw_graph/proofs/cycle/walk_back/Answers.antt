@@ -1,4 +1,4 @@
-use Rattle.std.proofs.Common.{◌≡◌, get_or, sym, ap, ◌∙◌, arith, false, true}
+use Rattle.std.proofs.Common.{◌≡◌, ◌<◌, ℕ, get_or, length, sym, subst, ap, ◌∙◌, false, true}
 use Rattle.std.proofs.lemmas.List.{get_or_default}
 use Rattle.sw_graph.specs.Rounds.{is_done}
 use Rattle.sw_graph.proofs.Backs.{walk_more, walk_done}
@@ -9,10 +9,9 @@ loop-seen-preserved c =
     let w = c.loop-seen.invariant in
     let seen = c.loop-seen.seen.items in
     let now = c.loop-seen.now in
-    let size = w.size in
-    let inn = w.inside in
     let e = c.from.ensures in
-    let fresh : is_done seen now ≡ false = ap (λ k. get_or seen k false) (sym e) ∙ get_or_default seen c.from.result false c.index.result.now (omega arith) ∙ sym c.index.ensures ∙ c.loop-seen-test.true in
+    let within : c.from.result < length seen = subst (λ (k : ℕ). k < length seen) (sym e) (subst (λ (n : ℕ). now < n) (sym w.size) w.inside) in
+    let fresh : is_done seen now ≡ false = ap (λ k. get_or seen k false) (sym e) ∙ get_or_default seen c.from.result false c.index.result.now within ∙ sym c.index.ensures ∙ c.loop-seen-test.true in
     rw (c.from-in-loop-seen.ensures, c.in_ok-push.ensures.items) (walk_more c.args.predecessors.now c.args.done.now c.args.start seen c.loop-seen.path.items now w c.least_before-now.result fresh c.requires.graph c.least_before-now.ensures)
 
 pub returns : goal.returns
@@ -20,8 +19,7 @@ returns c =
     let w = c.loop-seen.invariant in
     let seen = c.loop-seen.seen.items in
     let now = c.loop-seen.now in
-    let size = w.size in
-    let inn = w.inside in
     let e = c.from.ensures in
-    let old : is_done seen now ≡ true = ap (λ k. get_or seen k false) (sym e) ∙ get_or_default seen c.from.result false c.index.result.now (omega arith) ∙ sym c.index.ensures ∙ c.loop-seen-test.false in
+    let within : c.from.result < length seen = subst (λ (k : ℕ). k < length seen) (sym e) (subst (λ (n : ℕ). now < n) (sym w.size) w.inside) in
+    let old : is_done seen now ≡ true = ap (λ k. get_or seen k false) (sym e) ∙ get_or_default seen c.from.result false c.index.result.now within ∙ sym c.index.ensures ∙ c.loop-seen-test.false in
     walk_done c.args.predecessors.now c.args.done.now c.args.start seen c.loop-seen.path.items now w old

@@ -1,4 +1,4 @@
-use Rattle.std.proofs.Common.{◌<◌, length, take, get_or, arith}
+use Rattle.std.proofs.Common.{◌<◌, ◌∙◌, ℕ, length, take, get_or, sym, subst}
 use Rattle.std.proofs.lemmas.List.{take_more}
 use Rattle.std.proofs.lemmas.List.Elements.{All-get_or}
 use Rattle.sw_graph.proofs.RelationSteps.{taken_more}
@@ -10,7 +10,6 @@ loop-c-preserved c =
     let i = c.loop-c.c-index in
     let e = get_or xs i 0 in
     let lt : e < length c.args.done.now = All-get_or (λ d. d < length c.args.done.now) xs i 0 c.loop-c-test.true c.requires.inside in
-    let size = c.requires.size in
-    let levels = c.loop-c.auto.levels in
-    let done = c.loop-c.auto.done in
-    rw (c.from.ensures, c.from-in-loop-c.ensures, take_more xs i 0 c.loop-c-test.true) (taken_more c.args.round e (take i xs) c.args.levels.now c.loop-c.levels c.args.done.now c.loop-c.done c.loop-c.invariant (omega arith) (omega arith))
+    let inside : e < length c.loop-c.levels = subst (λ (n : ℕ). e < n) (sym (c.loop-c.auto.levels ∙ c.requires.size)) lt in
+    let marked : e < length c.loop-c.done = subst (λ (n : ℕ). e < n) (sym c.loop-c.auto.done) lt in
+    rw (c.from.ensures, c.from-in-loop-c.ensures, take_more xs i 0 c.loop-c-test.true) (taken_more c.args.round e (take i xs) c.args.levels.now c.loop-c.levels c.args.done.now c.loop-c.done c.loop-c.invariant inside marked)

@@ -1,7 +1,7 @@
 use Rattle.std.proofs.Common.{◌≡◌, ◌+◌, ◌<◌, ◌∷◌, ◌++◌, [], ℕ, List, All, length, take, get_or, sym, ap, ◌∙◌, subst}
 use Rattle.std.specs.List.{flat_map}
 use Rattle.std.proofs.lemmas.Grind.{flat_map-append}
-use Rattle.std.proofs.lemmas.List.{take_more, append-nil}
+use Rattle.std.proofs.lemmas.List.{take_all, take_more, append-nil}
 use Rattle.std.proofs.lemmas.List.Elements.{All-get_or}
 use Rattle.sw_graph.specs.Rows.{row}
 use Rattle.sw_graph.proofs.Listed.{row_within}
@@ -33,3 +33,6 @@ loop-c-preserved c =
     let one : flat_map f (e ∷ []) ≡ f e = append-nil (f e) in
     let parts : flat_map f (take (i + 1) xs) ≡ flat_map f (take i xs) ++ c.row_of.result.now = ap (flat_map f) (take_more xs i 0 c.loop-c-test.true) ∙ flat_map-append f (take i xs) (e ∷ []) ∙ ap (λ l. flat_map f (take i xs) ++ l) (one ∙ sym c.row_of.ensures) in
     rw parts (added_more (flat_map f (take i xs)) c.row_of.result.now c.args.count _ _ _ _ _ _ c.loop-c.invariant c.in_ok-add_all.ensures)
+
+pub returns : goal.returns
+returns c = rw (take_all c.loop-c.c-index c.args.from.now c.loop-c-test.false) at c.loop-c.invariant

@@ -1,4 +1,4 @@
-use Rattle.std.proofs.Common.{◌<◌, ap, length, rules, string_bytes}
+use Rattle.std.proofs.Common.{◌<◌, ◌∙◌, ℕ, ap, length, string_bytes, subst, sym}
 use Rattle.sw_output.specs.PacketTexts.{node_line}
 use Rattle.sw_output.proofs.NodeLines.{lines_more}
 use Rattle.sw_output.proofs.all_nodes.all_node_lines.Goals as goal
@@ -6,6 +6,6 @@ use Rattle.sw_output.proofs.all_nodes.all_node_lines.Goals as goal
 pub loop-n-preserved : goal.loop-n-preserved
 loop-n-preserved c =
     let name = c.node_name-name.result.now in
-    let within : c.loop-n.n < length c.args.all.now = search rules in
+    let within : c.loop-n.n < length c.args.all.now = subst (λ (k : ℕ). c.loop-n.n < k) (c.nodes-n-end.ensures.count ∙ sym c.requires) c.loop-n-test.true in
     lines_more node_line c.args.network.now c.args.all.now c.loop-n.n name (string_bytes c.loop-n.text) (node_line name c.deref.result.now) (string_bytes c.add_node.new.text)
     c.index-all-n.result c.loop-n.invariant (ap (node_line name) c.deref.ensures.value) c.node_name-name.ensures within c.index-all-n.is c.in_ok-add_node.ensures
