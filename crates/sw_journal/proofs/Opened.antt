@@ -1,5 +1,5 @@
 -- A new journal.
-use Rattle.std.proofs.Common.{Bool, IsTrue, cond, List, None, Option, Some, [], ap, arith, false, filter, length, map, refl, replicate, subst, sym, true, zero, suc, ℕ, ◌*◌, ◌++◌, ◌+◌, ◌∙◌, ◌∷◌, ◌≡◌, ◌↔◌}
+use Rattle.std.proofs.Common.{Bool, IsTrue, cond, List, None, Option, Some, [], ap, append-nil, arith, false, filter, length, map, refl, replicate, subst, sym, true, zero, suc, ℕ, ◌*◌, ◌++◌, ◌+◌, ◌∙◌, ◌∷◌, ◌≡◌, ◌↔◌}
 use Rattle.atomic_table.specs.Seated.{TableId}
 use Rattle.atomic_table.specs.Table.{Me}
 use Rattle.std.proofs.lemmas.Bool.{eq-eqb}
@@ -57,6 +57,10 @@ pub starts_there : (d : Declaration) (w : Wiring) (e : ℕ) (p : PlaceEnd) → w
 unfolding network_of
 starts_there d w e p same at = ap cell_of (ap (λ (v : Wiring). slice_get v.ends e) (sym same) ∙ at)
 
+-- what is asked of the network of a net
+pub stood_at : (own d : Declaration) (id : CellId) (e : ℕ) (r is : Bool) → own ≡ d → r ≡ same_cell ((network_of own).start_of e) (machine_cell id) → r ≡ is → same_cell ((network_of d).start_of e) (machine_cell id) ≡ is
+stood_at own d id e r is same asked found = ap (λ (k : Declaration). same_cell ((network_of k).start_of e) (machine_cell id)) (sym same) ∙ sym asked ∙ found
+
 -- ---- the link ends of a cell
 
 pub numbered_more : (net : Network) (s : State) (id : CellId) (n : ℕ) (before after : List (ℕ × Numbers)) → before ≡ numbered_of net s id (range_with_len 0 n) → after ≡ before ++ numbered_of net s id (n ∷ [])
@@ -75,6 +79,12 @@ pub numbered_one : (net : Network) (s : State) (id : CellId) (e : ℕ) (numbers 
 numbered_one net s id e numbers before after here is next =
     let f : ℕ → ℕ × Numbers = λ k. (k, numbers_at net s k) in
     next ∙ (λ i. before ++ (e, is i) ∷ []) ∙ ap (λ (b : Bool). before ++ map f (cond b (e ∷ []) [])) (sym here)
+
+-- one that stands elsewhere
+pub numbered_none : (net : Network) (s : State) (id : CellId) (e : ℕ) (before : List (ℕ × Numbers)) → same_cell (net.start_of e) (machine_cell id) ≡ false → before ≡ before ++ numbered_of net s id (e ∷ [])
+numbered_none net s id e before here =
+    let f : ℕ → ℕ × Numbers = λ k. (k, numbers_at net s k) in
+    sym (append-nil before) ∙ ap (λ (b : Bool). before ++ map f (cond b (e ∷ []) [])) (sym here)
 
 pub ids_more : (f : ℕ → CellId) (n : ℕ) → map f (range_with_len 0 (n + 1)) ≡ map f (range_with_len 0 n) ++ f n ∷ []
 ids_more f n = map-range_with_len_more f 0 n n (omega arith)

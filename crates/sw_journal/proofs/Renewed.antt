@@ -1,6 +1,6 @@
 -- Link ends whose numbers are renewed one after another.
 use Rattle.std.proofs.Common.{All, Bool, List, None, Option, Some, [], ap, arith, false, get_or, length, map, refl, subst, suc, sym, true, zero, ℕ, ◌+◌, ◌<◌, ◌∙◌, ◌∷◌, ◌≡◌, ◌≢◌}
-use Rattle.std.proofs.lemmas.Bool.{false≢true, ne_eqb}
+use Rattle.std.proofs.lemmas.Bool.{eq-eqb, false≢true, ne_eqb}
 use Rattle.std.proofs.lemmas.Option.{slice_get-map, slice_get_within}
 use Rattle.std.proofs.lemmas.List.{get_or-map, length-map}
 use Rattle.std.specs.Prelude.{if◌then◌else◌, option_map, slice_get, slice_set, ◌||◌}
@@ -89,6 +89,14 @@ module _ (these : Option ℕ × Option ℕ) (net : Network) (s : State) where
       let here = other_renewed p (others 0 p (λ (no : 0 ≡ suc k). absurd (omega arith)) refl) in
       let later = here_renewed k ends (λ j q ne e. others (suc j) q (λ (same : suc j ≡ suc k). ne (omega arith)) e) in
       λ i. here i ∷ later i
+
+-- two link ends, read as numbers, are one
+pub is_that : (own e m n : ℕ) → m ≡ e → n ≡ own → m ≡ n → is_one_of (Some own, None) e ≡ true
+is_that own e m n at named same = ap (λ b. b || false) (eq-eqb own e (sym named ∙ sym same ∙ at))
+
+-- or two
+pub is_other : (own e m n : ℕ) → m ≡ e → n ≡ own → (m ≡ n → ⊥) → is_one_of (Some own, None) e ≡ false
+is_other own e m n at named apart = ap (λ b. b || false) (ne_eqb own e (λ (same : own ≡ e). apart (at ∙ sym same ∙ sym named)))
 
 module _ (net : Network) (s : State) where
   -- no link end is renewed

@@ -4,7 +4,7 @@ ghost use Rattle.sw_cell.specs.Places.{machine_cell};
 ghost use Rattle.sw_cell.specs.declared.cell.CellId.{CellId};
 ghost use Rattle.sw_config.specs.Valid.{IsValid};
 ghost use Rattle.sw_journal.specs.Cells.{all_known, cells_of, numbered, same_cell};
-ghost use Rattle.sw_journal.specs.Opening.{AreOpened, node_ids, numbered_of};
+ghost use Rattle.sw_journal.specs.Opening.{AreOpened};
 ghost use Rattle.sw_journal.specs.Record.{new_cells};
 ghost use Rattle.sw_machine.specs.State.{empty};
 ghost use Rattle.sw_model.specs.Model.{network_of};
@@ -32,24 +32,6 @@ fn stands_at(network: &Network, end: LinkEnd, id: CellId) -> bool
     }
 }
 
-// The link end goes to the list, with its numbers, if it stands at that cell.
-fn push_end(
-    net: &Net<'_, SwitchRoutes<'_>, Policy>,
-    id: CellId,
-    end: LinkEnd,
-    ends: &mut Vec<(LinkEnd, Numbers)>,
-) -> Result<(), AllocError>
-    requires state { IsNetState net.now (empty (network_of net.now.declared)) }
-    requires end { end < 2 * length net.now.declared.links }
-    ensures { OnOk result (ends.new.items ≡ ends.old.items ++ numbered_of (network_of net.now.declared) (empty (network_of net.now.declared)) id (end ∷ [])) }
-{
-    if !stands_at(net.network(), end, id) {
-        return Ok(());
-    }
-    ends.push((end, net.numbers(end)))?;
-    Ok(())
-}
-
 // The link ends of the cell, each with its numbers.
 fn ends_of(
     alloc: Global,
@@ -61,7 +43,11 @@ fn ends_of(
 {
     let mut ends = Vec::new(alloc);
     for number in 0..net.network().channels() {
-        push_end(net, id, LinkEnd::new(number), &mut ends)?;
+        let end = LinkEnd::new(number);
+        if !stands_at(net.network(), end, id) {
+            continue;
+        }
+        ends.push((end, net.numbers(end)))?;
     }
     Ok(ends)
 }
@@ -95,8 +81,8 @@ fn open(
     Ok(())
 }
 
-// The cells of all nodes.
-fn open_nodes(
+// The cells of all nodes, and behind these of all switches.
+fn open_all(
     alloc: Global,
     net: &Net<'_, SwitchRoutes<'_>, Policy>,
     table: &CellTable,
@@ -108,53 +94,15 @@ fn open_nodes(
     requires seat { seat.old.table_id ≡ table.now.shared.table_id }
     requires opened { AreOpened net.now.declared table.now.shared.table_id [] cells.old.items seat.old.me }
     ensures seat { seat.new.table_id ≡ seat.old.table_id }
-    ensures opened { OnOk result (AreOpened net.now.declared table.now.shared.table_id (node_ids (length net.now.declared.nodes)) cells.new.items seat.new.me) }
+    ensures opened { OnOk result (AreOpened net.now.declared table.now.shared.table_id (cells_of net.now.declared) cells.new.items seat.new.me) }
 {
     for n in 0..net.network().nodes() {
         open(alloc, net, table, seat, cells, CellId::Node(n))?;
     }
-    Ok(())
-}
-
-// And of all switches, behind these.
-fn open_switches(
-    alloc: Global,
-    net: &Net<'_, SwitchRoutes<'_>, Policy>,
-    table: &CellTable,
-    seat: &mut CellSeat,
-    cells: &mut Vec<Cell>,
-) -> Result<(), AllocError>
-    requires state { IsNetState net.now (empty (network_of net.now.declared)) }
-    requires table { 0 < table.now.shared.table_id.words }
-    requires seat { seat.old.table_id ≡ table.now.shared.table_id }
-    requires opened { AreOpened net.now.declared table.now.shared.table_id (node_ids (length net.now.declared.nodes)) cells.old.items seat.old.me }
-    ensures seat { seat.new.table_id ≡ seat.old.table_id }
-    ensures opened { OnOk result (AreOpened net.now.declared table.now.shared.table_id (cells_of net.now.declared) cells.new.items seat.new.me) }
-{
     for w in 0..net.network().switches() {
         open(alloc, net, table, seat, cells, CellId::Switch(w))?;
     }
     Ok(())
-}
-
-// The cells of a network in its empty state.
-pub(crate) fn opening(
-    alloc: Global,
-    net: &Net<'_, SwitchRoutes<'_>, Policy>,
-    table: &CellTable,
-    seat: &mut CellSeat,
-) -> Result<Vec<Cell>, AllocError>
-    requires state { IsNetState net.now (empty (network_of net.now.declared)) }
-    requires table { 0 < table.now.shared.table_id.words }
-    requires seat { (seat.old.table_id ≡ table.now.shared.table_id) × (seat.old.me ≡ (knower [], [])) }
-    ensures seat { seat.new.table_id ≡ seat.old.table_id }
-    ensures known { OnOk result (seat.new.me ≡ (knower (all_known net.now.declared (empty (network_of net.now.declared))), [])) }
-    ensures cells { IfOk result (λ v. v.items ≡ new_cells net.now.declared table.now.shared.table_id) }
-{
-    let mut cells = Vec::new(alloc);
-    open_nodes(alloc, net, table, seat, &mut cells)?;
-    open_switches(alloc, net, table, seat, &mut cells)?;
-    Ok(cells)
 }
 
 // The link ends of each cell stand at these places of its list.
@@ -196,7 +144,8 @@ pub(crate) fn opened(
     let marks = vec![in alloc; None; channels]?;
     let mut places = vec![in alloc; 0u16; channels]?;
     let (table, mut seat) = begin(alloc)?;
-    let cells = opening(alloc, net, &table, &mut seat)?;
+    let mut cells = Vec::new(alloc);
+    open_all(alloc, net, &table, &mut seat, &mut cells)?;
     set_places(&mut places, &cells);
     Ok(Beginning {
         marks,

@@ -1,6 +1,6 @@
 //! The numbers of a cell after a step.
 ghost use Rattle.std.specs.Prelude.{◌≡◌, ◌*◌, ◌<◌, All, IfSome, None, Some, length, map, option_map, slice_get, true};
-ghost use Rattle.sw_journal.specs.Renewal.{AreOnce, AreRenewed, AreRenewedAfter, ChangesOnlyThen, IsRenewed, is_it, is_one_of};
+ghost use Rattle.sw_journal.specs.Renewal.{AreOnce, AreRenewed, AreRenewedAfter, ChangesOnlyThen, IsRenewed};
 ghost use Rattle.sw_journal.specs.Views.{with_known};
 ghost use Rattle.sw_model.specs.Steps.{machine_step};
 
@@ -23,32 +23,15 @@ pub(crate) fn changing(
     history.net().changing(step)
 }
 
-// Is it this link end?
-fn is_it(own: Option<LinkEnd>, end: LinkEnd) -> bool
-    ensures { result ≡ is_it own end }
-{
-    match own {
-        Some(own) => own.number() == end.number(),
-        None => false,
-    }
-}
-
-// Is it one of these?
-fn is_one_of(these: &(Option<LinkEnd>, Option<LinkEnd>), end: LinkEnd) -> bool
-    ensures { result ≡ is_one_of these.now end }
-{
-    is_it(these.0, end) || is_it(these.1, end)
-}
-
-// The link end at this place, if it is one of these, has its numbers in the net from now on. The
-// table is told where they are new.
+// The link end at this place, if it is that one, has its numbers in the net from now on. The table
+// is told where they are new.
 #[inline(always)]
 fn renew_one(
     net: &Net<'_, SwitchRoutes<'_>, Policy>,
     table: &CellTable,
     seat: &mut CellSeat,
     ends: &mut Vec<(LinkEnd, Numbers)>,
-    these: &(Option<LinkEnd>, Option<LinkEnd>),
+    own: LinkEnd,
     place: usize,
 )
     requires table { 0 < table.now.shared.table_id.words }
@@ -57,13 +40,13 @@ fn renew_one(
     requires same { slice_get seat.old.me.0.all seat.old.me.0.cell ≡ Some seat.old.me.0.known }
     requires within { All (λ p. p.0 < 2 * length net.now.declared.links) ends.old.items }
     requires place { place < length ends.old.items }
-    ensures numbers { IsRenewed net.now these.now place ends.old.items ends.new.items }
+    ensures numbers { IsRenewed net.now (Some own, None) place ends.old.items ends.new.items }
     ensures names { map (λ p. p.0) ends.new.items ≡ map (λ p. p.0) ends.old.items }
     ensures table { seat.new.table_id ≡ seat.old.table_id }
     ensures seat { seat.new.me ≡ (with_known seat.old.me.0 (record { id = seat.old.me.0.known.id; ends = ends.new.items }), seat.old.me.1) }
 {
     let (end, known) = ends[place];
-    if !is_one_of(these, end) {
+    if end.number() != own.number() {
         return;
     }
     let numbers = net.numbers(end);
@@ -74,26 +57,26 @@ fn renew_one(
     tell(table, seat, place, numbers);
 }
 
-// Each of these link ends has its numbers in the net from now on, and the table is told.
+// That link end has its numbers in the net from now on, wherever it stands, and the table is told.
 fn renew(
     net: &Net<'_, SwitchRoutes<'_>, Policy>,
     table: &CellTable,
     seat: &mut CellSeat,
     ends: &mut Vec<(LinkEnd, Numbers)>,
-    these: &(Option<LinkEnd>, Option<LinkEnd>),
+    own: LinkEnd,
 )
     requires table { 0 < table.now.shared.table_id.words }
     requires seat { (seat.old.table_id ≡ table.now.shared.table_id) × (seat.old.me.0.keeps ≡ true) × (seat.old.me.0.claims ≡ true) }
     requires known { seat.old.me.0.known.ends ≡ ends.old.items }
     requires same { slice_get seat.old.me.0.all seat.old.me.0.cell ≡ Some seat.old.me.0.known }
     requires within { All (λ p. p.0 < 2 * length net.now.declared.links) ends.old.items }
-    ensures numbers { AreRenewed net.now these.now ends.old.items ends.new.items }
+    ensures numbers { AreRenewed net.now (Some own, None) ends.old.items ends.new.items }
     ensures names { map (λ p. p.0) ends.new.items ≡ map (λ p. p.0) ends.old.items }
     ensures table { seat.new.table_id ≡ seat.old.table_id }
     ensures seat { seat.new.me ≡ (with_known seat.old.me.0 (record { id = seat.old.me.0.known.id; ends = ends.new.items }), seat.old.me.1) }
 {
     for place in 0..ends.len() {
-        renew_one(net, table, seat, ends, these, place);
+        renew_one(net, table, seat, ends, own, place);
     }
 }
 
@@ -141,10 +124,10 @@ fn renew_end(
         return;
     };
     if let Some(place) = seen_at(ends, end, places) {
-        renew_one(net, table, seat, ends, &(own, None), place);
+        renew_one(net, table, seat, ends, end, place);
         return;
     }
-    renew(net, table, seat, ends, &(own, None));
+    renew(net, table, seat, ends, end);
 }
 
 // Each of the two has its numbers in the state after the history from now on, and the table is told.

@@ -1,7 +1,7 @@
 //! What a line of a schedule says.
 ghost use Rattle.std.specs.Prelude.{◌≡◌, ◌==◌, ◌∷◌, [], IfOk, IfSome, option_and_then, option_map, IfNone};
 ghost use Rattle.std.specs.List.{slice_split};
-ghost use Rattle.sw_schedule.specs.Kept.{begin_step, plain_step};
+ghost use Rattle.sw_schedule.specs.Kept.{plain_step};
 ghost use Rattle.sw_schedule.specs.Lines.{at_channel, at_node, begin_of, channel_of, grant_of, is_skipped, node_of, repeated_of, step_of, words_of};
 ghost use Rattle.sw_config.specs.Entries.{Declaration};
 
@@ -93,16 +93,27 @@ fn grant_of(network: &Network, verb: &[u8], output: &[u8], input: &[u8]) -> Opti
     }
 }
 
-/// The step of four words.
-fn begin_of(
+/// The entry of a step without cargo, if there is one.
+fn plain_entry(count: u32, step: Option<Plain>) -> Option<ScheduleEntry>
+    ensures { result ≡ option_map (λ s. record { count = count; step = plain_step s }) step }
+{
+    match step {
+        Some(step) => Some(ScheduleEntry::plain(count, step)),
+        None => None,
+    }
+}
+
+/// The entry of the step of four words, if they write one.
+fn begin_entry(
     alloc: Global,
     network: &Network,
+    count: u32,
     verb: &[u8],
     flow: &[u8],
     end: &[u8],
     cargo: &[u8],
-) -> Result<Option<Beginning>, AllocError>
-    ensures { IfOk result (λ o. option_map begin_step o ≡ begin_of network.now verb.now flow.now end.now cargo.now) }
+) -> Result<Option<ScheduleEntry>, AllocError>
+    ensures { IfOk result (λ o. o ≡ option_map (λ s. record { count = count; step = s }) (begin_of network.now verb.now flow.now end.now cargo.now)) }
 {
     if verb != b"begin".as_slice() {
         return Ok(None);
@@ -114,31 +125,10 @@ fn begin_of(
         return Ok(None);
     };
     match cargo_of(alloc, cargo)? {
-        Some(cargo) => Ok(Some(Beginning { flow, cargo, end })),
-        None => Ok(None),
-    }
-}
-
-/// The entry of a step without cargo, if there is one.
-fn plain_entry(count: u32, step: Option<Plain>) -> Option<ScheduleEntry>
-    ensures { result ≡ option_map (λ s. record { count = count; step = plain_step s }) step }
-{
-    match step {
-        Some(step) => Some(ScheduleEntry::plain(count, step)),
-        None => None,
-    }
-}
-
-/// The entry of a step that begins a packet, if there is one.
-fn begin_entry(
-    alloc: Global,
-    count: u32,
-    step: Option<Beginning>,
-) -> Result<Option<ScheduleEntry>, AllocError>
-    ensures { IfOk result (λ o. o ≡ option_map (λ s. record { count = count; step = begin_step s }) step) }
-{
-    match step {
-        Some(step) => Ok(Some(ScheduleEntry::with_cargo(alloc, count, step)?)),
+        Some(cargo) => {
+            let step = Beginning { flow, cargo, end };
+            Ok(Some(ScheduleEntry::with_cargo(alloc, count, step)?))
+        }
         None => Ok(None),
     }
 }
@@ -162,10 +152,7 @@ fn counted_entry(
         return Ok(plain_entry(count, grant_of(network, verb, first, rest)));
     };
     match cut(rest, b' ') {
-        None => {
-            let step = begin_of(alloc, network, verb, first, second, rest)?;
-            begin_entry(alloc, count, step)
-        }
+        None => begin_entry(alloc, network, count, verb, first, second, rest),
         Some(_) => Ok(None),
     }
 }

@@ -9,11 +9,10 @@ use crate::replay_report::is_locked_up;
 use crate::replayed::ReplayEnd;
 use crate::schedule::Schedule;
 use std::alloc::{AllocError, Global};
-use sw_arb::{Arbiter, Policy};
+use sw_arb::Policy;
 use sw_cell::CellId;
 use sw_config::Network;
 use sw_net::{Net, Part, SwitchRoutes, declared_net};
-use sw_route::Routing;
 
 /// The cells of the network: the nodes by number, and then the switches by number.
 ///
@@ -35,9 +34,9 @@ pub fn cells(alloc: Global, network: &Network) -> Result<Vec<CellId>, AllocError
 }
 
 /// What each of these cells, which are the network's, has.
-fn parts_of<R: Routing, A: Arbiter>(
+fn parts_of(
     alloc: Global,
-    net: &Net<'_, R, A>,
+    net: &Net<'_, SwitchRoutes<'_>, Policy>,
     cells: &[CellId],
 ) -> Result<Vec<Part>, AllocError>
     requires { All (IsIn net.now.declared) cells.now }
@@ -51,10 +50,7 @@ fn parts_of<R: Routing, A: Arbiter>(
 }
 
 /// What each of its cells has.
-fn parts<R: Routing, A: Arbiter>(
-    alloc: Global,
-    net: &Net<'_, R, A>,
-) -> Result<Vec<Part>, AllocError>
+fn parts(alloc: Global, net: &Net<'_, SwitchRoutes<'_>, Policy>) -> Result<Vec<Part>, AllocError>
     ensures { IfOk result (λ all. ArePartsOfNet net.now all.items) }
 {
     let cells = cells(alloc, net.network())?;
@@ -62,9 +58,9 @@ fn parts<R: Routing, A: Arbiter>(
 }
 
 /// What each cell has, if the network is locked up.
-fn locked_parts<R: Routing, A: Arbiter>(
+fn locked_parts(
     alloc: Global,
-    net: &Net<'_, R, A>,
+    net: &Net<'_, SwitchRoutes<'_>, Policy>,
 ) -> Result<Option<Vec<Part>>, AllocError>
     ensures { IfOk result (λ o. TellsLockedParts net.now (option_map (λ all. all.items) o)) }
 {
@@ -76,9 +72,9 @@ fn locked_parts<R: Routing, A: Arbiter>(
 }
 
 /// The same where all steps were made, and none where one was refused.
-fn parts_at<R: Routing, A: Arbiter>(
+fn parts_at(
     alloc: Global,
-    net: &Net<'_, R, A>,
+    net: &Net<'_, SwitchRoutes<'_>, Policy>,
     outcome: ReplayEnd,
 ) -> Result<Option<Vec<Part>>, AllocError>
     ensures { IfOk result (λ o. TellsLockedAt net.now outcome (option_map (λ all. all.items) o)) }

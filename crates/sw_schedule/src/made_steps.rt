@@ -7,16 +7,15 @@ ghost use Rattle.sw_model.specs.Steps.{machine_step};
 use crate::replayed::{ReplayEnd, StepRefusal};
 use crate::schedule_entry::ScheduleEntry;
 use std::alloc::{AllocError, Global};
-use sw_arb::Arbiter;
+use sw_arb::Policy;
 use sw_cell::NetFault;
 use sw_model::Step;
-use sw_net::Net;
-use sw_route::Routing;
+use sw_net::{Net, SwitchRoutes};
 
 /// Makes the step, or tells why it is refused.
-fn make<R: Routing, A: Arbiter>(
+fn make(
     alloc: Global,
-    net: &mut Net<'_, R, A>,
+    net: &mut Net<'_, SwitchRoutes<'_>, Policy>,
     step: &Step,
 ) -> Result<Option<StepRefusal>, AllocError>
     ensures network { net.new.declared ≡ net.old.declared }
@@ -31,9 +30,9 @@ fn make<R: Routing, A: Arbiter>(
 }
 
 /// Makes the step so many times, up to where it is refused.
-fn make_repeated<R: Routing, A: Arbiter>(
+fn make_repeated(
     alloc: Global,
-    net: &mut Net<'_, R, A>,
+    net: &mut Net<'_, SwitchRoutes<'_>, Policy>,
     step: &Step,
     count: u32,
 ) -> Result<ReplayEnd, AllocError>
@@ -51,9 +50,9 @@ fn make_repeated<R: Routing, A: Arbiter>(
 }
 
 /// Makes the steps of an entry, up to the first that is refused.
-fn make_entry<R: Routing, A: Arbiter>(
+fn make_entry(
     alloc: Global,
-    net: &mut Net<'_, R, A>,
+    net: &mut Net<'_, SwitchRoutes<'_>, Policy>,
     entry: &ScheduleEntry,
 ) -> Result<ReplayEnd, AllocError>
     ensures network { net.new.declared ≡ net.old.declared }
@@ -65,9 +64,9 @@ fn make_entry<R: Routing, A: Arbiter>(
 }
 
 /// Makes the steps of entries, up to the first that is refused.
-pub(crate) fn make_all<R: Routing, A: Arbiter>(
+pub(crate) fn make_all(
     alloc: Global,
-    net: &mut Net<'_, R, A>,
+    net: &mut Net<'_, SwitchRoutes<'_>, Policy>,
     entries: &[ScheduleEntry],
 ) -> Result<ReplayEnd, AllocError>
     requires { length (steps_of entries.now) ≤ 1000000 }

@@ -6,15 +6,14 @@ ghost use Rattle.sw_schedule.specs.Reports.{report_of};
 
 use crate::replayed::{ReplayEnd, Replayed};
 use std::alloc::{AllocError, Global};
-use sw_arb::Arbiter;
+use sw_arb::Policy;
 use sw_char::Packet;
-use sw_net::Net;
-use sw_route::Routing;
+use sw_net::{Net, SwitchRoutes};
 
 /// The packets that came out at each node.
-fn outputs<R: Routing, A: Arbiter>(
+fn outputs(
     alloc: Global,
-    net: &Net<'_, R, A>,
+    net: &Net<'_, SwitchRoutes<'_>, Policy>,
 ) -> Result<Vec<Vec<Packet>>, AllocError>
     ensures { IfOk result (λ all. AreOutputsOfNet net.now (map (λ packets. packets.items) all.items)) }
 {
@@ -26,7 +25,7 @@ fn outputs<R: Routing, A: Arbiter>(
 }
 
 /// Whether the network is locked up, where so many characters are undelivered.
-pub(crate) fn is_locked_up<R: Routing, A: Arbiter>(net: &Net<'_, R, A>, remaining: u64) -> bool
+pub(crate) fn is_locked_up(net: &Net<'_, SwitchRoutes<'_>, Policy>, remaining: u64) -> bool
     requires { IsUndelivered net.now remaining }
     ensures { TellsLockedUp net.now result }
 {
@@ -34,9 +33,9 @@ pub(crate) fn is_locked_up<R: Routing, A: Arbiter>(net: &Net<'_, R, A>, remainin
 }
 
 /// What is told of the network's state.
-pub(crate) fn report<R: Routing, A: Arbiter>(
+pub(crate) fn report(
     alloc: Global,
-    net: &Net<'_, R, A>,
+    net: &Net<'_, SwitchRoutes<'_>, Policy>,
     outcome: ReplayEnd,
 ) -> Result<Replayed, AllocError>
     ensures outcome { IfOk result (λ r. r.outcome ≡ outcome) }

@@ -1,7 +1,8 @@
 -- Texts as they are written at once.
-use Rattle.std.proofs.Common.{List, [], ap, append-nil, append_assoc, sym, ◌++◌, ◌∙◌, ◌∷◌, ◌≡◌, ℕ}
+use Rattle.std.proofs.Common.{List, [], ap, append-nil, append_assoc, sym, ◌++◌, ◌<◌, ◌∙◌, ◌∷◌, ◌≡◌, ℕ}
+use Rattle.std.proofs.lemmas.Bool.{lt-ltb}
 use Rattle.std.specs.Fmt.{decimal}
-use Rattle.std.specs.Prelude.{codes}
+use Rattle.std.specs.Prelude.{codes, if◌then◌else◌, nat_lt}
 use Rattle.sw_output.specs.Lines.{spaced}
 use Rattle.sw_summary.specs.Texts.{steps_line}
 
@@ -17,14 +18,28 @@ pub summary_is : (k n : ℕ) (a e p q r s : List ℕ) → k ≡ n → a ≡ p ++
     → codes "steps " ++ (decimal k ++ (codes "\n" ++ (a ++ e))) ≡ steps_line n ++ (p ++ (q ++ (r ++ s)))
 summary_is k n a e p q r s count lines caveats = rw (count, lines, caveats) (simp append_assoc)
 
-in_a_row : (l m n o p q : List ℕ) → (((((l ++ m) ++ n) ++ o) ++ p) ++ q) ≡ l ++ (m ++ (n ++ (o ++ (p ++ (q ++ [])))))
-in_a_row l m n o p q =
-    append_assoc ((((l ++ m) ++ n) ++ o)) p q ∙ append_assoc (((l ++ m) ++ n)) o (p ++ q) ∙ append_assoc (l ++ m) n (o ++ (p ++ q)) ∙ append_assoc l m (n ++ (o ++ (p ++ q)))
-    ∙ ap (λ r. l ++ (m ++ (n ++ (o ++ (p ++ r))))) (sym (append-nil q))
-
 -- a text to which six lines were added one after the other
-pub six_lines : (l m n o p q : List ℕ) {t a b c d e f : List ℕ} → t ≡ [] → a ≡ t ++ l → b ≡ a ++ m → c ≡ b ++ n → d ≡ c ++ o → e ≡ d ++ p → f ≡ e ++ q
-    → f ≡ l ++ (m ++ (n ++ (o ++ (p ++ (q ++ [])))))
-six_lines l m n o p q none first second third fourth fifth sixth =
-    sixth ∙ ap (λ x. x ++ q) (fifth ∙ ap (λ x. x ++ p) (fourth ∙ ap (λ x. x ++ o) (third ∙ ap (λ x. x ++ n) (second ∙ ap (λ x. x ++ m) (first ∙ ap (λ x. x ++ l) none)))))
-    ∙ in_a_row l m n o p q
+pub six_lines : (l m n o p q : List ℕ) (t : List ℕ) {a b c d e f : List ℕ} → a ≡ t ++ l → b ≡ a ++ m → c ≡ b ++ n → d ≡ c ++ o → e ≡ d ++ p → f ≡ e ++ q → f ≡ t ++ (l ++ (m ++ (n ++ (o ++ (p ++ (q ++ []))))))
+six_lines l m n o p q t first second third fourth fifth sixth =
+    sixth ∙ ap (λ x. x ++ q) (fifth ∙ ap (λ x. x ++ p) (fourth ∙ ap (λ x. x ++ o) (third ∙ ap (λ x. x ++ n) (second ∙ ap (λ x. x ++ m) first))))
+    ∙ append_assoc (((((t ++ l) ++ m) ++ n) ++ o)) p q ∙ append_assoc ((((t ++ l) ++ m) ++ n)) o (p ++ q) ∙ append_assoc (((t ++ l) ++ m)) n (o ++ (p ++ q))
+    ∙ append_assoc (t ++ l) m (n ++ (o ++ (p ++ q))) ∙ append_assoc t l (m ++ (n ++ (o ++ (p ++ q))))
+    ∙ ap (λ r. t ++ (l ++ (m ++ (n ++ (o ++ (p ++ r)))))) (sym (append-nil q))
+
+-- a line that is told of some, added
+told_if : (n : ℕ) (told before after : List ℕ) → 0 < n → after ≡ before ++ told → after ≡ before ++ (if nat_lt 0 n then told else [])
+told_if n told before after some added = added ∙ ap (λ b. before ++ (if b then told else [])) (sym (lt-ltb 0 n some))
+
+pub told_line : (before after name : List ℕ) (n k : ℕ) (reason words : List ℕ) → 0 < n → n ≡ k → reason ≡ words
+    → after ≡ before ++ (codes "commands of " ++ (name ++ (codes " that nobody answers: " ++ (decimal n ++ (codes " (" ++ (reason ++ codes ")\n"))))))
+    → after ≡ before ++ (if nat_lt 0 k then codes "commands of " ++ (name ++ (codes " that nobody answers: " ++ (decimal k ++ (codes " (" ++ (words ++ codes ")\n"))))) else [])
+told_line before after name n k reason words some same named added =
+    told_if n (codes "commands of " ++ (name ++ (codes " that nobody answers: " ++ (decimal n ++ (codes " (" ++ (reason ++ codes ")\n")))))) before after some added
+    ∙ (λ i. before ++ (if nat_lt 0 (same i) then codes "commands of " ++ (name ++ (codes " that nobody answers: " ++ (decimal (same i) ++ (codes " (" ++ (named i ++ codes ")\n"))))) else []))
+
+pub told_status : (before after : List ℕ) (status n : ℕ) (name words : List ℕ) → 0 < n → name ≡ words
+    → after ≡ before ++ (codes "replies with status " ++ (decimal status ++ (codes " (" ++ (name ++ (codes "): " ++ (decimal n ++ codes "\n"))))))
+    → after ≡ before ++ (if nat_lt 0 n then codes "replies with status " ++ (decimal status ++ (codes " (" ++ (words ++ (codes "): " ++ (decimal n ++ codes "\n"))))) else [])
+told_status before after status n name words some named added =
+    told_if n (codes "replies with status " ++ (decimal status ++ (codes " (" ++ (name ++ (codes "): " ++ (decimal n ++ codes "\n")))))) before after some added
+    ∙ (λ i. before ++ (if nat_lt 0 n then codes "replies with status " ++ (decimal status ++ (codes " (" ++ (named i ++ (codes "): " ++ (decimal n ++ codes "\n"))))) else []))

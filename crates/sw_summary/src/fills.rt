@@ -7,16 +7,15 @@ ghost use Rattle.sw_model.specs.Steps.{machine_step};
 ghost use Rattle.sw_net.specs.New.{IsNewNet};
 
 use std::alloc::{AllocError, Global};
-use sw_arb::{Arbiter, Policy};
+use sw_arb::Policy;
 use sw_cell::NetFault;
 use sw_config::Network;
 use sw_model::Step;
 use sw_net::{Net, SwitchRoutes, declared_net};
-use sw_route::Routing;
 use sw_topo::{Chan, LinkEnd};
 
 // How many characters the buffer of the channel holds.
-fn held<R: Routing, A: Arbiter>(net: &Net<'_, R, A>, channel: Chan) -> u16
+fn held(net: &Net<'_, SwitchRoutes<'_>, Policy>, channel: Chan) -> u16
     requires { channel < 2 * length net.now.declared.links }
     ensures { Holds net.now channel result }
 {
@@ -28,7 +27,7 @@ fn held<R: Routing, A: Arbiter>(net: &Net<'_, R, A>, channel: Chan) -> u16
 }
 
 // The fills are greater, if need be, where a character has arrived.
-fn note<R: Routing, A: Arbiter>(net: &Net<'_, R, A>, step: &Step, fills: &mut [u16])
+fn note(net: &Net<'_, SwitchRoutes<'_>, Policy>, step: &Step, fills: &mut [u16])
     requires { length fills.old ≡ 2 * length net.now.declared.links }
     ensures { AreNoted net.now (machine_step step.now) fills.old fills.new }
 {
@@ -44,9 +43,9 @@ fn note<R: Routing, A: Arbiter>(net: &Net<'_, R, A>, step: &Step, fills: &mut [u
 }
 
 // Makes the step and notes the fills, if it is possible: whether it is.
-fn make<R: Routing, A: Arbiter>(
+fn make(
     alloc: Global,
-    net: &mut Net<'_, R, A>,
+    net: &mut Net<'_, SwitchRoutes<'_>, Policy>,
     step: &Step,
     fills: &mut [u16],
 ) -> Result<bool, AllocError>

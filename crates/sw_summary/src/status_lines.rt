@@ -5,6 +5,7 @@ ghost use Rattle.sw_summary.specs.Texts.{status_line, status_lines};
 
 use crate::replies::{is_reply, status_name, status_of};
 use std::alloc::{AllocError, Global};
+use std::fmt::Write;
 use sw_char::Packet;
 
 // The status of the packet, if it is a reply.
@@ -45,14 +46,15 @@ fn with_status(statuses: &[u8], status: u8) -> usize
     statuses.iter().filter(|other| **other == status).count()
 }
 
-fn status_line(alloc: Global, status: u8, count: usize) -> Result<String, AllocError>
-    ensures { IfOk result (λ s. string_bytes s ≡ status_line status count) }
+// The line of a status that so many replies have, if some have it.
+fn push_line(text: &mut String, status: u8, count: usize) -> Result<(), AllocError>
+    ensures { IfOk result (λ _. string_bytes text.new ≡ string_bytes text.old ++ status_line status count) }
 {
     if count == 0 {
-        return Ok(String::new(alloc));
+        return Ok(());
     }
     let name = status_name(status);
-    format!(in alloc; "replies with status {status} ({name}): {count}\n")
+    write!(text, "replies with status {status} ({name}): {count}\n")
 }
 
 /// A line for each status but 0 that a reply has.
@@ -63,7 +65,7 @@ pub(crate) fn status_lines(alloc: Global, out: &[Vec<Packet>]) -> Result<String,
     let mut text = String::new(alloc);
     for status in 1..256u16 {
         let count = with_status(&all, status as u8);
-        text.push_str(status_line(alloc, status as u8, count)?.as_str())?;
+        push_line(&mut text, status as u8, count)?;
     }
     Ok(text)
 }

@@ -8,29 +8,12 @@ use crate::begun::{Begun, forms};
 use crate::declared::declared_flow;
 use crate::fate::{Fate, fated};
 use std::alloc::{AllocError, Global};
+use std::fmt::Write;
 use sw_char::Packet;
 use sw_config::{Flow, Network};
 
 // How many of the flow's packets nobody answers, for this reason.
-fn unanswered_line(
-    alloc: Global,
-    name: &str,
-    packets: &[Packet],
-    fate: Fate,
-) -> Result<String, AllocError>
-    ensures { IfOk result (λ s. string_bytes s ≡ unanswered_line name.now packets.now fate) }
-{
-    let count = fated(fate, packets);
-    if count == 0 {
-        return Ok(String::new(alloc));
-    }
-    let reason = fate.reason();
-    format!(in alloc; "commands of {name} that nobody answers: {count} ({reason})\n")
-}
-
-// The line of one reason more.
 fn push_line(
-    alloc: Global,
     text: &mut String,
     name: &str,
     packets: &[Packet],
@@ -38,54 +21,62 @@ fn push_line(
 ) -> Result<(), AllocError>
     ensures { IfOk result (λ _. string_bytes text.new ≡ string_bytes text.old ++ unanswered_line name.now packets.now fate) }
 {
-    text.push_str(unanswered_line(alloc, name, packets, fate)?.as_str())
+    let count = fated(fate, packets);
+    if count == 0 {
+        return Ok(());
+    }
+    let reason = fate.reason();
+    write!(
+        text,
+        "commands of {name} that nobody answers: {count} ({reason})\n"
+    )
 }
 
 // A line for each reason.
 #[tactic(auto, unfolding(crate::specs::Texts::unanswered_text))]
-fn unanswered_text(alloc: Global, name: &str, packets: &[Packet]) -> Result<String, AllocError>
-    ensures { IfOk result (λ s. string_bytes s ≡ unanswered_text name.now packets.now) }
+fn push_reasons(text: &mut String, name: &str, packets: &[Packet]) -> Result<(), AllocError>
+    ensures { IfOk result (λ _. string_bytes text.new ≡ string_bytes text.old ++ unanswered_text name.now packets.now) }
 {
-    let mut text = String::new(alloc);
-    push_line(alloc, &mut text, name, packets, Fate::TooShort)?;
-    push_line(alloc, &mut text, name, packets, Fate::OtherProtocol)?;
-    push_line(alloc, &mut text, name, packets, Fate::WrongCrc)?;
-    push_line(alloc, &mut text, name, packets, Fate::IsReply)?;
-    push_line(alloc, &mut text, name, packets, Fate::NotAsked)?;
-    push_line(alloc, &mut text, name, packets, Fate::NoWay)?;
-    Ok(text)
+    push_line(text, name, packets, Fate::TooShort)?;
+    push_line(text, name, packets, Fate::OtherProtocol)?;
+    push_line(text, name, packets, Fate::WrongCrc)?;
+    push_line(text, name, packets, Fate::IsReply)?;
+    push_line(text, name, packets, Fate::NotAsked)?;
+    push_line(text, name, packets, Fate::NoWay)
 }
 
 // The lines of the flow, of that number, if it ends at a target.
-fn flow_unanswered(
+fn push_flow(
     alloc: Global,
     network: &Network,
     begun: &[Begun<'_>],
     number: u16,
     flow: &Flow,
-) -> Result<String, AllocError>
+    text: &mut String,
+) -> Result<(), AllocError>
     requires { IsFlow network.now.nodes flow.now }
-    ensures { IfOk result (λ s. string_bytes s ≡ unanswered_of network.now begun.now number flow.now) }
+    ensures { IfOk result (λ _. string_bytes text.new ≡ string_bytes text.old ++ unanswered_of network.now begun.now number flow.now) }
 {
     if !network.is_target(flow.to()) {
-        return Ok(String::new(alloc));
+        return Ok(());
     }
     let packets = forms(alloc, flow, number, begun)?;
-    unanswered_text(alloc, flow.name(), &packets)
+    push_reasons(text, flow.name(), &packets)
 }
 
 // The lines of the flow of that number, if it ends at a target.
-fn unanswered_of(
+fn push_unanswered(
     alloc: Global,
     network: &Network,
     begun: &[Begun<'_>],
     number: u16,
-) -> Result<String, AllocError>
+    text: &mut String,
+) -> Result<(), AllocError>
     requires { number < length network.now.flows }
-    ensures { IfOk result (λ s. string_bytes s ≡ option_map_or (unanswered_of network.now begun.now number) (slice_get network.now.flows number) []) }
+    ensures { IfOk result (λ _. string_bytes text.new ≡ string_bytes text.old ++ option_map_or (unanswered_of network.now begun.now number) (slice_get network.now.flows number) []) }
 {
     let flow = declared_flow(network, number);
-    flow_unanswered(alloc, network, begun, number, flow)
+    push_flow(alloc, network, begun, number, flow, text)
 }
 
 /// The lines of all flows.
@@ -98,7 +89,7 @@ pub(crate) fn unanswered_texts(
 {
     let mut text = String::new(alloc);
     for i in 0..network.declared_flows() {
-        text.push_str(unanswered_of(alloc, network, begun, i)?.as_str())?;
+        push_unanswered(alloc, network, begun, i, &mut text)?;
     }
     Ok(text)
 }

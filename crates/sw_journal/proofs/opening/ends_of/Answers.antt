@@ -1,6 +1,6 @@
-use Rattle.std.proofs.Common.{ap, arith, length, ◌∙◌, ◌≡◌}
+use Rattle.std.proofs.Common.{[], ap, arith, false, length, subst, true, ◌++◌, ◌∷◌, ◌∙◌, ◌≡◌}
 use Rattle.std.specs.List.{range_with_len}
-use Rattle.sw_journal.proofs.Opened.{numbered_more}
+use Rattle.sw_journal.proofs.Opened.{numbered_more, numbered_none, numbered_one, stood_at}
 use Rattle.sw_journal.proofs.opening.ends_of.Goals as goal
 use Rattle.sw_journal.specs.Opening.{numbered_of}
 use Rattle.sw_machine.specs.State.{empty}
@@ -8,12 +8,23 @@ use Rattle.sw_model.specs.Model.{network_of}
 use Rattle.sw_net.proofs.Delivered.{channel_count}
 use Rattle.sw_config.specs.Entries.{Declaration}
 
+pub loop-number-preserved-then-not-stands_at : goal.loop-number-preserved-then-not-stands_at
+loop-number-preserved-then-not-stands_at c =
+    let net = network_of c.args.net.now.declared in
+    let ends = c.loop-number.ends.items in
+    let none = stood_at _ c.args.net.now.declared c.args.id c.new-end.result c.stands_at.result false c.network-in-loop-number.ensures.network c.stands_at.ensures c.if-not-stands_at.true in
+    let next = subst (λ k. ends ≡ ends ++ numbered_of net (empty net) c.args.id (k ∷ [])) c.new-end.ensures (numbered_none net (empty net) c.args.id c.new-end.result ends none) in
+    numbered_more net (empty net) c.args.id c.loop-number.number ends ends c.loop-number.invariant next
+
 pub loop-number-preserved : goal.loop-number-preserved
 loop-number-preserved c =
     let net = network_of c.args.net.now.declared in
-    let end = c.new.ensures in
-    let next : c.push_end.new.ends.items ≡ _ = c.in_ok-push_end.ensures in
-    numbered_more net (empty net) c.args.id c.loop-number.number c.loop-number.ends.items c.push_end.new.ends.items c.loop-number.invariant (rw (end) at next)
+    let ends = c.loop-number.ends.items in
+    let after = c.push.new.self.items in
+    let here = stood_at _ c.args.net.now.declared c.args.id c.new-end.result c.stands_at.result true c.network-in-loop-number.ensures.network c.stands_at.ensures c.if-not-stands_at.false in
+    let one = numbered_one net (empty net) c.args.id c.new-end.result c.numbers.result ends after here (c.numbers.ensures (empty net) c.requires) c.in_ok-push.ensures.items in
+    let next = subst (λ k. after ≡ ends ++ numbered_of net (empty net) c.args.id (k ∷ [])) c.new-end.ensures one in
+    numbered_more net (empty net) c.args.id c.loop-number.number ends after c.loop-number.invariant next
 
 pub returns : goal.returns
 returns c =

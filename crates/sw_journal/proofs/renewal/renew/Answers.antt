@@ -1,4 +1,4 @@
-use Rattle.std.proofs.Common.{length, refl, rules, ◌∙◌, ◌≡◌}
+use Rattle.std.proofs.Common.{None, Some, length, refl, rules, ◌∙◌, ◌≡◌}
 use Rattle.sw_journal.proofs.Renewed.{all_renewed, more_renewed, seat_first, seat_more, seat_same, within_names}
 use Rattle.sw_journal.proofs.renewal.renew.Goals as goal
 use Rattle.sw_model.specs.Model.{network_of}
@@ -22,7 +22,7 @@ loop-place-preserved c =
     let i = c.loop-place.invariant in
     let made = c.renew_one.ensures in
     record {
-      numbers = λ s state. more_renewed c.args.these.now (network_of c.args.net.now.declared) s c.loop-place.place c.args.ends.now.items c.loop-place.ends.items c.renew_one.new.ends.items (i.numbers s state) (made.numbers s state);
+      numbers = λ s state. more_renewed (Some c.args.own, None) (network_of c.args.net.now.declared) s c.loop-place.place c.args.ends.now.items c.loop-place.ends.items c.renew_one.new.ends.items (i.numbers s state) (made.numbers s state);
       names = made.names ∙ i.names;
       table = made.table ∙ i.table;
       seat = seat_more c.args.seat.now.me c.loop-place.seat.me c.renew_one.new.seat.me c.loop-place.ends.items c.renew_one.new.ends.items i.seat made.seat;
@@ -33,4 +33,4 @@ returns-clause-numbers c = λ s state.
     let i = c.loop-place.invariant in
     let names = i.names in
     let counts : c.loop-place.place ≡ length c.args.ends.now.items = search rules in
-    i.numbers s state ∙ all_renewed c.args.these.now (network_of c.args.net.now.declared) s c.loop-place.place c.args.ends.now.items counts
+    i.numbers s state ∙ all_renewed (Some c.args.own, None) (network_of c.args.net.now.declared) s c.loop-place.place c.args.ends.now.items counts

@@ -30,3 +30,9 @@ returns-in-Some-seen_at-clause-numbers c = λ s state.
     let at = subst (λ (l : List (ℕ × Numbers)). option_map (λ (p : ℕ × Numbers). p.0) (slice_get l place) ≡ Some c.in-Some.end) c.deref.ensures.value c.in-Some-seen_at.ensures in
     subst (λ (o : Option ℕ). after ≡ map (renewed (o, None) net s) ends) (sym c.in-Some.is)
     (end_renewed net s c.in-Some.end place ends after c.requires.once at (c.renew_one.ensures.numbers s state))
+
+pub returns-clause-numbers : goal.returns-clause-numbers
+returns-clause-numbers c = λ s state.
+    let ends = c.args.ends.now.items in
+    let net = network_of c.args.net.now.declared in
+    subst (λ (o : Option ℕ). c.renew.new.ends.items ≡ map (renewed (o, None) net s) ends) (sym c.in-Some.is) (c.renew.ensures.numbers s state)

@@ -10,7 +10,7 @@ use Rattle.sw_schedule.specs.Schedule.{steps_of}
 use Rattle.sw_schedule.proofs.made_steps.make_all.Goals as goal
 
 pub overflow_add-before : goal.overflow_add-before
-overflow_add-before g c =
+overflow_add-before c =
     let entries = c.args.entries.now in
     let e = c.entry-item.result in
     let i = c.loop-entry.entry-index in
@@ -23,7 +23,7 @@ overflow_add-before g c =
     omega arith
 
 pub overflow_add-result : goal.overflow_add-result
-overflow_add-result g c =
+overflow_add-result c =
     let entries = c.args.entries.now in
     let e = c.entry-item.result in
     let i = c.loop-entry.entry-index in
@@ -36,7 +36,7 @@ overflow_add-result g c =
     omega arith
 
 pub returns-in-Refused-clause-ends : goal.returns-in-Refused-clause-ends
-returns-in-Refused-clause-ends g c =
+returns-in-Refused-clause-ends c =
     let w = c.loop-entry.net in
     let u = c.make_entry.new.net in
     let entries = c.args.entries.now in
@@ -48,7 +48,7 @@ returns-in-Refused-clause-ends g c =
     stopped_behind c.args.net.now w u c.loop-entry.invariant.network (steps_of entries) (steps_of (take i entries)) (replicate e.count e.step) (steps_of (drop (i + 1) entries)) c.loop-entry.before c.in-Refused.number c.in-Refused.refusal parts c.loop-entry.invariant.made ends
 
 pub loop-entry-preserved : goal.loop-entry-preserved
-loop-entry-preserved g c =
+loop-entry-preserved c =
     let w = c.loop-entry.net in
     let u = c.make_entry.new.net in
     let entries = c.args.entries.now in
@@ -69,7 +69,7 @@ loop-entry-preserved g c =
     }
 
 pub returns-clause-ends : goal.returns-clause-ends
-returns-clause-ends g c =
+returns-clause-ends c =
     let entries = c.args.entries.now in
     let least = c.loop-entry-test.false in
     let all = take_all c.loop-entry.entry-index entries (omega arith) in

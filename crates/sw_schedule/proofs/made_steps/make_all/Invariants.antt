@@ -5,7 +5,7 @@ use Rattle.sw_schedule.specs.Schedule.{steps_of}
 use Rattle.sw_schedule.proofs.made_steps.make_all.Given as goal
 
 abbrev pub invariant-loop-entry : goal.invariant-loop-entry
-invariant-loop-entry g l = record {
+invariant-loop-entry l = record {
   network : l.net.declared ≡ l.initial.net.declared;
   made : NetEnds l.initial.net (steps_of (take l.entry-index l.entries)) (Made l.before) l.net;
   within : l.before ≤ length (steps_of (take l.entry-index l.entries));

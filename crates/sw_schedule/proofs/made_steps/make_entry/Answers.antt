@@ -7,7 +7,7 @@ use Rattle.sw_model.specs.Steps.{machine_step}
 use Rattle.sw_schedule.proofs.made_steps.make_entry.Goals as goal
 
 pub returns-clause-ends : goal.returns-clause-ends
-returns-clause-ends g c =
+returns-clause-ends c =
     let v = c.args.net.now in
     let w = c.make_repeated.new.net in
     let x = machine_step c.in_ok-step.step in

@@ -7,7 +7,7 @@ use Rattle.sw_model.specs.Steps.{machine_step}
 use Rattle.sw_schedule.proofs.made_steps.make_repeated.Goals as goal
 
 pub returns-in-Some-clause-ends : goal.returns-in-Some-clause-ends
-returns-in-Some-clause-ends g c =
+returns-in-Some-clause-ends c =
     let w = c.loop-made.net in
     let u = c.make.new.net in
     let x = machine_step c.args.step.now in
@@ -17,7 +17,7 @@ returns-in-Some-clause-ends g c =
     refused_again c.args.net.now w u c.loop-made.invariant.network x c.loop-made.made c.args.count c.in-Some.refusal lt c.loop-made.invariant.made makes
 
 pub loop-made-preserved : goal.loop-made-preserved
-loop-made-preserved g c =
+loop-made-preserved c =
     let w = c.loop-made.net in
     let u = c.make.new.net in
     let x = machine_step c.args.step.now in
@@ -28,7 +28,7 @@ loop-made-preserved g c =
     }
 
 pub returns-clause-ends : goal.returns-clause-ends
-returns-clause-ends g c =
+returns-clause-ends c =
     let x = machine_step c.args.step.now in
     let least = c.loop-made-test.false in
     let most = c.loop-made.auto.made-end in

@@ -5,7 +5,7 @@ use Rattle.sw_model.specs.Steps.{machine_step}
 use Rattle.sw_schedule.proofs.made_steps.make_repeated.Given as goal
 
 abbrev pub invariant-loop-made : goal.invariant-loop-made
-invariant-loop-made g l = record {
+invariant-loop-made l = record {
   network : l.net.declared ≡ l.initial.net.declared;
   made : NetEnds l.initial.net (replicate l.made (machine_step l.step)) (Made l.made) l.net;
 }

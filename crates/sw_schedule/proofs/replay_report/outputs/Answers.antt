@@ -4,10 +4,10 @@ use Rattle.sw_schedule.proofs.Outputs.{all_outputs, pushed}
 use Rattle.sw_schedule.proofs.replay_report.outputs.Goals as goal
 
 pub loop-n-preserved : goal.loop-n-preserved
-loop-n-preserved g c = pushed c.args.net.now c.loop-n.all.items c.loop-n.n c.in_ok-came_out.field-0 c.push.new.self.items c.in_ok-push.ensures.items c.loop-n.invariant c.in_ok-came_out.ensures
+loop-n-preserved c = pushed c.args.net.now c.loop-n.all.items c.loop-n.n c.in_ok-came_out.field-0 c.push.new.self.items c.in_ok-push.ensures.items c.loop-n.invariant c.in_ok-came_out.ensures
 
 pub returns : goal.returns
-returns g c =
+returns c =
     let v = c.args.net.now in
     let same = ap (λ (d : Declaration). length d.nodes) c.network.ensures.network in
     let count = c.nodes-n-end.ensures.count in

@@ -2,4 +2,4 @@ use Rattle.sw_schedule.proofs.Outputs.{AreFirst}
 use Rattle.sw_schedule.proofs.replay_report.outputs.Given as goal
 
 abbrev pub invariant-loop-n : goal.invariant-loop-n
-invariant-loop-n g l = AreFirst l.net l.n l.all.items
+invariant-loop-n l = AreFirst l.net l.n l.all.items

@@ -5,7 +5,7 @@ use Rattle.sw_summary.proofs.Held.{held_is}
 use Rattle.sw_summary.proofs.fills.held.Goals as goal
 
 pub returns : goal.returns
-returns g c =
+returns c =
     let n = c.numbers-numbers.result in
     let used = c.saturating_sub-used.ensures in
     let left = c.saturating_sub.ensures in
