@@ -1,10 +1,11 @@
 //! What is wrong, and what is right, in words.
 ghost use Rattle.std.specs.Prelude.{◌≡◌, ◌++◌, IfOk, codes, flat_map, map, string_bytes};
 ghost use Rattle.sw_toml_table.specs.Keys.{key_text};
-ghost use Rattle.sw_hints.specs.FaultWords.{expected_text, fault_words, joined, key_fault_words, one_of, topology_expected, topology_words, what_text};
+ghost use Rattle.sw_hints.specs.FaultWords.{expected_text, fault_words, key_fault_words, one_of, topology_expected, topology_words, what_text};
 
 use crate::key_words::{keys_of, value_words};
 use std::alloc::{AllocError, Global};
+use std::fmt::Write;
 use sw_command::fault_text;
 use sw_toml_table::{Key, KeyFault, TextFault};
 use sw_topo::{Limit, TopoFault};
@@ -65,31 +66,24 @@ fn more_keys(alloc: Global, keys: &[Key]) -> Result<String, AllocError>
 {
     let mut text = String::new(alloc);
     for key in keys {
-        text.push_str(", ")?;
-        text.push_str(key.text())?;
+        let name = key.text();
+        write!(text, ", {name}")?;
     }
     Ok(text)
 }
 
-// The keys, with a comma between each two.
-fn joined(alloc: Global, keys: &[Key]) -> Result<String, AllocError>
-    ensures { IfOk result (λ s. string_bytes s ≡ joined keys.now) }
-{
-    match keys {
-        [] => Ok(String::new(alloc)),
-        [first, rest @ ..] => {
-            let key = first.text();
-            let more = more_keys(alloc, rest)?;
-            format!(in alloc; "{key}{more}")
-        }
-    }
-}
-
+// The keys that a table may have, with a comma between each two.
 fn one_of(alloc: Global, keys: &[Key]) -> Result<String, AllocError>
     ensures { IfOk result (λ s. string_bytes s ≡ one_of keys.now) }
 {
-    let keys = joined(alloc, keys)?;
-    format!(in alloc; "one of {keys}")
+    match keys {
+        [] => String::from_str(alloc, "one of "),
+        [first, rest @ ..] => {
+            let key = first.text();
+            let more = more_keys(alloc, rest)?;
+            format!(in alloc; "one of {key}{more}")
+        }
+    }
 }
 
 fn topology_expected(fault: TopoFault) -> &'static str

@@ -6,7 +6,7 @@ ghost use Rattle.sw_toml_table.specs.Keys.{key_text};
 ghost use Rattle.sw_toml_table.specs.Table.{is_known};
 ghost use Rattle.toml.specs.View.{table_view};
 ghost use Rattle.sw_hints.specs.Entries.{names_of, part_names};
-ghost use Rattle.sw_hints.specs.Helps.{help_text, key_help, key_fault_help, known_name_help, meant_help, name_help, node_help, still_words, topology_help};
+ghost use Rattle.sw_hints.specs.Helps.{help_text, key_help, key_fault_help, meant_help, name_help, node_help, still_words, topology_help};
 ghost use Rattle.sw_hints.specs.Nearest.{like};
 
 use crate::entries::{names_of, part_names};
@@ -22,7 +22,12 @@ use toml::Table;
 pub fn is_one_of(keys: &[Key], name: &str) -> bool
     ensures { result ≡ is_known keys.now name.now }
 {
-    keys.iter().any(|key| key.text() == name)
+    for key in keys {
+        if key.text() == name {
+            return true;
+        }
+    }
+    false
 }
 
 // How the keys are written.
@@ -81,17 +86,15 @@ fn key_help(alloc: Global, section: Section, name: &str) -> Result<String, Alloc
 }
 
 // Is the name one of these?
-fn is_among(names: &[&str], name: &str) -> bool
-    ensures { result ≡ list_any (λ t. bytes_eq t.now name.now) names.now }
-{
-    names.iter().any(|text| *text == name)
-}
-
-// The same, of what the names are.
 fn is_named(names: &[&str], name: &str) -> bool
     ensures { result ≡ list_any (λ s. bytes_eq s name.now) (map (λ t. t.now) names.now) }
 {
-    is_among(names, name)
+    for text in names {
+        if *text == name {
+            return true;
+        }
+    }
+    false
 }
 
 // What to do about a name of no node, where there may be a switch of the name.
@@ -126,22 +129,6 @@ fn flow_end_help(alloc: Global, document: &Table, name: &str) -> Result<String, 
     node_help(alloc, name, &nodes, &switches)
 }
 
-// What to do about this name at this key.
-fn known_name_help(
-    alloc: Global,
-    document: &Table,
-    key: Key,
-    name: &str,
-) -> Result<String, AllocError>
-    ensures { IfOk result (λ s. string_bytes s ≡ known_name_help (table_view document.now) key name.now) }
-{
-    match key {
-        Key::A | Key::B => link_end_help(alloc, document, name),
-        Key::From | Key::To => flow_end_help(alloc, document, name),
-        _ => Ok(String::new(alloc)),
-    }
-}
-
 // What to do about the name at this key, which nothing suitable has.
 fn name_help(
     alloc: Global,
@@ -151,9 +138,13 @@ fn name_help(
 ) -> Result<String, AllocError>
     ensures { IfOk result (λ s. string_bytes s ≡ name_help (table_view document.now) section key) }
 {
-    match text_of(document, section, key) {
-        Some(name) => known_name_help(alloc, document, key, name),
-        None => Ok(String::new(alloc)),
+    let Some(name) = text_of(document, section, key) else {
+        return Ok(String::new(alloc));
+    };
+    match key {
+        Key::A | Key::B => link_end_help(alloc, document, name),
+        Key::From | Key::To => flow_end_help(alloc, document, name),
+        _ => Ok(String::new(alloc)),
     }
 }
 

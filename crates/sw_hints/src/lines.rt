@@ -2,7 +2,7 @@
 ghost use Rattle.std.specs.Prelude.{◌≡◌, ◌≤◌, ◌==◌, ◌++◌, IfOk, IfSome, codes, drop, length, not, string_bytes, take};
 ghost use Rattle.std.specs.Fmt.{decimal};
 ghost use Rattle.std.specs.List.{prefix_len};
-ghost use Rattle.sw_hints.specs.HintLines.{first_line, found_line, found_part, head_line, hint_lines, place_text, told};
+ghost use Rattle.sw_hints.specs.HintLines.{found_line, found_part, head_line, hint_lines, place_text, told};
 
 use crate::escaped::shown;
 use std::alloc::{AllocError, Global};
@@ -16,21 +16,12 @@ fn line_end(text: &[u8]) -> usize
     ensures end { result ≡ prefix_len (λ b. not (b == 10)) text.now }
     ensures within { result ≤ length text.now }
 {
-    text.iter().take_while(|byte| **byte != b'\n').count()
-}
-
-// What stands before the first LF.
-fn first_line(text: &[u8]) -> &[u8]
-    ensures { result.now ≡ first_line text.now }
-{
-    &text[..line_end(text)]
-}
-
-// The first bytes, as many as are shown.
-fn most(text: &[u8]) -> &[u8]
-    ensures { result.now ≡ take 72 text.now }
-{
-    &text[..MOST_FOUND.min(text.len())]
+    for (end, byte) in text.iter().enumerate() {
+        if *byte == b'\n' {
+            return end;
+        }
+    }
+    text.len()
 }
 
 // What stands behind an offset.
@@ -46,7 +37,9 @@ fn found_part(text: &[u8], at: usize) -> &[u8]
     requires { at ≤ length text.now }
     ensures { result.now ≡ found_part text.now at }
 {
-    most(first_line(behind(text, at)))
+    let rest = behind(text, at);
+    let line = &rest[..line_end(rest)];
+    &line[..MOST_FOUND.min(line.len())]
 }
 
 // A place behind a path.

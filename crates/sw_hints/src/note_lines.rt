@@ -2,7 +2,7 @@
 ghost use Rattle.std.specs.Prelude.{◌≡◌, ◌≤◌, ◌++◌, IfOk, IfSome, codes, length, string_bytes};
 ghost use Rattle.std.specs.Fmt.{decimal};
 ghost use Rattle.sw_hints.specs.HintLines.{told};
-ghost use Rattle.sw_hints.specs.NoteLines.{AddsLine, AreNoteLines, IsNoteLine, IsNotePlace, entry_of, entry_text, note_words, subject};
+ghost use Rattle.sw_hints.specs.NoteLines.{AddsLine, AreNoteLines, IsNotePlace, entry_of, entry_text, note_words, subject};
 
 use crate::lines::told;
 use std::alloc::{AllocError, Global};
@@ -150,19 +150,12 @@ fn noted(alloc: Global, text: &[u8], note: Note, place: Option<usize>) -> Result
     told(alloc, "note", line.as_bytes())
 }
 
-// The line of a note.
-fn note_line(alloc: Global, text: &[u8], note: Note) -> Result<String, AllocError>
-    ensures { IfOk result (λ s. IsNoteLine text.now note (string_bytes s)) }
-{
-    let place = note_place(alloc, text, note)?;
-    noted(alloc, text, note, place)
-}
-
 // Adds the line of a note.
 fn add_line(alloc: Global, text: &[u8], note: Note, lines: &mut String) -> Result<(), AllocError>
     ensures { IfOk result (λ _. AddsLine text.now note (string_bytes lines.old) (string_bytes lines.new)) }
 {
-    let line = note_line(alloc, text, note)?;
+    let place = note_place(alloc, text, note)?;
+    let line = noted(alloc, text, note, place)?;
     lines.push_str(line.as_str())
 }
 

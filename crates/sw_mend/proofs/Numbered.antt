@@ -1,5 +1,5 @@
 -- What is made of elements by their numbers, one element more.
-use Rattle.std.proofs.Common.{◌≡◌, ℕ, zero, suc, ◌+◌, ◌<◌, List, [], ◌∷◌, ◌++◌, length, take, get_or, inl, inr, Some, refl, sym, ap, ◌∙◌, arith, append-nil, append_assoc}
+use Rattle.std.proofs.Common.{◌≡◌, ℕ, zero, suc, ◌+◌, ◌<◌, ◌≤◌, List, [], ◌∷◌, ◌++◌, length, take, get_or, inl, inr, Some, refl, sym, ap, ◌∙◌, arith, append-nil, append_assoc}
 use Rattle.std.specs.Prelude.{slice_get}
 use Rattle.std.specs.Option.{option_map_or}
 use Rattle.std.proofs.lemmas.List.{take_all}
@@ -57,6 +57,10 @@ module _ {A B : Type 0} (make : ℕ → A → List B) where
         | inl found ↦ grown old before here after i xs found.0 found.2 so_far (is found.0) more
         | inr past ↦ absurd (omega (arith, past.0, lt))
       ]
+
+  -- where all were passed
+  pub all_grown : (old after : List B) (i : ℕ) (xs : List A) → length xs ≤ i → after ≡ old ++ by_number make 0 (take i xs) → after ≡ old ++ by_number make 0 xs
+  all_grown old after i xs past so_far = so_far ∙ ap (λ l. old ++ by_number make 0 l) (take_all i xs past)
 
   -- the same where nothing was made before
   pub made_more : (before after : List B) (i : ℕ) (xs : List A) (x : A) → i < length xs → x ≡ get_or xs i x → before ≡ by_number make 0 (take i xs)

@@ -54,6 +54,10 @@ kind_more d kinds i e before after lt so_far more =
     let kind : Kind = get_or kinds i e in
     more ∙ ap (λ l. l ++ kind_away d kind) so_far ∙ flat_map_more (kind_away d) [] (take i kinds) kind ∙ ap (flat_map (kind_away d)) (sym (take_more kinds i e lt))
 
+pub kinds_all : (d : Declaration) (kinds : List Kind) (i : ℕ) (made : List Change) → length kinds ≤ i → made ≡ flat_map (kind_away d) (take i kinds)
+    → made ≡ flat_map (kind_away d) kinds
+kinds_all d kinds i made past so_far = so_far ∙ ap (flat_map (kind_away d)) (take_all i kinds past)
+
 -- the kinds in their order
 five : (a b c e f : List Change) → a ++ (b ++ (c ++ (e ++ (f ++ [])))) ≡ (((a ++ b) ++ c) ++ e) ++ f
 five a b c e f =

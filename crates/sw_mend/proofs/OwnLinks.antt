@@ -1,12 +1,15 @@
 -- The link that a target can have of its own, and whether one is tried.
-use Rattle.std.proofs.Common.{◌≡◌, ℕ, ◌<◌, ◌&&◌, Bool, true, false, List, [], Option, length, ap, arith, inl, inr, refl, sym, ◌∙◌}
-use Rattle.std.specs.Prelude.{is_some, option_and_then, if◌then◌else◌}
+use Rattle.std.proofs.Common.{◌≡◌, ℕ, ◌<◌, ◌&&◌, Bool, true, false, List, [], Option, length, ap, arith, inl, inr, refl, sym, ◌∙◌, Some}
+use Rattle.std.specs.Prelude.{is_some, option_and_then, option_map, slice_get, if◌then◌else◌}
 use Rattle.std.specs.List.{list_any}
 use Rattle.std.specs.Option.{option_map_or, option_to_list}
-use Rattle.std.proofs.lemmas.Option.{slice_get_cases}
-use Rattle.sw_config.specs.Entries.{NodeEntry, Declaration, target_of}
+use Rattle.std.proofs.lemmas.Option.{get_or_from_slice_get, slice_get_cases}
+use Rattle.sw_topo.specs.Wiring.{Wiring, out, partner}
+use Rattle.sw_topo.specs.declared.place.PlaceEnd.{PlaceEnd}
+use Rattle.sw_topo.specs.declared.place.PlaceEnd.TheVariants.{Switch}
+use Rattle.sw_config.specs.Entries.{LinkEntry, NodeEntry, Declaration, capacities, link_ends, target_of, wiring_of}
 use Rattle.sw_mend.specs.Changes.{made_at}
-use Rattle.sw_mend.specs.Splits.{is_asking, own_links, target_link}
+use Rattle.sw_mend.specs.Splits.{buffer_of, free_port_below, is_asking, link_beside, own_links, target_link}
 use Rattle.sw_mend.specs.declared.change.TargetLink.{TargetLink}
 
 own_at : (d : Declaration) (n : ℕ) → n < length d.nodes
@@ -40,3 +43,27 @@ pub own_link_at : (d : Declaration) (n : ℕ) (a b : Bool) (link : Option Target
 own_link_at d n a b link lt is passes also too same =
     ap option_to_list same
     ∙ sym (own_at d n lt ∙ if_both (is_some (target_of d.nodes n)) (list_any (is_asking n) d.flows) (option_to_list (target_link d n)) true true (sym is ∙ passes) (sym also ∙ too))
+
+-- ---- the link beside that of the node
+
+-- what a buffer holds, where it is looked up
+buffer_is : (links : List LinkEntry) (channel n : ℕ) → slice_get (capacities links) channel ≡ Some n → n ≡ buffer_of links channel
+buffer_is links channel n here = sym (get_or_from_slice_get (capacities links) channel n 0 here)
+
+abbrev pub link_with : ℕ → ℕ → ℕ → ℕ → ℕ → ℕ → TargetLink
+link_with node s p port near far = record { node = node; switch = s; beside = p; port = port; near = near; far = far }
+
+pub beside_at : (d : Declaration) (node channel s p port near far : ℕ) → Some port ≡ free_port_below 32 (link_ends d.links) s
+    → slice_get (capacities d.links) (partner channel) ≡ Some near → slice_get (capacities d.links) channel ≡ Some far
+    → Some (link_with node s p port near far) ≡ link_beside d node channel (Switch s p)
+beside_at d node channel s p port near far found at_near at_far =
+    (λ t. Some (link_with node s p port (buffer_is d.links (partner channel) near at_near t) (buffer_is d.links channel far at_far t)))
+    ∙ ap (option_map (λ (q : ℕ). link_with node s p q (buffer_of d.links (partner channel)) (buffer_of d.links channel))) found
+
+-- the channel out of the node leads there
+pub target_link_is : (d : Declaration) (w : Wiring) (n channel : ℕ) (end : PlaceEnd) (link : Option TargetLink) → w ≡ wiring_of d → out w.ends n ≡ Some channel
+    → slice_get w.ends (partner channel) ≡ Some end → link ≡ link_beside d n channel end → link ≡ target_link d n
+target_link_is d w n channel end link is leads there same =
+    let from : out (link_ends d.links) n ≡ Some channel = sym (ap (λ (w : Wiring). out w.ends n) is) ∙ leads in
+    let at : slice_get (link_ends d.links) (partner channel) ≡ Some end = sym (ap (λ (w : Wiring). slice_get w.ends (partner channel)) is) ∙ there in
+    same ∙ sym (ap (option_and_then (λ (c : ℕ). option_and_then (link_beside d n c) (slice_get (link_ends d.links) (partner c)))) from ∙ ap (option_and_then (link_beside d n channel)) at)

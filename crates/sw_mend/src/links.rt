@@ -3,10 +3,9 @@ ghost use Rattle.std.specs.Prelude.{◌≡◌, ◌*◌, ◌<◌, ◌≤◌, IfSo
 ghost use Rattle.std.specs.List.{list_any};
 ghost use Rattle.std.specs.Option.{option_to_list};
 ghost use Rattle.sw_topo.specs.Checked.{IsIn};
-ghost use Rattle.sw_topo.specs.Wiring.{partner};
 ghost use Rattle.sw_config.specs.Entries.{link_ends};
 ghost use Rattle.sw_mend.specs.Changes.{made_at};
-ghost use Rattle.sw_mend.specs.Splits.{IsTargetLink, free_port_below, is_asking, buffer_of, is_free_port, link_beside, own_links, target_link};
+ghost use Rattle.sw_mend.specs.Splits.{IsTargetLink, free_port_below, is_asking, is_free_port, link_beside, own_links};
 
 use crate::change::TargetLink;
 use std::marker::Model;
@@ -37,31 +36,6 @@ fn free_port(topology: &Topology, switch: u16, bound: u8) -> Option<Port>
     None
 }
 
-// The link at that port beside that of the node, whose channel out it is.
-fn link_at(
-    network: &Network,
-    node: u16,
-    channel: Chan,
-    switch: u16,
-    beside: Port,
-    port: Port,
-) -> TargetLink
-    requires node { node < length network.now.nodes }
-    requires channel { channel < 2 * length network.now.links }
-    requires switch { switch < length network.now.switches }
-    ensures link { result ≡ record { node = node; switch = switch; beside = beside; port = port; near = buffer_of network.now.links (partner channel); far = buffer_of network.now.links channel } }
-    ensures inside { IsTargetLink network.now result }
-{
-    TargetLink {
-        node,
-        switch,
-        beside,
-        port,
-        near: network.capacity(channel.partner()),
-        far: network.capacity(channel),
-    }
-}
-
 // The link beside that of the node, whose channel out leads to such an end.
 fn link_beside(network: &Network, node: u16, channel: Chan, end: PlaceEnd) -> Option<TargetLink>
     requires node { node < length network.now.nodes }
@@ -74,20 +48,16 @@ fn link_beside(network: &Network, node: u16, channel: Chan, end: PlaceEnd) -> Op
         PlaceEnd::Node(_) => None,
         PlaceEnd::Switch(switch, beside) => {
             let port = free_port(network.topology(), switch, 32)?;
-            Some(link_at(network, node, channel, switch, beside, port))
+            Some(TargetLink {
+                node,
+                switch,
+                beside,
+                port,
+                near: network.capacity(channel.partner()),
+                far: network.capacity(channel),
+            })
         }
     }
-}
-
-// The link beside that of the node.
-fn target_link(network: &Network, node: u16) -> Option<TargetLink>
-    requires { node < length network.now.nodes }
-    ensures link { result ≡ target_link network.now node }
-    ensures inside { IfSome result (IsTargetLink network.now) }
-{
-    let topology = network.topology();
-    let channel = topology.out(node);
-    link_beside(network, node, channel, topology.end_of(channel))
 }
 
 // Does the flow go to the node, and is it answered?
@@ -121,5 +91,7 @@ pub(crate) fn own_link_of(network: &Network, node: u16) -> Option<TargetLink>
     if !is_asked(network, node) {
         return None;
     }
-    target_link(network, node)
+    let topology = network.topology();
+    let channel = topology.out(node);
+    link_beside(network, node, channel, topology.end_of(channel))
 }

@@ -1,10 +1,9 @@
 //! The network in which a node is split, built anew.
-ghost use Rattle.std.specs.Prelude.{◌≡◌, ◌<◌, ◌≤◌, ◌++◌, ◌∷◌, [], false, codes, IfOk, OnOk, length, map, slice_get, option_map, Some, string_bytes};
+ghost use Rattle.std.specs.Prelude.{◌≡◌, ◌<◌, ◌++◌, [], false, codes, IfOk, OnOk, length, slice_get, option_map, Some, string_bytes};
 ghost use Rattle.std.specs.List.{list_any};
 ghost use Rattle.std.specs.Str.{bytes_eq};
 ghost use Rattle.sw_config.specs.Entries.{empty, part_names};
-ghost use Rattle.sw_mend.specs.Changes.{made_at};
-ghost use Rattle.sw_mend.specs.Splits.{IsSplit, IsTargetLink, IsWired, own_link, split, target_part};
+ghost use Rattle.sw_mend.specs.Splits.{IsSplit, IsTargetLink, IsWired, split};
 
 use crate::change::TargetLink;
 use crate::moved::add_split_flows;
@@ -16,23 +15,19 @@ use sw_config::{Network, NetworkBuilder};
 use sw_topo::limits::MAX_NODES;
 use sw_topo::{PlaceEnd, TopoError};
 
-// Has a switch that name?
-fn is_switch_name(network: &Network, name: &str) -> bool
-    ensures { result ≡ list_any (bytes_eq name.now) (map (λ s. s.name) network.now.switches) }
+// Has a node or a switch that name?
+fn is_taken(network: &Network, name: &str) -> bool
+    ensures { result ≡ list_any (bytes_eq name.now) (part_names network.now) }
 {
+    if network.node_named(name).is_some() {
+        return true;
+    }
     for switch in 0..network.switches() {
         if name == network.switch_name(switch) {
             return true;
         }
     }
     false
-}
-
-// Has a node or a switch that name?
-fn is_taken(network: &Network, name: &str) -> bool
-    ensures { result ≡ list_any (bytes_eq name.now) (part_names network.now) }
-{
-    network.node_named(name).is_some() || is_switch_name(network, name)
 }
 
 // The name of the node of its own for the target of that node.
@@ -42,45 +37,6 @@ fn target_name(alloc: Global, network: &Network, node: u16) -> Result<String, Al
 {
     let name = network.node_name(node);
     format!(in alloc; "{name}-target")
-}
-
-// Adds the node of its own for the target.
-fn add_target(
-    alloc: Global,
-    network: &Network,
-    node: u16,
-    name: &str,
-    builder: &mut NetworkBuilder,
-) -> Result<(), AllocError>
-    requires node { node < length network.now.nodes }
-    requires few { length network.now.nodes < MAX_NODES }
-    requires name { option_map (λ e. e.name ++ codes "-target") (slice_get network.now.nodes node) ≡ Some name.now }
-    requires new_name { list_any (bytes_eq name.now) (part_names network.now) ≡ false }
-    requires before { builder.old ≡ record empty { nodes = network.now.nodes } }
-    ensures { OnOk result (builder.new ≡ record empty { nodes = network.now.nodes ++ made_at target_part network.now.nodes node }) }
-{
-    builder.add_node(alloc, name, network.target(node))
-}
-
-// Adds its link.
-fn add_own_link(
-    node: u16,
-    link: &TargetLink,
-    builder: &mut NetworkBuilder,
-) -> Result<(), AllocError>
-    requires node { node < length builder.old.nodes }
-    requires switch { link.now.switch < length builder.old.switches }
-    requires low_near { 8 ≤ link.now.near }
-    requires high_near { link.now.near ≤ 4096 }
-    requires low_far { 8 ≤ link.now.far }
-    requires high_far { link.now.far ≤ 4096 }
-    ensures { OnOk result (builder.new ≡ record builder.old { links = builder.old.links ++ own_link node link.now ∷ [] }) }
-{
-    // Reads the port, which is 0 to 31.
-    let _port = link.port.number();
-    let near = PlaceEnd::Node(node);
-    let far = PlaceEnd::Switch(link.switch, link.port);
-    builder.add_link(near, far, link.near, link.far)
 }
 
 // Adds the nodes, the switches and the links after the split.
@@ -101,10 +57,14 @@ fn add_split_parts(
     // Names the network, which is valid by its type.
     let _topology = network.topology();
     add_nodes(alloc, network, builder)?;
-    add_target(alloc, network, link.node, name, builder)?;
+    builder.add_node(alloc, name, network.target(link.node))?;
     add_switches(alloc, network, &[], builder)?;
     add_links(network, builder)?;
-    add_own_link(network.nodes(), link, builder)
+    // Reads the port, which is 0 to 31.
+    let _port = link.port.number();
+    let near = PlaceEnd::Node(network.nodes());
+    let far = PlaceEnd::Switch(link.switch, link.port);
+    builder.add_link(near, far, link.near, link.far)
 }
 
 // The network that the builder has, if its wiring has no fault.

@@ -60,21 +60,14 @@ impl Headers {
         name: &str,
         opens: bool,
     ) -> Option<Section> {
-        let (key, section) = match parent? {
-            Section::Document => return self.entry(name, opens),
-            Section::Node(node) => ("target", Section::Target(node)),
-            Section::Switch(switch) => ("route", Section::Route(switch, 0)),
-            Section::Flow(flow) => ("reply", Section::Reply(flow)),
-            _ => return None,
-        };
-        if name != key {
-            return None;
-        }
-        match section {
-            Section::Route(switch, _) => {
+        match (parent?, name) {
+            (Section::Document, _) => self.entry(name, opens),
+            (Section::Node(node), "target") => Some(Section::Target(node)),
+            (Section::Switch(switch), "route") => {
                 Some(Section::Route(switch, number(&mut self.routes, opens)))
             }
-            section => Some(section),
+            (Section::Flow(flow), "reply") => Some(Section::Reply(flow)),
+            _ => None,
         }
     }
 }

@@ -1,6 +1,6 @@
 //! Tables and values of a document, by where they stand.
 ghost use Rattle.std.specs.Prelude.{◌≡◌, option_and_then, option_map};
-ghost use Rattle.toml.specs.Data.{as_table, at, get_member};
+ghost use Rattle.toml.specs.Data.{get_member};
 ghost use Rattle.toml.specs.View.{table_view, view};
 ghost use Rattle.sw_notes.specs.Lookup.{entry_of, inner_of, table_of, value_of};
 
@@ -27,22 +27,15 @@ fn inner_of(table: Option<&Table>, key: Key) -> Option<&Table>
     }
 }
 
-// The table at a place of a list.
-fn table_in(list: &Value, number: usize) -> Option<&Table>
-    ensures { option_map (λ t. table_view t.now) result ≡ option_and_then as_table (at number (view list.now)) }
-{
-    match list.get(number) {
-        Some(value) => value.as_table(),
-        None => None,
-    }
-}
-
 // The table at a place of the list at a key of a table, if there is one.
 fn entry_of(table: Option<&Table>, key: Key, number: usize) -> Option<&Table>
     ensures { option_map (λ t. table_view t.now) result ≡ option_and_then (entry_of key number) (option_map (λ t. table_view t.now) table.entry) }
 {
-    match member_of(table, key.text()) {
-        Some(list) => table_in(list, number),
+    let Some(list) = member_of(table, key.text()) else {
+        return None;
+    };
+    match list.get(number) {
+        Some(value) => value.as_table(),
         None => None,
     }
 }

@@ -1,7 +1,7 @@
 //! What there is to note of a fault.
 ghost use Rattle.std.specs.Prelude.{◌≡◌, ◌++◌, IfOk, map, option_map, option_to_list, take};
 ghost use Rattle.toml.specs.View.{table_view};
-ghost use Rattle.sw_notes.specs.Notes.{earlier, end_of, entry_in, first_at, first_for, holder, link_notes, name_note, node_notes, notes_of, port_note, range_of, route_note};
+ghost use Rattle.sw_notes.specs.Notes.{earlier, entry_in, first_at, holder, link_notes, name_note, node_notes, notes_of, port_note, range_of, route_note};
 ghost use Rattle.sw_notes.specs.ReplyNotes.{named};
 ghost use Rattle.sw_notes.specs.declared.note.Note.TheVariants.{LinkHere};
 
@@ -83,22 +83,6 @@ fn add_holder(
     }
 }
 
-// The switch and the port at an end of the link of this number.
-fn end_of(document: &Table, link: usize, key: Key, port_key: Key) -> Option<(&str, u64)>
-    ensures { option_map (λ end. (end.0.now, end.1)) result ≡ end_of key port_key link (table_view document.now) }
-{
-    let Some(table) = table_of(document, Section::Link(link)) else {
-        return None;
-    };
-    let Some(name) = text_in(table, key) else {
-        return None;
-    };
-    match number_in(table, port_key, 0, 31) {
-        Some(port) => Some((name, port)),
-        None => None,
-    }
-}
-
 // The first link that has the port of this end of a link.
 fn first_at(
     alloc: Global,
@@ -109,8 +93,14 @@ fn first_at(
 ) -> Result<Option<usize>, AllocError>
     ensures { IfOk result (λ o. o ≡ first_at key port_key link (table_view document.now)) }
 {
-    match end_of(document, link, key, port_key) {
-        Some((name, port)) => first_place(alloc, document, Key::Link, &Test::HasPort(name, port)),
+    let Some(table) = table_of(document, Section::Link(link)) else {
+        return Ok(None);
+    };
+    let Some(name) = text_in(table, key) else {
+        return Ok(None);
+    };
+    match number_in(table, port_key, 0, 31) {
+        Some(port) => first_place(alloc, document, Key::Link, &Test::HasPort(name, port)),
         None => Ok(None),
     }
 }
@@ -154,22 +144,6 @@ fn range_of(document: &Table, switch: usize, route: usize) -> Option<(u64, u64)>
     }
 }
 
-// The first entry of a switch's routing table that is for one of these addresses.
-fn first_for(
-    alloc: Global,
-    document: &Table,
-    switch: usize,
-    first: u64,
-    last: u64,
-) -> Result<Option<usize>, AllocError>
-    ensures { IfOk result (λ o. o ≡ first_for switch first last (table_view document.now)) }
-{
-    match table_of(document, Section::Switch(switch)) {
-        Some(table) => first_place(alloc, table, Key::Route, &Test::Overlaps(first, last)),
-        None => Ok(None),
-    }
-}
-
 // Adds which entry is for an address of this one already, and which addresses it is for.
 fn add_route(
     alloc: Global,
@@ -183,7 +157,11 @@ fn add_route(
     let Some((first, last)) = range_of(document, switch, route) else {
         return Ok(());
     };
-    let Some(other) = first_for(alloc, document, switch, first, last)? else {
+    let Some(table) = table_of(document, Section::Switch(switch)) else {
+        return Ok(());
+    };
+    let overlaps = Test::Overlaps(first, last);
+    let Some(other) = first_place(alloc, table, Key::Route, &overlaps)? else {
         return Ok(());
     };
     match range_of(document, switch, other) {

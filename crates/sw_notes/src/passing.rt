@@ -1,7 +1,7 @@
 //! What is asked of an entry.
 ghost use Rattle.std.specs.Prelude.{◌≡◌};
 ghost use Rattle.toml.specs.View.{table_view};
-ghost use Rattle.sw_notes.specs.Passing.{has_end, has_number, has_text, overlaps, passes};
+ghost use Rattle.sw_notes.specs.Passing.{has_end, has_number, has_text, passes};
 
 use crate::entries::{number_in, range_in, text_in};
 use sw_toml_table::Key;
@@ -48,16 +48,6 @@ fn has_end(link: &Table, name: &str, port: u64) -> bool
         || (has_text(link, Key::B, name) && has_number(link, Key::BPort, port))
 }
 
-// Whether an entry of a routing table is for one of these addresses.
-fn overlaps(route: &Table, first: u64, last: u64) -> bool
-    ensures { result ≡ overlaps first last (table_view route.now) }
-{
-    match range_in(route) {
-        Some((begin, end)) => first <= end && begin <= last,
-        None => false,
-    }
-}
-
 /// Whether an entry passes.
 pub(crate) fn passes(test: &Test<'_>, table: &Table) -> bool
     ensures { result ≡ passes test.now (table_view table.now) }
@@ -66,6 +56,9 @@ pub(crate) fn passes(test: &Test<'_>, table: &Table) -> bool
         Test::Named(name) => has_text(table, Key::Name, name),
         Test::IsAt(name) => has_text(table, Key::A, name) || has_text(table, Key::B, name),
         Test::HasPort(name, port) => has_end(table, name, *port),
-        Test::Overlaps(first, last) => overlaps(table, *first, *last),
+        Test::Overlaps(first, last) => match range_in(table) {
+            Some((begin, end)) => *first <= end && begin <= *last,
+            None => false,
+        },
     }
 }

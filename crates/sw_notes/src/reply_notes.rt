@@ -1,7 +1,7 @@
 //! Why the replies of a flow can't come back.
 ghost use Rattle.std.specs.Prelude.{◌≡◌, ◌++◌, IfOk, option_map};
 ghost use Rattle.toml.specs.View.{table_view};
-ghost use Rattle.sw_notes.specs.ReplyNotes.{end_node, initiator_notes, path_notes, reply_notes, table_notes, target_notes};
+ghost use Rattle.sw_notes.specs.ReplyNotes.{initiator_notes, path_notes, reply_notes, table_notes, target_notes};
 
 use crate::entries::{bytes_in, number_in, text_of};
 use crate::finding::first_place;
@@ -52,16 +52,6 @@ fn add_shape(alloc: Global, reply: Option<&Table>, notes: &mut Vec<Note>) -> Res
     add_initiator(number_in(reply, Key::Initiator, 0, 255), notes)
 }
 
-// The node that a flow goes to.
-fn end_node(alloc: Global, document: &Table, flow: usize) -> Result<Option<usize>, AllocError>
-    ensures { IfOk result (λ o. o ≡ end_node flow (table_view document.now)) }
-{
-    match text_of(document, Section::Flow(flow), Key::To) {
-        Some(name) => first_place(alloc, document, Key::Node, &Test::Named(name)),
-        None => Ok(None),
-    }
-}
-
 // Adds that the node that a flow goes to is no target, if it is none.
 fn add_target(
     alloc: Global,
@@ -71,7 +61,10 @@ fn add_target(
 ) -> Result<(), AllocError>
     ensures { IfOk result (λ _. notes.new.items ≡ notes.old.items ++ target_notes flow (table_view document.now)) }
 {
-    let Some(node) = end_node(alloc, document, flow)? else {
+    let Some(name) = text_of(document, Section::Flow(flow), Key::To) else {
+        return Ok(());
+    };
+    let Some(node) = first_place(alloc, document, Key::Node, &Test::Named(name))? else {
         return Ok(());
     };
     match table_of(document, Section::Target(node)) {

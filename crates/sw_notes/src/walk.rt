@@ -157,11 +157,14 @@ fn header<'t>(
     rest: &'t str,
 ) -> Result<&'t str, ParseError> {
     let opens = first(rest) == b'[';
-    let inner = if opens { skip(rest, 1) } else { rest };
+    let (inner, closing) = if opens {
+        (skip(rest, 1), "]]")
+    } else {
+        (rest, "]")
+    };
     let (key, after) = dotted_key(alloc, skip_ws(inner))?;
     note_header(walk, at, &key, opens);
     drop(key);
-    let closing = if opens { "]]" } else { "]" };
     match after.strip_prefix(closing) {
         Some(behind) => Ok(behind),
         None => Err(ParseError::at(ErrorKind::UnclosedTable, after)),
@@ -198,39 +201,6 @@ fn turn<'t>(
     }
 }
 
-// The piece that was begun, if it ends here, where so many brackets are open.
-fn ended(walk: &Walk<'_>, open: usize, to: usize) -> Option<Proposal> {
-    match walk.begun {
-        Some(begun) if begun.behind == open => Some(Proposal {
-            from: begun.from,
-            to,
-            open: begun.before,
-        }),
-        _ => None,
-    }
-}
-
-// Walks on to the end of the piece that is begun first.
-fn walk_on(
-    alloc: Global,
-    walk: &mut Walk<'_>,
-    frames: &mut Vec<Frame>,
-    text: &str,
-) -> Result<Option<Proposal>, ParseError> {
-    let mut rest = text;
-    for _ in 0..text.len() {
-        rest = skip_blank(rest, true);
-        let at = text.len().saturating_sub(rest.len());
-        rest = turn(alloc, walk, frames, at, rest)?;
-        let to = text.len().saturating_sub(rest.len());
-        let piece = ended(walk, frames.len(), to);
-        if piece.is_some() {
-            return Ok(piece);
-        }
-    }
-    Ok(None)
-}
-
 /// The place that a walk over the text meets first for what is sought. `frames`, which are empty, become the brackets that are open behind it.
 pub(crate) fn proposed(
     alloc: Global,
@@ -244,5 +214,21 @@ pub(crate) fn proposed(
         section: Some(Section::Document),
         begun: None,
     };
-    walk_on(alloc, &mut walk, frames, text)
+    let mut rest = text;
+    for _ in 0..text.len() {
+        rest = skip_blank(rest, true);
+        let at = text.len().saturating_sub(rest.len());
+        rest = turn(alloc, &mut walk, frames, at, rest)?;
+        match walk.begun {
+            Some(begun) if begun.behind == frames.len() => {
+                return Ok(Some(Proposal {
+                    from: begun.from,
+                    to: text.len().saturating_sub(rest.len()),
+                    open: begun.before,
+                }));
+            }
+            _ => {}
+        }
+    }
+    Ok(None)
 }
