@@ -1,7 +1,6 @@
-//! The same call at many numbers: in as many threads as there are processors, or one after another in the caller's own thread. Both give the same.
+//! The same call at many numbers, in as many threads as there are processors, and who makes such calls: threads, or the caller's own thread alone.
 #![tactic(auto)]
 
-pub mod one_by_one;
 pub mod side_by_side;
 mod workers;
 
