@@ -34,27 +34,6 @@ second_of (Replay file schedule json) = Some schedule.now
 second_of (Run file load workers limit schedule summary json) = Some load.now
 second_of _ = None
 
--- whether the answer of a call is wanted as an object of JSON; that of an audit is shaped by the audit itself
-abbrev pub is_json : Call → Bool
-is_json (Route file flow json) = json
-is_json (Decide file json) = json
-is_json (Check file certificate json) = json
-is_json (Report file json) = json
-is_json (Replay file schedule json) = json
-is_json (Run file load workers limit schedule summary json) = json
-is_json (Explain file all json) = json
-is_json (Mend file pairs json) = json
-is_json (Margin file json) = json
-is_json _ = false
-
--- whether that object is one of an engine that reads one network file and hands no network on
-abbrev pub has_object : Call → Bool
-has_object (Route file flow json) = json
-has_object (Explain file all json) = json
-has_object (Mend file pairs json) = json
-has_object (Margin file json) = json
-has_object _ = false
-
 -- the flow that a call names, if it names one
 abbrev pub flow_of : Call → Option (List ℕ)
 flow_of (Route file flow json) = Some flow.now

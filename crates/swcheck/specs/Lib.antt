@@ -1,3 +1,4 @@
 pub mod Accesses
 pub mod Asked
 pub mod Unread
+pub mod Works

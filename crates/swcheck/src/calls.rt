@@ -1,28 +1,27 @@
 //! The call that the words ask for, on the files that they name.
-ghost use Rattle.std.specs.Prelude.{IfNone, IfSome};
 ghost use Rattle.sw_args.specs.CommandLine.{HasWorkers};
-ghost use Rattle.swcheck.specs.Accesses.{IsAccess, IsNoAccess};
+ghost use Rattle.swcheck.specs.Works.{HasJob};
 
 use crate::disk::{Disk, RELEASE};
-use crate::engines::{Engine, SecondEngine, run_engine, run_second};
+use crate::engines::{run_engine, run_second};
 use crate::hints::{MOST_EXPLAINED, hinted};
-use crate::json_calls::run_json;
 use crate::noted::{Made, Noted};
-use crate::recorded::{Job, Shape, run_load};
+use crate::recorded::run_load;
+use crate::work::{Work, work_of};
+use std::fs;
 use std::io::{self, Write};
 use std::rt::{Env, Files};
 use std::sync::Wait;
 use std::thread::Threads;
 use sw_app::EndedWith;
 use sw_app_audit::audit;
-use sw_app_draw::DrawOptions;
-use sw_app_rmap::{Access, Request};
 use sw_args::{Asked, Call};
 use sw_calls::{
     check_files, decide_file, given_call, given_texts, given_words, hints_of, migrate_file,
     no_hints, report_file, route_file, tell_refused, told_end, write_sample,
 };
 use sw_command::Ended;
+use sw_json_verdicts::report_keeping;
 use sw_search::VerdictWorkers;
 
 // What is told of words of `rmap` that ask for no command.
@@ -96,59 +95,15 @@ fn run_call<'a, R: Files + Print + Eprint + AllocGlobal + Threads + Wait + Sync,
     requires { HasWorkers call }
 {
     let mut writer = Noted::new("standard output", io::writer(rt));
-    let end = match run_json(rt, workers, host, call, &mut writer) {
-        Some(end) => end,
-        None => run_text(rt, workers, host, call, files, &mut writer),
-    };
+    let end = run_work(rt, workers, host, work_of(&call), files, &mut writer);
     Made {
         end,
         unwritten: writer.unwritten,
     }
 }
 
-// The network file of a call, and the engine that is to read it, if the call has such; an RMAP command that there is not has none.
-fn engine_of<'a>(call: &Call<'a>) -> Option<(&'a str, Engine<'a>)> {
-    match *call {
-        Call::Explain { file, all, .. } => Some((file, Engine::Explain { all })),
-        Call::Draw {
-            file,
-            flow,
-            cycle,
-            numbers,
-        } => {
-            let options = DrawOptions {
-                flow,
-                cycle,
-                numbers,
-            };
-            Some((file, Engine::Draw(options)))
-        }
-        Call::Rmap {
-            file,
-            flow,
-            action,
-            address,
-            value,
-            unacknowledged,
-            transaction,
-        } => {
-            let request = Request {
-                flow,
-                access: access_of(action, value, unacknowledged)?,
-                address,
-                transaction,
-            };
-            Some((file, Engine::Rmap(request)))
-        }
-        Call::Mend { file, pairs, .. } => Some((file, Engine::Mend { pairs })),
-        Call::Margin { file, .. } => Some((file, Engine::Margin)),
-        Call::Witness { file, tries, seed } => Some((file, Engine::Witness { tries, seed })),
-        _ => None,
-    }
-}
-
-// The calls whose answer is a text, and audits. The network of a verdict is handed on, to be noted on.
-fn run_text<
+// Does what the call comes to. The network of a verdict is handed on, to be noted on.
+fn run_work<
     'a,
     R: Files + Eprint + AllocGlobal + Threads + Wait + Sync,
     C: VerdictWorkers,
@@ -157,86 +112,59 @@ fn run_text<
     rt: &R,
     workers: &C,
     host: &HostRuntime,
-    call: Call<'a>,
+    work: Work<'a>,
     files: &[&str],
     writer: &mut Noted<'a, W>,
 ) -> EndedWith
-    requires { HasWorkers call }
+    requires { HasJob work }
 {
-    let ended = match call {
-        Call::Decide { file, .. } => return decide_file(rt, workers, file, MOST_EXPLAINED, writer),
-        Call::Report { file, .. } => return report_file(rt, workers, file, MOST_EXPLAINED, writer),
-        Call::Route { file, flow, .. } => route_file(rt, file, flow, writer),
-        Call::Check {
-            file,
-            certificate,
-            ..
-        } => check_files(rt, workers, file, certificate, writer),
-        Call::Replay { file, schedule, .. } => {
-            run_second(rt, workers, file, schedule, SecondEngine::Replay, writer)
+    let ended = match work {
+        Work::Decide(file) => return decide_file(rt, workers, file, MOST_EXPLAINED, writer),
+        Work::Report(file) => return report_file(rt, workers, file, MOST_EXPLAINED, writer),
+        Work::ReportObject(file) => return run_report(rt, workers, file, writer),
+        Work::DecideObject(file) => {
+            run_audit(rt, workers, host, &[file], true, false, None, writer)
         }
-        Call::Run {
-            file,
-            load,
-            workers,
-            limit,
-            schedule,
-            summary,
-            ..
-        } => {
-            let job = Job {
-                network: file,
-                load,
-                workers,
-                limit,
-                schedule,
-                summary,
-                shape: Shape::Text,
-            };
-            run_load(rt, &job, writer)
-        }
-        Call::Migrate { file } => migrate_file(rt, file, writer),
-        Call::Explain { .. }
-        | Call::Draw { .. }
-        | Call::Rmap { .. }
-        | Call::Mend { .. }
-        | Call::Margin { .. }
-        | Call::Witness { .. } => match engine_of(&call) {
-            Some((file, engine)) => run_engine(rt, workers, file, &engine, writer),
-            None => tell_refused(rt, NO_ACCESS),
-        },
-        Call::Audit {
+        Work::Audit {
             json,
             quiet,
             certificates,
-        } => run_audit(rt, workers, host, files, json, quiet, certificates, writer),
-        Call::Init { name } => write_sample(rt, name, writer),
+        } => { run_audit(rt, workers, host, files, json, quiet, certificates, writer) }
+        Work::Route { file, flow } => route_file(rt, file, flow, writer),
+        Work::Check { file, certificate } => check_files(rt, workers, file, certificate, writer),
+        Work::Migrate(file) => migrate_file(rt, file, writer),
+        Work::One(file, engine) => run_engine(rt, workers, file, &engine, writer),
+        Work::Two(file, second, engine) => run_second(rt, workers, file, second, engine, writer),
+        Work::Load(job) => run_load(rt, &job, writer),
+        Work::Init(name) => write_sample(rt, name, writer),
+        Work::NoAccess => tell_refused(rt, NO_ACCESS),
     };
     EndedWith::without_network(ended)
 }
 
-// What an RMAP command does: it reads so many bytes, or writes these. A read without its reply brings nothing, and there is no third.
-fn access_of<'a>(action: &str, value: &'a str, unacknowledged: bool) -> Option<Access<'a>>
-    ensures some { IfSome result (IsAccess action.now value.entry.now unacknowledged) }
-    ensures none { IfNone result (IsNoAccess action.now unacknowledged) }
-{
-    if action == "write" {
-        return Some(Access::Write {
-            data: value,
-            acknowledged: !unacknowledged,
-        });
+// The object of JSON of `report`. The network is handed on, to be noted on.
+fn run_report<R: Files + AllocGlobal, C: VerdictWorkers, W: Write>(
+    rt: &R,
+    workers: &C,
+    file: &str,
+    writer: &mut W,
+) -> EndedWith {
+    match fs::open(rt, file) {
+        Ok(mut reader) => report_keeping(
+            workers,
+            rt.alloc(),
+            &mut reader,
+            file,
+            RELEASE,
+            MOST_EXPLAINED,
+            writer,
+        ),
+        Err(_) => EndedWith::without_network(Ended::ReadFailed),
     }
-    if action != "read" {
-        return None;
-    }
-    if unacknowledged {
-        return None;
-    }
-    Some(Access::Read { length: value })
 }
 
-/// An audit of these files.
-pub(crate) fn run_audit<R: AllocGlobal + Threads + Sync, C: VerdictWorkers, W: Write>(
+// An audit of these files.
+fn run_audit<R: AllocGlobal + Threads + Sync, C: VerdictWorkers, W: Write>(
     rt: &R,
     workers: &C,
     host: &HostRuntime,

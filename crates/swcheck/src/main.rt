@@ -7,12 +7,12 @@ mod calls;
 mod disk;
 mod engines;
 mod hints;
-mod json_calls;
 mod noted;
 mod notes;
 mod recorded;
 mod told;
 mod unread;
+mod work;
 
 use calls::run_program;
 use std::io::IsTerminal;
