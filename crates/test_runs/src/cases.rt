@@ -4,9 +4,10 @@ use crate::journals::tried::{BETWEEN, BOTH, TAKEN, THREE};
 use crate::nets::CoreWork::{Drain, Make, Wait};
 use crate::nets::calls::{LINK_END, PACKET};
 use crate::nets::drained::{Bounds, Choice};
+use crate::parts::cycles::{AGAIN, DUEL};
 use crate::runs::RunWork::{Order, Together};
 use crate::work::Case;
-use crate::work::Work::{Core, Engine, Journal, Limit, Run};
+use crate::work::Work::{Core, Cycles, Engine, Journal, Limit, Run};
 
 const LINE: Bounds = Bounds {
     certificate: "line.cert",
@@ -88,5 +89,13 @@ const ENGINES: &[Case] = cases! {
     "# the engine of run\n> turn.toml turn.load together\n" "turn.toml" "turn.load" Engine;
 };
 
+/// Cycles of networks, the first of the parts.
+const CYCLES: &[Case] = cases! {
+    "# the parts of a network\ncycles_of_targets_are_told " "duel.toml" "answers.load" Cycles(DUEL);
+    "cycles_of_a_flow_are_told " "again.toml" "line.load" Cycles(AGAIN);
+};
+
 /// All cases, list by list.
-pub(crate) const SECTIONS: &[&[Case]] = &[DRAINS, LIMITS, WAITS, CALLS, JOURNALS, RUNS, ENGINES];
+pub(crate) const SECTIONS: &[&[Case]] = &[
+    DRAINS, LIMITS, WAITS, CALLS, JOURNALS, RUNS, ENGINES, CYCLES,
+];

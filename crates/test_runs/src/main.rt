@@ -1,6 +1,6 @@
 //! Runs the network core and what stands on it, makes steps of journals, in one thread and in two, and runs loads by the threads of `sw_run`
-//! and by the engine of `swcheck run`, with a gate at which the workers wait for one another; then makes calls again after want of memory. It
-//! prints what came of them. Given a word, it makes those calls alone.
+//! and by the engine of `swcheck run`, with a gate at which the workers wait for one another; tries the parts of a network, by the calls of the
+//! lower crates; then makes calls again after want of memory. It prints what came of them. Given a word, it makes those last calls alone.
 #![tactic(auto)]
 
 mod cases;
@@ -10,16 +10,19 @@ mod memory;
 mod moves;
 mod nets;
 mod numbers;
+mod parts;
 mod runs;
 mod together;
 mod work;
 
 use crate::cases::SECTIONS;
 use crate::memory::show_memory;
+use crate::parts::show_parts;
 use crate::work::show_case;
 use std::sync::Wait;
 use std::thread::Threads;
 use std::{env, io};
+use sw_parallel::SideBySide;
 
 fn show_cases<R: Threads + Wait + Sync>(rt: &HostRuntime, threads: &R) -> io::Result<()> {
     for &cases in SECTIONS {
@@ -33,6 +36,7 @@ fn show_cases<R: Threads + Wait + Sync>(rt: &HostRuntime, threads: &R) -> io::Re
 fn main(rt: HostRuntime) -> io::Result<()> {
     if env::args(&rt)?.count() == 1 {
         show_cases(&rt, &rt)?;
+        show_parts(&rt, &SideBySide::new(&rt))?;
     }
     show_memory(&rt)
 }

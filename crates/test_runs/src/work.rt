@@ -5,6 +5,7 @@ use crate::engine::show_engine;
 use crate::journals::show_journal;
 use crate::journals::tried::Trial;
 use crate::nets::{CoreWork, show_core};
+use crate::parts::cycles::{Shown, are_told};
 use crate::runs::{RunWork, show_run};
 use std::io::ErrorKind;
 use std::sync::Wait;
@@ -27,6 +28,8 @@ pub(crate) enum Work {
     Core(CoreWork),
     /// Steps of a journal of the load are tried, which has so many steps at most.
     Journal(usize, &'static [Trial]),
+    /// The network's cycles are told from what is none.
+    Cycles(&'static [Shown]),
     /// The load is run by threads.
     Run(RunWork),
     /// It is run by the engine of `swcheck run`, which reads both texts.
@@ -51,6 +54,7 @@ fn show_load<R: Threads + Wait + Sync>(
         Work::Limit | Work::Engine => println!(rt; "{}", enough_limit(network, load)),
         Work::Core(work) => show_core(rt, network, load, work),
         Work::Journal(limit, trials) => show_journal(rt, threads, network, load, limit, trials),
+        Work::Cycles(all) => println!(rt; "{}", are_told(rt.alloc(), network, all)),
         Work::Run(work) => show_run(rt, threads, network, load, work),
     }
 }

@@ -51,12 +51,9 @@ fn asks(alloc: Global, capacity: usize, times: u8, characters: &[NChar], asks_ag
     }
 }
 
-#[test]
-fn an_end_asks_where_it_has_room(rt: HostRuntime) {
-    // Eight must arrive and be taken, one free place more is enough, and seven FCTs are sent in a row.
-    assert!(rt;
-        asks(rt.alloc(), 8, 1, EIGHT, true)
-            && asks(rt.alloc(), 15, 1, &[NChar::Eop], true)
-            && asks(rt.alloc(), 4096, 7, &[], false)
-    );
+/// Eight must arrive and be taken, one free place more is enough, and seven FCTs are sent in a row.
+pub(crate) fn ask(alloc: Global) -> bool {
+    asks(alloc, 8, 1, EIGHT, true)
+        && asks(alloc, 15, 1, &[NChar::Eop], true)
+        && asks(alloc, 4096, 7, &[], false)
 }

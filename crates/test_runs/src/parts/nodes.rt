@@ -101,11 +101,9 @@ fn works(alloc: Global, target: Option<TargetConfig>, capacity: usize, work: &Wo
     }
 }
 
-#[test]
-fn nodes_send_and_take_packets(rt: HostRuntime) {
-    assert!(rt;
-        works(rt.alloc(), Some(TARGET), 64, &Work::Send)
-            && works(rt.alloc(), Some(TARGET), 64, &Work::Receive)
-            && works(rt.alloc(), None, 8, &Work::TakeWhatCame)
-    );
+/// Nodes send and take packets.
+pub(crate) fn carry_packets(alloc: Global) -> bool {
+    works(alloc, Some(TARGET), 64, &Work::Send)
+        && works(alloc, Some(TARGET), 64, &Work::Receive)
+        && works(alloc, None, 8, &Work::TakeWhatCame)
 }

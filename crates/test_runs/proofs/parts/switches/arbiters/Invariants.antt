@@ -1,7 +1,7 @@
 use Rattle.std.proofs.Common.{◌≡◌, ℕ, ◌<◌, length, vec_len}
 use Rattle.std.specs.Prelude.{slice_get}
 use Rattle.sw_switch.specs.Cell.{HasArbiter}
-use Rattle.test_parts.proofs.switches.arbiters.Given as goal
+use Rattle.test_runs.proofs.parts.switches.arbiters.Given as goal
 
 abbrev pub invariant-loop : goal.invariant-loop
 invariant-loop l = record {

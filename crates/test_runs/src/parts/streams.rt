@@ -4,7 +4,6 @@ ghost use Rattle.std.specs.Prelude.{Some};
 use std::alloc::Global;
 use std::io;
 use std::io::{Read, Write};
-use std::test::*;
 use sw_text::{ReadError, WriteError, read_whole, write_whole};
 
 // Gives one byte a call, and fails at one call alone, the one after `before_fault` of them.
@@ -70,8 +69,8 @@ fn gives<R: Read>(
     text.as_deref() == wanted
 }
 
-#[test]
-fn a_text_up_to_its_limit_is_read(rt: HostRuntime) {
+/// A text up to its limit is read.
+pub(crate) fn are_read(alloc: Global) -> bool {
     for limit in 0..8usize {
         let mut reader = &b"abcd"[..];
         let wanted = if limit < 4 {
@@ -79,17 +78,23 @@ fn a_text_up_to_its_limit_is_read(rt: HostRuntime) {
         } else {
             Ok(&b"abcd"[..])
         };
-        let is_given = gives(rt.alloc(), &mut reader, limit, wanted);
-        assert!(rt; is_given && reader.len() == 3usize.saturating_sub(limit));
+        let is_given = gives(alloc, &mut reader, limit, wanted);
+        if !is_given || reader.len() != 3usize.saturating_sub(limit) {
+            return false;
+        }
     }
+    true
 }
 
-#[test]
-fn a_read_that_fails_is_not_tried_again(rt: HostRuntime) {
+/// A read that fails is not tried again.
+pub(crate) fn fail_once(alloc: Global) -> bool {
     for before_fault in 0..20usize {
         let mut reader = FailingReader { before_fault };
-        assert!(rt; gives(rt.alloc(), &mut reader, 40, Err(&ReadError::Failed)));
+        if !gives(alloc, &mut reader, 40, Err(&ReadError::Failed)) {
+            return false;
+        }
     }
+    true
 }
 
 const TEXT: &[u8] = b"place 0 0 A>B\n";
@@ -105,9 +110,12 @@ fn takes(alloc: Global, room: usize, takes_none: bool) -> bool {
     is_whole == (TEXT.len() <= room) && writer.taken.as_slice() == &TEXT[..TEXT.len().min(room)]
 }
 
-#[test]
-fn a_write_that_fails_leaves_a_beginning(rt: HostRuntime) {
+/// A write that fails leaves a beginning.
+pub(crate) fn are_begun(alloc: Global) -> bool {
     for room in 0..TEXT.len() + 2 {
-        assert!(rt; takes(rt.alloc(), room, false) && takes(rt.alloc(), room, true));
+        if !takes(alloc, room, false) || !takes(alloc, room, true) {
+            return false;
+        }
     }
+    true
 }

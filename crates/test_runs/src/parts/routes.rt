@@ -1,5 +1,5 @@
 //! Routing tables, intervals of addresses, and outputs.
-use crate::sets::{port, ports};
+use crate::parts::sets::{port, ports};
 use either::Either;
 use std::alloc::Global;
 use sw_route::{IntervalRoutes, Look, RouteError, Routing, TableRoutes, outputs};
@@ -40,7 +40,7 @@ const NAMED: &[Answer<'static>] = &[
     (255, &[], false),
 ];
 
-fn agree(intervals: &IntervalRoutes, table: &TableRoutes) -> bool {
+fn look_alike(intervals: &IntervalRoutes, table: &TableRoutes) -> bool {
     for byte in 0..=255 {
         if intervals.look(byte) != table.look(byte) {
             return false;
@@ -54,19 +54,24 @@ const DECLARED: &[Answer<'static>] = &[(40, &[3], true), (7, &[7], true)];
 type Side = Either<TableRoutes, IntervalRoutes>;
 
 fn answer_alike(table: TableRoutes, intervals: IntervalRoutes) -> bool {
-    let agree = agree(&intervals, &table);
+    let look_alike = look_alike(&intervals, &table);
     let left: Side = Either::Left(table);
     let right: Side = Either::Right(intervals);
-    agree && names(&left, DECLARED) && names(&right, DECLARED)
+    look_alike && names(&left, DECLARED) && names(&right, DECLARED)
 }
 
-#[test]
-fn tables_and_intervals_answer_alike(rt: HostRuntime) {
-    let mut table = TableRoutes::new(rt.alloc());
-    assert!(rt; add_odd_and_even(&mut table));
-    let intervals = IntervalRoutes::from_table(rt.alloc(), &table).expect(&rt, "intervals");
-    assert!(rt; answer_alike(table, intervals));
+/// A table and its intervals answer alike.
+pub(crate) fn agree(alloc: Global) -> bool {
+    let mut table = TableRoutes::new(alloc);
+    let is_whole = add_odd_and_even(&mut table);
+    match IntervalRoutes::from_table(alloc, &table) {
+        Ok(intervals) => answer_alike(table, intervals) && is_whole,
+        Err(_) => false,
+    }
 }
+
+/// Ranges that have an address from 40 to 60.
+const TAKEN: &[(u8, u8)] = &[(60, 70), (32, 40), (50, 50), (32, 254)];
 
 // An address has one entry.
 fn has_one_entry_each(table: &mut TableRoutes) -> bool {
@@ -74,8 +79,8 @@ fn has_one_entry_each(table: &mut TableRoutes) -> bool {
     if table.add_range(40, 60, ports(&[2, 7, 2]), false).is_err() {
         return false;
     }
-    for (first, last) in &[(60, 70), (32, 40), (50, 50), (32, 254)] {
-        let again = table.add_range(*first, *last, one, true);
+    for &(first, last) in TAKEN {
+        let again = table.add_range(first, last, one, true);
         if !matches!(again, Err(RouteError::Duplicate)) {
             return false;
         }
@@ -102,8 +107,8 @@ fn leaves_linked(alloc: Global) -> bool {
     }
 }
 
-#[test]
-fn addresses_have_one_entry_and_outputs_a_link(rt: HostRuntime) {
-    let mut table = TableRoutes::new(rt.alloc());
-    assert!(rt; has_one_entry_each(&mut table) && leaves_linked(rt.alloc()));
+/// Addresses have one entry, and outputs a link.
+pub(crate) fn lead(alloc: Global) -> bool {
+    let mut table = TableRoutes::new(alloc);
+    has_one_entry_each(&mut table) && leaves_linked(alloc)
 }

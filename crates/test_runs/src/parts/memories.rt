@@ -54,15 +54,18 @@ const CODES: &[(&[u8], u8)] = &[
     (b"SpaceWire is beautiful!!", 0x84),
 ];
 
-#[test]
-fn codes(rt: HostRuntime) {
+/// Bytes have these codes.
+pub(crate) fn have_codes() -> bool {
     for (bytes, code) in CODES {
-        assert!(rt; crc(bytes) == *code);
+        if crc(bytes) != *code {
+            return false;
+        }
     }
+    true
 }
 
 /// A packet, how it ends, what the target answers if it does, and its memory then, all of it.
-struct Case {
+pub(crate) struct Answered {
     packet: &'static [u8],
     end: End,
     reply: Option<&'static [u8]>,
@@ -76,15 +79,15 @@ const WRITTEN: &[u8] = &[
     0, 0, 0, 0, 0, 0, 0, 0, 0, 0, 0, 0, 0, 0, 0, 0,
 ];
 
-const ANSWERED: &[Case] = &[
-    Case {
+pub(crate) const ANSWERED: &[Answered] = &[
+    Answered {
         packet: WRITE,
         end: End::Eop,
         reply: Some(&[0x67, 0x01, 0x2C, 0x00, 0xFE, 0x00, 0x00, 0xED]),
         memory: WRITTEN,
     },
     // The header of the reply to the read, the data, and their code.
-    Case {
+    Answered {
         packet: READ,
         end: End::Eop,
         reply: Some(&[
@@ -98,43 +101,43 @@ const ANSWERED: &[Case] = &[
 
 const EMPTY: &[u8] = &[0; 64];
 
-const REFUSED: &[Case] = &[
+pub(crate) const REFUSED: &[Answered] = &[
     // The header's code is wrong.
-    Case {
+    Answered {
         packet: write_packet!(0x00, 0x9E; 0x56),
         end: End::Eop,
         reply: None,
         memory: EMPTY,
     },
     // Another key.
-    Case {
+    Answered {
         packet: write_packet!(0x01, 0xCD; 0x56),
         end: End::Eop,
         reply: Some(&[0x67, 0x01, 0x2C, 0x03, 0xFE, 0x00, 0x00, 0xB8]),
         memory: EMPTY,
     },
     // The data's code is wrong.
-    Case {
+    Answered {
         packet: write_packet!(0x00, 0x9F; 0x57),
         end: End::Eop,
         reply: Some(&[0x67, 0x01, 0x2C, 0x04, 0xFE, 0x00, 0x00, 0x9E]),
         memory: EMPTY,
     },
     // A byte too few, and one too many.
-    Case {
+    Answered {
         packet: write_packet!(0x00, 0x9F;),
         end: End::Eop,
         reply: Some(&[0x67, 0x01, 0x2C, 0x05, 0xFE, 0x00, 0x00, 0x12]),
         memory: EMPTY,
     },
-    Case {
+    Answered {
         packet: write_packet!(0x00, 0x9F; 0x56, 0x00),
         end: End::Eop,
         reply: Some(&[0x67, 0x01, 0x2C, 0x06, 0xFE, 0x00, 0x00, 0x47]),
         memory: EMPTY,
     },
     // The packet was cut off.
-    Case {
+    Answered {
         packet: WRITE,
         end: End::Eep,
         reply: Some(&[0x67, 0x01, 0x2C, 0x07, 0xFE, 0x00, 0x00, 0xCB]),
@@ -142,7 +145,7 @@ const REFUSED: &[Case] = &[
     },
 ];
 
-fn answers(alloc: Global, target: &mut Target, cases: &[Case]) -> bool {
+fn answers(alloc: Global, target: &mut Target, cases: &[Answered]) -> bool {
     for case in cases {
         let Ok(reply) = target.answer(alloc, case.packet, case.end) else {
             return false;
@@ -154,29 +157,21 @@ fn answers(alloc: Global, target: &mut Target, cases: &[Case]) -> bool {
     target.memory().len() == EMPTY.len()
 }
 
-fn answers_each(alloc: Global, cases: &[Case]) -> bool {
+/// A new target answers each packet so.
+pub(crate) fn answer(alloc: Global, cases: &[Answered]) -> bool {
     match Target::new(alloc, CONFIG) {
         Ok(mut target) => answers(alloc, &mut target, cases),
         Err(_) => false,
     }
 }
 
-#[test]
-fn targets_write_and_refuse(rt: HostRuntime) {
-    assert!(rt; answers_each(rt.alloc(), ANSWERED) && answers_each(rt.alloc(), REFUSED));
-}
-
-fn is_as_bytes(alloc: Global) -> bool {
+/// A command is read and written.
+pub(crate) fn are_bytes(alloc: Global) -> bool {
     let Some(command) = Command::read(WRITE) else {
         return false;
     };
-    if (command.length(), command.instruction()) != (16, 0x6C) {
-        return false;
-    }
-    match write_command(alloc, &command, DATA) {
-        Ok(bytes) => bytes.as_slice() == WRITE,
-        Err(_) => false,
-    }
+    let bytes = write_command(alloc, &command, DATA).ok();
+    (command.length(), command.instruction()) == (16, 0x6C) && bytes.as_deref() == Some(WRITE)
 }
 
 /// A packet, and the way back to where its reply goes.
@@ -186,7 +181,8 @@ const WAYS: &[(&[u8], Option<&[u8]>)] = &[
     (read_packet!(0xC8), None),
 ];
 
-fn go_back(alloc: Global) -> bool {
+/// Replies go back so.
+pub(crate) fn go_back(alloc: Global) -> bool {
     for (packet, wanted) in WAYS {
         let Ok(way) = reply_to(alloc, packet) else {
             return false;
@@ -196,9 +192,4 @@ fn go_back(alloc: Global) -> bool {
         }
     }
     true
-}
-
-#[test]
-fn commands_as_bytes_and_ways_back(rt: HostRuntime) {
-    assert!(rt; is_as_bytes(rt.alloc()) && go_back(rt.alloc()));
 }

@@ -1,7 +1,7 @@
 use Rattle.std.proofs.Common.{ℕ, zero, suc, ◌<◌, List, [], ◌∷◌, ◌++◌, length, length-append, arith}
 use Rattle.std.specs.Prelude.{slice_get, Option, Some}
 use Rattle.sw_switch.specs.Cell.{HasArbiter}
-use Rattle.test_parts.proofs.switches.arbiters.Goals as goal
+use Rattle.test_runs.proofs.parts.switches.arbiters.Goals as goal
 
 -- one more entry
 each_push : {X : Type 0} (P : Option X → Type 0) (xs : List X) (x : X) → ((i : ℕ) → i < length xs → P (slice_get xs i)) → P (Some x) → (i : ℕ) → i < length (xs ++ x ∷ []) → P (slice_get (xs ++ x ∷ []) i)

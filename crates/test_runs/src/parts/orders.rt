@@ -1,39 +1,26 @@
 //! Levels of relations, and cycles to show.
-ghost use Rattle.std.specs.Prelude.{◌<◌, ◌↔◌, All, IsTrue};
+ghost use Rattle.std.specs.Prelude.{◌≡◌, true};
 ghost use Rattle.sw_graph.specs.Rows.{IsGraph};
 
 use std::alloc::Global;
-use sw_graph::{Order, RoundWorkers, order};
-use sw_parallel::{OneByOne, SideBySide};
+use sw_graph::{Order, RoundWorkers, add_to_row, empty_rows, order};
+use sw_parallel::OneByOne;
 
-// Adds the rows of as many members with these steps.
-fn add_rows(alloc: Global, rows: &mut Vec<Vec<u16>>, count: usize, steps: &[(u16, u16)]) -> bool {
-    for _ in 0..count {
-        if rows.push(Vec::new(alloc)).is_err() {
+// Adds the steps between members, each at the end of a row.
+fn add_steps(rows: &mut [Vec<u16>], steps: &[(u16, u16)]) -> bool
+    requires { IsGraph rows.old }
+    ensures { result ≡ true → IsGraph rows.new }
+{
+    for &(from, to) in steps {
+        let (place, successor) = (usize::from(from), usize::from(to));
+        if rows.len() <= place || rows.len() <= successor {
             return false;
         }
-    }
-    for (from, to) in steps {
-        let Some(row) = rows.get_mut(usize::from(*from)) else {
-            return false;
-        };
-        if row.push(*to).is_err() {
+        if add_to_row(rows, place, true, to).is_err() {
             return false;
         }
     }
     true
-}
-
-fn is_row(row: &Vec<u16>, count: usize) -> bool
-    ensures { IsTrue result ↔ All (λ d. d < count) row.now.items }
-{
-    row.iter().all(|d| usize::from(*d) < count)
-}
-
-fn is_graph(rows: &[Vec<u16>]) -> bool
-    ensures { IsTrue result ↔ IsGraph rows.now }
-{
-    rows.iter().all(|row| is_row(row, rows.len()))
 }
 
 // The levels, or, as an error, the cycle that is shown.
@@ -49,8 +36,10 @@ fn answers<C: RoundWorkers>(
     alloc: Global,
     rows: &[Vec<u16>],
     wanted: Result<&[u16], &[u16]>,
-) -> bool {
-    if 65536 <= rows.len() || !is_graph(rows) {
+) -> bool
+    requires { IsGraph rows.now }
+{
+    if 65536 <= rows.len() {
         return false;
     }
     match order(workers, alloc, rows) {
@@ -66,8 +55,10 @@ fn has_order<C: RoundWorkers>(
     steps: &[(u16, u16)],
     wanted: Result<&[u16], &[u16]>,
 ) -> bool {
-    let mut rows = Vec::new(alloc);
-    add_rows(alloc, &mut rows, count, steps) && answers(workers, alloc, &rows, wanted)
+    match empty_rows(alloc, count) {
+        Ok(mut rows) => add_steps(&mut rows, steps) && answers(workers, alloc, &rows, wanted),
+        Err(_) => false,
+    }
 }
 
 /// How many members, the steps between them, and the levels or the cycle.
@@ -101,26 +92,23 @@ const CASES: &[Case] = &[
     ),
 ];
 
-#[test]
-fn relations_have_levels_or_a_cycle(rt: HostRuntime) {
+/// Relations have levels or a cycle.
+pub(crate) fn are_found(alloc: Global) -> bool {
     for (count, steps, wanted) in CASES {
-        assert!(rt; has_order(&OneByOne, rt.alloc(), *count, steps, *wanted));
+        if !has_order(&OneByOne, alloc, *count, steps, *wanted) {
+            return false;
+        }
     }
+    true
 }
 
-// Of so many members the last leads to the first.
-#[test]
-fn many_members_are_shared_or_taken_one_by_one(rt: HostRuntime) {
-    let mut levels = Vec::new(rt.alloc());
-    levels.push(1).expect(&rt, "memory");
-    levels.resize(5000, 0).expect(&rt, "memory");
-    let shared = has_order(
-        &SideBySide::new(&rt),
-        rt.alloc(),
-        5000,
-        &[(4999, 0)],
-        Ok(&levels),
-    );
-    let alone = has_order(&OneByOne, rt.alloc(), 5000, &[(4999, 0)], Ok(&levels));
-    assert!(rt; shared && alone);
+/// Of so many members the last leads to the first.
+pub(crate) fn are_many<C: RoundWorkers>(workers: &C, alloc: Global) -> bool {
+    match vec![in alloc; 0; 5000] {
+        Ok(mut levels) => {
+            levels[0] = 1;
+            has_order(workers, alloc, 5000, &[(4999, 0)], Ok(&levels))
+        }
+        Err(_) => false,
+    }
 }

@@ -1,0 +1,6 @@
+use Rattle.std.proofs.Common.{◌≡◌}
+use Rattle.sw_arb.specs.Chosen.{policy_ports}
+use Rattle.test_runs.proofs.parts.arbiters.picks_in_turns.Given as goal
+
+abbrev pub invariant-loop-asking : goal.invariant-loop-asking
+invariant-loop-asking l = policy_ports l.arbiter ≡ l.all

@@ -1,0 +1,116 @@
+//! Cycles, and what is none.
+
+use std::alloc::{AllocError, Global};
+use sw_config::Network;
+use sw_cycle::{Cause, Cycle, check_cycle};
+use sw_flow::Place;
+use sw_topo::Chan;
+
+/// Channels by number, and the causes: targets, and flow 0 by these places, if there are any.
+pub(crate) struct Shown {
+    channels: &'static [u16],
+    targets: &'static [u16],
+    way: &'static [(u16, u8)],
+    is_cycle: bool,
+}
+
+/// Two targets with one link, and commands both ways, which are answered.
+pub(crate) const DUEL: &[Shown] = &[
+    // Targets that answer each other are a cycle.
+    Shown {
+        channels: &[0, 1],
+        targets: &[1, 0],
+        way: &[],
+        is_cycle: true,
+    },
+    // Each target is at its channel.
+    Shown {
+        channels: &[0, 1],
+        targets: &[0, 1],
+        way: &[],
+        is_cycle: false,
+    },
+    // A cycle needs channels.
+    Shown {
+        channels: &[],
+        targets: &[],
+        way: &[],
+        is_cycle: false,
+    },
+    // It needs its last cause.
+    Shown {
+        channels: &[0],
+        targets: &[1],
+        way: &[],
+        is_cycle: false,
+    },
+    // No target has a number too high.
+    Shown {
+        channels: &[0, 1],
+        targets: &[1, 9],
+        way: &[],
+        is_cycle: false,
+    },
+];
+
+/// A node at port 1 of a switch, whose ports 2 and 3 have one link, and a flow that goes over this link from port 2 twice.
+pub(crate) const AGAIN: &[Shown] = &[
+    // A flow may wait for itself.
+    Shown {
+        channels: &[2],
+        targets: &[],
+        way: &[(0, 0), (2, 1), (2, 2)],
+        is_cycle: true,
+    },
+    // Places are given from the start of the flow.
+    Shown {
+        channels: &[2],
+        targets: &[],
+        way: &[(2, 1), (2, 2)],
+        is_cycle: false,
+    },
+];
+
+fn places_of(alloc: Global, way: &[(u16, u8)]) -> Result<Vec<Place>, AllocError> {
+    let mut places = Vec::new(alloc);
+    for &(number, deleted) in way {
+        let channel = Chan::new(number);
+        places.push(Place { channel, deleted })?;
+    }
+    Ok(places)
+}
+
+// Adds the channels and the causes.
+fn add_parts(alloc: Global, cycle: &mut Cycle, shown: &Shown) -> Result<(), AllocError> {
+    for &number in shown.channels {
+        cycle.channels.push(Chan::new(number))?;
+    }
+    for &target in shown.targets {
+        cycle.causes.push(Cause::Target(target))?;
+    }
+    if !shown.way.is_empty() {
+        let way = places_of(alloc, shown.way)?;
+        cycle.causes.push(Cause::Flow(0, way))?;
+    }
+    Ok(())
+}
+
+// This function alone owns a cycle.
+fn is_told(alloc: Global, network: &Network, shown: &Shown) -> bool {
+    let mut cycle = Cycle {
+        channels: Vec::new(alloc),
+        causes: Vec::new(alloc),
+    };
+    let added = add_parts(alloc, &mut cycle, shown);
+    added.is_ok() && check_cycle(network, &cycle) == shown.is_cycle
+}
+
+/// Whether each is told to be a cycle of the network or to be none.
+pub(crate) fn are_told(alloc: Global, network: &Network, all: &[Shown]) -> bool {
+    for shown in all {
+        if !is_told(alloc, network, shown) {
+            return false;
+        }
+    }
+    true
+}
