@@ -170,8 +170,11 @@ pub(crate) fn are_bytes(alloc: Global) -> bool {
     let Some(command) = Command::read(WRITE) else {
         return false;
     };
+    if (command.length(), command.instruction()) != (16, 0x6C) {
+        return false;
+    }
     let bytes = write_command(alloc, &command, DATA).ok();
-    (command.length(), command.instruction()) == (16, 0x6C) && bytes.as_deref() == Some(WRITE)
+    bytes.as_deref() == Some(WRITE)
 }
 
 /// A packet, and the way back to where its reply goes.
