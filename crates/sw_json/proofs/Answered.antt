@@ -31,16 +31,6 @@ with_result R command files release (Ok o) (Ok a) h (result, is, spelled) = (res
 with_result R command files release (Err e) (Ok a) h answered = absurd answered
 with_result R command files release found (Err e) h answered = tt
 
--- the answer round the files is one round what they are known to be
-pub round_files : {F : Type 0} (show : F → List Data) (command : List ℕ) (known : List Data) (release : Release) (files : Result F AllocError)
-    (found : Result Outcome AllocError) (r : Result Answer AllocError) → IfOk files (λ f. show f ≡ known)
-    → IfOk r (λ a. IsOkAnd files (λ f. IsOkAnd found (λ o. IsAnswer command (show f) release (IsOutcome (view o.result) o.status) (string_bytes a.text) a.status)))
-    → IfOk r (λ a. IsOkAnd found (λ o. IsAnswer command known release (IsOutcome (view o.result) o.status) (string_bytes a.text) a.status))
-round_files show command known release (Ok f) found (Ok a) is answered =
-    subst (λ (l : List Data). IsOkAnd found (λ o. IsAnswer command l release (IsOutcome (view o.result) o.status) (string_bytes a.text) a.status)) is answered
-round_files show command known release (Err e) found (Ok a) is answered = absurd answered
-round_files show command known release files found (Err e) is answered = tt
-
 -- the text of a value that is the answer
 pub spelled : (value known : Data) (text : List ℕ) → value ≡ known → text ≡ text_of value → ReadsBack value → Spells known text
 spelled value known text is said back = subst (λ (v : Data). Spells v text) is (said, back)

@@ -1,3 +1,4 @@
+pub mod FaultWords
 pub mod Plain
 pub mod PlainValues
 mod PairedValues

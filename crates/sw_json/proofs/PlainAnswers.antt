@@ -1,7 +1,6 @@
 -- Values that have a text which reads back.
-use Rattle.std.proofs.Common.{◌≡◌, ◌≤◌, ℕ, false, List, [], ◌∷◌, arith, subst, sym}
-use Rattle.std.specs.Prelude.{All, Err, IfOk, None, Ok, Option, Result, Some}
-use Rattle.std.specs.declared.alloc.AllocError.{AllocError}
+use Rattle.std.proofs.Common.{◌≡◌, ◌≤◌, ℕ, false, List, [], ◌∷◌, arith, map, subst, sym}
+use Rattle.std.specs.Prelude.{All, None, Option, Some}
 use Rattle.std.proofs.lemmas.List.Elements.{All-cons, All-nil}
 use Rattle.serde_json.specs.Data.{Data, depth}
 use Rattle.serde_json.specs.Written.{has_float}
@@ -23,19 +22,12 @@ read_is_plain : InputsArePlain → (path : List ℕ) (given : Option (List ℕ))
 read_is_plain plain path (Some text) = plain.read path text
 read_is_plain plain path None = plain.long path
 
-pub one_file_is_plain : InputsArePlain → (path : List ℕ) (given : Option (List ℕ)) → All (IsPlain 1) (read_value path given ∷ [])
-one_file_is_plain plain path given = All-cons (IsPlain 1) (read_value path given) [] (read_is_plain plain path given) (All-nil (IsPlain 1))
-
-pub two_files_are_plain : InputsArePlain → (path other : List ℕ) (first second : Option (List ℕ))
-    → All (IsPlain 1) (read_value path first ∷ read_value other second ∷ [])
-two_files_are_plain plain path other first second =
-    All-cons (IsPlain 1) (read_value path first) (read_value other second ∷ []) (read_is_plain plain path first) (one_file_is_plain plain other second)
-
--- so they are where there was memory for them
-pub files_are_plain : {F : Type 0} (show : F → List Data) (files : Result F AllocError) (known : List Data) → All (IsPlain 1) known
-    → IfOk files (λ f. show f ≡ known) → IfOk files (λ f. All (IsPlain 1) (show f))
-files_are_plain show (Ok f) known plain is = subst (All (IsPlain 1)) (sym is) plain
-files_are_plain show (Err e) known plain is = tt
+pub files_are_plain : {F : Type 0} → InputsArePlain → (path : F → List ℕ) (text : F → Option (List ℕ)) (files : List F)
+    → All (IsPlain 1) (map (λ f. read_value (path f) (text f)) files)
+files_are_plain plain path text [] = All-nil (IsPlain 1)
+files_are_plain plain path text (f ∷ files) =
+    All-cons (IsPlain 1) (read_value (path f) (text f)) (map (λ g. read_value (path g) (text g)) files) (read_is_plain plain (path f) (text f))
+    (files_are_plain plain path text files)
 
 -- ---- the answer round a result
 

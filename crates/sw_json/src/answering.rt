@@ -1,5 +1,5 @@
 //! What the engines share: faults of files as results, the answer round a result, and how it is told.
-ghost use Rattle.std.specs.Prelude.{◌≡◌, ◌∷◌, [], All, IfOk, IsOkAnd, map, string_bytes};
+ghost use Rattle.std.specs.Prelude.{◌≡◌, ◌∷◌, [], IfOk, IsOkAnd, map, string_bytes};
 ghost use Rattle.serde_json.specs.View.{view};
 ghost use Rattle.sw_json.specs.AnswerValues.{file_fault_value};
 ghost use Rattle.sw_json.specs.Plain.{IsPlain};
@@ -88,46 +88,36 @@ fn read_value(alloc: Global, path: &str, text: &InputText) -> Result<Value, Allo
     }
 }
 
-// The files of a command of one file.
-fn one_file(alloc: Global, path: &str, text: &InputText) -> Result<Vec<Value>, AllocError>
-    ensures { IfOk result (λ v. map view v.items ≡ read_value path.now (given text.now) ∷ []) }
+// The files of a command, each by its path.
+fn file_values(alloc: Global, files: &[(&str, &InputText)]) -> Result<Vec<Value>, AllocError>
+    ensures { IfOk result (λ v. map view v.items ≡ map (λ f. read_value f.0.now (given f.1.now)) files.now) }
 {
-    let mut files = Vec::new(alloc);
-    add_value(&mut files, read_value(alloc, path, text))?;
-    Ok(files)
-}
-
-// The files of a command of two files.
-fn two_files(
-    alloc: Global,
-    paths: (&str, &str),
-    first: &InputText,
-    second: &InputText,
-) -> Result<Vec<Value>, AllocError>
-    ensures { IfOk result (λ v. map view v.items ≡ read_value paths.entry.0.now (given first.now) ∷ read_value paths.entry.1.now (given second.now) ∷ []) }
-{
-    let mut files = one_file(alloc, paths.0, first)?;
-    add_value(&mut files, read_value(alloc, paths.1, second))?;
-    Ok(files)
+    let mut values = Vec::new(alloc);
+    for file in files {
+        add_value(&mut values, read_value(alloc, file.0, file.1))?;
+    }
+    Ok(values)
 }
 
 // The answer of a command of these files, with what it found, if there was memory for both.
-fn answer_with(
+fn answer_to_files(
     alloc: Global,
     command: &str,
     release: Release<'_>,
-    files: Result<Vec<Value>, AllocError>,
+    files: &[(&str, &InputText)],
     found: Result<Outcome, AllocError>,
 ) -> Result<Answer, AllocError>
-    requires { IfOk files (λ f. All (IsPlain 1) (map view f.items)) }
-    ensures { IfOk result (λ a. IsOkAnd files (λ f. IsOkAnd found (λ o. IsAnswer command.now (map view f.items) release.entry (IsOutcome (view o.result) o.status) (string_bytes a.text) a.status))) }
+    ensures { IfOk result (λ a. IsOkAnd found (λ o. IsAnswer command.now (map (λ f. read_value f.0.now (given f.1.now)) files.now) release.entry (IsOutcome (view o.result) o.status) (string_bytes a.text) a.status)) }
 {
+    inputs_are_plain();
     answers_are_plain();
-    let files = files?;
     let found = found?;
     let status = found.status;
+    let files = file_values(alloc, files)?;
     let value = answer_value(alloc, command, files, found.result, status, release)?;
-    let text = text_of(alloc, &value)?;
+    let text = text_of(alloc, &value);
+    drop(value);
+    let text = text?;
     Ok(Answer { text, status })
 }
 
@@ -146,9 +136,7 @@ pub fn answer_to_one(
 ) -> Result<Answer, AllocError>
     ensures { IfOk result (λ a. IsOkAnd found (λ o. IsAnswer command.now (read_value path.now (given text.now) ∷ []) release.entry (IsOutcome (view o.result) o.status) (string_bytes a.text) a.status)) }
 {
-    inputs_are_plain();
-    let files = one_file(alloc, path, text);
-    answer_with(alloc, command, release, files, found)
+    answer_to_files(alloc, command, release, &[(path, text)], found)
 }
 
 /// The answer of a command of two files, with what it found.
@@ -167,9 +155,8 @@ pub fn answer_to_two(
 ) -> Result<Answer, AllocError>
     ensures { IfOk result (λ a. IsOkAnd found (λ o. IsAnswer command.now (read_value paths.entry.0.now (given first.now) ∷ read_value paths.entry.1.now (given second.now) ∷ []) release.entry (IsOutcome (view o.result) o.status) (string_bytes a.text) a.status)) }
 {
-    inputs_are_plain();
-    let files = two_files(alloc, paths, first, second);
-    answer_with(alloc, command, release, files, found)
+    let files = [(paths.0, first), (paths.1, second)];
+    answer_to_files(alloc, command, release, &files, found)
 }
 
 /// Writes that memory was wanted. This takes no memory.

@@ -1,10 +1,14 @@
 //! Faults of texts as values.
 ghost use Rattle.std.specs.Fmt.{decimal};
-ghost use Rattle.std.specs.Prelude.{◌≡◌, ◌≤◌, ◌∷◌, [], IfOk, IfSome, IsOkAnd, Some, length, option_map, string_bytes};
+ghost use Rattle.std.specs.Option.{option_transpose};
+ghost use Rattle.std.specs.Prelude.{◌≡◌, ◌≤◌, ◌∷◌, [], IfOk, IfSome, codes, length, option_map, string_bytes};
 ghost use Rattle.sw_output.specs.Lines.{spaced};
 ghost use Rattle.sw_notes.specs.LineColumn.{column_of, line_of};
+ghost use Rattle.serde_json.specs.Data.{string};
 ghost use Rattle.serde_json.specs.View.{view};
-ghost use Rattle.sw_json.specs.FaultValues.{IsFaultValue, fault_where, long_value, schedule_fault_value, told_fault, topology_where, unknown_flow_value};
+ghost use Rattle.sw_json.specs.Objects.{member_value, object_of};
+ghost use Rattle.sw_json.specs.Simple.{count_or_null};
+ghost use Rattle.sw_json.specs.FaultValues.{IsFaultValue, fault_where, long_value, schedule_fault_value, topology_where, unknown_flow_value};
 
 use crate::codes::fault_code;
 use crate::objects::{Member, object_of_six};
@@ -37,27 +41,21 @@ fn topology_where(alloc: Global, fault: TopoFault) -> Result<String, AllocError>
     }
 }
 
-// The words, where there was memory for them.
-fn told(words: Result<String, AllocError>) -> Result<Option<String>, AllocError>
-    ensures { IfOk result (λ o. IsOkAnd words (λ s. option_map string_bytes o ≡ Some (string_bytes s))) }
-{
-    Ok(Some(words?))
-}
-
-// What has the fault. Of a text that is no TOML nothing.
-fn fault_where(alloc: Global, fault: &TextFault) -> Result<Option<String>, AllocError>
-    ensures { IfOk result (λ o. option_map string_bytes o ≡ fault_where fault.now) }
+// What has the fault, if there was memory for its words. Of a text that is no TOML nothing.
+#[tactic(auto, using(crate::proofs::FaultWords::told_words))]
+fn fault_where(alloc: Global, fault: &TextFault) -> Option<Result<String, AllocError>>
+    ensures { IfOk (option_transpose result) (λ o. option_map string_bytes o ≡ fault_where fault.now) }
 {
     match fault {
-        TextFault::Syntax => Ok(None),
-        TextFault::UnknownKey(section, key) => told(where_text(alloc, *section, key.as_str())),
-        TextFault::Key(_, section, key) => told(where_text(alloc, *section, key.text())),
-        TextFault::Topology(fault) => told(topology_where(alloc, *fault)),
+        TextFault::Syntax => None,
+        TextFault::UnknownKey(section, key) => Some(where_text(alloc, *section, key.as_str())),
+        TextFault::Key(_, section, key) => Some(where_text(alloc, *section, key.text())),
+        TextFault::Topology(fault) => Some(topology_where(alloc, *fault)),
         TextFault::DuplicateRoute(switch, route) => {
-            told(format!(in alloc; "switch {switch} route {route}"))
+            Some(format!(in alloc; "switch {switch} route {route}"))
         }
-        TextFault::ReplyShape(flow) => told(numbered(alloc, "flow", *flow as u64)),
-        TextFault::NotInFlow(packet) => told(numbered(alloc, "packet", *packet as u64)),
+        TextFault::ReplyShape(flow) => Some(numbered(alloc, "flow", *flow as u64)),
+        TextFault::NotInFlow(packet) => Some(numbered(alloc, "packet", *packet as u64)),
     }
 }
 
@@ -67,10 +65,10 @@ fn told_fault<'a>(
     code: &'a str,
     line: Option<u64>,
     column: Option<u64>,
-    text: &'a str,
-    place: Option<String>,
+    text: Member<'a>,
+    place: Member<'a>,
 ) -> Result<Value, AllocError>
-    ensures { IfOk result (λ v. view v ≡ told_fault code.now line column text.now (option_map string_bytes place)) }
+    ensures { IfOk result (λ v. view v ≡ object_of ((codes "code", string code.now) ∷ (codes "column", count_or_null column) ∷ (codes "kind", string (codes "fault")) ∷ (codes "line", count_or_null line) ∷ (codes "text", member_value text.entry) ∷ (codes "where", member_value place.entry) ∷ [])) }
 {
     object_of_six(
         alloc,
@@ -78,8 +76,8 @@ fn told_fault<'a>(
         ("column", Member::Value(count_or_null(column))),
         ("kind", Member::Text("fault")),
         ("line", Member::Value(count_or_null(line))),
-        ("text", Member::Text(text)),
-        ("where", Member::Value(text_or_null(place))),
+        ("text", text),
+        ("where", place),
     )
 }
 
@@ -108,14 +106,14 @@ pub fn fault_value(alloc: Global, text: &[u8], fault: &TextFault) -> Result<Valu
     let place = fault_place(alloc, text, fault)?;
     let (line, column) = line_and_column(text, place);
     let said = fault_text(alloc, fault)?;
-    let faulted = fault_where(alloc, fault)?;
+    let faulted = fault_where(alloc, fault).transpose()?;
     told_fault(
         alloc,
         fault_code(fault),
         line,
         column,
-        said.as_str(),
-        faulted,
+        Member::Value(Value::String(said)),
+        Member::Value(text_or_null(faulted)),
     )
 }
 
@@ -127,7 +125,14 @@ pub fn fault_value(alloc: Global, text: &[u8], fault: &TextFault) -> Result<Valu
 pub fn long_value(alloc: Global) -> Result<Value, AllocError>
     ensures { IfOk result (λ v. view v ≡ long_value) }
 {
-    told_fault(alloc, "A1", None, None, "fault A1 TooLong", None)
+    told_fault(
+        alloc,
+        "A1",
+        None,
+        None,
+        Member::Text("fault A1 TooLong"),
+        Member::Value(Value::Null),
+    )
 }
 
 /// The object that stands for a schedule's first wrong line, by its number, which counts from 1.
@@ -139,7 +144,14 @@ pub fn schedule_fault_value(alloc: Global, number: u64) -> Result<Value, AllocEr
     ensures { IfOk result (λ v. view v ≡ schedule_fault_value number) }
 {
     let text = format!(in alloc; "fault S1 BadLine {number}")?;
-    told_fault(alloc, "S1", Some(number), None, text.as_str(), None)
+    told_fault(
+        alloc,
+        "S1",
+        Some(number),
+        None,
+        Member::Value(Value::String(text)),
+        Member::Value(Value::Null),
+    )
 }
 
 /// The object that stands for a word that names no flow of the network.
@@ -150,13 +162,12 @@ pub fn schedule_fault_value(alloc: Global, number: u64) -> Result<Value, AllocEr
 pub fn unknown_flow_value(alloc: Global) -> Result<Value, AllocError>
     ensures { IfOk result (λ v. view v ≡ unknown_flow_value) }
 {
-    let place = String::from_str(alloc, "argument")?;
     told_fault(
         alloc,
         "F7",
         None,
         None,
-        "fault F7 UnknownName argument",
-        Some(place),
+        Member::Text("fault F7 UnknownName argument"),
+        Member::Text("argument"),
     )
 }

@@ -1,7 +1,7 @@
 //! Files as values.
 ghost use Rattle.std.specs.Prelude.{◌≡◌, IfOk, map, string_bytes};
 ghost use Rattle.serde_json.specs.View.{view};
-ghost use Rattle.sw_json.specs.FileValues.{audit_value, bare_entry, entry_value, kind_value, read_entry};
+ghost use Rattle.sw_json.specs.FileValues.{audit_value, bare_entry, kind_value, read_entry};
 
 use crate::digests::digest_text;
 use crate::lists::text_values;
@@ -27,30 +27,6 @@ pub fn kind_value(alloc: Global, kind: &str) -> Result<Value, AllocError>
     object_of_text(alloc, "kind", kind)
 }
 
-// What is found of a file: how many bytes its text has and their SHA-256, or null for both.
-fn entry_value(
-    alloc: Global,
-    bytes: Value,
-    lint: &[String],
-    path: &str,
-    digest: Value,
-    status: u8,
-    verdict: Value,
-) -> Result<Value, AllocError>
-    ensures { IfOk result (λ v. view v ≡ entry_value (view bytes) (map string_bytes lint.now) path.now (view digest) status (view verdict)) }
-{
-    let lint = text_values(alloc, lint)?;
-    object_of_six(
-        alloc,
-        ("bytes", Member::Value(bytes)),
-        ("lint", Member::Value(Value::Array(lint))),
-        ("path", Member::Text(path)),
-        ("sha256", Member::Value(digest)),
-        ("status", Member::Number(u64::from(status))),
-        ("verdict", Member::Value(verdict)),
-    )
-}
-
 /// What is found of a file whose text was read. `lint` is what there is to note of its network.
 ///
 /// # Errors
@@ -67,15 +43,16 @@ pub fn read_entry(
     ensures { IfOk result (λ v. view v ≡ read_entry path.now text.now (map string_bytes lint.now) status (view verdict)) }
 {
     let digest = digest_text(alloc, text)?;
+    let lint = text_values(alloc, lint)?;
     let bytes = text.len();
-    entry_value(
+    object_of_six(
         alloc,
-        Value::from(bytes),
-        lint,
-        path,
-        Value::String(digest),
-        status,
-        verdict,
+        ("bytes", Member::Number(bytes as u64)),
+        ("lint", Member::Value(Value::Array(lint))),
+        ("path", Member::Text(path)),
+        ("sha256", Member::Value(Value::String(digest))),
+        ("status", Member::Number(u64::from(status))),
+        ("verdict", Member::Value(verdict)),
     )
 }
 
@@ -92,7 +69,15 @@ pub fn bare_entry(
 ) -> Result<Value, AllocError>
     ensures { IfOk result (λ v. view v ≡ bare_entry path.now status (view verdict)) }
 {
-    entry_value(alloc, Value::Null, &[], path, Value::Null, status, verdict)
+    object_of_six(
+        alloc,
+        ("bytes", Member::Value(Value::Null)),
+        ("lint", Member::Value(Value::Array(Vec::new(alloc)))),
+        ("path", Member::Text(path)),
+        ("sha256", Member::Value(Value::Null)),
+        ("status", Member::Number(u64::from(status))),
+        ("verdict", Member::Value(verdict)),
+    )
 }
 
 /// What is found of files, by this release of the program.

@@ -2,7 +2,7 @@
 ghost use Rattle.std.specs.Prelude.{◌≡◌, ◌∷◌, [], IfOk, OnOk, map};
 ghost use Rattle.serde_json.specs.Data.{member, no_members, object, put, string};
 ghost use Rattle.serde_json.specs.View.{members_view, view};
-ghost use Rattle.sw_json.specs.Objects.{member_value, object_of, with_members};
+ghost use Rattle.sw_json.specs.Objects.{member_value, object_of};
 
 use serde_json::{Map, Value, put};
 use std::alloc::{AllocError, Global};
@@ -16,17 +16,6 @@ pub enum Member<'a> {
     Value(Value),
 }
 
-fn value_of(alloc: Global, member: Member<'_>) -> Result<Value, AllocError>
-    ensures { IfOk result (λ v. view v ≡ member_value member.entry) }
-{
-    match member {
-        Member::Text(text) => Value::try_from_str(alloc, text),
-        Member::Number(number) => Ok(Value::from(number)),
-        Member::Truth(truth) => Ok(Value::Bool(truth)),
-        Member::Value(value) => Ok(value),
-    }
-}
-
 // Puts one member among those of an object.
 fn add_member(
     alloc: Global,
@@ -36,21 +25,12 @@ fn add_member(
 ) -> Result<(), AllocError>
     ensures { OnOk result (members_view object.new.entries ≡ put name.now (member_value member.entry) (members_view object.old.entries)) }
 {
-    put(object, alloc, name, value_of(alloc, member)?)
-}
-
-// Puts the members of a list among those of an object, one after another.
-fn add_members(
-    alloc: Global,
-    object: &mut Map<String, Value>,
-    members: Vec<(&str, Member<'_>)>,
-) -> Result<(), AllocError>
-    ensures { OnOk result (members_view object.new.entries ≡ with_members (map (λ m. (m.0.now, member_value m.1)) members.entry.items) (members_view object.old.entries)) }
-{
-    for (name, member) in members {
-        add_member(alloc, object, name, member)?;
+    match member {
+        Member::Text(text) => put(object, alloc, name, Value::try_from_str(alloc, text)?),
+        Member::Number(number) => put(object, alloc, name, Value::from(number)),
+        Member::Truth(truth) => put(object, alloc, name, Value::Bool(truth)),
+        Member::Value(value) => put(object, alloc, name, value),
     }
-    Ok(())
 }
 
 /// The object that has a text alone.
@@ -74,7 +54,9 @@ pub fn object_of(alloc: Global, members: Vec<(&str, Member<'_>)>) -> Result<Valu
     ensures { IfOk result (λ v. view v ≡ object_of (map (λ m. (m.0.now, member_value m.1)) members.entry.items)) }
 {
     let mut object = Map::new(alloc);
-    add_members(alloc, &mut object, members)?;
+    for (name, member) in members {
+        add_member(alloc, &mut object, name, member)?;
+    }
     Ok(Value::Object(object))
 }
 
