@@ -11,4 +11,4 @@ mod LossValues
 mod MarginPlain
 mod MarginFound
 mod MarginOnce
-mod ToldMends
+pub mod ToldMends

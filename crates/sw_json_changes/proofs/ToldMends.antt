@@ -1,12 +1,12 @@
 -- Changes that free a network, told with their line.
-use Rattle.std.proofs.Common.{◌≡◌, ◌∙◌, ◌++◌, ℕ, Global, List, [], ◌∷◌, ap, map}
+use Rattle.std.proofs.Common.{◌≡◌, ◌∙◌, ◌++◌, ℕ, Global, List, Vec, [], ◌∷◌, ap, map}
 use Rattle.std.specs.Prelude.{Err, IfOk, IsOkAnd, Ok, Result, String, string_bytes}
 use Rattle.std.specs.declared.alloc.AllocError.{AllocError}
 use Rattle.serde_json.specs.Data.{Data}
 use Rattle.serde_json.specs.View.{view}
 use Rattle.serde_json.specs.declared.value.Value.{Value}
 use Rattle.sw_json.proofs.Added.{added}
-use Rattle.sw_json_changes.specs.MendValues.{told_mend}
+use Rattle.sw_json_changes.specs.MendValues.{mends_value, told_mend}
 
 -- where the values stand for these changes, and the words are that line
 pub told_with : (r : Result Value AllocError) (words : Result (String Global) AllocError) (made changes : List Data) (line : List ℕ) → made ≡ changes
@@ -20,3 +20,10 @@ told_with (Err e) words made changes line same is told = told
 pub first_added : (made : Result Value AllocError) (d : Data) (old now : List Value) → old ≡ [] → IfOk made (λ v. view v ≡ d)
     → IsOkAnd made (λ v. now ≡ old ++ v ∷ []) → map view now ≡ d ∷ []
 first_added made d old now none is pushed = added made d old now is pushed ∙ ap (λ (l : List Value). map view l ++ d ∷ []) none
+
+-- where the values stand for these mends
+pub told_all : (r : Result Value AllocError) (mends : Result (Vec Value Global) AllocError) (known : List Data) → IfOk mends (λ m. map view m.items ≡ known)
+    → IfOk r (λ v. IsOkAnd mends (λ m. view v ≡ mends_value (map view m.items))) → IfOk r (λ v. view v ≡ mends_value known)
+told_all (Ok v) (Ok m) known are told = told ∙ ap mends_value are
+told_all (Ok v) (Err e) known are told = absurd told
+told_all (Err e) mends known are told = tt

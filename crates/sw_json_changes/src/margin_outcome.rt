@@ -2,9 +2,8 @@
 ghost use Rattle.std.specs.Prelude.{◌≡◌, IfOk, length};
 ghost use Rattle.serde_json.specs.View.{view};
 ghost use Rattle.sw_command.specs.Inputs.{given};
-ghost use Rattle.sw_file.specs.Network.{network_text};
 ghost use Rattle.sw_search.specs.Verdicts.{IsVerdict};
-ghost use Rattle.sw_json.specs.Answering.{IsOutcome, OfNetwork, OfNetworkFile};
+ghost use Rattle.sw_json.specs.Answering.{IsOutcome, OfNetworkFile};
 ghost use Rattle.sw_json_changes.specs.MarginJson.{IsBent, IsByVerdict, IsMarginFound};
 ghost use Rattle.sw_json_changes.specs.MarginValues.{margins_value};
 
@@ -74,25 +73,6 @@ fn of_network<W: VerdictWorkers>(
     by_verdict(workers, alloc, network, &verdict)
 }
 
-// What is found of the text of a file.
-fn of_text<W: VerdictWorkers>(
-    workers: &W,
-    alloc: Global,
-    path: &str,
-    text: &[u8],
-) -> Result<Outcome, AllocError>
-    ensures { IfOk result (λ o. OfNetwork path.now text.now IsMarginFound (network_text text.now) (view o.result) o.status) }
-{
-    match read_network(alloc, text) {
-        Ok(network) => {
-            let found = of_network(workers, alloc, &network);
-            network.discard();
-            found
-        }
-        Err(fault) => unread_network(alloc, path, text, fault),
-    }
-}
-
 /// What is found of a file.
 pub(crate) fn margin_outcome<W: VerdictWorkers>(
     workers: &W,
@@ -103,7 +83,14 @@ pub(crate) fn margin_outcome<W: VerdictWorkers>(
     ensures { IfOk result (λ o. OfNetworkFile path.now IsMarginFound (given text.now) (view o.result) o.status) }
 {
     match text {
-        InputText::Whole(text) => of_text(workers, alloc, path, text),
+        InputText::Whole(text) => match read_network(alloc, text) {
+            Ok(network) => {
+                let found = of_network(workers, alloc, &network);
+                network.discard();
+                found
+            }
+            Err(fault) => unread_network(alloc, path, text, fault),
+        },
         InputText::TooLong => long_file(alloc, path),
     }
 }

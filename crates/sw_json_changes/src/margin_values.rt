@@ -2,7 +2,7 @@
 ghost use Rattle.std.specs.Prelude.{◌≡◌, ◌<◌, ◌*◌, IfOk, length, map};
 ghost use Rattle.serde_json.specs.View.{view};
 ghost use Rattle.sw_config.specs.Entries.{wiring_of};
-ghost use Rattle.sw_json_changes.specs.MarginValues.{answered_value, loss_value, loss_values, lost_value, margins_value, stall_value};
+ghost use Rattle.sw_json_changes.specs.MarginValues.{answered_value, loss_value, loss_values, margins_value, stall_value};
 
 use serde_json::Value;
 use std::alloc::{AllocError, Global};
@@ -40,29 +40,6 @@ fn answered_value(alloc: Global, network: &Network, bend: &Bend) -> Result<Value
     )
 }
 
-// The flows that are lost without the link of that channel.
-fn lost_value(
-    alloc: Global,
-    network: &Network,
-    channel: Chan,
-    flows: &[u16],
-) -> Result<Value, AllocError>
-    requires { channel < length (wiring_of network.now).ends }
-    ensures { IfOk result (λ v. view v ≡ lost_value network.now channel flows.now) }
-{
-    let end = finish_text(alloc, network, channel)?;
-    let start = start_text(alloc, network, channel)?;
-    let names = flow_name_values(alloc, network, flows)?;
-    let number = channel.number();
-    object_of_four(
-        alloc,
-        ("channel", Member::Number(u64::from(number))),
-        ("end", Member::Value(Value::String(end))),
-        ("flows", Member::Value(Value::Array(names))),
-        ("start", Member::Value(Value::String(start))),
-    )
-}
-
 // The flows that are lost without the link of that number.
 fn loss_value(
     alloc: Global,
@@ -75,7 +52,18 @@ fn loss_value(
 {
     // There are at most 2,048.
     let _channels = network.channels();
-    lost_value(alloc, network, Chan::new((2 * link) as u16), flows)
+    let channel = Chan::new((2 * link) as u16);
+    let end = finish_text(alloc, network, channel)?;
+    let start = start_text(alloc, network, channel)?;
+    let names = flow_name_values(alloc, network, flows)?;
+    let number = channel.number();
+    object_of_four(
+        alloc,
+        ("channel", Member::Number(u64::from(number))),
+        ("end", Member::Value(Value::String(end))),
+        ("flows", Member::Value(Value::Array(names))),
+        ("start", Member::Value(Value::String(start))),
+    )
 }
 
 // An object for each link.

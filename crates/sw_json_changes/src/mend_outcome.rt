@@ -4,8 +4,7 @@ ghost use Rattle.serde_json.specs.View.{view};
 ghost use Rattle.sw_app_changes.specs.MendTexts.{mending_status};
 ghost use Rattle.sw_app_changes.specs.Mendings.{IsMending};
 ghost use Rattle.sw_command.specs.Inputs.{given};
-ghost use Rattle.sw_file.specs.Network.{network_text};
-ghost use Rattle.sw_json.specs.Answering.{IsOutcome, OfNetwork, OfNetworkFile};
+ghost use Rattle.sw_json.specs.Answering.{IsOutcome, OfNetworkFile};
 ghost use Rattle.sw_json_changes.specs.MendJson.{IsMendFound};
 ghost use Rattle.sw_json_changes.specs.MendValues.{mending_value};
 
@@ -41,26 +40,6 @@ fn of_network<W: VerdictWorkers>(
     told(alloc, network, &found)
 }
 
-// What is found of the text of a file.
-fn of_text<W: VerdictWorkers>(
-    workers: &W,
-    alloc: Global,
-    pairs: bool,
-    path: &str,
-    text: &[u8],
-) -> Result<Outcome, AllocError>
-    ensures { IfOk result (λ o. OfNetwork path.now text.now (IsMendFound pairs) (network_text text.now) (view o.result) o.status) }
-{
-    match read_network(alloc, text) {
-        Ok(network) => {
-            let found = of_network(workers, alloc, pairs, &network);
-            network.discard();
-            found
-        }
-        Err(fault) => unread_network(alloc, path, text, fault),
-    }
-}
-
 /// What is found of a file, with pairs asked for or not.
 pub(crate) fn mend_outcome<W: VerdictWorkers>(
     workers: &W,
@@ -72,7 +51,14 @@ pub(crate) fn mend_outcome<W: VerdictWorkers>(
     ensures { IfOk result (λ o. OfNetworkFile path.now (IsMendFound pairs) (given text.now) (view o.result) o.status) }
 {
     match text {
-        InputText::Whole(text) => of_text(workers, alloc, pairs, path, text),
+        InputText::Whole(text) => match read_network(alloc, text) {
+            Ok(network) => {
+                let found = of_network(workers, alloc, pairs, &network);
+                network.discard();
+                found
+            }
+            Err(fault) => unread_network(alloc, path, text, fault),
+        },
         InputText::TooLong => long_file(alloc, path),
     }
 }

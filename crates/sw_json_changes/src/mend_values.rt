@@ -231,31 +231,16 @@ fn pair_list(alloc: Global, network: &Network, pairs: &[Pair]) -> Result<Vec<Val
     Ok(values)
 }
 
-// All that is told.
-fn told_mends(alloc: Global, mends: Vec<Value>) -> Result<Value, AllocError>
-    ensures { IfOk result (λ v. view v ≡ mends_value (map view mends.items)) }
+// All that is told, if there was memory for it.
+fn told_mends(alloc: Global, mends: Result<Vec<Value>, AllocError>) -> Result<Value, AllocError>
+    ensures { IfOk result (λ v. IsOkAnd mends (λ m. view v ≡ mends_value (map view m.items))) }
 {
+    let mends = mends?;
     object_of_two(
         alloc,
         ("kind", Member::Text("mends")),
         ("mends", Member::Value(Value::Array(mends))),
     )
-}
-
-// The object that stands for the single changes that free the network.
-fn mends_value(alloc: Global, network: &Network, changes: &[Trial]) -> Result<Value, AllocError>
-    ensures { IfOk result (λ v. view v ≡ mends_value (map (mend_value network.now) changes.now)) }
-{
-    let mends = mend_list(alloc, network, changes)?;
-    told_mends(alloc, mends)
-}
-
-// The object that stands for the pairs of changes that free it.
-fn pairs_value(alloc: Global, network: &Network, pairs: &[Pair]) -> Result<Value, AllocError>
-    ensures { IfOk result (λ v. view v ≡ mends_value (map (pair_value network.now) pairs.now)) }
-{
-    let mends = pair_list(alloc, network, pairs)?;
-    told_mends(alloc, mends)
 }
 
 // The verdict that a flow is not well routed.
@@ -274,6 +259,7 @@ fn misrouted_value(
 }
 
 /// The object that stands for what is found of the network.
+#[tactic(auto, using(crate::proofs::ToldMends::told_all))]
 pub(crate) fn mending_value(
     alloc: Global,
     network: &Network,
@@ -287,7 +273,7 @@ pub(crate) fn mending_value(
             misrouted_value(alloc, network, *flow, *place, *fault)
         }
         Mending::Free => kind_value(alloc, "free"),
-        Mending::Single(changes) => mends_value(alloc, network, changes),
-        Mending::Pairs(pairs) => pairs_value(alloc, network, pairs),
+        Mending::Single(changes) => told_mends(alloc, mend_list(alloc, network, changes)),
+        Mending::Pairs(pairs) => told_mends(alloc, pair_list(alloc, network, pairs)),
     }
 }
