@@ -1,5 +1,5 @@
 -- The words of what has a fault.
-use Rattle.std.proofs.Common.{◌≡◌, List, ℕ, Option, Some, ap, option_map, string_bytes}
+use Rattle.std.proofs.Common.{◌≡◌, List, ℕ, Some, ap, option_map, string_bytes}
 use Rattle.std.specs.Option.{option_transpose}
 use Rattle.std.specs.Prelude.{Err, IfOk, Ok, Result}
 use Rattle.std.specs.declared.alloc.AllocError.{AllocError}

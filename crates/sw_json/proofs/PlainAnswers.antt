@@ -1,5 +1,5 @@
 -- Values that have a text which reads back.
-use Rattle.std.proofs.Common.{◌≡◌, ◌≤◌, ℕ, false, List, [], ◌∷◌, arith, map, subst, sym}
+use Rattle.std.proofs.Common.{◌≡◌, ◌∙◌, ◌≤◌, ℕ, false, List, [], ◌∷◌, ap, arith, map, subst, sym}
 use Rattle.std.specs.Prelude.{All, None, Option, Some}
 use Rattle.std.proofs.lemmas.List.Elements.{All-cons, All-nil}
 use Rattle.serde_json.specs.Data.{Data, depth}
@@ -7,6 +7,7 @@ use Rattle.serde_json.specs.Written.{has_float}
 use Rattle.sw_json.specs.AnswerValues.{answer_value}
 use Rattle.sw_json.specs.Plain.{AnswersArePlain, InputsArePlain, IsPlain}
 use Rattle.sw_json.specs.Answering.{read_value}
+use Rattle.sw_json.specs.declared.files.Release.{Release}
 
 -- ---- of a value that is known to be plain
 
@@ -30,6 +31,13 @@ files_are_plain plain path text (f ∷ files) =
     (files_are_plain plain path text files)
 
 -- ---- the answer round a result
+
+-- the answer round these files is one round what they are known to be
+pub answer_of : (command : List ℕ) (files known : List Data) (found value : Data) (status : ℕ) (release : Release) → files ≡ known
+    → value ≡ answer_value command files found status release.toolchain.now release.version.now
+    → value ≡ answer_value command known found status release.toolchain.now release.version.now
+answer_of command files known found value status release same is =
+    is ∙ ap (λ (l : List Data). answer_value command l found status release.toolchain.now release.version.now) same
 
 pub answer_is_plain : AnswersArePlain → (command : List ℕ) (files : List Data) (found value : Data) (status : ℕ) (toolchain version : List ℕ)
     → has_float found ≡ false → depth found ≤ 125 → All (IsPlain 1) files → value ≡ answer_value command files found status toolchain version

@@ -3,7 +3,7 @@ ghost use Rattle.std.specs.Prelude.{◌≡◌, ◌<◌, All, IfOk, length, map, 
 ghost use Rattle.serde_json.specs.View.{view};
 ghost use Rattle.sw_config.specs.Entries.{wiring_of};
 ghost use Rattle.sw_output.specs.ChannelTexts.{start_text};
-ghost use Rattle.sw_json.specs.PlaceValues.{finish_text, misrouted_fault_value, misrouted_place_words, place_value};
+ghost use Rattle.sw_json.specs.PlaceValues.{finish_text, misrouted_fault_value, place_value};
 
 use crate::codes::route_fault_code;
 use crate::lists::add_value;
@@ -81,20 +81,6 @@ pub fn place_values(
     Ok(values)
 }
 
-// A place with its fault, as `route` prints it.
-fn misrouted_place_words(
-    alloc: Global,
-    place: Place,
-    fault: RouteFault,
-) -> Result<String, AllocError>
-    ensures { IfOk result (λ s. string_bytes s ≡ misrouted_place_words place fault) }
-{
-    let channel = place.channel.number();
-    let deleted = place.deleted;
-    let fault = route_fault_text(fault);
-    format!(in alloc; "misrouted {channel} {deleted} {fault}")
-}
-
 /// The object that stands for a place with its fault.
 ///
 /// # Errors
@@ -110,7 +96,8 @@ pub fn misrouted_fault_value(
     let channel = place.channel.number();
     let deleted = place.deleted;
     let code = route_fault_code(fault);
-    let text = misrouted_place_words(alloc, place, fault)?;
+    let fault = route_fault_text(fault);
+    let text = format!(in alloc; "misrouted {channel} {deleted} {fault}")?;
     object_of_four(
         alloc,
         ("channel", Member::Number(u64::from(channel))),

@@ -1,19 +1,17 @@
-use Rattle.std.proofs.Common.{◌≡◌, ◌∙◌, ap, map, refl}
-use Rattle.std.specs.Prelude.{IfOk, string_bytes}
+use Rattle.std.proofs.Common.{map, refl}
 use Rattle.serde_json.specs.View.{view}
 use Rattle.sw_command.specs.Inputs.{given}
-use Rattle.sw_json.specs.AnswerValues.{answer_value}
 use Rattle.sw_json.specs.Answering.{read_value}
 use Rattle.sw_json.proofs.Answered.{spelled}
-use Rattle.sw_json.proofs.PlainAnswers.{answer_is_plain, files_are_plain}
+use Rattle.sw_json.proofs.PlainAnswers.{answer_is_plain, answer_of, files_are_plain}
 use Rattle.sw_json.proofs.answering.answer_to_files.Goals as goal
 
 pub text_of-text-requires : goal.text_of-text-requires
 text_of-text-requires c =
     let found = c.in_ok-found.found in
     let known = map (λ f. read_value f.0.now (given f.1.now)) c.args.files.now in
-    let is : view c.in_ok-value.value ≡ answer_value c.args.command.now known (view found.result) found.status c.args.release.toolchain.now c.args.release.version.now =
-    c.in_ok-value.ensures ∙ ap (λ l. answer_value c.args.command.now l (view found.result) found.status c.args.release.toolchain.now c.args.release.version.now) c.in_ok-files.ensures in
+    let is =
+    answer_of c.args.command.now _ known (view found.result) (view c.in_ok-value.value) found.status c.args.release c.in_ok-files.ensures c.in_ok-value.ensures in
     (answer_is_plain c.answers_are_plain.ensures c.args.command.now known (view found.result) (view c.in_ok-value.value) found.status
     c.args.release.toolchain.now c.args.release.version.now found.whole found.flat
     (files_are_plain c.inputs_are_plain.ensures (λ f. f.0.now) (λ f. given f.1.now) c.args.files.now) is).whole
@@ -22,8 +20,8 @@ pub returns : goal.returns
 returns c =
     let found = c.in_ok-found.found in
     let known = map (λ f. read_value f.0.now (given f.1.now)) c.args.files.now in
-    let is : view c.in_ok-value.value ≡ answer_value c.args.command.now known (view found.result) found.status c.args.release.toolchain.now c.args.release.version.now =
-    c.in_ok-value.ensures ∙ ap (λ l. answer_value c.args.command.now l (view found.result) found.status c.args.release.toolchain.now c.args.release.version.now) c.in_ok-files.ensures in
+    let is =
+    answer_of c.args.command.now _ known (view found.result) (view c.in_ok-value.value) found.status c.args.release c.in_ok-files.ensures c.in_ok-value.ensures in
     let plain =
     answer_is_plain c.answers_are_plain.ensures c.args.command.now known (view found.result) (view c.in_ok-value.value) found.status
     c.args.release.toolchain.now c.args.release.version.now found.whole found.flat
