@@ -1,5 +1,5 @@
 //! The engine of `check` that answers with an object of JSON.
-ghost use Rattle.std.specs.Prelude.{◌≡◌, IfOk, Some, codes, option_map};
+ghost use Rattle.std.specs.Prelude.{◌≡◌, IfOk, codes, option_map};
 ghost use Rattle.serde_json.specs.View.{view};
 ghost use Rattle.sw_app.specs.CheckAnswers.{ChecksDeadlockFree};
 ghost use Rattle.sw_app.specs.CheckTexts.{grammar_words, refusal_words};
@@ -116,22 +116,6 @@ fn judgement<T: VerdictWorkers>(
     }
 }
 
-// The result for the text of a certificate.
-fn certificate_outcome<T: VerdictWorkers>(
-    workers: &T,
-    alloc: Global,
-    network: &Network,
-    text: &[u8],
-) -> Result<Outcome, AllocError>
-    ensures { IfOk result (λ o. IsCertificateResult network.now (read_text text.now) (view o.result) o.status) }
-{
-    match Certificate::read_by(workers, alloc, text) {
-        Ok(certificate) => judgement(workers, alloc, network, &certificate),
-        Err(CertificateFault::Grammar(number)) => refused_by_line(alloc, number),
-        Err(CertificateFault::Memory) => Err(AllocError),
-    }
-}
-
 // The result for a network and the second file.
 fn second_outcome<T: VerdictWorkers>(
     workers: &T,
@@ -143,28 +127,12 @@ fn second_outcome<T: VerdictWorkers>(
     ensures { IfOk result (λ o. OfFile path.now (λ text. IsCertificateResult network.now (read_text text)) (given second.now) (view o.result) o.status) }
 {
     match second {
-        InputText::Whole(text) => certificate_outcome(workers, alloc, network, text),
+        InputText::Whole(text) => match Certificate::read_by(workers, alloc, text) {
+            Ok(certificate) => judgement(workers, alloc, network, &certificate),
+            Err(CertificateFault::Grammar(number)) => refused_by_line(alloc, number),
+            Err(CertificateFault::Memory) => Err(AllocError),
+        },
         InputText::TooLong => long_file(alloc, path),
-    }
-}
-
-// The result for the bytes of a network file and the second file.
-fn text_outcome<T: VerdictWorkers>(
-    workers: &T,
-    alloc: Global,
-    paths: (&str, &str),
-    text: &[u8],
-    second: &InputText,
-) -> Result<Outcome, AllocError>
-    ensures { IfOk result (λ o. IsCheckResult paths.entry.0.now paths.entry.1.now (Some text.now) (given second.now) (view o.result) o.status) }
-{
-    match read_network(alloc, text) {
-        Ok(network) => {
-            let found = second_outcome(workers, alloc, &network, paths.1, second);
-            network.discard();
-            found
-        }
-        Err(fault) => unread_network(alloc, paths.0, text, fault),
     }
 }
 
@@ -179,7 +147,14 @@ fn check_outcome<T: VerdictWorkers>(
     ensures { IfOk result (λ o. IsCheckResult paths.entry.0.now paths.entry.1.now (given first.now) (given second.now) (view o.result) o.status) }
 {
     match first {
-        InputText::Whole(text) => text_outcome(workers, alloc, paths, text, second),
+        InputText::Whole(text) => match read_network(alloc, text) {
+            Ok(network) => {
+                let found = second_outcome(workers, alloc, &network, paths.1, second);
+                network.discard();
+                found
+            }
+            Err(fault) => unread_network(alloc, paths.0, text, fault),
+        },
         InputText::TooLong => long_file(alloc, paths.0),
     }
 }

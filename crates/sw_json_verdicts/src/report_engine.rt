@@ -2,11 +2,9 @@
 ghost use Rattle.std.specs.Prelude.{◌≡◌, IfOk};
 ghost use Rattle.serde_json.specs.View.{view};
 ghost use Rattle.sw_command.specs.Inputs.{given};
-ghost use Rattle.sw_file.specs.Network.{network_text};
 ghost use Rattle.sw_json.specs.VerdictValues.{certificate_bytes, verdict_value};
 ghost use Rattle.sw_search.specs.Verdicts.{IsVerdict};
-ghost use Rattle.sw_json.specs.Answering.{EndsByOneFile, IsOutcome, OfNetwork, OfNetworkFile};
-ghost use Rattle.sw_app.specs.Kept.{kept};
+ghost use Rattle.sw_json.specs.Answering.{EndsByOneFile, IsOutcome, OfNetworkFile};
 ghost use Rattle.sw_json_verdicts.specs.ReportResults.{IsFindingsResult, IsReportJson, KeepingOne, found_value, kept_of, report_value};
 
 use crate::laws::reports_are_plain;
@@ -97,26 +95,6 @@ fn network_outcome<T: VerdictWorkers>(
     findings_outcome(alloc, network, &findings)
 }
 
-// The result for the bytes of a network file, and the network, if the bytes are at most `most`.
-fn text_outcome<T: VerdictWorkers>(
-    workers: &T,
-    alloc: Global,
-    path: &str,
-    text: &[u8],
-    most: usize,
-) -> (Result<Outcome, AllocError>, Option<Network>)
-    ensures found { IfOk result.0 (λ o. OfNetwork path.now text.now IsFindingsResult (network_text text.now) (view o.result) o.status) }
-    ensures network { IfOk result.0 (λ _. result.1 ≡ kept most text.now) }
-{
-    match read_network(alloc, text) {
-        Ok(network) => {
-            let found = network_outcome(workers, alloc, &network);
-            (found, kept_network(network, text.len(), most))
-        }
-        Err(fault) => (unread_network(alloc, path, text, fault), None),
-    }
-}
-
 // The result for a network file, and the network, if the bytes are at most `most`.
 fn report_outcome<T: VerdictWorkers>(
     workers: &T,
@@ -129,7 +107,13 @@ fn report_outcome<T: VerdictWorkers>(
     ensures network { IfOk result.0 (λ _. result.1 ≡ kept_of most (given text.now)) }
 {
     match text {
-        InputText::Whole(text) => text_outcome(workers, alloc, path, text, most),
+        InputText::Whole(text) => match read_network(alloc, text) {
+            Ok(network) => {
+                let found = network_outcome(workers, alloc, &network);
+                (found, kept_network(network, text.len(), most))
+            }
+            Err(fault) => (unread_network(alloc, path, text, fault), None),
+        },
         InputText::TooLong => (long_file(alloc, path), None),
     }
 }

@@ -3,9 +3,8 @@ ghost use Rattle.std.specs.Prelude.{◌≡◌, ◌<◌, All, IfOk, IfSome, lengt
 ghost use Rattle.serde_json.specs.View.{view};
 ghost use Rattle.sw_command.specs.Inputs.{given};
 ghost use Rattle.sw_config.specs.Entries.{all_flows, wiring_of};
-ghost use Rattle.sw_file.specs.Network.{network_text};
 ghost use Rattle.sw_app.specs.RouteTexts.{outcome_status};
-ghost use Rattle.sw_json.specs.Answering.{EndsByOneFile, OfNetwork, OfNetworkFile};
+ghost use Rattle.sw_json.specs.Answering.{EndsByOneFile, OfNetworkFile};
 ghost use Rattle.sw_json_verdicts.specs.RouteResults.{IsFlowResult, IsNamedResult, IsRouteJson, fault_or_null, route_kind, told_route};
 
 use crate::laws::routes_are_plain;
@@ -19,7 +18,7 @@ use sw_flow::{Place, RouteFault, first_fault, places};
 use sw_json::laws::faults_are_plain;
 use sw_json::{
     Member, Outcome, Release, Value, answer_to_one, file_fault, long_file, misrouted_fault_value,
-    object_of, place_values, tell_answer, tell_unread, unknown_flow_value, unread_network,
+    object_of_four, place_values, tell_answer, tell_unread, unknown_flow_value, unread_network,
 };
 
 // A place with its fault, or null where there is none.
@@ -65,13 +64,13 @@ fn told_route(
     let name = flow.name();
     let fault = fault_or_null(alloc, fault)?;
     let places = place_values(alloc, network, places)?;
-    let members = vec![in alloc;
+    object_of_four(
+        alloc,
         ("fault", Member::Value(fault)),
         ("flow", Member::Text(name)),
         ("kind", Member::Text(kind)),
         ("places", Member::Value(Value::Array(places))),
-    ]?;
-    object_of(alloc, members)
+    )
 }
 
 // The result for a flow.
@@ -108,20 +107,6 @@ fn named_outcome(
     }
 }
 
-// The result for the bytes of a network file.
-fn text_outcome(alloc: Global, path: &str, text: &[u8], name: &str) -> Result<Outcome, AllocError>
-    ensures { IfOk result (λ o. OfNetwork path.now text.now (IsNamedResult path.now name.now) (network_text text.now) (view o.result) o.status) }
-{
-    match read_network(alloc, text) {
-        Ok(network) => {
-            let found = named_outcome(alloc, path, &network, name);
-            network.discard();
-            found
-        }
-        Err(fault) => unread_network(alloc, path, text, fault),
-    }
-}
-
 // The result for a network file.
 fn route_outcome(
     alloc: Global,
@@ -132,7 +117,14 @@ fn route_outcome(
     ensures { IfOk result (λ o. OfNetworkFile path.now (IsNamedResult path.now name.now) (given text.now) (view o.result) o.status) }
 {
     match text {
-        InputText::Whole(text) => text_outcome(alloc, path, text, name),
+        InputText::Whole(text) => match read_network(alloc, text) {
+            Ok(network) => {
+                let found = named_outcome(alloc, path, &network, name);
+                network.discard();
+                found
+            }
+            Err(fault) => unread_network(alloc, path, text, fault),
+        },
         InputText::TooLong => long_file(alloc, path),
     }
 }
