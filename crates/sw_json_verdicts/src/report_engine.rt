@@ -130,7 +130,7 @@ pub fn report<T: VerdictWorkers, R: Read, W: Write>(
 ) -> Ended
     ensures { EndsByOneFile (IsReportJson path.now release.entry) (R.remaining reader.old) (R.remaining reader.new) (W.contents writer.old) (W.contents writer.new) result }
 {
-    report_keeping(workers, alloc, reader, path, release, 0, writer).ended
+    report_keeping(workers, alloc, reader, path, release, 0, writer).into_ended()
 }
 
 /// The object that `report` tells, with the network, where its text has at most `most` bytes.
