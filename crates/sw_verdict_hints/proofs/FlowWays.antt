@@ -1,5 +1,5 @@
 -- The way of a flow to its first place with a fault.
-use Rattle.std.proofs.Common.{◌≡◌, ◌<◌, ◌∙◌, ℕ, All, List, Option, Some, None, length, refl, sym, ap, subst}
+use Rattle.std.proofs.Common.{◌≡◌, ◌<◌, ◌∙◌, ℕ, All, List, Option, Some, None, length, refl, sym, subst}
 use Rattle.std.specs.Prelude.{IfSome, IsSome, Vec, option_map, slice_get}
 use Rattle.std.specs.declared.alloc.Global.{Global}
 use Rattle.sw_config.specs.Entries.{Declaration, FlowEntry, all_flows, wiring_of}

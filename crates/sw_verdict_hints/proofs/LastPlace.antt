@@ -1,5 +1,5 @@
 -- The place that a way leads to is on one of the network's channels.
-use Rattle.std.proofs.Common.{◌≡◌, ◌<◌, ◌++◌, ℕ, All, List, [], ◌∷◌, length, subst}
+use Rattle.std.proofs.Common.{◌<◌, ◌++◌, ℕ, All, List, [], ◌∷◌, length, subst}
 use Rattle.std.proofs.lemmas.List.Elements.{All-head, All-tail}
 use Rattle.sw_config.specs.Entries.{Declaration, wiring_of}
 use Rattle.sw_search.specs.Explanations.{GoesWrong}

@@ -71,6 +71,19 @@ no_route_help d i s byte =
     else if byte == 255 then codes "255 names no port: change it in " ++ (address_words d i ++ (codes "; " ++ links_words d s))
     else codes "a 'route' entry for address " ++ (decimal byte ++ (codes " has to name a port with a link; " ++ links_words d s))
 
+-- the one or the other: where this byte is the next one, or none is left
+abbrev pub switch_help : Declaration → ℕ → ℕ → Option ℕ → List ℕ
+switch_help d i s None = ends_help d i s
+switch_help d i s (Some byte) = no_route_help d i s byte
+
+-- what to change there, without the links
+abbrev pub change_words : List ℕ → Option ℕ → List ℕ
+change_words address None = codes "add a byte to " ++ address
+change_words address (Some byte) =
+    if nat_lt byte 32 then codes "change byte " ++ (decimal byte ++ (codes " of " ++ address))
+    else if byte == 255 then codes "255 names no port: change it in " ++ address
+    else codes "a 'route' entry for address " ++ (decimal byte ++ codes " has to name a port with a link")
+
 -- a node that is not the flow's end
 abbrev pub wrong_node_help : Declaration → ℕ → FlowEntry → ℕ → List ℕ
 wrong_node_help d i f n =

@@ -1,7 +1,7 @@
 //! The hint of a certificate that is refused for a network.
 ghost use Rattle.std.specs.Prelude.{◌≡◌, IfOk, option_map, string_bytes};
 ghost use Rattle.sw_cert.specs.Text.{read_text};
-ghost use Rattle.sw_verdict_hints.specs.CertificateHints.{IsCertificateHint, certificate_head, certificate_help, contents_hint, hint_of_texts, refusal_hint, refusal_lines};
+ghost use Rattle.sw_verdict_hints.specs.CertificateHints.{IsCertificateHint, certificate_head, contents_hint, hint_of_texts, refusal_hint, refusal_lines};
 
 use crate::certificate_numbers::not_rising_lines;
 use crate::certificate_places::{
@@ -45,16 +45,6 @@ fn certificate_head(alloc: Global, certificate: &str, network: &str) -> Result<S
     head_line(alloc, certificate, &[], None, words.as_str())
 }
 
-#[tactic(auto, using(crate::proofs::TextsMade::told_if))]
-fn certificate_help(alloc: Global, network: &str) -> Result<String, AllocError>
-    ensures { IfOk result (λ s. string_bytes s ≡ certificate_help network.now) }
-{
-    let words = format!(in alloc;
-        "swcheck decide {network} writes a certificate where there is one"
-    );
-    told_of(alloc, "help", words)
-}
-
 /// The names of the two files.
 #[derive(Clone, Copy)]
 pub(crate) struct Names<'a> {
@@ -62,7 +52,7 @@ pub(crate) struct Names<'a> {
     pub(crate) certificate: &'a str,
 }
 
-#[tactic(auto, using(crate::proofs::TextsMade::in_turn_if))]
+// That it is refused, for what, and how to get one.
 fn refusal_hint(
     alloc: Global,
     names: Names<'_>,
@@ -74,7 +64,9 @@ fn refusal_hint(
 {
     let head = certificate_head(alloc, names.certificate, names.network);
     let lines = refusal_lines(alloc, network, certificate, refusal);
-    let help = certificate_help(alloc, names.network);
+    let path = names.network;
+    let words = format!(in alloc; "swcheck decide {path} writes a certificate where there is one");
+    let help = told_of(alloc, "help", words);
     in_turn(alloc, head, lines, help)
 }
 

@@ -1,29 +1,18 @@
 //! Which numbers of a certificate do not rise, in words.
-ghost use Rattle.std.specs.Prelude.{◌≡◌, ◌≤◌, ◌==◌, ◌++◌, ◌&&◌, IfOk, codes, length, slice_index, string_bytes};
+ghost use Rattle.std.specs.Prelude.{◌≡◌, ◌<◌, ◌≤◌, ◌==◌, ◌++◌, ◌&&◌, IfOk, codes, length, slice_index, string_bytes};
 ghost use Rattle.std.specs.List.{list_any};
+ghost use Rattle.sw_config.specs.Entries.{all_flows};
 ghost use Rattle.sw_flow.specs.Followers.{followers_of};
-ghost use Rattle.sw_verdict_hints.specs.CertificateHints.{above_words, cause_words, channel_words, goer, goes_on, goes_on_at, not_rising_lines, number_words, rising_found};
+ghost use Rattle.sw_verdict_hints.specs.CertificateHints.{cause_words, goer, goes_on_at, not_rising_lines, number_words};
 
 use crate::certificate_places::listed_for;
 use crate::made_texts::{in_turn, two_lines};
 use std::alloc::{AllocError, Global};
 use sw_cert::Certificate;
 use sw_config::{Flow, Network};
-use sw_flow::{Followers, Place, followers_in};
+use sw_flow::{Place, followers_in};
 use sw_output::{channel_text, flow_name};
 use sw_topo::Chan;
-
-// A channel, with its ends if the network has it.
-fn channel_words(alloc: Global, network: &Network, channel: Chan) -> Result<String, AllocError>
-    ensures { IfOk result (λ s. string_bytes s ≡ channel_words network.now channel) }
-{
-    let number = channel.number();
-    if number >= network.channels() {
-        return format!(in alloc; "channel {number}");
-    }
-    let ends = channel_text(alloc, network, channel)?;
-    format!(in alloc; "channel {number} {ends}")
-}
 
 // The number of a channel in the certificate.
 fn number_of(numbers: &[u16], channel: Chan) -> u16
@@ -35,7 +24,7 @@ fn number_of(numbers: &[u16], channel: Chan) -> u16
     }
 }
 
-// The channel and its number, behind these words.
+// The channel and its number, behind these words; with its ends if the network has it.
 fn number_words(
     alloc: Global,
     before: &str,
@@ -46,20 +35,12 @@ fn number_words(
     ensures { IfOk result (λ s. string_bytes s ≡ before.now ++ number_words network.now numbers.now channel) }
 {
     let number = number_of(numbers, channel);
-    let words = channel_words(alloc, network, channel)?;
-    format!(in alloc; "{before}number {number} at {words}")
-}
-
-// Is one of the places on the channel?
-fn is_one_on(followers: Followers<'_>, channel: Chan) -> bool
-    ensures { result ≡ list_any (λ q. q.channel == channel) followers.entry }
-{
-    for place in followers {
-        if place.channel == channel {
-            return true;
-        }
+    let at = channel.number();
+    if at >= network.channels() {
+        return format!(in alloc; "{before}number {number} at channel {at}");
     }
-    false
+    let ends = channel_text(alloc, network, channel)?;
+    format!(in alloc; "{before}number {number} at channel {at} {ends}")
 }
 
 // Does the flow go on from this place, on the one channel, to the other?
@@ -70,23 +51,15 @@ fn goes_from(network: &Network, flow: &Flow, place: &Place, from: Chan, to: Chan
     if place.channel != from {
         return false;
     }
-    is_one_on(followers_in(network, flow, *place), to)
-}
-
-// Does the flow go on over its listed places from the one channel to the other?
-fn goes_on(network: &Network, flow: &Flow, listed: &[Place], from: Chan, to: Chan) -> bool
-    requires { length flow.now.address ≤ 32 }
-    ensures { result ≡ goes_on network.now flow.now listed.now from to }
-{
-    for place in listed {
-        if goes_from(network, flow, place, from, to) {
+    for next in followers_in(network, flow, *place) {
+        if next.channel == to {
             return true;
         }
     }
     false
 }
 
-// The same, of the flow of that number.
+// Does the flow of that number go on over its listed places from the one channel to the other?
 fn goes_on_at(
     network: &Network,
     certificate: &Certificate,
@@ -94,13 +67,17 @@ fn goes_on_at(
     to: Chan,
     number: u16,
 ) -> bool
+    requires { number < length (all_flows network.now) }
     ensures { result ≡ goes_on_at network.now certificate.now.places from to number }
 {
-    if number >= network.flows() {
-        return false;
-    }
+    let flow = network.flow(number);
     let listed = listed_for(certificate, number);
-    goes_on(network, network.flow(number), listed, from, to)
+    for place in listed {
+        if goes_from(network, flow, place, from, to) {
+            return true;
+        }
+    }
+    false
 }
 
 // The first flow that goes on from the one channel to the other.
@@ -129,35 +106,11 @@ fn cause_words(alloc: Global, network: &Network, flow: Option<u16>) -> Result<St
     }
 }
 
-// Both numbers, and what makes the one channel wait for the other.
-fn rising_found(
-    alloc: Global,
-    network: &Network,
-    certificate: &Certificate,
-    channel: Chan,
-    next: Chan,
-) -> Result<String, AllocError>
-    ensures { IfOk result (λ s. string_bytes s ≡ rising_found network.now certificate.now channel next) }
-{
-    let numbers = certificate.numbers();
-    let first = number_words(alloc, "", network, numbers, channel);
-    let second = number_words(alloc, ", and ", network, numbers, next);
-    let cause = cause_words(alloc, network, goer(network, certificate, channel, next));
-    in_turn(alloc, first, second, cause)
-}
-
-fn above_words(alloc: Global, least: u16, channel: u16) -> Result<String, AllocError>
-    ensures { IfOk result (λ s. string_bytes s ≡ above_words least channel) }
-{
-    format!(in alloc; "a number above {least} at channel {channel}")
-}
-
 /// Of two channels, the second of which waits for the first and has no greater number.
 ///
 /// # Errors
 ///
 /// There is no memory for the text.
-#[tactic(auto, using(crate::proofs::TextsMade::two_lines_if))]
 pub(crate) fn not_rising_lines(
     alloc: Global,
     network: &Network,
@@ -167,8 +120,13 @@ pub(crate) fn not_rising_lines(
 ) -> Result<String, AllocError>
     ensures { IfOk result (λ s. string_bytes s ≡ not_rising_lines network.now certificate.now channel next) }
 {
-    let found = rising_found(alloc, network, certificate, channel, next);
-    let least = number_of(certificate.numbers(), channel);
-    let expected = above_words(alloc, least, next.number());
+    let numbers = certificate.numbers();
+    let first = number_words(alloc, "", network, numbers, channel);
+    let second = number_words(alloc, ", and ", network, numbers, next);
+    let cause = cause_words(alloc, network, goer(network, certificate, channel, next));
+    let found = in_turn(alloc, first, second, cause);
+    let least = number_of(numbers, channel);
+    let number = next.number();
+    let expected = format!(in alloc; "a number above {least} at channel {number}");
     two_lines(alloc, found, "expected", expected)
 }

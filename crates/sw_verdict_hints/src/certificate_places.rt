@@ -1,18 +1,15 @@
 //! What of the places that a certificate lists is wrong, in words.
-ghost use Rattle.std.specs.Prelude.{◌≡◌, ◌<◌, ◌≤◌, ◌++◌, IfOk, codes, find, length, not, string_bytes};
+ghost use Rattle.std.specs.Prelude.{◌≡◌, ◌<◌, ◌≤◌, ◌++◌, IfOk, codes, length, string_bytes};
 ghost use Rattle.sw_config.specs.Entries.{all_flows};
 ghost use Rattle.sw_check.specs.Refusals.{is_in_range, is_listed, start_of};
-ghost use Rattle.sw_topo.specs.Checked.{first_below};
-ghost use Rattle.sw_verdict_hints.specs.CertificateHints.{count_words, counts_lines, faulty_lines, is_of_size, is_outside_at, limits_words, listed_for, missing, missing_lines, no_start_lines, not_closed_lines, outside, outside_at, outside_lines, place_words, range_lines, range_words, wrong_count_lines};
-ghost use Rattle.sw_verdict_hints.specs.RouteHints.{found_words};
+ghost use Rattle.sw_verdict_hints.specs.CertificateHints.{count_words, faulty_lines, is_of_size, listed_for, missing, no_start_lines, not_closed_lines, outside_at, outside_lines, place_words, range_lines, wrong_count_lines};
 
-use crate::made_texts::two_lines;
+use crate::made_texts::{told_of, two_lines};
 use crate::route_hints::found_words;
 use std::alloc::{AllocError, Global};
 use sw_cert::Certificate;
 use sw_config::{Flow, Network};
-use sw_flow::{Followers, Place, RouteFault, followers_in};
-use sw_hints::told;
+use sw_flow::{Place, RouteFault, followers_in};
 use sw_output::flow_name;
 
 // A place of a flow, as a certificate lists it.
@@ -58,10 +55,13 @@ fn is_in_range(network: &Network, flow: &Flow, place: &Place) -> bool
     place.channel.number() < network.channels() && place.deleted as usize <= flow.address().len()
 }
 
-// The first place that is listed for the flow and that the network can't have.
-fn outside(network: &Network, flow: &Flow, listed: &[Place]) -> Option<Place>
-    ensures { result ≡ outside network.now flow.now listed.now }
+// The first place that is listed for the flow of that number and that the network can't have.
+fn outside_at(network: &Network, certificate: &Certificate, number: u16) -> Option<Place>
+    requires { number < length (all_flows network.now) }
+    ensures { result ≡ outside_at network.now certificate.now.places number }
 {
+    let flow = network.flow(number);
+    let listed = listed_for(certificate, number);
     for place in listed {
         if !is_in_range(network, flow, place) {
             return Some(*place);
@@ -70,65 +70,27 @@ fn outside(network: &Network, flow: &Flow, listed: &[Place]) -> Option<Place>
     None
 }
 
-// The same, of the flow of that number.
-fn outside_at(network: &Network, certificate: &Certificate, number: u16) -> Option<Place>
-    ensures { result ≡ outside_at network.now certificate.now.places number }
-{
-    if number < network.flows() {
-        outside(
-            network,
-            network.flow(number),
-            listed_for(certificate, number),
-        )
-    } else {
-        None
-    }
-}
-
-fn limits_words(alloc: Global, channels: usize, bytes: usize) -> Result<String, AllocError>
-    ensures { IfOk result (λ s. string_bytes s ≡ limits_words channels bytes) }
-{
-    format!(in alloc; "a channel below {channels}, and at most {bytes} deleted bytes")
-}
-
-fn range_words(alloc: Global, network: &Network, flow: &Flow) -> Result<String, AllocError>
-    ensures { IfOk result (λ s. string_bytes s ≡ range_words network.now flow.now) }
-{
-    limits_words(alloc, network.channels() as usize, flow.address().len())
-}
-
 // Of the flow of that number, with a place that the network can't have.
-#[tactic(auto, using(crate::proofs::TextsMade::two_lines_if))]
 fn outside_lines(
     alloc: Global,
     network: &Network,
     number: u16,
     place: &Place,
 ) -> Result<String, AllocError>
+    requires { number < length (all_flows network.now) }
     ensures { IfOk result (λ s. string_bytes s ≡ outside_lines network.now number place.now) }
 {
-    if number < network.flows() {
-        let flow = network.flow(number);
-        let found = place_words(alloc, place, flow.name());
-        two_lines(alloc, found, "expected", range_words(alloc, network, flow))
-    } else {
-        Ok(String::new(alloc))
-    }
+    let flow = network.flow(number);
+    let found = place_words(alloc, place, flow.name());
+    let channels = network.channels();
+    let bytes = flow.address().len();
+    let expected = format!(in alloc;
+        "a channel below {channels}, and at most {bytes} deleted bytes"
+    );
+    two_lines(alloc, found, "expected", expected)
 }
 
-// The first flow with such a place.
-#[tactic(auto, using(crate::proofs::Firsts::first_found))]
-fn first_outside(network: &Network, certificate: &Certificate) -> Option<u16>
-    ensures { result ≡ first_below (is_outside_at network.now certificate.now.places) (length (all_flows network.now)) }
-{
-    for number in 0..network.flows() {
-        if outside_at(network, certificate, number).is_some() {
-            return Some(number);
-        }
-    }
-    None
-}
-
+// Of the first flow with such a place.
 fn range_lines(
     alloc: Global,
     network: &Network,
@@ -136,13 +98,13 @@ fn range_lines(
 ) -> Result<String, AllocError>
     ensures { IfOk result (λ s. string_bytes s ≡ range_lines network.now certificate.now.places) }
 {
-    let Some(number) = first_outside(network, certificate) else {
-        return Ok(String::new(alloc));
-    };
-    match outside_at(network, certificate, number) {
-        Some(place) => outside_lines(alloc, network, number, &place),
-        None => Ok(String::new(alloc)),
+    for number in 0..network.flows() {
+        match outside_at(network, certificate, number) {
+            Some(place) => return outside_lines(alloc, network, number, &place),
+            None => {}
+        }
     }
+    Ok(String::new(alloc))
 }
 
 fn is_of_size(network: &Network, certificate: &Certificate) -> bool
@@ -150,18 +112,6 @@ fn is_of_size(network: &Network, certificate: &Certificate) -> bool
 {
     certificate.numbers().len() == network.channels() as usize
         && certificate.flows() == network.flows() as usize
-}
-
-fn counts_lines(
-    alloc: Global,
-    network: &Network,
-    certificate: &Certificate,
-) -> Result<String, AllocError>
-    ensures { IfOk result (λ s. string_bytes s ≡ counts_lines network.now certificate.now) }
-{
-    let found = count_words(alloc, certificate.numbers().len(), certificate.flows());
-    let expected = count_words(alloc, network.channels() as usize, network.flows() as usize);
-    two_lines(alloc, found, "expected", expected)
 }
 
 /// Of counts that are not the network's, or else of a place that it can't have.
@@ -177,10 +127,11 @@ pub(crate) fn wrong_count_lines(
     ensures { IfOk result (λ s. string_bytes s ≡ wrong_count_lines network.now certificate.now) }
 {
     if is_of_size(network, certificate) {
-        range_lines(alloc, network, certificate)
-    } else {
-        counts_lines(alloc, network, certificate)
+        return range_lines(alloc, network, certificate);
     }
+    let found = count_words(alloc, certificate.numbers().len(), certificate.flows());
+    let expected = count_words(alloc, network.channels() as usize, network.flows() as usize);
+    two_lines(alloc, found, "expected", expected)
 }
 
 // ---- places
@@ -200,6 +151,7 @@ fn start_of(network: &Network, flow: &Flow) -> Place
 /// # Errors
 ///
 /// There is no memory for the text.
+#[tactic(auto, using(crate::proofs::TextsMade::told_if))]
 pub(crate) fn no_start_lines(
     alloc: Global,
     network: &Network,
@@ -210,8 +162,8 @@ pub(crate) fn no_start_lines(
     if number < network.flows() {
         let flow = network.flow(number);
         let start = start_of(network, flow);
-        let words = place_with(alloc, &start, flow.name(), "where it starts")?;
-        told(alloc, "expected", words.as_bytes())
+        let words = place_with(alloc, &start, flow.name(), "where it starts");
+        told_of(alloc, "expected", words)
     } else {
         Ok(String::new(alloc))
     }
@@ -228,38 +180,17 @@ fn is_listed(listed: &[Place], place: &Place) -> bool
     false
 }
 
-// The first of the places that is not listed.
-fn first_unlisted(listed: &[Place], followers: Followers<'_>) -> Option<Place>
-    ensures { result ≡ find (λ q. not (is_listed listed.now q)) followers.entry }
-{
-    for place in followers {
-        if !is_listed(listed, &place) {
-            return Some(place);
-        }
-    }
-    None
-}
-
 // The first place that follows and is not listed.
 fn missing(network: &Network, flow: &Flow, listed: &[Place], place: &Place) -> Option<Place>
     requires { length flow.now.address ≤ 32 }
     ensures { result ≡ missing network.now flow.now listed.now place.now }
 {
-    first_unlisted(listed, followers_in(network, flow, *place))
-}
-
-#[tactic(auto, using(crate::proofs::TextsMade::two_lines_if))]
-fn missing_lines(
-    alloc: Global,
-    flow: &str,
-    place: &Place,
-    next: &Place,
-) -> Result<String, AllocError>
-    ensures { IfOk result (λ s. string_bytes s ≡ missing_lines flow.now place.now next.now) }
-{
-    let found = place_words(alloc, place, flow);
-    let expected = place_with(alloc, next, flow, "which follows it");
-    two_lines(alloc, found, "expected", expected)
+    for next in followers_in(network, flow, *place) {
+        if !is_listed(listed, &next) {
+            return Some(next);
+        }
+    }
+    None
 }
 
 /// Of a place that another follows, which is not listed.
@@ -267,6 +198,7 @@ fn missing_lines(
 /// # Errors
 ///
 /// There is no memory for the text.
+#[tactic(auto, using(crate::proofs::TextsMade::two_lines_if))]
 pub(crate) fn not_closed_lines(
     alloc: Global,
     network: &Network,
@@ -280,24 +212,13 @@ pub(crate) fn not_closed_lines(
         return Ok(String::new(alloc));
     }
     let flow = network.flow(number);
-    match missing(network, flow, listed_for(certificate, number), place) {
-        Some(next) => missing_lines(alloc, flow.name(), place, &next),
-        None => Ok(String::new(alloc)),
-    }
-}
-
-// Where the flow's packets go wrong, and what happens there.
-fn faulty_found(
-    alloc: Global,
-    network: &Network,
-    flow: &str,
-    place: &Place,
-    fault: RouteFault,
-) -> Result<String, AllocError>
-    ensures { IfOk result (λ s. string_bytes s ≡ place_words place.now flow.now ++ (codes ", " ++ found_words network.now place.now fault)) }
-{
-    let words = found_words(alloc, network, place, fault)?;
-    place_with(alloc, place, flow, words.as_str())
+    let listed = listed_for(certificate, number);
+    let Some(next) = missing(network, flow, listed, place) else {
+        return Ok(String::new(alloc));
+    };
+    let found = place_words(alloc, place, flow.name());
+    let expected = place_with(alloc, &next, flow.name(), "which follows it");
+    two_lines(alloc, found, "expected", expected)
 }
 
 /// Of a place with a fault.
@@ -315,7 +236,8 @@ pub(crate) fn faulty_lines(
 ) -> Result<String, AllocError>
     ensures { IfOk result (λ s. string_bytes s ≡ faulty_lines network.now number place.now fault) }
 {
-    let found = faulty_found(alloc, network, flow_name(network, number), place, fault);
+    let words = found_words(alloc, network, place, fault)?;
+    let found = place_with(alloc, place, flow_name(network, number), words.as_str());
     let expected = String::from_str(alloc, "places of the flow alone, and none with a fault");
     two_lines(alloc, found, "expected", expected)
 }

@@ -1,26 +1,15 @@
 //! What to change, so that a flow is well routed.
 ghost use Rattle.std.specs.Prelude.{◌≡◌, ◌<◌, IfOk, Some, length, slice_index, string_bytes};
 ghost use Rattle.sw_topo.specs.Checked.{IsIn};
-ghost use Rattle.sw_verdict_hints.specs.RouteHints.{address_words, ends_help, help_words, links_words, no_route_help, wrong_left_help, wrong_node_help};
+ghost use Rattle.sw_verdict_hints.specs.RouteHints.{address_words, change_words, help_words, switch_help, wrong_left_help, wrong_node_help};
 
 use crate::ways::add_numbers;
 use std::alloc::{AllocError, Global};
+use std::fmt::Write;
 use sw_config::{Flow, Network};
 use sw_flow::RouteFault;
 use sw_output::{linked_ports, node_name, switch_name};
 use sw_topo::PlaceEnd;
-
-// Where a packet can go on to from the switch.
-fn links_words(alloc: Global, network: &Network, switch: u16) -> Result<String, AllocError>
-    requires { switch < length network.now.switches }
-    ensures { IfOk result (λ s. string_bytes s ≡ links_words network.now switch) }
-{
-    let name = switch_name(network, switch);
-    let linked = linked_ports(alloc, network, switch)?;
-    let mut text = format!(in alloc; "{name} has links at ports")?;
-    add_numbers(&mut text, &linked)?;
-    Ok(text)
-}
 
 // Where the address bytes of the flow of this number stand.
 fn address_words(network: &Network, number: u16) -> &'static str
@@ -33,39 +22,39 @@ fn address_words(network: &Network, number: u16) -> &'static str
     }
 }
 
-fn ends_help(
-    alloc: Global,
-    network: &Network,
-    number: u16,
-    switch: u16,
-) -> Result<String, AllocError>
-    requires { switch < length network.now.switches }
-    ensures { IfOk result (λ s. string_bytes s ≡ ends_help network.now number switch) }
+// What to change where no address byte is left at a switch, or where the switch knows no way on for this one.
+fn change_words(alloc: Global, address: &str, byte: Option<u8>) -> Result<String, AllocError>
+    ensures { IfOk result (λ s. string_bytes s ≡ change_words address.now byte) }
 {
-    let address = address_words(network, number);
-    let links = links_words(alloc, network, switch)?;
-    format!(in alloc; "add a byte to {address}; {links}")
-}
-
-fn no_route_help(
-    alloc: Global,
-    network: &Network,
-    number: u16,
-    switch: u16,
-    byte: u8,
-) -> Result<String, AllocError>
-    requires { switch < length network.now.switches }
-    ensures { IfOk result (λ s. string_bytes s ≡ no_route_help network.now number switch byte) }
-{
-    let address = address_words(network, number);
-    let links = links_words(alloc, network, switch)?;
+    let Some(byte) = byte else {
+        return format!(in alloc; "add a byte to {address}");
+    };
     if byte < 32 {
-        return format!(in alloc; "change byte {byte} of {address}; {links}");
+        return format!(in alloc; "change byte {byte} of {address}");
     }
     if byte == 255 {
-        return format!(in alloc; "255 names no port: change it in {address}; {links}");
+        return format!(in alloc; "255 names no port: change it in {address}");
     }
-    format!(in alloc; "a 'route' entry for address {byte} has to name a port with a link; {links}")
+    format!(in alloc; "a 'route' entry for address {byte} has to name a port with a link")
+}
+
+// The same, and where a packet can go on to from the switch.
+fn switch_help(
+    alloc: Global,
+    network: &Network,
+    number: u16,
+    switch: u16,
+    byte: Option<u8>,
+) -> Result<String, AllocError>
+    requires { switch < length network.now.switches }
+    ensures { IfOk result (λ s. string_bytes s ≡ switch_help network.now number switch byte) }
+{
+    let name = switch_name(network, switch);
+    let linked = linked_ports(alloc, network, switch)?;
+    let mut text = change_words(alloc, address_words(network, number), byte)?;
+    write!(text, "; {name} has links at ports")?;
+    add_numbers(&mut text, &linked)?;
+    Ok(text)
 }
 
 fn wrong_node_help(
@@ -132,10 +121,11 @@ pub(crate) fn help_words(
 {
     match (fault, end) {
         (RouteFault::AddressEnds, PlaceEnd::Switch(switch, _)) => {
-            ends_help(alloc, network, number, switch)
+            switch_help(alloc, network, number, switch, None)
         }
         (RouteFault::NoRoute, PlaceEnd::Switch(switch, _)) => {
-            no_route_help(alloc, network, number, switch, byte_of(flow, deleted))
+            let byte = byte_of(flow, deleted);
+            switch_help(alloc, network, number, switch, Some(byte))
         }
         (RouteFault::WrongNode, PlaceEnd::Node(node)) => {
             wrong_node_help(alloc, network, number, flow, node)

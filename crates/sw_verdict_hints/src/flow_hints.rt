@@ -5,7 +5,7 @@ ghost use Rattle.sw_config.specs.Entries.{all_flows, flow_names};
 ghost use Rattle.sw_flow.specs.Places.{IsPlace};
 ghost use Rattle.sw_hints.specs.Helps.{meant_help};
 ghost use Rattle.sw_hints.specs.Nearest.{like};
-ghost use Rattle.sw_verdict_hints.specs.FlowHints.{IsHintAt, IsHintNamed, IsHintOn, IsNamedFlowHint, name_help, unknown_hint};
+ghost use Rattle.sw_verdict_hints.specs.FlowHints.{IsHintAt, IsHintNamed, IsHintOn, IsNamedFlowHint, unknown_hint};
 
 use crate::made_texts::{in_turn, told_of};
 use crate::route_hints::flow_hint;
@@ -35,16 +35,7 @@ fn meant_name(alloc: Global, network: &Network, name: &str) -> Result<String, Al
     meant_help(alloc, like(alloc, name, &names)?)
 }
 
-// The line of it, where none has this name.
-#[tactic(auto, using(crate::proofs::TextsMade::told_if))]
-fn name_help(alloc: Global, network: &Network, name: &str) -> Result<String, AllocError>
-    ensures { IfOk result (λ s. string_bytes s ≡ name_help network.now name.now) }
-{
-    told_of(alloc, "help", meant_name(alloc, network, name))
-}
-
 // That no flow has this name, and which one is meant, maybe.
-#[tactic(auto, using(crate::proofs::TextsMade::in_turn_if))]
 fn unknown_hint(
     alloc: Global,
     path: &str,
@@ -55,7 +46,8 @@ fn unknown_hint(
 {
     let head = head_line(alloc, path, &[], None, "no flow has this name");
     let found = told(alloc, "found", name.as_bytes());
-    in_turn(alloc, head, found, name_help(alloc, network, name))
+    let help = told_of(alloc, "help", meant_name(alloc, network, name));
+    in_turn(alloc, head, found, help)
 }
 
 // Of the flow of that number, whose place has this fault.

@@ -2,7 +2,7 @@
 ghost use Rattle.std.specs.Prelude.{◌≡◌, ◌<◌, All, IfOk, length, string_bytes};
 ghost use Rattle.sw_config.specs.Entries.{wiring_of};
 ghost use Rattle.sw_flow.specs.Places.{end_of};
-ghost use Rattle.sw_verdict_hints.specs.RouteHints.{flow_head, flow_hint, found_words, last_lines, place_name};
+ghost use Rattle.sw_verdict_hints.specs.RouteHints.{flow_head, flow_hint, found_words, place_name};
 
 use crate::changes::help_words;
 use crate::made_texts::{in_turn, two_lines};
@@ -54,31 +54,11 @@ fn flow_head(alloc: Global, path: &str, name: &str) -> Result<String, AllocError
     head_line(alloc, path, &[], None, words.as_str())
 }
 
-// The lines behind the way: what happens at the place, and what to change.
-#[tactic(auto, using(crate::proofs::TextsMade::two_lines_if))]
-fn last_lines(
-    alloc: Global,
-    network: &Network,
-    number: u16,
-    flow: &Flow,
-    place: &Place,
-    fault: RouteFault,
-) -> Result<String, AllocError>
-    requires { place.now.channel < length (wiring_of network.now).ends }
-    ensures { IfOk result (λ s. string_bytes s ≡ last_lines network.now number flow.now place.now fault) }
-{
-    let end = network.topology().end_of(place.channel);
-    let found = found_words(alloc, network, place, fault);
-    let help = help_words(alloc, network, number, flow, place.deleted, fault, end);
-    two_lines(alloc, found, "help", help)
-}
-
 /// What is told of a flow that is not well routed: the way to its place with a fault, what happens there, and what to change.
 ///
 /// # Errors
 ///
 /// There is no memory for the text.
-#[tactic(auto, using(crate::proofs::TextsMade::in_turn_if))]
 pub(crate) fn flow_hint(
     alloc: Global,
     path: &str,
@@ -95,6 +75,9 @@ pub(crate) fn flow_hint(
 {
     let head = flow_head(alloc, path, flow.name());
     let lines = way_lines(alloc, network, flow, way);
-    let last = last_lines(alloc, network, number, flow, place, fault);
+    let end = network.topology().end_of(place.channel);
+    let found = found_words(alloc, network, place, fault);
+    let help = help_words(alloc, network, number, flow, place.deleted, fault, end);
+    let last = two_lines(alloc, found, "help", help);
     in_turn(alloc, head, lines, last)
 }

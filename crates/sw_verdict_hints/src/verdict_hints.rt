@@ -3,7 +3,7 @@ ghost use Rattle.std.specs.Prelude.{◌≡◌, IfOk, option_map, string_bytes};
 ghost use Rattle.sw_file.specs.Network.{network_text};
 ghost use Rattle.sw_search.specs.Explanations.{GoesWrong, IsExplanation};
 ghost use Rattle.sw_verdict_hints.specs.RouteHints.{misrouted_hint};
-ghost use Rattle.sw_verdict_hints.specs.VerdictHints.{IsHintFor, IsHintOf, IsMisroutedHint, IsVerdictHint, cyclic_hint, hint_by};
+ghost use Rattle.sw_verdict_hints.specs.VerdictHints.{IsHintFor, IsHintOf, IsMisroutedHint, IsVerdictHint, hint_by};
 
 use crate::route_hints::flow_hint;
 use std::alloc::{AllocError, Global};
@@ -19,15 +19,6 @@ use sw_search::{Explanation, VerdictWorkers, explain};
 pub(crate) enum Hinted {
     Each,
     MisroutedAlone,
-}
-
-// Where to look at channels that can wait for one another in a circle.
-fn cyclic_hint(alloc: Global) -> Result<String, AllocError>
-    ensures { IfOk result (λ s. string_bytes s ≡ cyclic_hint) }
-{
-    let words =
-        "swcheck explain shows the shortest cycle, mend what to change, witness a schedule that locks up";
-    head_line(alloc, "help", &[], None, words)
 }
 
 // Of the flow that is the first one not well routed.
@@ -49,6 +40,9 @@ fn misrouted_hint(
     flow_hint(alloc, path, network, number, flow, place, fault, way)
 }
 
+const CYCLIC_HELP: &str =
+    "swcheck explain shows the shortest cycle, mend what to change, witness a schedule that locks up";
+
 // Of what is told of a network.
 fn hint_by(
     alloc: Global,
@@ -68,7 +62,8 @@ fn hint_by(
             way,
         } => Ok(Some(misrouted_hint(alloc, path, network, *flow, place, *fault, way)?)),
         Explanation::Cyclic(_) => match hinted {
-            Hinted::Each => Ok(Some(cyclic_hint(alloc)?)),
+            // Where to look at channels that can wait for one another in a circle.
+            Hinted::Each => Ok(Some(head_line(alloc, "help", &[], None, CYCLIC_HELP)?)),
             Hinted::MisroutedAlone => Ok(None),
         },
         Explanation::Free => Ok(None),
