@@ -1,7 +1,8 @@
 -- Texts by the pieces that they are made of.
-use Rattle.std.proofs.Common.{◌≡◌, ◌∙◌, ◌<◌, ℕ, ◌+◌, All, Bool, List, [], ◌∷◌, ◌++◌, Vec, Global, ap, append-nil, append_assoc, codes, get_or, length, refl, subst, sym, take}
+use Rattle.std.proofs.Common.{◌≡◌, ◌∙◌, ◌<◌, ◌≤◌, ℕ, ◌+◌, All, Bool, List, ◌++◌, Vec, Global, ap, append_assoc, codes, get_or, length, refl, subst, sym, take}
 use Rattle.std.specs.Fmt.{decimal}
-use Rattle.std.specs.List.{flat_map, range_with_len}
+use Rattle.std.specs.List.{flat_map}
+use Rattle.std.proofs.lemmas.List.{take_all}
 use Rattle.std.proofs.lemmas.List.Elements.{All-get_or}
 use Rattle.sw_config.specs.Entries.{Declaration}
 use Rattle.sw_cycle.specs.Cycles.{CycleEntry}
@@ -10,8 +11,9 @@ use Rattle.sw_flow.specs.declared.place.Place.{Place}
 use Rattle.sw_graph.specs.Rows.{row}
 use Rattle.sw_output.specs.ChannelTexts.{channel_text}
 use Rattle.sw_output.specs.FlowTexts.{flow_name, route_fault_text}
+use Rattle.sw_output.proofs.EachLine.{numbered_more}
 use Rattle.sw_search.specs.declared.tangle.Tangle.{Tangle}
-use Rattle.sw_app_changes.specs.ExplainTexts.{counted, counts_text, cycle_line, ending, fault_line, fault_words, flows_text, misrouted_text, numbered, place_words, step_line, step_lines, step_text, tangle_text, tangles_text, way_line, way_lines}
+use Rattle.sw_app_changes.specs.ExplainTexts.{counted, counts_text, cycle_line, ending, fault_line, fault_words, flows_text, misrouted_line, misrouted_text, numbered, place_words, step_line, step_lines, step_text, tangle_text, tangles_text, total_line, way_line, way_lines, way_lines_from}
 
 -- each of some things has it
 pub each_is : {X : Type 0} (P : X → Type 0) (xs : List X) (i : ℕ) (x : X) → i < length xs → x ≡ get_or xs i x → All P xs → P x
@@ -24,25 +26,48 @@ counted_then n noun rest = append_assoc (decimal n) (codes " " ++ (noun ++ endin
 numbered_then : (before : ℕ) (rest : List ℕ) → numbered before ++ rest ≡ decimal (before + 1) ++ (codes "." ++ rest)
 numbered_then before rest = append_assoc (decimal (before + 1)) (codes ".") rest
 
-pub place_told : (d : Declaration) (p : Place) (channel end : List ℕ) → channel ≡ channel_text d p.channel → end ≡ ending p.deleted
+place_told : (d : Declaration) (p : Place) (channel end : List ℕ) → channel ≡ channel_text d p.channel → end ≡ ending p.deleted
     → place_words d p ≡ channel ++ (codes ", with " ++ (decimal p.deleted ++ (codes " address byte" ++ (end ++ codes " deleted"))))
 place_told d p channel end channel_is end_is =
     rw (channel_is, end_is) (ap (λ l. channel_text d p.channel ++ (codes ", with " ++ l)) (counted_then p.deleted (codes "address byte") (codes " deleted")))
 
-pub way_told : (d : Declaration) (flow before : ℕ) (p : Place) (name words : List ℕ) → name ≡ flow_name d flow → words ≡ place_words d p
-    → way_line d flow before p ≡ decimal (before + 1) ++ (codes ". a packet of " ++ (name ++ (codes " goes on " ++ (words ++ codes "\n"))))
-way_told d flow before p name words name_is words_is =
-    rw (name_is, words_is) (numbered_then before (codes " a packet of " ++ (flow_name d flow ++ (codes " goes on " ++ (place_words d p ++ codes "\n")))))
+place_line : (d : Declaration) (p : Place) (channel end : List ℕ) → channel ≡ channel_text d p.channel → end ≡ ending p.deleted
+    → place_words d p ++ codes "\n" ≡ channel ++ (codes ", with " ++ (decimal p.deleted ++ (codes " address byte" ++ (end ++ codes " deleted\n"))))
+place_line d p channel end channel_is end_is =
+    let deleted : List ℕ = codes " address byte" ++ (end ++ codes " deleted") in
+    ap (λ l. l ++ codes "\n") (place_told d p channel end channel_is end_is)
+    ∙ append_assoc channel (codes ", with " ++ (decimal p.deleted ++ deleted)) (codes "\n")
+    ∙ ap (λ l. channel ++ (codes ", with " ++ l)) (append_assoc (decimal p.deleted) deleted (codes "\n")
+    ∙ ap (λ l. decimal p.deleted ++ (codes " address byte" ++ l)) (append_assoc end (codes " deleted") (codes "\n")))
 
-pub misrouted_told : (d : Declaration) (flow : ℕ) (fault : RouteFault) (way : List Place) (name lines which words : List ℕ)
-    → name ≡ flow_name d flow → lines ≡ way_lines d flow way → which ≡ route_fault_text fault → words ≡ fault_words fault
-    → misrouted_text d flow fault way ≡ codes "misrouted " ++ (name ++ (codes "\n" ++ (lines ++ (which ++ (codes ": " ++ (words ++ codes "\n"))))))
-misrouted_told d flow fault way name lines which words name_is lines_are which_is words_are =
-    let rest = codes " " ++ (fault_words fault ++ codes "\n") in
-    let end = way_lines d flow way ++ fault_line fault in
-    rw (name_is, lines_are, which_is, words_are)
-    (ap (λ l. codes "misrouted " ++ l) (append_assoc (flow_name d flow) (codes "\n") end
-    ∙ ap (λ l. flow_name d flow ++ (codes "\n" ++ (way_lines d flow way ++ l))) (append_assoc (route_fault_text fault) (codes ":") rest)))
+pub way_told : (d : Declaration) (flow before : ℕ) (p : Place) (name channel end : List ℕ) → name ≡ flow_name d flow → channel ≡ channel_text d p.channel → end ≡ ending p.deleted
+    → way_line d flow before p
+    ≡ decimal (before + 1) ++ (codes ". a packet of " ++ (name ++ (codes " goes on " ++ (channel ++ (codes ", with " ++ (decimal p.deleted ++ (codes " address byte" ++ (end ++ codes " deleted\n"))))))))
+way_told d flow before p name channel end name_is channel_is end_is =
+    numbered_then before (codes " a packet of " ++ (flow_name d flow ++ (codes " goes on " ++ (place_words d p ++ codes "\n"))))
+    ∙ ap (λ l. decimal (before + 1) ++ (codes ". a packet of " ++ (l ++ (codes " goes on " ++ (place_words d p ++ codes "\n"))))) (sym name_is)
+    ∙ ap (λ l. decimal (before + 1) ++ (codes ". a packet of " ++ (name ++ (codes " goes on " ++ l)))) (place_line d p channel end channel_is end_is)
+
+-- the line of one place more
+pub way_more : (d : Declaration) (flow i : ℕ) (way : List Place) (p : Place) (before after : List ℕ) → i < length way → p ≡ get_or way i p
+    → before ≡ misrouted_line d flow ++ way_lines_from d flow 0 (take i way) → after ≡ before ++ way_line d flow i p
+    → after ≡ misrouted_line d flow ++ way_lines_from d flow 0 (take (i + 1) way)
+way_more d flow i way p before after lt at so_far more =
+    let start : List ℕ = misrouted_line d flow in
+    let lines : List ℕ = way_lines_from d flow 0 (take i way) in
+    let here : List ℕ = way_line d flow i p in
+    more ∙ ap (λ l. l ++ here) so_far ∙ append_assoc start lines here
+    ∙ ap (λ l. start ++ l) (numbered_more (way_line d flow) (way_lines_from d flow) (λ n. refl) (λ n q qs. refl) i way p lines here (lines ++ here) lt at refl refl refl)
+
+pub misrouted_told : (d : Declaration) (flow : ℕ) (fault : RouteFault) (way : List Place) (i : ℕ) (which words before after : List ℕ) → length way ≤ i
+    → which ≡ route_fault_text fault → words ≡ fault_words fault → before ≡ misrouted_line d flow ++ way_lines_from d flow 0 (take i way)
+    → after ≡ before ++ (which ++ (codes ": " ++ (words ++ codes "\n"))) → after ≡ misrouted_text d flow fault way
+misrouted_told d flow fault way i which words before after ended which_is words_are so_far more =
+    let lines : List ℕ = way_lines d flow way in
+    let last : which ++ (codes ": " ++ (words ++ codes "\n")) ≡ fault_line fault =
+    rw (which_is, words_are) (sym (append_assoc (route_fault_text fault) (codes ":") (codes " " ++ (fault_words fault ++ codes "\n")))) in
+    more ∙ ap (λ l. l ++ (which ++ (codes ": " ++ (words ++ codes "\n")))) (so_far ∙ ap (λ places. misrouted_line d flow ++ way_lines_from d flow 0 places) (take_all i way ended))
+    ∙ append_assoc (misrouted_line d flow) lines (which ++ (codes ": " ++ (words ++ codes "\n"))) ∙ ap (λ l. misrouted_line d flow ++ (lines ++ l)) last
 
 pub step_told : (d : Declaration) (all : Bool) (cycle : CycleEntry) (rows : List (Vec ℕ Global)) (i : ℕ) (step flows : List ℕ)
     → step ≡ step_text d cycle i → flows ≡ flows_text d all (row rows i)
@@ -61,11 +86,18 @@ tangle_added d all t n end start first after n_is end_is first_is after_is =
     let steps = step_lines d all t.cycle t.flows.items in
     after_is ∙ ap (λ l. l ++ steps) (first_is ∙ ap (λ l. start ++ l) told) ∙ append_assoc start head steps
 
-pub tangles_told : (d : Declaration) (all : Bool) (ts : List Tangle) (n : ℕ) (end cycles counts : List ℕ) → n ≡ length ts → end ≡ ending n
-    → cycles ≡ flat_map (tangle_text d all) ts → counts ≡ counts_text ts
-    → tangles_text d all ts
-    ≡ cycles ++ (decimal n ++ (codes " tangle" ++ (end ++ (codes " of " ++ (counts ++ codes " channels; buffers, slots and arbiters do not change this\n")))))
-tangles_told d all ts n end cycles counts n_is end_is cycles_are counts_are =
-    rw (cycles_are, counts_are, end_is, n_is)
-    (ap (λ l. flat_map (tangle_text d all) ts ++ l)
-    (counted_then (length ts) (codes "tangle") (codes " of " ++ (counts_text ts ++ codes " channels; buffers, slots and arbiters do not change this\n"))))
+pub tangles_told : (d : Declaration) (all : Bool) (ts : List Tangle) (i n : ℕ) (end counts before after : List ℕ) → length ts ≤ i → n ≡ length ts → end ≡ ending n
+    → counts ≡ counts_text ts → before ≡ flat_map (tangle_text d all) (take i ts)
+    → after ≡ before ++ (decimal n ++ (codes " tangle" ++ (end ++ (codes " of " ++ (counts ++ codes " channels; buffers, slots and arbiters do not change this\n")))))
+    → after ≡ tangles_text d all ts
+tangles_told d all ts i n end counts before after ended n_is end_is counts_are so_far more =
+    let last : decimal n ++ (codes " tangle" ++ (end ++ (codes " of " ++ (counts ++ codes " channels; buffers, slots and arbiters do not change this\n")))) ≡ total_line ts =
+    rw (counts_are, end_is, n_is)
+    (sym (counted_then (length ts) (codes "tangle") (codes " of " ++ (counts_text ts ++ codes " channels; buffers, slots and arbiters do not change this\n")))) in
+    more ∙ ap (λ l. before ++ l) last ∙ ap (λ l. l ++ total_line ts) (so_far ∙ ap (flat_map (tangle_text d all)) (take_all i ts ended))
+
+-- words with two channels among them
+pub parts_told : (before name held wanted from to c e said : List ℕ) → from ≡ c → to ≡ e → before ++ (name ++ (held ++ (c ++ (wanted ++ e)))) ≡ said
+    → said ≡ before ++ (name ++ (held ++ (from ++ (wanted ++ to))))
+parts_told before name held wanted from to c e said from_is to_is is =
+    sym is ∙ ap (λ l. before ++ (name ++ (held ++ (l ++ (wanted ++ e))))) (sym from_is) ∙ ap (λ l. before ++ (name ++ (held ++ (from ++ (wanted ++ l))))) (sym to_is)

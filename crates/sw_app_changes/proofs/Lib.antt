@@ -1,6 +1,7 @@
 pub mod OnChannels
 mod ExplainedSteps
 mod ExplainedTexts
+mod ToldAnswer
 mod MendAnswered
 pub mod OneMending
 mod OneMendAnswer

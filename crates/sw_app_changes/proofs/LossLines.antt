@@ -1,10 +1,12 @@
 -- The lines of links, one after another.
-use Rattle.std.proofs.Common.{◌≡◌, ◌∙◌, ℕ, ◌+◌, ◌<◌, List, Vec, Global, [], ◌∷◌, ◌++◌, ap, append-nil, append_assoc, arith, get_or, length, map, sym, take}
-use Rattle.std.proofs.lemmas.List.{length-map, length-take-le, map-append, take_more}
+use Rattle.std.proofs.Common.{◌≡◌, ◌∙◌, ℕ, ◌+◌, ◌*◌, ◌<◌, List, Vec, Global, [], ◌∷◌, ◌++◌, ap, append-nil, append_assoc, arith, codes, get_or, length, map, sym, take}
+use Rattle.std.specs.List.{flat_map}
+use Rattle.std.proofs.lemmas.List.{flat_map_more, length-map, length-take-le, map-append, take_more}
 use Rattle.sw_config.specs.Entries.{Declaration}
-use Rattle.sw_app_changes.specs.MarginTexts.{loss_line, loss_lines}
+use Rattle.sw_output.specs.ChannelTexts.{channel_text}
+use Rattle.sw_app_changes.specs.MarginTexts.{flows_words, loss_line, loss_lines}
 
-abbrev items_of : Vec ℕ Global → List ℕ
+abbrev pub items_of : Vec ℕ Global → List ℕ
 items_of flows = flows.items
 
 loss_lines_push : (d : Declaration) (n m : ℕ) (losses : List (List ℕ)) (flows : List ℕ) → n + length losses ≡ m
@@ -16,15 +18,41 @@ loss_lines_push d n m (first ∷ losses) flows is =
     ap (λ l. loss_line d n first ++ l) (loss_lines_push d (n + 1) m losses flows (omega arith))
     ∙ sym (append_assoc (loss_line d n first) (loss_lines d (n + 1) losses) (loss_line d m flows))
 
--- the line of one link more
-pub loss_lines_more : (d : Declaration) (i : ℕ) (rows : List (Vec ℕ Global)) (flows : Vec ℕ Global) (before line after : List ℕ) → i < length rows
-    → flows ≡ get_or rows i flows → before ≡ loss_lines d 0 (map items_of (take i rows)) → line ≡ loss_line d i flows.items → after ≡ before ++ line
-    → after ≡ loss_lines d 0 (map items_of (take (i + 1) rows))
-loss_lines_more d i rows flows before line after lt at so_far is more =
+-- the line of one link more, behind what stands there
+pub loss_lines_more : (d : Declaration) (i : ℕ) (rows : List (Vec ℕ Global)) (flows : Vec ℕ Global) (start before line after : List ℕ) → i < length rows
+    → flows ≡ get_or rows i flows → before ≡ start ++ loss_lines d 0 (map items_of (take i rows)) → line ≡ loss_line d i flows.items → after ≡ before ++ line
+    → after ≡ start ++ loss_lines d 0 (map items_of (take (i + 1) rows))
+loss_lines_more d i rows flows start before line after lt at so_far is more =
     let cut : take (i + 1) rows ≡ take i rows ++ flows ∷ [] = take_more rows i flows lt ∙ ap (λ q. take i rows ++ q ∷ []) (sym at) in
     let parts : map items_of (take (i + 1) rows) ≡ map items_of (take i rows) ++ flows.items ∷ [] =
     ap (map items_of) cut ∙ map-append items_of (take i rows) (flows ∷ []) in
     let size : 0 + length (map items_of (take i rows)) ≡ i =
     omega (arith, length-map (take i rows) items_of, length-take-le i rows (omega arith)) in
-    more ∙ ap (λ l. l ++ line) so_far ∙ ap (λ l. loss_lines d 0 (map items_of (take i rows)) ++ l) is
-    ∙ sym (loss_lines_push d 0 i (map items_of (take i rows)) flows.items size) ∙ ap (loss_lines d 0) (sym parts)
+    let so_many : List ℕ = loss_lines d 0 (map items_of (take i rows)) in
+    more ∙ ap (λ l. l ++ line) so_far ∙ append_assoc start so_many line ∙ ap (λ l. start ++ (so_many ++ l)) is
+    ∙ ap (λ l. start ++ l) (sym (loss_lines_push d 0 i (map items_of (take i rows)) flows.items size) ∙ ap (loss_lines d 0) (sym parts))
+
+-- a text that three parts were added to, one after another
+pub three_parts : (a b c x y z start first second third : List ℕ) → start ≡ [] → x ≡ a → y ≡ b → z ≡ c → first ≡ start ++ x → second ≡ first ++ y → third ≡ second ++ z
+    → third ≡ a ++ (b ++ c)
+three_parts a b c x y z start first second third none x_is y_is z_is first_is second_is third_is =
+    third_is ∙ ap (λ l. l ++ z) (second_is ∙ ap (λ l. l ++ y) (first_is ∙ ap (λ l. l ++ x) none)) ∙ append_assoc x y z
+    ∙ ap (λ l. l ++ (y ++ z)) x_is ∙ ap (λ l. a ++ (l ++ z)) y_is ∙ ap (λ l. a ++ (b ++ l)) z_is
+
+-- the line of one element more, behind what stands there
+pub line_at : {X : Type 0} (f : X → List ℕ) (xs : List X) (i : ℕ) (none : X) (start before after : List ℕ) → i < length xs → before ≡ start ++ flat_map f (take i xs)
+    → after ≡ before ++ f (get_or xs i none) → after ≡ start ++ flat_map f (take (i + 1) xs)
+line_at f xs i none start before after lt so_far more =
+    more ∙ ap (λ l. l ++ f (get_or xs i none)) so_far ∙ flat_map_more f start (take i xs) (get_or xs i none) ∙ ap (λ l. start ++ flat_map f l) (sym (take_more xs i none lt))
+
+-- the line of a link with its flows
+pub loss_told : (d : Declaration) (link : ℕ) (flows name words : List ℕ) → name ≡ channel_text d (2 * link) → words ≡ flows_words d flows
+    → loss_line d link flows ≡ codes "lost without the link " ++ (name ++ (codes ": " ++ (words ++ codes "\n")))
+loss_told d link flows name words name_is words_are =
+    let end : List ℕ = flows_words d flows ++ codes "\n" in
+    ap (λ l. codes "lost without the link " ++ l) (append_assoc (channel_text d (2 * link)) (codes ":") (codes " " ++ end)
+    ∙ ap (λ l. l ++ (codes ": " ++ end)) (sym name_is) ∙ ap (λ l. name ++ (codes ": " ++ (l ++ codes "\n"))) (sym words_are))
+
+-- words, a name and what ends a line
+pub words_told : (words name end said named : List ℕ) → words ≡ said → name ≡ named → words ++ (codes " " ++ (name ++ end)) ≡ said ++ (codes " " ++ (named ++ end))
+words_told words name end said named words_are name_is = ap (λ l. l ++ (codes " " ++ (name ++ end))) words_are ∙ ap (λ l. said ++ (codes " " ++ (l ++ end))) name_is

@@ -1,7 +1,7 @@
 //! The text of what is told of a network.
 ghost use Rattle.std.specs.Prelude.{◌≡◌, IfOk, string_bytes};
 ghost use Rattle.sw_search.specs.Explanations.{IsExplanation};
-ghost use Rattle.sw_app_changes.specs.ExplainTexts.{explain_status, explain_text, free_text};
+ghost use Rattle.sw_app_changes.specs.ExplainTexts.{explain_status, explain_text};
 
 use crate::route_texts::misrouted_text;
 use crate::tangle_texts::tangles_text;
@@ -10,14 +10,9 @@ use sw_command::statuses::{BAD, GOOD};
 use sw_config::Network;
 use sw_search::Explanation;
 
-fn free_text(alloc: Global) -> Result<String, AllocError>
-    ensures { IfOk result (λ s. string_bytes s ≡ free_text) }
-{
-    String::from_str(
-        alloc,
-        "free\nno channels can wait for one another in a circle; swcheck decide writes the certificate\nbuffers, slots and arbiters do not change this\ntaken for granted: nodes take what comes, sources end their packets, links lose and change nothing, only declared packets are sent\n",
-    )
-}
+/// What is told of a network that never locks up.
+const FREE: &str =
+    "free\nno channels can wait for one another in a circle; swcheck decide writes the certificate\nbuffers, slots and arbiters do not change this\ntaken for granted: nodes take what comes, sources end their packets, links lose and change nothing, only declared packets are sent\n";
 
 /// The text of what is told of a network; with all flows of a step, or six and how many more there are.
 pub(crate) fn explain_text(
@@ -37,7 +32,7 @@ pub(crate) fn explain_text(
             way,
         } => misrouted_text(alloc, network, *flow, *place, *fault, way),
         Explanation::Cyclic(tangles) => tangles_text(alloc, network, all, tangles),
-        Explanation::Free => free_text(alloc),
+        Explanation::Free => String::from_str(alloc, FREE),
     }
 }
 

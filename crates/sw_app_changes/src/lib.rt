@@ -17,6 +17,7 @@ mod misrouted;
 mod route_texts;
 mod step_texts;
 mod tangle_texts;
+mod telling;
 mod words;
 
 pub use explain_engine::explain;

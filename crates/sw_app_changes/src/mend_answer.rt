@@ -1,25 +1,15 @@
 //! What `mend` answers.
 ghost use Rattle.std.specs.Prelude.{IfOk, string_bytes};
-ghost use Rattle.sw_command.specs.Ends.{Says};
 ghost use Rattle.sw_app_changes.specs.MendAnswers.{IsMendAnswer, IsNetworkAnswer};
-ghost use Rattle.sw_app_changes.specs.MendTexts.{mending_status, mending_text};
 
 use crate::mend_texts::{mending_status, mending_text};
-use crate::mending::{Mending, find_mending};
+use crate::mending::find_mending;
+use crate::telling::answer_with;
 use std::alloc::{AllocError, Global};
 use sw_command::{Answer, fault_answer};
 use sw_config::Network;
 use sw_file::read_network;
 use sw_search::VerdictWorkers;
-
-// The answer that tells what is found of the network.
-fn told(alloc: Global, network: &Network, mending: &Mending) -> Result<Answer, AllocError>
-    ensures { IfOk result (λ a. Says (mending_text network.now mending.now) (mending_status mending.now) (string_bytes a.text) a.status) }
-{
-    let status = mending_status(mending);
-    let text = mending_text(alloc, network, mending)?;
-    Ok(Answer { text, status })
-}
 
 // The answer for a network.
 fn network_answer<W: VerdictWorkers>(
@@ -31,7 +21,8 @@ fn network_answer<W: VerdictWorkers>(
     ensures { IfOk result (λ a. IsNetworkAnswer pairs network.now (string_bytes a.text) a.status) }
 {
     let found = find_mending(workers, alloc, pairs, network)?;
-    told(alloc, network, &found)
+    let status = mending_status(&found);
+    answer_with(mending_text(alloc, network, &found), status)
 }
 
 /// The answer to the bytes of a network file.

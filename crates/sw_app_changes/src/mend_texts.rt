@@ -5,6 +5,7 @@ ghost use Rattle.sw_app_changes.specs.MendTexts.{change_words, mend_line, mendin
 
 use crate::mending::Mending;
 use std::alloc::{AllocError, Global};
+use std::fmt::Write;
 use sw_command::statuses::{BAD, GOOD};
 use sw_config::Network;
 use sw_mend::{Change, Pair, TargetLink, Trial};
@@ -104,30 +105,14 @@ pub fn trial_words(alloc: Global, network: &Network, trial: &Trial) -> Result<St
     }
 }
 
-// The line of a change that frees the network.
-fn mend_line(alloc: Global, network: &Network, trial: &Trial) -> Result<String, AllocError>
-    ensures { IfOk result (λ s. string_bytes s ≡ mend_line network.now trial.now) }
-{
-    let words = trial_words(alloc, network, trial)?;
-    format!(in alloc; "free {words}\n")
-}
-
-// The line of a pair of changes that free it.
-fn pair_line(alloc: Global, network: &Network, pair: &Pair) -> Result<String, AllocError>
-    ensures { IfOk result (λ s. string_bytes s ≡ pair_line network.now pair.now) }
-{
-    let first = change_words(alloc, network, &pair.first)?;
-    let second = change_words(alloc, network, &pair.second)?;
-    format!(in alloc; "free {first} and {second}\n")
-}
-
 // The lines of the changes that free the network.
 fn mend_lines(alloc: Global, network: &Network, changes: &[Trial]) -> Result<String, AllocError>
     ensures { IfOk result (λ s. string_bytes s ≡ flat_map (mend_line network.now) changes.now) }
 {
     let mut text = String::new(alloc);
     for change in changes {
-        text.push_str(mend_line(alloc, network, change)?.as_str())?;
+        let words = trial_words(alloc, network, change)?;
+        write!(text, "free {words}\n")?;
     }
     Ok(text)
 }
@@ -138,7 +123,9 @@ fn pair_lines(alloc: Global, network: &Network, pairs: &[Pair]) -> Result<String
 {
     let mut text = String::new(alloc);
     for pair in pairs {
-        text.push_str(pair_line(alloc, network, pair)?.as_str())?;
+        let first = change_words(alloc, network, &pair.first)?;
+        let second = change_words(alloc, network, &pair.second)?;
+        write!(text, "free {first} and {second}\n")?;
     }
     Ok(text)
 }

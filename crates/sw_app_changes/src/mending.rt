@@ -1,6 +1,5 @@
 //! What `mend` finds of a network.
-ghost use Rattle.std.specs.Prelude.{◌≡◌, [], IfOk, true};
-ghost use Rattle.sw_mend.specs.Mends.{AreMends};
+ghost use Rattle.std.specs.Prelude.{IfOk};
 ghost use Rattle.sw_search.specs.Verdicts.{IsVerdict};
 ghost use Rattle.sw_app_changes.specs.Mendings.{IsMending, SaysCyclic};
 
@@ -23,22 +22,6 @@ pub enum Mending {
     Pairs(Vec<Pair>),
 }
 
-// What is found where pairs are asked for and no single change frees the network.
-fn paired<W: VerdictWorkers>(
-    workers: &W,
-    alloc: Global,
-    pairs: bool,
-    network: &Network,
-) -> Result<Mending, AllocError>
-    requires asked { pairs ≡ true }
-    requires cyclic { SaysCyclic network.now }
-    requires none { AreMends network.now [] }
-    ensures { IfOk result (IsMending pairs network.now) }
-{
-    let told = pair_mends(workers, alloc, network)?;
-    Ok(Mending::Pairs(told))
-}
-
 // What is found where channels can wait for one another.
 fn freed<W: VerdictWorkers>(
     workers: &W,
@@ -55,7 +38,7 @@ fn freed<W: VerdictWorkers>(
     }
     let count = changes.len();
     if count == 0 {
-        return paired(workers, alloc, pairs, network);
+        return Ok(Mending::Pairs(pair_mends(workers, alloc, network)?));
     }
     Ok(Mending::Single(changes))
 }

@@ -1,8 +1,8 @@
 //! The text of a flow that is not well routed.
-ghost use Rattle.std.specs.Prelude.{◌≡◌, ◌<◌, ◌+◌, ◌^◌, ◌++◌, All, IfOk, OnOk, length, string_bytes};
+ghost use Rattle.std.specs.Prelude.{◌≡◌, ◌<◌, ◌+◌, ◌^◌, ◌++◌, IfOk, OnOk, length, string_bytes};
 ghost use Rattle.sw_config.specs.Entries.{wiring_of};
 ghost use Rattle.sw_search.specs.Explanations.{GoesWrong};
-ghost use Rattle.sw_app_changes.specs.ExplainTexts.{fault_words, misrouted_text, place_words, way_line, way_lines};
+ghost use Rattle.sw_app_changes.specs.ExplainTexts.{fault_words, misrouted_text, way_line};
 
 use crate::words::ending;
 use std::alloc::{AllocError, Global};
@@ -11,18 +11,7 @@ use sw_config::Network;
 use sw_flow::{Place, RouteFault};
 use sw_output::{channel_text, flow_name, route_fault_text};
 
-// The channel of the place, and how many address bytes are deleted there.
-fn place_words(alloc: Global, network: &Network, place: Place) -> Result<String, AllocError>
-    requires { place.channel < length (wiring_of network.now).ends }
-    ensures { IfOk result (λ s. string_bytes s ≡ place_words network.now place) }
-{
-    let deleted = place.deleted;
-    let ending = ending(deleted as usize);
-    let channel = channel_text(alloc, network, place.channel)?;
-    format!(in alloc; "{channel}, with {deleted} address byte{ending} deleted")
-}
-
-// Adds the line of the place that comes behind so many others.
+// Adds the line of the place that comes behind so many others: its channel, and how many address bytes are deleted there.
 fn add_way_line(
     text: &mut String,
     alloc: Global,
@@ -37,25 +26,13 @@ fn add_way_line(
 {
     let number = before + 1;
     let name = flow_name(network, flow);
-    let words = place_words(alloc, network, place)?;
-    write!(text, "{number}. a packet of {name} goes on {words}\n")
-}
-
-// A line for each place.
-fn way_lines(
-    alloc: Global,
-    network: &Network,
-    flow: u16,
-    places: &[Place],
-) -> Result<String, AllocError>
-    requires { All (λ p. p.channel < length (wiring_of network.now).ends) places.now }
-    ensures { IfOk result (λ s. string_bytes s ≡ way_lines network.now flow places.now) }
-{
-    let mut text = String::new(alloc);
-    for (before, place) in places.iter().enumerate() {
-        add_way_line(&mut text, alloc, network, flow, before, *place)?;
-    }
-    Ok(text)
+    let deleted = place.deleted;
+    let ending = ending(deleted as usize);
+    let channel = channel_text(alloc, network, place.channel)?;
+    write!(
+        text,
+        "{number}. a packet of {name} goes on {channel}, with {deleted} address byte{ending} deleted\n"
+    )
 }
 
 /// What is wrong where packets go no further.
@@ -87,6 +64,10 @@ pub(crate) fn misrouted_text(
     let name = flow_name(network, flow);
     let fault_name = route_fault_text(fault);
     let words = fault_words(fault);
-    let lines = way_lines(alloc, network, flow, way)?;
-    format!(in alloc; "misrouted {name}\n{lines}{fault_name}: {words}\n")
+    let mut text = format!(in alloc; "misrouted {name}\n")?;
+    for (before, place) in way.iter().enumerate() {
+        add_way_line(&mut text, alloc, network, flow, before, *place)?;
+    }
+    write!(text, "{fault_name}: {words}\n")?;
+    Ok(text)
 }

@@ -1,10 +1,11 @@
 //! The text of a step of a cycle.
-ghost use Rattle.std.specs.Prelude.{◌≡◌, ◌≤◌, ◌<◌, ◌+◌, ◌++◌, IfOk, OnOk, codes, length, string_bytes};
+ghost use Rattle.std.specs.Prelude.{◌≡◌, ◌≤◌, ◌<◌, ◌+◌, ◌++◌, ℕ, IfOk, length, string_bytes};
 ghost use Rattle.std.specs.List.{flat_map};
 ghost use Rattle.sw_config.specs.Entries.{wiring_of};
 ghost use Rattle.sw_cycle.specs.Cycles.{cause_of};
+ghost use Rattle.sw_output.specs.ChannelTexts.{channel_text};
 ghost use Rattle.sw_output.specs.FlowTexts.{flow_name};
-ghost use Rattle.sw_app_changes.specs.ExplainTexts.{answering_words, flows_text, holding_words, more_text, names_text, named, step_words};
+ghost use Rattle.sw_app_changes.specs.ExplainTexts.{flows_text, more_text, names_text, named, step_words};
 
 use std::alloc::{AllocError, Global};
 use std::fmt::Write;
@@ -16,18 +17,28 @@ use sw_topo::Chan;
 /// How many of the flows that make a step are named, unless all are.
 const MOST_NAMED: usize = 6;
 
-// A flow's packet holds one channel until it gets another.
-fn holding_words(alloc: Global, flow: &str, from: &str, to: &str) -> Result<String, AllocError>
-    ensures { IfOk result (λ s. string_bytes s ≡ holding_words flow.now from.now to.now) }
+// What stands before a name, the name, and what stands before each of two channels: a flow's packet holds one until it gets the other,
+// or a target takes nothing from one while it answers on the other.
+fn step_parts<'a>(
+    network: &'a Network,
+    cause: &Cause,
+) -> (&'static str, &'a str, &'static str, &'static str)
+    ensures { (c e : ℕ) → result.0.now ++ (result.1.now ++ (result.2.now ++ (channel_text network.now c ++ (result.3.now ++ channel_text network.now e)))) ≡ step_words network.now c e (cause_of cause.now) }
 {
-    format!(in alloc; "a packet of {flow} holds {from} and waits for {to}")
-}
-
-// A target takes nothing from one channel while it answers on another.
-fn answering_words(alloc: Global, node: &str, from: &str, to: &str) -> Result<String, AllocError>
-    ensures { IfOk result (λ s. string_bytes s ≡ answering_words node.now from.now to.now) }
-{
-    format!(in alloc; "{node} takes nothing from {from} until its reply has left on {to}")
+    match cause {
+        Cause::Flow(flow, _) => (
+            "a packet of ",
+            flow_name(network, *flow),
+            " holds ",
+            " and waits for ",
+        ),
+        Cause::Target(node) => (
+            "",
+            node_name(network, *node),
+            " takes nothing from ",
+            " until its reply has left on ",
+        ),
+    }
 }
 
 /// Why a packet on one channel may wait for the next one.
@@ -44,16 +55,8 @@ pub(crate) fn step_words(
 {
     let from = channel_text(alloc, network, from)?;
     let to = channel_text(alloc, network, to)?;
-    match cause {
-        Cause::Flow(flow, _) => {
-            let name = flow_name(network, *flow);
-            holding_words(alloc, name, from.as_str(), to.as_str())
-        }
-        Cause::Target(node) => {
-            let name = node_name(network, *node);
-            answering_words(alloc, name, from.as_str(), to.as_str())
-        }
-    }
+    let (before, name, held, wanted) = step_parts(network, cause);
+    format!(in alloc; "{before}{name}{held}{from}{wanted}{to}")
 }
 
 // The flows that are named.
@@ -70,15 +73,22 @@ fn named(flows: &[u16], all: bool) -> &[u16]
     &flows[..MOST_NAMED]
 }
 
-// Adds the names of more flows, each behind a comma.
-fn add_names(text: &mut String, network: &Network, flows: &[u16]) -> Result<(), AllocError>
-    ensures { OnOk result (string_bytes text.new ≡ string_bytes text.old ++ flat_map (λ f. codes ", " ++ flow_name network.now f) flows.now) }
+/// The names of a flow and of more flows, with this between each two.
+pub(crate) fn names_of(
+    alloc: Global,
+    network: &Network,
+    between: &str,
+    first: u16,
+    rest: &[u16],
+) -> Result<String, AllocError>
+    ensures { IfOk result (λ s. string_bytes s ≡ flow_name network.now first ++ flat_map (λ f. between.now ++ flow_name network.now f) rest.now) }
 {
-    for flow in flows {
+    let mut text = String::from_str(alloc, flow_name(network, first))?;
+    for flow in rest {
         let name = flow_name(network, *flow);
-        write!(text, ", {name}")?;
+        write!(text, "{between}{name}")?;
     }
-    Ok(())
+    Ok(text)
 }
 
 /// The names of flows, with a comma between each two.
@@ -91,11 +101,7 @@ pub fn names_text(alloc: Global, network: &Network, flows: &[u16]) -> Result<Str
 {
     match flows {
         [] => Ok(String::new(alloc)),
-        [first, rest @ ..] => {
-            let mut text = String::from_str(alloc, flow_name(network, *first))?;
-            add_names(&mut text, network, rest)?;
-            Ok(text)
-        }
+        [first, rest @ ..] => names_of(alloc, network, ", ", *first, rest),
     }
 }
 

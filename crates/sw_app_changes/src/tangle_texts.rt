@@ -117,23 +117,6 @@ fn counts_text(alloc: Global, tangles: &[Tangle]) -> Result<String, AllocError>
     }
 }
 
-// The shortest cycle of each tangle.
-fn cycles_text(
-    alloc: Global,
-    network: &Network,
-    all: bool,
-    tangles: &[Tangle],
-) -> Result<String, AllocError>
-    requires { All (IsOfChannels network.now) tangles.now }
-    ensures { IfOk result (λ s. string_bytes s ≡ flat_map (tangle_text network.now all) tangles.now) }
-{
-    let mut text = String::new(alloc);
-    for tangle in tangles {
-        add_tangle(&mut text, alloc, network, all, tangle)?;
-    }
-    Ok(text)
-}
-
 /// The shortest cycle of each tangle, and how many tangles there are.
 pub(crate) fn tangles_text(
     alloc: Global,
@@ -148,9 +131,14 @@ pub(crate) fn tangles_text(
     let _topology = network.topology();
     let total = tangles.len();
     let ending = ending(total);
-    let cycles = cycles_text(alloc, network, all, tangles)?;
     let counts = counts_text(alloc, tangles)?;
-    format!(in alloc;
-        "{cycles}{total} tangle{ending} of {counts} channels; buffers, slots and arbiters do not change this\n"
-    )
+    let mut text = String::new(alloc);
+    for tangle in tangles {
+        add_tangle(&mut text, alloc, network, all, tangle)?;
+    }
+    write!(
+        text,
+        "{total} tangle{ending} of {counts} channels; buffers, slots and arbiters do not change this\n"
+    )?;
+    Ok(text)
 }

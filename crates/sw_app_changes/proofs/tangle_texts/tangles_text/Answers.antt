@@ -1,12 +1,22 @@
-use Rattle.std.proofs.Common.{length, refl, string_bytes}
+use Rattle.std.proofs.Common.{[], length, refl, string_bytes}
+use Rattle.sw_app_changes.specs.ExplainTexts.{IsOfChannels, tangle_text}
+use Rattle.sw_app_changes.proofs.ExplainedTexts.{each_is, tangles_told}
 use Rattle.sw_app_changes.proofs.OnChannels.{tangled_within}
-use Rattle.sw_app_changes.proofs.ExplainedTexts.{tangles_told}
+use Rattle.sw_output.proofs.EachLine.{line_added}
 use Rattle.sw_app_changes.proofs.tangle_texts.tangles_text.Goals as goal
 
-pub cycles_text-requires : goal.cycles_text-requires
-cycles_text-requires c = tangled_within c.args.network.now c.topology-topology.ensures.valid c.args.tangles.now c.requires
+pub add_tangle-requires : goal.add_tangle-requires
+add_tangle-requires c =
+    each_is (IsOfChannels c.args.network.now) c.args.tangles.now c.loop-tangle.tangle-index c.tangle-item.result c.loop-tangle-test.true c.tangle-item.is
+    (tangled_within c.args.network.now c.topology-topology.ensures.valid c.args.tangles.now c.requires)
+
+pub loop-tangle-preserved : goal.loop-tangle-preserved
+loop-tangle-preserved c =
+    line_added (tangle_text c.args.network.now c.args.all) c.args.tangles.now c.loop-tangle.tangle-index c.tangle-item.result
+    [] (string_bytes c.loop-tangle.text) (string_bytes c.add_tangle.new.text) c.loop-tangle-test.true c.tangle-item.is c.loop-tangle.invariant c.in_ok-add_tangle.ensures
 
 pub returns : goal.returns
 returns c =
-    rw (tangles_told c.args.network.now c.args.all c.args.tangles.now (length c.args.tangles.now) c.ending-ending.result.now (string_bytes c.in_ok-cycles.cycles) (string_bytes c.in_ok-counts.counts)
-    refl c.ending-ending.ensures c.in_ok-cycles.ensures c.in_ok-counts.ensures) c.format.ensures.ok
+    tangles_told c.args.network.now c.args.all c.args.tangles.now c.loop-tangle.tangle-index (length c.args.tangles.now) c.ending-ending.result.now (string_bytes c.in_ok-counts.counts)
+    (string_bytes c.loop-tangle.text) (string_bytes c.write.new.self) c.loop-tangle-test.false refl c.ending-ending.ensures c.in_ok-counts.ensures c.loop-tangle.invariant
+    c.in_ok-write.ensures.bytes

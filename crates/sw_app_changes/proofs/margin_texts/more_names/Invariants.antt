@@ -1,7 +1,0 @@
-use Rattle.std.proofs.Common.{◌≡◌, ◌++◌, codes, take, string_bytes}
-use Rattle.std.specs.List.{flat_map}
-use Rattle.sw_output.specs.FlowTexts.{flow_name}
-use Rattle.sw_app_changes.proofs.margin_texts.more_names.Given as goal
-
-abbrev pub invariant-loop-flow : goal.invariant-loop-flow
-invariant-loop-flow l = string_bytes l.text ≡ flat_map (λ f. codes " " ++ flow_name l.network f) (take l.flow-index l.flows)
