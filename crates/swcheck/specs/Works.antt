@@ -1,12 +1,11 @@
 -- What a call comes to, and whether it answers with an object of JSON (this project's choice).
-use Rattle.std.specs.Prelude.{ℕ, Bool, false, true, Unit, ◌<◌}
+use Rattle.std.specs.Prelude.{Bool, false, true, ◌<◌}
 use Rattle.sw_args.specs.declared.call.Call.{Call}
 use Rattle.sw_args.specs.declared.call.Call.TheVariants.{Route, Decide, Check, Report, Replay, Run, Explain, Mend, Margin}
 use Rattle.swcheck.specs.declared.engines.Engine.{Engine}
 use Rattle.swcheck.specs.declared.engines.Engine.TheVariants.{RouteObject, ExplainObject, MendObject, MarginObject}
 use Rattle.swcheck.specs.declared.engines.SecondEngine.{SecondEngine}
 use Rattle.swcheck.specs.declared.engines.SecondEngine.TheVariants.{CheckObject, ReplayObject}
-use Rattle.swcheck.specs.declared.recorded.Job.{Job}
 use Rattle.swcheck.specs.declared.recorded.Shape.{Shape}
 use Rattle.swcheck.specs.declared.recorded.Shape.TheVariants.{Json}
 use Rattle.swcheck.specs.declared.work.Work.{Work}
