@@ -60,29 +60,17 @@ links_words d s = switch_name d s ++ (codes " has links at ports" ++ port_words 
 abbrev pub address_words : Declaration → ℕ → List ℕ
 address_words d i = if nat_lt i (length d.flows) then codes "'address'" else codes "the reply's 'path'"
 
--- a switch at which no address byte is left
-abbrev pub ends_help : Declaration → ℕ → ℕ → List ℕ
-ends_help d i s = codes "add a byte to " ++ (address_words d i ++ (codes "; " ++ links_words d s))
-
--- a switch that knows no way on for this byte: it names a port, nothing, or is a logical address
-abbrev pub no_route_help : Declaration → ℕ → ℕ → ℕ → List ℕ
-no_route_help d i s byte =
-    if nat_lt byte 32 then codes "change byte " ++ (decimal byte ++ (codes " of " ++ (address_words d i ++ (codes "; " ++ links_words d s))))
-    else if byte == 255 then codes "255 names no port: change it in " ++ (address_words d i ++ (codes "; " ++ links_words d s))
-    else codes "a 'route' entry for address " ++ (decimal byte ++ (codes " has to name a port with a link; " ++ links_words d s))
-
--- the one or the other: where this byte is the next one, or none is left
-abbrev pub switch_help : Declaration → ℕ → ℕ → Option ℕ → List ℕ
-switch_help d i s None = ends_help d i s
-switch_help d i s (Some byte) = no_route_help d i s byte
-
--- what to change there, without the links
+-- where no address byte is left, or where a switch knows no way on for this one: it names a port, nothing, or is a logical address
 abbrev pub change_words : List ℕ → Option ℕ → List ℕ
 change_words address None = codes "add a byte to " ++ address
 change_words address (Some byte) =
     if nat_lt byte 32 then codes "change byte " ++ (decimal byte ++ (codes " of " ++ address))
     else if byte == 255 then codes "255 names no port: change it in " ++ address
     else codes "a 'route' entry for address " ++ (decimal byte ++ codes " has to name a port with a link")
+
+-- at such a switch: that, and where a packet can go on to
+abbrev pub switch_help : Declaration → ℕ → ℕ → Option ℕ → List ℕ
+switch_help d i s byte = change_words (address_words d i) byte ++ (codes "; " ++ links_words d s)
 
 -- a node that is not the flow's end
 abbrev pub wrong_node_help : Declaration → ℕ → FlowEntry → ℕ → List ℕ
@@ -98,8 +86,8 @@ wrong_left_help d i left =
 
 -- at this end of a channel, with so many address bytes deleted
 abbrev pub help_words : Declaration → ℕ → FlowEntry → ℕ → RouteFault → Option PlaceEnd → List ℕ
-help_words d i f k AddressEnds (Some (Switch s p)) = ends_help d i s
-help_words d i f k NoRoute (Some (Switch s p)) = no_route_help d i s (slice_index f.address k)
+help_words d i f k AddressEnds (Some (Switch s p)) = switch_help d i s None
+help_words d i f k NoRoute (Some (Switch s p)) = switch_help d i s (Some (slice_index f.address k))
 help_words d i f k WrongNode (Some (Node n)) = wrong_node_help d i f n
 help_words d i f k WrongLeft (Some (Node n)) = wrong_left_help d i (length f.address - k)
 help_words d i f k fault end = []
