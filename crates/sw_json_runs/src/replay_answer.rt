@@ -2,12 +2,10 @@
 ghost use Rattle.std.specs.Prelude.{IfOk};
 ghost use Rattle.serde_json.specs.View.{view};
 ghost use Rattle.sw_command.specs.Inputs.{given};
-ghost use Rattle.sw_file.specs.Network.{network_text};
 ghost use Rattle.sw_json.specs.AnswerValues.{file_fault_value};
 ghost use Rattle.sw_json.specs.FaultValues.{schedule_fault_value};
-ghost use Rattle.sw_schedule.specs.Schedule.{steps_of_text};
-ghost use Rattle.sw_json.specs.Answering.{IsOutcome, OfNetwork};
-ghost use Rattle.sw_json_runs.specs.ReplayAnswers.{IsReplayResult, IsScheduleFileResult, IsScheduleResult, IsStepsResult};
+ghost use Rattle.sw_json.specs.Answering.{IsOutcome};
+ghost use Rattle.sw_json_runs.specs.ReplayAnswers.{IsReplayResult, IsScheduleFileResult, IsStepsResult};
 
 use crate::replay_values::replay_value;
 use std::alloc::{AllocError, Global};
@@ -42,22 +40,6 @@ fn bad_line_outcome(alloc: Global, path: &str, number: u64) -> Result<Outcome, A
     file_fault(alloc, path, fault)
 }
 
-// What comes of the text of a schedule.
-fn schedule_outcome(
-    alloc: Global,
-    path: &str,
-    network: &Network,
-    text: &[u8],
-) -> Result<Outcome, AllocError>
-    ensures { IfOk result (λ o. IsScheduleResult path.now network.now (steps_of_text network.now text.now) (view o.result) o.status) }
-{
-    match read_steps(alloc, network, text) {
-        Ok(schedule) => steps_outcome(alloc, network, &schedule),
-        Err(ScheduleFault::BadLine(number)) => bad_line_outcome(alloc, path, number),
-        Err(ScheduleFault::Memory) => Err(AllocError),
-    }
-}
-
 // What comes of a schedule file.
 fn schedule_file_outcome(
     alloc: Global,
@@ -68,27 +50,12 @@ fn schedule_file_outcome(
     ensures { IfOk result (λ o. IsScheduleFileResult path.now network.now (given text.now) (view o.result) o.status) }
 {
     match text {
-        InputText::Whole(text) => schedule_outcome(alloc, path, network, text),
+        InputText::Whole(text) => match read_steps(alloc, network, text) {
+            Ok(schedule) => steps_outcome(alloc, network, &schedule),
+            Err(ScheduleFault::BadLine(number)) => bad_line_outcome(alloc, path, number),
+            Err(ScheduleFault::Memory) => Err(AllocError),
+        },
         InputText::TooLong => long_file(alloc, path),
-    }
-}
-
-// What comes of the text of a network file, and of a schedule file.
-fn network_outcome(
-    alloc: Global,
-    paths: (&str, &str),
-    text: &[u8],
-    second: &InputText,
-) -> Result<Outcome, AllocError>
-    ensures { IfOk result (λ o. OfNetwork paths.entry.0.now text.now (λ d. IsScheduleFileResult paths.entry.1.now d (given second.now)) (network_text text.now) (view o.result) o.status) }
-{
-    match read_network(alloc, text) {
-        Ok(network) => {
-            let outcome = schedule_file_outcome(alloc, paths.1, &network, second);
-            network.discard();
-            outcome
-        }
-        Err(fault) => unread_network(alloc, paths.0, text, fault),
     }
 }
 
@@ -106,7 +73,14 @@ pub(crate) fn replay_outcome(
     ensures { IfOk result (λ o. IsReplayResult paths.entry.0.now paths.entry.1.now (given first.now) (given second.now) (view o.result) o.status) }
 {
     match first {
-        InputText::Whole(text) => network_outcome(alloc, paths, text, second),
+        InputText::Whole(text) => match read_network(alloc, text) {
+            Ok(network) => {
+                let outcome = schedule_file_outcome(alloc, paths.1, &network, second);
+                network.discard();
+                outcome
+            }
+            Err(fault) => unread_network(alloc, paths.0, text, fault),
+        },
         InputText::TooLong => long_file(alloc, paths.0),
     }
 }

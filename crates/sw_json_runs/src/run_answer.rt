@@ -2,13 +2,11 @@
 ghost use Rattle.std.specs.Prelude.{◌≡◌, ◌<◌, IfOk, IsOkAnd, length, string_bytes};
 ghost use Rattle.serde_json.specs.View.{view};
 ghost use Rattle.sw_command.specs.Inputs.{given};
-ghost use Rattle.sw_file.specs.Network.{network_text};
 ghost use Rattle.sw_load.specs.Laws.{AreDeclared};
-ghost use Rattle.sw_load.specs.Load.{load_text};
 ghost use Rattle.sw_json.specs.Answering.{IsLongFile, IsOutcome};
 ghost use Rattle.sw_json_runs.specs.RunAnswers.{IsResultOf};
 ghost use Rattle.sw_json_runs.specs.RunCalls.{IsCallRecord, answers_of};
-ghost use Rattle.sw_json_runs.specs.RunRecords.{IsFault, IsLoadFileRecord, IsLoadRecord, IsNetworkRecord, IsOutcomeRecord, IsRecordOf, IsUnreadRecord};
+ghost use Rattle.sw_json_runs.specs.RunRecords.{IsFault, IsLoadFileRecord, IsOutcomeRecord, IsRecordOf, IsUnreadRecord};
 
 use crate::run_values::run_value;
 use std::alloc::{AllocError, Global};
@@ -162,30 +160,6 @@ fn outcome_record<'a, G: Gate + Sync, T: Threads + Wait + Sync>(
     recorded_outcome(alloc, call, network, load, &outcome, wants)
 }
 
-// Of the text of a load.
-fn load_record<G: Gate + Sync, T: Threads + Wait + Sync>(
-    rt: &T,
-    alloc: Global,
-    call: &RunCall<'_>,
-    network: &Network,
-    text: &[u8],
-    options: Options,
-    wants: Wants,
-    gate: &G,
-) -> Result<Recorded, AllocError>
-    requires { 0 < options.workers }
-    ensures { IfOk result (IsLoadRecord (answers_of call.now) call.now.other.now text.now wants options.limit network.now (load_text network.now text.now)) }
-{
-    match read_load(alloc, network, text) {
-        Ok(load) => {
-            // Names what holds of a load that was read.
-            listed_are_declared();
-            outcome_record(rt, alloc, call, network, &load, options, wants, gate)
-        }
-        Err(fault) => unread_record(alloc, call, call.other, text, fault),
-    }
-}
-
 // Of a network and the load file.
 fn load_file_record<G: Gate + Sync, T: Threads + Wait + Sync>(
     rt: &T,
@@ -200,33 +174,15 @@ fn load_file_record<G: Gate + Sync, T: Threads + Wait + Sync>(
     ensures { IfOk result (IsLoadFileRecord (answers_of call.now) call.now.other.now wants options.limit network.now (given call.now.second.now)) }
 {
     match call.second {
-        InputText::Whole(text) => {
-            load_record(rt, alloc, call, network, text, options, wants, gate)
-        }
+        InputText::Whole(text) => match read_load(alloc, network, text) {
+            Ok(load) => {
+                // Names what holds of a load that was read.
+                listed_are_declared();
+                outcome_record(rt, alloc, call, network, &load, options, wants, gate)
+            }
+            Err(fault) => unread_record(alloc, call, call.other, text, fault),
+        },
         InputText::TooLong => long_record(alloc, call, call.other),
-    }
-}
-
-// Of the bytes of a network file and the load file.
-fn network_record<G: Gate + Sync, T: Threads + Wait + Sync>(
-    rt: &T,
-    alloc: Global,
-    call: &RunCall<'_>,
-    text: &[u8],
-    options: Options,
-    wants: Wants,
-    gate: &G,
-) -> Result<Recorded, AllocError>
-    requires { 0 < options.workers }
-    ensures { IfOk result (IsNetworkRecord (answers_of call.now) call.now.path.now call.now.other.now text.now wants options.limit (given call.now.second.now) (network_text text.now)) }
-{
-    match read_network(alloc, text) {
-        Ok(network) => {
-            let recorded = load_file_record(rt, alloc, call, &network, options, wants, gate);
-            network.discard();
-            recorded
-        }
-        Err(fault) => unread_record(alloc, call, call.path, text, fault),
     }
 }
 
@@ -247,7 +203,14 @@ pub(crate) fn call_record<G: Gate + Sync, T: Threads + Wait + Sync>(
     ensures { IfOk result (IsCallRecord call.now wants options.limit) }
 {
     match call.first {
-        InputText::Whole(text) => network_record(rt, alloc, call, text, options, wants, gate),
+        InputText::Whole(text) => match read_network(alloc, text) {
+            Ok(network) => {
+                let recorded = load_file_record(rt, alloc, call, &network, options, wants, gate);
+                network.discard();
+                recorded
+            }
+            Err(fault) => unread_record(alloc, call, call.path, text, fault),
+        },
         InputText::TooLong => long_record(alloc, call, call.path),
     }
 }
