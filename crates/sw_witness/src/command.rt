@@ -41,11 +41,6 @@ fn header(alloc: Global, target: &TargetConfig, reply: &Reply) -> Result<Vec<u8>
     .concat(alloc)
 }
 
-/// The bytes but for so many in front.
-fn behind(bytes: &[u8], count: usize) -> &[u8] {
-    &bytes[count.min(bytes.len())..]
-}
-
 /// The header and its code, but for the bytes in front that are left of the flow's address.
 fn behind_address(
     alloc: Global,
@@ -54,7 +49,7 @@ fn behind_address(
     reply: &Reply,
 ) -> Result<Vec<u8>, AllocError> {
     let header = header(alloc, target, reply)?;
-    let bytes = behind(&header, left.len());
+    let bytes = &header[left.len().min(header.len())..];
     let code = [crc(&[left, bytes].concat(alloc)?)];
     [bytes, code.as_slice()].concat(alloc)
 }

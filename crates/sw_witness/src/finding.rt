@@ -3,14 +3,15 @@ ghost use Rattle.std.specs.Prelude.{IfOk, IfSome, string_bytes};
 ghost use Rattle.sw_witness.specs.Witnesses.{LocksUp};
 
 use crate::confirm::locks_up;
-use crate::notes::{flow_note, target_note};
+use crate::notes::{OF_FLOW, OF_TARGET, note};
 use crate::random::Random;
 use crate::replying::{fill_target, place_replies};
 use crate::trial::Trial;
-use crate::way::way_between;
+use crate::way::way_onto;
 use crate::worm::place_worm;
 use std::alloc::{AllocError, Global};
 use sw_config::Network;
+use sw_output::{flow_name, node_name};
 use sw_search::Tangle;
 use sw_topo::{Chan, PlaceEnd};
 
@@ -19,11 +20,6 @@ const MOST_CHANNELS: u16 = 2048;
 
 /// How often all link ends may make a step after all packets were placed, at most.
 const MOST_SWEEPS: u32 = 20_000;
-
-/// One of the flows.
-fn picked(random: &mut Random, flows: &[u16]) -> Option<u16> {
-    flows.get(random.below(flows.len())).copied()
-}
 
 /// Places packets of the flow that hold the one channel and wait for the other.
 fn place_flow(
@@ -35,10 +31,11 @@ fn place_flow(
     from: Chan,
     to: Chan,
 ) -> Result<(), AllocError> {
-    let Some(way) = way_between(alloc, network, flow, from, to)? else {
+    let Some(way) = way_onto(alloc, network, flow, from, Some(to))? else {
         return Ok(());
     };
-    trial.note(flow_note(alloc, network, flow, from, to))?;
+    let name = flow_name(network, flow);
+    trial.note(note(alloc, network, OF_FLOW, name, from, to))?;
     if flow < network.declared_flows() {
         place_worm(alloc, network, trial, random, flow, &way)
     } else {
@@ -60,7 +57,8 @@ fn place_target(
     }
     match network.topology().end_of(from) {
         PlaceEnd::Node(node) => {
-            trial.note(target_note(alloc, network, node, from, to))?;
+            let name = node_name(network, node);
+            trial.note(note(alloc, network, OF_TARGET, name, from, to))?;
             fill_target(alloc, network, trial, random, node, from)
         }
         PlaceEnd::Switch(_, _) => Ok(()),
@@ -77,8 +75,8 @@ fn place_step(
     from: Chan,
     to: Chan,
 ) -> Result<(), AllocError> {
-    match picked(random, flows) {
-        Some(flow) => place_flow(alloc, network, trial, random, flow, from, to),
+    match flows.get(random.below(flows.len())) {
+        Some(flow) => place_flow(alloc, network, trial, random, *flow, from, to),
         None => place_target(alloc, network, trial, random, from, to),
     }
 }
@@ -114,17 +112,8 @@ fn place_cycle(
     Ok(())
 }
 
-/// Lets the network go on until nothing can.
-fn release(alloc: Global, trial: &mut Trial<'_>, random: &mut Random) -> Result<(), AllocError> {
-    for _ in 0..MOST_SWEEPS {
-        if !trial.sweep(alloc, random.number(MOST_CHANNELS))? {
-            break;
-        }
-    }
-    Ok(())
-}
-
-/// Places what makes the channels of one of the tangles wait for one another, and lets the network go on; whether it is locked up then.
+/// Places what makes the channels of one of the tangles wait for one another, and lets the network go on until nothing can; whether it
+/// is locked up then.
 fn is_locked_up_by(
     alloc: Global,
     network: &Network,
@@ -136,7 +125,11 @@ fn is_locked_up_by(
     if let Some(tangle) = tangles.get(number) {
         place_cycle(alloc, network, trial, random, tangle)?;
     }
-    release(alloc, trial, random)?;
+    for _ in 0..MOST_SWEEPS {
+        if !trial.sweep(alloc, random.number(MOST_CHANNELS))? {
+            break;
+        }
+    }
     Ok(trial.is_locked_up())
 }
 

@@ -2,7 +2,7 @@
 
 use std::alloc::{AllocError, Global};
 use sw_config::Network;
-use sw_output::{channel_text, flow_name, node_name};
+use sw_output::channel_text;
 use sw_topo::Chan;
 
 /// The ends of the channel; nothing where the network has no such channel.
@@ -13,8 +13,18 @@ fn channel_words(alloc: Global, network: &Network, channel: Chan) -> Result<Stri
     channel_text(alloc, network, channel)
 }
 
+/// What stands in the note of a flow, whose packets are to hold the one channel and to wait for the other.
+pub(crate) const OF_FLOW: [&str; 3] = ["a packet of ", "is to hold", "and to wait for"];
+
+/// What stands in the note of a target, which is to take nothing from the one channel until a reply has left on the other.
+pub(crate) const OF_TARGET: [&str; 3] = [
+    "",
+    "is to take nothing from",
+    "until its reply has left on",
+];
+
 /// A line with these words, the name behind the first of them, and a channel behind each other.
-fn note(
+pub(crate) fn note(
     alloc: Global,
     network: &Network,
     words: [&str; 3],
@@ -26,28 +36,4 @@ fn note(
     let from = channel_words(alloc, network, from)?;
     let to = channel_words(alloc, network, to)?;
     format!(in alloc; "# {begun}{name} {held} {from} {wanted} {to}\n")
-}
-
-/// That packets of the flow are to hold the one channel and to wait for the other.
-pub(crate) fn flow_note(
-    alloc: Global,
-    network: &Network,
-    flow: u16,
-    from: Chan,
-    to: Chan,
-) -> Result<String, AllocError> {
-    let words = ["a packet of ", "is to hold", "and to wait for"];
-    note(alloc, network, words, flow_name(network, flow), from, to)
-}
-
-/// That the target is to take nothing from the one channel until a reply has left on the other.
-pub(crate) fn target_note(
-    alloc: Global,
-    network: &Network,
-    node: u16,
-    from: Chan,
-    to: Chan,
-) -> Result<String, AllocError> {
-    let words = ["", "is to take nothing from", "until its reply has left on"];
-    note(alloc, network, words, node_name(network, node), from, to)
 }

@@ -31,27 +31,19 @@ fn answered_flow(network: &Network, reply: u16) -> Option<u16> {
     None
 }
 
-/// Is the declared flow of that number one whose packets the node answers?
-fn is_answered_at(network: &Network, number: u16, node: u16) -> bool {
-    if number >= network.declared_flows() {
-        return false;
-    }
-    let flow = network.flow(number);
-    flow.to() == node && flow.reply().is_some()
-}
-
 /// A declared flow whose packets the node answers, the first from that number on, or from 0 on.
 fn flow_to(network: &Network, node: u16, first: u16) -> Option<u16> {
     let flows = network.declared_flows();
-    let mut flow = first;
+    let mut number = first;
     for _ in 0..flows {
-        if flow >= flows {
-            flow = 0;
+        if number >= flows {
+            number = 0;
         }
-        if is_answered_at(network, flow, node) {
-            return Some(flow);
+        let flow = network.flow(number);
+        if flow.to() == node && flow.reply().is_some() {
+            return Some(number);
         }
-        flow = flow.saturating_add(1);
+        number = number.saturating_add(1);
     }
     None
 }
@@ -89,7 +81,7 @@ pub(crate) fn fill_target(
     let Some(flow) = flow_to(network, node, first) else {
         return Ok(());
     };
-    match way_onto(alloc, network, flow, channel)? {
+    match way_onto(alloc, network, flow, channel, None)? {
         Some(way) => place_commands(alloc, network, trial, flow, &way),
         None => Ok(()),
     }
@@ -155,7 +147,7 @@ pub(crate) fn place_replies(
     let Some(first) = back.first() else {
         return Ok(());
     };
-    match way_onto(alloc, network, flow, first.channel.partner())? {
+    match way_onto(alloc, network, flow, first.channel.partner(), None)? {
         Some(there) => place_answers(alloc, network, trial, flow, &there, back),
         None => Ok(()),
     }

@@ -10,9 +10,6 @@ use sw_net::{Net, SwitchRoutes, declared_net};
 use sw_schedule::{MAX_STEPS, add_entry};
 use sw_topo::{Chan, LinkEnd};
 
-/// How often the channels of a way are gone over to place a packet, at most.
-const MOST_ROUNDS: u32 = 20_000;
-
 /// A network in some state, and the schedule of the steps that led there. It is not let go but by `into_text`.
 pub(crate) struct Trial<'n> {
     net: Net<'n, SwitchRoutes<'n>, Policy>,
@@ -35,28 +32,20 @@ impl<'n> Trial<'n> {
         self.text.push_str(line?.as_str())
     }
 
-    /// Makes the step, if it is possible and the schedule may have one more.
-    fn attempt(&mut self, alloc: Global, step: &Step) -> Result<bool, AllocError> {
-        if self.steps >= MAX_STEPS {
-            return Ok(false);
-        }
-        match self.net.step(alloc, step) {
-            Ok(()) => {}
-            Err(NetFault::Memory) => return Err(AllocError),
-            Err(NetFault::NotEnabled | NetFault::NotInFlow) => return Ok(false),
-        }
-        add_entry(alloc, self.net.network(), step, 1, &mut self.text)?;
-        self.steps += 1;
-        Ok(true)
-    }
-
-    /// Makes the step as often as it is possible, at most so many times; whether it made any.
-    fn attempt_often(&mut self, alloc: Global, step: &Step, most: u32) -> Result<bool, AllocError> {
+    /// Makes the step as often as it is possible and the schedule may have one more, at most so many times; whether it made any.
+    fn attempt(&mut self, alloc: Global, step: &Step, most: u32) -> Result<bool, AllocError> {
         let mut moved = false;
         for _ in 0..most {
-            if !self.attempt(alloc, step)? {
+            if self.steps >= MAX_STEPS {
                 break;
             }
+            match self.net.step(alloc, step) {
+                Ok(()) => {}
+                Err(NetFault::Memory) => return Err(AllocError),
+                Err(NetFault::NotEnabled | NetFault::NotInFlow) => break,
+            }
+            add_entry(alloc, self.net.network(), step, 1, &mut self.text)?;
+            self.steps += 1;
             moved = true;
         }
         Ok(moved)
@@ -69,7 +58,7 @@ impl<'n> Trial<'n> {
         step: Step,
         most: u32,
     ) -> Result<bool, AllocError> {
-        self.attempt_often(alloc, &step, most)
+        self.attempt(alloc, &step, most)
     }
 
     /// Moves characters into a channel: from the channel before it, or from the node where it starts.
@@ -123,33 +112,7 @@ impl<'n> Trial<'n> {
         Ok(moved)
     }
 
-    /// Moves characters from a node along a way, and no further, as far as they get.
-    pub(crate) fn place(
-        &mut self,
-        alloc: Global,
-        node: u16,
-        way: &[Place],
-    ) -> Result<(), AllocError> {
-        for _ in 0..MOST_ROUNDS {
-            if !self.advance(alloc, node, way)? {
-                break;
-            }
-        }
-        Ok(())
-    }
-
-    /// Makes a step of that link end, if one is possible other than to begin a packet.
-    fn move_at(&mut self, alloc: Global, number: u16) -> Result<bool, AllocError> {
-        if number >= self.net.network().channels() {
-            return Ok(false);
-        }
-        match self.net.possible_at(LinkEnd::new(number)) {
-            Some(step) => self.repeat(alloc, step, 1),
-            None => Ok(false),
-        }
-    }
-
-    /// Lets each link end make a step, those from a number on first; whether any did.
+    /// Lets each link end make a step, if one is possible other than to begin a packet, those from a number on first; whether any did.
     pub(crate) fn sweep(&mut self, alloc: Global, first: u16) -> Result<bool, AllocError> {
         let channels = self.net.network().channels();
         let mut moved = false;
@@ -158,7 +121,11 @@ impl<'n> Trial<'n> {
             if number >= channels {
                 number = 0;
             }
-            moved |= self.move_at(alloc, number)?;
+            if number < self.net.network().channels() {
+                if let Some(step) = self.net.possible_at(LinkEnd::new(number)) {
+                    moved |= self.repeat(alloc, step, 1)?;
+                }
+            }
             number = number.saturating_add(1);
         }
         Ok(moved)

@@ -1,7 +1,6 @@
 //! The flows whose replies can't happen.
 ghost use Rattle.std.specs.Prelude.{◌≡◌, ◌<◌, ◌++◌, IfOk, OnOk, length};
 ghost use Rattle.sw_mend.specs.Changes.{by_number, made_at};
-ghost use Rattle.sw_rmap.specs.Instruction.{reply_address_len};
 ghost use Rattle.sw_witness.specs.Unanswered.{can_not_be_answered, has_other_instruction, has_other_protocol, is_of_answered, never_answered, number_if};
 
 use std::alloc::{AllocError, Global};
@@ -27,20 +26,14 @@ fn is_of_answered(instruction: u8) -> bool
     instruction / 64 % 4 != 0 && instruction / 8 % 2 == 1
 }
 
-// How many bytes the reply address field has.
-fn reply_address_len(instruction: u8) -> usize
-    ensures { result ≡ reply_address_len instruction }
-{
-    4 * usize::from(instruction % 4)
-}
-
-// Is the instruction left, and none of a command that is answered by this path?
+// Is the instruction left, and none of a command that is answered by this path? The lowest two bits are a quarter of the length of the
+// reply address field.
 fn has_other_instruction(left: &[u8], path: &[u8]) -> bool
     ensures { result ≡ has_other_instruction left.now path.now }
 {
     match left.get(2) {
         Some(instruction) => {
-            !is_of_answered(*instruction) || reply_address_len(*instruction) < path.len()
+            !is_of_answered(*instruction) || 4 * usize::from(*instruction % 4) < path.len()
         }
         None => false,
     }

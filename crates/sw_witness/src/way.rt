@@ -28,42 +28,23 @@ fn goes_on(network: &Network, flow: &Flow, from: Chan, deleted: u8, to: Chan) ->
         || steps_to(network, flow, from, deleted, to, behind)
 }
 
-/// A way of the flow to the one channel, from which it goes on to the other; none where it has none.
-pub(crate) fn way_between(
-    alloc: Global,
-    network: &Network,
-    flow: u16,
-    from: Chan,
-    to: Chan,
-) -> Result<Option<Vec<Place>>, AllocError> {
-    if flow >= network.flows() {
-        return Ok(None);
-    }
-    for deleted in 0..MOST_DELETED + 1 {
-        if goes_on(network, network.flow(flow), from, deleted, to) {
-            let place = Place {
-                channel: from,
-                deleted,
-            };
-            if let Some(way) = way_to(alloc, network, flow, place)? {
-                return Ok(Some(way));
-            }
-        }
-    }
-    Ok(None)
-}
-
-/// A way of the flow to the channel; none where it has none.
+/// A way of the flow to the channel, from which it goes on to the next, if there is to be one; none where it has none.
 pub(crate) fn way_onto(
     alloc: Global,
     network: &Network,
     flow: u16,
     channel: Chan,
+    next: Option<Chan>,
 ) -> Result<Option<Vec<Place>>, AllocError> {
     if flow >= network.flows() {
         return Ok(None);
     }
     for deleted in 0..MOST_DELETED + 1 {
+        if let Some(to) = next {
+            if !goes_on(network, network.flow(flow), channel, deleted, to) {
+                continue;
+            }
+        }
         if let Some(way) = way_to(alloc, network, flow, Place { channel, deleted })? {
             return Ok(Some(way));
         }

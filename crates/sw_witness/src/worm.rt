@@ -12,6 +12,9 @@ use sw_schedule::MAX_CARGO;
 /// How many long packets follow one another, at most.
 const MOST_PACKETS: u32 = 40;
 
+/// How often the channels of a way are gone over to place a packet, at most.
+const MOST_ROUNDS: u32 = 20_000;
+
 /// How many characters the channel of the place holds, in whole tokens of flow control (ECSS-E-ST-50-12C, data link layer: flow
 /// control).
 fn room(network: &Network, place: Place) -> usize {
@@ -71,7 +74,11 @@ pub(crate) fn place_packets(
         if !begin(alloc, trial, flow, cargo)? {
             break;
         }
-        trial.place(alloc, node, way)?;
+        for _ in 0..MOST_ROUNDS {
+            if !trial.advance(alloc, node, way)? {
+                break;
+            }
+        }
     }
     Ok(())
 }
