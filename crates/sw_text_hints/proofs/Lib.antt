@@ -1,1 +1,3 @@
+mod LoadHelps
+pub mod PlaceNumbers
 pub mod Words

@@ -84,6 +84,22 @@ help_of fault network load = of_document (help_in fault load) (document_of netwo
 abbrev pub note_of : TextFault → Declaration → List ℕ → List ℕ
 note_of fault d load = of_document (load_note fault d) (document_of load)
 
+-- the same where the load has this document, if any
+abbrev pub help_by : TextFault → List ℕ → Option Members → List ℕ
+help_by fault network load = of_document (λ n. option_map_or (load_help fault n) load []) (document_of network)
+
+abbrev pub note_by : TextFault → Declaration → Option Members → List ℕ
+note_by fault d load = option_map_or (load_note fault d) load []
+
+-- a fault of a load, told of a place that it has, with what to do and a line of a note
+abbrev pub IsHintWith : List ℕ → List ℕ → TextFault → List ℕ → List ℕ → List ℕ → Type 0
+IsHintWith path load fault help note hint =
+    (place : Option ℕ) × IsFaultPlace load fault place × (hint ≡ hint_lines path load place (what_text fault) (expected fault) help note)
+
+abbrev pub IsHintBy : List ℕ → List ℕ → Declaration → List ℕ → TextFault → Option Members → List ℕ → Type 0
+IsHintBy path network d load fault document hint =
+    IsHintWith path load fault (help_by fault network document) (told (codes "note") (note_by fault d document)) hint
+
 -- a fault of a load for this network, whose text is the first one, told of a place that it has
 abbrev pub IsFaultHint : List ℕ → List ℕ → Declaration → List ℕ → TextFault → List ℕ → Type 0
 IsFaultHint path network d load fault hint =

@@ -1,8 +1,7 @@
 //! The hint of a certificate that can't be read.
-ghost use Rattle.std.specs.Prelude.{◌≡◌, ◌==◌, ◌<◌, IfOk, IfSome, length, option_copied, option_map, position, string_bytes};
-ghost use Rattle.sw_cert.specs.Grammar.{after_word};
+ghost use Rattle.std.specs.Prelude.{◌≡◌, IfOk, option_map, string_bytes};
 ghost use Rattle.sw_schedule.specs.Schedule.{text_lines};
-ghost use Rattle.sw_text_hints.specs.CertificateHints.{certificate_hint, expected_after, expected_line, flows_before, found_in, hint_at, hint_by, line_before, line_hint, note_line, numbers_at, place_note, place_numbers, rises, rising_note};
+ghost use Rattle.sw_text_hints.specs.CertificateHints.{certificate_hint, expected_after, expected_line, flows_before, hint_at, hint_by, line_before, line_hint, note_line, place_note, place_numbers, rises, rising_note};
 
 use crate::wrong_word::nth_line;
 use std::alloc::{AllocError, Global};
@@ -29,36 +28,23 @@ fn expected_after(before: &[u8]) -> &'static str
     }
 }
 
-// What follows a word.
-fn after_word<'a>(word: &[u8], line: &'a [u8]) -> Option<&'a [u8]>
-    ensures { option_copied result ≡ after_word word.now line.entry.now }
-{
-    line.strip_prefix(word)
-}
-
-fn space_in(words: &[u8]) -> Option<usize>
-    ensures exact { result ≡ position (λ b. b == 32) words.now }
-    ensures within { IfSome result (λ at. at < length words.now) }
-{
-    words.iter().position(|b| *b == b' ')
-}
-
-// Two numbers with a space between them, at this place.
-fn numbers_at(words: &[u8], at: usize) -> Option<(u32, u32)>
-    requires { at < length words.now }
-    ensures { result ≡ numbers_at words.now at }
-{
-    let channel = number(&words[..at], 65535)?;
-    let deleted = number(&words[at + 1..], 32)?;
-    Some((channel, deleted))
-}
-
 // The numbers of a line of a place.
 fn place_numbers(line: &[u8]) -> Option<(u32, u32)>
     ensures { result ≡ place_numbers line.now }
 {
-    let words = after_word(b"place ", line)?;
-    numbers_at(words, space_in(words)?)
+    let Some(words) = line.strip_prefix(b"place ") else {
+        return None;
+    };
+    let Some((channel, deleted)) = cut(words, b' ') else {
+        return None;
+    };
+    let Some(channel) = number(channel, 65535) else {
+        return None;
+    };
+    let Some(deleted) = number(deleted, 32) else {
+        return None;
+    };
+    Some((channel, deleted))
 }
 
 fn rises(before: (u32, u32), place: (u32, u32)) -> bool
@@ -152,14 +138,6 @@ fn hint_by(
     )
 }
 
-// What stands in a line, as a line of a hint.
-#[tactic(auto, unfolding(crate::specs::CertificateHints::found_in))]
-fn found_in(alloc: Global, line: &[u8]) -> Result<String, AllocError>
-    ensures { IfOk result (λ s. string_bytes s ≡ found_in line.now) }
-{
-    found_line(alloc, line, Some(0))
-}
-
 // What may stand behind this line, as a line of a hint.
 #[tactic(auto, unfolding(crate::specs::CertificateHints::expected_line))]
 fn expected_line(alloc: Global, before: &[u8]) -> Result<String, AllocError>
@@ -178,7 +156,7 @@ fn note_line(alloc: Global, flows: usize, before: &[u8], line: &[u8]) -> Result<
 }
 
 // Of a line with the one before it, and with how many lines before it begin a flow.
-#[tactic(auto, unfolding(crate::specs::CertificateHints::line_hint))]
+#[tactic(auto, unfolding(crate::specs::CertificateHints::line_hint, crate::specs::CertificateHints::found_in))]
 fn line_hint(
     alloc: Global,
     path: &str,
@@ -190,7 +168,7 @@ fn line_hint(
     ensures { IfOk result (λ s. string_bytes s ≡ line_hint path.now number flows before.now line.now) }
 {
     let path = shown(alloc, path.as_bytes())?;
-    let found = found_in(alloc, line)?;
+    let found = found_line(alloc, line, Some(0))?;
     let expected = expected_line(alloc, before)?;
     let note = note_line(alloc, flows, before, line)?;
     hint_by(

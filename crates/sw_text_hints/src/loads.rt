@@ -1,9 +1,8 @@
 //! The hint of a load's fault.
-ghost use Rattle.std.specs.Prelude.{◌≡◌, IfOk, codes, map, option_map, string_bytes};
+ghost use Rattle.std.specs.Prelude.{◌≡◌, IfOk, Some, map, option_map, string_bytes};
 ghost use Rattle.toml.specs.View.{table_view};
 ghost use Rattle.sw_toml_table.specs.Document.{document_of};
-ghost use Rattle.sw_hints.specs.HintLines.{told};
-ghost use Rattle.sw_text_hints.specs.LoadHints.{IsFaultHint, IsHintFor, IsLoadHint, document_in, expected, flow_help, has_reply, help_in, help_of, key_help, load_help, load_note, meant, note_of, packet_note, way_words};
+ghost use Rattle.sw_text_hints.specs.LoadHints.{IsFaultHint, IsHintBy, IsHintFor, IsHintWith, IsLoadHint, document_in, expected, flow_help, help_by, key_help, load_help, load_note, meant};
 
 use std::alloc::{AllocError, Global};
 use sw_config::Network;
@@ -29,9 +28,13 @@ fn expected(alloc: Global, fault: &TextFault) -> Result<String, AllocError>
     }
 }
 
-// The one of the texts that was meant, maybe.
+/// The one of the texts that was meant, maybe.
+///
+/// # Errors
+///
+/// There is no memory for the text.
 #[tactic(auto, unfolding(crate::specs::LoadHints::meant))]
-fn meant(alloc: Global, name: &str, texts: &[&str]) -> Result<String, AllocError>
+pub(crate) fn meant(alloc: Global, name: &str, texts: &[&str]) -> Result<String, AllocError>
     ensures { IfOk result (λ s. string_bytes s ≡ meant name.now (map (λ t. t.now) texts.now)) }
 {
     meant_help(alloc, like(alloc, name, texts)?)
@@ -83,44 +86,23 @@ fn load_help(
     }
 }
 
-// Whether the declared flow of a name has replies.
-fn has_reply(network: &Network, name: &str) -> Option<bool>
-    ensures { result ≡ has_reply network.now name.now }
-{
-    let flow = network.declared_flow_named(name)?;
-    Some(network.flow(flow).reply().is_some())
-}
-
-fn way_words(has_reply: bool) -> &'static str
-    ensures { result.now ≡ way_words has_reply }
-{
-    if has_reply {
-        "its target answers this command, and the reply does not go where the flow's 'reply' says"
-    } else {
-        "its target answers this command, and the flow has no 'reply'"
-    }
-}
-
-// Which condition failed of a packet that its flow does not declare.
-fn packet_note(network: &Network, load: &Table, packet: usize) -> &'static str
-    ensures { result.now ≡ packet_note packet network.now (table_view load.now) }
-{
-    match text_of(load, Section::Packet(packet), Key::Flow) {
-        Some(name) => match has_reply(network, name) {
-            Some(has_reply) => way_words(has_reply),
-            None => "",
-        },
-        None => "",
-    }
-}
-
-// What there is to note of a fault of a load.
+// What there is to note of a fault of a load: which condition failed of a packet that its flow does not declare.
 fn load_note(network: &Network, load: &Table, fault: &TextFault) -> &'static str
     ensures { result.now ≡ load_note fault.now network.now (table_view load.now) }
 {
-    match fault {
-        TextFault::NotInFlow(packet) => packet_note(network, load, *packet),
-        _ => "",
+    let TextFault::NotInFlow(packet) = fault else {
+        return "";
+    };
+    let Some(name) = text_of(load, Section::Packet(*packet), Key::Flow) else {
+        return "";
+    };
+    let Some(flow) = network.declared_flow_named(name) else {
+        return "";
+    };
+    if network.flow(flow).reply().is_some() {
+        "its target answers this command, and the reply does not go where the flow's 'reply' says"
+    } else {
+        "its target answers this command, and the flow has no 'reply'"
     }
 }
 
@@ -141,65 +123,69 @@ pub(crate) fn document_in(alloc: Global, text: &[u8]) -> Result<Option<Table>, A
     }
 }
 
-// What to do about a fault of this load.
-fn help_in(
-    alloc: Global,
-    network: &Table,
-    load: &[u8],
-    fault: &TextFault,
-) -> Result<String, AllocError>
-    ensures { IfOk result (λ s. string_bytes s ≡ help_in fault.now load.now (table_view network.now)) }
-{
-    match document_in(alloc, load)? {
-        Some(load) => load_help(alloc, network, &load, fault),
-        None => Ok(String::new(alloc)),
-    }
-}
-
-// The same, for this network.
+// What to do about a fault of this load, for the network of a text.
 fn help_of(
     alloc: Global,
     network: &[u8],
-    load: &[u8],
+    load: &Table,
     fault: &TextFault,
 ) -> Result<String, AllocError>
-    ensures { IfOk result (λ s. string_bytes s ≡ help_of fault.now network.now load.now) }
+    ensures { IfOk result (λ s. string_bytes s ≡ help_by fault.now network.now (Some (table_view load.now))) }
 {
     match document_in(alloc, network)? {
-        Some(network) => help_in(alloc, &network, load, fault),
+        Some(network) => load_help(alloc, &network, load, fault),
         None => Ok(String::new(alloc)),
     }
 }
 
-// What there is to note of a fault of this load.
-fn note_of(
+// What is told of a fault of a load, with what to do and a line of a note.
+fn hint_with(
     alloc: Global,
-    network: &Network,
+    path: &str,
     load: &[u8],
     fault: &TextFault,
-) -> Result<&'static str, AllocError>
-    ensures { IfOk result (λ s. s.now ≡ note_of fault.now network.now load.now) }
+    help: &str,
+    note: &str,
+) -> Result<String, AllocError>
+    ensures { IfOk result (λ s. IsHintWith path.now load.now fault.now help.now note.now (string_bytes s)) }
 {
-    match document_in(alloc, load)? {
-        Some(load) => Ok(load_note(network, &load, fault)),
-        None => Ok(""),
-    }
+    let place = fault_place(alloc, load, fault)?;
+    let what = what_text(alloc, fault)?;
+    let expected = expected(alloc, fault)?;
+    hint_lines(
+        alloc,
+        path,
+        load,
+        place,
+        what.as_str(),
+        expected.as_str(),
+        help,
+        note,
+    )
 }
 
-// The line of it.
-fn note_line(
+// The same for this network, whose text is the first one, of a load that has this document.
+fn hint_by(
     alloc: Global,
+    path: &str,
+    text: &[u8],
     network: &Network,
     load: &[u8],
+    document: &Table,
     fault: &TextFault,
 ) -> Result<String, AllocError>
-    ensures { IfOk result (λ s. string_bytes s ≡ told (codes "note") (note_of fault.now network.now load.now)) }
+    ensures { IfOk result (λ s. IsHintBy path.now text.now network.now load.now fault.now (Some (table_view document.now)) (string_bytes s)) }
 {
-    let note = note_of(alloc, network, load, fault)?;
-    told(alloc, "note", note.as_bytes())
+    let help = help_of(alloc, text, document, fault)?;
+    let note = told(
+        alloc,
+        "note",
+        load_note(network, document, fault).as_bytes(),
+    )?;
+    hint_with(alloc, path, load, fault, help.as_str(), note.as_str())
 }
 
-// What is told of a fault of a load for this network, whose text is the first one.
+// The same of a load, which may have no document.
 fn hint_of(
     alloc: Global,
     path: &str,
@@ -210,21 +196,10 @@ fn hint_of(
 ) -> Result<String, AllocError>
     ensures { IfOk result (λ s. IsFaultHint path.now text.now network.now load.now fault.now (string_bytes s)) }
 {
-    let place = fault_place(alloc, load, fault)?;
-    let what = what_text(alloc, fault)?;
-    let expected = expected(alloc, fault)?;
-    let help = help_of(alloc, text, load, fault)?;
-    let note = note_line(alloc, network, load, fault)?;
-    hint_lines(
-        alloc,
-        path,
-        load,
-        place,
-        what.as_str(),
-        expected.as_str(),
-        help.as_str(),
-        note.as_str(),
-    )
+    match document_in(alloc, load)? {
+        Some(document) => hint_by(alloc, path, text, network, load, &document, fault),
+        None => hint_with(alloc, path, load, fault, "", ""),
+    }
 }
 
 // The hint of a load for this network.

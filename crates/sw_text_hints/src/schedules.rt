@@ -3,16 +3,16 @@ ghost use Rattle.std.specs.Prelude.{◌≡◌, ◌≤◌, IfOk, codes, length, m
 ghost use Rattle.toml.specs.View.{table_view};
 ghost use Rattle.sw_hints.specs.Entries.{names_of};
 ghost use Rattle.sw_hints.specs.HintLines.{told};
-ghost use Rattle.sw_text_hints.specs.ScheduleHints.{expected, head_by, head_lines, help_of, hint_for, like_help, limit_line, line_hint, offset_of, schedule_hint, total_head, total_lines, verbs, wanted_words, what_words, word_help, word_lines};
+ghost use Rattle.sw_text_hints.specs.ScheduleHints.{expected, head_by, head_lines, help_of, hint_for, like_help, limit_line, line_hint, offset_of, schedule_hint, total_lines, verbs, wanted_words, what_words, word_help, word_lines};
 ghost use Rattle.sw_text_hints.specs.WrongWords.{wrong_view};
 
-use crate::loads::document_in;
+use crate::loads::{document_in, meant};
 use crate::step_words::{Wanted, text_of};
 use crate::wrong_word::{Wrong, first_word, nth_line, wrong_of};
 use std::alloc::{AllocError, Global};
 use sw_config::Network;
 use sw_file::read_network;
-use sw_hints::{found_line, like, meant_help, names_of, shown, told};
+use sw_hints::{found_line, names_of, shown, told};
 use sw_notes::text_fault;
 use sw_schedule::{ScheduleFault, read_steps};
 use sw_toml_table::Key;
@@ -83,11 +83,12 @@ fn offset_of(line: &[u8], wrong: &Wrong<'_>) -> usize
 }
 
 // What to do about a word that is none of these.
+#[tactic(auto, unfolding(crate::specs::LoadHints::meant))]
 fn like_help(alloc: Global, word: &[u8], names: &[&str]) -> Result<String, AllocError>
     ensures { IfOk result (λ s. string_bytes s ≡ like_help word.now (map (λ t. t.now) names.now)) }
 {
     match text_of(word) {
-        Some(word) => meant_help(alloc, like(alloc, word, names)?),
+        Some(word) => meant(alloc, word, names),
         None => Ok(String::new(alloc)),
     }
 }
@@ -225,21 +226,6 @@ fn word_lines(
     format!(in alloc; "{head}{expected}{help}")
 }
 
-// That with this line the steps are too many.
-#[tactic(auto, unfolding(crate::specs::ScheduleHints::total_head))]
-fn total_head(alloc: Global, path: &str, number: u64, line: &[u8]) -> Result<String, AllocError>
-    ensures { IfOk result (λ s. string_bytes s ≡ total_head path.now number line.now) }
-{
-    head_lines(
-        alloc,
-        path,
-        number,
-        line,
-        0,
-        "with this line there are too many steps",
-    )
-}
-
 // How many there may be.
 #[tactic(auto, unfolding(crate::specs::ScheduleHints::limit_line))]
 fn limit_line(alloc: Global) -> Result<String, AllocError>
@@ -253,10 +239,12 @@ fn limit_line(alloc: Global) -> Result<String, AllocError>
 }
 
 // The lines of a hint of the line with which the steps are too many.
+#[tactic(auto, unfolding(crate::specs::ScheduleHints::total_head))]
 fn total_lines(alloc: Global, path: &str, number: u64, line: &[u8]) -> Result<String, AllocError>
     ensures { IfOk result (λ s. string_bytes s ≡ total_lines path.now number line.now) }
 {
-    let head = total_head(alloc, path, number, line)?;
+    let what = "with this line there are too many steps";
+    let head = head_lines(alloc, path, number, line, 0, what)?;
     let limit = limit_line(alloc)?;
     format!(in alloc; "{head}{limit}")
 }
