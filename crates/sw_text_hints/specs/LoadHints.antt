@@ -75,19 +75,11 @@ document_in (Err fault) = None
 abbrev pub of_document : (Members → List ℕ) → Result Members TextFault → List ℕ
 of_document f read = option_map_or f (document_in read) []
 
-abbrev pub help_in : TextFault → List ℕ → Members → List ℕ
-help_in fault load network = of_document (load_help fault network) (document_of load)
-
-abbrev pub help_of : TextFault → List ℕ → List ℕ → List ℕ
-help_of fault network load = of_document (help_in fault load) (document_of network)
-
-abbrev pub note_of : TextFault → Declaration → List ℕ → List ℕ
-note_of fault d load = of_document (load_note fault d) (document_of load)
-
--- the same where the load has this document, if any
+-- what to do about a fault of the load that has this document, if any, for the network of that text
 abbrev pub help_by : TextFault → List ℕ → Option Members → List ℕ
 help_by fault network load = of_document (λ n. option_map_or (load_help fault n) load []) (document_of network)
 
+-- what there is to note of it
 abbrev pub note_by : TextFault → Declaration → Option Members → List ℕ
 note_by fault d load = option_map_or (load_note fault d) load []
 
@@ -96,15 +88,14 @@ abbrev pub IsHintWith : List ℕ → List ℕ → TextFault → List ℕ → Lis
 IsHintWith path load fault help note hint =
     (place : Option ℕ) × IsFaultPlace load fault place × (hint ≡ hint_lines path load place (what_text fault) (expected fault) help note)
 
+-- the same for this network, whose text is the first one, of a load that has this document, if any
 abbrev pub IsHintBy : List ℕ → List ℕ → Declaration → List ℕ → TextFault → Option Members → List ℕ → Type 0
 IsHintBy path network d load fault document hint =
     IsHintWith path load fault (help_by fault network document) (told (codes "note") (note_by fault d document)) hint
 
--- a fault of a load for this network, whose text is the first one, told of a place that it has
+-- a fault of a load for this network, whose text is the first one
 abbrev pub IsFaultHint : List ℕ → List ℕ → Declaration → List ℕ → TextFault → List ℕ → Type 0
-IsFaultHint path network d load fault hint =
-    (place : Option ℕ) × IsFaultPlace load fault place
-    × (hint ≡ hint_lines path load place (what_text fault) (expected fault) (help_of fault network load) (told (codes "note") (note_of fault d load)))
+IsFaultHint path network d load fault hint = IsHintBy path network d load fault (document_in (document_of load)) hint
 
 -- the hint of a load's first fault, and none of a load
 abbrev pub IsHintFor : List ℕ → List ℕ → Declaration → List ℕ → Option (String Global) → Type 0
