@@ -1,12 +1,11 @@
 //! What a run whose steps are written as a schedule comes to.
 ghost use Rattle.std.specs.Prelude.{◌≡◌, ◌<◌, IfOk, length, option_map, string_bytes};
 ghost use Rattle.sw_command.specs.Inputs.{given};
-ghost use Rattle.sw_file.specs.Network.{network_text};
 ghost use Rattle.sw_load.specs.Laws.{AreDeclared};
 ghost use Rattle.sw_load.specs.Load.{load_text};
 ghost use Rattle.sw_run.specs.Outcomes.{IsOutcome, steps_of};
 ghost use Rattle.sw_schedule.specs.Runs.{readable_text};
-ghost use Rattle.sw_app_run.specs.Records.{IfGiven, IsFaultRecord, IsFileRecord, IsLoadRecord, IsOutcomeRecord, IsRecord, IsRecordOf, IsWithSchedule};
+ghost use Rattle.sw_app_run.specs.Records.{IfGiven, IsFaultRecord, IsLoadRecord, IsOutcomeRecord, IsRecord, IsRecordOf, IsWithSchedule};
 
 use crate::run_answer::Options;
 use crate::run_texts::{outcome_text, stop_status};
@@ -147,29 +146,6 @@ fn outcome_record<'a, G: Gate + Sync, T: Threads + Wait + Sync>(
     recorded_outcome(alloc, network, load, &outcome, wants)
 }
 
-// Of the text of a load.
-fn load_record<G: Gate + Sync, T: Threads + Wait + Sync>(
-    rt: &T,
-    alloc: Global,
-    network: &Network,
-    text: &[u8],
-    options: Options,
-    wants: Wants,
-    gate: &G,
-) -> Result<Recorded, AllocError>
-    requires { 0 < options.workers }
-    ensures { IfOk result (IsLoadRecord wants options.limit network.now (load_text network.now text.now)) }
-{
-    match read_load(alloc, network, text) {
-        Ok(load) => {
-            // Names what holds of a load that was read.
-            listed_are_declared();
-            outcome_record(rt, alloc, network, &load, options, wants, gate)
-        }
-        Err(fault) => fault_record(alloc, fault),
-    }
-}
-
 // Of a network and the second text.
 fn network_record<G: Gate + Sync, T: Threads + Wait + Sync>(
     rt: &T,
@@ -183,30 +159,14 @@ fn network_record<G: Gate + Sync, T: Threads + Wait + Sync>(
     requires { 0 < options.workers }
     ensures { IfOk result (IfGiven (given second.now) (λ bytes. IsLoadRecord wants options.limit network.now (load_text network.now bytes))) }
 {
-    match second {
-        InputText::Whole(text) => load_record(rt, alloc, network, text, options, wants, gate),
-        InputText::TooLong => Ok(Recorded::Fault(Answer::of_long_text(alloc)?)),
-    }
-}
-
-// Of the bytes of a network file and the second text.
-fn file_record<G: Gate + Sync, T: Threads + Wait + Sync>(
-    rt: &T,
-    alloc: Global,
-    first: &[u8],
-    second: &InputText,
-    options: Options,
-    wants: Wants,
-    gate: &G,
-) -> Result<Recorded, AllocError>
-    requires { 0 < options.workers }
-    ensures { IfOk result (IsFileRecord wants options.limit (given second.now) (network_text first.now)) }
-{
-    match read_network(alloc, first) {
-        Ok(network) => {
-            let recorded = network_record(rt, alloc, &network, second, options, wants, gate);
-            network.discard();
-            recorded
+    let InputText::Whole(text) = second else {
+        return Ok(Recorded::Fault(Answer::of_long_text(alloc)?));
+    };
+    match read_load(alloc, network, text) {
+        Ok(load) => {
+            // Names what holds of a load that was read.
+            listed_are_declared();
+            outcome_record(rt, alloc, network, &load, options, wants, gate)
         }
         Err(fault) => fault_record(alloc, fault),
     }
@@ -225,8 +185,15 @@ pub(crate) fn record_answer<G: Gate + Sync, T: Threads + Wait + Sync>(
     requires { 0 < options.workers }
     ensures { IfOk result (IsRecord wants options.limit (given first.now) (given second.now)) }
 {
-    match first {
-        InputText::Whole(text) => file_record(rt, alloc, text, second, options, wants, gate),
-        InputText::TooLong => Ok(Recorded::Fault(Answer::of_long_text(alloc)?)),
+    let InputText::Whole(text) = first else {
+        return Ok(Recorded::Fault(Answer::of_long_text(alloc)?));
+    };
+    match read_network(alloc, text) {
+        Ok(network) => {
+            let recorded = network_record(rt, alloc, &network, second, options, wants, gate);
+            network.discard();
+            recorded
+        }
+        Err(fault) => fault_record(alloc, fault),
     }
 }

@@ -1,7 +1,7 @@
 //! The engine that writes a run's steps too, and tells a summary.
 ghost use Rattle.std.specs.Prelude.{◌<◌, option_map, string_bytes};
-ghost use Rattle.sw_command.specs.Ends.{AreReadInOrder, IsTold};
-ghost use Rattle.sw_app_run.specs.Records.{EndsRecorded, IsRecordTold, IsRunTold, IsScheduleTold};
+ghost use Rattle.sw_command.specs.Ends.{AreReadInOrder};
+ghost use Rattle.sw_app_run.specs.Records.{EndsRecorded, IsRecordTold, IsRunTold};
 
 use crate::record_answer::{Recorded, Wants, record_answer};
 use crate::run_answer::Options;
@@ -25,29 +25,7 @@ pub enum RecordEnd {
     TooLong,
 }
 
-// Writes the answer.
-fn tell_answer<W: Write>(writer: &mut W, answer: &Answer) -> Ended
-    ensures { IsTold (W.contents writer.old) (W.contents writer.new) (string_bytes answer.now.text) answer.now.status result }
-{
-    tell(writer, answer.text.as_str(), answer.status)
-}
-
-// Writes the schedule, and then the answer.
-fn tell_both<W: Write, S: Write>(
-    writer: &mut W,
-    schedule: &mut S,
-    text: &str,
-    answer: &Answer,
-) -> Ended
-    ensures { IsScheduleTold (W.contents writer.old) (W.contents writer.new) (S.contents schedule.old) (S.contents schedule.new) text.now answer.now result }
-{
-    match write_whole(schedule, text.as_bytes()) {
-        Ok(()) => tell_answer(writer, answer),
-        Err(_) => Ended::WriteFailed,
-    }
-}
-
-// Writes the schedule, if there is one, and the answer.
+// Writes the schedule, if there is one, and then the answer.
 fn tell_run<W: Write, S: Write>(
     writer: &mut W,
     schedule: &mut S,
@@ -57,8 +35,11 @@ fn tell_run<W: Write, S: Write>(
     ensures { IsRunTold (W.contents writer.old) (W.contents writer.new) (S.contents schedule.old) (S.contents schedule.new) (option_map string_bytes text.now) answer.now result }
 {
     match text {
-        None => tell_answer(writer, answer),
-        Some(text) => tell_both(writer, schedule, text.as_str(), answer),
+        None => tell(writer, answer.text.as_str(), answer.status),
+        Some(text) => match write_whole(schedule, text.as_bytes()) {
+            Ok(()) => tell(writer, answer.text.as_str(), answer.status),
+            Err(_) => Ended::WriteFailed,
+        },
     }
 }
 
@@ -72,7 +53,7 @@ pub fn tell_recorded<W: Write, S: Write>(
 {
     match recorded {
         Recorded::Fault(answer) => RecordEnd::Told {
-            ended: tell_answer(writer, &answer),
+            ended: tell(writer, answer.text.as_str(), answer.status),
             summary: None,
         },
         Recorded::Run {

@@ -1,10 +1,9 @@
 //! What `replay` answers.
 ghost use Rattle.std.specs.Prelude.{◌≡◌, IfOk, string_bytes};
-ghost use Rattle.sw_file.specs.Network.{network_text};
 ghost use Rattle.sw_schedule.specs.Schedule.{steps_of_text};
 ghost use Rattle.sw_command.specs.Ends.{IfLimited, Says};
 ghost use Rattle.sw_command.specs.Inputs.{given};
-ghost use Rattle.sw_app_run.specs.ReplayAnswers.{IsReplayAnswer, IsReplayOf, IsScheduleAnswer, bad_line};
+ghost use Rattle.sw_app_run.specs.ReplayAnswers.{IsReplayAnswer, IsScheduleAnswer, bad_line};
 
 use crate::replay_texts::{replay_status, replay_text};
 use std::alloc::{AllocError, Global};
@@ -35,17 +34,6 @@ fn bad_line_answer(alloc: Global, number: u64) -> Result<Answer, AllocError>
     })
 }
 
-// The answer for the text of a schedule.
-fn schedule_answer(alloc: Global, network: &Network, text: &[u8]) -> Result<Answer, AllocError>
-    ensures { IfOk result (λ a. IsScheduleAnswer network.now (steps_of_text network.now text.now) (string_bytes a.text) a.status) }
-{
-    match read_steps(alloc, network, text) {
-        Ok(schedule) => steps_answer(alloc, network, &schedule),
-        Err(ScheduleFault::BadLine(number)) => bad_line_answer(alloc, number),
-        Err(ScheduleFault::Memory) => Err(AllocError),
-    }
-}
-
 // The answer for a network and the second text.
 fn network_answer(
     alloc: Global,
@@ -54,23 +42,13 @@ fn network_answer(
 ) -> Result<Answer, AllocError>
     ensures { IfOk result (λ a. IfLimited (given second.now) (λ bytes. IsScheduleAnswer network.now (steps_of_text network.now bytes)) (string_bytes a.text) a.status) }
 {
-    match second {
-        InputText::Whole(text) => schedule_answer(alloc, network, text),
-        InputText::TooLong => Answer::of_long_text(alloc),
-    }
-}
-
-// The answer for the bytes of a network file and the second text.
-fn file_answer(alloc: Global, first: &[u8], second: &InputText) -> Result<Answer, AllocError>
-    ensures { IfOk result (λ a. IsReplayOf (given second.now) (network_text first.now) (string_bytes a.text) a.status) }
-{
-    match read_network(alloc, first) {
-        Ok(network) => {
-            let answer = network_answer(alloc, &network, second);
-            network.discard();
-            answer
-        }
-        Err(fault) => fault_answer(alloc, fault),
+    let InputText::Whole(text) = second else {
+        return Answer::of_long_text(alloc);
+    };
+    match read_steps(alloc, network, text) {
+        Ok(schedule) => steps_answer(alloc, network, &schedule),
+        Err(ScheduleFault::BadLine(number)) => bad_line_answer(alloc, number),
+        Err(ScheduleFault::Memory) => Err(AllocError),
     }
 }
 
@@ -82,8 +60,15 @@ pub(crate) fn replay_answer(
 ) -> Result<Answer, AllocError>
     ensures { IfOk result (λ a. IsReplayAnswer (given first.now) (given second.now) (string_bytes a.text) a.status) }
 {
-    match first {
-        InputText::Whole(text) => file_answer(alloc, text, second),
-        InputText::TooLong => Answer::of_long_text(alloc),
+    let InputText::Whole(text) = first else {
+        return Answer::of_long_text(alloc);
+    };
+    match read_network(alloc, text) {
+        Ok(network) => {
+            let answer = network_answer(alloc, &network, second);
+            network.discard();
+            answer
+        }
+        Err(fault) => fault_answer(alloc, fault),
     }
 }

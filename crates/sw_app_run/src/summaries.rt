@@ -1,5 +1,5 @@
 //! The summary of a run.
-ghost use Rattle.std.specs.Prelude.{◌≡◌, ◌↔◌, ◌≤◌, ◌++◌, IfOk, IsTrue, length, map, option_map, string_bytes};
+ghost use Rattle.std.specs.Prelude.{◌≡◌, ◌↔◌, ◌≤◌, IfOk, IsTrue, length, map, option_map, string_bytes};
 ghost use Rattle.sw_model.specs.Steps.{machine_step};
 ghost use Rattle.sw_search.specs.Laws.{RoutedAndFree};
 ghost use Rattle.sw_app_run.specs.Summaries.{AreFillsTold, IsSummary, IsSummaryOf, IsWantedSummary, ShowsNothing};
@@ -38,13 +38,6 @@ fn fills_text(alloc: Global, network: &Network, steps: &[Step]) -> Result<String
     }
 }
 
-// Both texts.
-fn joined(alloc: Global, text: &str, more: &str) -> Result<String, AllocError>
-    ensures { IfOk result (λ s. string_bytes s ≡ text.now ++ more.now) }
-{
-    format!(in alloc; "{text}{more}")
-}
-
 // The summary of these steps and of what came out.
 fn summary_text(
     alloc: Global,
@@ -59,7 +52,7 @@ fn summary_text(
 {
     let summed = summary_of(alloc, network, load, steps, out, warned)?;
     let filled = fills_text(alloc, network, steps)?;
-    joined(alloc, summed.as_str(), filled.as_str())
+    format!(in alloc; "{summed}{filled}")
 }
 
 // The summary of the outcome.

@@ -5,9 +5,9 @@ ghost use Rattle.sw_search.specs.Explanations.{IsExplanation};
 ghost use Rattle.sw_witness.specs.Unanswered.{never_answered};
 ghost use Rattle.sw_app_run.specs.WitnessAnswers.{IsNetworkAnswer, IsOfKind, IsOfTangled, IsSearched, IsWitnessAnswer, free_line, unanswered_line};
 
-use crate::witness_texts::{free_line, none_found, unanswered_line, with_note};
+use crate::witness_texts::{none_found, with_note};
 use std::alloc::{AllocError, Global};
-use sw_app_changes::misrouted_answer;
+use sw_app_changes::{misrouted_answer, names_text};
 use sw_command::statuses::{BAD, GOOD};
 use sw_command::{Answer, fault_answer};
 use sw_config::Network;
@@ -42,7 +42,8 @@ fn searched(
 fn unanswered(alloc: Global, network: &Network, flows: &[u16]) -> Result<Answer, AllocError>
     ensures { IfOk result (λ a. Says (unanswered_line network.now flows.now) 1 (string_bytes a.text) a.status) }
 {
-    let text = unanswered_line(alloc, network, flows)?;
+    let names = names_text(alloc, network, flows)?;
+    let text = format!(in alloc; "no lock-up: the replies of {names} can't happen\n")?;
     Ok(Answer { text, status: BAD })
 }
 
@@ -69,7 +70,7 @@ fn tangled<W: VerdictWorkers>(
 fn free(alloc: Global) -> Result<Answer, AllocError>
     ensures { IfOk result (λ a. Says free_line 1 (string_bytes a.text) a.status) }
 {
-    let text = free_line(alloc)?;
+    let text = String::from_str(alloc, "no lock-up: the network is free\n")?;
     Ok(Answer { text, status: BAD })
 }
 

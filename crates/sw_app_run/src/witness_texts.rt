@@ -1,6 +1,6 @@
 //! The texts of `witness` that are no schedule.
 ghost use Rattle.std.specs.Prelude.{◌≡◌, IfOk, string_bytes};
-ghost use Rattle.sw_app_run.specs.WitnessAnswers.{free_line, none_found, unanswered_line};
+ghost use Rattle.sw_app_run.specs.WitnessAnswers.{none_found};
 ghost use Rattle.sw_witness.specs.Witnesses.{LocksUp};
 
 use std::alloc::{AllocError, Global};
@@ -15,26 +15,7 @@ pub(crate) fn none_found(alloc: Global, tries: u32) -> Result<String, AllocError
     format!(in alloc; "no lock-up found in {tries} tries\n")
 }
 
-/// That there is nothing to look for.
-pub(crate) fn free_line(alloc: Global) -> Result<String, AllocError>
-    ensures { IfOk result (λ s. string_bytes s ≡ free_line) }
-{
-    String::from_str(alloc, "no lock-up: the network is free\n")
-}
-
-/// That the replies of these flows can't happen, and there is nothing else to look for.
-pub(crate) fn unanswered_line(
-    alloc: Global,
-    network: &Network,
-    flows: &[u16],
-) -> Result<String, AllocError>
-    ensures { IfOk result (λ s. string_bytes s ≡ unanswered_line network.now flows.now) }
-{
-    let names = names_text(alloc, network, flows)?;
-    format!(in alloc; "no lock-up: the replies of {names} can't happen\n")
-}
-
-// The schedule behind a line that says so.
+// The schedule behind a line that the replies of these flows can't happen.
 fn noted(
     alloc: Global,
     network: &Network,
