@@ -1,7 +1,7 @@
 //! The hint of a schedule: of its first step that can't be made, or of the lock-up that it leads to.
 ghost use Rattle.std.specs.Prelude.{IfOk, Ok, option_map, string_bytes};
 ghost use Rattle.sw_schedule.specs.Schedule.{steps_of_text};
-ghost use Rattle.sw_step_hints.specs.StepHints.{IsEndHint, IsHintBy, IsScheduleHint};
+ghost use Rattle.sw_step_hints.specs.StepHints.{IsHintBy, IsScheduleHint};
 
 use crate::lock_up::lock_hint;
 use crate::refused_step::step_hint;
@@ -11,27 +11,7 @@ use sw_file::read_network;
 use sw_schedule::{ReplayEnd, Schedule, ScheduleFault, read_steps, replay};
 use sw_toml_table::FileFault;
 
-// Of how far the steps were made.
-fn end_hint(
-    alloc: Global,
-    path: &str,
-    network: &Network,
-    text: &[u8],
-    schedule: &Schedule,
-    outcome: ReplayEnd,
-) -> Result<Option<String>, AllocError>
-    ensures { IfOk result (λ o. IsEndHint path.now network.now text.now schedule.now outcome (option_map string_bytes o)) }
-{
-    match outcome {
-        ReplayEnd::Made(_) => lock_hint(alloc, path, network, schedule),
-        ReplayEnd::Refused(number, refusal) => {
-            let hint = step_hint(alloc, path, network, text, schedule, number, refusal)?;
-            Ok(Some(hint))
-        }
-    }
-}
-
-// Of a schedule.
+// Of a schedule, by how far its steps are made.
 fn steps_hint(
     alloc: Global,
     path: &str,
@@ -41,8 +21,14 @@ fn steps_hint(
 ) -> Result<Option<String>, AllocError>
     ensures { IfOk result (λ o. IsHintBy path.now network.now text.now (Ok schedule.now) (option_map string_bytes o)) }
 {
-    let replayed = replay(alloc, network, schedule)?;
-    end_hint(alloc, path, network, text, schedule, replayed.outcome)
+    let outcome = replay(alloc, network, schedule)?.outcome;
+    match outcome {
+        ReplayEnd::Made(_) => lock_hint(alloc, path, network, schedule),
+        ReplayEnd::Refused(number, refusal) => {
+            let hint = step_hint(alloc, path, network, text, schedule, number, refusal)?;
+            Ok(Some(hint))
+        }
+    }
 }
 
 // Of a schedule's text.

@@ -14,47 +14,6 @@ use sw_schedule::{CellId, Part, Schedule, cells, locked_up_parts};
 // The most lines that are told.
 const MOST_LINES: usize = 40;
 
-// Adds that the node takes nothing, or what is held and waited for at the switch.
-fn add_holding_lines(
-    alloc: Global,
-    network: &Network,
-    cell: CellId,
-    part: &Part,
-    lines: &mut Vec<String>,
-) -> Result<(), AllocError>
-    requires { IsIn network.now cell }
-    ensures { IfOk result (λ _. map string_bytes lines.new.items ≡ map string_bytes lines.old.items ++ holding_lines network.now cell part.now) }
-{
-    match (cell, part) {
-        (CellId::Node(node), Part::Node(part)) => {
-            add_line(lines, owing_line(alloc, network, node, part)?)
-        }
-        (CellId::Switch(switch), Part::Switch(parts)) => {
-            add_switch_lines(alloc, network, switch, parts, lines)
-        }
-        _ => Ok(()),
-    }
-}
-
-// Adds that the node can't send on.
-fn add_stopped_lines(
-    alloc: Global,
-    network: &Network,
-    cell: CellId,
-    part: &Part,
-    lines: &mut Vec<String>,
-) -> Result<(), AllocError>
-    requires { IsIn network.now cell }
-    ensures { IfOk result (λ _. map string_bytes lines.new.items ≡ map string_bytes lines.old.items ++ stopped_lines network.now cell part.now) }
-{
-    match (cell, part) {
-        (CellId::Node(node), Part::Node(part)) => {
-            add_line(lines, sending_line(alloc, network, node, part)?)
-        }
-        _ => Ok(()),
-    }
-}
-
 /// What is told of cells.
 #[derive(Clone, Copy)]
 pub(crate) enum Told {
@@ -64,7 +23,8 @@ pub(crate) enum Told {
     Stopped,
 }
 
-// Adds what is told of the cell, which has this part.
+// Adds what is told of the cell, which has this part: that the node takes nothing, or what is held and waited for at the switch; or that
+// the node can't send on.
 fn add_lines(
     alloc: Global,
     network: &Network,
@@ -76,9 +36,17 @@ fn add_lines(
     requires { IsIn network.now cell }
     ensures { IfOk result (λ _. map string_bytes lines.new.items ≡ map string_bytes lines.old.items ++ cell_lines network.now told cell part.now) }
 {
-    match told {
-        Told::Held => add_holding_lines(alloc, network, cell, part, lines),
-        Told::Stopped => add_stopped_lines(alloc, network, cell, part, lines),
+    match (told, cell, part) {
+        (Told::Held, CellId::Node(node), Part::Node(part)) => {
+            add_line(lines, owing_line(alloc, network, node, part)?)
+        }
+        (Told::Held, CellId::Switch(switch), Part::Switch(parts)) => {
+            add_switch_lines(alloc, network, switch, parts, lines)
+        }
+        (Told::Stopped, CellId::Node(node), Part::Node(part)) => {
+            add_line(lines, sending_line(alloc, network, node, part)?)
+        }
+        _ => Ok(()),
     }
 }
 

@@ -1,6 +1,6 @@
 //! What is told of a switch where the network is locked up.
 ghost use Rattle.std.specs.Prelude.{◌≡◌, ◌<◌, ◌++◌, IfOk, OnOk, flat_map, length, map, option_map, option_to_list, string_bytes};
-ghost use Rattle.sw_step_hints.specs.LockHints.{credit_words, has_no_credit, held_line, idle_line, named_ports, or_output, port_line, switch_lines, waiting_line, waiting_text};
+ghost use Rattle.sw_step_hints.specs.LockHints.{credit_words, held_line, idle_line, named_ports, or_output, port_line, switch_lines, waiting_line, waiting_text};
 
 use crate::channel_names::{port_input, port_output};
 use std::alloc::{AllocError, Global};
@@ -10,26 +10,16 @@ use sw_config::Network;
 use sw_schedule::{Input, PortPart};
 use sw_topo::Port;
 
-// One of these parts is that port's, and has no credit.
-fn has_no_credit(port: Port, parts: &[PortPart]) -> bool
-    ensures { result ≡ has_no_credit port parts.now }
-{
-    for part in parts {
-        if part.port == port && part.credit == 0 {
-            return true;
-        }
-    }
-    false
-}
-
+// What is said of a port whose part, one of these, has no credit.
 fn credit_words(port: Port, parts: &[PortPart]) -> &'static str
     ensures { result.now ≡ credit_words port parts.now }
 {
-    if has_no_credit(port, parts) {
-        ", which has no credit"
-    } else {
-        ""
+    for part in parts {
+        if part.port == port && part.credit == 0 {
+            return ", which has no credit";
+        }
     }
+    ""
 }
 
 // Of an input that holds another port, and these words on it.
