@@ -1,66 +1,63 @@
--- What a call comes to, and whether it answers with an object of JSON (this project's choice).
-use Rattle.std.specs.Prelude.{Bool, false, true, ◌<◌}
+-- What each call comes to: an engine, and the files that it reads (this project's choice).
+use Rattle.std.specs.Prelude.{◌≡◌, ℕ, false, true, List, ◌<◌, option_map, if◌then◌else◌}
+use Rattle.std.specs.Borrow.{Bor}
 use Rattle.sw_args.specs.declared.call.Call.{Call}
-use Rattle.sw_args.specs.declared.call.Call.TheVariants.{Route, Decide, Check, Report, Replay, Run, Explain, Mend, Margin}
+use Rattle.sw_args.specs.declared.call.Call.TheVariants.{Route, Decide, Check, Report, Replay, Run, Migrate, Explain, Draw, Rmap, Mend, Margin, Witness, Audit, Init}
+use Rattle.sw_app_rmap.specs.declared.request.Access.{Access}
+use Rattle.swcheck.specs.Accesses.{IsAccess, IsNoAccess}
 use Rattle.swcheck.specs.declared.engines.Engine.{Engine}
-use Rattle.swcheck.specs.declared.engines.Engine.TheVariants.{RouteObject, ExplainObject, MendObject, MarginObject}
-use Rattle.swcheck.specs.declared.engines.SecondEngine.{SecondEngine}
-use Rattle.swcheck.specs.declared.engines.SecondEngine.TheVariants.{CheckObject, ReplayObject}
-use Rattle.swcheck.specs.declared.recorded.Shape.{Shape}
-use Rattle.swcheck.specs.declared.recorded.Shape.TheVariants.{Json}
+use Rattle.swcheck.specs.declared.engines.Engine.TheVariants as engine
+use Rattle.swcheck.specs.declared.engines.SecondEngine.TheVariants as second
+use Rattle.swcheck.specs.declared.recorded.Shape.TheVariants as shape
 use Rattle.swcheck.specs.declared.work.Work.{Work}
-use Rattle.swcheck.specs.declared.work.Work.TheVariants.{DecideObject, ReportObject, One, Two, Load}
+use Rattle.swcheck.specs.declared.work.Work.TheVariants as work
 
--- whether the answer of a call is wanted as an object of JSON; that of an audit is shaped by the audit itself
-abbrev pub is_json : Call → Bool
-is_json (Route file flow json) = json
-is_json (Decide file json) = json
-is_json (Check file certificate json) = json
-is_json (Report file json) = json
-is_json (Replay file schedule json) = json
-is_json (Run file load workers limit schedule summary json) = json
-is_json (Explain file all json) = json
-is_json (Mend file pairs json) = json
-is_json (Margin file json) = json
-is_json _ = false
+-- the engine that reads this network file alone, with what the call asks of it; `json`: the one whose answer is an object of JSON
+abbrev pub IsEngineOf : Call → Bor (List ℕ) → Engine → Type 0
+IsEngineOf (Route file flow true) path e = (path ≡ file) × (e ≡ engine.RouteObject flow)
+IsEngineOf (Explain file all json) path e = (path ≡ file) × (e ≡ (if json then engine.ExplainObject else engine.Explain all))
+IsEngineOf (Draw file flow cycle numbers) path e = (path ≡ file) × (e ≡ engine.Draw (record { flow = option_map (λ s. s.now) flow; cycle = cycle; numbers = numbers }))
+IsEngineOf (Rmap file flow action address value unacknowledged transaction) path e = (path ≡ file)
+    × ((access : Access) × IsAccess action.now value.now unacknowledged access
+    × (e ≡ engine.Rmap (record { flow = flow; access = access; address = address; transaction = transaction })))
+IsEngineOf (Mend file pairs json) path e = (path ≡ file) × (e ≡ (if json then engine.MendObject pairs else engine.Mend pairs))
+IsEngineOf (Margin file json) path e = (path ≡ file) × (e ≡ (if json then engine.MarginObject else engine.Margin))
+IsEngineOf (Witness file tries seed) path e = (path ≡ file) × (e ≡ engine.Witness tries seed)
+IsEngineOf call path e = ⊥
 
--- whether that object is one of an engine that reads one network file and hands no network on
-abbrev pub has_object : Call → Bool
-has_object (Route file flow json) = json
-has_object (Explain file all json) = json
-has_object (Mend file pairs json) = json
-has_object (Margin file json) = json
-has_object _ = false
+-- there is none: the words ask for an RMAP command that there is not, or the call is no such engine's
+abbrev pub HasNoEngine : Call → Type 0
+HasNoEngine (Route file flow true) = ⊥
+HasNoEngine (Explain file all json) = ⊥
+HasNoEngine (Draw file flow cycle numbers) = ⊥
+HasNoEngine (Rmap file flow action address value unacknowledged transaction) = IsNoAccess action.now unacknowledged
+HasNoEngine (Mend file pairs json) = ⊥
+HasNoEngine (Margin file json) = ⊥
+HasNoEngine (Witness file tries seed) = ⊥
+HasNoEngine call = Unit {0}
 
--- whether an engine that reads one network file answers so
-abbrev pub is_object_engine : Engine → Bool
-is_object_engine (RouteObject flow) = true
-is_object_engine ExplainObject = true
-is_object_engine (MendObject pairs) = true
-is_object_engine MarginObject = true
-is_object_engine _ = false
+-- an engine of one network file, or none
+abbrev pub IsEngineWork : Call → Work → Type 0
+IsEngineWork call (work.One path e) = IsEngineOf call path e
+IsEngineWork call work.NoAccess = HasNoEngine call
+IsEngineWork call w = ⊥
 
--- whether one that reads a network file and one more does
-abbrev pub is_object_second : SecondEngine → Bool
-is_object_second CheckObject = true
-is_object_second ReplayObject = true
-is_object_second _ = false
-
--- whether the answer of a run is to have that shape
-abbrev pub is_object_shape : Shape → Bool
-is_object_shape Json = true
-is_object_shape _ = false
-
--- whether what a call comes to answers with an object; an audit is not asked
-abbrev pub is_object : Work → Bool
-is_object (DecideObject file) = true
-is_object (ReportObject file) = true
-is_object (One file engine) = is_object_engine engine
-is_object (Two file second engine) = is_object_second engine
-is_object (Load job) = is_object_shape job.shape
-is_object _ = false
+-- what the call comes to; what ends in `Object` answers with an object of JSON
+abbrev pub IsWorkOf : Call → Work → Type 0
+IsWorkOf (Route file flow false) w = w ≡ work.Route file flow
+IsWorkOf (Decide file json) w = w ≡ (if json then work.DecideObject file else work.Decide file)
+IsWorkOf (Report file json) w = w ≡ (if json then work.ReportObject file else work.Report file)
+IsWorkOf (Check file certificate json) w = w ≡ (if json then work.Two file certificate second.CheckObject else work.Check file certificate)
+IsWorkOf (Replay file schedule json) w = w ≡ work.Two file schedule (if json then second.ReplayObject else second.Replay)
+IsWorkOf (Run file load workers limit schedule summary json) w =
+    w ≡ work.Load (record
+    { network = file; load = load; workers = workers; limit = limit; schedule = schedule; summary = summary; shape = if json then shape.Json else shape.Text })
+IsWorkOf (Migrate file) w = w ≡ work.Migrate file
+IsWorkOf (Audit json quiet certificates) w = w ≡ work.Audit json quiet certificates
+IsWorkOf (Init name) w = w ≡ work.Init name
+IsWorkOf call w = IsEngineWork call w
 
 -- a run has threads
 abbrev pub HasJob : Work → Type 0
-HasJob (Load job) = 0 < job.workers
-HasJob _ = Unit {0}
+HasJob (work.Load job) = 0 < job.workers
+HasJob w = Unit {0}

@@ -1,8 +1,8 @@
 //! What a call comes to: an engine, and the files that it reads.
-ghost use Rattle.std.specs.Prelude.{◌≡◌, IfNone, IfSome, false};
+ghost use Rattle.std.specs.Prelude.{IfNone, IfSome};
 ghost use Rattle.sw_args.specs.CommandLine.{HasWorkers};
 ghost use Rattle.swcheck.specs.Accesses.{IsAccess, IsNoAccess};
-ghost use Rattle.swcheck.specs.Works.{HasJob, has_object, is_json, is_object, is_object_engine};
+ghost use Rattle.swcheck.specs.Works.{HasJob, HasNoEngine, IsEngineOf, IsWorkOf};
 
 use crate::engines::{Engine, SecondEngine};
 use crate::recorded::{Job, Shape};
@@ -43,8 +43,8 @@ pub(crate) enum Work<'a> {
 
 // The network file of a call and the engine that reads it alone, if there is such an engine; an RMAP command that there is not has none.
 fn engine_of<'a>(call: &Call<'a>) -> Option<(&'a str, Engine<'a>)>
-    ensures some { IfSome result (λ r. is_object_engine r.1 ≡ has_object call.now) }
-    ensures none { IfNone result (has_object call.now ≡ false) }
+    ensures some { IfSome result (λ r. IsEngineOf call.now r.0 r.1) }
+    ensures none { IfNone result (HasNoEngine call.now) }
 {
     match *call {
         Call::Route {
@@ -109,7 +109,7 @@ fn engine_of<'a>(call: &Call<'a>) -> Option<(&'a str, Engine<'a>)>
 /// What the call comes to.
 pub(crate) fn work_of<'a>(call: &Call<'a>) -> Work<'a>
     requires { HasWorkers call.now }
-    ensures object { is_object result ≡ is_json call.now }
+    ensures work { IsWorkOf call.now result }
     ensures job { HasJob result }
 {
     match *call {
