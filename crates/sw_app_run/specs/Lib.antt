@@ -6,3 +6,5 @@ pub mod ReplayTexts
 pub mod ReplayAnswers
 pub mod Laws
 pub mod WitnessAnswers
+pub use Rattle.sw_run.specs.Outcomes
+pub use Rattle.sw_run.specs.declared.outcome.Outcome

@@ -23,5 +23,5 @@ pub use run_answer::Options;
 pub use run_engine::run;
 pub use run_texts::{stop_status, stop_word};
 pub use summaries::wanted_summary;
-pub use sw_run::Open;
+pub use sw_run::{Gate, Open, Outcome, run as run_load};
 pub use witness_engine::witness;

@@ -15,3 +15,7 @@ pub mod Bridge
 pub mod Chunking
 pub mod Sound
 pub mod Replying
+pub use Rattle.sw_model.proofs.Flows
+pub use Rattle.sw_model.proofs.Networks
+pub use Rattle.sw_model.proofs.Steps
+pub use Rattle.sw_model.proofs.Topology

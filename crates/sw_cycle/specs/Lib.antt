@@ -8,3 +8,5 @@ pub mod Named
 pub mod Answering
 pub mod Rows
 pub mod Chunks
+pub use Rattle.sw_model.specs.Model
+pub use Rattle.sw_model.specs.Laws as ModelLaws

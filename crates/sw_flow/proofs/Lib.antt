@@ -8,3 +8,5 @@ pub mod Placed
 pub mod Going
 pub mod Jobs
 pub mod WellRouted
+pub use Rattle.sw_config.proofs.FlowLaws
+pub use Rattle.sw_config.proofs.Flows

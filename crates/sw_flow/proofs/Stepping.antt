@@ -7,7 +7,7 @@ use Rattle.std.proofs.lemmas.List.Quantifiers.{position-Some}
 use Rattle.sw_topo.specs.declared.place.PlaceEnd.{PlaceEnd}
 use Rattle.sw_topo.specs.declared.place.PlaceEnd.TheVariants.{Node, Switch}
 use Rattle.sw_topo.specs.Wiring.{Wiring, out, is_node, is_port}
-use Rattle.sw_route.specs.declared.look.Look.{Look}
+use Rattle.sw_config.specs.Look.{Look}
 use Rattle.sw_config.specs.Entries.{FlowEntry, Declaration, wiring_of}
 use Rattle.sw_graph.specs.Reached.{Reached}
 use Rattle.sw_graph.specs.Reached.Reached.{begin, step}

@@ -4,3 +4,8 @@ pub mod Followers
 pub mod Faults
 pub mod Numbers
 pub mod Laws
+pub use Rattle.sw_config.specs.Valid
+pub use Rattle.sw_config.specs.Entries
+pub use Rattle.sw_config.specs.Laws as NetworkLaws
+pub use Rattle.sw_config.specs.Looks
+pub use Rattle.sw_config.specs.Look

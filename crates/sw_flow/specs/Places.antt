@@ -3,8 +3,8 @@ use Rattle.std.specs.Prelude.{◌≡◌, ℕ, ◌+◌, ◌<◌, List, length, sl
 use Rattle.sw_topo.specs.declared.place.PlaceEnd.{PlaceEnd}
 use Rattle.sw_topo.specs.declared.place.PlaceEnd.TheVariants.{Switch}
 use Rattle.sw_topo.specs.Wiring.{out, partner}
-use Rattle.sw_route.specs.declared.look.Look.{Look}
-use Rattle.sw_route.specs.Looks.{NamesOutput}
+use Rattle.sw_config.specs.Look.{Look}
+use Rattle.sw_config.specs.Looks.{NamesOutput}
 use Rattle.sw_config.specs.Entries.{FlowEntry, Declaration, look_at, wiring_of, all_flows}
 use Rattle.sw_flow.specs.declared.place.Place.{Place}
 

@@ -1,13 +1,11 @@
 //! Whether a flow goes from one place to another.
 ghost use Rattle.std.specs.Prelude.{◌≡◌, ◌<◌, ◌↔◌, IsTrue, length};
 ghost use Rattle.sw_topo.specs.Checked.{IsSound};
-ghost use Rattle.sw_route.specs.Looks.{NamesOutput};
+ghost use Rattle.sw_config.specs.Looks.{NamesOutput};
 ghost use Rattle.sw_flow.specs.Places.{deleted_behind, ends_of, look_after, Follows};
 
 use crate::place::Place;
-use sw_config::{Flow, Network};
-use sw_route::Look;
-use sw_route::laws::outputs_are_the_named_channels;
+use sw_config::{Flow, Look, Network, outputs_are_the_named_channels};
 use sw_topo::{Chan, PlaceEnd, Topology};
 
 /// Is the channel one that the look names at the switch?

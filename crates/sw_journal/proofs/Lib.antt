@@ -7,3 +7,4 @@ mod Opened
 mod Idle
 mod Looked
 mod Chosen
+pub use Rattle.sw_history.proofs.Follows

@@ -9,3 +9,4 @@ pub mod Asked
 pub mod Choices
 pub mod Laws
 pub use Rattle.sw_history.specs.Next
+pub use Rattle.sw_history.specs.Asking

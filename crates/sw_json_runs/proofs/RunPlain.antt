@@ -5,8 +5,8 @@ use Rattle.sw_config.specs.Entries.{Declaration}
 use Rattle.sw_json.proofs.Plain.{count_plain, made_plain, no_more, object_plain, text_plain, with_member}
 use Rattle.sw_json.specs.Plain.{IsPlain}
 use Rattle.sw_output.specs.Tallies.{TallyView, tallies}
-use Rattle.sw_run.specs.Outcomes.{came_out_of}
-use Rattle.sw_run.specs.declared.outcome.Outcome.{Outcome}
+use Rattle.sw_app_run.specs.Outcomes.{came_out_of}
+use Rattle.sw_app_run.specs.Outcome.{Outcome}
 use Rattle.sw_json_runs.proofs.ReplayPlain.{nodes_plain}
 use Rattle.sw_json_runs.specs.PacketValues.{counted_node_value, tally_value}
 use Rattle.sw_json_runs.specs.RunValues.{run_value}

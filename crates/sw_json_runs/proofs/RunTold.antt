@@ -15,7 +15,7 @@ use Rattle.sw_config.specs.Entries.{Declaration}
 use Rattle.sw_file.specs.Network.{network_text}
 use Rattle.sw_json.specs.declared.files.Release.{Release}
 use Rattle.sw_load.specs.Load.{LoadEntry, load_text}
-use Rattle.sw_run.specs.declared.outcome.Outcome.{Outcome}
+use Rattle.sw_app_run.specs.Outcome.{Outcome}
 use Rattle.sw_toml_table.specs.declared.fault.TextFault.{TextFault}
 use Rattle.sw_json.proofs.Answered.{told_two}
 use Rattle.sw_json.specs.Answering.{EndsByTwoFiles, IsAnswer, IsFaultyFile, IsLongFile, OfFile, OfNetwork, Results, memory_text, read_value}

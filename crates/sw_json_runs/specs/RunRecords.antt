@@ -15,8 +15,8 @@ use Rattle.sw_config.specs.Entries.{Declaration}
 use Rattle.sw_file.specs.Network.{network_text}
 use Rattle.sw_json.specs.declared.files.Release.{Release}
 use Rattle.sw_load.specs.Load.{LoadEntry, load_text}
-use Rattle.sw_run.specs.Outcomes.{IsOutcome as IsRunOutcome}
-use Rattle.sw_run.specs.declared.outcome.Outcome.{Outcome}
+use Rattle.sw_app_run.specs.Outcomes.{IsOutcome as IsRunOutcome}
+use Rattle.sw_app_run.specs.Outcome.{Outcome}
 use Rattle.sw_toml_table.specs.declared.fault.FileFault.{FileFault}
 use Rattle.sw_toml_table.specs.declared.fault.FileFault.TheVariants.{Text, Memory}
 use Rattle.sw_toml_table.specs.declared.fault.TextFault.{TextFault}

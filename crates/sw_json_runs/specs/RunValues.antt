@@ -5,8 +5,8 @@ use Rattle.serde_json.specs.View.{items_of}
 use Rattle.sw_app_run.specs.RunTexts.{stop_word}
 use Rattle.sw_config.specs.Entries.{Declaration}
 use Rattle.sw_json.specs.Simple.{count_value}
-use Rattle.sw_run.specs.Outcomes.{came_out_of}
-use Rattle.sw_run.specs.declared.outcome.Outcome.{Outcome}
+use Rattle.sw_app_run.specs.Outcomes.{came_out_of}
+use Rattle.sw_app_run.specs.Outcome.{Outcome}
 use Rattle.sw_json_runs.specs.PacketValues.{by_node, counted_node_value}
 
 -- why the run stopped, then how many characters were undelivered, and which packets had come out at each node

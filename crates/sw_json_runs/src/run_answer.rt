@@ -12,7 +12,10 @@ use crate::run_values::run_value;
 use std::alloc::{AllocError, Global};
 use std::sync::Wait;
 use std::thread::Threads;
-use sw_app_run::{Options, Recorded, Wants, stop_status, wanted_summary, with_schedule};
+use sw_app_run::{
+    Gate, Options, Outcome as RunOutcome, Recorded, Wants, run_load as run, stop_status,
+    wanted_summary, with_schedule,
+};
 use sw_command::{Answer, InputText};
 use sw_config::Network;
 use sw_file::read_network;
@@ -20,7 +23,6 @@ use sw_json::{Outcome, Release, answer_to_two, long_file, unread_network};
 use sw_load::laws::listed_are_declared;
 use sw_load::{Load, read_load};
 use sw_parallel::OneByOne;
-use sw_run::{Gate, Outcome as RunOutcome, run};
 use sw_toml_table::FileFault;
 
 /// The files of a call, and the program's release.

@@ -10,10 +10,9 @@ use std::alloc::Global;
 use std::io::{self, Read, Write};
 use std::sync::Wait;
 use std::thread::Threads;
-use sw_app_run::{Options, RecordEnd, Wants, tell_recorded};
+use sw_app_run::{Gate, Options, RecordEnd, Wants, tell_recorded};
 use sw_command::{Ended, read_two};
 use sw_json::{Release, tell_memory, tell_unread};
-use sw_run::Gate;
 
 /// What comes of a run of the second file's load on the network of the first file, as `run` tells it, and what is wanted besides: the
 /// schedule of the run's steps, which is written before the answer, and the summary, which is handed on. A schedule that was not written

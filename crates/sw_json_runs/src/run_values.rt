@@ -6,10 +6,9 @@ ghost use Rattle.sw_json_runs.specs.RunValues.{run_value};
 use crate::came_out_values::counted_node_values;
 use serde_json::Value;
 use std::alloc::{AllocError, Global};
-use sw_app_run::stop_word;
+use sw_app_run::{Outcome, stop_word};
 use sw_config::Network;
 use sw_json::{Member, object_of_three};
-use sw_run::Outcome;
 
 /// The object that stands for the outcome of a run.
 ///

@@ -4,7 +4,7 @@ use Rattle.std.specs.Prelude.{nat_le, slice_get, ◌↔◌}
 use Rattle.std.specs.Option.{option_map_or}
 use Rattle.std.proofs.lemmas.Slice.Eq.{bytes_eq-Decides}
 use Rattle.std.proofs.lemmas.Bool.{and_parts, and_from, leb-true, le-leb}
-use Rattle.sw_config.specs.Entries.{ReplyEntry, FlowEntry, Declaration}
+use Rattle.sw_flow.specs.Entries.{ReplyEntry, FlowEntry, Declaration}
 use Rattle.sw_model.specs.Packets.{reply_address, reply_from, left_bytes, IsRightWay, IsDeclaredPacket, is_right_way, is_answered_rightly, is_declared_packet}
 use Rattle.sw_model.specs.Laws.{DeclaredPacketsPass}
 

@@ -4,8 +4,8 @@ use Rattle.std.specs.Prelude.{slice_get, option_map, is_some, if◌then◌else�
 use Rattle.std.proofs.lemmas.Option.{same_Some, slice_get_within}
 use Rattle.sw_rmap.specs.declared.config.TargetConfig.{TargetConfig}
 use Rattle.sw_rmap.specs.Replies.{reply_to}
-use Rattle.sw_config.specs.Entries.{Declaration, FlowEntry, NodeEntry, ReplyEntry, all_flows, reply_flows, target_of}
-use Rattle.sw_config.proofs.FlowLaws.{follow_in_order}
+use Rattle.sw_flow.specs.Entries.{Declaration, FlowEntry, NodeEntry, ReplyEntry, all_flows, reply_flows, target_of}
+use Rattle.sw_flow.proofs.FlowLaws.{follow_in_order}
 use Rattle.sw_model.specs.Packets.{IsDeclaredPacket, IsRightWay, reply_address, reply_from}
 use Rattle.sw_model.specs.Packets as file
 use Rattle.sw_machine.specs.Network.{AnsweredBy, IsDeclared, left_bytes}

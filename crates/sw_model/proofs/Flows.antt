@@ -4,10 +4,10 @@ use Rattle.std.specs.Prelude.{slice_get}
 use Rattle.std.proofs.lemmas.Bool.{cases_lt}
 use Rattle.std.proofs.lemmas.List.{drop_at}
 use Rattle.std.proofs.lemmas.Option.{same_Some, slice_get_within, slice_get_past}
-use Rattle.sw_config.specs.Entries.{ReplyEntry, FlowEntry, Declaration, reply_flow, reply_flows, all_flows}
-use Rattle.sw_config.specs.Valid.{IsFlow, IsValid}
-use Rattle.sw_config.proofs.Flows.{All-at}
-use Rattle.sw_config.proofs.FlowLaws.{follow_in_order, are_replies, valid_flows}
+use Rattle.sw_flow.specs.Entries.{ReplyEntry, FlowEntry, Declaration, reply_flow, reply_flows, all_flows}
+use Rattle.sw_flow.specs.Valid.{IsFlow, IsValid}
+use Rattle.sw_flow.proofs.Flows.{All-at}
+use Rattle.sw_flow.proofs.FlowLaws.{follow_in_order, are_replies, valid_flows}
 use Rattle.sw_machine.specs.Network.{Flow}
 use Rattle.sw_model.specs.Model.{reply_number, flow_of}
 

@@ -7,7 +7,7 @@ use Rattle.sw_char.specs.declared.nchar.NChar.{NChar}
 use Rattle.sw_char.specs.declared.nchar.NChar.TheVariants.{Data, Eep, Eop}
 use Rattle.sw_rmap.specs.declared.config.TargetConfig.{TargetConfig}
 use Rattle.sw_rmap.proofs.Answering.{memory_keeps_its_length}
-use Rattle.sw_config.specs.Entries.{target_of}
+use Rattle.sw_flow.specs.Entries.{target_of}
 use Rattle.sw_machine.specs.Network.{Network}
 use Rattle.sw_machine.specs.Runs.{IsReached, Run}
 use Rattle.sw_machine.specs.State.{State, empty, memory_at, put}

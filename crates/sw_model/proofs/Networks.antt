@@ -4,9 +4,9 @@ use Rattle.std.specs.Prelude.{IfSome}
 use Rattle.sw_char.specs.declared.nchar.End.{End}
 use Rattle.sw_rmap.specs.declared.config.TargetConfig.{TargetConfig}
 use Rattle.sw_rmap.specs.Config.{IsTargetConfig}
-use Rattle.sw_config.specs.Entries.{NodeEntry, Declaration, target_of, wiring_of, look_at, reply_flows, all_flows}
-use Rattle.sw_config.specs.Valid.{IsNode}
-use Rattle.sw_config.proofs.Flows.{All-at}
+use Rattle.sw_flow.specs.Entries.{NodeEntry, Declaration, target_of, wiring_of, look_at, reply_flows, all_flows}
+use Rattle.sw_flow.specs.Valid.{IsNode}
+use Rattle.sw_flow.proofs.Flows.{All-at}
 use Rattle.sw_machine.specs.Network.{IsReplyFlow, PendingReply, left_bytes}
 use Rattle.sw_model.specs.Model.{slots_of, network_of, answer_of, answered_to}
 use Rattle.sw_model.specs.Laws.{DeclaredNetworksAreNetworks}

@@ -5,11 +5,11 @@ use Rattle.sw_topo.specs.declared.place.PlaceEnd.{PlaceEnd}
 use Rattle.sw_topo.specs.declared.place.PlaceEnd.TheVariants.{Node, Switch}
 use Rattle.sw_topo.specs.Wiring.{out, partner}
 use Rattle.sw_topo.proofs.Ends.{node_only}
-use Rattle.sw_route.specs.Looks.{NamesOutput}
-use Rattle.sw_config.specs.Entries.{FlowEntry, Declaration, wiring_of, look_at, all_flows}
-use Rattle.sw_config.specs.Valid.{IsFlow, IsValid}
-use Rattle.sw_config.proofs.Flows.{All-at}
-use Rattle.sw_config.proofs.FlowLaws.{valid_flows}
+use Rattle.sw_flow.specs.Looks.{NamesOutput}
+use Rattle.sw_flow.specs.Entries.{FlowEntry, Declaration, wiring_of, look_at, all_flows}
+use Rattle.sw_flow.specs.Valid.{IsFlow, IsValid}
+use Rattle.sw_flow.proofs.Flows.{All-at}
+use Rattle.sw_flow.proofs.FlowLaws.{valid_flows}
 use Rattle.sw_flow.specs.declared.fault.RouteFault.{RouteFault}
 use Rattle.sw_flow.specs.declared.fault.RouteFault.TheVariants.{AddressEnds, NoRoute, WrongNode, WrongLeft}
 use Rattle.sw_flow.specs.Places.{ends_of, end_of, look_after}

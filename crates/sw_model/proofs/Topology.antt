@@ -9,10 +9,10 @@ use Rattle.sw_topo.specs.Wiring.{Wiring, out, partner}
 use Rattle.sw_topo.specs.Checked.{IsIn, IsSound}
 use Rattle.sw_topo.specs.Laws.{StartsAt}
 use Rattle.sw_topo.proofs.Ends.{node_only, partner_back, port_starts}
-use Rattle.sw_route.specs.declared.look.Look.{Look}
-use Rattle.sw_config.specs.Entries.{LinkEntry, link_ends, capacities}
-use Rattle.sw_config.specs.Valid.{IsLink}
-use Rattle.sw_config.proofs.Flows.{All-at}
+use Rattle.sw_flow.specs.Look.{Look}
+use Rattle.sw_flow.specs.Entries.{LinkEntry, link_ends, capacities}
+use Rattle.sw_flow.specs.Valid.{IsLink}
+use Rattle.sw_flow.proofs.Flows.{All-at}
 use Rattle.sw_flow.specs.Numbers.{outputs}
 use Rattle.sw_flow.proofs.Outputs.{outputs_are}
 use Rattle.sw_machine.specs.Network.{AtNode, AtSwitch}

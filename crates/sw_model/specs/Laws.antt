@@ -1,9 +1,9 @@
 -- What holds of the machine's network of a network that a file declares.
 use Rattle.std.specs.Prelude.{◌≡◌, ◌↔◌, ℕ, ◌<◌, ◌≤◌, List, length, slice_get, Contains, Some, None, true}
 use Rattle.sw_rmap.specs.declared.config.TargetConfig.{TargetConfig}
-use Rattle.sw_route.specs.Looks.{NamesOutput}
-use Rattle.sw_config.specs.Entries.{FlowEntry, Declaration, all_flows, look_at, target_of}
-use Rattle.sw_config.specs.Valid.{IsValid}
+use Rattle.sw_flow.specs.Looks.{NamesOutput}
+use Rattle.sw_flow.specs.Entries.{FlowEntry, Declaration, all_flows, look_at, target_of}
+use Rattle.sw_flow.specs.Valid.{IsValid}
 use Rattle.sw_flow.specs.Places as declared
 use Rattle.sw_flow.specs.Faults as declared_faults
 use Rattle.sw_machine.specs.Network.{IsDeclared, IsNetwork}

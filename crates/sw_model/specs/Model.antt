@@ -7,8 +7,8 @@ use Rattle.sw_char.specs.declared.nchar.End.{End}
 use Rattle.sw_rmap.specs.declared.config.TargetConfig.{TargetConfig}
 use Rattle.sw_rmap.specs.Answers.{answer}
 use Rattle.sw_rmap.specs.Replies.{reply_to}
-use Rattle.sw_config.specs.Entries.{FlowEntry, Declaration, target_of, look_at, capacities, all_flows}
-use Rattle.sw_config.specs.Laws.{replies_before}
+use Rattle.sw_flow.specs.Entries.{FlowEntry, Declaration, target_of, look_at, capacities, all_flows}
+use Rattle.sw_flow.specs.NetworkLaws.{replies_before}
 use Rattle.sw_flow.specs.Places.{ends_of, end_of}
 use Rattle.sw_flow.specs.Numbers.{outputs}
 use Rattle.sw_machine.specs.Network.{Network, Flow, Cell, PendingReply, AtNode, AtSwitch}

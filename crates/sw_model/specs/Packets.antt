@@ -3,7 +3,7 @@ use Rattle.std.specs.Prelude.{◌≡◌, ℕ, Bool, true, false, ◌&&◌, nat_l
 use Rattle.std.specs.Option.{option_map_or}
 use Rattle.std.specs.Str.{bytes_eq}
 use Rattle.sw_rmap.specs.Replies.{reply_to}
-use Rattle.sw_config.specs.Entries.{NodeEntry, ReplyEntry, FlowEntry, Declaration, target_of}
+use Rattle.sw_flow.specs.Entries.{NodeEntry, ReplyEntry, FlowEntry, Declaration, target_of}
 
 -- the last bytes of a flow's address, which a packet still begins with where it ends
 abbrev pub left_bytes : FlowEntry → List ℕ

@@ -1,12 +1,12 @@
 //! Which packets a flow declares.
 ghost use Rattle.std.specs.Prelude.{◌↔◌, IsTrue};
-ghost use Rattle.sw_config.specs.Valid.{IsFlow};
+ghost use Rattle.sw_flow.specs.Valid.{IsFlow};
 ghost use Rattle.sw_model.specs.Packets.{IsAnsweredRightly, IsDeclaredPacket};
 
 use crate::reply::{is_right_way, left_bytes};
 use std::marker::Model;
 use sw_char::End;
-use sw_config::{Flow, Network};
+use sw_flow::{Flow, Network};
 
 /// A packet has at most this many bytes behind its address.
 const MAX_CARGO: usize = 33_554_432;

@@ -1,15 +1,15 @@
 //! Where the reply to a packet goes, and how many characters it has.
 ghost use Rattle.std.specs.Option.{option_map_or};
 ghost use Rattle.std.specs.Prelude.{◌≡◌, ◌+◌, ◌<◌, ◌≤◌, ◌++◌, ◌∷◌, [], ◌↔◌, IfSome, IsTrue, length, option_map, take};
-ghost use Rattle.sw_config.specs.Entries.{target_of};
-ghost use Rattle.sw_config.specs.Valid.{IsFlow};
+ghost use Rattle.sw_flow.specs.Entries.{target_of};
+ghost use Rattle.sw_flow.specs.Valid.{IsFlow};
 ghost use Rattle.sw_model.specs.Model.{answered_to, longest_reply};
 ghost use Rattle.sw_model.specs.Packets.{IsRightWay, left_bytes, reply_address};
 ghost use Rattle.sw_rmap.specs.Replies.{path_of, reply_to};
 
 use arrayvec::ArrayVec;
 use std::marker::Model;
-use sw_config::{Flow, Network, Reply};
+use sw_flow::{Flow, Network, Reply};
 use sw_rmap::Command;
 
 /// A header has at most this many bytes (ECSS-E-ST-50-52C, the fields of a command).

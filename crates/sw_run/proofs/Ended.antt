@@ -1,7 +1,7 @@
 -- From the journal at the end of a run to the outcome.
 use Rattle.std.proofs.Common.{IfOk, List, Result, ap, arith, length, subst, sym, ℕ, ◌∙◌, ◌≡◌, ◌≤◌}
 use Rattle.std.specs.declared.alloc.AllocError.{AllocError}
-use Rattle.sw_history.proofs.Follows.{one_state_after}
+use Rattle.sw_journal.proofs.Follows.{one_state_after}
 use Rattle.sw_journal.specs.Asked.{IsUndelivered}
 use Rattle.sw_journal.specs.Record.{JournalView, LeadsTo}
 use Rattle.sw_load.specs.History.{IsHistory, IsWhole, packets_of}

@@ -5,7 +5,7 @@ use Rattle.sw_cell.specs.Places.{machine_cell}
 use Rattle.sw_cell.specs.declared.cell.CellId.{CellId}
 use Rattle.sw_config.specs.Entries.{Declaration}
 use Rattle.sw_flow.specs.Places.{ends_of}
-use Rattle.sw_history.specs.Asking.{AreAsking}
+use Rattle.sw_journal.specs.Asking.{AreAsking}
 use Rattle.sw_journal.specs.Choices.{IsNext, IsStepOf}
 use Rattle.sw_journal.specs.Record.{CanCommit, JournalView, with_step}
 use Rattle.sw_journal.specs.declared.fault.JournalFault.{JournalFault}

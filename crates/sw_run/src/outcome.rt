@@ -1,7 +1,7 @@
 //! How a run ends.
 
 use sw_char::Packet;
-use sw_history::Record;
+use sw_journal::Record;
 
 /// Why a run ended.
 #[derive(Clone, Copy, PartialEq, Eq)]

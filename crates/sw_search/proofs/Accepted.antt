@@ -15,11 +15,11 @@ use Rattle.sw_machine.specs.Places as machine
 use Rattle.sw_machine.specs.Places.IsPlace.{Start, Goes}
 use Rattle.sw_machine.specs.Places.IsDependency.{ByFlow, ByTarget}
 use Rattle.sw_machine.specs.Certificate.{IsListed, IsAccepted}
-use Rattle.sw_model.specs.Model.{network_of}
-use Rattle.sw_model.specs.Laws.{FlowAgrees}
-use Rattle.sw_model.proofs.Flows.{flow_at, some_at}
-use Rattle.sw_model.proofs.Networks.{are_networks}
-use Rattle.sw_model.proofs.Steps.{steps_agree}
+use Rattle.sw_cycle.specs.Model.{network_of}
+use Rattle.sw_cycle.specs.ModelLaws.{FlowAgrees}
+use Rattle.sw_cycle.proofs.Flows.{flow_at, some_at}
+use Rattle.sw_cycle.proofs.Networks.{are_networks}
+use Rattle.sw_cycle.proofs.Steps.{steps_agree}
 use Rattle.sw_check.specs.Contents.{place_of, certificate_of}
 use Rattle.sw_check.proofs.ListedPlaces.{to_machine, from_machine}
 use Rattle.sw_check.proofs.Lists.{Contains-at}

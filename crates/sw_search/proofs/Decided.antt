@@ -21,10 +21,10 @@ use Rattle.sw_flow.proofs.Stepping.{next_below, place_from_reached, places_are_i
 use Rattle.sw_flow.proofs.Walked.{followers_are_listed}
 use Rattle.sw_machine.specs.Places as machine
 use Rattle.sw_machine.specs.Places.IsDependency.{ByFlow, ByTarget}
-use Rattle.sw_model.specs.Model.{network_of}
-use Rattle.sw_model.proofs.Flows.{flow_at, flow_ends, some_at}
-use Rattle.sw_model.proofs.Steps.{steps_agree}
-use Rattle.sw_model.proofs.Topology.{into_ends, out_starts}
+use Rattle.sw_cycle.specs.Model.{network_of}
+use Rattle.sw_cycle.proofs.Flows.{flow_at, flow_ends, some_at}
+use Rattle.sw_cycle.proofs.Steps.{steps_agree}
+use Rattle.sw_cycle.proofs.Topology.{into_ends, out_starts}
 use Rattle.sw_graph.specs.Laws.{IsAmong}
 use Rattle.sw_graph.specs.Levels.{HasCycle}
 use Rattle.sw_graph.proofs.Peels.{is_listed}

@@ -10,7 +10,7 @@ use Rattle.sw_flow.specs.declared.place.Place.{Place}
 use Rattle.sw_flow.specs.Places.{IsPlaceList}
 use Rattle.sw_flow.specs.Faults.{first_fault_of, IsWellRouted}
 use Rattle.sw_flow.proofs.WellRouted.{well_routed_by_list}
-use Rattle.sw_model.proofs.Flows.{some_at}
+use Rattle.sw_cycle.proofs.Flows.{some_at}
 use Rattle.sw_search.specs.Lists.{AreFirstFaults, AreListed, IsFirstFault, IsRouted}
 use Rattle.sw_search.specs.Verdicts.{AllWellRouted}
 use Rattle.sw_search.proofs.Zips.{zip_here}

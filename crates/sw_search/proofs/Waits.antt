@@ -6,10 +6,10 @@ use Rattle.sw_flow.specs.Places.{ends_of}
 use Rattle.sw_flow.proofs.Stepping.{places_are_in}
 use Rattle.sw_machine.specs.Places.{IsDependency}
 use Rattle.sw_machine.specs.Places.IsDependency.{ByFlow, ByTarget}
-use Rattle.sw_model.specs.Model.{network_of}
-use Rattle.sw_model.proofs.Flows.{flow_at, flow_ends, some_at}
-use Rattle.sw_model.proofs.Steps.{steps_agree}
-use Rattle.sw_model.proofs.Topology.{into_ends}
+use Rattle.sw_cycle.specs.Model.{network_of}
+use Rattle.sw_cycle.proofs.Flows.{flow_at, flow_ends, some_at}
+use Rattle.sw_cycle.proofs.Steps.{steps_agree}
+use Rattle.sw_cycle.proofs.Topology.{into_ends}
 
 pub waits_within : (d : Declaration) → IsValid d → (c e : ℕ) → IsDependency (network_of d) c e → c < length (ends_of d)
 unfolding network_of

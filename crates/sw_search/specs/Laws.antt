@@ -5,7 +5,7 @@ use Rattle.sw_config.specs.Valid.{IsValid}
 use Rattle.sw_flow.specs.Faults.{IsWellRouted}
 use Rattle.sw_machine.specs.Certificate.{IsAccepted}
 use Rattle.sw_machine.specs.Places.{IsRising}
-use Rattle.sw_model.specs.Model.{network_of}
+use Rattle.sw_cycle.specs.Model.{network_of}
 use Rattle.sw_graph.specs.Levels.{HasCycle}
 use Rattle.sw_cycle.specs.Cycles.{ByFlow, ByTarget, CauseEntry, CycleEntry, IsShown}
 use Rattle.sw_cert.specs.Text.{Contents}

@@ -7,7 +7,7 @@ use Rattle.sw_flow.specs.declared.place.Place.{Place}
 use Rattle.sw_flow.specs.Places.{ends_of, IsPlaceList}
 use Rattle.sw_flow.specs.Faults.{first_fault_of, IsWellRouted}
 use Rattle.sw_machine.specs.Places.{IsDependency}
-use Rattle.sw_model.specs.Model.{network_of}
+use Rattle.sw_cycle.specs.Model.{network_of}
 use Rattle.sw_graph.specs.Levels.{HasCycle, IsLevels}
 use Rattle.sw_graph.specs.Cycles.{IsShownCycle}
 use Rattle.sw_cycle.specs.Cycles.{CycleEntry}
