@@ -1,12 +1,12 @@
 -- The machine's network of a declared network, as the code finds its parts.
 use Rattle.std.proofs.Common.{◌≡◌, ◌<◌, arith, ℕ, List, length, Some, refl, ap, sym}
-use Rattle.std.specs.Prelude.{option_map, unwrap_or}
+use Rattle.std.specs.Prelude.{option_map, slice_get, unwrap_or}
 use Rattle.sw_cell.proofs.Nodes.{AnswersAs}
 use Rattle.sw_cell.specs.Parts.{IsNodeFor}
 use Rattle.sw_char.specs.declared.nchar.End.{End}
 use Rattle.sw_flow.specs.Places.{ends_of}
-use Rattle.sw_model.specs.Model.{answer_of, memory_after, network_of, slots_of}
-use Rattle.sw_config.specs.Entries.{Declaration}
+use Rattle.sw_model.specs.Model.{answer_of, flow_of, memory_after, network_of, reply_number, slots_of}
+use Rattle.sw_config.specs.Entries.{Declaration, FlowEntry, all_flows}
 use Rattle.sw_node.specs.Node.{Node, config_of, slots}
 use Rattle.sw_topo.specs.Wiring.{out, partner}
 
@@ -25,6 +25,10 @@ out_is d n c e = ap (λ o. unwrap_or o 0) e
 pub into_is : (d : Declaration) (n c : ℕ) → option_map partner (out (ends_of d) n) ≡ Some c → (network_of d).into n ≡ c
 unfolding network_of
 into_is d n c e = ap (λ o. unwrap_or o 0) e
+
+pub address_is : (d : Declaration) (f : ℕ) (entry : FlowEntry) → slice_get (all_flows d) f ≡ Some entry → ((network_of d).flow f).address ≡ entry.address
+unfolding network_of
+address_is d f entry e = ap (λ o. (flow_of (reply_number d f) o).address) e
 
 module _ (d : Declaration) (n : ℕ) (node : Node) (for : IsNodeFor d n node) where
   pub slots_are : (network_of d).slots n ≡ slots node

@@ -1,7 +1,7 @@
 -- Whether a step is possible, by what the code tests.
-use Rattle.std.proofs.Common.{◌≡◌, ◌↔◌, ℕ, ◌<◌, Bool, true, false, List, length, Some, None, [], ◌∷◌, IsTrue, refl, ap, ◌∙◌, arith}
-use Rattle.std.proofs.lemmas.Bool.{false≢true}
-use Rattle.std.specs.Prelude.{slice_get}
+use Rattle.std.proofs.Common.{◌≡◌, ◌↔◌, ℕ, ◌<◌, Bool, true, false, List, length, Some, None, [], ◌∷◌, IsTrue, refl, ap, subst, sym, ◌∙◌, arith}
+use Rattle.std.proofs.lemmas.Bool.{false≢true, lt-ltb, ltb-true}
+use Rattle.std.specs.Prelude.{nat_lt, slice_get}
 use Rattle.sw_cell.proofs.Dropping as dropping
 use Rattle.sw_cell.proofs.Granting as granting
 use Rattle.sw_cell.proofs.Nodes as nodes
@@ -40,6 +40,10 @@ node_made net n node after b c step made s is = let t = made s is in (t.0, t.1)
 
 switch_made : {R A : Type 0} (d : Declaration) (w : ℕ) (cell after : Cell R A) (b c : Between) (step : Step) → SwitchMakes d w cell b step true after c → SwitchTells d w cell b step true
 switch_made d w cell after b c step made s is = let t = made s is in (t.0, t.1)
+
+-- a test of a count tells whether there is any
+pub any_tells : (count x : ℕ) → count ≡ x → IsTrue (nat_lt 0 count) ↔ (0 < x)
+any_tells count x is = (λ yes. subst (λ k. 0 < k) is (ltb-true 0 count yes), λ some. lt-ltb 0 count (subst (λ k. 0 < k) (sym is) some))
 
 -- the front of a list, if there is one
 no_first : (l : List NChar) → (0 < length l → ⊥) → slice_get l 0 ≡ None

@@ -3,7 +3,6 @@
 
 mod cell;
 mod fault;
-mod in_flight;
 pub mod node;
 mod node_steps;
 mod place;

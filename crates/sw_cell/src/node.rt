@@ -10,7 +10,6 @@ ghost use Rattle.sw_model.specs.Model.{network_of};
 ghost use Rattle.sw_config.specs.Entries.{Declaration};
 ghost use Rattle.sw_node.specs.Conditions.{CanAccept, CanBegin};
 
-use crate::in_flight::{character_comes, fct_comes};
 use std::alloc::{AllocError, Global};
 use sw_char::End;
 use sw_config::Network;
@@ -133,15 +132,6 @@ pub fn begins_at(network: &Network, flow: u16, cargo: &[u8], end: End) -> Option
     }
 }
 
-/// The address bytes that packets of the declared flow begin with.
-#[tactic(auto, unfolding(sw_model::specs::Model::network_of))]
-fn address_of(network: &Network, flow: u16) -> &[u8]
-    requires { flow < (network_of network.now).declared_flows }
-    ensures { result.now ≡ ((network_of network.now).flow flow).address }
-{
-    network.flow(flow).address()
-}
-
 /// Node `n` begins to send a packet of a declared flow that starts there: the flow's address, the
 /// cargo and the end marker (ECSS-E-ST-50-12C, network layer: packets).
 ///
@@ -166,7 +156,7 @@ pub fn begin(
     if !node.can_begin() {
         return Ok(false);
     }
-    node.begin(alloc, address_of(network, flow), cargo, end)?;
+    node.begin(alloc, network.flow(flow).address(), cargo, end)?;
     Ok(true)
 }
 
@@ -209,8 +199,8 @@ pub fn is_possible(
 {
     match step {
         NodeStep::Fct => node.can_issue(),
-        NodeStep::FctIn => fct_comes(wires, network.topology().out(n)),
-        NodeStep::Arrive => character_comes(wires, network.topology().into(n)),
+        NodeStep::FctIn => wires.fcts(network.topology().out(n)) > 0,
+        NodeStep::Arrive => wires.len(network.topology().into(n)) > 0,
         NodeStep::Emit => node.can_emit(),
         NodeStep::Accept => node.can_accept(),
         NodeStep::Reply => node.can_reply(),
@@ -226,10 +216,10 @@ pub fn enabled(network: &Network, n: u16, node: &NodeCell, wires: &Wires) -> boo
     if node.enabled() {
         return true;
     }
-    if fct_comes(wires, network.topology().out(n)) {
+    if wires.fcts(network.topology().out(n)) > 0 {
         return true;
     }
-    character_comes(wires, network.topology().into(n))
+    wires.len(network.topology().into(n)) > 0
 }
 
 /// A step of node `n` that is possible, other than to begin a packet: the first in the order of

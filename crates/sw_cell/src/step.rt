@@ -1,8 +1,7 @@
 //! Any step at any cell.
 ghost use Rattle.std.specs.Prelude.{◌≡◌, OnErr};
-ghost use Rattle.sw_cell.specs.Answers.{Answers, AnswersAt, done};
+ghost use Rattle.sw_cell.specs.Answers.{AnswersAt, done};
 ghost use Rattle.sw_cell.specs.CellParts.{HasCellState, IsCellFor, IsCellState, arbiters_of};
-ghost use Rattle.sw_cell.specs.Places.{IsAt};
 ghost use Rattle.sw_model.specs.Model.{network_of};
 ghost use Rattle.sw_model.specs.Steps.{machine_step};
 
@@ -30,36 +29,6 @@ pub fn made_or_not(made: bool) -> Result<(), NetFault>
         Ok(())
     } else {
         Err(NetFault::NotEnabled)
-    }
-}
-
-/// Makes the step, which has to be one at this cell.
-fn make<R: Routing, A: Arbiter>(
-    alloc: Global,
-    network: &Network,
-    at: CellId,
-    cell: &mut CellState<R, A>,
-    wires: &mut Wires,
-    step: &Step,
-) -> Result<(), NetFault>
-    requires cell { IsCellFor R.answer A.ports network.now at cell.old }
-    requires reached { HasCellState network.now at cell.old wires.old }
-    requires at { IsAt network.now (machine_step step.now) at }
-    ensures cell { IsCellFor R.answer A.ports network.now at cell.new }
-    ensures arbiters { arbiters_of cell.new ≡ arbiters_of cell.old }
-    ensures answers { Answers (network_of network.now) (IsCellState network.now at cell.old wires.old) (machine_step step.now) result (IsCellState network.now at cell.new wires.new) }
-    ensures refused_cell { OnErr result (cell.new ≡ cell.old) }
-    ensures refused_wires { OnErr result (wires.new ≡ wires.old) }
-{
-    match at {
-        CellId::Node(n) => match cell {
-            CellState::Node(node) => made_or_not(step_node(alloc, network, n, node, wires, step)?),
-            CellState::Switch(_) => unreachable!(),
-        },
-        CellId::Switch(w) => match cell {
-            CellState::Node(_) => unreachable!(),
-            CellState::Switch(switch) => made_or_not(step_switch(network, w, switch, wires, step)),
-        },
     }
 }
 
@@ -91,5 +60,14 @@ pub fn step_cell<R: Routing, A: Arbiter>(
     if !cell_of(network, step)?.is(at) {
         return Err(NetFault::NotEnabled);
     }
-    make(alloc, network, at, cell, wires, step)
+    match at {
+        CellId::Node(n) => match cell {
+            CellState::Node(node) => made_or_not(step_node(alloc, network, n, node, wires, step)?),
+            CellState::Switch(_) => unreachable!(),
+        },
+        CellId::Switch(w) => match cell {
+            CellState::Node(_) => unreachable!(),
+            CellState::Switch(switch) => made_or_not(step_switch(network, w, switch, wires, step)),
+        },
+    }
 }

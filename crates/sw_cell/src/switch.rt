@@ -10,7 +10,6 @@ ghost use Rattle.sw_machine.specs.Steps.{Arrive, Drop, Fct, FctIn, Forward, Gran
 ghost use Rattle.sw_model.specs.Model.{network_of};
 ghost use Rattle.sw_link.specs.Between.{Between};
 
-use crate::in_flight::{character_comes, fct_comes};
 use sw_arb::Arbiter;
 use sw_config::Network;
 use sw_link::Wires;
@@ -288,8 +287,8 @@ pub fn is_possible<R: Routing, A: Arbiter>(
     let port = output(network, w, end.sends());
     match step {
         PortStep::Fct => cell.can_issue(port),
-        PortStep::FctIn => fct_comes(wires, end.sends()),
-        PortStep::Arrive => character_comes(wires, end.receives()),
+        PortStep::FctIn => wires.fcts(end.sends()) > 0,
+        PortStep::Arrive => wires.len(end.receives()) > 0,
         PortStep::DropFront => cell.can_drop(port),
         PortStep::Forward => cell.can_forward(port),
         PortStep::Spill => cell.can_spill(port),
@@ -351,10 +350,10 @@ pub fn enabled<R: Routing, A: Arbiter>(
     if cell.enabled(port) {
         return true;
     }
-    if fct_comes(wires, end.sends()) {
+    if wires.fcts(end.sends()) > 0 {
         return true;
     }
-    character_comes(wires, end.receives())
+    wires.len(end.receives()) > 0
 }
 
 /// A step of the link end, which stands at switch `w`, that is possible, other than to grant its

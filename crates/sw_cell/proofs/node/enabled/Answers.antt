@@ -1,9 +1,10 @@
-use Rattle.std.proofs.Common.{◌<◌, ◌↔◌, IsTrue, ap, arith, length, subst, sym, ◌∙◌}
+use Rattle.std.proofs.Common.{◌<◌, ap, arith, length, subst, sym, ◌∙◌}
 use Rattle.std.proofs.lemmas.Bool.{false≢true}
-use Rattle.std.specs.Prelude.{option_map}
+use Rattle.std.specs.Prelude.{nat_lt, option_map}
 use Rattle.sw_cell.proofs.Enabling as enabling
 use Rattle.sw_cell.proofs.Network.{answers_as, channels_are, in_network, into_is, out_is}
 use Rattle.sw_cell.proofs.Nodes as nodes
+use Rattle.sw_cell.proofs.Telling.{any_tells}
 use Rattle.sw_cell.proofs.node.enabled.Goals as goal
 use Rattle.sw_model.proofs.Networks.{are_networks}
 use Rattle.sw_model.specs.Model.{network_of}
@@ -11,8 +12,8 @@ use Rattle.sw_node.specs.Conditions.{CanStep}
 use Rattle.sw_topo.specs.Wiring.{Wiring, out, partner}
 use Rattle.sw_link.specs.Between.{fcts_at, wire_at}
 
-pub fct_comes-requires : goal.fct_comes-requires
-fct_comes-requires c =
+pub fcts-requires : goal.fcts-requires
+fcts-requires c =
     let d = c.args.network.now in
     let for = c.requires.node in
     let long = nodes.wires_long (network_of d) (are_networks d for.valid) c.args.n (in_network d c.args.n c.args.node.now for) c.args.node.now c.args.wires.now c.requires.reached in
@@ -21,8 +22,8 @@ fct_comes-requires c =
     let lt = c.out.ensures.within in
     omega arith
 
-pub character_comes-requires : goal.character_comes-requires
-character_comes-requires c =
+pub len-requires : goal.len-requires
+len-requires c =
     let d = c.args.network.now in
     let for = c.requires.node in
     let long = nodes.wires_long (network_of d) (are_networks d for.valid) c.args.n (in_network d c.args.n c.args.node.now for) c.args.node.now c.args.wires.now c.requires.reached in
@@ -38,14 +39,14 @@ returns-then-enabled c =
     let node = c.args.node.now in
     enabling.cell_can (network_of d) (are_networks d for.valid) c.args.n (in_network d c.args.n node for) node c.args.wires.now (sym for.capacity) (answers_as d c.args.n node for) (c.enabled.ensures.0 c.if-enabled.true)
 
-pub returns-then-fct_comes : goal.returns-then-fct_comes
-returns-then-fct_comes c =
+pub returns-then-fcts-gt0 : goal.returns-then-fcts-gt0
+returns-then-fcts-gt0 c =
     let d = c.args.network.now in
     let for = c.requires.node in
     let node = c.args.node.now in
     let b = c.args.wires.now in
     let o = out_is d c.args.n c.out.result (ap (λ (w : Wiring). out w.ends c.args.n) (sym c.topology.ensures.wiring) ∙ c.out.ensures.channel) in
-    let some = subst (λ k. 0 < fcts_at b k) (sym o) (c.fct_comes.ensures.0 c.if-fct_comes.true) in
+    let some = subst (λ k. 0 < fcts_at b k) (sym o) (let e = c.fcts.ensures in let z = c.if-fcts-gt0.true in omega arith) in
     enabling.fct_can (network_of d) (are_networks d for.valid) c.args.n (in_network d c.args.n node for) node b (sym for.capacity) (answers_as d c.args.n node for) some
 
 pub returns : goal.returns
@@ -57,6 +58,6 @@ returns c =
     let o = out_is d c.args.n c.out.result (ap (λ (w : Wiring). out w.ends c.args.n) (sym c.topology.ensures.wiring) ∙ c.out.ensures.channel) in
     let i = into_is d c.args.n c.into.result (ap (λ (w : Wiring). option_map partner (out w.ends c.args.n)) (sym c.topology-2.ensures.wiring) ∙ c.into.ensures.channel) in
     let never = λ (can : CanStep node). false≢true (sym c.if-enabled.false ∙ c.enabled.ensures.1 can) in
-    let none = λ (some : 0 < fcts_at b ((network_of d).out c.args.n)). false≢true (sym c.if-fct_comes.false ∙ c.fct_comes.ensures.1 (subst (λ k. 0 < fcts_at b k) o some)) in
-    let comes = subst (λ k. IsTrue c.character_comes.result ↔ (0 < length (wire_at b k))) (sym i) c.character_comes.ensures in
-    enabling.character_tells (network_of d) (are_networks d for.valid) c.args.n (in_network d c.args.n node for) node b (sym for.capacity) (answers_as d c.args.n node for) c.character_comes.result never none comes
+    let none : 0 < fcts_at b ((network_of d).out c.args.n) → ⊥ = λ some. let e = c.fcts.ensures in let z = c.if-fcts-gt0.false in let more = subst (λ k. 0 < fcts_at b k) o some in absurd (omega arith) in
+    let comes = any_tells c.len.result (length (wire_at b ((network_of d).into c.args.n))) (c.len.ensures.value ∙ ap (λ k. length (wire_at b k)) (sym i)) in
+    enabling.character_tells (network_of d) (are_networks d for.valid) c.args.n (in_network d c.args.n node for) node b (sym for.capacity) (answers_as d c.args.n node for) (nat_lt 0 c.len.result) never none comes

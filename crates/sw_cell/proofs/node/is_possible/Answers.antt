@@ -1,8 +1,9 @@
-use Rattle.std.proofs.Common.{◌<◌, ◌↔◌, IsTrue, ap, arith, length, subst, sym, ◌∙◌}
-use Rattle.std.specs.Prelude.{option_map}
+use Rattle.std.proofs.Common.{◌<◌, ap, arith, length, subst, sym, ◌∙◌}
+use Rattle.std.specs.Prelude.{nat_lt, option_map}
 use Rattle.sw_cell.proofs.Network.{answers_as, channels_are, in_network, into_is, out_is}
 use Rattle.sw_cell.proofs.Nodes as nodes
 use Rattle.sw_cell.proofs.Telling as telling
+use Rattle.sw_cell.proofs.Telling.{any_tells}
 use Rattle.sw_cell.proofs.node.is_possible.Goals as goal
 use Rattle.sw_cell.specs.Possible.{NodeTells, step_at_node}
 use Rattle.sw_cell.specs.declared.node.NodeStep.{NodeStep}
@@ -11,8 +12,8 @@ use Rattle.sw_model.specs.Model.{network_of}
 use Rattle.sw_topo.specs.Wiring.{Wiring, out, partner}
 use Rattle.sw_link.specs.Between.{fcts_at, wire_at}
 
-pub fct_comes-requires : goal.fct_comes-requires
-fct_comes-requires c =
+pub fcts-requires : goal.fcts-requires
+fcts-requires c =
     let d = c.args.network.now in
     let for = c.requires.node in
     let long = nodes.wires_long (network_of d) (are_networks d for.valid) c.args.n (in_network d c.args.n c.args.node.now for) c.args.node.now c.args.wires.now c.requires.reached in
@@ -21,8 +22,8 @@ fct_comes-requires c =
     let lt = c.out.ensures.within in
     omega arith
 
-pub character_comes-requires : goal.character_comes-requires
-character_comes-requires c =
+pub len-requires : goal.len-requires
+len-requires c =
     let d = c.args.network.now in
     let for = c.requires.node in
     let long = nodes.wires_long (network_of d) (are_networks d for.valid) c.args.n (in_network d c.args.n c.args.node.now for) c.args.node.now c.args.wires.now c.requires.reached in
@@ -47,9 +48,9 @@ returns-in-FctIn c =
     let node = c.args.node.now in
     let b = c.args.wires.now in
     let o = out_is d c.args.n c.out.result (ap (λ (w : Wiring). out w.ends c.args.n) (sym c.topology.ensures.wiring) ∙ c.out.ensures.channel) in
-    let comes = subst (λ k. IsTrue c.fct_comes.result ↔ (0 < fcts_at b k)) (sym o) c.fct_comes.ensures in
-    subst (λ (k : NodeStep). NodeTells (network_of d) c.args.n node b (step_at_node (network_of d) c.args.n k) c.fct_comes.result) (sym c.in-FctIn.is)
-    (telling.fct_in (network_of d) (are_networks d for.valid) c.args.n (in_network d c.args.n node for) node b c.fct_comes.result comes)
+    let comes = any_tells c.fcts.result (fcts_at b ((network_of d).out c.args.n)) (c.fcts.ensures ∙ ap (fcts_at b) (sym o)) in
+    subst (λ (k : NodeStep). NodeTells (network_of d) c.args.n node b (step_at_node (network_of d) c.args.n k) (nat_lt 0 c.fcts.result)) (sym c.in-FctIn.is)
+    (telling.fct_in (network_of d) (are_networks d for.valid) c.args.n (in_network d c.args.n node for) node b (nat_lt 0 c.fcts.result) comes)
 
 pub returns-in-Arrive : goal.returns-in-Arrive
 returns-in-Arrive c =
@@ -58,9 +59,9 @@ returns-in-Arrive c =
     let node = c.args.node.now in
     let b = c.args.wires.now in
     let o = into_is d c.args.n c.into.result (ap (λ (w : Wiring). option_map partner (out w.ends c.args.n)) (sym c.topology-in-Arrive.ensures.wiring) ∙ c.into.ensures.channel) in
-    let comes = subst (λ k. IsTrue c.character_comes.result ↔ (0 < length (wire_at b k))) (sym o) c.character_comes.ensures in
-    subst (λ (k : NodeStep). NodeTells (network_of d) c.args.n node b (step_at_node (network_of d) c.args.n k) c.character_comes.result) (sym c.in-Arrive.is)
-    (telling.arrive (network_of d) (are_networks d for.valid) c.args.n (in_network d c.args.n node for) node b c.character_comes.result comes)
+    let comes = any_tells c.len.result (length (wire_at b ((network_of d).into c.args.n))) (c.len.ensures.value ∙ ap (λ k. length (wire_at b k)) (sym o)) in
+    subst (λ (k : NodeStep). NodeTells (network_of d) c.args.n node b (step_at_node (network_of d) c.args.n k) (nat_lt 0 c.len.result)) (sym c.in-Arrive.is)
+    (telling.arrive (network_of d) (are_networks d for.valid) c.args.n (in_network d c.args.n node for) node b (nat_lt 0 c.len.result) comes)
 
 pub returns-in-Emit : goal.returns-in-Emit
 returns-in-Emit c =

@@ -1,8 +1,9 @@
-use Rattle.std.proofs.Common.{◌<◌, ◌≡◌, ◌↔◌, IsTrue, Some, ap, arith, length, subst, sym, ◌∙◌}
+use Rattle.std.proofs.Common.{◌<◌, ◌≡◌, Some, ap, arith, length, subst, sym, ◌∙◌}
 use Rattle.std.proofs.lemmas.Bool.{false≢true}
-use Rattle.std.specs.Prelude.{slice_get}
+use Rattle.std.specs.Prelude.{nat_lt, slice_get}
 use Rattle.sw_cell.proofs.Enabling as enabling
 use Rattle.sw_cell.proofs.Switches as switches
+use Rattle.sw_cell.proofs.Telling.{any_tells}
 use Rattle.sw_cell.proofs.switch.enabled.Goals as goal
 use Rattle.sw_flow.specs.Places.{end_of, ends_of}
 use Rattle.sw_switch.specs.Conditions.{CanStep}
@@ -11,8 +12,8 @@ use Rattle.sw_topo.specs.Wiring.{partner}
 use Rattle.sw_topo.specs.declared.place.PlaceEnd.TheVariants.{Switch}
 use Rattle.sw_link.specs.Between.{fcts_at, wire_at}
 
-pub fct_comes-requires : goal.fct_comes-requires
-fct_comes-requires g c =
+pub fcts-requires : goal.fcts-requires
+fcts-requires g c =
     let d = c.args.network.now in
     let w = c.args.w in
     let p = c.output-port.result in
@@ -22,8 +23,8 @@ fct_comes-requires g c =
     let e = c.sends-2.ensures in
     omega arith
 
-pub character_comes-requires : goal.character_comes-requires
-character_comes-requires g c =
+pub len-requires : goal.len-requires
+len-requires g c =
     let d = c.args.network.now in
     let w = c.args.w in
     let p = c.output-port.result in
@@ -39,12 +40,12 @@ returns-then-enabled g c =
     let starts : slice_get (ends_of d) c.args.end ≡ Some (Switch c.args.w c.output-port.result) = ap (slice_get (ends_of d)) (sym c.sends.ensures) ∙ c.output-port.ensures in
     enabling.port_can g.R.Routing.answer g.A.Arbiter.ports d c.args.w c.args.cell.now c.requires.cell c.args.wires.now c.args.end c.output-port.result starts (c.enabled.ensures.0 c.if-enabled.true)
 
-pub returns-then-fct_comes : goal.returns-then-fct_comes
-returns-then-fct_comes g c =
+pub returns-then-fcts-gt0 : goal.returns-then-fcts-gt0
+returns-then-fcts-gt0 g c =
     let d = c.args.network.now in
     let b = c.args.wires.now in
     let starts : slice_get (ends_of d) c.args.end ≡ Some (Switch c.args.w c.output-port.result) = ap (slice_get (ends_of d)) (sym c.sends.ensures) ∙ c.output-port.ensures in
-    let some = subst (λ k. 0 < fcts_at b k) c.sends-2.ensures (c.fct_comes.ensures.0 c.if-fct_comes.true) in
+    let some = subst (λ k. 0 < fcts_at b k) c.sends-2.ensures (let e = c.fcts.ensures in let z = c.if-fcts-gt0.true in omega arith) in
     enabling.port_fct_can g.R.Routing.answer g.A.Arbiter.ports d c.args.w c.args.cell.now c.requires.cell b c.args.end c.output-port.result starts some
 
 pub returns : goal.returns
@@ -55,6 +56,6 @@ returns g c =
     let p = c.output-port.result in
     let starts : slice_get (ends_of d) c.args.end ≡ Some (Switch c.args.w p) = ap (slice_get (ends_of d)) (sym c.sends.ensures) ∙ c.output-port.ensures in
     let never = λ (can : CanStep g.R.Routing.answer cell p). false≢true (sym c.if-enabled.false ∙ c.enabled.ensures.1 can) in
-    let none = λ (some : 0 < fcts_at b c.args.end). false≢true (sym c.if-fct_comes.false ∙ c.fct_comes.ensures.1 (subst (λ k. 0 < fcts_at b k) (sym c.sends-2.ensures) some)) in
-    let comes = subst (λ k. IsTrue c.character_comes.result ↔ (0 < length (wire_at b k))) c.receives.ensures c.character_comes.ensures in
-    enabling.port_character_tells g.R.Routing.answer g.A.Arbiter.ports d c.args.w cell c.requires.cell b c.args.end p starts c.character_comes.result never none comes
+    let none : 0 < fcts_at b c.args.end → ⊥ = λ some. let e = c.fcts.ensures in let z = c.if-fcts-gt0.false in let more = subst (λ k. 0 < fcts_at b k) (sym c.sends-2.ensures) some in absurd (omega arith) in
+    let comes = any_tells c.len.result (length (wire_at b (partner c.args.end))) (c.len.ensures.value ∙ ap (λ k. length (wire_at b k)) c.receives.ensures) in
+    enabling.port_character_tells g.R.Routing.answer g.A.Arbiter.ports d c.args.w cell c.requires.cell b c.args.end p starts (nat_lt 0 c.len.result) never none comes

@@ -1,7 +1,8 @@
-use Rattle.std.proofs.Common.{◌<◌, ◌≡◌, ◌↔◌, IsTrue, Some, ap, arith, length, subst, sym, ◌∙◌}
-use Rattle.std.specs.Prelude.{slice_get}
+use Rattle.std.proofs.Common.{◌<◌, ◌≡◌, Some, ap, arith, length, subst, sym, ◌∙◌}
+use Rattle.std.specs.Prelude.{nat_lt, slice_get}
 use Rattle.sw_cell.proofs.Switches as switches
 use Rattle.sw_cell.proofs.Telling as telling
+use Rattle.sw_cell.proofs.Telling.{any_tells}
 use Rattle.sw_cell.proofs.switch.is_possible.Goals as goal
 use Rattle.sw_cell.specs.Possible.{SwitchTells, step_at_port}
 use Rattle.sw_cell.specs.declared.switch.PortStep.{PortStep}
@@ -11,8 +12,8 @@ use Rattle.sw_topo.specs.Wiring.{partner}
 use Rattle.sw_topo.specs.declared.place.PlaceEnd.TheVariants.{Switch}
 use Rattle.sw_link.specs.Between.{fcts_at, wire_at}
 
-pub fct_comes-requires : goal.fct_comes-requires
-fct_comes-requires g c =
+pub fcts-requires : goal.fcts-requires
+fcts-requires g c =
     let d = c.args.network.now in
     let w = c.args.w in
     let for = c.requires.cell in
@@ -26,8 +27,8 @@ fct_comes-requires g c =
     let e = c.sends-in-FctIn.ensures in
     omega arith
 
-pub character_comes-requires : goal.character_comes-requires
-character_comes-requires g c =
+pub len-requires : goal.len-requires
+len-requires g c =
     let d = c.args.network.now in
     let w = c.args.w in
     let for = c.requires.cell in
@@ -63,9 +64,9 @@ returns-in-FctIn g c =
     let p = c.output-port.result in
     let starts : slice_get (ends_of d) c.args.end ≡ Some (Switch w p) = ap (slice_get (ends_of d)) (sym c.sends.ensures) ∙ c.output-port.ensures in
     let ends : end_of d (partner c.args.end) ≡ Some (Switch w p) = ap (slice_get (ends_of d)) (partner_back c.args.end) ∙ starts in
-    let comes = subst (λ k. IsTrue c.fct_comes.result ↔ (0 < fcts_at b k)) c.sends-in-FctIn.ensures c.fct_comes.ensures in
-    subst (λ (k : PortStep). SwitchTells d w cell b (step_at_port c.args.end k) c.fct_comes.result) (sym c.in-FctIn.is)
-    (telling.port_fct_in g.R.Routing.answer g.A.Arbiter.ports d w cell for b c.args.end p c.fct_comes.result starts comes)
+    let comes = any_tells c.fcts.result (fcts_at b c.args.end) (c.fcts.ensures ∙ ap (fcts_at b) c.sends-in-FctIn.ensures) in
+    subst (λ (k : PortStep). SwitchTells d w cell b (step_at_port c.args.end k) (nat_lt 0 c.fcts.result)) (sym c.in-FctIn.is)
+    (telling.port_fct_in g.R.Routing.answer g.A.Arbiter.ports d w cell for b c.args.end p (nat_lt 0 c.fcts.result) starts comes)
 
 pub returns-in-Arrive : goal.returns-in-Arrive
 returns-in-Arrive g c =
@@ -77,9 +78,9 @@ returns-in-Arrive g c =
     let p = c.output-port.result in
     let starts : slice_get (ends_of d) c.args.end ≡ Some (Switch w p) = ap (slice_get (ends_of d)) (sym c.sends.ensures) ∙ c.output-port.ensures in
     let ends : end_of d (partner c.args.end) ≡ Some (Switch w p) = ap (slice_get (ends_of d)) (partner_back c.args.end) ∙ starts in
-    let comes = subst (λ k. IsTrue c.character_comes.result ↔ (0 < length (wire_at b k))) c.receives.ensures c.character_comes.ensures in
-    subst (λ (k : PortStep). SwitchTells d w cell b (step_at_port c.args.end k) c.character_comes.result) (sym c.in-Arrive.is)
-    (telling.port_arrive g.R.Routing.answer g.A.Arbiter.ports d w cell for b (partner c.args.end) p c.character_comes.result ends comes)
+    let comes = any_tells c.len.result (length (wire_at b (partner c.args.end))) (c.len.ensures.value ∙ ap (λ k. length (wire_at b k)) c.receives.ensures) in
+    subst (λ (k : PortStep). SwitchTells d w cell b (step_at_port c.args.end k) (nat_lt 0 c.len.result)) (sym c.in-Arrive.is)
+    (telling.port_arrive g.R.Routing.answer g.A.Arbiter.ports d w cell for b (partner c.args.end) p (nat_lt 0 c.len.result) ends comes)
 
 pub returns-in-DropFront : goal.returns-in-DropFront
 returns-in-DropFront g c =
