@@ -1,5 +1,5 @@
 -- The first refusal of all flows, from the refusal of each.
-use Rattle.std.proofs.Common.{◌≡◌, ℕ, zero, suc, ◌+◌, ◌<◌, ◌≤◌, List, [], ◌∷◌, length, Option, Some, None, MatchOption, drop, refl, sym, ap, ◌∙◌, subst, arith}
+use Rattle.std.proofs.Common.{◌≡◌, Bool, true, false, cond, ℕ, zero, suc, ◌+◌, ◌<◌, ◌≤◌, List, [], ◌∷◌, length, Option, Some, None, MatchOption, drop, refl, sym, ap, ◌∙◌, subst, arith}
 use Rattle.std.specs.Prelude.{slice_get}
 use Rattle.std.specs.List.{range_with_len}
 use Rattle.std.proofs.lemmas.List.{drop_all}
@@ -37,7 +37,7 @@ module _ (r : ℕ → FlowEntry → List Place → Option Refusal) where
       (subst (λ (n : ℕ). IsFirstFound (λ i p. p ≡ at i) (range_with_len n (length fs)) found) next later) in
       first_told h.0 found (by_flow r (suc j) fs pss) (moved_on h.0 found (by_flow r (suc j) fs pss) _ rest h.2) ∙ ap (λ o. first_of o (by_flow r (suc j) fs pss)) first
 
-  at_here : (fs : List FlowEntry) (pss : List (List Place)) (i : ℕ) (f : FlowEntry) (ps : List Place) → slice_get fs i ≡ Some f → slice_get pss i ≡ Some ps → refusal_at r fs pss i ≡ r i f ps
+  pub at_here : (fs : List FlowEntry) (pss : List (List Place)) (i : ℕ) (f : FlowEntry) (ps : List Place) → slice_get fs i ≡ Some f → slice_get pss i ≡ Some ps → refusal_at r fs pss i ≡ r i f ps
   at_here fs pss i f ps here there = rw (here, there) refl
 
   pub is_by_flow : (fs : List FlowEntry) (pss : List (List Place)) (found : Option Refusal) (n : ℕ) → n ≡ length fs → length pss ≡ length fs
@@ -63,3 +63,13 @@ module _ (r : ℕ → FlowEntry → List Place → Option Refusal) where
 
   pub all_passed : (fs : List FlowEntry) (pss : List (List Place)) (n : ℕ) → length fs ≤ n → by_flow r n (drop n fs) (drop n pss) ≡ None
   all_passed fs pss n past = ap (λ (l : List FlowEntry). by_flow r n l (drop n pss)) (drop_all n fs past)
+
+-- ---- whether a flow's start is listed
+
+pub unstarted : (b : Bool) (x : Refusal) (o : Option Refusal) → b ≡ false → first_of (cond b None (Some x)) o ≡ Some x
+unstarted true x o h = absurd (let bad : true ≡ false = h in cc)
+unstarted false x o h = refl
+
+pub started : (b : Bool) (x : Refusal) (o : Option Refusal) → b ≡ true → first_of (cond b None (Some x)) o ≡ o
+started true x o h = refl
+started false x o h = absurd (let bad : false ≡ true = h in cc)

@@ -59,6 +59,13 @@ module _ {X : Type 0} where
       let cut : drop i xs ≡ x ∷ drop (i + 1) xs = drop-cons xs i x lt ∙ ap (λ y. y ∷ drop (suc i) xs) (sym is) ∙ ap (λ k. x ∷ drop k xs) next in
       ap (first_refusal r) cut ∙ ap (λ (p : Option Refusal). first_of p (first_refusal r (drop (i + 1) xs))) (sym told)
 
+  -- one element's test after another's
+  pub one_tested : (test : X → Bool) (xs : List X) (i : ℕ) (x : X) (b : Bool) → i < length xs → x ≡ get_or xs i x → b ≡ test x → list_all test (drop i xs) ≡ (b && list_all test (drop (i + 1) xs))
+  one_tested test xs i x b lt is told =
+      let next : suc i ≡ i + 1 = omega arith in
+      let cut : drop i xs ≡ x ∷ drop (i + 1) xs = drop-cons xs i x lt ∙ ap (λ y. y ∷ drop (suc i) xs) (sym is) ∙ ap (λ k. x ∷ drop k xs) next in
+      ap (list_all test) cut ∙ ap (λ (c : Bool). c && list_all test (drop (i + 1) xs)) (sym told)
+
   pub all_each : (test : X → Bool) (xs : List X) → list_all test xs ≡ true → (x : X) → Contains xs x → test x ≡ true
   all_each test [] h x m = absurd (omega (arith, m.1))
   all_each test (y ∷ ys) h x m = by (test y) refl h (Contains-cases y x ys m) (all_each test ys)

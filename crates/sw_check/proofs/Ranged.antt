@@ -1,8 +1,8 @@
 -- Counts and ranges.
-use Rattle.std.proofs.Common.{◌≡◌, ℕ, zero, suc, ◌+◌, ◌<◌, ◌≤◌, ◌&&◌, Bool, true, false, List, [], ◌∷◌, length, drop, Some, None, refl, sym, ap, ◌∙◌, ◌⊎◌, inl, inr, arith}
+use Rattle.std.proofs.Common.{◌≡◌, ℕ, zero, suc, ◌+◌, ◌<◌, ◌≤◌, ◌==◌, ◌&&◌, Bool, true, false, List, [], ◌∷◌, length, drop, Some, None, refl, sym, ap, ◌∙◌, ◌⊎◌, inl, inr, arith}
 use Rattle.std.specs.Prelude.{slice_get}
 use Rattle.std.specs.List.{list_all}
-use Rattle.std.proofs.lemmas.Bool.{cases_Bool, cases_lt, lt-ltb, le-ltb, le-leb, lt-leb}
+use Rattle.std.proofs.lemmas.Bool.{cases_Bool, cases_lt, eq-eqb, ne_eqb, lt-ltb, le-ltb, le-leb, lt-leb}
 use Rattle.sw_config.specs.Entries.{FlowEntry, Declaration}
 use Rattle.sw_flow.specs.declared.place.Place.{Place}
 use Rattle.sw_flow.specs.Places.{ends_of}
@@ -15,6 +15,13 @@ true_both false b h = absurd cc
 
 pub both_true : (a b : Bool) → a ≡ true → b ≡ true → (a && b) ≡ true
 both_true a b ha hb = rw (ha, hb) refl
+
+-- two counts, and what else is looked at
+pub other_count : (a b : ℕ) (r : Bool) → (a ≡ b → ⊥) → ((a == b) && r) ≡ false
+other_count a b r other = ap (λ (t : Bool). t && r) (ne_eqb a b other)
+
+pub same_count : (a b : ℕ) (r : Bool) → a ≡ b → ((a == b) && r) ≡ r
+same_count a b r same = ap (λ (t : Bool). t && r) (eq-eqb a b same)
 
 module _ (d : Declaration) where
   pub as_many : (fs : List FlowEntry) (pss : List (List Place)) → are_in_range d fs pss ≡ true → length pss ≡ length fs

@@ -1,9 +1,7 @@
 //! Whether a certificate is one for as many channels and flows as the network has, with places that it can have.
-ghost use Rattle.std.specs.Prelude.{◌≡◌, ◌==◌, length};
+ghost use Rattle.std.specs.Prelude.{◌≡◌};
 ghost use Rattle.std.specs.List.{list_all};
-ghost use Rattle.sw_config.specs.Entries.{all_flows};
-ghost use Rattle.sw_flow.specs.Places.{ends_of};
-ghost use Rattle.sw_check.specs.Refusals.{is_in_range, are_in_range, is_of_the_network};
+ghost use Rattle.sw_check.specs.Refusals.{is_in_range, is_of_the_network};
 
 use sw_cert::Certificate;
 use sw_config::{Flow, Network};
@@ -18,13 +16,23 @@ fn is_in_range(network: &Network, flow: &Flow, place: &Place) -> bool
 fn are_all_in_range(network: &Network, flow: &Flow, listed: &[Place]) -> bool
     ensures { result ≡ list_all (is_in_range network.now flow.now) listed.now }
 {
-    listed.iter().all(|place| is_in_range(network, flow, place))
+    for place in listed {
+        if !is_in_range(network, flow, place) {
+            return false;
+        }
+    }
+    true
 }
 
-/// Are there as many lists as flows, each of places in range?
-fn are_in_range(network: &Network, certificate: &Certificate) -> bool
-    ensures { result ≡ are_in_range network.now (all_flows network.now) certificate.now.places }
+/// Has it as many numbers as the network has channels, and as many lists as flows, each of places that the network can have?
+pub(crate) fn is_of_the_network(network: &Network, certificate: &Certificate) -> bool
+    ensures { result ≡ is_of_the_network network.now certificate.now }
 {
+    let numbers = certificate.numbers().len();
+    let channels = network.channels() as usize;
+    if numbers != channels {
+        return false;
+    }
     let lists = certificate.flows();
     let flows = network.flows() as usize;
     if lists != flows {
@@ -38,20 +46,4 @@ fn are_in_range(network: &Network, certificate: &Certificate) -> bool
         }
     }
     true
-}
-
-fn has_as_many_numbers(network: &Network, certificate: &Certificate) -> bool
-    ensures { result ≡ (length certificate.now.numbers == length (ends_of network.now)) }
-{
-    certificate.numbers().len() == network.channels() as usize
-}
-
-/// Has it as many numbers as the network has channels, and as many lists as flows, each of places that the network can have?
-pub(crate) fn is_of_the_network(network: &Network, certificate: &Certificate) -> bool
-    ensures { result ≡ is_of_the_network network.now certificate.now }
-{
-    if !has_as_many_numbers(network, certificate) {
-        return false;
-    }
-    are_in_range(network, certificate)
 }

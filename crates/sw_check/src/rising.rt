@@ -1,15 +1,15 @@
 //! Whether the numbers of a certificate rise along the flows.
-ghost use Rattle.std.specs.Prelude.{◌≡◌, ◌<◌, length, map, slice_index, Some, None, if◌then◌else◌};
+ghost use Rattle.std.specs.Prelude.{◌≡◌, ◌<◌, length, slice_index, Some, None, if◌then◌else◌};
 ghost use Rattle.sw_config.specs.Entries.{all_flows};
 ghost use Rattle.sw_config.specs.Valid.{IsFlow};
-ghost use Rattle.sw_check.specs.Least.{least, lesser};
-ghost use Rattle.sw_check.specs.Refusals.{first_refusal, is_not_above, not_rising_along, not_rising_from};
+ghost use Rattle.sw_check.specs.Least.{lesser};
+ghost use Rattle.sw_check.specs.Refusals.{is_not_above, not_rising_along, not_rising_from};
 ghost use Rattle.sw_check.specs.Numbered.{refusal_at};
 
 use crate::refusal::Refusal;
 use sw_cert::Certificate;
 use sw_config::{Flow, Network};
-use sw_flow::{Followers, Place, followers_in};
+use sw_flow::{Place, followers_in};
 use sw_topo::Chan;
 
 /// The lesser of two numbers, of those that are there.
@@ -50,16 +50,6 @@ fn if_not_above(numbers: &[u16], channel: Chan, next: Chan) -> Option<u16>
     }
 }
 
-fn least_not_above(numbers: &[u16], channel: Chan, followers: Followers<'_>) -> Option<u16>
-    ensures { result ≡ least (is_not_above numbers.now channel) (map (λ q. q.channel) followers.entry) }
-{
-    let mut found = None;
-    for place in followers {
-        found = lesser(found, if_not_above(numbers, channel, place.channel));
-    }
-    found
-}
-
 fn not_rising_from(
     network: &Network,
     numbers: &[u16],
@@ -69,27 +59,13 @@ fn not_rising_from(
     requires { IsFlow network.now.nodes flow.now }
     ensures { result ≡ not_rising_from network.now numbers.now flow.now place.now }
 {
-    let followers = followers_in(network, flow, *place);
     let channel = place.channel;
-    let next = least_not_above(numbers, channel, followers)?;
-    Some(Refusal::NotRising(channel, Chan::new(next)))
-}
-
-fn not_rising_along(
-    network: &Network,
-    numbers: &[u16],
-    flow: &Flow,
-    listed: &[Place],
-) -> Option<Refusal>
-    requires { IsFlow network.now.nodes flow.now }
-    ensures { result ≡ first_refusal (not_rising_from network.now numbers.now flow.now) listed.now }
-{
-    for place in listed {
-        if let Some(refusal) = not_rising_from(network, numbers, flow, place) {
-            return Some(refusal);
-        }
+    let mut found = None;
+    for next in followers_in(network, flow, *place) {
+        found = lesser(found, if_not_above(numbers, channel, next.channel));
     }
-    None
+    let next = found?;
+    Some(Refusal::NotRising(channel, Chan::new(next)))
 }
 
 /// The first refusal for numbers that do not rise along the flow of that number.
@@ -102,7 +78,12 @@ pub(crate) fn rising_refusal(
     requires lists { length certificate.now.places ≡ length (all_flows network.now) }
     ensures { result ≡ refusal_at (not_rising_along network.now certificate.now.numbers) (all_flows network.now) certificate.now.places number }
 {
-    let entry = network.flow(number);
-    let listed = certificate.places(number);
-    not_rising_along(network, certificate.numbers(), entry, listed)
+    let flow = network.flow(number);
+    let numbers = certificate.numbers();
+    for place in certificate.places(number) {
+        if let Some(refusal) = not_rising_from(network, numbers, flow, place) {
+            return Some(refusal);
+        }
+    }
+    None
 }

@@ -1,5 +1,5 @@
 //! Whether the numbers of a certificate rise at the nodes that answer.
-ghost use Rattle.std.specs.Prelude.{◌≡◌, ◌<◌, length, is_some, IfSome};
+ghost use Rattle.std.specs.Prelude.{◌≡◌, ◌<◌, length, IfSome};
 ghost use Rattle.sw_config.specs.Entries.{all_flows};
 ghost use Rattle.sw_check.specs.Least.{least};
 ghost use Rattle.sw_check.specs.Refusals.{answering_nodes, is_falling_at, not_rising_at_targets};
@@ -9,31 +9,19 @@ use crate::refusal::Refusal;
 use crate::rising::{is_not_above, lesser};
 use sw_config::{Flow, Network};
 
-fn is_falling_at(network: &Network, numbers: &[u16], node: u16) -> bool
-    requires { node < length network.now.nodes }
-    ensures { result ≡ is_falling_at network.now numbers.now node }
-{
-    let topology = network.topology();
-    is_not_above(numbers, topology.into(node), topology.out(node))
-}
-
-fn has_replies(flow: &Flow) -> bool
-    ensures { result ≡ is_some flow.now.reply }
-{
-    flow.reply().is_some()
-}
-
 /// The node where the flow ends, if the flow has replies and the numbers do not rise there.
 fn falling_end(network: &Network, numbers: &[u16], flow: &Flow) -> Option<u16>
     requires { flow.now.to < length network.now.nodes }
     ensures end { result ≡ falling_end network.now numbers.now flow.now }
     ensures within { IfSome result (λ n. n < length network.now.nodes) }
 {
-    if !has_replies(flow) {
+    if flow.reply().is_none() {
         return None;
     }
-    if is_falling_at(network, numbers, flow.to()) {
-        Some(flow.to())
+    let topology = network.topology();
+    let node = flow.to();
+    if is_not_above(numbers, topology.into(node), topology.out(node)) {
+        Some(node)
     } else {
         None
     }

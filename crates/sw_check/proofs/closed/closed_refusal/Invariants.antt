@@ -1,6 +1,6 @@
 use Rattle.std.proofs.Common.{◌≡◌, drop}
 use Rattle.sw_check.specs.Refusals.{first_refusal, refusal_of_place}
-use Rattle.sw_check.proofs.closed.refusal_of_places.Given as goal
+use Rattle.sw_check.proofs.closed.closed_refusal.Given as goal
 
 abbrev pub invariant-loop-place : goal.invariant-loop-place
 invariant-loop-place l =

@@ -1,7 +1,7 @@
 use Rattle.std.proofs.Common.{◌≡◌, drop}
 use Rattle.sw_config.specs.Entries.{all_flows}
 use Rattle.sw_check.specs.Refusals.{are_in_range}
-use Rattle.sw_check.proofs.counts.are_in_range.Given as goal
+use Rattle.sw_check.proofs.counts.is_of_the_network.Given as goal
 
 abbrev pub invariant-loop-number : goal.invariant-loop-number
 invariant-loop-number l =
