@@ -73,7 +73,7 @@ new_among : (name : List ℕ) (f : FlowEntry) (r : Option ReplyEntry) (fs : List
 new_among name f None fs apart rest = rest
 new_among name f (Some r) fs apart rest = rw (unlike name f.name apart, rest) refl
 
-new_reply_name : (name : List ℕ) (fs : List FlowEntry) → list_any (bytes_eq name) (flow_names fs) ≡ false → list_any (bytes_eq (name ++ codes "+reply")) (flow_names (reply_flows fs)) ≡ false
+pub new_reply_name : (name : List ℕ) (fs : List FlowEntry) → list_any (bytes_eq name) (flow_names fs) ≡ false → list_any (bytes_eq (name ++ codes "+reply")) (flow_names (reply_flows fs)) ≡ false
 new_reply_name name [] new = refl
 new_reply_name name (f ∷ fs) new =
     let both = neither (bytes_eq name f.name) (list_any (bytes_eq name) (flow_names fs)) new in

@@ -1,7 +1,7 @@
 -- The first place that passes, in one list after another.
-use Rattle.std.proofs.Common.{◌≡◌, ℕ, ◌+◌, ◌<◌, ◌≤◌, Bool, not, cond, eqb, ltb, List, ◌++◌, length, Option, Some, None, option_map, refl, sym, ◌∙◌, ◌⊎◌, inl, inr, arith, length-append, eq-eqb}
+use Rattle.std.proofs.Common.{◌≡◌, ℕ, suc, ◌+◌, ◌<◌, ◌≤◌, Bool, true, false, not, ◌||◌, cond, eqb, ltb, is_some, nat_lt, List, [], ◌∷◌, ◌++◌, length, Option, Some, None, option_map, refl, sym, ap, ◌∙◌, ◌⊎◌, inl, inr, arith, length-append, eq-eqb}
 use Rattle.std.specs.Prelude.{position}
-use Rattle.std.specs.List.{position_or_len}
+use Rattle.std.specs.List.{list_any, position_or_len}
 use Rattle.std.proofs.lemmas.Bool.{cases_lt, lt-ltb, le-ltb, ne_eqb}
 use Rattle.std.proofs.lemmas.List.Folds.{prefix_len-append}
 use Rattle.std.proofs.lemmas.List.Sums.{prefix_len-le-length}
@@ -46,3 +46,26 @@ module _ {X : Type 0} (p : X → Bool) (xs ys : List X) where
   pub position-in_second : (i : ℕ) → X → position p (xs ++ ys) ≡ Some i → length xs ≤ i → position p xs ≡ None
   position-in_second i d e le =
       front_past (length xs) i (position p xs) (option_map (λ j. length xs + j) (position p ys)) (λ j found. (position-Some p xs j d found).0) (sym (position-append p xs ys) ∙ e) le
+
+-- one is found exactly where one passes
+pub position-any : {X : Type 0} (p : X → Bool) (xs : List X) → is_some (position p xs) ≡ list_any p xs
+position-any p [] = refl
+position-any p (x ∷ xs) = first (p x) (position-any p xs)
+  where
+    k : ℕ
+    k = position_or_len p xs
+
+    less : nat_lt (1 + k) (suc (length xs)) ≡ nat_lt k (length xs)
+    less = elim (cases_lt k (length xs)) [
+      | inl lt ↦ lt-ltb (1 + k) (suc (length xs)) (omega (arith, lt)) ∙ sym (lt-ltb k (length xs) lt)
+      | inr past ↦ le-ltb (1 + k) (suc (length xs)) (omega (arith, past)) ∙ sym (le-ltb k (length xs) past)
+    ]
+
+    later : (b : Bool) → is_some (cond b (Some (1 + k)) None) ≡ is_some (cond b (Some k) None)
+    later true = refl
+    later false = refl
+
+    first : (b : Bool) → is_some (position p xs) ≡ list_any p xs
+        → is_some (cond (nat_lt (cond (not b) (1 + k) 0) (suc (length xs))) (Some (cond (not b) (1 + k) 0)) None) ≡ (b || list_any p xs)
+    first true rest = ap (λ t. is_some {T = ℕ} (cond t (Some 0) None)) (lt-ltb 0 (suc (length xs)) (omega arith))
+    first false rest = ap (λ t. is_some {T = ℕ} (cond t (Some (1 + k)) None)) less ∙ later (nat_lt k (length xs)) ∙ rest

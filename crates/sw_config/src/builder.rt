@@ -6,6 +6,7 @@ ghost use Rattle.sw_topo.specs.Checked.{IsIn};
 ghost use Rattle.sw_rmap.specs.Config.{IsTargetConfig};
 
 use crate::entries::{Link, Node, Switch};
+use crate::flow_table::FlowTable;
 use crate::names::NameTable;
 use crate::network::Network;
 use std::alloc::{AllocError, Global};
@@ -80,7 +81,7 @@ impl NetworkBuilder {
     pub fn has_name(&self, name: &str) -> bool
         ensures { result ≡ list_any (bytes_eq name.now) (part_names self.now) }
     {
-        self.names.contains(name)
+        self.part_named(name).is_some()
     }
 
     /// The number of the node or switch of that name: nodes count from 0, and switches count on from the nodes.
@@ -109,13 +110,12 @@ impl NetworkBuilder {
         ensures ok { OnOk result (self.new ≡ record self.old { nodes = self.old.nodes ++ record { name = name.now; target = target } ∷ [] }) }
         ensures err { OnErr result (self.new ≡ self.old) }
     {
+        let key = String::from_str(alloc, name)?;
         let node = Node {
             name: String::from_str(alloc, name)?,
             target,
         };
-        self.nodes.reserve(1)?;
-        self.names.add(alloc, name)?;
-        self.nodes.push(node).unwrap();
+        self.names.add(key, node, &mut self.nodes)?;
         self.wiring.node();
         Ok(())
     }
@@ -138,9 +138,8 @@ impl NetworkBuilder {
         ensures err { OnErr result (self.new ≡ self.old) }
     {
         let entry = Switch::new(alloc, name, arbitration, table)?;
-        self.switches.reserve(1)?;
-        self.names.add(alloc, name)?;
-        self.switches.push(entry).unwrap();
+        let key = String::from_str(alloc, name)?;
+        self.names.add(key, entry, &mut self.switches)?;
         self.wiring.switch();
         Ok(())
     }
@@ -194,6 +193,14 @@ impl NetworkBuilder {
             links,
         } = self;
         let topology = wiring.finish(alloc)?;
-        Ok(Network::new(alloc, topology, names, nodes, switches, links))
+        Ok(Network {
+            topology,
+            names,
+            nodes,
+            switches,
+            links,
+            flows: FlowTable::new(alloc),
+            replies: FlowTable::new(alloc),
+        })
     }
 }

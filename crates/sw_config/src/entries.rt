@@ -6,7 +6,7 @@ use std::alloc::{AllocError, Global};
 use std::marker::Model;
 use sw_arb::Arbitration;
 use sw_rmap::TargetConfig;
-use sw_route::{IntervalRoutes, Look, Route, Routing, TableRoutes};
+use sw_route::{IntervalRoutes, Route, TableRoutes};
 use sw_topo::PlaceEnd;
 
 /// A node.
@@ -48,10 +48,10 @@ const MAX_LISTED: usize = 16;
 /// A routing switch.
 #[derive(Drop)]
 pub(crate) struct Switch {
-    name: String,
-    arbitration: Arbitration,
-    routes: Vec<Route>,
-    routing: Either<TableRoutes, IntervalRoutes>,
+    pub(crate) name: String,
+    pub(crate) arbitration: Arbitration,
+    pub(crate) routes: Vec<Route>,
+    pub(crate) routing: Either<TableRoutes, IntervalRoutes>,
 }
 
 impl Model for Switch {
@@ -67,9 +67,7 @@ impl Model for Switch {
 }
 
 impl Switch {
-    ghost use Rattle.sw_route.specs.Looks.{IsTable, look_of};
     ghost use Rattle.sw_config.specs.Valid.{IsSwitch};
-    ghost use Rattle.sw_config.specs.Routings.{AnswersAs};
 
     /// A switch whose table is searched by intervals if it is long.
     pub(crate) fn new(
@@ -94,36 +92,5 @@ impl Switch {
             routes,
             routing,
         })
-    }
-
-    pub(crate) fn name(&self) -> &str
-        ensures { result.now ≡ self.now.name }
-    {
-        self.name.as_str()
-    }
-
-    pub(crate) fn arbitration(&self) -> Arbitration
-        ensures { result ≡ self.now.arbitration }
-    {
-        self.arbitration
-    }
-
-    pub(crate) fn routes(&self) -> &[Route]
-        ensures routes { result.now ≡ self.now.routes }
-        ensures table { IsTable result.now }
-    {
-        &self.routes
-    }
-
-    pub(crate) fn routing(&self) -> &Either<TableRoutes, IntervalRoutes>
-        ensures { AnswersAs self.now.routes result.now }
-    {
-        &self.routing
-    }
-
-    pub(crate) fn look(&self, byte: u8) -> Look
-        ensures { result ≡ look_of self.now.routes byte }
-    {
-        self.routing.look(byte)
     }
 }

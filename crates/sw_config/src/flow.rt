@@ -1,7 +1,6 @@
 //! Flows of packets.
-ghost use Rattle.std.specs.Prelude.{◌≡◌, IfOk, option_map};
+ghost use Rattle.std.specs.Prelude.{◌≡◌, option_map};
 
-use std::alloc::{AllocError, Global};
 use std::marker::Model;
 
 /// Where the replies to a flow's commands go.
@@ -66,8 +65,6 @@ impl Model for Flow {
 
 impl Flow {
     ghost use Rattle.std.specs.Prelude.{string_bytes};
-    ghost use Rattle.std.specs.Option.{option_to_list};
-    ghost use Rattle.sw_config.specs.Entries.{replies_of};
 
     /// A flow of this name: `left` of the address bytes are left where its packets end, and replies go as `reply` says.
     pub fn new(
@@ -130,27 +127,5 @@ impl Flow {
         ensures { option_map (λ r. r.now) result ≡ self.now.reply }
     {
         self.reply.as_ref()
-    }
-
-    /// The flow of the replies, if there are any.
-    pub(crate) fn reply_flow(&self, alloc: Global) -> Result<Option<Flow>, AllocError>
-        ensures { IfOk result (λ f. option_to_list f ≡ replies_of self.now self.now.reply) }
-    {
-        let reply = match &self.reply {
-            Some(reply) => reply,
-            None => return Ok(None),
-        };
-        let mut name = String::from_str(alloc, self.name())?;
-        name.push_str("+reply")?;
-        let mut address = Vec::from_slice(alloc, reply.path())?;
-        address.push(reply.initiator)?;
-        Ok(Some(Flow {
-            name,
-            from: self.to,
-            to: self.from,
-            address,
-            left: 1,
-            reply: None,
-        }))
     }
 }

@@ -1,8 +1,8 @@
 //! Flows by number and by name.
-ghost use Rattle.std.specs.Prelude.{◌≡◌, ◌<◌, ◌++◌, ◌∷◌, [], Some, false, length, position, slice_get, take, OnOk, OnErr, IfSome};
+ghost use Rattle.std.specs.Prelude.{◌≡◌, ◌<◌, ◌++◌, ◌∷◌, [], Some, codes, false, length, position, slice_get, take, OnOk, OnErr, IfSome};
 ghost use Rattle.std.specs.List.{list_any};
 ghost use Rattle.std.specs.Str.{bytes_eq};
-ghost use Rattle.sw_config.specs.Entries.{flow_names};
+ghost use Rattle.sw_config.specs.Entries.{flow_names, replies_of};
 
 use crate::flow::Flow;
 use crate::names::NameTable;
@@ -50,12 +50,6 @@ impl FlowTable {
         &self.flows[number]
     }
 
-    pub(crate) fn contains(&self, name: &str) -> bool
-        ensures { result ≡ list_any (bytes_eq name.now) (flow_names self.now) }
-    {
-        self.names.contains(name)
-    }
-
     /// The number of the flow of that name.
     pub(crate) fn number_of(&self, name: &str) -> Option<usize>
         ensures number { result ≡ position (bytes_eq name.now) (flow_names self.now) }
@@ -70,10 +64,24 @@ impl FlowTable {
         ensures ok { OnOk result (self.new ≡ self.old ++ flow ∷ []) }
         ensures err { OnErr result (self.new ≡ self.old) }
     {
-        self.flows.reserve(1)?;
-        self.names.add(alloc, flow.name())?;
-        self.flows.push(flow).unwrap();
-        Ok(())
+        let name = String::from_str(alloc, flow.name())?;
+        self.names.add(name, flow, &mut self.flows)
+    }
+
+    /// Adds the flow of the replies to the flow, whose name is new, at the end, if it has replies.
+    pub(crate) fn add_reply(&mut self, alloc: Global, flow: &Flow) -> Result<(), AllocError>
+        requires { list_any (bytes_eq (flow.now.name ++ codes "+reply")) (flow_names self.old) ≡ false }
+        ensures ok { OnOk result (self.new ≡ self.old ++ replies_of flow.now flow.now.reply) }
+        ensures err { OnErr result (self.new ≡ self.old) }
+    {
+        let Some(reply) = flow.reply() else {
+            return Ok(());
+        };
+        let mut address = Vec::from_slice(alloc, reply.path())?;
+        address.push(reply.initiator())?;
+        let name = [flow.name(), "+reply"].concat(alloc)?;
+        let back = Flow::new(name, flow.to(), flow.from(), address, 1, None);
+        self.add(alloc, back)
     }
 
     /// Keeps the first `count` flows.

@@ -1,5 +1,5 @@
 //! Names in the order in which they came.
-ghost use Rattle.std.specs.Prelude.{◌≡◌, ◌<◌, ◌++◌, ◌∷◌, [], false, length, position, take, OnOk, OnErr, IfSome};
+ghost use Rattle.std.specs.Prelude.{◌≡◌, ◌<◌, ◌++◌, ◌∷◌, [], false, length, position, string_bytes, take, OnOk, OnErr, IfSome};
 ghost use Rattle.std.specs.List.{list_any};
 ghost use Rattle.std.specs.Str.{bytes_eq};
 
@@ -30,12 +30,6 @@ impl NameTable {
         }
     }
 
-    pub(crate) fn contains(&self, name: &str) -> bool
-        ensures { result ≡ list_any (bytes_eq name.now) self.now }
-    {
-        self.names.contains(name)
-    }
-
     /// The place of the name.
     pub(crate) fn place_of(&self, name: &str) -> Option<usize>
         ensures place { result ≡ position (bytes_eq name.now) self.now }
@@ -44,14 +38,22 @@ impl NameTable {
         self.names.get_index_of(name)
     }
 
-    /// Adds a new name at the end.
-    pub(crate) fn add(&mut self, alloc: Global, name: &str) -> Result<(), AllocError>
-        requires { list_any (bytes_eq name.now) self.old ≡ false }
-        ensures ok { OnOk result (self.new ≡ self.old ++ name.now ∷ []) }
-        ensures err { OnErr result (self.new ≡ self.old) }
+    /// Adds a new name at the end, and what has that name at the end of its list.
+    pub(crate) fn add<T: Drop>(
+        &mut self,
+        name: String,
+        named: T,
+        all: &mut Vec<T>,
+    ) -> Result<(), AllocError>
+        requires { list_any (bytes_eq (string_bytes name)) self.old ≡ false }
+        ensures names { OnOk result (self.new ≡ self.old ++ string_bytes name ∷ []) }
+        ensures all { OnOk result (all.new.items ≡ all.old.items ++ named ∷ []) }
+        ensures names_kept { OnErr result (self.new ≡ self.old) }
+        ensures all_kept { OnErr result (all.new.items ≡ all.old.items) }
     {
-        let name = String::from_str(alloc, name)?;
+        all.reserve(1)?;
         self.names.insert(name)?;
+        all.push(named).unwrap();
         Ok(())
     }
 

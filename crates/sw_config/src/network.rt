@@ -13,7 +13,7 @@ use std::alloc::{AllocError, Global};
 use std::marker::Model;
 use sw_arb::Arbitration;
 use sw_rmap::TargetConfig;
-use sw_route::{IntervalRoutes, Look, Route, TableRoutes};
+use sw_route::{IntervalRoutes, Look, Route, Routing, TableRoutes};
 use sw_topo::limits::{MAX_FLOWS, MAX_LINKS, MAX_NODES, MAX_SWITCHES};
 use sw_topo::{Chan, Topology};
 
@@ -23,13 +23,13 @@ use sw_topo::{Chan, Topology};
 /// their reply flows, in the order of their flows.
 #[derive(Drop)]
 pub struct Network {
-    topology: Topology,
-    names: NameTable,
-    nodes: Vec<Node>,
-    switches: Vec<Switch>,
-    links: Vec<Link>,
-    flows: FlowTable,
-    replies: FlowTable,
+    pub(crate) topology: Topology,
+    pub(crate) names: NameTable,
+    pub(crate) nodes: Vec<Node>,
+    pub(crate) switches: Vec<Switch>,
+    pub(crate) links: Vec<Link>,
+    pub(crate) flows: FlowTable,
+    pub(crate) replies: FlowTable,
 }
 
 impl Model for Network {
@@ -48,31 +48,6 @@ impl Network {
     ghost use Rattle.sw_config.specs.Entries.{target_of, routes_of, look_at, wiring_of, capacities, all_flows, flow_names};
     ghost use Rattle.sw_config.specs.Valid.{IsValid, IsFlow};
     ghost use Rattle.sw_config.specs.Routings.{AnswersAs};
-    ghost use Rattle.sw_config.specs.Building.{IsNetwork};
-
-    /// A network without flows.
-    pub(crate) fn new(
-        alloc: Global,
-        topology: Topology,
-        names: NameTable,
-        nodes: Vec<Node>,
-        switches: Vec<Switch>,
-        links: Vec<Link>,
-    ) -> Network
-        requires { IsNetwork topology names [] (record { nodes = nodes.items; switches = switches.items; links = links.items; flows = [] }) }
-        ensures { result ≡ record { nodes = nodes.items; switches = switches.items; links = links.items; flows = [] } }
-    {
-        Network {
-            topology,
-            names,
-            nodes,
-            switches,
-            links,
-            flows: FlowTable::new(alloc),
-            replies: FlowTable::new(alloc),
-        }
-    }
-
     /// Adds a declared flow of a new name, and its reply flow if it has replies.
     ///
     /// # Errors
@@ -86,9 +61,7 @@ impl Network {
         ensures err { OnErr result (self.new ≡ self.old) }
     {
         let replies_before = self.replies.len();
-        if let Some(reply) = flow.reply_flow(alloc)? {
-            self.replies.add(alloc, reply)?;
-        }
+        self.replies.add_reply(alloc, &flow)?;
         if let Err(refused) = self.flows.add(alloc, flow) {
             self.replies.truncate(replies_before);
             return Err(refused);
@@ -100,7 +73,11 @@ impl Network {
     pub fn discard(self) {}
 
     /// Lets go of the network that there may be, as [`Network::discard`] does.
-    pub fn discard_any(_network: Option<Network>) {}
+    pub fn discard_any(network: Option<Network>) {
+        if let Some(network) = network {
+            network.discard();
+        }
+    }
 
     /// How its parts are joined.
     pub fn topology(&self) -> &Topology
@@ -173,7 +150,7 @@ impl Network {
         ensures { option_map (λ e. e.name) (slice_get self.now.switches switch) ≡ Some result.now }
     {
         let switch = &self.switches[switch as usize];
-        switch.name()
+        switch.name.as_str()
     }
 
     /// The node of that name.
@@ -181,7 +158,9 @@ impl Network {
         ensures node { result ≡ position (bytes_eq name.now) (map (λ e. e.name) self.now.nodes) }
         ensures within { IfSome result (λ n. n < length self.now.nodes) }
     {
-        let place = self.names.place_of(name)?;
+        let Some(place) = self.names.place_of(name) else {
+            return None;
+        };
         if place < self.nodes.len() {
             Some(place as u16)
         } else {
@@ -213,7 +192,7 @@ impl Network {
         ensures { option_map (λ e. e.arbitration) (slice_get self.now.switches switch) ≡ Some result }
     {
         let switch = &self.switches[switch as usize];
-        switch.arbitration()
+        switch.arbitration
     }
 
     /// The switch's routing table.
@@ -223,7 +202,7 @@ impl Network {
         ensures table { IsTable result.now }
     {
         let switch = &self.switches[switch as usize];
-        switch.routes()
+        &switch.routes
     }
 
     /// What the leading byte of a packet names at the switch (ECSS-E-ST-50-12C, network layer: packet addressing).
@@ -232,7 +211,7 @@ impl Network {
         ensures { result ≡ look_at self.now.switches switch byte }
     {
         let switch = &self.switches[switch as usize];
-        switch.look(byte)
+        switch.routing.look(byte)
     }
 
     /// The switch's routing table, by its entries where they are few, and by intervals of addresses where they are many.
@@ -241,7 +220,7 @@ impl Network {
         ensures { AnswersAs (routes_of self.now.switches switch) result.now }
     {
         let switch = &self.switches[switch as usize];
-        switch.routing()
+        &switch.routing
     }
 
     /// How many flows there are, reply flows too.
@@ -265,7 +244,7 @@ impl Network {
     pub fn has_flow_name(&self, name: &str) -> bool
         ensures { result ≡ list_any (bytes_eq name.now) (flow_names self.now.flows) }
     {
-        self.flows.contains(name)
+        self.declared_flow_named(name).is_some()
     }
 
     /// The flow of that number.
@@ -288,8 +267,10 @@ impl Network {
         ensures number { result ≡ position (bytes_eq name.now) (flow_names self.now.flows) }
         ensures within { IfSome result (λ i. i < length self.now.flows) }
     {
-        let number = self.flows.number_of(name)?;
-        Some(number as u16)
+        match self.flows.number_of(name) {
+            Some(number) => Some(number as u16),
+            None => None,
+        }
     }
 
     /// The number of the flow of that name; a reply flow's name ends in `+reply`.
@@ -300,7 +281,9 @@ impl Network {
         if let Some(number) = self.flows.number_of(name) {
             return Some(number as u16);
         }
-        let number = self.replies.number_of(name)?;
+        let Some(number) = self.replies.number_of(name) else {
+            return None;
+        };
         Some((self.flows.len() + number) as u16)
     }
 }

@@ -10,25 +10,25 @@ returns-in-Some-clause-number c =
     let d : Declaration = record { nodes = inside.nodes.items; switches = inside.switches.items; links = inside.links.items; flows = inside.flows } in
     rw (← c.self.view_is) (sym (found_declared (bytes_eq c.args.name.now) d c.in-Some.number (sym c.in-Some.ensures.number)))
 
-pub returns-in_err-number-clause-number : goal.returns-in_err-number-clause-number
-returns-in_err-number-clause-number c =
+pub returns-in_default-number_of-clause-number : goal.returns-in_default-number_of-clause-number
+returns-in_default-number_of-clause-number c =
     let inside = c.self.inside in
     let d : Declaration = record { nodes = inside.nodes.items; switches = inside.switches.items; links = inside.links.items; flows = inside.flows } in
     rw (← c.self.view_is)
-    (c.from_residual.ensures ∙ sym (found_reply (bytes_eq c.args.name.now) d inside.replies None c.self.invariant.replied (sym c.number_of.ensures.number ∙ c.in_default.is) (sym c.number_of-2.ensures.number ∙ c.in_err-number.was)))
+    (sym (found_reply (bytes_eq c.args.name.now) d inside.replies None c.self.invariant.replied (sym c.number_of.ensures.number ∙ c.in_default.is) (sym c.number_of-2.ensures.number ∙ c.in_default-number_of.is)))
 
 pub overflow_add-result : goal.overflow_add-result
 overflow_add-result c =
-    omega (arith, c.in_ok-number.ensures.within, c.self.invariant.valid.few_flows, few_replies_in c.self.invariant)
+    omega (arith, c.in-Some-number_of.ensures.within, c.self.invariant.valid.few_flows, few_replies_in c.self.invariant)
 
 pub overflow_cast-result-2 : goal.overflow_cast-result-2
 overflow_cast-result-2 c =
-    omega (arith, c.in_ok-number.ensures.within, c.self.invariant.valid.few_flows, few_replies_in c.self.invariant)
+    omega (arith, c.in-Some-number_of.ensures.within, c.self.invariant.valid.few_flows, few_replies_in c.self.invariant)
 
 pub returns-clause-number : goal.returns-clause-number
 returns-clause-number c =
     let inside = c.self.inside in
     let d : Declaration = record { nodes = inside.nodes.items; switches = inside.switches.items; links = inside.links.items; flows = inside.flows } in
     rw (← c.self.view_is)
-    (ap (λ n. Some (n + c.in_ok-number.number)) c.len.ensures
-    ∙ sym (found_reply (bytes_eq c.args.name.now) d inside.replies (Some c.in_ok-number.number) c.self.invariant.replied (sym c.number_of.ensures.number ∙ c.in_default.is) (sym c.in_ok-number.ensures.number)))
+    (ap (λ n. Some (n + c.in-Some-number_of.number)) c.len.ensures
+    ∙ sym (found_reply (bytes_eq c.args.name.now) d inside.replies (Some c.in-Some-number_of.number) c.self.invariant.replied (sym c.number_of.ensures.number ∙ c.in_default.is) (sym c.in-Some-number_of.ensures.number)))

@@ -6,13 +6,13 @@ use Rattle.sw_config.specs.Entries.{NodeEntry, SwitchEntry}
 use Rattle.sw_config.proofs.Positions.{position-none, position-in_first, position-in_second}
 use Rattle.sw_config.proofs.network.Network.node_named.Goals as goal
 
-pub returns-in_err-place-clause-node : goal.returns-in_err-place-clause-node
-returns-in_err-place-clause-node c =
+pub returns-in_default-clause-node : goal.returns-in_default-clause-node
+returns-in_default-clause-node c =
     let test = bytes_eq c.args.name.now in
     let nodes : List (List ℕ) = map (λ (n : NodeEntry). n.name) c.self.inside.nodes.items in
     let switches : List (List ℕ) = map (λ (s : SwitchEntry). s.name) c.self.inside.switches.items in
     rw (← c.self.view_is)
-    (c.from_residual.ensures ∙ sym (position-none test nodes switches (ap (position test) (sym c.self.invariant.named) ∙ sym c.place_of.ensures.place ∙ c.in_err-place.was)))
+    (sym (position-none test nodes switches (ap (position test) (sym c.self.invariant.named) ∙ sym c.place_of.ensures.place ∙ c.in_default.is)))
 
 pub returns-then-place-len-clause-node : goal.returns-then-place-len-clause-node
 returns-then-place-len-clause-node c =
@@ -20,7 +20,7 @@ returns-then-place-len-clause-node c =
     let nodes : List (List ℕ) = map (λ (n : NodeEntry). n.name) c.self.inside.nodes.items in
     let switches : List (List ℕ) = map (λ (s : SwitchEntry). s.name) c.self.inside.switches.items in
     rw (← c.self.view_is)
-    (sym (position-in_first test nodes switches c.in_ok-place.place (ap (position test) (sym c.self.invariant.named) ∙ sym c.in_ok-place.ensures.place) (rw length-map (omega arith))))
+    (sym (position-in_first test nodes switches c.in-Some.place (ap (position test) (sym c.self.invariant.named) ∙ sym c.in-Some.ensures.place) (rw length-map (omega arith))))
 
 pub returns-else-place-len-clause-node : goal.returns-else-place-len-clause-node
 returns-else-place-len-clause-node c =
@@ -28,4 +28,4 @@ returns-else-place-len-clause-node c =
     let nodes : List (List ℕ) = map (λ (n : NodeEntry). n.name) c.self.inside.nodes.items in
     let switches : List (List ℕ) = map (λ (s : SwitchEntry). s.name) c.self.inside.switches.items in
     rw (← c.self.view_is)
-    (sym (position-in_second test nodes switches c.in_ok-place.place [] (ap (position test) (sym c.self.invariant.named) ∙ sym c.in_ok-place.ensures.place) (rw length-map (omega arith))))
+    (sym (position-in_second test nodes switches c.in-Some.place [] (ap (position test) (sym c.self.invariant.named) ∙ sym c.in-Some.ensures.place) (rw length-map (omega arith))))
