@@ -1,11 +1,12 @@
 -- All flows that go on from a channel to another, and lists of the first numbers that have a property.
-use Rattle.std.proofs.Common.{◌≡◌, ℕ, ◌+◌, ◌<◌, List, [], ◌∷◌, ◌++◌, length, true, false, Option, Some, None, Contains, ◌-◌, refl, sym, ap, ◌∙◌, subst, inl, inr, arith}
+use Rattle.std.proofs.Common.{◌≡◌, ℕ, ◌+◌, ◌<◌, ◌≤◌, List, [], ◌∷◌, ◌++◌, length, true, false, Option, Some, None, Contains, ◌-◌, refl, sym, ap, ◌∙◌, subst, take, inl, inr, arith}
 use Rattle.std.specs.Prelude.{IfNone, IfSome, slice_get, slice_index}
+use Rattle.std.specs.List.{AllWithin}
 use Rattle.std.specs.List.Sorted.{IsStrictlyIncreasing}
 use Rattle.std.specs.Option.{is_some}
 use Rattle.std.proofs.lemmas.Bool.{cases_lt, false≢true}
 use Rattle.std.proofs.lemmas.List.Elements.{Contains-append_cases, Contains-append_left, Contains-push, Contains-push_cases, Contains-get_or}
-use Rattle.std.proofs.lemmas.List.{get_or-append_right, get_or_append_left, length-append}
+use Rattle.std.proofs.lemmas.List.{get_or-append_right, get_or_append_left, get_or-take, length-append, length-take-le}
 use Rattle.sw_config.specs.Entries.{FlowEntry, Declaration, all_flows}
 use Rattle.sw_flow.specs.declared.place.Place.{Place}
 use Rattle.sw_flow.specs.Places.{Follows, IsPlace}
@@ -17,6 +18,18 @@ use Rattle.sw_cycle.specs.Firsts.{NoneFrom}
 
 pub none_from_none : (d : Declaration) (f : FlowEntry) (c e : ℕ) → NoneFrom d f [] c e
 none_from_none d f c e = λ p m at is follows. nothing_in p at
+
+-- no step from the places before one, and none behind it is on the channel
+pub none_left : (d : Declaration) (f : FlowEntry) (places : List Place) (at c e : ℕ) → at ≤ length places → AllWithin (λ (q : Place). c < q.channel) places at (length places) → NoneFrom d f (take at places) c e → NoneFrom d f places c e
+none_left d f places at c e within after before p m (k, lt, is) on follows = elim (cases_lt k at) [
+  | inl less ↦
+      let long = length-take-le at places within in
+      before p m (k, omega (arith, less, long), get_or-take at places k p less ∙ is) on follows
+  | inr past ↦
+      let high = after k p past lt in
+      let same = ap (λ (q : Place). q.channel) is in
+      absurd (omega (arith, high, same, on))
+]
 
 module _ (d : Declaration) (i : ℕ) (f : FlowEntry) (p : Place) (c e : ℕ) where
   -- the step that was found

@@ -1,9 +1,10 @@
 -- What the check of a cycle looks at.
-use Rattle.std.proofs.Common.{◌≡◌, ℕ, ◌+◌, ◌%◌, ◌<◌, ◌≤◌, ◌↔◌, ◌∷◌, List, length, map, get_or, drop, drop-cons, suc, Some, refl, sym, ap, ◌∙◌, subst, inl, inr, arith}
+use Rattle.std.proofs.Common.{not, eqb, false, ◌≡◌, ℕ, ◌+◌, ◌%◌, ◌<◌, ◌≤◌, ◌↔◌, ◌∷◌, List, length, map, get_or, drop, drop-cons, suc, Some, refl, sym, ap, ◌∙◌, subst, inl, inr, arith}
 use Rattle.std.specs.Prelude.{Bool, IsTrue, slice_get}
 use Rattle.std.specs.Option.{option_map}
 use Rattle.std.proofs.Math.Nat.{mod-eq_of_lt, mod-lt}
 use Rattle.std.proofs.lemmas.Bool.{cases_eq}
+use Rattle.std.proofs.lemmas.Bool.Decides.{nat_tests}
 use Rattle.std.proofs.lemmas.List.{get_or_default, length-map}
 use Rattle.std.proofs.lemmas.Option.{same_Some, slice_get-map, slice_get_read, slice_get_within}
 use Rattle.sw_config.specs.Entries.{Declaration, all_flows}
@@ -74,3 +75,7 @@ pub next_place : (places : List Place) (i : ℕ) (q : Place) → i < length plac
 next_place places i q lt is =
     let next : suc i ≡ i + 1 = omega arith in
     drop-cons places i q lt ∙ ap (λ (p : Place). p ∷ drop (suc i) places) (sym is) ∙ ap (λ (k : ℕ). q ∷ drop k places) next
+
+-- what is not told to differ is equal
+pub equal_where : (a b : ℕ) (r : Bool) → r ≡ not (eqb a b) → r ≡ false → a ≡ b
+equal_where a b r is told = grind (arith, nat_tests)

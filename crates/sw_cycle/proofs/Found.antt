@@ -1,8 +1,9 @@
 -- First steps, one place and one flow more at a time.
-use Rattle.std.proofs.Common.{◌≡◌, ℕ, zero, suc, ◌+◌, ◌<◌, ◌≤◌, List, [], ◌∷◌, ◌++◌, length, get_or, replicate, set, Option, Some, None, Contains, refl, sym, ap, ◌∙◌, subst, inl, inr, arith, get_or-set_same, get_or-set_other, length-set}
+use Rattle.std.proofs.Common.{◌≡◌, ℕ, zero, suc, ◌+◌, ◌<◌, ◌≤◌, true, false, List, [], ◌∷◌, ◌++◌, length, get_or, replicate, set, Option, Some, None, Contains, refl, sym, ap, ◌∙◌, subst, inl, inr, arith, get_or-set_same, get_or-set_other, length-set}
 use Rattle.std.specs.Prelude.{MatchOption, slice_get, slice_index_or}
 use Rattle.std.proofs.Math.Nat.{mod-eq_of_lt}
-use Rattle.std.proofs.lemmas.Bool.{cases_eq, cases_lt}
+use Rattle.std.specs.Option.{is_some}
+use Rattle.std.proofs.lemmas.Bool.{cases_eq, cases_lt, false≢true}
 use Rattle.std.proofs.lemmas.List.{get_or-replicate, length-replicate}
 use Rattle.std.proofs.lemmas.List.Elements.{Contains-append_cases, Contains-append_left}
 use Rattle.std.proofs.lemmas.Option.{slice_get-get_or, slice_get_within}
@@ -69,6 +70,43 @@ flow_more d n f places channels steps numbered list a =
 pub all_looked_at : (d : Declaration) (n : ℕ) (channels : List ℕ) (steps : List (Option Step)) → length (all_flows d) ≤ n → AreFirst d (NoneBelow d n) channels steps → AreFirst d (NoneGoesOn d) channels steps
 all_looked_at d n channels steps all a =
     weaker_all d (NoneBelow d n) (NoneGoesOn d) (λ c e none i goes. let within = slice_get_within (all_flows d) i goes.2.flow goes.2.numbered in none i (omega arith) goes) channels steps a
+
+-- before the first place of a flow
+pub flow_begun : (d : Declaration) (n : ℕ) (f : FlowEntry) (channels : List ℕ) (steps : List (Option Step)) → AreFirst d (NoneBelow d n) channels steps → AreFirst d (NoneYet d n f []) channels steps
+flow_begun d n f channels steps a = weaker_all d (NoneBelow d n) (NoneYet d n f []) (λ c e none. (none, λ p m at. absurd (let lt = at.1 in omega (arith, lt)))) channels steps a
+
+-- ---- one place at one position
+
+set_back : (steps : List (Option Step)) (i : ℕ) → steps ≡ set steps i (get_or steps i None)
+set_back [] i = refl
+set_back (s ∷ steps) zero = refl
+set_back (s ∷ steps) (suc i) = ap (λ (l : List (Option Step)). s ∷ l) (set_back steps i)
+
+module _ (d : Declaration) (n : ℕ) (f : FlowEntry) (p : Place) (channels : List ℕ) (i : ℕ) (steps : List (Option Step)) where
+  -- what is there is kept
+  pub kept_at : IsStepAfter d n f p (round channels i) (round channels (i + 1)) (get_or steps i None) (get_or steps i None) → IsNotedAt d n f p channels i steps steps
+  kept_at after = record { found = get_or steps i None; after = after; stored = set_back steps i }
+
+  same_after : (c e : ℕ) (o : Option Step) → is_some o ≡ true → IsStepAfter d n f p c e o o
+  same_after c e None some = absurd (false≢true some)
+  same_after c e (Some s) some = refl
+
+  pub known_at : is_some (get_or steps i None) ≡ true → IsNotedAt d n f p channels i steps steps
+  known_at some = kept_at (same_after (round channels i) (round channels (i + 1)) (get_or steps i None) some)
+
+  none_after : (c e : ℕ) (o : Option Step) → is_some o ≡ false → (p.channel ≡ c → (m : ℕ) → Follows d f p.channel p.deleted e m → ⊥) → IsStepAfter d n f p c e o o
+  none_after c e None none last = last
+  none_after c e (Some s) none last = absurd (false≢true (sym none))
+
+  pub nothing_at : is_some (get_or steps i None) ≡ false → (p.channel ≡ round channels i → (m : ℕ) → Follows d f p.channel p.deleted (round channels (i + 1)) m → ⊥) → IsNotedAt d n f p channels i steps steps
+  nothing_at none last = kept_at (none_after (round channels i) (round channels (i + 1)) (get_or steps i None) none last)
+
+  new_after : (c e : ℕ) (o : Option Step) (s : Step) → is_some o ≡ false → IsTaken d n f p c e s → IsStepAfter d n f p c e o (Some s)
+  new_after c e None s none taken = taken
+  new_after c e (Some t) s none taken = absurd (false≢true (sym none))
+
+  pub found_at : (s : Step) → is_some (get_or steps i None) ≡ false → IsTaken d n f p (round channels i) (round channels (i + 1)) s → IsNotedAt d n f p channels i steps (set steps i (Some s))
+  found_at s none taken = record { found = Some s; after = new_after (round channels i) (round channels (i + 1)) (get_or steps i None) s none taken; stored = refl }
 
 -- ---- one place more
 

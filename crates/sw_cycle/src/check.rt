@@ -1,26 +1,20 @@
 //! The check of a shown cycle.
-ghost use Rattle.std.specs.Prelude.{◌≡◌, ◌<◌, ◌↔◌, IsSome, IsTrue, length, map};
-ghost use Rattle.sw_flow.specs.Ways.{GoesFromStart, GoesOver, IsStart};
-ghost use Rattle.sw_cycle.specs.Cycles.{cause_of, EndsOn, IsAnswered, IsCause, IsCausedAt, IsFlowCause, IsShown, IsTargetCause};
+ghost use Rattle.std.specs.Prelude.{◌<◌, ◌↔◌, IsTrue, length, map};
+ghost use Rattle.sw_flow.specs.Ways.{GoesFromStart, GoesOver};
+ghost use Rattle.sw_cycle.specs.Cycles.{cause_of, EndsOn, IsAnswered, IsCause, IsFlowCause, IsShown, IsTargetCause};
 
 use crate::cycle::{Cause, Cycle};
 use sw_config::{Flow, Network};
 use sw_flow::{Place, follows};
 use sw_topo::Chan;
 
-/// Has the flow a reply, and does it end at the node?
-fn is_answered_at(flow: &Flow, node: u16) -> bool
-    ensures { IsTrue result ↔ (IsSome flow.now.reply × (flow.now.to ≡ node)) }
-{
-    flow.to() == node && flow.reply().is_some()
-}
-
 /// Does a flow with a reply end at the node?
 fn is_answered(network: &Network, node: u16) -> bool
     ensures { IsTrue result ↔ IsAnswered network.now node }
 {
     for number in 0..network.flows() {
-        if is_answered_at(network.flow(number), node) {
+        let flow = network.flow(number);
+        if flow.to() == node && flow.reply().is_some() {
             return true;
         }
     }
@@ -35,13 +29,6 @@ fn is_target_cause(network: &Network, node: u16, from: Chan, to: Chan) -> bool
         return false;
     }
     topology.out(node) == to && to.partner() == from && is_answered(network, node)
-}
-
-fn is_start(network: &Network, flow: &Flow, place: Place) -> bool
-    requires { flow.now.from < length network.now.nodes }
-    ensures { IsTrue result ↔ IsStart network.now flow.now place }
-{
-    network.topology().out(flow.from()) == place.channel && place.deleted == 0
 }
 
 /// Does the flow go from the place over these places, by one step to each?
@@ -65,7 +52,10 @@ fn goes_from_start(network: &Network, flow: &Flow, places: &[Place]) -> bool
     match places.split_first() {
         None => false,
         Some((first, rest)) => {
-            is_start(network, flow, *first) && goes_over(network, flow, *first, rest)
+            if network.topology().out(flow.from()) != first.channel {
+                return false;
+            }
+            first.deleted == 0 && goes_over(network, flow, *first, rest)
         }
     }
 }
@@ -96,16 +86,6 @@ fn is_cause(network: &Network, cause: &Cause, from: Chan, to: Chan) -> bool
     }
 }
 
-/// Is the cause at this place true of the channel there and the next one?
-fn is_caused_at(network: &Network, channels: &[Chan], causes: &[Cause], place: usize) -> bool
-    requires one_each { length causes.now ≡ length channels.now }
-    requires inside { place < length channels.now }
-    ensures { IsTrue result ↔ IsCausedAt network.now channels.now (map cause_of causes.now) place }
-{
-    let next = channels[(place + 1) % channels.len()];
-    is_cause(network, &causes[place], channels[place], next)
-}
-
 fn is_shown(network: &Network, channels: &[Chan], causes: &[Cause]) -> bool
     ensures { IsTrue result ↔ IsShown network.now (record { channels = channels.now; causes = map cause_of causes.now }) }
 {
@@ -114,7 +94,8 @@ fn is_shown(network: &Network, channels: &[Chan], causes: &[Cause]) -> bool
         return false;
     }
     for place in 0..count {
-        if !is_caused_at(network, channels, causes, place) {
+        let next = channels[(place + 1) % count];
+        if !is_cause(network, &causes[place], channels[place], next) {
             return false;
         }
     }

@@ -5,8 +5,8 @@ ghost use Rattle.sw_config.specs.Entries.{all_flows};
 ghost use Rattle.sw_flow.specs.Places.{IsPlaceList};
 ghost use Rattle.sw_machine.specs.Places.{IsDependency};
 ghost use Rattle.sw_model.specs.Model.{network_of};
-ghost use Rattle.sw_cycle.specs.Cycles.{cause_of, IsFlowCause};
-ghost use Rattle.sw_cycle.specs.Causes.{AreChosen, AreFor, IsChosenCause, IsRound, IsStep, NoneGoesOn};
+ghost use Rattle.sw_cycle.specs.Cycles.{cause_of};
+ghost use Rattle.sw_cycle.specs.Causes.{AreChosen, AreFor, IsChosenCause, IsRound, NoneGoesOn};
 ghost use Rattle.sw_cycle.specs.Firsts.{AreFirst, IsFirstStep};
 
 use crate::cycle::Cause;
@@ -16,16 +16,6 @@ use std::alloc::{AllocError, Global};
 use sw_config::Network;
 use sw_flow::{Place, way_to};
 use sw_topo::{Chan, PlaceEnd};
-
-/// The places of the flow from its start on that end with the step.
-fn places_to(alloc: Global, network: &Network, step: &Step) -> Result<Vec<Place>, AllocError>
-    requires { IsStep network.now step.now.flow step.now.last.channel step.now.next.channel step.now.last step.now.next }
-    ensures { IfOk result (λ v. IsFlowCause network.now step.now.flow v.items step.now.last.channel step.now.next.channel) }
-{
-    let mut places = way_to(alloc, network, step.flow, step.last)?.unwrap();
-    places.push(step.next)?;
-    Ok(places)
-}
 
 /// The cause that is chosen for the dependency of one channel on another, where this is a step of
 /// the first flow that goes on so.
@@ -41,7 +31,8 @@ fn cause_for(
     ensures { IfOk result (λ cause. IsChosenCause network.now (cause_of cause) from to) }
 {
     if let Some(step) = first {
-        let places = places_to(alloc, network, &step)?;
+        let mut places = way_to(alloc, network, step.flow, step.last)?.unwrap();
+        places.push(step.next)?;
         return Ok(Cause::Flow(step.flow, places));
     }
     match network.topology().end_of(from) {
@@ -71,24 +62,6 @@ fn add_cause(
     Ok(())
 }
 
-/// The causes by the first steps from each channel to the next one.
-fn causes_by(
-    alloc: Global,
-    network: &Network,
-    steps: &[Option<Step>],
-    channels: &[Chan],
-) -> Result<Vec<Cause>, AllocError>
-    requires first { AreFirst network.now (NoneGoesOn network.now) channels.now steps.now }
-    requires cycle { IsRound network.now channels.now }
-    ensures { IfOk result (λ v. AreChosen network.now channels.now (map cause_of v.items)) }
-{
-    let mut causes = Vec::new(alloc);
-    for place in 0..channels.len() {
-        add_cause(alloc, network, steps, channels, place, &mut causes)?;
-    }
-    Ok(causes)
-}
-
 /// The causes of a cycle of dependencies: for each of the channels and the next one, for the last and the first, the first flow that
 /// goes on from the one to the other, and where no flow does, the target between them. `places` has the places of each flow, by the
 /// flows' numbers, as `all_places` gives them.
@@ -112,5 +85,9 @@ pub fn causes(
     // Names the network, which is valid by its type.
     let _topology = network.topology();
     let steps = first_steps(alloc, network, places, channels)?;
-    causes_by(alloc, network, &steps, channels)
+    let mut causes = Vec::new(alloc);
+    for place in 0..channels.len() {
+        add_cause(alloc, network, &steps, channels, place, &mut causes)?;
+    }
+    Ok(causes)
 }

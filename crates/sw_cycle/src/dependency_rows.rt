@@ -9,14 +9,13 @@ ghost use Rattle.sw_graph.specs.Rows.{IsGraph, Leads};
 ghost use Rattle.sw_cycle.specs.Named.{AreNamed, AreRouted};
 ghost use Rattle.sw_cycle.specs.Rows.{AreOnce};
 
-use crate::answering::answering;
 use crate::named::Named;
-use crate::parallel::{PortWorkers, all_named};
-use crate::rows::rows;
+use crate::parallel::{PortWorkers, joined};
+use crate::rows::row_of;
 use std::alloc::{AllocError, Global};
 use sw_config::Network;
 use sw_flow::Place;
-use sw_topo::PortSet;
+use sw_topo::{Chan, PortSet};
 
 /// The rows of the dependencies, from the sets of ports that flows name, by channel.
 fn rows_from(
@@ -31,9 +30,21 @@ fn rows_from(
     ensures once { IfOk result (λ v. AreOnce v.items) }
 {
     // Names the network, which is valid by its type.
-    let _flows = network.flows();
-    let marks = answering(alloc, network)?;
-    rows(alloc, network, sets, &marks)
+    let _topology = network.topology();
+    // A mark for each node: set where a flow ends whose packets are answered.
+    let mut marks = vec![in alloc; false; usize::from(network.nodes())]?;
+    for number in 0..network.flows() {
+        let flow = network.flow(number);
+        if flow.reply().is_some() {
+            marks[usize::from(flow.to())] = true;
+        }
+    }
+    let mut rows = Vec::new(alloc);
+    for channel in 0..network.channels() {
+        let ports = sets[usize::from(channel)];
+        rows.push(row_of(alloc, network.topology(), Chan::new(channel), ports, &marks)?)?;
+    }
+    Ok(rows)
 }
 
 /// What `dependencies` gives, and whether each flow is well routed.
@@ -54,7 +65,8 @@ pub fn routed_dependencies<W: PortWorkers>(
     ensures once { IfOk result (λ r. AreOnce r.0.items) }
     ensures routed { IfOk result (λ r. IsTrue r.1 ↔ AreRouted network.now 0 (length (all_flows network.now))) }
 {
-    let Named { sets, is_routed } = all_named(workers, alloc, network, places)?;
+    let parts = workers.named_by_chunks(alloc, network, places)?;
+    let Named { sets, is_routed } = joined(alloc, network, &parts)?;
     let rows = rows_from(alloc, network, &sets)?;
     Ok((rows, is_routed))
 }

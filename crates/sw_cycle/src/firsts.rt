@@ -3,8 +3,8 @@ ghost use Rattle.std.specs.Prelude.{◌≡◌, ◌<◌, ◌≤◌, ℕ, All, Con
 ghost use Rattle.std.specs.List.{AllZip};
 ghost use Rattle.sw_config.specs.Entries.{all_flows};
 ghost use Rattle.sw_flow.specs.Places.{IsPlace, IsPlaceList, ends_of};
-ghost use Rattle.sw_cycle.specs.Causes.{NoneBelow, NoneGoesOn};
-ghost use Rattle.sw_cycle.specs.Firsts.{AreFirst, AreNoted, IsNotedAt, IsStepAfter, NoneYet};
+ghost use Rattle.sw_cycle.specs.Causes.{NoneGoesOn};
+ghost use Rattle.sw_cycle.specs.Firsts.{AreFirst, AreNoted, IsNotedAt, NoneYet};
 ghost use Rattle.sw_cycle.specs.Positions.{ArePositions};
 
 use crate::flow_places::flow_and_places;
@@ -14,31 +14,6 @@ use std::alloc::{AllocError, Global};
 use sw_config::{Flow, Network};
 use sw_flow::Place;
 use sw_topo::Chan;
-
-/// The step from one channel to the other that is known after a place of a flow: the one that was
-/// found before, else the flow's step from this place.
-fn step_after(
-    network: &Network,
-    number: u16,
-    flow: &Flow,
-    place: &Place,
-    from: Chan,
-    to: Chan,
-    found: Option<Step>,
-) -> Option<Step>
-    requires { length flow.now.address ≤ 32 }
-    ensures { IsStepAfter network.now number flow.now place.now from to found result }
-{
-    if let Some(step) = found {
-        return Some(step);
-    }
-    let next = follower_between(network, flow, *place, from, to)?;
-    Some(Step {
-        flow: number,
-        last: *place,
-        next,
-    })
-}
 
 /// Takes one more place of a flow into account at one position of the round.
 fn note_at(
@@ -57,8 +32,17 @@ fn note_at(
 {
     let from = channels[position];
     let to = channels[(position + 1) % channels.len()];
-    let found = steps[position];
-    steps[position] = step_after(network, number, flow, place, from, to, found);
+    if steps[position].is_some() {
+        return;
+    }
+    let Some(next) = follower_between(network, flow, *place, from, to) else {
+        return;
+    };
+    steps[position] = Some(Step {
+        flow: number,
+        last: *place,
+        next,
+    });
 }
 
 /// Takes one more place of a flow into account, whose channel stands at these positions of the
@@ -108,26 +92,6 @@ fn note_places(
     }
 }
 
-/// Takes the places of all flows into account.
-fn note_flows(
-    network: &Network,
-    places: &[Vec<Place>],
-    channels: &[Chan],
-    positions: &[Vec<usize>],
-    steps: &mut [Option<Step>],
-)
-    requires lists { AllZip (λ f ps. IsPlaceList network.now f ps.items) (all_flows network.now) places.now }
-    requires count { length positions.now ≡ length (ends_of network.now) }
-    requires positions { ArePositions channels.now (length channels.now) positions.now }
-    requires first { AreFirst network.now (NoneBelow network.now 0) channels.now steps.old }
-    ensures { AreFirst network.now (NoneGoesOn network.now) channels.now steps.new }
-{
-    for number in 0..network.flows() {
-        let (flow, listed) = flow_and_places(network, places, number);
-        note_places(network, number, flow, listed, channels, positions, steps);
-    }
-}
-
 /// For each channel of the round and the next one a step of the first flow that goes on so, if one
 /// does.
 ///
@@ -144,6 +108,11 @@ pub(crate) fn first_steps(
 {
     let mut steps = vec![in alloc; None; channels.len()]?;
     let positions = positions_of(alloc, usize::from(network.channels()), channels)?;
-    note_flows(network, places, channels, &positions, &mut steps);
+    for number in 0..network.flows() {
+        let (flow, listed) = flow_and_places(network, places, number);
+        note_places(
+            network, number, flow, listed, channels, &positions, &mut steps,
+        );
+    }
     Ok(steps)
 }

@@ -1,12 +1,11 @@
 //! All flows that go on from each channel of a round to the next one.
 ghost use Rattle.std.specs.Prelude.{◌≡◌, ◌+◌, ◌<◌, ◌≤◌, ◌↔◌, AllPairs, Contains, IfOk, IsTrue, OnOk, Some, length, nat_lt, slice_get};
 ghost use Rattle.std.specs.List.{AllZip};
-ghost use Rattle.std.specs.List.Sorted.{IsPartitionPoint};
 ghost use Rattle.sw_config.specs.Entries.{all_flows};
 ghost use Rattle.sw_flow.specs.declared.place.Place.{Place};
 ghost use Rattle.sw_flow.specs.Places.{IsBefore, IsPlaceList};
 ghost use Rattle.sw_cycle.specs.Causes.{GoesOn};
-ghost use Rattle.sw_cycle.specs.Goers.{AreBelow, AreFlows, AreMarked, IsTakenAt};
+ghost use Rattle.sw_cycle.specs.Goers.{AreBelow, AreFlows, AreMarked};
 
 use crate::flow_places::flow_and_places;
 use crate::marks::is_marked;
@@ -17,69 +16,18 @@ use sw_flow::Place;
 use sw_graph::{add_to_row, empty_rows};
 use sw_topo::Chan;
 
-/// Where the first place stands that is on the channel or on one after it.
-fn first_from(places: &[Place], channel: Chan) -> usize
+/// The places on the channel and on those after it.
+fn places_from(places: &[Place], channel: Chan) -> &[Place]
     requires { AllPairs IsBefore places.now }
-    ensures bound { result ≤ length places.now }
-    ensures parted { IsPartitionPoint (λ p. p.channel < channel) (λ p. channel ≤ p.channel) places.now result }
+    ensures order { AllPairs IsBefore result.now }
+    ensures listed { (p : Place) → Contains result.now p ↔ (Contains places.now p × (channel ≤ p.channel)) }
 {
-    places.partition_point(
+    let first = places.partition_point(
         |place: &Place| -> bool
             ensures { result ≡ nat_lt place.now.channel channel }
         { place.channel.number() < channel.number() },
-    )
-}
-
-/// Where the first place stands that is on a channel after this one. `first` is where the first one
-/// stands that is on this channel or on one after it.
-fn first_after(places: &[Place], first: usize, channel: Chan) -> usize
-    requires order { AllPairs IsBefore places.now }
-    requires bound { first ≤ length places.now }
-    requires parted { IsPartitionPoint (λ p. p.channel < channel) (λ p. channel ≤ p.channel) places.now first }
-    ensures bound { first ≤ result × (result ≤ length places.now) }
-    ensures parted { IsPartitionPoint (λ p. p.channel ≤ channel) (λ p. channel < p.channel) places.now result }
-{
-    for after in first..places.len() {
-        if places[after].channel != channel {
-            return after;
-        }
-    }
-    places.len()
-}
-
-/// The places on the channel.
-fn places_on(places: &[Place], channel: Chan) -> &[Place]
-    requires { AllPairs IsBefore places.now }
-    ensures { (p : Place) → Contains result.now p ↔ (Contains places.now p × (p.channel ≡ channel)) }
-{
-    let first = first_from(places, channel);
-    let after = first_after(places, first, channel);
-    &places[first..after]
-}
-
-/// Marks the channels of the places.
-fn mark_places(places: &[Place], marks: &mut [bool])
-    requires { (p : Place) → Contains places.now p → p.channel < length marks.old }
-    ensures { AreMarked places.now marks.new }
-{
-    for place in places {
-        marks[usize::from(place.channel.number())] = true;
-    }
-}
-
-/// A mark for each channel on which the flow has a place.
-fn marks_of(
-    alloc: Global,
-    network: &Network,
-    flow: &Flow,
-    places: &[Place],
-) -> Result<Vec<bool>, AllocError>
-    requires { IsPlaceList network.now flow.now places.now }
-    ensures { IfOk result (λ v. AreMarked places.now v.items) }
-{
-    let mut marks = vec![in alloc; false; usize::from(network.channels())]?;
-    mark_places(places, &mut marks);
-    Ok(marks)
+    );
+    &places[first..]
 }
 
 /// Does the flow of that number, which has these places, on channels that are marked, go on from
@@ -102,60 +50,15 @@ fn goes_on_from(
     if !is_marked(marks, from.number()) {
         return false;
     }
-    for place in places_on(places, from) {
+    for place in places_from(places, from) {
+        if place.channel != from {
+            return false;
+        }
         if follower_between(network, flow, *place, from, to).is_some() {
             return true;
         }
     }
     false
-}
-
-/// Takes one more flow into account at one step of the round.
-fn take_at(
-    network: &Network,
-    number: u16,
-    flow: &Flow,
-    places: &[Place],
-    marks: &[bool],
-    channels: &[Chan],
-    step: usize,
-    flows: &mut [Vec<u16>],
-) -> Result<(), AllocError>
-    requires short { length flow.now.address ≤ 32 }
-    requires numbered { slice_get (all_flows network.now) number ≡ Some flow.now }
-    requires places { IsPlaceList network.now flow.now places.now }
-    requires marked { AreMarked places.now marks.now }
-    requires inside { step < length channels.now }
-    requires size { length flows.old ≡ length channels.now }
-    ensures { OnOk result (IsTakenAt network.now channels.now number step flows.old flows.new) }
-{
-    let from = channels[step];
-    let to = channels[(step + 1) % channels.len()];
-    let goes = goes_on_from(network, number, flow, places, marks, from, to);
-    add_to_row(flows, step, goes, number)
-}
-
-/// Takes one more flow into account at each step of the round.
-fn take_flow(
-    network: &Network,
-    number: u16,
-    flow: &Flow,
-    places: &[Place],
-    marks: &[bool],
-    channels: &[Chan],
-    flows: &mut [Vec<u16>],
-) -> Result<(), AllocError>
-    requires short { length flow.now.address ≤ 32 }
-    requires numbered { slice_get (all_flows network.now) number ≡ Some flow.now }
-    requires places { IsPlaceList network.now flow.now places.now }
-    requires marked { AreMarked places.now marks.now }
-    requires below { AreBelow network.now channels.now number flows.old }
-    ensures { OnOk result (AreBelow network.now channels.now (number + 1) flows.new) }
-{
-    for step in 0..channels.len() {
-        take_at(network, number, flow, places, marks, channels, step, flows)?;
-    }
-    Ok(())
 }
 
 /// Takes the flow of that number into account at each step of the round.
@@ -173,8 +76,16 @@ fn take_numbered(
     ensures { OnOk result (AreBelow network.now channels.now (number + 1) flows.new) }
 {
     let (flow, listed) = flow_and_places(network, places, number);
-    let marks = marks_of(alloc, network, flow, listed)?;
-    take_flow(network, number, flow, listed, &marks, channels, flows)
+    let mut marks = vec![in alloc; false; usize::from(network.channels())]?;
+    for place in listed {
+        marks[usize::from(place.channel.number())] = true;
+    }
+    for step in 0..channels.len() {
+        let to = channels[(step + 1) % channels.len()];
+        let goes = goes_on_from(network, number, flow, listed, &marks, channels[step], to);
+        add_to_row(flows, step, goes, number)?;
+    }
+    Ok(())
 }
 
 /// For each of the channels the numbers of all flows that go on from it to the next one, and from

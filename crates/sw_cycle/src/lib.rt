@@ -2,7 +2,6 @@
 //! flows and places that cause them.
 #![tactic(auto)]
 
-mod answering;
 mod check;
 mod choose;
 mod cycle;

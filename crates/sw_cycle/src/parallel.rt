@@ -7,7 +7,8 @@ ghost use Rattle.sw_flow.specs.Places.{IsPlaceList};
 ghost use Rattle.sw_cycle.specs.Named.{AreNamed, AreRouted};
 ghost use Rattle.sw_cycle.specs.Chunks.{AreJoined, IsNamedChunk, chunk_start};
 
-use crate::named::{Named, named_by};
+use crate::flow_places::flow_and_places;
+use crate::named::{Named, add_places};
 use std::alloc::{AllocError, Global};
 use std::thread::Threads;
 use sw_config::Network;
@@ -38,7 +39,14 @@ fn named_by_chunk(
     let flows = network.flows();
     let low = chunk_start(flows, chunk);
     let high = chunk_start(flows, chunk + 1);
-    named_by(alloc, network, places, low, high)
+    let mut sets = vec![in alloc; PortSet::EMPTY; usize::from(network.channels())]?;
+    let mut is_routed = true;
+    for number in low..high {
+        let (flow, listed) = flow_and_places(network, places, number);
+        let is_sound = add_places(network, flow, listed, &mut sets);
+        is_routed = is_routed & is_sound;
+    }
+    Ok(Named { sets, is_routed })
 }
 
 /// Adds the ports of each channel.
@@ -52,7 +60,7 @@ fn join(sets: &mut [PortSet], part: &[PortSet])
 }
 
 /// The ports that the flows of all chunks name, by channel.
-fn joined(alloc: Global, network: &Network, parts: &[Named]) -> Result<Named, AllocError>
+pub(crate) fn joined(alloc: Global, network: &Network, parts: &[Named]) -> Result<Named, AllocError>
     requires { AllZip (λ chunk n. IsNamedChunk network.now chunk n) (range_with_len 0 64) parts.now }
     ensures named { IfOk result (λ n. AreNamed network.now 0 (length (all_flows network.now)) n.sets.items) }
     ensures routed { IfOk result (λ n. IsTrue n.is_routed ↔ AreRouted network.now 0 (length (all_flows network.now))) }
@@ -118,19 +126,4 @@ impl PortWorkers for OneByOne {
         }
         Ok(parts)
     }
-}
-
-/// The ports that all flows name, by channel.
-pub(crate) fn all_named<W: PortWorkers>(
-    workers: &W,
-    alloc: Global,
-    network: &Network,
-    places: &[Vec<Place>],
-) -> Result<Named, AllocError>
-    requires { AllZip (λ f ps. IsPlaceList network.now f ps.items) (all_flows network.now) places.now }
-    ensures named { IfOk result (λ n. AreNamed network.now 0 (length (all_flows network.now)) n.sets.items) }
-    ensures routed { IfOk result (λ n. IsTrue n.is_routed ↔ AreRouted network.now 0 (length (all_flows network.now))) }
-{
-    let parts = workers.named_by_chunks(alloc, network, places)?;
-    joined(alloc, network, &parts)
 }

@@ -1,32 +1,10 @@
 //! Where channels stand in a round.
-ghost use Rattle.std.specs.Prelude.{◌≡◌, ℕ, ◌<◌, ◌∷◌, [], All, IfOk, OnOk, length};
-ghost use Rattle.sw_graph.specs.Reversing.{AreAdded};
+ghost use Rattle.std.specs.Prelude.{◌≡◌, ℕ, ◌<◌, [], All, IfOk, OnOk, length};
 ghost use Rattle.sw_graph.specs.Rows.{row};
 ghost use Rattle.sw_cycle.specs.Positions.{ArePositions};
 
 use std::alloc::{AllocError, Global};
 use sw_topo::Chan;
-
-/// As many empty rows.
-fn empty_rows(alloc: Global, count: usize) -> Result<Vec<Vec<usize>>, AllocError>
-    ensures size { IfOk result (λ v. length v.items ≡ count) }
-    ensures empty { IfOk result (λ v. (c : ℕ) → row v.items c ≡ []) }
-{
-    let mut rows = Vec::new(alloc);
-    for _ in 0..count {
-        rows.push(Vec::new(alloc))?;
-    }
-    Ok(rows)
-}
-
-/// Adds a position to the row of the channel.
-fn add_to(rows: &mut [Vec<usize>], channel: Chan, position: usize) -> Result<(), AllocError>
-    requires { channel < length rows.old }
-    ensures { OnOk result (AreAdded (channel ∷ []) position rows.old rows.new) }
-{
-    rows[usize::from(channel.number())].push(position)?;
-    Ok(())
-}
 
 /// Adds each position to the row of the channel that stands there.
 fn add_positions(channels: &[Chan], rows: &mut [Vec<usize>]) -> Result<(), AllocError>
@@ -35,7 +13,7 @@ fn add_positions(channels: &[Chan], rows: &mut [Vec<usize>]) -> Result<(), Alloc
     ensures { OnOk result (ArePositions channels.now (length channels.now) rows.new) }
 {
     for (position, channel) in channels.iter().enumerate() {
-        add_to(rows, *channel, position)?;
+        rows[usize::from(channel.number())].push(position)?;
     }
     Ok(())
 }
@@ -50,7 +28,10 @@ pub(crate) fn positions_of(
     ensures size { IfOk result (λ v. length v.items ≡ count) }
     ensures positions { IfOk result (λ v. ArePositions channels.now (length channels.now) v.items) }
 {
-    let mut rows = empty_rows(alloc, count)?;
+    let mut rows = Vec::new(alloc);
+    for _ in 0..count {
+        rows.push(Vec::new(alloc))?;
+    }
     add_positions(channels, &mut rows)?;
     Ok(rows)
 }

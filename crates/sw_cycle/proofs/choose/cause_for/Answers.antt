@@ -1,10 +1,11 @@
 use Rattle.std.proofs.Common.{◌≡◌, ◌<◌, ℕ, Some, length, ap, sym, ◌∙◌, subst}
-use Rattle.std.specs.Prelude.{slice_get}
+use Rattle.std.specs.Prelude.{option_map, slice_get}
 use Rattle.sw_topo.specs.declared.place.PlaceEnd.TheVariants.{Node, Switch}
 use Rattle.sw_topo.specs.Wiring.{Wiring, partner}
 use Rattle.sw_cycle.specs.Cycles.{IsTargetCause}
 use Rattle.sw_cycle.proofs.Found.{chosen_flow, first_of, missing, step_of}
 use Rattle.sw_cycle.proofs.Between.{between}
+use Rattle.sw_cycle.proofs.Extended.{shown_by_way}
 use Rattle.sw_cycle.proofs.choose.cause_for.Goals as goal
 
 pub end_of-requires : goal.end_of-requires
@@ -33,14 +34,11 @@ returns c =
     let same : b.node ≡ c.in-Node.node = cc in
     record { shows = subst (λ (n : ℕ). IsTargetCause d n c.args.from c.args.to) same b.cause; first = none }
 
-pub places_to-requires : goal.places_to-requires
-places_to-requires c =
-    let d = c.args.network.now in
-    let is = first_of d c.args.from c.args.to c.args.first c.in-Some.step c.in-Some.is c.requires.first in
-    step_of d c.args.from c.args.to c.in-Some.step is
-
 pub returns-in-Some : goal.returns-in-Some
 returns-in-Some c =
     let d = c.args.network.now in
-    let is = first_of d c.args.from c.args.to c.args.first c.in-Some.step c.in-Some.is c.requires.first in
-    chosen_flow d c.args.from c.args.to c.in-Some.step is c.in_ok-places.places.items c.in_ok-places.ensures
+    let step = c.in-Some.step in
+    let is = first_of d c.args.from c.args.to c.args.first step c.in-Some.is c.requires.first in
+    let shown = shown_by_way d step.flow step.last step.next (option_map (λ v. v.items) c.in_ok-way_to.field-0) c.unwrap-places.result.items c.push.new.self.items (step_of d c.args.from c.args.to step is) c.in_ok-way_to.ensures
+    (ap (option_map (λ v. v.items)) c.unwrap-places.ensures) c.in_ok-push.ensures.items in
+    chosen_flow d c.args.from c.args.to step is c.push.new.self.items shown

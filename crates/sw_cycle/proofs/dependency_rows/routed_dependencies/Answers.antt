@@ -1,7 +1,7 @@
 use Rattle.sw_cycle.proofs.dependency_rows.routed_dependencies.Goals as goal
 
 pub rows_from-requires : goal.rows_from-requires
-rows_from-requires g c = rw c.deref.ensures.value c.in_ok-sets.ensures.named
+rows_from-requires g c = rw c.deref-2.ensures.value c.in_ok-sets.ensures.named
 
 pub returns-clause-exact : goal.returns-clause-exact
 returns-clause-exact g c = c.in_ok-rows.ensures.exact
@@ -14,3 +14,6 @@ returns-clause-once g c = c.in_ok-rows.ensures.once
 
 pub returns-clause-routed : goal.returns-clause-routed
 returns-clause-routed g c = c.in_ok-sets.ensures.routed
+
+pub joined-requires : goal.joined-requires
+joined-requires g c = rw c.deref.ensures.value c.in_ok-parts.ensures

@@ -1,7 +1,7 @@
 use Rattle.std.proofs.Common.{◌≤◌, ◌↔◌}
 use Rattle.std.specs.Prelude.{IsTrue}
 use Rattle.sw_cycle.specs.Named.{AreNamed, AreRouted}
-use Rattle.sw_cycle.proofs.named.named_by.Given as goal
+use Rattle.sw_cycle.proofs.parallel.named_by_chunk.Given as goal
 
 abbrev pub invariant-loop-number : goal.invariant-loop-number
 invariant-loop-number l = record {
