@@ -1,10 +1,17 @@
 -- A loop over the tables of one of the document's lists.
 use Rattle.std.proofs.Common.{◌≡◌, ℕ, ◌≤◌, ◌<◌, List, map, length, take, get_or, Result, Ok, Err}
 use Rattle.std.specs.Prelude.{IsErrAnd}
+use Rattle.toml.specs.Data.{Members}
+use Rattle.sw_topo.specs.declared.fault.Limit.{Limit}
+use Rattle.sw_topo.specs.declared.fault.TopoFault.TheVariants.{TooMany}
+use Rattle.sw_toml_table.specs.declared.keys.Key.{Key}
 use Rattle.sw_toml_table.specs.declared.fault.TextFault.{TextFault}
+use Rattle.sw_toml_table.specs.declared.fault.TextFault.TheVariants as fault
 use Rattle.sw_toml_table.specs.declared.fault.FileFault.{FileFault}
-use Rattle.sw_toml_table.specs.Gives.{◌>>=◌, Fails, Gives, walk}
-use Rattle.sw_toml_table.proofs.Walks.{walk_fails, walk_done}
+use Rattle.sw_toml_table.specs.Gives.{◌>>=◌, Fails, Gives, walk, each}
+use Rattle.sw_toml_table.proofs.Walks.{walk_fails, walk_done, each_fails}
+use Rattle.sw_file.specs.Network.{entries}
+use Rattle.sw_file.specs.Lists.{list_key, most_parts}
 
 module _ {S X Y : Type 0} (step : ℕ → S → Y → Result S TextFault) (f : X → Y) (tables : Result (List Y) TextFault) (listed items : List X) (read : tables ≡ Ok (map f listed)) (same : items ≡ listed) where
   -- the entry at i fails, and with it the loop
@@ -16,3 +23,15 @@ module _ {S X Y : Type 0} (step : ℕ → S → Y → Result S TextFault) (f : X
   -- all entries were read
   pub list_done : (s : S) (i : ℕ) (t : S) → walk step s (take i (map f items)) ≡ Ok t → length items ≤ i → (tables >>= λ ts. walk step s ts) ≡ Ok t
   list_done s i t so_far le = rw (read, ← same) (walk_done step f s items i t so_far le)
+
+-- the list of parts was read by its key and its limit
+pub read_so : (limit : Limit) (key : Key) (most : ℕ) (ms : Members) (r : Result (List Members) TextFault) → key ≡ list_key limit → most ≡ most_parts limit
+    → entries key most (fault.Topology (TooMany limit)) ms ≡ r → entries (list_key limit) (most_parts limit) (fault.Topology (TooMany limit)) ms ≡ r
+read_so limit key most ms r key_is most_is read = rw (← key_is, ← most_is) read
+
+module _ {A X Y : Type 0} (one : Y → Result A TextFault) (f : X → Y) (tables : Result (List Y) TextFault) (listed items : List X) (read : tables ≡ Ok (map f listed)) (same : items ≡ listed) where
+  -- what is read of the entry at i fails, and with it what is read of each
+  pub each_list_fails : {T : Type 0} (view : T → List A) (i : ℕ) (done : List A) (x : X) (e : FileFault) (result : Result T FileFault) → IsErrAnd result (λ y. y ≡ e) → each one (take i (map f items)) ≡ Ok done → i < length items → x ≡ get_or items i x
+      → Fails e (one (f x)) → Gives view result (tables >>= λ ts. each one ts)
+  each_list_fails view i done x e (Ok y) failed so_far lt at here = absurd failed
+  each_list_fails view i done x e (Err y) failed so_far lt at here = rw (failed, read, ← same) (each_fails one f items i done x e so_far lt at here)

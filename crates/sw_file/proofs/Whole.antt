@@ -1,8 +1,8 @@
 -- What an entry is where all of its readings went well.
-use Rattle.std.proofs.Common.{◌≡◌, ◌≤◌, ◌<◌, ◌-◌, ℕ, false, Bool, List, [], ◌∷◌, ◌++◌, length, Option, Some, Ok, refl, Fits, w8, w16, arith}
+use Rattle.std.proofs.Common.{◌≡◌, ◌≤◌, ◌<◌, ◌+◌, ◌-◌, ℕ, false, Bool, List, [], ◌∷◌, ◌++◌, length, Option, Some, Ok, refl, Fits, w8, w16, arith}
 use Rattle.std.specs.Prelude.{nat_lt, position, IfSome}
 use Rattle.std.specs.Str.{bytes_eq}
-use Rattle.std.proofs.lemmas.Bool.{lt-ltb, ltb-true, false_from_ne_true}
+use Rattle.std.proofs.lemmas.Bool.{lt-ltb, ltb-true, le-leb, false_from_ne_true}
 use Rattle.toml.specs.Data.{Members}
 use Rattle.sw_topo.specs.declared.place.PlaceEnd.{PlaceEnd}
 use Rattle.sw_topo.specs.declared.place.PlaceEnd.TheVariants as ends
@@ -11,7 +11,7 @@ use Rattle.sw_arb.specs.declared.arbitration.Arbitration.{Arbitration}
 use Rattle.sw_rmap.specs.declared.config.TargetConfig.{TargetConfig}
 use Rattle.sw_config.specs.Entries.{Declaration, part_names}
 use Rattle.sw_toml_table.specs.declared.keys.Key.{Key}
-use Rattle.sw_toml_table.specs.declared.keys.Key.TheVariants.{Logical, TargetKey, Start, Slots, Address, Last, Delete, A, APort, B, BPort, Buffer, BufferA, BufferB}
+use Rattle.sw_toml_table.specs.declared.keys.Key.TheVariants.{Logical, TargetKey, Start, Size, Slots, Address, Last, Delete, A, APort, B, BPort, Buffer, BufferA, BufferB}
 use Rattle.sw_toml_table.specs.declared.keys.Section.{Section}
 use Rattle.sw_toml_table.specs.declared.keys.Section.TheVariants as section
 use Rattle.sw_toml_table.specs.declared.keys.Version.{Version}
@@ -27,6 +27,10 @@ fits_byte n most le few = omega (arith, le, few)
 
 pub fits_two_bytes : (n most : ℕ) → n ≤ most → most ≤ 65535 → Fits w16 n
 fits_two_bytes n most le few = omega (arith, le, few)
+
+pub size_is : (i start size : ℕ) (ms : Members) → number_at (section.Target i) Size 1 65536 ms ≡ Ok size → start + size ≤ 1099511627776 → size_at i start ms ≡ Ok size
+unfolding size_at
+size_is i start size ms at_size window = rw (at_size, le-leb (start + size) 1099511627776 window) refl
 
 pub config_is : (version : Version) (i : ℕ) (ms : Members) (keys : List Key) (u : Unit {0}) (logical key start size slots : ℕ) → keys ≡ target_keys version → only_known (section.Target i) keys ms ≡ Ok u
     → number_at (section.Target i) Logical 32 254 ms ≡ Ok logical → number_or (section.Target i) TargetKey 0 255 0 ms ≡ Ok key → number_or (section.Target i) Start 0 1099511627775 0 ms ≡ Ok start

@@ -5,6 +5,7 @@ pub mod Switches
 pub mod Links
 pub mod FlowTables
 pub mod Network
+pub mod Lists
 pub mod Values
 pub mod Tables
 pub mod Rows

@@ -1,9 +1,10 @@
 //! The network that a text declares.
-ghost use Rattle.std.specs.Prelude.{◌≡◌, ◌≤◌, [], vec_len, map, IfOk, OnOk};
+ghost use Rattle.std.specs.Prelude.{◌≡◌, ◌≤◌, ◌<◌, ◌+◌, ℕ, [], vec_len, map, IfOk, OnOk};
 ghost use Rattle.toml.specs.View.{table_view};
 ghost use Rattle.sw_config.specs.Entries.{empty};
 ghost use Rattle.sw_toml_table.specs.Gives.{Gives};
-ghost use Rattle.sw_file.specs.Network.{version_of, entries, with_nodes, with_switches, with_links, with_parts, wired, with_flows, network_of, network_text};
+ghost use Rattle.sw_file.specs.Network.{version_of, entries, with_parts, with_flows, network_of, network_text};
+ghost use Rattle.sw_file.specs.Lists.{list_key, most_parts, next_part, with_list, HasParts};
 
 use crate::flows::add_flow;
 use crate::keys::DOCUMENT_KEYS;
@@ -39,65 +40,62 @@ fn entries<'a>(
     Ok(tables)
 }
 
-#[tactic(auto, unfolding(crate::specs::Network::with_nodes))]
-fn read_nodes(
+/// The key of the document's list that the limit is for, and how many entries the list may have.
+fn key_and_most(limit: Limit) -> (Key, u16)
+    ensures key { result.0 ≡ list_key limit }
+    ensures most { result.1 ≡ most_parts limit }
+{
+    match limit {
+        Limit::Nodes => (Key::Node, MAX_NODES),
+        Limit::Switches => (Key::Switch, MAX_SWITCHES),
+        Limit::Links => (Key::Link, MAX_LINKS),
+    }
+}
+
+/// Adds the part that the table declares, an entry of the list that the limit is for.
+fn add_part(
+    alloc: Global,
+    version: Version,
+    limit: Limit,
+    index: usize,
+    table: &Table,
+    builder: &mut NetworkBuilder,
+) -> Result<(), FileFault>
+    requires few { index < most_parts limit }
+    requires parts { HasParts limit index builder.old }
+    ensures gives { Gives (λ _. builder.new) result (next_part limit version index builder.old (table_view table.now)) }
+    ensures one_more { OnOk result (HasParts limit (index + 1) builder.new) }
+{
+    match limit {
+        Limit::Nodes => add_node(alloc, version, index, table, builder),
+        Limit::Switches => add_switch(alloc, version, index, table, builder),
+        Limit::Links => add_link(alloc, version, index, table, builder),
+    }
+}
+
+/// Reads the document's list that the limit is for.
+fn read_list(
     alloc: Global,
     version: Version,
     document: &TableEntry,
+    limit: Limit,
     builder: &mut NetworkBuilder,
 ) -> Result<(), FileFault>
     requires document { document.now.section ≡ Section.Document }
-    requires none { builder.old.nodes ≡ [] }
-    requires nodes_first { builder.old.switches ≡ [] }
-    ensures gives { Gives (λ _. builder.new) result (with_nodes version builder.old (table_view document.now.table.now)) }
-    ensures switches { OnOk result (builder.new.switches ≡ []) }
+    requires none { HasParts limit 0 builder.old }
+    ensures gives { Gives (λ _. builder.new) result (with_list limit version builder.old (table_view document.now.table.now)) }
+    ensures parts { OnOk result ((n : ℕ) × HasParts limit n builder.new) }
 {
-    let over = TextFault::Topology(TopoFault::TooMany(Limit::Nodes));
-    let tables = entries(alloc, document, Key::Node, MAX_NODES, over)?;
+    let (key, most) = key_and_most(limit);
+    let over = TextFault::Topology(TopoFault::TooMany(limit));
+    let tables = entries(alloc, document, key, most, over)?;
     for (i, table) in tables.iter().enumerate() {
-        add_node(alloc, version, i, table, builder)?;
+        add_part(alloc, version, limit, i, table, builder)?;
     }
     Ok(())
 }
 
-#[tactic(auto, unfolding(crate::specs::Network::with_switches))]
-fn read_switches(
-    alloc: Global,
-    version: Version,
-    document: &TableEntry,
-    builder: &mut NetworkBuilder,
-) -> Result<(), FileFault>
-    requires document { document.now.section ≡ Section.Document }
-    requires none { builder.old.switches ≡ [] }
-    ensures { Gives (λ _. builder.new) result (with_switches version builder.old (table_view document.now.table.now)) }
-{
-    let over = TextFault::Topology(TopoFault::TooMany(Limit::Switches));
-    let tables = entries(alloc, document, Key::Switch, MAX_SWITCHES, over)?;
-    for (i, table) in tables.iter().enumerate() {
-        add_switch(alloc, version, i, table, builder)?;
-    }
-    Ok(())
-}
-
-#[tactic(auto, unfolding(crate::specs::Network::with_links))]
-fn read_links(
-    alloc: Global,
-    version: Version,
-    document: &TableEntry,
-    builder: &mut NetworkBuilder,
-) -> Result<(), FileFault>
-    requires { document.now.section ≡ Section.Document }
-    ensures { Gives (λ _. builder.new) result (with_links version builder.old (table_view document.now.table.now)) }
-{
-    let over = TextFault::Topology(TopoFault::TooMany(Limit::Links));
-    let tables = entries(alloc, document, Key::Link, MAX_LINKS, over)?;
-    for (i, table) in tables.iter().enumerate() {
-        add_link(alloc, version, i, table, builder)?;
-    }
-    Ok(())
-}
-
-#[tactic(auto, unfolding(crate::specs::Network::with_parts))]
+#[tactic(auto, unfolding(crate::specs::Network::with_parts, crate::specs::Network::with_nodes, crate::specs::Network::with_switches, crate::specs::Network::with_links))]
 fn read_parts(
     alloc: Global,
     version: Version,
@@ -109,9 +107,9 @@ fn read_parts(
     requires nodes_first { builder.old.switches ≡ [] }
     ensures { Gives (λ _. builder.new) result (with_parts version builder.old (table_view document.now.table.now)) }
 {
-    read_nodes(alloc, version, document, builder)?;
-    read_switches(alloc, version, document, builder)?;
-    read_links(alloc, version, document, builder)
+    read_list(alloc, version, document, Limit::Nodes, builder)?;
+    read_list(alloc, version, document, Limit::Switches, builder)?;
+    read_list(alloc, version, document, Limit::Links, builder)
 }
 
 /// The nodes, the switches and the links, not yet looked at together.
@@ -130,17 +128,6 @@ fn parts(
             builder.discard();
             Err(fault)
         }
-    }
-}
-
-fn wired(alloc: Global, builder: NetworkBuilder) -> Result<Network, FileFault>
-    ensures gives { Gives (λ n. n) result (wired builder) }
-    ensures same { IfOk result (λ n. n ≡ builder) }
-{
-    match builder.wire(alloc) {
-        Ok(network) => Ok(network),
-        Err(TopoError::Fault(fault)) => Err(FileFault::Text(TextFault::Topology(fault))),
-        Err(TopoError::Memory) => Err(FileFault::Memory),
     }
 }
 
@@ -210,8 +197,11 @@ pub fn declared_network(alloc: Global, table: &Table) -> Result<Network, FileFau
     };
     let version = declared_version(alloc, table)?;
     let builder = parts(alloc, version, &document)?;
-    let network = wired(alloc, builder)?;
-    with_flows(alloc, &document, network)
+    match builder.wire(alloc) {
+        Ok(network) => with_flows(alloc, &document, network),
+        Err(TopoError::Fault(fault)) => Err(FileFault::Text(TextFault::Topology(fault))),
+        Err(TopoError::Memory) => Err(FileFault::Memory),
+    }
 }
 
 /// Reads a network file of version 1 or 2: the network that it declares.

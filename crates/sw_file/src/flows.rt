@@ -4,11 +4,11 @@ ghost use Rattle.std.specs.List.{list_any};
 ghost use Rattle.std.specs.Str.{bytes_eq};
 ghost use Rattle.toml.specs.View.{table_view};
 ghost use Rattle.sw_config.specs.Entries.{ReplyEntry, flow_names};
-ghost use Rattle.sw_config.specs.Valid.{has_no_leading_zero, IsFlow, IsReply};
+ghost use Rattle.sw_config.specs.Valid.{IsFlow, IsReply};
 ghost use Rattle.sw_toml_table.specs.declared.fault.TextFault.{TextFault};
 ghost use Rattle.sw_toml_table.specs.Gives.{Gives};
 ghost use Rattle.sw_file.specs.Names.{place_at};
-ghost use Rattle.sw_file.specs.FlowTables.{node_names, addressed, reply_of, can_reply, replies_at, with_replies, flow_of, next_flow};
+ghost use Rattle.sw_file.specs.FlowTables.{node_names, addressed, can_reply, replies_at, with_replies, flow_of, next_flow};
 
 use crate::keys::{FLOW_KEYS, REPLY_KEYS};
 use std::alloc::Global;
@@ -46,42 +46,19 @@ fn addressed(alloc: Global, index: usize, flow: &TableEntry) -> Result<(Vec<u8>,
     Ok((address, left))
 }
 
-#[tactic(auto, unfolding(crate::specs::FlowTables::reply_of))]
-fn reply_of(alloc: Global, index: usize, table: &Table) -> Result<Reply, FileFault>
-    ensures { Gives (λ r. r) result (reply_of index (table_view table.now)) }
-{
-    let reply = TableEntry {
-        section: Section::Reply(index),
-        table,
-    };
-    reply.only_known(alloc, REPLY_KEYS)?;
-    let path = reply.numbers_or_none(alloc, Key::Path, 255)?;
-    let initiator = reply.number(Key::Initiator, 0, 255)? as u8;
-    Ok(Reply::new(path, initiator))
-}
-
-fn has_no_leading_zero(bytes: &[u8]) -> bool
-    ensures { result ≡ has_no_leading_zero bytes.now }
-{
-    match bytes {
-        [0, ..] => false,
-        _ => true,
-    }
-}
-
 fn can_reply(network: &Network, to: u16, reply: &Reply) -> bool
     requires { to < length network.now.nodes }
     ensures { result ≡ can_reply network.now.nodes to (Some reply.now) }
 {
     reply.path().len() <= 12
-        && has_no_leading_zero(reply.path())
+        && !matches!(reply.path(), [0, ..])
         && 32 <= reply.initiator()
         && reply.initiator() <= 254
         && network.is_target(to)
 }
 
 /// Where the replies of the flow go, which come back from the node `to`.
-#[tactic(auto, unfolding(crate::specs::FlowTables::replies_at, crate::specs::FlowTables::reply_or_none))]
+#[tactic(auto, unfolding(crate::specs::FlowTables::replies_at, crate::specs::FlowTables::reply_or_none, crate::specs::FlowTables::reply_of))]
 fn replies_at(
     alloc: Global,
     index: usize,
@@ -97,7 +74,14 @@ fn replies_at(
     let Some(table) = flow.table_or_none(Key::Reply)? else {
         return Ok(None);
     };
-    let reply = reply_of(alloc, index, table)?;
+    let entry = TableEntry {
+        section: Section::Reply(index),
+        table,
+    };
+    entry.only_known(alloc, REPLY_KEYS)?;
+    let path = entry.numbers_or_none(alloc, Key::Path, 255)?;
+    let initiator = entry.number(Key::Initiator, 0, 255)? as u8;
+    let reply = Reply::new(path, initiator);
     if !can_reply(network, to, &reply) {
         return Err(FileFault::Text(TextFault::ReplyShape(index)));
     }

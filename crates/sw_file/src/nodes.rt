@@ -1,5 +1,5 @@
 //! Entries of `node`.
-ghost use Rattle.std.specs.Prelude.{◌≡◌, ◌+◌, ◌<◌, ◌≤◌, [], false, length, IfOk, IfSome, OnOk};
+ghost use Rattle.std.specs.Prelude.{◌≡◌, ◌+◌, ◌<◌, [], false, length, IfOk, IfSome, OnOk};
 ghost use Rattle.std.specs.List.{list_any};
 ghost use Rattle.std.specs.Str.{bytes_eq};
 ghost use Rattle.toml.specs.View.{table_view};
@@ -7,7 +7,7 @@ ghost use Rattle.sw_rmap.specs.Config.{IsTargetConfig};
 ghost use Rattle.sw_config.specs.Entries.{part_names};
 ghost use Rattle.sw_toml_table.specs.Gives.{Gives};
 ghost use Rattle.sw_file.specs.Names.{new_name};
-ghost use Rattle.sw_file.specs.Nodes.{size_at, config_of, target_or_none, next_node};
+ghost use Rattle.sw_file.specs.Nodes.{config_of, target_or_none, next_node};
 
 use crate::keys::{NODE_KEYS, target_keys};
 use std::alloc::Global;
@@ -21,21 +21,7 @@ use toml::Table;
 /// One more than the greatest address of a target's memory.
 const MEMORY_END: u64 = 1_099_511_627_776;
 
-#[tactic(auto, unfolding(crate::specs::Nodes::size_at))]
-fn window_size(index: usize, target: &TableEntry, start: u64) -> Result<u32, FileFault>
-    requires section { target.now.section ≡ Section.Target index }
-    requires start { start ≤ 1099511627775 }
-    ensures gives { Gives (λ n. n) result (size_at index start (table_view target.now.table.now)) }
-    ensures within { IfOk result (λ n. (1 ≤ n) × (n ≤ 65536) × (start + n ≤ 1099511627776)) }
-{
-    let size = target.number(Key::Size, 1, 65536)?;
-    if start + size > MEMORY_END {
-        return Err(target.fault(KeyFault::OutOfRange, Key::Size));
-    }
-    Ok(size as u32)
-}
-
-#[tactic(auto, unfolding(crate::specs::Nodes::config_of))]
+#[tactic(auto, unfolding(crate::specs::Nodes::config_of, crate::specs::Nodes::size_at))]
 fn target_config(
     alloc: Global,
     version: Version,
@@ -53,13 +39,16 @@ fn target_config(
     let logical = target.number(Key::Logical, 32, 254)? as u8;
     let key = target.number_or(Key::TargetKey, 0, 255, 0)? as u8;
     let start = target.number_or(Key::Start, 0, MEMORY_END - 1, 0)?;
-    let size = window_size(index, &target, start)?;
+    let size = target.number(Key::Size, 1, 65536)?;
+    if start + size > MEMORY_END {
+        return Err(target.fault(KeyFault::OutOfRange, Key::Size));
+    }
     let slots = target.number_or(Key::Slots, 1, 8, 1)? as u8;
     Ok(TargetConfig {
         logical,
         key,
         start,
-        size,
+        size: size as u32,
         slots,
     })
 }

@@ -1,10 +1,9 @@
 //! Entries of `switch`.
-ghost use Rattle.std.specs.Prelude.{◌≡◌, ◌+◌, ◌<◌, ◌≤◌, All, length, IfOk, OnOk, Option};
+ghost use Rattle.std.specs.Prelude.{◌≡◌, ◌+◌, ◌<◌, length, IfOk, OnOk};
 ghost use Rattle.toml.specs.View.{table_view};
-ghost use Rattle.sw_topo.specs.Ports.{port_set};
 ghost use Rattle.sw_route.specs.Looks.{IsRoute};
 ghost use Rattle.sw_toml_table.specs.Gives.{Gives};
-ghost use Rattle.sw_file.specs.Switches.{arbitration_named, arbitration_at, ports_at, route_of, next_route, routes_at, next_switch};
+ghost use Rattle.sw_file.specs.Switches.{arbitration_at, ports_at, route_of, next_route, routes_at, next_switch};
 
 use crate::keys::{SWITCH_KEYS, route_keys};
 use crate::nodes::new_part_name;
@@ -18,20 +17,6 @@ use sw_topo::limits::MAX_SWITCHES;
 use sw_topo::{Port, PortSet};
 use toml::Table;
 
-fn arbitration_named(name: &str) -> Option<Arbitration>
-    ensures { result ≡ arbitration_named name.now }
-{
-    if name == "fixed" {
-        Some(Arbitration::Fixed)
-    } else if name == "round-robin" {
-        Some(Arbitration::RoundRobin)
-    } else if name == "least-recent" {
-        Some(Arbitration::LeastRecent)
-    } else {
-        None
-    }
-}
-
 #[tactic(auto, unfolding(crate::specs::Switches::arbitration_at))]
 fn arbitration_at(index: usize, switch: &TableEntry) -> Result<Arbitration, FileFault>
     requires { switch.now.section ≡ Section.Switch index }
@@ -40,22 +25,15 @@ fn arbitration_at(index: usize, switch: &TableEntry) -> Result<Arbitration, File
     let Some(name) = switch.text_or_none(Key::Arbiter)? else {
         return Ok(Arbitration::RoundRobin);
     };
-    match arbitration_named(name) {
-        Some(arbitration) => Ok(arbitration),
-        None => Err(switch.fault(KeyFault::OutOfRange, Key::Arbiter)),
+    if name == "fixed" {
+        Ok(Arbitration::Fixed)
+    } else if name == "round-robin" {
+        Ok(Arbitration::RoundRobin)
+    } else if name == "least-recent" {
+        Ok(Arbitration::LeastRecent)
+    } else {
+        Err(switch.fault(KeyFault::OutOfRange, Key::Arbiter))
     }
-}
-
-fn port_set(numbers: &[u8]) -> PortSet
-    requires { All (λ n. n ≤ 31) numbers.now }
-    ensures { result ≡ port_set numbers.now }
-{
-    let mut ports = PortSet::EMPTY;
-    for number in numbers {
-        let port = Port::new(*number).unwrap();
-        ports = ports.with(port);
-    }
-    ports
 }
 
 #[tactic(auto, unfolding(crate::specs::Switches::ports_at))]
@@ -66,7 +44,12 @@ fn ports_at(alloc: Global, route: &TableEntry) -> Result<PortSet, FileFault>
     if numbers.is_empty() || numbers.len() > 32 {
         return Err(route.fault(KeyFault::OutOfRange, Key::Ports));
     }
-    Ok(port_set(&numbers))
+    let mut ports = PortSet::EMPTY;
+    for number in &numbers {
+        let port = Port::new(*number).unwrap();
+        ports = ports.with(port);
+    }
+    Ok(ports)
 }
 
 #[tactic(auto, unfolding(crate::specs::Switches::route_of))]

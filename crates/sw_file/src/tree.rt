@@ -1,9 +1,8 @@
 //! The tree of a file made one of version 2.
-ghost use Rattle.std.specs.Prelude.{◌≡◌, map, pos, IfOk, Ok, OnOk};
-ghost use Rattle.toml.specs.Data.{integer};
+ghost use Rattle.std.specs.Prelude.{◌≡◌, map, IfOk, Ok, OnOk};
 ghost use Rattle.toml.specs.View.{view, table_view};
-ghost use Rattle.sw_toml_table.specs.Gives.{Gives, each};
-ghost use Rattle.sw_toml_table.specs.declared.keys.Key.TheVariants.{Route, Version};
+ghost use Rattle.sw_toml_table.specs.Gives.{Gives};
+ghost use Rattle.sw_toml_table.specs.declared.keys.Key.TheVariants.{Route};
 ghost use Rattle.sw_file.specs.Tree.{with_key, with_tables, row_table, merged_switch, new_switches, migrated};
 ghost use Rattle.sw_file.specs.Rows.{rows};
 ghost use Rattle.sw_file.specs.Seen.{entry_view, row_view};
@@ -68,17 +67,6 @@ fn row_table(alloc: Global, row: &Row) -> Result<Table, AllocError>
     Ok(table)
 }
 
-fn row_tables(alloc: Global, rows: &[Row]) -> Result<Vec<Table>, AllocError>
-    ensures { IfOk result (λ v. map table_view v.items ≡ map row_table (map row_view rows.now)) }
-{
-    let mut tables = Vec::new(alloc);
-    for row in rows {
-        let table = row_table(alloc, row)?;
-        tables.push(table)?;
-    }
-    Ok(tables)
-}
-
 /// A copy of the switch's table, with these tables as its routing table, if it has one.
 fn with_routes(alloc: Global, table: &Table, routes: Vec<Table>) -> Result<Table, AllocError>
     ensures { IfOk result (λ t. table_view t ≡ with_tables Route (map table_view routes.items) (table_view table.now)) }
@@ -102,7 +90,11 @@ fn merged_table<'a>(
     ensures { Gives (λ t. table_view t) result (Ok (with_tables Route (map row_table (rows (map entry_view entries.now))) (table_view table.now))) }
 {
     let rows = rows(alloc, entries)?;
-    let routes = row_tables(alloc, &rows)?;
+    let mut routes = Vec::new(alloc);
+    for row in &rows {
+        let route = row_table(alloc, row)?;
+        routes.push(route)?;
+    }
     let merged = with_routes(alloc, table, routes)?;
     Ok(merged)
 }
@@ -120,17 +112,6 @@ fn merged_switch(alloc: Global, table: &Table) -> Result<Table, FileFault>
     merged_table(alloc, table, &entries)
 }
 
-fn merged_switches(alloc: Global, tables: &[&Table]) -> Result<Vec<Table>, FileFault>
-    ensures { Gives (λ v. map table_view v.items) result (each merged_switch (map (λ t. table_view t.now) tables.now)) }
-{
-    let mut switches = Vec::new(alloc);
-    for table in tables {
-        let switch = merged_switch(alloc, table)?;
-        switches.push(switch)?;
-    }
-    Ok(switches)
-}
-
 /// The tables of the document's switches, their routing tables merged.
 #[tactic(auto, unfolding(crate::specs::Tree::new_switches))]
 fn new_switches(alloc: Global, table: &Table) -> Result<Vec<Table>, FileFault>
@@ -141,14 +122,12 @@ fn new_switches(alloc: Global, table: &Table) -> Result<Vec<Table>, FileFault>
         table,
     };
     let tables = document.tables_or_none(alloc, Key::Switch)?;
-    merged_switches(alloc, &tables)
-}
-
-/// Says in the document's table that it is of version 2.
-fn put_version(alloc: Global, document: &mut Table) -> Result<(), AllocError>
-    ensures { OnOk result (table_view document.new ≡ with_key Version (integer (pos 2)) (table_view document.old)) }
-{
-    put(alloc, document, Key::Version, Value::Integer(2))
+    let mut switches = Vec::new(alloc);
+    for table in &tables {
+        let switch = merged_switch(alloc, table)?;
+        switches.push(switch)?;
+    }
+    Ok(switches)
 }
 
 /// Makes the document's table one of version 2.
@@ -157,7 +136,7 @@ pub(crate) fn migrate_table(alloc: Global, document: &mut Table) -> Result<(), F
     ensures { Gives (λ _. table_view document.new) result (migrated (table_view document.old)) }
 {
     let switches = new_switches(alloc, document)?;
-    put_version(alloc, document)?;
+    put(alloc, document, Key::Version, Value::Integer(2))?;
     put_tables(alloc, document, Key::Switch, switches)?;
     Ok(())
 }

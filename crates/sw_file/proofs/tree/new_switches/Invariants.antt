@@ -2,7 +2,7 @@ use Rattle.std.proofs.Common.{◌≡◌, map, take, Ok}
 use Rattle.toml.specs.View.{table_view}
 use Rattle.sw_toml_table.specs.Gives.{each}
 use Rattle.sw_file.specs.Tree.{merged_switch}
-use Rattle.sw_file.proofs.tree.merged_switches.Given as goal
+use Rattle.sw_file.proofs.tree.new_switches.Given as goal
 
 abbrev pub invariant-loop-table : goal.invariant-loop-table
-invariant-loop-table l = each merged_switch (take l.table-index (map (λ t. table_view t.now) l.tables)) ≡ Ok (map table_view l.switches.items)
+invariant-loop-table l = each merged_switch (take l.table-index (map (λ t. table_view t.now) l.table-items)) ≡ Ok (map table_view l.switches.items)

@@ -1,8 +1,0 @@
-use Rattle.std.proofs.Common.{◌≡◌, map, take, Ok}
-use Rattle.toml.specs.View.{table_view}
-use Rattle.sw_toml_table.specs.Gives.{walk}
-use Rattle.sw_file.specs.Links.{next_link}
-use Rattle.sw_file.proofs.document.read_links.Given as goal
-
-abbrev pub invariant-loop-i : goal.invariant-loop-i
-invariant-loop-i l = walk (next_link l.version) l.initial.builder (take l.i (map (λ t. table_view t.now) l.table-items)) ≡ Ok l.builder
