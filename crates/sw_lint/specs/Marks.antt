@@ -118,15 +118,7 @@ with_place d m v = record {
   other = noted (other_key m.asking v) v.number m.other;
 }
 
--- part by part: at the switches where the channel starts and ends, where that byte leads
-abbrev pub with_ends : MarkLists → Option ℕ → Option ℕ → Option ℕ → MarkLists
-with_ends m start end byte = record m { starts = marked start m.starts; ends = marked end m.ends; arrivals = marked (in_row end byte) m.arrivals }
-
--- on the channel, by that byte
-abbrev pub with_led : MarkLists → ℕ → ℕ → Option ℕ → MarkLists
-with_led m number channel byte = record m { led = noted (in_row (Some channel) byte) number m.led }
-
--- on the channel, if the flow has a reply
+-- the part of it that is on the channel, if the flow has a reply
 abbrev pub with_command : MarkLists → ℕ → FlowEntry → ℕ → MarkLists
 with_command m number f channel = record m {
   asking = noted (if is_some f.reply then Some channel else None) (record { number = number; to = f.to }) m.asking;

@@ -2,8 +2,8 @@
 ghost use Rattle.std.specs.Prelude.{◌≡◌, ◌<◌, ◌++◌, OnOk, Some, filter, length, option_map};
 ghost use Rattle.std.specs.Option.{option_to_list};
 ghost use Rattle.sw_topo.specs.Ports.{ports_of};
-ghost use Rattle.sw_lint.specs.Lints.{is_group, linked, made_of, one_linked_port, only};
-ghost use Rattle.sw_lint.specs.Marks.{back_at, entry_lint_by, first_back_by, leads_back_by, unused_entry_by};
+ghost use Rattle.sw_lint.specs.Lints.{is_group, linked, made_of, one_linked_port};
+ghost use Rattle.sw_lint.specs.Marks.{back_at, entry_lint_by, first_back_by};
 
 use crate::lint::{Lint, add};
 use crate::marks::Marks;
@@ -23,17 +23,6 @@ pub(crate) enum EntrySlip {
     Back,
 }
 
-// The entry, if a flow goes over the switch, but no packet comes that it is for.
-fn unused_entry(marks: &Marks, switch: u16, entry: usize, route: &Route) -> Option<Lint>
-    ensures { option_to_list result ≡ unused_entry_by marks.now switch entry route.now }
-{
-    if marks.is_used(switch) && !marks.is_met(switch, route) {
-        Some(Lint::UnusedEntry { switch, entry })
-    } else {
-        None
-    }
-}
-
 // The ports of the entry that have a link.
 fn linked(network: &Network, switch: u16, route: &Route) -> PortSet
     requires { switch < length network.now.switches }
@@ -49,18 +38,6 @@ fn is_group(ports: PortSet) -> bool
     ports.len() > 1
 }
 
-// The one port of a set of one.
-fn only(set: PortSet) -> Option<Port>
-    ensures { result ≡ only (ports_of set) }
-{
-    let mut ports = set.ports();
-    let first = ports.next()?;
-    match ports.next() {
-        Some(_) => None,
-        None => Some(first),
-    }
-}
-
 // The entry, if it names several ports of which one alone has a link.
 fn one_linked_port(network: &Network, switch: u16, entry: usize, route: &Route) -> Option<Lint>
     requires { switch < length network.now.switches }
@@ -69,12 +46,16 @@ fn one_linked_port(network: &Network, switch: u16, entry: usize, route: &Route) 
     if !is_group(route.ports) {
         return None;
     }
-    let port = only(linked(network, switch, route))?;
-    Some(Lint::OneLinkedPort {
-        switch,
-        entry,
-        port,
-    })
+    let mut ports = linked(network, switch, route).ports();
+    let port = ports.next()?;
+    match ports.next() {
+        Some(_) => None,
+        None => Some(Lint::OneLinkedPort {
+            switch,
+            entry,
+            port,
+        }),
+    }
 }
 
 // The first flow whose packets come by the port of the switch, to the least address of the entry.
@@ -110,24 +91,6 @@ fn first_back(
     None
 }
 
-// The entry, if several of its ports have links, and packets come by one of them that it is for.
-fn leads_back(
-    network: &Network,
-    marks: &Marks,
-    switch: u16,
-    entry: usize,
-    route: &Route,
-) -> Option<Lint>
-    requires { switch < length network.now.switches }
-    ensures { option_to_list result ≡ leads_back_by network.now marks.now switch entry route.now }
-{
-    if is_group(linked(network, switch, route)) {
-        first_back(network, marks, switch, entry, route)
-    } else {
-        None
-    }
-}
-
 // The entry, if it is what is looked for.
 fn entry_lint(
     network: &Network,
@@ -141,9 +104,21 @@ fn entry_lint(
     ensures { option_to_list result ≡ entry_lint_by network.now marks.now slip switch entry route.now }
 {
     match slip {
-        EntrySlip::Unused => unused_entry(marks, switch, entry, route),
+        EntrySlip::Unused => {
+            if marks.is_used(switch) && !marks.is_met(switch, route) {
+                Some(Lint::UnusedEntry { switch, entry })
+            } else {
+                None
+            }
+        }
         EntrySlip::OneLinked => one_linked_port(network, switch, entry, route),
-        EntrySlip::Back => leads_back(network, marks, switch, entry, route),
+        EntrySlip::Back => {
+            if is_group(linked(network, switch, route)) {
+                first_back(network, marks, switch, entry, route)
+            } else {
+                None
+            }
+        }
     }
 }
 

@@ -1,7 +1,7 @@
 //! All that is told of a network.
 ghost use Rattle.std.specs.Prelude.{◌≡◌, ◌++◌, IfOk, flat_map};
 ghost use Rattle.sw_lint.specs.Lints.{AreLints};
-ghost use Rattle.sw_lint.specs.Marks.{AreFound, doubtful_by, nodes_of, slip_lints, unused_by};
+ghost use Rattle.sw_lint.specs.Marks.{doubtful_by, nodes_of, slip_lints, unused_by};
 
 use crate::entries::EntrySlip;
 use crate::lint::Lint;
@@ -47,16 +47,6 @@ fn found_by(alloc: Global, network: &Network, marks: &Marks) -> Result<Vec<Lint>
     told_by(alloc, network, &nodes, marks, SLIPS)
 }
 
-// What is told of a network with flows.
-fn found(alloc: Global, network: &Network) -> Result<Vec<Lint>, AllocError>
-    ensures { IfOk result (λ v. AreFound network.now v.items) }
-{
-    let marks = Marks::of_network(alloc, network)?;
-    let lints = found_by(alloc, network, &marks);
-    drop(marks);
-    lints
-}
-
 /// What in the network is probably a slip, in this order: that it has no flows, and then that alone; nodes, switches, targets and table
 /// entries that no flow uses; groups of which one port alone has a link; groups that lead packets back; links over which commands go both
 /// ways to targets that answer.
@@ -73,5 +63,8 @@ pub fn lints(alloc: Global, network: &Network) -> Result<Vec<Lint>, AllocError>
     if network.declared_flows() == 0 {
         return Ok(vec![in alloc; Lint::NoFlows]?);
     }
-    found(alloc, network)
+    let marks = Marks::of_network(alloc, network)?;
+    let lints = found_by(alloc, network, &marks);
+    drop(marks);
+    lints
 }

@@ -103,7 +103,7 @@ impl Marks {
     ghost use Rattle.sw_route.specs.declared.look.Route.{Route};
     ghost use Rattle.sw_config.specs.Entries.{all_flows};
     ghost use Rattle.sw_lint.specs.FlowPlaces.{places_of_flow};
-    ghost use Rattle.sw_lint.specs.Marks.{IsFlowNoted, IsNoted, first_led, is_met_by, is_used_by, no_places, no_rooms, note_at, with_command, with_ends, with_led, with_place};
+    ghost use Rattle.sw_lint.specs.Marks.{IsFlowNoted, IsNoted, first_led, is_met_by, is_used_by, no_places, no_rooms, note_at, with_command, with_place};
 
     // No places for marks yet.
     fn empty(alloc: Global) -> Marks
@@ -134,22 +134,6 @@ impl Marks {
         self.other.resize(channels, None)
     }
 
-    // At the switches where the place's channel starts and ends.
-    fn note_ends(&mut self, start: Option<u16>, end: Option<u16>, byte: Option<u8>)
-        ensures { self.new ≡ with_ends self.old start end byte }
-    {
-        mark(&mut self.starts, alone(start));
-        mark(&mut self.ends, alone(end));
-        mark(&mut self.arrivals, in_row(end, byte));
-    }
-
-    // On the place's channel, by the leading byte.
-    fn note_led(&mut self, number: u16, channel: Chan, byte: Option<u8>)
-        ensures { self.new ≡ with_led self.old number channel byte }
-    {
-        note(&mut self.led, in_row(Some(channel.number()), byte), number);
-    }
-
     // On the place's channel, if the flow has a reply.
     fn note_command(&mut self, number: u16, flow: &Flow, channel: Chan)
         ensures { self.new ≡ with_command self.old number flow.now channel }
@@ -165,7 +149,7 @@ impl Marks {
         note(&mut self.asking, Some(at), Asking { number, to });
     }
 
-    // One place more.
+    // One place more: at the switches where its channel starts and ends, and on the channel.
     fn note_place(&mut self, network: &Network, number: u16, flow: &Flow, place: Place)
         requires { place.channel < length (ends_of network.now) }
         ensures { self.new ≡ with_place network.now self.old (record { number = number; flow = flow.now; place = place }) }
@@ -174,8 +158,14 @@ impl Marks {
         let start = switch_at(topology.start_of(place.channel));
         let end = switch_at(topology.end_of(place.channel));
         let byte = flow.address().get(usize::from(place.deleted)).copied();
-        self.note_ends(start, end, byte);
-        self.note_led(number, place.channel, byte);
+        mark(&mut self.starts, alone(start));
+        mark(&mut self.ends, alone(end));
+        mark(&mut self.arrivals, in_row(end, byte));
+        note(
+            &mut self.led,
+            in_row(Some(place.channel.number()), byte),
+            number,
+        );
         self.note_command(number, flow, place.channel);
     }
 

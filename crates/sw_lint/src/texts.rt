@@ -36,12 +36,6 @@ fn end_name(network: &Network, flow: u16) -> &str
     }
 }
 
-fn no_flows(alloc: Global, network: &Network) -> Result<String, AllocError>
-    ensures { IfOk result (λ s. string_bytes s ≡ lint_text network.now Lint.NoFlows) }
-{
-    String::from_str(alloc, "the network has no flows")
-}
-
 // What is told of a node or a switch, and its name.
 fn named(alloc: Global, told: &str, name: &str) -> Result<String, AllocError>
     ensures { IfOk result (λ s. string_bytes s ≡ spaced (told.now ∷ name.now ∷ [])) }
@@ -127,7 +121,7 @@ fn lint_text(alloc: Global, network: &Network, lint: &Lint) -> Result<String, Al
     ensures { IfOk result (λ s. string_bytes s ≡ lint_text network.now lint.now) }
 {
     match lint {
-        Lint::NoFlows => no_flows(alloc, network),
+        Lint::NoFlows => String::from_str(alloc, "the network has no flows"),
         Lint::UnusedNode(node) => named(
             alloc,
             "no flow is from or to the node",

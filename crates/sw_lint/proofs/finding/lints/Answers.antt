@@ -11,4 +11,6 @@ returns-then-declared_flows-eq0 c =
 pub returns : goal.returns
 returns c =
     let d = c.args.network.now in
-    IfOk-weaker c.found.result _ _ (λ v f. told_with_flows d v.items c.flows-valid.ensures.valid (some_flows_listed d (λ e. c.if-declared_flows-eq0.false (c.declared_flows.ensures.count ∙ e))) f) c.found.ensures
+    IfOk-weaker c.found_by-lints.result _ _
+    (λ v told. told_with_flows d v.items c.flows-valid.ensures.valid (some_flows_listed d (λ e. c.if-declared_flows-eq0.false (c.declared_flows.ensures.count ∙ e))) (record { marks = c.in_ok-marks.marks; noted = c.in_ok-marks.ensures; told = told }))
+    c.found_by-lints.ensures
