@@ -1,10 +1,12 @@
 -- What several changes leave of an element: it is gone where one of them takes it away, and else it is what each has made of it.
-use Rattle.std.proofs.Common.{◌≡◌, ◌∙◌, ◌⊎◌, ◌||◌, ℕ, ◌+◌, Bool, true, false, List, [], ◌∷◌, ◌++◌, Option, None, append-nil, ap, inl, inr, refl, sym}
-use Rattle.std.specs.Prelude.{flat_map, fold, if◌then◌else◌}
+use Rattle.std.proofs.Common.{◌≡◌, ◌∙◌, ◌⊎◌, ◌||◌, ◌&&◌, ℕ, ◌+◌, Bool, true, false, List, [], ◌∷◌, ◌++◌, Option, None, Some, append-nil, ap, inl, inr, refl, sym}
+use Rattle.std.specs.Prelude.{◌==◌, flat_map, fold, if◌then◌else◌}
 use Rattle.std.specs.List.{list_any}
+use Rattle.std.proofs.lemmas.Bool.{eq-eqb}
+use Rattle.std.proofs.lemmas.Option.{same_Some}
 use Rattle.sw_route.specs.declared.look.Route.{Route}
 use Rattle.sw_config.specs.Entries.{Declaration, FlowEntry, ReplyEntry, SwitchEntry}
-use Rattle.sw_mend.specs.Changes.{by_number, changed, changed_by_all, flow_after, flow_after_all, flow_kept, loses_entry, loses_flow, loses_reply, ports_after, route_after, route_after_all}
+use Rattle.sw_mend.specs.Changes.{by_number, changed, changed_by_all, flow_after, flow_after_all, flow_kept, loses_entry, loses_flow, loses_reply, ports_after, ports_but, route_after, route_after_all}
 use Rattle.sw_mend.specs.declared.change.Change.{Change}
 use Rattle.sw_mend.specs.declared.change.Change.TheVariants.{WithoutReply, WithoutFlow, WithoutAnswers, WithoutPort, WithoutEntry, WithoutFlowsOf}
 
@@ -85,29 +87,54 @@ gone_or_kept false left x is = inr is
 pub flow_cases : (changes : List Change) (number : ℕ) (f : FlowEntry) → (flow_after_all changes number f ≡ []) ⊎ (flow_after_all changes number f ≡ flow_stays changes number f ∷ [])
 flow_cases changes number f = gone_or_kept (flow_lost changes number f) (flow_after_all changes number f) (flow_stays changes number f) (flow_left changes number f)
 
--- behind what was there, where it is gone and where it is kept
-pub flow_gone : (changes : List Change) (number : ℕ) (f : FlowEntry) (before : List FlowEntry) (lost : Bool) → lost ≡ flow_lost changes number f → lost ≡ true
-    → before ≡ before ++ flow_after_all changes number f
-flow_gone changes number f before lost is gone =
-    sym (ap (λ (l : List FlowEntry). before ++ l) (flow_left changes number f ∙ ap (λ (b : Bool). if b then [] else flow_stays changes number f ∷ []) (sym is ∙ gone)) ∙ append-nil before)
+-- what is told of an element that may be gone tells whether it is
+told_kept : {A : Type 0} (gone : Bool) (left told : A) → Some told ≡ (if gone then None else Some left) → (gone ≡ false) × (told ≡ left)
+told_kept true left told is = absurd cc
+told_kept false left told is = (refl, same_Some told left is)
 
-pub flow_added : (changes : List Change) (number : ℕ) (f kept : FlowEntry) (before : List FlowEntry) (lost silent : Bool) → lost ≡ flow_lost changes number f → lost ≡ false
-    → silent ≡ reply_lost changes number f → kept ≡ record f { reply = if silent then None else f.reply } → before ++ kept ∷ [] ≡ before ++ flow_after_all changes number f
-flow_added changes number f kept before lost silent is stays silent_is same =
-    let kept_is : kept ≡ flow_stays changes number f = same ∙ ap (λ (b : Bool). record f { reply = if b then None else f.reply }) silent_is in
-    sym (ap (λ (l : List FlowEntry). before ++ l) (flow_left changes number f ∙ ap (λ (b : Bool). if b then [] else flow_stays changes number f ∷ []) (sym is ∙ stays)
+told_gone : {A : Type 0} (gone : Bool) (left : A) → None ≡ (if gone then None else Some left) → gone ≡ true
+told_gone true left is = refl
+told_gone false left is = absurd cc
+
+-- behind what was there, where it is gone and where it is kept
+pub flow_gone : (changes : List Change) (number : ℕ) (f : FlowEntry) (before : List FlowEntry) (told : Option Bool)
+    → told ≡ (if flow_lost changes number f then None else Some (reply_lost changes number f)) → told ≡ None → before ≡ before ++ flow_after_all changes number f
+flow_gone changes number f before told is none =
+    let gone = told_gone (flow_lost changes number f) (reply_lost changes number f) (sym none ∙ is) in
+    sym (ap (λ (l : List FlowEntry). before ++ l) (flow_left changes number f ∙ ap (λ (b : Bool). if b then [] else flow_stays changes number f ∷ []) gone) ∙ append-nil before)
+
+pub flow_added : (changes : List Change) (number : ℕ) (f kept : FlowEntry) (before : List FlowEntry) (told : Option Bool) (silent : Bool)
+    → told ≡ (if flow_lost changes number f then None else Some (reply_lost changes number f)) → told ≡ Some silent → kept ≡ record f { reply = if silent then None else f.reply }
+    → before ++ kept ∷ [] ≡ before ++ flow_after_all changes number f
+flow_added changes number f kept before told silent is some same =
+    let stays = told_kept (flow_lost changes number f) (reply_lost changes number f) silent (sym some ∙ is) in
+    let kept_is : kept ≡ flow_stays changes number f = same ∙ ap (λ (b : Bool). record f { reply = if b then None else f.reply }) stays.1 in
+    sym (ap (λ (l : List FlowEntry). before ++ l) (flow_left changes number f ∙ ap (λ (b : Bool). if b then [] else flow_stays changes number f ∷ []) stays.0
     ∙ ap (λ (x : FlowEntry). x ∷ []) (sym kept_is)))
 
-pub route_gone : (changes : List Change) (switch entry : ℕ) (r : Route) (before : List Route) (lost : Bool) → lost ≡ entry_lost changes switch entry → lost ≡ true
-    → before ≡ before ++ route_after_all changes switch entry r
-route_gone changes switch entry r before lost is gone =
-    sym (ap (λ (l : List Route). before ++ l) (route_left changes switch entry r ∙ ap (λ (b : Bool). if b then [] else route_stays changes switch entry r ∷ []) (sym is ∙ gone)) ∙ append-nil before)
+-- an entry of which no ports are told is gone
+pub entry_told_gone : (change : Change) (switch entry ports : ℕ) (told : Option ℕ)
+    → told ≡ (if loses_entry change switch entry then None else Some (ports_after change switch entry ports)) → told ≡ None → loses_entry change switch entry ≡ true
+entry_told_gone change switch entry ports told is none = told_gone (loses_entry change switch entry) (ports_after change switch entry ports) (sym none ∙ is)
 
-pub route_added : (changes : List Change) (switch entry : ℕ) (r : Route) (ports : ℕ) (before : List Route) (lost : Bool) → lost ≡ entry_lost changes switch entry → lost ≡ false
+-- a port of it is gone
+pub port_told_gone : (change : Change) (switch entry set at group port left : ℕ) → change ≡ WithoutPort at group port → switch ≡ at → entry ≡ group → left ≡ ports_but port set
+    → Some left ≡ (if loses_entry change switch entry then None else Some (ports_after change switch entry set))
+port_told_gone change switch entry set at group port left is here also same =
+    let both : (switch == at && entry == group) ≡ true = λ t. eq-eqb switch at here t && eq-eqb entry group also t in
+    ap Some (same ∙ ap (λ (b : Bool). if b then ports_but port set else set) (sym both))
+    ∙ ap (λ (made : Change). if loses_entry made switch entry then None else Some (ports_after made switch entry set)) (sym is)
+
+pub route_gone : (changes : List Change) (switch entry : ℕ) (r : Route) (before : List Route) → true ≡ entry_lost changes switch entry
+    → before ≡ before ++ route_after_all changes switch entry r
+route_gone changes switch entry r before gone =
+    sym (ap (λ (l : List Route). before ++ l) (route_left changes switch entry r ∙ ap (λ (b : Bool). if b then [] else route_stays changes switch entry r ∷ []) (sym gone)) ∙ append-nil before)
+
+pub route_added : (changes : List Change) (switch entry : ℕ) (r : Route) (ports : ℕ) (before : List Route) → false ≡ entry_lost changes switch entry
     → ports ≡ fold (λ ports change. ports_after change switch entry ports) r.ports changes
     → before ++ record r { ports = ports } ∷ [] ≡ before ++ route_after_all changes switch entry r
-route_added changes switch entry r ports before lost is stays same =
-    sym (ap (λ (l : List Route). before ++ l) (route_left changes switch entry r ∙ ap (λ (b : Bool). if b then [] else route_stays changes switch entry r ∷ []) (sym is ∙ stays)
+route_added changes switch entry r ports before stays same =
+    sym (ap (λ (l : List Route). before ++ l) (route_left changes switch entry r ∙ ap (λ (b : Bool). if b then [] else route_stays changes switch entry r ∷ []) (sym stays)
     ∙ ap (λ (n : ℕ). record r { ports = n } ∷ []) (sym same)))
 
 -- ---- one change alone, and none

@@ -1,6 +1,6 @@
 -- Nodes, switches and flows of a network that is built anew, one more.
-use Rattle.std.proofs.Common.{◌≡◌, ◌≢◌, ℕ, zero, suc, ◌+◌, ◌<◌, ◌≤◌, false, List, [], ◌∷◌, ◌++◌, length, map, take, get_or, Some, Option, option_map, AllPairs, inl, inr, refl, sym, ap, ◌∙◌, arith, append-nil}
-use Rattle.std.specs.Prelude.{slice_get, option_and_then}
+use Rattle.std.proofs.Common.{◌≡◌, ◌≢◌, ℕ, zero, suc, ◌+◌, ◌<◌, ◌≤◌, Bool, false, List, [], ◌∷◌, ◌++◌, length, map, take, get_or, Some, Option, option_map, AllPairs, inl, inr, refl, sym, ap, ◌∙◌, arith, append-nil}
+use Rattle.std.specs.Prelude.{slice_get, option_and_then, None, if◌then◌else◌}
 use Rattle.std.specs.List.{list_any}
 use Rattle.std.specs.Option.{option_map_or}
 use Rattle.std.specs.Str.{bytes_eq}
@@ -13,6 +13,7 @@ use Rattle.sw_route.specs.declared.look.Route.{Route}
 use Rattle.sw_config.specs.Entries.{NodeEntry, SwitchEntry, FlowEntry, Declaration, empty, part_names, routes_of, target_of}
 use Rattle.sw_mend.specs.Changes.{by_number, flow_after_all, route_after_all, switch_after_all}
 use Rattle.sw_mend.specs.declared.change.Change.{Change}
+use Rattle.sw_mend.proofs.AfterAll.{flow_added, flow_gone, flow_lost, reply_lost}
 use Rattle.sw_mend.proofs.Numbered.{one_more}
 use Rattle.sw_mend.proofs.Fresh.{fresh, same_names}
 
@@ -80,6 +81,23 @@ flow_more changes flows i f old after here before more =
     let eq : old.flows ++ flow_after_all changes i f ≡ by_number (flow_after_all changes) 0 (take (i + 1) flows) =
     ap (λ l. l ++ flow_after_all changes i f) before ∙ sym (one_more (flow_after_all changes) i flows f here) in
     more ∙ ap (λ (l : List FlowEntry). record old { flows = l }) eq
+
+-- the declaration after a flow that is gone, and after one that is kept
+pub flow_passed : (changes : List Change) (flows : List FlowEntry) (i : ℕ) (f : FlowEntry) (first old : Declaration) (told : Option Bool) → slice_get flows i ≡ Some f
+    → told ≡ (if flow_lost changes i f then None else Some (reply_lost changes i f)) → told ≡ None
+    → old ≡ record first { flows = by_number (flow_after_all changes) 0 (take i flows) } → old ≡ record first { flows = by_number (flow_after_all changes) 0 (take (i + 1) flows) }
+flow_passed changes flows i f first old told here is none before =
+    flow_more changes flows i f old old here (ap (λ (e : Declaration). e.flows) before) (ap (λ (l : List FlowEntry). record old { flows = l }) (flow_gone changes i f old.flows told is none))
+    ∙ ap (λ (e : Declaration). record e { flows = by_number (flow_after_all changes) 0 (take (i + 1) flows) }) before
+
+pub flow_built : (changes : List Change) (flows : List FlowEntry) (i : ℕ) (f kept : FlowEntry) (first old new : Declaration) (told : Option Bool) (silent : Bool)
+    → slice_get flows i ≡ Some f → told ≡ (if flow_lost changes i f then None else Some (reply_lost changes i f)) → told ≡ Some silent
+    → kept ≡ record f { reply = if silent then None else f.reply } → old ≡ record first { flows = by_number (flow_after_all changes) 0 (take i flows) }
+    → new ≡ record old { flows = old.flows ++ kept ∷ [] } → new ≡ record first { flows = by_number (flow_after_all changes) 0 (take (i + 1) flows) }
+flow_built changes flows i f kept first old new told silent here is some same before more =
+    flow_more changes flows i f old new here (ap (λ (e : Declaration). e.flows) before)
+    (more ∙ ap (λ (l : List FlowEntry). record old { flows = l }) (flow_added changes i f kept old.flows told silent is some same))
+    ∙ ap (λ (e : Declaration). record e { flows = by_number (flow_after_all changes) 0 (take (i + 1) flows) }) before
 
 -- ---- new names
 

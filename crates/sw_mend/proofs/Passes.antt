@@ -1,8 +1,9 @@
 -- Whether one of a list passes a test: one does, or none up to one element more.
-use Rattle.std.proofs.Common.{◌≡◌, ◌∙◌, ℕ, ◌+◌, ◌<◌, ◌||◌, Bool, true, false, List, [], ◌∷◌, ◌++◌, Option, Some, None, ap, cond, arith, get_or, inl, inr, is_some, length, nat_lt, not, position, refl, suc, sym, take}
+use Rattle.std.proofs.Common.{◌≡◌, ◌∙◌, ℕ, ◌+◌, ◌<◌, ◌≤◌, ◌||◌, Bool, true, false, List, [], ◌∷◌, ◌++◌, Option, Some, None, ap, cond, arith, get_or, inl, inr, is_some, length, nat_lt, not, position, refl, suc, sym, take}
 use Rattle.std.specs.Prelude.{slice_get}
 use Rattle.std.specs.List.{list_any, position_or_len}
 use Rattle.std.proofs.lemmas.Bool.{cases_lt, le-ltb, lt-ltb}
+use Rattle.std.proofs.lemmas.List.{take_all}
 use Rattle.std.proofs.lemmas.List.Folds.{list_any-append, list_any_at, list_any_more}
 use Rattle.std.proofs.lemmas.Option.{get_or_from_slice_get, slice_get_within}
 
@@ -14,6 +15,15 @@ module _ {A : Type 0} (test : A → Bool) where
   pub none_read : (xs : List A) (i : ℕ) (x : A) (b : Bool) → i < length xs → x ≡ get_or xs i x → list_any test (take i xs) ≡ false → b ≡ test x → b ≡ false
       → list_any test (take (i + 1) xs) ≡ false
   none_read xs i x b lt at none is fails = list_any_more test xs i x lt ∙ (λ t. none t || (ap test (sym at) ∙ sym is ∙ fails) t)
+
+  -- with one more, where each was read
+  pub any_read : (xs : List A) (i : ℕ) (x : A) (before b : Bool) → i < length xs → x ≡ get_or xs i x → before ≡ list_any test (take i xs) → b ≡ test x
+      → (before || b) ≡ list_any test (take (i + 1) xs)
+  any_read xs i x before b lt at so_far is = (λ t. so_far t || (is ∙ ap test at) t) ∙ sym (list_any_more test xs i x lt)
+
+  -- where all were read
+  pub all_passed : (xs : List A) (i : ℕ) (b : Bool) → length xs ≤ i → b ≡ list_any test (take i xs) → b ≡ list_any test xs
+  all_passed xs i b past so_far = so_far ∙ ap (list_any test) (take_all i xs past)
 
   -- where it is looked up
   pub one_passes : (xs : List A) (i : ℕ) (x : A) (b : Bool) → slice_get xs i ≡ Some x → b ≡ test x → b ≡ true → true ≡ list_any test xs

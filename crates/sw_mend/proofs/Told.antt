@@ -3,8 +3,14 @@ use Rattle.std.proofs.Common.{◌≡◌, ◌↔◌, append-nil, append_assoc, ma
 use Rattle.std.specs.Prelude.{if◌then◌else◌}
 use Rattle.std.proofs.lemmas.Bool.{false≢true}
 use Rattle.std.proofs.lemmas.List.{map-append, take_all, take_more}
+use Rattle.sw_config.specs.Entries.{Declaration}
+use Rattle.sw_config.specs.Valid.{IsValid}
+use Rattle.sw_search.specs.Laws.{RoutedAndFree}
 use Rattle.sw_mend.specs.Changes.{by_number, made_at}
-use Rattle.sw_mend.specs.Mends.{AreAdded, AreThose}
+use Rattle.sw_mend.specs.Mends.{AreAdded, AreThose, Frees}
+use Rattle.sw_mend.specs.Splits.{split}
+use Rattle.sw_mend.specs.declared.change.TargetLink.{TargetLink}
+use Rattle.sw_mend.specs.declared.change.Trial.TheVariants.{Split}
 use Rattle.sw_mend.proofs.Numbered.{grown_at}
 
 module _ {A : Type 0} (IsFree : A → Type 0) where
@@ -37,6 +43,9 @@ module _ {A : Type 0} (IsFree : A → Type 0) where
 
   pub one_added : (x : A) (before after : List A) (b : Bool) → (IsTrue b ↔ IsFree x) → after ≡ before ++ (if b then x ∷ [] else []) → AreAdded IsFree (x ∷ []) before after
   one_added x before after b decided more = (if b then x ∷ [] else [], alone x b decided, more)
+
+  pub not_added : (x : A) (before : List A) → (IsFree x → ⊥) → AreAdded IsFree (x ∷ []) before before
+  not_added x before never = ([], ([], refl, inr (never, refl)), sym (append-nil before))
 
   -- one after the other
   pub both_added : (xs ys before now after : List A) → AreAdded IsFree xs before now → AreAdded IsFree ys now after → AreAdded IsFree (xs ++ ys) before after
@@ -74,6 +83,12 @@ module _ {A B : Type 0} (IsFree : B → Type 0) (f : A → B) where
       ap (map f) grown ∙ map-append f (by_number make 0 (take i xs)) (made_at make xs i) in
       subst (λ (l : List B). AreAdded IsFree l before after) (sym made)
       (both_added IsFree (map f (by_number make 0 (take i xs))) (map f (made_at make xs i)) before now after so_far more)
+
+-- whether a split frees the network, by the network that it leaves
+pub split_decided : (d : Declaration) (link : TargetLink) (changed : Declaration) (freed : Bool) → changed ≡ split d link → IsValid changed → (IsTrue freed ↔ RoutedAndFree changed)
+    → (IsTrue freed ↔ Frees d (Split link))
+split_decided d link changed freed is valid decided =
+    subst (λ (e : Declaration). IsTrue freed ↔ (IsValid e × RoutedAndFree e)) is (λ t. (valid, decided.0 t), λ both. decided.1 both.1)
 
 -- those of three lists, one after the other, where nothing was told before
 pub all_added : {A : Type 0} (IsFree : A → Type 0) (xs ys zs first now middle told : List A) → first ≡ [] → AreAdded IsFree xs first now → AreAdded IsFree ys now middle

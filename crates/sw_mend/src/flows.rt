@@ -1,16 +1,12 @@
 //! The flows that changes leave.
-ghost use Rattle.std.specs.Prelude.{◌≡◌, ◌+◌, ◌<◌, ◌++◌, [], false, IfOk, OnOk, None, if◌then◌else◌, length, take};
+ghost use Rattle.std.specs.Prelude.{◌≡◌, [], IfOk, None, OnOk, Some, if◌then◌else◌};
 ghost use Rattle.std.specs.List.{list_any};
-ghost use Rattle.std.specs.Str.{bytes_eq};
-ghost use Rattle.sw_config.specs.Entries.{flow_names};
-ghost use Rattle.sw_config.specs.Valid.{IsFlow};
 ghost use Rattle.sw_mend.specs.Changes.{by_number, flow_after_all, loses_flow, loses_reply};
 
 use crate::change::Change;
 use std::alloc::{AllocError, Global};
 use std::marker::Model;
 use sw_config::{Flow, Network, Reply};
-use sw_topo::limits::MAX_FLOWS;
 
 // Does the change take the flow away?
 fn loses_flow(change: &Change, number: u16, flow: &Flow) -> bool
@@ -21,18 +17,6 @@ fn loses_flow(change: &Change, number: u16, flow: &Flow) -> bool
         Change::WithoutFlowsOf(node) => flow.from() == *node || flow.to() == *node,
         _ => false,
     }
-}
-
-// Does one of the changes take the flow away?
-fn is_lost(changes: &[Change], number: u16, flow: &Flow) -> bool
-    ensures { result ≡ list_any (λ change. loses_flow change number flow.now) changes.now }
-{
-    for change in changes {
-        if loses_flow(change, number, flow) {
-            return true;
-        }
-    }
-    false
 }
 
 // Does the change leave the flow without its reply?
@@ -46,16 +30,18 @@ fn loses_reply(change: &Change, number: u16, flow: &Flow) -> bool
     }
 }
 
-// Does one of the changes leave the flow without its reply?
-fn is_unanswered(changes: &[Change], number: u16, flow: &Flow) -> bool
-    ensures { result ≡ list_any (λ change. loses_reply change number flow.now) changes.now }
+// Do the changes leave the flow without its reply, if none takes the flow away?
+fn loses_reply_alone(changes: &[Change], number: u16, flow: &Flow) -> Option<bool>
+    ensures { result ≡ if list_any (λ change. loses_flow change number flow.now) changes.now then None else Some (list_any (λ change. loses_reply change number flow.now) changes.now) }
 {
+    let mut is_unanswered = false;
     for change in changes {
-        if loses_reply(change, number, flow) {
-            return true;
+        if loses_flow(change, number, flow) {
+            return None;
         }
+        is_unanswered |= loses_reply(change, number, flow);
     }
-    false
+    Some(is_unanswered)
 }
 
 // Where the replies of the flow go, unless they are taken away.
@@ -101,45 +87,6 @@ pub(crate) fn copied_flow(
     copied_by(alloc, flow, flow.to(), address, is_unanswered)
 }
 
-// Adds what is left of the flow.
-fn add_left(
-    alloc: Global,
-    changes: &[Change],
-    number: u16,
-    flow: &Flow,
-    built: &mut Network,
-) -> Result<(), AllocError>
-    requires few { length built.old.flows < MAX_FLOWS }
-    requires new_name { list_any (bytes_eq flow.now.name) (flow_names built.old.flows) ≡ false }
-    requires valid { IsFlow built.old.nodes flow.now }
-    ensures { OnOk result (built.new ≡ record built.old { flows = built.old.flows ++ flow_after_all changes.now number flow.now }) }
-{
-    if is_lost(changes, number, flow) {
-        return Ok(());
-    }
-    let kept = copied_flow(alloc, flow, is_unanswered(changes, number, flow))?;
-    built.add_flow(alloc, kept)
-}
-
-// Adds what is left of the flow of that number.
-fn add_flow(
-    alloc: Global,
-    network: &Network,
-    changes: &[Change],
-    number: u16,
-    built: &mut Network,
-) -> Result<(), AllocError>
-    requires within { number < length network.now.flows }
-    requires nodes { built.old.nodes ≡ network.now.nodes }
-    requires before { built.old.flows ≡ by_number (flow_after_all changes.now) 0 (take number network.now.flows) }
-    ensures { OnOk result (built.new ≡ record built.old { flows = by_number (flow_after_all changes.now) 0 (take (number + 1) network.now.flows) }) }
-{
-    // Names the network, which is valid by its type.
-    let _topology = network.topology();
-    let flow = network.flow(number);
-    add_left(alloc, changes, number, flow, built)
-}
-
 /// Adds what is left of each flow.
 pub(crate) fn add_flows(
     alloc: Global,
@@ -151,8 +98,15 @@ pub(crate) fn add_flows(
     requires none { built.old.flows ≡ [] }
     ensures { OnOk result (built.new ≡ record built.old { flows = by_number (flow_after_all changes.now) 0 network.now.flows }) }
 {
+    // Names the network, which is valid by its type.
+    let _topology = network.topology();
     for number in 0..network.declared_flows() {
-        add_flow(alloc, network, changes, number, built)?;
+        let flow = network.flow(number);
+        let Some(is_unanswered) = loses_reply_alone(changes, number, flow) else {
+            continue;
+        };
+        let kept = copied_flow(alloc, flow, is_unanswered)?;
+        built.add_flow(alloc, kept)?;
     }
     Ok(())
 }

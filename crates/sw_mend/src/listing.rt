@@ -1,5 +1,5 @@
 //! What is tried of what can be taken away.
-ghost use Rattle.std.specs.Prelude.{◌≡◌, ◌<◌, ◌++◌, ◌∷◌, [], IfOk, OnOk, flat_map, if◌then◌else◌, map};
+ghost use Rattle.std.specs.Prelude.{◌≡◌, ◌<◌, ◌++◌, ◌∷◌, [], IfOk, OnOk, flat_map, if◌then◌else◌, length, map, nat_lt};
 ghost use Rattle.sw_topo.specs.Ports.{ports_of};
 ghost use Rattle.sw_mend.specs.declared.change.Change.TheVariants.{WithoutPort};
 ghost use Rattle.sw_mend.specs.Changes.{by_number, entry_away, ports_away};
@@ -66,15 +66,18 @@ pub(crate) fn add_if<T: Copy>(is_so: bool, thing: T, things: &mut Vec<T>) -> Res
     if is_so { add(thing, things) } else { Ok(()) }
 }
 
-// One port of the set away.
-fn add_each(
+// One port of the entry away, if it is a group.
+fn add_group(
     switch: u16,
     entry: usize,
     set: PortSet,
     changes: &mut Vec<Change>,
 ) -> Result<(), AllocError>
-    ensures { OnOk result (changes.new.items ≡ changes.old.items ++ map (λ port. WithoutPort switch entry port) (ports_of set)) }
+    ensures { OnOk result (changes.new.items ≡ changes.old.items ++ (if nat_lt 1 (length (ports_of set)) then map (λ port. WithoutPort switch entry port) (ports_of set) else [])) }
 {
+    if set.len() < 2 {
+        return Ok(());
+    }
     for port in set.ports() {
         let change = Change::WithoutPort {
             switch,
@@ -86,28 +89,12 @@ fn add_each(
     Ok(())
 }
 
-// One port of the entry away, if it is a group.
-fn add_group(
-    switch: u16,
-    entry: usize,
-    route: &Route,
-    changes: &mut Vec<Change>,
-) -> Result<(), AllocError>
-    ensures { OnOk result (changes.new.items ≡ changes.old.items ++ ports_away switch entry route.now) }
-{
-    if route.ports.len() > 1 {
-        add_each(switch, entry, route.ports, changes)
-    } else {
-        Ok(())
-    }
-}
-
 // One port of one group of these away.
 fn add_groups_of(switch: u16, routes: &[Route], changes: &mut Vec<Change>) -> Result<(), AllocError>
     ensures { OnOk result (changes.new.items ≡ changes.old.items ++ by_number (ports_away switch) 0 routes.now) }
 {
     for (entry, route) in routes.iter().enumerate() {
-        add_group(switch, entry, route, changes)?;
+        add_group(switch, entry, route.ports, changes)?;
     }
     Ok(())
 }

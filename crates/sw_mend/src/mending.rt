@@ -1,67 +1,39 @@
 //! The single changes that free a network.
-ghost use Rattle.std.specs.Prelude.{◌↔◌, ◌<◌, IfOk, IsTrue, OnOk, flat_map, length, map};
+ghost use Rattle.std.specs.Prelude.{◌≡◌, ◌↔◌, ◌++◌, ◌∷◌, [], Bool, IfOk, IsTrue, OnOk, flat_map, if◌then◌else◌, map};
 ghost use Rattle.sw_config.specs.Valid.{IsValid};
 ghost use Rattle.sw_search.specs.Laws.{RoutedAndFree};
-ghost use Rattle.sw_mend.specs.Changes.{changed_by_all, made_at};
 ghost use Rattle.sw_mend.specs.Kinds.{kind_away};
 ghost use Rattle.sw_mend.specs.Mends.{AreAdded, AreMends, Frees};
-ghost use Rattle.sw_mend.specs.Splits.{IsTargetLink, own_links, splits};
+ghost use Rattle.sw_mend.specs.Splits.{splits};
 ghost use Rattle.sw_mend.specs.declared.change.Trial.TheVariants.{Without, Split};
 
-use crate::change::{Change, TargetLink, Trial};
+use crate::change::Trial;
 use crate::links::own_link_of;
 use crate::listing::{Kind, PARTS, UNITS, add_if, removals};
-use crate::rebuilt::network_with_all;
+use crate::rebuilt::network_with;
 use crate::splitting::network_split;
 use std::alloc::{AllocError, Global};
 use std::marker::Model;
 use sw_config::Network;
 use sw_search::{VerdictWorkers, is_free};
 
-// Is the changed network valid and free?
-fn is_freed<W: VerdictWorkers>(
+/// Adds the thing, if the changed network, which is let go, is free.
+pub(crate) fn add_if_free<W: VerdictWorkers, T: Copy>(
     workers: &W,
     alloc: Global,
     changed: Network,
-) -> Result<bool, AllocError>
+    thing: T,
+    things: &mut Vec<T>,
+) -> Result<(), AllocError>
     ensures valid { IsValid changed }
-    ensures free { IfOk result (λ b. IsTrue b ↔ RoutedAndFree changed) }
+    ensures told { OnOk result ((freed : Bool) × (IsTrue freed ↔ RoutedAndFree changed) × (things.new.items ≡ things.old.items ++ (if freed then thing ∷ [] else []))) }
 {
     // Names the network, which is valid by its type.
     let _topology = changed.topology();
-    let free = is_free(workers, alloc, &changed);
+    let answer = is_free(workers, alloc, &changed);
     changed.discard();
-    free
-}
-
-/// Do the changes, all made, free the network?
-pub(crate) fn frees<W: VerdictWorkers>(
-    workers: &W,
-    alloc: Global,
-    network: &Network,
-    changes: &[Change],
-) -> Result<bool, AllocError>
-    ensures { IfOk result (λ b. IsTrue b ↔ RoutedAndFree (changed_by_all network.now changes.now)) }
-{
-    let changed = network_with_all(alloc, network, changes)?;
-    is_freed(workers, alloc, changed)
-}
-
-// Adds those of the changes that free the network.
-fn add_mends<W: VerdictWorkers>(
-    workers: &W,
-    alloc: Global,
-    network: &Network,
-    changes: &[Change],
-    mends: &mut Vec<Trial>,
-) -> Result<(), AllocError>
-    ensures { OnOk result (AreAdded (Frees network.now) (map Without changes.now) mends.old.items mends.new.items) }
-{
-    for change in changes {
-        let freed = frees(workers, alloc, network, &[*change])?;
-        add_if(freed, Trial::Without(*change), mends)?;
-    }
-    Ok(())
+    let freed = answer?;
+    add_if(freed, thing, things)
 }
 
 // Adds those of what is taken away of these kinds that free the network.
@@ -75,43 +47,11 @@ fn add_removals<W: VerdictWorkers>(
     ensures { OnOk result (AreAdded (Frees network.now) (map Without (flat_map (kind_away network.now) kinds.now)) mends.old.items mends.new.items) }
 {
     let changes = removals(alloc, network, kinds)?;
-    add_mends(workers, alloc, network, &changes, mends)
-}
-
-// Does the split free the network?
-fn split_frees<W: VerdictWorkers>(
-    workers: &W,
-    alloc: Global,
-    network: &Network,
-    link: &TargetLink,
-) -> Result<bool, AllocError>
-    requires { IsTargetLink network.now link.now }
-    ensures { IfOk result (λ b. IsTrue b ↔ Frees network.now (Split link.now)) }
-{
-    match network_split(alloc, network, link)? {
-        Some(changed) => is_freed(workers, alloc, changed),
-        None => Ok(false),
+    for change in changes.iter() {
+        let changed = network_with(alloc, network, change)?;
+        add_if_free(workers, alloc, changed, Trial::Without(*change), mends)?;
     }
-}
-
-// Adds the split of the node, if it can be split and that frees the network.
-fn add_split_of<W: VerdictWorkers>(
-    workers: &W,
-    alloc: Global,
-    network: &Network,
-    node: u16,
-    mends: &mut Vec<Trial>,
-) -> Result<(), AllocError>
-    requires { node < length network.now.nodes }
-    ensures { OnOk result (AreAdded (Frees network.now) (map Split (made_at (own_links network.now) network.now.nodes node)) mends.old.items mends.new.items) }
-{
-    match own_link_of(network, node) {
-        Some(link) => {
-            let freed = split_frees(workers, alloc, network, &link)?;
-            add_if(freed, Trial::Split(link), mends)
-        }
-        None => Ok(()),
-    }
+    Ok(())
 }
 
 // Adds those of the splits that free the network.
@@ -124,7 +64,12 @@ fn add_splits<W: VerdictWorkers>(
     ensures { OnOk result (AreAdded (Frees network.now) (map Split (splits network.now)) mends.old.items mends.new.items) }
 {
     for node in 0..network.nodes() {
-        add_split_of(workers, alloc, network, node, mends)?;
+        let Some(link) = own_link_of(network, node) else {
+            continue;
+        };
+        if let Some(changed) = network_split(alloc, network, &link)? {
+            add_if_free(workers, alloc, changed, Trial::Split(link), mends)?;
+        }
     }
     Ok(())
 }

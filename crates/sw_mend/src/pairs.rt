@@ -1,12 +1,12 @@
 //! The pairs of what can be taken away that free a network.
 ghost use Rattle.std.specs.Prelude.{◌≡◌, ◌++◌, List, IfOk, OnOk, map};
-ghost use Rattle.sw_mend.specs.Changes.{pairs_of};
 ghost use Rattle.sw_mend.specs.Mends.{AreThosePairs, ArePairMends};
 ghost use Rattle.sw_mend.specs.declared.change.Pair.{Pair};
 
 use crate::change::{Change, Pair};
-use crate::listing::{PARTS_AND_UNITS, add_if, removals};
-use crate::mending::frees;
+use crate::listing::{PARTS_AND_UNITS, removals};
+use crate::mending::add_if_free;
+use crate::rebuilt::network_with_all;
 use std::alloc::{AllocError, Global};
 use sw_config::Network;
 use sw_search::VerdictWorkers;
@@ -23,37 +23,14 @@ fn add_pairs_with<W: VerdictWorkers>(
     ensures { OnOk result ((those : List Pair) × AreThosePairs network.now (map (λ second. record { first = first.now; second = second }) others.now) those × (pairs.new.items ≡ pairs.old.items ++ those)) }
 {
     for second in others {
-        let freed = frees(workers, alloc, network, &[*first, *second])?;
+        let changed = network_with_all(alloc, network, &[*first, *second])?;
         let pair = Pair {
             first: *first,
             second: *second,
         };
-        add_if(freed, pair, pairs)?;
+        add_if_free(workers, alloc, changed, pair, pairs)?;
     }
     Ok(())
-}
-
-// Those of the pairs of the changes that free the network.
-fn pairs_that_free<W: VerdictWorkers>(
-    workers: &W,
-    alloc: Global,
-    network: &Network,
-    changes: &[Change],
-) -> Result<Vec<Pair>, AllocError>
-    ensures { IfOk result (λ v. AreThosePairs network.now (pairs_of changes.now) v.items) }
-{
-    let mut pairs = Vec::new(alloc);
-    for (number, first) in changes.iter().enumerate() {
-        add_pairs_with(
-            workers,
-            alloc,
-            network,
-            first,
-            &changes[number + 1..],
-            &mut pairs,
-        )?;
-    }
-    Ok(pairs)
 }
 
 /// The pairs of what can be taken away that free the network, the first before the second in the order of single changes, and the pairs by the
@@ -71,5 +48,16 @@ pub fn pair_mends<W: VerdictWorkers>(
     ensures { IfOk result (λ v. ArePairMends network.now v.items) }
 {
     let changes = removals(alloc, network, PARTS_AND_UNITS)?;
-    pairs_that_free(workers, alloc, network, &changes)
+    let mut pairs = Vec::new(alloc);
+    for (number, first) in changes.iter().enumerate() {
+        add_pairs_with(
+            workers,
+            alloc,
+            network,
+            first,
+            &changes[number + 1..],
+            &mut pairs,
+        )?;
+    }
+    Ok(pairs)
 }

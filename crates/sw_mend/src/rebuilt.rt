@@ -1,7 +1,6 @@
 //! The changed network, built anew.
-ghost use Rattle.std.specs.Prelude.{◌≡◌, [], None, IfOk, OnOk};
-ghost use Rattle.sw_topo.specs.Checked.{fault_of};
-ghost use Rattle.sw_config.specs.Entries.{empty, wiring_of};
+ghost use Rattle.std.specs.Prelude.{◌≡◌, [], IfOk, OnOk};
+ghost use Rattle.sw_config.specs.Entries.{empty};
 ghost use Rattle.sw_mend.specs.Changes.{changed, changed_by_all};
 
 use crate::change::Change;
@@ -12,8 +11,8 @@ use std::marker::Model;
 use sw_config::{Network, NetworkBuilder};
 use sw_topo::TopoError;
 
-/// Adds the nodes, the switches and the links.
-pub(crate) fn add_parts(
+// Adds the nodes, the switches and the links.
+fn add_parts(
     alloc: Global,
     network: &Network,
     changes: &[Change],
@@ -29,18 +28,6 @@ pub(crate) fn add_parts(
     add_links(network, builder)
 }
 
-// The network that the builder has.
-fn wired(alloc: Global, builder: NetworkBuilder) -> Result<Network, AllocError>
-    requires { fault_of (wiring_of builder) ≡ None }
-    ensures { IfOk result (λ n. n ≡ builder) }
-{
-    match builder.wire(alloc) {
-        Ok(network) => Ok(network),
-        Err(TopoError::Fault(_)) => unreachable!(),
-        Err(TopoError::Memory) => Err(AllocError),
-    }
-}
-
 // The network that the changes leave, without flows.
 fn without_flows(
     alloc: Global,
@@ -53,7 +40,11 @@ fn without_flows(
     let _topology = network.topology();
     let mut builder = NetworkBuilder::new(alloc);
     match add_parts(alloc, network, changes, &mut builder) {
-        Ok(()) => wired(alloc, builder),
+        Ok(()) => match builder.wire(alloc) {
+            Ok(network) => Ok(network),
+            Err(TopoError::Fault(_)) => unreachable!(),
+            Err(TopoError::Memory) => Err(AllocError),
+        },
         Err(refused) => {
             builder.discard();
             Err(refused)

@@ -8,7 +8,6 @@ ghost use Rattle.sw_mend.specs.Splits.{IsSplit, IsTargetLink, IsWired, split};
 use crate::change::TargetLink;
 use crate::moved::add_split_flows;
 use crate::parts::{add_links, add_nodes, add_switches};
-use crate::rebuilt::add_parts;
 use std::alloc::{AllocError, Global};
 use std::marker::Model;
 use sw_config::{Network, NetworkBuilder};
@@ -28,15 +27,6 @@ fn is_taken(network: &Network, name: &str) -> bool
         }
     }
     false
-}
-
-// The name of the node of its own for the target of that node.
-fn target_name(alloc: Global, network: &Network, node: u16) -> Result<String, AllocError>
-    requires { node < length network.now.nodes }
-    ensures { IfOk result (λ s. option_map (λ e. e.name ++ codes "-target") (slice_get network.now.nodes node) ≡ Some (string_bytes s)) }
-{
-    let name = network.node_name(node);
-    format!(in alloc; "{name}-target")
 }
 
 // Adds the nodes, the switches and the links after the split.
@@ -67,17 +57,6 @@ fn add_split_parts(
     builder.add_link(near, far, link.near, link.far)
 }
 
-// The network that the builder has, if its wiring has no fault.
-fn wired(alloc: Global, builder: NetworkBuilder) -> Result<Option<Network>, AllocError>
-    ensures { IfOk result (IsWired builder) }
-{
-    match builder.wire(alloc) {
-        Ok(network) => Ok(Some(network)),
-        Err(TopoError::Fault(_)) => Ok(None),
-        Err(TopoError::Memory) => Err(AllocError),
-    }
-}
-
 // The network after the split, without flows, if its wiring has no fault.
 fn without_flows(
     alloc: Global,
@@ -93,7 +72,11 @@ fn without_flows(
 {
     let mut builder = NetworkBuilder::new(alloc);
     match add_split_parts(alloc, network, link, name, &mut builder) {
-        Ok(()) => wired(alloc, builder),
+        Ok(()) => match builder.wire(alloc) {
+            Ok(network) => Ok(Some(network)),
+            Err(TopoError::Fault(_)) => Ok(None),
+            Err(TopoError::Memory) => Err(AllocError),
+        },
         Err(refused) => {
             builder.discard();
             Err(refused)
@@ -158,6 +141,7 @@ pub(crate) fn network_split(
     if network.nodes() >= MAX_NODES {
         return Ok(None);
     }
-    let name = target_name(alloc, network, link.node)?;
+    let node_name = network.node_name(link.node);
+    let name = format!(in alloc; "{node_name}-target")?;
     split_by_name(alloc, network, link, name.as_str())
 }

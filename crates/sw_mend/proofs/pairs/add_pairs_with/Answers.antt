@@ -1,4 +1,6 @@
-use Rattle.std.proofs.Common.{arith}
+use Rattle.std.proofs.Common.{◌↔◌, IsTrue, arith, subst}
+use Rattle.sw_config.specs.Entries.{Declaration}
+use Rattle.sw_search.specs.Laws.{RoutedAndFree}
 use Rattle.sw_mend.proofs.Paired.{added_more, all_tried, none_added}
 use Rattle.sw_mend.proofs.pairs.add_pairs_with.Goals as goal
 
@@ -7,8 +9,10 @@ loop-second-init g c = none_added c.args.network.now c.args.first.now _
 
 pub loop-second-preserved : goal.loop-second-preserved
 loop-second-preserved g c =
-    added_more c.args.network.now c.args.first.now c.args.others.now c.loop-second.second-index c.second-item.result _ _ _ _ c.loop-second-test.true c.second-item.is c.loop-second.invariant
-    c.in_ok-freed.ensures c.in_ok-add_if.ensures
+    let told = c.in_ok-add_if_free.ensures.told in
+    let decided = subst (λ (e : Declaration). IsTrue told.0 ↔ RoutedAndFree e) c.in_ok-changed.ensures told.1 in
+    added_more c.args.network.now c.args.first.now c.args.others.now c.loop-second.second-index c.second-item.result _ _ _ told.0 c.loop-second-test.true c.second-item.is c.loop-second.invariant
+    decided told.2
 
 pub returns : goal.returns
 returns g c =
