@@ -1,7 +1,7 @@
 //! A new node.
 ghost use Rattle.std.specs.Prelude.{◌≡◌, IfOk, IfSome};
 ghost use Rattle.sw_link.specs.Ends.{IsCapacity};
-ghost use Rattle.sw_node.specs.Node.{new_node, target_at_first};
+ghost use Rattle.sw_node.specs.Node.{new_node};
 ghost use Rattle.sw_model.specs.Model.{slots_of};
 ghost use Rattle.sw_rmap.specs.Config.{IsTargetConfig};
 
@@ -11,16 +11,6 @@ use circular_buffer::HeapCircularBuffer;
 use std::alloc::{AllocError, Global};
 use sw_link::{RxEnd, TxEnd};
 use sw_rmap::{Target, TargetConfig};
-
-fn new_target(alloc: Global, config: Option<TargetConfig>) -> Result<Option<Target>, AllocError>
-    requires { IfSome config IsTargetConfig }
-    ensures { IfOk result (λ target. target ≡ target_at_first config) }
-{
-    match config {
-        Some(config) => Ok(Some(Target::new(alloc, config)?)),
-        None => Ok(None),
-    }
-}
 
 /// How many replies it may owe. A plain node never owes one.
 fn slots(config: Option<TargetConfig>) -> usize
@@ -49,9 +39,12 @@ impl NodeCell {
         ensures { IfOk result (λ node. node ≡ new_node target capacity) }
     {
         Ok(NodeCell {
-            pending: HeapCircularBuffer::with_capacity(alloc, slots(target))?,
             received: RxEnd::new(alloc, capacity)?,
-            target: new_target(alloc, target)?,
+            target: match target {
+                Some(config) => Some(Target::new(alloc, config)?),
+                None => None,
+            },
+            pending: HeapCircularBuffer::with_capacity(alloc, slots(target))?,
             credit: TxEnd::new(),
             sending: Sending::nothing(alloc),
             owed: 0,

@@ -1,5 +1,5 @@
 //! A reply that waits to be sent.
-ghost use Rattle.std.specs.Prelude.{◌≡◌, Some, IfOk, OnErr, OnOk, length};
+ghost use Rattle.std.specs.Prelude.{◌≡◌, IfOk, OnErr, OnOk, length};
 ghost use Rattle.sw_machine.specs.State.{reply_packet};
 ghost use Rattle.sw_model.specs.Model.{answer_of, memory_after};
 ghost use Rattle.sw_node.specs.Changes.{with_memory};
@@ -59,31 +59,8 @@ impl Reply {
     }
 }
 
-/// Hands the packet to the target, and makes the reply to it if it gets one. After want of memory
-/// nothing is stored.
-fn answer_by(
-    target: &mut Target,
-    alloc: Global,
-    bytes: &[u8],
-    end: End,
-) -> Result<Option<Reply>, AllocError>
-    ensures reply { IfOk result (λ reply. reply ≡ answer_of (Some target.old.config) target.old.memory bytes.now end) }
-    ensures target { OnOk result (target.new ≡ record target.old { memory = memory_after (Some target.old.config) target.old.memory bytes.now end }) }
-    ensures err { OnErr result (target.new ≡ target.old) }
-{
-    answers_by_the_way_back();
-    let way = reply_to(alloc, bytes)?;
-    let reply = target.answer(alloc, bytes, end)?;
-    match (way, reply) {
-        (Some(way), Some(bytes)) => Ok(Some(Reply {
-            bytes,
-            address: way.len(),
-        })),
-        _ => Ok(None),
-    }
-}
-
-/// The same at any node: a plain one answers nothing.
+/// Hands the packet to the target, and makes the reply to it if it gets one: a plain node answers
+/// nothing. After want of memory nothing is stored.
 pub(crate) fn answer(
     target: &mut Option<Target>,
     alloc: Global,
@@ -94,8 +71,17 @@ pub(crate) fn answer(
     ensures target { OnOk result (target.new ≡ with_memory target.old (memory_after (config_of target.old) (memory_of target.old) bytes.now end)) }
     ensures err { OnErr result (target.new ≡ target.old) }
 {
-    match target {
-        Some(target) => answer_by(target, alloc, bytes, end),
-        None => Ok(None),
+    let Some(target) = target else {
+        return Ok(None);
+    };
+    answers_by_the_way_back();
+    let way = reply_to(alloc, bytes)?;
+    let reply = target.answer(alloc, bytes, end)?;
+    match (way, reply) {
+        (Some(way), Some(bytes)) => Ok(Some(Reply {
+            bytes,
+            address: way.len(),
+        })),
+        _ => Ok(None),
     }
 }

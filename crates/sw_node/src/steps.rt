@@ -1,27 +1,18 @@
 //! The steps of a node.
-ghost use Rattle.std.specs.Prelude.{◌≡◌, ◌<◌, ◌++◌, Some, IfOk, OnErr, OnOk, map, slice_get};
-ghost use Rattle.sw_char.specs.declared.nchar.NChar.TheVariants.{Data};
+ghost use Rattle.std.specs.Prelude.{◌≡◌, ◌<◌, Some, OnErr, OnOk, slice_get};
 ghost use Rattle.sw_link.specs.Ends.{asked};
-ghost use Rattle.sw_node.specs.Node.{packet_chars, slots};
+ghost use Rattle.sw_node.specs.Node.{slots};
 
 use crate::cell::NodeCell;
-use crate::reply::{Reply, answer};
+use crate::reply::answer;
 use crate::sending::Sending;
 use std::alloc::{AllocError, Global};
 use std::mem;
 use sw_char::{End, NChar, Packet};
 
-fn packet(alloc: Global, address: &[u8], cargo: &[u8], end: End) -> Result<Sending, AllocError>
-    ensures { IfOk result (λ s. s ≡ map Data address.now ++ packet_chars cargo.now end) }
-{
-    let mut bytes = Vec::from_slice(alloc, address)?;
-    bytes.extend_from_slice(cargo)?;
-    Ok(Sending::packet(bytes, end))
-}
-
 impl NodeCell {
     ghost use Rattle.sw_node.specs.Conditions.{CanAccept, CanBegin, CanEmit, CanIssue, CanReply};
-    ghost use Rattle.sw_node.specs.Changes.{accepted, begun, completed, emitted, owing, replied, with_received};
+    ghost use Rattle.sw_node.specs.Changes.{accepted, begun, completed, emitted, replied, with_received};
 
     /// Begins to send a packet (ECSS-E-ST-50-12C, network layer: packets). `can_begin` has to hold.
     ///
@@ -39,7 +30,9 @@ impl NodeCell {
         ensures ok { OnOk result (self.new ≡ begun self.old address.now cargo.now end) }
         ensures err { OnErr result (self.new ≡ self.old) }
     {
-        self.sending = packet(alloc, address, cargo, end)?;
+        let mut bytes = Vec::from_slice(alloc, address)?;
+        bytes.extend_from_slice(cargo)?;
+        self.sending = Sending::packet(bytes, end);
         Ok(())
     }
 
@@ -75,17 +68,6 @@ impl NodeCell {
         }
     }
 
-    /// The reply waits, if there is one.
-    fn owe(&mut self, reply: Option<Reply>)
-        requires { self.old.owed < slots self.old }
-        ensures { self.new ≡ owing self.old reply }
-    {
-        if let Some(reply) = reply {
-            self.pending.try_push_back(reply).unwrap();
-            self.owed += 1;
-        }
-    }
-
     /// The packet under way is whole: it is answered, and came out.
     fn complete(&mut self, alloc: Global, end: End) -> Result<(), AllocError>
         requires { self.old.owed < slots self.old }
@@ -96,7 +78,10 @@ impl NodeCell {
         let reply = answer(&mut self.target, alloc, &self.bytes, end)?;
         let bytes = mem::replace(&mut self.bytes, Vec::new(alloc));
         self.packets.push(Packet { bytes, end }).unwrap();
-        self.owe(reply);
+        if let Some(reply) = reply {
+            self.pending.try_push_back(reply).unwrap();
+            self.owed += 1;
+        }
         Ok(())
     }
 
