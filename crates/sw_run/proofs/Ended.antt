@@ -1,6 +1,5 @@
 -- From the journal at the end of a run to the outcome.
-use Rattle.std.proofs.Common.{IfOk, List, Result, ap, arith, length, subst, sym, ℕ, ◌∙◌, ◌≡◌, ◌≤◌}
-use Rattle.std.specs.declared.alloc.AllocError.{AllocError}
+use Rattle.std.proofs.Common.{List, ap, arith, length, subst, sym, ℕ, ◌∙◌, ◌≡◌, ◌≤◌}
 use Rattle.sw_journal.proofs.Follows.{one_state_after}
 use Rattle.sw_journal.specs.Asked.{IsUndelivered}
 use Rattle.sw_journal.specs.Record.{JournalView, LeadsTo}
@@ -45,8 +44,6 @@ module _ (j : JournalView) (s : State) (o : Outcome) (leads : LeadsTo j s) (with
   }
 
 -- the same of the network, load and limit that the journal is of
-pub of_run : (j : JournalView) (d : Declaration) (load : List LoadEntry) (limit : ℕ) (r : Result Outcome AllocError) → j.declared ≡ d → j.load ≡ load → j.limit ≡ limit
-    → IfOk r (IsOutcome j.declared j.load j.limit) → IfOk r (IsOutcome d load limit)
-of_run j d load limit r same_network same_load same_limit is =
-    subst (λ x. IfOk r (IsOutcome x load limit)) same_network
-    (subst (λ x. IfOk r (IsOutcome j.declared x limit)) same_load (subst (λ x. IfOk r (IsOutcome j.declared j.load x)) same_limit is))
+pub of_run : (j : JournalView) (d : Declaration) (load : List LoadEntry) (limit : ℕ) (o : Outcome) → j.declared ≡ d → j.load ≡ load → j.limit ≡ limit → IsOutcome j.declared j.load j.limit o → IsOutcome d load limit o
+of_run j d load limit o same_network same_load same_limit is =
+    subst (λ x. IsOutcome x load limit o) same_network (subst (λ x. IsOutcome j.declared x limit o) same_load (subst (λ x. IsOutcome j.declared j.load x o) same_limit is))

@@ -1,7 +1,8 @@
 -- Grants by arbiters.
 use Rattle.atomic_table.specs.Seated.{TableId}
-use Rattle.std.proofs.Common.{Err, IsBitSet, IsSome, List, None, Ok, Option, Result, Some, ap, false, length, refl, subst, sym, true, ℕ, ◌<◌, ◌∙◌, ◌≡◌}
-use Rattle.std.specs.Prelude.{slice_get}
+use Rattle.std.proofs.Common.{Bool, Err, IsBitSet, IsSome, List, None, Ok, Option, Result, Some, ap, false, length, refl, subst, sym, true, ℕ, ◌<◌, ◌∙◌, ◌≡◌}
+use Rattle.std.proofs.lemmas.Bool.{false≢true}
+use Rattle.std.specs.Prelude.{IfSome, IsTrue, option_map, slice_get, ◌↔◌}
 use Rattle.sw_arb.specs.declared.policy.Policy.{Policy}
 use Rattle.sw_cell.proofs.Switches.{ends_at, one_end, port_small}
 use Rattle.sw_cell.specs.Places.{machine_cell}
@@ -19,15 +20,21 @@ use Rattle.sw_machine.specs.Network.{AtSwitch}
 use Rattle.sw_machine.specs.Parts.{link_end_of}
 use Rattle.sw_machine.specs.Steps as steps
 use Rattle.sw_model.specs.Model.{network_of}
+use Rattle.sw_model.specs.Steps.{machine_step}
+use Rattle.sw_model.specs.declared.step.Step.{Step as CodeStep}
+use Rattle.sw_model.specs.declared.step.Step.TheVariants as codes
 use Rattle.sw_net.specs.Asking.{IsInput}
+use Rattle.sw_net.specs.declared.numbers.Numbers.{Numbers}
 use Rattle.sw_run.specs.Arbiters.{HasArbiters, PicksAt}
-use Rattle.sw_run.specs.Grants.{Advances, AreAskers, Grants, HasGranted, HasMoved, IsDecided, IsOutputOf, IsPicked, StandsAt, Takes, is_grant, turn_of}
+use Rattle.sw_run.specs.Grants.{Advances, AreAskers, Grants, HasMoved, IsDecided, IsOutputOf, IsPicked, Takes, is_grant, turn_of}
 use Rattle.sw_run.specs.declared.turn.Turn.{Turn}
 use Rattle.sw_run.specs.declared.turn.Turn.TheVariants.{Idle, Moved, Over, Sent}
 use Rattle.sw_topo.proofs.Ends.{partner_back, port_found, port_starts}
 use Rattle.sw_topo.specs.Checked.{IsIn}
-use Rattle.sw_topo.specs.Wiring.{out_of, partner}
-use Rattle.sw_topo.specs.declared.place.PlaceEnd.TheVariants.{Switch}
+use Rattle.sw_topo.specs.Wiring.{Wiring, out_of, partner}
+use Rattle.sw_topo.specs.declared.place.Chan.{Chan}
+use Rattle.sw_topo.specs.declared.place.PlaceEnd.{PlaceEnd}
+use Rattle.sw_topo.specs.declared.place.PlaceEnd.TheVariants.{Node, Switch}
 
 same_switch : (w v p q : ℕ) → Some (Switch w p) ≡ Some (Switch v q) → v ≡ w
 same_switch w v p q e = cc
@@ -66,6 +73,11 @@ module _ (j : JournalView) (valid : IsValid j.declared) (e w out asking : ℕ) (
   is_picked arbiters after port back goes picks =
       record { asking = asking; ask = ask; port = port; input = record { switch = w; output = out; starts = starts; ends = comes_to port back goes }; picks = picks }
 
+-- where a link end stands, as the network's topology tells
+pub starts_at : (t : Wiring) (n d : Declaration) (e c : ℕ) (place : PlaceEnd) → t ≡ wiring_of n → n ≡ d → c ≡ e → slice_get t.ends c ≡ Some place → slice_get (ends_of d) e ≡ Some place
+starts_at t n d e c place wiring same one at =
+    subst (λ k. slice_get (ends_of d) k ≡ Some place) one (subst (λ (x : Declaration). slice_get (ends_of x) c ≡ Some place) same (subst (λ (x : Wiring). slice_get x.ends c ≡ Some place) wiring at))
+
 -- a switch that a link end stands at is one of the network's
 pub switch_inside : (d : Declaration) → IsValid d → (c w p : ℕ) → slice_get (ends_of d) c ≡ Some (Switch w p) → w < length d.switches
 switch_inside d valid c w p starts = (All-at (IsIn (length d.nodes) (length d.switches)) (ends_of d) c (Switch w p) starts valid.sound.wiring.inside).0
@@ -82,14 +94,29 @@ granted j k id arbiters picked after e c Over takes can is same room = (takes, �
 no_bit : (port : ℕ) → IsBitSet 0 port → ⊥
 no_bit port set = set refl
 
-no_askers : (j : JournalView) (id : CellId) (e : ℕ) → StandsAt j.declared id e None → IsOutputOf j.declared id e → AreAskers j e 0
-no_askers j id e elsewhere output = record {
-  asks = λ port set. absurd (no_bit port set);
-  no_others = λ port c is unset. absurd (elsewhere is.switch is.output is.starts (output is.switch is.output is.starts));
-}
+no_node : (n w out : ℕ) → Some (Node n) ≡ Some (Switch w out) → ⊥
+no_node n w out e = absurd cc
 
-pub grants_elsewhere : (j : JournalView) (id : CellId) (arbiters : List Policy) (e : ℕ) → StandsAt j.declared id e None → Grants j id arbiters e Idle j arbiters
-grants_elsewhere j id arbiters e elsewhere = (no_askers j id e elsewhere, refl, refl)
+module _ (j : JournalView) (id : CellId) (arbiters : List Policy) (e : ℕ) where
+  no_askers : ((w out : ℕ) → slice_get (ends_of j.declared) e ≡ Some (Switch w out) → machine_cell id ≡ AtSwitch w → ⊥) → IsOutputOf j.declared id e → AreAskers j e 0
+  no_askers elsewhere output = record {
+    asks = λ port set. absurd (no_bit port set);
+    no_others = λ port c is unset. absurd (elsewhere is.switch is.output is.starts (output is.switch is.output is.starts));
+  }
+
+  -- the link end stands at a node
+  pub grants_at_node : (n : ℕ) → slice_get (ends_of j.declared) e ≡ Some (Node n) → Grants j id arbiters e Idle j arbiters
+  grants_at_node n starts = (no_askers (λ w out is at. absurd (no_node n w out (sym starts ∙ is))), refl, refl)
+
+  -- the link end stands at another switch
+  pub grants_elsewhere : (v p : ℕ) → slice_get (ends_of j.declared) e ≡ Some (Switch v p) → (machine_cell id ≡ AtSwitch v → ⊥) → Grants j id arbiters e Idle j arbiters
+  grants_elsewhere v p starts other = (no_askers (λ w out is at. other (at ∙ ap AtSwitch (same_switch v w p out (sym starts ∙ is)))), refl, refl)
+
+pub fails : {P : Type 0} (test : Bool) → test ≡ false → IsTrue test ↔ P → P → ⊥
+fails test failed is p = false≢true (sym failed ∙ is.1 p)
+
+pub holds : {P : Type 0} (test : Bool) → test ≡ true → IsTrue test ↔ P → P
+holds test held is = is.0 held
 
 pub grants_none : (j : JournalView) (id : CellId) (arbiters : List Policy) (e asking : ℕ) → asking ≡ 0 → AreAskers j e asking → Grants j id arbiters e Idle j arbiters
 grants_none j id arbiters e asking none ask = (λ output. subst (AreAskers j e) none ask, refl, refl)
@@ -166,3 +193,24 @@ module _ (j k : JournalView) (id : CellId) (arbiters after : List Policy) (e : �
   by_step (Sent at) takes = moved takes.0 takes.1
   by_step Idle takes = (same_history j k takes.1, same)
   by_step Over takes = same_history j k takes
+
+-- what the link end at a place does, told of each that stands there
+pub at_place : (j k : JournalView) (arbiters after : List Policy) (o : Option (ℕ × Numbers)) (end : ℕ) (turn : Turn) → option_map (λ (p : ℕ × Numbers). p.0) o ≡ Some end
+    → Advances j arbiters end turn k after → (e : ℕ) → IfSome o (λ p. p.0 ≡ e) → Advances j arbiters e turn k after
+at_place j k arbiters after None end turn is advances e at = absurd cc
+at_place j k arbiters after (Some p) end turn is advances e at =
+    let one : p.0 ≡ end = cc in
+    subst (λ n. Advances j arbiters n turn k after) (sym one ∙ at) advances
+
+-- ---- what a link end does by the step that was chosen for it
+
+pub plain_step : (step : CodeStep) → ((output input : Chan) → step ≡ codes.Grant output input → ⊥) → is_grant (machine_step step) ≡ false
+plain_step (codes.Grant output input) other = absurd (other output input refl)
+plain_step step other = refl
+
+module _ (j chosen k : JournalView) (id : CellId) (arbiters after : List Policy) (e : ℕ) (turn : Turn) (same : chosen ≡ j) where
+  pub by_choice : (step : steps.Step) → IsStepOf j e step → is_grant step ≡ false → after ≡ arbiters → Takes chosen id step turn k → Advances j arbiters e turn k after
+  by_choice step is plain kept takes = by_step j k id arbiters after e step is.belongs plain kept turn (subst (λ x. Takes x id step turn k) same takes)
+
+  pub by_arbiter : Grants chosen id arbiters e turn k after → Advances j arbiters e turn k after
+  by_arbiter grants = by_grant j k id arbiters after e turn (subst (λ x. Grants x id arbiters e turn k after) same grants)

@@ -1,10 +1,9 @@
 -- The cells of a new journal.
 use Rattle.atomic_table.specs.Seated.{TableId}
-use Rattle.std.proofs.Common.{All, List, get_or, length, refl, subst, sym, ◌<◌, ◌≡◌}
+use Rattle.std.proofs.Common.{All, List, get_or, refl, subst, sym, ◌≡◌}
 use Rattle.std.proofs.lemmas.List.Elements.{All-map}
 use Rattle.std.proofs.lemmas.Option.{slice_get-get_or}
 use Rattle.sw_cell.specs.Places.{IsIn}
-use Rattle.sw_cell.specs.declared.cell.CellId.{CellId}
 use Rattle.sw_config.specs.Entries.{Declaration}
 use Rattle.sw_journal.proofs.Told.{placed}
 use Rattle.sw_journal.specs.Cells.{cells_of}

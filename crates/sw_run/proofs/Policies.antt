@@ -1,11 +1,9 @@
 -- The arbiters of a run's switches.
-use Rattle.std.proofs.Common.{All, Err, IfOk, IsBitSet, IsSome, List, Ok, Result, Some, ap, get_or, length, refl, subst, sym, ℕ, ◌<◌, ◌∙◌, ◌≡◌}
-use Rattle.std.proofs.lemmas.List.{length-set}
-use Rattle.std.proofs.lemmas.List.Elements.{All-set, All-weaker}
+use Rattle.std.proofs.Common.{All, IsBitSet, IsSome, List, Some, [], ap, arith, get_or, length, refl, subst, sym, ℕ, ◌+◌, ◌++◌, ◌<◌, ◌^◌, ◌∙◌, ◌∷◌, ◌↔◌, ◌≡◌}
+use Rattle.std.proofs.lemmas.List.{length-set, length_push}
+use Rattle.std.proofs.lemmas.List.Elements.{All-push, All-set, All-weaker}
 use Rattle.std.proofs.lemmas.Option.{slice_get-get_or}
-use Rattle.std.specs.Global.{Vec}
 use Rattle.std.specs.Prelude.{option_map, slice_get, slice_set}
-use Rattle.std.specs.declared.alloc.AllocError.{AllocError}
 use Rattle.sw_arb.specs.Arbiters.{IsWithin}
 use Rattle.sw_arb.specs.Chosen.{IsNewPolicy, PolicyPicks, policy_keeps_ports, policy_ports}
 use Rattle.sw_arb.specs.declared.arbitration.Arbitration.{Arbitration}
@@ -16,14 +14,14 @@ use Rattle.sw_cell.specs.Places.{machine_cell}
 use Rattle.sw_cell.specs.declared.cell.CellId.{CellId}
 use Rattle.sw_cell.specs.declared.cell.CellId.TheVariants.{Node, Switch}
 use Rattle.sw_config.proofs.Flows.{All-at}
-use Rattle.sw_config.specs.Entries.{Declaration}
+use Rattle.sw_config.specs.Entries.{Declaration, wiring_of}
 use Rattle.sw_flow.specs.Places.{ends_of}
 use Rattle.sw_machine.specs.Network.{AtNode, AtSwitch}
 use Rattle.sw_net.proofs.Policies.{has_linked}
 use Rattle.sw_net.specs.New.{IsLinkedSet}
 use Rattle.sw_net.specs.Policies.{IsNewFor}
 use Rattle.sw_run.specs.Arbiters.{HasArbiters, HasNewArbiters, IsArbiterFor, PicksAt, kind_of}
-use Rattle.sw_topo.specs.Wiring.{out_of}
+use Rattle.sw_topo.specs.Wiring.{Wiring, out_of}
 
 -- a new policy is of the kind that it was made for
 kind_is : (kind : Arbitration) (ports : ℕ) (a : Policy) → IsNewPolicy kind ports a → kind ≡ kind_of a
@@ -58,6 +56,12 @@ no_switch n w e = absurd cc
 pub found : (arbiters : List Policy) (out number : ℕ) (a : Policy) → number ≡ out → out < length arbiters → a ≡ get_or arbiters number a → slice_get arbiters out ≡ Some a
 found arbiters out number a same lt is = slice_get-get_or arbiters out a lt ∙ ap Some (ap (λ k. get_or arbiters k a) (sym same) ∙ sym is)
 
+-- the arbiter of an output picks
+pub picks_at : (arbiters : List Policy) (out number asking pick : ℕ) (a later : Policy) → number ≡ out → out < length arbiters → a ≡ get_or arbiters number a → PolicyPicks a asking pick later
+    → PicksAt arbiters out asking pick (slice_set arbiters number later)
+picks_at arbiters out number asking pick a later same lt is picks =
+    record { before = a; later = later; at = found arbiters out number a same lt is; picks = picks; others = ap (λ k. slice_set arbiters k later) same }
+
 module _ (d : Declaration) where
   is_for : (w : ℕ) (a : Policy) → IsNewFor d w a → IsArbiterFor d w a
   is_for w a new = record { kind = new.declared ∙ ap Some (kind_is new.kind new.ports a new.new); linked = has_linked d w a new }
@@ -74,9 +78,23 @@ module _ (d : Declaration) where
   pub at_switch : (w : ℕ) (arbiters : List Policy) → length arbiters ≡ 32 → All (IsNewFor d w) arbiters → HasNewArbiters d (Switch w) arbiters
   at_switch w arbiters whole new = λ v e. (whole, subst (λ k. All (IsNewFor d k) arbiters) (same_switch w v e) new)
 
-  pub all_new : (w : ℕ) (r : Result (Vec Policy) AllocError) → IfOk r (λ v. length v.items ≡ 32) → IfOk r (λ v. All (IsNewFor d w) v.items) → IfOk r (λ v. HasNewArbiters d (Switch w) v.items)
-  all_new w (Ok v) whole new = at_switch w v.items whole new
-  all_new w (Err e) whole new = tt
+  -- one more
+  pub one_more : (w n : ℕ) (arbiters more : List Policy) (a : Policy) → more ≡ arbiters ++ a ∷ [] → (length arbiters ≡ n) × All (IsNewFor d w) arbiters → IsNewFor d w a
+      → (length more ≡ n + 1) × All (IsNewFor d w) more
+  one_more w n arbiters more a pushed before new =
+      let size : length more ≡ n + 1 = omega (arith, length_push arbiters a, ap length pushed, before.0) in
+      (size, subst (λ k. All (IsNewFor d w) k) (sym pushed) (All-push (IsNewFor d w) arbiters a before.1 new))
+
+  -- an arbiter is made for a switch with the ports that have a link
+  pub new_for : (t : Wiring) (kind : Arbitration) (w set : ℕ) (a : Policy) → t ≡ wiring_of d → set < 2 ^ 32 → ((port : ℕ) → IsBitSet set port ↔ IsSome (out_of t.ends w port))
+      → option_map (λ s. s.arbitration) (slice_get d.switches w) ≡ Some kind → IsNewPolicy kind set a → IsNewFor d w a
+  new_for t kind w set a wiring small linked declared new = record {
+    kind = kind;
+    declared = declared;
+    ports = set;
+    linked = record { within = small; linked = λ port lt. subst (λ (x : Wiring). IsBitSet set port ↔ IsSome (out_of x.ends w port)) wiring (linked port) };
+    new = new;
+  }
 
   pub has_new : (id : CellId) (arbiters : List Policy) → HasNewArbiters d id arbiters → HasArbiters d id arbiters
   has_new id arbiters new = λ w e. ((new w e).0, All-weaker (IsNewFor d w) (IsArbiterFor d w) (is_for w) arbiters (new w e).1)

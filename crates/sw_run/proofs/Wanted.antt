@@ -1,5 +1,5 @@
 -- What is wanted may follow.
-use Rattle.std.proofs.Common.{Bool, List, None, Option, Some, [], ap, arith, cond, false, le-leb, leb-true, nat_le, refl, subst, suc, sym, true, zero, ℕ, ◌∙◌, ◌∷◌, ◌≡◌, ◌≤◌}
+use Rattle.std.proofs.Common.{Bool, List, None, Option, Some, [], ap, arith, cond, eq-eqb, false, le-leb, leb-true, nat_le, refl, subst, suc, sym, true, zero, ℕ, ◌∙◌, ◌∷◌, ◌≡◌, ◌≤◌}
 use Rattle.std.specs.Prelude.{IsSome, find, nat_eq, option_map, slice_get, ◌&&◌}
 use Rattle.sw_journal.proofs.FctNumbers.{decided, known}
 use Rattle.sw_journal.specs.Cells.{end_numbers}
@@ -60,11 +60,5 @@ has_numbers end (q ∷ ends) zero p at is =
     first_has end q ends (nat_eq q.0 end) (ap (λ (x : ℕ × Numbers). nat_eq x.0 end) (sym same) ∙ is)
 has_numbers end (q ∷ ends) (suc k) p at is = later_has end q ends (nat_eq q.0 end) (has_numbers end ends k p at is)
 
-placed : (end at : ℕ) (ends : List (ℕ × Numbers)) (k : ℕ) (o : Option (ℕ × Numbers)) → slice_get ends k ≡ o → option_map (λ (p : ℕ × Numbers). p.0) o ≡ Some at → nat_eq at end ≡ true → IsSome (end_numbers ends end)
-placed end at ends k None here is same = absurd cc
-placed end at ends k (Some p) here is same =
-    let one : p.0 ≡ at = cc in
-    has_numbers end ends k p here (ap (λ m. nat_eq m end) one ∙ same)
-
-pub numbered : (end at : ℕ) (ends : List (ℕ × Numbers)) (k : ℕ) → Some at ≡ option_map (λ (p : ℕ × Numbers). p.0) (slice_get ends k) → nat_eq at end ≡ true → IsSome (end_numbers ends end)
-numbered end at ends k is same = placed end at ends k (slice_get ends k) refl (sym is) same
+pub has_own : (ends : List (ℕ × Numbers)) (k : ℕ) (p : ℕ × Numbers) → slice_get ends k ≡ Some p → IsSome (end_numbers ends p.0)
+has_own ends k p at = has_numbers p.0 ends k p at (eq-eqb p.0 p.0 refl)

@@ -1,5 +1,5 @@
 -- How a run grants the outputs of its switches.
-use Rattle.std.specs.Prelude.{Bool, Err, List, None, Ok, Option, Result, Some, false, length, slice_get, true, ℕ, ◌≡◌}
+use Rattle.std.specs.Prelude.{Bool, Err, IfSome, List, None, Ok, Option, Result, Some, false, length, slice_get, true, ℕ, ◌≡◌}
 use Rattle.sw_arb.specs.declared.policy.Policy.{Policy}
 use Rattle.sw_cell.specs.Places.{machine_cell}
 use Rattle.sw_cell.specs.declared.cell.CellId.{CellId}
@@ -14,6 +14,7 @@ use Rattle.sw_load.specs.History.{packets_of}
 use Rattle.sw_machine.specs.Network.{AtSwitch}
 use Rattle.sw_machine.specs.Steps.{Fct, Grant, Step}
 use Rattle.sw_net.specs.Asking.{IsInput}
+use Rattle.sw_net.specs.declared.numbers.Numbers.{Numbers}
 use Rattle.sw_run.specs.Arbiters.{PicksAt}
 use Rattle.sw_run.specs.declared.turn.Turn.{Turn}
 use Rattle.sw_run.specs.declared.turn.Turn.TheVariants.{Idle, Moved, Over, Sent}
@@ -58,6 +59,10 @@ Advances j arbiters e (Sent at) k after = HasMoved j arbiters e k after
 Advances j arbiters e Idle k after = (k.history ≡ j.history) × (after ≡ arbiters)
 Advances j arbiters e Over k after = k.history ≡ j.history
 
+-- so it is of the link end at that place of the cell's list; where none stands there, of each: no step is made
+abbrev pub AdvancesAt : JournalView → List Policy → List (ℕ × Numbers) → ℕ → Turn → JournalView → List Policy → Type 0
+AdvancesAt j arbiters ends place turn k after = (e : ℕ) → IfSome (slice_get ends place) (λ p. p.0 ≡ e) → Advances j arbiters e turn k after
+
 -- the journal has one step more, the grant of the output where channel e starts
 pub record HasGranted (j : JournalView) (arbiters : List Policy) (e : ℕ) (k : JournalView) (after : List Policy) : Type 0 where
   pub channel : ℕ
@@ -68,11 +73,6 @@ pub record HasGranted (j : JournalView) (arbiters : List Policy) (e : ℕ) (k : 
 -- where channel e starts at a switch, it is this cell
 abbrev pub IsOutputOf : Declaration → CellId → ℕ → Type 0
 IsOutputOf d id e = (w out : ℕ) → slice_get (ends_of d) e ≡ Some (Switch w out) → machine_cell id ≡ AtSwitch w
-
--- Some: the link end stands at this port of that switch, which is this cell; None: it stands at no port of the cell's
-abbrev pub StandsAt : Declaration → CellId → ℕ → Option (ℕ × ℕ) → Type 0
-StandsAt d id e (Some o) = (slice_get (ends_of d) e ≡ Some (Switch o.0 o.1)) × (machine_cell id ≡ AtSwitch o.0)
-StandsAt d id e None = (w out : ℕ) → slice_get (ends_of d) e ≡ Some (Switch w out) → machine_cell id ≡ AtSwitch w → ⊥
 
 -- What a grant of an output of the cell does. Moved, Sent: it is granted; Idle: no input asks, and nothing has changed; Over, which is told
 -- where the run is over: it is not granted, and where the journal is full, no arbiter has changed.

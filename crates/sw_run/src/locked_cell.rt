@@ -1,5 +1,5 @@
 //! A cell under its lock.
-ghost use Rattle.std.specs.Prelude.{◌≡◌, IfOk, IsSome, option_map, slice_get, true};
+ghost use Rattle.std.specs.Prelude.{◌≡◌, IfOk};
 ghost use Rattle.sw_cell.specs.Places.{IsIn};
 ghost use Rattle.sw_journal.specs.Cells.{end_numbers};
 ghost use Rattle.sw_run.specs.Arbiters.{HasArbiters, HasNewArbiters};
@@ -54,23 +54,6 @@ pub(crate) fn first_wanted(cell: &Cell) -> Option<LinkEnd> {
         }
     }
     None
-}
-
-/// The link end at that place of the cell's list, if there is one.
-pub(crate) fn end_at(cell: &Cell, place: usize) -> Option<LinkEnd>
-    ensures { result ≡ option_map (λ p. p.0) (slice_get cell.now.ends place) }
-{
-    Some(cell.ends().get(place)?.0)
-}
-
-/// Whether the link end stands at that place of the cell's list.
-pub(crate) fn has_at(cell: &Cell, place: usize, end: LinkEnd) -> bool
-    ensures { result ≡ true → IsSome (end_numbers cell.now.ends end) }
-{
-    match end_at(cell, place) {
-        Some(at) => at.number() == end.number(),
-        None => false,
-    }
 }
 
 impl<W: RunIdentity> LockedCell<W> {

@@ -1,26 +1,24 @@
 //! The journal under its lock.
-ghost use Rattle.std.specs.Prelude.{◌≡◌, ◌≢◌, ◌*◌, ◌<◌, IfOk, IsSome, Some, length, map, slice_get, true, []};
+ghost use Rattle.std.specs.Prelude.{◌≡◌, ◌≢◌, ◌*◌, ◌<◌, IfOk, IfSome, IsSome, Some, length, map, option_map, slice_get, []};
 ghost use Rattle.sw_cell.specs.Places.{machine_cell};
 ghost use Rattle.sw_flow.specs.Places.{ends_of};
 ghost use Rattle.sw_journal.specs.Cells.{end_numbers};
 ghost use Rattle.sw_journal.specs.Record.{CanCommit};
 ghost use Rattle.sw_machine.specs.Network.{AtSwitch};
-ghost use Rattle.sw_machine.specs.Parts.{link_end_of};
 ghost use Rattle.sw_machine.specs.Steps.{Grant};
-ghost use Rattle.sw_model.specs.Model.{network_of};
 ghost use Rattle.sw_model.specs.Steps.{machine_step};
 ghost use Rattle.sw_run.specs.Ends.{AreOutBy, EndsBy};
-ghost use Rattle.sw_run.specs.Grants.{Advances, AreAskers, Begins, Grants, IsPicked, StandsAt, Takes, is_grant};
+ghost use Rattle.sw_run.specs.Grants.{Advances, AdvancesAt, AreAskers, Begins, Grants, IsPicked, Takes};
 ghost use Rattle.sw_run.specs.Outcomes.{IsOutcome};
 
-use crate::arbiters::pick_at;
-use crate::locked_cell::{LockedCell, has_at};
+use crate::locked_cell::LockedCell;
 use crate::notes::Notes;
 use crate::outcome::{Outcome, Stop};
 use crate::run_identity::RunIdentity;
 use crate::turn::Turn;
 use std::alloc::{AllocError, Global};
 use std::marker::PhantomData;
+use sw_arb::Arbiter;
 use sw_cell::CellId;
 use sw_char::Packet;
 use sw_config::Network;
@@ -28,7 +26,7 @@ use sw_journal::{Cell, Journal};
 use sw_model::Step;
 use sw_topo::{Chan, LinkEnd, PlaceEnd, Port, PortSet};
 
-/// The journal of one run, and what is noted beside it. It is let go by `outcome` and by `discard` alone.
+/// The journal of one run, and what is noted beside it. It is let go by `outcome` alone.
 pub(crate) struct LockedJournal<'a, W: RunIdentity> {
     network: &'a Network,
     journal: Journal<'a>,
@@ -41,42 +39,24 @@ pub(crate) struct LockedJournal<'a, W: RunIdentity> {
 }
 
 impl<'a, W: RunIdentity> LockedJournal<'a, W> {
-    /// With the notes, if there was memory for them.
+    /// The journal of a run that begins.
     pub(crate) fn new(
         network: &'a Network,
         journal: Journal<'a>,
         limit: usize,
-        notes: Result<Notes, AllocError>,
-    ) -> Result<LockedJournal<'a, W>, AllocError>
+        notes: Notes,
+    ) -> LockedJournal<'a, W>
         requires network { network.now ≡ W.declared }
         requires identity { (journal.name ≡ W.name) × (journal.declared ≡ W.declared) × (journal.load ≡ W.load) × (journal.limit ≡ W.limit) }
         requires limit { limit ≡ W.limit }
     {
-        match notes {
-            Ok(notes) => Ok(LockedJournal {
-                network,
-                journal,
-                limit,
-                notes,
-                of: PhantomData,
-            }),
-            Err(error) => {
-                journal.discard();
-                Err(error)
-            }
-        }
-    }
-
-    /// Lets the journal go.
-    pub(crate) fn discard(self) {
-        let LockedJournal {
-            network: _,
+        LockedJournal {
+            network,
             journal,
-            limit: _,
-            notes: _,
-            of: _,
-        } = self;
-        journal.discard();
+            limit,
+            notes,
+            of: PhantomData,
+        }
     }
 
     /// Ends the run for want of memory.
@@ -121,7 +101,7 @@ impl<'a, W: RunIdentity> LockedJournal<'a, W> {
         ensures cell { locked.new.cell ≡ locked.old.cell }
     {
         let topology = self.network.topology();
-        let input = pick_at(&mut locked.arbiters, out, asking);
+        let input = locked.arbiters[out.number() as usize].pick(asking);
         let back = topology.out_of(w, input).unwrap();
         back.partner()
     }
@@ -136,9 +116,14 @@ impl<'a, W: RunIdentity> LockedJournal<'a, W> {
         if asking.is_empty() {
             return Turn::Idle;
         }
-        let Some((w, out)) = output_at(self.network, locked.cell.id(), end) else {
+        // Names how many link ends there are.
+        let _ = self.network.channels();
+        let PlaceEnd::Switch(w, out) = self.network.topology().start_of(end.sends()) else {
             return Turn::Idle;
         };
+        if !locked.cell.id().is(CellId::Switch(w)) {
+            return Turn::Idle;
+        }
         if self.journal.len() == self.limit {
             return self.notes.end(Stop::JournalFull);
         }
@@ -146,58 +131,31 @@ impl<'a, W: RunIdentity> LockedJournal<'a, W> {
         self.commit(alloc, locked, end, Step::Grant(end.sends(), channel))
     }
 
-    /// Makes the step that the journal chose for this link end; where that is a grant, the arbiter
-    /// chooses anew.
-    fn make(&mut self, alloc: Global, locked: &mut LockedCell<W>, end: LinkEnd, step: Step) -> Turn
-        requires end { end < 2 * length W.declared.links }
-        requires of_end { link_end_of (network_of self.old.journal.declared) (machine_step step) ≡ end }
-        ensures { Advances self.old.journal locked.old.arbiters.items end result self.new.journal locked.new.arbiters.items }
-    {
-        if is_grant(&step) {
-            self.grant(alloc, locked, end)
-        } else {
-            self.commit(alloc, locked, end, step)
-        }
-    }
-
-    /// Makes a step of this link end of the cell, whatever the journal chooses, or marks the link end
-    /// as idle. A grant goes to the input that the output's arbiter picks.
-    fn step_or_mark(&mut self, alloc: Global, locked: &mut LockedCell<W>, end: LinkEnd) -> Turn
-        requires within { end < 2 * length self.old.journal.declared.links }
-        requires listed { IsSome (end_numbers locked.old.cell.ends end) }
-        ensures { Advances self.old.journal locked.old.arbiters.items end result self.new.journal locked.new.arbiters.items }
-    {
-        match self.journal.choose_or_mark(alloc, end, &locked.cell) {
-            Ok(Some(step)) => self.make(alloc, locked, end, step),
-            Ok(None) => self.notes.rest(),
-            Err(_) => self.notes.end(Stop::Memory),
-        }
-    }
-
-    /// Makes a step of this link end of the cell, or marks it, unless the run is over or the link end
-    /// has its mark. The link end stands at that place of the cell's list.
+    /// Makes a step of the link end at that place of the cell's list, or marks it as idle, unless the
+    /// run is over or it has its mark. A grant goes to the input that the output's arbiter picks.
     pub(crate) fn advance(
         &mut self,
         alloc: Global,
         locked: &mut LockedCell<W>,
-        end: LinkEnd,
         place: usize,
     ) -> Turn
-        ensures { Advances self.old.journal locked.old.arbiters.items end result self.new.journal locked.new.arbiters.items }
+        ensures { AdvancesAt self.old.journal locked.old.arbiters.items locked.old.cell.ends place result self.new.journal locked.new.arbiters.items }
     {
-        if self.notes.stop().is_some() {
+        if self.notes.stop.is_some() {
             return Turn::Over;
         }
-        if !is_awake(
-            &self.journal,
-            self.network.channels(),
-            &locked.cell,
-            end,
-            place,
-        ) {
+        let ends = self.network.channels();
+        let Some(end) = awake_at(&self.journal, ends, &locked.cell, place) else {
             return Turn::Idle;
+        };
+        match self.journal.choose_or_mark(alloc, end, &locked.cell) {
+            Ok(Some(step)) => match step {
+                Step::Grant(_, _) => self.grant(alloc, locked, end),
+                step => self.commit(alloc, locked, end, step),
+            },
+            Ok(None) => self.notes.rest(),
+            Err(_) => self.notes.end(Stop::Memory),
         }
-        self.step_or_mark(alloc, locked, end)
     }
 
     /// The link end that was chosen before the journal was locked sends an FCT, if that may be the
@@ -211,7 +169,7 @@ impl<'a, W: RunIdentity> LockedJournal<'a, W> {
         ensures fct { Begins self.old.journal locked.old.cell.id first result self.new.journal }
         ensures arbiters { locked.new.arbiters.items ≡ locked.old.arbiters.items }
     {
-        if self.notes.stop().is_some() {
+        if self.notes.stop.is_some() {
             return Turn::Over;
         }
         match first {
@@ -231,38 +189,45 @@ impl<'a, W: RunIdentity> LockedJournal<'a, W> {
             notes,
             of: _,
         } = self;
-        let stop = why(&journal, notes.stop(), limit);
-        let came_out = all_came_out(alloc, &journal, network.nodes());
-        outcome_of(journal, stop, came_out)
+        let stop = why(&journal, notes.stop, limit);
+        match all_came_out(alloc, &journal, network.nodes()) {
+            Ok(came_out) => {
+                let undelivered = journal.undelivered();
+                let history = journal.into_history();
+                Ok(Outcome {
+                    stop,
+                    history,
+                    came_out,
+                    undelivered,
+                })
+            }
+            Err(error) => {
+                journal.discard();
+                Err(error)
+            }
+        }
     }
 }
 
-/// The switch and its port at which the link end stands, if that switch is the cell.
-fn output_at(network: &Network, id: CellId, end: LinkEnd) -> Option<(u16, Port)>
-    requires { end < 2 * length network.now.links }
-    ensures { StandsAt network.now id end result }
-{
-    // Names how many link ends there are.
-    let _ = network.channels();
-    match network.topology().start_of(end.sends()) {
-        PlaceEnd::Switch(w, out) if id.is(CellId::Switch(w)) => Some((w, out)),
-        _ => None,
-    }
-}
-
-/// Whether the link end, which stands at that place of the cell's list, has no mark at the present
-/// length. There are so many link ends.
-fn is_awake(journal: &Journal<'_>, ends: u16, cell: &Cell, end: LinkEnd, place: usize) -> bool
+/// The link end at that place of the cell's list, if it has no mark at the present length. There are
+/// so many link ends.
+fn awake_at(journal: &Journal<'_>, ends: u16, cell: &Cell, place: usize) -> Option<LinkEnd>
     requires { ends ≡ 2 * length journal.now.declared.links }
-    ensures { result ≡ true → (end < 2 * length journal.now.declared.links) × IsSome (end_numbers cell.now.ends end) }
+    ensures at { IfSome result (λ end. option_map (λ p. p.0) (slice_get cell.now.ends place) ≡ Some end) }
+    ensures within { IfSome result (λ end. end < 2 * length journal.now.declared.links) }
+    ensures listed { IfSome result (λ end. IsSome (end_numbers cell.now.ends end)) }
 {
+    let Some(at) = cell.ends().get(place) else {
+        return None;
+    };
+    let end = at.0;
     if end.number() >= ends {
-        return false;
+        return None;
     }
     if journal.mark(end) == Some(journal.len() as u64) {
-        return false;
+        return None;
     }
-    has_at(cell, place, end)
+    Some(end)
 }
 
 /// Why the run ended, by what the journal tells of the state in which it did.
@@ -279,41 +244,6 @@ fn why(journal: &Journal<'_>, stop: Option<Stop>, limit: usize) -> Stop
     } else {
         Stop::Memory
     }
-}
-
-/// What is told of the journal at the end, if there was memory for what came out.
-fn outcome_of<'a>(
-    journal: Journal<'a>,
-    stop: Stop,
-    came_out: Result<Vec<Vec<Packet>>, AllocError>,
-) -> Result<Outcome<'a>, AllocError>
-    requires stop { EndsBy journal stop }
-    requires came_out { IfOk came_out (λ all. AreOutBy journal (length journal.declared.nodes) (map (λ packets. packets.items) all.items)) }
-    ensures { IfOk result (IsOutcome journal.entry.declared journal.entry.load journal.entry.limit) }
-{
-    match came_out {
-        Ok(came_out) => {
-            let undelivered = journal.undelivered();
-            let history = journal.into_history();
-            Ok(Outcome {
-                stop,
-                history,
-                came_out,
-                undelivered,
-            })
-        }
-        Err(error) => {
-            journal.discard();
-            Err(error)
-        }
-    }
-}
-
-/// Whether the step is a grant.
-fn is_grant(step: &Step) -> bool
-    ensures { result ≡ is_grant (machine_step step.now) }
-{
-    matches!(step, Step::Grant(_, _))
 }
 
 /// Adds the packets that came out at each node.

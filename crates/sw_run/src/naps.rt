@@ -40,9 +40,13 @@ impl Naps {
         }
     }
 
-    /// How often a worker was called.
-    pub(crate) fn calls(&self) -> u64 {
-        self.calls.load(Ordering::SeqCst)
+    /// How often a worker was called. None where the run is over.
+    pub(crate) fn calls(&self) -> Option<u64> {
+        let calls = self.calls.load(Ordering::SeqCst);
+        if self.over.load(Ordering::SeqCst) {
+            return None;
+        }
+        Some(calls)
     }
 
     /// Calls a worker that sleeps, if the one that was called last has found something to do.
@@ -67,11 +71,6 @@ impl Naps {
             .park_timeout(rt, seen, Duration::from_millis(millis));
         self.asleep.fetch_sub(1, Ordering::SeqCst);
         millis.saturating_mul(2).min(LONGEST)
-    }
-
-    /// Whether the run is over.
-    pub(crate) fn is_over(&self) -> bool {
-        self.over.load(Ordering::SeqCst)
     }
 
     /// The run is over: all workers are woken.

@@ -18,7 +18,7 @@ pub(crate) struct Notes {
     /// So many link ends at least have no mark at the present length.
     awake: u16,
     /// Why the run is over, if it is.
-    stop: Option<Stop>,
+    pub(crate) stop: Option<Stop>,
     /// By link end, to which link end the output was granted last that its input holds.
     outputs: Vec<LinkEnd>,
 }
@@ -33,11 +33,6 @@ impl Notes {
             stop: None,
             outputs,
         })
-    }
-
-    /// Why the run is over, if it is.
-    pub(crate) fn stop(&self) -> Option<Stop> {
-        self.stop
     }
 
     /// Ends the run.

@@ -31,7 +31,7 @@ fn show<R: Wait + Clock + Eprint>(rt: &R, state: &AtomicU64) {
         state.park_timeout(rt, GOES_ON as u32, Duration::from_millis(100));
     }
     if shown != 0 {
-        let _ = eprint!(rt; "\x1b[K");
+        let _ = rt.eprint("\x1b[K");
     }
 }
 

@@ -5,7 +5,7 @@ ghost use Rattle.sw_run.specs.Cells.{IsCellOf};
 ghost use Rattle.sw_run.specs.Wanted.{cell_place};
 
 use crate::gate::Gate;
-use crate::locked_cell::{LockedCell, end_at, first_wanted};
+use crate::locked_cell::{LockedCell, first_wanted};
 use crate::locked_journal::LockedJournal;
 use crate::naps::Naps;
 use crate::run_identity::RunIdentity;
@@ -35,26 +35,11 @@ pub(crate) struct Slot<W: RunIdentity> {
 }
 
 impl<W: RunIdentity> Slot<W> {
-    fn new(cell: LockedCell<W>) -> Slot<W> {
-        Slot {
-            cell: Mutex::new(cell),
-            ready: AtomicBool::new(true),
-        }
-    }
-
-    fn is_ready(&self) -> bool {
-        self.ready.load(Ordering::SeqCst)
-    }
-
     /// Raises the flag. Where it stands raised it is not written: others read it all the time.
     fn raise(&self) {
-        if !self.is_ready() {
+        if !self.ready.load(Ordering::SeqCst) {
             self.ready.store(true, Ordering::SeqCst);
         }
-    }
-
-    fn lower(&self) {
-        self.ready.store(false, Ordering::SeqCst);
     }
 }
 
@@ -102,7 +87,7 @@ pub(crate) struct RunState<'j, 'a, W: RunIdentity> {
     pub(crate) slots: Vec<Slot<W>>,
     pub(crate) journal: Mutex<&'j mut LockedJournal<'a, W>>,
     /// How many workers have a turn.
-    turns: AtomicU64,
+    pub(crate) turns: AtomicU64,
     /// Where workers sleep and are woken.
     pub(crate) naps: Naps,
 }
@@ -120,6 +105,24 @@ fn place_of(network: &Network, end: LinkEnd) -> usize
     }
 }
 
+/// Adds the cell, behind a lock of its own.
+fn add_slot<W: RunIdentity>(
+    alloc: Global,
+    network: &Network,
+    cell: Cell,
+    all: &mut Vec<Slot<W>>,
+) -> Result<(), AllocError>
+    requires network { network.now ≡ W.declared }
+    requires cell { IsCellOf W.declared W.name cell }
+{
+    let cell = LockedCell::new(alloc, network, cell)?;
+    all.push(Slot {
+        cell: Mutex::new(cell),
+        ready: AtomicBool::new(true),
+    })?;
+    Ok(())
+}
+
 /// Each cell behind a lock of its own.
 pub(crate) fn locked<W: RunIdentity>(
     alloc: Global,
@@ -129,112 +132,59 @@ pub(crate) fn locked<W: RunIdentity>(
     requires network { network.now ≡ W.declared }
     requires cells { All (IsCellOf W.declared W.name) cells.items }
 {
-    let mut all: Vec<Slot<W>> = Vec::with_capacity(alloc, cells.len())?;
+    let mut all = Vec::new(alloc);
     for cell in cells {
-        all.push(Slot::new(LockedCell::new(alloc, network, cell)?))?;
+        add_slot(alloc, network, cell, &mut all)?;
     }
     Ok(all)
 }
 
-/// Something was sent over the link of this link end: the cell at the other end may have a step.
-fn raise_over<W: RunIdentity>(network: &Network, slots: &[Slot<W>], end: LinkEnd) {
-    let other = LinkEnd::new(end.receives().number());
-    if other.number() >= network.channels() {
-        return;
-    }
-    if let Some(slot) = slots.get(place_of(network, other)) {
-        slot.raise();
-    }
-}
-
-/// The gate is told of the steps of a turn, when both locks are free.
-fn tell<G: Gate>(gate: &G, cell: CellId, made: Option<Made>) -> Found {
-    let Some(made) = made else {
-        return Found::Held;
-    };
-    for _ in 0..made.steps {
-        gate.committed(cell);
-    }
-    match made.end {
-        End::Over => Found::Over,
-        _ => Found::Work,
-    }
-}
-
 impl<'j, 'a, W: RunIdentity> RunState<'j, 'a, W> {
-    pub(crate) fn new(
-        network: &'a Network,
-        journal: &'j mut LockedJournal<'a, W>,
-        slots: Vec<Slot<W>>,
-    ) -> RunState<'j, 'a, W> {
-        RunState {
-            network,
-            slots,
-            journal: Mutex::new(journal),
-            turns: AtomicU64::new(0),
-            naps: Naps::new(),
-        }
-    }
-
-    /// Steps of one link end, until it has none.
-    fn serve_end(
-        &self,
-        alloc: Global,
-        journal: &mut LockedJournal<'a, W>,
-        locked: &mut LockedCell<W>,
-        end: LinkEnd,
-        place: usize,
-    ) -> Made {
-        for steps in 0..MOST_STEPS {
-            match journal.advance(alloc, locked, end, place) {
-                Turn::Moved => {}
-                Turn::Sent(at) => raise_over(self.network, &self.slots, at),
-                Turn::Idle => {
-                    return Made {
-                        steps,
-                        end: End::Idle,
-                    };
-                }
-                Turn::Over => {
-                    return Made {
-                        steps,
-                        end: End::Over,
-                    };
+    /// Adds what a link end did to what was made, and says whether it was a step. Where something was
+    /// sent over a link, the cell at its other end may have a step.
+    fn note(&self, turn: Turn, made: &mut Made) -> bool {
+        match turn {
+            Turn::Moved => {}
+            Turn::Sent(at) => {
+                let other = LinkEnd::new(at.receives().number());
+                if other.number() < self.network.channels() {
+                    if let Some(slot) = self.slots.get(place_of(self.network, other)) {
+                        slot.raise();
+                    }
                 }
             }
+            Turn::Idle => return false,
+            Turn::Over => {
+                made.end = End::Over;
+                return false;
+            }
         }
-        Made {
-            steps: MOST_STEPS,
-            end: End::More,
-        }
+        made.steps = made.steps.saturating_add(1);
+        true
     }
 
-    /// Steps of each link end of the cell in turn.
+    /// Steps of each link end of the cell in turn, of each until it has none or has made many.
     fn serve_ends(
         &self,
         alloc: Global,
         journal: &mut LockedJournal<'a, W>,
         locked: &mut LockedCell<W>,
-    ) -> Made {
-        let mut all = Made {
-            steps: 0,
-            end: End::Idle,
-        };
+        made: &mut Made,
+    ) {
+        let before = made.steps;
         for place in 0..locked.cell.ends().len() {
-            let Some(end) = end_at(&locked.cell, place) else {
-                return all;
-            };
-            let made = self.serve_end(alloc, journal, locked, end, place);
-            all.steps = all.steps.saturating_add(made.steps);
+            for _ in 0..MOST_STEPS {
+                if !self.note(journal.advance(alloc, locked, place), made) {
+                    break;
+                }
+            }
             if matches!(made.end, End::Over) {
-                all.end = End::Over;
-                return all;
+                return;
             }
         }
-        if all.steps != 0 {
-            all.end = End::More;
+        if made.steps == before {
+            made.end = End::Idle;
         }
-        all
     }
 
     /// The step that was chosen, and then steps of the cell until it has none, or has made many.
@@ -245,31 +195,18 @@ impl<'j, 'a, W: RunIdentity> RunState<'j, 'a, W> {
         locked: &mut LockedCell<W>,
         first: Option<LinkEnd>,
     ) -> Made {
-        let mut all = Made {
+        let mut made = Made {
             steps: 0,
             end: End::More,
         };
-        match journal.begin(alloc, locked, first) {
-            Turn::Moved => all.steps = 1,
-            Turn::Sent(at) => {
-                raise_over(self.network, &self.slots, at);
-                all.steps = 1;
-            }
-            Turn::Idle => {}
-            Turn::Over => {
-                all.end = End::Over;
-                return all;
-            }
-        }
+        let _stepped = self.note(journal.begin(alloc, locked, first), &mut made);
         for _ in 0..MOST_STEPS {
-            let made = self.serve_ends(alloc, journal, locked);
-            all.steps = all.steps.saturating_add(made.steps);
-            all.end = made.end;
-            if !matches!(made.end, End::More) || all.steps >= MOST_STEPS {
-                return all;
+            if !matches!(made.end, End::More) || made.steps >= MOST_STEPS {
+                break;
             }
+            self.serve_ends(alloc, journal, locked, &mut made);
         }
-        all
+        made
     }
 
     /// What the cell does next is chosen under its own lock, before the journal's is taken. None where
@@ -283,8 +220,10 @@ impl<'j, 'a, W: RunIdentity> RunState<'j, 'a, W> {
     ) -> Option<Made> {
         gate.deciding(locked.cell.id());
         let first = first_wanted(&locked.cell);
-        let mut journal = self.journal.try_lock()?;
-        slot.lower();
+        let Some(mut journal) = self.journal.try_lock() else {
+            return None;
+        };
+        slot.ready.store(false, Ordering::SeqCst);
         let made = self.serve(alloc, &mut journal, locked, first);
         if matches!(made.end, End::More) {
             slot.raise();
@@ -297,7 +236,7 @@ impl<'j, 'a, W: RunIdentity> RunState<'j, 'a, W> {
         let Some(slot) = self.slots.get(place) else {
             return Found::Nothing;
         };
-        if !slot.is_ready() {
+        if !slot.ready.load(Ordering::SeqCst) {
             return Found::Nothing;
         }
         let Some(mut locked) = slot.cell.try_lock() else {
@@ -309,7 +248,16 @@ impl<'j, 'a, W: RunIdentity> RunState<'j, 'a, W> {
         let made = self.decide(alloc, gate, slot, &mut locked);
         drop(locked);
         self.turns.fetch_sub(1, Ordering::SeqCst);
-        tell(gate, cell, made)
+        let Some(made) = made else {
+            return Found::Held;
+        };
+        for _ in 0..made.steps {
+            gate.committed(cell);
+        }
+        match made.end {
+            End::Over => Found::Over,
+            _ => Found::Work,
+        }
     }
 
     /// Where no worker has a turn, each cell is to have one more. Says whether it is so.

@@ -6,14 +6,16 @@ ghost use Rattle.sw_run.specs.Outcomes.{IsOutcome};
 
 use crate::gate::Gate;
 use crate::locked_journal::LockedJournal;
+use crate::naps::Naps;
 use crate::notes::Notes;
 use crate::outcome::Outcome;
 use crate::run_identity::RunIdentity;
-use crate::run_state::{RunState, locked};
+use crate::run_state::{RunState, Slot, locked};
 use crate::workers::{RunCrew, start_all};
 use std::alloc::{AllocError, Global};
 use std::marker::Brand;
-use std::sync::Wait;
+use std::sync::atomic::AtomicU64;
+use std::sync::{Mutex, Wait};
 use std::thread::Threads;
 use sw_config::Network;
 use sw_journal::{Cell, Journal};
@@ -25,16 +27,19 @@ fn work_all<'a, W: RunIdentity + Send + Sync, G: Gate + Sync, R: Threads + Wait 
     alloc: Global,
     network: &'a Network,
     journal: &mut LockedJournal<'a, W>,
-    cells: Vec<Cell>,
+    slots: Vec<Slot<W>>,
     workers: usize,
     gate: &G,
-) -> Result<(), AllocError>
-    requires network { network.now ≡ W.declared }
-    requires cells { All (IsCellOf W.declared W.name) cells.items }
-    requires some { 0 < workers }
+)
+    requires { 0 < workers }
 {
-    let slots = locked::<W>(alloc, network, cells)?;
-    let shared = RunState::new(network, journal, slots);
+    let shared = RunState {
+        network,
+        slots,
+        journal: Mutex::new(journal),
+        turns: AtomicU64::new(0),
+        naps: Naps::new(),
+    };
     let crew = RunCrew {
         rt,
         alloc,
@@ -42,7 +47,6 @@ fn work_all<'a, W: RunIdentity + Send + Sync, G: Gate + Sync, R: Threads + Wait 
         gate,
     };
     start_all(rt, &crew, workers);
-    Ok(())
 }
 
 /// Runs the workers on the cells and the journal of one run.
@@ -51,6 +55,7 @@ fn run_named<'a, W: RunIdentity + Send + Sync, G: Gate + Sync, R: Threads + Wait
     alloc: Global,
     network: &'a Network,
     journal: Journal<'a>,
+    notes: Notes,
     cells: Vec<Cell>,
     workers: usize,
     limit: usize,
@@ -63,10 +68,12 @@ fn run_named<'a, W: RunIdentity + Send + Sync, G: Gate + Sync, R: Threads + Wait
     requires some { 0 < workers }
     ensures { IfOk result (IsOutcome W.declared W.load W.limit) }
 {
-    let notes = Notes::new(alloc, network.channels());
-    let mut journal = LockedJournal::<'a, W>::new(network, journal, limit, notes)?;
-    match work_all(rt, alloc, network, &mut journal, cells, workers, gate) {
-        Ok(()) => journal.outcome(alloc),
+    match locked::<W>(alloc, network, cells) {
+        Ok(slots) => {
+            let mut journal = LockedJournal::<'a, W>::new(network, journal, limit, notes);
+            work_all(rt, alloc, network, &mut journal, slots, workers, gate);
+            journal.outcome(alloc)
+        }
         Err(error) => {
             journal.discard();
             Err(error)
@@ -93,6 +100,9 @@ pub fn run<'a, G: Gate + Sync, R: Threads + Wait + Sync>(
     requires some { 0 < workers }
     ensures { IfOk result (IsOutcome network.now load.now limit) }
 {
+    let notes = Notes::new(alloc, network.channels())?;
     let (journal, cells) = Journal::new(alloc, network, load, limit)?;
-    run_named::<Brand, G, R>(rt, alloc, network, journal, cells, workers, limit, gate)
+    run_named::<Brand, G, R>(
+        rt, alloc, network, journal, notes, cells, workers, limit, gate,
+    )
 }

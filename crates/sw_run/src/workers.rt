@@ -68,10 +68,9 @@ impl<'s, 'j, 'a, W: RunIdentity, G: Gate, R: Wait> Crew for RunCrew<'s, 'j, 'a, 
         let naps = &shared.naps;
         let mut millis = SHORTEST;
         for _ in self.rt.forever() {
-            let calls = naps.calls();
-            if naps.is_over() {
+            let Some(calls) = naps.calls() else {
                 return;
-            }
+            };
             match round(self.alloc, shared, self.gate, worker) {
                 Found::Work => {
                     if millis != SHORTEST {

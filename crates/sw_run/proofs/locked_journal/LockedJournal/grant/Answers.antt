@@ -1,19 +1,36 @@
-use Rattle.std.proofs.Common.{None, ap, arith, length, subst, sym, ◌∙◌, ◌≡◌}
+use Rattle.std.proofs.Common.{Some, ap, arith, length, subst, sym, ◌∙◌, ◌≡◌}
+use Rattle.sw_cell.specs.Places.{machine_cell}
 use Rattle.sw_cell.specs.declared.cell.CellId.{CellId}
-use Rattle.sw_config.specs.Entries.{Declaration}
 use Rattle.sw_journal.specs.Record.{CellView}
 use Rattle.sw_machine.specs.Steps.{Grant}
-use Rattle.sw_run.proofs.Grants.{granted, grants_elsewhere, grants_full}
+use Rattle.sw_run.proofs.Grants.{fails, granted, grants_at_node, grants_elsewhere, grants_full, holds, starts_at}
 use Rattle.sw_run.proofs.locked_journal.LockedJournal.grant.Goals as goal
-use Rattle.sw_run.specs.Grants.{Grants, StandsAt, Takes}
+use Rattle.sw_run.specs.Grants.{Grants, Takes}
 
 pub returns-in_default : goal.returns-in_default
 returns-in_default g c =
     let self = c.args.self.now in
-    let id = c.args.locked.now.cell.id in
-    let elsewhere = subst (StandsAt self.network.now id c.args.end) c.in_default.is (subst (λ i. StandsAt self.network.now i c.args.end c.output_at.result) c.id.ensures c.output_at.ensures) in
-    grants_elsewhere self.journal id c.args.locked.now.arbiters.items c.args.end
-    (subst (λ (d : Declaration). StandsAt d id c.args.end None) (self.network_is ∙ sym self.identity_is.1) elsewhere)
+    let j = self.journal in
+    let e = c.args.end in
+    let starts = starts_at c.topology.result.now self.network.now j.declared e c.sends.result c.start_of.result c.topology.ensures.wiring (self.network_is ∙ sym self.identity_is.1) c.sends.ensures c.start_of.ensures.place in
+    grants_at_node j c.args.locked.now.cell.id c.args.locked.now.arbiters.items e _ (starts ∙ ap Some c.in_default.is)
+
+pub returns-then-not-is : goal.returns-then-not-is
+returns-then-not-is g c =
+    let self = c.args.self.now in
+    let j = self.journal in
+    let e = c.args.end in
+    let at = c.in-Switch in
+    let starts = starts_at c.topology.result.now self.network.now j.declared e c.sends.result c.start_of.result c.topology.ensures.wiring (self.network_is ∙ sym self.identity_is.1) c.sends.ensures c.start_of.ensures.place in
+    grants_elsewhere j c.args.locked.now.cell.id c.args.locked.now.arbiters.items e at.w at.out (starts ∙ ap Some at.is) (λ here. fails c.is.result c.if-not-is.true c.is.ensures (ap machine_cell c.id.ensures ∙ here))
+
+pub picked-channel-requires-clause-at : goal.picked-channel-requires-clause-at
+picked-channel-requires-clause-at g c = sym (ap machine_cell c.id.ensures) ∙ holds c.is.result c.if-not-is.false c.is.ensures
+
+pub picked-channel-requires-clause-starts : goal.picked-channel-requires-clause-starts
+picked-channel-requires-clause-starts g c =
+    let self = c.args.self.now in
+    starts_at c.topology.result.now self.network.now g.W.RunIdentity.declared c.args.end c.sends.result c.start_of.result c.topology.ensures.wiring self.network_is c.sends.ensures c.start_of.ensures.place ∙ ap Some c.in-Switch.is
 
 pub returns-then-len-self : goal.returns-then-len-self
 returns-then-len-self g c = subst (λ t. Grants c.args.self.now.journal c.args.locked.now.cell.id c.args.locked.now.arbiters.items c.args.end t c.args.self.now.journal c.args.locked.now.arbiters.items) (sym c.end.ensures) (grants_full c.args.self.now.journal c.args.locked.now.cell.id c.args.locked.now.arbiters.items c.args.end)
@@ -27,8 +44,8 @@ returns g c =
     let turn = c.commit.result in
     let k = c.commit.new.self.journal in
     let at = ap (λ (v : CellView). v.id) c.picked-channel.ensures.cell in
-    let takes = subst (λ n. Takes j c.args.locked.now.cell.id (Grant n channel) turn k) c.sends.ensures
-    (subst (λ (id : CellId). Takes j id (Grant c.sends.result channel) turn k) at c.commit.ensures.takes) in
+    let takes = subst (λ n. Takes j c.args.locked.now.cell.id (Grant n channel) turn k) c.sends-2.ensures
+    (subst (λ (id : CellId). Takes j id (Grant c.sends-2.result channel) turn k) at c.commit.ensures.takes) in
     let room : length j.history ≡ j.limit → ⊥ = λ full. (let no : ⊥ = omega (arith, c.if-len-self.false, c.len.ensures.len, full, self.identity_is.3, self.limit_is) in absurd no) in
     granted j k c.args.locked.now.cell.id c.args.locked.now.arbiters.items c.picked-channel.new.locked.arbiters.items c.commit.new.locked.arbiters.items e channel turn takes
     c.picked-channel.ensures.can c.picked-channel.ensures.picked c.commit.ensures.arbiters room
