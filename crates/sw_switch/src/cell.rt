@@ -1,7 +1,7 @@
 //! What a switch keeps of its ports.
 ghost use Rattle.std.specs.Prelude.{◌≡◌, ℕ, ◌<◌, ◌≤◌, ◌≢◌, ◌↔◌, length, slice_get, slice_set, Some, IsTrue, IsBitSet};
 ghost use Rattle.sw_arb.specs.Arbiters.{IsWithin};
-ghost use Rattle.sw_link.specs.Ends.{asked, arrived, granted, spent, may_issue};
+ghost use Rattle.sw_link.specs.Ends.{arrived, granted};
 ghost use Rattle.sw_switch.specs.declared.input.Input.{Input};
 
 use crate::input::Input;
@@ -122,13 +122,6 @@ impl<R: Routing, A: Arbiter> SwitchCell<R, A> {
         self.received[input.number() as usize].len() > 0
     }
 
-    /// Is there room for eight more N-Chars?
-    pub(crate) fn has_room(&self, input: Port) -> bool
-        ensures { result ≡ may_issue (end_at self.now input) }
-    {
-        self.received[input.number() as usize].can_issue()
-    }
-
     /// The linked inputs that are idle and have a character in their buffer, and maybe others.
     pub(crate) fn waiting(&self) -> PortSet
         ensures linked { (p : ℕ) → IsBitSet result p → IsBitSet self.now.linked p }
@@ -152,21 +145,6 @@ impl<R: Routing, A: Arbiter> SwitchCell<R, A> {
         ensures after { self.new ≡ without_front self.old input }
     {
         self.received[input.number() as usize].take()
-    }
-
-    pub(crate) fn send(&mut self, out: Port)
-        requires { 0 < credit_at self.old out }
-        ensures { self.new ≡ with_credit self.old out (spent (credit_at self.old out)) }
-    {
-        self.credits[out.number() as usize].send();
-    }
-
-    /// An FCT leaves for the channel that ends at the port.
-    pub(crate) fn ask(&mut self, input: Port)
-        requires { IsTrue (may_issue (end_at self.old input)) }
-        ensures { self.new ≡ with_end self.old input (asked (end_at self.old input)) }
-    {
-        self.received[input.number() as usize].issue();
     }
 
     /// An N-Char arrives at the port, which has to have some outstanding.

@@ -106,7 +106,7 @@ impl<R: Routing, A: Arbiter> SwitchCell<R, A> {
     pub fn can_issue(&self, input: Port) -> bool
         ensures { IsTrue result ↔ CanIssue self.now input }
     {
-        self.is_linked(input) && self.has_room(input)
+        self.is_linked(input) && self.received[input.number() as usize].can_issue()
     }
 
     /// Is some step of the port possible, apart from what comes from its link?

@@ -1,5 +1,5 @@
 //! A new switch.
-ghost use Rattle.std.specs.Prelude.{◌≡◌, ◌++◌, ◌∷◌, [], ℕ, length, replicate, map, All, slice_get, Some, IfOk, vec_len};
+ghost use Rattle.std.specs.Prelude.{◌≡◌, ℕ, length, replicate, map, All, slice_get, Some, IfOk, vec_len};
 ghost use Rattle.sw_link.specs.Ends.{IsCapacity};
 ghost use Rattle.sw_switch.specs.Cell.{HaveArbiters, new_end, new_cell};
 ghost use Rattle.sw_switch.specs.declared.input.Input.{Input};
@@ -25,21 +25,13 @@ fn no_credits(alloc: Global, ports: usize) -> Result<Vec<TxEnd>, AllocError>
     Ok(ends)
 }
 
-fn add_empty_end(alloc: Global, capacity: usize, ends: &mut Vec<RxEnd>) -> Result<(), AllocError>
-    requires { IsCapacity capacity }
-    ensures { IfOk result (λ _. ends.new.items ≡ ends.old.items ++ new_end capacity ∷ []) }
-{
-    ends.push(RxEnd::new(alloc, capacity)?)?;
-    Ok(())
-}
-
 fn empty_ends(alloc: Global, capacities: &[usize]) -> Result<Vec<RxEnd>, AllocError>
     requires { All IsCapacity capacities.now }
     ensures { IfOk result (λ ends. ends.items ≡ map new_end capacities.now) }
 {
     let mut ends = Vec::new(alloc);
     for capacity in capacities {
-        add_empty_end(alloc, *capacity, &mut ends)?;
+        ends.push(RxEnd::new(alloc, *capacity)?)?;
     }
     Ok(ends)
 }

@@ -13,26 +13,7 @@ use sw_topo::Port;
 impl<R: Routing, A: Arbiter> SwitchCell<R, A> {
     ghost use Rattle.sw_switch.specs.Cell.{input_at, end_at, front_at};
     ghost use Rattle.sw_switch.specs.Conditions.{CanGrant, CanDrop, CanForward, CanSpill, CanIssue};
-    ghost use Rattle.sw_switch.specs.Changes.{is_deleted, granted_to, Grants, passed, forwarded, dropped, with_end};
-
-    /// Is the character at the front a leading byte that is deleted here?
-    fn deletes_front(&self, input: Port) -> bool
-        ensures { result ≡ is_deleted R.answer self.now.routes (front_at self.now input) }
-    {
-        match self.front(input) {
-            Some(NChar::Data(byte)) => self.look(byte).delete,
-            Some(NChar::Eop | NChar::Eep) | None => false,
-        }
-    }
-
-    fn hold(&mut self, out: Port, input: Port)
-        ensures { self.new ≡ granted_to R.answer self.old out input }
-    {
-        if self.deletes_front(input) {
-            self.take(input);
-        }
-        self.set_input(input, Input::Held(out));
-    }
+    ghost use Rattle.sw_switch.specs.Changes.{granted_to, Grants, passed, forwarded, dropped, with_end};
 
     /// Grants the output to that input, which has to ask for it (ECSS-E-ST-50-12C, network layer:
     /// wormhole routing). The output's arbiter stays as it is.
@@ -40,7 +21,13 @@ impl<R: Routing, A: Arbiter> SwitchCell<R, A> {
         requires { CanGrant R.answer self.old out input }
         ensures { self.new ≡ granted_to R.answer self.old out input }
     {
-        self.hold(out, input);
+        match self.front(input) {
+            Some(NChar::Data(byte)) if self.look(byte).delete => {
+                self.take(input);
+            }
+            _ => {}
+        }
+        self.set_input(input, Input::Held(out));
     }
 
     /// Grants the output to the input that its arbiter picks among those that ask, and `None` if
@@ -53,7 +40,7 @@ impl<R: Routing, A: Arbiter> SwitchCell<R, A> {
         let asking = self.asks(out);
         asking.first()?;
         let picked = self.pick(out, asking);
-        self.hold(out, picked);
+        self.grant_to(out, picked);
         Some(picked)
     }
 
@@ -84,7 +71,7 @@ impl<R: Routing, A: Arbiter> SwitchCell<R, A> {
         match self.input(input) {
             Input::Held(out) => {
                 let character = self.pass_front(input);
-                self.send(out);
+                self.credits[out.number() as usize].send();
                 (out, character)
             }
             Input::Idle | Input::Spilling => unreachable!(),
@@ -119,6 +106,6 @@ impl<R: Routing, A: Arbiter> SwitchCell<R, A> {
         requires { CanIssue self.old input }
         ensures { self.new ≡ with_end self.old input (asked (end_at self.old input)) }
     {
-        self.ask(input);
+        self.received[input.number() as usize].issue();
     }
 }
