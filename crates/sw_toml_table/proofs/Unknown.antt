@@ -47,10 +47,10 @@ less_is Less yes_less = refl
 less_is Equal yes_less = absurd (true≢false (sym yes_less))
 less_is Greater yes_less = absurd (true≢false (sym yes_less))
 
-no_name_fault : (s : Section) (keys : List Key) (ms : Members) (name : List ℕ) → least_unknown keys (member_names ms) ≡ Some name → only_known s keys ms ≡ Err (UnknownKey s name)
+pub no_name_fault : (s : Section) (keys : List Key) (ms : Members) (name : List ℕ) → least_unknown keys (member_names ms) ≡ Some name → only_known s keys ms ≡ Err (UnknownKey s name)
 no_name_fault s keys ms name found = rw found refl
 
-no_name_passes : (s : Section) (keys : List Key) (ms : Members) → least_unknown keys (member_names ms) ≡ None → only_known s keys ms ≡ Ok tt
+pub no_name_passes : (s : Section) (keys : List Key) (ms : Members) → least_unknown keys (member_names ms) ≡ None → only_known s keys ms ≡ Ok tt
 no_name_passes s keys ms none = rw none refl
 
 -- of a table whose least unknown name is found, or has none

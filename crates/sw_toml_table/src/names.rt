@@ -1,13 +1,12 @@
 //! Texts that are kept.
-ghost use Rattle.std.specs.Prelude.{◌≡◌, IfOk};
+ghost use Rattle.std.specs.Prelude.{◌≡◌};
 
-use std::alloc::{AllocError, Global};
 use std::marker::Model;
 
 /// A text that is kept: a clause sees its bytes.
 #[derive(Debug, Drop)]
 pub struct Name {
-    text: String,
+    pub(crate) text: String,
 }
 
 impl Model for Name {
@@ -19,13 +18,6 @@ impl Model for Name {
 }
 
 impl Name {
-    pub(crate) fn new(alloc: Global, text: &str) -> Result<Name, AllocError>
-        ensures { IfOk result (λ n. n ≡ text.now) }
-    {
-        let text = String::from_str(alloc, text)?;
-        Ok(Name { text })
-    }
-
     /// The text.
     pub fn as_str(&self) -> &str
         ensures { result.now ≡ self.now }

@@ -1,15 +1,12 @@
 //! Reading of one table, key by key.
-ghost use Rattle.std.specs.Prelude.{◌≡◌, ◌≤◌, ◌↔◌, All, Err, IsTrue, IsSome, IfOk, IfSome, Option, option_map, string_bytes, find, not, map};
-ghost use Rattle.std.specs.BTreeMap.{keys};
+ghost use Rattle.std.specs.Prelude.{◌≡◌, ◌≤◌, All, Err, IsTrue, IfOk, option_map, map};
 ghost use Rattle.std.specs.List.{list_all};
-ghost use Rattle.std.specs.List.Sorted.{IsStrictlySortedBy};
-ghost use Rattle.std.specs.String.{string_cmp};
 ghost use Rattle.toml.specs.Data.{get_member};
 ghost use Rattle.toml.specs.View.{view, table_view};
 ghost use Rattle.sw_toml_table.specs.Gives.{Gives, each};
 ghost use Rattle.sw_toml_table.specs.Keys.{key_text};
 ghost use Rattle.sw_toml_table.specs.Names.{is_name_byte, is_name, name_at};
-ghost use Rattle.sw_toml_table.specs.Table.{is_known, member_names, least_unknown, only_known, absent, required, text_value, number_value, items_value, table_value, numbers_value, tables_value, text_at, text_or_none, number_at, number_or, numbers_at, numbers_or_none, tables_or_none, table_or_none, flag_or_false};
+ghost use Rattle.sw_toml_table.specs.Table.{is_known, only_known, absent, number_value, numbers_value, text_at, text_or_none, number_at, number_or, numbers_at, numbers_or_none, tables_or_none, table_or_none, flag_or_false};
 
 use crate::fault::{FileFault, KeyFault, TextFault};
 use crate::keys::{Key, Section};
@@ -26,7 +23,12 @@ fn is_name_byte(byte: u8) -> bool
 fn is_all_name_bytes(text: &str) -> bool
     ensures { result ≡ list_all is_name_byte text.now }
 {
-    text.as_bytes().iter().all(|byte| is_name_byte(*byte))
+    for byte in text.as_bytes() {
+        if !is_name_byte(*byte) {
+            return false;
+        }
+    }
+    true
 }
 
 fn is_name(text: &str) -> bool
@@ -38,23 +40,12 @@ fn is_name(text: &str) -> bool
 fn is_known(known: &[Key], name: &str) -> bool
     ensures { result ≡ is_known known.now name.now }
 {
-    known.iter().any(|key| key.text() == name)
-}
-
-fn unknown_key<'a>(table: &'a Table, known: &[Key]) -> Option<&'a String>
-    ensures first { option_map (λ s. s.now) result ≡ find (λ k. not (is_known known.now (string_bytes k))) (keys table.now) }
-    ensures ascend { IsStrictlySortedBy string_cmp (keys table.now) }
-{
-    table.keys().find(|key| !is_known(known, key.as_str()))
-}
-
-fn least_unknown<'a>(table: &'a Table, known: &[Key]) -> Option<&'a str>
-    ensures { option_map (λ s. s.now) result ≡ least_unknown known.now (member_names (table_view table.now)) }
-{
-    match unknown_key(table, known) {
-        Some(key) => Some(key.as_str()),
-        None => None,
+    for key in known {
+        if key.text() == name {
+            return true;
+        }
     }
+    false
 }
 
 /// A table, and where it stands.
@@ -79,8 +70,8 @@ impl<'a> TableEntry<'a> {
     fn refuse(&self, alloc: Global, key: &str) -> Result<(), FileFault>
         ensures { Gives (λ x. x) result (Err (TextFault.UnknownKey self.now.section key.now)) }
     {
-        let name = Name::new(alloc, key)?;
-        Err(FileFault::Text(TextFault::UnknownKey(self.section, name)))
+        let text = String::from_str(alloc, key)?;
+        Err(FileFault::Text(TextFault::UnknownKey(self.section, Name { text })))
     }
 
     /// Refuses a table with a key that it may not have.
@@ -91,10 +82,13 @@ impl<'a> TableEntry<'a> {
     pub fn only_known(&self, alloc: Global, known: &[Key]) -> Result<(), FileFault>
         ensures { Gives (λ x. x) result (only_known self.now.section known.now (table_view self.now.table.now)) }
     {
-        match least_unknown(self.table, known) {
-            None => Ok(()),
-            Some(key) => self.refuse(alloc, key),
+        for key in self.table.keys() {
+            let name = key.as_str();
+            if !is_known(known, name) {
+                return self.refuse(alloc, name);
+            }
         }
+        Ok(())
     }
 
     /// Refuses a key that is known elsewhere in the table, but not here.
@@ -117,24 +111,6 @@ impl<'a> TableEntry<'a> {
         self.table.get(key.text())
     }
 
-    fn required(&self, key: Key) -> Result<&'a Value, FileFault>
-        ensures { Gives (λ v. view v.now) result (required self.now.section key (table_view self.now.table.now)) }
-    {
-        match self.optional(key) {
-            Some(value) => Ok(value),
-            None => Err(self.fault(KeyFault::MissingKey, key)),
-        }
-    }
-
-    fn text_value(&self, key: Key, value: &'a Value) -> Result<&'a str, FileFault>
-        ensures { Gives (λ s. s.now) result (text_value self.now.section key (view value.now)) }
-    {
-        match value.as_str() {
-            Some(text) => Ok(text),
-            None => Err(self.fault(KeyFault::WrongType, key)),
-        }
-    }
-
     fn number_value(&self, key: Key, low: u64, high: u64, value: &Value) -> Result<u64, FileFault>
         ensures gives { Gives (λ n. n) result (number_value self.now.section key low high (view value.now)) }
         ensures within { IfOk result (λ n. (low ≤ n) × (n ≤ high)) }
@@ -148,70 +124,25 @@ impl<'a> TableEntry<'a> {
         }
     }
 
-    fn items_value(&self, key: Key, value: &'a Value) -> Result<&'a [Value], FileFault>
-        ensures { Gives (λ v. map view v.now) result (items_value self.now.section key (view value.now)) }
-    {
-        match value.as_array() {
-            Some(values) => Ok(values),
-            None => Err(self.fault(KeyFault::WrongType, key)),
-        }
-    }
-
-    fn table_value(&self, key: Key, value: &'a Value) -> Result<&'a Table, FileFault>
-        ensures { Gives (λ t. table_view t.now) result (table_value self.now.section key (view value.now)) }
-    {
-        match value.as_table() {
-            Some(table) => Ok(table),
-            None => Err(self.fault(KeyFault::WrongType, key)),
-        }
-    }
-
-    fn each_number(
+    fn numbers_value(
         &self,
         alloc: Global,
         key: Key,
         high: u8,
-        values: &[Value],
+        value: &Value,
     ) -> Result<Vec<u8>, FileFault>
-        ensures gives { Gives (λ v. v.items) result (each (number_value self.now.section key 0 high) (map view values.now)) }
+        ensures gives { Gives (λ v. v.items) result (numbers_value self.now.section key high (view value.now)) }
         ensures within { IfOk result (λ v. All (λ n. n ≤ high) v.items) }
     {
+        let Some(values) = value.as_array() else {
+            return Err(self.fault(KeyFault::WrongType, key));
+        };
         let mut numbers = Vec::new(alloc);
         for value in values {
             let number = self.number_value(key, 0, high as u64, value)?;
             numbers.push(number as u8)?;
         }
         Ok(numbers)
-    }
-
-    fn numbers_value(
-        &self,
-        alloc: Global,
-        key: Key,
-        high: u8,
-        value: &'a Value,
-    ) -> Result<Vec<u8>, FileFault>
-        ensures gives { Gives (λ v. v.items) result (numbers_value self.now.section key high (view value.now)) }
-        ensures within { IfOk result (λ v. All (λ n. n ≤ high) v.items) }
-    {
-        let values = self.items_value(key, value)?;
-        self.each_number(alloc, key, high, values)
-    }
-
-    fn each_table(
-        &self,
-        alloc: Global,
-        key: Key,
-        values: &'a [Value],
-    ) -> Result<Vec<&'a Table>, FileFault>
-        ensures { Gives (λ v. map (λ t. table_view t.now) v.items) result (each (table_value self.now.section key) (map view values.now)) }
-    {
-        let mut tables = Vec::new(alloc);
-        for value in values {
-            let table = self.table_value(key, value)?;
-            tables.push(table)?;
-        }
-        Ok(tables)
     }
 
     /// The text at a key that has to be there.
@@ -222,8 +153,13 @@ impl<'a> TableEntry<'a> {
     pub fn text(&self, key: Key) -> Result<&'a str, FileFault>
         ensures { Gives (λ s. s.now) result (text_at self.now.section key (table_view self.now.table.now)) }
     {
-        let value = self.required(key)?;
-        self.text_value(key, value)
+        match self.optional(key) {
+            Some(value) => match value.as_str() {
+                Some(text) => Ok(text),
+                None => Err(self.fault(KeyFault::WrongType, key)),
+            },
+            None => Err(self.fault(KeyFault::MissingKey, key)),
+        }
     }
 
     /// The text at a key, if anything stands there.
@@ -234,12 +170,12 @@ impl<'a> TableEntry<'a> {
     pub fn text_or_none(&self, key: Key) -> Result<Option<&'a str>, FileFault>
         ensures { Gives (λ o. option_map (λ s. s.now) o) result (text_or_none self.now.section key (table_view self.now.table.now)) }
     {
-        match self.optional(key) {
-            Some(value) => {
-                let text = self.text_value(key, value)?;
-                Ok(Some(text))
-            }
-            None => Ok(None),
+        let Some(value) = self.optional(key) else {
+            return Ok(None);
+        };
+        match value.as_str() {
+            Some(text) => Ok(Some(text)),
+            None => Err(self.fault(KeyFault::WrongType, key)),
         }
     }
 
@@ -252,7 +188,9 @@ impl<'a> TableEntry<'a> {
         ensures gives { Gives (λ n. n) result (number_at self.now.section key low high (table_view self.now.table.now)) }
         ensures within { IfOk result (λ n. (low ≤ n) × (n ≤ high)) }
     {
-        let value = self.required(key)?;
+        let Some(value) = self.optional(key) else {
+            return Err(self.fault(KeyFault::MissingKey, key));
+        };
         self.number_value(key, low, high, value)
     }
 
@@ -283,7 +221,9 @@ impl<'a> TableEntry<'a> {
         ensures gives { Gives (λ v. v.items) result (numbers_at self.now.section key high (table_view self.now.table.now)) }
         ensures within { IfOk result (λ v. All (λ n. n ≤ high) v.items) }
     {
-        let value = self.required(key)?;
+        let Some(value) = self.optional(key) else {
+            return Err(self.fault(KeyFault::MissingKey, key));
+        };
         self.numbers_value(alloc, key, high, value)
     }
 
@@ -311,13 +251,20 @@ impl<'a> TableEntry<'a> {
     pub fn tables_or_none(&self, alloc: Global, key: Key) -> Result<Vec<&'a Table>, FileFault>
         ensures { Gives (λ v. map (λ t. table_view t.now) v.items) result (tables_or_none self.now.section key (table_view self.now.table.now)) }
     {
-        match self.optional(key) {
-            Some(value) => {
-                let values = self.items_value(key, value)?;
-                self.each_table(alloc, key, values)
-            }
-            None => Ok(Vec::new(alloc)),
+        let Some(value) = self.optional(key) else {
+            return Ok(Vec::new(alloc));
+        };
+        let Some(values) = value.as_array() else {
+            return Err(self.fault(KeyFault::WrongType, key));
+        };
+        let mut tables = Vec::new(alloc);
+        for value in values {
+            let Some(table) = value.as_table() else {
+                return Err(self.fault(KeyFault::WrongType, key));
+            };
+            tables.push(table)?;
         }
+        Ok(tables)
     }
 
     /// The table at a key, if anything stands there.
@@ -328,12 +275,12 @@ impl<'a> TableEntry<'a> {
     pub fn table_or_none(&self, key: Key) -> Result<Option<&'a Table>, FileFault>
         ensures { Gives (λ o. option_map (λ t. table_view t.now) o) result (table_or_none self.now.section key (table_view self.now.table.now)) }
     {
-        match self.optional(key) {
-            Some(value) => {
-                let table = self.table_value(key, value)?;
-                Ok(Some(table))
-            }
-            None => Ok(None),
+        let Some(value) = self.optional(key) else {
+            return Ok(None);
+        };
+        match value.as_table() {
+            Some(table) => Ok(Some(table)),
+            None => Err(self.fault(KeyFault::WrongType, key)),
         }
     }
 
