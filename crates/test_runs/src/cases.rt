@@ -5,7 +5,6 @@ use crate::nets::CoreWork::{Drain, Make, Wait};
 use crate::nets::calls::{LINK_END, PACKET};
 use crate::nets::drained::{Bounds, Choice};
 use crate::parts::cycles::{AGAIN, DUEL};
-use crate::runs::RunWork::{Order, Together};
 use crate::work::Case;
 use crate::work::Work::{Core, Cycles, Engine, Journal, Limit, Run};
 
@@ -78,10 +77,10 @@ const JOURNALS: &[Case] = cases! {
 
 /// Runs: three inputs of a switch ask for one output, with each kind of arbiter, and workers wait for one another.
 const RUNS: &[Case] = cases! {
-    "# runs by threads\n> fixed.toml grants.load\n" "fixed.toml" "grants.load" Run(Order);
-    "> round_robin.toml grants.load\n" "round_robin.toml" "grants.load" Run(Order);
-    "> least_recent.toml grants.load\n" "least_recent.toml" "grants.load" Run(Order);
-    "> turn.toml turn.load together\n" "turn.toml" "turn.load" Run(Together);
+    "# runs by threads\n> fixed.toml grants.load\n" "fixed.toml" "grants.load" Run(0);
+    "> round_robin.toml grants.load\n" "round_robin.toml" "grants.load" Run(0);
+    "> least_recent.toml grants.load\n" "least_recent.toml" "grants.load" Run(0);
+    "> turn.toml turn.load together\n" "turn.toml" "turn.load" Run(11);
 };
 
 /// The engine of `swcheck run`.

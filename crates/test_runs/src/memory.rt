@@ -11,6 +11,7 @@ mod steps;
 mod tables;
 mod targets;
 
+use crate::memory::networks::{RMAP, TURN, Work, add_of_file};
 use std::alloc::{AllocError, Global};
 use std::io;
 
@@ -23,9 +24,9 @@ fn add_all(alloc: Global, text: &mut String) -> Result<(), AllocError> {
         text,
         "table {entries}\nchannels {channels}\npackets end at {end}\n"
     )?;
-    networks::add_begun(alloc, text)?;
+    add_of_file(alloc, TURN, Work::Load, text)?;
     targets::add_answers(alloc, text)?;
-    networks::add_stepped(alloc, text)
+    add_of_file(alloc, RMAP, Work::Commands, text)
 }
 
 /// Prints what each call comes to.

@@ -1,6 +1,5 @@
 //! The network core and what stands on it, each time from the empty state on.
 ghost use Rattle.sw_load.specs.Laws.{AreDeclared};
-ghost use Rattle.sw_net.specs.New.{IsNewNet};
 
 pub(crate) mod calls;
 pub(crate) mod drained;
@@ -35,8 +34,8 @@ pub(crate) enum CoreWork {
     Make(&'static [Call]),
 }
 
-// Makes the step, if it can be made.
-fn make(alloc: Global, net: &mut Core<'_>, tried: Move<'_>) -> Result<(), NetFault> {
+/// Makes the step, if it can be made.
+pub(crate) fn make(alloc: Global, net: &mut Core<'_>, tried: Move<'_>) -> Result<(), NetFault> {
     match tried.step(alloc) {
         Ok(step) => net.step(alloc, &step),
         Err(_) => Err(NetFault::Memory),
@@ -57,23 +56,6 @@ fn make_step(alloc: Global, net: &mut Core<'_>, end: LinkEnd) -> Option<bool> {
     is_fct
 }
 
-fn show_steps<'n>(
-    rt: &HostRuntime,
-    network: &'n Network,
-    net: &mut Core<'n>,
-    load: &Load,
-    work: CoreWork,
-) -> io::Result<()>
-    requires new { IsNewNet network.now net.old }
-    requires packets { AreDeclared network.now load.now }
-{
-    match work {
-        CoreWork::Drain(bounds, choice) => show_drain(rt, network, net, load, bounds, choice),
-        CoreWork::Wait => show_waiting(rt, net, load),
-        CoreWork::Make(calls) => show_calls(rt, net, calls),
-    }
-}
-
 /// Does it with the network's core in its empty state, and prints what came of it.
 pub(crate) fn show_core(
     rt: &HostRuntime,
@@ -84,7 +66,11 @@ pub(crate) fn show_core(
     requires { AreDeclared network.now load.now }
 {
     let mut net = declared_net(rt.alloc(), network)?;
-    let shown = show_steps(rt, network, &mut net, load, work);
+    let shown = match work {
+        CoreWork::Drain(bounds, choice) => show_drain(rt, network, &mut net, load, bounds, choice),
+        CoreWork::Wait => show_waiting(rt, &mut net, load),
+        CoreWork::Make(calls) => show_calls(rt, &mut net, calls),
+    };
     net.discard();
     shown
 }

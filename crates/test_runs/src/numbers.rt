@@ -3,15 +3,11 @@
 use std::io;
 use sw_net::Numbers;
 
-/// Prints the numbers of the link end of that name.
-pub(crate) fn show_numbers(
-    rt: &HostRuntime,
-    name: &str,
-    numbers: Option<Numbers>,
-) -> io::Result<()> {
+/// Prints the numbers of a link end, whose name stands before.
+pub(crate) fn show_numbers(rt: &HostRuntime, numbers: Option<Numbers>) -> io::Result<()> {
     let Some(numbers) = numbers else {
-        return println!(rt; "{name}: no such link end");
+        return rt.println(": no such link end");
     };
     let (credit, outstanding, room) = (numbers.credit, numbers.outstanding, numbers.room);
-    println!(rt; "{name}: credit {credit}, outstanding {outstanding}, room {room}")
+    println!(rt; ": credit {credit}, outstanding {outstanding}, room {room}")
 }

@@ -35,18 +35,6 @@ pub struct Together {
     late: AtomicBool,
 }
 
-/// The cell's bit.
-fn bit_of(cell: CellId) -> u64 {
-    match cell {
-        CellId::Node(0) => 1,
-        CellId::Node(1) => 2,
-        CellId::Node(_) => 4,
-        CellId::Switch(0) => 8,
-        CellId::Switch(1) => 16,
-        CellId::Switch(_) => 32,
-    }
-}
-
 impl Together {
     /// A gate at which no cell was decided yet. At one that is open no worker waits, as if one had given up.
     pub fn new(is_open: bool) -> Together {
@@ -68,24 +56,15 @@ impl Together {
         self.decided.load(Ordering::SeqCst) == ALL
     }
 
-    /// Sets the bit of the cell. Was it clear?
-    fn raise(&self, cell: CellId) -> bool {
-        let bit = bit_of(cell);
-        self.decided.fetch_or(bit, Ordering::SeqCst) & bit == 0
-    }
-
-    fn has_come(&self, awaited: Awaited) -> bool {
-        match awaited {
-            Awaited::All => self.have_all_come(),
-            Awaited::Step => self.have_all_come() && self.stepped.load(Ordering::SeqCst),
-            Awaited::Again => self.decided_again.load(Ordering::SeqCst),
-        }
-    }
-
     /// Waits until that has come. Once one worker gave up none waits.
     fn wait(&self, awaited: Awaited) {
         for _ in 0..LOOKS {
-            if self.is_late() || self.has_come(awaited) {
+            let has_come = match awaited {
+                Awaited::All => self.have_all_come(),
+                Awaited::Step => self.have_all_come() && self.stepped.load(Ordering::SeqCst),
+                Awaited::Again => self.decided_again.load(Ordering::SeqCst),
+            };
+            if has_come || self.is_late() {
                 return;
             }
             thread::yield_now();
@@ -99,7 +78,15 @@ impl Gate for Together {
         if cell == CellId::Switch(1) && self.stepped.load(Ordering::SeqCst) {
             self.decided_again.store(true, Ordering::SeqCst);
         }
-        if self.raise(cell) {
+        let bit = match cell {
+            CellId::Node(0) => 1,
+            CellId::Node(1) => 2,
+            CellId::Node(_) => 4,
+            CellId::Switch(0) => 8,
+            CellId::Switch(1) => 16,
+            CellId::Switch(_) => 32,
+        };
+        if self.decided.fetch_or(bit, Ordering::SeqCst) & bit == 0 {
             let awaited = if cell == CellId::Switch(0) {
                 Awaited::Step
             } else {

@@ -6,7 +6,7 @@ use crate::journals::show_journal;
 use crate::journals::tried::Trial;
 use crate::nets::{CoreWork, show_core};
 use crate::parts::cycles::{Shown, are_told};
-use crate::runs::{RunWork, show_run};
+use crate::runs::show_run;
 use std::io::ErrorKind;
 use std::sync::Wait;
 use std::thread::Threads;
@@ -30,8 +30,8 @@ pub(crate) enum Work {
     Journal(usize, &'static [Trial]),
     /// The network's cycles are told from what is none.
     Cycles(&'static [Shown]),
-    /// The load is run by threads.
-    Run(RunWork),
+    /// The load is run by a worker and so many others.
+    Run(u8),
     /// It is run by the engine of `swcheck run`, which reads both texts.
     Engine,
 }
@@ -55,7 +55,7 @@ fn show_load<R: Threads + Wait + Sync>(
         Work::Core(work) => show_core(rt, network, load, work),
         Work::Journal(limit, trials) => show_journal(rt, threads, network, load, limit, trials),
         Work::Cycles(all) => println!(rt; "{}", are_told(rt.alloc(), network, all)),
-        Work::Run(work) => show_run(rt, threads, network, load, work),
+        Work::Run(others) => show_run(rt, threads, network, load, others),
     }
 }
 

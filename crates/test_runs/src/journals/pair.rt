@@ -14,31 +14,6 @@ use sw_load::Load;
 use sw_net::Numbers;
 use sw_topo::LinkEnd;
 
-/// One of the two nodes.
-#[derive(Clone, Copy)]
-pub(crate) enum Side {
-    First,
-    Second,
-}
-
-impl Side {
-    /// The node's number, which is its link end's too.
-    pub(crate) fn number(self) -> u16 {
-        match self {
-            Side::First => 0,
-            Side::Second => 1,
-        }
-    }
-
-    /// The name of the node's link end.
-    pub(crate) fn name(self) -> &'static str {
-        match self {
-            Side::First => "link end 0",
-            Side::Second => "link end 1",
-        }
-    }
-}
-
 /// A journal of two nodes that are joined by a link, and their cells. It is let go by `discard` alone.
 pub(crate) struct Pair<'n> {
     network: &'n Network,
@@ -88,10 +63,10 @@ impl<'n> Pair<'n> {
     pub(crate) fn make(
         &mut self,
         alloc: Global,
-        side: Side,
+        node: u16,
         tried: Move<'_>,
     ) -> Result<(), JournalFault> {
-        let place = side.number() as usize;
+        let place = node as usize;
         if place >= self.cells.len() {
             return Err(JournalFault::NotEnabled);
         }
@@ -102,35 +77,25 @@ impl<'n> Pair<'n> {
     }
 
     /// The numbers of the node's link end.
-    pub(crate) fn numbers(&self, side: Side) -> Option<Numbers> {
-        match self.cells.get(side.number() as usize) {
-            Some(cell) => cell.numbers(LinkEnd::new(side.number())),
+    pub(crate) fn numbers(&self, node: u16) -> Option<Numbers> {
+        match self.cells.get(node as usize) {
+            Some(cell) => cell.numbers(LinkEnd::new(node)),
             None => None,
         }
     }
 
-    /// Whether the node's link end is idle, which is marked then.
-    pub(crate) fn declare_idle(&mut self, side: Side) -> bool {
-        let number = side.number();
-        let place = number as usize;
-        if place >= self.cells.len() {
-            return false;
+    /// Whether the node's link end is idle, which is marked then, and its mark.
+    pub(crate) fn declare_idle(&mut self, node: u16) -> (bool, Option<u64>) {
+        let (place, end) = (node as usize, LinkEnd::new(node));
+        if node >= self.network.channels() || place >= self.cells.len() {
+            return (false, None);
         }
-        declare_idle(&mut self.journal, &self.cells[place], LinkEnd::new(number))
-    }
-
-    /// The mark of the node's link end.
-    pub(crate) fn mark(&self, side: Side) -> Option<u64> {
-        let number = side.number();
-        if number >= self.network.channels() {
-            return None;
-        }
-        self.journal.mark(LinkEnd::new(number))
+        let idle = declare_idle(&mut self.journal, &self.cells[place], end);
+        (idle, self.journal.mark(end))
     }
 
     /// Prints what the node has.
-    pub(crate) fn tell(&self, rt: &HostRuntime, side: Side) -> io::Result<()> {
-        let node = side.number();
+    pub(crate) fn tell(&self, rt: &HostRuntime, node: u16) -> io::Result<()> {
         if node >= self.network.nodes() {
             return Err(no_text());
         }

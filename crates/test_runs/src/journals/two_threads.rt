@@ -1,6 +1,6 @@
 //! Two threads over one journal, each at a cell of its own.
 
-use crate::journals::pair::{Pair, Side};
+use crate::journals::pair::Pair;
 use crate::moves::Move;
 use crate::numbers::show_numbers;
 use std::alloc::Global;
@@ -16,7 +16,7 @@ const LOOKS: usize = 10_000_000;
 /// What one thread does at the cell of a node: it reads its numbers, ends a turn, waits until another is over, tries a step, and ends one
 /// more turn. Turn 0 is over from the beginning.
 struct Deed {
-    side: Side,
+    node: u16,
     ends: u64,
     waits: u64,
     /// It takes an FCT that came on the channel of this number, or else sends one on it.
@@ -40,7 +40,7 @@ pub(crate) struct TwoThreads {
 /// One sends FCTs at the second node, and the other takes one at the first.
 pub(crate) const SEND_AND_TAKE: TwoThreads = TwoThreads {
     one: Deed {
-        side: Side::Second,
+        node: 1,
         ends: 0,
         waits: 0,
         takes: false,
@@ -50,7 +50,7 @@ pub(crate) const SEND_AND_TAKE: TwoThreads = TwoThreads {
         then_ends: 0,
     },
     other: Deed {
-        side: Side::First,
+        node: 0,
         ends: 0,
         waits: 0,
         takes: true,
@@ -66,7 +66,7 @@ pub(crate) const SEND_AND_TAKE: TwoThreads = TwoThreads {
 /// first node.
 pub(crate) const READ_AND_SEND: TwoThreads = TwoThreads {
     one: Deed {
-        side: Side::Second,
+        node: 1,
         ends: 1,
         waits: 2,
         takes: false,
@@ -76,7 +76,7 @@ pub(crate) const READ_AND_SEND: TwoThreads = TwoThreads {
         then_ends: 2,
     },
     other: Deed {
-        side: Side::First,
+        node: 0,
         ends: 0,
         waits: 1,
         takes: false,
@@ -98,10 +98,10 @@ struct Told {
 // The cells of both nodes. What works with them names no journal, and is cheaper to prove.
 trait Cells {
     /// The numbers of the node's link end.
-    fn numbers(&self, side: Side) -> Option<Numbers>;
+    fn numbers(&self, node: u16) -> Option<Numbers>;
 
     /// Makes the step at that node, if it may follow. Is it made?
-    fn makes(&self, side: Side, tried: Move<'_>) -> bool;
+    fn makes(&self, node: u16, tried: Move<'_>) -> bool;
 }
 
 /// The cells of a journal that two threads share.
@@ -113,90 +113,66 @@ struct LockedCells<'s, 'n, R: Wait> {
 }
 
 impl<'s, 'n, R: Wait> Cells for LockedCells<'s, 'n, R> {
-    fn numbers(&self, side: Side) -> Option<Numbers> {
+    fn numbers(&self, node: u16) -> Option<Numbers> {
         let pair = self.pair.lock(self.rt);
-        let numbers = pair.numbers(side);
+        let numbers = pair.numbers(node);
         MutexGuard::unlock(pair);
         numbers
     }
 
-    fn makes(&self, side: Side, tried: Move<'_>) -> bool {
+    fn makes(&self, node: u16, tried: Move<'_>) -> bool {
         let mut pair = self.pair.lock(self.rt);
-        let is_made = pair.make(self.alloc, side, tried).is_ok();
+        let is_made = pair.make(self.alloc, node, tried).is_ok();
         MutexGuard::unlock(pair);
         is_made
     }
 }
 
-/// How many turns are over.
-#[derive(Drop)]
-struct Turns {
-    count: AtomicU64,
-}
-
-impl Turns {
-    // So many turns are over, if no more are.
-    fn end(&self, count: u64) {
-        self.count.fetch_max(count, Ordering::SeqCst);
-    }
-
-    // Waits until so many turns are over. Are they?
-    fn wait_for(&self, count: u64) -> bool {
-        for _ in 0..LOOKS {
-            if self.count.load(Ordering::SeqCst) >= count {
-                return true;
-            }
-            thread::yield_now();
+// Waits until so many turns are over. Are they?
+fn waits_for(turns: &AtomicU64, count: u64) -> bool {
+    for _ in 0..LOOKS {
+        if turns.load(Ordering::SeqCst) >= count {
+            return true;
         }
-        false
+        thread::yield_now();
     }
+    false
 }
 
-// Tries the step, and counts how often it is made.
-fn made_of<C: Cells>(cells: &C, deed: &Deed) -> usize {
+// Does it, and counts how often the step is made. So many turns are over then as it ends, if no more are.
+fn done_of<C: Cells>(cells: &C, turns: &AtomicU64, deed: &Deed) -> Told {
     let tried = if deed.takes {
         Move::FctIn(deed.channel)
     } else {
         Move::Fct(deed.channel)
     };
+    let numbers = cells.numbers(deed.node);
+    turns.fetch_max(deed.ends, Ordering::SeqCst);
     let mut made: usize = 0;
-    for _ in 0..deed.tries {
-        if cells.makes(deed.side, tried) {
-            made = made.saturating_add(1);
+    if waits_for(turns, deed.waits) {
+        for _ in 0..deed.tries {
+            if cells.makes(deed.node, tried) {
+                made = made.saturating_add(1);
+            }
+            if made == deed.wanted {
+                break;
+            }
+            thread::yield_now();
         }
-        if made == deed.wanted {
-            break;
-        }
-        thread::yield_now();
     }
-    made
-}
-
-fn done_of<C: Cells>(cells: &C, turns: &Turns, deed: &Deed) -> Told {
-    let numbers = cells.numbers(deed.side);
-    turns.end(deed.ends);
-    let made = if turns.wait_for(deed.waits) {
-        made_of(cells, deed)
-    } else {
-        0
-    };
-    turns.end(deed.then_ends);
+    turns.fetch_max(deed.then_ends, Ordering::SeqCst);
     Told { numbers, made }
-}
-
-fn show_read(rt: &HostRuntime, numbers: Option<Numbers>, own: bool, other: bool) -> io::Result<()> {
-    show_numbers(rt, Side::Second.name(), numbers).and(println!(rt;
-        "another sent one {other}, then one sent {own}"
-    ))
 }
 
 fn show_told(rt: &HostRuntime, tells: bool, first: Told, second: Told) -> io::Result<()> {
     let (sent, other) = (first.made, second.made == 1);
-    if tells {
-        show_read(rt, first.numbers, sent == 1, other)
-    } else {
-        println!(rt; "sent {sent}, one taken {other}")
+    if !tells {
+        return println!(rt; "sent {sent}, one taken {other}");
     }
+    let one = sent == 1;
+    rt.print("link end 1")
+        .and(show_numbers(rt, first.numbers))
+        .and(println!(rt; "another sent one {other}, then one sent {one}"))
 }
 
 // Prints what the two threads tell.
@@ -206,9 +182,7 @@ fn show_threads<C: Cells + Sync, R: Threads>(
     cells: &C,
     work: &TwoThreads,
 ) -> io::Result<()> {
-    let turns = Turns {
-        count: AtomicU64::new(0),
-    };
+    let turns = AtomicU64::new(0);
     let (first, second) = thread::join(
         threads,
         || done_of(cells, &turns, &work.one),

@@ -1,14 +1,13 @@
 //! Histories of a load.
-ghost use Rattle.std.specs.Prelude.{◌≡◌, ◌<◌, true};
-ghost use Rattle.sw_load.specs.Laws.{AreDeclared};
-
-use crate::memory::steps::{add_parts, beginning, text_of};
+use crate::memory::steps::{add_parts, text_of};
+use crate::moves::Move;
 use std::alloc::{AllocError, Global};
 use sw_arb::Policy;
+use sw_char::End;
 use sw_config::Network;
 use sw_history::History;
 use sw_load::laws::listed_are_declared;
-use sw_load::{Load, read_load};
+use sw_load::read_load;
 use sw_net::{SwitchRoutes, declared_net};
 
 /// A packet of the first flow.
@@ -16,68 +15,42 @@ const LOAD: &[u8] = b"packet = [{ flow = 'f0', cargo = 'A0' }]";
 
 type Steps<'n> = History<'n, SwitchRoutes<'n>, Policy>;
 
-// Whether there is room for one more step, made at once or again.
-fn is_reserved(history: &mut Steps<'_>) -> bool
-    ensures { result ≡ true → 0 < history.new.room }
-{
-    match history.reserve() {
-        Ok(()) => true,
-        Err(_) => history.reserve().is_ok(),
+// Whether the load's packet was begun, by a step for which room was made at once or again.
+fn is_begun(alloc: Global, history: &mut Steps<'_>) -> bool {
+    let _ = history.reserve();
+    if history.reserve().is_err() {
+        return false;
+    }
+    match Move::Begin(0, &[0xA0], End::Eop).step(alloc) {
+        Ok(step) => history.add(alloc, step).is_ok(),
+        Err(_) => false,
     }
 }
 
-// Whether the load's packet was begun.
-fn is_begun(alloc: Global, history: &mut Steps<'_>) -> Result<bool, AllocError> {
-    if !is_reserved(history) {
-        return Ok(false);
-    }
-    Ok(history.add(alloc, beginning(alloc, &[0xA0])?).is_ok())
-}
-
-// Begins it, at once or again after a refusal that changed nothing; else that is told.
-fn begin(alloc: Global, history: &mut Steps<'_>, text: &mut String) -> Result<(), AllocError> {
-    let before = text_of(alloc, history.net())?;
-    if is_begun(alloc, history)? {
-        return Ok(());
-    }
-    if text_of(alloc, history.net())? == before && is_begun(alloc, history)? {
-        return Ok(());
-    }
-    write!(text, "the step was not added\n")
-}
-
+// Begins it, at once or again after a refusal that changed nothing, and adds all that the network comes to.
 fn add_history(
     alloc: Global,
     history: &mut Steps<'_>,
     text: &mut String,
 ) -> Result<(), AllocError> {
-    begin(alloc, history, text)?;
-    if history.steps(alloc)?.len() != 1 {
+    let before = text_of(alloc, history.net())?;
+    let is_added = is_begun(alloc, history)
+        || (text_of(alloc, history.net())? == before && is_begun(alloc, history));
+    if !is_added || history.steps(alloc)?.len() != 1 {
         write!(text, "there are other steps\n")?;
     }
     add_parts(alloc, history.net(), text)
-}
-
-fn add_read(
-    alloc: Global,
-    network: &Network,
-    load: &Load,
-    text: &mut String,
-) -> Result<(), AllocError>
-    requires { AreDeclared network.now load.now }
-{
-    let mut history = History::new(alloc, declared_net(alloc, network)?, load)?;
-    let added = add_history(alloc, &mut history, text);
-    drop(history.into_steps());
-    added
 }
 
 /// Adds all that the network comes to by a history of one step, which begins the packet of a load, which has no fault.
 pub fn add_load(alloc: Global, network: &Network, text: &mut String) -> Result<(), AllocError> {
     // Names what holds of a load that was read.
     listed_are_declared();
-    match read_load(alloc, network, LOAD) {
-        Ok(load) => add_read(alloc, network, &load, text),
-        Err(_) => Err(AllocError),
-    }
+    let Ok(load) = read_load(alloc, network, LOAD) else {
+        return Err(AllocError);
+    };
+    let mut history = History::new(alloc, declared_net(alloc, network)?, &load)?;
+    let added = add_history(alloc, &mut history, text);
+    drop(history.into_steps());
+    added
 }

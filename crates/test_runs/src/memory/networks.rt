@@ -3,11 +3,10 @@
 use crate::memory::histories::add_load;
 use crate::memory::steps::add_commands;
 use std::alloc::{AllocError, Global};
-use sw_config::Network;
 use sw_file::read_network;
 
 /// Three switches in a ring, a node at each.
-const TURN: &[u8] = b"version = 1
+pub const TURN: &[u8] = b"version = 1
 node = [{ name = 'N0' }, { name = 'N1' }, { name = 'N2' }]
 switch = [{ name = 'S0' }, { name = 'S1' }, { name = 'S2' }]
 link = [{ a = 'N0', b = 'S0', b_port = 1, buffer = 8 },
@@ -22,7 +21,7 @@ flow = [{ name = 'f0', from = 'N0', to = 'N2', address = [2, 2, 1] },
 ";
 
 /// A node and an RMAP target.
-const RMAP: &[u8] = b"version = 2
+pub const RMAP: &[u8] = b"version = 2
 node = [{ name = 'I' },
         { name = 'T', target = { logical = 254, start = 2684354560, size = 64, slots = 2 } }]
 link = [{ a = 'I', b = 'T' }]
@@ -31,25 +30,15 @@ flow = [{ name = 'w', from = 'I', to = 'T', reply = { initiator = 103 } }]
 
 /// What is done on a network.
 #[derive(Clone, Copy)]
-enum Work {
+pub enum Work {
+    /// A step of a history of a load.
     Load,
+    /// Steps of its core.
     Commands,
 }
 
-fn add_work(
-    alloc: Global,
-    network: &Network,
-    work: Work,
-    text: &mut String,
-) -> Result<(), AllocError> {
-    match work {
-        Work::Load => add_load(alloc, network, text),
-        Work::Commands => add_commands(alloc, network, text),
-    }
-}
-
-// Adds what comes of the work on the network of a file, which has no fault.
-fn add_of_file(
+/// Adds what comes of the work on the network of a file, which has no fault.
+pub fn add_of_file(
     alloc: Global,
     file: &[u8],
     work: Work,
@@ -57,20 +46,13 @@ fn add_of_file(
 ) -> Result<(), AllocError> {
     match read_network(alloc, file) {
         Ok(network) => {
-            let added = add_work(alloc, &network, work, text);
+            let added = match work {
+                Work::Load => add_load(alloc, &network, text),
+                Work::Commands => add_commands(alloc, &network, text),
+            };
             network.discard();
             added
         }
         Err(_) => Err(AllocError),
     }
-}
-
-/// Adds all that a network comes to by a step of a history.
-pub fn add_begun(alloc: Global, text: &mut String) -> Result<(), AllocError> {
-    add_of_file(alloc, TURN, Work::Load, text)
-}
-
-/// Adds all that a network comes to by steps of its core.
-pub fn add_stepped(alloc: Global, text: &mut String) -> Result<(), AllocError> {
-    add_of_file(alloc, RMAP, Work::Commands, text)
 }

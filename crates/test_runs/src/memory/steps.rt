@@ -2,17 +2,30 @@
 ghost use Rattle.sw_cell.specs.Places.{IsIn};
 
 use crate::memory::targets::READ;
+use crate::moves::Move;
+use crate::nets::{Core, make};
 use std::alloc::{AllocError, Global};
-use sw_arb::Policy;
 use sw_cell::CellId;
 use sw_char::End;
 use sw_config::Network;
-use sw_model::Step;
-use sw_net::{Net, SwitchRoutes, declared_net};
-use sw_topo::Chan;
+use sw_net::declared_net;
 
-/// The core of a network as its file declares it.
-pub type Core<'n> = Net<'n, SwitchRoutes<'n>, Policy>;
+/// The steps of two read commands, each so many times. A command goes over the first channel to the second node, after so many FCTs from
+/// there.
+const COMMANDS: &[(Move<'static>, u32)] = &[
+    (Move::Begin(0, READ, End::Eop), 1),
+    (Move::Fct(0), 3),
+    (Move::FctIn(0), 3),
+    (Move::Emit(0), 17),
+    (Move::Arrive(0), 17),
+    (Move::Accept(1), 17),
+    (Move::Begin(0, READ, End::Eop), 1),
+    (Move::Fct(0), 2),
+    (Move::FctIn(0), 2),
+    (Move::Emit(0), 17),
+    (Move::Arrive(0), 17),
+    (Move::Accept(1), 17),
+];
 
 fn add_part(
     alloc: Global,
@@ -48,73 +61,32 @@ pub fn text_of(alloc: Global, net: &Core<'_>) -> Result<String, AllocError> {
     }
 }
 
-/// The step that begins a packet of the first flow with this cargo.
-pub fn beginning(alloc: Global, cargo: &[u8]) -> Result<Step, AllocError> {
-    Ok(Step::Begin {
-        flow: 0,
-        cargo: Vec::from_slice(alloc, cargo)?,
-        end: End::Eop,
-    })
-}
-
 // Makes the step, at once or again after a refusal that changed nothing; else that is told.
-fn make(
+fn make_again(
     alloc: Global,
     net: &mut Core<'_>,
-    step: &Step,
+    tried: Move<'_>,
     text: &mut String,
 ) -> Result<(), AllocError> {
     let before = text_of(alloc, net)?;
-    if net.step(alloc, step).is_ok() {
-        return Ok(());
-    }
-    if text_of(alloc, net)? == before && net.step(alloc, step).is_ok() {
+    if make(alloc, net, tried).is_ok()
+        || (text_of(alloc, net)? == before && make(alloc, net, tried).is_ok())
+    {
         return Ok(());
     }
     write!(text, "a step was not made\n")
 }
 
-// Makes the step so many times.
-fn make_each(
-    alloc: Global,
-    net: &mut Core<'_>,
-    step: Step,
-    times: u32,
-    text: &mut String,
-) -> Result<(), AllocError> {
-    for _ in 0..times {
-        make(alloc, net, &step, text)?;
-    }
-    Ok(())
-}
-
-// Makes the steps of a read command, which goes over the first channel to the second node, after so many FCTs from there.
-fn make_command(
-    alloc: Global,
-    net: &mut Core<'_>,
-    credits: u32,
-    text: &mut String,
-) -> Result<(), AllocError> {
-    let channel = Chan::new(0);
-    let length = READ.len() as u32 + 1;
-    make_each(alloc, net, beginning(alloc, READ)?, 1, text)?;
-    make_each(alloc, net, Step::Fct(channel), credits, text)?;
-    make_each(alloc, net, Step::FctIn(channel), credits, text)?;
-    make_each(alloc, net, Step::Emit(0), length, text)?;
-    make_each(alloc, net, Step::Arrive(channel), length, text)?;
-    make_each(alloc, net, Step::Accept(1), length, text)
-}
-
-fn add_made(alloc: Global, net: &mut Core<'_>, text: &mut String) -> Result<(), AllocError> {
-    make_command(alloc, net, 3, text)?;
-    make_command(alloc, net, 2, text)?;
-    add_parts(alloc, net, text)
-}
-
 /// Adds all that the network comes to by the steps of two commands.
 pub fn add_commands(alloc: Global, network: &Network, text: &mut String) -> Result<(), AllocError> {
     let mut net = declared_net(alloc, network)?;
-    let added = add_made(alloc, &mut net, text);
+    let mut added = Ok(());
+    for &(tried, times) in COMMANDS {
+        for _ in 0..times {
+            added = added.and(make_again(alloc, &mut net, tried, text));
+        }
+    }
+    added = added.and(add_parts(alloc, &net, text));
     net.discard();
     added
 }

@@ -5,54 +5,38 @@ use std::alloc::{AllocError, Global};
 use sw_route::{IntervalRoutes, Routing, TableRoutes};
 use sw_topo::{Builder, PlaceEnd, Port, PortSet, TopoError};
 
-// Whether the entry was added, at once or again after a refusal that changed nothing.
-fn is_range_added(table: &mut TableRoutes, first: u8, last: u8) -> bool
+// Whether the entry was added, of one address or of more, at once or again after a refusal that changed nothing.
+fn is_added(table: &mut TableRoutes, first: u8, last: u8) -> bool
     requires low { 32 ≤ first }
     requires rising { first ≤ last }
     requires high { last ≤ 254 }
 {
     let before = table.len();
-    if table.add_range(first, last, PortSet::EMPTY, false).is_ok() {
-        return true;
-    }
-    if table.len() != before {
-        return false;
-    }
-    table.add_range(first, last, PortSet::EMPTY, false).is_ok()
-}
-
-// The same of an entry for one address.
-fn is_added(table: &mut TableRoutes, address: u8) -> bool
-    requires low { 32 ≤ address }
-    requires high { address ≤ 254 }
-{
-    let before = table.len();
-    if table.add(address, PortSet::EMPTY, true).is_ok() {
-        return true;
-    }
-    if table.len() != before {
-        return false;
-    }
-    table.add(address, PortSet::EMPTY, true).is_ok()
-}
-
-// Whether many entries were added.
-fn are_added(table: &mut TableRoutes) -> bool {
-    for i in 0..20u8 {
-        if !is_range_added(table, 32 + 4 * i, 34 + 4 * i) {
-            return false;
+    for _ in 0..2u8 {
+        let added = if first < last {
+            table.add_range(first, last, PortSet::EMPTY, false)
+        } else {
+            table.add(first, PortSet::EMPTY, true)
+        };
+        if added.is_ok() {
+            return true;
         }
-        if !is_added(table, 35 + 4 * i) {
+        if table.len() != before {
             return false;
         }
     }
-    true
+    false
 }
 
 /// How many entries a table has, if each was added and its intervals answer so; else 0.
 pub fn entries(alloc: Global) -> Result<usize, AllocError> {
     let mut table = TableRoutes::new(alloc);
-    let all = are_added(&mut table);
+    let mut all = true;
+    for i in 0..20u8 {
+        all = all
+            && is_added(&mut table, 32 + 4 * i, 34 + 4 * i)
+            && is_added(&mut table, 35 + 4 * i, 35 + 4 * i);
+    }
     let intervals = IntervalRoutes::from_table(alloc, &table)?;
     if all && intervals.look(35).delete {
         Ok(table.len())
@@ -77,26 +61,17 @@ fn link(builder: &mut Builder, node: u16, switch: u16, port: u8) -> Result<(), A
     }
 }
 
-// Adds a star of three nodes.
-fn add_star(builder: &mut Builder) -> Result<(), AllocError>
-    requires nodes { builder.old.nodes ≡ 0 }
-    requires switches { builder.old.switches ≡ 0 }
-{
-    let nodes = [builder.node(), builder.node(), builder.node()];
-    let switch = builder.switch();
-    link(builder, nodes[0], switch, 1)?;
-    link(builder, nodes[1], switch, 2)?;
-    link(builder, nodes[2], switch, 3)
-}
-
 /// How many channels a star has. 0 where a link was not added, or twice: then a node has other than one.
 pub fn channels(alloc: Global) -> Result<u16, AllocError> {
     let mut builder = Builder::new(alloc);
-    if add_star(&mut builder).is_err() {
-        return Ok(0);
-    }
+    let nodes = [builder.node(), builder.node(), builder.node()];
+    let switch = builder.switch();
+    let linked = link(&mut builder, nodes[0], switch, 1)
+        .and(link(&mut builder, nodes[1], switch, 2))
+        .and(link(&mut builder, nodes[2], switch, 3));
     match builder.finish(alloc) {
-        Ok(topology) => Ok(topology.channels()),
+        Ok(topology) if linked.is_ok() => Ok(topology.channels()),
+        Ok(_) => Ok(0),
         Err(TopoError::Memory) => Err(AllocError),
         Err(TopoError::Fault(_)) => Ok(0),
     }

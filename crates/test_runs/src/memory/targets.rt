@@ -37,48 +37,33 @@ const WRITE: &[u8] = b"\xFE\x01\x6C\x00\x67\x00\x00\x00\xA0\x00\x00\x00\x00\x00\
 /// Reads them.
 pub const READ: &[u8] = b"\xFE\x01\x4C\x00\x67\x00\x01\x00\xA0\x00\x00\x00\x00\x00\x10\xC9";
 
-// The reply to a packet that was refused, if the memory was this before and is so still.
-fn reply_again(alloc: Global, target: &mut Target, before: &[u8], bytes: &[u8]) -> Option<Vec<u8>> {
-    if target.memory() != before {
-        return None;
-    }
-    target.answer(alloc, bytes, End::Eop).unwrap_or(None)
-}
-
-// The reply to the packet, at once or again after a refusal that changed nothing.
-fn reply(alloc: Global, target: &mut Target, bytes: &[u8]) -> Result<Option<Vec<u8>>, AllocError> {
-    let before = Vec::from_slice(alloc, target.memory())?;
-    match target.answer(alloc, bytes, End::Eop) {
-        Ok(reply) => Ok(reply),
-        Err(_) => Ok(reply_again(alloc, target, &before, bytes)),
-    }
-}
-
 fn add_bytes(alloc: Global, name: &str, bytes: &[u8], text: &mut String) -> Result<(), AllocError> {
     let digits = encode_upper(alloc, bytes)?;
     write!(text, "{name} {digits}\n")
 }
 
+// Adds the reply to the packet, at once or again after a refusal that left the memory as it was.
 fn add_reply(
     alloc: Global,
     target: &mut Target,
     bytes: &[u8],
     text: &mut String,
 ) -> Result<(), AllocError> {
-    match reply(alloc, target, bytes)? {
-        Some(reply) => add_bytes(alloc, "reply", &reply, text),
-        None => write!(text, "there is no reply\n"),
+    let before = Vec::from_slice(alloc, target.memory())?;
+    let mut reply = target.answer(alloc, bytes, End::Eop);
+    if reply.is_err() && target.memory() == before.as_slice() {
+        reply = target.answer(alloc, bytes, End::Eop);
     }
-}
-
-fn add_replies(alloc: Global, target: &mut Target, text: &mut String) -> Result<(), AllocError> {
-    add_reply(alloc, target, WRITE, text)?;
-    add_reply(alloc, target, READ, text)?;
-    add_bytes(alloc, "memory", target.memory(), text)
+    match reply {
+        Ok(Some(reply)) => add_bytes(alloc, "reply", &reply, text),
+        _ => write!(text, "there is no reply\n"),
+    }
 }
 
 /// Adds what a target answers to a write and to a read, and its memory then.
 pub fn add_answers(alloc: Global, text: &mut String) -> Result<(), AllocError> {
     let mut target = Target::new(alloc, CONFIG)?;
-    add_replies(alloc, &mut target, text)
+    add_reply(alloc, &mut target, WRITE, text)
+        .and(add_reply(alloc, &mut target, READ, text))
+        .and(add_bytes(alloc, "memory", target.memory(), text))
 }

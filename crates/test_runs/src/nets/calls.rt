@@ -1,7 +1,7 @@
 //! Single calls of the core, over one link between A and B.
 
 use crate::moves::Move;
-use crate::nets::show::{show_first, show_parts};
+use crate::nets::show::{Detail, show_first, show_nodes};
 use crate::nets::{Core, make, make_step};
 use crate::numbers::show_numbers;
 use std::alloc::Global;
@@ -9,20 +9,10 @@ use std::io;
 use sw_cell::NetFault;
 use sw_char::End;
 use sw_model::Step;
-use sw_net::Numbers;
 use sw_topo::{Chan, LinkEnd};
 
 /// The number of A's link end.
 const END: u16 = 0;
-
-/// What can be counted.
-#[derive(Clone, Copy)]
-pub(crate) enum Count {
-    /// The characters that wait.
-    Undelivered,
-    Channels,
-    Nodes,
-}
 
 /// What can be so.
 #[derive(Clone, Copy)]
@@ -42,19 +32,19 @@ pub(crate) enum Asked {
 pub(crate) enum Call {
     /// A step of that name is tried.
     Make(&'static str, Move<'static>),
-    /// How many there are.
-    Tell(&'static str, Count, &'static str),
+    /// How many characters wait.
+    Undelivered,
+    /// How many channels and nodes there are.
+    Sizes,
     /// Whether that is so.
     Ask(&'static str, Asked, &'static str),
-    /// What waits, and what came out.
-    Parts,
+    /// What came out at the nodes.
+    Nodes,
     /// The first link end that can make a step.
     First,
     /// The numbers of A's link end.
     Numbers,
 }
-
-const UNDELIVERED: Call = Call::Tell("undelivered ", Count::Undelivered, "\n");
 
 /// A packet of one byte begins.
 const BEGIN: Call = Call::Make("begin AA", Move::Begin(0, &[0xAA], End::Eop));
@@ -63,11 +53,11 @@ const BEGIN: Call = Call::Make("begin AA", Move::Begin(0, &[0xAA], End::Eop));
 /// to B.
 pub(crate) const PACKET: &[Call] = &[
     Call::Make("begin with no cargo", Move::Begin(0, &[], End::Eop)),
-    UNDELIVERED,
+    Call::Undelivered,
     BEGIN,
-    UNDELIVERED,
+    Call::Undelivered,
     BEGIN,
-    UNDELIVERED,
+    Call::Undelivered,
     Call::Make("fct 0", Move::Fct(0)),
     Call::Make("fctin 0", Move::FctIn(0)),
     Call::Make("emit A", Move::Emit(0)),
@@ -76,15 +66,15 @@ pub(crate) const PACKET: &[Call] = &[
     Call::Make("emit A", Move::Emit(0)),
     Call::Make("arrive 0", Move::Arrive(0)),
     Call::Make("accept B", Move::Accept(1)),
-    Call::Parts,
+    Call::Undelivered,
+    Call::Nodes,
     Call::First,
 ];
 
 /// A link end tells its numbers, and makes a step.
 pub(crate) const LINK_END: &[Call] = &[
     Call::Numbers,
-    Call::Tell("channels ", Count::Channels, ", "),
-    Call::Tell("nodes ", Count::Nodes, "\n"),
+    Call::Sizes,
     Call::Ask("can begin A: ", Asked::CanBegin(0), "\n"),
     Call::Ask("possible fct 1: ", Asked::CanSendFct(1), ", "),
     Call::Ask("fct 2: ", Asked::CanSendFct(2), "\n"),
@@ -93,26 +83,13 @@ pub(crate) const LINK_END: &[Call] = &[
     Call::Ask("no input asks: ", Asked::NoneAsk, "\n"),
 ];
 
+/// What is left where packets began as soon as they could.
+pub(crate) const LEFT: &[Call] = &[Call::First, Call::Undelivered, Call::Nodes];
+
 fn show_made(rt: &HostRuntime, name: &str, made: Result<(), NetFault>) -> io::Result<()> {
     match made {
         Ok(()) => println!(rt; "{name}: made"),
         Err(fault) => println!(rt; "{name}: {fault}"),
-    }
-}
-
-fn numbers_of(net: &Core<'_>, end: LinkEnd) -> Option<Numbers> {
-    if end.number() < net.network().channels() {
-        Some(net.numbers(end))
-    } else {
-        None
-    }
-}
-
-fn count_of(net: &Core<'_>, count: Count) -> u64 {
-    match count {
-        Count::Undelivered => net.undelivered(),
-        Count::Channels => u64::from(net.network().channels()),
-        Count::Nodes => u64::from(net.network().nodes()),
     }
 }
 
@@ -125,22 +102,35 @@ fn is_so(alloc: Global, net: &mut Core<'_>, asked: Asked) -> bool {
     }
 }
 
-fn show_call(rt: &HostRuntime, net: &mut Core<'_>, call: Call) -> io::Result<()> {
-    match call {
-        Call::Make(name, tried) => show_made(rt, name, make(rt.alloc(), net, tried)),
-        Call::Tell(name, count, end) => print!(rt; "{name}{}{end}", count_of(net, count)),
-        Call::Ask(name, asked, end) => print!(rt; "{name}{}{end}", is_so(rt.alloc(), net, asked)),
-        Call::Parts => show_parts(rt, net),
-        Call::First => show_first(rt, net),
-        Call::Numbers => show_numbers(rt, "numbers", numbers_of(net, LinkEnd::new(END))),
-    }
+fn show_numbers_of(rt: &HostRuntime, net: &Core<'_>, end: LinkEnd) -> io::Result<()> {
+    let numbers = if end.number() < net.network().channels() {
+        Some(net.numbers(end))
+    } else {
+        None
+    };
+    rt.print("numbers").and(show_numbers(rt, numbers))
 }
 
 /// Prints what each answers.
 pub(crate) fn show_calls(rt: &HostRuntime, net: &mut Core<'_>, calls: &[Call]) -> io::Result<()> {
     let mut shown = Ok(());
     for &call in calls {
-        shown = shown.and(show_call(rt, net, call));
+        shown = shown.and(match call {
+            Call::Make(name, tried) => show_made(rt, name, make(rt.alloc(), net, tried)),
+            Call::Undelivered => println!(rt; "undelivered {}", net.undelivered()),
+            Call::Sizes => println!(rt;
+                "channels {}, nodes {}",
+                net.network().channels(),
+                net.network().nodes()
+            ),
+            Call::Ask(name, asked, end) => print!(rt;
+                "{name}{}{end}",
+                is_so(rt.alloc(), net, asked)
+            ),
+            Call::Nodes => show_nodes(rt, net, Detail::Packets),
+            Call::First => show_first(rt, net),
+            Call::Numbers => show_numbers_of(rt, net, LinkEnd::new(END)),
+        });
     }
     shown
 }

@@ -29,13 +29,6 @@ pub(crate) enum Choice {
     OutOfRange,
 }
 
-fn show_drained(rt: &HostRuntime, net: &Core<'_>, steps: u64, bounds: &Bounds) -> io::Result<()> {
-    let shown = show_nodes(rt, net, Detail::Counts);
-    let left = net.undelivered();
-    let within = bounds.least <= steps && steps <= bounds.most;
-    shown.and(println!(rt; ", {left} left, steps within bounds: {within}"))
-}
-
 // The same with the certificate that was read.
 fn show_certified<'n>(
     rt: &HostRuntime,
@@ -57,7 +50,12 @@ fn show_certified<'n>(
     match check(&OneByOne, network, certificate) {
         Ok(passed) => {
             let steps = drain(rt.alloc(), net, &passed, load, pick)?;
-            show_drained(rt, net, steps, bounds)
+            let within = bounds.least <= steps && steps <= bounds.most;
+            let shown = show_nodes(rt, net, Detail::Counts);
+            shown.and(println!(rt;
+                ", {} left, steps within bounds: {within}",
+                net.undelivered()
+            ))
         }
         Err(_) => Err(no_text()),
     }

@@ -14,28 +14,13 @@ pub(crate) enum Detail {
     Packets,
 }
 
-// The byte that stands here many times, and nothing else.
-fn repeated_byte(bytes: &[u8]) -> Option<u8> {
-    let Some((&first, rest)) = bytes.split_first() else {
-        return None;
-    };
-    if rest.len() < 100 {
-        return None;
-    }
-    for &byte in rest {
-        if byte != first {
-            return None;
-        }
-    }
-    Some(first)
-}
-
 // The digits of the bytes. A long row of one byte is told once, with its length.
 fn digits_of(alloc: Global, bytes: &[u8]) -> Result<String, AllocError> {
-    match repeated_byte(bytes) {
-        Some(byte) => format!(in alloc; "{byte:02X}*{}", bytes.len()),
-        None => encode_upper(alloc, bytes),
+    let count = bytes.len();
+    if 100 < count && &bytes[1..] == &bytes[..count - 1] {
+        return format!(in alloc; "{:02X}*{count}", bytes[0]);
     }
+    encode_upper(alloc, bytes)
 }
 
 fn show_packet(rt: &HostRuntime, name: &str, packet: &Packet) -> io::Result<()> {
@@ -44,24 +29,20 @@ fn show_packet(rt: &HostRuntime, name: &str, packet: &Packet) -> io::Result<()> 
     println!(rt; "packet {name} {digits} {end}")
 }
 
-fn show_packets(rt: &HostRuntime, name: &str, came_out: &[Packet]) -> io::Result<()> {
-    let mut shown = println!(rt; "node {name} packets {}", came_out.len());
-    for packet in came_out {
-        shown = shown.and(show_packet(rt, name, packet));
-    }
-    shown
-}
-
 fn show_came_out(
     rt: &HostRuntime,
     name: &str,
     came_out: &[Packet],
     detail: Detail,
 ) -> io::Result<()> {
-    match detail {
-        Detail::Counts => print!(rt; " {}", came_out.len()),
-        Detail::Packets => show_packets(rt, name, came_out),
+    if let Detail::Counts = detail {
+        return print!(rt; " {}", came_out.len());
     }
+    let mut shown = println!(rt; "node {name} packets {}", came_out.len());
+    for packet in came_out {
+        shown = shown.and(show_packet(rt, name, packet));
+    }
+    shown
 }
 
 /// Prints what came out at each node. This function alone owns packets.
@@ -75,11 +56,6 @@ pub(crate) fn show_nodes(rt: &HostRuntime, net: &Core<'_>, detail: Detail) -> io
         });
     }
     shown
-}
-
-/// Prints how many characters wait, and the packets that came out at each node.
-pub(crate) fn show_parts(rt: &HostRuntime, net: &Core<'_>) -> io::Result<()> {
-    println!(rt; "undelivered {}", net.undelivered()).and(show_nodes(rt, net, Detail::Packets))
 }
 
 /// Prints the first link end that can make a step, if any can.

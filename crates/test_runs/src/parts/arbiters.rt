@@ -1,6 +1,4 @@
 //! Worked values of the policies.
-ghost use Rattle.std.specs.Prelude.{◌≡◌};
-
 use crate::parts::sets::ports;
 use sw_arb::{Arbiter, Arbitration, Policy};
 use sw_topo::PortSet;
@@ -46,40 +44,21 @@ pub(crate) const LEAST_RECENT: &[Round] = &[Round {
     turns: &[(THREE, &[1, 2]), (&[1, 2], &[1]), (THREE, &[3, 2])],
 }];
 
-// The arbiter picks these ports, one after the other, when those ask each time.
-fn picks<A: Arbiter>(arbiter: &mut A, all: PortSet, asking: &[u8], wanted: &[u8]) -> bool
-    requires { A.ports arbiter.old ≡ all }
-    ensures { A.ports arbiter.new ≡ all }
-{
-    let set = ports(asking).meet(all);
-    if set.is_empty() {
-        return false;
-    }
-    for port in wanted {
-        if arbiter.pick(set).number() != *port {
-            return false;
-        }
-    }
-    true
-}
-
-// A new arbiter picks so.
-fn picks_in_turns(round: &Round) -> bool {
-    let all = ports(round.ports);
-    let mut arbiter = Policy::new(round.arbitration, all);
-    for &(asking, wanted) in round.turns {
-        if !picks(&mut arbiter, all, asking, wanted) {
-            return false;
-        }
-    }
-    true
-}
-
-/// In each round a new arbiter picks so.
+/// In each round a new arbiter picks those ports, one after the other, when these ask each time.
 pub(crate) fn pick(rounds: &[Round]) -> bool {
     for round in rounds {
-        if !picks_in_turns(round) {
-            return false;
+        let all = ports(round.ports);
+        let mut arbiter = Policy::new(round.arbitration, all);
+        for &(asking, wanted) in round.turns {
+            let set = ports(asking).meet(all);
+            if set.is_empty() {
+                return false;
+            }
+            for port in wanted {
+                if arbiter.pick(set).number() != *port {
+                    return false;
+                }
+            }
         }
     }
     true

@@ -8,24 +8,19 @@ use sw_topo::Chan;
 const TEXT: &[u8] =
     b"swcert 1\nchannels 2\nnumber 0\nnumber 65535\nflows 2\nflow 1\nplace 0 0\nflow 0\nend\n";
 
-// Adds a list of one place so often, and an empty one.
-fn add_lists(alloc: Global, lists: &mut Vec<Vec<Place>>, times: usize) -> bool {
+// The text of a certificate of two numbers and two flows, the first of which has one place so often; or there is no such certificate.
+fn has_text(alloc: Global, times: usize, wanted: Option<&[u8]>) -> bool {
     let start = Place {
         channel: Chan::new(0),
         deleted: 0,
     };
-    match vec![in alloc; start; times] {
-        Ok(first) => lists.push(first).is_ok() && lists.push(Vec::new(alloc)).is_ok(),
-        Err(_) => false,
-    }
-}
-
-// The text of a certificate of two numbers and two flows, the first of which has one place so often; or there is no such certificate.
-fn has_text(alloc: Global, times: usize, wanted: Option<&[u8]>) -> bool {
     let mut numbers = Vec::new(alloc);
     let mut lists = Vec::new(alloc);
     let has_numbers = numbers.extend_from_slice(&[0, 65535]).is_ok();
-    let has_lists = add_lists(alloc, &mut lists, times);
+    let has_lists = match vec![in alloc; start; times] {
+        Ok(first) => lists.push(first).is_ok() && lists.push(Vec::new(alloc)).is_ok(),
+        Err(_) => false,
+    };
     let is_right = match Certificate::new(numbers, lists) {
         Some(certificate) => certificate.write(alloc).ok().as_deref() == wanted,
         None => wanted.is_none(),

@@ -1,6 +1,6 @@
 //! Cycles, and what is none.
 
-use std::alloc::{AllocError, Global};
+use std::alloc::Global;
 use sw_config::Network;
 use sw_cycle::{Cause, Cycle, check_cycle};
 use sw_flow::Place;
@@ -71,46 +71,36 @@ pub(crate) const AGAIN: &[Shown] = &[
     },
 ];
 
-fn places_of(alloc: Global, way: &[(u16, u8)]) -> Result<Vec<Place>, AllocError> {
-    let mut places = Vec::new(alloc);
-    for &(number, deleted) in way {
-        let channel = Chan::new(number);
-        places.push(Place { channel, deleted })?;
-    }
-    Ok(places)
-}
-
-// Adds the channels and the causes.
-fn add_parts(alloc: Global, cycle: &mut Cycle, shown: &Shown) -> Result<(), AllocError> {
+// Whether there was room for the channels and the causes.
+fn are_added(alloc: Global, cycle: &mut Cycle, shown: &Shown) -> bool {
+    let mut added = true;
     for &number in shown.channels {
-        cycle.channels.push(Chan::new(number))?;
+        added = added && cycle.channels.push(Chan::new(number)).is_ok();
     }
     for &target in shown.targets {
-        cycle.causes.push(Cause::Target(target))?;
+        added = added && cycle.causes.push(Cause::Target(target)).is_ok();
     }
     if !shown.way.is_empty() {
-        let way = places_of(alloc, shown.way)?;
-        cycle.causes.push(Cause::Flow(0, way))?;
-    }
-    Ok(())
-}
-
-// This function alone owns a cycle.
-fn is_told(alloc: Global, network: &Network, shown: &Shown) -> bool {
-    let mut cycle = Cycle {
-        channels: Vec::new(alloc),
-        causes: Vec::new(alloc),
-    };
-    let added = add_parts(alloc, &mut cycle, shown);
-    added.is_ok() && check_cycle(network, &cycle) == shown.is_cycle
-}
-
-/// Whether each is told to be a cycle of the network or to be none.
-pub(crate) fn are_told(alloc: Global, network: &Network, all: &[Shown]) -> bool {
-    for shown in all {
-        if !is_told(alloc, network, shown) {
-            return false;
+        let mut way = Vec::new(alloc);
+        for &(number, deleted) in shown.way {
+            let channel = Chan::new(number);
+            added = added && way.push(Place { channel, deleted }).is_ok();
         }
+        added = cycle.causes.push(Cause::Flow(0, way)).is_ok() && added;
     }
-    true
+    added
+}
+
+/// Whether each is told to be a cycle of the network or to be none. This function alone owns a cycle.
+pub(crate) fn are_told(alloc: Global, network: &Network, all: &[Shown]) -> bool {
+    let mut is_so = true;
+    for shown in all {
+        let mut cycle = Cycle {
+            channels: Vec::new(alloc),
+            causes: Vec::new(alloc),
+        };
+        let added = are_added(alloc, &mut cycle, shown);
+        is_so = is_so && added && check_cycle(network, &cycle) == shown.is_cycle;
+    }
+    is_so
 }

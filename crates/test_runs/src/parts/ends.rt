@@ -31,10 +31,11 @@ fn takes(end: &mut RxEnd, times: u8, characters: &[NChar], asks_again: bool) -> 
         end.arrive(*character);
     }
     for character in characters {
-        if end.can_issue() || end.front() != Some(*character) || end.len() == 0 {
-            return false;
-        }
-        if end.take() != *character {
+        if end.can_issue()
+            || end.front() != Some(*character)
+            || end.len() == 0
+            || end.take() != *character
+        {
             return false;
         }
     }

@@ -145,24 +145,22 @@ pub(crate) const REFUSED: &[Answered] = &[
     },
 ];
 
-fn answers(alloc: Global, target: &mut Target, cases: &[Answered]) -> bool {
-    for case in cases {
-        let Ok(reply) = target.answer(alloc, case.packet, case.end) else {
-            return false;
-        };
-        if reply.as_deref() != case.reply || !target.memory().starts_with(case.memory) {
-            return false;
-        }
-    }
-    target.memory().len() == EMPTY.len()
-}
-
 /// A new target answers each packet so.
 pub(crate) fn answer(alloc: Global, cases: &[Answered]) -> bool {
-    match Target::new(alloc, CONFIG) {
-        Ok(mut target) => answers(alloc, &mut target, cases),
-        Err(_) => false,
+    let Ok(mut target) = Target::new(alloc, CONFIG) else {
+        return false;
+    };
+    let mut is_so = true;
+    for case in cases {
+        is_so = is_so
+            && match target.answer(alloc, case.packet, case.end) {
+                Ok(reply) => {
+                    reply.as_deref() == case.reply && target.memory().starts_with(case.memory)
+                }
+                Err(_) => false,
+            };
     }
+    is_so && target.memory().len() == EMPTY.len()
 }
 
 /// A command is read and written.

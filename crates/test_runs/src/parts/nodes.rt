@@ -35,13 +35,6 @@ fn sends(alloc: Global, node: &mut NodeCell) -> bool {
     node.can_begin()
 }
 
-fn has_one_packet(alloc: Global, node: &NodeCell) -> bool {
-    match node.came_out(alloc) {
-        Ok(packets) => packets.len() == 1,
-        Err(_) => false,
-    }
-}
-
 // A packet comes out.
 fn receives(alloc: Global, node: &mut NodeCell) -> bool {
     if !node.can_issue() {
@@ -57,7 +50,10 @@ fn receives(alloc: Global, node: &mut NodeCell) -> bool {
             return false;
         }
     }
-    has_one_packet(alloc, node)
+    match node.came_out(alloc) {
+        Ok(packets) => packets.len() == 1,
+        Err(_) => false,
+    }
 }
 
 // The machine's step takes nothing before something came.

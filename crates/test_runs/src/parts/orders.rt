@@ -23,31 +23,7 @@ fn add_steps(rows: &mut [Vec<u16>], steps: &[(u16, u16)]) -> bool
     true
 }
 
-// The levels, or, as an error, the cycle that is shown.
-fn answer(order: &Order) -> Result<&[u16], &[u16]> {
-    match order {
-        Order::Levels(levels) => Ok(levels.as_slice()),
-        Order::Cycle(cycle) => Err(cycle.as_slice()),
-    }
-}
-
-fn answers<C: RoundWorkers>(
-    workers: &C,
-    alloc: Global,
-    rows: &[Vec<u16>],
-    wanted: Result<&[u16], &[u16]>,
-) -> bool
-    requires { IsGraph rows.now }
-{
-    if 65536 <= rows.len() {
-        return false;
-    }
-    match order(workers, alloc, rows) {
-        Ok(order) => answer(&order) == wanted,
-        Err(_) => false,
-    }
-}
-
+// The members have these levels, or, as an error, this cycle is shown.
 fn has_order<C: RoundWorkers>(
     workers: &C,
     alloc: Global,
@@ -55,8 +31,15 @@ fn has_order<C: RoundWorkers>(
     steps: &[(u16, u16)],
     wanted: Result<&[u16], &[u16]>,
 ) -> bool {
-    match empty_rows(alloc, count) {
-        Ok(mut rows) => add_steps(&mut rows, steps) && answers(workers, alloc, &rows, wanted),
+    let Ok(mut rows) = empty_rows(alloc, count) else {
+        return false;
+    };
+    if !add_steps(&mut rows, steps) || 65536 <= rows.len() {
+        return false;
+    }
+    match order(workers, alloc, &rows) {
+        Ok(Order::Levels(levels)) => wanted == Ok(levels.as_slice()),
+        Ok(Order::Cycle(cycle)) => wanted == Err(cycle.as_slice()),
         Err(_) => false,
     }
 }

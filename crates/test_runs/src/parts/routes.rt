@@ -5,18 +5,6 @@ use std::alloc::Global;
 use sw_route::{IntervalRoutes, Look, RouteError, Routing, TableRoutes, outputs};
 use sw_topo::{Builder, PlaceEnd};
 
-/// Odd logical addresses go to port 2, even ones to port 3, where they are deleted.
-fn add_odd_and_even(table: &mut TableRoutes) -> bool {
-    for address in 32..255 {
-        let is_odd = address % 2 == 1;
-        let port = if is_odd { 2 } else { 3 };
-        if table.add(address, ports(&[port]), !is_odd).is_err() {
-            return false;
-        }
-    }
-    true
-}
-
 /// A byte, the ports that it names, and whether it is deleted.
 type Answer<'a> = (u8, &'a [u8], bool);
 
@@ -40,53 +28,32 @@ const NAMED: &[Answer<'static>] = &[
     (255, &[], false),
 ];
 
-fn look_alike(intervals: &IntervalRoutes, table: &TableRoutes) -> bool {
-    for byte in 0..=255 {
-        if intervals.look(byte) != table.look(byte) {
-            return false;
-        }
-    }
-    table.len() == 223 && names(intervals, NAMED)
-}
-
 const DECLARED: &[Answer<'static>] = &[(40, &[3], true), (7, &[7], true)];
 
 type Side = Either<TableRoutes, IntervalRoutes>;
 
-fn answer_alike(table: TableRoutes, intervals: IntervalRoutes) -> bool {
-    let look_alike = look_alike(&intervals, &table);
-    let left: Side = Either::Left(table);
-    let right: Side = Either::Right(intervals);
-    look_alike && names(&left, DECLARED) && names(&right, DECLARED)
-}
-
-/// A table and its intervals answer alike.
+/// A table and its intervals answer alike. Odd logical addresses go to port 2, even ones to port 3, where they are deleted.
 pub(crate) fn agree(alloc: Global) -> bool {
     let mut table = TableRoutes::new(alloc);
-    let is_whole = add_odd_and_even(&mut table);
-    match IntervalRoutes::from_table(alloc, &table) {
-        Ok(intervals) => answer_alike(table, intervals) && is_whole,
-        Err(_) => false,
+    let mut is_so = true;
+    for address in 32..255 {
+        let is_odd = address % 2 == 1;
+        let port = if is_odd { 2 } else { 3 };
+        is_so = is_so && table.add(address, ports(&[port]), !is_odd).is_ok();
     }
+    let Ok(intervals) = IntervalRoutes::from_table(alloc, &table) else {
+        return false;
+    };
+    for byte in 0..=255 {
+        is_so = is_so && intervals.look(byte) == table.look(byte);
+    }
+    is_so = is_so && table.len() == 223 && names(&intervals, NAMED);
+    let (left, right): (Side, Side) = (Either::Left(table), Either::Right(intervals));
+    is_so && names(&left, DECLARED) && names(&right, DECLARED)
 }
 
 /// Ranges that have an address from 40 to 60.
 const TAKEN: &[(u8, u8)] = &[(60, 70), (32, 40), (50, 50), (32, 254)];
-
-// An address has one entry.
-fn has_one_entry_each(table: &mut TableRoutes) -> bool {
-    let one = ports(&[1]);
-    if table.add_range(40, 60, ports(&[2, 7, 2]), false).is_err() {
-        return false;
-    }
-    for &(first, last) in TAKEN {
-        let again = table.add_range(first, last, one, true);
-        if !matches!(again, Err(RouteError::Duplicate)) {
-            return false;
-        }
-    }
-    table.add(61, one, true).is_ok() && table.len() == 2 && names(table, &[(60, &[7, 2], false)])
-}
 
 // Of the ports that are named, the one with a link: that of a switch with a node at port 2.
 fn leaves_linked(alloc: Global) -> bool {
@@ -109,6 +76,16 @@ fn leaves_linked(alloc: Global) -> bool {
 
 /// Addresses have one entry, and outputs a link.
 pub(crate) fn lead(alloc: Global) -> bool {
+    let one = ports(&[1]);
     let mut table = TableRoutes::new(alloc);
-    has_one_entry_each(&mut table) && leaves_linked(alloc)
+    let mut is_so = table.add_range(40, 60, ports(&[2, 7, 2]), false).is_ok();
+    for &(first, last) in TAKEN {
+        let again = table.add_range(first, last, one, true);
+        is_so = is_so && matches!(again, Err(RouteError::Duplicate));
+    }
+    is_so
+        && table.add(61, one, true).is_ok()
+        && table.len() == 2
+        && names(&table, &[(60, &[7, 2], false)])
+        && leaves_linked(alloc)
 }

@@ -58,17 +58,6 @@ impl Write for SlowWriter {
     }
 }
 
-// The reader gives this text up to the limit, or fails so.
-fn gives<R: Read>(
-    alloc: Global,
-    reader: &mut R,
-    limit: usize,
-    wanted: Result<&[u8], &ReadError>,
-) -> bool {
-    let text = read_whole(alloc, reader, limit);
-    text.as_deref() == wanted
-}
-
 /// A text up to its limit is read.
 pub(crate) fn are_read(alloc: Global) -> bool {
     for limit in 0..8usize {
@@ -78,8 +67,8 @@ pub(crate) fn are_read(alloc: Global) -> bool {
         } else {
             Ok(&b"abcd"[..])
         };
-        let is_given = gives(alloc, &mut reader, limit, wanted);
-        if !is_given || reader.len() != 3usize.saturating_sub(limit) {
+        let text = read_whole(alloc, &mut reader, limit);
+        if text.as_deref() != wanted || reader.len() != 3usize.saturating_sub(limit) {
             return false;
         }
     }
@@ -90,7 +79,8 @@ pub(crate) fn are_read(alloc: Global) -> bool {
 pub(crate) fn fail_once(alloc: Global) -> bool {
     for before_fault in 0..20usize {
         let mut reader = FailingReader { before_fault };
-        if !gives(alloc, &mut reader, 40, Err(&ReadError::Failed)) {
+        let text = read_whole(alloc, &mut reader, 40);
+        if text.as_deref() != Err(&ReadError::Failed) {
             return false;
         }
     }
@@ -99,22 +89,20 @@ pub(crate) fn fail_once(alloc: Global) -> bool {
 
 const TEXT: &[u8] = b"place 0 0 A>B\n";
 
-// A writer with so much room takes the text, or fails and has its beginning.
-fn takes(alloc: Global, room: usize, takes_none: bool) -> bool {
-    let mut writer = SlowWriter {
-        taken: Vec::new(alloc),
-        room,
-        takes_none,
-    };
-    let is_whole = write_whole(&mut writer, TEXT).is_ok();
-    is_whole == (TEXT.len() <= room) && writer.taken.as_slice() == &TEXT[..TEXT.len().min(room)]
-}
-
-/// A write that fails leaves a beginning.
+/// A writer with so much room takes the text, or a write that fails leaves a beginning.
 pub(crate) fn are_begun(alloc: Global) -> bool {
     for room in 0..TEXT.len() + 2 {
-        if !takes(alloc, room, false) || !takes(alloc, room, true) {
-            return false;
+        for &takes_none in &[false, true] {
+            let mut writer = SlowWriter {
+                taken: Vec::new(alloc),
+                room,
+                takes_none,
+            };
+            let is_whole = write_whole(&mut writer, TEXT).is_ok();
+            let wanted = (TEXT.len() <= room, &TEXT[..TEXT.len().min(room)]);
+            if (is_whole, writer.taken.as_slice()) != wanted {
+                return false;
+            }
         }
     }
     true

@@ -44,24 +44,21 @@ fn forwards(cell: &mut Cell, input: Port, output: Port, character: NChar) -> boo
         && cell.forward(input) == (output, character)
 }
 
-// Port 2 has credit, and a packet to port 2 begins at each of the two.
-fn begin(cell: &mut Cell, one: Port, two: Port) -> bool {
+// Port 2 has credit, and a packet to port 2 begins at each of the two. The output stays with that of port 1 until its end.
+fn stays_with_a_packet(cell: &mut Cell, one: Port, two: Port) -> bool {
     if cell.credit(two) != 0 {
         return false;
     }
     cell.fct_in(two);
-    receive(cell, one, &[NChar::Data(2), NChar::Data(0xaa)])
-        && receive(cell, two, &[NChar::Data(2), NChar::Data(0xbb)])
-        && cell.asks(two) == PortSet::single(one).with(two)
-        && cell.grant(two) == Some(one)
-}
-
-// The output stays with the packet of port 1 until its end.
-fn stays_with_a_packet(cell: &mut Cell, one: Port, two: Port) -> bool {
-    if !forwards(cell, one, two, NChar::Data(0xaa)) || cell.front(one) != None {
-        return false;
-    }
-    if cell.grant(two) != None || cell.outstanding(one) == 0 {
+    if !receive(cell, one, &[NChar::Data(2), NChar::Data(0xaa)])
+        || !receive(cell, two, &[NChar::Data(2), NChar::Data(0xbb)])
+        || cell.asks(two) != PortSet::single(one).with(two)
+        || cell.grant(two) != Some(one)
+        || !forwards(cell, one, two, NChar::Data(0xaa))
+        || cell.front(one) != None
+        || cell.grant(two) != None
+        || cell.outstanding(one) == 0
+    {
         return false;
     }
     cell.arrive(one, NChar::Eop);
@@ -77,7 +74,7 @@ pub(crate) fn stay(alloc: Global) -> bool {
         return false;
     };
     match SwitchCell::new(alloc, TableRoutes::new(alloc), linked, &[64; 32], arbiters) {
-        Ok(mut cell) => begin(&mut cell, one, two) && stays_with_a_packet(&mut cell, one, two),
+        Ok(mut cell) => stays_with_a_packet(&mut cell, one, two),
         Err(_) => false,
     }
 }

@@ -2,29 +2,11 @@
 
 use crate::together::Together;
 use std::io;
-use sw_char::Packet;
 use sw_config::Network;
 use sw_output::all_node_lines;
 use sw_run::{Outcome, Stop};
 
-fn name_of(stop: Stop) -> &'static str {
-    match stop {
-        Stop::Drained => "drained",
-        Stop::Stuck => "stuck",
-        Stop::JournalFull => "journal full",
-        Stop::Memory => "out of memory",
-    }
-}
-
-// How many packets came out at each node.
-fn show_counts(rt: &HostRuntime, network: &Network, came_out: &[Vec<Packet>]) -> io::Result<()> {
-    if came_out.len() != usize::from(network.nodes()) {
-        return Ok(());
-    }
-    rt.print(all_node_lines(rt.alloc(), network, came_out)?)
-}
-
-/// Prints whether a worker gave up, whether each cell was decided, and how the run ended.
+/// Prints whether a worker gave up, whether each cell was decided, how the run ended, and how many packets came out at each node.
 pub(crate) fn show_gated(
     rt: &HostRuntime,
     network: &Network,
@@ -32,11 +14,18 @@ pub(crate) fn show_gated(
     gate: &Together,
 ) -> io::Result<()> {
     let (late, all) = (gate.is_late(), gate.have_all_come());
-    let stop = name_of(outcome.stop);
-    let undelivered = outcome.undelivered;
-    println!(rt; "late {late}, all came {all}: {stop}, undelivered {undelivered}").and(show_counts(
-        rt,
-        network,
-        &outcome.came_out,
-    ))
+    let stop = match outcome.stop {
+        Stop::Drained => "drained",
+        Stop::Stuck => "stuck",
+        Stop::JournalFull => "journal full",
+        Stop::Memory => "out of memory",
+    };
+    println!(rt;
+        "late {late}, all came {all}: {stop}, undelivered {}",
+        outcome.undelivered
+    )?;
+    if outcome.came_out.len() != usize::from(network.nodes()) {
+        return Ok(());
+    }
+    rt.print(all_node_lines(rt.alloc(), network, &outcome.came_out)?)
 }

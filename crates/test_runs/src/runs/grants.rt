@@ -3,19 +3,14 @@
 use std::io;
 use sw_char::Packet;
 
-fn show_packet(rt: &HostRuntime, packet: &Packet) -> io::Result<()> {
-    match packet.bytes.first() {
-        Some(byte) => print!(rt; " {byte:02X}"),
-        None => Ok(()),
-    }
-}
-
 /// Prints the first byte of each packet that came out, in their order.
 pub(crate) fn show_order(rt: &HostRuntime, came_out: &[Vec<Packet>]) -> io::Result<()> {
     let mut shown = rt.print("order:");
     for packets in came_out {
         for packet in packets {
-            shown = shown.and(show_packet(rt, packet));
+            if let Some(byte) = packet.bytes.first() {
+                shown = shown.and(print!(rt; " {byte:02X}"));
+            }
         }
     }
     shown.and(println!(rt))
