@@ -8,8 +8,8 @@ use Rattle.std.proofs.lemmas.Slice.Eq.{bytes_eq-Decides}
 use Rattle.std.proofs.lemmas.Option.{get_or_from_slice_get, slice_get_within}
 use Rattle.std.proofs.lemmas.List.{append_cancel_right, map_push, map-append, length-map, append-nil}
 use Rattle.std.proofs.lemmas.List.Elements.{All-push, All-append, All-cons, All-nil, All-head, All-tail, All-get_or}
-use Rattle.sw_topo.specs.Wiring.{Wiring}
-use Rattle.sw_topo.specs.Checked.{first_of}
+use Rattle.sw_route.specs.Wiring.{Wiring}
+use Rattle.sw_route.specs.Checked.{first_of}
 use Rattle.sw_config.specs.Entries.{NodeEntry, LinkEntry, ReplyEntry, FlowEntry, Declaration, flow_names, reply_flow, replies_of, reply_flows, all_flows, capacities}
 use Rattle.sw_config.specs.Valid.{IsReply, IsFlow}
 use Rattle.sw_config.specs.Building.{IsNetwork}

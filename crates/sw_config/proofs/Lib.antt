@@ -3,3 +3,6 @@ pub mod Positions
 pub mod Steps
 pub mod Flows
 pub mod FlowLaws
+pub use Rattle.sw_route.proofs.PortBits
+pub use Rattle.sw_route.proofs.PortWalk
+pub use Rattle.sw_route.proofs.Ends

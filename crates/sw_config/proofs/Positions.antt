@@ -6,7 +6,7 @@ use Rattle.std.proofs.lemmas.Bool.{cases_lt, lt-ltb, le-ltb, ne_eqb}
 use Rattle.std.proofs.lemmas.List.Folds.{prefix_len-append}
 use Rattle.std.proofs.lemmas.List.Sums.{prefix_len-le-length}
 use Rattle.std.proofs.lemmas.List.Quantifiers.{position-Some}
-use Rattle.sw_topo.specs.Checked.{first_of}
+use Rattle.sw_route.specs.Checked.{first_of}
 
 at_back : (n b m : ℕ) → (b < m) ⊎ (m ≤ b) → cond (ltb (n + b) (n + m)) (Some (n + b)) None ≡ option_map (λ i. n + i) (cond (ltb b m) (Some b) None)
 at_back n b m (inl lt) = rw (lt-ltb b m lt, lt-ltb (n + b) (n + m) (omega arith)) refl

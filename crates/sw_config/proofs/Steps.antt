@@ -8,10 +8,10 @@ use Rattle.std.proofs.lemmas.List.{map_push, append-nil}
 use Rattle.std.proofs.lemmas.List.Folds.{list_any_at}
 use Rattle.std.proofs.lemmas.List.Elements.{All-push, All-append, All-weaker, All-cons, All-nil}
 use Rattle.std.proofs.lemmas.List.Quantifiers.{all_pairs_push}
-use Rattle.sw_topo.specs.declared.place.PlaceEnd.{PlaceEnd}
-use Rattle.sw_topo.specs.declared.place.PlaceEnd.TheVariants.{Node, Switch}
-use Rattle.sw_topo.specs.Wiring.{Wiring}
-use Rattle.sw_topo.specs.Checked.{IsIn}
+use Rattle.sw_route.specs.PlaceEnd.{PlaceEnd}
+use Rattle.sw_route.specs.PlaceEnd.TheVariants.{Node, Switch}
+use Rattle.sw_route.specs.Wiring.{Wiring}
+use Rattle.sw_route.specs.Checked.{IsIn}
 use Rattle.sw_config.specs.Entries.{NodeEntry, SwitchEntry, LinkEntry, Declaration, part_names, link_ends}
 use Rattle.sw_config.specs.Valid.{IsNode, IsSwitch, IsLink}
 use Rattle.sw_config.specs.Building.{IsBuilder}

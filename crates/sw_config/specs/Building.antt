@@ -1,10 +1,10 @@
 -- What a network keeps while it is being put together, and what is kept beside it for look-ups.
 use Rattle.std.specs.Prelude.{◌≡◌, ℕ, ◌≤◌, List, length, All, AllPairs, ◌≢◌, Result, Ok, Err, Some, None}
-use Rattle.sw_topo.specs.declared.fault.TopoError.{TopoError}
-use Rattle.sw_topo.specs.declared.fault.TopoError.TheVariants as errors
-use Rattle.sw_topo.specs.declared.limits.TheConstants.{MAX_NODES, MAX_SWITCHES}
-use Rattle.sw_topo.specs.Wiring.{Wiring}
-use Rattle.sw_topo.specs.Checked.{IsIn, fault_of}
+use Rattle.sw_route.specs.TopoError.{TopoError}
+use Rattle.sw_route.specs.TopoError.TheVariants as errors
+use Rattle.sw_route.specs.LimitConstants.{MAX_NODES, MAX_SWITCHES}
+use Rattle.sw_route.specs.Wiring.{Wiring}
+use Rattle.sw_route.specs.Checked.{IsIn, fault_of}
 use Rattle.sw_config.specs.Entries.{FlowEntry, Declaration, part_names, link_ends, wiring_of, reply_flows}
 use Rattle.sw_config.specs.Valid.{IsNode, IsSwitch, IsLink, IsValid}
 

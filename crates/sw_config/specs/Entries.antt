@@ -1,8 +1,8 @@
 -- A network as its file declares it: the entries of its nodes, switches, links and flows, each list in file order.
 use Rattle.std.specs.Prelude.{ℕ, List, [], ◌∷◌, ◌++◌, map, length, Option, Some, None, codes, slice_get, option_and_then}
 use Rattle.std.specs.Option.{option_map_or}
-use Rattle.sw_topo.specs.declared.place.PlaceEnd.{PlaceEnd}
-use Rattle.sw_topo.specs.Wiring.{Wiring}
+use Rattle.sw_route.specs.PlaceEnd.{PlaceEnd}
+use Rattle.sw_route.specs.Wiring.{Wiring}
 use Rattle.sw_route.specs.declared.look.Look.{Look}
 use Rattle.sw_route.specs.declared.look.Route.{Route}
 use Rattle.sw_route.specs.Looks.{look_of}

@@ -5,3 +5,8 @@ pub mod Building
 pub mod Laws
 pub use Rattle.sw_route.specs.Looks
 pub use Rattle.sw_route.specs.declared.look.Look
+pub use Rattle.sw_route.specs.Checked
+pub use Rattle.sw_route.specs.Ports
+pub use Rattle.sw_route.specs.PlaceEnd
+pub use Rattle.sw_route.specs.Wiring
+pub use Rattle.sw_route.specs.TopologyLaws

@@ -1,6 +1,6 @@
 -- What each network keeps, by its type.
 use Rattle.std.specs.Prelude.{◌≡◌, ℕ, zero, ◌<◌, ◌≤◌, Bool, true, false, List, [], ◌∷◌, length, All, IsSome, IfSome, AllPairs, ◌≢◌}
-use Rattle.sw_topo.specs.Checked.{IsSound}
+use Rattle.sw_route.specs.Checked.{IsSound}
 use Rattle.sw_route.specs.Looks.{IsTable}
 use Rattle.sw_rmap.specs.Config.{IsTargetConfig}
 use Rattle.sw_config.specs.Entries.{NodeEntry, SwitchEntry, LinkEntry, ReplyEntry, FlowEntry, Declaration, part_names, flow_names, target_of, wiring_of}

@@ -2,7 +2,7 @@
 ghost use Rattle.std.specs.Prelude.{◌≡◌, ◌+◌, ◌<◌, ◌≤◌, ◌++◌, ◌∷◌, [], false, length, position, IfSome, OnOk, OnErr};
 ghost use Rattle.std.specs.List.{list_any};
 ghost use Rattle.std.specs.Str.{bytes_eq};
-ghost use Rattle.sw_topo.specs.Checked.{IsIn};
+ghost use Rattle.sw_route.specs.Checked.{IsIn};
 ghost use Rattle.sw_rmap.specs.Config.{IsTargetConfig};
 
 use crate::entries::{Link, Node, Switch};
@@ -13,9 +13,7 @@ use std::alloc::{AllocError, Global};
 use std::marker::Model;
 use sw_arb::Arbitration;
 use sw_rmap::TargetConfig;
-use sw_route::TableRoutes;
-use sw_topo::limits::{MAX_NODES, MAX_SWITCHES};
-use sw_topo::{Builder, PlaceEnd, TopoError};
+use sw_route::{Builder, MAX_NODES, MAX_SWITCHES, PlaceEnd, TableRoutes, TopoError};
 
 /// The nodes, switches and links of a network so far: nodes come first, then switches.
 ///

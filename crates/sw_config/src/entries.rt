@@ -6,8 +6,7 @@ use std::alloc::{AllocError, Global};
 use std::marker::Model;
 use sw_arb::Arbitration;
 use sw_rmap::TargetConfig;
-use sw_route::{IntervalRoutes, Route, TableRoutes};
-use sw_topo::PlaceEnd;
+use sw_route::{IntervalRoutes, PlaceEnd, Route, TableRoutes};
 
 /// A node.
 #[derive(Drop)]

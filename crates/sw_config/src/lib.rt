@@ -12,5 +12,5 @@ mod network;
 pub use builder::NetworkBuilder;
 pub use flow::{Flow, Reply};
 pub use network::Network;
-pub use sw_route::Look;
 pub use sw_route::laws::outputs_are_the_named_channels;
+pub use sw_route::{Chan, Look, PlaceEnd, PortSet, Ports, Topology};

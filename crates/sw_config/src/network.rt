@@ -13,9 +13,10 @@ use std::alloc::{AllocError, Global};
 use std::marker::Model;
 use sw_arb::Arbitration;
 use sw_rmap::TargetConfig;
-use sw_route::{IntervalRoutes, Look, Route, Routing, TableRoutes};
-use sw_topo::limits::{MAX_FLOWS, MAX_LINKS, MAX_NODES, MAX_SWITCHES};
-use sw_topo::{Chan, Topology};
+use sw_route::{
+    Chan, IntervalRoutes, Look, MAX_FLOWS, MAX_LINKS, MAX_NODES, MAX_SWITCHES, Route, Routing,
+    TableRoutes, Topology,
+};
 
 /// A network: nodes and switches rightly joined by links, and the flows of packets between its nodes.
 ///

@@ -1,5 +1,5 @@
 use Rattle.std.proofs.Common.{length, arith, ap}
-use Rattle.sw_topo.specs.Wiring.{Wiring}
+use Rattle.sw_route.specs.Wiring.{Wiring}
 use Rattle.sw_config.proofs.Steps.{length-link_ends}
 use Rattle.sw_config.proofs.network.Network.channels.Goals as goal
 
