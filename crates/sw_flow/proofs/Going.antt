@@ -3,7 +3,7 @@ use Rattle.std.proofs.Common.{◌≡◌, ℕ, ◌+◌, ◌*◌, ◌/◌, ◌%◌
 use Rattle.std.proofs.Math.Nat.{mul-le-mul_right}
 use Rattle.std.proofs.lemmas.Nat.{div-mul-add, mod-mul-add, mul-add-lt}
 use Rattle.std.proofs.lemmas.List.Elements.{All-nil, All-cons, All-weaker}
-use Rattle.sw_topo.specs.Wiring.{Wiring, out}
+use Rattle.sw_config.specs.Wiring.{Wiring, out}
 use Rattle.sw_config.specs.Entries.{FlowEntry, Declaration, wiring_of}
 use Rattle.sw_graph.specs.Ways.{EndsAt, IsWay, IsWayIfReached}
 use Rattle.sw_flow.specs.declared.place.Place.{Place}

@@ -10,3 +10,4 @@ pub mod Jobs
 pub mod WellRouted
 pub use Rattle.sw_config.proofs.FlowLaws
 pub use Rattle.sw_config.proofs.Flows
+pub use Rattle.sw_config.proofs.Ends

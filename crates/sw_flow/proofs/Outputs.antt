@@ -5,8 +5,8 @@ use Rattle.std.proofs.lemmas.Bool.{cases_eq, eq-eqb, ne_eqb}
 use Rattle.std.proofs.lemmas.List.{append_assoc, map-append}
 use Rattle.std.proofs.lemmas.List.Elements.{Contains-get_or, filter_map-append}
 use Rattle.std.proofs.lemmas.List.Folds.{Any-from_list_any, list_any_none, list_any_at}
-use Rattle.sw_topo.specs.declared.place.PlaceEnd.{PlaceEnd}
-use Rattle.sw_topo.specs.Wiring.{out_of}
+use Rattle.sw_config.specs.PlaceEnd.{PlaceEnd}
+use Rattle.sw_config.specs.Wiring.{out_of}
 use Rattle.sw_config.specs.Look.{Look}
 use Rattle.sw_config.specs.Looks.{NamesOutput}
 use Rattle.sw_flow.specs.Faults.{output_at, has_output}

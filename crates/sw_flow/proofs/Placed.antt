@@ -5,7 +5,7 @@ use Rattle.std.proofs.lemmas.Nat.{div-mul-add, mod-mul-add, div-add-mod'}
 use Rattle.std.proofs.lemmas.List.{get_or-map, length-map}
 use Rattle.std.proofs.lemmas.List.Kept.{AllPairs-from_increasing}
 use Rattle.std.proofs.Math.Nat.{mul-le-mul_right, mod-lt}
-use Rattle.sw_topo.specs.Wiring.{Wiring, out}
+use Rattle.sw_config.specs.Wiring.{Wiring, out}
 use Rattle.sw_config.specs.Entries.{FlowEntry, Declaration, wiring_of}
 use Rattle.sw_graph.specs.Reached.{Reached, IsListing}
 use Rattle.sw_flow.specs.declared.place.Place.{Place}

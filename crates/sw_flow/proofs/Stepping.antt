@@ -4,9 +4,9 @@ use Rattle.std.proofs.lemmas.Bool.{cases_lt, lt-ltb, le-ltb}
 use Rattle.std.proofs.lemmas.Nat.{div-mul-add, mod-mul-add, mul-add-lt}
 use Rattle.std.proofs.lemmas.List.Elements.{Contains-get_or}
 use Rattle.std.proofs.lemmas.List.Quantifiers.{position-Some}
-use Rattle.sw_topo.specs.declared.place.PlaceEnd.{PlaceEnd}
-use Rattle.sw_topo.specs.declared.place.PlaceEnd.TheVariants.{Node, Switch}
-use Rattle.sw_topo.specs.Wiring.{Wiring, out, is_node, is_port}
+use Rattle.sw_config.specs.PlaceEnd.{PlaceEnd}
+use Rattle.sw_config.specs.PlaceEnd.TheVariants.{Node, Switch}
+use Rattle.sw_config.specs.Wiring.{Wiring, out, is_node, is_port}
 use Rattle.sw_config.specs.Look.{Look}
 use Rattle.sw_config.specs.Entries.{FlowEntry, Declaration, wiring_of}
 use Rattle.sw_graph.specs.Reached.{Reached}

@@ -1,6 +1,6 @@
 -- A flow is well routed where its list of places has no faulty one.
 use Rattle.std.proofs.Common.{◌≡◌, List, [], ◌∷◌, Option, Some, None, option_map, Contains, refl, subst, ◌⊎◌, inl, inr, arith}
-use Rattle.sw_topo.specs.Checked.{first_of}
+use Rattle.sw_config.specs.Checked.{first_of}
 use Rattle.sw_config.specs.Entries.{FlowEntry, Declaration}
 use Rattle.sw_flow.specs.declared.fault.RouteFault.{RouteFault}
 use Rattle.sw_flow.specs.declared.place.Place.{Place}

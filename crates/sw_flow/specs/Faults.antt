@@ -1,10 +1,10 @@
 -- What may be wrong with a place of a flow.
 use Rattle.std.specs.Prelude.{◌≡◌, ℕ, ◌-◌, ◌^◌, ◌==◌, Bool, nat_lt, bit_and, List, [], ◌∷◌, length, Option, Some, None, is_some, option_map, if◌then◌else◌}
 use Rattle.std.specs.List.{range_with_len, list_any}
-use Rattle.sw_topo.specs.declared.place.PlaceEnd.{PlaceEnd}
-use Rattle.sw_topo.specs.declared.place.PlaceEnd.TheVariants.{Node, Switch}
-use Rattle.sw_topo.specs.Wiring.{out_of}
-use Rattle.sw_topo.specs.Checked.{first_of}
+use Rattle.sw_config.specs.PlaceEnd.{PlaceEnd}
+use Rattle.sw_config.specs.PlaceEnd.TheVariants.{Node, Switch}
+use Rattle.sw_config.specs.Wiring.{out_of}
+use Rattle.sw_config.specs.Checked.{first_of}
 use Rattle.sw_config.specs.Look.{Look}
 use Rattle.sw_config.specs.Entries.{FlowEntry, Declaration}
 use Rattle.sw_flow.specs.declared.fault.RouteFault.{RouteFault}

@@ -1,9 +1,9 @@
 -- The places that follow a place, as a list.
 use Rattle.std.specs.Prelude.{ℕ, nat_lt, List, [], map, filter_map, length, Option, Some, None, if◌then◌else◌}
-use Rattle.sw_topo.specs.declared.place.PlaceEnd.{PlaceEnd}
-use Rattle.sw_topo.specs.declared.place.PlaceEnd.TheVariants.{Node, Switch}
-use Rattle.sw_topo.specs.Wiring.{out_of}
-use Rattle.sw_topo.specs.Ports.{ports_of}
+use Rattle.sw_config.specs.PlaceEnd.{PlaceEnd}
+use Rattle.sw_config.specs.PlaceEnd.TheVariants.{Node, Switch}
+use Rattle.sw_config.specs.Wiring.{out_of}
+use Rattle.sw_config.specs.Ports.{ports_of}
 use Rattle.sw_config.specs.Entries.{FlowEntry, Declaration}
 use Rattle.sw_flow.specs.declared.place.Place.{Place}
 use Rattle.sw_flow.specs.Places.{ends_of, end_of, look_after, deleted_behind}

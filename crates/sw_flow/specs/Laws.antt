@@ -1,8 +1,8 @@
 -- Laws of places and of their faults.
 use Rattle.std.specs.Prelude.{◌≡◌, ◌≢◌, ℕ, ◌-◌, ◌<◌, ◌≤◌, ◌⊎◌, ◌↔◌, Bool, IsTrue, List, length, Contains, Some, None}
-use Rattle.sw_topo.specs.declared.place.PlaceEnd.{PlaceEnd}
-use Rattle.sw_topo.specs.declared.place.PlaceEnd.TheVariants.{Node, Switch}
-use Rattle.sw_topo.specs.Wiring.{out}
+use Rattle.sw_config.specs.PlaceEnd.{PlaceEnd}
+use Rattle.sw_config.specs.PlaceEnd.TheVariants.{Node, Switch}
+use Rattle.sw_config.specs.Wiring.{out}
 use Rattle.sw_config.specs.Looks.{NamesOutput}
 use Rattle.sw_config.specs.Entries.{FlowEntry, Declaration}
 use Rattle.sw_flow.specs.declared.fault.RouteFault.TheVariants.{AddressEnds, NoRoute, WrongNode, WrongLeft}

@@ -9,3 +9,7 @@ pub use Rattle.sw_config.specs.Entries
 pub use Rattle.sw_config.specs.Laws as NetworkLaws
 pub use Rattle.sw_config.specs.Looks
 pub use Rattle.sw_config.specs.Look
+pub use Rattle.sw_config.specs.PlaceEnd
+pub use Rattle.sw_config.specs.Wiring
+pub use Rattle.sw_config.specs.Checked
+pub use Rattle.sw_config.specs.TopologyLaws

@@ -2,8 +2,8 @@
 -- than the address is long.
 use Rattle.std.specs.Prelude.{ℕ, ◌+◌, ◌*◌, ◌/◌, ◌%◌, nat_lt, List, [], length, map, filter_map, Option, Some, None, if◌then◌else◌}
 use Rattle.std.specs.List.{range_with_len}
-use Rattle.sw_topo.specs.declared.place.PlaceEnd.{PlaceEnd}
-use Rattle.sw_topo.specs.declared.place.PlaceEnd.TheVariants.{Node, Switch}
+use Rattle.sw_config.specs.PlaceEnd.{PlaceEnd}
+use Rattle.sw_config.specs.PlaceEnd.TheVariants.{Node, Switch}
 use Rattle.sw_config.specs.Look.{Look}
 use Rattle.sw_config.specs.Entries.{FlowEntry, Declaration}
 use Rattle.sw_flow.specs.declared.place.Place.{Place}

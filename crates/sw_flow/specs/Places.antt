@@ -1,8 +1,8 @@
 -- The places of a flow: where its packets can be, and with how many of their address bytes deleted.
 use Rattle.std.specs.Prelude.{◌≡◌, ℕ, ◌+◌, ◌<◌, List, length, slice_get, slice_index, Option, Some, Contains, AllPairs, ◌⊎◌, ◌↔◌, if◌then◌else◌}
-use Rattle.sw_topo.specs.declared.place.PlaceEnd.{PlaceEnd}
-use Rattle.sw_topo.specs.declared.place.PlaceEnd.TheVariants.{Switch}
-use Rattle.sw_topo.specs.Wiring.{out, partner}
+use Rattle.sw_config.specs.PlaceEnd.{PlaceEnd}
+use Rattle.sw_config.specs.PlaceEnd.TheVariants.{Switch}
+use Rattle.sw_config.specs.Wiring.{out, partner}
 use Rattle.sw_config.specs.Look.{Look}
 use Rattle.sw_config.specs.Looks.{NamesOutput}
 use Rattle.sw_config.specs.Entries.{FlowEntry, Declaration, look_at, wiring_of, all_flows}

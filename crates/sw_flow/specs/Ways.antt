@@ -1,6 +1,6 @@
 -- Ways of a flow, from its start over its steps.
 use Rattle.std.specs.Prelude.{◌≡◌, List, [], ◌∷◌, ◌++◌, Option, Some, None}
-use Rattle.sw_topo.specs.Wiring.{out}
+use Rattle.sw_config.specs.Wiring.{out}
 use Rattle.sw_config.specs.Entries.{FlowEntry, Declaration}
 use Rattle.sw_flow.specs.declared.place.Place.{Place}
 use Rattle.sw_flow.specs.Places.{ends_of, Follows, IsPlace}

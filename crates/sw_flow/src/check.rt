@@ -6,8 +6,7 @@ ghost use Rattle.sw_flow.specs.Faults.{has_output, fault_of, fault_at_switch, fa
 use crate::fault::RouteFault;
 use crate::place::Place;
 use crate::walk::next_output;
-use sw_config::{Flow, Look, Network};
-use sw_topo::{PlaceEnd, Topology};
+use sw_config::{Flow, Look, Network, PlaceEnd, Topology};
 
 /// Does a channel start at one of the ports that the look names at the switch?
 pub fn has_output(topology: &Topology, switch: u16, look: &Look) -> bool

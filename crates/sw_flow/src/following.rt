@@ -1,12 +1,11 @@
 //! Whether a flow goes from one place to another.
 ghost use Rattle.std.specs.Prelude.{◌≡◌, ◌<◌, ◌↔◌, IsTrue, length};
-ghost use Rattle.sw_topo.specs.Checked.{IsSound};
+ghost use Rattle.sw_config.specs.Checked.{IsSound};
 ghost use Rattle.sw_config.specs.Looks.{NamesOutput};
 ghost use Rattle.sw_flow.specs.Places.{deleted_behind, ends_of, look_after, Follows};
 
 use crate::place::Place;
-use sw_config::{Flow, Look, Network, outputs_are_the_named_channels};
-use sw_topo::{Chan, PlaceEnd, Topology};
+use sw_config::{Chan, Flow, Look, Network, PlaceEnd, Topology, outputs_are_the_named_channels};
 
 /// Is the channel one that the look names at the switch?
 fn names_output(topology: &Topology, switch: u16, look: &Look, channel: Chan) -> bool

@@ -1,6 +1,6 @@
 //! Places of flows.
 
-use sw_topo::Chan;
+use sw_config::Chan;
 
 /// A place of a flow: its packets go over the channel with that many of their address bytes deleted
 /// (ECSS-E-ST-50-12C, network layer: packet addressing).

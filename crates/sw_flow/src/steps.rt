@@ -5,9 +5,8 @@ ghost use Rattle.sw_flow.specs.Places.{ends_of};
 use crate::place::Place;
 use crate::walk::{Followers, followers_in};
 use std::alloc::AllocError;
-use sw_config::{Flow, Network};
+use sw_config::{Chan, Flow, Network};
 use sw_graph::Steps;
-use sw_topo::Chan;
 
 /// A flow of a network.
 #[derive(Drop)]

@@ -1,12 +1,11 @@
 //! The places that follow a place.
 ghost use Rattle.std.specs.Prelude.{◌≡◌, ◌<◌, ◌≤◌, ◌∷◌, [], length, MatchOption};
-ghost use Rattle.sw_topo.specs.Ports.{ports_of};
+ghost use Rattle.sw_config.specs.Ports.{ports_of};
 ghost use Rattle.sw_flow.specs.Followers.{outputs_of, followers_at_switch, followers_of};
 
 use crate::place::Place;
 use std::marker::Model;
-use sw_config::{Flow, Network};
-use sw_topo::{Chan, PlaceEnd, PortSet, Ports, Topology};
+use sw_config::{Chan, Flow, Network, PlaceEnd, PortSet, Ports, Topology};
 
 /// The places that follow a place (ECSS-E-ST-50-12C, network layer: packet addressing) and are still to come, in the order of the
 /// ports that lead to them.
@@ -20,7 +19,7 @@ pub struct Followers<'a> {
 
 impl<'a> Model for Followers<'a> {
     ghost use Rattle.std.specs.Prelude.{◌<◌, List, length};
-    ghost use Rattle.sw_topo.specs.Ports.{ports_of};
+    ghost use Rattle.sw_config.specs.Ports.{ports_of};
     ghost use Rattle.sw_flow.specs.declared.place.Place.{Place};
     ghost use Rattle.sw_flow.specs.Followers.{outputs_of, places_on};
 

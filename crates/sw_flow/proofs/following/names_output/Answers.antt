@@ -1,6 +1,6 @@
 use Rattle.std.proofs.Common.{◌≡◌, ℕ, Some, IsBitSet, sym, ap, ◌∙◌, subst}
 use Rattle.std.proofs.lemmas.Bool.{eqb-true}
-use Rattle.sw_topo.specs.declared.place.PlaceEnd.TheVariants.{Node, Switch}
+use Rattle.sw_config.specs.PlaceEnd.TheVariants.{Node, Switch}
 use Rattle.sw_flow.proofs.following.names_output.Goals as goal
 
 pub returns-in-Node : goal.returns-in-Node

@@ -1,5 +1,5 @@
 use Rattle.std.proofs.Common.{◌≡◌, ◌≤◌, length}
-use Rattle.sw_topo.specs.Ports.{ports_of}
+use Rattle.sw_config.specs.Ports.{ports_of}
 use Rattle.sw_flow.specs.Followers.{outputs_of}
 use Rattle.sw_flow.proofs.walk.next_output.Given as goal
 

@@ -1,7 +1,7 @@
 use Rattle.std.proofs.Common.{◌≡◌, [], length, ap, arith}
-use Rattle.sw_topo.specs.Ports.{ports_of}
-use Rattle.sw_topo.proofs.PortBits.{zero_none}
-use Rattle.sw_topo.proofs.PortWalk.{ports_none}
+use Rattle.sw_config.specs.Ports.{ports_of}
+use Rattle.sw_config.proofs.PortBits.{zero_none}
+use Rattle.sw_config.proofs.PortWalk.{ports_none}
 use Rattle.sw_flow.proofs.walk.no_followers.Goals as goal
 
 pub invariant_of-result : goal.invariant_of-result
