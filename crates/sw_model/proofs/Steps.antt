@@ -1,10 +1,10 @@
 -- The steps, places and faults of a flow, in the machine and by its entry.
 use Rattle.std.proofs.Common.{◌≡◌, ◌≢◌, ℕ, ◌-◌, ◌<◌, ◌≤◌, List, [], ◌∷◌, length, Option, Some, None, refl, sym, ap, ◌∙◌, subst, arith, Contains}
 use Rattle.std.specs.Prelude.{slice_index}
-use Rattle.sw_topo.specs.declared.place.PlaceEnd.{PlaceEnd}
-use Rattle.sw_topo.specs.declared.place.PlaceEnd.TheVariants.{Node, Switch}
-use Rattle.sw_topo.specs.Wiring.{out, partner}
-use Rattle.sw_topo.proofs.Ends.{node_only}
+use Rattle.sw_flow.specs.PlaceEnd.{PlaceEnd}
+use Rattle.sw_flow.specs.PlaceEnd.TheVariants.{Node, Switch}
+use Rattle.sw_flow.specs.Wiring.{out, partner}
+use Rattle.sw_flow.proofs.Ends.{node_only}
 use Rattle.sw_flow.specs.Looks.{NamesOutput}
 use Rattle.sw_flow.specs.Entries.{FlowEntry, Declaration, wiring_of, look_at, all_flows}
 use Rattle.sw_flow.specs.Valid.{IsFlow, IsValid}

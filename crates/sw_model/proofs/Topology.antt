@@ -3,12 +3,12 @@ use Rattle.std.proofs.Common.{◌≡◌, ℕ, zero, suc, ◌<◌, ◌≤◌, Lis
 use Rattle.std.specs.Prelude.{slice_get, slice_index, option_map, unwrap_or}
 use Rattle.std.proofs.lemmas.Option.{slice_get_within}
 use Rattle.std.proofs.lemmas.List.Elements.{All-head, All-tail}
-use Rattle.sw_topo.specs.declared.place.PlaceEnd.{PlaceEnd}
-use Rattle.sw_topo.specs.declared.place.PlaceEnd.TheVariants.{Node, Switch}
-use Rattle.sw_topo.specs.Wiring.{Wiring, out, partner}
-use Rattle.sw_topo.specs.Checked.{IsIn, IsSound}
-use Rattle.sw_topo.specs.Laws.{StartsAt}
-use Rattle.sw_topo.proofs.Ends.{node_only, partner_back, port_starts}
+use Rattle.sw_flow.specs.PlaceEnd.{PlaceEnd}
+use Rattle.sw_flow.specs.PlaceEnd.TheVariants.{Node, Switch}
+use Rattle.sw_flow.specs.Wiring.{Wiring, out, partner}
+use Rattle.sw_flow.specs.Checked.{IsIn, IsSound}
+use Rattle.sw_flow.specs.TopologyLaws.{StartsAt}
+use Rattle.sw_flow.proofs.Ends.{node_only, partner_back, port_starts}
 use Rattle.sw_flow.specs.Look.{Look}
 use Rattle.sw_flow.specs.Entries.{LinkEntry, link_ends, capacities}
 use Rattle.sw_flow.specs.Valid.{IsLink}

@@ -1,8 +1,8 @@
 -- The machine's network of a network that a file declares.
 use Rattle.std.specs.Prelude.{ℕ, ◌+◌, List, [], length, drop, replicate, slice_get, slice_index, Option, Some, None, option_and_then, option_map, unwrap_or}
-use Rattle.sw_topo.specs.declared.place.PlaceEnd.{PlaceEnd}
-use Rattle.sw_topo.specs.declared.place.PlaceEnd.TheVariants.{Node, Switch}
-use Rattle.sw_topo.specs.Wiring.{out, partner}
+use Rattle.sw_flow.specs.PlaceEnd.{PlaceEnd}
+use Rattle.sw_flow.specs.PlaceEnd.TheVariants.{Node, Switch}
+use Rattle.sw_flow.specs.Wiring.{out, partner}
 use Rattle.sw_char.specs.declared.nchar.End.{End}
 use Rattle.sw_rmap.specs.declared.config.TargetConfig.{TargetConfig}
 use Rattle.sw_rmap.specs.Answers.{answer}

@@ -1,7 +1,7 @@
 //! The steps of a network.
 
 use sw_char::End;
-use sw_topo::Chan;
+use sw_flow::Chan;
 
 /// A step that a network may make: what a node, a switch or a link does at once.
 #[derive(Clone, Drop)]
