@@ -4,7 +4,7 @@ use Rattle.std.proofs.lemmas.Bool.{cases_eq, false≢true, ne_eqb}
 use Rattle.std.proofs.lemmas.List.Concat.{flat_map-cons}
 use Rattle.std.proofs.lemmas.Option.{get_or_from_slice_get, same_Some, slice_get_within}
 use Rattle.std.specs.Prelude.{nat_eq, replicate, slice_get}
-use Rattle.sw_cell.specs.Makes.{IsDeclaredAt}
+use Rattle.sw_net.specs.Makes.{IsDeclaredAt}
 use Rattle.sw_load.proofs.Packets.{length-packets}
 use Rattle.sw_load.specs.History.{packet_of, packets_at, packets_of}
 use Rattle.sw_load.specs.Laws.{AreDeclared}

@@ -4,7 +4,7 @@ use Rattle.std.proofs.Math.Nat.{mul-le-mul_left}
 use Rattle.std.proofs.lemmas.Bool.{cases_lt}
 use Rattle.std.proofs.lemmas.List.Sums.{sum_by-cons}
 use Rattle.std.specs.Prelude.{slice_get, sum_by}
-use Rattle.sw_cell.proofs.Network.{nodes_are}
+use Rattle.sw_net.proofs.CellNetwork.{nodes_are}
 use Rattle.sw_char.specs.declared.nchar.NChar.TheVariants.{Data, Eop}
 use Rattle.sw_history.proofs.Begun.{declared_at}
 use Rattle.sw_history.specs.Drained.{IsDrained, most_moves, most_moves_of}

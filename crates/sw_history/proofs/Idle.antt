@@ -5,8 +5,8 @@ use Rattle.std.proofs.lemmas.Bool.{cases_eq, false≢true}
 use Rattle.std.proofs.lemmas.List.Elements.{All-append, All-filter, All-nil, All-replicate}
 use Rattle.std.proofs.lemmas.List.Concat.{flat_map-cons}
 use Rattle.std.proofs.lemmas.Option.{get_or_from_slice_get, slice_get_within}
-use Rattle.sw_cell.specs.Makes.{IsDeclaredAt}
-use Rattle.sw_cell.specs.Possible.{CanStepAt}
+use Rattle.sw_net.specs.Makes.{IsDeclaredAt}
+use Rattle.sw_net.specs.CellPossible.{CanStepAt}
 use Rattle.sw_history.proofs.Follows.{follows_where_possible, no_begin_next}
 use Rattle.sw_history.specs.History.{HistoryView, IsKept, IsNext, IsNextAt}
 use Rattle.sw_history.specs.Next.{BeginsOne, begin_of, IsIdle}

@@ -3,8 +3,8 @@ use mathlib.Core.Logic.{∥∥₁_elim}
 use Rattle.std.proofs.Common.{List, None, Ok, Option, Some, arith, length, subst, true, ℕ, ◌*◌, ◌<◌, ◌≡◌}
 use Rattle.std.specs.Prelude.{Err, IfSome, Result}
 use Rattle.std.specs.declared.alloc.AllocError.{AllocError}
-use Rattle.sw_cell.specs.declared.fault.NetFault.{NetFault}
-use Rattle.sw_cell.specs.declared.fault.NetFault.TheVariants.{NotEnabled, NotInFlow}
+use Rattle.sw_net.specs.NetFault.{NetFault}
+use Rattle.sw_net.specs.NetFault.TheVariants.{NotEnabled, NotInFlow}
 use Rattle.sw_char.specs.declared.nchar.End.{End}
 use Rattle.sw_history.specs.Way.{HasMoved}
 use Rattle.sw_machine.specs.Steps.{Begin}

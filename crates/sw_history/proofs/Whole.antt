@@ -3,7 +3,7 @@ use Rattle.std.proofs.Common.{◌≡◌, ◌++◌, ◌<◌, ◌≤◌, ◌∷◌
 use Rattle.std.specs.Prelude.{is_some, option_map, slice_get}
 use Rattle.std.proofs.lemmas.Bool.{cases_lt}
 use Rattle.std.proofs.lemmas.Option.{slice_get_past}
-use Rattle.sw_cell.proofs.Network.{nodes_are}
+use Rattle.sw_net.proofs.CellNetwork.{nodes_are}
 use Rattle.sw_load.proofs.Grown.{slice_get-behind}
 use Rattle.sw_load.proofs.Sends.{entry_first, other_copies}
 use Rattle.sw_load.specs.History.{IsHistory, IsWhole, next_packet, packet_of, packets_at, packets_of}

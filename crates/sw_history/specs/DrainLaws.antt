@@ -1,6 +1,6 @@
 -- Where nothing more can happen in a network that can't lock up.
 use Rattle.std.specs.Prelude.{ℕ, ◌<◌, ◌≡◌}
-use Rattle.sw_cell.specs.Possible.{CanStepAt}
+use Rattle.sw_net.specs.CellPossible.{CanStepAt}
 use Rattle.sw_machine.specs.DeadlockFreedom.{OfAccepted}
 use Rattle.sw_machine.specs.Network.{Network}
 use Rattle.sw_machine.specs.Runs.{IsReached, undelivered}

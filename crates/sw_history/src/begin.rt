@@ -9,9 +9,8 @@ ghost use Rattle.sw_net.specs.Possible.{Tells};
 use crate::record::beginning;
 use std::alloc::{AllocError, Global};
 use sw_arb::Arbiter;
-use sw_cell::NetFault;
 use sw_load::{LoadPacket, Senders};
-use sw_net::Net;
+use sw_net::{Net, NetFault};
 use sw_route::Routing;
 
 /// Whether the node, which has begun so many of its packets, can begin its next.

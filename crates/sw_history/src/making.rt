@@ -7,9 +7,8 @@ use crate::fault::StepFault;
 use std::alloc::Global;
 use std::marker::Model;
 use sw_arb::Arbiter;
-use sw_cell::NetFault;
 use sw_model::Step;
-use sw_net::Net;
+use sw_net::{Net, NetFault};
 use sw_route::Routing;
 
 /// Makes the step, if the network can.

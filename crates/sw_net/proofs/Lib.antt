@@ -13,3 +13,4 @@ pub mod Asks
 pub mod Parts
 pub mod Making
 mod ChangedNumbers
+pub use Rattle.sw_cell.proofs.Network as CellNetwork

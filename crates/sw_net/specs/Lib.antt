@@ -13,3 +13,8 @@ pub mod Policies
 pub mod Possible
 pub mod Switches
 pub mod Changing
+pub use Rattle.sw_cell.specs.Places
+pub use Rattle.sw_cell.specs.declared.cell.CellId
+pub use Rattle.sw_cell.specs.declared.fault.NetFault
+pub use Rattle.sw_cell.specs.Possible as CellPossible
+pub use Rattle.sw_cell.specs.Makes
