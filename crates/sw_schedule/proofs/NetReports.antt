@@ -1,8 +1,8 @@
 -- What a network's cells tell.
 use Rattle.std.proofs.Common.{Bool, Err, IsTrue, Ok, Result, Some, arith, false, refl, subst, sym, true, ℕ, ◌<◌, ◌↔◌, ◌≡◌}
 use Rattle.std.specs.Prelude.{OnErr}
-use Rattle.sw_cell.specs.declared.fault.NetFault.{NetFault}
-use Rattle.sw_cell.specs.declared.fault.NetFault.TheVariants as fault
+use Rattle.sw_net.specs.NetFault.{NetFault}
+use Rattle.sw_net.specs.NetFault.TheVariants as fault
 use Rattle.sw_machine.specs.Steps.{Step}
 use Rattle.sw_net.specs.Asked.{IsQuietNet}
 use Rattle.sw_net.specs.Delivery.{IsUndelivered}

@@ -5,7 +5,7 @@ use Rattle.std.proofs.lemmas.List.{take_all, take_more}
 use Rattle.std.specs.Global.{Vec}
 use Rattle.std.specs.List.{AllZip, range_with_len}
 use Rattle.std.specs.Prelude.{IfOk}
-use Rattle.sw_cell.specs.declared.cell.CellId.{CellId}
+use Rattle.sw_net.specs.CellId.{CellId}
 use Rattle.sw_config.specs.Entries.{Declaration}
 use Rattle.sw_net.specs.Net.{NetView}
 use Rattle.sw_net.specs.declared.part.Part.{Part}

@@ -1,6 +1,6 @@
 -- From one state on, steps are made to one end.
 use Rattle.std.proofs.Common.{List, [], ap, length, refl, subst, suc, sym, ◌++◌, ◌+◌, ◌∙◌, ◌∷◌, ◌≡◌}
-use Rattle.sw_cell.specs.Places.{IsUndeclared}
+use Rattle.sw_net.specs.Places.{IsUndeclared}
 use Rattle.sw_machine.proofs.Determined.{determined}
 use Rattle.sw_machine.specs.Network.{Network}
 use Rattle.sw_machine.specs.Runs.{Run}

@@ -1,8 +1,8 @@
 -- Where a network is locked up: what each of its cells has of the state then.
 use Rattle.std.specs.List.{AllZip, range_with_len}
 use Rattle.std.specs.Prelude.{◌≡◌, ◌++◌, List, None, Option, Some, length, map}
-use Rattle.sw_cell.specs.declared.cell.CellId.{CellId}
-use Rattle.sw_cell.specs.declared.cell.CellId.TheVariants.{Node, Switch}
+use Rattle.sw_net.specs.CellId.{CellId}
+use Rattle.sw_net.specs.CellId.TheVariants.{Node, Switch}
 use Rattle.sw_config.specs.Entries.{Declaration}
 use Rattle.sw_machine.specs.Runs.{IsLockedUp}
 use Rattle.sw_machine.specs.State.{State, empty}

@@ -1,6 +1,6 @@
 -- The replay of a list of steps: they are made one after another, from the empty state, up to the first that is refused.
 use Rattle.std.specs.Prelude.{◌≡◌, ℕ, ◌+◌, List, ◌∷◌, ◌++◌, length, None, Option, Some}
-use Rattle.sw_cell.specs.Places.{IsUndeclared}
+use Rattle.sw_net.specs.Places.{IsUndeclared}
 use Rattle.sw_machine.specs.Network.{Network}
 use Rattle.sw_machine.specs.Runs.{Run}
 use Rattle.sw_machine.specs.State.{State, empty}

@@ -25,8 +25,9 @@ pub use replayed::{ReplayEnd, Replayed, StepRefusal};
 pub use replaying::replay;
 pub use schedule::{MAX_STEPS, Schedule, ScheduleFault, read_steps};
 pub use schedule_entry::ScheduleEntry;
-pub use sw_cell::CellId;
 pub use sw_load::MAX_CARGO;
 pub use sw_model::Step;
-pub use sw_net::{Input, NodePart, Part, PortPart};
+pub use sw_net::{
+    CellId, Input, Net, NetFault, NodePart, Part, PortPart, SwitchRoutes, declared_net,
+};
 pub use writing::{add_entry, write_steps};

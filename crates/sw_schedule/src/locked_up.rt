@@ -1,6 +1,6 @@
 //! Where a replay ends in a lock-up: what each cell has of the state.
 ghost use Rattle.std.specs.Prelude.{◌≡◌, All, IfOk, option_map};
-ghost use Rattle.sw_cell.specs.Places.{IsIn};
+ghost use Rattle.sw_net.specs.Places.{IsIn};
 ghost use Rattle.sw_net.specs.New.{IsNewNet};
 ghost use Rattle.sw_schedule.specs.Locked.{ArePartsAt, ArePartsOfNet, TellsLocked, TellsLockedAt, TellsLockedParts, cells_of};
 
@@ -10,9 +10,8 @@ use crate::replayed::ReplayEnd;
 use crate::schedule::Schedule;
 use std::alloc::{AllocError, Global};
 use sw_arb::Policy;
-use sw_cell::CellId;
 use sw_config::Network;
-use sw_net::{Net, Part, SwitchRoutes, declared_net};
+use sw_net::{CellId, Net, Part, SwitchRoutes, declared_net};
 
 /// The cells of the network: the nodes by number, and then the switches by number.
 ///

@@ -8,9 +8,8 @@ use crate::replayed::{ReplayEnd, StepRefusal};
 use crate::schedule_entry::ScheduleEntry;
 use std::alloc::{AllocError, Global};
 use sw_arb::Policy;
-use sw_cell::NetFault;
 use sw_model::Step;
-use sw_net::{Net, SwitchRoutes};
+use sw_net::{Net, NetFault, SwitchRoutes};
 
 /// Makes the step, or tells why it is refused.
 fn make(

@@ -1,9 +1,9 @@
 use Rattle.std.proofs.Common.{◌<◌, List, arith, length, map, subst, sym}
 use Rattle.std.proofs.lemmas.List.Elements.{All-push}
 use Rattle.std.specs.List.{All, range_with_len}
-use Rattle.sw_cell.specs.Places.{IsIn}
-use Rattle.sw_cell.specs.declared.cell.CellId.{CellId}
-use Rattle.sw_cell.specs.declared.cell.CellId.TheVariants.{Node, Switch}
+use Rattle.sw_net.specs.Places.{IsIn}
+use Rattle.sw_net.specs.CellId.{CellId}
+use Rattle.sw_net.specs.CellId.TheVariants.{Node, Switch}
 use Rattle.sw_schedule.proofs.PartLists.{one_more, one_more_behind}
 use Rattle.sw_schedule.proofs.locked_up.cells.Goals as goal
 

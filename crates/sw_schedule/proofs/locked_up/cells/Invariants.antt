@@ -1,7 +1,7 @@
 use Rattle.std.proofs.Common.{◌≡◌, ◌++◌, length, map}
 use Rattle.std.specs.List.{All, range_with_len}
-use Rattle.sw_cell.specs.Places.{IsIn}
-use Rattle.sw_cell.specs.declared.cell.CellId.TheVariants.{Node, Switch}
+use Rattle.sw_net.specs.Places.{IsIn}
+use Rattle.sw_net.specs.CellId.TheVariants.{Node, Switch}
 use Rattle.sw_schedule.proofs.locked_up.cells.Given as goal
 
 abbrev pub invariant-loop-n : goal.invariant-loop-n
