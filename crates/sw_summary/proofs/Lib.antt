@@ -9,3 +9,4 @@ pub mod SoFar
 pub mod FillLists
 pub mod Held
 pub mod Refused
+pub use Rattle.sw_net.proofs.Delivered

@@ -1,9 +1,9 @@
 -- A step that is not made.
 use Rattle.std.proofs.Common.{Err, List, Ok, Result, ℕ, ◌≡◌}
 use Rattle.std.specs.Prelude.{false}
-use Rattle.sw_cell.specs.Places.{IsUndeclared}
-use Rattle.sw_cell.specs.declared.fault.NetFault.{NetFault}
-use Rattle.sw_cell.specs.declared.fault.NetFault.TheVariants as fault
+use Rattle.sw_net.specs.Places.{IsUndeclared}
+use Rattle.sw_net.specs.NetFault.{NetFault}
+use Rattle.sw_net.specs.NetFault.TheVariants as fault
 use Rattle.sw_summary.specs.NotedFills.{MakesOrNot}
 use Rattle.sw_machine.specs.Network.{Network}
 use Rattle.sw_machine.specs.State.{State}

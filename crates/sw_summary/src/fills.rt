@@ -8,10 +8,9 @@ ghost use Rattle.sw_net.specs.New.{IsNewNet};
 
 use std::alloc::{AllocError, Global};
 use sw_arb::Policy;
-use sw_cell::NetFault;
 use sw_config::Network;
 use sw_model::Step;
-use sw_net::{Net, SwitchRoutes, declared_net};
+use sw_net::{Net, NetFault, SwitchRoutes, declared_net};
 use sw_topo::{Chan, LinkEnd};
 
 // How many characters the buffer of the channel holds.
