@@ -5,3 +5,6 @@ pub mod Ranks
 pub mod Ends
 pub mod Laws
 pub mod Numbered
+pub use Rattle.sw_cert.specs.Grammar
+pub use Rattle.sw_cert.specs.Reading
+pub use Rattle.sw_cert.specs.Text

@@ -16,3 +16,4 @@ pub use checker::check;
 pub use parallel::CheckWorkers;
 pub use passed::Passed;
 pub use refusal::Refusal;
+pub use sw_cert::{Certificate, ReadWorkers};

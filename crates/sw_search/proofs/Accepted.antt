@@ -9,7 +9,7 @@ use Rattle.sw_flow.specs.declared.place.Place.{Place}
 use Rattle.sw_flow.specs.Places.{ends_of, IsPlaceList}
 use Rattle.sw_flow.specs.Faults.{IsWellRouted}
 use Rattle.sw_flow.proofs.Stepping.{places_are_in}
-use Rattle.sw_cert.specs.Text.{Contents}
+use Rattle.sw_check.specs.Text.{Contents}
 use Rattle.sw_machine.specs.Network.{IsNetwork}
 use Rattle.sw_machine.specs.Places as machine
 use Rattle.sw_machine.specs.Places.IsPlace.{Start, Goes}

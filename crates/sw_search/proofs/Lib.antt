@@ -22,3 +22,5 @@ pub mod Lawful
 pub mod Verdicts
 pub mod Went
 pub mod Routed
+pub use Rattle.sw_cycle.proofs.AllGoing
+pub use Rattle.sw_cycle.proofs.Naming

@@ -24,6 +24,7 @@ pub use explaining::explain;
 pub use explanation::Explanation;
 pub use freedom::is_free;
 pub use misrouted::fault_of_flow;
+pub use sw_cycle::{Cause, Cycle, dependencies};
 pub use tangle::Tangle;
 pub use tangling::tangles;
 pub use verdict::{Findings, Verdict};

@@ -7,8 +7,7 @@ ghost use Rattle.sw_search.specs.Lists.{AreFirstFaults, AreListed, IsFirstFault}
 use crate::misrouted::fault_of_flow;
 use std::alloc::{AllocError, Global};
 use std::thread::Threads;
-use sw_cert::ReadWorkers;
-use sw_check::CheckWorkers;
+use sw_check::{CheckWorkers, ReadWorkers};
 use sw_config::Network;
 use sw_cycle::PortWorkers;
 use sw_flow::{Place, PlaceWorkers, RouteFault, flows_a_thread};
