@@ -14,7 +14,7 @@ use Rattle.sw_flow.specs.Places.{ends_of, IsPlaceList}
 use Rattle.sw_flow.proofs.Listed.{Contains-cases, Contains-head}
 use Rattle.sw_margin.specs.Losses.{AreOnLink, NeedsLink}
 use Rattle.sw_margin.specs.Losses.NeedsLink.{AtStart, OnTheWay}
-use Rattle.sw_cycle.specs.Answering.{is_marked}
+use Rattle.sw_search.specs.Answering.{is_marked}
 use Rattle.sw_margin.specs.Needs.{AreMarked, AreNeeded, link_after, only_link}
 use Rattle.sw_margin.proofs.Ways.{channels_paired, follower_within}
 

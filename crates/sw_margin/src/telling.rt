@@ -11,9 +11,8 @@ use crate::losing::losses;
 use crate::nodes::stalls;
 use std::alloc::{AllocError, Global};
 use sw_config::Network;
-use sw_cycle::dependencies;
 use sw_flow::{Place, all_places};
-use sw_search::VerdictWorkers;
+use sw_search::{VerdictWorkers, dependencies};
 
 // For each channel those for which a packet on it may wait.
 fn rows_of<W: VerdictWorkers>(

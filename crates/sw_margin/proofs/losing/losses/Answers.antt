@@ -1,7 +1,7 @@
 use Rattle.std.proofs.Common.{◌≡◌, ◌≤◌, List, ℕ, Vec, Global, length, get_or, sym, ap, ◌∙◌, subst, arith, ◌+◌}
 use Rattle.std.proofs.lemmas.Slice.Zip.{AllZip-long}
 use Rattle.sw_config.specs.Entries.{all_flows}
-use Rattle.sw_cycle.proofs.Naming.{listed_at}
+use Rattle.sw_search.proofs.Naming.{listed_at}
 use Rattle.sw_flow.specs.declared.place.Place.{Place}
 use Rattle.sw_flow.specs.Places.{IsPlaceList}
 use Rattle.sw_graph.proofs.RelationSteps.{whole}
