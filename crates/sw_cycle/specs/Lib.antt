@@ -10,3 +10,5 @@ pub mod Rows
 pub mod Chunks
 pub use Rattle.sw_model.specs.Model
 pub use Rattle.sw_model.specs.Laws as ModelLaws
+pub use Rattle.sw_flow.specs.declared.place.Place
+pub use Rattle.sw_flow.specs.declared.fault.RouteFault

@@ -23,5 +23,5 @@ pub use cycle::{Cause, Cycle};
 pub use dependency_rows::{dependencies, routed_dependencies};
 pub use goers::flows_of_steps;
 pub use parallel::PortWorkers;
-pub use sw_flow::Place;
+pub use sw_flow::{Place, RouteFault};
 pub use sw_topo::Chan;

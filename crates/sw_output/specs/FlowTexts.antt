@@ -3,9 +3,9 @@ use Rattle.std.specs.Prelude.{ℕ, List, [], ◌∷◌, codes, slice_get}
 use Rattle.std.specs.Option.{option_map_or}
 use Rattle.std.specs.Fmt.{decimal}
 use Rattle.sw_config.specs.Entries.{Declaration, all_flows}
-use Rattle.sw_flow.specs.declared.place.Place.{Place}
-use Rattle.sw_flow.specs.declared.fault.RouteFault.{RouteFault}
-use Rattle.sw_flow.specs.declared.fault.RouteFault.TheVariants.{AddressEnds, NoRoute, WrongNode, WrongLeft}
+use Rattle.sw_cycle.specs.Place.{Place}
+use Rattle.sw_cycle.specs.RouteFault.{RouteFault}
+use Rattle.sw_cycle.specs.RouteFault.TheVariants.{AddressEnds, NoRoute, WrongNode, WrongLeft}
 use Rattle.sw_output.specs.Lines.{spaced}
 
 -- a flow's name by its number; reply flows have numbers and names too

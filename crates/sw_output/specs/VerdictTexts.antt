@@ -3,8 +3,8 @@ use Rattle.std.specs.Prelude.{ℕ, max, List, [], ◌∷◌, ◌++◌, codes, fl
 use Rattle.std.specs.List.{reduce, zip}
 use Rattle.std.specs.Fmt.{decimal}
 use Rattle.sw_config.specs.Entries.{Declaration}
-use Rattle.sw_flow.specs.declared.fault.RouteFault.{RouteFault}
-use Rattle.sw_flow.specs.declared.place.Place.{Place}
+use Rattle.sw_cycle.specs.RouteFault.{RouteFault}
+use Rattle.sw_cycle.specs.Place.{Place}
 use Rattle.sw_cycle.specs.Cycles.{CauseEntry, ByTarget, ByFlow, CycleEntry}
 use Rattle.sw_output.specs.ChannelTexts.{channel_text, node_name}
 use Rattle.sw_output.specs.FlowTexts.{flow_name, place_words, route_fault_text}

@@ -5,7 +5,7 @@ ghost use Rattle.sw_output.specs.FlowTexts.{flow_name, place_words, route_fault_
 
 use std::alloc::{AllocError, Global};
 use sw_config::Network;
-use sw_flow::{Place, RouteFault};
+use sw_cycle::{Place, RouteFault};
 
 /// The flow's name, which is empty where there is no such flow.
 pub fn flow_name(network: &Network, flow: u16) -> &str

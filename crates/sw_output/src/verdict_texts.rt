@@ -12,8 +12,7 @@ use crate::flow_texts::{flow_name, place_words, route_fault_text};
 use std::alloc::{AllocError, Global};
 use std::fmt::Write;
 use sw_config::Network;
-use sw_cycle::{Cause, Cycle};
-use sw_flow::{Place, RouteFault};
+use sw_cycle::{Cause, Cycle, Place, RouteFault};
 use sw_topo::Chan;
 
 /// The node's name, which is empty where there is no such node.
