@@ -17,7 +17,7 @@ use Rattle.sw_model.specs.Packets.{IsAnsweredRightly, IsDeclaredPacket, IsRightW
 use Rattle.sw_model.proofs.Declares.{declared_are_declared}
 use Rattle.sw_model.proofs.Flows.{flow_at}
 use Rattle.sw_model.proofs.Networks.{are_networks}
-use Rattle.sw_check.specs.Contents.{certificate_of}
+use Rattle.sw_search.specs.Contents.{certificate_of}
 use Rattle.sw_search.proofs.Accepted.{accepted}
 use Rattle.sw_witness.specs.Laws.{FreeWithoutNeverLocksUp}
 use Rattle.sw_witness.specs.OtherFlows.{DeclaresAll, NeverLocksUp}

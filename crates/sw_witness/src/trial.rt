@@ -2,12 +2,10 @@
 
 use std::alloc::{AllocError, Global};
 use sw_arb::Policy;
-use sw_cell::NetFault;
 use sw_config::Network;
 use sw_flow::Place;
 use sw_model::Step;
-use sw_net::{Net, SwitchRoutes, declared_net};
-use sw_schedule::{MAX_STEPS, add_entry};
+use sw_schedule::{MAX_STEPS, Net, NetFault, SwitchRoutes, add_entry, declared_net};
 use sw_topo::{Chan, LinkEnd};
 
 /// A network in some state, and the schedule of the steps that led there. It is not let go but by `into_text`.
