@@ -20,3 +20,4 @@ pub use init_engine::init;
 pub use kept::{EndedWith, kept_network};
 pub use samples::{Sample, sample_named};
 pub use sw_command::{Ended, MAX_TEXT, fault_text};
+pub use sw_search::VerdictWorkers;

@@ -12,9 +12,8 @@ use sw_cert::Certificate;
 use sw_cert::laws::one_text;
 use sw_command::statuses::{BAD, GOOD};
 use sw_config::Network;
-use sw_cycle::Cycle;
 use sw_output::{cycle_text, cyclic_words, free_words, misrouted_text, misrouted_words};
-use sw_search::Verdict;
+use sw_search::{Cycle, Verdict};
 
 // The text of a cyclic network's cycle.
 fn shown_text(alloc: Global, network: &Network, cycle: &Cycle) -> Result<String, AllocError>
