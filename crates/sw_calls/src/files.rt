@@ -13,10 +13,10 @@ use std::fs;
 use std::io::Write;
 use std::rt::Files;
 use sw_app::{
-    EndedWith, check, decide_keeping, init, migrate, report_keeping, route, sample_named,
+    EndedWith, VerdictWorkers, check, decide_keeping, init, migrate, report_keeping, route,
+    sample_named,
 };
 use sw_command::Ended;
-use sw_search::VerdictWorkers;
 
 /// The places of a flow of a network file.
 pub fn route_file<R: Files + AllocGlobal, W: Write>(

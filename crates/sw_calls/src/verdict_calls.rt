@@ -5,9 +5,9 @@ use crate::hints::hints_of;
 use crate::told::{no_hints, tell_refused, told_end};
 use std::io::{self, Write};
 use std::rt::{Env, Files};
+use sw_app::VerdictWorkers;
 use sw_args::{Asked, Call};
 use sw_command::Ended;
-use sw_search::VerdictWorkers;
 
 // What is told of a call that the program does not have.
 const OTHER_CALL: &str =
