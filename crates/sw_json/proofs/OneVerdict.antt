@@ -5,7 +5,7 @@ use Rattle.std.specs.Prelude.{codes}
 use Rattle.serde_json.specs.Data.{Data, array, object, string, member, no_members}
 use Rattle.serde_json.specs.View.{items_of}
 use Rattle.sw_config.specs.Entries.{Declaration}
-use Rattle.sw_cycle.specs.Cycles.{ByFlow, ByTarget, CauseEntry, CycleEntry}
+use Rattle.sw_search.specs.Cycles.{ByFlow, ByTarget, CauseEntry, CycleEntry}
 use Rattle.sw_json.specs.VerdictValues.{channel_value, cyclic_value, free_value, misrouted_value, verdict_value}
 use Rattle.sw_search.specs.Laws.{IsSameCycle, SaysTheSame, without_places}
 use Rattle.sw_search.specs.Verdicts.{IsVerdict}

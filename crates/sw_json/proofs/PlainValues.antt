@@ -3,7 +3,7 @@ use Rattle.std.proofs.Common.{◌≤◌, ◌+◌, ℕ, List, All, Option, arith}
 use Rattle.std.specs.List.{zip}
 use Rattle.serde_json.specs.Data.{Data}
 use Rattle.sw_config.specs.Entries.{Declaration}
-use Rattle.sw_cycle.specs.Cycles.{CauseEntry, ByTarget, ByFlow}
+use Rattle.sw_search.specs.Cycles.{CauseEntry, ByTarget, ByFlow}
 use Rattle.sw_flow.specs.declared.fault.RouteFault.{RouteFault}
 use Rattle.sw_flow.specs.declared.place.Place.{Place}
 use Rattle.sw_json.specs.AnswerValues.{answer_value, file_fault_value, told_input}

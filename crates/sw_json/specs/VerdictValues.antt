@@ -6,7 +6,7 @@ use Rattle.serde_json.specs.View.{items_of}
 use Rattle.sw_cert.specs.Grammar.{spelling}
 use Rattle.sw_cert.specs.Text.{Contents}
 use Rattle.sw_config.specs.Entries.{Declaration, all_flows, wiring_of}
-use Rattle.sw_cycle.specs.Cycles.{CauseEntry, ByTarget, ByFlow, CycleEntry}
+use Rattle.sw_search.specs.Cycles.{CauseEntry, ByTarget, ByFlow, CycleEntry}
 use Rattle.sw_flow.specs.declared.fault.RouteFault.{RouteFault}
 use Rattle.sw_flow.specs.declared.place.Place.{Place}
 use Rattle.sw_json.specs.PlaceValues.{finish_text, route_fault_code}

@@ -3,7 +3,7 @@ ghost use Rattle.std.specs.Prelude.{◌≡◌, ◌<◌, All, IfOk, length, map};
 ghost use Rattle.std.specs.List.{zip};
 ghost use Rattle.serde_json.specs.View.{view};
 ghost use Rattle.sw_config.specs.Entries.{wiring_of};
-ghost use Rattle.sw_cycle.specs.Cycles.{cause_of};
+ghost use Rattle.sw_search.specs.Cycles.{cause_of};
 ghost use Rattle.sw_search.specs.Verdicts.{IsCyclic};
 ghost use Rattle.sw_json.specs.VerdictValues.{cause_value, channel_value, cyclic_value};
 
@@ -13,8 +13,8 @@ use crate::places::{finish_text, start_text};
 use serde_json::Value;
 use std::alloc::{AllocError, Global};
 use sw_config::Network;
-use sw_cycle::{Cause, Cycle};
 use sw_output::{flow_name, node_name};
+use sw_search::{Cause, Cycle};
 use sw_topo::Chan;
 
 fn cause_value(alloc: Global, network: &Network, cause: &Cause) -> Result<Value, AllocError>

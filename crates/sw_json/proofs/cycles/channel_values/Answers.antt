@@ -1,8 +1,8 @@
 use Rattle.std.proofs.Common.{ℕ}
 use Rattle.std.proofs.lemmas.List.{length_push}
 use Rattle.std.proofs.lemmas.Slice.Zip.{zip_end, zip_turn}
-use Rattle.sw_cycle.specs.declared.cycle.Cause.{Cause}
-use Rattle.sw_cycle.specs.Cycles.{CauseEntry, cause_of}
+use Rattle.sw_search.specs.Cause.{Cause}
+use Rattle.sw_search.specs.Cycles.{CauseEntry, cause_of}
 use Rattle.sw_json.specs.VerdictValues.{channel_value}
 use Rattle.sw_json.proofs.Added.{added}
 use Rattle.sw_json.proofs.PairedValues.{all_values, one_more_value}

@@ -1,8 +1,8 @@
 use Rattle.std.proofs.Common.{◌≡◌, ℕ, length, map, take}
 use Rattle.std.specs.List.{zip}
 use Rattle.serde_json.specs.View.{view}
-use Rattle.sw_cycle.specs.declared.cycle.Cause.{Cause}
-use Rattle.sw_cycle.specs.Cycles.{cause_of}
+use Rattle.sw_search.specs.Cause.{Cause}
+use Rattle.sw_search.specs.Cycles.{cause_of}
 use Rattle.sw_json.specs.VerdictValues.{channel_value}
 use Rattle.sw_json.proofs.cycles.channel_values.Given as goal
 
