@@ -5,3 +5,4 @@ pub mod LintTexts
 pub mod Marks
 pub mod Laws
 pub mod InWords
+pub use Rattle.sw_output.specs.Lines
