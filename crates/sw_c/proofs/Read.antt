@@ -8,8 +8,8 @@ use Rattle.sw_command.specs.declared.write_answer.Ended.{Ended}
 use Rattle.sw_command.specs.declared.write_answer.Ended.TheVariants.{Status, ReadFailed, WriteFailed}
 use Rattle.sw_app.specs.CheckAnswers.{AreShownDeadlockFree, ChecksDeadlockFree}
 use Rattle.sw_app.specs.VerdictAnswers.{DecidesDeadlockFree}
-use Rattle.sw_json.specs.Answering.{AnswersByOne, AnswersToOne, EndsByOneFile, EndsByTwoFiles, memory_text}
-use Rattle.sw_json.specs.Answering as objects
+use Rattle.sw_json_verdicts.specs.Answering.{AnswersByOne, AnswersToOne, EndsByOneFile, EndsByTwoFiles, memory_text}
+use Rattle.sw_json_verdicts.specs.Answering as objects
 use Rattle.sw_c.specs.Given.{IsEnded, IsGiven, IsGivenSuch, IsObjectEnded, IsObjectGiven}
 
 -- more bytes than the most are not at most so many

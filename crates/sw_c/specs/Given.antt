@@ -3,7 +3,7 @@ use Rattle.std.specs.Prelude.{◌≡◌, ◌⊎◌, ℕ, List, [], ◌∷◌, �
 use Rattle.sw_command.specs.Ends.{Answers, OrMemory, Says}
 use Rattle.sw_command.specs.declared.write_answer.Ended.{Ended}
 use Rattle.sw_command.specs.declared.write_answer.Ended.TheVariants.{Status, ReadFailed, WriteFailed}
-use Rattle.sw_json.specs.Answering.{memory_text}
+use Rattle.sw_json_verdicts.specs.Answering.{memory_text}
 use Rattle.sw_output.specs.Lines.{line}
 
 -- the beginning of the text, as much as there is room for, and behind it what was there

@@ -5,7 +5,7 @@ use Rattle.sw_app_audit.specs.AuditAnswers.{IsAuditAnswer}
 use Rattle.sw_app_audit.specs.declared.options.Options.{Options}
 use Rattle.sw_args.specs.declared.release.TheConstants.{TOOLCHAIN, VERSION}
 use Rattle.sw_command.specs.Ends.{limited}
-use Rattle.sw_json.specs.declared.files.Release.{Release}
+use Rattle.sw_json_verdicts.specs.Release.{Release}
 use Rattle.sw_json_verdicts.specs.CheckResults.{IsCheckJson}
 use Rattle.sw_json_verdicts.specs.ReportResults.{IsReportJson}
 use Rattle.sw_c.specs.AtHand.{gives_bytes, keeps_nothing}
