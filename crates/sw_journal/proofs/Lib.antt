@@ -8,3 +8,4 @@ mod Idle
 mod Looked
 mod Chosen
 pub use Rattle.sw_history.proofs.Follows
+pub use Rattle.sw_net.proofs.Policies

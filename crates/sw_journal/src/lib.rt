@@ -17,4 +17,4 @@ pub use cell::Cell;
 pub use fault::JournalFault;
 pub use journal::Journal;
 pub use sw_history::Record;
-pub use sw_net::{Input, NodePart, Part, PendingReply, PortPart};
+pub use sw_net::{Input, NodePart, Numbers, Part, PendingReply, PortPart};

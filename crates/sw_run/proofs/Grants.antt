@@ -23,8 +23,8 @@ use Rattle.sw_model.specs.Model.{network_of}
 use Rattle.sw_model.specs.Steps.{machine_step}
 use Rattle.sw_model.specs.declared.step.Step.{Step as CodeStep}
 use Rattle.sw_model.specs.declared.step.Step.TheVariants as codes
-use Rattle.sw_net.specs.Asking.{IsInput}
-use Rattle.sw_net.specs.declared.numbers.Numbers.{Numbers}
+use Rattle.sw_journal.specs.NetAsking.{IsInput}
+use Rattle.sw_journal.specs.Numbers.{Numbers}
 use Rattle.sw_run.specs.Arbiters.{HasArbiters, PicksAt}
 use Rattle.sw_run.specs.Grants.{Advances, AreAskers, Grants, HasMoved, IsDecided, IsOutputOf, IsPicked, Takes, is_grant, turn_of}
 use Rattle.sw_run.specs.declared.turn.Turn.{Turn}

@@ -17,9 +17,9 @@ use Rattle.sw_config.proofs.Flows.{All-at}
 use Rattle.sw_config.specs.Entries.{Declaration, wiring_of}
 use Rattle.sw_flow.specs.Places.{ends_of}
 use Rattle.sw_machine.specs.Network.{AtNode, AtSwitch}
-use Rattle.sw_net.proofs.Policies.{has_linked}
-use Rattle.sw_net.specs.New.{IsLinkedSet}
-use Rattle.sw_net.specs.Policies.{IsNewFor}
+use Rattle.sw_journal.proofs.Policies.{has_linked}
+use Rattle.sw_journal.specs.NewNet.{IsLinkedSet}
+use Rattle.sw_journal.specs.Policies.{IsNewFor}
 use Rattle.sw_run.specs.Arbiters.{HasArbiters, HasNewArbiters, IsArbiterFor, PicksAt, kind_of}
 use Rattle.sw_topo.specs.Wiring.{Wiring, out_of}
 

@@ -6,7 +6,7 @@ use Rattle.sw_journal.specs.Cells.{end_numbers}
 use Rattle.sw_journal.specs.Record.{CanCommit, CellView, IsNowCell, IsTrueView, JournalView}
 use Rattle.sw_machine.specs.Network.{reverse_of}
 use Rattle.sw_machine.specs.Steps as machine
-use Rattle.sw_net.specs.declared.numbers.Numbers.{Numbers}
+use Rattle.sw_journal.specs.Numbers.{Numbers}
 use Rattle.sw_run.specs.Wanted.{TellsOf, TellsWhatMayFollow, wants_by}
 use Rattle.sw_topo.specs.Wiring.{partner}
 

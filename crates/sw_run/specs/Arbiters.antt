@@ -9,8 +9,8 @@ use Rattle.sw_cell.specs.Places.{machine_cell}
 use Rattle.sw_cell.specs.declared.cell.CellId.{CellId}
 use Rattle.sw_config.specs.Entries.{Declaration}
 use Rattle.sw_machine.specs.Network.{AtSwitch}
-use Rattle.sw_net.specs.New.{IsLinkedSet}
-use Rattle.sw_net.specs.Policies.{IsNewFor}
+use Rattle.sw_journal.specs.NewNet.{IsLinkedSet}
+use Rattle.sw_journal.specs.Policies.{IsNewFor}
 
 -- of which kind an arbiter is
 abbrev pub kind_of : Policy → Arbitration

@@ -13,8 +13,8 @@ use Rattle.sw_journal.specs.declared.fault.JournalFault.TheVariants.{Full, Memor
 use Rattle.sw_load.specs.History.{packets_of}
 use Rattle.sw_machine.specs.Network.{AtSwitch}
 use Rattle.sw_machine.specs.Steps.{Fct, Grant, Step}
-use Rattle.sw_net.specs.Asking.{IsInput}
-use Rattle.sw_net.specs.declared.numbers.Numbers.{Numbers}
+use Rattle.sw_journal.specs.NetAsking.{IsInput}
+use Rattle.sw_journal.specs.Numbers.{Numbers}
 use Rattle.sw_run.specs.Arbiters.{PicksAt}
 use Rattle.sw_run.specs.declared.turn.Turn.{Turn}
 use Rattle.sw_run.specs.declared.turn.Turn.TheVariants.{Idle, Moved, Over, Sent}

@@ -5,7 +5,7 @@ use Rattle.sw_topo.specs.declared.place.PlaceEnd.{PlaceEnd}
 use Rattle.sw_topo.specs.declared.place.PlaceEnd.TheVariants.{Node, Switch}
 use Rattle.sw_journal.specs.Record.{CanCommit, CellView, IsNowCell, IsTrueView, JournalView}
 use Rattle.sw_machine.specs.Steps as machine
-use Rattle.sw_net.specs.declared.numbers.Numbers.{Numbers}
+use Rattle.sw_journal.specs.Numbers.{Numbers}
 
 -- A link end with these numbers is to send an FCT: there is room for the eight N-Chars that it asks for, and at most 48 are outstanding
 -- (ECSS-E-ST-50-12C, data link layer: flow control).

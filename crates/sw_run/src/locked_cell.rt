@@ -11,9 +11,8 @@ use std::alloc::{AllocError, Global};
 use std::marker::PhantomData;
 use sw_arb::Policy;
 use sw_config::Network;
-use sw_journal::Cell;
+use sw_journal::{Cell, Numbers};
 use sw_link::flow_control::{ASKED_BY_FCT, MAX_BEFORE_FCT};
-use sw_net::Numbers;
 use sw_topo::LinkEnd;
 
 /// A cell of one run, and if it is a switch, the arbiters of its outputs.

@@ -1,5 +1,5 @@
 use Rattle.std.proofs.Common.{All, length, ◌≡◌}
-use Rattle.sw_net.specs.Policies.{IsNewFor}
+use Rattle.sw_journal.specs.Policies.{IsNewFor}
 use Rattle.sw_run.proofs.arbiters.new_arbiters.Given as goal
 
 abbrev pub invariant-loop-number : goal.invariant-loop-number
