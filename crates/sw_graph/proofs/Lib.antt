@@ -23,3 +23,4 @@ pub mod Parting
 pub mod Sought
 pub mod Lawful
 pub mod Carried
+pub mod Loops

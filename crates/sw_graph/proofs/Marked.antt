@@ -4,7 +4,7 @@ use Rattle.std.specs.Prelude.{Contains, count_by, slice_index_or}
 use Rattle.std.specs.List.{range_with_len}
 use Rattle.std.specs.List.Sorted.{IsStrictlyIncreasing}
 use Rattle.std.proofs.lemmas.Bool.{cases_eq, cases_lt, eq-eqb, false≢true, ne_eqb}
-use Rattle.std.proofs.lemmas.List.{get_or_default, get_or_append_left, get_or-append_right, length_push}
+use Rattle.std.proofs.lemmas.List.{append-nil, append_assoc, get_or_default, get_or_append_left, get_or-append_right, length_push}
 use Rattle.std.proofs.lemmas.List.Sums.{sum_by-set}
 use Rattle.std.proofs.lemmas.List.Elements.{All-contains, All-push, filter-append}
 use Rattle.std.proofs.lemmas.List.Folds.{list_any-append, list_any_at}
@@ -19,6 +19,18 @@ use Rattle.sw_parallel.proofs.Ranges.{range_more}
 -- one number more
 pub marked_more : (test : ℕ → Bool) (n : ℕ) → filter test (range_with_len 0 (n + 1)) ≡ filter test (range_with_len 0 n) ++ filter test (n ∷ [])
 marked_more test n = ap (filter test) (range_more n) ∙ filter-append test (range_with_len 0 n) (n ∷ [])
+
+-- numbers to which the next one is added, or left out
+module _ (test : ℕ → Bool) (n : ℕ) (old now after : List ℕ) where
+  pub marked_kept : test n ≡ true → now ≡ old ++ filter test (range_with_len 0 n) → after ≡ now ++ n ∷ [] → after ≡ old ++ filter test (range_with_len 0 (n + 1))
+  marked_kept passes is after_is =
+      let one : filter test (n ∷ []) ≡ n ∷ [] = rw passes refl in
+      after_is ∙ ap (λ (l : List ℕ). l ++ n ∷ []) is ∙ append_assoc old (filter test (range_with_len 0 n)) (n ∷ []) ∙ ap (λ (l : List ℕ). old ++ l) (ap (λ (l : List ℕ). filter test (range_with_len 0 n) ++ l) (sym one) ∙ sym (marked_more test n))
+
+  pub marked_left : test n ≡ false → now ≡ old ++ filter test (range_with_len 0 n) → after ≡ now → after ≡ old ++ filter test (range_with_len 0 (n + 1))
+  marked_left fails is after_is =
+      let none : filter test (n ∷ []) ≡ [] = rw fails refl in
+      after_is ∙ is ∙ ap (λ (l : List ℕ). old ++ l) (sym (append-nil (filter test (range_with_len 0 n))) ∙ ap (λ (l : List ℕ). filter test (range_with_len 0 n) ++ l) (sym none) ∙ sym (marked_more test n))
 
 range_rises : (n : ℕ) → IsStrictlyIncreasing (range_with_len 0 n)
 range_rises n k lt =

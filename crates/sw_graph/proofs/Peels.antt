@@ -1,6 +1,6 @@
 -- A round, and what is peeled after the last.
 use Rattle.std.proofs.Common.{◌≡◌, ℕ, zero, suc, ◌+◌, ◌^◌, ◌<◌, ◌≤◌, ◌⊎◌, Bool, true, false, not, List, [], ◌∷◌, ◌++◌, length, get_or, replicate, refl, sym, ap, ◌∙◌, subst, inl, inr, arith, All, filter, min}
-use Rattle.std.specs.Prelude.{Vec, ◌==◌, slice_index, Contains, Option, Some, None}
+use Rattle.std.specs.Prelude.{Vec, ◌==◌, slice_index, Contains, IsSome, Option, Some, None}
 use Rattle.std.specs.declared.alloc.Global.{Global}
 use Rattle.std.specs.List.{range_with_len}
 use Rattle.std.proofs.lemmas.Bool.{cases_eq, cases_Bool, eq-eqb, eqb-true, false≢true, cases_lt}
@@ -84,6 +84,11 @@ least_more xs done e (Some c) h f = elim (cases_lt e c) [
         least = λ d k g. elim (Contains-push_cases xs e d k) [ inl old ↦ h.least d old g | inr same ↦ omega arith ];
       })
 ]
+
+-- where one is left, there is a least one
+pub left_some : (xs : List ℕ) (done : List Bool) (least : Option ℕ) (d : ℕ) → IsLeastOf xs done least → Contains xs d → is_done done d ≡ false → IsSome least
+left_some xs done None d h k f = absurd (false≢true (sym f ∙ All-contains (λ c. is_done done c ≡ true) xs d h k))
+left_some xs done (Some c) d h k f = refl
 
 -- what a filter keeps
 kept_cases : (p : ℕ → Bool) (x : ℕ) (xs : List ℕ) → ((p x ≡ true) × (filter p (x ∷ xs) ≡ x ∷ filter p xs)) ⊎ ((p x ≡ false) × (filter p (x ∷ xs) ≡ filter p xs))

@@ -1,12 +1,9 @@
 -- A part of a walk turned round.
-use Rattle.std.proofs.Common.{◌≡◌, ℕ, ◌+◌, ◌-◌, ◌<◌, ◌≤◌, List, [], ◌∷◌, ◌++◌, length, take, drop, get_or, refl, sym, ap, ◌∙◌, subst, inl, inr, arith, All, length-take, length-drop}
-use Rattle.std.specs.Prelude.{slice_index, ◌==◌, reverse, position, Some, IsSome}
+use Rattle.std.proofs.Common.{◌≡◌, ℕ, zero, suc, ◌+◌, ◌-◌, ◌<◌, ◌≤◌, List, [], ◌∷◌, ◌++◌, length, take, drop, get_or, refl, sym, ap, ◌∙◌, subst, arith, All, false, length-take, length-drop}
+use Rattle.std.specs.Prelude.{slice_index, ◌==◌, reverse}
 use Rattle.std.proofs.lemmas.List.{reverse-append, get_or-reverse, length-reverse, get_or-take, get_or-drop, get_or_append_left, take-append-drop, drop_more}
 use Rattle.std.proofs.lemmas.List.Elements.{All-append, All-from_get_or}
 use Rattle.std.proofs.Math.Seq.{take-length}
-use Rattle.std.proofs.lemmas.List.Quantifiers.{position-Some}
-use Rattle.std.proofs.lemmas.Bool.{eqb-true, cases_Bool, lt-ltb}
-use Rattle.std.specs.List.{position_or_len}
 use Rattle.sw_graph.specs.Cycles.{IsTurned}
 use Rattle.sw_graph.specs.Walking.{times, IsLowest, IsSince}
 use Rattle.sw_graph.proofs.Counts.{flag, times_cons}
@@ -47,26 +44,27 @@ turned_made xs low none first made cycle h empty first_is made_is is =
     let whole : made ≡ b ++ a = made_is ∙ ap (λ l. l ++ a) (first_is ∙ ap (λ l. l ++ take (length xs - (low + 1)) b) empty ∙ rest_whole xs (low + 1)) in
     turned_is xs low cycle h (is ∙ ap reverse whole ∙ reverse-append b a)
 
-place_within : (c : ℕ) (xs : List ℕ) → 0 < times xs c → position_or_len (λ x. x == c) xs < length xs
-place_within c [] some = absurd (omega arith)
-place_within c (x ∷ xs) some =
-    elim (cases_Bool (x == c)) [
-      | inl passes ↦ rw passes (omega arith)
-      | inr fails ↦ rw fails (omega (arith, place_within c xs (let t = times_cons x xs c in let f : flag (x == c) ≡ 0 = rw fails refl in omega arith)))
-    ]
+-- where c stands first at k or later
+pub since_within : (xs : List ℕ) (c k : ℕ) → 0 < times (drop k xs) c → k < length xs
+since_within [] c zero some = absurd (omega arith)
+since_within [] c (suc k) some = absurd (omega arith)
+since_within (x ∷ xs) c zero some = omega arith
+since_within (x ∷ xs) c (suc k) some = let r = since_within xs c k some in omega arith
 
-pub place_some : (c : ℕ) (xs : List ℕ) → 0 < times xs c → IsSome (position (λ x. x == c) xs)
-place_some c xs h = rw (lt-ltb _ _ (place_within c xs h)) refl
+pub since_more : (xs : List ℕ) (c k : ℕ) → 0 < times (drop k xs) c → (get_or xs k 0 == c) ≡ false → 0 < times (drop (k + 1) xs) c
+since_more xs c k some other =
+    let here : times (drop k xs) c ≡ times (get_or xs k 0 ∷ drop (k + 1) xs) c = ap (λ l. times l c) (drop_more xs k 0 (since_within xs c k some)) in
+    let t = times_cons (get_or xs k 0) (drop (k + 1) xs) c in
+    let f : flag (get_or xs k 0 == c) ≡ 0 = rw other refl in
+    omega arith
 
-pub since_is : (xs : List ℕ) (c k : ℕ) → position (λ x. x == c) xs ≡ Some k → IsSince xs c (take (length xs - k) (drop k xs))
-since_is xs c k e =
-    let h = position-Some (λ x. x == c) xs k 0 e in
-    let lt = h.0 in
+pub since_is : (xs : List ℕ) (c k : ℕ) → k < length xs → get_or xs k 0 ≡ c → IsSince xs c (take (length xs - k) (drop k xs))
+since_is xs c k lt found =
     let here = drop_more xs k 0 lt in
     let n = length-drop k xs in
     rw (rest_whole xs k) (record {
       before = take k xs;
       parts = take-append-drop k xs;
       some = omega arith;
-      begins = ap (λ l. slice_index l 0) here ∙ eqb-true (get_or xs k 0) c h.1;
+      begins = ap (λ l. slice_index l 0) here ∙ found;
     })

@@ -1,6 +1,6 @@
 -- A walk along the steps: what it keeps, and what it has found at its end.
 use Rattle.std.proofs.Common.{◌≡◌, ℕ, ◌+◌, ◌<◌, ◌≤◌, ◌↔◌, List, [], ◌∷◌, length, get_or, All, sym, ap, ◌∙◌, subst, arith, below_more}
-use Rattle.std.specs.Prelude.{Contains}
+use Rattle.std.specs.Prelude.{Contains, IfOk, Result, Ok, Err}
 use Rattle.std.specs.List.Sorted.{IsStrictlyIncreasing}
 use Rattle.std.proofs.lemmas.List.{length-append, get_or_default}
 use Rattle.std.proofs.lemmas.List.Elements.{All-weaker, All-contains, All-push, All-nil, Contains-push, Contains-get_or}
@@ -8,6 +8,11 @@ use Rattle.sw_graph.specs.Reached.{Reached, IsListing}
 use Rattle.sw_graph.specs.Reached.Reached.{begin, step}
 use Rattle.sw_graph.specs.Walks.{with_all}
 use Rattle.sw_graph.proofs.Numbers.{Grows, Contains-grows, get_or-grows, grows_all, All-with_all, has_all}
+
+-- two things that are so of what went well give a third
+pub on_ok_both : {A E : Type 0} {P Q R : A → Type 0} (r : Result A E) → ((x : A) → P x → Q x → R x) → IfOk r P → IfOk r Q → IfOk r R
+on_ok_both (Ok x) f p q = f x p q
+on_ok_both (Err e) f p q = tt
 
 -- the steps from the first done of the numbers lead to numbers among them, and all are reached
 pub record Walks (next : ℕ → List ℕ) (start : ℕ) (numbers : List ℕ) (done : ℕ) : Type 0 where

@@ -2,12 +2,12 @@
 ghost use Rattle.std.specs.Prelude.{◌≡◌, ◌<◌, ◌↔◌, IfOk, IsTrue, Some, length};
 ghost use Rattle.sw_graph.specs.Levels.{Chain};
 ghost use Rattle.sw_graph.specs.Rows.{IsGraph, IsReversed, Leads};
-ghost use Rattle.sw_graph.specs.Walking.{lesser};
 ghost use Rattle.sw_graph.specs.Searches.{AreKnown, IsLeastOf, steps_to};
 ghost use Rattle.sw_graph.specs.Shortest.{IsFewest, IsShortestFrom};
 
+use crate::cycle::lesser_of;
 use crate::rows::row_of;
-use crate::search::search;
+use crate::search::{none_known, search};
 use std::alloc::{AllocError, Global};
 
 /// Is this the known count of steps?
@@ -17,16 +17,6 @@ fn is_at(steps: &[Option<u16>], d: u16, count: u16) -> bool
     match steps.get(usize::from(d)).copied().unwrap_or(None) {
         Some(known) => known == count,
         None => false,
-    }
-}
-
-/// The lesser number of what there is and d.
-fn lesser_of(least: Option<u16>, d: u16) -> u16
-    ensures { result ≡ lesser least d }
-{
-    match least {
-        Some(other) => other.min(d),
-        None => d,
     }
 }
 
@@ -82,6 +72,7 @@ pub(crate) fn cycle_through(
     requires fewest { IsFewest (Leads successors.now) start start count }
     ensures { IfOk result (λ v. IsShortestFrom (Leads successors.now) start count v.items) }
 {
-    let search = search(alloc, predecessors, start, count)?;
-    way_round(alloc, successors, &search.steps, start, count)
+    let mut steps = none_known(alloc, predecessors.len())?;
+    search(alloc, predecessors, start, count, &mut steps)?;
+    way_round(alloc, successors, &steps, start, count)
 }

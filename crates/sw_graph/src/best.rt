@@ -2,7 +2,7 @@
 ghost use Rattle.std.specs.Prelude.{◌≡◌, ◌<◌, All, IfOk, length, slice_index};
 ghost use Rattle.std.specs.List.Sorted.{IsStrictlyIncreasing};
 ghost use Rattle.sw_graph.specs.Rows.{IsGraph, Leads};
-ghost use Rattle.sw_graph.specs.Bests.{IsBest, IsBetter};
+ghost use Rattle.sw_graph.specs.Bests.{IsBest};
 ghost use Rattle.sw_graph.specs.Shortest.{IsFewest};
 
 use crate::search::fewest_round;
@@ -13,19 +13,6 @@ use std::alloc::{AllocError, Global};
 pub(crate) struct Round {
     pub(crate) start: u16,
     pub(crate) length: u16,
-}
-
-/// The better of what is known and the shortest cycle through c.
-fn better(alloc: Global, rows: &[Vec<u16>], known: &Round, c: u16) -> Result<Round, AllocError>
-    requires graph { IsGraph rows.now }
-    requires inside { c < length rows.now }
-    requires known { IsFewest (Leads rows.now) known.now.start known.now.start known.now.length }
-    ensures { IfOk result (IsBetter (Leads rows.now) c known.now) }
-{
-    match fewest_round(alloc, rows, c, known.length - 1)? {
-        Some(length) => Ok(Round { start: c, length }),
-        None => Ok(*known),
-    }
 }
 
 /// The least of the members with a shortest cycle, where the first has a cycle.
@@ -44,7 +31,11 @@ pub(crate) fn best(
 {
     let mut best = first;
     for c in members {
-        best = better(alloc, rows, &best, *c)?;
+        // only a shorter cycle than what is known is looked for
+        let Some(length) = fewest_round(alloc, rows, *c, best.length - 1)? else {
+            continue;
+        };
+        best = Round { start: *c, length };
     }
     Ok(best)
 }

@@ -1,10 +1,10 @@
 //! The walk back from the least member that is left, and the cycle that it closes.
-ghost use Rattle.std.specs.Prelude.{◌≡◌, ℕ, ◌<◌, ◌==◌, ◌≤◌, IfOk, List, MatchOption, false, length, position, true};
+ghost use Rattle.std.specs.Prelude.{◌≡◌, ℕ, ◌<◌, ◌≤◌, IfOk, List, MatchOption, [], false, length, true};
 ghost use Rattle.sw_graph.specs.Cycles.{IsShownCycle};
 ghost use Rattle.sw_graph.specs.Levels.{HasCycle};
 ghost use Rattle.sw_graph.specs.Rounds.{IsPeeled, is_done};
 ghost use Rattle.sw_graph.specs.Rows.{IsGraph, Precedes, row};
-ghost use Rattle.sw_graph.specs.Walking.{GoesOn, IsFirstLeft, IsLeastLeft, IsLeastOf, IsSince, IsWalk, lesser, times};
+ghost use Rattle.sw_graph.specs.Walking.{GoesOn, IsFirstLeft, IsLeastLeft, IsSince, IsWalk, lesser, times};
 
 use crate::marks::is_marked;
 use crate::rows::row_of;
@@ -25,26 +25,13 @@ pub fn first_left(done: &[bool]) -> Option<u16>
 }
 
 /// The lesser number of what there is and c.
-fn lesser_of(least: Option<u16>, c: u16) -> u16
+pub(crate) fn lesser_of(least: Option<u16>, c: u16) -> u16
     ensures { result ≡ lesser least c }
 {
     match least {
         Some(other) => other.min(c),
         None => c,
     }
-}
-
-/// The least of the members that is not done.
-fn least_left(members: &[u16], done: &[bool]) -> Option<u16>
-    ensures { IsLeastOf members.now done.now result }
-{
-    let mut least = None;
-    for c in members {
-        if !is_marked(done, *c) {
-            least = Some(lesser_of(least, *c));
-        }
-    }
-    least
 }
 
 /// The least predecessor that is not done, of a member that is not done.
@@ -54,45 +41,38 @@ fn least_before(predecessors: &[Vec<u16>], done: &[bool], c: u16) -> u16
     requires goes_on { GoesOn predecessors.now done.now }
     ensures { IsLeastLeft (row predecessors.now c) done.now result }
 {
-    least_left(row_of(predecessors, c), done).unwrap()
+    let mut least = None;
+    for other in row_of(predecessors, c) {
+        if !is_marked(done, *other) {
+            least = Some(lesser_of(least, *other));
+        }
+    }
+    least.unwrap()
 }
 
-/// A walk, and the member of it that comes again.
-#[derive(Drop)]
-struct Walk {
-    path: Vec<u16>,
-    again: u16,
-}
-
-/// Walks back from start until a member comes again.
+/// Walks back from start until a member comes again, and tells which.
 fn walk_back(
     alloc: Global,
     start: u16,
     predecessors: &[Vec<u16>],
     done: &[bool],
-) -> Result<Walk, AllocError>
+    path: &mut Vec<u16>,
+) -> Result<u16, AllocError>
     requires graph { IsGraph predecessors.now }
     requires inside { start < length predecessors.now }
     requires left { is_done done.now start ≡ false }
     requires goes_on { GoesOn predecessors.now done.now }
-    ensures { IfOk result (λ w. IsWalk predecessors.now done.now start w.path.items w.again) }
+    requires path { path.old.items ≡ [] }
+    ensures { IfOk result (λ again. IsWalk predecessors.now done.now start path.new.items again) }
 {
     let mut seen = vec![in alloc; false; predecessors.len()]?;
-    let mut path = Vec::new(alloc);
     let mut now = start;
     while !seen[usize::from(now)] {
         seen[usize::from(now)] = true;
         path.push(now)?;
         now = least_before(predecessors, done, now);
     }
-    Ok(Walk { path, again: now })
-}
-
-/// Where a member stands in a list.
-fn place_of(path: &[u16], c: u16) -> Option<usize>
-    ensures { result ≡ position (λ x. x == c) path.now }
-{
-    path.iter().position(|x| *x == c)
+    Ok(now)
 }
 
 /// The part of a walk since the member that comes again.
@@ -100,7 +80,10 @@ fn since(path: &[u16], again: u16) -> &[u16]
     requires { 0 < times path.now again }
     ensures { IsSince path.now again result.now }
 {
-    let from = place_of(path, again).unwrap();
+    let mut from = 0;
+    while path[from] != again {
+        from += 1;
+    }
     &path[from..]
 }
 
@@ -120,6 +103,7 @@ pub fn shown_cycle(
     requires first { IsFirstLeft done.now start }
     ensures { IfOk result (λ v. HasCycle (Precedes predecessors.now) × IsShownCycle (Precedes predecessors.now) v.items) }
 {
-    let walk = walk_back(alloc, start, predecessors, done)?;
-    turned(alloc, since(&walk.path, walk.again))
+    let mut path = Vec::new(alloc);
+    let again = walk_back(alloc, start, predecessors, done, &mut path)?;
+    turned(alloc, since(&path, again))
 }

@@ -1,10 +1,10 @@
 //! The parts of a relation.
-ghost use Rattle.std.specs.Prelude.{◌≡◌, ◌+◌, ◌<◌, ◌≤◌, Contains, IfOk, OnOk, false, length, slice_index};
+ghost use Rattle.std.specs.Prelude.{◌≡◌, ◌+◌, ◌<◌, ◌≤◌, IfOk, OnOk, false, length};
 ghost use Rattle.std.specs.List.{list_any};
 ghost use Rattle.sw_graph.specs.Cycles.{IsLeast};
 ghost use Rattle.sw_graph.specs.Rows.{IsGraph, IsReversed, Leads};
 ghost use Rattle.sw_graph.specs.Walks.{holds};
-ghost use Rattle.sw_graph.specs.Parts.{AreParts, ArePartsBelow, AreTogether, IsPart};
+ghost use Rattle.sw_graph.specs.Parts.{AreParts, ArePartsBelow, AreTogether};
 ghost use Rattle.sw_graph.specs.Shortest.{IsFewest};
 
 use crate::back::cycle_through;
@@ -15,43 +15,16 @@ use crate::search::fewest_round;
 use crate::together::together;
 use std::alloc::{AllocError, Global};
 
-/// The part of c, where it leads to itself in so many steps and no fewer.
-fn part_of(
-    alloc: Global,
-    successors: &[Vec<u16>],
-    predecessors: &[Vec<u16>],
-    c: u16,
-    count: u16,
-) -> Result<Part, AllocError>
-    requires few { length successors.now ≤ 65535 }
-    requires graph { IsGraph successors.now }
-    requires reversed { IsReversed successors.now predecessors.now }
-    requires inside { c < length successors.now }
-    requires fewest { IsFewest (Leads successors.now) c c count }
-    requires least { IsLeast (AreTogether (Leads successors.now) c) c }
-    ensures part { IfOk result (λ p. IsPart (Leads successors.now) p) }
-    ensures member { IfOk result (λ p. Contains p.members.items c) }
-    ensures begins { IfOk result (λ p. slice_index p.members.items 0 ≡ c) }
-{
-    let members = together(alloc, successors, predecessors, c)?;
-    let best = best(
-        alloc,
-        successors,
-        &members,
-        Round {
-            start: c,
-            length: count,
-        },
-    )?;
-    let cycle = cycle_through(alloc, successors, predecessors, best.start, best.length)?;
-    Ok(Part { members, cycle })
-}
-
 /// Is the number a member of one of the parts?
 fn is_taken(parts: &[Part], c: u16) -> bool
     ensures { result ≡ list_any (λ p. holds p.members.items c) parts.now }
 {
-    parts.iter().any(|part| part.members.contains(&c))
+    for part in parts {
+        if part.members.contains(&c) {
+            return true;
+        }
+    }
+    false
 }
 
 /// Adds the part of c, which leads to itself in so many steps and no fewer, and is a member of none
@@ -74,8 +47,14 @@ fn push_part(
     requires untaken { list_any (λ p. holds p.members.items c) parts.old.items ≡ false }
     ensures { OnOk result (ArePartsBelow (Leads successors.now) (c + 1) parts.new.items) }
 {
-    let part = part_of(alloc, successors, predecessors, c, count)?;
-    parts.push(part)?;
+    let members = together(alloc, successors, predecessors, c)?;
+    let first = Round {
+        start: c,
+        length: count,
+    };
+    let best = best(alloc, successors, &members, first)?;
+    let cycle = cycle_through(alloc, successors, predecessors, best.start, best.length)?;
+    parts.push(Part { members, cycle })?;
     Ok(())
 }
 

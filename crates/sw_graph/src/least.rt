@@ -1,10 +1,29 @@
 //! The walk itself.
-ghost use Rattle.std.specs.Prelude.{◌≡◌, ◌<◌, ◌≤◌, ℕ, All, IfOk};
+ghost use Rattle.std.specs.Prelude.{◌≡◌, ◌<◌, ◌≤◌, ℕ, All, IfOk, OnOk, length, slice_index};
+ghost use Rattle.sw_graph.specs.Walks.{with_all};
 ghost use Rattle.sw_graph.specs.Reached.{Reached, IsListing};
 
 use crate::steps::Steps;
 use crate::walk::Walk;
 use std::alloc::{AllocError, Global};
+
+/// Adds to the walk the numbers that a step leads to from the one at this place; `next` lends the room for them.
+pub(crate) fn add_next<S: Steps>(
+    steps: &S,
+    place: usize,
+    next: &mut Vec<usize>,
+    walk: &mut Walk,
+) -> Result<(), AllocError>
+    requires place { place < length walk.old.numbers }
+    requires bound { walk.old.bound ≡ S.bound steps.now }
+    requires inside { (n : ℕ) → n < walk.old.bound → All (λ m. m < walk.old.bound) (S.next steps.now n) }
+    ensures bound { walk.new.bound ≡ walk.old.bound }
+    ensures numbers { OnOk result (walk.new.numbers ≡ with_all walk.old.numbers (S.next steps.now (slice_index walk.old.numbers place))) }
+{
+    next.clear();
+    steps.push_next(walk.at(place), next)?;
+    walk.add_all(next)
+}
 
 /// The numbers that steps lead to from the start, itself among them, in rising order.
 ///
@@ -30,11 +49,8 @@ pub fn reached<S: Steps>(
     let mut next = Vec::new(alloc);
     let mut done = 0;
     while done < walk.len() {
-        next.clear();
-        steps.push_next(walk.at(done), &mut next)?;
-        walk.add_all(&next)?;
+        add_next(steps, done, &mut next, &mut walk)?;
         done += 1;
     }
-    let sorted = walk.into_sorted()?;
-    Ok(sorted)
+    walk.into_sorted()
 }

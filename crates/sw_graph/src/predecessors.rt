@@ -1,19 +1,10 @@
 //! From the successors of each member to its predecessors.
-ghost use Rattle.std.specs.Prelude.{◌<◌, ◌≤◌, ◌∷◌, All, IfOk, OnOk, [], length};
+ghost use Rattle.std.specs.Prelude.{◌<◌, ◌≤◌, All, IfOk, OnOk, length};
 ghost use Rattle.sw_graph.specs.Reversing.{AreAdded};
 ghost use Rattle.sw_graph.specs.Rows.{IsGraph, IsReversed};
 
 use crate::rows::empty_rows;
 use std::alloc::{AllocError, Global};
-
-/// Adds c to the row of the member d.
-fn add_to(rows: &mut [Vec<u16>], d: u16, c: u16) -> Result<(), AllocError>
-    requires { d < length rows.old }
-    ensures { OnOk result (AreAdded (d ∷ []) c rows.old rows.new) }
-{
-    rows[usize::from(d)].push(c)?;
-    Ok(())
-}
 
 /// Adds c to the row of each of the members.
 fn add_to_each(rows: &mut [Vec<u16>], members: &[u16], c: u16) -> Result<(), AllocError>
@@ -21,7 +12,7 @@ fn add_to_each(rows: &mut [Vec<u16>], members: &[u16], c: u16) -> Result<(), All
     ensures { OnOk result (AreAdded members.now c rows.old rows.new) }
 {
     for d in members {
-        add_to(rows, *d, c)?;
+        rows[usize::from(*d)].push(c)?;
     }
     Ok(())
 }

@@ -19,7 +19,12 @@ const LEAST_PIECE: usize = 1024;
 fn all_done(members: &[u16], done: &[bool]) -> bool
     ensures { IsTrue result ↔ AllDone done.now members.now }
 {
-    members.iter().all(|c| is_marked(done, *c))
+    for c in members {
+        if !is_marked(done, *c) {
+            return false;
+        }
+    }
+    true
 }
 
 /// Who finds the members that a round takes.

@@ -24,11 +24,15 @@ fn take_all(members: &[u16], round: u16, levels: &mut [u16], done: &mut [bool])
 fn drop_done(left: &mut Vec<u16>, done: &[bool])
     ensures { left.new.items ≡ filter (λ c. not (is_done done.now c)) left.old.items }
 {
-    left.retain(
-        |c: &u16| -> bool
-            ensures { result ≡ not (is_done done.entry.now c.now) }
-        { !is_marked(done, *c) },
-    );
+    let mut kept = 0;
+    for at in 0..left.len() {
+        let c = left[at];
+        if !is_marked(done, c) {
+            left[kept] = c;
+            kept += 1;
+        }
+    }
+    left.truncate(kept);
 }
 
 /// The numbers below `count`.
@@ -66,14 +70,15 @@ fn take_rounds<W: RoundWorkers>(
 {
     let mut left = numbers(alloc, predecessors.len())?;
     let mut round = 0;
-    let mut free = workers.free_members(alloc, predecessors, done, &left)?;
-    while !free.is_empty() {
+    loop {
+        let free = workers.free_members(alloc, predecessors, done, &left)?;
+        if free.is_empty() {
+            return Ok(());
+        }
         take_all(&free, round, levels, done);
         drop_done(&mut left, done);
         round += 1;
-        free = workers.free_members(alloc, predecessors, done, &left)?;
     }
-    Ok(())
 }
 
 /// Peels members off in rounds: each takes those that are left of which all predecessors were taken

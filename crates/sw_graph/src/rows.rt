@@ -52,16 +52,6 @@ pub(crate) fn row_of(rows: &[Vec<u16>], c: u16) -> &[u16]
     &rows[usize::from(c)]
 }
 
-/// Adds the numbers.
-fn push_all(ds: &[u16], to: &mut Vec<usize>) -> Result<(), AllocError>
-    ensures { OnOk result (to.new.items ≡ to.old.items ++ ds.now) }
-{
-    for d in ds {
-        to.push(usize::from(*d))?;
-    }
-    Ok(())
-}
-
 /// The steps of rows.
 #[derive(Drop)]
 struct Rows<'a> {
@@ -77,7 +67,10 @@ impl Steps for Rows<'_> {
     ghost next = { λ s n. row s.rows.now n };
 
     fn push_next(&self, number: usize, to: &mut Vec<usize>) -> Result<(), AllocError> {
-        push_all(&self.rows[number], to)
+        for d in &self.rows[number] {
+            to.push(usize::from(*d))?;
+        }
+        Ok(())
     }
 }
 

@@ -27,22 +27,14 @@ impl Model for Walk {
 /// Numbers are sorted where there are more marks than so many for each of them, and else read off the marks, which is quicker.
 const MARKS_A_NUMBER: usize = 16;
 
-/// Adds the number, if it is marked.
-fn push_if(numbers: &mut Vec<usize>, number: usize, is_marked: bool) -> Result<(), AllocError>
-    ensures { OnOk result (numbers.new.items ≡ numbers.old.items ++ (if is_marked then number ∷ [] else [])) }
-{
-    if is_marked {
-        numbers.push(number)?;
-    }
-    Ok(())
-}
-
 /// Adds the numbers of the marks that are set, in rising order.
 fn push_marked(marks: &[bool], numbers: &mut Vec<usize>) -> Result<(), AllocError>
     ensures { OnOk result (numbers.new.items ≡ numbers.old.items ++ marked marks.now) }
 {
     for number in 0..marks.len() {
-        push_if(numbers, number, marks[number])?;
+        if marks[number] {
+            numbers.push(number)?;
+        }
     }
     Ok(())
 }
@@ -84,7 +76,12 @@ impl Walk {
         ensures found { IfSome result (λ place. (place < length self.now.numbers) × (slice_index self.now.numbers place ≡ number)) }
         ensures none { IfNone result (Contains self.now.numbers number → ⊥) }
     {
-        self.numbers.iter().position(|n| *n == number)
+        for place in 0..self.numbers.len() {
+            if self.numbers[place] == number {
+                return Some(place);
+            }
+        }
+        None
     }
 
     /// Adds a number, if it is new.

@@ -4,6 +4,7 @@ ghost use Rattle.sw_graph.specs.Ways.{EndsAt, IsWay, IsWayIfReached};
 ghost use Rattle.sw_graph.specs.Parents.{AreParents};
 ghost use Rattle.sw_graph.specs.Reached.{Reached};
 
+use crate::least::add_next;
 use crate::steps::Steps;
 use crate::walk::Walk;
 use std::alloc::{AllocError, Global};
@@ -41,9 +42,7 @@ fn walk_with_parents<S: Steps>(
     let mut next = Vec::new(alloc);
     let mut done = 0;
     while done < walk.len() {
-        next.clear();
-        steps.push_next(walk.at(done), &mut next)?;
-        walk.add_all(&next)?;
+        add_next(steps, done, &mut next, walk)?;
         fill(parents, done, walk.len())?;
         done += 1;
     }

@@ -9,5 +9,5 @@ returns c =
     let g = c.args.predecessors.now in
     let since = rw c.deref.ensures.value at c.since.ensures in
     on_ok_of (λ v. IsTurned c.since.result.now v.items) (λ v. HasCycle (Precedes g) × IsShownCycle (Precedes g) v.items) c.turned.result
-    (λ v t. walk_shows g c.requires.graph c.requires.peeled.0 c.args.done.now c.requires.peeled.1 c.args.start c.in_ok-walk.walk.path.items c.in_ok-walk.walk.again c.since.result.now v.items c.requires.first c.in_ok-walk.ensures since t)
+    (λ v t. walk_shows g c.requires.graph c.requires.peeled.0 c.args.done.now c.requires.peeled.1 c.args.start c.walk_back.new.path.items c.in_ok-again.again c.since.result.now v.items c.requires.first c.in_ok-again.ensures since t)
     c.turned.ensures

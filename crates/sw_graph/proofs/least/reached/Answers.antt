@@ -1,7 +1,7 @@
-use Rattle.std.proofs.Common.{List, ◌++◌, subst, sym, ap, ◌∙◌, arith}
+use Rattle.std.proofs.Common.{◌<◌, ◌≤◌, All, List, length, get_or, refl, subst, sym, ap, ◌∙◌, arith}
 use Rattle.std.specs.Prelude.{ℕ}
 use Rattle.sw_graph.specs.Walks.{Found, with_number}
-use Rattle.sw_graph.proofs.Walking.{Walks, walks_first, walks_on, listing, all_below}
+use Rattle.sw_graph.proofs.Walking.{Walks, walks_first, walks_on, listing, all_below, on_ok_both}
 use Rattle.sw_graph.proofs.least.reached.Goals as goal
 
 pub loop-done-init : goal.loop-done-init
@@ -13,21 +13,31 @@ loop-done-init g c =
       walks = subst (λ (l : List ℕ). Walks (g.S.Steps.next c.args.steps.now) c.args.start l 0) (sym found) (walks_first (g.S.Steps.next c.args.steps.now) c.args.start);
     }
 
+pub add_next-requires-clause-bound : goal.add_next-requires-clause-bound
+add_next-requires-clause-bound g c = c.loop-done.invariant.bound ∙ c.requires.bound
+
+pub add_next-requires-clause-inside : goal.add_next-requires-clause-inside
+add_next-requires-clause-inside g c =
+    let P : ℕ → Type 0 = λ k. (n : ℕ) → n < k → All (λ m. m < k) (g.S.Steps.next c.args.steps.now n) in
+    subst P (sym c.loop-done.invariant.bound) c.requires.inside
+
 pub loop-done-preserved : goal.loop-done-preserved
 loop-done-preserved g c =
     let next = g.S.Steps.next c.args.steps.now in
-    let pushed = c.deref.ensures.value ∙ c.in_ok-push_next.ensures ∙ ap (λ (l : List ℕ). l ++ next c.at.result) c.clear.ensures.items in
+    let numbers = c.loop-done.walk.numbers in
+    let here = get_or numbers c.loop-done.done 0 in
     record {
-      bound = c.in_ok-add_all.ensures.bound ∙ c.loop-done.invariant.bound;
-      walks = walks_on next c.args.start _ _ _ c.loop-done.done c.at.result c.loop-done.invariant.walks (omega arith) c.at.ensures.number pushed c.in_ok-add_all.ensures.ok;
+      bound = c.in_ok-add_next.ensures.bound ∙ c.loop-done.invariant.bound;
+      walks = walks_on next c.args.start numbers (next here) c.add_next.new.walk.numbers c.loop-done.done here c.loop-done.invariant.walks (omega arith) refl refl c.in_ok-add_next.ensures.numbers;
     }
 
 pub returns : goal.returns
 returns g c =
     let next = g.S.Steps.next c.args.steps.now in
     let start = c.args.start in
-    let found = listing next start _ _ c.loop-done.done c.loop-done.invariant.walks (omega arith) c.in_ok-sorted.ensures.same c.in_ok-sorted.ensures.rising in
+    let past : length c.loop-done.walk.numbers ≤ c.loop-done.done = omega arith in
+    let found = on_ok_both c.into_sorted.result (λ v rising same. listing next start c.loop-done.walk.numbers v.items c.loop-done.done c.loop-done.invariant.walks past same rising) c.into_sorted.ensures.rising c.into_sorted.ensures.same in
     record {
       listing = found;
-      below = all_below next start c.args.bound c.requires.start c.requires.inside _ found;
+      below = on_ok_both c.into_sorted.result (λ v l here. all_below next start c.args.bound c.requires.start c.requires.inside v.items l) found found;
     }

@@ -5,9 +5,9 @@ use Rattle.sw_graph.proofs.search.search.Given as goal
 
 abbrev pub invariant-loop-count : goal.invariant-loop-count
 invariant-loop-count l = record {
-  size : length l.steps.items ≡ length l.rows;
+  size : length l.steps ≡ length l.rows;
   few : l.count ≤ l.most;
-  searching : Searching (Leads l.rows) l.start l.count l.steps.items l.level.items;
+  searching : Searching (Leads l.rows) l.start l.count l.steps l.level.items;
 }
 
 abbrev pub decreases-loop-count : goal.decreases-loop-count

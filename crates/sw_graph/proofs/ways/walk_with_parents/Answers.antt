@@ -1,4 +1,4 @@
-use Rattle.std.proofs.Common.{◌≡◌, ◌-◌, ◌<◌, ◌∷◌, [], ◌++◌, All, List, length, get_or, replicate, sym, ap, ◌∙◌, subst, arith}
+use Rattle.std.proofs.Common.{◌≡◌, ◌-◌, ◌<◌, ◌∷◌, [], ◌++◌, All, List, length, get_or, replicate, refl, sym, ap, ◌∙◌, subst, arith}
 use Rattle.std.specs.Prelude.{ℕ}
 use Rattle.sw_graph.specs.Parents.{AreParents}
 use Rattle.sw_graph.specs.Walks.{with_number}
@@ -19,20 +19,18 @@ loop-done-init g c =
       first = (omega (arith, ap length found), ap (λ (l : List ℕ). get_or l 0 0) found);
     }
 
-pub push_next-requires : goal.push_next-requires
-push_next-requires g c = omega (arith, c.at.ensures.below, c.loop-done.invariant.bound, c.requires.bound)
+pub add_next-requires-clause-bound : goal.add_next-requires-clause-bound
+add_next-requires-clause-bound g c = c.loop-done.invariant.bound ∙ c.requires.bound
 
-pub add_all-requires : goal.add_all-requires
-add_all-requires g c =
-    let next = g.S.Steps.next c.args.steps.now in
-    let led = c.deref.ensures.value ∙ c.in_ok-push_next.ensures ∙ ap (λ (l : List ℕ). l ++ next c.at.result) c.clear.ensures.items in
-    let Q : ℕ → Type 0 = λ k. (n : ℕ) → n < k → All (λ m. m < k) (next n) in
-    let inside = subst Q (sym c.loop-done.invariant.bound) c.requires.inside in
-    subst (All (λ m. m < c.loop-done.walk.bound)) (sym led) (inside c.at.result c.at.ensures.below)
+pub add_next-requires-clause-inside : goal.add_next-requires-clause-inside
+add_next-requires-clause-inside g c =
+    let Q : ℕ → Type 0 = λ k. (n : ℕ) → n < k → All (λ m. m < k) (g.S.Steps.next c.args.steps.now n) in
+    subst Q (sym c.loop-done.invariant.bound) c.requires.inside
 
 pub fill-requires : goal.fill-requires
 fill-requires g c =
-    let longer = longer_with c.loop-done.walk.numbers c.deref.result.now c.add_all.new.self.numbers c.in_ok-add_all.ensures.ok in
+    let numbers = c.loop-done.walk.numbers in
+    let longer = longer_with numbers (g.S.Steps.next c.args.steps.now (get_or numbers c.loop-done.done 0)) c.add_next.new.walk.numbers c.in_ok-add_next.ensures.numbers in
     omega (arith, longer, c.loop-done.invariant.parents.one_each, c.len-in-loop-done.ensures.len)
 
 pub loop-done-smaller : goal.loop-done-smaller
@@ -42,13 +40,18 @@ pub loop-done-preserved : goal.loop-done-preserved
 loop-done-preserved g c =
     let next = g.S.Steps.next c.args.steps.now in
     let old = c.loop-done.invariant in
-    let led = c.deref.ensures.value ∙ c.in_ok-push_next.ensures ∙ ap (λ (l : List ℕ). l ++ next c.at.result) c.clear.ensures.items in
-    let filled = c.in_ok-fill.ensures ∙ ap (λ n. c.loop-done.parents.items ++ replicate (n - length c.loop-done.parents.items) c.loop-done.done) c.len-in-loop-done.ensures.len in
+    let numbers = c.loop-done.walk.numbers in
+    let parents = c.loop-done.parents.items in
+    let done = c.loop-done.done in
+    let here = get_or numbers done 0 in
+    let after = c.add_next.new.walk.numbers in
+    let found = c.in_ok-add_next.ensures.numbers in
+    let filled = c.in_ok-fill.ensures ∙ ap (λ n. parents ++ replicate (n - length parents) done) c.len-in-loop-done.ensures.len in
     record {
-      bound = c.in_ok-add_all.ensures.bound ∙ old.bound;
-      walks = walks_on next c.args.start _ _ _ c.loop-done.done c.at.result old.walks (omega arith) c.at.ensures.number led c.in_ok-add_all.ensures.ok;
-      parents = parents_more next c.loop-done.walk.numbers c.loop-done.parents.items c.deref.result.now c.add_all.new.self.numbers c.fill.new.parents.items c.loop-done.done c.at.result old.parents (omega arith) c.at.ensures.number led c.in_ok-add_all.ensures.ok filled;
-      first = first_stays c.loop-done.walk.numbers c.deref.result.now c.add_all.new.self.numbers c.args.start c.in_ok-add_all.ensures.ok old.first.0 old.first.1;
+      bound = c.in_ok-add_next.ensures.bound ∙ old.bound;
+      walks = walks_on next c.args.start numbers (next here) after done here old.walks (omega arith) refl refl found;
+      parents = parents_more next numbers parents (next here) after c.fill.new.parents.items done here old.parents (omega arith) refl refl found filled;
+      first = first_stays numbers (next here) after c.args.start found old.first.0 old.first.1;
     }
 
 pub returns-clause-first : goal.returns-clause-first

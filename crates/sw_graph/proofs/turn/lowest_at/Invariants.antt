@@ -1,6 +1,0 @@
-use Rattle.std.proofs.Common.{ℕ, ◌<◌, ◌≤◌, length}
-use Rattle.std.specs.Prelude.{slice_index}
-use Rattle.sw_graph.proofs.turn.lowest_at.Given as goal
-
-abbrev pub invariant-loop-i : goal.invariant-loop-i
-invariant-loop-i l = record { inside : l.lowest < length l.xs; least : (k : ℕ) → k < l.i → slice_index l.xs l.lowest ≤ slice_index l.xs k }
