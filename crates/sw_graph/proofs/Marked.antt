@@ -32,6 +32,9 @@ module _ (test : ℕ → Bool) (n : ℕ) (old now after : List ℕ) where
       let none : filter test (n ∷ []) ≡ [] = rw fails refl in
       after_is ∙ is ∙ ap (λ (l : List ℕ). old ++ l) (sym (append-nil (filter test (range_with_len 0 n))) ∙ ap (λ (l : List ℕ). filter test (range_with_len 0 n) ++ l) (sym none) ∙ sym (marked_more test n))
 
+pub marked_all : (marks : List Bool) (now : List ℕ) (n : ℕ) → n ≡ length marks → now ≡ filter (λ k. slice_index_or marks k false) (range_with_len 0 n) → now ≡ marked marks
+marked_all marks now n all is = is ∙ ap (λ k. filter (λ m. slice_index_or marks m false) (range_with_len 0 k)) all
+
 range_rises : (n : ℕ) → IsStrictlyIncreasing (range_with_len 0 n)
 range_rises n k lt =
     let short : k + 1 < n = omega (arith, length-range_with_len 0 n) in

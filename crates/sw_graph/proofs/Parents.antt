@@ -1,12 +1,14 @@
 -- From where a walk found its numbers, and the way back.
-use Rattle.std.proofs.Common.{◌≡◌, ℕ, ◌+◌, ◌-◌, ◌<◌, ◌≤◌, Bool, true, false, List, [], ◌∷◌, ◌++◌, length, get_or, replicate, reverse, All, Option, Some, refl, sym, ap, ◌∙◌, subst, ◌⊎◌, inl, inr, arith}
-use Rattle.std.specs.Prelude.{Contains, slice_get}
+use Rattle.std.proofs.Common.{◌≡◌, ℕ, ◌+◌, ◌-◌, ◌<◌, ◌≤◌, Bool, true, false, List, [], ◌∷◌, ◌++◌, length, get_or, replicate, reverse, take, All, Option, None, Some, refl, sym, ap, ◌∙◌, subst, ◌⊎◌, inl, inr, arith}
+use Rattle.std.specs.Prelude.{Contains, MatchOption, Vec, option_map, slice_get}
+use Rattle.std.specs.declared.alloc.Global.{Global}
+use Rattle.sw_graph.specs.Reached.{Reached}
 use Rattle.std.proofs.lemmas.Bool.{cases_lt}
-use Rattle.std.proofs.lemmas.List.{append-nil, append_assoc, reverse-append, length-append, length-replicate, replicate-append-replicate, get_or-replicate, get_or_append_left, get_or-append_right}
+use Rattle.std.proofs.lemmas.List.{append-nil, append_assoc, reverse-append, length-append, length-replicate, take_all, get_or-replicate, get_or_append_left, get_or-append_right}
 use Rattle.std.proofs.lemmas.List.Elements.{All-nil, All-cons, All-append, All-weaker, Contains-append_right, Contains-get_or}
 use Rattle.sw_graph.specs.Walks.{holds, with_number, with_all}
 use Rattle.sw_graph.specs.Parents.{AreParents}
-use Rattle.sw_graph.specs.Ways.{EndsAt}
+use Rattle.sw_graph.specs.Ways.{EndsAt, IsWay, IsWayIfReached}
 
 -- ys is xs, and behind it some of the others
 pub record Added (xs others ys : List ℕ) : Type 0 where
@@ -34,12 +36,12 @@ added_all xs (n ∷ others) =
 
 -- ---- filling up
 
-pub filled_one : (xs : List ℕ) (n count : ℕ) → length xs < count → (xs ++ n ∷ []) ++ replicate (count - length (xs ++ n ∷ [])) n ≡ xs ++ replicate (count - length xs) n
-filled_one xs n count lt =
-    let long = length-append xs (n ∷ []) in
-    let fewer : count - length xs ≡ 1 + (count - length (xs ++ n ∷ [])) = omega arith in
-    append_assoc xs (n ∷ []) (replicate (count - length (xs ++ n ∷ [])) n)
-    ∙ ap (λ l. xs ++ l) (replicate-append-replicate 1 (count - length (xs ++ n ∷ [])) n ∙ ap (λ k. replicate k n) (sym fewer))
+-- as resize fills
+pub filled : (xs ys : List ℕ) (x len count many : ℕ) → len ≡ length xs → count ≡ many → length xs ≤ many → ys ≡ take count xs ++ replicate (count - len) x → ys ≡ xs ++ replicate (many - length xs) x
+filled xs ys x len count many a b le is =
+    let whole : take count xs ≡ xs = take_all count xs (omega (arith, b, le)) in
+    let rest : count - len ≡ many - length xs = omega (arith, a, b) in
+    is ∙ ap (λ l. l ++ replicate (count - len) x) whole ∙ ap (λ k. xs ++ replicate k x) rest
 
 -- ---- parents
 
@@ -57,8 +59,8 @@ module _ (next : ℕ → List ℕ) (numbers parents : List ℕ) (done : ℕ) (kn
   abbrev after : List ℕ
   after = with_all numbers new
 
-  abbrev filled : List ℕ
-  filled = parents ++ replicate (length after - length parents) done
+  abbrev parents2 : List ℕ
+  parents2 = parents ++ replicate (length after - length parents) done
 
   added : Added numbers new after
   added = added_all numbers new
@@ -69,10 +71,10 @@ module _ (next : ℕ → List ℕ) (numbers parents : List ℕ) (done : ℕ) (kn
   old_number : (k : ℕ) → k < length numbers → get_or after k 0 ≡ get_or numbers k 0
   old_number k l = ap (λ x. get_or x k 0) added.is ∙ get_or_append_left numbers added.more 0 k l
 
-  old_parent : (k : ℕ) → k < length numbers → get_or filled k 0 ≡ get_or parents k 0
+  old_parent : (k : ℕ) → k < length numbers → get_or parents2 k 0 ≡ get_or parents k 0
   old_parent k l = get_or_append_left parents (replicate (length after - length parents) done) 0 k (omega (arith, known.one_each))
 
-  new_parent : (k : ℕ) → length numbers ≤ k → k < length after → get_or filled k 0 ≡ done
+  new_parent : (k : ℕ) → length numbers ≤ k → k < length after → get_or parents2 k 0 ≡ done
   new_parent k le l =
       get_or-append_right parents (replicate (length after - length parents) done) (length numbers) k 0 known.one_each le
       ∙ get_or-replicate (length after - length parents) (k - length numbers) done 0 (omega (arith, known.one_each))
@@ -82,26 +84,26 @@ module _ (next : ℕ → List ℕ) (numbers parents : List ℕ) (done : ℕ) (kn
       let at : get_or after k 0 ≡ get_or (added.more) (k - length numbers) 0 = ap (λ x. get_or x k 0) added.is ∙ get_or-append_right numbers added.more (length numbers) k 0 refl le in
       subst (Contains new) (sym at) (added.from (k - length numbers) 0 (omega (arith, longer)))
 
-  earlier : (k : ℕ) → 0 < k → k < length after → get_or filled k 0 < k
+  earlier : (k : ℕ) → 0 < k → k < length after → get_or parents2 k 0 < k
   earlier k some l = by (cases_lt k (length numbers))
     where
-      by : (k < length numbers) ⊎ (length numbers ≤ k) → get_or filled k 0 < k
+      by : (k < length numbers) ⊎ (length numbers ≤ k) → get_or parents2 k 0 < k
       by (inl old) = subst (λ p. p < k) (sym (old_parent k old)) (known.earlier k some old)
       by (inr le) = subst (λ p. p < k) (sym (new_parent k le l)) (omega (arith, lt, le))
 
-  leads : (k : ℕ) → 0 < k → k < length after → Contains (next (get_or after (get_or filled k 0) 0)) (get_or after k 0)
+  leads : (k : ℕ) → 0 < k → k < length after → Contains (next (get_or after (get_or parents2 k 0) 0)) (get_or after k 0)
   leads k some l = by (cases_lt k (length numbers))
     where
-      by : (k < length numbers) ⊎ (length numbers ≤ k) → Contains (next (get_or after (get_or filled k 0) 0)) (get_or after k 0)
+      by : (k < length numbers) ⊎ (length numbers ≤ k) → Contains (next (get_or after (get_or parents2 k 0) 0)) (get_or after k 0)
       by (inl old) =
-          let from : get_or after (get_or filled k 0) 0 ≡ get_or numbers (get_or parents k 0) 0 =
+          let from : get_or after (get_or parents2 k 0) 0 ≡ get_or numbers (get_or parents k 0) 0 =
           ap (λ p. get_or after p 0) (old_parent k old) ∙ old_number (get_or parents k 0) (omega (arith, known.earlier k some old, old)) in
           subst (λ m. Contains (next m) (get_or after k 0)) (sym from) (subst (Contains (next (get_or numbers (get_or parents k 0) 0))) (sym (old_number k old)) (known.leads k some old))
       by (inr le) =
-          let from : get_or after (get_or filled k 0) 0 ≡ get_or numbers done 0 = ap (λ p. get_or after p 0) (new_parent k le l) ∙ old_number done lt in
+          let from : get_or after (get_or parents2 k 0) 0 ≡ get_or numbers done 0 = ap (λ p. get_or after p 0) (new_parent k le l) ∙ old_number done lt in
           subst (λ m. Contains (next m) (get_or after k 0)) (sym from) (new_number k le l)
 
-  parents_filled : AreParents next after filled
+  parents_filled : AreParents next after parents2
   parents_filled = record {
     one_each = length-append parents (replicate (length after - length parents) done) ∙ ap (λ n. length parents + n) (length-replicate (length after - length parents) done) ∙ omega (arith, known.one_each, longer);
     earlier = earlier;
@@ -150,3 +152,10 @@ before next goal p n (m ∷ more) o led =
 
 pub onward_more : (next : ℕ → List ℕ) (goal p n : ℕ) (path : List ℕ) → Onward next goal n (reverse path) → Contains (next p) n → Onward next goal p (reverse (path ++ p ∷ []))
 onward_more next goal p n path o led = subst (Onward next goal p) (sym (reverse-append path (p ∷ []))) (before next goal p n (reverse path) o led)
+
+-- ---- the way, or none
+
+pub way_if : (next : ℕ → List ℕ) (start goal : ℕ) (numbers : List ℕ) (found : Option (Vec ℕ Global)) → get_or numbers 0 0 ≡ start → ((n : ℕ) → Reached next start n → Contains numbers n)
+    → MatchOption found (Contains numbers goal → ⊥) (λ v. IsWay next (get_or numbers 0 0) goal v.items) → IsWayIfReached next start goal (option_map (λ v. v.items) found)
+way_if next start goal numbers None first complete none = λ r. none (complete goal r)
+way_if next start goal numbers (Some v) first complete way = subst (λ s. IsWay next s goal v.items) first way

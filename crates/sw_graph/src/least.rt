@@ -22,7 +22,10 @@ pub(crate) fn add_next<S: Steps>(
 {
     next.clear();
     steps.push_next(walk.at(place), next)?;
-    walk.add_all(next)
+    for number in next.iter() {
+        walk.add(*number)?;
+    }
+    Ok(())
 }
 
 /// The numbers that steps lead to from the start, itself among them, in rising order.

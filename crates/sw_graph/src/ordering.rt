@@ -7,7 +7,7 @@ use crate::answer::Order;
 use crate::cycle::{first_left, shown_cycle};
 use crate::predecessors::predecessors_of;
 use crate::round_workers::RoundWorkers;
-use crate::rounds::peel;
+use crate::rounds::take_rounds;
 use std::alloc::{AllocError, Global};
 
 /// The levels of the members where the relation has no cycle, and else the cycle to show.
@@ -41,10 +41,12 @@ fn answer<W: RoundWorkers>(
     requires graph { IsGraph predecessors.now }
     ensures { IfOk result (Answers (Precedes predecessors.now) (length predecessors.now)) }
 {
-    let peeled = peel(workers, alloc, predecessors)?;
-    let Some(start) = first_left(&peeled.done) else {
-        return Ok(Order::Levels(peeled.levels));
+    let mut levels = vec![in alloc; 0u16; predecessors.len()]?;
+    let mut done = vec![in alloc; false; predecessors.len()]?;
+    take_rounds(workers, alloc, predecessors, &mut levels, &mut done)?;
+    let Some(start) = first_left(&done) else {
+        return Ok(Order::Levels(levels));
     };
-    let cycle = shown_cycle(alloc, predecessors, &peeled.done, start)?;
+    let cycle = shown_cycle(alloc, predecessors, &done, start)?;
     Ok(Order::Cycle(cycle))
 }

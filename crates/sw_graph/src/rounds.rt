@@ -47,15 +47,13 @@ fn numbers(alloc: Global, count: usize) -> Result<Vec<u16>, AllocError>
     Ok(numbers)
 }
 
-/// The levels of the members that are done, and which are done.
-#[derive(Drop)]
-pub struct Peeled {
-    pub levels: Vec<u16>,
-    pub done: Vec<bool>,
-}
-
-/// Takes the members in rounds, of which none is done, until no member is free.
-fn take_rounds<W: RoundWorkers>(
+/// Peels members off in rounds, where none is done: each takes those that are left of which all
+/// predecessors were taken in earlier rounds, and the number of the round is their level.
+///
+/// # Errors
+///
+/// There is no memory for a round.
+pub fn take_rounds<W: RoundWorkers>(
     workers: &W,
     alloc: Global,
     predecessors: &[Vec<u16>],
@@ -79,25 +77,4 @@ fn take_rounds<W: RoundWorkers>(
         drop_done(&mut left, done);
         round += 1;
     }
-}
-
-/// Peels members off in rounds: each takes those that are left of which all predecessors were taken
-/// in earlier rounds, and the number of the round is their level.
-///
-/// # Errors
-///
-/// There is no memory for the levels or for a round.
-pub fn peel<W: RoundWorkers>(
-    workers: &W,
-    alloc: Global,
-    predecessors: &[Vec<u16>],
-) -> Result<Peeled, AllocError>
-    requires few { length predecessors.now ≤ 65535 }
-    requires graph { IsGraph predecessors.now }
-    ensures { IfOk result (λ p. IsPeeled predecessors.now p.levels.items p.done.items) }
-{
-    let mut levels = vec![in alloc; 0u16; predecessors.len()]?;
-    let mut done = vec![in alloc; false; predecessors.len()]?;
-    take_rounds(workers, alloc, predecessors, &mut levels, &mut done)?;
-    Ok(Peeled { levels, done })
 }

@@ -1,7 +1,7 @@
 //! The numbers that a walk has found.
-ghost use Rattle.std.specs.Prelude.{◌≡◌, ◌<◌, ◌≤◌, ◌↔◌, ◌++◌, ◌∷◌, ℕ, if◌then◌else◌, length, slice_index, All, Contains, IfOk, IfNone, IfSome, OnOk, OnErr, []};
+ghost use Rattle.std.specs.Prelude.{◌≡◌, ◌<◌, ◌≤◌, ◌↔◌, ℕ, length, slice_index, Contains, IfOk, IfNone, IfSome, OnOk, OnErr, []};
 ghost use Rattle.std.specs.List.Sorted.{IsStrictlyIncreasing};
-ghost use Rattle.sw_graph.specs.Walks.{Found, marked, with_number, with_all};
+ghost use Rattle.sw_graph.specs.Walks.{Found, with_number};
 
 use std::alloc::{AllocError, Global};
 use std::marker::Model;
@@ -26,18 +26,6 @@ impl Model for Walk {
 
 /// Numbers are sorted where there are more marks than so many for each of them, and else read off the marks, which is quicker.
 const MARKS_A_NUMBER: usize = 16;
-
-/// Adds the numbers of the marks that are set, in rising order.
-fn push_marked(marks: &[bool], numbers: &mut Vec<usize>) -> Result<(), AllocError>
-    ensures { OnOk result (numbers.new.items ≡ numbers.old.items ++ marked marks.now) }
-{
-    for number in 0..marks.len() {
-        if marks[number] {
-            numbers.push(number)?;
-        }
-    }
-    Ok(())
-}
 
 impl Walk {
     /// No numbers yet, of those below the bound.
@@ -103,22 +91,6 @@ impl Walk {
         Ok(())
     }
 
-    /// Adds those of the numbers that are new.
-    ///
-    /// # Errors
-    ///
-    /// There is no memory for all of them: some may have been added then.
-    pub fn add_all(&mut self, numbers: &[usize]) -> Result<(), AllocError>
-        requires { All (λ n. n < self.old.bound) numbers.now }
-        ensures bound { self.new.bound ≡ self.old.bound }
-        ensures ok { OnOk result (self.new.numbers ≡ with_all self.old.numbers numbers.now) }
-    {
-        for number in numbers {
-            self.add(*number)?;
-        }
-        Ok(())
-    }
-
     /// The numbers in rising order.
     ///
     /// # Errors
@@ -137,7 +109,11 @@ impl Walk {
             return Ok(numbers);
         }
         numbers.clear();
-        push_marked(&is_found, &mut numbers)?;
+        for number in 0..is_found.len() {
+            if is_found[number] {
+                numbers.push(number)?;
+            }
+        }
         Ok(numbers)
     }
 }

@@ -1,5 +1,5 @@
 //! Ways over steps.
-ghost use Rattle.std.specs.Prelude.{◌≡◌, ◌<◌, ◌≤◌, ℕ, All, Option, IfOk, IfSome, IfNone, IsSome, length, option_map, slice_index, Contains, ◌∷◌, [], replicate, ◌++◌, ◌-◌, OnOk};
+ghost use Rattle.std.specs.Prelude.{◌≡◌, ◌<◌, ℕ, All, Contains, IfOk, MatchOption, OnOk, [], option_map, slice_index};
 ghost use Rattle.sw_graph.specs.Ways.{EndsAt, IsWay, IsWayIfReached};
 ghost use Rattle.sw_graph.specs.Parents.{AreParents};
 ghost use Rattle.sw_graph.specs.Reached.{Reached};
@@ -8,17 +8,6 @@ use crate::least::add_next;
 use crate::steps::Steps;
 use crate::walk::Walk;
 use std::alloc::{AllocError, Global};
-
-/// Adds the number until there are so many.
-fn fill(parents: &mut Vec<usize>, number: usize, count: usize) -> Result<(), AllocError>
-    requires { length parents.old.items ≤ count }
-    ensures { OnOk result (parents.new.items ≡ parents.old.items ++ replicate (count - length parents.old.items) number) }
-{
-    while parents.len() < count {
-        parents.push(number)?;
-    }
-    Ok(())
-}
 
 /// Walks along the steps from the start until no number is new, with a parent for each number of the walk.
 fn walk_with_parents<S: Steps>(
@@ -43,33 +32,34 @@ fn walk_with_parents<S: Steps>(
     let mut done = 0;
     while done < walk.len() {
         add_next(steps, done, &mut next, walk)?;
-        fill(parents, done, walk.len())?;
+        parents.resize(walk.len(), done)?;
         done += 1;
     }
     Ok(())
 }
 
-/// The way from the first of the numbers to the one at this place, over the places of the parents.
+/// The way from the first of the numbers to the goal, over the places of the parents; none where the goal is none of the numbers.
 fn way_to<S: Steps>(
     alloc: Global,
     steps: &S,
     walk: &Walk,
     parents: &[usize],
-    place: usize,
-) -> Result<Vec<usize>, AllocError>
-    requires place { place < length walk.now.numbers }
-    requires parents { AreParents (S.next steps.now) walk.now.numbers parents.now }
-    ensures { IfOk result (λ v. IsWay (S.next steps.now) (slice_index walk.now.numbers 0) (slice_index walk.now.numbers place) v.items) }
+    goal: usize,
+) -> Result<Option<Vec<usize>>, AllocError>
+    requires { AreParents (S.next steps.now) walk.now.numbers parents.now }
+    ensures { IfOk result (λ found. MatchOption found (Contains walk.now.numbers goal → ⊥) (λ v. IsWay (S.next steps.now) (slice_index walk.now.numbers 0) goal v.items)) }
 {
+    let Some(mut at) = walk.place_of(goal) else {
+        return Ok(None);
+    };
     let mut way = Vec::new(alloc);
-    let mut at = place;
-    way.push(walk.at(at))?;
+    way.push(goal)?;
     while at > 0 {
         at = parents[at];
         way.push(walk.at(at))?;
     }
     way.reverse();
-    Ok(way)
+    Ok(Some(way))
 }
 
 /// A way over steps from the start to the goal, with both; none where the steps don't lead there.
@@ -94,8 +84,5 @@ pub fn way<S: Steps>(
     let mut walk = Walk::new(alloc, bound)?;
     let mut parents = Vec::new(alloc);
     walk_with_parents(alloc, steps, start, &mut walk, &mut parents)?;
-    match walk.place_of(goal) {
-        None => Ok(None),
-        Some(place) => Ok(Some(way_to(alloc, steps, &walk, &parents, place)?)),
-    }
+    way_to(alloc, steps, &walk, &parents, goal)
 }

@@ -1,8 +1,8 @@
-use Rattle.std.proofs.Common.{◌≡◌, ◌-◌, ◌<◌, ◌∷◌, [], ◌++◌, All, List, length, get_or, replicate, refl, sym, ap, ◌∙◌, subst, arith}
+use Rattle.std.proofs.Common.{◌≡◌, ◌-◌, ◌<◌, ◌≤◌, ◌∷◌, [], ◌++◌, All, List, length, get_or, replicate, refl, sym, ap, ◌∙◌, subst, arith}
 use Rattle.std.specs.Prelude.{ℕ}
 use Rattle.sw_graph.specs.Parents.{AreParents}
 use Rattle.sw_graph.specs.Walks.{with_number}
-use Rattle.sw_graph.proofs.Parents.{first_stays, longer_with, parents_first, parents_more}
+use Rattle.sw_graph.proofs.Parents.{filled, first_stays, longer_with, parents_first, parents_more}
 use Rattle.sw_graph.proofs.Walking.{Walks, complete, walks_first, walks_on}
 use Rattle.sw_graph.proofs.ways.walk_with_parents.Goals as goal
 
@@ -27,12 +27,6 @@ add_next-requires-clause-inside g c =
     let Q : ℕ → Type 0 = λ k. (n : ℕ) → n < k → All (λ m. m < k) (g.S.Steps.next c.args.steps.now n) in
     subst Q (sym c.loop-done.invariant.bound) c.requires.inside
 
-pub fill-requires : goal.fill-requires
-fill-requires g c =
-    let numbers = c.loop-done.walk.numbers in
-    let longer = longer_with numbers (g.S.Steps.next c.args.steps.now (get_or numbers c.loop-done.done 0)) c.add_next.new.walk.numbers c.in_ok-add_next.ensures.numbers in
-    omega (arith, longer, c.loop-done.invariant.parents.one_each, c.len-in-loop-done.ensures.len)
-
 pub loop-done-smaller : goal.loop-done-smaller
 loop-done-smaller g c = omega arith
 
@@ -46,11 +40,13 @@ loop-done-preserved g c =
     let here = get_or numbers done 0 in
     let after = c.add_next.new.walk.numbers in
     let found = c.in_ok-add_next.ensures.numbers in
-    let filled = c.in_ok-fill.ensures ∙ ap (λ n. parents ++ replicate (n - length parents) done) c.len-in-loop-done.ensures.len in
+    let longer = longer_with numbers (next here) after found in
+    let few : length parents ≤ length after = omega (arith, longer, old.parents.one_each) in
+    let more = filled parents c.resize.new.self.items done c.loop-done.parents.len c.len-in-loop-done.result (length after) c.loop-done.parents.ok.0 c.len-in-loop-done.ensures.len few c.in_ok-resize.ensures.items in
     record {
       bound = c.in_ok-add_next.ensures.bound ∙ old.bound;
       walks = walks_on next c.args.start numbers (next here) after done here old.walks (omega arith) refl refl found;
-      parents = parents_more next numbers parents (next here) after c.fill.new.parents.items done here old.parents (omega arith) refl refl found filled;
+      parents = parents_more next numbers parents (next here) after c.resize.new.self.items done here old.parents (omega arith) refl refl found more;
       first = first_stays numbers (next here) after c.args.start found old.first.0 old.first.1;
     }
 

@@ -1,6 +1,9 @@
-use Rattle.std.proofs.Common.{◌<◌, ℕ, All, get_or, sym, ap, ◌∙◌, subst, arith}
+use Rattle.std.proofs.Common.{◌<◌, ℕ, All, sym, ap, ◌∙◌, subst, arith}
 use Rattle.sw_graph.specs.Walks.{Found}
-use Rattle.sw_graph.specs.Ways.{IsWay}
+use Rattle.std.specs.Prelude.{option_map}
+use Rattle.sw_graph.specs.Ways.{IsWayIfReached}
+use Rattle.sw_graph.proofs.Cycles.{on_ok_of}
+use Rattle.sw_graph.proofs.Parents.{way_if}
 use Rattle.sw_graph.proofs.ways.way.Goals as goal
 
 pub walk_with_parents-requires-clause-bound : goal.walk_with_parents-requires-clause-bound
@@ -20,18 +23,12 @@ walk_with_parents-requires-clause-numbers g c = ap (λ (f : Found). f.numbers) c
 pub walk_with_parents-requires-clause-parents : goal.walk_with_parents-requires-clause-parents
 walk_with_parents-requires-clause-parents g c = c.new-parents.ensures.items
 
-pub way_to-requires-clause-place : goal.way_to-requires-clause-place
-way_to-requires-clause-place g c = c.in-Some.ensures.found.0
-
-pub way_to-requires-clause-parents : goal.way_to-requires-clause-parents
-way_to-requires-clause-parents g c = rw c.deref.ensures.value c.in_ok-walk_with_parents.ensures.parents
-
-pub returns-in-None : goal.returns-in-None
-returns-in-None g c = λ r. c.in-None.ensures.none (c.in_ok-walk_with_parents.ensures.complete c.args.goal r)
+pub way_to-requires : goal.way_to-requires
+way_to-requires g c = rw c.deref.ensures.value c.in_ok-walk_with_parents.ensures.parents
 
 pub returns : goal.returns
 returns g c =
     let next = g.S.Steps.next c.args.steps.now in
+    let walked = c.in_ok-walk_with_parents.ensures in
     let numbers = c.walk_with_parents.new.walk.numbers in
-    let way = c.in_ok-way_to-in-Some.field-0.items in
-    subst (λ (s : ℕ). IsWay next s c.args.goal way) c.in_ok-walk_with_parents.ensures.first (subst (λ (n : ℕ). IsWay next (get_or numbers 0 0) n way) c.in-Some.ensures.found.1 c.in_ok-way_to-in-Some.ensures)
+    on_ok_of _ (λ found. IsWayIfReached next c.args.start c.args.goal (option_map (λ v. v.items) found)) c.way_to.result (λ found. way_if next c.args.start c.args.goal numbers found walked.first walked.complete) c.way_to.ensures
