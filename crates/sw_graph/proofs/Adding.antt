@@ -3,7 +3,7 @@ use Rattle.std.proofs.Common.{◌≡◌, ℕ, ◌<◌, List, [], ◌∷◌, ◌+
 use Rattle.std.specs.Prelude.{Contains, slice_index}
 use Rattle.std.specs.Option.{is_some}
 use Rattle.std.proofs.lemmas.Bool.{cases_eq, false≢true}
-use Rattle.std.proofs.lemmas.List.{get_or_default, get_or-replicate, take_more}
+use Rattle.std.proofs.lemmas.List.{append_assoc, get_or_default, get_or-replicate, take_more}
 use Rattle.std.proofs.lemmas.List.Elements.{Contains-append_left, Contains-append_right, Contains-append_cases, Contains-push, Contains-push_cases}
 use Rattle.sw_graph.specs.Searches.{AreAdded, steps_to}
 
@@ -126,17 +126,20 @@ contains_at xs k c lt e = (k, lt, get_or_default xs k c 0 lt ∙ e)
 pub at_contains : (xs : List ℕ) (c : ℕ) (m : Contains xs c) → slice_index xs m.0 ≡ c
 at_contains xs c m = get_or_default xs m.0 0 c m.1 ∙ m.2
 
--- one more of the numbers xs, which had no count, or had one
-pub added_step : (xs : List ℕ) (i count at : ℕ) (s s1 s2 : List (Option ℕ)) (l l1 l2 : List ℕ) → i < length xs → at ≡ get_or xs i 0 → at < length s1 → AreAdded (take i xs) count s s1 l l1 → is_some (steps_to s1 at) ≡ false
-    → s2 ≡ set s1 at (Some count) → l2 ≡ l1 ++ get_or xs i 0 ∷ [] → AreAdded (take (i + 1) xs) count s s2 l l2
-added_step xs i count at s s1 s2 l l1 l2 lt is inside a new steps_is level_is =
-    let one : AreAdded (at ∷ []) count s1 (set s1 at (Some count)) l1 (l1 ++ at ∷ []) = added_new count at s1 l1 inside (not_known (steps_to s1 at) new) in
-    rw (steps_is, level_is, take_more xs i 0 lt, sym is) (added_more (take i xs) (at ∷ []) count s s1 (set s1 at (Some count)) l l1 (l1 ++ at ∷ []) a one)
+-- one more of the numbers xs behind others, which had no count, or had one
+module _ (before xs : List ℕ) (i count at : ℕ) (s s1 s2 : List (Option ℕ)) (l l1 l2 : List ℕ) (lt : i < length xs) (is : at ≡ get_or xs i 0) (a : AreAdded (before ++ take i xs) count s s1 l l1) where
+  longer : (e : ℕ) → e ≡ get_or xs i 0 → (before ++ take i xs) ++ e ∷ [] ≡ before ++ take (i + 1) xs
+  longer e same = append_assoc before (take i xs) (e ∷ []) ∙ ap (λ k. before ++ (take i xs ++ k ∷ [])) same ∙ ap (λ x. before ++ x) (sym (take_more xs i 0 lt))
 
-pub kept_step : (xs : List ℕ) (i count at : ℕ) (s s1 s2 : List (Option ℕ)) (l l1 l2 : List ℕ) → i < length xs → at ≡ get_or xs i 0 → AreAdded (take i xs) count s s1 l l1 → is_some (steps_to s1 at) ≡ true
-    → s2 ≡ s1 → l2 ≡ l1 → AreAdded (take (i + 1) xs) count s s2 l l2
-kept_step xs i count at s s1 s2 l l1 l2 lt is a known steps_is level_is =
-    rw (steps_is, level_is, take_more xs i 0 lt) (added_more (take i xs) (get_or xs i 0 ∷ []) count s s1 s1 l l1 l1 a (added_kept count at (get_or xs i 0) s1 l1 is known))
+  pub added_step : at < length s1 → is_some (steps_to s1 at) ≡ false → s2 ≡ set s1 at (Some count) → l2 ≡ l1 ++ get_or xs i 0 ∷ [] → AreAdded (before ++ take (i + 1) xs) count s s2 l l2
+  added_step inside new steps_is level_is =
+      let one : AreAdded (at ∷ []) count s1 (set s1 at (Some count)) l1 (l1 ++ at ∷ []) = added_new count at s1 l1 inside (not_known (steps_to s1 at) new) in
+      let level : l2 ≡ l1 ++ at ∷ [] = level_is ∙ ap (λ k. l1 ++ k ∷ []) (sym is) in
+      rw (steps_is, level, sym (longer at is)) (added_more (before ++ take i xs) (at ∷ []) count s s1 (set s1 at (Some count)) l l1 (l1 ++ at ∷ []) a one)
+
+  pub kept_step : is_some (steps_to s1 at) ≡ true → s2 ≡ s1 → l2 ≡ l1 → AreAdded (before ++ take (i + 1) xs) count s s2 l l2
+  kept_step known steps_is level_is =
+      rw (steps_is, level_is, sym (longer (get_or xs i 0) refl)) (added_more (before ++ take i xs) (get_or xs i 0 ∷ []) count s s1 s1 l l1 l1 a (added_kept count at (get_or xs i 0) s1 l1 is known))
 
 -- the start alone has a count
 pub start_added : (n start at : ℕ) (s s2 : List (Option ℕ)) (l l2 : List ℕ) → s ≡ replicate n None → start < n → at ≡ start → at < length s → l ≡ [] → s2 ≡ set s at (Some 0) → l2 ≡ l ++ start ∷ [] → AreAdded (start ∷ []) 0 (replicate n None) s2 [] l2

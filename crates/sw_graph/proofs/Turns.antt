@@ -37,11 +37,11 @@ turned_is xs low cycle h e =
     }
 
 -- as it is made
-pub turned_made : (xs : List ℕ) (low : ℕ) (none first made cycle : List ℕ) → IsLowest xs low → none ≡ [] → first ≡ none ++ take (length xs - (low + 1)) (drop (low + 1) xs) → made ≡ first ++ take (low + 1) xs → cycle ≡ reverse made → IsTurned xs cycle
-turned_made xs low none first made cycle h empty first_is made_is is =
+pub turned_made : (xs : List ℕ) (low : ℕ) (made cycle : List ℕ) → IsLowest xs low → made ≡ take (length xs - (low + 1)) (drop (low + 1) xs) ++ take (low + 1) xs → cycle ≡ reverse made → IsTurned xs cycle
+turned_made xs low made cycle h made_is is =
     let a = take (low + 1) xs in
     let b = drop (low + 1) xs in
-    let whole : made ≡ b ++ a = made_is ∙ ap (λ l. l ++ a) (first_is ∙ ap (λ l. l ++ take (length xs - (low + 1)) b) empty ∙ rest_whole xs (low + 1)) in
+    let whole : made ≡ b ++ a = made_is ∙ ap (λ l. l ++ a) (rest_whole xs (low + 1)) in
     turned_is xs low cycle h (is ∙ ap reverse whole ∙ reverse-append b a)
 
 -- where c stands first at k or later

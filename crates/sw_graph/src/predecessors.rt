@@ -32,8 +32,8 @@ pub fn predecessors_of(alloc: Global, successors: &[Vec<u16>]) -> Result<Vec<Vec
     ensures { IfOk result (λ v. IsReversed successors.now v.items) }
 {
     let mut predecessors = empty_rows(alloc, successors.len())?;
-    for (c, members) in successors.iter().enumerate() {
-        add_to_each(&mut predecessors, members, c as u16)?;
+    for c in 0..successors.len() {
+        add_to_each(&mut predecessors, &successors[c], c as u16)?;
     }
     Ok(predecessors)
 }

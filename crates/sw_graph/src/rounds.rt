@@ -1,6 +1,5 @@
 //! The levels of the members that are not behind a cycle, found in rounds.
-ghost use Rattle.std.specs.Prelude.{◌≡◌, ◌<◌, ◌≤◌, All, IfOk, OnOk, false, filter, length, not, replicate};
-ghost use Rattle.std.specs.List.{range_with_len};
+ghost use Rattle.std.specs.Prelude.{◌≡◌, ◌<◌, ◌≤◌, All, OnOk, false, filter, length, not, replicate};
 ghost use Rattle.sw_graph.specs.Rounds.{AreTaken, IsPeeled, is_done};
 ghost use Rattle.sw_graph.specs.Rows.{IsGraph};
 
@@ -35,18 +34,6 @@ fn drop_done(left: &mut Vec<u16>, done: &[bool])
     left.truncate(kept);
 }
 
-/// The numbers below `count`.
-fn numbers(alloc: Global, count: usize) -> Result<Vec<u16>, AllocError>
-    requires { count ≤ 65535 }
-    ensures { IfOk result (λ v. v.items ≡ range_with_len 0 count) }
-{
-    let mut numbers = Vec::new(alloc);
-    for number in 0..count as u16 {
-        numbers.push(number)?;
-    }
-    Ok(numbers)
-}
-
 /// Peels members off in rounds, where none is done: each takes those that are left of which all
 /// predecessors were taken in earlier rounds, and the number of the round is their level.
 ///
@@ -66,7 +53,10 @@ pub fn take_rounds<W: RoundWorkers>(
     requires done { done.old ≡ replicate (length predecessors.now) false }
     ensures { OnOk result (IsPeeled predecessors.now levels.new done.new) }
 {
-    let mut left = numbers(alloc, predecessors.len())?;
+    let mut left = Vec::new(alloc);
+    for member in 0..predecessors.len() as u16 {
+        left.push(member)?;
+    }
     let mut round = 0;
     loop {
         let free = workers.free_members(alloc, predecessors, done, &left)?;

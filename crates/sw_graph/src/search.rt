@@ -9,27 +9,7 @@ ghost use Rattle.sw_graph.specs.Shortest.{IsFewest};
 use crate::rows::row_of;
 use std::alloc::{AllocError, Global};
 
-/// Adds those of the numbers that are new, with their count of steps.
-fn add_all(
-    ds: &[u16],
-    count: u16,
-    steps: &mut [Option<u16>],
-    level: &mut Vec<u16>,
-) -> Result<(), AllocError>
-    requires { All (λ d. d < length steps.old) ds.now }
-    ensures { OnOk result (AreAdded ds.now count steps.old steps.new level.old.items level.new.items) }
-{
-    for d in ds {
-        let at = usize::from(*d);
-        if steps[at].is_none() {
-            level.push(*d)?;
-            steps[at] = Some(count);
-        }
-    }
-    Ok(())
-}
-
-/// Adds those of the numbers that are new to which a step leads from these.
+/// Adds those of the numbers that are new to which a step leads from these, with their count of steps.
 fn add_next(
     rows: &[Vec<u16>],
     from: &[u16],
@@ -43,7 +23,13 @@ fn add_next(
     ensures { OnOk result (AreAdded (flat_map (row rows.now) from.now) count steps.old steps.new level.old.items level.new.items) }
 {
     for c in from {
-        add_all(row_of(rows, *c), count, steps, level)?;
+        for d in row_of(rows, *c) {
+            let at = usize::from(*d);
+            if steps[at].is_none() {
+                level.push(*d)?;
+                steps[at] = Some(count);
+            }
+        }
     }
     Ok(())
 }

@@ -20,9 +20,7 @@ pub fn turned(alloc: Global, walked: &[u16]) -> Result<Vec<u16>, AllocError>
         }
     }
     let split = lowest + 1;
-    let mut cycle = Vec::new(alloc);
-    cycle.extend_from_slice(&walked[split..])?;
-    cycle.extend_from_slice(&walked[..split])?;
+    let mut cycle = [&walked[split..], &walked[..split]].concat(alloc)?;
     cycle.reverse();
     Ok(cycle)
 }

@@ -1,10 +1,18 @@
-use Rattle.std.proofs.Common.{arith}
+use Rattle.std.proofs.Common.{◌≡◌, ◌++◌, ◌∷◌, [], length, sym, ap, ◌∙◌, arith}
+use Rattle.std.specs.List.{range_with_len}
+use Rattle.sw_parallel.proofs.Ranges.{range_more}
 use Rattle.sw_graph.proofs.Peels.{rounds_none, peeled, free_inside, left_inside, none_left, round_fits, some_left}
 use Rattle.sw_graph.proofs.RelationSteps.{round_step}
 use Rattle.sw_graph.proofs.rounds.take_rounds.Goals as goal
 
+pub loop-member-preserved : goal.loop-member-preserved
+loop-member-preserved g c = c.in_ok-push.ensures.items ∙ ap (λ l. l ++ c.loop-member.member ∷ []) c.loop-member.invariant ∙ sym (range_more c.loop-member.member)
+
 pub loop-left-init : goal.loop-left-init
-loop-left-init g c = rw (c.requires.levels, c.requires.done, c.in_ok-left.ensures) (rounds_none c.args.predecessors.now)
+loop-left-init g c =
+    let n = length c.args.predecessors.now in
+    let all : c.loop-member.member ≡ n = let low = c.loop-member-test.false in let high = c.loop-member.auto.member-end in omega arith in
+    rw (c.requires.levels, c.requires.done, c.loop-member.invariant ∙ ap (range_with_len 0) all) (rounds_none c.args.predecessors.now)
 
 pub free_members-requires-clause-inside : goal.free_members-requires-clause-inside
 free_members-requires-clause-inside g c = rw c.deref.ensures.value (left_inside c.args.predecessors.now _ _ _ _ c.loop-left.invariant)
