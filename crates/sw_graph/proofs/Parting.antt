@@ -1,12 +1,12 @@
 -- Parts, as they are found.
-use Rattle.std.proofs.Common.{◌≡◌, ℕ, zero, suc, ◌+◌, ◌-◌, ◌<◌, ◌≤◌, List, [], ◌∷◌, ◌++◌, length, get_or, refl, sym, ap, ◌∙◌, subst, inl, inr, arith, All, Bool, true, false}
+use Rattle.std.proofs.Common.{◌≡◌, ℕ, zero, suc, ◌+◌, ◌-◌, ◌<◌, ◌≤◌, List, [], ◌∷◌, ◌++◌, length, get_or, take, refl, sym, ap, ◌∙◌, subst, inl, inr, arith, All, Bool, true, false}
 use Rattle.std.specs.Prelude.{Contains, AllPairs, ◌≢◌, Vec, slice_index}
 use Rattle.std.specs.declared.alloc.Global.{Global}
 use Rattle.std.specs.List.{list_any}
 use Rattle.std.proofs.lemmas.Bool.{cases_eq, cases_lt, false≢true}
 use Rattle.std.proofs.lemmas.List.Elements.{All-contains, All-contains_itself, All-push, Contains-append_left, Contains-get_or, Contains-push}
 use Rattle.std.proofs.lemmas.List.Folds.{Any-from_list_any, list_any_at}
-use Rattle.std.proofs.lemmas.List.{get_or_default}
+use Rattle.std.proofs.lemmas.List.{get_or_default, take_all}
 use Rattle.std.proofs.lemmas.List.Kept.{AllPairs-from_increasing}
 use Rattle.std.proofs.lemmas.List.Quantifiers.{all_pairs_push}
 use Rattle.sw_graph.specs.Cycles.{IsLeast, Walks}
@@ -248,3 +248,7 @@ among_rows rows ok c d h = lead_inside rows ok c d h
 
 pub on_inside : (rows : List (Vec ℕ Global)) (c : ℕ) → LeadsTo (Leads rows) c c → c < length rows
 on_inside rows c h = let r = chain_first (Leads rows) h.0 c c h.1 in row_member rows c r.0 r.1
+
+-- no part has the number, after all were looked at
+pub untaken : (c : ℕ) (parts items : List Part) (i : ℕ) → items ≡ parts → length items ≤ i → list_any (λ p. holds p.members.items c) (take i items) ≡ false → list_any (λ p. holds p.members.items c) parts ≡ false
+untaken c parts items i same past none = ap (list_any (λ p. holds p.members.items c)) (sym same ∙ sym (take_all i items past)) ∙ none

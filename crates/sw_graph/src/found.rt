@@ -15,18 +15,6 @@ use crate::search::fewest_round;
 use crate::together::together;
 use std::alloc::{AllocError, Global};
 
-/// Is the number a member of one of the parts?
-fn is_taken(parts: &[Part], c: u16) -> bool
-    ensures { result ≡ list_any (λ p. holds p.members.items c) parts.now }
-{
-    for part in parts {
-        if part.members.contains(&c) {
-            return true;
-        }
-    }
-    false
-}
-
 /// Adds the part of c, which leads to itself in so many steps and no fewer, and is a member of none
 /// of the parts.
 fn push_part(
@@ -73,8 +61,10 @@ fn add_part(
     requires below { ArePartsBelow (Leads successors.now) c parts.old.items }
     ensures { OnOk result (ArePartsBelow (Leads successors.now) (c + 1) parts.new.items) }
 {
-    if is_taken(parts, c) {
-        return Ok(());
+    for part in parts.iter() {
+        if part.members.contains(&c) {
+            return Ok(());
+        }
     }
     match fewest_round(alloc, successors, c, successors.len() as u16)? {
         Some(count) => push_part(alloc, successors, predecessors, c, count, parts),

@@ -1,19 +1,27 @@
-use Rattle.std.proofs.Common.{length, sym, ◌∙◌, arith}
+use Rattle.std.proofs.Common.{◌≡◌, ◌∙◌, Bool, true, length, ap, sym, arith, rules}
+use Rattle.std.proofs.lemmas.List.Folds.{list_any_at}
+use Rattle.sw_graph.specs.declared.part.Part.{Part}
 use Rattle.sw_graph.specs.Rows.{Leads}
-use Rattle.sw_graph.proofs.Parting.{among_rows, least_of, leads_of, no_round, parting_free, parting_taken}
+use Rattle.sw_graph.specs.Walks.{holds}
+use Rattle.sw_graph.proofs.Parting.{among_rows, least_of, leads_of, no_round, parting_free, parting_taken, untaken}
 use Rattle.sw_graph.proofs.found.add_part.Goals as goal
 
-pub returns-then-is_taken : goal.returns-then-is_taken
-returns-then-is_taken c = parting_taken (Leads c.args.successors.now) c.args.c c.args.parts.now.items c.requires.below (rw c.deref.ensures.value at (sym c.is_taken.ensures ∙ c.if-is_taken.true))
+pub returns-then-contains : goal.returns-then-contains
+returns-then-contains c =
+    let part = c.part-item.result in
+    let told : holds part.members.items c.args.c ≡ true = search rules in
+    let test : Part → Bool = λ p. holds p.members.items c.args.c in
+    let one = list_any_at test c.deref-part-items.result.now c.loop-part.part-index part c.loop-part-test.true (ap test (sym c.part-item.is) ∙ told) in
+    parting_taken (Leads c.args.successors.now) c.args.c c.args.parts.now.items c.requires.below (rw c.deref-part-items.ensures.value at one)
 
 pub push_part-requires-clause-least : goal.push_part-requires-clause-least
 push_part-requires-clause-least c =
     let dep = Leads c.args.successors.now in
     let fewest = (rw c.in-Some.is at c.in_ok-count.ensures).1 in
-    least_of dep c.args.c c.args.parts.now.items c.requires.below (rw c.deref.ensures.value at (sym c.is_taken.ensures ∙ c.if-is_taken.false)) (leads_of dep c.args.c c.args.c c.in-Some.count fewest)
+    least_of dep c.args.c c.args.parts.now.items c.requires.below (untaken c.args.c c.args.parts.now.items c.deref-part-items.result.now c.loop-part.part-index c.deref-part-items.ensures.value c.loop-part-test.false c.loop-part.invariant) (leads_of dep c.args.c c.args.c c.in-Some.count fewest)
 
 pub push_part-requires-clause-untaken : goal.push_part-requires-clause-untaken
-push_part-requires-clause-untaken c = rw c.deref.ensures.value at (sym c.is_taken.ensures ∙ c.if-is_taken.false)
+push_part-requires-clause-untaken c = untaken c.args.c c.args.parts.now.items c.deref-part-items.result.now c.loop-part.part-index c.deref-part-items.ensures.value c.loop-part-test.false c.loop-part.invariant
 
 pub returns-in-None : goal.returns-in-None
 returns-in-None c =
