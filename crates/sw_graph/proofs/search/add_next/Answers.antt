@@ -4,7 +4,6 @@ use Rattle.std.proofs.lemmas.Grind.{flat_map-append}
 use Rattle.std.proofs.lemmas.List.{take_all, take_more, append-nil}
 use Rattle.std.proofs.lemmas.List.Elements.{All-get_or}
 use Rattle.sw_graph.specs.Rows.{row}
-use Rattle.sw_graph.specs.Searches.{AreAdded}
 use Rattle.sw_graph.proofs.Listed.{row_within}
 use Rattle.sw_graph.proofs.Adding.{added_none, added_step, kept_step}
 use Rattle.sw_graph.proofs.search.add_next.Goals.{then-is_none+in_ok-push, else-is_none}
