@@ -1,5 +1,5 @@
 -- Lines that are written one after another.
-use Rattle.std.proofs.Common.{◌≡◌, ℕ, ◌+◌, ◌<◌, ◌≤◌, Bool, List, [], ◌∷◌, ◌++◌, ap, sym, ◌∙◌, get_or, length, take, append-nil, append_assoc, arith, refl}
+use Rattle.std.proofs.Common.{◌≡◌, ℕ, ◌+◌, ◌<◌, ◌≤◌, Bool, false, true, List, [], ◌∷◌, ◌++◌, ap, sym, ◌∙◌, get_or, length, take, append-nil, append_assoc, arith, refl}
 use Rattle.std.specs.Prelude.{if◌then◌else◌}
 use Rattle.std.specs.List.{filter, flat_map, range_with_len}
 use Rattle.std.proofs.lemmas.List.{flat_map_more, length-take-le, take_all, take_more}
@@ -33,11 +33,19 @@ pub all_added : {X : Type 0} (f : X → List ℕ) (xs : List X) (i : ℕ) (start
 all_added f xs i start text ended so_far = so_far ∙ ap (λ l. start ++ flat_map f l) (take_all i xs ended)
 
 -- one number more that may pass
-pub passing_more : (test : ℕ → Bool) (n : ℕ) (passes : Bool) (before after : List ℕ) → before ≡ filter test (range_with_len 0 n) → passes ≡ test n
+passing_more : (test : ℕ → Bool) (n : ℕ) (passes : Bool) (before after : List ℕ) → before ≡ filter test (range_with_len 0 n) → passes ≡ test n
     → after ≡ before ++ (if passes then n ∷ [] else []) → after ≡ filter test (range_with_len 0 (n + 1))
 passing_more test n passes before after so_far is more =
     more ∙ ap (λ l. l ++ (if passes then n ∷ [] else [])) so_far ∙ ap (λ b. filter test (range_with_len 0 n) ++ (if b then n ∷ [] else [])) is
     ∙ sym (filter-append test (range_with_len 0 n) (n ∷ [])) ∙ ap (filter test) (sym (range_more n))
+
+-- one number more that does not pass, and one that does
+pub next_left_out : (test : ℕ → Bool) (n : ℕ) (before : List ℕ) → before ≡ filter test (range_with_len 0 n) → test n ≡ false → before ≡ filter test (range_with_len 0 (n + 1))
+next_left_out test n before so_far is = passing_more test n false before before so_far (sym is) (sym (append-nil before))
+
+pub next_passes : (test : ℕ → Bool) (n : ℕ) (before after : List ℕ) → before ≡ filter test (range_with_len 0 n) → test n ≡ true → after ≡ before ++ n ∷ []
+    → after ≡ filter test (range_with_len 0 (n + 1))
+next_passes test n before after so_far is more = passing_more test n true before after so_far (sym is) more
 
 -- lines of things in order, each with how many come before it
 module _ {X : Type 0} (line : ℕ → X → List ℕ) (lines : ℕ → List X → List ℕ) (none : (n : ℕ) → lines n [] ≡ []) (first : (n : ℕ) (x : X) (xs : List X) → lines n (x ∷ xs) ≡ line n x ++ lines (n + 1) xs) where

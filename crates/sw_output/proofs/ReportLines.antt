@@ -3,7 +3,7 @@ use Rattle.std.proofs.Common.{◌≡◌, ◌∙◌, ℕ, List, [], ◌∷◌, �
 use Rattle.std.specs.Fmt.{decimal}
 use Rattle.std.specs.Prelude.{codes}
 use Rattle.sw_config.specs.Entries.{Declaration, all_flows, wiring_of}
-use Rattle.sw_output.specs.ReportTexts.{findings_text, flows_text, report_text, wiring_text}
+use Rattle.sw_output.specs.ReportTexts.{flows_text, report_text, wiring_text}
 
 -- each word with the space behind it
 abbrev word_line : List ℕ → List ℕ → List ℕ
@@ -33,30 +33,24 @@ joined_more : (pieces : List (List ℕ)) (last more : List ℕ) → joined piece
 joined_more [] last more = refl
 joined_more (piece ∷ pieces) last more = append_assoc piece (joined pieces last) more ∙ ap (λ l. piece ++ l) (joined_more pieces last more)
 
--- how many parts there are of each kind
-pub sizes_are : (d : Declaration) (nodes switches links channels flows replies : ℕ) → nodes ≡ length d.nodes → switches ≡ length d.switches → links ≡ length d.links
-    → channels ≡ length (wiring_of d).ends → flows ≡ length d.flows → replies ≡ length (all_flows d) - length d.flows
+-- how many parts there are of each kind, and what is found, written at once
+pub report_is : (d : Declaration) (nodes switches links channels flows replies places dependencies : ℕ) (verdict : List ℕ) → nodes ≡ length d.nodes → switches ≡ length d.switches
+    → links ≡ length d.links → channels ≡ length (wiring_of d).ends → flows ≡ length d.flows → replies ≡ length (all_flows d) - length d.flows
     → (codes "nodes " ++ (decimal nodes ++ (codes "\nswitches " ++ (decimal switches ++ (codes "\nlinks " ++ (decimal links
-    ++ (codes "\nchannels " ++ (decimal channels ++ (codes "\nflows " ++ (decimal flows ++ (codes "\nreplies " ++ decimal replies))))))))))) ++ codes "\n"
-    ≡ wiring_text d ++ flows_text d
-sizes_are d nodes switches links channels flows replies of_nodes of_switches of_links of_channels of_flows of_replies =
+    ++ (codes "\nchannels " ++ (decimal channels ++ (codes "\nflows " ++ (decimal flows ++ (codes "\nreplies " ++ decimal replies)))))))))))
+    ++ (codes "\nplaces " ++ (decimal places ++ (codes "\ndependencies " ++ (decimal dependencies ++ (codes "\nverdict " ++ (verdict ++ codes "\n"))))))
+    ≡ report_text d places dependencies verdict
+report_is d nodes switches links channels flows replies places dependencies verdict of_nodes of_switches of_links of_channels of_flows of_replies =
     let pieces =
     codes "nodes " ∷ decimal nodes ∷ codes "\nswitches " ∷ decimal switches ∷ codes "\nlinks " ∷ decimal links ∷ codes "\nchannels " ∷ decimal channels ∷ codes "\nflows " ∷ decimal flows
     ∷ codes "\nreplies " ∷ []
     in
-    let last = codes "channels " ++ (decimal channels ++ (codes "\nflows " ++ (decimal flows ++ (codes "\nreplies " ++ (decimal replies ++ codes "\n"))))) in
-    joined_more pieces (decimal replies) (codes "\n")
+    let found = codes "places " ++ (decimal places ++ (codes "\ndependencies " ++ (decimal dependencies ++ (codes "\nverdict " ++ (verdict ++ codes "\n"))))) in
+    let last = codes "channels " ++ (decimal channels ++ (codes "\nflows " ++ (decimal flows ++ (codes "\nreplies " ++ (decimal replies ++ (codes "\n" ++ found)))))) in
+    joined_more pieces (decimal replies) (codes "\n" ++ found)
     ∙ three_before (codes "nodes ") (decimal nodes) (codes "switches ") (decimal switches) (codes "links ") (decimal links) last
     ∙ (λ i. (word_line (codes "nodes ") (decimal (of_nodes i)) ++ (word_line (codes "switches ") (decimal (of_switches i)) ++ word_line (codes "links ") (decimal (of_links i)))) ++ last)
     ∙ ap (λ l. wiring_text d ++ l)
-    (three_lines (codes "channels ") (decimal channels) (codes "flows ") (decimal flows) (codes "replies ") (decimal replies)
-    ∙ (λ i. word_line (codes "channels ") (decimal (of_channels i)) ++ (word_line (codes "flows ") (decimal (of_flows i)) ++ word_line (codes "replies ") (decimal (of_replies i)))))
-
--- what is found stands behind them
-pub report_is : (d : Declaration) (places dependencies : ℕ) (verdict sizes text : List ℕ) → sizes ≡ wiring_text d ++ flows_text d
-    → text ≡ sizes ++ (codes "places " ++ (decimal places ++ (codes "\ndependencies " ++ (decimal dependencies ++ (codes "\nverdict " ++ (verdict ++ codes "\n"))))))
-    → text ≡ report_text d places dependencies verdict
-report_is d places dependencies verdict sizes text first more =
-    more ∙ ap (λ l. l ++ (codes "places " ++ (decimal places ++ (codes "\ndependencies " ++ (decimal dependencies ++ (codes "\nverdict " ++ (verdict ++ codes "\n"))))))) first
-    ∙ ap (λ l. (wiring_text d ++ flows_text d) ++ l) (three_lines (codes "places ") (decimal places) (codes "dependencies ") (decimal dependencies) (codes "verdict ") verdict)
-    ∙ append_assoc (wiring_text d) (flows_text d) (findings_text places dependencies verdict)
+    (three_before (codes "channels ") (decimal channels) (codes "flows ") (decimal flows) (codes "replies ") (decimal replies) found
+    ∙ (λ i. (word_line (codes "channels ") (decimal (of_channels i)) ++ (word_line (codes "flows ") (decimal (of_flows i)) ++ word_line (codes "replies ") (decimal (of_replies i)))) ++ found)
+    ∙ ap (λ l. flows_text d ++ l) (three_lines (codes "places ") (decimal places) (codes "dependencies ") (decimal dependencies) (codes "verdict ") verdict))

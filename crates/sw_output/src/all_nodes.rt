@@ -1,10 +1,7 @@
 //! The lines of all nodes.
 ghost use Rattle.std.specs.Prelude.{◌≡◌, ◌<◌, IfOk, length, map, string_bytes};
-ghost use Rattle.sw_output.specs.ChannelTexts.{node_name};
 ghost use Rattle.sw_output.specs.PacketTexts.{by_node, node_line, packet_lines};
-ghost use Rattle.sw_output.specs.Tallies.{counted_lines};
 
-use crate::counted_lines::add_counted;
 use crate::packet_lines::{add_node, add_packets};
 use std::alloc::{AllocError, Global};
 use sw_char::Packet;
@@ -48,23 +45,6 @@ pub fn all_packet_lines(
     for n in 0..network.nodes() {
         let name = network.node_name(n);
         add_packets(alloc, name, &all[n as usize], &mut text)?;
-    }
-    Ok(text)
-}
-
-/// A line for each of the different packets of a node, node by node.
-pub(crate) fn all_counted_lines(
-    alloc: Global,
-    network: &Network,
-    all: &[Vec<Packet>],
-) -> Result<String, AllocError>
-    requires { length all.now ≡ length network.now.nodes }
-    ensures { IfOk result (λ s. string_bytes s ≡ by_node counted_lines network.now (map (λ packets. packets.items) all.now)) }
-{
-    let mut text = String::new(alloc);
-    for n in 0..network.nodes() {
-        let name = network.node_name(n);
-        add_counted(alloc, name, &all[n as usize], &mut text)?;
     }
     Ok(text)
 }

@@ -1,9 +1,8 @@
 //! The text of packets that came out, with how often they did.
-ghost use Rattle.std.specs.Prelude.{◌≡◌, ◌++◌, IfOk, flat_map, length, map, string_bytes};
-ghost use Rattle.sw_output.specs.PacketTexts.{by_node, node_line, undelivered_line};
+ghost use Rattle.std.specs.Prelude.{◌≡◌, ◌++◌, IfOk, length, map, string_bytes};
 ghost use Rattle.sw_output.specs.Tallies.{counted_line, counted_lines, sent_text};
 
-use crate::all_nodes::{all_counted_lines, all_node_lines};
+use crate::all_nodes::all_node_lines;
 use crate::packet_lines::{bytes_text, end_text, undelivered_line};
 use crate::tallies::{Tally, tallies};
 use std::alloc::{AllocError, Global};
@@ -27,23 +26,8 @@ fn add_tally(
     write!(text, "packet {name} {count} {bytes} {end}\n")
 }
 
-// Adds a line for each tally.
-fn add_tallies(
-    alloc: Global,
-    name: &str,
-    all: &[Tally<'_>],
-    text: &mut String,
-) -> Result<(), AllocError>
-    ensures { IfOk result (λ _. string_bytes text.new ≡ string_bytes text.old ++ flat_map (counted_line name.now) all.now) }
-{
-    for tally in all {
-        add_tally(alloc, name, tally, text)?;
-    }
-    Ok(())
-}
-
-/// Adds a line for each of the different packets that came out at a node.
-pub(crate) fn add_counted(
+// Adds a line for each of the different packets that came out at a node.
+fn add_counted(
     alloc: Global,
     name: &str,
     packets: &[Packet],
@@ -52,7 +36,10 @@ pub(crate) fn add_counted(
     ensures { IfOk result (λ _. string_bytes text.new ≡ string_bytes text.old ++ counted_lines name.now packets.now) }
 {
     let all = tallies(alloc, packets)?;
-    add_tallies(alloc, name, &all, text)
+    for tally in all.iter() {
+        add_tally(alloc, name, tally, text)?;
+    }
+    Ok(())
 }
 
 /// How many characters are undelivered, how many packets came out at each node, and which.
@@ -69,8 +56,11 @@ pub fn sent_text(
     requires { length all.now ≡ length network.now.nodes }
     ensures { IfOk result (λ s. string_bytes s ≡ sent_text network.now undelivered (map (λ packets. packets.items) all.now)) }
 {
-    let undelivered = undelivered_line(alloc, undelivered)?;
-    let nodes = all_node_lines(alloc, network, all)?;
-    let packets = all_counted_lines(alloc, network, all)?;
-    format!(in alloc; "{undelivered}{nodes}{packets}")
+    let mut text = undelivered_line(alloc, undelivered)?;
+    text.push_str(all_node_lines(alloc, network, all)?.as_str())?;
+    for n in 0..network.nodes() {
+        let name = network.node_name(n);
+        add_counted(alloc, name, &all[n as usize], &mut text)?;
+    }
+    Ok(text)
 }

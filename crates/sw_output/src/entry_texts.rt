@@ -1,20 +1,9 @@
 //! How an entry of a routing table is named.
 ghost use Rattle.std.specs.Prelude.{◌≡◌, IfOk, string_bytes};
-ghost use Rattle.sw_output.specs.EntryTexts.{addresses_words, entry_words};
+ghost use Rattle.sw_output.specs.EntryTexts.{entry_words};
 
 use std::alloc::{AllocError, Global};
 use sw_config::Network;
-
-// The addresses that a table entry is for.
-fn addresses_words(alloc: Global, first: u8, last: u8) -> Result<String, AllocError>
-    ensures { IfOk result (λ s. string_bytes s ≡ addresses_words first last) }
-{
-    if first == last {
-        format!(in alloc; "address {first}")
-    } else {
-        format!(in alloc; "addresses {first} to {last}")
-    }
-}
 
 /// The addresses of the entry of that number of the switch's table, and nothing where there is no such entry.
 ///
@@ -32,8 +21,14 @@ pub fn entry_words(
     if switch >= network.switches() {
         return Ok(String::new(alloc));
     }
-    match network.routes(switch).get(entry) {
-        Some(route) => addresses_words(alloc, route.first, route.last),
-        None => Ok(String::new(alloc)),
+    let Some(route) = network.routes(switch).get(entry) else {
+        return Ok(String::new(alloc));
+    };
+    let first = route.first;
+    let last = route.last;
+    if first == last {
+        format!(in alloc; "address {first}")
+    } else {
+        format!(in alloc; "addresses {first} to {last}")
     }
 }

@@ -1,6 +1,6 @@
 //! The lines of packets.
 ghost use Rattle.std.specs.Prelude.{◌≡◌, ◌++◌, IfOk, flat_map, length, string_bytes};
-ghost use Rattle.sw_output.specs.PacketTexts.{bytes_text, end_text, node_line, packet_line, packet_lines, undelivered_line};
+ghost use Rattle.sw_output.specs.PacketTexts.{bytes_text, end_text, node_line, packet_lines, undelivered_line};
 
 use hex::encode_upper;
 use std::alloc::{AllocError, Global};
@@ -46,20 +46,6 @@ pub(crate) fn add_node(name: &str, packets: &[Packet], text: &mut String) -> Res
     write!(text, "node {name} packets {count}\n")
 }
 
-// Adds the line of a packet.
-fn add_packet(
-    alloc: Global,
-    name: &str,
-    packet: &Packet,
-    text: &mut String,
-) -> Result<(), AllocError>
-    ensures { IfOk result (λ _. string_bytes text.new ≡ string_bytes text.old ++ packet_line name.now packet.now) }
-{
-    let bytes = bytes_text(alloc, &packet.bytes)?;
-    let end = end_text(packet.end);
-    write!(text, "packet {name} {bytes} {end}\n")
-}
-
 /// Adds a line for each packet that came out at a node.
 pub(crate) fn add_packets(
     alloc: Global,
@@ -70,7 +56,9 @@ pub(crate) fn add_packets(
     ensures { IfOk result (λ _. string_bytes text.new ≡ string_bytes text.old ++ packet_lines name.now packets.now) }
 {
     for packet in packets {
-        add_packet(alloc, name, packet, text)?;
+        let bytes = bytes_text(alloc, &packet.bytes)?;
+        let end = end_text(packet.end);
+        write!(text, "packet {name} {bytes} {end}\n")?;
     }
     Ok(())
 }

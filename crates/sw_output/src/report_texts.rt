@@ -1,25 +1,9 @@
 //! What a report says.
-ghost use Rattle.std.specs.Prelude.{◌≡◌, ◌++◌, IfOk, string_bytes};
-ghost use Rattle.sw_output.specs.ReportTexts.{flows_text, report_text, wiring_text};
+ghost use Rattle.std.specs.Prelude.{◌≡◌, IfOk, string_bytes};
+ghost use Rattle.sw_output.specs.ReportTexts.{report_text};
 
 use std::alloc::{AllocError, Global};
-use std::fmt::Write;
 use sw_config::Network;
-
-// How many nodes, switches and links the network has, and how many channels, declared flows and reply flows.
-fn sizes_text(alloc: Global, network: &Network) -> Result<String, AllocError>
-    ensures { IfOk result (λ s. string_bytes s ≡ wiring_text network.now ++ flows_text network.now) }
-{
-    let nodes = network.nodes();
-    let switches = network.switches();
-    let links = network.links();
-    let channels = network.channels();
-    let declared = network.declared_flows();
-    let replies = network.flows() - declared;
-    format!(in alloc;
-        "nodes {nodes}\nswitches {switches}\nlinks {links}\nchannels {channels}\nflows {declared}\nreplies {replies}\n"
-    )
-}
 
 /// How many parts of each kind the network has, how many places and dependencies, and the verdict in these words.
 ///
@@ -35,10 +19,13 @@ pub fn report_text(
 ) -> Result<String, AllocError>
     ensures { IfOk result (λ s. string_bytes s ≡ report_text network.now places dependencies verdict.now) }
 {
-    let mut text = sizes_text(alloc, network)?;
-    write!(
-        text,
-        "places {places}\ndependencies {dependencies}\nverdict {verdict}\n"
-    )?;
-    Ok(text)
+    let nodes = network.nodes();
+    let switches = network.switches();
+    let links = network.links();
+    let channels = network.channels();
+    let declared = network.declared_flows();
+    let replies = network.flows() - declared;
+    format!(in alloc;
+        "nodes {nodes}\nswitches {switches}\nlinks {links}\nchannels {channels}\nflows {declared}\nreplies {replies}\nplaces {places}\ndependencies {dependencies}\nverdict {verdict}\n"
+    )
 }

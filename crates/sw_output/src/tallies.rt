@@ -1,6 +1,5 @@
 //! How often packets came out.
-ghost use Rattle.std.specs.Prelude.{◌≡◌, ◌<◌, ◌^◌, ◌+◌, All, IfOk, length};
-ghost use Rattle.std.specs.List.Sorted.{IsBinarySearchResult, IsSearchInRange};
+ghost use Rattle.std.specs.Prelude.{◌≡◌, ◌<◌, ◌^◌, ◌+◌, All, IfOk};
 ghost use Rattle.sw_output.specs.Tallies.{IsRising, counted, end_rank, packet_order, tallies};
 
 use std::alloc::{AllocError, Global};
@@ -21,16 +20,6 @@ impl<'a> Model for Tally<'a> {
     ghost Value = { TallyView };
 
     ghost view = { λ t. record { item = t.packet.now; count = t.count } };
-}
-
-impl<'a> Tally<'a> {
-    // The packet came out once more.
-    fn raise(&mut self)
-        requires { self.old.count + 1 < 2 ^ 64 }
-        ensures { self.new ≡ record self.old { count = self.old.count + 1 } }
-    {
-        self.count += 1;
-    }
 }
 
 /// The place of the end marker in the order of packets of the same bytes: 0 of an EOP, 1 of an EEP.
@@ -54,25 +43,19 @@ fn order(packet: &Packet, other: &Packet) -> Ordering
         .then(ends)
 }
 
-// Where the packet stands, or where it has to be put.
-fn place(tallies: &[Tally<'_>], packet: &Packet) -> Result<usize, usize>
-    ensures bound { IsSearchInRange result (length tallies.now) }
-    ensures position { IsBinarySearchResult (λ t. packet_order t.item packet.now) tallies.now result }
-{
-    tallies.binary_search_by(
-        |tally: &Tally<'_>| -> Ordering
-            ensures { result ≡ packet_order tally.now.item packet.entry.now }
-        { order(tally.packet, packet) },
-    )
-}
-
+// The packet came out once more.
 fn add<'a>(tallies: &mut Vec<Tally<'a>>, packet: &'a Packet) -> Result<(), AllocError>
     requires rising { IsRising tallies.old.items }
     requires few { All (λ t. t.count + 1 < 2 ^ 64) tallies.old.items }
     ensures { IfOk result (λ _. tallies.new.items ≡ counted packet.now tallies.old.items) }
 {
-    match place(tallies, packet) {
-        Ok(i) => tallies[i].raise(),
+    let place = tallies.binary_search_by(
+        |tally: &Tally<'_>| -> Ordering
+            ensures { result ≡ packet_order tally.now.item packet.entry.now }
+        { order(tally.packet, packet) },
+    );
+    match place {
+        Ok(i) => tallies[i].count += 1,
         Err(i) => tallies.insert(i, Tally { packet, count: 1 })?,
     }
     Ok(())

@@ -1,11 +1,10 @@
 //! How a verdict is written.
-ghost use Rattle.std.specs.Prelude.{◌≡◌, ◌<◌, ◌∷◌, ◌++◌, [], All, IfOk, length, map, max, string_bytes};
-ghost use Rattle.std.specs.List.{reduce};
+ghost use Rattle.std.specs.Prelude.{◌≡◌, ◌<◌, ◌∷◌, ◌++◌, [], All, IfOk, length, string_bytes};
 ghost use Rattle.sw_config.specs.Entries.{wiring_of};
 ghost use Rattle.sw_cycle.specs.Cycles.{cause_of};
 ghost use Rattle.sw_output.specs.ChannelTexts.{node_name, switch_name};
 ghost use Rattle.sw_output.specs.Lines.{line, spaced};
-ghost use Rattle.sw_output.specs.VerdictTexts.{cause_words, cycle_line, cycle_lines, cycle_text, cyclic_words, free_words, height, misrouted_words};
+ghost use Rattle.sw_output.specs.VerdictTexts.{cause_words, cycle_line, cycle_text, cyclic_words, free_words, height, misrouted_words};
 
 use crate::channel_texts::channel_text;
 use crate::flow_texts::{flow_name, place_words, route_fault_text};
@@ -64,23 +63,6 @@ fn add_cycle_line(
     write!(text, "channel {channel} {ends} by {kind} {name}\n")
 }
 
-// Adds a line for each channel, with its cause.
-fn add_cycle_lines(
-    alloc: Global,
-    network: &Network,
-    channels: &[Chan],
-    causes: &[Cause],
-    text: &mut String,
-) -> Result<(), AllocError>
-    requires { All (λ c. c < length (wiring_of network.now).ends) channels.now }
-    ensures { IfOk result (λ _. string_bytes text.new ≡ string_bytes text.old ++ cycle_lines network.now channels.now (map cause_of causes.now)) }
-{
-    for (channel, cause) in channels.iter().zip(causes) {
-        add_cycle_line(alloc, network, *channel, cause, text)?;
-    }
-    Ok(())
-}
-
 /// How many channels a cycle has.
 ///
 /// # Errors
@@ -91,13 +73,6 @@ pub fn cyclic_words(alloc: Global, channels: &[Chan]) -> Result<String, AllocErr
 {
     let count = channels.len();
     format!(in alloc; "cyclic {count}")
-}
-
-// A line of these words.
-fn words_line(alloc: Global, words: &str) -> Result<String, AllocError>
-    ensures { IfOk result (λ s. string_bytes s ≡ line (words.now ∷ [])) }
-{
-    format!(in alloc; "{words}\n")
 }
 
 /// How many channels a cycle has, and a line for each, with what makes it wait for the next.
@@ -111,7 +86,10 @@ pub fn cycle_text(alloc: Global, network: &Network, cycle: &Cycle) -> Result<Str
 {
     let count = cycle.channels.len();
     let mut text = format!(in alloc; "cyclic {count}\n")?;
-    add_cycle_lines(alloc, network, &cycle.channels, &cycle.causes, &mut text)?;
+    let causes = cycle.causes.as_slice();
+    for (channel, cause) in cycle.channels.iter().zip(causes) {
+        add_cycle_line(alloc, network, *channel, cause, &mut text)?;
+    }
     Ok(text)
 }
 
@@ -149,21 +127,14 @@ pub fn misrouted_text(
     ensures { IfOk result (λ s. string_bytes s ≡ line (misrouted_words network.now flow place fault ∷ [])) }
 {
     let words = misrouted_words(alloc, network, flow, place, fault)?;
-    words_line(alloc, words.as_str())
-}
-
-// The greatest of the numbers, if there is one.
-fn greatest(numbers: &[u16]) -> Option<u16>
-    ensures { result ≡ reduce max numbers.now }
-{
-    numbers.iter().copied().max()
+    format!(in alloc; "{words}\n")
 }
 
 /// The greatest of the numbers, 0 where there is none.
 pub fn height(numbers: &[u16]) -> u16
     ensures { result ≡ height numbers.now }
 {
-    greatest(numbers).unwrap_or(0)
+    numbers.iter().copied().max().unwrap_or(0)
 }
 
 /// The greatest number of a certificate's channels.
