@@ -1,11 +1,11 @@
 -- Lists that loops make.
-use Rattle.std.proofs.Common.{List, [], ap, append_assoc, arith, get_or, length, map, refl, suc, sym, take, zero, ℕ, ◌++◌, ◌+◌, ◌-◌, ◌<◌, ◌≤◌, ◌∙◌, ◌∷◌, ◌≡◌}
+use Rattle.std.proofs.Common.{Bool, List, [], ap, append-nil, append_assoc, arith, get_or, length, map, refl, suc, sym, take, zero, ℕ, ◌++◌, ◌+◌, ◌-◌, ◌<◌, ◌≤◌, ◌∙◌, ◌∷◌, ◌≡◌}
 use Rattle.std.proofs.lemmas.List.{flat_map_more, get_or-map, map-append, take_more}
 use Rattle.std.proofs.lemmas.List.Elements.{filter-append}
 use Rattle.std.proofs.lemmas.List.Folds.{flat_map-map}
 use Rattle.std.proofs.lemmas.List.Sums.{fold-append}
 use Rattle.std.specs.Global.{Vec}
-use Rattle.std.specs.Prelude.{Some, slice_get}
+use Rattle.std.specs.Prelude.{Some, false, if◌then◌else◌, slice_get, true}
 use Rattle.std.specs.List.{flat_map, range_with_len}
 use Rattle.sw_char.specs.PacketView.{PacketView}
 use Rattle.sw_char.specs.declared.nchar.End.TheVariants.{Eop}
@@ -107,19 +107,45 @@ replies_join ps qs = filter-append (λ p. is_reply p.bytes) ps qs
 one_more_packet : (packets : List PacketView) (i : ℕ) (q : PacketView) → i < length packets → q ≡ get_or packets i q → take (i + 1) packets ≡ take i packets ++ q ∷ []
 one_more_packet packets i q within at = take_more packets i q within ∙ ap (λ p. take i packets ++ p ∷ []) (sym at)
 
-pub reply_more : (n : ℕ) (packets : List PacketView) (i : ℕ) (q : PacketView) → i < length packets → q ≡ get_or packets i q
+reply_more : (n : ℕ) (packets : List PacketView) (i : ℕ) (q : PacketView) → i < length packets → q ≡ get_or packets i q
     → replies_at n (take (i + 1) packets) ≡ replies_at n (take i packets) ++ replies_at n (q ∷ [])
 reply_more n packets i q within at =
     let key : PacketView → Item = λ p. record { node = n; packet = record { bytes = take 1 p.bytes; end = Eop } } in
     ap (replies_at n) (one_more_packet packets i q within at)
     ∙ ap (map key) (replies_join (take i packets) (q ∷ [])) ∙ map-append key (replies_of (take i packets)) (replies_of (q ∷ []))
 
-pub status_of_more : (packets : List PacketView) (i : ℕ) (q : PacketView) → i < length packets → q ≡ get_or packets i q
+status_of_more : (packets : List PacketView) (i : ℕ) (q : PacketView) → i < length packets → q ≡ get_or packets i q
     → statuses_of (take (i + 1) packets) ≡ statuses_of (take i packets) ++ statuses_of (q ∷ [])
 status_of_more packets i q within at =
     let status : PacketView → ℕ = λ p. status_of p.bytes in
     ap statuses_of (one_more_packet packets i q within at)
     ∙ ap (map status) (replies_join (take i packets) (q ∷ [])) ∙ map-append status (replies_of (take i packets)) (replies_of (q ∷ []))
+
+-- of one packet more, if it is a reply and if it is none
+module _ (packets : List PacketView) (i : ℕ) (q : PacketView) (within : i < length packets) (at : q ≡ get_or packets i q) where
+  pub status_kept : (start before : List ℕ) → is_reply q.bytes ≡ false → before ≡ start ++ statuses_of (take i packets) → before ≡ start ++ statuses_of (take (i + 1) packets)
+  status_kept start before is so_far =
+      let none : statuses_of (q ∷ []) ≡ [] = ap (λ (b : Bool). map (λ (p : PacketView). status_of p.bytes) (if b then q ∷ [] else [])) is in
+      so_far ∙ ap (λ l. start ++ l) (sym (status_of_more packets i q within at ∙ ap (λ l. statuses_of (take i packets) ++ l) none ∙ append-nil (statuses_of (take i packets))))
+
+  pub status_pushed : (start before after : List ℕ) (status : ℕ) → is_reply q.bytes ≡ true → status ≡ status_of q.bytes → before ≡ start ++ statuses_of (take i packets)
+      → after ≡ before ++ status ∷ [] → after ≡ start ++ statuses_of (take (i + 1) packets)
+  status_pushed start before after status is same so_far more =
+      let one : statuses_of (q ∷ []) ≡ status_of q.bytes ∷ [] = ap (λ (b : Bool). map (λ (p : PacketView). status_of p.bytes) (if b then q ∷ [] else [])) is in
+      grown start _ _ before _ after so_far (status_of_more packets i q within at) (more ∙ ap (λ (k : ℕ). before ++ k ∷ []) same ∙ ap (λ l. before ++ l) (sym one))
+
+  pub reply_kept : (n : ℕ) (start before : List Item) → is_reply q.bytes ≡ false → before ≡ start ++ replies_at n (take i packets) → before ≡ start ++ replies_at n (take (i + 1) packets)
+  reply_kept n start before is so_far =
+      let none : replies_at n (q ∷ []) ≡ [] = ap (λ (b : Bool). map (λ (p : PacketView). record { node = n; packet = record { bytes = take 1 p.bytes; end = Eop } }) (if b then q ∷ [] else [])) is in
+      so_far ∙ ap (λ l. start ++ l) (sym (reply_more n packets i q within at ∙ ap (λ l. replies_at n (take i packets) ++ l) none ∙ append-nil (replies_at n (take i packets))))
+
+  pub reply_pushed : (n : ℕ) (start before after : List Item) (key : Item) → is_reply q.bytes ≡ true → key ≡ record { node = n; packet = record { bytes = take 1 q.bytes; end = Eop } }
+      → before ≡ start ++ replies_at n (take i packets) → after ≡ before ++ key ∷ [] → after ≡ start ++ replies_at n (take (i + 1) packets)
+  reply_pushed n start before after key is same so_far more =
+      let one : replies_at n (q ∷ []) ≡ record { node = n; packet = record { bytes = take 1 q.bytes; end = Eop } } ∷ [] =
+      ap (λ (b : Bool). map (λ (p : PacketView). record { node = n; packet = record { bytes = take 1 p.bytes; end = Eop } }) (if b then q ∷ [] else [])) is
+      in
+      grown start _ _ before _ after so_far (reply_more n packets i q within at) (more ∙ ap (λ (k : Item). before ++ k ∷ []) same ∙ ap (λ l. before ++ l) (sym one))
 
 -- one key more is counted
 pub counted_more : (keys : List Item) (i : ℕ) (x k : Item) (before after : List TallyView) → i < length keys → x ≡ get_or keys i x → k ≡ x → before ≡ tallies (take i keys)

@@ -1,12 +1,12 @@
 -- Texts as they are written at once.
-use Rattle.std.proofs.Common.{List, [], ap, append-nil, append_assoc, sym, ◌++◌, ◌<◌, ◌∙◌, ◌∷◌, ◌≡◌, ℕ}
+use Rattle.std.proofs.Common.{List, Option, [], ap, append-nil, append_assoc, sym, ◌++◌, ◌<◌, ◌∙◌, ◌∷◌, ◌≡◌, ℕ}
 use Rattle.std.proofs.lemmas.Bool.{lt-ltb}
 use Rattle.std.specs.Fmt.{decimal}
 use Rattle.std.specs.Prelude.{codes, if◌then◌else◌, nat_lt}
 use Rattle.sw_output.specs.Lines.{spaced}
-use Rattle.sw_summary.specs.Texts.{steps_line}
+use Rattle.sw_summary.specs.Texts.{answered_words, flow_line, steps_line}
 
-pub line_is : (name b o d r w : List ℕ) → r ≡ w
+line_is : (name b o d r w : List ℕ) → r ≡ w
     → codes "flow " ++ (name ++ (codes " begun " ++ (b ++ (codes " of " ++ (o ++ (codes " delivered " ++ (d ++ (r ++ codes "\n"))))))))
     ≡ spaced (codes "flow" ∷ name ∷ codes "begun" ∷ b ∷ codes "of" ∷ o ∷ codes "delivered" ∷ d ∷ []) ++ (w ++ codes "\n")
 line_is name b o d r w same = rw same (simp append_assoc)
@@ -43,3 +43,19 @@ pub told_status : (before after : List ℕ) (status n : ℕ) (name words : List 
 told_status before after status n name words some named added =
     told_if n (codes "replies with status " ++ (decimal status ++ (codes " (" ++ (name ++ (codes "): " ++ (decimal n ++ codes "\n")))))) before after some added
     ∙ (λ i. before ++ (if nat_lt 0 n then codes "replies with status " ++ (decimal status ++ (codes " (" ++ (named i ++ (codes "): " ++ (decimal n ++ codes "\n"))))) else []))
+
+pub told_flow : (before after name words : List ℕ) (count b n o d : ℕ) (replies others : Option ℕ) → 0 < n → name ≡ words → count ≡ b → n ≡ o → others ≡ replies
+    → after ≡ before ++ (codes "flow " ++ (name ++ (codes " begun " ++ (decimal count ++ (codes " of " ++ (decimal n ++ (codes " delivered " ++ (decimal d ++ (answered_words replies ++ codes "\n")))))))))
+    → after ≡ before ++ (if nat_lt 0 o then flow_line words b o d others else [])
+told_flow before after name words count b n o d replies others some named begun all is added =
+    let ended = answered_words replies ++ codes "\n" in
+    told_if n (codes "flow " ++ (name ++ (codes " begun " ++ (decimal count ++ (codes " of " ++ (decimal n ++ (codes " delivered " ++ (decimal d ++ ended)))))))) before after some added
+    ∙ (λ i. before ++ (if nat_lt 0 (all i) then codes "flow " ++ (named i ++ (codes " begun " ++ (decimal (begun i) ++ (codes " of " ++ (decimal (all i) ++ (codes " delivered " ++ (decimal d ++ ended))))))) else []))
+    ∙ ap (λ l. before ++ (if nat_lt 0 o then l else [])) (line_is words (decimal b) (decimal o) (decimal d) (answered_words replies) (answered_words others) (ap answered_words (sym is)))
+
+pub told_fill : (before after name words : List ℕ) (fill capacity room : ℕ) → 0 < fill → name ≡ words → capacity ≡ room
+    → after ≡ before ++ (codes "buffer " ++ (name ++ (codes ": greatest fill " ++ (decimal fill ++ (codes " of " ++ (decimal capacity ++ codes "\n"))))))
+    → after ≡ before ++ (if nat_lt 0 fill then codes "buffer " ++ (words ++ (codes ": greatest fill " ++ (decimal fill ++ (codes " of " ++ (decimal room ++ codes "\n"))))) else [])
+told_fill before after name words fill capacity room some named holds added =
+    told_if fill (codes "buffer " ++ (name ++ (codes ": greatest fill " ++ (decimal fill ++ (codes " of " ++ (decimal capacity ++ codes "\n")))))) before after some added
+    ∙ (λ i. before ++ (if nat_lt 0 fill then codes "buffer " ++ (named i ++ (codes ": greatest fill " ++ (decimal fill ++ (codes " of " ++ (decimal (holds i) ++ codes "\n"))))) else []))

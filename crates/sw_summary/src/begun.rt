@@ -59,7 +59,14 @@ pub(crate) fn beginnings<'a>(alloc: Global, steps: &'a [Step]) -> Result<Vec<Beg
 pub(crate) fn begun_of(flow: u16, begun: &[Begun<'_>]) -> usize
     ensures { result ≡ length (of_flow flow begun.now) }
 {
-    begun.iter().filter(|packet| packet.flow == flow).count()
+    let mut count = 0;
+    for packet in begun {
+        if packet.flow != flow {
+            continue;
+        }
+        count += 1;
+    }
+    count
 }
 
 // How many packets the entry has of the flow.

@@ -1,5 +1,5 @@
 //! What came out of a network, as keys.
-ghost use Rattle.std.specs.Prelude.{◌≡◌, ◌≤◌, ◌++◌, ◌∷◌, [], IfOk, length, map};
+ghost use Rattle.std.specs.Prelude.{◌≡◌, ◌≤◌, ◌++◌, IfOk, length, map};
 ghost use Rattle.sw_summary.specs.Counts.{all_items, all_replies, items_at, replies_at};
 
 use crate::replies::is_reply;
@@ -36,16 +36,6 @@ pub(crate) fn all_packets<'a>(
     Ok(all)
 }
 
-// The packet, if it is a reply.
-fn push_reply<'a>(all: &mut Vec<Key<'a>>, node: u16, packet: &'a Packet) -> Result<(), AllocError>
-    ensures { IfOk result (λ _. all.new.items ≡ all.old.items ++ replies_at node (packet.now ∷ [])) }
-{
-    if is_reply(&packet.bytes) {
-        all.push(Key::of_reply(node, packet))?;
-    }
-    Ok(())
-}
-
 // The replies of a node.
 fn push_replies<'a>(
     all: &mut Vec<Key<'a>>,
@@ -55,7 +45,10 @@ fn push_replies<'a>(
     ensures { IfOk result (λ _. all.new.items ≡ all.old.items ++ replies_at node packets.now) }
 {
     for packet in packets {
-        push_reply(all, node, packet)?;
+        if !is_reply(&packet.bytes) {
+            continue;
+        }
+        all.push(Key::of_reply(node, packet))?;
     }
     Ok(())
 }

@@ -112,8 +112,12 @@ fn has_fate(fate: Fate, packet: &Packet) -> bool
 pub(crate) fn fated(fate: Fate, packets: &[Packet]) -> usize
     ensures { result ≡ fated fate packets.now }
 {
-    packets
-        .iter()
-        .filter(|packet| has_fate(fate, packet))
-        .count()
+    let mut count = 0;
+    for packet in packets {
+        if !has_fate(fate, packet) {
+            continue;
+        }
+        count += 1;
+    }
+    count
 }

@@ -1,8 +1,8 @@
 //! What became of the packets of each flow.
-ghost use Rattle.std.specs.Prelude.{◌≡◌, ◌<◌, ◌≤◌, IfOk, OnOk, length, map, string_bytes};
+ghost use Rattle.std.specs.Prelude.{◌≡◌, ◌<◌, ◌≤◌, ◌++◌, IfOk, OnOk, length, map, string_bytes};
 ghost use Rattle.sw_summary.specs.Counts.{asked_by, asked_of, items_of};
 ghost use Rattle.sw_summary.specs.Tallies.{IsRising, found, taken_all};
-ghost use Rattle.sw_summary.specs.Texts.{answered_words, flow_line, flow_text, flow_text_of, flow_texts, flow_texts_from, replies_told};
+ghost use Rattle.sw_summary.specs.Texts.{flow_text, flow_text_of, flow_texts, flow_texts_from};
 
 use crate::begun::{Begun, begun_of, forms, loaded};
 use crate::came_out::{all_packets, all_replies};
@@ -10,33 +10,10 @@ use crate::declared::declared_flow;
 use crate::fate::{Fate, fated};
 use crate::tallies::{Key, Tally, found_packets, found_times, tallies};
 use std::alloc::{AllocError, Global};
+use std::fmt::Write;
 use sw_char::{End, Packet};
 use sw_config::{Flow, Network};
 use sw_load::Load;
-
-// How many commands are answered, if the flow has replies.
-fn answered_words(alloc: Global, answered: Option<usize>) -> Result<String, AllocError>
-    ensures { IfOk result (λ s. string_bytes s ≡ answered_words answered) }
-{
-    match answered {
-        Some(count) => format!(in alloc; " answered {count}"),
-        None => Ok(String::new(alloc)),
-    }
-}
-
-fn flow_line(
-    alloc: Global,
-    name: &str,
-    begun: usize,
-    of_them: u64,
-    delivered: usize,
-    answered: Option<usize>,
-) -> Result<String, AllocError>
-    ensures { IfOk result (λ s. string_bytes s ≡ flow_line name.now begun of_them delivered answered) }
-{
-    let replies = answered_words(alloc, answered)?;
-    format!(in alloc; "flow {name} begun {begun} of {of_them} delivered {delivered}{replies}\n")
-}
 
 // How many of the replies that these packets of the flow ask for came out.
 fn found_replies(replies: &mut [Tally<'_>], flow: &Flow, packets: &[Packet]) -> usize
@@ -56,16 +33,6 @@ fn found_replies(replies: &mut [Tally<'_>], flow: &Flow, packets: &[Packet]) -> 
     found_times(replies, &key, fated(Fate::Answered, packets))
 }
 
-fn replies_told(flow: &Flow, count: usize) -> Option<usize>
-    ensures { result ≡ replies_told flow.now count }
-{
-    if flow.reply().is_some() {
-        Some(count)
-    } else {
-        None
-    }
-}
-
 /// What came out and is not counted yet.
 #[derive(Drop)]
 struct Rest<'a> {
@@ -73,40 +40,50 @@ struct Rest<'a> {
     replies: Vec<Tally<'a>>,
 }
 
-// The line of the flow, if the load has a packet of it, of which so many came out and so many were answered.
-fn flow_text_of(
-    alloc: Global,
+// Adds the line of the flow, if the load has a packet of it, of which so many came out and so many were answered.
+fn add_line(
     load: &Load,
     begun: &[Begun<'_>],
     number: u16,
     flow: &Flow,
     delivered: usize,
     answered: usize,
-) -> Result<String, AllocError>
-    ensures { IfOk result (λ s. string_bytes s ≡ flow_text_of load.now begun.now number delivered answered flow.now) }
+    text: &mut String,
+) -> Result<(), AllocError>
+    ensures { IfOk result (λ _. string_bytes text.new ≡ string_bytes text.old ++ flow_text_of load.now begun.now number delivered answered flow.now) }
 {
     let of_them = loaded(number, load);
     if of_them == 0 {
-        return Ok(String::new(alloc));
+        return Ok(());
     }
     let count = begun_of(number, begun);
-    let answered = replies_told(flow, answered);
-    flow_line(alloc, flow.name(), count, of_them, delivered, answered)
+    let name = flow.name();
+    if flow.reply().is_some() {
+        return write!(
+            text,
+            "flow {name} begun {count} of {of_them} delivered {delivered} answered {answered}\n"
+        );
+    }
+    write!(
+        text,
+        "flow {name} begun {count} of {of_them} delivered {delivered}\n"
+    )
 }
 
-// The line of the flow of that number; what it counts is taken from the rest.
-fn flow_text(
+// Adds the line of the flow of that number; what it counts is taken from the rest.
+fn add_flow(
     alloc: Global,
     network: &Network,
     load: &Load,
     begun: &[Begun<'_>],
     number: u16,
     rest: &mut Rest<'_>,
-) -> Result<String, AllocError>
+    text: &mut String,
+) -> Result<(), AllocError>
     requires inside { number < length network.now.flows }
     requires packets { IsRising rest.old.packets.items }
     requires replies { IsRising rest.old.replies.items }
-    ensures text { IfOk result (λ s. string_bytes s ≡ flow_text network.now load.now begun.now (found rest.old.packets.items (items_of network.now begun.now number)) (found rest.old.replies.items (asked_of network.now begun.now number)) number) }
+    ensures text { IfOk result (λ _. string_bytes text.new ≡ string_bytes text.old ++ flow_text network.now load.now begun.now (found rest.old.packets.items (items_of network.now begun.now number)) (found rest.old.replies.items (asked_of network.now begun.now number)) number) }
     ensures packets { OnOk result (rest.new.packets.items ≡ taken_all rest.old.packets.items (items_of network.now begun.now number)) }
     ensures replies { OnOk result (rest.new.replies.items ≡ taken_all rest.old.replies.items (asked_of network.now begun.now number)) }
 {
@@ -114,7 +91,7 @@ fn flow_text(
     let packets = forms(alloc, flow, number, begun)?;
     let delivered = found_packets(&mut rest.packets, flow.to(), &packets);
     let answered = found_replies(&mut rest.replies, flow, &packets);
-    flow_text_of(alloc, load, begun, number, flow, delivered, answered)
+    add_line(load, begun, number, flow, delivered, answered, text)
 }
 
 // The lines of all flows.
@@ -131,7 +108,7 @@ fn flow_texts_from(
 {
     let mut text = String::new(alloc);
     for i in 0..network.declared_flows() {
-        text.push_str(flow_text(alloc, network, load, begun, i, rest)?.as_str())?;
+        add_flow(alloc, network, load, begun, i, rest, &mut text)?;
     }
     Ok(text)
 }

@@ -1,5 +1,5 @@
 //! Which statuses the replies that came out have.
-ghost use Rattle.std.specs.Prelude.{◌≡◌, ◌++◌, ◌==◌, ◌∷◌, [], IfOk, count_by, map, string_bytes};
+ghost use Rattle.std.specs.Prelude.{◌≡◌, ◌++◌, ◌==◌, IfOk, count_by, map, string_bytes};
 ghost use Rattle.sw_summary.specs.Counts.{statuses, statuses_of};
 ghost use Rattle.sw_summary.specs.Texts.{status_line, status_lines};
 
@@ -8,22 +8,15 @@ use std::alloc::{AllocError, Global};
 use std::fmt::Write;
 use sw_char::Packet;
 
-// The status of the packet, if it is a reply.
-fn push_status(all: &mut Vec<u8>, packet: &Packet) -> Result<(), AllocError>
-    ensures { IfOk result (λ _. all.new.items ≡ all.old.items ++ statuses_of (packet.now ∷ [])) }
-{
-    if is_reply(&packet.bytes) {
-        all.push(status_of(&packet.bytes))?;
-    }
-    Ok(())
-}
-
 // The statuses of the replies among the packets.
 fn push_statuses(all: &mut Vec<u8>, packets: &[Packet]) -> Result<(), AllocError>
     ensures { IfOk result (λ _. all.new.items ≡ all.old.items ++ statuses_of packets.now) }
 {
     for packet in packets {
-        push_status(all, packet)?;
+        if !is_reply(&packet.bytes) {
+            continue;
+        }
+        all.push(status_of(&packet.bytes))?;
     }
     Ok(())
 }
@@ -43,7 +36,14 @@ fn statuses(alloc: Global, out: &[Vec<Packet>]) -> Result<Vec<u8>, AllocError>
 fn with_status(statuses: &[u8], status: u8) -> usize
     ensures { result ≡ count_by (λ s. s == status) statuses.now }
 {
-    statuses.iter().filter(|other| **other == status).count()
+    let mut count = 0;
+    for other in statuses {
+        if *other != status {
+            continue;
+        }
+        count += 1;
+    }
+    count
 }
 
 // The line of a status that so many replies have, if some have it.

@@ -81,14 +81,6 @@ impl<'a> Model for Tally<'a> {
 }
 
 impl<'a> Tally<'a> {
-    // One more.
-    fn raise(&mut self)
-        requires { self.old.count + 1 < 2 ^ 64 }
-        ensures { self.new ≡ record self.old { count = self.old.count + 1 } }
-    {
-        self.count += 1;
-    }
-
     // One fewer, where there is one: how many fewer.
     fn lower(&mut self) -> usize
         ensures lowered { result ≡ (if nat_lt 0 self.old.count then 1 else 0) }
@@ -127,7 +119,7 @@ fn add<'a>(tallies: &mut Vec<Tally<'a>>, key: Key<'a>) -> Result<(), AllocError>
     ensures { IfOk result (λ _. tallies.new.items ≡ counted key.entry tallies.old.items) }
 {
     match place(tallies, &key) {
-        Ok(i) => tallies[i].raise(),
+        Ok(i) => tallies[i].count += 1,
         Err(i) => tallies.insert(i, Tally { key, count: 1 })?,
     }
     Ok(())

@@ -1,4 +1,4 @@
-use Rattle.std.proofs.Common.{List, ap, string_bytes, ℕ, ◌++◌, ◌∙◌, ◌≡◌}
+use Rattle.std.proofs.Common.{List, ap, string_bytes, ℕ, ◌∙◌, ◌≡◌}
 use Rattle.std.specs.Prelude.{slice_index}
 use Rattle.sw_summary.specs.BufferLines.{fill_line}
 use Rattle.sw_summary.proofs.Lists.{text_more}
@@ -8,12 +8,8 @@ pub loop-c-preserved : goal.loop-c-preserved
 loop-c-preserved c =
     let d = c.args.network.now in
     let fills = c.args.fills.now in
-    let here : List ℕ = string_bytes c.in_ok-fill_line.field-0 in
+    let here : List ℕ = fill_line d c.new.result (slice_index fills c.from.result) in
     let line : here ≡ fill_line d c.loop-c.c (slice_index fills c.loop-c.c) =
-    c.in_ok-fill_line.ensures ∙ ap (λ (k : ℕ). fill_line d k (slice_index fills c.from.result)) c.new.ensures
-    ∙ ap (λ (k : ℕ). fill_line d c.loop-c.c (slice_index fills k)) c.from.ensures
+    ap (λ (k : ℕ). fill_line d k (slice_index fills c.from.result)) c.new.ensures ∙ ap (λ (k : ℕ). fill_line d c.loop-c.c (slice_index fills k)) c.from.ensures
     in
-    let after : string_bytes c.push_str.new.self ≡ string_bytes c.loop-c.text ++ here =
-    c.in_ok-push_str.ensures.bytes ∙ ap (λ (l : List ℕ). string_bytes c.loop-c.text ++ l) c.as_str.ensures.value
-    in
-    text_more (λ (k : ℕ). fill_line d k (slice_index fills k)) c.loop-c.c (string_bytes c.loop-c.text) here (string_bytes c.push_str.new.self) c.loop-c.invariant line after
+    text_more (λ (k : ℕ). fill_line d k (slice_index fills k)) c.loop-c.c (string_bytes c.loop-c.text) here (string_bytes c.add_fill.new.text) c.loop-c.invariant line c.in_ok-add_fill.ensures

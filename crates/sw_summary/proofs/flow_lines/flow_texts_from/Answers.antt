@@ -1,22 +1,25 @@
-use Rattle.std.proofs.Common.{List, ap, string_bytes, ◌++◌, ◌∙◌, ◌≡◌, ℕ}
-use Rattle.sw_summary.specs.Counts.{asked_before, items_before}
+use Rattle.std.proofs.Common.{List, refl, string_bytes, ℕ}
+use Rattle.sw_summary.specs.Counts.{asked_before, asked_of, items_before, items_of}
+use Rattle.sw_summary.specs.Tallies.{found}
+use Rattle.sw_summary.specs.Texts.{flow_text}
 use Rattle.sw_summary.proofs.FlowSteps.{flow_done, rest_rises}
 use Rattle.sw_summary.proofs.flow_lines.flow_texts_from.Goals as goal
 
-pub flow_text-requires-clause-packets : goal.flow_text-requires-clause-packets
-flow_text-requires-clause-packets c =
+pub add_flow-requires-clause-packets : goal.add_flow-requires-clause-packets
+add_flow-requires-clause-packets c =
     rest_rises c.args.rest.now.packets.items c.loop-i.rest.packets.items (items_before c.args.network.now c.args.begun.now c.loop-i.i) c.loop-i.invariant.packets_left c.requires.packets
 
-pub flow_text-requires-clause-replies : goal.flow_text-requires-clause-replies
-flow_text-requires-clause-replies c =
+pub add_flow-requires-clause-replies : goal.add_flow-requires-clause-replies
+add_flow-requires-clause-replies c =
     rest_rises c.args.rest.now.replies.items c.loop-i.rest.replies.items (asked_before c.args.network.now c.args.begun.now c.loop-i.i) c.loop-i.invariant.replies_left c.requires.replies
 
 pub loop-i-preserved : goal.loop-i-preserved
 loop-i-preserved c =
-    let here : List ℕ = string_bytes c.in_ok-flow_text.field-0 in
-    let after : string_bytes c.push_str.new.self ≡ string_bytes c.loop-i.text ++ here =
-    c.in_ok-push_str.ensures.bytes ∙ ap (λ (l : List ℕ). string_bytes c.loop-i.text ++ l) c.as_str.ensures.value
+    let d = c.args.network.now in
+    let begun = c.args.begun.now in
+    let here : List ℕ =
+    flow_text d c.args.load.now begun (found c.loop-i.rest.packets.items (items_of d begun c.loop-i.i)) (found c.loop-i.rest.replies.items (asked_of d begun c.loop-i.i)) c.loop-i.i
     in
-    flow_done c.args.network.now c.args.load.now c.args.begun.now c.args.rest.now.packets.items c.args.rest.now.replies.items c.loop-i.i (string_bytes c.loop-i.text) here
-    (string_bytes c.push_str.new.self) c.loop-i.rest.packets.items c.loop-i.rest.replies.items c.flow_text.new.rest.packets.items c.flow_text.new.rest.replies.items c.loop-i.invariant
-    c.in_ok-flow_text.ensures.text after c.in_ok-flow_text.ensures.packets c.in_ok-flow_text.ensures.replies
+    flow_done d c.args.load.now begun c.args.rest.now.packets.items c.args.rest.now.replies.items c.loop-i.i (string_bytes c.loop-i.text) here (string_bytes c.add_flow.new.text)
+    c.loop-i.rest.packets.items c.loop-i.rest.replies.items c.add_flow.new.rest.packets.items c.add_flow.new.rest.replies.items c.loop-i.invariant refl c.in_ok-add_flow.ensures.text
+    c.in_ok-add_flow.ensures.packets c.in_ok-add_flow.ensures.replies

@@ -1,16 +1,25 @@
-use Rattle.std.proofs.Common.{append-nil, ap, sym, ◌++◌, ◌∙◌}
+use Rattle.std.proofs.Common.{append-nil, ap, false, rules, sym, true, ◌++◌, ◌∙◌, ◌≡◌}
 use Rattle.std.proofs.lemmas.List.{take_all}
 use Rattle.sw_summary.specs.Counts.{statuses_of}
-use Rattle.sw_summary.proofs.Lists.{grown, status_of_more}
+use Rattle.sw_summary.specs.Replies.{is_reply, status_of}
+use Rattle.sw_summary.proofs.Lists.{status_kept, status_pushed}
 use Rattle.sw_summary.proofs.status_lines.push_statuses.Goals as goal
 
 pub loop-packet-init : goal.loop-packet-init
 loop-packet-init c = sym (append-nil c.args.all.now.items)
 
+pub loop-packet-preserved-then-not-is_reply : goal.loop-packet-preserved-then-not-is_reply
+loop-packet-preserved-then-not-is_reply c =
+    let none : is_reply c.packet-item.result.bytes ≡ false = search rules in
+    status_kept c.args.packets.now c.loop-packet.packet-index c.packet-item.result c.loop-packet-test.true c.packet-item.is c.args.all.now.items c.loop-packet.all.items none c.loop-packet.invariant
+
 pub loop-packet-preserved : goal.loop-packet-preserved
 loop-packet-preserved c =
-    grown c.args.all.now.items _ _ c.loop-packet.all.items _ _ c.loop-packet.invariant
-    (status_of_more c.args.packets.now c.loop-packet.packet-index c.packet-item.result c.loop-packet-test.true c.packet-item.is) c.in_ok-push_status.ensures
+    let q = c.packet-item.result in
+    let is : is_reply q.bytes ≡ true = search rules in
+    let status : c.status_of.result ≡ status_of q.bytes = search rules in
+    status_pushed c.args.packets.now c.loop-packet.packet-index q c.loop-packet-test.true c.packet-item.is c.args.all.now.items c.loop-packet.all.items c.push.new.self.items c.status_of.result is status
+    c.loop-packet.invariant c.in_ok-push.ensures.items
 
 pub returns : goal.returns
 returns c =

@@ -1,10 +1,10 @@
-use Rattle.std.proofs.Common.{List, ap, string_bytes, subst, ◌∙◌, ◌≡◌, ℕ}
+use Rattle.std.proofs.Common.{List, ap, string_bytes, subst, ◌++◌, ◌∙◌, ◌≡◌, ℕ}
 use Rattle.std.specs.Prelude.{IfOk}
 use Rattle.sw_char.specs.PacketView.{PacketView}
 use Rattle.sw_summary.specs.Counts.{asked_by, forms, items_at}
 use Rattle.sw_summary.specs.Tallies.{TallyView, found}
 use Rattle.sw_summary.proofs.FlowSteps.{flow_text_is}
-use Rattle.sw_summary.proofs.flow_lines.flow_text.Goals as goal
+use Rattle.sw_summary.proofs.flow_lines.add_flow.Goals as goal
 
 pub returns-clause-text : goal.returns-clause-text
 returns-clause-text c =
@@ -22,6 +22,6 @@ returns-clause-text c =
     c.found_replies-answered.ensures.count ∙ ap (λ (ts : List TallyView). found ts (asked_by f c.deref-2.result.now f.reply)) c.deref_mut-2.ensures.value
     ∙ ap (λ (ps : List PacketView). found replies (asked_by f ps f.reply)) (c.deref-2.ensures.value ∙ c.in_ok-packets.ensures)
     in
-    subst (λ (l : List ℕ). IfOk c.flow_text_of.result (λ s. string_bytes s ≡ l))
+    subst (λ (l : List ℕ). IfOk c.add_line.result (λ _. string_bytes c.add_line.new.text ≡ string_bytes c.args.text.now ++ l))
     (flow_text_is c.args.network.now c.args.load.now begun i f packets replies c.found_packets-delivered.result c.found_replies-answered.result c.declared_flow-flow.ensures.flow came answers)
-    c.flow_text_of.ensures
+    c.add_line.ensures
