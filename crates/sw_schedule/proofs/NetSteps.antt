@@ -1,5 +1,5 @@
 -- Steps that a network's cells make one after another.
-use Rattle.std.proofs.Common.{Err, List, None, Ok, Result, Some, [], ap, arith, length, length-append, refl, replicate, subst, sym, ℕ, ◌++◌, ◌+◌, ◌<◌, ◌∙◌, ◌≡◌}
+use Rattle.std.proofs.Common.{Err, List, None, Ok, Option, Result, Some, [], ap, arith, length, length-append, refl, replicate, subst, sym, ℕ, ◌++◌, ◌+◌, ◌<◌, ◌∙◌, ◌≡◌}
 use Rattle.std.proofs.lemmas.List.{length-replicate}
 use Rattle.std.specs.Prelude.{IfOk}
 use Rattle.sw_machine.proofs.RunLists.{run_append}
@@ -18,6 +18,10 @@ use Rattle.sw_schedule.specs.declared.replayed.ReplayEnd.{ReplayEnd}
 use Rattle.sw_schedule.specs.declared.replayed.ReplayEnd.TheVariants.{Made, Refused}
 use Rattle.sw_schedule.specs.declared.replayed.Replayed.{Replayed}
 use Rattle.sw_schedule.specs.declared.replayed.StepRefusal.{StepRefusal}
+
+-- what a step and its answer came to, told of what they are
+pub makes_so : {R A : Type 0} {w u : NetView R A} {x y : Step} {r q : Option StepRefusal} → x ≡ y → r ≡ q → NetMakesOr w x r u → NetMakesOr w y q u
+makes_so {w = w} {u = u} {y = y} {r = r} step answer h = subst (λ (o : Option StepRefusal). NetMakesOr w y o u) answer (subst (λ (z : Step). NetMakesOr w z r u) step h)
 
 module _ {R A : Type 0} (v w u : NetView R A) (same : w.declared ≡ v.declared) where
   -- a step that is made once more

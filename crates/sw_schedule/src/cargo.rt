@@ -1,10 +1,10 @@
 //! The cargo of a step that begins a packet, as a line writes it.
 ghost use Rattle.std.specs.Prelude.{◌≡◌, IfOk, option_map};
-ghost use Rattle.sw_load.specs.Cargo.{bytes_of, pairs_of, repeated_of};
+ghost use Rattle.sw_load.specs.Cargo.{bytes_of, repeated_of};
 ghost use Rattle.sw_schedule.specs.Kept.{cargo_bytes};
 
 use std::alloc::{AllocError, Global};
-use sw_load::{count_of, hex_pair};
+use sw_load::{count_of, hex_pair, pairs_of};
 
 /// Cargo in no more memory than a few times its text.
 #[derive(Drop)]
@@ -26,15 +26,6 @@ impl Cargo {
     }
 }
 
-fn pairs_of(alloc: Global, text: &[u8]) -> Result<Option<Cargo>, AllocError>
-    ensures { IfOk result (λ o. option_map cargo_bytes o ≡ pairs_of text.now) }
-{
-    match sw_load::pairs_of(alloc, text)? {
-        Some(bytes) => Ok(Some(Cargo::Bytes(bytes))),
-        None => Ok(None),
-    }
-}
-
 fn repeated_of(high: u8, low: u8, digits: &[u8]) -> Option<Cargo>
     ensures { option_map cargo_bytes result ≡ repeated_of high low digits.now }
 {
@@ -53,8 +44,10 @@ pub(crate) fn cargo_of(alloc: Global, text: &[u8]) -> Result<Option<Cargo>, Allo
     ensures { IfOk result (λ o. option_map cargo_bytes o ≡ bytes_of text.now) }
 {
     if text.len() >= 3 && text[2] == b'*' {
-        Ok(repeated_of(text[0], text[1], &text[3..]))
-    } else {
-        pairs_of(alloc, text)
+        return Ok(repeated_of(text[0], text[1], &text[3..]));
+    }
+    match pairs_of(alloc, text)? {
+        Some(bytes) => Ok(Some(Cargo::Bytes(bytes))),
+        None => Ok(None),
     }
 }

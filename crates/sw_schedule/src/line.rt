@@ -1,9 +1,8 @@
 //! What a line of a schedule says.
-ghost use Rattle.std.specs.Prelude.{◌≡◌, ◌==◌, ◌∷◌, [], IfOk, IfSome, option_and_then, option_map, IfNone};
+ghost use Rattle.std.specs.Prelude.{◌≡◌, ◌==◌, ◌∷◌, [], IfOk, option_and_then, option_map};
 ghost use Rattle.std.specs.List.{slice_split};
 ghost use Rattle.sw_schedule.specs.Kept.{plain_step};
 ghost use Rattle.sw_schedule.specs.Lines.{at_channel, at_node, begin_of, channel_of, grant_of, is_skipped, node_of, repeated_of, step_of, words_of};
-ghost use Rattle.sw_config.specs.Entries.{Declaration};
 
 use crate::cargo::cargo_of;
 use crate::names::{channel_of, count_of, end_of, flow_of, node_of};
@@ -167,20 +166,6 @@ pub(crate) fn is_skipped(line: &[u8]) -> bool
     }
 }
 
-/// The count that a line begins with, and what stands behind it.
-fn counted<'a>(line: &'a [u8]) -> Option<(u32, &'a [u8])>
-    ensures some { IfSome result (λ r. (d : Declaration) → repeated_of d (words_of line.entry.now) ≡ option_map (λ s. record { count = r.0; step = s }) (step_of d (words_of r.1.now))) }
-    ensures none { IfNone result ((d : Declaration) → repeated_of d (words_of line.entry.now) ≡ option_map (λ s. record { count = 1; step = s }) (step_of d (words_of line.entry.now))) }
-{
-    let Some((word, rest)) = cut(line, b' ') else {
-        return None;
-    };
-    match count_of(word) {
-        Some(count) => Some((count, rest)),
-        None => None,
-    }
-}
-
 /// The step of a line, and how many times it is made.
 pub(crate) fn entry_of(
     alloc: Global,
@@ -189,8 +174,11 @@ pub(crate) fn entry_of(
 ) -> Result<Option<ScheduleEntry>, AllocError>
     ensures { IfOk result (λ o. o ≡ repeated_of network.now (words_of line.now)) }
 {
-    match counted(line) {
-        Some((count, rest)) => counted_entry(alloc, network, count, rest),
+    let Some((word, rest)) = cut(line, b' ') else {
+        return counted_entry(alloc, network, 1, line);
+    };
+    match count_of(word) {
+        Some(count) => counted_entry(alloc, network, count, rest),
         None => counted_entry(alloc, network, 1, line),
     }
 }

@@ -28,26 +28,6 @@ fn make(
     }
 }
 
-/// Makes the step so many times, up to where it is refused.
-fn make_repeated(
-    alloc: Global,
-    net: &mut Net<'_, SwitchRoutes<'_>, Policy>,
-    step: &Step,
-    count: u32,
-) -> Result<ReplayEnd, AllocError>
-    ensures network { net.new.declared ≡ net.old.declared }
-    ensures ends { IfOk result (λ o. NetEnds net.old (replicate count (machine_step step.now)) o net.new) }
-    ensures within { IfOk result (IsWithin count) }
-{
-    for made in 0..count {
-        match make(alloc, net, step)? {
-            None => {}
-            Some(refusal) => return Ok(ReplayEnd::Refused(made + 1, refusal)),
-        }
-    }
-    Ok(ReplayEnd::Made(count))
-}
-
 /// Makes the steps of an entry, up to the first that is refused.
 fn make_entry(
     alloc: Global,
@@ -59,7 +39,14 @@ fn make_entry(
     ensures within { IfOk result (IsWithin entry.now.count) }
 {
     let step = entry.step(alloc)?;
-    make_repeated(alloc, net, &step, entry.count())
+    let count = entry.count();
+    for made in 0..count {
+        match make(alloc, net, &step)? {
+            None => {}
+            Some(refusal) => return Ok(ReplayEnd::Refused(made + 1, refusal)),
+        }
+    }
+    Ok(ReplayEnd::Made(count))
 }
 
 /// Makes the steps of entries, up to the first that is refused.

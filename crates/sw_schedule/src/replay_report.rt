@@ -1,28 +1,13 @@
 //! What is told of the state in which a replay ends.
-ghost use Rattle.std.specs.Prelude.{◌≡◌, ◌↔◌, IfOk, IsTrue, map};
+ghost use Rattle.std.specs.Prelude.{◌≡◌, ◌↔◌, IfOk, IsTrue};
 ghost use Rattle.sw_net.specs.Delivery.{IsUndelivered};
-ghost use Rattle.sw_schedule.specs.Nets.{AreOutputsOfNet, IsTrueOfNet, TellsLockedUp};
+ghost use Rattle.sw_schedule.specs.Nets.{IsTrueOfNet, TellsLockedUp};
 ghost use Rattle.sw_schedule.specs.Reports.{report_of};
 
 use crate::replayed::{ReplayEnd, Replayed};
 use std::alloc::{AllocError, Global};
 use sw_arb::Policy;
-use sw_char::Packet;
 use sw_net::{Net, SwitchRoutes};
-
-/// The packets that came out at each node.
-fn outputs(
-    alloc: Global,
-    net: &Net<'_, SwitchRoutes<'_>, Policy>,
-) -> Result<Vec<Vec<Packet>>, AllocError>
-    ensures { IfOk result (λ all. AreOutputsOfNet net.now (map (λ packets. packets.items) all.items)) }
-{
-    let mut all = Vec::new(alloc);
-    for n in 0..net.network().nodes() {
-        all.push(net.came_out(alloc, n)?)?;
-    }
-    Ok(all)
-}
 
 /// Whether the network is locked up, where so many characters are undelivered.
 pub(crate) fn is_locked_up(net: &Net<'_, SwitchRoutes<'_>, Policy>, remaining: u64) -> bool
@@ -42,7 +27,10 @@ pub(crate) fn report(
     ensures report { IfOk result (λ r. IsTrueOfNet net.now (report_of r)) }
 {
     let undelivered = net.undelivered();
-    let came_out = outputs(alloc, net)?;
+    let mut came_out = Vec::new(alloc);
+    for n in 0..net.network().nodes() {
+        came_out.push(net.came_out(alloc, n)?)?;
+    }
     Ok(Replayed {
         outcome,
         undelivered,

@@ -51,17 +51,6 @@ pub(crate) struct Beginning {
     pub(crate) end: End,
 }
 
-/// The step itself, with its cargo written out.
-fn begin(alloc: Global, beginning: &Beginning) -> Result<Step, AllocError>
-    ensures { IfOk result (λ s. machine_step s ≡ begin_step beginning.now) }
-{
-    Ok(Step::Begin {
-        flow: beginning.flow,
-        cargo: beginning.cargo.bytes(alloc)?,
-        end: beginning.end,
-    })
-}
-
 /// How many times a step is made, and the step, in 16 bytes: what has cargo stands elsewhere.
 #[derive(Drop)]
 pub(crate) enum Packed {
@@ -124,7 +113,11 @@ impl ScheduleEntry {
     {
         match &self.packed {
             Packed::Plain(_, plain) => Ok(step_of(*plain)),
-            Packed::WithCargo(_, beginning) => begin(alloc, beginning),
+            Packed::WithCargo(_, beginning) => Ok(Step::Begin {
+                flow: beginning.flow,
+                cargo: beginning.cargo.bytes(alloc)?,
+                end: beginning.end,
+            }),
         }
     }
 }

@@ -15,7 +15,7 @@ use std::fmt::Write;
 use sw_char::End;
 use sw_config::Network;
 use sw_model::Step;
-use sw_output::{flow_name, node_name};
+use sw_output::{flow_name, node_name, packet_end_text};
 use sw_topo::Chan;
 
 fn add_channel(verb: &str, channel: Chan, text: &mut String) -> Result<(), AllocError>
@@ -40,20 +40,16 @@ fn add_node(network: &Network, verb: &str, node: u16, text: &mut String) -> Resu
     write!(text, "{verb} {name}")
 }
 
-fn end_text(end: End) -> &'static str
-    ensures { result.now ≡ end_text end }
-{
-    match end {
-        End::Eop => "EOP",
-        End::Eep => "EEP",
-    }
-}
-
 // Whether all these bytes are that one.
 fn are_all(byte: u8, bytes: &[u8]) -> bool
     ensures { result ≡ list_all (λ c. c == byte) bytes.now }
 {
-    bytes.iter().all(|other| *other == byte)
+    for other in bytes {
+        if *other != byte {
+            return false;
+        }
+    }
+    true
 }
 
 // All bytes as pairs of hexadecimal digits; where they are alike, one pair and how many they are.
@@ -85,7 +81,7 @@ fn add_beginning(
     ensures { IfOk result (λ _. string_bytes text.new ≡ string_bytes text.old ++ spaced (codes "begin" ∷ flow_name network.now flow ∷ end_text end ∷ cargo_text cargo.now ∷ [])) }
 {
     let name = flow_name(network, flow);
-    let end = end_text(end);
+    let end = packet_end_text(end);
     let cargo = cargo_text(alloc, cargo)?;
     write!(text, "begin {name} {end} {cargo}")
 }
