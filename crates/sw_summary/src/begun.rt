@@ -1,6 +1,6 @@
 //! The packets that a history begins.
-ghost use Rattle.std.specs.Prelude.{◌≡◌, ◌≤◌, ◌++◌, IfOk, length, map};
-ghost use Rattle.sw_machine.specs.Begun.{beginning, beginnings};
+ghost use Rattle.std.specs.Prelude.{◌≡◌, ◌≤◌, IfOk, length, map};
+ghost use Rattle.sw_machine.specs.Begun.{beginnings};
 ghost use Rattle.sw_model.specs.Steps.{machine_step};
 ghost use Rattle.sw_summary.specs.Counts.{form_of, forms, loaded, of_entry, of_flow};
 
@@ -27,30 +27,20 @@ impl<'a> Model for Begun<'a> {
     ghost view = { λ b. record { flow = b.flow; cargo = b.cargo.now; end = b.end } };
 }
 
-// The packet that the step begins, if it begins one.
-fn push_beginning<'a>(all: &mut Vec<Begun<'a>>, step: &'a Step) -> Result<(), AllocError>
-    ensures { IfOk result (λ _. all.new.items ≡ all.old.items ++ beginning (machine_step step.now)) }
-{
-    match step {
-        Step::Begin { flow, cargo, end } => {
-            all.push(Begun {
-                flow: *flow,
-                cargo: cargo.as_slice(),
-                end: *end,
-            })?;
-            Ok(())
-        }
-        _ => Ok(()),
-    }
-}
-
 /// The packets that the steps begin.
 pub(crate) fn beginnings<'a>(alloc: Global, steps: &'a [Step]) -> Result<Vec<Begun<'a>>, AllocError>
     ensures { IfOk result (λ all. all.items ≡ beginnings (map machine_step steps.now)) }
 {
     let mut all = Vec::new(alloc);
     for step in steps {
-        push_beginning(&mut all, step)?;
+        let Step::Begin { flow, cargo, end } = step else {
+            continue;
+        };
+        all.push(Begun {
+            flow: *flow,
+            cargo: cargo.as_slice(),
+            end: *end,
+        })?;
     }
     Ok(all)
 }

@@ -1,7 +1,6 @@
 //! Which commands nobody answers.
 ghost use Rattle.std.specs.Prelude.{◌≡◌, ◌<◌, ◌++◌, [], IfOk, length, slice_get, string_bytes};
 ghost use Rattle.std.specs.Option.{option_map_or};
-ghost use Rattle.sw_config.specs.Valid.{IsFlow};
 ghost use Rattle.sw_summary.specs.Texts.{unanswered_line, unanswered_of, unanswered_text, unanswered_texts};
 
 use crate::begun::{Begun, forms};
@@ -10,7 +9,7 @@ use crate::fate::{Fate, fated};
 use std::alloc::{AllocError, Global};
 use std::fmt::Write;
 use sw_char::Packet;
-use sw_config::{Flow, Network};
+use sw_config::Network;
 
 // How many of the flow's packets nobody answers, for this reason.
 fn push_line(
@@ -45,25 +44,6 @@ fn push_reasons(text: &mut String, name: &str, packets: &[Packet]) -> Result<(),
     push_line(text, name, packets, Fate::NoWay)
 }
 
-// The lines of the flow, of that number, if it ends at a target.
-fn push_flow(
-    alloc: Global,
-    network: &Network,
-    begun: &[Begun<'_>],
-    number: u16,
-    flow: &Flow,
-    text: &mut String,
-) -> Result<(), AllocError>
-    requires { IsFlow network.now.nodes flow.now }
-    ensures { IfOk result (λ _. string_bytes text.new ≡ string_bytes text.old ++ unanswered_of network.now begun.now number flow.now) }
-{
-    if !network.is_target(flow.to()) {
-        return Ok(());
-    }
-    let packets = forms(alloc, flow, number, begun)?;
-    push_reasons(text, flow.name(), &packets)
-}
-
 // The lines of the flow of that number, if it ends at a target.
 fn push_unanswered(
     alloc: Global,
@@ -76,7 +56,11 @@ fn push_unanswered(
     ensures { IfOk result (λ _. string_bytes text.new ≡ string_bytes text.old ++ option_map_or (unanswered_of network.now begun.now number) (slice_get network.now.flows number) []) }
 {
     let flow = declared_flow(network, number);
-    push_flow(alloc, network, begun, number, flow, text)
+    if !network.is_target(flow.to()) {
+        return Ok(());
+    }
+    let packets = forms(alloc, flow, number, begun)?;
+    push_reasons(text, flow.name(), &packets)
 }
 
 /// The lines of all flows.
