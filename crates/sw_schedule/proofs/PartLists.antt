@@ -1,15 +1,8 @@
 -- The cells of a network, and what each has, one after another.
-use Rattle.std.proofs.Common.{◌≡◌, ◌∙◌, ℕ, ◌+◌, ◌<◌, ◌≤◌, ◌++◌, ◌∷◌, List, Result, [], ap, append_assoc, arith, get_or, length, map, subst, sym, take}
+use Rattle.std.proofs.Common.{◌≡◌, ◌∙◌, ℕ, ◌+◌, ◌<◌, ◌≤◌, ◌++◌, ◌∷◌, List, [], ap, append_assoc, arith, get_or, length, map, subst, sym, take}
 use Rattle.std.proofs.lemmas.List.FromFn.{map-range_with_len_more}
 use Rattle.std.proofs.lemmas.List.{take_all, take_more}
-use Rattle.std.specs.Global.{Vec}
 use Rattle.std.specs.List.{AllZip, range_with_len}
-use Rattle.std.specs.Prelude.{IfOk}
-use Rattle.sw_net.specs.CellId.{CellId}
-use Rattle.sw_config.specs.Entries.{Declaration}
-use Rattle.sw_net.specs.Net.{NetView}
-use Rattle.sw_net.specs.declared.part.Part.{Part}
-use Rattle.sw_schedule.specs.Locked.{ArePartsAt, ArePartsOfNet, cells_of}
 
 -- one number more
 pub one_more : {X : Type 0} (f : ℕ → X) (all more : List X) (n : ℕ) → all ≡ map f (range_with_len 0 n) → more ≡ all ++ f n ∷ [] → more ≡ map f (range_with_len 0 (n + 1))
@@ -38,8 +31,3 @@ next_part {A} {B} Q xs i d ys more y lt is all one =
 -- what all of them have
 pub all_parts : {A B : Type 0} (Q : A → B → Type 0) (xs : List A) (i : ℕ) (ys : List B) → length xs ≤ i → AllZip Q (take i xs) ys → AllZip Q xs ys
 all_parts {A} {B} Q xs i ys ended all = subst (λ (l : List A). AllZip Q l ys) (take_all i xs ended) all
-
--- what the cells of the net's network have
-pub parts_if : {R A E : Type 0} (v : NetView R A) (d : Declaration) (cells : List CellId) (r : Result (Vec Part) E) → d ≡ v.declared → cells ≡ cells_of d
-    → IfOk r (λ (all : Vec Part). ArePartsAt v cells all.items) → IfOk r (λ (all : Vec Part). ArePartsOfNet v all.items)
-parts_if v d cells r same is told = subst (λ (l : List CellId). IfOk r (λ (all : Vec Part). ArePartsAt v l all.items)) (is ∙ ap cells_of same) told

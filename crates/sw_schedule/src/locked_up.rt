@@ -2,7 +2,7 @@
 ghost use Rattle.std.specs.Prelude.{◌≡◌, All, IfOk, option_map};
 ghost use Rattle.sw_net.specs.Places.{IsIn};
 ghost use Rattle.sw_net.specs.New.{IsNewNet};
-ghost use Rattle.sw_schedule.specs.Locked.{ArePartsAt, ArePartsOfNet, TellsLocked, TellsLockedAt, TellsLockedParts, cells_of};
+ghost use Rattle.sw_schedule.specs.Locked.{ArePartsOfNet, TellsLocked, TellsLockedAt, TellsLockedParts, cells_of};
 
 use crate::made_steps::make_all;
 use crate::replay_report::is_locked_up;
@@ -32,28 +32,16 @@ pub fn cells(alloc: Global, network: &Network) -> Result<Vec<CellId>, AllocError
     Ok(all)
 }
 
-/// What each of these cells, which are the network's, has.
-fn parts_of(
-    alloc: Global,
-    net: &Net<'_, SwitchRoutes<'_>, Policy>,
-    cells: &[CellId],
-) -> Result<Vec<Part>, AllocError>
-    requires { All (IsIn net.now.declared) cells.now }
-    ensures { IfOk result (λ all. ArePartsAt net.now cells.now all.items) }
-{
-    let mut all = Vec::new(alloc);
-    for cell in cells {
-        all.push(net.part(alloc, *cell)?)?;
-    }
-    Ok(all)
-}
-
 /// What each of its cells has.
 fn parts(alloc: Global, net: &Net<'_, SwitchRoutes<'_>, Policy>) -> Result<Vec<Part>, AllocError>
     ensures { IfOk result (λ all. ArePartsOfNet net.now all.items) }
 {
     let cells = cells(alloc, net.network())?;
-    parts_of(alloc, net, &cells)
+    let mut all = Vec::new(alloc);
+    for cell in cells.iter() {
+        all.push(net.part(alloc, *cell)?)?;
+    }
+    Ok(all)
 }
 
 /// What each cell has, if the network is locked up.
