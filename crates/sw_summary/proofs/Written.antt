@@ -11,12 +11,9 @@ line_is : (name b o d r w : List ℕ) → r ≡ w
     ≡ spaced (codes "flow" ∷ name ∷ codes "begun" ∷ b ∷ codes "of" ∷ o ∷ codes "delivered" ∷ d ∷ []) ++ (w ++ codes "\n")
 line_is name b o d r w same = rw same (simp append_assoc)
 
-pub lines_are : (a b c p q r : List ℕ) → a ≡ p → b ≡ q → c ≡ r → a ++ (b ++ c) ≡ p ++ (q ++ r)
-lines_are a b c p q r flows statuses unanswered = λ t. flows t ++ (statuses t ++ unanswered t)
-
-pub summary_is : (k n : ℕ) (a e p q r s : List ℕ) → k ≡ n → a ≡ p ++ (q ++ r) → e ≡ s
-    → codes "steps " ++ (decimal k ++ (codes "\n" ++ (a ++ e))) ≡ steps_line n ++ (p ++ (q ++ (r ++ s)))
-summary_is k n a e p q r s count lines caveats = rw (count, lines, caveats) (simp append_assoc)
+pub summary_is : (k n : ℕ) (a b c e p q r s : List ℕ) → k ≡ n → a ≡ p → b ≡ q → c ≡ r → e ≡ s
+    → codes "steps " ++ (decimal k ++ (codes "\n" ++ (a ++ (b ++ (c ++ e))))) ≡ steps_line n ++ (p ++ (q ++ (r ++ s)))
+summary_is k n a b c e p q r s count flows statuses unanswered caveats = rw (count, flows, statuses, unanswered, caveats) (simp append_assoc)
 
 -- a text to which six lines were added one after the other
 pub six_lines : (l m n o p q : List ℕ) (t : List ℕ) {a b c d e f : List ℕ} → a ≡ t ++ l → b ≡ a ++ m → c ≡ b ++ n → d ≡ c ++ o → e ≡ d ++ p → f ≡ e ++ q → f ≡ t ++ (l ++ (m ++ (n ++ (o ++ (p ++ (q ++ []))))))

@@ -1,9 +1,9 @@
 //! The text of a summary.
-ghost use Rattle.std.specs.Prelude.{◌≡◌, ◌++◌, ◌≤◌, IfOk, length, map, string_bytes};
+ghost use Rattle.std.specs.Prelude.{◌≡◌, ◌≤◌, IfOk, length, map, string_bytes};
 ghost use Rattle.sw_model.specs.Steps.{machine_step};
-ghost use Rattle.sw_summary.specs.Texts.{caveats, flow_texts, status_lines, summary_text, unanswered_texts};
+ghost use Rattle.sw_summary.specs.Texts.{caveats, summary_text};
 
-use crate::begun::{Begun, beginnings};
+use crate::begun::beginnings;
 use crate::flow_lines::flow_texts;
 use crate::status_lines::status_lines;
 use crate::unanswered::unanswered_texts;
@@ -21,23 +21,6 @@ fn caveats(shows_nothing: bool) -> &'static str
     } else {
         "time is not modelled\n"
     }
-}
-
-// What became of the packets that were begun, which statuses the replies have, and which commands nobody answers.
-fn told_lines(
-    alloc: Global,
-    network: &Network,
-    load: &Load,
-    begun: &[Begun<'_>],
-    out: &[Vec<Packet>],
-) -> Result<String, AllocError>
-    requires { length out.now ≤ 1024 }
-    ensures { IfOk result (λ s. string_bytes s ≡ flow_texts network.now load.now begun.now (map (λ packets. packets.items) out.now) ++ (status_lines (map (λ packets. packets.items) out.now) ++ unanswered_texts network.now begun.now)) }
-{
-    let flows = flow_texts(alloc, network, load, begun, out)?;
-    let statuses = status_lines(alloc, out)?;
-    let unanswered = unanswered_texts(alloc, network, begun)?;
-    format!(in alloc; "{flows}{statuses}{unanswered}")
 }
 
 /// The summary of these steps of the load and of the packets that came out. Whether it ends by saying that a run that drained shows
@@ -59,7 +42,9 @@ pub fn summary_of(
 {
     let count = steps.len();
     let begun = beginnings(alloc, steps)?;
-    let lines = told_lines(alloc, network, load, &begun, out)?;
+    let flows = flow_texts(alloc, network, load, &begun, out)?;
+    let statuses = status_lines(alloc, out)?;
+    let unanswered = unanswered_texts(alloc, network, &begun)?;
     let caveats = caveats(shows_nothing);
-    format!(in alloc; "steps {count}\n{lines}{caveats}")
+    format!(in alloc; "steps {count}\n{flows}{statuses}{unanswered}{caveats}")
 }

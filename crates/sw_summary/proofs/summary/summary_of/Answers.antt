@@ -17,12 +17,13 @@ returns c =
     let steps = c.args.steps.now in
     let begun : List Begun = beginnings (map machine_step steps) in
     let out : List (List PacketView) = map items_in c.args.out.now in
-    let a : List ℕ = string_bytes c.in_ok-lines.lines in
+    let a : List ℕ = string_bytes c.in_ok-flows.flows in
+    let b : List ℕ = string_bytes c.in_ok-statuses.statuses in
+    let e : List ℕ = string_bytes c.in_ok-unanswered.unanswered in
     let last : List ℕ = c.caveats-caveats.result.now in
-    let lines : a ≡ flow_texts d load begun out ++ (status_lines out ++ unanswered_texts d begun) =
-    c.in_ok-lines.ensures ∙ ap (λ (l : List Begun). flow_texts d load l out ++ (status_lines out ++ unanswered_texts d l)) (c.deref.ensures.value ∙ c.in_ok-begun.ensures)
-    in
-    let written : IfOk c.format.result (λ s. string_bytes s ≡ codes "steps " ++ (decimal (length steps) ++ (codes "\n" ++ (a ++ last)))) = search rules in
+    let flows : a ≡ flow_texts d load begun out = c.in_ok-flows.ensures ∙ ap (λ (l : List Begun). flow_texts d load l out) (c.deref.ensures.value ∙ c.in_ok-begun.ensures) in
+    let unanswered : e ≡ unanswered_texts d begun = c.in_ok-unanswered.ensures ∙ ap (unanswered_texts d) (c.deref-2.ensures.value ∙ c.in_ok-begun.ensures) in
+    let written : IfOk c.format.result (λ s. string_bytes s ≡ codes "steps " ++ (decimal (length steps) ++ (codes "\n" ++ (a ++ (b ++ (e ++ last)))))) = search rules in
     subst (λ (l : List ℕ). IfOk c.format.result (λ s. string_bytes s ≡ l))
-    (summary_is (length steps) (length (map machine_step steps)) a last (flow_texts d load begun out) (status_lines out) (unanswered_texts d begun) (caveats c.args.shows_nothing)
-    (sym (length-map steps machine_step)) lines c.caveats-caveats.ensures) written
+    (summary_is (length steps) (length (map machine_step steps)) a b e last (flow_texts d load begun out) (status_lines out) (unanswered_texts d begun) (caveats c.args.shows_nothing)
+    (sym (length-map steps machine_step)) flows c.in_ok-statuses.ensures unanswered c.caveats-caveats.ensures) written
