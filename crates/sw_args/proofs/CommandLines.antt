@@ -1,16 +1,17 @@
 -- What clap's matches say of the words.
 use Rattle.std.proofs.Common.{◌≡◌, ◌||◌, ◌+◌, ◌<◌, Bor, List, ℕ, [], Option, codes, refl, sym, ap, ◌∙◌, subst, true, false, inl, inr, length, take, get_or}
 use Rattle.std.proofs.lemmas.List.Sums.{fold_more}
-use Rattle.std.specs.Prelude.{IfErr, IfOk, IfSome, Result, Ok, Err, Some, None}
+use Rattle.std.specs.Prelude.{IfErr, IfOk, IfSome, Result, Ok, Err, Some, None, option_map}
 use Rattle.std.specs.Option.{unwrap_or}
 use Rattle.clap.specs.Built.{AddsArg, AddsSubcommand}
 use Rattle.clap.specs.Simple.{app_of_fields, with_rule, with_subcommand}
-use Rattle.clap.specs.Words.{App, Row, Rule, app_of, rule_of, HasKind, HasMatchesOf, fault_of, is_simple, is_simple_and_free, kind_of, subcommand_of, subcommand_rows_of}
+use Rattle.clap.specs.Words.{App, Row, Rule, app_of, rule_of, HasKind, HasMatchesOf, fault_of, is_simple, is_simple_and_free, kind_of, subcommand_name_of, subcommand_of, subcommand_rows_of}
 use Rattle.clap.specs.declared.builder.Arg.{Arg}
 use Rattle.clap.specs.declared.builder.Command.{Command}
 use Rattle.clap.specs.declared.builder.Command.TheViews.{out-Command}
 use Rattle.clap.specs.declared.builder.command.Command.TheOpen.{Command-F}
 use Rattle.clap.specs.declared.parser.matches.ArgMatches.{ArgMatches}
+use Rattle.clap.specs.declared.parser.matches.ArgMatches.TheViews.{out-ArgMatches}
 use Rattle.clap.specs.declared.error.Error.{Error}
 use Rattle.sw_args.specs.declared.call.Asked.{Asked}
 use Rattle.sw_args.specs.declared.call.Call.{Call}
@@ -18,7 +19,7 @@ use Rattle.sw_args.specs.declared.call.WordsFault.{WordsFault}
 use Rattle.sw_args.specs.declared.parts.Subcommand.{Subcommand}
 use Rattle.sw_args.specs.declared.call.WordsFault.TheVariants.{Help, Refused, Memory}
 use Rattle.sw_args.specs.Parts.{Part, part_rule, subcommand_app, with_parts, with_subcommands}
-use Rattle.sw_args.specs.CommandLine.{swcheck_app, AreAll, Gives, IsCallOf, IsMade, IsMet, IsOf, IsOption, Refuses, ShowsKind, Tells}
+use Rattle.sw_args.specs.CommandLine.{swcheck_app, AreAll, Gives, IsCallOf, IsMade, IsMet, IsOf, IsOption, IsToldAs, Refuses}
 
 swcheck_simple : is_simple swcheck_app ≡ true
 swcheck_simple = refl
@@ -35,8 +36,33 @@ matched_rows app words m is found free =
       ap (λ (a : App). fault_of a words) (sym is) ∙ free (ap is_simple_and_free is ∙ swcheck_free),
     )
 
+-- the subcommand that was met, by its name and its values
+named : {S : Type 0} (f : S → List ℕ × List Row) (o : Option S) (name : List ℕ) (values : List Row) → Some name ≡ option_map (λ b. (f b).0) o
+    → Some values ≡ option_map (λ p. p.1) (option_map f o) → option_map f o ≡ Some (name, values)
+named f None name values first second = absurd cc
+named f (Some b) name values first second =
+    ap Some (λ i. (unwrap_or (sym first i) name, unwrap_or (sym second i) values))
+
+-- a call of it is met
+pub met : (m : ArgMatches) (name : List ℕ) (values : List Row) (call : Call) → Some name ≡ subcommand_name_of m
+    → Some values ≡ option_map (λ p. p.1) (subcommand_rows_of m) → IsCallOf name values call → IsMet (subcommand_rows_of m) call values
+met m name values call first second is = (name, named _ (out-ArgMatches m).subcommand name values first second, is)
+
+-- where it is no call, none is met
+pub not_met : (m : ArgMatches) (name : List ℕ) (values : List Row) → Some name ≡ subcommand_name_of m
+    → Some values ≡ option_map (λ p. p.1) (subcommand_rows_of m) → ((call : Call) → IsCallOf name values call → ⊥)
+    → (call : Call) (others : List Row) → IsMet (subcommand_rows_of m) call others → ⊥
+not_met m name values first second none call others is =
+    let same = sym (named _ (out-ArgMatches m).subcommand name values first second) ∙ is.1 in
+    none call (subst (λ (o : Option (List ℕ × List Row)). IsCallOf (unwrap_or o (name, values)).0 (unwrap_or o (name, values)).1 call) (sym same) is.2)
+
+-- where no subcommand was met, there is no call
+pub none_met : (o : Option (List ℕ × List Row)) → None ≡ option_map (λ p. p.1) o → (call : Call) (values : List Row) → IsMet o call values → ⊥
+none_met o none call values is =
+    let both : None ≡ Some values = none ∙ ap (λ (o : Option (List ℕ × List Row)). option_map (λ p. p.1) o) is.1 in absurd cc
+
 -- a call of the matches is one of the words
-pub gives : (app : App) (words : List (List ℕ)) (m : ArgMatches) (asked : Asked) (call : Call) (values : List Row) → app ≡ swcheck_app
+gives : (app : App) (words : List (List ℕ)) (m : ArgMatches) (asked : Asked) (call : Call) (values : List Row) → app ≡ swcheck_app
     → HasMatchesOf app words m → (is_simple_and_free app ≡ true → fault_of app words ≡ [])
     → IsMet (subcommand_rows_of m) call values → asked.call ≡ call → AreAll (codes "FILE") values asked.files.items → IsOption (codes "hints") values asked.hints
     → Gives words asked
@@ -47,21 +73,22 @@ gives app words m asked call values is found free (name, met, is_call) of_call i
       (name, values, same ∙ met, subst (IsCallOf name values) (sym of_call) is_call, is_files, is_hints),
     )
 
+pub all_given : (app : App) (words : List (List ℕ)) (m : ArgMatches) (told : Result Asked WordsFault) (call : Call) (values : List Row) → app ≡ swcheck_app
+    → HasMatchesOf app words m → (is_simple_and_free app ≡ true → fault_of app words ≡ [])
+    → IsMet (subcommand_rows_of m) call values → IfOk told (λ asked. asked.call ≡ call) → IfOk told (λ asked. AreAll (codes "FILE") values asked.files.items)
+    → IfOk told (λ asked. IsOption (codes "hints") values asked.hints) → IfOk told (Gives words)
+all_given app words m (Ok asked) call values is found free met of_call files hints = gives app words m asked call values is found free met of_call files hints
+all_given app words m (Err fault) call values is found free met of_call files hints = tt
+
+-- want of memory may come of any words
+pub memory_refused : (words : List (List ℕ)) (told : Result Asked WordsFault) → IfErr told (λ fault. fault ≡ Memory) → IfErr told (Refuses words)
+memory_refused words (Ok asked) is = tt
+memory_refused words (Err fault) is = subst (Refuses words) (sym is) tt
+
 among : (app : App) (words : List (List ℕ)) (e : Error) → app ≡ swcheck_app
     → (is_simple_and_free app ≡ true → HasKind (fault_of app words) e) → HasKind (fault_of swcheck_app words) e
 among app words e is has =
     subst (λ (a : App). HasKind (fault_of a words) e) is (has (ap is_simple_and_free is ∙ swcheck_free))
-
--- what was told is the call, or the fault
-pub calls : (words : List (List ℕ)) (told : Result Asked WordsFault) → Tells words told → IfOk told (Gives words)
-calls words (Ok asked) tells = tells
-calls words (Err f) tells = tt
-
-pub faults : (words : List (List ℕ)) (told : Result Asked WordsFault) → Tells words told → IfErr told (Refuses words)
-faults words (Ok asked) tells = tt
-faults words (Err (Help text)) tells = tells
-faults words (Err (Refused text)) tells = tells
-faults words (Err Memory) tells = tt
 
 -- what holds of an option's value, if there is one, holds of this one
 pub of_some : {X : Type 0} (P : X → Type 0) (o : Option X) (x : X) → IfSome o P → o ≡ Some x → P x
@@ -70,8 +97,8 @@ of_some P (Some y) x each is = subst P (ap (λ o. unwrap_or o y) is) each
 
 -- the fault that tells of an error of clap's tells of one that the words have
 pub refuses : (app : App) (words : List (List ℕ)) (e : Error) (f : WordsFault) → app ≡ swcheck_app
-    → (is_simple_and_free app ≡ true → HasKind (fault_of app words) e) → ShowsKind (kind_of e) f → Tells words (Err f)
-refuses app words e Memory is has shows = shows
+    → (is_simple_and_free app ≡ true → HasKind (fault_of app words) e) → IsToldAs (kind_of e) f → Refuses words f
+refuses app words e Memory is has shows = tt
 refuses app words e (Help text) is has shows =
     elim (among app words e is has) [
       | inl memory ↦ absurd (elim shows [ inl help ↦ cc | inr version ↦ cc ])

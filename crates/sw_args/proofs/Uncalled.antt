@@ -4,13 +4,9 @@ use Rattle.std.specs.Prelude.{IfNone, Some, None}
 use Rattle.std.specs.Str.{bytes_eq}
 use Rattle.std.proofs.lemmas.Slice.Eq.{bytes_eq-Decides}
 use Rattle.clap.specs.Words.{Row, first_of}
-use Rattle.sw_args.specs.CommandLine.{IsCallOf, IsCount, is_among, most_seed, most_steps, most_tries, most_workers, plain_names}
+use Rattle.sw_args.specs.CommandLine.{IsCallOf, IsCount, is_among, most_seed, most_steps, most_tries, most_workers, other_names, plain_names}
 use Rattle.sw_args.specs.declared.call.Call.{Call}
-use Rattle.sw_args.specs.declared.call.Call.TheVariants.{Audit, Init, Run, Witness}
-
-if_none : {A : Type 0} {P : Type 0} (o : Option A) → P → IfNone o P
-if_none None p = p
-if_none (Some x) p = tt
+use Rattle.sw_args.specs.declared.call.Call.TheVariants.{Route, Check, Replay, Audit, Init, Run, Witness}
 
 differ : (a b : List ℕ) → bytes_eq a b ≡ false → a ≡ b → ⊥
 differ a b other is = true≢false (sym ((bytes_eq-Decides a b).1 is) ∙ other)
@@ -60,8 +56,8 @@ without_seed values none call is = let seed = ((numbered _ values call is).1 ref
 
 -- the name of a call is one of these
 named : (name : List ℕ) (values : List Row) (call : Call) → IsCallOf name values call
-    → (bytes_eq name (codes "audit") || (bytes_eq name (codes "init") || (bytes_eq name (codes "route") || (bytes_eq name (codes "check") || (bytes_eq name (codes "replay")
-    || (bytes_eq name (codes "run") || (bytes_eq name (codes "rmap") || (bytes_eq name (codes "witness") || is_among plain_names name)))))))) ≡ true
+    → (bytes_eq name (codes "route") || (bytes_eq name (codes "check") || (bytes_eq name (codes "replay")
+    || (is_among plain_names name || is_among other_names name)))) ≡ true
 named name values (Audit json quiet certificates) is = rw is.0
 named name values call is = rw is.0
 
@@ -72,26 +68,45 @@ apart a b not = go (bytes_eq a b) refl
     go true is = absurd (not ((bytes_eq-Decides a b).0 is))
     go false is = refl
 
+-- of one of the others, if of any
+pub unpaired : (name : List ℕ) (values : List Row) (o : Option Call) → (name ≡ codes "route" → ⊥) → (name ≡ codes "check" → ⊥) → (name ≡ codes "replay" → ⊥)
+    → IfNone o (is_among plain_names name ≡ false) → IfNone o ((call : Call) → IsCallOf name values call → is_among other_names name ≡ true)
+unpaired name values (Some x) route check replay plain = tt
+unpaired name values None route check replay plain = λ call is.
+    rw (← (apart _ _ route), ← (apart _ _ check), ← (apart _ _ replay), plain) at (named name values call is)
+
 -- of no subcommand
 pub unnamed : (name : List ℕ) (values : List Row) (o : Option Call) → (name ≡ codes "audit" → ⊥) → (name ≡ codes "init" → ⊥)
-    → (name ≡ codes "route" → ⊥) → (name ≡ codes "check" → ⊥) → (name ≡ codes "replay" → ⊥) → (name ≡ codes "run" → ⊥) → (name ≡ codes "rmap" → ⊥)
-    → (name ≡ codes "witness" → ⊥) → IfNone o (is_among plain_names name ≡ false) → IfNone o ((call : Call) → IsCallOf name values call → ⊥)
-unnamed name values (Some x) audit init route check replay run rmap witness plain = tt
-unnamed name values None audit init route check replay run rmap witness plain = λ call is.
-    let called = rw (← (apart _ _ audit), ← (apart _ _ init), ← (apart _ _ route), ← (apart _ _ check), ← (apart _ _ replay), ← (apart _ _ run), ← (apart _ _ rmap), ← (apart _ _ witness), plain)
-    at (named name values call is) in
-    true≢false (sym called)
+    → (name ≡ codes "run" → ⊥) → (name ≡ codes "rmap" → ⊥) → (name ≡ codes "witness" → ⊥)
+    → IfNone o ((call : Call) → IsCallOf name values call → is_among other_names name ≡ true) → IfNone o ((call : Call) → IsCallOf name values call → ⊥)
+unnamed name values (Some x) audit init run rmap witness other = tt
+unnamed name values None audit init run rmap witness other = λ call is.
+    let called : (bytes_eq name (codes "audit") || (bytes_eq name (codes "init") || (bytes_eq name (codes "run") || (bytes_eq name (codes "rmap")
+    || (bytes_eq name (codes "witness") || false))))) ≡ true = other call is in
+    true≢false (sym (rw (← (apart _ _ audit), ← (apart _ _ init), ← (apart _ _ run), ← (apart _ _ rmap), ← (apart _ _ witness)) at called))
 
 filled : (o : Option (List ℕ)) (v : List ℕ) → None ≡ o → o ≡ Some v → ⊥
 filled o v none some = let both : None ≡ Some v = none ∙ some in absurd cc
 
 -- of a subcommand that wants a file
-filed : (name : List ℕ) (values : List Row) → (name ≡ codes "audit" → ⊥) → (name ≡ codes "init" → ⊥) → None ≡ first_of (codes "FILE") values
+pub filed : (name : List ℕ) (values : List Row) → (name ≡ codes "audit" → ⊥) → (name ≡ codes "init" → ⊥) → None ≡ first_of (codes "FILE") values
     → (call : Call) → IsCallOf name values call → ⊥
 filed name values audit init none (Audit json quiet certificates) is = audit is.0
 filed name values audit init none (Init sample) is = init is.0
 filed name values audit init none call is = filled _ _ none is.1
 
-pub without_file : (name : List ℕ) (values : List Row) (o : Option Call) → (name ≡ codes "audit" → ⊥) → (name ≡ codes "init" → ⊥)
-    → None ≡ first_of (codes "FILE") values → IfNone o ((call : Call) → IsCallOf name values call → ⊥)
-without_file name values o audit init none = if_none o (filed name values audit init none)
+-- of a subcommand that wants a second value
+pub without_flow : (name : List ℕ) (values : List Row) → name ≡ codes "route" → None ≡ first_of (codes "FLOW") values
+    → (call : Call) → IsCallOf name values call → ⊥
+without_flow name values at none (Route file flow json) is = filled _ _ none is.2
+without_flow name values at none call is = differ _ (codes "route") refl (sym is.0 ∙ at)
+
+pub without_certificate : (name : List ℕ) (values : List Row) → name ≡ codes "check" → None ≡ first_of (codes "CERT") values
+    → (call : Call) → IsCallOf name values call → ⊥
+without_certificate name values at none (Check file certificate json) is = filled _ _ none is.2
+without_certificate name values at none call is = differ _ (codes "check") refl (sym is.0 ∙ at)
+
+pub without_schedule : (name : List ℕ) (values : List Row) → name ≡ codes "replay" → None ≡ first_of (codes "SCHEDULE") values
+    → (call : Call) → IsCallOf name values call → ⊥
+without_schedule name values at none (Replay file schedule json) is = filled _ _ none is.2
+without_schedule name values at none call is = differ _ (codes "replay") refl (sym is.0 ∙ at)

@@ -1,5 +1,5 @@
 -- The words that the program takes.
-use Rattle.std.specs.Prelude.{◌≡◌, ◌≢◌, ◌≤◌, ◌<◌, ◌⊎◌, ◌↔◌, ℕ, Bool, List, [], ◌∷◌, Option, Some, codes, false, map, option_map, pos, true, unwrap_or, Result, Ok, Err}
+use Rattle.std.specs.Prelude.{◌≡◌, ◌≢◌, ◌≤◌, ◌<◌, ◌⊎◌, ◌↔◌, ℕ, Bool, List, [], ◌∷◌, Option, Some, codes, false, map, option_map, pos, true, unwrap_or}
 use Rattle.std.specs.List.{list_any}
 use Rattle.std.specs.Str.{bytes_eq}
 use Rattle.std.specs.Borrow.{Bor}
@@ -272,6 +272,10 @@ IsCallOf name values (Init sample) = (name ≡ codes "init") × IsOption (codes 
 abbrev pub plain_names : List (List ℕ)
 plain_names = codes "decide" ∷ codes "report" ∷ codes "migrate" ∷ codes "explain" ∷ codes "draw" ∷ codes "mend" ∷ codes "margin" ∷ []
 
+-- the subcommands that want no file, or more than one value beside it
+abbrev pub other_names : List (List ℕ)
+other_names = codes "audit" ∷ codes "init" ∷ codes "run" ∷ codes "rmap" ∷ codes "witness" ∷ []
+
 -- the name is one of these
 abbrev pub is_among : List (List ℕ) → List ℕ → Bool
 is_among names name = list_any (bytes_eq name) names
@@ -308,15 +312,14 @@ ShowsKind kind Memory = ⊥
 ShowsKind kind (Help text) = (kind ≡ DisplayHelp) ⊎ (kind ≡ DisplayVersion)
 ShowsKind kind (Refused text) = (kind ≢ OutOfMemory) × (kind ≢ DisplayHelp) × (kind ≢ DisplayVersion)
 
+-- the same, or want of memory
+abbrev pub IsToldAs : ErrorKind → WordsFault → Type 0
+IsToldAs kind Memory = Unit {0}
+IsToldAs kind (Help text) = ShowsKind kind (Help text)
+IsToldAs kind (Refused text) = ShowsKind kind (Refused text)
+
 -- the fault tells of an error that clap's own matches of the words meet first; want of memory apart
 abbrev pub Refuses : List (List ℕ) → WordsFault → Type 0
 Refuses words Memory = Unit {0}
 Refuses words (Help text) = (kind : ErrorKind) × IsAmong kind (fault_of swcheck_app words) × ShowsKind kind (Help text)
 Refuses words (Refused text) = (kind : ErrorKind) × IsAmong kind (fault_of swcheck_app words) × ShowsKind kind (Refused text)
-
--- what the words come to where no growth was refused: a call, or a fault that is none of memory
-abbrev pub Tells : List (List ℕ) → Result Asked WordsFault → Type 0
-Tells words (Ok asked) = Gives words asked
-Tells words (Err (Help text)) = Refuses words (Help text)
-Tells words (Err (Refused text)) = Refuses words (Refused text)
-Tells words (Err Memory) = ⊥

@@ -1,7 +1,7 @@
 //! The words of the command line.
 ghost use Rattle.std.specs.Prelude.{IfOk};
-ghost use Rattle.clap.specs.Words.{App, kind_of, with_subcommand};
-ghost use Rattle.sw_args.specs.CommandLine.{IsMade, IsOf, ShowsKind, swcheck_app, top_app};
+ghost use Rattle.clap.specs.Words.{kind_of};
+ghost use Rattle.sw_args.specs.CommandLine.{IsOf, IsToldAs, swcheck_app};
 ghost use Rattle.sw_args.specs.Parts.{HasBesides};
 
 use crate::call::WordsFault;
@@ -235,29 +235,7 @@ const LAST_SUBCOMMANDS: &[Subcommand] = &[
     },
 ];
 
-// The program's command without its subcommands.
-fn top_command<'a>(alloc: Global) -> Command<'a>
-    ensures { IsOf top_app result }
-{
-    let command = Command::new(alloc, "swcheck").about("Checks SpaceWire networks");
-    command.version(RELEASE).subcommand_required(true)
-}
-
-// The command with the subcommand besides, if that was made.
-fn with_subcommand<'a>(
-    command: Command<'a>,
-    made: Result<Command<'a>, AllocError>,
-) -> Result<Command<'a>, AllocError>
-    ensures { (a b : App) → IsOf a command.entry → IfOk made.entry (IsMade b) → IfOk result (IsOf (with_subcommand a b.top)) }
-{
-    match made {
-        Ok(subcommand) => command.subcommand(subcommand),
-        Err(refused) => {
-            drop(command);
-            Err(refused)
-        }
-    }
-}
+const NO_WORDS: &[&str] = &[];
 
 // The command, if it was made, with the subcommands of a table besides, in their order.
 fn with_subcommands<'a>(
@@ -269,7 +247,14 @@ fn with_subcommands<'a>(
 {
     let mut command = made?;
     for row in rows {
-        command = with_subcommand(command, subcommand_of(alloc, row))?;
+        match subcommand_of(alloc, row) {
+            Ok(subcommand) => command = command.subcommand(subcommand)?,
+            Err(refused) => {
+                // By its own parse clap lets a command go: so no drop of one is proved here.
+                drop(command.try_get_matches_from(NO_WORDS));
+                return Err(refused);
+            }
+        }
     }
     Ok(command)
 }
@@ -277,22 +262,26 @@ fn with_subcommands<'a>(
 pub(crate) fn swcheck_command<'a>(alloc: Global) -> Result<Command<'a>, AllocError>
     ensures { IfOk result (IsOf swcheck_app) }
 {
-    let command = with_subcommands(alloc, Ok(top_command(alloc)), FIRST_SUBCOMMANDS);
+    let command = Command::new(alloc, "swcheck").about("Checks SpaceWire networks");
+    let command = command.version(RELEASE).subcommand_required(true);
+    let command = with_subcommands(alloc, Ok(command), FIRST_SUBCOMMANDS);
     let command = with_subcommands(alloc, command, NEXT_SUBCOMMANDS);
     with_subcommands(alloc, command, LAST_SUBCOMMANDS)
 }
 
 // How an error of clap's is told. That of a growth that was refused is told as any other such.
-pub(crate) fn fault_of(alloc: Global, error: &clap::Error) -> Result<WordsFault, AllocError>
-    ensures { IfOk result (ShowsKind (kind_of error.now)) }
+pub(crate) fn fault_of(alloc: Global, error: &clap::Error) -> WordsFault
+    ensures { IsToldAs (kind_of error.now) result }
 {
     if error.kind() == ErrorKind::OutOfMemory {
-        return Err(AllocError);
+        return WordsFault::Memory;
     }
-    let text = error.to_string(alloc)?;
+    let Ok(text) = error.to_string(alloc) else {
+        return WordsFault::Memory;
+    };
     if error.use_stderr() {
-        Ok(WordsFault::Refused(text))
+        WordsFault::Refused(text)
     } else {
-        Ok(WordsFault::Help(text))
+        WordsFault::Help(text)
     }
 }

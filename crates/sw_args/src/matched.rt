@@ -1,9 +1,10 @@
 //! What the words ask for.
-ghost use Rattle.std.specs.Prelude.{◌≡◌, ◌≢◌, List, Some, codes, false, map, IfOk, IfErr, IfNone, IfSome};
+ghost use Rattle.std.specs.Prelude.{◌≡◌, ◌≢◌, List, Some, codes, false, map, true, IfOk, IfErr, IfNone, IfSome};
 ghost use Rattle.clap.specs.Walk.{first_of};
 ghost use Rattle.clap.specs.Words.{Row, found_of, rows_of, subcommand_rows_of};
 ghost use Rattle.sw_args.specs.declared.call.Call.{Call};
-ghost use Rattle.sw_args.specs.CommandLine.{AreAll, Gives, IsCallOf, IsMet, IsOption, Refuses, Tells, is_among, plain_names};
+ghost use Rattle.sw_args.specs.declared.call.WordsFault.TheVariants.{Memory};
+ghost use Rattle.sw_args.specs.CommandLine.{AreAll, Gives, IsCallOf, IsMet, IsOption, Refuses, is_among, other_names, plain_names};
 
 use crate::call::{Asked, Call, WordsFault};
 use crate::command_line::{
@@ -11,44 +12,7 @@ use crate::command_line::{
 };
 use crate::values::{all_of, count_of, is_set, value_of};
 use clap::ArgMatches;
-use std::alloc::{AllocError, Global};
-
-// The call of `route`.
-fn route_call<'a>(file: &'a str, values: &ArgMatches<'a>) -> Option<Call<'a>>
-    requires { first_of (codes "FILE") (rows_of (found_of values.now)) ≡ Some file.now }
-    ensures calls { IfSome result (IsCallOf (codes "route") (rows_of (found_of values.now))) }
-    ensures none { IfNone result ((call : Call) → IsCallOf (codes "route") (rows_of (found_of values.now)) call → ⊥) }
-{
-    let flow = value_of(values, "FLOW")?;
-    let json = is_set(values, "json");
-    Some(Call::Route { file, flow, json })
-}
-
-// The call of `check`.
-fn check_call<'a>(file: &'a str, values: &ArgMatches<'a>) -> Option<Call<'a>>
-    requires { first_of (codes "FILE") (rows_of (found_of values.now)) ≡ Some file.now }
-    ensures calls { IfSome result (IsCallOf (codes "check") (rows_of (found_of values.now))) }
-    ensures none { IfNone result ((call : Call) → IsCallOf (codes "check") (rows_of (found_of values.now)) call → ⊥) }
-{
-    Some(Call::Check {
-        file,
-        certificate: value_of(values, "CERT")?,
-        json: is_set(values, "json"),
-    })
-}
-
-// The call of `replay`.
-fn replay_call<'a>(file: &'a str, values: &ArgMatches<'a>) -> Option<Call<'a>>
-    requires { first_of (codes "FILE") (rows_of (found_of values.now)) ≡ Some file.now }
-    ensures calls { IfSome result (IsCallOf (codes "replay") (rows_of (found_of values.now))) }
-    ensures none { IfNone result ((call : Call) → IsCallOf (codes "replay") (rows_of (found_of values.now)) call → ⊥) }
-{
-    Some(Call::Replay {
-        file,
-        schedule: value_of(values, "SCHEDULE")?,
-        json: is_set(values, "json"),
-    })
-}
+use std::alloc::Global;
 
 // The call of `run`.
 fn run_call<'a>(file: &'a str, values: &ArgMatches<'a>) -> Option<Call<'a>>
@@ -120,26 +84,6 @@ fn witness_call<'a>(file: &'a str, values: &ArgMatches<'a>) -> Option<Call<'a>>
     Some(Call::Witness { file, tries, seed })
 }
 
-// The call of `audit`.
-fn audit_call<'a>(values: &ArgMatches<'a>) -> Call<'a>
-    ensures { IsCallOf (codes "audit") (rows_of (found_of values.now)) result }
-{
-    Call::Audit {
-        json: is_set(values, "json"),
-        quiet: is_set(values, "quiet"),
-        certificates: value_of(values, "certificates"),
-    }
-}
-
-// The call of `init`.
-fn init_call<'a>(values: &ArgMatches<'a>) -> Call<'a>
-    ensures { IsCallOf (codes "init") (rows_of (found_of values.now)) result }
-{
-    Call::Init {
-        name: value_of(values, "NAME"),
-    }
-}
-
 // The call of a subcommand that wants no value but the file's, if the name is of one.
 fn plain_call<'a>(name: &str, file: &'a str, values: &ArgMatches<'a>) -> Option<Call<'a>>
     requires { first_of (codes "FILE") (rows_of (found_of values.now)) ≡ Some file.now }
@@ -172,6 +116,44 @@ fn plain_call<'a>(name: &str, file: &'a str, values: &ArgMatches<'a>) -> Option<
     }
 }
 
+// The call of a subcommand that wants one value beside the file's, or none.
+fn pair_call<'a>(name: &str, file: &'a str, values: &ArgMatches<'a>) -> Option<Call<'a>>
+    requires { first_of (codes "FILE") (rows_of (found_of values.now)) ≡ Some file.now }
+    ensures calls { IfSome result (IsCallOf name.now (rows_of (found_of values.now))) }
+    ensures none { IfNone result ((call : Call) → IsCallOf name.now (rows_of (found_of values.now)) call → is_among other_names name.now ≡ true) }
+{
+    let json = is_set(values, "json");
+    match name {
+        "route" => {
+            let Some(flow) = value_of(values, "FLOW") else {
+                return None;
+            };
+            Some(Call::Route { file, flow, json })
+        }
+        "check" => {
+            let Some(certificate) = value_of(values, "CERT") else {
+                return None;
+            };
+            Some(Call::Check {
+                file,
+                certificate,
+                json,
+            })
+        }
+        "replay" => {
+            let Some(schedule) = value_of(values, "SCHEDULE") else {
+                return None;
+            };
+            Some(Call::Replay {
+                file,
+                schedule,
+                json,
+            })
+        }
+        _ => plain_call(name, file, values),
+    }
+}
+
 // The call of a subcommand that wants a file.
 fn file_call<'a>(name: &str, values: &ArgMatches<'a>) -> Option<Call<'a>>
     requires no_audit { name.now ≢ codes "audit" }
@@ -179,15 +161,14 @@ fn file_call<'a>(name: &str, values: &ArgMatches<'a>) -> Option<Call<'a>>
     ensures calls { IfSome result (IsCallOf name.now (rows_of (found_of values.now))) }
     ensures none { IfNone result ((call : Call) → IsCallOf name.now (rows_of (found_of values.now)) call → ⊥) }
 {
-    let file = value_of(values, "FILE")?;
+    let Some(file) = value_of(values, "FILE") else {
+        return None;
+    };
     match name {
-        "route" => route_call(file, values),
-        "check" => check_call(file, values),
-        "replay" => replay_call(file, values),
         "run" => run_call(file, values),
         "rmap" => rmap_call(file, values),
         "witness" => witness_call(file, values),
-        _ => plain_call(name, file, values),
+        _ => pair_call(name, file, values),
     }
 }
 
@@ -197,8 +178,14 @@ fn call_of<'a>(name: &str, values: &ArgMatches<'a>) -> Option<Call<'a>>
     ensures none { IfNone result ((call : Call) → IsCallOf name.now (rows_of (found_of values.now)) call → ⊥) }
 {
     match name {
-        "audit" => Some(audit_call(values)),
-        "init" => Some(init_call(values)),
+        "audit" => Some(Call::Audit {
+            json: is_set(values, "json"),
+            quiet: is_set(values, "quiet"),
+            certificates: value_of(values, "certificates"),
+        }),
+        "init" => Some(Call::Init {
+            name: value_of(values, "NAME"),
+        }),
         _ => file_call(name, values),
     }
 }
@@ -208,8 +195,12 @@ fn matched_call<'m, 'a>(matches: &'m ArgMatches<'a>) -> Option<(Call<'a>, &'m Ar
     ensures matched { IfSome result (λ met. IsMet (subcommand_rows_of matches.now) met.0 (rows_of (found_of met.1.now))) }
     ensures none { IfNone result ((call : Call) (values : List Row) → IsMet (subcommand_rows_of matches.now) call values → ⊥) }
 {
-    let (name, values) = matches.subcommand()?;
-    let call = call_of(name, values)?;
+    let Some((name, values)) = matches.subcommand() else {
+        return None;
+    };
+    let Some(call) = call_of(name, values) else {
+        return None;
+    };
     Some((call, values))
 }
 
@@ -218,39 +209,17 @@ fn asked_of<'a>(
     alloc: Global,
     call: Call<'a>,
     values: &ArgMatches<'a>,
-) -> Result<Asked<'a>, AllocError>
+) -> Result<Asked<'a>, WordsFault>
     ensures call { IfOk result (λ asked. asked.call ≡ call.entry) }
     ensures files { IfOk result (λ asked. AreAll (codes "FILE") (rows_of (found_of values.now)) asked.files.items) }
     ensures hints { IfOk result (λ asked. IsOption (codes "hints") (rows_of (found_of values.now)) asked.hints) }
+    ensures memory { IfErr result (λ fault. fault ≡ Memory) }
 {
     Ok(Asked {
         call,
         files: all_of(alloc, values, "FILE")?,
         hints: value_of(values, "hints"),
     })
-}
-
-// What the words come to. Only a growth that was refused leaves that open.
-fn told<'a>(
-    alloc: Global,
-    words: &'a [&'a str],
-) -> Result<Result<Asked<'a>, WordsFault>, AllocError>
-    ensures { IfOk result (Tells (map (λ s. s.now) words.entry.now)) }
-{
-    let command = swcheck_command(alloc)?;
-    match command.try_get_matches_from(words) {
-        Ok(matches) => {
-            let (call, values) = matched_call(&matches).unwrap();
-            let asked = asked_of(alloc, call, values);
-            drop(matches);
-            Ok(Ok(asked?))
-        }
-        Err(error) => {
-            let fault = fault_of(alloc, &error);
-            drop(error);
-            Ok(Err(fault?))
-        }
-    }
 }
 
 /// What the words ask for; they begin with the program's name.
@@ -262,5 +231,18 @@ pub fn words<'a>(alloc: Global, words: &'a [&'a str]) -> Result<Asked<'a>, Words
     ensures call { IfOk result (Gives (map (λ s. s.now) words.entry.now)) }
     ensures fault { IfErr result (Refuses (map (λ s. s.now) words.entry.now)) }
 {
-    told(alloc, words)?
+    let command = swcheck_command(alloc)?;
+    match command.try_get_matches_from(words) {
+        Ok(matches) => {
+            let (call, values) = matched_call(&matches).unwrap();
+            let asked = asked_of(alloc, call, values);
+            drop(matches);
+            asked
+        }
+        Err(error) => {
+            let fault = fault_of(alloc, &error);
+            drop(error);
+            Err(fault)
+        }
+    }
 }

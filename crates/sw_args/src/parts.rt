@@ -1,7 +1,7 @@
 //! A command by a table of its words and options.
 ghost use Rattle.std.specs.Prelude.{◌≡◌, false, pos, IfOk};
 ghost use Rattle.clap.specs.declared.builder.value_parser.ValueParser.TheVariants.{Signed};
-ghost use Rattle.clap.specs.Words.{new_app, rule_of};
+ghost use Rattle.clap.specs.Words.{rule_of};
 ghost use Rattle.sw_args.specs.CommandLine.{IsMade};
 ghost use Rattle.sw_args.specs.Parts.{part_rule, subcommand_app};
 
@@ -70,18 +70,6 @@ fn arg_of<'a>(alloc: Global, part: Part) -> Arg<'a>
     }
 }
 
-// A command without arguments, with what it does and an example of its use.
-fn bare_command<'a>(
-    alloc: Global,
-    name: &'static str,
-    about: &'static str,
-    example: &'static str,
-) -> Command<'a>
-    ensures { IsMade (new_app name.now) result }
-{
-    Command::new(alloc, name).about(about).after_help(example)
-}
-
 /// The subcommand, with the option `--hints`, which each has, behind its own.
 pub(crate) fn subcommand_of<'a>(
     alloc: Global,
@@ -89,7 +77,9 @@ pub(crate) fn subcommand_of<'a>(
 ) -> Result<Command<'a>, AllocError>
     ensures { IfOk result (IsMade (subcommand_app subcommand.now)) }
 {
-    let mut command = bare_command(alloc, subcommand.name, subcommand.about, subcommand.example);
+    let mut command = Command::new(alloc, subcommand.name)
+        .about(subcommand.about)
+        .after_help(subcommand.example);
     for part in subcommand.parts {
         command = command.arg(arg_of(alloc, *part))?;
     }

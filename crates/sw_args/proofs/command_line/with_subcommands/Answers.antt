@@ -2,13 +2,14 @@ use Rattle.std.proofs.Common.{subst}
 use Rattle.std.proofs.lemmas.List.{take_all}
 use Rattle.sw_args.specs.CommandLine.{IsOf}
 use Rattle.sw_args.specs.Parts.{with_subcommands}
-use Rattle.sw_args.proofs.CommandLines.{with_one_subcommand}
+use Rattle.sw_args.proofs.CommandLines.{with_added, with_one_subcommand}
 use Rattle.sw_args.proofs.command_line.with_subcommands.Goals as goal
 
 pub loop-row-preserved : goal.loop-row-preserved
 loop-row-preserved c = λ app is.
+    let new = c.in_ok-command-in-Ok in
     with_one_subcommand app c.args.rows.now c.loop-row.row-index _ _ c.loop-row-test.true
-    (c.in_ok-command-2.ensures _ _ (c.loop-row.invariant app is) c.subcommand_of.ensures)
+    (with_added c.loop-row.command c.in-Ok.subcommand new.command _ _ (c.loop-row.invariant app is) c.in-Ok.ensures new.ensures)
 
 pub returns : goal.returns
 returns c = λ app is.

@@ -4,11 +4,14 @@ use Rattle.std.proofs.lemmas.Result.{IfOk-weaker}
 use Rattle.clap.specs.Words.{new_app}
 use Rattle.sw_args.specs.CommandLine.{IsMade, hints_rule}
 use Rattle.sw_args.specs.Parts.{with_parts}
-use Rattle.sw_args.proofs.CommandLines.{with_argument, with_one_part}
+use Rattle.sw_args.proofs.CommandLines.{described, shown, with_argument, with_one_part}
 use Rattle.sw_args.proofs.parts.subcommand_of.Goals as goal
 
 pub loop-part-init : goal.loop-part-init
-loop-part-init c = c.bare_command-command.ensures
+loop-part-init c =
+    let row = c.args.subcommand.now in
+    shown c.about.result c.after_help-command.result (new_app row.name.now) row.example c.after_help-command.ensures
+    (described c.new.result c.about.result (new_app row.name.now) row.about c.new.ensures.app c.new.ensures.local c.about.ensures)
 
 pub loop-part-preserved : goal.loop-part-preserved
 loop-part-preserved c =
