@@ -1,5 +1,7 @@
 -- Bytes that are added to others part by part, and a header as such parts.
-use Rattle.std.proofs.Common.{◌≡◌, ℕ, List, [], ◌∷◌, ◌++◌, get_or, Result, Ok, Err, ◌∙◌, append_assoc}
+use Rattle.std.proofs.Common.{◌≡◌, ℕ, List, Bool, true, false, [], ◌∷◌, ◌++◌, ◌==◌, ◌&&◌, cond, length, get_or, rules, Result, Ok, Err, refl, ◌∙◌, append_assoc}
+use Rattle.std.specs.List.{list_all}
+use Rattle.sw_rmap.specs.Replies.{leads_nowhere, without_leading_zeros}
 use Rattle.std.specs.Prelude.{is_ok, if◌then◌else◌, OnOk}
 use Rattle.std.specs.Int.{bytes_high_first}
 use Rattle.sw_rmap.specs.CommandView.{CommandView}
@@ -15,3 +17,17 @@ pub header_is : (c : CommandView) (logical instruction key initiator transaction
     → transaction ≡ c.transaction → address ≡ c.address → length ≡ c.data_length → reply ≡ c.reply_address → t ≡ bytes_high_first 2 transaction → a ≡ bytes_high_first 8 address → l ≡ bytes_high_first 4 length
     → logical ∷ 1 ∷ instruction ∷ key ∷ (reply ++ (initiator ∷ get_or t 0 0 ∷ get_or t 1 0 ∷ get_or a 3 0 ∷ get_or a 4 0 ∷ get_or a 5 0 ∷ get_or a 6 0 ∷ get_or a 7 0 ∷ get_or l 1 0 ∷ get_or l 2 0 ∷ get_or l 3 0 ∷ [])) ≡ header_of c
 header_is c logical instruction key initiator transaction address length reply t a l e1 e2 e3 e4 e5 e6 e7 e8 at al ll = rw (at, al, ll, e1, e2, e3, e4, e5, e6, e7, e8) (simp append_assoc)
+
+-- a reply address of zeros alone has no path
+zeros_alone : (bytes : List ℕ) → list_all (λ b. b == 0) bytes ≡ (length (without_leading_zeros bytes) == 0)
+zeros_alone [] = refl
+zeros_alone (b ∷ bytes) = go (b == 0) (zeros_alone bytes)
+  where
+    go : (zero : Bool) → list_all (λ b. b == 0) bytes ≡ (length (without_leading_zeros bytes) == 0)
+        → (zero && list_all (λ b. b == 0) bytes) ≡ (length (cond zero (without_leading_zeros bytes) (b ∷ bytes)) == 0)
+    go true is = is
+    go false is = search rules
+
+-- where it has bytes, it leads nowhere exactly where it has no path
+pub leads_nowhere_else : (bytes : List ℕ) → (length bytes == 0) ≡ false → leads_nowhere bytes ≡ (length (without_leading_zeros bytes) == 0)
+leads_nowhere_else bytes some = rw some (zeros_alone bytes)

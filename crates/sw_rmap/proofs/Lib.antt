@@ -1,4 +1,4 @@
-mod Added
+pub mod Added
 pub mod CrcSteps
 pub mod Reading
 pub mod Answering

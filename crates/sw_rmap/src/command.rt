@@ -1,10 +1,9 @@
 //! Commands.
-ghost use Rattle.std.specs.Prelude.{◌≡◌, ◌==◌, ◌≤◌, ◌^◌, ◌<◌, length};
-ghost use Rattle.std.specs.List.{list_all};
+ghost use Rattle.std.specs.Prelude.{◌≡◌, ◌≤◌, ◌^◌, ◌<◌, length};
 ghost use Rattle.std.specs.Option.{SomeIff};
 ghost use Rattle.sw_rmap.specs.CommandView.{IsCommand, command};
 ghost use Rattle.sw_rmap.specs.Commands.{read as read_of, is_command, number_of};
-ghost use Rattle.sw_rmap.specs.Replies.{is_answered, path_of, leads_nowhere, without_leading_zeros};
+ghost use Rattle.sw_rmap.specs.Replies.{is_answered, path_of, without_leading_zeros};
 
 use crate::checksum::crc;
 use crate::instruction::Instruction;
@@ -166,10 +165,17 @@ impl Command {
     }
 
     /// Whether the command gets a reply: it wants one, and its reply address is not of zeros alone.
+    #[tactic(auto, using(crate::proofs::Added::leads_nowhere_else))]
     pub fn is_answered(&self) -> bool
         ensures { result ≡ is_answered self.now }
     {
-        self.instruction.wants_reply() && !leads_nowhere(self.reply_address())
+        if !self.instruction.wants_reply() {
+            return false;
+        }
+        if self.reply_address().is_empty() {
+            return true;
+        }
+        !self.path().is_empty()
     }
 
     /// The path back, which the reply begins with, before the initiator logical address: the reply
@@ -216,18 +222,6 @@ fn number(bytes: &[u8]) -> u64
         number = 256 * number + u64::from(*byte);
     }
     number
-}
-
-fn leads_nowhere(reply_address: &[u8]) -> bool
-    ensures { result ≡ leads_nowhere reply_address.now }
-{
-    !reply_address.is_empty() && are_zeros(reply_address)
-}
-
-fn are_zeros(bytes: &[u8]) -> bool
-    ensures { result ≡ list_all (λ byte. byte == 0) bytes.now }
-{
-    bytes.iter().all(|byte| *byte == 0)
 }
 
 fn without_leading_zeros(bytes: &[u8]) -> &[u8]

@@ -1,7 +1,7 @@
 //! Targets.
-ghost use Rattle.std.specs.Prelude.{◌≡◌, ◌<◌, ◌≤◌, ◌+◌, ◌-◌, true, if◌then◌else◌, Some, None, length, take, option_map, replicate, IfOk, OnErr};
+ghost use Rattle.std.specs.Prelude.{◌≡◌, ◌<◌, ◌≤◌, ◌-◌, true, if◌then◌else◌, Some, None, length, take, option_map, replicate, IfOk, OnErr};
 ghost use Rattle.sw_rmap.specs.Config.{IsTargetConfig};
-ghost use Rattle.sw_rmap.specs.Answers.{IsInWindow, answer, answer_to, body_len, found_by, is_success, memory_after, stored};
+ghost use Rattle.sw_rmap.specs.Answers.{IsInWindow, answer, answer_to, body_len, found_by, is_success, memory_after};
 ghost use Rattle.sw_rmap.specs.Replies.{is_answered, reply_of};
 
 use crate::command::Command;
@@ -137,7 +137,8 @@ fn store_if_written(
 {
     if status.is_success() && command.bits().is_write() {
         let data = &body[..command.length() as usize];
-        store(memory, offset(config, command), data);
+        let start = offset(config, command);
+        memory[start..start + data.len()].copy_from_slice(data);
     }
 }
 
@@ -161,11 +162,4 @@ fn found<'a>(config: TargetConfig, memory: &'a [u8], command: &Command, status: 
     }
     let at = offset(config, command);
     &memory[at..at + command.length() as usize]
-}
-
-fn store(memory: &mut [u8], at: usize, bytes: &[u8])
-    requires { at + length bytes.now ≤ length memory.old }
-    ensures { memory.new ≡ stored memory.old at bytes.now }
-{
-    memory[at..at + bytes.len()].copy_from_slice(bytes);
 }

@@ -1,6 +1,8 @@
 -- The entry of an address in a table.
-use Rattle.std.proofs.Common.{◌≡◌, ℕ, leb, suc, ◌<◌, ◌≤◌, true, false, max, List, [], ◌∷◌, length, get_or, Some, None, refl, sym, ap, ◌∙◌, inl, inr, arith, All}
+use Rattle.std.proofs.Common.{◌≡◌, ℕ, Bool, ◌+◌, leb, suc, ◌<◌, ◌≤◌, true, false, max, List, [], ◌∷◌, length, get_or, Some, None, refl, sym, ap, ◌∙◌, inl, inr, arith, All}
 use Rattle.std.specs.Prelude.{find}
+use Rattle.std.specs.List.{list_any}
+use Rattle.std.proofs.lemmas.List.Folds.{list_any_at, list_any_none}
 use Rattle.std.proofs.lemmas.Bool.{cases_lt, lt-ltb, le-ltb}
 use Rattle.std.proofs.lemmas.Bool.Decides.{nat_tests}
 use Rattle.std.proofs.lemmas.Option.{slice_get_read}
@@ -50,14 +52,44 @@ entries_answer routes table r here address is =
     find_here (covers address) routes k before (λ d lt. rw (there d) is) (omega (arith, here.1)) ∙ slice_get_read routes (length routes) k r refl here.1 (sym at) in
     look_by_logical (λ a. route_look (find (covers a) routes)) address (omega (arith, valid.first)) (omega (arith, valid.last)) ∙ ap route_look found
 
-none_found : (routes : List Route) (address : ℕ) → All (λ r. covers address r ≡ false) routes → find (covers address) routes ≡ None
-none_found [] address none = refl
-none_found (r ∷ routes) address none = rw (none 0 r (omega arith)) (none_found routes address (λ k d lt. none (suc k) d (omega arith)))
+-- none of so many entries passes
+abbrev pub NonePasses : (Route → Bool) → List Route → ℕ → Type 0
+NonePasses test routes count = (k : ℕ) (d : Route) → k < count → test (get_or routes k d) ≡ false
+
+pub none_more : (test : Route → Bool) (routes : List Route) (i : ℕ) (r : Route) → i < length routes → r ≡ get_or routes i r → NonePasses test routes i
+    → test r ≡ false → NonePasses test routes (i + 1)
+none_more test routes i r lt is before fails = λ k d below.
+    elim (cases_lt k i) [
+      | inl low ↦ before k d low
+      | inr high ↦ let e : k ≡ i = omega arith in rw (e, get_or_default routes i d r lt, sym is) fails
+    ]
+
+-- the first that passes
+pub first_passes : (test : Route → Bool) (routes : List Route) (i : ℕ) (r : Route) → i < length routes → r ≡ get_or routes i r → NonePasses test routes i
+    → test r ≡ true → find test routes ≡ Some r
+first_passes test routes i r lt is before passes =
+    find_here test routes i before (λ d within. rw (get_or_default routes i d r lt, sym is) passes) (omega (arith, lt))
+    ∙ slice_get_read routes (length routes) i r refl lt is
+
+-- one that passes
+pub any_passes : (test : Route → Bool) (routes : List Route) (i : ℕ) (r : Route) → i < length routes → r ≡ get_or routes i r → test r ≡ true
+    → list_any test routes ≡ true
+any_passes test routes i r lt is passes = list_any_at test routes i r lt (ap test (sym is) ∙ passes)
+
+none_found : (test : Route → Bool) (routes : List Route) → All (λ r. test r ≡ false) routes → find test routes ≡ None
+none_found test [] none = refl
+none_found test (r ∷ routes) none = rw (none 0 r (omega arith)) (none_found test routes (λ k d lt. none (suc k) d (omega arith)))
+
+pub none_passes : (test : Route → Bool) (routes : List Route) (count : ℕ) → length routes ≤ count → NonePasses test routes count → find test routes ≡ None
+none_passes test routes count whole none = none_found test routes (λ k d lt. none k d (omega (arith, lt, whole)))
+
+pub any_passes_not : (test : Route → Bool) (routes : List Route) (count : ℕ) → length routes ≤ count → NonePasses test routes count → list_any test routes ≡ false
+any_passes_not test routes count whole none = list_any_none test routes (λ k d lt. none k d (omega (arith, lt, whole)))
 
 pub others_none : OthersNameNoPort
 others_none routes address low none =
     elim (cases_lt address 255) [
-      | inl high ↦ look_by_logical (λ a. route_look (find (covers a) routes)) address low high ∙ ap route_look (none_found routes address none)
+      | inl high ↦ look_by_logical (λ a. route_look (find (covers a) routes)) address low high ∙ ap route_look (none_found (covers address) routes none)
       | inr past ↦ rw (le-ltb address 32 low, le-ltb address 255 past) refl
     ]
 

@@ -1,5 +1,5 @@
 -- The intervals of the answers so far, one address on.
-use Rattle.std.proofs.Common.{◌≡◌, ◌≢◌, AllPairs, length, length-append, map, ℕ, suc, ◌+◌, ◌-◌, ◌<◌, ◌≤◌, true, false, leb, List, [], ◌∷◌, ◌++◌, Option, Some, None, refl, sym, ap, ◌∙◌, inl, inr, arith, All}
+use Rattle.std.proofs.Common.{◌≡◌, ◌≢◌, AllPairs, length, length-append, map, ℕ, suc, ◌+◌, ◌-◌, ◌<◌, ◌≤◌, true, leb, List, [], ◌∷◌, ◌++◌, Option, Some, None, refl, sym, ap, ◌∙◌, inl, inr, arith, All}
 use Rattle.std.specs.Prelude.{find}
 use Rattle.std.specs.List.{AllAdjacentBelow}
 use Rattle.std.specs.Option.{option_or}

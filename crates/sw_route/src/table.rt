@@ -1,7 +1,6 @@
 //! A routing table as the list of its entries.
 ghost use Rattle.std.specs.Prelude.{◌≡◌, ◌≤◌, ◌↔◌, ◌++◌, ◌∷◌, [], length, find, All, IfSome, IsTrue, OnOk, OnErr};
 ghost use Rattle.std.specs.List.{list_any};
-ghost use Rattle.std.specs.Option.{option_copied};
 ghost use Rattle.sw_route.specs.Looks.{IsTable, covers, entry, look_of, overlaps, route_look};
 ghost use Rattle.sw_route.specs.declared.table.RouteError.TheVariants.{Memory};
 
@@ -56,7 +55,15 @@ fn has_overlap(routes: &[Route], highest: u8, route: &Route) -> bool
     requires { All (λ r. r.last ≤ highest) routes.now }
     ensures { result ≡ list_any (overlaps route.now) routes.now }
 {
-    route.first <= highest && routes.iter().any(|r| route.overlaps(r))
+    if route.first > highest {
+        return false;
+    }
+    for other in routes {
+        if route.overlaps(other) {
+            return true;
+        }
+    }
+    false
 }
 
 /// The entry at this place, if it is for the address: no other of the table is.
@@ -70,19 +77,16 @@ fn entry_at(routes: &[Route], place: usize, address: u8) -> Option<&Route>
     }
 }
 
-fn entry_of(routes: &[Route], address: u8) -> Option<&Route>
-    ensures { option_copied result ≡ find (covers address) routes.now }
-{
-    routes.iter().find(|r| r.covers(address))
-}
-
+/// What the first entry for the address names.
 fn entry_look(routes: &[Route], address: u8) -> Look
     ensures { result ≡ route_look (find (covers address) routes.now) }
 {
-    match entry_of(routes, address) {
-        Some(route) => route.look(),
-        None => Look::none(),
+    for route in routes {
+        if route.covers(address) {
+            return route.look();
+        }
     }
+    Look::none()
 }
 
 impl TableRoutes {
