@@ -1,5 +1,5 @@
 -- The entry of an address in a table.
-use Rattle.std.proofs.Common.{◌≡◌, ℕ, Bool, ◌+◌, leb, suc, ◌<◌, ◌≤◌, true, false, max, List, [], ◌∷◌, length, get_or, Some, None, refl, sym, ap, ◌∙◌, inl, inr, arith, All}
+use Rattle.std.proofs.Common.{◌≡◌, ℕ, Bool, ◌+◌, leb, suc, ◌<◌, ◌≤◌, true, false, true≢false, max, List, [], ◌∷◌, ◌++◌, length, get_or, Some, None, refl, sym, ap, ◌∙◌, inl, inr, arith, All}
 use Rattle.std.specs.Prelude.{find}
 use Rattle.std.specs.List.{list_any}
 use Rattle.std.proofs.lemmas.List.Folds.{list_any_at, list_any_none}
@@ -7,10 +7,11 @@ use Rattle.std.proofs.lemmas.Bool.{cases_lt, lt-ltb, le-ltb}
 use Rattle.std.proofs.lemmas.Bool.Decides.{nat_tests}
 use Rattle.std.proofs.lemmas.Option.{slice_get_read}
 use Rattle.std.proofs.lemmas.List.{get_or_default}
-use Rattle.std.proofs.lemmas.List.Elements.{All-get_or}
+use Rattle.std.proofs.lemmas.List.Elements.{All-get_or, All-push}
+use Rattle.std.proofs.lemmas.List.Quantifiers.{all_pairs_push}
 use Rattle.sw_route.specs.declared.look.Look.{Look}
 use Rattle.sw_route.specs.declared.look.Route.{Route}
-use Rattle.sw_route.specs.Looks.{covers, overlaps, look_by, route_look, IsRoute}
+use Rattle.sw_route.specs.Looks.{covers, overlaps, look_by, route_look, IsRoute, IsTable}
 use Rattle.sw_route.specs.TableLaws.{EntriesAnswer, OthersNameNoPort, OverlapsShareAnAddress}
 use Rattle.sw_route.proofs.Halving.{find_here}
 
@@ -75,6 +76,27 @@ first_passes test routes i r lt is before passes =
 pub any_passes : (test : Route → Bool) (routes : List Route) (i : ℕ) (r : Route) → i < length routes → r ≡ get_or routes i r → test r ≡ true
     → list_any test routes ≡ true
 any_passes test routes i r lt is passes = list_any_at test routes i r lt (ap test (sym is) ∙ passes)
+
+overlaps_turned : (r q : Route) → overlaps r q ≡ false → overlaps q r ≡ false
+overlaps_turned r q apart = grind (arith, nat_tests)
+
+none_of : (test : Route → Bool) (routes : List Route) → list_any test routes ≡ false → All (λ r. test r ≡ false) routes
+none_of test routes none k d lt = go (test (get_or routes k d)) refl
+  where
+    go : (passes : Bool) → test (get_or routes k d) ≡ passes → test (get_or routes k d) ≡ false
+    go true is = absurd (true≢false (sym (list_any_at test routes k d lt is) ∙ none))
+    go false is = is
+
+-- an entry that no other overlaps makes a table of a table
+pub with_route : (routes : List Route) (highest after : ℕ) (r : Route) → IsTable routes × All (λ q. q.last ≤ highest) routes → IsRoute r
+    → list_any (overlaps r) routes ≡ false → highest ≤ after → r.last ≤ after → IsTable (routes ++ r ∷ []) × All (λ q. q.last ≤ after) (routes ++ r ∷ [])
+with_route routes highest after r table is none rises last = (
+  record {
+    valid = All-push IsRoute routes r table.0.valid is;
+    apart = all_pairs_push (λ a b. overlaps a b ≡ false) routes r table.0.apart (λ k d lt. overlaps_turned r (get_or routes k d) (none_of (overlaps r) routes none k d lt));
+  },
+  All-push (λ q. q.last ≤ after) routes r (λ k d lt. let low = table.1 k d lt in omega arith) last,
+)
 
 none_found : (test : Route → Bool) (routes : List Route) → All (λ r. test r ≡ false) routes → find test routes ≡ None
 none_found test [] none = refl
