@@ -1,21 +1,11 @@
 //! The cargo text of a load file.
 ghost use Rattle.std.specs.Prelude.{◌≡◌, ◌<◌, ◌≤◌, [], IfOk, IfSome, option_map};
-ghost use Rattle.sw_load.specs.Cargo.{without_spaces, hex_value, hex_pair, is_well_begun, count_after, count_of, bytes_after, if_some_and_few, pairs_of, repeated_of, bytes_of, cargo_of};
+ghost use Rattle.sw_load.specs.Cargo.{hex_value, hex_pair, count_of, bytes_after, pairs_of, bytes_of, cargo_of};
 
 use std::alloc::{AllocError, Global};
 
 /// The most bytes that the text of a cargo may spell, in a load and in a schedule.
 pub const MAX_CARGO: usize = 4096;
-
-fn without_spaces(alloc: Global, text: &str) -> Result<Vec<u8>, AllocError>
-    ensures { IfOk result (λ v. v.items ≡ without_spaces text.now) }
-{
-    text.as_bytes()
-        .iter()
-        .copied()
-        .filter(|c| *c != b' ')
-        .collect(alloc)
-}
 
 fn hex_value(c: u8) -> Option<u8>
     ensures value { result ≡ hex_value c }
@@ -38,13 +28,20 @@ pub fn hex_pair(high: u8, low: u8) -> Option<u8>
     Some(16 * high + low)
 }
 
-/// The number up to 4,096 that digits write.
-fn digits(bytes: &[u8]) -> Option<u16>
-    ensures value { result ≡ count_after 0 bytes.now }
+/// How many times a pair stands, 1 to 4,096, by the digits behind `*`.
+pub fn count_of(text: &[u8]) -> Option<u16>
+    ensures value { result ≡ count_of text.now }
     ensures few { IfSome result (λ n. n ≤ 4096) }
 {
+    let length = text.len();
+    if length == 0 {
+        return None;
+    }
+    if text[0] == b'0' {
+        return None;
+    }
     let mut value: u16 = 0;
-    for c in bytes {
+    for c in text {
         if *c < b'0' || *c > b'9' {
             return None;
         }
@@ -54,27 +51,6 @@ fn digits(bytes: &[u8]) -> Option<u16>
         }
     }
     Some(value)
-}
-
-fn is_well_begun(digits: &[u8]) -> bool
-    ensures { result ≡ is_well_begun digits.now }
-{
-    match digits {
-        [] => false,
-        [first, ..] => *first != b'0',
-    }
-}
-
-/// How many times a pair stands, 1 to 4,096, by the digits behind `*`.
-pub fn count_of(text: &[u8]) -> Option<u16>
-    ensures value { result ≡ count_of text.now }
-    ensures few { IfSome result (λ n. n ≤ 4096) }
-{
-    if is_well_begun(text) {
-        digits(text)
-    } else {
-        None
-    }
 }
 
 /// The bytes whose pairs the text is.
@@ -114,29 +90,19 @@ pub fn pairs_of(alloc: Global, text: &[u8]) -> Result<Option<Vec<u8>>, AllocErro
     }
 }
 
-fn repeated_of(
-    alloc: Global,
-    high: u8,
-    low: u8,
-    digits: &[u8],
-) -> Result<Option<Vec<u8>>, AllocError>
-    ensures { IfOk result (λ o. option_map (λ v. v.items) o ≡ repeated_of high low digits.now) }
-{
-    let Some(byte) = hex_pair(high, low) else {
-        return Ok(None);
-    };
-    let Some(count) = count_of(digits) else {
-        return Ok(None);
-    };
-    let bytes = vec![in alloc; byte; count as usize]?;
-    Ok(Some(bytes))
-}
-
+/// The bytes that a text without spaces spells.
 fn bytes_of(alloc: Global, text: &[u8]) -> Result<Option<Vec<u8>>, AllocError>
     ensures { IfOk result (λ o. option_map (λ v. v.items) o ≡ bytes_of text.now) }
 {
     if text.len() >= 3 && text[2] == b'*' {
-        repeated_of(alloc, text[0], text[1], &text[3..])
+        let Some(byte) = hex_pair(text[0], text[1]) else {
+            return Ok(None);
+        };
+        let Some(count) = count_of(&text[3..]) else {
+            return Ok(None);
+        };
+        let bytes = vec![in alloc; byte; count as usize]?;
+        Ok(Some(bytes))
     } else {
         pairs_of(alloc, text)
     }
@@ -148,6 +114,13 @@ fn bytes_of(alloc: Global, text: &[u8]) -> Result<Option<Vec<u8>>, AllocError>
 pub(crate) fn cargo_of(alloc: Global, text: &str) -> Result<Option<Vec<u8>>, AllocError>
     ensures { IfOk result (λ o. option_map (λ v. v.items) o ≡ cargo_of text.now) }
 {
-    let text = without_spaces(alloc, text)?;
-    bytes_of(alloc, &text)
+    let mut bare = Vec::new(alloc);
+    let spelled = text.as_bytes();
+    for c in spelled {
+        if *c == b' ' {
+            continue;
+        }
+        bare.push(*c)?;
+    }
+    bytes_of(alloc, &bare)
 }

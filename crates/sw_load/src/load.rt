@@ -26,17 +26,6 @@ impl Model for LoadPacket {
 }
 
 impl LoadPacket {
-    pub(crate) fn new(flow: u16, cargo: Vec<u8>, end: End, count: u16) -> LoadPacket
-        ensures { result ≡ record { flow = flow; cargo = cargo.items; marker = end; count = count } }
-    {
-        LoadPacket {
-            flow,
-            cargo,
-            end,
-            count,
-        }
-    }
-
     /// The number of the flow.
     pub fn flow(&self) -> u16
         ensures { result ≡ self.now.flow }
@@ -112,13 +101,23 @@ impl Load {
     }
 
     /// Adds an entry. After want of memory the load is as it was.
-    pub(crate) fn add(&mut self, packet: LoadPacket) -> Result<(), AllocError>
-        requires { packet_count self.old + packet.count ≤ MAX_PACKETS }
-        ensures added { OnOk result (self.new ≡ self.old ++ packet ∷ []) }
+    pub(crate) fn add(
+        &mut self,
+        flow: u16,
+        cargo: Vec<u8>,
+        end: End,
+        count: u16,
+    ) -> Result<(), AllocError>
+        requires { packet_count self.old + count ≤ MAX_PACKETS }
+        ensures added { OnOk result (self.new ≡ self.old ++ record { flow = flow; cargo = cargo.items; marker = end; count = count } ∷ []) }
         ensures refused { OnErr result (self.new ≡ self.old) }
     {
-        let count = packet.count;
-        self.packets.push(packet)?;
+        self.packets.push(LoadPacket {
+            flow,
+            cargo,
+            end,
+            count,
+        })?;
         self.total += u32::from(count);
         Ok(())
     }

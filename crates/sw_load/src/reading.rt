@@ -1,12 +1,11 @@
 //! The load that a text lists.
-ghost use Rattle.std.specs.Prelude.{◌≡◌, ◌+◌, ◌≤◌, map, IfOk, option_map};
+ghost use Rattle.std.specs.Prelude.{◌≡◌, ◌+◌, ◌≤◌, map, IfOk};
 ghost use Rattle.toml.specs.View.{table_view};
 ghost use Rattle.sw_toml_table.specs.Gives.{Gives, walk};
-ghost use Rattle.sw_model.specs.Packets.{is_declared_packet};
-ghost use Rattle.sw_load.specs.Load.{packet_count, flow_at, cargo_at, marker_of, marker_at, count_at, packet_of, next_packet, load_of, load_text};
+ghost use Rattle.sw_load.specs.Load.{packet_count, flow_at, cargo_at, marker_at, count_at, packet_of, next_packet, load_of, load_text};
 
 use crate::cargo::cargo_of;
-use crate::load::{Load, LoadPacket, MAX_PACKETS};
+use crate::load::{Load, MAX_PACKETS};
 use std::alloc::Global;
 use std::marker::Model;
 use sw_char::End;
@@ -46,26 +45,16 @@ fn cargo_at(alloc: Global, index: usize, packet: &TableEntry) -> Result<Vec<u8>,
     }
 }
 
-fn marker_of(text: Option<&str>) -> Option<End>
-    ensures { result ≡ marker_of (option_map (λ s. s.now) text.entry) }
-{
-    match text {
-        None => Some(End::Eop),
-        Some(text) if text == "EOP" => Some(End::Eop),
-        Some(text) if text == "EEP" => Some(End::Eep),
-        Some(_) => None,
-    }
-}
-
 #[tactic(auto, unfolding(crate::specs::Load::marker_at))]
 fn marker_at(index: usize, packet: &TableEntry) -> Result<End, FileFault>
     requires { packet.now.section ≡ Section.Packet index }
     ensures { Gives (λ e. e) result (marker_at index (table_view packet.now.table.now)) }
 {
-    let text = packet.text_or_none(Key::End)?;
-    match marker_of(text) {
-        Some(end) => Ok(end),
-        None => Err(packet.fault(KeyFault::OutOfRange, Key::End)),
+    match packet.text_or_none(Key::End)? {
+        None => Ok(End::Eop),
+        Some(text) if text == "EOP" => Ok(End::Eop),
+        Some(text) if text == "EEP" => Ok(End::Eep),
+        Some(_) => Err(packet.fault(KeyFault::OutOfRange, Key::End)),
     }
 }
 
@@ -83,15 +72,8 @@ fn count_at(index: usize, packet: &TableEntry, before: u32) -> Result<u16, FileF
     Ok(count)
 }
 
-#[tactic(auto, using(sw_model::proofs::Declared::same_test))]
-fn is_declared(network: &Network, flow: u16, cargo: &[u8], end: End) -> bool
-    ensures { result ≡ is_declared_packet network.now flow cargo.now }
-{
-    in_flow(network, flow, cargo, end)
-}
-
 /// Adds the packets that the table lists.
-#[tactic(auto, unfolding(crate::specs::Load::packet_of, crate::specs::Load::next_packet))]
+#[tactic(auto, using(sw_model::proofs::Declared::same_test), unfolding(crate::specs::Load::packet_of, crate::specs::Load::next_packet))]
 fn add_packet(
     alloc: Global,
     index: usize,
@@ -110,10 +92,10 @@ fn add_packet(
     let cargo = cargo_at(alloc, index, &packet)?;
     let end = marker_at(index, &packet)?;
     let count = count_at(index, &packet, load.total())?;
-    if !is_declared(network, flow, &cargo, end) {
+    if !in_flow(network, flow, &cargo, end) {
         return Err(FileFault::Text(TextFault::NotInFlow(index)));
     }
-    load.add(LoadPacket::new(flow, cargo, end, count))?;
+    load.add(flow, cargo, end, count)?;
     Ok(())
 }
 

@@ -1,6 +1,6 @@
 //! The packets of a load, by the node that sends them.
-ghost use Rattle.std.specs.Prelude.{◌≡◌, ◌<◌, ℕ, IfOk, OnOk, [], length};
-ghost use Rattle.sw_load.specs.Senders.{AreAdded, places_at};
+ghost use Rattle.std.specs.Prelude.{◌≡◌, ◌<◌, IfOk, OnOk, length};
+ghost use Rattle.sw_load.specs.Senders.{AreAdded};
 
 use crate::load::{Load, LoadPacket};
 use std::alloc::{AllocError, Global};
@@ -24,18 +24,6 @@ impl<'n> Model for Senders<'n> {
     ghost view = { λ s. record { declared = s.network.now; load = s.load.now } };
 
     ghost invariant = { λ s. IsFound s.network.now s.load.now s.places.items };
-}
-
-/// As many empty rows.
-fn empty_rows(alloc: Global, count: u16) -> Result<Vec<Vec<usize>>, AllocError>
-    ensures size { IfOk result (λ v. length v.items ≡ count) }
-    ensures empty { IfOk result (λ v. (n : ℕ) → places_at v.items n ≡ []) }
-{
-    let mut rows = Vec::new(alloc);
-    for _ in 0..count {
-        rows.push(Vec::new(alloc))?;
-    }
-    Ok(rows)
 }
 
 /// Adds the place of an entry to the row of its node, once for each of its packets.
@@ -74,7 +62,10 @@ impl<'n> Senders<'n> {
         ensures network { IfOk result (λ s. s.declared ≡ network.now) }
         ensures load { IfOk result (λ s. s.load ≡ load.now) }
     {
-        let mut places = empty_rows(alloc, network.nodes())?;
+        let mut places = Vec::new(alloc);
+        for _ in 0..network.nodes() {
+            places.push(Vec::new(alloc))?;
+        }
         for (place, packet) in load.packets().iter().enumerate() {
             let node = network.flow(packet.flow()).from();
             add_places(&mut places, node, place, packet.count())?;
