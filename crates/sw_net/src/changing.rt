@@ -68,22 +68,8 @@ impl<'n, R: Routing, A: Arbiter> Net<'n, R, A> {
     ghost use Rattle.sw_net.specs.Changing.{ChangesOnly};
     ghost use Rattle.sw_net.specs.Net.{IsNetState};
 
-    /// The output that the input of that port holds, if it holds one (ECSS-E-ST-50-12C, network
-    /// layer: wormhole routing).
-    fn held_at(&self, w: u16, port: Port) -> Option<LinkEnd>
-        requires { w < length self.now.declared.switches }
-        ensures { (s : State) → IsNetState self.now s → (c : ℕ) → end_of self.now.declared c ≡ Some (PlaceEnd.Switch w port) → (d : ℕ) → s.input c ≡ Held d → result ≡ Some d }
-    {
-        let network = self.network();
-        match self.switch(w).input(port) {
-            Input::Held(held) => starter(network, w, held),
-            Input::Idle => None,
-            Input::Spilling => None,
-        }
-    }
-
-    /// The output that the input of the channel holds, if it holds one.
-    #[inline(always)]
+    /// The output that the input where the channel ends holds, if it holds one (ECSS-E-ST-50-12C,
+    /// network layer: wormhole routing).
     fn held_output(&self, channel: Chan) -> Option<LinkEnd>
         ensures { (s : State) → IsNetState self.now s → channel < (network_of self.now.declared).channels → (d : ℕ) → s.input channel ≡ Held d → result ≡ Some d }
     {
@@ -93,7 +79,11 @@ impl<'n, R: Routing, A: Arbiter> Net<'n, R, A> {
         }
         match network.topology().end_of(channel) {
             PlaceEnd::Node(_) => None,
-            PlaceEnd::Switch(w, port) => self.held_at(w, port),
+            PlaceEnd::Switch(w, port) => match self.switch(w).input(port) {
+                Input::Held(held) => starter(network, w, held),
+                Input::Idle => None,
+                Input::Spilling => None,
+            },
         }
     }
 

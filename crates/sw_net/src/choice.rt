@@ -17,18 +17,6 @@ impl<'n, R: Routing, A: Arbiter> Net<'n, R, A> {
     ghost use Rattle.sw_net.specs.Making.{IsMoveOf};
     ghost use Rattle.sw_net.specs.Possible.{Tells};
 
-    /// A step of node `n` that is possible, other than to begin a packet.
-    #[inline(always)]
-    fn possible_at_node(&self, n: u16) -> Option<Step>
-        requires { n < length self.now.declared.nodes }
-        ensures some { IfSome result (λ step. IsMoveOf self.now ((network_of self.now.declared).out n) (machine_step step)) }
-        ensures possible { IfSome result (λ step. Tells self.now (machine_step step) true) }
-        ensures none { IfNone result (CanStep self.now ((network_of self.now.declared).out n) false) }
-    {
-        let first = self.first_at_node(n)?;
-        Some(node_step(self.network(), n, first))
-    }
-
     /// A grant of the output of the link end, which stands at port `out` of switch `w`, that is
     /// possible.
     fn possible_grant(&self, w: u16, out: Port, end: LinkEnd) -> Option<Step>
@@ -46,22 +34,6 @@ impl<'n, R: Routing, A: Arbiter> Net<'n, R, A> {
         Some(Step::Grant(end.sends(), back.partner()))
     }
 
-    /// A step of the link end, which stands at port `out` of switch `w`, that is possible.
-    #[inline(always)]
-    fn possible_at_port(&self, w: u16, out: Port, end: LinkEnd) -> Option<Step>
-        requires switch { w < length self.now.declared.switches }
-        requires starts { slice_get (ends_of self.now.declared) end ≡ Some (PlaceEnd.Switch w out) }
-        ensures some { IfSome result (λ step. IsMoveOf self.now end (machine_step step)) }
-        ensures possible { IfSome result (λ step. Tells self.now (machine_step step) true) }
-        ensures none { IfNone result (CanStep self.now end false) }
-    {
-        let _network = self.network();
-        match self.first_at_port(w, end) {
-            Some(first) => Some(port_step(end, first)),
-            None => self.possible_grant(w, out, end),
-        }
-    }
-
     /// A step that belongs to the link end and is possible, other than to begin a packet. Which one,
     /// where there are several, is left open. None where the link end has no such step.
     #[inline(always)]
@@ -72,8 +44,14 @@ impl<'n, R: Routing, A: Arbiter> Net<'n, R, A> {
         ensures none { IfNone result (CanStep self.now end false) }
     {
         match self.place_of(end) {
-            PlaceEnd::Node(n) => self.possible_at_node(n),
-            PlaceEnd::Switch(w, out) => self.possible_at_port(w, out, end),
+            PlaceEnd::Node(n) => match self.first_at_node(n) {
+                Some(first) => Some(node_step(self.network(), n, first)),
+                None => None,
+            },
+            PlaceEnd::Switch(w, out) => match self.first_at_port(w, end) {
+                Some(first) => Some(port_step(end, first)),
+                None => self.possible_grant(w, out, end),
+            },
         }
     }
 }

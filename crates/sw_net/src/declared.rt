@@ -36,48 +36,6 @@ impl<'n> Routing for SwitchRoutes<'n> {
     ghost reserved = { λ r. routing_reserved r.routing.now };
 }
 
-/// The routing tables of all switches.
-fn declared_routes<'n>(
-    alloc: Global,
-    network: &'n Network,
-) -> Result<Vec<SwitchRoutes<'n>>, AllocError>
-    ensures { IfOk result (λ v. AreRoutes switch_look network.entry.now v.items) }
-{
-    let mut all = Vec::new(alloc);
-    for w in 0..network.switches() {
-        let routing = network.routing(w);
-        push_made(&mut all, Ok(SwitchRoutes { routing }))?;
-    }
-    Ok(all)
-}
-
-/// The arbiter of the channel's output is the next, if the channel starts at a switch.
-fn push_policy(network: &Network, channel: Chan, all: &mut Vec<Policy>) -> Result<(), AllocError>
-    requires channel { channel < length (ends_of network.now) }
-    requires so_far { AreByOutput (λ w _ a. IsNewFor network.now w a) (take channel (ends_of network.now)) all.old.items }
-    ensures { OnOk result (AreByOutput (λ w _ a. IsNewFor network.now w a) (take (channel + 1) (ends_of network.now)) all.new.items) }
-{
-    match network.topology().start_of(channel) {
-        PlaceEnd::Node(_) => Ok(()),
-        PlaceEnd::Switch(w, _) => {
-            let linked = network.topology().linked(w);
-            all.push(Policy::new(network.arbitration(w), linked))?;
-            Ok(())
-        }
-    }
-}
-
-/// The arbiters of all outputs.
-fn declared_policies(alloc: Global, network: &Network) -> Result<Vec<Policy>, AllocError>
-    ensures { IfOk result (λ v. AreByOutput (λ w _ a. IsNewFor network.now w a) (ends_of network.now) v.items) }
-{
-    let mut all = Vec::new(alloc);
-    for number in 0..network.channels() {
-        push_policy(network, Chan::new(number), &mut all)?;
-    }
-    Ok(all)
-}
-
 /// The network in its empty state, with the routing tables and the kinds of arbitration that its
 /// file declares.
 ///
@@ -91,7 +49,20 @@ pub fn declared_net<'n>(
     ensures new { IfOk result (IsNewNet network.entry.now) }
     ensures policies { IfOk result (λ net. AreDeclaredPolicies network.entry.now (arbiters_of net.switches)) }
 {
-    let routes = declared_routes(alloc, network)?;
-    let arbiters = declared_policies(alloc, network)?;
+    let mut routes = Vec::new(alloc);
+    for w in 0..network.switches() {
+        let routing = network.routing(w);
+        push_made(&mut routes, Ok(SwitchRoutes { routing }))?;
+    }
+    let mut arbiters = Vec::new(alloc);
+    for number in 0..network.channels() {
+        match network.topology().start_of(Chan::new(number)) {
+            PlaceEnd::Node(_) => continue,
+            PlaceEnd::Switch(w, _) => {
+                let linked = network.topology().linked(w);
+                arbiters.push(Policy::new(network.arbitration(w), linked))?;
+            }
+        }
+    }
     Net::new(alloc, network, routes, arbiters)
 }

@@ -65,21 +65,18 @@ fn capacities(alloc: Global, network: &Network, w: u16) -> Result<Vec<usize>, Al
     Ok(all)
 }
 
-fn new_node(alloc: Global, network: &Network, n: u16) -> Result<NodeCell, AllocError>
-    requires { n < length network.now.nodes }
-    ensures { IfOk result (IsNewNode network.now n) }
-{
-    let into = network.topology().into(n);
-    NodeCell::new(alloc, network.target(n), network.capacity(into) as usize)
-}
-
 fn new_nodes(alloc: Global, network: &Network) -> Result<Vec<NodeCell>, AllocError>
     ensures all { IfOk result (λ v. length v.items ≡ length network.now.nodes) }
     ensures each { IfOk result (λ v. (n : ℕ) (node : Node) → slice_get v.items n ≡ Some node → IsNewNode network.now n node) }
 {
     let mut nodes = Vec::new(alloc);
     for n in 0..network.nodes() {
-        push_made(&mut nodes, new_node(alloc, network, n))?;
+        let into = network.topology().into(n);
+        let capacity = network.capacity(into) as usize;
+        push_made(
+            &mut nodes,
+            NodeCell::new(alloc, network.target(n), capacity),
+        )?;
     }
     Ok(nodes)
 }
@@ -109,31 +106,6 @@ fn empty_rows<A: Arbiter + Drop>(
     Ok(rows)
 }
 
-/// The next arbiter is that of the channel, if that starts at a switch.
-fn place<A: Arbiter + Drop>(
-    network: &Network,
-    channel: Chan,
-    arbiters: &mut IntoIter<A>,
-    rows: &mut Vec<Vec<Option<A>>>,
-)
-    requires channel { channel < length (ends_of network.now) }
-    requires arbiters { AreArbiters A.ports network.now (drop channel (ends_of network.now)) (into_iter_items arbiters.old) }
-    requires all { length rows.old.items ≡ length network.now.switches }
-    requires each { (w : ℕ) (row : Vec (Option A)) → slice_get rows.old.items w ≡ Some row → IsRow A.ports network.now channel w row.items }
-    ensures arbiters { AreArbiters A.ports network.now (drop (channel + 1) (ends_of network.now)) (into_iter_items arbiters.new) }
-    ensures all { length rows.new.items ≡ length network.now.switches }
-    ensures each { (w : ℕ) (row : Vec (Option A)) → slice_get rows.new.items w ≡ Some row → IsRow A.ports network.now (channel + 1) w row.items }
-    ensures placed { (all : List A) → ArePlaced network.now channel all (into_iter_items arbiters.old) (rows_of rows.old.items) → ArePlaced network.now (channel + 1) all (into_iter_items arbiters.new) (rows_of rows.new.items) }
-{
-    match network.topology().start_of(channel) {
-        PlaceEnd::Node(_) => {}
-        PlaceEnd::Switch(w, port) => {
-            let row = &mut rows[w as usize];
-            row[port.number() as usize] = arbiters.next();
-        }
-    }
-}
-
 /// The arbiters by switch and port.
 fn placed<A: Arbiter + Drop>(
     alloc: Global,
@@ -148,7 +120,13 @@ fn placed<A: Arbiter + Drop>(
     let mut rows = empty_rows(alloc, network)?;
     let mut rest = arbiters.into_iter();
     for number in 0..network.channels() {
-        place(network, Chan::new(number), &mut rest, &mut rows);
+        match network.topology().start_of(Chan::new(number)) {
+            PlaceEnd::Node(_) => continue,
+            PlaceEnd::Switch(w, port) => {
+                let row = &mut rows[w as usize];
+                row[port.number() as usize] = rest.next();
+            }
+        }
     }
     Ok(rows)
 }

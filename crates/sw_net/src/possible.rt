@@ -81,45 +81,39 @@ impl<'n, R: Routing, A: Arbiter> Net<'n, R, A> {
         node::can_begin(node, self.node(node))
     }
 
-    /// Whether the step, which is one at node `n`, is possible.
-    fn is_possible_at_node(&self, n: u16, step: &Step) -> bool
-        requires { IsAt self.now.declared (machine_step step.now) (CellId.Node n) }
-        ensures { Tells self.now (machine_step step.now) result }
-    {
-        let network = self.network();
-        if begins(step) {
-            return self.can_begin(n);
-        }
-        match node_kind(step) {
-            Some(kind) => node::is_possible(network, n, kind, self.node(n), &self.wires),
-            None => false,
-        }
-    }
-
-    /// Whether the step, which is one at switch `w`, is possible.
-    fn is_possible_at_switch(&self, w: u16, step: &Step) -> bool
-        requires { IsAt self.now.declared (machine_step step.now) (CellId.Switch w) }
-        ensures { Tells self.now (machine_step step.now) result }
-    {
-        let network = self.network();
-        let cell = self.switch(w);
-        match port_kind(step) {
-            Some(asked) => switch::is_possible(network, w, asked.0, asked.1, cell, &self.wires),
-            None => match granted(step) {
-                Some(grant) => switch::can_grant(network, w, grant.0, grant.1, cell),
-                None => false,
-            },
-        }
-    }
-
     /// Whether the step is possible. A step of a cell, a channel or a flow that the network has not
     /// is not, nor is the beginning of a packet that no flow declares.
     pub fn is_possible(&self, step: &Step) -> bool
         ensures { Tells self.now (machine_step step.now) result }
     {
-        match cell_of(self.network(), step) {
-            Ok(CellId::Node(n)) => self.is_possible_at_node(n, step),
-            Ok(CellId::Switch(w)) => self.is_possible_at_switch(w, step),
+        let network = self.network();
+        match cell_of(network, step) {
+            Ok(CellId::Node(n)) => {
+                if begins(step) {
+                    return self.can_begin(n);
+                }
+                match node_kind(step) {
+                    Some(kind) => node::is_possible(network, n, kind, self.node(n), &self.wires),
+                    None => false,
+                }
+            }
+            Ok(CellId::Switch(w)) => {
+                let cell = self.switch(w);
+                match port_kind(step) {
+                    Some(asked) => switch::is_possible(
+                        network,
+                        w,
+                        asked.0,
+                        asked.1,
+                        cell,
+                        &self.wires,
+                    ),
+                    None => match granted(step) {
+                        Some(grant) => switch::can_grant(network, w, grant.0, grant.1, cell),
+                        None => false,
+                    },
+                }
+            }
             Err(_) => false,
         }
     }

@@ -42,32 +42,6 @@ fn make_at_node(
 impl<'n, R: Routing, A: Arbiter> Net<'n, R, A> {
     ghost use Rattle.sw_net.specs.Net.{NetAnswers, arbiters_of};
 
-    /// Makes a step of node `n`.
-    #[inline(always)]
-    fn step_node(&mut self, alloc: Global, n: u16, step: &Step) -> Result<(), NetFault>
-        requires { IsAt self.old.declared (machine_step step.now) (CellId.Node n) }
-        ensures network { self.new.declared ≡ self.old.declared }
-        ensures answers { NetAnswers self.old (machine_step step.now) result self.new }
-        ensures arbiters { arbiters_of self.new.switches ≡ arbiters_of self.old.switches }
-        ensures refused { OnErr result (self.new ≡ self.old) }
-    {
-        let cell = &mut self.nodes[n as usize];
-        make_at_node(alloc, self.network, n, cell, &mut self.wires, step)
-    }
-
-    /// Makes a step of switch `w`.
-    #[inline(always)]
-    fn step_switch(&mut self, w: u16, step: &Step) -> Result<(), NetFault>
-        requires { IsAt self.old.declared (machine_step step.now) (CellId.Switch w) }
-        ensures network { self.new.declared ≡ self.old.declared }
-        ensures answers { NetAnswers self.old (machine_step step.now) result self.new }
-        ensures arbiters { arbiters_of self.new.switches ≡ arbiters_of self.old.switches }
-        ensures refused { OnErr result (self.new ≡ self.old) }
-    {
-        let cell = &mut self.switches[w as usize];
-        made_or_not(step_switch(self.network, w, cell, &mut self.wires, step))
-    }
-
     /// Makes the step, if the machine can. No arbiter is asked.
     ///
     /// # Errors
@@ -83,8 +57,14 @@ impl<'n, R: Routing, A: Arbiter> Net<'n, R, A> {
         ensures refused { OnErr result (self.new ≡ self.old) }
     {
         match cell_of(self.network, step) {
-            Ok(CellId::Node(n)) => self.step_node(alloc, n, step),
-            Ok(CellId::Switch(w)) => self.step_switch(w, step),
+            Ok(CellId::Node(n)) => {
+                let cell = &mut self.nodes[n as usize];
+                make_at_node(alloc, self.network, n, cell, &mut self.wires, step)
+            }
+            Ok(CellId::Switch(w)) => {
+                let cell = &mut self.switches[w as usize];
+                made_or_not(step_switch(self.network, w, cell, &mut self.wires, step))
+            }
             Err(fault) => Err(fault),
         }
     }

@@ -111,35 +111,6 @@ impl<'n, R: Routing, A: Arbiter> Net<'n, R, A> {
         Some(Step::Grant(end.sends(), channel))
     }
 
-    fn step_of_node(&mut self, alloc: Global, n: u16) -> Result<Option<Step>, AllocError>
-        requires { n < length self.old.declared.nodes }
-        ensures network { self.new.declared ≡ self.old.declared }
-        ensures moves { MovesAt R.answer A.policy self.old ((network_of self.old.declared).out n) result self.new }
-    {
-        let Some(first) = self.first_at_node(n) else {
-            return Ok(None);
-        };
-        let step = node_step(self.network(), n, first);
-        self.make_and_tell(alloc, step)
-    }
-
-    fn step_of_port(
-        &mut self,
-        alloc: Global,
-        w: u16,
-        end: LinkEnd,
-    ) -> Result<Option<Step>, AllocError>
-        requires switch { w < length self.old.declared.switches }
-        requires at { (network_of self.old.declared).start_of end ≡ AtSwitch w }
-        ensures network { self.new.declared ≡ self.old.declared }
-        ensures moves { MovesAt R.answer A.policy self.old end result self.new }
-    {
-        let Some(first) = self.first_at_port(w, end) else {
-            return Ok(self.arbitrate(w, end));
-        };
-        self.make_and_tell(alloc, port_step(end, first))
-    }
-
     /// Makes a step that belongs to the link end, if one is possible other than to begin a packet,
     /// and tells which. A grant of its output comes after its other steps, and goes to the input
     /// that the output's arbiter picks among those that ask (ECSS-E-ST-50-12C, network layer:
@@ -154,8 +125,19 @@ impl<'n, R: Routing, A: Arbiter> Net<'n, R, A> {
         ensures moves { MovesAt R.answer A.policy self.old end result self.new }
     {
         match self.place_of(end) {
-            PlaceEnd::Node(n) => self.step_of_node(alloc, n),
-            PlaceEnd::Switch(w, _) => self.step_of_port(alloc, w, end),
+            PlaceEnd::Node(n) => {
+                let Some(first) = self.first_at_node(n) else {
+                    return Ok(None);
+                };
+                let step = node_step(self.network(), n, first);
+                self.make_and_tell(alloc, step)
+            }
+            PlaceEnd::Switch(w, _) => {
+                let Some(first) = self.first_at_port(w, end) else {
+                    return Ok(self.arbitrate(w, end));
+                };
+                self.make_and_tell(alloc, port_step(end, first))
+            }
         }
     }
 }
