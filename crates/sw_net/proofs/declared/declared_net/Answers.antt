@@ -1,4 +1,4 @@
-use Rattle.std.proofs.Common.{IsBitSet, IsSome, Some, [], arith, length, rules, subst, sym, take, ℕ, ◌++◌, ◌+◌, ◌<◌, ◌^◌, ◌↔◌, ◌∙◌, ◌∷◌, ◌≡◌}
+use Rattle.std.proofs.Common.{IsBitSet, IsSome, Some, [], arith, length, rules, subst, sym, take, ℕ, ◌++◌, ◌<◌, ◌^◌, ◌↔◌, ◌∙◌, ◌∷◌, ◌≡◌}
 use Rattle.std.specs.Prelude.{Ok, slice_get}
 use Rattle.sw_config.specs.Entries.{look_at}
 use Rattle.sw_flow.specs.Places.{ends_of}
@@ -6,7 +6,7 @@ use Rattle.sw_net.proofs.New.{if_ok, made_too}
 use Rattle.sw_net.proofs.Outputs.{all_taken, node_next, switch_next}
 use Rattle.sw_net.proofs.Policies.{are_arbiters, declared_policies}
 use Rattle.sw_net.specs.Net.{arbiters_of}
-use Rattle.sw_net.specs.New.{AreRoutes, IsLinkedSet}
+use Rattle.sw_net.specs.New.{IsLinkedSet}
 use Rattle.sw_net.specs.Outputs.{AreByOutput}
 use Rattle.sw_net.specs.Policies.{IsNewFor}
 use Rattle.sw_net.specs.Switches.{switch_look}

@@ -1,8 +1,7 @@
-use Rattle.std.proofs.Common.{Some, ap, arith, length, subst, ◌<◌, ◌∙◌, ◌≡◌}
+use Rattle.std.proofs.Common.{Some, ap, arith, length, subst, ◌∙◌, ◌≡◌}
 use Rattle.std.specs.Prelude.{slice_get}
 use Rattle.sw_config.proofs.Steps.{length-link_ends}
 use Rattle.sw_config.specs.Entries.{Declaration, wiring_of}
-use Rattle.sw_model.specs.Model.{network_of}
 use Rattle.sw_net.proofs.Delivered.{channel_count}
 use Rattle.sw_net.proofs.net.Net.place_of.Goals as goal
 use Rattle.sw_topo.specs.Checked.{IsIn}
