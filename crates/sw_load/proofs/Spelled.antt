@@ -1,11 +1,10 @@
 -- A cargo text is read exactly where it spells bytes.
-use Rattle.std.proofs.Common.{◌≡◌, ℕ, suc, ◌+◌, ◌-◌, ◌*◌, ◌≤◌, ◌<◌, Bool, true, false, not, ◌&&◌, List, [], ◌∷◌, ◌++◌, length, drop, get_or, take, refl, sym, ap, subst, ◌∙◌, ◌⊎◌, drop-cons, eqb-true, arith, inl, inr, append_assoc, append-nil, Option, Some, None}
+use Rattle.std.proofs.Common.{◌≡◌, ℕ, suc, ◌+◌, ◌-◌, ◌*◌, ◌≤◌, ◌<◌, Bool, true, false, ◌&&◌, List, [], ◌∷◌, ◌++◌, length, drop, get_or, refl, sym, ap, subst, ◌∙◌, ◌⊎◌, drop-cons, eqb-true, arith, inl, inr, append_assoc, append-nil, Option, Some, None}
 use Rattle.std.specs.Prelude.{if◌then◌else◌, nat_le, ◌==◌, fold, option_and_then, option_map, replicate, slice_index}
 use Rattle.std.specs.List.{list_all}
-use Rattle.std.proofs.lemmas.List.Elements.{filter-append}
 use Rattle.std.specs.Option.{option_to_list}
-use Rattle.std.proofs.lemmas.List.{drop_all, take_more}
-use Rattle.std.proofs.lemmas.Bool.{cases_Bool, and_parts, and_from, leb-true, le-leb, ne_eqb}
+use Rattle.std.proofs.lemmas.List.{drop_all}
+use Rattle.std.proofs.lemmas.Bool.{cases_Bool, and_parts, and_from, leb-true, le-leb}
 use Rattle.sw_load.specs.Cargo.{without_spaces, IsRepeated, CargoIsRead, cargo_of, bytes_of, is_repetition, repeated_of, hex_pair, ArePairs, is_digit, is_well_begun, IsCount, IsPairs, count_after, count_of, bytes_after, if_some_and_few, pairs_of}
 
 none_some : {A : Type 0} (x : A) → ◌≡◌ {A = Option A} None (Some x) → ⊥
@@ -31,19 +30,6 @@ pairs_are_read done (h ∷ l ∷ text) [] p = absurd p
 pairs_are_read done (h ∷ l ∷ text) (b ∷ bytes) p =
     ap (λ o. option_and_then (λ c. bytes_after (done ++ c ∷ []) text) o) p.0
     ∙ pairs_are_read (done ++ b ∷ []) text bytes p.1 ∙ ap Some (append_assoc done (b ∷ []) bytes)
-
--- a character more of which spaces are left out
-module _ (text bare : List ℕ) (i : ℕ) (so : bare ≡ without_spaces (take i text)) (lt : i < length text) where
-  one_more : without_spaces (take (i + 1) text) ≡ bare ++ without_spaces (get_or text i 0 ∷ [])
-  one_more =
-      ap without_spaces (take_more text i 0 lt) ∙ filter-append (λ c. not (c == 32)) (take i text) (get_or text i 0 ∷ [])
-      ∙ ap (λ l. l ++ without_spaces (get_or text i 0 ∷ [])) (sym so)
-
-  pub space_passed : get_or text i 0 ≡ 32 → bare ≡ without_spaces (take (i + 1) text)
-  space_passed space = sym (one_more ∙ ap (λ c. bare ++ without_spaces (c ∷ [])) space ∙ append-nil bare)
-
-  pub character_kept : (get_or text i 0 ≡ 32 → ⊥) → bare ++ get_or text i 0 ∷ [] ≡ without_spaces (take (i + 1) text)
-  character_kept other = sym (rw (ne_eqb (get_or text i 0) 32 other) at one_more)
 
 -- a pair more that is read
 pub pair_step : (done text : List ℕ) (begun : Option ℕ) (h b i : ℕ) {out : Option (List ℕ)} → bytes_after done (option_to_list begun ++ drop i text) ≡ out → begun ≡ Some h → i < length text → hex_pair h (get_or text i 0) ≡ Some b
@@ -78,19 +64,6 @@ pairs_end done text begun i {out} so over is = rw (is, drop_all i text over) at 
 
 pub pairs_half : (done text : List ℕ) (begun : Option ℕ) (h i : ℕ) {out : Option (List ℕ)} → bytes_after done (option_to_list begun ++ drop i text) ≡ out → length text ≤ i → begun ≡ Some h → None ≡ out
 pairs_half done text begun h i {out} so over is = rw (is, drop_all i text over) at so
-
--- a count begins with a digit other than 0
-pub no_digits : (t : List ℕ) → length t ≡ 0 → None ≡ count_of t
-no_digits [] e = refl
-no_digits (c ∷ t) e = absurd cc
-
-pub first_zero : (t : List ℕ) → get_or t 0 0 ≡ 48 → None ≡ count_of t
-first_zero [] e = refl
-first_zero (c ∷ t) e = rw e refl
-
-pub counts_on : (t : List ℕ) → (length t ≡ 0 → ⊥) → (get_or t 0 0 ≡ 48 → ⊥) → count_after 0 t ≡ count_of t
-counts_on [] some first = absurd (some refl)
-counts_on (c ∷ t) some first = rw (ne_eqb c 48 first) refl
 
 abbrev add_digit : ℕ → ℕ → ℕ
 add_digit n c = 10 * n + (c - 48)
