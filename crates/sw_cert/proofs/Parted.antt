@@ -1,26 +1,28 @@
 -- Lists of flows that are read by themselves are read so in their text.
 use Rattle.std.proofs.Common.{◌≡◌, ℕ, suc, ◌+◌, ◌-◌, ◌<◌, ◌≤◌, true, List, [], ◌∷◌, ◌++◌, length, map, take, drop, refl, sym, ap, ap₂, ◌∙◌, subst, arith, append_assoc, append-nil, zero-add}
-use Rattle.std.specs.Prelude.{◌==◌, codes, All, IfSome, Option, Some, None}
+use Rattle.std.specs.Prelude.{◌==◌, codes, All, IfSome, Option, Some, None, Vec}
+use Rattle.std.specs.declared.alloc.Global.{Global}
 use Rattle.std.specs.List.{AllByRecursion, AllZip, flat_map, join_with_byte, slice_split}
 use Rattle.std.proofs.lemmas.List.Elements.{All-nil, All-cons}
 use Rattle.std.specs.Fmt.{decimal}
 use Rattle.std.proofs.lemmas.Fmt.{decimal_injective}
 use Rattle.std.proofs.Math.Seq.{drop-append-add}
 use Rattle.std.proofs.lemmas.Bool.{le-leb}
-use Rattle.std.proofs.lemmas.List.{length-append, length-drop, length-take-le, nil_from_length, take-append-drop}
+use Rattle.std.proofs.lemmas.List.{length-append, length-drop, length-map, length-take-le, map-append, nil_from_length, take-append-drop}
 use Rattle.std.proofs.lemmas.List.Splits.{join_with_byte-slice_split, length-slice_split, slice_split_at}
 use Rattle.sw_flow.specs.declared.place.Place.{Place}
+use Rattle.sw_cert.specs.declared.lines.Expected.{Expected}
 use Rattle.sw_cert.specs.declared.lines.Expected.TheVariants.{Flows}
 use Rattle.sw_cert.specs.Grammar.{IsBlock, block, flow_lines, head_lines, with_lf}
-use Rattle.sw_cert.specs.Parts.{AreAdded, AreLists, IsReadPart, IsWhole, part_of, read_rest}
+use Rattle.sw_cert.specs.Parts.{AreAdded, AreLists, IsRead, IsReadPart, IsWhole, Runs, part_of, read_rest}
 use Rattle.sw_cert.specs.declared.parts.Part.{Part}
 use Rattle.sw_cert.specs.declared.parts.Lists.{Lists}
-use Rattle.sw_cert.specs.Reading.{State, Follows, items_of}
+use Rattle.sw_cert.specs.Reading.{State, items_of}
 use Rattle.sw_cert.specs.Sound.{IsSound, Kept}
 use Rattle.sw_cert.specs.Text.{before_lists, read_lines}
 use Rattle.sw_cert.proofs.Cuts.{IsOneLine, blocks_are_lines, join_lines}
-use Rattle.sw_cert.proofs.Runs.{Runs, right_line, runs_append}
-use Rattle.sw_cert.proofs.Spelled.{goes_on_from, lines_to, written}
+use Rattle.sw_cert.proofs.Runs.{runs_append, runs_kept, runs_read, some_piece}
+use Rattle.sw_cert.proofs.Spelled.{lines_to, written}
 use Rattle.sw_cert.proofs.Writes.{at, block_run}
 
 -- ---- what a draft has read of a part
@@ -29,34 +31,14 @@ pub record SoFar (flows : ℕ) (text rest : List ℕ) (d : State) (count : ℕ) 
   pub seen : List (List ℕ)
   pub cut : slice_split (λ b. b == 10) text ≡ seen ++ slice_split (λ b. b == 10) rest
   pub counted : length seen ≡ count
-  pub few : count + length rest ≤ length text
   pub written : lines_to d ≡ lines_to (before_lists flows) ++ seen
   pub sound : IsSound d
 
-pub nothing_yet : (flows : ℕ) (text : List ℕ) (d : State) → flows ≤ 8192 → d ≡ before_lists flows → SoFar flows text text d 0
-nothing_yet flows text d few is = subst (λ e. SoFar flows text text e 0) (sym is) (record {
-  seen = [];
-  cut = refl;
-  counted = refl;
-  few = omega arith;
-  written = sym (append-nil (lines_to (before_lists flows)));
-  sound = record { kept = (omega arith, omega (arith, few), refl); numbers = tt; blocks = tt; fits = tt; rises = tt };
-})
-
-pub line_more : (flows : ℕ) (text rest line more : List ℕ) (d e : State) (count : ℕ) → SoFar flows text rest d count
-    → slice_split (λ b. b == 10) rest ≡ line ∷ slice_split (λ b. b == 10) more → length more < length rest → Follows d line true e → SoFar flows text more e (count + 1)
-line_more flows text rest line more d e count s cut shorter follows =
-    let g = goes_on_from d.expected d.numbers d.flows d.open_block line e s.sound follows in
-    let counted = s.counted in
-    let few = s.few in
-    record {
-      seen = s.seen ++ line ∷ [];
-      cut = s.cut ∙ ap (λ l. s.seen ++ l) cut ∙ sym (append_assoc s.seen (line ∷ []) (slice_split (λ b. b == 10) more));
-      counted = length-append s.seen (line ∷ []) ∙ ap (λ n. n + 1) counted;
-      few = omega arith;
-      written = g.lines ∙ ap (λ l. l ++ line ∷ []) s.written ∙ append_assoc (lines_to (before_lists flows)) s.seen (line ∷ []);
-      sound = g.sound;
-    }
+so_far : (flows : ℕ) (text rest : List ℕ) (d : State) (count : ℕ) → flows ≤ 8192 → IsRead 0 (before_lists flows) text count d rest → SoFar flows text rest d count
+so_far flows text rest d count few s =
+    let sound : IsSound (before_lists flows) = record { kept = (omega arith, omega (arith, few), refl); numbers = tt; blocks = tt; fits = tt; rises = tt } in
+    let kept = runs_kept (before_lists flows) d s.lines s.runs sound in
+    record { seen = s.lines; cut = s.cut; counted = sym (zero-add (length s.lines)) ∙ s.counted; written = kept.0; sound = kept.1 }
 
 same_tail : {A : Type 0} (x y : A) (xs ys : List A) → ◌≡◌ {A = List A} (x ∷ xs) (y ∷ ys) → xs ≡ ys
 same_tail x y xs ys e = cc
@@ -98,17 +80,6 @@ lines_before (l ∷ ls) tail h =
     ∙ slice_split_at (λ b. b == 10) l 10 (flat_map with_lf ls ++ tail) h.0 refl
     ∙ ap (λ x. l ∷ x) (lines_before ls tail h.1)
 
--- lines that lead from a state to a state are read
-reads_on : (n : ℕ) (d e : State) (lines pieces : List (List ℕ)) → Runs d lines e → 0 < length pieces → IsSound d → (read_lines n d (lines ++ pieces) ≡ read_lines (n + length lines) e pieces) × IsSound e
-reads_on n d e [] pieces r some s =
-    let none : n ≡ n + 0 = omega arith in
-    (ap (λ f. read_lines n f pieces) r ∙ ap (λ m. read_lines m e pieces) none, subst IsSound r s)
-reads_on n d e (x ∷ xs) pieces r some s =
-    let a = right_line n d x (xs ++ pieces) true r.0 (omega (arith, some, length-append xs pieces)) refl r.1 s in
-    let b = reads_on (n + 1) r.0 e xs pieces r.2 some a.1 in
-    let count : n + 1 + length xs ≡ n + suc (length xs) = omega arith in
-    (a.0 ∙ b.0 ∙ ap (λ m. read_lines m e pieces) count, b.1)
-
 -- lists of flows lead on, whatever was read before them and however many are still to come
 blocks_on : (k : ℕ) (ns : List ℕ) (fs gs : List (List Place)) → AllByRecursion IsBlock gs
     → Runs (at (Flows (length gs + k)) ns fs []) (flat_map block gs) (at (Flows k) ns (fs ++ gs) [])
@@ -120,7 +91,7 @@ blocks_on k ns fs (g ∷ gs) h =
     (block_run (length gs + k) ns fs g h.0)
     (subst (λ l. Runs (at (Flows (length gs + k)) ns (fs ++ g ∷ []) []) (flat_map block gs) (at (Flows k) ns l [])) (append_assoc fs (g ∷ []) gs) (blocks_on k ns (fs ++ g ∷ []) gs h.1)))
 
-pub over_lists : (n : ℕ) (d e : State) (part tail : List ℕ) (flows : List (List Place)) (count : ℕ) → IsSound d → AreLists part flows count → AreAdded flows d e
+over_lists : (n : ℕ) (d e : State) (part tail : List ℕ) (flows : List (List Place)) (count : ℕ) → IsSound d → AreLists part flows count → AreAdded flows d e
     → (read_rest (n + count) e tail ≡ read_rest n d (part ++ tail)) × IsSound e
 over_lists n d e part tail flows count s l a =
     let ex : d.expected ≡ Flows (length flows + a.left) = a.expected ∙ ap Flows (let fewer = a.fewer in omega (arith, fewer)) in
@@ -129,9 +100,9 @@ over_lists n d e part tail flows count s l a =
     let to : at (Flows a.left) d.numbers (d.flows ++ flows) [] ≡ e = (λ i. record { expected = Flows a.left; numbers = d.numbers; flows = d.flows ++ flows; open_block = sym ob i }) ∙ sym a.is in
     let runs : Runs d (flat_map block flows) e = subst (λ f. Runs f (flat_map block flows) e) from (subst (λ f. Runs (at (Flows (length flows + a.left)) d.numbers d.flows []) (flat_map block flows) f) to (blocks_on a.left d.numbers d.flows flows l.blocks)) in
     let pieces : List (List ℕ) = slice_split (λ b. b == 10) tail in
-    let r = reads_on n d e (flat_map block flows) pieces runs (omega (arith, length-slice_split (λ b. b == 10) tail)) s in
+    let r = runs_read n d e (flat_map block flows) pieces runs (some_piece tail) in
     let cut : slice_split (λ b. b == 10) (part ++ tail) ≡ flat_map block flows ++ pieces = ap (λ x. slice_split (λ b. b == 10) (x ++ tail)) l.spelled ∙ lines_before (flat_map block flows) tail (blocks_are_lines flows l.blocks) in
-    (ap (λ m. read_lines (n + m) e pieces) l.counted ∙ sym r.0 ∙ ap (read_lines n d) (sym cut), r.1)
+    (ap (λ m. read_lines (n + m) e pieces) l.counted ∙ sym r ∙ ap (read_lines n d) (sym cut), (runs_kept d e (flat_map block flows) runs s).1)
 
 -- each line has a byte at least, its LF
 lines_long : (lines : List (List ℕ)) → length lines ≤ length (flat_map with_lf lines)
@@ -148,12 +119,19 @@ few_lines text flows count l =
 
 -- ---- as code finds them
 
-pub part_read : (flows : ℕ) (text rest : List ℕ) (p : Part) (d : State) (count : ℕ) (o : Option Lists) → SoFar flows (part_of text p) rest d count → IfSome o (IsWhole d rest p count) → IfSome o (IsReadPart text)
+part_read : (flows : ℕ) (text rest : List ℕ) (p : Part) (d : State) (count : ℕ) (o : Option Lists) → SoFar flows (part_of text p) rest d count → IfSome o (IsWhole d rest p count) → IfSome o (IsReadPart text)
 part_read flows text rest p d count None s w = tt
 part_read flows text rest p d count (Some l) s w =
     let whole = whole_lists flows (part_of text p) d count w.left (subst (λ r. SoFar flows (part_of text p) r d count) w.ended s) w.whole in
     subst (λ q. AreLists (part_of text q) (map items_of l.flows.items) l.lines) (sym w.part)
     (subst (λ fs. AreLists (part_of text p) fs l.lines) (sym w.flows) (subst (λ n. AreLists (part_of text p) d.flows n) (sym w.lines) whole))
+
+-- a part that was read to its end
+pub part_found : (flows : ℕ) (text bytes rest : List ℕ) (p : Part) (d : State) (count : ℕ) (o : Option Lists) → flows ≤ 8192 → p.begin ≤ p.end → p.end ≤ length text
+    → bytes ≡ take (p.end - p.begin) (drop p.begin text) → IsRead 0 (before_lists flows) bytes count d rest → IfSome o (IsWhole d rest p count) → IfSome o (IsReadPart text)
+part_found flows text bytes rest p d count o few le within is read whole =
+    let part : part_of text p ≡ take (p.end - p.begin) (drop p.begin text) = rw (le-leb p.begin p.end le, le-leb p.end (length text) within) refl in
+    part_read flows text rest p d count o (so_far flows (part_of text p) rest d count few (subst (λ x. IsRead 0 (before_lists flows) x count d rest) (is ∙ sym part) read)) whole
 
 drop_more : (at k : ℕ) (text : List ℕ) → at ≤ length text → drop (at + k) text ≡ drop k (drop at text)
 drop_more at k text le =
@@ -173,11 +151,23 @@ part_before text p at is le within =
       ap length part ∙ length-take-le (p.end - at) rest size,
     )
 
+-- a part whose lists were added, and which begins where the reading stands
 pub part_taken : (n : ℕ) (d e : State) (text : List ℕ) (l : Lists) (at : ℕ) → IsSound d → IsReadPart text l → l.part.begin ≡ at → at ≤ l.part.end → l.part.end ≤ length text → AreAdded (map items_of l.flows.items) d e
-    → read_rest (n + l.lines) e (drop l.part.end text) ≡ read_rest n d (drop at text)
+    → (read_rest (n + l.lines) e (drop l.part.end text) ≡ read_rest n d (drop at text)) × IsSound e
 part_taken n d e text l at s read begins le within added =
-    (over_lists n d e (part_of text l.part) (drop l.part.end text) (map items_of l.flows.items) l.lines s read added).0
-    ∙ ap (read_rest n d) (part_before text l.part at begins le within).0
+    let over = over_lists n d e (part_of text l.part) (drop l.part.end text) (map items_of l.flows.items) l.lines s read added in
+    (over.0 ∙ ap (read_rest n d) (part_before text l.part at begins le within).0, over.1)
+
+-- lists that were appended
+pub appended : (before n : ℕ) (e : Expected) (ns : List ℕ) (ps : List Place) (fs gs hs : List (Vec Place Global)) → e ≡ Flows before → n ≡ length gs → n ≤ before → hs ≡ fs ++ gs
+    → AreAdded (map items_of gs) (record { expected = e; numbers = ns; flows = map items_of fs; open_block = ps }) (record { expected = Flows (before - n); numbers = ns; flows = map items_of hs; open_block = ps })
+appended before n e ns ps fs gs hs is count few added = record {
+  before = before;
+  left = before - n;
+  expected = is;
+  fewer = omega (arith, count, few, length-map gs items_of);
+  is = ap (λ (l : List (List Place)). record { expected = Flows (before - n); numbers = ns; flows = l; open_block = ps }) (ap (map items_of) added ∙ map-append items_of fs gs);
+}
 
 pub few_in_part : (text : List ℕ) (l : Lists) (at : ℕ) → IsReadPart text l → l.part.begin ≡ at → at ≤ l.part.end → l.part.end ≤ length text → l.lines ≤ l.part.end - at
 few_in_part text l at read begins le within =

@@ -11,11 +11,12 @@ use Rattle.sw_cert.specs.declared.lines.Expected.{Expected}
 use Rattle.sw_cert.specs.declared.lines.Expected.TheVariants.{Channels, Numbers, Flows, Places, Nothing}
 use Rattle.sw_cert.specs.declared.lines.Said.TheVariants as said
 use Rattle.sw_cert.specs.Grammar.{place_of, place_line, after_word, block, head_lines, flow_lines, lines_of, HasText, Rises, stands_before, if_rising, Fits, IsBlock}
+use Rattle.sw_cert.specs.Parts.{Runs}
 use Rattle.sw_cert.specs.Reading.{State, next, last_of}
 use Rattle.sw_cert.specs.Text.{at_first}
 use Rattle.sw_text.proofs.Numbers.{spelled_read}
 use Rattle.sw_cert.proofs.Fields.{field_read, after_read}
-use Rattle.sw_cert.proofs.Runs.{Runs, runs_append}
+use Rattle.sw_cert.proofs.Runs.{runs_append}
 use Rattle.sw_cert.proofs.Spelled.{last_or, last_is}
 
 abbrev pub at : Expected → List ℕ → List (List Place) → List Place → State

@@ -1,16 +1,17 @@
 //! Certificates, and their text.
-ghost use Rattle.std.specs.Prelude.{◌≡◌, ◌+◌, ◌<◌, ◌≤◌, ◌==◌, ◌↔◌, ◌&&◌, true, length, map, All, Err, IfErr, IfSome, IsSome, IfOk};
+ghost use Rattle.std.specs.Prelude.{◌≡◌, ◌<◌, ◌≤◌, ◌==◌, ◌∷◌, [], length, Err, IfErr, IfOk};
+ghost use Rattle.std.specs.List.{slice_split};
 ghost use Rattle.sw_cert.specs.Grammar.{spelling};
-ghost use Rattle.sw_cert.specs.Parts.{IsReadPart, read_rest};
+ghost use Rattle.sw_cert.specs.Parts.{read_rest};
 ghost use Rattle.sw_cert.specs.Reading.{state_of};
-ghost use Rattle.sw_cert.specs.Text.{Gives, is_ended, contents_of};
+ghost use Rattle.sw_cert.specs.Text.{Gives};
 ghost use Rattle.sw_cert.specs.Sound.{IsSound};
 ghost use Rattle.sw_cert.specs.declared.certificate.CertificateFault.TheVariants.{Memory};
 
 use crate::draft::Draft;
 use crate::lines::Expected;
-use crate::parts::{Lists, ReadWorkers, parts_of};
-use crate::reading::{read_head, read_to_end, take_lists};
+use crate::parts::{ReadWorkers, parts_of};
+use crate::reading::{read_lines, take_lists};
 use crate::write::spelled;
 use std::alloc::{AllocError, AllocFailed, Global};
 use std::marker::Model;
@@ -63,41 +64,23 @@ impl Model for Certificate {
 }
 
 /// The certificate that a draft has become, if nothing more is expected and no rest stands after the last line.
-pub(crate) fn finished(draft: Draft, rest: &[u8]) -> Option<Certificate>
-    requires { IsSound (state_of draft) }
-    ensures ended { IsSome result ↔ (is_ended draft.expected && (length rest.now == 0) ≡ true) }
-    ensures same { IfSome result (λ c. c ≡ contents_of (state_of draft)) }
+fn finished(draft: Draft, rest: &[u8], number: usize) -> Result<Certificate, CertificateFault>
+    requires sound { IsSound (state_of draft) }
+    requires all { slice_split (λ b. b == 10) rest.now ≡ rest.now ∷ [] }
+    ensures { Gives (read_rest number (state_of draft) rest.now) result }
 {
     if !matches!(draft.expected, Expected::Nothing) || !rest.is_empty() {
-        return None;
+        return Err(CertificateFault::Grammar(number));
     }
-    let Draft {
-        expected: _,
-        numbers,
-        flows,
-        block: _,
-    } = draft;
-    Some(Certificate {
-        numbers,
-        places: flows,
+    Ok(Certificate {
+        numbers: draft.numbers,
+        places: draft.flows,
     })
 }
 
-/// The lists of flows that parts of a text are, in the order of the parts.
-fn lists_found<W: ReadWorkers>(
-    workers: &W,
-    alloc: Global,
-    text: &[u8],
-) -> Result<Vec<Option<Lists>>, AllocError>
-    ensures { IfOk result (λ v. All (λ lists. IfSome lists (IsReadPart text.now)) v.items) }
-{
-    let parts = parts_of(alloc, text)?;
-    workers.lists_of_parts(alloc, text, &parts)
-}
-
-/// Reads a text up to its lists, and of those the parts that are read by themselves: what stands there, and the number of the line with
-/// which it begins.
-fn read_lists<'a, W: ReadWorkers>(
+/// Reads a text, and of it first the parts that are read by themselves: what stands after its last line, and the number of the line
+/// with which that begins.
+fn read_text<'a, W: ReadWorkers>(
     workers: &W,
     alloc: Global,
     draft: &mut Draft,
@@ -106,12 +89,13 @@ fn read_lists<'a, W: ReadWorkers>(
     requires { IsSound (state_of draft.old) }
     ensures same { IfOk result (λ r. read_rest r.1 (state_of draft.new) r.0.now ≡ read_rest 1 (state_of draft.old) text.entry.now) }
     ensures sound { IfOk result (λ _. IsSound (state_of draft.new)) }
-    ensures few { IfOk result (λ r. r.1 + length r.0.now ≤ length text.entry.now + 1) }
+    ensures all { IfOk result (λ r. slice_split (λ b. b == 10) r.0.now ≡ r.0.now ∷ []) }
     ensures wrong { IfErr result (λ fault. Gives (read_rest 1 (state_of draft.old) text.entry.now) (Err fault)) }
 {
-    let (lists, number) = read_head(alloc, draft, text)?;
-    let found = lists_found(workers, alloc, lists)?;
-    Ok(take_lists(draft, lists, number, found)?)
+    let (lists, number) = read_lines(alloc, draft, text, 1, false)?;
+    let found = workers.lists_of_parts(alloc, lists, &parts_of(alloc, lists)?)?;
+    let (rest, number) = take_lists(draft, lists, number, found)?;
+    read_lines(alloc, draft, rest, number, true)
 }
 
 impl Certificate {
@@ -131,9 +115,9 @@ impl Certificate {
     ) -> Result<Certificate, CertificateFault>
         ensures { Reads text.now result }
     {
-        let mut draft = Draft::new(alloc);
-        let (rest, number) = read_lists(workers, alloc, &mut draft, text)?;
-        read_to_end(alloc, draft, rest, number)
+        let mut draft = Draft::new(alloc, Expected::Title);
+        let (rest, number) = read_text(workers, alloc, &mut draft, text)?;
+        finished(draft, rest, number)
     }
 
     /// The certificate of a text, as `read_by` reads it in one thread.
@@ -157,7 +141,7 @@ impl Certificate {
     pub fn write(&self, alloc: Global) -> Result<Vec<u8>, AllocError>
         ensures { IfOk result (λ text. text.items ≡ spelling self.now.numbers self.now.places) }
     {
-        Ok(spelled(alloc, &self.numbers, &self.places)?.into_bytes())
+        spelled(alloc, &self.numbers, &self.places)
     }
 }
 

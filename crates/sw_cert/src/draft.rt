@@ -1,6 +1,6 @@
 //! A certificate that is being read.
-ghost use Rattle.std.specs.Prelude.{◌≡◌, ◌++◌, ◌∷◌, [], OnOk, IfOk, map};
-ghost use Rattle.sw_cert.specs.Reading.{Follows, items_of, last_of, state_of, with_place, with_said};
+ghost use Rattle.std.specs.Prelude.{◌≡◌, [], OnOk, IfOk};
+ghost use Rattle.sw_cert.specs.Reading.{Follows, state_of, with_place, with_said};
 
 use crate::lines::{Expected, Said, moved, said_by};
 use std::alloc::{AllocError, Global};
@@ -17,23 +17,16 @@ pub(crate) struct Draft {
 }
 
 impl Draft {
-    /// Puts the block, which is whole, into the list.
-    fn end_block(&mut self, alloc: Global) -> Result<(), AllocError>
-        ensures { OnOk result (state_of self.new ≡ record (state_of self.old) { flows = map items_of self.old.flows.items ++ self.old.block.items ∷ []; open_block = [] }) }
-    {
-        self.flows
-            .push(mem::replace(&mut self.block, Vec::new(alloc)))?;
-        Ok(())
-    }
-
+    /// Adds a place to the block, and a block that is whole to the lists.
     fn add_place(&mut self, alloc: Global, place: Place) -> Result<(), AllocError>
         ensures { OnOk result (state_of self.new ≡ with_place (state_of self.old) place self.old.expected) }
     {
         self.block.push(place)?;
-        match self.expected {
-            Expected::Places(0, _) => self.end_block(alloc),
-            _ => Ok(()),
+        if let Expected::Places(0, _) = self.expected {
+            let block = mem::replace(&mut self.block, Vec::new(alloc));
+            self.flows.push(block)?;
         }
+        Ok(())
     }
 
     fn add(&mut self, alloc: Global, said: Said) -> Result<(), AllocError>
@@ -42,18 +35,11 @@ impl Draft {
         match said {
             Said::Number(v) => self.numbers.push(v)?,
             Said::PlaceCount(0) => self.flows.push(Vec::new(alloc))?,
-            Said::Listed(place) => self.add_place(alloc, place)?,
+            Said::Listed(place) => return self.add_place(alloc, place),
             _ => {}
         }
         Ok(())
     }
-}
-
-/// The last place of the block so far.
-fn last_of(block: &[Place]) -> Option<Place>
-    ensures { result ≡ last_of block.now }
-{
-    block.last().copied()
 }
 
 impl Draft {
@@ -62,7 +48,7 @@ impl Draft {
         ensures { IfOk result (λ right. Follows (state_of self.old) line.now right (state_of self.new)) }
     {
         let expected = self.expected;
-        let last = last_of(&self.block);
+        let last = self.block.last().copied();
         let Some(said) = said_by(expected, last, line) else {
             return Ok(false);
         };
@@ -74,30 +60,12 @@ impl Draft {
 }
 
 impl Draft {
-    ghost use Rattle.sw_cert.specs.Text.{at_first};
-
-    /// Before the first line.
-    pub(crate) fn new(alloc: Global) -> Draft
-        ensures { state_of result ≡ at_first }
+    /// With nothing read, where this is expected.
+    pub(crate) fn new(alloc: Global, expected: Expected) -> Draft
+        ensures { state_of result ≡ record { expected = expected; numbers = []; flows = []; open_block = [] } }
     {
         Draft {
-            expected: Expected::Title,
-            numbers: Vec::new(alloc),
-            flows: Vec::new(alloc),
-            block: Vec::new(alloc),
-        }
-    }
-}
-
-impl Draft {
-    ghost use Rattle.sw_cert.specs.Text.{before_lists};
-
-    /// Before the lists of so many flows, with nothing read.
-    pub(crate) fn of_lists(alloc: Global, flows: u32) -> Draft
-        ensures { state_of result ≡ before_lists flows }
-    {
-        Draft {
-            expected: Expected::Flows(flows),
+            expected,
             numbers: Vec::new(alloc),
             flows: Vec::new(alloc),
             block: Vec::new(alloc),

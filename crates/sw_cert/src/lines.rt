@@ -1,9 +1,9 @@
 //! What the lines of a certificate's text say.
-ghost use Rattle.std.specs.Prelude.{◌≡◌, option_copied, position, length, ◌==◌, ◌<◌, ◌≤◌, ◌^◌, IfSome};
-ghost use Rattle.sw_cert.specs.Grammar.{after_word, field, is_line, moved, place_at, place_of, if_rising, places, said_by, stands_before};
+ghost use Rattle.std.specs.Prelude.{◌≡◌, option_copied, ◌<◌, ◌≤◌, ◌^◌, IfSome};
+ghost use Rattle.sw_cert.specs.Grammar.{after_word, field, is_line, moved, place_of, places, said_by, stands_before};
 
 use sw_flow::Place;
-use sw_text::number;
+use sw_text::{cut, number};
 use sw_topo::Chan;
 use sw_topo::limits::{MAX_ADDRESS, MAX_CHANNELS, MAX_PLACES, MAX_WAYS};
 
@@ -80,42 +80,17 @@ fn is_line(word: &[u8], line: &[u8]) -> bool
     line.starts_with(word) && line.len() == word.len()
 }
 
-/// The place of two numbers with a space between them, at this place.
-fn place_at(bytes: &[u8], at: usize) -> Option<Place>
-    requires { at < length bytes.now }
-    ensures { result ≡ place_at bytes.now at }
-{
-    let channel = number(&bytes[..at], 65535)?;
-    let deleted = number(&bytes[at + 1..], MAX_ADDRESS as u32)?;
-    Some(Place {
-        channel: Chan::new(channel as u16),
-        deleted: deleted as u8,
-    })
-}
-
-fn space_in(bytes: &[u8]) -> Option<usize>
-    ensures exact { result ≡ position (λ b. b == 32) bytes.now }
-    ensures within { IfSome result (λ at. at < length bytes.now) }
-{
-    bytes.iter().position(|b| *b == b' ')
-}
-
 /// The place of two numbers with a space between them.
 fn place_of(bytes: &[u8]) -> Option<Place>
     ensures { result ≡ place_of bytes.now }
 {
-    place_at(bytes, space_in(bytes)?)
-}
-
-/// The place, if it stands behind the last.
-fn if_rising(last: Option<Place>, place: Place) -> Option<Said>
-    ensures { result ≡ if_rising last place }
-{
-    if stands_before(last, &place) {
-        Some(Said::Listed(place))
-    } else {
-        None
-    }
+    let (channel, deleted) = cut(bytes, b' ')?;
+    let channel = number(channel, 65535)?;
+    let deleted = number(deleted, MAX_ADDRESS as u32)?;
+    Some(Place {
+        channel: Chan::new(channel as u16),
+        deleted: deleted as u8,
+    })
 }
 
 /// What a line says where this is expected, after the last place of its block.
@@ -129,7 +104,10 @@ pub(crate) fn said_by(expected: Expected, last: Option<Place>, line: &[u8]) -> O
         Expected::Numbers(_) => Some(Said::Number(field(b"number ", 65535, line)? as u16)),
         Expected::Flows(0) => is_line(b"end", line).then_some(Said::Ended),
         Expected::Flows(_) => Some(Said::PlaceCount(field(b"flow ", MAX_PLACES, line)?)),
-        Expected::Places(..) => if_rising(last, place_of(after_word(b"place ", line)?)?),
+        Expected::Places(..) => {
+            let place = place_of(after_word(b"place ", line)?)?;
+            stands_before(last, &place).then_some(Said::Listed(place))
+        }
         Expected::Nothing => None,
     }
 }

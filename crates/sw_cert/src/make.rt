@@ -1,7 +1,7 @@
 //! Certificates of given contents.
-ghost use Rattle.std.specs.Prelude.{◌≡◌, ◌≤◌, ◌↔◌, IsTrue, IsSome, IfSome, None, map};
+ghost use Rattle.std.specs.Prelude.{◌≡◌, ◌≤◌, ◌↔◌, IsTrue, IsSome, IfSome, map};
 ghost use Rattle.std.specs.List.{AllByRecursion};
-ghost use Rattle.sw_cert.specs.Grammar.{Fits, HasText, IsBlock, Rises};
+ghost use Rattle.sw_cert.specs.Grammar.{HasText, IsBlock};
 ghost use Rattle.sw_cert.specs.Reading.{items_of};
 
 use crate::certificate::Certificate;
@@ -9,38 +9,27 @@ use crate::lines::stands_before;
 use sw_flow::Place;
 use sw_topo::limits::{MAX_ADDRESS, MAX_CHANNELS, MAX_PLACES, MAX_WAYS};
 
-/// Has no place too many deleted bytes?
-fn fit(places: &[Place]) -> bool
-    ensures { IsTrue result ↔ AllByRecursion Fits places.now }
+/// Are there not too many places, none of too many deleted bytes, and does each stand before the next, by channel and then by deleted
+/// bytes?
+fn is_block(places: &[Place]) -> bool
+    ensures { IsTrue result ↔ IsBlock places.now }
 {
+    if places.len() > MAX_PLACES as usize {
+        return false;
+    }
+    let mut last = None;
     for place in places {
         // A channel's number has a text, whatever it is: the proof reads its range here.
         let _channel = place.channel.number();
         if place.deleted > MAX_ADDRESS {
             return false;
         }
-    }
-    true
-}
-
-/// Does each place stand before the next, by channel and then by deleted bytes?
-fn rise(places: &[Place]) -> bool
-    ensures { IsTrue result ↔ Rises None places.now }
-{
-    let mut last = None;
-    for place in places {
         if !stands_before(last, place) {
             return false;
         }
         last = Some(*place);
     }
     true
-}
-
-fn is_block(places: &[Place]) -> bool
-    ensures { IsTrue result ↔ IsBlock places.now }
-{
-    places.len() <= MAX_PLACES as usize && fit(places) && rise(places)
 }
 
 fn are_blocks(flows: &[Vec<Place>]) -> bool

@@ -1,16 +1,17 @@
 //! Parts of a certificate's text, each with whole lists of flows, that are read by themselves.
-ghost use Rattle.std.specs.Prelude.{◌≡◌, ◌<◌, ◌≤◌, All, IfOk, IfSome, length};
+ghost use Rattle.std.specs.Prelude.{◌<◌, All, IfOk, IfSome, length};
 ghost use Rattle.std.specs.Thread.{IsSync};
-ghost use Rattle.sw_cert.specs.Parts.{IsReadPart, IsWhole, part_of};
+ghost use Rattle.sw_cert.specs.Parts.{IsReadPart, IsWhole};
 ghost use Rattle.sw_cert.specs.Reading.{state_of};
 
+use crate::certificate::CertificateFault;
 use crate::draft::Draft;
 use crate::lines::Expected;
+use crate::reading::read_lines;
 use std::alloc::{AllocError, Global};
 use std::thread::Threads;
 use sw_flow::Place;
 use sw_parallel::{OneByOne, SideBySide, Workers, side_by_side};
-use sw_text::cut;
 use sw_topo::limits::MAX_WAYS;
 
 /// Shorter texts are not cut into parts.
@@ -35,28 +36,6 @@ pub struct Lists {
     pub(crate) lines: usize,
 }
 
-/// The bytes of a part; none where the text has no such part.
-fn part_of(text: &[u8], part: Part) -> &[u8]
-    ensures { result.now ≡ part_of text.entry.now part }
-{
-    if part.begin <= part.end && part.end <= text.len() {
-        &text[part.begin..part.end]
-    } else {
-        &text[..0]
-    }
-}
-
-/// Where the next list of a flow begins, from that byte on: no line but its first has an `f`.
-fn next_list(text: &[u8], from: usize) -> usize
-    requires { from ≤ length text.now }
-    ensures { result ≤ length text.now }
-{
-    match text[from..].iter().position(|byte| *byte == b'f') {
-        Some(more) => from + more,
-        None => text.len(),
-    }
-}
-
 /// Cuts the lists of a text, behind which its last line stands, into parts of about the same length. Where they are cut decides only how
 /// many of them can be read by themselves.
 pub(crate) fn parts_of(alloc: Global, text: &[u8]) -> Result<Vec<Part>, AllocError> {
@@ -67,7 +46,11 @@ pub(crate) fn parts_of(alloc: Global, text: &[u8]) -> Result<Vec<Part>, AllocErr
     let lists = &text[..text.len() - LAST_LINE];
     let mut begin = 0;
     for number in 0..PARTS {
-        let end = next_list(lists, lists.len() / PARTS * (number + 1));
+        // The next list of a flow begins with the next `f`: no line but its first has one.
+        let mut end = lists.len() / PARTS * (number + 1);
+        while end < lists.len() && lists[end] != b'f' {
+            end += 1;
+        }
         parts.push(Part { begin, end })?;
         begin = end;
     }
@@ -95,17 +78,16 @@ fn whole_lists(draft: Draft, part: Part, rest: &[u8], lines: usize) -> Option<Li
 fn lists_of(alloc: Global, text: &[u8], part: Part) -> Result<Option<Lists>, AllocError>
     ensures { IfOk result (λ lists. IfSome lists (IsReadPart text.now)) }
 {
-    let mut draft = Draft::of_lists(alloc, MAX_WAYS);
-    let mut rest = part_of(text, part);
-    let mut lines = 0;
-    while let Some((line, more)) = cut(rest, b'\n') {
-        if !draft.read_line(alloc, line)? {
-            return Ok(None);
-        }
-        rest = more;
-        lines += 1;
+    if part.begin > part.end || part.end > text.len() {
+        return Ok(None);
     }
-    Ok(whole_lists(draft, part, rest, lines))
+    let bytes = &text[part.begin..part.end];
+    let mut draft = Draft::new(alloc, Expected::Flows(MAX_WAYS));
+    match read_lines(alloc, &mut draft, bytes, 0, true) {
+        Ok((rest, lines)) => Ok(whole_lists(draft, part, rest, lines)),
+        Err(CertificateFault::Grammar(_)) => Ok(None),
+        Err(CertificateFault::Memory) => Err(AllocError),
+    }
 }
 
 /// Who reads the parts of a text.

@@ -1,8 +1,8 @@
 //! The text of a certificate.
-ghost use Rattle.std.specs.Prelude.{◌≡◌, ◌++◌, length, map, OnOk, IfOk, string_bytes, codes};
+ghost use Rattle.std.specs.Prelude.{◌≡◌, ◌++◌, ◌∷◌, [], length, map, OnOk, IfOk, string_bytes, codes};
 ghost use Rattle.std.specs.List.{flat_map};
 ghost use Rattle.std.specs.Fmt.{decimal};
-ghost use Rattle.sw_cert.specs.Grammar.{with_lf, place_line, block, spelling};
+ghost use Rattle.sw_cert.specs.Grammar.{with_lf, place_line, flow_lines, spelling};
 ghost use Rattle.sw_cert.specs.Pieces.{AreHeads, ArePieces, AreTails, piece};
 ghost use Rattle.sw_cert.specs.Reading.{items_of};
 
@@ -40,49 +40,15 @@ fn add_piece(
     Ok(())
 }
 
-/// Adds the line of a place, of a piece for its channel and one for its deleted bytes: a certificate has them in thousands of lines.
-fn add_place(
-    text: &mut String,
-    heads: &[String],
-    tails: &[String],
-    place: Place,
-) -> Result<(), AllocError>
-    requires heads { AreHeads heads.now }
-    requires tails { AreTails tails.now }
-    ensures { OnOk result (string_bytes text.new ≡ string_bytes text.old ++ with_lf (place_line place)) }
-{
-    add_piece(
-        text,
-        heads,
-        "place ",
-        usize::from(place.channel.number()),
-        " ",
-    )?;
-    add_piece(text, tails, "", usize::from(place.deleted), "\n")
-}
-
+/// Adds a line of a word and a number.
 fn add_field(text: &mut String, word: &str, value: usize) -> Result<(), AllocError>
     ensures { OnOk result (string_bytes text.new ≡ string_bytes text.old ++ with_lf (word.now ++ decimal value)) }
 {
     write!(text, "{word}{value}\n")
 }
 
-fn add_places(
-    text: &mut String,
-    heads: &[String],
-    tails: &[String],
-    places: &[Place],
-) -> Result<(), AllocError>
-    requires heads { AreHeads heads.now }
-    requires tails { AreTails tails.now }
-    ensures { OnOk result (string_bytes text.new ≡ string_bytes text.old ++ flat_map (λ p. with_lf (place_line p)) places.now) }
-{
-    for place in places {
-        add_place(text, heads, tails, *place)?;
-    }
-    Ok(())
-}
-
+/// Adds the list of a flow, the line of each place of a piece for its channel and one for its deleted bytes: a certificate has them in
+/// thousands of lines.
 fn add_block(
     text: &mut String,
     heads: &[String],
@@ -94,46 +60,35 @@ fn add_block(
     ensures { OnOk result (string_bytes text.new ≡ string_bytes text.old ++ (with_lf (codes "flow " ++ decimal (length places.now)) ++ flat_map (λ p. with_lf (place_line p)) places.now)) }
 {
     add_field(text, "flow ", places.len())?;
-    add_places(text, heads, tails, places)
-}
-
-fn add_numbers(text: &mut String, numbers: &[u16]) -> Result<(), AllocError>
-    ensures { OnOk result (string_bytes text.new ≡ string_bytes text.old ++ flat_map (λ v. with_lf (codes "number " ++ decimal v)) numbers.now) }
-{
-    for number in numbers {
-        add_field(text, "number ", usize::from(*number))?;
+    for place in places {
+        add_piece(
+            text,
+            heads,
+            "place ",
+            usize::from(place.channel.number()),
+            " ",
+        )?;
+        add_piece(text, tails, "", usize::from(place.deleted), "\n")?;
     }
     Ok(())
 }
 
+/// Adds the lists of the flows, in a network of so many channels, and the last line.
 fn add_lists(
-    text: &mut String,
-    heads: &[String],
-    tails: &[String],
-    flows: &[Vec<Place>],
-) -> Result<(), AllocError>
-    requires heads { AreHeads heads.now }
-    requires tails { AreTails tails.now }
-    ensures { OnOk result (string_bytes text.new ≡ string_bytes text.old ++ flat_map (λ f. with_lf (codes "flow " ++ decimal (length f.items)) ++ flat_map (λ p. with_lf (place_line p)) f.items) flows.now) }
-{
-    for places in flows {
-        add_block(text, heads, tails, places)?;
-    }
-    Ok(())
-}
-
-/// Adds the lists of the flows, in a network of so many channels.
-fn add_blocks(
     alloc: Global,
     text: &mut String,
     channels: usize,
     flows: &[Vec<Place>],
 ) -> Result<(), AllocError>
-    ensures { OnOk result (string_bytes text.new ≡ string_bytes text.old ++ flat_map (λ f. with_lf (codes "flow " ++ decimal (length f.items)) ++ flat_map (λ p. with_lf (place_line p)) f.items) flows.now) }
+    ensures { OnOk result (string_bytes text.new ≡ string_bytes text.old ++ flat_map with_lf (flow_lines (length flows.now) (map items_of flows.now) ++ codes "end" ∷ [])) }
 {
+    add_field(text, "flows ", flows.len())?;
     let heads = pieces(alloc, "place ", " ", channels)?;
     let tails = pieces(alloc, "", "\n", usize::from(MAX_ADDRESS) + 1)?;
-    add_lists(text, &heads, &tails, flows)
+    for places in flows {
+        add_block(text, &heads, &tails, places)?;
+    }
+    text.push_str("end\n")
 }
 
 /// The text of a certificate with these numbers and places.
@@ -141,14 +96,13 @@ pub(crate) fn spelled(
     alloc: Global,
     numbers: &[u16],
     flows: &[Vec<Place>],
-) -> Result<String, AllocError>
-    ensures { IfOk result (λ s. string_bytes s ≡ spelling numbers.now (map items_of flows.now)) }
+) -> Result<Vec<u8>, AllocError>
+    ensures { IfOk result (λ v. v.items ≡ spelling numbers.now (map items_of flows.now)) }
 {
-    let mut text = String::from_str(alloc, "swcert 1\n")?;
-    add_field(&mut text, "channels ", numbers.len())?;
-    add_numbers(&mut text, numbers)?;
-    add_field(&mut text, "flows ", flows.len())?;
-    add_blocks(alloc, &mut text, numbers.len(), flows)?;
-    text.push_str("end\n")?;
-    Ok(text)
+    let mut text = format!(in alloc; "swcert 1\nchannels {}\n", numbers.len())?;
+    for number in numbers {
+        add_field(&mut text, "number ", usize::from(*number))?;
+    }
+    add_lists(alloc, &mut text, numbers.len(), flows)?;
+    Ok(text.into_bytes())
 }

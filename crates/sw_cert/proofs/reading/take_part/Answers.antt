@@ -1,7 +1,9 @@
-use Rattle.std.proofs.Common.{rules, ◌≡◌, ◌≤◌, ◌-◌, length, map, arith}
-use Rattle.sw_cert.specs.Parts.{AreAdded, IsReadPart}
-use Rattle.sw_cert.specs.Reading.{items_of, state_of}
-use Rattle.sw_cert.proofs.Parted.{few_in_part, part_taken}
+use Rattle.std.proofs.Common.{rules, ◌≡◌, ◌≤◌, ◌-◌, ◌+◌, drop, length, map, arith}
+use Rattle.sw_cert.specs.declared.lines.Expected.TheVariants.{Flows}
+use Rattle.sw_cert.specs.Parts.{IsReadPart, read_rest}
+use Rattle.sw_cert.specs.Reading.{State, items_of, state_of}
+use Rattle.sw_cert.specs.Sound.{IsSound}
+use Rattle.sw_cert.proofs.Parted.{appended, few_in_part, part_taken}
 use Rattle.sw_cert.proofs.reading.take_part.Goals as goal
 
 pub overflow_add-result : goal.overflow_add-result
@@ -14,15 +16,27 @@ overflow_add-result c =
     let few : l.lines ≤ l.part.end - c.args.at = few_in_part c.args.text.now l c.args.at read begins le within in
     omega (arith, few, le, within, c.requires.few)
 
-pub returns-clause-same : goal.returns-clause-same
-returns-clause-same c =
+abbrev after : (c : goal.After-drop-flows-2) → State
+after c = record { expected = Flows (c.in-Flows.left - c.len-in-Flows.result); numbers = c.args.draft.now.numbers.items; flows = map items_of c.append.new.self.items; open_block = c.args.draft.now.block.items }
+
+taken : (c : goal.After-drop-flows-2) → (read_rest (c.args.number + c.in-Some.field-0.lines) (after c) (drop c.in-Some.field-0.part.end c.args.text.now) ≡ read_rest c.args.number (state_of c.args.draft.now) (drop c.args.at c.args.text.now)) × IsSound (after c)
+taken c =
     let l = c.in-Some.field-0 in
+    let d = c.args.draft.now in
+    let count : c.len-in-Flows.result ≡ length l.flows.items = search rules in
+    let few : c.len-in-Flows.result ≤ c.in-Flows.left = search rules in
+    let added = appended c.in-Flows.left c.len-in-Flows.result d.expected d.numbers.items d.block.items d.flows.items l.flows.items c.append.new.self.items c.in-Flows.is count few c.in_ok-append.ensures.items in
     let read : IsReadPart c.args.text.now l = search rules in
     let begins : l.part.begin ≡ c.args.at = search rules in
     let le : c.args.at ≤ l.part.end = search rules in
     let within : l.part.end ≤ length c.args.text.now = search rules in
-    let added : AreAdded (map items_of l.flows.items) (state_of c.args.draft.now) (state_of c.add_lists.new.draft) = search rules in
-    part_taken c.args.number (state_of c.args.draft.now) (state_of c.add_lists.new.draft) c.args.text.now l c.args.at c.requires.sound read begins le within added
+    part_taken c.args.number (state_of d) (after c) c.args.text.now l c.args.at c.requires.sound read begins le within added
+
+pub returns-clause-same : goal.returns-clause-same
+returns-clause-same c = (taken c).0
+
+pub returns-clause-sound : goal.returns-clause-sound
+returns-clause-sound c = (taken c).1
 
 pub returns-clause-few : goal.returns-clause-few
 returns-clause-few c =

@@ -1,11 +1,10 @@
 use Rattle.std.proofs.Common.{length}
-use Rattle.sw_cert.specs.Parts.{part_of}
+use Rattle.sw_cert.specs.Parts.{IsRead}
 use Rattle.sw_cert.specs.Reading.{state_of}
-use Rattle.sw_cert.proofs.Parted.{SoFar}
-use Rattle.sw_cert.proofs.parts.lists_of.Given as goal
+use Rattle.sw_cert.proofs.reading.read_lines.Given as goal
 
 abbrev pub invariant-loop-line : goal.invariant-loop-line
-invariant-loop-line l = SoFar 8192 (part_of l.text l.part) l.rest (state_of l.draft) l.lines
+invariant-loop-line l = IsRead l.first (state_of l.initial.draft) l.text l.number (state_of l.draft) l.rest
 
 abbrev pub decreases-loop-line : goal.decreases-loop-line
 decreases-loop-line l = length l.rest
