@@ -1,6 +1,5 @@
 pub mod Waiting
 pub mod Picked
-pub mod Told
 pub mod Ways
 pub mod Needing
 pub mod LinkRows

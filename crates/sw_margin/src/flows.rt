@@ -1,11 +1,10 @@
 //! Flows that are answered.
-ghost use Rattle.std.specs.Prelude.{◌<◌, All, IfOk, length};
-ghost use Rattle.std.specs.List.{AllZip};
+ghost use Rattle.std.specs.Prelude.{◌<◌, IfOk, length};
 ghost use Rattle.sw_margin.specs.Bends.{AreAnswers, IsAnswer};
 ghost use Rattle.sw_margin.specs.Waits.{AreDependencies};
 
 use crate::bend::Bend;
-use crate::chosen::unanswered;
+use crate::chosen::is_unanswered;
 use crate::trial::bend;
 use crate::way::answering;
 use std::alloc::{AllocError, Global};
@@ -28,25 +27,6 @@ fn told_of<W: VerdictWorkers>(
     bend(workers, alloc, network, rows, flow, &waits)
 }
 
-// What is told of these flows.
-fn told_of_all<W: VerdictWorkers>(
-    workers: &W,
-    alloc: Global,
-    network: &Network,
-    rows: &[Vec<u16>],
-    flows: &[u16],
-) -> Result<Vec<Bend>, AllocError>
-    requires rows { AreDependencies network.now rows.now }
-    requires flows { All (λ i. i < length network.now.flows) flows.now }
-    ensures { IfOk result (λ v. AllZip (IsAnswer network.now) flows.now v.items) }
-{
-    let mut told = Vec::new(alloc);
-    for flow in flows {
-        told.push(told_of(workers, alloc, network, rows, *flow)?)?;
-    }
-    Ok(told)
-}
-
 /// Of each flow without a reply: whether the network stays free if the flow is answered, the replies going back over the links of its
 /// way, which goes on each time to the first of the places that follow.
 ///
@@ -65,6 +45,12 @@ pub fn answers<W: VerdictWorkers>(
     requires { AreDependencies network.now rows.now }
     ensures { IfOk result (λ v. AreAnswers network.now v.items) }
 {
-    let flows = unanswered(alloc, network)?;
-    told_of_all(workers, alloc, network, rows, &flows)
+    let mut told = Vec::new(alloc);
+    for flow in 0..network.declared_flows() {
+        if !is_unanswered(network, flow) {
+            continue;
+        }
+        told.push(told_of(workers, alloc, network, rows, flow)?)?;
+    }
+    Ok(told)
 }

@@ -1,12 +1,11 @@
 //! Nodes that take nothing while they want to send.
-ghost use Rattle.std.specs.Prelude.{◌≡◌, ◌<◌, ◌∷◌, [], All, IfOk, length};
-ghost use Rattle.std.specs.List.{AllZip};
+ghost use Rattle.std.specs.Prelude.{◌≡◌, ◌<◌, ◌∷◌, [], IfOk, length};
 ghost use Rattle.sw_flow.specs.Places.{ends_of};
 ghost use Rattle.sw_margin.specs.Bends.{AreStalls, IsStall, stall};
 ghost use Rattle.sw_margin.specs.Waits.{AreDependencies, IsWithin};
 
 use crate::bend::Bend;
-use crate::chosen::quiet_nodes;
+use crate::chosen::is_quiet;
 use crate::trial::bend;
 use std::alloc::{AllocError, Global};
 use sw_config::Network;
@@ -37,25 +36,6 @@ fn told_of<W: VerdictWorkers>(
     bend(workers, alloc, network, rows, node, &[stall(network, node)])
 }
 
-// What is told of these nodes.
-fn told_of_all<W: VerdictWorkers>(
-    workers: &W,
-    alloc: Global,
-    network: &Network,
-    rows: &[Vec<u16>],
-    nodes: &[u16],
-) -> Result<Vec<Bend>, AllocError>
-    requires rows { AreDependencies network.now rows.now }
-    requires nodes { All (λ n. n < length network.now.nodes) nodes.now }
-    ensures { IfOk result (λ v. AllZip (IsStall network.now) nodes.now v.items) }
-{
-    let mut told = Vec::new(alloc);
-    for node in nodes {
-        told.push(told_of(workers, alloc, network, rows, *node)?)?;
-    }
-    Ok(told)
-}
-
 /// Of each node at which no flow with a reply ends: whether the network stays free if the node takes nothing while it wants to send.
 ///
 /// `rows` has for each channel those for which a packet on it may wait, as `sw_cycle::dependencies` gives them. The workers share
@@ -73,6 +53,12 @@ pub fn stalls<W: VerdictWorkers>(
     requires { AreDependencies network.now rows.now }
     ensures { IfOk result (λ v. AreStalls network.now v.items) }
 {
-    let nodes = quiet_nodes(alloc, network)?;
-    told_of_all(workers, alloc, network, rows, &nodes)
+    let mut told = Vec::new(alloc);
+    for node in 0..network.nodes() {
+        if !is_quiet(network, node) {
+            continue;
+        }
+        told.push(told_of(workers, alloc, network, rows, node)?)?;
+    }
+    Ok(told)
 }

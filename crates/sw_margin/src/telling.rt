@@ -14,19 +14,6 @@ use sw_config::Network;
 use sw_flow::{Place, all_places};
 use sw_search::{VerdictWorkers, dependencies};
 
-// For each channel those for which a packet on it may wait.
-fn rows_of<W: VerdictWorkers>(
-    workers: &W,
-    alloc: Global,
-    network: &Network,
-    places: &[Vec<Place>],
-) -> Result<Vec<Vec<u16>>, AllocError>
-    requires { AreListed network.now places.now }
-    ensures { IfOk result (λ v. AreDependencies network.now v.items) }
-{
-    dependencies(workers, alloc, network, places)
-}
-
 // How far the premises of the network bend, by the places of each flow, and for each channel those for which a packet on it may wait.
 fn told_by_rows<W: VerdictWorkers>(
     workers: &W,
@@ -51,22 +38,6 @@ fn told_by_rows<W: VerdictWorkers>(
     })
 }
 
-// How far the premises of the network bend, by the places of each flow.
-fn told_by_places<W: VerdictWorkers>(
-    workers: &W,
-    alloc: Global,
-    network: &Network,
-    places: &[Vec<Place>],
-) -> Result<Margins, AllocError>
-    requires { AreListed network.now places.now }
-    ensures stalls { IfOk result (λ m. AreStalls network.now m.stalls.items) }
-    ensures answers { IfOk result (λ m. AreAnswers network.now m.answers.items) }
-    ensures losses { IfOk result (λ m. AreLosses network.now m.losses.items) }
-{
-    let rows = rows_of(workers, alloc, network, places)?;
-    told_by_rows(workers, alloc, network, places, &rows)
-}
-
 /// How far the premises of a network bend: of each node at which no flow with a reply ends, whether the network stays free if it takes
 /// nothing while it wants to send; of each flow without a reply, whether it stays free if the flow is answered along its own way; and for
 /// each link the flows that are lost without it. The workers share the work.
@@ -84,5 +55,6 @@ pub fn margins<W: VerdictWorkers>(
     ensures losses { IfOk result (λ m. AreLosses network.now m.losses.items) }
 {
     let places = all_places(workers, alloc, network)?;
-    told_by_places(workers, alloc, network, &places)
+    let rows = dependencies(workers, alloc, network, &places)?;
+    told_by_rows(workers, alloc, network, &places, &rows)
 }

@@ -4,7 +4,7 @@ ghost use Rattle.sw_flow.specs.Places.{ends_of};
 ghost use Rattle.sw_graph.specs.Levels.{HasCycle};
 ghost use Rattle.sw_graph.specs.Rows.{IsGraph, Leads};
 ghost use Rattle.sw_margin.specs.Bends.{IsBend};
-ghost use Rattle.sw_margin.specs.Waits.{AreDependencies, IsWithin, StaysFree};
+ghost use Rattle.sw_margin.specs.Waits.{AreDependencies, IsWithin};
 
 use crate::bend::Bend;
 use crate::rows::with_waits;
@@ -29,24 +29,6 @@ fn has_no_cycle<W: VerdictWorkers>(
     }
 }
 
-// Does the network stay free with these further waits?
-fn stays_free<W: VerdictWorkers>(
-    workers: &W,
-    alloc: Global,
-    network: &Network,
-    rows: &[Vec<u16>],
-    waits: &[(u16, u16)],
-) -> Result<bool, AllocError>
-    requires rows { AreDependencies network.now rows.now }
-    requires within { All (IsWithin (length (ends_of network.now))) waits.now }
-    ensures { IfOk result (λ b. IsTrue b ↔ StaysFree network.now waits.now) }
-{
-    // There are at most 2,048.
-    let _channels = network.channels();
-    let more = with_waits(alloc, rows, waits)?;
-    has_no_cycle(workers, alloc, &more)
-}
-
 /// What is told of the node or flow of that number, where these waits come with it.
 pub(crate) fn bend<W: VerdictWorkers>(
     workers: &W,
@@ -60,6 +42,9 @@ pub(crate) fn bend<W: VerdictWorkers>(
     requires within { All (IsWithin (length (ends_of network.now))) waits.now }
     ensures { IfOk result (IsBend network.now waits.now number) }
 {
-    let stays_free = stays_free(workers, alloc, network, rows, waits)?;
+    // There are at most 2,048.
+    let _channels = network.channels();
+    let more = with_waits(alloc, rows, waits)?;
+    let stays_free = has_no_cycle(workers, alloc, &more)?;
     Ok(Bend { number, stays_free })
 }

@@ -31,23 +31,6 @@ fn first_follower(network: &Network, flow: &Flow, place: &Place) -> Option<Place
     followers_in(network, flow, *place).next()
 }
 
-// Between two places that follow one another: replies go back from the later one to the earlier one.
-fn wait_back(earlier: &Place, later: &Place) -> (u16, u16)
-    ensures { result ≡ (partner later.now.channel, partner earlier.now.channel) }
-{
-    (
-        later.channel.partner().number(),
-        earlier.channel.partner().number(),
-    )
-}
-
-// Where the way ends: what comes there waits for the replies.
-fn wait_at(last: &Place) -> (u16, u16)
-    ensures { result ≡ (last.now.channel, partner last.now.channel) }
-{
-    (last.channel.number(), last.channel.partner().number())
-}
-
 // Adds what waits between the places of the flow's way, and tells the last of these.
 fn add_waits_back(
     network: &Network,
@@ -62,7 +45,11 @@ fn add_waits_back(
         let Some(next) = first_follower(network, flow, &place) else {
             return Ok(place);
         };
-        waits.push(wait_back(&place, &next))?;
+        // Between two places that follow one another: replies go back from the later one to the earlier one.
+        waits.push((
+            next.channel.partner().number(),
+            place.channel.partner().number(),
+        ))?;
         place = next;
     }
     Ok(place)
@@ -80,6 +67,7 @@ pub(crate) fn answering(
 {
     let mut waits = Vec::new(alloc);
     let last = add_waits_back(network, flow, &mut waits)?;
-    waits.push(wait_at(&last))?;
+    // Where the way ends: what comes there waits for the replies.
+    waits.push((last.channel.number(), last.channel.partner().number()))?;
     Ok(waits)
 }

@@ -1,4 +1,4 @@
-use Rattle.std.proofs.Common.{ℕ, ◌≡◌, ◌<◌, ◌-◌, ◌++◌, ◌∷◌, [], List, length, sym, ap, ◌∙◌, arith}
+use Rattle.std.proofs.Common.{ℕ, ◌≡◌, ◌<◌, ◌-◌, ◌++◌, ◌∷◌, [], List, length, sym, ap, ap₂, ◌∙◌, arith}
 use Rattle.sw_flow.specs.Places.{ends_of}
 use Rattle.sw_margin.proofs.Ways.{waits_begun, waits_from, waits_more}
 use Rattle.sw_margin.proofs.way.add_waits_back.Goals as goal
@@ -17,7 +17,7 @@ loop-preserved c =
     let before = c.loop.waits.items in
     let lt : c.loop.counter < length (ends_of d) = omega (arith, c.loop-test.true, c.channels-end.ensures.ends) in
     waits_more d c.args.flow.now (length (ends_of d)) c.loop.counter c.loop.place c.in-Some.next c.args.waits.now.items before _ lt (sym c.in-Some.ensures) c.loop.invariant
-    (c.in_ok-push.ensures.items ∙ ap (λ (w : ℕ × ℕ). before ++ w ∷ []) c.wait_back.ensures)
+    (c.in_ok-push.ensures.items ∙ ap₂ (λ (a b : ℕ). before ++ (a, b) ∷ []) (c.number.ensures ∙ c.partner.ensures) (c.number-in-loop.ensures ∙ c.partner-in-loop.ensures))
 
 pub returns : goal.returns
 returns c =

@@ -1,8 +1,7 @@
-use Rattle.std.proofs.Common.{List, Vec, Global, ℕ, sym, subst}
-use Rattle.std.proofs.lemmas.Result.{IfOk-weaker}
+use Rattle.std.proofs.Common.{List, Vec, Global, ℕ, refl, sym, subst}
 use Rattle.sw_margin.specs.Waits.{AreWith}
 use Rattle.sw_margin.proofs.Waiting.{free_with}
-use Rattle.sw_margin.proofs.trial.stays_free.Goals as goal
+use Rattle.sw_margin.proofs.trial.bend.Goals as goal
 
 pub returns : goal.returns
 returns g c =
@@ -10,4 +9,5 @@ returns g c =
     let waits = c.args.waits.now in
     let with = subst (λ (h : List (Vec ℕ Global)). AreWith rows waits h) (sym c.deref.ensures.value) c.in_ok-more.ensures.with in
     let free = free_with c.args.network.now rows c.deref.result.now waits c.requires.rows with in
-    IfOk-weaker c.has_no_cycle.result _ _ (λ b h. (λ t. free.0 (h.0 t), λ stays. h.1 (free.1 stays))) c.has_no_cycle.ensures
+    let none = c.in_ok-stays_free.ensures in
+    (refl, (λ t. free.0 (none.0 t), λ stays. none.1 (free.1 stays)))
