@@ -1,7 +1,6 @@
-use Rattle.std.proofs.Common.{◌≡◌, ◌∙◌, sym, subst}
+use Rattle.std.proofs.Common.{◌∙◌, sym, subst}
 use Rattle.std.specs.Prelude.{Err, IfErr}
 use Rattle.std.proofs.lemmas.Result.{IfOk-weaker}
-use Rattle.sw_cert.specs.Parts.{read_rest}
 use Rattle.sw_cert.specs.Reading.{state_of}
 use Rattle.sw_cert.specs.Text.{Gives}
 use Rattle.sw_cert.proofs.Runs.{read_same, read_sound}

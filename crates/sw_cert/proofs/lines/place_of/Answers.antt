@@ -1,6 +1,5 @@
-use Rattle.std.proofs.Common.{rules, ◌≡◌, ◌∙◌, sym, Option}
-use Rattle.sw_flow.specs.declared.place.Place.{Place}
-use Rattle.sw_cert.proofs.Fields.{no_place, place_cut, place_said}
+use Rattle.std.proofs.Common.{rules}
+use Rattle.sw_cert.proofs.Fields.{no_place, place_cut}
 use Rattle.sw_cert.proofs.lines.place_of.Goals as goal
 
 pub returns-in_err-channel : goal.returns-in_err-channel

@@ -1,4 +1,4 @@
-use Rattle.std.proofs.Common.{rules, ◌≡◌, ◌-◌, ◌≤◌, take, drop, length, arith, refl, subst}
+use Rattle.std.proofs.Common.{◌-◌, take, drop, arith, refl, subst}
 use Rattle.sw_cert.specs.Parts.{IsRead}
 use Rattle.sw_cert.specs.Reading.{state_of}
 use Rattle.sw_cert.proofs.Parted.{part_found}

@@ -1,10 +1,9 @@
 use Rattle.std.proofs.Common.{◌++◌, string_bytes, length}
 use Rattle.std.specs.Prelude.{codes}
-use Rattle.std.specs.List.{flat_map}
 use Rattle.std.specs.Fmt.{decimal}
 use Rattle.sw_cert.specs.Grammar.{with_lf}
 use Rattle.sw_cert.proofs.Numbered.{added_all}
-use Rattle.sw_cert.proofs.Written.{block_text, flows_text, last_added}
+use Rattle.sw_cert.proofs.Written.{block_text, last_added}
 use Rattle.sw_cert.proofs.write.add_lists.Goals as goal
 
 pub returns : goal.returns
