@@ -1,6 +1,7 @@
 -- Numbers between two words: one more, and the one of a number.
 use Rattle.std.proofs.Common.{◌≡◌, ℕ, ◌+◌, ◌<◌, ◌≤◌, List, [], ◌∷◌, ◌++◌, length, map, get_or, Some, sym, ap, ◌∙◌, append_assoc, append-nil, take, arith, Global}
-use Rattle.std.specs.Prelude.{String, string_bytes, codes, slice_get, option_map}
+use Rattle.std.specs.declared.alloc.AllocError.{AllocError}
+use Rattle.std.specs.Prelude.{Err, Ok, OnOk, Result, if◌then◌else◌, is_ok, String, string_bytes, codes, slice_get, option_map}
 use Rattle.std.specs.Fmt.{decimal}
 use Rattle.std.specs.List.{flat_map, range_with_len}
 use Rattle.std.proofs.lemmas.Grind.{flat_map-append}
@@ -30,6 +31,11 @@ module _ (before after : List ℕ) where
       sym (get_or_from_slice_get (map string_bytes texts) n (string_bytes s) [] there)
       ∙ ap (λ (l : List (List ℕ)). get_or l n []) are
       ∙ get_or-map-range_with_len (piece before after) 0 (length texts) n n [] (slice_get_within texts n s at) from
+
+-- a piece is added
+pub pushed : (r : Result (Unit {0}) AllocError) (old now more wanted : List ℕ) → more ≡ wanted → now ≡ (if is_ok r then old ++ more else old) → OnOk r (now ≡ old ++ wanted)
+pushed (Ok u) old now more wanted same is = is ∙ ap (λ l. old ++ l) same
+pushed (Err e) old now more wanted same is = tt
 
 -- a line of two pieces
 two_pieces : (text word c k : List ℕ) (space end : ℕ) → (text ++ (word ++ (c ++ space ∷ []))) ++ (k ++ end ∷ []) ≡ text ++ ((word ++ (c ++ (space ∷ k))) ++ end ∷ [])

@@ -99,11 +99,23 @@ pub(crate) fn said_by(expected: Expected, last: Option<Place>, line: &[u8]) -> O
 {
     match expected {
         Expected::Title => is_line(b"swcert 1", line).then_some(Said::Begun),
-        Expected::Channels => Some(Said::ChannelCount(field(b"channels ", MAX_CHANNELS, line)?)),
-        Expected::Numbers(0) => Some(Said::FlowCount(field(b"flows ", MAX_WAYS, line)?)),
-        Expected::Numbers(_) => Some(Said::Number(field(b"number ", 65535, line)? as u16)),
+        Expected::Channels => match field(b"channels ", MAX_CHANNELS, line) {
+            Some(count) => Some(Said::ChannelCount(count)),
+            None => None,
+        },
+        Expected::Numbers(0) => match field(b"flows ", MAX_WAYS, line) {
+            Some(count) => Some(Said::FlowCount(count)),
+            None => None,
+        },
+        Expected::Numbers(_) => match field(b"number ", 65535, line) {
+            Some(number) => Some(Said::Number(number as u16)),
+            None => None,
+        },
         Expected::Flows(0) => is_line(b"end", line).then_some(Said::Ended),
-        Expected::Flows(_) => Some(Said::PlaceCount(field(b"flow ", MAX_PLACES, line)?)),
+        Expected::Flows(_) => match field(b"flow ", MAX_PLACES, line) {
+            Some(count) => Some(Said::PlaceCount(count)),
+            None => None,
+        },
         Expected::Places(..) => {
             let place = place_of(after_word(b"place ", line)?)?;
             stands_before(last, &place).then_some(Said::Listed(place))

@@ -34,10 +34,9 @@ fn add_piece(
     ensures { OnOk result (string_bytes text.new ≡ string_bytes text.old ++ piece before.now after.now number) }
 {
     match pieces.get(number) {
-        Some(piece) => text.push_str(piece.as_str())?,
-        None => write!(text, "{before}{number}{after}")?,
+        Some(piece) => text.push_str(piece.as_str()),
+        None => write!(text, "{before}{number}{after}"),
     }
-    Ok(())
 }
 
 /// Adds a line of a word and a number.
