@@ -4,7 +4,7 @@ ghost use Rattle.toml.specs.Data.{as_integer, get_member};
 ghost use Rattle.toml.specs.View.{table_view, view};
 ghost use Rattle.sw_toml_table.specs.Keys.{key_text};
 ghost use Rattle.sw_toml_table.specs.Table.{in_range};
-ghost use Rattle.sw_notes.specs.Entries.{bytes_in, last_in, number_in, range_in, tables_of, text_in, text_of};
+ghost use Rattle.sw_notes.specs.Entries.{bytes_in, number_in, range_in, tables_of, text_in, text_of};
 
 use crate::lookup::{member_of, value_of};
 use crate::unread::text_fault;
@@ -97,16 +97,6 @@ pub(crate) fn number_in(table: &Table, key: Key, low: u64, high: u64) -> Option<
     }
 }
 
-// The last address of an entry of a routing table that begins with this one.
-fn last_in(route: &Table, first: u64) -> Option<u64>
-    ensures { result ≡ last_in first (table_view route.now) }
-{
-    match member_of(Some(route), Key::Last.text()) {
-        Some(value) => number_of(value, first, 254),
-        None => Some(first),
-    }
-}
-
 /// The first and the last address of an entry of a routing table.
 pub(crate) fn range_in(route: &Table) -> Option<(u64, u64)>
     ensures { result ≡ range_in (table_view route.now) }
@@ -114,7 +104,10 @@ pub(crate) fn range_in(route: &Table) -> Option<(u64, u64)>
     let Some(first) = number_in(route, Key::Address, 32, 254) else {
         return None;
     };
-    match last_in(route, first) {
+    let Some(value) = member_of(Some(route), Key::Last.text()) else {
+        return Some((first, first));
+    };
+    match number_of(value, first, 254) {
         Some(last) => Some((first, last)),
         None => None,
     }

@@ -1,7 +1,6 @@
 //! Brackets that are open.
 ghost use Rattle.sw_notes.specs.Places.{IsClosing};
 
-use crate::header::next_entry;
 use sw_toml_table::Section;
 
 /// A bracket that is open, and the section of the table that it opened, or of the entry that stands next in its list.
@@ -24,9 +23,18 @@ impl Frame {
 
     /// The same bracket behind a comma.
     pub(crate) fn next(self) -> Frame {
-        match self {
-            Frame::List(Some(section)) => Frame::List(Some(next_entry(section))),
-            frame => frame,
-        }
+        let Frame::List(Some(section)) = self else {
+            return self;
+        };
+        let behind = match section {
+            Section::Node(i) => Section::Node(i.saturating_add(1)),
+            Section::Switch(i) => Section::Switch(i.saturating_add(1)),
+            Section::Route(switch, i) => Section::Route(switch, i.saturating_add(1)),
+            Section::Link(i) => Section::Link(i.saturating_add(1)),
+            Section::Flow(i) => Section::Flow(i.saturating_add(1)),
+            Section::Packet(i) => Section::Packet(i.saturating_add(1)),
+            section => section,
+        };
+        Frame::List(Some(behind))
     }
 }

@@ -12,6 +12,16 @@ pub(crate) struct Headers {
     packets: usize,
 }
 
+/// No headers.
+pub(crate) const NO_HEADERS: Headers = Headers {
+    nodes: 0,
+    switches: 0,
+    routes: 0,
+    links: 0,
+    flows: 0,
+    packets: 0,
+};
+
 // The number of the entry that a header opens, or of the last one that was opened.
 fn number(count: &mut usize, opens: bool) -> usize {
     if opens {
@@ -23,36 +33,6 @@ fn number(count: &mut usize, opens: bool) -> usize {
 }
 
 impl Headers {
-    /// No headers.
-    pub(crate) fn new() -> Headers {
-        Headers {
-            nodes: 0,
-            switches: 0,
-            routes: 0,
-            links: 0,
-            flows: 0,
-            packets: 0,
-        }
-    }
-
-    // The entry of a list of the document.
-    fn entry(&mut self, list: &str, opens: bool) -> Option<Section> {
-        let section = match list {
-            "node" => Section::Node(number(&mut self.nodes, opens)),
-            "switch" => {
-                if opens {
-                    self.routes = 0;
-                }
-                Section::Switch(number(&mut self.switches, opens))
-            }
-            "link" => Section::Link(number(&mut self.links, opens)),
-            "flow" => Section::Flow(number(&mut self.flows, opens)),
-            "packet" => Section::Packet(number(&mut self.packets, opens)),
-            _ => return None,
-        };
-        Some(section)
-    }
-
     /// The table that a part of a key leads to, from the table of the parts before it. `opens`: it opens an entry.
     pub(crate) fn entered(
         &mut self,
@@ -60,27 +40,24 @@ impl Headers {
         name: &str,
         opens: bool,
     ) -> Option<Section> {
-        match (parent?, name) {
-            (Section::Document, _) => self.entry(name, opens),
-            (Section::Node(node), "target") => Some(Section::Target(node)),
-            (Section::Switch(switch), "route") => {
-                Some(Section::Route(switch, number(&mut self.routes, opens)))
+        let section = match (parent?, name) {
+            (Section::Document, "node") => Section::Node(number(&mut self.nodes, opens)),
+            (Section::Document, "switch") => {
+                if opens {
+                    self.routes = 0;
+                }
+                Section::Switch(number(&mut self.switches, opens))
             }
-            (Section::Flow(flow), "reply") => Some(Section::Reply(flow)),
-            _ => None,
-        }
-    }
-}
-
-/// The entry behind this one in its list.
-pub(crate) fn next_entry(section: Section) -> Section {
-    match section {
-        Section::Node(i) => Section::Node(i.saturating_add(1)),
-        Section::Switch(i) => Section::Switch(i.saturating_add(1)),
-        Section::Route(switch, i) => Section::Route(switch, i.saturating_add(1)),
-        Section::Link(i) => Section::Link(i.saturating_add(1)),
-        Section::Flow(i) => Section::Flow(i.saturating_add(1)),
-        Section::Packet(i) => Section::Packet(i.saturating_add(1)),
-        section => section,
+            (Section::Document, "link") => Section::Link(number(&mut self.links, opens)),
+            (Section::Document, "flow") => Section::Flow(number(&mut self.flows, opens)),
+            (Section::Document, "packet") => Section::Packet(number(&mut self.packets, opens)),
+            (Section::Node(node), "target") => Section::Target(node),
+            (Section::Switch(switch), "route") => {
+                Section::Route(switch, number(&mut self.routes, opens))
+            }
+            (Section::Flow(flow), "reply") => Section::Reply(flow),
+            _ => return None,
+        };
+        Some(section)
     }
 }

@@ -1,9 +1,8 @@
 //! What there is to note of a fault.
-ghost use Rattle.std.specs.Prelude.{◌≡◌, ◌++◌, IfOk, map, option_map, option_to_list, take};
+ghost use Rattle.std.specs.Prelude.{◌≡◌, ◌++◌, IfOk, option_map, option_to_list};
 ghost use Rattle.toml.specs.View.{table_view};
-ghost use Rattle.sw_notes.specs.Notes.{earlier, entry_in, first_at, holder, link_notes, name_note, node_notes, notes_of, port_note, range_of, route_note};
+ghost use Rattle.sw_notes.specs.Notes.{entry_in, first_at, holder, link_notes, name_note, node_notes, notes_of, port_note, range_of, route_note};
 ghost use Rattle.sw_notes.specs.ReplyNotes.{named};
-ghost use Rattle.sw_notes.specs.declared.note.Note.TheVariants.{LinkHere};
 
 use crate::entries::{number_in, range_in, text_in, text_of};
 use crate::finding::{first_place, places_of};
@@ -19,17 +18,6 @@ use toml::Table;
 /// The most links of a node that are noted.
 const MOST_LINKS: usize = 8;
 
-// An entry of the nodes, the switches or the flows.
-fn entry_in(list: Key, number: usize) -> Section
-    ensures { result ≡ entry_in list number }
-{
-    match list {
-        Key::Switch => Section::Switch(number),
-        Key::Flow => Section::Flow(number),
-        _ => Section::Node(number),
-    }
-}
-
 // The first node, switch or flow of the name, as an entry.
 fn entry_named(
     alloc: Global,
@@ -39,9 +27,13 @@ fn entry_named(
 ) -> Result<Option<Section>, AllocError>
     ensures { IfOk result (λ o. o ≡ option_map (entry_in list) (named list name.now (table_view document.now))) }
 {
-    match first_place(alloc, document, list, &Test::Named(name))? {
-        Some(number) => Ok(Some(entry_in(list, number))),
-        None => Ok(None),
+    let Some(number) = first_place(alloc, document, list, &Test::Named(name))? else {
+        return Ok(None);
+    };
+    match list {
+        Key::Switch => Ok(Some(Section::Switch(number))),
+        Key::Flow => Ok(Some(Section::Flow(number))),
+        _ => Ok(Some(Section::Node(number))),
     }
 }
 
@@ -105,16 +97,6 @@ fn first_at(
     }
 }
 
-// The place, if it is before this one.
-fn earlier(before: usize, place: Option<usize>) -> Option<usize>
-    ensures { result ≡ earlier before place }
-{
-    match place {
-        Some(place) if place < before => Some(place),
-        _ => None,
-    }
-}
-
 // Adds which link has the port of an end of this one already.
 fn add_port(
     alloc: Global,
@@ -124,9 +106,9 @@ fn add_port(
 ) -> Result<(), AllocError>
     ensures { IfOk result (λ _. notes.new.items ≡ notes.old.items ++ option_to_list (port_note link (table_view document.now))) }
 {
-    let first = first_at(alloc, document, link, Key::A, Key::APort)?;
-    if let Some(other) = earlier(link, first) {
-        return add_note(Note::HasPort(other, Key::A), notes);
+    match first_at(alloc, document, link, Key::A, Key::APort)? {
+        Some(other) if other < link => return add_note(Note::HasPort(other, Key::A), notes),
+        _ => {}
     }
     match first_at(alloc, document, link, Key::B, Key::BPort)? {
         Some(other) => add_note(Note::HasPort(other, Key::B), notes),
@@ -170,31 +152,18 @@ fn add_route(
     }
 }
 
-// The first places, as many as are noted.
-fn most(places: &[usize]) -> &[usize]
-    ensures { result.now ≡ take 8 places.now }
-{
-    &places[..MOST_LINKS.min(places.len())]
-}
-
-// Adds a note of each link.
+// Adds the links that are at a node, or that there is none.
 fn add_links(links: &[usize], notes: &mut Vec<Note>) -> Result<(), AllocError>
-    ensures { IfOk result (λ _. notes.new.items ≡ notes.old.items ++ map LinkHere links.now) }
+    ensures { IfOk result (λ _. notes.new.items ≡ notes.old.items ++ link_notes links.now) }
 {
-    for link in links {
+    if links.is_empty() {
+        return add_note(Note::Unlinked, notes);
+    }
+    let most = &links[..MOST_LINKS.min(links.len())];
+    for link in most {
         add_note(Note::LinkHere(*link), notes)?;
     }
     Ok(())
-}
-
-// Adds the links that are at a node, or that there is none.
-fn add_links_or_none(links: &[usize], notes: &mut Vec<Note>) -> Result<(), AllocError>
-    ensures { IfOk result (λ _. notes.new.items ≡ notes.old.items ++ link_notes links.now) }
-{
-    match links {
-        [] => add_note(Note::Unlinked, notes),
-        links => add_links(most(links), notes),
-    }
 }
 
 // Adds the links that are at the node of this number.
@@ -209,7 +178,7 @@ fn add_node(
     match text_of(document, Section::Node(node), Key::Name) {
         Some(name) => {
             let links = places_of(alloc, document, Key::Link, &Test::IsAt(name))?;
-            add_links_or_none(&links, notes)
+            add_links(&links, notes)
         }
         None => Ok(()),
     }

@@ -1,7 +1,7 @@
 //! What is asked of an entry.
 ghost use Rattle.std.specs.Prelude.{◌≡◌};
 ghost use Rattle.toml.specs.View.{table_view};
-ghost use Rattle.sw_notes.specs.Passing.{has_end, has_number, has_text, passes};
+ghost use Rattle.sw_notes.specs.Passing.{has_number, has_text, passes};
 
 use crate::entries::{number_in, range_in, text_in};
 use sw_toml_table::Key;
@@ -40,14 +40,6 @@ fn has_number(table: &Table, key: Key, port: u64) -> bool
     }
 }
 
-// Whether an end of the link is at this port of the switch.
-fn has_end(link: &Table, name: &str, port: u64) -> bool
-    ensures { result ≡ has_end name.now port (table_view link.now) }
-{
-    (has_text(link, Key::A, name) && has_number(link, Key::APort, port))
-        || (has_text(link, Key::B, name) && has_number(link, Key::BPort, port))
-}
-
 /// Whether an entry passes.
 pub(crate) fn passes(test: &Test<'_>, table: &Table) -> bool
     ensures { result ≡ passes test.now (table_view table.now) }
@@ -55,7 +47,10 @@ pub(crate) fn passes(test: &Test<'_>, table: &Table) -> bool
     match test {
         Test::Named(name) => has_text(table, Key::Name, name),
         Test::IsAt(name) => has_text(table, Key::A, name) || has_text(table, Key::B, name),
-        Test::HasPort(name, port) => has_end(table, name, *port),
+        Test::HasPort(name, port) => {
+            (has_text(table, Key::A, name) && has_number(table, Key::APort, *port))
+                || (has_text(table, Key::B, name) && has_number(table, Key::BPort, *port))
+        }
         Test::Overlaps(first, last) => match range_in(table) {
             Some((begin, end)) => *first <= end && begin <= *last,
             None => false,

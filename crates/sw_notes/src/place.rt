@@ -1,7 +1,7 @@
 //! Where a table or a key stands.
-ghost use Rattle.std.specs.Prelude.{◌≡◌, ◌++◌, ◌<◌, ◌≤◌, ℕ, List, All, IfOk, IfSome, IsTrue, Ok, drop, length, option_map, take};
+ghost use Rattle.std.specs.Prelude.{◌≡◌, ◌≤◌, IfOk, IfSome, IsTrue, length, option_map, take};
 ghost use Rattle.toml.specs.View.{table_view};
-ghost use Rattle.sw_notes.specs.Places.{Holds, IsClosing, IsPiece, IsPlace, ReadsAs, has};
+ghost use Rattle.sw_notes.specs.Places.{Holds, IsPiece, IsPlace, has};
 
 use crate::frame::Frame;
 use crate::lookup::{table_of, value_of};
@@ -23,26 +23,6 @@ fn has(document: &Table, sought: &Sought<'_>) -> bool
     }
 }
 
-// The beginning of a text, with what closes the brackets that are open behind it.
-fn closed(alloc: Global, beginning: &[u8], open: &[Frame]) -> Result<Vec<u8>, AllocError>
-    ensures { IfOk result (λ v. (closing : List ℕ) × All IsClosing closing × (v.items ≡ beginning.now ++ closing)) }
-{
-    let mut text = beginning.to_vec(alloc)?;
-    for frame in open.iter().rev() {
-        text.push(frame.closing())?;
-    }
-    Ok(text)
-}
-
-// What stands in a text from one offset to the other.
-fn between(text: &[u8], from: usize, to: usize) -> &[u8]
-    requires order { from ≤ to }
-    requires within { to ≤ length text.now }
-    ensures { result.now ≡ drop from (take to text.now) }
-{
-    &text[..to][from..]
-}
-
 // Whether the text up to an offset, where these brackets are open, is a document that has what is sought, or has not.
 fn holds(
     alloc: Global,
@@ -55,7 +35,10 @@ fn holds(
     requires { offset ≤ length text.now }
     ensures { IfOk result (λ b. IsTrue b → Holds held sought.now.section (option_map (λ s. s.now) sought.now.key) (take offset text.now)) }
 {
-    let closed = closed(alloc, &text[..offset], open)?;
+    let mut closed = text[..offset].to_vec(alloc)?;
+    for frame in open.iter().rev() {
+        closed.push(frame.closing())?;
+    }
     match read_document(alloc, &closed) {
         Ok(document) => Ok(has(&document, sought) == held),
         Err(fault) => {
@@ -92,23 +75,17 @@ fn place_by(
     ensures { IfOk result (λ o. IfSome o (IsPlace text.now sought.now.section (option_map (λ s. s.now) sought.now.key))) }
 {
     let Proposal { from, to, open } = piece;
-    if from >= to {
-        return Ok(None);
-    }
-    if to > text.len() {
+    if from >= to || to > text.len() {
         return Ok(None);
     }
     let before = &frames[..open.min(frames.len())];
-    if !holds(alloc, text, from, before, sought, false)? {
-        return Ok(None);
+    if holds(alloc, text, from, before, sought, false)?
+        && holds(alloc, text, to, frames, sought, true)?
+        && is_piece(alloc, &text[..to][from..])?
+    {
+        return Ok(Some(from));
     }
-    if !holds(alloc, text, to, frames, sought, true)? {
-        return Ok(None);
-    }
-    if !is_piece(alloc, between(text, from, to))? {
-        return Ok(None);
-    }
-    Ok(Some(from))
+    Ok(None)
 }
 
 /// Where what is sought begins in the text of a document, if that is found.

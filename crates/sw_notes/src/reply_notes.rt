@@ -1,7 +1,7 @@
 //! Why the replies of a flow can't come back.
 ghost use Rattle.std.specs.Prelude.{◌≡◌, ◌++◌, IfOk, option_map};
 ghost use Rattle.toml.specs.View.{table_view};
-ghost use Rattle.sw_notes.specs.ReplyNotes.{initiator_notes, path_notes, reply_notes, table_notes, target_notes};
+ghost use Rattle.sw_notes.specs.ReplyNotes.{path_notes, reply_notes, table_notes};
 
 use crate::entries::{bytes_in, number_in, text_of};
 use crate::finding::first_place;
@@ -28,18 +28,6 @@ fn add_path(path: &[u8], notes: &mut Vec<Note>) -> Result<(), AllocError>
     }
 }
 
-// Adds what is wrong with the initiator.
-fn add_initiator(initiator: Option<u64>, notes: &mut Vec<Note>) -> Result<(), AllocError>
-    ensures { IfOk result (λ _. notes.new.items ≡ notes.old.items ++ initiator_notes initiator) }
-{
-    match initiator {
-        Some(initiator) if initiator < 32 || initiator > 254 => {
-            add_note(Note::NoInitiator(initiator), notes)
-        }
-        _ => Ok(()),
-    }
-}
-
 // Adds what is wrong in the table of the replies, where there is one.
 fn add_shape(alloc: Global, reply: Option<&Table>, notes: &mut Vec<Note>) -> Result<(), AllocError>
     ensures { IfOk result (λ _. notes.new.items ≡ notes.old.items ++ table_notes (option_map (λ t. table_view t.now) reply.entry)) }
@@ -49,27 +37,11 @@ fn add_shape(alloc: Global, reply: Option<&Table>, notes: &mut Vec<Note>) -> Res
     };
     let path = bytes_in(alloc, reply, Key::Path)?;
     add_path(&path, notes)?;
-    add_initiator(number_in(reply, Key::Initiator, 0, 255), notes)
-}
-
-// Adds that the node that a flow goes to is no target, if it is none.
-fn add_target(
-    alloc: Global,
-    document: &Table,
-    flow: usize,
-    notes: &mut Vec<Note>,
-) -> Result<(), AllocError>
-    ensures { IfOk result (λ _. notes.new.items ≡ notes.old.items ++ target_notes flow (table_view document.now)) }
-{
-    let Some(name) = text_of(document, Section::Flow(flow), Key::To) else {
-        return Ok(());
-    };
-    let Some(node) = first_place(alloc, document, Key::Node, &Test::Named(name))? else {
-        return Ok(());
-    };
-    match table_of(document, Section::Target(node)) {
-        Some(_) => Ok(()),
-        None => add_note(Note::NoTarget(node), notes),
+    match number_in(reply, Key::Initiator, 0, 255) {
+        Some(initiator) if initiator < 32 || initiator > 254 => {
+            add_note(Note::NoInitiator(initiator), notes)
+        }
+        _ => Ok(()),
     }
 }
 
@@ -87,5 +59,14 @@ pub(crate) fn add_reply(
     ensures { IfOk result (λ _. notes.new.items ≡ notes.old.items ++ reply_notes flow (table_view document.now)) }
 {
     add_shape(alloc, table_of(document, Section::Reply(flow)), notes)?;
-    add_target(alloc, document, flow, notes)
+    let Some(name) = text_of(document, Section::Flow(flow), Key::To) else {
+        return Ok(());
+    };
+    let Some(node) = first_place(alloc, document, Key::Node, &Test::Named(name))? else {
+        return Ok(());
+    };
+    match table_of(document, Section::Target(node)) {
+        Some(_) => Ok(()),
+        None => add_note(Note::NoTarget(node), notes),
+    }
 }

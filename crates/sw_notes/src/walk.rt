@@ -1,12 +1,12 @@
 //! A walk over a text that proposes a place. What it proposes is checked by `place`: no claim rests on it.
 use crate::frame::Frame;
-use crate::header::Headers;
+use crate::header::{Headers, NO_HEADERS};
 use crate::proposal::Proposal;
 use crate::sought::Sought;
 use std::alloc::Global;
 use sw_toml_table::Section;
 use toml_parser::text::{first, skip, skip_blank, skip_ws};
-use toml_parser::{ErrorKind, Key, ParseError, dotted_key, quoted, starts_string, unquoted};
+use toml_parser::{ErrorKind, ParseError, dotted_key, quoted, starts_string, unquoted};
 
 /// The piece that was begun: where, and how many brackets are open before it and at its end.
 #[derive(Clone, Copy)]
@@ -24,20 +24,6 @@ struct Walk<'a> {
     /// The table of the last header.
     section: Option<Section>,
     begun: Option<Begun>,
-}
-
-// What stands behind the text, number, date, true or false at the front.
-fn behind_scalar(alloc: Global, rest: &str) -> Result<&str, ParseError> {
-    if starts_string(rest) {
-        return match quoted(alloc, rest) {
-            Ok((_, after)) => Ok(after),
-            Err(fault) => Err(fault),
-        };
-    }
-    match unquoted(alloc, rest) {
-        Ok((_, after)) => Ok(after),
-        Err(fault) => Err(fault),
-    }
 }
 
 // The table of all parts of a key but the last, from a table on.
@@ -89,28 +75,16 @@ fn value<'t>(
         begin(walk, section, None, piece);
         return opened(frames, Frame::Table(section), skip(rest, 1));
     }
-    behind_scalar(alloc, rest)
-}
-
-// Begins a piece where this key is sought, and tells the table that it leads to.
-fn note_key(
-    walk: &mut Walk<'_>,
-    open: usize,
-    section: Option<Section>,
-    at: usize,
-    key: &Key,
-) -> Option<Section> {
-    let parent = parent_of(&mut walk.headers, section, &key.path);
-    let piece = Begun {
-        from: at,
-        before: open,
-        behind: open,
-    };
-    begin(walk, parent, Some(key.last.as_str()), piece);
-    if let Some(part) = key.path.first() {
-        begin(walk, section, Some(part.as_str()), piece);
+    if starts_string(rest) {
+        return match quoted(alloc, rest) {
+            Ok((_, after)) => Ok(after),
+            Err(fault) => Err(fault),
+        };
     }
-    walk.headers.entered(parent, key.last.as_str(), false)
+    match unquoted(alloc, rest) {
+        Ok((_, after)) => Ok(after),
+        Err(fault) => Err(fault),
+    }
 }
 
 // Reads a key, `=`, and the beginning of the value or all of it.
@@ -123,7 +97,18 @@ fn member<'t>(
     rest: &'t str,
 ) -> Result<&'t str, ParseError> {
     let (key, after) = dotted_key(alloc, rest)?;
-    let inner = note_key(walk, frames.len(), section, at, &key);
+    let parent = parent_of(&mut walk.headers, section, &key.path);
+    let open = frames.len();
+    let piece = Begun {
+        from: at,
+        before: open,
+        behind: open,
+    };
+    begin(walk, parent, Some(key.last.as_str()), piece);
+    if let Some(part) = key.path.first() {
+        begin(walk, section, Some(part.as_str()), piece);
+    }
+    let inner = walk.headers.entered(parent, key.last.as_str(), false);
     drop(key);
     if first(after) != b'=' {
         return Err(ParseError::at(ErrorKind::MissingEquals, after));
@@ -131,22 +116,6 @@ fn member<'t>(
     let behind = skip_ws(skip(after, 1));
     let offset = at.saturating_add(rest.len().saturating_sub(behind.len()));
     value(alloc, walk, frames, inner, offset, behind)
-}
-
-// Notes the table of a header.
-fn note_header(walk: &mut Walk<'_>, at: usize, key: &Key, opens: bool) {
-    let parent = parent_of(&mut walk.headers, Some(Section::Document), &key.path);
-    let section = walk.headers.entered(parent, key.last.as_str(), opens);
-    walk.section = section;
-    let piece = Begun {
-        from: at,
-        before: 0,
-        behind: 0,
-    };
-    if opens {
-        begin(walk, section, None, piece);
-    }
-    begin(walk, parent, Some(key.last.as_str()), piece);
 }
 
 // Reads a header, behind its first bracket.
@@ -163,7 +132,18 @@ fn header<'t>(
         (rest, "]")
     };
     let (key, after) = dotted_key(alloc, skip_ws(inner))?;
-    note_header(walk, at, &key, opens);
+    let parent = parent_of(&mut walk.headers, Some(Section::Document), &key.path);
+    let section = walk.headers.entered(parent, key.last.as_str(), opens);
+    walk.section = section;
+    let piece = Begun {
+        from: at,
+        before: 0,
+        behind: 0,
+    };
+    if opens {
+        begin(walk, section, None, piece);
+    }
+    begin(walk, parent, Some(key.last.as_str()), piece);
     drop(key);
     match after.strip_prefix(closing) {
         Some(behind) => Ok(behind),
@@ -210,7 +190,7 @@ pub(crate) fn proposed(
 ) -> Result<Option<Proposal>, ParseError> {
     let mut walk = Walk {
         sought,
-        headers: Headers::new(),
+        headers: NO_HEADERS,
         section: Some(Section::Document),
         begun: None,
     };
