@@ -1,36 +1,19 @@
 //! What the entries of a document say, as far as they say it.
-ghost use Rattle.std.specs.Prelude.{◌≡◌, ◌++◌, IfOk, map, option_to_list};
+ghost use Rattle.std.specs.Prelude.{◌≡◌, ◌++◌, IfOk, map};
 ghost use Rattle.toml.specs.View.{table_view};
-ghost use Rattle.sw_notes.specs.Entries.{text_in};
-ghost use Rattle.sw_hints.specs.Entries.{each_name, names_of, part_names};
+ghost use Rattle.sw_hints.specs.Entries.{names_of};
 
 use std::alloc::{AllocError, Global};
 use sw_notes::{tables_of, text_in};
 use sw_toml_table::Key;
 use toml::Table;
 
-// Adds the name in a table, if it has one.
-fn add_name<'a>(table: &'a Table, names: &mut Vec<&'a str>) -> Result<(), AllocError>
-    ensures { IfOk result (λ _. map (λ t. t.now) names.new.items ≡ map (λ t. t.now) names.old.items ++ option_to_list (text_in Key.Name (table_view table.now))) }
-{
-    if let Some(name) = text_in(table, Key::Name) {
-        names.push(name)?;
-    }
-    Ok(())
-}
-
-// Adds the names in tables.
-fn add_names<'a>(tables: &[&'a Table], names: &mut Vec<&'a str>) -> Result<(), AllocError>
-    ensures { IfOk result (λ _. map (λ t. t.now) names.new.items ≡ map (λ t. t.now) names.old.items ++ each_name (map (λ t. table_view t.now) tables.now)) }
-{
-    for table in tables {
-        add_name(table, names)?;
-    }
-    Ok(())
-}
-
-// Adds the names of a list of the document.
-fn add_list<'a>(
+/// Adds the names of a list of the document.
+///
+/// # Errors
+///
+/// There is no memory for the list.
+pub(crate) fn add_names<'a>(
     alloc: Global,
     document: &'a Table,
     list: Key,
@@ -39,7 +22,13 @@ fn add_list<'a>(
     ensures { IfOk result (λ _. map (λ t. t.now) names.new.items ≡ map (λ t. t.now) names.old.items ++ names_of list (table_view document.now)) }
 {
     let tables = tables_of(alloc, document, list)?;
-    add_names(&tables, names)
+    for table in &tables {
+        let Some(name) = text_in(table, Key::Name) else {
+            continue;
+        };
+        names.push(name)?;
+    }
+    Ok(())
 }
 
 /// The names of a list of the document.
@@ -55,20 +44,6 @@ pub fn names_of<'a>(
     ensures { IfOk result (λ v. map (λ t. t.now) v.items ≡ names_of list (table_view document.now)) }
 {
     let mut names = Vec::new(alloc);
-    add_list(alloc, document, list, &mut names)?;
-    Ok(names)
-}
-
-/// The names of the nodes, and then those of the switches.
-///
-/// # Errors
-///
-/// There is no memory for the list.
-pub(crate) fn part_names<'a>(alloc: Global, document: &'a Table) -> Result<Vec<&'a str>, AllocError>
-    ensures { IfOk result (λ v. map (λ t. t.now) v.items ≡ part_names (table_view document.now)) }
-{
-    let mut names = Vec::new(alloc);
-    add_list(alloc, document, Key::Node, &mut names)?;
-    add_list(alloc, document, Key::Switch, &mut names)?;
+    add_names(alloc, document, list, &mut names)?;
     Ok(names)
 }

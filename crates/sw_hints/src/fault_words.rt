@@ -1,7 +1,6 @@
 //! What is wrong, and what is right, in words.
-ghost use Rattle.std.specs.Prelude.{◌≡◌, ◌++◌, IfOk, codes, flat_map, map, string_bytes};
-ghost use Rattle.sw_toml_table.specs.Keys.{key_text};
-ghost use Rattle.sw_hints.specs.FaultWords.{expected_text, fault_words, key_fault_words, one_of, topology_expected, topology_words, what_text};
+ghost use Rattle.std.specs.Prelude.{◌≡◌, ◌++◌, IfOk, codes, string_bytes};
+ghost use Rattle.sw_hints.specs.FaultWords.{expected_text, fault_words, one_of, topology_expected, what_text};
 
 use crate::key_words::{keys_of, value_words};
 use std::alloc::{AllocError, Global};
@@ -10,37 +9,25 @@ use sw_command::fault_text;
 use sw_toml_table::{Key, KeyFault, TextFault};
 use sw_topo::{Limit, TopoFault};
 
-fn key_fault_words(fault: KeyFault) -> &'static str
-    ensures { result.now ≡ key_fault_words fault }
-{
-    match fault {
-        KeyFault::MissingKey => "a key is missing here",
-        KeyFault::WrongType => "the value is of another type",
-        KeyFault::OutOfRange => "the value is not allowed",
-        KeyFault::DuplicateName => "the name is taken",
-        KeyFault::UnknownName => "there is no such name",
-    }
-}
-
-fn topology_words(fault: TopoFault) -> &'static str
-    ensures { result.now ≡ topology_words fault }
-{
-    match fault {
-        TopoFault::TooMany(_) => "the list is too long",
-        TopoFault::PortTaken(_) => "an end of the link is at a port that has a link already",
-        TopoFault::NodeLinks(_) => "the node has no link, or several",
-        TopoFault::PortUnlinked(_) => "the switch has no link",
-    }
-}
-
 fn fault_words(fault: &TextFault) -> &'static str
     ensures { result.now ≡ fault_words fault.now }
 {
     match fault {
         TextFault::Syntax => "the text is no TOML",
         TextFault::UnknownKey(_, _) => "a table has no such key",
-        TextFault::Key(fault, _, _) => key_fault_words(*fault),
-        TextFault::Topology(fault) => topology_words(*fault),
+        TextFault::Key(fault, _, _) => match fault {
+            KeyFault::MissingKey => "a key is missing here",
+            KeyFault::WrongType => "the value is of another type",
+            KeyFault::OutOfRange => "the value is not allowed",
+            KeyFault::DuplicateName => "the name is taken",
+            KeyFault::UnknownName => "there is no such name",
+        },
+        TextFault::Topology(fault) => match fault {
+            TopoFault::TooMany(_) => "the list is too long",
+            TopoFault::PortTaken(_) => "an end of the link is at a port that has a link already",
+            TopoFault::NodeLinks(_) => "the node has no link, or several",
+            TopoFault::PortUnlinked(_) => "the switch has no link",
+        },
         TextFault::DuplicateRoute(_, _) => "an entry before it is for one of the same addresses",
         TextFault::ReplyShape(_) => "the replies can't come back",
         TextFault::NotInFlow(_) => "the flow doesn't declare this packet",
@@ -60,30 +47,20 @@ pub fn what_text(alloc: Global, fault: &TextFault) -> Result<String, AllocError>
     format!(in alloc; "{text}: {words}")
 }
 
-// More keys, each behind a comma.
-fn more_keys(alloc: Global, keys: &[Key]) -> Result<String, AllocError>
-    ensures { IfOk result (λ s. string_bytes s ≡ flat_map (λ k. codes ", " ++ key_text k) keys.now) }
-{
-    let mut text = String::new(alloc);
-    for key in keys {
-        let name = key.text();
-        write!(text, ", {name}")?;
-    }
-    Ok(text)
-}
-
 // The keys that a table may have, with a comma between each two.
 fn one_of(alloc: Global, keys: &[Key]) -> Result<String, AllocError>
     ensures { IfOk result (λ s. string_bytes s ≡ one_of keys.now) }
 {
-    match keys {
-        [] => String::from_str(alloc, "one of "),
-        [first, rest @ ..] => {
-            let key = first.text();
-            let more = more_keys(alloc, rest)?;
-            format!(in alloc; "one of {key}{more}")
-        }
+    let [first, more @ ..] = keys else {
+        return String::from_str(alloc, "one of ");
+    };
+    let name = first.text();
+    let mut text = format!(in alloc; "one of {name}")?;
+    for key in more {
+        let next = key.text();
+        write!(text, ", {next}")?;
     }
+    Ok(text)
 }
 
 fn topology_expected(fault: TopoFault) -> &'static str

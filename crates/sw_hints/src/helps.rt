@@ -1,15 +1,12 @@
 //! What to do about a fault.
-ghost use Rattle.std.specs.Prelude.{◌≡◌, IfOk, List, Option, map, option_map, string_bytes};
-ghost use Rattle.std.specs.List.{list_any};
-ghost use Rattle.std.specs.Str.{bytes_eq};
-ghost use Rattle.sw_toml_table.specs.Keys.{key_text};
+ghost use Rattle.std.specs.Prelude.{◌≡◌, ◌++◌, IfOk, List, Option, codes, map, option_map, string_bytes};
 ghost use Rattle.sw_toml_table.specs.Table.{is_known};
 ghost use Rattle.toml.specs.View.{table_view};
 ghost use Rattle.sw_hints.specs.Entries.{names_of, part_names};
-ghost use Rattle.sw_hints.specs.Helps.{help_text, key_help, key_fault_help, meant_help, name_help, node_help, still_words, topology_help};
+ghost use Rattle.sw_hints.specs.Helps.{help_text, key_help, meant_help, name_help, node_help, still_words, topology_help};
 ghost use Rattle.sw_hints.specs.Nearest.{like};
 
-use crate::entries::{names_of, part_names};
+use crate::entries::{add_names, names_of};
 use crate::key_words::{keys_of, new_keys_of, outer_keys, port_keys};
 use crate::nearest::like;
 use std::alloc::{AllocError, Global};
@@ -28,17 +25,6 @@ pub fn is_one_of(keys: &[Key], name: &str) -> bool
         }
     }
     false
-}
-
-// How the keys are written.
-fn key_texts(alloc: Global, keys: &[Key]) -> Result<Vec<&'static str>, AllocError>
-    ensures { IfOk result (λ v. map (λ t. t.now) v.items ≡ map key_text keys.now) }
-{
-    let mut texts = Vec::new(alloc);
-    for key in keys {
-        texts.push(key.text())?;
-    }
-    Ok(texts)
 }
 
 /// The word that was meant, maybe.
@@ -81,52 +67,43 @@ fn key_help(alloc: Global, section: Section, name: &str) -> Result<String, Alloc
             "a key that stands below a header, as [[switch]], belongs to that table: write it above the first header",
         );
     }
-    let texts = key_texts(alloc, keys_of(section))?;
+    let keys = keys_of(section);
+    let mut texts = Vec::new(alloc);
+    for key in keys {
+        texts.push(key.text())?;
+    }
     like_help(alloc, name, &texts)
-}
-
-// Is the name one of these?
-fn is_named(names: &[&str], name: &str) -> bool
-    ensures { result ≡ list_any (λ s. bytes_eq s name.now) (map (λ t. t.now) names.now) }
-{
-    for text in names {
-        if *text == name {
-            return true;
-        }
-    }
-    false
-}
-
-// What to do about a name of no node, where there may be a switch of the name.
-fn node_help(
-    alloc: Global,
-    name: &str,
-    nodes: &[&str],
-    switches: &[&str],
-) -> Result<String, AllocError>
-    ensures { IfOk result (λ s. string_bytes s ≡ node_help name.now (map (λ t. t.now) nodes.now) (map (λ t. t.now) switches.now)) }
-{
-    if is_named(switches, name) {
-        return format!(in alloc; "'{name}' is a switch: flows go from a node to a node");
-    }
-    like_help(alloc, name, nodes)
 }
 
 // What to do about a name of no node and no switch.
 fn link_end_help(alloc: Global, document: &Table, name: &str) -> Result<String, AllocError>
     ensures { IfOk result (λ s. string_bytes s ≡ meant_help (like name.now (part_names (table_view document.now)))) }
 {
-    let parts = part_names(alloc, document)?;
+    let mut parts = Vec::new(alloc);
+    add_names(alloc, document, Key::Node, &mut parts)?;
+    add_names(alloc, document, Key::Switch, &mut parts)?;
     like_help(alloc, name, &parts)
 }
 
-// What to do about a name of no node in this document.
+// That the name is a switch's.
+fn switch_help(alloc: Global, name: &str) -> Result<String, AllocError>
+    ensures { IfOk result (λ s. string_bytes s ≡ codes "'" ++ (name.now ++ codes "' is a switch: flows go from a node to a node")) }
+{
+    format!(in alloc; "'{name}' is a switch: flows go from a node to a node")
+}
+
+// What to do about a name of no node in this document: there may be a switch of the name.
 fn flow_end_help(alloc: Global, document: &Table, name: &str) -> Result<String, AllocError>
     ensures { IfOk result (λ s. string_bytes s ≡ node_help name.now (names_of Key.Node (table_view document.now)) (names_of Key.Switch (table_view document.now))) }
 {
-    let nodes = names_of(alloc, document, Key::Node)?;
     let switches = names_of(alloc, document, Key::Switch)?;
-    node_help(alloc, name, &nodes, &switches)
+    for switch in &switches {
+        if *switch == name {
+            return switch_help(alloc, name);
+        }
+    }
+    let nodes = names_of(alloc, document, Key::Node)?;
+    like_help(alloc, name, &nodes)
 }
 
 // What to do about the name at this key, which nothing suitable has.
@@ -165,21 +142,6 @@ fn still_words(fault: KeyFault) -> &'static str
     }
 }
 
-fn key_fault_help(
-    alloc: Global,
-    document: &Table,
-    fault: KeyFault,
-    section: Section,
-    key: Key,
-) -> Result<String, AllocError>
-    ensures { IfOk result (λ s. string_bytes s ≡ key_fault_help (table_view document.now) fault section key) }
-{
-    match fault {
-        KeyFault::UnknownName => name_help(alloc, document, section, key),
-        fault => String::from_str(alloc, still_words(fault)),
-    }
-}
-
 fn topology_help(fault: TopoFault) -> &'static str
     ensures { result.now ≡ topology_help fault }
 {
@@ -202,9 +164,10 @@ pub fn help_text(alloc: Global, document: &Table, fault: &TextFault) -> Result<S
     match fault {
         TextFault::Syntax => Ok(String::new(alloc)),
         TextFault::UnknownKey(section, name) => key_help(alloc, *section, name.as_str()),
-        TextFault::Key(fault, section, key) => {
-            key_fault_help(alloc, document, *fault, *section, *key)
+        TextFault::Key(KeyFault::UnknownName, section, key) => {
+            name_help(alloc, document, *section, *key)
         }
+        TextFault::Key(fault, _, _) => String::from_str(alloc, still_words(*fault)),
         TextFault::Topology(fault) => String::from_str(alloc, topology_help(*fault)),
         TextFault::DuplicateRoute(_, _) => String::from_str(
             alloc,

@@ -3,7 +3,7 @@ ghost use Rattle.std.specs.Prelude.{◌≡◌, ◌≤◌, IfOk, IfSome, length, 
 ghost use Rattle.sw_toml_table.specs.Document.{document_of};
 ghost use Rattle.sw_hints.specs.FaultWords.{expected_text, what_text};
 ghost use Rattle.sw_hints.specs.HintLines.{hint_lines};
-ghost use Rattle.sw_hints.specs.Hints.{AreNotes, IsHelp, IsHint, IsNetworkHint, help_by, notes_by};
+ghost use Rattle.sw_hints.specs.Hints.{AreNotes, IsHelp, IsHint, IsNetworkHint, help_by};
 
 use crate::fault_words::{expected_text, what_text};
 use crate::helps::help_text;
@@ -12,7 +12,7 @@ use crate::note_lines::note_lines;
 use crate::places::fault_place;
 use std::alloc::{AllocError, Global};
 use sw_file::read_network;
-use sw_notes::{Note, notes_of, text_fault};
+use sw_notes::{notes_of, text_fault};
 use sw_toml_table::{FileFault, TextFault, read_document};
 
 // What to do about a fault of a text.
@@ -28,25 +28,20 @@ fn help_of(alloc: Global, text: &[u8], fault: &TextFault) -> Result<String, Allo
     }
 }
 
-// What there is to note of a fault of a text.
-fn notes_by(alloc: Global, text: &[u8], fault: &TextFault) -> Result<Vec<Note>, AllocError>
-    ensures { IfOk result (λ v. v.items ≡ notes_by (document_of text.now) fault.now) }
-{
-    match read_document(alloc, text) {
-        Ok(document) => notes_of(alloc, &document, fault),
-        Err(refused) => {
-            text_fault(refused)?;
-            Ok(Vec::new(alloc))
-        }
-    }
-}
-
-// The lines of it.
+// The lines of what there is to note of a fault of a text.
 fn note_lines_of(alloc: Global, text: &[u8], fault: &TextFault) -> Result<String, AllocError>
     ensures { IfOk result (λ s. AreNotes text.now fault.now (string_bytes s)) }
 {
-    let notes = notes_by(alloc, text, fault)?;
-    note_lines(alloc, text, &notes)
+    match read_document(alloc, text) {
+        Ok(document) => {
+            let notes = notes_of(alloc, &document, fault)?;
+            note_lines(alloc, text, &notes)
+        }
+        Err(refused) => {
+            text_fault(refused)?;
+            Ok(String::new(alloc))
+        }
+    }
 }
 
 // The hint of a fault, told of a place and of the lines of its notes.

@@ -81,16 +81,15 @@ pub(crate) fn value_words(section: Section, key: Key) -> &'static str
 {
     match key {
         Key::Version => "1 or 2",
-        Key::Node => "a list of at most 1024 tables",
+        Key::Node | Key::Link => "a list of at most 1024 tables",
         Key::Switch => "a list of at most 512 tables",
-        Key::Link => "a list of at most 1024 tables",
         Key::Flow => match section {
             Section::Document => "a list of at most 4096 tables",
             _ => "the name of a flow",
         },
         Key::Name => "a text of 1 to 32 letters, digits, '_', '-' and '.'",
-        Key::Target => "a table",
-        Key::Logical => "a number from 32 to 254",
+        Key::Target | Key::Reply => "a table",
+        Key::Logical | Key::Initiator => "a number from 32 to 254",
         Key::TargetKey => "a number from 0 to 255",
         Key::Start => "a number from 0 to 1099511627775",
         Key::Size => "a number from 1 to 65536, and 'start' + 'size' at most 1099511627776",
@@ -109,9 +108,7 @@ pub(crate) fn value_words(section: Section, key: Key) -> &'static str
         Key::Buffer | Key::BufferA | Key::BufferB => "a number from 8 to 4096",
         Key::From | Key::To => "the name of a node",
         Key::Left => "a number from 0 to how many numbers 'address' has",
-        Key::Reply => "a table",
         Key::Path => "a list of at most 12 numbers from 0 to 255, the first not 0",
-        Key::Initiator => "a number from 32 to 254",
         Key::Packet => "a list of at most 4096 tables",
         Key::Cargo => {
             "1 to 4096 bytes: pairs of hexadecimal digits, or one pair, '*' and a number from 1 to 4096"

@@ -1,6 +1,5 @@
 //! The lines of a hint.
-ghost use Rattle.std.specs.Prelude.{◌≡◌, ◌≤◌, ◌==◌, ◌++◌, IfOk, IfSome, codes, drop, length, not, string_bytes, take};
-ghost use Rattle.std.specs.Fmt.{decimal};
+ghost use Rattle.std.specs.Prelude.{◌≡◌, ◌≤◌, ◌==◌, IfOk, IfSome, length, not, string_bytes};
 ghost use Rattle.std.specs.List.{prefix_len};
 ghost use Rattle.sw_hints.specs.HintLines.{found_line, found_part, head_line, hint_lines, place_text, told};
 
@@ -24,31 +23,14 @@ fn line_end(text: &[u8]) -> usize
     text.len()
 }
 
-// What stands behind an offset.
-fn behind(text: &[u8], at: usize) -> &[u8]
-    requires { at ≤ length text.now }
-    ensures { result.now ≡ drop at text.now }
-{
-    &text[at..]
-}
-
 // The rest of a line of the text, from an offset on, but no more than are shown.
 fn found_part(text: &[u8], at: usize) -> &[u8]
     requires { at ≤ length text.now }
     ensures { result.now ≡ found_part text.now at }
 {
-    let rest = behind(text, at);
+    let rest = &text[at..];
     let line = &rest[..line_end(rest)];
     &line[..MOST_FOUND.min(line.len())]
-}
-
-// A place behind a path.
-fn placed(alloc: Global, path: &str, place: Position) -> Result<String, AllocError>
-    ensures { IfOk result (λ s. string_bytes s ≡ path.now ++ (codes ":" ++ (decimal place.line ++ (codes ":" ++ decimal place.column)))) }
-{
-    let line = place.line;
-    let column = place.column;
-    format!(in alloc; "{path}:{line}:{column}")
 }
 
 // Where a byte of the text stands.
@@ -62,10 +44,11 @@ fn place_text(
     ensures { IfOk result (λ s. string_bytes s ≡ place_text path.now text.now place) }
 {
     let path = shown(alloc, path.as_bytes())?;
-    match place {
-        None => Ok(path),
-        Some(at) => placed(alloc, path.as_str(), position_at(text, at)),
-    }
+    let Some(at) = place else {
+        return Ok(path);
+    };
+    let Position { line, column } = position_at(text, at);
+    format!(in alloc; "{path}:{line}:{column}")
 }
 
 /// Where the fault is, and what is wrong.

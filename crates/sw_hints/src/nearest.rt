@@ -1,7 +1,6 @@
 //! The text that is most like another one.
 ghost use Rattle.std.specs.Prelude.{◌≡◌, IfOk, find, map, option_map};
-ghost use Rattle.std.specs.Str.{str_eq_ignore_ascii_case};
-ghost use Rattle.sw_hints.specs.Nearest.{is_near, like, nearest};
+ghost use Rattle.sw_hints.specs.Nearest.{is_near, like};
 
 use std::alloc::{AllocError, Global};
 use strsim::levenshtein;
@@ -40,30 +39,8 @@ fn first_at<'a>(
     Ok(None)
 }
 
-// The first of the texts that one change leads to, or else two.
-fn nearest<'a>(alloc: Global, name: &str, texts: &[&'a str]) -> Result<Option<&'a str>, AllocError>
-    ensures { IfOk result (λ o. option_map (λ t. t.now) o ≡ nearest name.now (map (λ t. t.now) texts.now)) }
-{
-    match first_at(alloc, name, texts, 1)? {
-        Some(text) => Ok(Some(text)),
-        None => first_at(alloc, name, texts, 2),
-    }
-}
-
-// The first of the texts that differs by the case of its letters alone.
-#[tactic(auto, using(crate::proofs::Firsts::first_here))]
-fn other_case<'a>(name: &str, texts: &[&'a str]) -> Option<&'a str>
-    ensures { option_map (λ t. t.now) result ≡ find (λ t. str_eq_ignore_ascii_case t name.now) (map (λ t. t.now) texts.now) }
-{
-    for text in texts {
-        if text.eq_ignore_ascii_case(name) {
-            return Some(text);
-        }
-    }
-    None
-}
-
-/// The text that was meant, maybe: the first that differs by the case of its letters alone, or else the nearest.
+/// The text that was meant, maybe: the first that differs by the case of its letters alone, or else the first that one change leads to, or
+/// else two.
 ///
 /// # Errors
 ///
@@ -71,8 +48,13 @@ fn other_case<'a>(name: &str, texts: &[&'a str]) -> Option<&'a str>
 pub fn like<'a>(alloc: Global, name: &str, texts: &[&'a str]) -> Result<Option<&'a str>, AllocError>
     ensures { IfOk result (λ o. option_map (λ t. t.now) o ≡ like name.now (map (λ t. t.now) texts.now)) }
 {
-    match other_case(name, texts) {
+    for text in texts {
+        if text.eq_ignore_ascii_case(name) {
+            return Ok(Some(text));
+        }
+    }
+    match first_at(alloc, name, texts, 1)? {
         Some(text) => Ok(Some(text)),
-        None => nearest(alloc, name, texts),
+        None => first_at(alloc, name, texts, 2),
     }
 }

@@ -23,11 +23,17 @@ fn numbered_part(alloc: Global, word: &str, number: usize, part: &str) -> Result
     format!(in alloc; "{word}{number}{part}")
 }
 
-// An entry of a routing table, by its number and its switch's.
-fn route_text(alloc: Global, switch: usize, route: usize) -> Result<String, AllocError>
-    ensures { IfOk result (λ s. string_bytes s ≡ entry_text (Section.Route switch route)) }
+// Two numbers, each behind words.
+fn two_numbers(
+    alloc: Global,
+    before: &str,
+    first: usize,
+    between: &str,
+    second: usize,
+) -> Result<String, AllocError>
+    ensures { IfOk result (λ s. string_bytes s ≡ before.now ++ (decimal first ++ (between.now ++ decimal second))) }
 {
-    format!(in alloc; "switch {switch} route {route}")
+    format!(in alloc; "{before}{first}{between}{second}")
 }
 
 // A table of a file, by its number.
@@ -39,7 +45,7 @@ fn entry_text(alloc: Global, section: Section) -> Result<String, AllocError>
         Section::Node(i) => numbered(alloc, "node ", i),
         Section::Target(i) => numbered_part(alloc, "node ", i, " target"),
         Section::Switch(i) => numbered(alloc, "switch ", i),
-        Section::Route(i, j) => route_text(alloc, i, j),
+        Section::Route(i, j) => two_numbers(alloc, "switch ", i, " route ", j),
         Section::Link(i) => numbered(alloc, "link ", i),
         Section::Flow(i) => numbered(alloc, "flow ", i),
         Section::Reply(i) => numbered_part(alloc, "flow ", i, " reply"),
@@ -67,20 +73,6 @@ fn port_words(alloc: Global, end: &str) -> Result<String, AllocError>
     format!(in alloc; "has the port of '{end}' already")
 }
 
-// Which addresses an entry is for.
-fn range_words(alloc: Global, first: u64, last: u64) -> Result<String, AllocError>
-    ensures { IfOk result (λ s. string_bytes s ≡ codes "is for the addresses from " ++ (decimal first ++ (codes " to " ++ decimal last))) }
-{
-    format!(in alloc; "is for the addresses from {first} to {last}")
-}
-
-// That this is no logical address of an initiator.
-fn initiator_words(alloc: Global, initiator: u64) -> Result<String, AllocError>
-    ensures { IfOk result (λ s. string_bytes s ≡ codes "the initiator is " ++ (decimal initiator ++ codes ", which is no logical address")) }
-{
-    format!(in alloc; "the initiator is {initiator}, which is no logical address")
-}
-
 // What is noted.
 fn note_words(alloc: Global, note: Note) -> Result<String, AllocError>
     ensures { IfOk result (λ s. string_bytes s ≡ note_words note) }
@@ -90,23 +82,25 @@ fn note_words(alloc: Global, note: Note) -> Result<String, AllocError>
         Note::Unlinked => String::from_str(alloc, "no link is at this node"),
         Note::LinkHere(_) => String::from_str(alloc, "is at this node"),
         Note::HasPort(_, end) => port_words(alloc, end.text()),
-        Note::IsFor(_, _, first, last) => range_words(alloc, first, last),
+        Note::IsFor(_, _, first, last) => two_numbers(
+            alloc,
+            "is for the addresses from ",
+            first as usize,
+            " to ",
+            last as usize,
+        ),
         Note::LongPath(count) => numbered_part(alloc, "the path has ", count, " numbers"),
         Note::LeadingZero => String::from_str(alloc, "the path begins with 0"),
-        Note::NoInitiator(initiator) => initiator_words(alloc, initiator),
+        Note::NoInitiator(initiator) => numbered_part(
+            alloc,
+            "the initiator is ",
+            initiator as usize,
+            ", which is no logical address",
+        ),
         Note::NoTarget(_) => {
             String::from_str(alloc, "is where the flow ends, and has no 'target'")
         }
     }
-}
-
-// An entry, and the line and column where it stands.
-fn placed(alloc: Global, entry: &str, place: Position) -> Result<String, AllocError>
-    ensures { IfOk result (λ s. string_bytes s ≡ entry.now ++ (codes " at " ++ (decimal place.line ++ (codes ":" ++ (decimal place.column ++ codes " "))))) }
-{
-    let line = place.line;
-    let column = place.column;
-    format!(in alloc; "{entry} at {line}:{column} ")
 }
 
 // An entry, and the line and column where it stands, if that was found.
@@ -123,10 +117,11 @@ fn subject(
         return Ok(String::new(alloc));
     };
     let entry = entry_text(alloc, section)?;
-    match place {
-        None => format!(in alloc; "{entry} "),
-        Some(at) => placed(alloc, entry.as_str(), position_at(text, at)),
-    }
+    let Some(at) = place else {
+        return format!(in alloc; "{entry} ");
+    };
+    let Position { line, column } = position_at(text, at);
+    format!(in alloc; "{entry} at {line}:{column} ")
 }
 
 // Where the entry of a note stands, if that is found.

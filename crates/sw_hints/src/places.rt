@@ -1,6 +1,6 @@
 //! Where the faulted table or key stands.
 ghost use Rattle.std.specs.Prelude.{◌≡◌, ◌≤◌, IfOk, IfSome, length, option_map};
-ghost use Rattle.sw_hints.specs.FaultPlaces.{IsFaultPlace, long_list, sought_of, sought_view, table_to_show, topology_sought};
+ghost use Rattle.sw_hints.specs.FaultPlaces.{IsFaultPlace, long_list, sought_of, sought_view, table_to_show};
 
 use std::alloc::{AllocError, Global};
 use sw_notes::{Sought, place_of};
@@ -36,20 +36,6 @@ fn long_list(limit: Limit) -> Key
     }
 }
 
-fn topology_sought(fault: TopoFault) -> Option<Sought<'static>>
-    ensures { option_map sought_view result ≡ topology_sought fault }
-{
-    match fault {
-        TopoFault::TooMany(limit) => Some(Sought {
-            section: Section::Document,
-            key: Some(long_list(limit).text()),
-        }),
-        TopoFault::PortTaken(link) => table_to_show(Section::Link(link as usize)),
-        TopoFault::NodeLinks(node) => table_to_show(Section::Node(node as usize)),
-        TopoFault::PortUnlinked(switch) => table_to_show(Section::Switch(switch as usize)),
-    }
-}
-
 // The table or the key that has the fault.
 fn sought_of(fault: &TextFault) -> Option<Sought<'_>>
     ensures { option_map sought_view result ≡ sought_of fault.now }
@@ -65,23 +51,18 @@ fn sought_of(fault: &TextFault) -> Option<Sought<'_>>
             section: *section,
             key: Some(key.text()),
         }),
-        TextFault::Topology(fault) => topology_sought(*fault),
+        TextFault::Topology(fault) => match fault {
+            TopoFault::TooMany(limit) => Some(Sought {
+                section: Section::Document,
+                key: Some(long_list(*limit).text()),
+            }),
+            TopoFault::PortTaken(link) => table_to_show(Section::Link(*link as usize)),
+            TopoFault::NodeLinks(node) => table_to_show(Section::Node(*node as usize)),
+            TopoFault::PortUnlinked(switch) => table_to_show(Section::Switch(*switch as usize)),
+        },
         TextFault::DuplicateRoute(switch, route) => table_to_show(Section::Route(*switch, *route)),
         TextFault::ReplyShape(flow) => table_to_show(Section::Reply(*flow)),
         TextFault::NotInFlow(packet) => table_to_show(Section::Packet(*packet)),
-    }
-}
-
-// Where a text that is no TOML goes wrong.
-fn syntax_place(alloc: Global, text: &[u8]) -> Result<Option<usize>, AllocError>
-    ensures { IfOk result (λ o. IfSome o (λ at. at ≤ length text.now)) }
-{
-    match toml::table_from_slice(alloc, text) {
-        Ok(_) => Ok(None),
-        Err(error) => match error.span() {
-            Some(span) => Ok(Some(span.start)),
-            None => Err(AllocError),
-        },
     }
 }
 
@@ -99,7 +80,13 @@ pub fn fault_place(
     ensures within { IfOk result (λ o. IfSome o (λ at. at ≤ length text.now)) }
 {
     match fault {
-        TextFault::Syntax => syntax_place(alloc, text),
+        TextFault::Syntax => match toml::table_from_slice(alloc, text) {
+            Ok(_) => Ok(None),
+            Err(error) => match error.span() {
+                Some(span) => Ok(Some(span.start)),
+                None => Err(AllocError),
+            },
+        },
         fault => match sought_of(fault) {
             Some(sought) => place_of(alloc, text, sought),
             None => Ok(None),

@@ -5,4 +5,4 @@ use Rattle.sw_hints.proofs.entries.add_names.Given as goal
 
 abbrev pub invariant-loop-table : goal.invariant-loop-table
 invariant-loop-table l =
-    map (λ t. t.now) l.names.items ≡ map (λ t. t.now) l.initial.names.items ++ each_name (map (λ t. table_view t.now) (take l.table-index l.tables))
+    map (λ t. t.now) l.names.items ≡ map (λ t. t.now) l.initial.names.items ++ each_name (map (λ t. table_view t.now) (take l.table-index l.table-items))
