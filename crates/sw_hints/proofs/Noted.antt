@@ -1,5 +1,5 @@
 -- The lines of notes, with one more.
-use Rattle.std.proofs.Common.{◌≡◌, ◌∙◌, ◌<◌, ◌+◌, ◌++◌, ℕ, List, [], ◌∷◌, ap, get_or, length, refl, sym, take}
+use Rattle.std.proofs.Common.{◌∙◌, ◌<◌, ◌+◌, ◌++◌, ℕ, List, [], ◌∷◌, ap, get_or, length, refl, sym, take}
 use Rattle.std.proofs.lemmas.List.{append-nil, append_assoc, take_more}
 use Rattle.sw_notes.specs.declared.note.Note.{Note}
 use Rattle.sw_hints.specs.NoteLines.{AreNoteLines, IsNoteLine}
