@@ -1,7 +1,7 @@
 use Rattle.std.proofs.Common.{◌≤◌, ◌∙◌, List, ap, arith, length, subst, sym}
 use Rattle.std.specs.List.{All, AllZip}
-use Rattle.sw_cell.specs.Places.{IsIn}
-use Rattle.sw_cell.specs.declared.cell.CellId.{CellId}
+use Rattle.sw_net.specs.Places.{IsIn}
+use Rattle.sw_net.specs.CellId.{CellId}
 use Rattle.sw_config.specs.Entries.{Declaration}
 use Rattle.sw_net.specs.Parts.{IsPartOf}
 use Rattle.sw_schedule.proofs.PartLists.{all_parts, next_part}
