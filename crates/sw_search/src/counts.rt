@@ -1,36 +1,9 @@
 //! How many places and dependencies there are.
-ghost use Rattle.std.specs.Prelude.{◌≡◌, ◌≤◌, All, length, map, sum};
 ghost use Rattle.sw_search.specs.Findings.{IsDependencyCount, IsPlaceCount};
 ghost use Rattle.sw_search.specs.Lists.{AreListed, AreRows};
 
 use sw_config::Network;
 use sw_flow::Place;
-
-/// How many places are listed.
-fn count_of_places(lists: &[Vec<Place>]) -> u64
-    requires few { length lists.now ≤ 8192 }
-    requires short { All (λ v. length v.items ≤ 67584) lists.now }
-    ensures { result ≡ sum (map (λ v. length v.items) lists.now) }
-{
-    let mut count = 0;
-    for list in lists {
-        count += list.len() as u64;
-    }
-    count
-}
-
-/// How many entries the rows have.
-fn count_of_entries(rows: &[Vec<u16>]) -> u64
-    requires few { length rows.now ≤ 2048 }
-    requires short { All (λ v. length v.items ≤ 2048) rows.now }
-    ensures { result ≡ sum (map (λ v. length v.items) rows.now) }
-{
-    let mut count = 0;
-    for row in rows {
-        count += row.len() as u64;
-    }
-    count
-}
 
 /// How many places the flows have.
 pub(crate) fn places_in(network: &Network, lists: &[Vec<Place>]) -> u64
@@ -41,7 +14,11 @@ pub(crate) fn places_in(network: &Network, lists: &[Vec<Place>]) -> u64
     let _topology = network.topology();
     let _channels = network.channels();
     let _flows = network.flows();
-    count_of_places(lists)
+    let mut count = 0;
+    for list in lists {
+        count += list.len() as u64;
+    }
+    count
 }
 
 /// How many dependencies there are.
@@ -51,5 +28,9 @@ pub(crate) fn dependencies_in(network: &Network, rows: &[Vec<u16>]) -> u64
 {
     // There are at most 2,048.
     let _channels = network.channels();
-    count_of_entries(rows)
+    let mut count = 0;
+    for row in rows {
+        count += row.len() as u64;
+    }
+    count
 }
