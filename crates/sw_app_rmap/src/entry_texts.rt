@@ -1,15 +1,12 @@
 //! The text of an entry of a load.
-ghost use Rattle.std.specs.Prelude.{◌≡◌, ◌≤◌, false, IfOk, Ok, Some, length, position, string_bytes};
+ghost use Rattle.std.specs.Prelude.{◌≡◌, ◌≤◌, IfOk, Some, length, position, string_bytes};
 ghost use Rattle.std.specs.Str.{bytes_eq};
-ghost use Rattle.toml.specs.Data.{array, item, member, no_items, no_members, string, table};
-ghost use Rattle.toml.specs.Text.{IsDocumentText};
+ghost use Rattle.toml.specs.Data.{array, item, member, no_items, no_members, table};
 ghost use Rattle.toml.specs.View.{table_view, view};
-ghost use Rattle.sw_toml_table.specs.Document.{document_of};
 ghost use Rattle.sw_toml_table.specs.Keys.{key_text};
 ghost use Rattle.sw_config.specs.Entries.{flow_names};
 ghost use Rattle.sw_model.specs.Packets.{IsDeclaredPacket};
 ghost use Rattle.sw_app_rmap.specs.RmapAnswers.{IsLoadText};
-ghost use Rattle.hex.specs.Hex.{encode_upper};
 ghost use Rattle.sw_app_rmap.specs.EntryTexts.{entry_table, load_table};
 
 use hex::encode_upper;
@@ -30,27 +27,15 @@ fn one_member(alloc: Global, key: Key, value: Value) -> Result<Table, AllocError
     Ok(table)
 }
 
-fn text_value(alloc: Global, text: &str) -> Result<Value, AllocError>
-    ensures { IfOk result (λ v. view v ≡ string text.now) }
-{
-    Ok(Value::String(String::from_str(alloc, text)?))
-}
-
-fn pairs_value(alloc: Global, bytes: &[u8]) -> Result<Value, AllocError>
-    ensures { IfOk result (λ v. view v ≡ string (encode_upper bytes.now)) }
-{
-    Ok(Value::String(encode_upper(alloc, bytes)?))
-}
-
 // The flow's name and the cargo.
 fn entry_table(alloc: Global, name: &str, cargo: &[u8]) -> Result<Table, AllocError>
     ensures { IfOk result (λ t. table_view t ≡ entry_table name.now cargo.now) }
 {
-    let pairs = pairs_value(alloc, cargo)?;
-    let mut table = one_member(alloc, Key::Cargo, pairs)?;
+    let pairs = encode_upper(alloc, cargo)?;
     let key = String::from_str(alloc, Key::Flow.text())?;
-    let value = text_value(alloc, name)?;
-    table.insert(key, value)?;
+    let value = String::from_str(alloc, name)?;
+    let mut table = one_member(alloc, Key::Cargo, Value::String(pairs))?;
+    table.insert(key, Value::String(value))?;
     Ok(table)
 }
 
@@ -68,18 +53,6 @@ fn load_table(alloc: Global, name: &str, cargo: &[u8]) -> Result<Table, AllocErr
 {
     let entry = entry_table(alloc, name, cargo)?;
     one_member(alloc, Key::Packet, one_item(alloc, entry)?)
-}
-
-// The text of a table, which is read back as that table.
-fn text_of(alloc: Global, name: &str, cargo: &[u8]) -> Result<String, AllocError>
-    ensures is_written { IfOk result (λ s. IsDocumentText false (load_table name.now cargo.now) (string_bytes s)) }
-    ensures reads_back { IfOk result (λ s. document_of (string_bytes s) ≡ Ok (load_table name.now cargo.now)) }
-{
-    let table = load_table(alloc, name, cargo)?;
-    match toml::table_to_string(alloc, &table) {
-        Ok(text) => Ok(text),
-        Err(_) => Err(AllocError),
-    }
 }
 
 /// The text of a load of one packet of the flow of that name and number.
@@ -101,5 +74,9 @@ pub(crate) fn entry_text(
 {
     // Names what holds of a cargo's text.
     cargo_is_read();
-    text_of(alloc, name, cargo)
+    let table = load_table(alloc, name, cargo)?;
+    match toml::table_to_string(alloc, &table) {
+        Ok(text) => Ok(text),
+        Err(_) => Err(AllocError),
+    }
 }

@@ -1,9 +1,9 @@
 //! Why there is no packet.
-ghost use Rattle.std.specs.Prelude.{◌≡◌, IfOk, string_bytes};
+ghost use Rattle.std.specs.Prelude.{◌≡◌};
 ghost use Rattle.sw_app_rmap.specs.declared.fault.RmapError.TheVariants.{Memory};
-ghost use Rattle.sw_app_rmap.specs.EntryTexts.{fault_line, fault_words};
+ghost use Rattle.sw_app_rmap.specs.EntryTexts.{fault_words};
 
-use std::alloc::{AllocError, Global};
+use std::alloc::AllocError;
 
 /// Why a flow has no such packet.
 #[derive(Clone, Copy)]
@@ -45,7 +45,8 @@ impl From<AllocError> for RmapError {
     }
 }
 
-fn fault_words(fault: RmapFault) -> &'static str
+/// The code and the name of a fault.
+pub(crate) fn fault_words(fault: RmapFault) -> &'static str
     ensures { result.now ≡ fault_words fault }
 {
     match fault {
@@ -60,12 +61,4 @@ fn fault_words(fault: RmapFault) -> &'static str
         RmapFault::WrongLeft => "R8 WrongLeft",
         RmapFault::TooLong => "R9 TooLong",
     }
-}
-
-/// What is printed of a fault.
-pub(crate) fn fault_line(alloc: Global, fault: RmapFault) -> Result<String, AllocError>
-    ensures { IfOk result (λ s. string_bytes s ≡ fault_line fault) }
-{
-    let words = fault_words(fault);
-    format!(in alloc; "fault {words}\n")
 }

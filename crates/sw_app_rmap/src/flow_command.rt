@@ -1,6 +1,6 @@
 //! The command of a flow to its target.
 ghost use Rattle.std.specs.Prelude.{◌≡◌, ◌≤◌, IfOk, length, option_map};
-ghost use Rattle.sw_app_rmap.specs.FlowCommands.{bytes_to, command_to, initiator_of, instruction, padded, path_back, units};
+ghost use Rattle.sw_app_rmap.specs.FlowCommands.{bytes_to, initiator_of, instruction, padded, path_back, units};
 ghost use Rattle.sw_app_rmap.specs.Orders.{IsSmall, order_view};
 
 use crate::order::Order;
@@ -58,33 +58,6 @@ fn instruction(write: bool, reply: bool, units: usize) -> u8
     0x40 + write + reply + 0x04 + units as u8
 }
 
-fn command_to(
-    alloc: Global,
-    target: TargetConfig,
-    reply: Option<&Reply>,
-    order: &Order,
-) -> Result<Command, AllocError>
-    requires path { length (path_back (option_map (λ r. r.now) reply)) ≤ 12 }
-    requires small { IsSmall (order_view order.now) }
-    ensures { IfOk result (λ c. c ≡ command_to target (option_map (λ r. r.now) reply.entry) (order_view order.now)) }
-{
-    let path = path_back(reply);
-    let reply_address = padded(alloc, path)?;
-    let action = &order.action;
-    let instruction = instruction(action.is_write(), action.wants_reply(), units(path));
-    let command = Command::new(
-        target.logical,
-        instruction,
-        target.key,
-        &reply_address,
-        initiator_of(reply),
-        order.transaction,
-        order.address,
-        action.length() as u32,
-    );
-    Ok(command.unwrap())
-}
-
 /// The bytes of the command that is asked for.
 ///
 /// # Errors
@@ -100,6 +73,20 @@ pub(crate) fn bytes_to(
     requires small { IsSmall (order_view order.now) }
     ensures { IfOk result (λ v. v.items ≡ bytes_to target (option_map (λ r. r.now) reply.entry) (order_view order.now)) }
 {
-    let command = command_to(alloc, target, reply, order)?;
-    write_command(alloc, &command, order.action.data())
+    let path = path_back(reply);
+    let reply_address = padded(alloc, path)?;
+    let action = &order.action;
+    let instruction = instruction(action.is_write(), action.wants_reply(), units(path));
+    let command = Command::new(
+        target.logical,
+        instruction,
+        target.key,
+        &reply_address,
+        initiator_of(reply),
+        order.transaction,
+        order.address,
+        action.length() as u32,
+    )
+    .unwrap();
+    write_command(alloc, &command, action.data())
 }

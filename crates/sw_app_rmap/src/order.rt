@@ -91,32 +91,16 @@ fn action_of(alloc: Global, access: &Access<'_>) -> Result<Action, RmapError>
 }
 
 // The transaction identifier; 0 where none is given.
-fn transaction_of(word: Option<&str>) -> Option<u64>
-    ensures value { result ≡ transaction_of (option_map (λ w. w.now) word.entry) }
-    ensures within { IfSome result (λ n. n ≤ MAX_TRANSACTION) }
+fn transaction_of(word: Option<&str>) -> Option<u16>
+    ensures { result ≡ transaction_of (option_map (λ w. w.now) word.entry) }
 {
-    match word {
-        None => Some(0),
-        Some(word) => number_of(word, MAX_TRANSACTION),
-    }
-}
-
-fn address_at(word: &str) -> Result<u64, RmapError>
-    ensures { Gives (λ n. n) result (ok_or (number_of MAX_ADDRESS word.now) RmapFault.BadAddress) }
-{
-    match number_of(word, MAX_ADDRESS) {
-        Some(address) => Ok(address),
-        None => Err(RmapError::Fault(RmapFault::BadAddress)),
-    }
-}
-
-fn transaction_at(word: Option<&str>) -> Result<u16, RmapError>
-    ensures { Gives (λ n. n) result (ok_or (transaction_of (option_map (λ w. w.now) word.entry)) RmapFault.BadTransaction) }
-{
-    match transaction_of(word) {
-        Some(transaction) => Ok(transaction as u16),
-        None => Err(RmapError::Fault(RmapFault::BadTransaction)),
-    }
+    let Some(word) = word else {
+        return Some(0);
+    };
+    let Some(transaction) = number_of(word, MAX_TRANSACTION) else {
+        return None;
+    };
+    Some(transaction as u16)
 }
 
 /// What the words ask for: the address is read first, then the length or the data, then the transaction identifier.
@@ -128,9 +112,13 @@ fn transaction_at(word: Option<&str>) -> Result<u16, RmapError>
 pub(crate) fn order_of(alloc: Global, request: &Request<'_>) -> Result<Order, RmapError>
     ensures { Gives order_view result (order_of request.now) }
 {
-    let address = address_at(request.address)?;
+    let Some(address) = number_of(request.address, MAX_ADDRESS) else {
+        return Err(RmapError::Fault(RmapFault::BadAddress));
+    };
     let action = action_of(alloc, &request.access)?;
-    let transaction = transaction_at(request.transaction)?;
+    let Some(transaction) = transaction_of(request.transaction) else {
+        return Err(RmapError::Fault(RmapFault::BadTransaction));
+    };
     Ok(Order {
         address,
         action,

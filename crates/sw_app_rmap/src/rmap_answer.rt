@@ -9,7 +9,7 @@ ghost use Rattle.sw_app_rmap.specs.EntryTexts.{fault_line};
 ghost use Rattle.sw_command.specs.Ends.{Says};
 
 use crate::entry_texts::entry_text;
-use crate::fault::{RmapError, RmapFault, fault_line};
+use crate::fault::{RmapError, RmapFault, fault_words};
 use crate::packet::{FlowPacket, packet_of};
 use crate::request::Request;
 use std::alloc::{AllocError, Global};
@@ -23,7 +23,8 @@ use sw_toml_table::FileFault;
 fn fault_answer(alloc: Global, fault: RmapFault) -> Result<Answer, AllocError>
     ensures { IfOk result (λ a. Says (fault_line fault) 3 (string_bytes a.text) a.status) }
 {
-    let text = fault_line(alloc, fault)?;
+    let words = fault_words(fault);
+    let text = format!(in alloc; "fault {words}\n")?;
     Ok(Answer {
         text,
         status: FAULTY,

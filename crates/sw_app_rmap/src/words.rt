@@ -1,7 +1,7 @@
 //! Numbers as words.
-ghost use Rattle.std.specs.Prelude.{◌≡◌, ◌&&◌, ◌≤◌, ◌<◌, ◌^◌, IfSome, Some, None, if◌then◌else◌, nat_lt};
+ghost use Rattle.std.specs.Prelude.{◌≡◌, ◌≤◌, ◌<◌, ◌^◌, IfSome, Some, None, if◌then◌else◌, nat_lt};
 ghost use Rattle.std.specs.Char.{digit_value};
-ghost use Rattle.sw_app_rmap.specs.Words.{digits_of, goes_on, is_hexadecimal, number_of};
+ghost use Rattle.sw_app_rmap.specs.Words.{digits_of, goes_on, number_of};
 
 // What a digit of this base is worth.
 fn digit(c: u8, base: u32) -> Option<u64>
@@ -47,12 +47,6 @@ fn digits_of(digits: &[u8], base: u32, limit: u64) -> Option<u64>
     }
 }
 
-fn is_hexadecimal(word: &[u8]) -> bool
-    ensures { result ≡ is_hexadecimal word.now }
-{
-    word.starts_with(b"0x")
-}
-
 /// The number up to the limit that the word writes: decimal digits, or `0x` and hexadecimal digits in either case.
 pub(crate) fn number_of(word: &str, limit: u64) -> Option<u64>
     requires { limit < 2 ^ 40 }
@@ -60,7 +54,7 @@ pub(crate) fn number_of(word: &str, limit: u64) -> Option<u64>
     ensures within { IfSome result (λ n. n ≤ limit) }
 {
     let bytes = word.as_bytes();
-    if is_hexadecimal(bytes) {
+    if bytes.starts_with(b"0x") {
         digits_of(&bytes[2..], 16, limit)
     } else {
         digits_of(bytes, 10, limit)
