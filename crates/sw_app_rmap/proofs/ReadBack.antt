@@ -1,6 +1,6 @@
 -- The table of a packet's entry is read back as a load of that packet.
 use Rattle.std.proofs.Common.{◌≡◌, ℕ, ◌+◌, ◌*◌, ◌/◌, ◌%◌, ◌<◌, ◌≤◌, Bool, true, false, not, ◌&&◌, List, [], ◌∷◌, length, Option, Some, None, refl, ap, inl, arith, suc}
-use Rattle.std.specs.Prelude.{Result, Ok, Err, IfOk, ◌==◌, slice_index, unwrap_or, position}
+use Rattle.std.specs.Prelude.{Ok, ◌==◌, slice_index, unwrap_or, position}
 use Rattle.std.specs.Str.{bytes_eq}
 use Rattle.std.proofs.lemmas.Bool.{agree_below_at, and_parts, eqb-true, not-true}
 use Rattle.hex.specs.Hex.{encode_upper, encode_with, upper_digits}
@@ -77,8 +77,3 @@ reads_back cargo_is_read d name i cargo text named declared bytes few document =
 pub are_bytes : (bytes : List ℕ) → ((k : ℕ) → slice_index bytes k < 256) → IsBytes bytes
 are_bytes [] h = tt
 are_bytes (b ∷ bytes) h = (h 0, are_bytes bytes (λ k. h (suc k)))
-
--- what holds of a value that has both
-pub if_both : {A E : Type 0} {P Q R : A → Type 0} (r : Result A E) → IfOk r P → IfOk r Q → ((x : A) → P x → Q x → R x) → IfOk r R
-if_both (Ok x) p q f = f x p q
-if_both (Err e) p q f = tt

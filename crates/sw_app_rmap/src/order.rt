@@ -1,7 +1,6 @@
 //! What is asked for, as numbers and bytes.
-ghost use Rattle.std.specs.Prelude.{◌≡◌, ◌≤◌, ◌<◌, ◌^◌, IfOk, IfSome, option_map};
-ghost use Rattle.sw_app_rmap.specs.Told.{Gives, ok_or};
-ghost use Rattle.sw_app_rmap.specs.Words.{number_of};
+ghost use Rattle.std.specs.Prelude.{◌≡◌, option_map};
+ghost use Rattle.sw_app_rmap.specs.Told.{Gives};
 ghost use Rattle.sw_app_rmap.specs.Orders.{action_of, action_view, data_of, is_write, length_of, order_of, order_view, transaction_of, wants_reply};
 
 use crate::fault::{RmapError, RmapFault};
