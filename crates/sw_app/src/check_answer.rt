@@ -1,6 +1,5 @@
 //! What `check` answers.
 ghost use Rattle.std.specs.Prelude.{◌≡◌, IfOk, IsSomeAnd, string_bytes};
-ghost use Rattle.sw_file.specs.Network.{network_text};
 ghost use Rattle.sw_cert.specs.Text.{read_text};
 ghost use Rattle.sw_machine.specs.Certificate.{IsAccepted};
 ghost use Rattle.sw_machine.specs.DeadlockFreedom.{IsDeadlockFree};
@@ -9,13 +8,13 @@ ghost use Rattle.sw_check.specs.Contents.{certificate_of};
 ghost use Rattle.sw_check.specs.Refusals.{refusal_of};
 ghost use Rattle.sw_command.specs.Ends.{IfLimited};
 ghost use Rattle.sw_command.specs.Inputs.{given};
-ghost use Rattle.sw_app.specs.CheckAnswers.{AreShownDeadlockFree, IsCertificateAnswer, IsCheckAnswer, IsJudgement, IsNetworkAnswer, IsShownDeadlockFree};
+ghost use Rattle.sw_app.specs.CheckAnswers.{AreShownDeadlockFree, IsCertificateAnswer, IsCheckAnswer, IsJudgement, IsShownDeadlockFree};
 
-use crate::check_texts::{grammar_line, refusal_line};
+use crate::check_texts::{grammar_words, refusal_words, refused};
 use std::alloc::{AllocError, Global};
 use sw_cert::{Certificate, CertificateFault};
 use sw_check::check;
-use sw_command::statuses::{BAD, GOOD};
+use sw_command::statuses::GOOD;
 use sw_command::{Answer, InputText, fault_answer};
 use sw_config::Network;
 use sw_file::read_network;
@@ -40,29 +39,9 @@ fn judgement<W: VerdictWorkers>(
             Ok(Answer { text, status: GOOD })
         }
         Err(refusal) => {
-            let text = refusal_line(alloc, network, refusal)?;
-            Ok(Answer { text, status: BAD })
+            let words = refusal_words(alloc, network, refusal)?;
+            refused(words)
         }
-    }
-}
-
-// The answer for the text of a certificate.
-fn certificate_answer<W: VerdictWorkers>(
-    workers: &W,
-    alloc: Global,
-    network: &Network,
-    text: &[u8],
-) -> Result<Answer, AllocError>
-    ensures answer { IfOk result (λ a. IsCertificateAnswer network.now (read_text text.now) (string_bytes a.text) a.status) }
-    ensures deadlock_free { IfOk result (λ a. a.status ≡ 0 → IsShownDeadlockFree network.now text.now) }
-{
-    match Certificate::read_by(workers, alloc, text) {
-        Ok(certificate) => judgement(workers, alloc, network, &certificate),
-        Err(CertificateFault::Grammar(number)) => {
-            let text = grammar_line(alloc, number)?;
-            Ok(Answer { text, status: BAD })
-        }
-        Err(CertificateFault::Memory) => Err(AllocError),
     }
 }
 
@@ -76,29 +55,16 @@ fn network_answer<W: VerdictWorkers>(
     ensures answer { IfOk result (λ a. IfLimited (given second.now) (λ bytes. IsCertificateAnswer network.now (read_text bytes)) (string_bytes a.text) a.status) }
     ensures deadlock_free { IfOk result (λ a. a.status ≡ 0 → IsSomeAnd (given second.now) (IsShownDeadlockFree network.now)) }
 {
-    match second {
-        InputText::Whole(text) => certificate_answer(workers, alloc, network, text),
-        InputText::TooLong => Answer::of_long_text(alloc),
-    }
-}
-
-// The answer for the bytes of a network file and the second text.
-fn file_answer<W: VerdictWorkers>(
-    workers: &W,
-    alloc: Global,
-    first: &[u8],
-    second: &InputText,
-) -> Result<Answer, AllocError>
-    ensures answer { IfOk result (λ a. IsNetworkAnswer (given second.now) (network_text first.now) (string_bytes a.text) a.status) }
-    ensures deadlock_free { IfOk result (λ a. a.status ≡ 0 → IsSomeAnd (given second.now) (AreShownDeadlockFree first.now)) }
-{
-    match read_network(alloc, first) {
-        Ok(network) => {
-            let answer = network_answer(workers, alloc, &network, second);
-            network.discard();
-            answer
+    let InputText::Whole(text) = second else {
+        return Answer::of_long_text(alloc);
+    };
+    match Certificate::read_by(workers, alloc, text) {
+        Ok(certificate) => judgement(workers, alloc, network, &certificate),
+        Err(CertificateFault::Grammar(number)) => {
+            let words = grammar_words(alloc, number)?;
+            refused(words)
         }
-        Err(fault) => fault_answer(alloc, fault),
+        Err(CertificateFault::Memory) => Err(AllocError),
     }
 }
 
@@ -112,8 +78,15 @@ pub(crate) fn check_answer<W: VerdictWorkers>(
     ensures answer { IfOk result (λ a. IsCheckAnswer (given first.now) (given second.now) (string_bytes a.text) a.status) }
     ensures deadlock_free { IfOk result (λ a. a.status ≡ 0 → IsSomeAnd (given first.now) (λ bytes. IsSomeAnd (given second.now) (AreShownDeadlockFree bytes))) }
 {
-    match first {
-        InputText::Whole(text) => file_answer(workers, alloc, text, second),
-        InputText::TooLong => Answer::of_long_text(alloc),
+    let InputText::Whole(text) = first else {
+        return Answer::of_long_text(alloc);
+    };
+    match read_network(alloc, text) {
+        Ok(network) => {
+            let answer = network_answer(workers, alloc, &network, second);
+            network.discard();
+            answer
+        }
+        Err(fault) => fault_answer(alloc, fault),
     }
 }

@@ -1,10 +1,13 @@
-//! The text of `check`.
+//! The texts of `check`.
 ghost use Rattle.std.specs.Prelude.{◌≡◌, ◌∷◌, [], IfOk, string_bytes};
+ghost use Rattle.sw_command.specs.Ends.{Says};
 ghost use Rattle.sw_output.specs.Lines.{line};
-ghost use Rattle.sw_app.specs.CheckTexts.{grammar_line, grammar_words, not_rising_words, refusal_line, refusal_words};
+ghost use Rattle.sw_app.specs.CheckTexts.{grammar_words, not_rising_words, refusal_words};
 
 use std::alloc::{AllocError, Global};
 use sw_check::Refusal;
+use sw_command::Answer;
+use sw_command::statuses::BAD;
 use sw_config::Network;
 use sw_flow::{Place, RouteFault};
 use sw_output::{flow_name, place_words, route_fault_text};
@@ -83,29 +86,11 @@ pub fn refusal_words(
     }
 }
 
-// A line of these words.
-fn words_line(alloc: Global, words: &str) -> Result<String, AllocError>
-    ensures { IfOk result (λ s. string_bytes s ≡ line (words.now ∷ [])) }
+/// The answer that a certificate is refused, with a line of these words.
+pub(crate) fn refused(words: String) -> Result<Answer, AllocError>
+    ensures { IfOk result (λ a. Says (line (string_bytes words ∷ [])) 1 (string_bytes a.text) a.status) }
 {
-    format!(in alloc; "{words}\n")
-}
-
-/// The line for a text that is no certificate: the first line that is wrong.
-pub(crate) fn grammar_line(alloc: Global, number: usize) -> Result<String, AllocError>
-    ensures { IfOk result (λ s. string_bytes s ≡ grammar_line number) }
-{
-    let words = grammar_words(alloc, number)?;
-    words_line(alloc, words.as_str())
-}
-
-/// The line for a certificate that is refused.
-pub(crate) fn refusal_line(
-    alloc: Global,
-    network: &Network,
-    refusal: Refusal,
-) -> Result<String, AllocError>
-    ensures { IfOk result (λ s. string_bytes s ≡ refusal_line network.now refusal) }
-{
-    let words = refusal_words(alloc, network, refusal)?;
-    words_line(alloc, words.as_str())
+    let mut text = words;
+    text.push_str("\n")?;
+    Ok(Answer { text, status: BAD })
 }
