@@ -1,5 +1,5 @@
 -- What a text of places says of a flow.
-use Rattle.std.proofs.Common.{◌≡◌, ℕ, ◌<◌, List, [], ◌∷◌, ◌++◌, ap, ◌∙◌, append_assoc, arith, inl, inr, length, refl, subst, sym}
+use Rattle.std.proofs.Common.{◌≡◌, ℕ, ◌<◌, List, [], ◌∷◌, ◌++◌, ap, ◌∙◌, append-nil, append_assoc, arith, inl, inr, length, refl, subst, sym, take}
 use Rattle.std.specs.Prelude.{codes, flat_map, position, slice_get, Err, IfOk, IfSome, None, Ok, Option, Result, Some}
 use Rattle.std.specs.Str.{bytes_eq}
 use Rattle.std.proofs.lemmas.Option.{slice_get_cases}
@@ -11,17 +11,17 @@ use Rattle.sw_flow.specs.Places.{IsPlaceList, IsPlacesOf}
 use Rattle.sw_app.proofs.NamedFlows.{find_by-none, find_by-some}
 use Rattle.sw_output.specs.Lines.{line}
 use Rattle.sw_app.specs.RouteAnswers.{IsFlowAnswer, IsFoundAnswer, IsNamedAnswer}
-use Rattle.sw_app.specs.RouteTexts.{outcome_line, outcome_status, place_line, text_of}
+use Rattle.sw_app.specs.RouteTexts.{outcome_status, text_of}
 
--- the text of a flow's name, the lines of its places and the last line
-pub text_is : (d : Declaration) (f : FlowEntry) (places : List Place) (fault : Option (Place × RouteFault)) (name lines outcome : List ℕ) → name ≡ f.name
-    → lines ≡ flat_map (place_line d) places → outcome ≡ outcome_line fault
-    → codes "flow " ++ (name ++ (codes "\n" ++ (lines ++ outcome))) ≡ text_of d f places fault
-text_is d f places fault name lines outcome named all_are last_is =
-    ap (λ n. codes "flow " ++ (n ++ (codes "\n" ++ (lines ++ outcome)))) named
-    ∙ ap (λ l. codes "flow " ++ (f.name ++ (codes "\n" ++ (l ++ outcome)))) all_are
-    ∙ ap (λ l. codes "flow " ++ (f.name ++ (codes "\n" ++ (flat_map (place_line d) places ++ l)))) last_is
-    ∙ ap (λ l. codes "flow " ++ l) (sym (append_assoc f.name (codes "\n") (flat_map (place_line d) places ++ outcome_line fault)))
+-- the first line of a text of places, with a flow's name
+pub first_line : {X : Type 0} (f : FlowEntry) (lines : X → List ℕ) (xs : List X) (name text : List ℕ) → name ≡ f.name
+    → text ≡ codes "flow " ++ (name ++ codes "\n") → text ≡ line (codes "flow" ∷ f.name ∷ []) ++ flat_map lines (take 0 xs)
+first_line f lines xs name text named is =
+    is ∙ ap (λ n. codes "flow " ++ (n ++ codes "\n")) named ∙ sym (append-nil (line (codes "flow" ∷ f.name ∷ [])))
+
+-- the last line behind all others
+pub last_line : (first lines outcome before after : List ℕ) → before ≡ first ++ lines → after ≡ before ++ outcome → after ≡ first ++ (lines ++ outcome)
+last_line first lines outcome before after so_far more = more ∙ ap (λ l. l ++ outcome) so_far ∙ append_assoc first lines outcome
 
 -- what holds of the flow that is there
 pub at_flow : (o : Option FlowEntry) (f : FlowEntry) (P : FlowEntry → Type 0) → o ≡ Some f → P f → IfSome o P

@@ -1,7 +1,6 @@
 //! What `route` answers.
-ghost use Rattle.std.specs.Prelude.{◌≡◌, ◌<◌, IfOk, IfSome, length, slice_get, string_bytes};
-ghost use Rattle.sw_config.specs.Entries.{all_flows};
-ghost use Rattle.sw_app.specs.RouteAnswers.{IsFlowAnswer, IsNamedAnswer, IsRouteAnswer};
+ghost use Rattle.std.specs.Prelude.{◌≡◌, IfOk, string_bytes};
+ghost use Rattle.sw_app.specs.RouteAnswers.{IsNamedAnswer, IsRouteAnswer};
 ghost use Rattle.sw_app.specs.RouteTexts.{outcome_status};
 
 use crate::route_texts::route_text;
@@ -21,11 +20,17 @@ fn status_of(fault: &Option<(Place, RouteFault)>) -> u8
     }
 }
 
-// The answer for a flow.
-fn flow_answer(alloc: Global, network: &Network, number: u16) -> Result<Answer, AllocError>
-    requires { number < length (all_flows network.now) }
-    ensures { IfOk result (λ a. IfSome (slice_get (all_flows network.now) number) (λ f. IsFlowAnswer network.now f (string_bytes a.text) a.status)) }
+// The answer for the flow of that name.
+fn named_answer(alloc: Global, network: &Network, name: &str) -> Result<Answer, AllocError>
+    ensures { IfOk result (λ a. IsNamedAnswer name.now network.now (string_bytes a.text) a.status) }
 {
+    let Some(number) = network.flow_named(name) else {
+        let text = String::from_str(alloc, "fault F7 UnknownName argument\n")?;
+        return Ok(Answer {
+            text,
+            status: FAULTY,
+        });
+    };
     let flow = network.flow(number);
     let listed = places(alloc, network, number)?;
     let places = listed.as_slice();
@@ -33,22 +38,6 @@ fn flow_answer(alloc: Global, network: &Network, number: u16) -> Result<Answer, 
     let status = status_of(&fault);
     let text = route_text(alloc, network, flow, places, fault)?;
     Ok(Answer { text, status })
-}
-
-// The answer for the flow of that name.
-fn named_answer(alloc: Global, network: &Network, name: &str) -> Result<Answer, AllocError>
-    ensures { IfOk result (λ a. IsNamedAnswer name.now network.now (string_bytes a.text) a.status) }
-{
-    match network.flow_named(name) {
-        Some(number) => flow_answer(alloc, network, number),
-        None => {
-            let text = String::from_str(alloc, "fault F7 UnknownName argument\n")?;
-            Ok(Answer {
-                text,
-                status: FAULTY,
-            })
-        }
-    }
 }
 
 /// The answer to the bytes of a network file.

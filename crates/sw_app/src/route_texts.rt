@@ -1,5 +1,5 @@
 //! The text of `route`.
-ghost use Rattle.std.specs.Prelude.{◌≡◌, ◌++◌, ◌<◌, All, IfOk, flat_map, length, string_bytes};
+ghost use Rattle.std.specs.Prelude.{◌≡◌, ◌++◌, ◌<◌, All, IfOk, length, string_bytes};
 ghost use Rattle.sw_config.specs.Entries.{wiring_of};
 ghost use Rattle.sw_app.specs.RouteTexts.{outcome_line, place_line, text_of};
 
@@ -25,35 +25,17 @@ fn add_place(
     write!(text, "place {channel} {deleted} {ends}\n")
 }
 
-// A line for each place.
-fn places_text(alloc: Global, network: &Network, places: &[Place]) -> Result<String, AllocError>
-    requires { All (λ p. p.channel < length (wiring_of network.now).ends) places.now }
-    ensures { IfOk result (λ s. string_bytes s ≡ flat_map (place_line network.now) places.now) }
+// Adds the last line: `routed`, or the place with a fault.
+fn add_outcome(fault: Option<(Place, RouteFault)>, text: &mut String) -> Result<(), AllocError>
+    ensures { IfOk result (λ _. string_bytes text.new ≡ string_bytes text.old ++ outcome_line fault) }
 {
-    let mut text = String::new(alloc);
-    for place in places {
-        add_place(alloc, network, *place, &mut text)?;
-    }
-    Ok(text)
-}
-
-fn misrouted_line(alloc: Global, place: Place, fault: RouteFault) -> Result<String, AllocError>
-    ensures { IfOk result (λ s. string_bytes s ≡ outcome_line (Some (place, fault))) }
-{
+    let Some((place, fault)) = fault else {
+        return text.push_str("routed\n");
+    };
     let channel = place.channel.number();
     let deleted = place.deleted;
     let name = route_fault_text(fault);
-    format!(in alloc; "misrouted {channel} {deleted} {name}\n")
-}
-
-// The last line: `routed`, or the place with a fault.
-fn outcome_line(alloc: Global, fault: Option<(Place, RouteFault)>) -> Result<String, AllocError>
-    ensures { IfOk result (λ s. string_bytes s ≡ outcome_line fault) }
-{
-    match fault {
-        None => String::from_str(alloc, "routed\n"),
-        Some((place, fault)) => misrouted_line(alloc, place, fault),
-    }
+    write!(text, "misrouted {channel} {deleted} {name}\n")
 }
 
 /// The flow's name, a line for each of the places, and the fault, if there is one.
@@ -68,7 +50,10 @@ pub(crate) fn route_text(
     ensures { IfOk result (λ s. string_bytes s ≡ text_of network.now flow.now places.now fault) }
 {
     let name = flow.name();
-    let lines = places_text(alloc, network, places)?;
-    let outcome = outcome_line(alloc, fault)?;
-    format!(in alloc; "flow {name}\n{lines}{outcome}")
+    let mut text = format!(in alloc; "flow {name}\n")?;
+    for place in places {
+        add_place(alloc, network, *place, &mut text)?;
+    }
+    add_outcome(fault, &mut text)?;
+    Ok(text)
 }

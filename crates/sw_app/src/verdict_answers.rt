@@ -6,7 +6,7 @@ ghost use Rattle.sw_command.specs.Told.{IsFaultAnswer};
 ghost use Rattle.sw_app.specs.VerdictAnswers.{IsDecideAnswer, IsFindingsAnswer, IsReportAnswer, IsVerdictAnswer, SaysFindings};
 
 use crate::kept::kept_network;
-use crate::verdict_texts::{verdict_status, verdict_text, verdict_words};
+use crate::verdict_texts::{told_verdict, verdict_words};
 use std::alloc::{AllocError, Global};
 use sw_command::statuses::GOOD;
 use sw_command::{Answer, ByteAnswer, fault_answer};
@@ -28,9 +28,7 @@ fn verdict_answer<W: VerdictWorkers>(
     // Names the network, which is valid by its type.
     let _topology = network.topology();
     let verdict = decide(workers, alloc, network)?;
-    let status = verdict_status(&verdict);
-    let text = verdict_text(alloc, network, &verdict)?;
-    Ok(ByteAnswer { text, status })
+    told_verdict(alloc, network, &verdict)
 }
 
 // The answer to a text that was not read as a network, as bytes.

@@ -1,12 +1,16 @@
 use Rattle.std.proofs.Common.{sym}
-use Rattle.sw_app.proofs.FlowAnswers.{each_ok, found_answer, missing_answer}
+use Rattle.sw_app.proofs.FlowAnswers.{at_flow, found_answer, missing_answer, numbered_answer}
+use Rattle.sw_app.proofs.PlaceChannels.{listed_within}
 use Rattle.sw_app.proofs.route_answer.named_answer.Goals as goal
 
-pub returns-in-Some : goal.returns-in-Some
-returns-in-Some c =
-    each_ok c.flow_answer.result _ _
-    (λ a answer. found_answer c.args.name.now c.args.network.now c.in-Some.number _ a.status (sym c.in-Some.ensures.number) c.in-Some.ensures.within answer)
-    c.flow_answer.ensures
+pub returns-in_default : goal.returns-in_default
+returns-in_default c = missing_answer c.args.name.now c.args.network.now _ (sym c.in_default.ensures.number) c.in_ok-text.ensures.ok
 
-pub returns-in_ok-text-in-None : goal.returns-in_ok-text-in-None
-returns-in_ok-text-in-None c = missing_answer c.args.name.now c.args.network.now _ (sym c.in-None.ensures.number) c.in_ok-text-in-None.ensures.ok
+pub route_text-requires : goal.route_text-requires
+route_text-requires c = listed_within c.args.network.now c.in-Some.number _ _ c.in_ok-listed.ensures c.as_slice-places.ensures.value
+
+pub returns : goal.returns
+returns c =
+    found_answer c.args.name.now c.args.network.now c.in-Some.number _ c.status_of-status.result (sym c.in-Some.ensures.number) c.in-Some.ensures.within
+    (numbered_answer c.args.network.now c.in-Some.number _ _ c.first_fault-fault.result _ _ c.in_ok-listed.ensures c.as_slice-places.ensures.value
+    c.first_fault-fault.ensures (at_flow _ c.flow-flow.result.now _ c.flow-flow.ensures.flow c.in_ok-text-2.ensures) c.status_of-status.ensures)
