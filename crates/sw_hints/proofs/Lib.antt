@@ -1,4 +1,5 @@
 pub mod Firsts
+pub mod Heads
 pub mod Named
 pub mod Noted
 pub mod Pieces

@@ -1,15 +1,28 @@
 -- A test of what elements are, and of the elements.
-use Rattle.std.proofs.Common.{◌≡◌, ◌∙◌, ◌+◌, ◌++◌, ◌<◌, ◌≤◌, ℕ, List, Bool, true, false, codes, cond, get_or, length, map, take, [], ◌∷◌, ap, refl, sym, ◌||◌}
-use Rattle.std.specs.List.{list_any}
+use Rattle.std.proofs.Common.{◌≡◌, ◌∙◌, ◌+◌, ◌++◌, ◌<◌, ◌≤◌, ◌-◌, ℕ, Bor, List, Bool, true, false, codes, cond, get_or, length, map, take, [], ◌∷◌, ap, append_assoc, arith, drop, refl, sym, ◌||◌}
+use Rattle.sw_toml_table.specs.declared.keys.Key.{Key}
+use Rattle.sw_toml_table.specs.declared.keys.Section.{Section}
+use Rattle.sw_toml_table.specs.Keys.{key_text}
+use Rattle.sw_toml_table.specs.Table.{is_known}
+use Rattle.std.specs.List.{flat_map, list_any}
 use Rattle.std.specs.Str.{bytes_eq}
-use Rattle.std.proofs.lemmas.List.{take_all}
+use Rattle.std.proofs.lemmas.List.{take_all, take_rest}
 use Rattle.std.proofs.lemmas.List.Folds.{list_any_at, list_any_more}
-use Rattle.sw_hints.specs.Helps.{meant_help, node_help}
+use Rattle.sw_hints.specs.FaultWords.{one_of}
+use Rattle.sw_hints.specs.Helps.{key_help, meant_help, node_help}
+use Rattle.sw_hints.specs.KeyWords.{keys_of, new_keys_of, outer_keys, port_keys}
 use Rattle.sw_hints.specs.Nearest.{like}
 
 pub any_of_map : {A B : Type 0} (f : A → B) (test : B → Bool) (xs : List A) → list_any (λ x. test (f x)) xs ≡ list_any test (map f xs)
 any_of_map f test [] = refl
 any_of_map f test (x ∷ xs) = ap (λ b. test (f x) || b) (any_of_map f test xs)
+
+-- a name among those that were read
+pub any_of_names : (name : List ℕ) (lent read : List (Bor (List ℕ))) (names : List (List ℕ)) → lent ≡ read → map (λ t. t.now) read ≡ names
+    → list_any (λ t. bytes_eq t.now name) lent ≡ list_any (λ t. bytes_eq t name) names
+any_of_names name lent read names same is =
+    any_of_map (λ t. t.now) (λ t. bytes_eq t name) lent ∙ ap (λ l. list_any (λ t. bytes_eq t name) (map (λ t. t.now) l)) same
+    ∙ ap (list_any (λ t. bytes_eq t name)) is
 
 -- one passes, none up to one more does, or none at all
 module _ {A : Type 0} (test : A → Bool) where
@@ -25,12 +38,38 @@ module _ {A : Type 0} (test : A → Bool) where
 
 -- a name of no node that a switch has, and one that none has
 pub switch_told : (name : List ℕ) (nodes switches : List (List ℕ)) → true ≡ list_any (λ s. bytes_eq s name) switches
-    → codes "'" ++ (name ++ codes "' is a switch: flows go from a node to a node") ≡ node_help name nodes switches
+    → codes "'" ++ (take (length name) name ++ codes "' is a switch: flows go from a node to a node") ≡ node_help name nodes switches
 switch_told name nodes switches named =
-    ap (λ b. cond b (codes "'" ++ (name ++ codes "' is a switch: flows go from a node to a node")) (meant_help (like name nodes))) named
+    ap (λ n. codes "'" ++ (n ++ codes "' is a switch: flows go from a node to a node")) (take_all (length name) name (omega arith))
+    ∙ ap (λ b. cond b (codes "'" ++ (name ++ codes "' is a switch: flows go from a node to a node")) (meant_help (like name nodes))) named
 
 pub like_told : (name : List ℕ) (read nodes switches : List (List ℕ)) → read ≡ nodes → false ≡ list_any (λ s. bytes_eq s name) switches
     → meant_help (like name read) ≡ node_help name nodes switches
 like_told name read nodes switches is none =
     ap (λ l. meant_help (like name l)) is
     ∙ ap (λ b. cond b (codes "'" ++ (name ++ codes "' is a switch: flows go from a node to a node")) (meant_help (like name nodes))) none
+
+-- none of the keys is written so
+pub not_known : (name : List ℕ) (keys read : List Key) (b : Bool) → b ≡ is_known read name → read ≡ keys → b ≡ false → is_known keys name ≡ false
+not_known name keys read b is same none = sym (is ∙ ap (λ l. is_known l name) same) ∙ none
+
+last_of : (a b c : Bool) (x y z w : List ℕ) → a ≡ false → b ≡ false → c ≡ false → w ≡ cond a x (cond b y (cond c z w))
+last_of a b c x y z w first second third =
+    sym (ap (λ t. cond t x (cond b y (cond c z w))) first ∙ ap (λ t. cond t y (cond c z w)) second ∙ ap (λ t. cond t z w) third)
+
+-- a key that is known nowhere else
+pub unknown_told : (section : Section) (name : List ℕ) (read : List (List ℕ)) → is_known (new_keys_of section) name ≡ false
+    → is_known (port_keys section) name ≡ false → is_known (outer_keys section) name ≡ false → read ≡ map key_text (keys_of section)
+    → meant_help (like name read) ≡ key_help section name
+unknown_told section name read new port outer is =
+    ap (λ l. meant_help (like name l)) is ∙ last_of (is_known (new_keys_of section) name) (is_known (port_keys section) name) (is_known (outer_keys section) name) _ _ _ _ new port outer
+
+-- the first key, and the others with a comma before each
+pub all_listed : (keys : List Key) (i : ℕ) (d : Key) (start made : List ℕ) → 1 ≤ length keys → start ≡ codes "one of " ++ key_text (get_or keys 0 d)
+    → length (take (length keys - 1) (drop 1 keys)) ≤ i
+    → made ≡ start ++ flat_map (λ k. codes ", " ++ key_text k) (take i (take (length keys - 1) (drop 1 keys))) → made ≡ one_of keys
+all_listed [] i d start made some first past so_far = absurd (omega arith)
+all_listed (key ∷ keys) i d start made some first past so_far =
+    so_far ∙ ap (λ l. start ++ flat_map (λ k. codes ", " ++ key_text k) l) (take_all i (take (length (key ∷ keys) - 1) keys) past ∙ take_rest (key ∷ keys) 1)
+    ∙ ap (λ l. l ++ flat_map (λ k. codes ", " ++ key_text k) keys) first
+    ∙ append_assoc (codes "one of ") (key_text key) (flat_map (λ k. codes ", " ++ key_text k) keys)

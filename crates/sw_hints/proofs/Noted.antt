@@ -1,6 +1,6 @@
 -- The lines of notes, with one more.
-use Rattle.std.proofs.Common.{◌∙◌, ◌<◌, ◌+◌, ◌++◌, ℕ, List, [], ◌∷◌, ap, get_or, length, refl, sym, take}
-use Rattle.std.proofs.lemmas.List.{append-nil, append_assoc, take_more}
+use Rattle.std.proofs.Common.{◌∙◌, ◌<◌, ◌≤◌, ◌+◌, ◌++◌, ℕ, List, [], ◌∷◌, ap, get_or, length, refl, subst, sym, take}
+use Rattle.std.proofs.lemmas.List.{append-nil, append_assoc, take_all, take_more}
 use Rattle.sw_notes.specs.declared.note.Note.{Note}
 use Rattle.sw_hints.specs.NoteLines.{AreNoteLines, IsNoteLine}
 
@@ -14,3 +14,7 @@ pub lines_more : (text : List ℕ) (notes : List Note) (i : ℕ) (d : Note) (lin
     → AreNoteLines text (take i notes) lines → IsNoteLine text (get_or notes i d) line → AreNoteLines text (take (i + 1) notes) (lines ++ line)
 lines_more text notes i d lines line within is one =
     rw (take_more notes i d within) (lines_with text (take i notes) (get_or notes i d) lines line is one)
+
+-- where all were walked over
+pub lines_all : (text : List ℕ) (notes : List Note) (i : ℕ) (lines : List ℕ) → length notes ≤ i → AreNoteLines text (take i notes) lines → AreNoteLines text notes lines
+lines_all text notes i lines past are = subst (λ l. AreNoteLines text l lines) (take_all i notes past) are

@@ -1,7 +1,7 @@
 -- What each of a list brings.
-use Rattle.std.proofs.Common.{◌≡◌, ◌∙◌, ◌<◌, ◌≤◌, ◌+◌, ◌++◌, ℕ, List, [], ◌∷◌, sym, ap, get_or, length, take}
+use Rattle.std.proofs.Common.{◌≡◌, ◌∙◌, ◌<◌, ◌≤◌, ◌+◌, ◌++◌, ℕ, List, [], ◌∷◌, sym, ap, get_or, length, map, take}
 use Rattle.std.specs.List.{flat_map}
-use Rattle.std.proofs.lemmas.List.{take_all, take_more, append-nil}
+use Rattle.std.proofs.lemmas.List.{append-nil, flat_map_more, map_more, map_push, take_all, take_more}
 use Rattle.std.proofs.lemmas.List.Concat.{flat_map-append}
 
 one_more : {T A : Type 0} (h : T → List A) (ts : List T) (i : ℕ) (d : T) → i < length ts
@@ -18,3 +18,39 @@ added_more h ts i d before after within so_far adds = adds ∙ ap (λ l. l ++ h 
 -- where all were walked over
 pub all_added : {T A : Type 0} (h : T → List A) (ts : List T) (i : ℕ) (made : List A) → length ts ≤ i → made ≡ flat_map h (take i ts) → made ≡ flat_map h ts
 all_added h ts i made past so_far = so_far ∙ ap (flat_map h) (take_all i ts past)
+
+-- one more, of what stands for each element, behind what was there before
+pub brought_more : {T X A : Type 0} (f : T → X) (h : X → List A) (ts : List T) (i : ℕ) (t : T) (start before after piece : List A) → i < length ts
+    → t ≡ get_or ts i t → piece ≡ h (f t) → before ≡ start ++ flat_map h (map f (take i ts)) → after ≡ before ++ piece
+    → after ≡ start ++ flat_map h (map f (take (i + 1) ts))
+brought_more f h ts i t start before after piece within is piece_is so_far adds =
+    adds ∙ ap (λ l. l ++ piece) so_far ∙ ap (λ p. (start ++ flat_map h (map f (take i ts))) ++ p) piece_is ∙ flat_map_more h start (map f (take i ts)) (f t)
+    ∙ ap (λ x. start ++ flat_map h (map f (take i ts) ++ f x ∷ [])) is ∙ ap (λ l. start ++ flat_map h l) (sym (map_more f ts i t within))
+
+-- one that brings nothing
+pub brought_none : {T X A : Type 0} (f : T → X) (h : X → List A) (ts : List T) (i : ℕ) (t : T) (start before : List A) → i < length ts
+    → t ≡ get_or ts i t → [] ≡ h (f t) → before ≡ start ++ flat_map h (map f (take i ts)) → before ≡ start ++ flat_map h (map f (take (i + 1) ts))
+brought_none f h ts i t start before within is nothing so_far =
+    brought_more f h ts i t start before before [] within is nothing so_far (sym (append-nil before))
+
+-- where all were walked over
+pub all_brought : {T X A : Type 0} (f : T → X) (h : X → List A) (ts : List T) (xs : List X) (i : ℕ) (start made : List A) → length ts ≤ i
+    → map f ts ≡ xs → made ≡ start ++ flat_map h (map f (take i ts)) → made ≡ start ++ flat_map h xs
+all_brought f h ts xs i start made past is so_far =
+    so_far ∙ ap (λ l. start ++ flat_map h (map f l)) (take_all i ts past) ∙ ap (λ l. start ++ flat_map h l) is
+
+-- one more of the values of a list, at its end
+pub mapped_more : {T X V : Type 0} (f : T → V) (g : X → V) (ts : List T) (i : ℕ) (d : T) (before after : List X) (x : X) → i < length ts
+    → after ≡ before ++ x ∷ [] → g x ≡ f (get_or ts i d) → map g before ≡ map f (take i ts) → map g after ≡ map f (take (i + 1) ts)
+mapped_more f g ts i d before after x within adds is so_far =
+    ap (map g) adds ∙ map_push g before x ∙ ap (λ l. l ++ g x ∷ []) so_far ∙ ap (λ v. map f (take i ts) ++ v ∷ []) is ∙ sym (map_more f ts i d within)
+
+pub all_mapped : {T V : Type 0} (f : T → V) (ts us : List T) (i : ℕ) (made : List V) → length ts ≤ i → ts ≡ us → made ≡ map f (take i ts) → made ≡ map f us
+all_mapped f ts us i made past is so_far = so_far ∙ ap (map f) (take_all i ts past) ∙ ap (map f) is
+
+-- one more behind what was there before, of the elements themselves
+pub added_behind : {T A : Type 0} (h : T → List A) (ts : List T) (i : ℕ) (d : T) (start before after piece : List A) → i < length ts
+    → piece ≡ h (get_or ts i d) → before ≡ start ++ flat_map h (take i ts) → after ≡ before ++ piece → after ≡ start ++ flat_map h (take (i + 1) ts)
+added_behind h ts i d start before after piece within piece_is so_far adds =
+    adds ∙ ap (λ l. l ++ piece) so_far ∙ ap (λ p. (start ++ flat_map h (take i ts)) ++ p) piece_is ∙ flat_map_more h start (take i ts) (get_or ts i d)
+    ∙ ap (λ l. start ++ flat_map h l) (sym (take_more ts i d within))

@@ -79,28 +79,17 @@ fn key_help(alloc: Global, section: Section, name: &str) -> Result<String, Alloc
 fn link_end_help(alloc: Global, document: &Table, name: &str) -> Result<String, AllocError>
     ensures { IfOk result (λ s. string_bytes s ≡ meant_help (like name.now (part_names (table_view document.now)))) }
 {
-    let mut parts = Vec::new(alloc);
-    add_names(alloc, document, Key::Node, &mut parts)?;
+    let mut parts = names_of(alloc, document, Key::Node)?;
     add_names(alloc, document, Key::Switch, &mut parts)?;
     like_help(alloc, name, &parts)
-}
-
-// That the name is a switch's.
-fn switch_help(alloc: Global, name: &str) -> Result<String, AllocError>
-    ensures { IfOk result (λ s. string_bytes s ≡ codes "'" ++ (name.now ++ codes "' is a switch: flows go from a node to a node")) }
-{
-    format!(in alloc; "'{name}' is a switch: flows go from a node to a node")
 }
 
 // What to do about a name of no node in this document: there may be a switch of the name.
 fn flow_end_help(alloc: Global, document: &Table, name: &str) -> Result<String, AllocError>
     ensures { IfOk result (λ s. string_bytes s ≡ node_help name.now (names_of Key.Node (table_view document.now)) (names_of Key.Switch (table_view document.now))) }
 {
-    let switches = names_of(alloc, document, Key::Switch)?;
-    for switch in &switches {
-        if *switch == name {
-            return switch_help(alloc, name);
-        }
+    if names_of(alloc, document, Key::Switch)?.contains(&name) {
+        return format!(in alloc; "'{name}' is a switch: flows go from a node to a node");
     }
     let nodes = names_of(alloc, document, Key::Node)?;
     like_help(alloc, name, &nodes)

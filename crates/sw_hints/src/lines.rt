@@ -1,7 +1,7 @@
 //! The lines of a hint.
 ghost use Rattle.std.specs.Prelude.{◌≡◌, ◌≤◌, ◌==◌, IfOk, IfSome, length, not, string_bytes};
 ghost use Rattle.std.specs.List.{prefix_len};
-ghost use Rattle.sw_hints.specs.HintLines.{found_line, found_part, head_line, hint_lines, place_text, told};
+ghost use Rattle.sw_hints.specs.HintLines.{found_line, found_part, head_line, hint_lines, told};
 
 use crate::escaped::shown;
 use std::alloc::{AllocError, Global};
@@ -33,24 +33,6 @@ fn found_part(text: &[u8], at: usize) -> &[u8]
     &line[..MOST_FOUND.min(line.len())]
 }
 
-// Where a byte of the text stands.
-fn place_text(
-    alloc: Global,
-    path: &str,
-    text: &[u8],
-    place: Option<usize>,
-) -> Result<String, AllocError>
-    requires { IfSome place (λ at. at ≤ length text.now) }
-    ensures { IfOk result (λ s. string_bytes s ≡ place_text path.now text.now place) }
-{
-    let path = shown(alloc, path.as_bytes())?;
-    let Some(at) = place else {
-        return Ok(path);
-    };
-    let Position { line, column } = position_at(text, at);
-    format!(in alloc; "{path}:{line}:{column}")
-}
-
 /// Where the fault is, and what is wrong.
 ///
 /// # Errors
@@ -66,9 +48,13 @@ pub fn head_line(
     requires { IfSome place (λ at. at ≤ length text.now) }
     ensures { IfOk result (λ s. string_bytes s ≡ head_line path.now text.now place what.now) }
 {
-    let place = place_text(alloc, path, text, place)?;
+    let path = shown(alloc, path.as_bytes())?;
     let what = shown(alloc, what.as_bytes())?;
-    format!(in alloc; "{place}: {what}\n")
+    let Some(at) = place else {
+        return format!(in alloc; "{path}: {what}\n");
+    };
+    let Position { line, column } = position_at(text, at);
+    format!(in alloc; "{path}:{line}:{column}: {what}\n")
 }
 
 /// An indented line of what is told, none where there is nothing to tell.

@@ -22,7 +22,6 @@ fn is_near(alloc: Global, name: &str, count: usize, text: &str) -> Result<bool, 
 }
 
 // The first of the texts that is at this distance.
-#[tactic(auto, using(crate::proofs::Firsts::first_here))]
 fn first_at<'a>(
     alloc: Global,
     name: &str,

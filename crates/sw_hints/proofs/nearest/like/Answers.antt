@@ -1,7 +1,8 @@
-use Rattle.std.proofs.Common.{◌≡◌, [], ap, false, get_or, map, rules, sym, true}
+use Rattle.std.proofs.Common.{◌≡◌, ◌∙◌, [], ap, false, get_or, map, option_map, rules, sym, true}
+use Rattle.std.proofs.lemmas.Result.{IfOk-weaker}
 use Rattle.std.specs.Str.{str_eq_ignore_ascii_case}
 use Rattle.sw_hints.specs.Nearest.{nearest, or_else}
-use Rattle.sw_hints.proofs.Firsts.{first_here, none_still}
+use Rattle.sw_hints.proofs.Firsts.{first_here, near_first, near_second, none_still, none_there}
 use Rattle.sw_hints.proofs.nearest.like.Goals as goal
 
 pub returns-then-eq_ignore_ascii_case : goal.returns-then-eq_ignore_ascii_case
@@ -14,3 +15,16 @@ pub loop-text-preserved : goal.loop-text-preserved
 loop-text-preserved c =
     let fails : str_eq_ignore_ascii_case (get_or c.args.texts.now c.loop-text.text-index record { ref_ptr = (0, 0); now = [] }).now c.args.name.now ≡ false = search rules in
     none_still (λ t. str_eq_ignore_ascii_case t c.args.name.now) (λ t. t.now) c.args.texts.now c.loop-text.text-index record { ref_ptr = (0, 0); now = [] } c.loop-text-test.true c.loop-text.invariant fails
+
+pub returns-in-Some : goal.returns-in-Some
+returns-in-Some c =
+    let name = c.args.name.now in
+    let none = none_there (λ t. str_eq_ignore_ascii_case t name) (λ t. t.now) c.args.texts.now c.loop-text.text-index c.loop-text-test.false c.loop-text.invariant in
+    near_first name (map (λ t. t.now) c.args.texts.now) c.in-Some.text.now none (sym (ap (option_map (λ t. t.now)) c.in-Some.is) ∙ c.in_ok-text.ensures)
+
+pub returns-in-None : goal.returns-in-None
+returns-in-None c =
+    let name = c.args.name.now in
+    let none = none_there (λ t. str_eq_ignore_ascii_case t name) (λ t. t.now) c.args.texts.now c.loop-text.text-index c.loop-text-test.false c.loop-text.invariant in
+    let farther = sym (ap (option_map (λ t. t.now)) c.in-None.is) ∙ c.in_ok-text.ensures in
+    IfOk-weaker c.first_at-in-None.result _ _ (λ o is. near_second name (map (λ t. t.now) c.args.texts.now) _ none farther is) c.first_at-in-None.ensures
