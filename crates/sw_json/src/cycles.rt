@@ -8,8 +8,8 @@ ghost use Rattle.sw_search.specs.Verdicts.{IsCyclic};
 ghost use Rattle.sw_json.specs.VerdictValues.{cause_value, channel_value, cyclic_value};
 
 use crate::lists::add_value;
-use crate::objects::{Member, object_of_four, object_of_text, object_of_two};
-use crate::places::{finish_text, start_text};
+use crate::objects::{Member, object_of_text, object_of_two};
+use crate::places::channel_object;
 use serde_json::Value;
 use std::alloc::{AllocError, Global};
 use sw_config::Network;
@@ -41,17 +41,8 @@ fn channel_value(
     requires { channel < length (wiring_of network.now).ends }
     ensures { IfOk result (λ v. view v ≡ channel_value network.now (channel, cause_of cause.now)) }
 {
-    let start = start_text(alloc, network, channel)?;
-    let end = finish_text(alloc, network, channel)?;
     let by = cause_value(alloc, network, cause)?;
-    let number = channel.number();
-    object_of_four(
-        alloc,
-        ("by", Member::Value(by)),
-        ("channel", Member::Number(u64::from(number))),
-        ("end", Member::Value(Value::String(end))),
-        ("start", Member::Value(Value::String(start))),
-    )
+    channel_object(alloc, network, channel, "by", Member::Value(by))
 }
 
 // A value for each channel, with its cause.

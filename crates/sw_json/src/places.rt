@@ -1,9 +1,12 @@
 //! Channels and places of flows as values.
-ghost use Rattle.std.specs.Prelude.{◌≡◌, ◌<◌, All, IfOk, length, map, string_bytes};
+ghost use Rattle.std.specs.Prelude.{◌≡◌, ◌<◌, ◌∷◌, [], All, IfOk, codes, length, map, string_bytes};
+ghost use Rattle.serde_json.specs.Data.{string};
 ghost use Rattle.serde_json.specs.View.{view};
 ghost use Rattle.sw_config.specs.Entries.{wiring_of};
 ghost use Rattle.sw_output.specs.ChannelTexts.{start_text};
+ghost use Rattle.sw_json.specs.Objects.{member_value, object_of};
 ghost use Rattle.sw_json.specs.PlaceValues.{finish_text, misrouted_fault_value, place_value};
+ghost use Rattle.sw_json.specs.Simple.{count_value};
 
 use crate::codes::route_fault_code;
 use crate::lists::add_value;
@@ -39,6 +42,29 @@ pub fn finish_text(alloc: Global, network: &Network, channel: Chan) -> Result<St
     end_text(alloc, network, network.topology().end_of(channel))
 }
 
+/// The object that stands for a channel: its number, the ends of its link at which it ends and starts, and one member more.
+pub(crate) fn channel_object<'a>(
+    alloc: Global,
+    network: &Network,
+    channel: Chan,
+    name: &'a str,
+    more: Member<'a>,
+) -> Result<Value, AllocError>
+    requires { channel < length (wiring_of network.now).ends }
+    ensures { IfOk result (λ v. view v ≡ object_of ((name.now, member_value more.entry) ∷ (codes "channel", count_value channel) ∷ (codes "end", string (finish_text network.now channel)) ∷ (codes "start", string (start_text network.now channel)) ∷ [])) }
+{
+    let end = finish_text(alloc, network, channel)?;
+    let start = start_text(alloc, network, channel)?;
+    let number = channel.number();
+    object_of_four(
+        alloc,
+        (name, more),
+        ("channel", Member::Number(u64::from(number))),
+        ("end", Member::Value(Value::String(end))),
+        ("start", Member::Value(Value::String(start))),
+    )
+}
+
 /// The object that stands for a place of a flow.
 ///
 /// # Errors
@@ -48,17 +74,8 @@ pub fn place_value(alloc: Global, network: &Network, place: Place) -> Result<Val
     requires { place.channel < length (wiring_of network.now).ends }
     ensures { IfOk result (λ v. view v ≡ place_value network.now place) }
 {
-    let channel = place.channel.number();
-    let deleted = place.deleted;
-    let end = finish_text(alloc, network, place.channel)?;
-    let start = start_text(alloc, network, place.channel)?;
-    object_of_four(
-        alloc,
-        ("channel", Member::Number(u64::from(channel))),
-        ("deleted", Member::Number(u64::from(deleted))),
-        ("end", Member::Value(Value::String(end))),
-        ("start", Member::Value(Value::String(start))),
-    )
+    let deleted = Member::Number(u64::from(place.deleted));
+    channel_object(alloc, network, place.channel, "deleted", deleted)
 }
 
 /// An object for each of the places.
