@@ -1,6 +1,6 @@
 -- The steps of a cycle, one after another.
-use Rattle.std.proofs.Common.{◌≡◌, ◌∙◌, ◌+◌, ◌<◌, ℕ, List, Vec, Global, [], ◌∷◌, ◌++◌, ap, arith, get_or, length, map, refl, sym, take}
-use Rattle.std.proofs.lemmas.List.{length-map, length-take-le, map-append, take_more}
+use Rattle.std.proofs.Common.{◌≡◌, ◌∙◌, ◌+◌, ◌<◌, ◌≤◌, ℕ, List, Vec, Global, [], ◌∷◌, ◌++◌, ap, arith, get_or, length, map, refl, sym, take}
+use Rattle.std.proofs.lemmas.List.{length-map, length-take-le, map-append, take_all, take_more}
 use Rattle.serde_json.specs.Data.{Data}
 use Rattle.sw_config.specs.Entries.{Declaration}
 use Rattle.sw_cycle.specs.Cycles.{CauseEntry, cause_of}
@@ -53,3 +53,14 @@ steps_more d i channels causes rows c cause row flows before after lt caused mad
     ∙ ap (λ l. step_values d l (map cause_of (take i causes) ++ cause_of cause ∷ []) (map items (take i rows) ++ row.items ∷ [])) (sym (cut channels i c lt c_is))
     ∙ ap (λ l. step_values d (take (i + 1) channels) l (map items (take i rows) ++ row.items ∷ [])) (sym (cut_map cause_of causes i cause also cause_is))
     ∙ ap (λ l. step_values d (take (i + 1) channels) (map cause_of (take (i + 1) causes)) l) (sym (cut_map items rows i row there row_is))
+
+-- the steps of all channels
+pub all_steps : (d : Declaration) (i : ℕ) (channels : List ℕ) (causes : List Cause) (rows : List (Vec ℕ Global)) (values : List Data)
+    → length channels ≤ i → length causes ≡ length channels → length rows ≡ length channels → values ≡ first_steps d i channels causes rows
+    → values ≡ step_values d channels (map cause_of causes) (map items rows)
+all_steps d i channels causes rows values past caused made so_far =
+    let also : length causes ≤ i = omega arith in
+    let there : length rows ≤ i = omega arith in
+    so_far ∙ ap (λ l. step_values d l (map cause_of (take i causes)) (map items (take i rows))) (take_all i channels past)
+    ∙ ap (λ l. step_values d channels (map cause_of l) (map items (take i rows))) (take_all i causes also)
+    ∙ ap (λ l. step_values d channels (map cause_of causes) (map items l)) (take_all i rows there)

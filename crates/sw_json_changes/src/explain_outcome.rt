@@ -1,12 +1,9 @@
 //! What `explain` finds.
 ghost use Rattle.std.specs.Prelude.{IfOk};
 ghost use Rattle.serde_json.specs.View.{view};
-ghost use Rattle.sw_app_changes.specs.ExplainTexts.{explain_status};
 ghost use Rattle.sw_command.specs.Inputs.{given};
-ghost use Rattle.sw_search.specs.Explanations.{IsExplanation};
-ghost use Rattle.sw_json.specs.Answering.{IsOutcome, OfNetworkFile};
+ghost use Rattle.sw_json.specs.Answering.{OfNetworkFile};
 ghost use Rattle.sw_json_changes.specs.ExplainJson.{IsExplained};
-ghost use Rattle.sw_json_changes.specs.ExplainValues.{explain_value};
 
 use crate::explain_laws::explanations_are_plain;
 use crate::explain_values::explain_value;
@@ -16,18 +13,7 @@ use sw_command::InputText;
 use sw_config::Network;
 use sw_file::read_network;
 use sw_json::{Outcome, long_file, unread_network};
-use sw_search::{Explanation, VerdictWorkers, explain};
-
-// What is told of a network.
-fn told(alloc: Global, network: &Network, explanation: &Explanation) -> Result<Outcome, AllocError>
-    requires { IsExplanation network.now explanation.now }
-    ensures { IfOk result (λ o. IsOutcome (explain_value network.now explanation.now) (explain_status explanation.now) (view o.result) o.status) }
-{
-    explanations_are_plain();
-    let result = explain_value(alloc, network, explanation)?;
-    let status = explain_status(explanation);
-    Ok(Outcome { result, status })
-}
+use sw_search::{VerdictWorkers, explain};
 
 // What is found of a network.
 fn of_network<W: VerdictWorkers>(
@@ -37,8 +23,11 @@ fn of_network<W: VerdictWorkers>(
 ) -> Result<Outcome, AllocError>
     ensures { IfOk result (λ o. IsExplained network.now (view o.result) o.status) }
 {
+    explanations_are_plain();
     let explanation = explain(workers, alloc, network)?;
-    told(alloc, network, &explanation)
+    let result = explain_value(alloc, network, &explanation)?;
+    let status = explain_status(&explanation);
+    Ok(Outcome { result, status })
 }
 
 /// What is found of a file.

@@ -1,11 +1,10 @@
 //! What `margin` finds.
-ghost use Rattle.std.specs.Prelude.{◌≡◌, IfOk, length};
+ghost use Rattle.std.specs.Prelude.{IfOk};
 ghost use Rattle.serde_json.specs.View.{view};
 ghost use Rattle.sw_command.specs.Inputs.{given};
 ghost use Rattle.sw_search.specs.Verdicts.{IsVerdict};
-ghost use Rattle.sw_json.specs.Answering.{IsOutcome, OfNetworkFile};
+ghost use Rattle.sw_json.specs.Answering.{OfNetworkFile};
 ghost use Rattle.sw_json_changes.specs.MarginJson.{IsBent, IsByVerdict, IsMarginFound};
-ghost use Rattle.sw_json_changes.specs.MarginValues.{margins_value};
 
 use crate::margin_laws::margins_are_plain;
 use crate::margin_values::margins_value;
@@ -16,21 +15,8 @@ use sw_command::statuses::GOOD;
 use sw_config::Network;
 use sw_file::read_network;
 use sw_json::{Outcome, long_file, unread_network};
-use sw_margin::{Margins, margins};
+use sw_margin::margins;
 use sw_search::{Verdict, VerdictWorkers, decide};
-
-// What the premises of the network stand.
-fn told(alloc: Global, network: &Network, margins: &Margins) -> Result<Outcome, AllocError>
-    requires { length margins.now.losses.items ≡ length network.now.links }
-    ensures { IfOk result (λ o. IsOutcome (margins_value network.now margins.now) 0 (view o.result) o.status) }
-{
-    margins_are_plain();
-    let result = margins_value(alloc, network, margins)?;
-    Ok(Outcome {
-        result,
-        status: GOOD,
-    })
-}
 
 // What is found where no channels can wait for one another.
 fn bent<W: VerdictWorkers>(
@@ -40,8 +26,13 @@ fn bent<W: VerdictWorkers>(
 ) -> Result<Outcome, AllocError>
     ensures { IfOk result (λ o. IsBent network.now (view o.result) o.status) }
 {
+    margins_are_plain();
     let found = margins(workers, alloc, network)?;
-    told(alloc, network, &found)
+    let result = margins_value(alloc, network, &found)?;
+    Ok(Outcome {
+        result,
+        status: GOOD,
+    })
 }
 
 // What is found by the verdict on the network.

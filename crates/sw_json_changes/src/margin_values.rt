@@ -14,32 +14,6 @@ use sw_margin::{Bend, Margins};
 use sw_output::{flow_name, node_name};
 use sw_topo::Chan;
 
-// A node that takes nothing while it wants to send.
-fn stall_value(alloc: Global, network: &Network, bend: &Bend) -> Result<Value, AllocError>
-    ensures { IfOk result (λ v. view v ≡ stall_value network.now bend.now) }
-{
-    let free = bend.stays_free;
-    let name = node_name(network, bend.number);
-    object_of_two(
-        alloc,
-        ("free", Member::Truth(free)),
-        ("node", Member::Text(name)),
-    )
-}
-
-// A flow that is answered.
-fn answered_value(alloc: Global, network: &Network, bend: &Bend) -> Result<Value, AllocError>
-    ensures { IfOk result (λ v. view v ≡ answered_value network.now bend.now) }
-{
-    let free = bend.stays_free;
-    let name = flow_name(network, bend.number);
-    object_of_two(
-        alloc,
-        ("flow", Member::Text(name)),
-        ("free", Member::Truth(free)),
-    )
-}
-
 // The flows that are lost without the link of that number.
 fn loss_value(
     alloc: Global,
@@ -89,7 +63,14 @@ fn stall_list(alloc: Global, network: &Network, stalls: &[Bend]) -> Result<Vec<V
 {
     let mut values = Vec::new(alloc);
     for bend in stalls {
-        add_value(&mut values, stall_value(alloc, network, bend))?;
+        let free = bend.stays_free;
+        let name = node_name(network, bend.number);
+        let value = object_of_two(
+            alloc,
+            ("free", Member::Truth(free)),
+            ("node", Member::Text(name)),
+        );
+        add_value(&mut values, value)?;
     }
     Ok(values)
 }
@@ -100,7 +81,14 @@ fn answer_list(alloc: Global, network: &Network, answers: &[Bend]) -> Result<Vec
 {
     let mut values = Vec::new(alloc);
     for bend in answers {
-        add_value(&mut values, answered_value(alloc, network, bend))?;
+        let free = bend.stays_free;
+        let name = flow_name(network, bend.number);
+        let value = object_of_two(
+            alloc,
+            ("flow", Member::Text(name)),
+            ("free", Member::Truth(free)),
+        );
+        add_value(&mut values, value)?;
     }
     Ok(values)
 }

@@ -1,31 +1,18 @@
 //! What `mend` finds.
-ghost use Rattle.std.specs.Prelude.{Bool, IfOk};
+ghost use Rattle.std.specs.Prelude.{IfOk};
 ghost use Rattle.serde_json.specs.View.{view};
-ghost use Rattle.sw_app_changes.specs.MendTexts.{mending_status};
-ghost use Rattle.sw_app_changes.specs.Mendings.{IsMending};
 ghost use Rattle.sw_command.specs.Inputs.{given};
-ghost use Rattle.sw_json.specs.Answering.{IsOutcome, OfNetworkFile};
+ghost use Rattle.sw_json.specs.Answering.{OfNetworkFile};
 ghost use Rattle.sw_json_changes.specs.MendJson.{IsMendFound};
-ghost use Rattle.sw_json_changes.specs.MendValues.{mending_value};
 
 use crate::mend_values::mending_value;
 use std::alloc::{AllocError, Global};
-use sw_app_changes::{Mending, find_mending, mending_status};
+use sw_app_changes::{find_mending, mending_status};
 use sw_command::InputText;
 use sw_config::Network;
 use sw_file::read_network;
 use sw_json::{Outcome, long_file, unread_network};
 use sw_search::VerdictWorkers;
-
-// What is told of a network.
-fn told(alloc: Global, network: &Network, mending: &Mending) -> Result<Outcome, AllocError>
-    requires { (pairs : Bool) × IsMending pairs network.now mending.now }
-    ensures { IfOk result (λ o. IsOutcome (mending_value network.now mending.now) (mending_status mending.now) (view o.result) o.status) }
-{
-    let status = mending_status(mending);
-    let result = mending_value(alloc, network, mending)?;
-    Ok(Outcome { result, status })
-}
 
 // What is found of a network.
 fn of_network<W: VerdictWorkers>(
@@ -37,7 +24,9 @@ fn of_network<W: VerdictWorkers>(
     ensures { IfOk result (λ o. IsMendFound pairs network.now (view o.result) o.status) }
 {
     let found = find_mending(workers, alloc, pairs, network)?;
-    told(alloc, network, &found)
+    let status = mending_status(&found);
+    let result = mending_value(alloc, network, &found)?;
+    Ok(Outcome { result, status })
 }
 
 /// What is found of a file, with pairs asked for or not.

@@ -7,7 +7,7 @@ ghost use Rattle.sw_config.specs.Entries.{routes_of};
 ghost use Rattle.sw_json.specs.Objects.{member_value, object_of};
 ghost use Rattle.sw_json.specs.VerdictValues.{verdict_value};
 ghost use Rattle.sw_search.specs.Verdicts.{IsVerdict};
-ghost use Rattle.sw_json_changes.specs.MendValues.{change_value, first_value, last_value, mend_value, mend_words, mending_value, mends_value, of_entry, of_port, pair_value, pair_words, split_value, told_mend, trial_value};
+ghost use Rattle.sw_json_changes.specs.MendValues.{change_value, first_value, last_value, mend_value, mend_words, mending_value, mends_value, of_entry, of_port, pair_value, pair_words, told_mend, trial_value};
 
 use serde_json::Value;
 use std::alloc::{AllocError, Global};
@@ -17,7 +17,7 @@ use sw_flow::{Place, RouteFault};
 use sw_json::{
     Member, add_value, kind_value, object_of_five, object_of_four, object_of_two, verdict_value,
 };
-use sw_mend::{Change, Pair, TargetLink, Trial};
+use sw_mend::{Change, Pair, Trial};
 use sw_output::{flow_name, node_name, switch_name};
 use sw_route::Route;
 use sw_search::Verdict;
@@ -131,29 +131,24 @@ fn change_value(alloc: Global, network: &Network, change: &Change) -> Result<Val
     }
 }
 
-// What the target of a node gets.
-fn split_value(alloc: Global, network: &Network, link: &TargetLink) -> Result<Value, AllocError>
-    ensures { IfOk result (λ v. view v ≡ split_value network.now link.now) }
-{
-    let name = node_name(network, link.node);
-    let port = link.port.number();
-    let switch = switch_name(network, link.switch);
-    object_of_four(
-        alloc,
-        ("kind", Member::Text("target link")),
-        ("node", Member::Text(name)),
-        ("port", Member::Number(u64::from(port))),
-        ("switch", Member::Text(switch)),
-    )
-}
-
 // What is taken away, or what the target of a node gets.
 fn trial_value(alloc: Global, network: &Network, trial: &Trial) -> Result<Value, AllocError>
     ensures { IfOk result (λ v. view v ≡ trial_value network.now trial.now) }
 {
     match trial {
         Trial::Without(change) => change_value(alloc, network, change),
-        Trial::Split(link) => split_value(alloc, network, link),
+        Trial::Split(link) => {
+            let name = node_name(network, link.node);
+            let port = link.port.number();
+            let switch = switch_name(network, link.switch);
+            object_of_four(
+                alloc,
+                ("kind", Member::Text("target link")),
+                ("node", Member::Text(name)),
+                ("port", Member::Number(u64::from(port))),
+                ("switch", Member::Text(switch)),
+            )
+        }
     }
 }
 
