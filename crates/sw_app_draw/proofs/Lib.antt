@@ -1,3 +1,3 @@
-mod Added
+mod First
 mod Lists
 mod NotFree

@@ -30,10 +30,6 @@ abbrev pub list_text : List AttributeText → List ℕ
 list_text [] = []
 list_text (a ∷ more) = attribute_text a ++ flat_map (λ b. codes ", " ++ attribute_text b) more
 
--- what stands between the texts of two lists
-abbrev pub comma : List ℕ → List ℕ → List ℕ
-comma first second = if length first == 0 then [] else if length second == 0 then [] else codes ", "
-
--- the texts of two lists as one
-abbrev pub joined : List ℕ → List ℕ → List ℕ
-joined first second = first ++ (comma first second ++ second)
+-- what stands between the text of a list and more
+abbrev pub comma : List ℕ → List ℕ
+comma text = if length text == 0 then [] else codes ", "

@@ -1,19 +1,15 @@
 //! The text of a drawing.
 ghost use Rattle.std.specs.Prelude.{◌≡◌, ◌++◌, IfOk, OnOk, string_bytes};
-ghost use Rattle.sw_app_draw.specs.DrawTexts.{draw_text, head_text, parts_text};
+ghost use Rattle.sw_command.specs.Ends.{Says};
+ghost use Rattle.sw_app_draw.specs.DrawTexts.{draw_text, parts_text};
 
-use crate::channels::add_channels;
+use crate::channels::add_channel;
 use crate::drawing::Drawing;
-use crate::parts::{add_nodes, add_switches};
+use crate::parts::{add_node, add_switch};
 use std::alloc::{AllocError, Global};
+use sw_command::Answer;
+use sw_command::statuses::GOOD;
 use sw_config::Network;
-
-// Nodes are boxes.
-fn head_text() -> &'static str
-    ensures { result.now ≡ head_text }
-{
-    "digraph network {\n  node [shape=\"box\"];\n"
-}
 
 // Adds a line for each node, each switch and each channel.
 fn add_parts(
@@ -24,21 +20,28 @@ fn add_parts(
 ) -> Result<(), AllocError>
     ensures { OnOk result (string_bytes text.new ≡ string_bytes text.old ++ parts_text network.now drawing.now) }
 {
-    add_nodes(text, alloc, network)?;
-    add_switches(text, alloc, network)?;
-    add_channels(text, alloc, network, drawing)
+    for node in 0..network.nodes() {
+        add_node(text, network, node)?;
+    }
+    for switch in 0..network.switches() {
+        add_switch(text, alloc, network, switch)?;
+    }
+    for number in 0..network.channels() {
+        add_channel(text, alloc, network, drawing, number)?;
+    }
+    Ok(())
 }
 
-/// The network in DOT, with what is drawn over its parts.
-pub(crate) fn draw_text(
+/// The network in DOT, its nodes as boxes, with what is drawn over its parts.
+pub(crate) fn drawing_answer(
     alloc: Global,
     network: &Network,
     drawing: &Drawing<'_>,
-) -> Result<String, AllocError>
-    ensures { IfOk result (λ s. string_bytes s ≡ draw_text network.now drawing.now) }
+) -> Result<Answer, AllocError>
+    ensures { IfOk result (λ a. Says (draw_text network.now drawing.now) 0 (string_bytes a.text) a.status) }
 {
-    let mut text = String::from_str(alloc, head_text())?;
+    let mut text = String::from_str(alloc, "digraph network {\n  node [shape=\"box\"];\n")?;
     add_parts(&mut text, alloc, network, drawing)?;
     text.push_str("}\n")?;
-    Ok(text)
+    Ok(Answer { text, status: GOOD })
 }

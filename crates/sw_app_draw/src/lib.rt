@@ -2,7 +2,6 @@
 #![tactic(auto)]
 
 mod channels;
-mod dot;
 mod draw_answer;
 mod draw_text;
 mod drawing;

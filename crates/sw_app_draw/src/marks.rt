@@ -1,91 +1,76 @@
 //! The attributes of a channel: what is told of it by its style and its labels.
-ghost use Rattle.std.specs.Prelude.{◌≡◌, ◌<◌, ◌+◌, ◌^◌, ◌++◌, ◌==◌, IfOk, position, string_bytes};
-ghost use Rattle.std.specs.List.{list_any};
-ghost use Rattle.sw_flow.specs.declared.place.Place.{Place};
-ghost use Rattle.sw_app_draw.specs.Dot.{list_text};
-ghost use Rattle.sw_app_draw.specs.DrawTexts.{channel_attributes, cycle_attributes, flow_attributes, number_attributes, step_attributes};
+ghost use Rattle.std.specs.Prelude.{◌≡◌, ◌++◌, IfOk, List, OnOk, codes, string_bytes};
+ghost use Rattle.sw_app_draw.specs.Dot.{AttributeText, attributes_text, comma, list_text};
+ghost use Rattle.sw_app_draw.specs.DrawTexts.{channel_attributes, cycle_attributes, flow_attributes, number_attributes};
 
-use crate::dot::joined;
 use crate::drawing::Drawing;
 use std::alloc::{AllocError, Global};
+use std::fmt::Write;
 use sw_flow::Place;
 use sw_topo::Chan;
-
-// Is one of the places on the channel?
-fn is_taken(places: &[Place], channel: Chan) -> bool
-    ensures { result ≡ list_any (λ (p : Place). p.channel == channel) places.now }
-{
-    places.iter().any(|p| p.channel == channel)
-}
-
-// How many channels of the cycle come before this one.
-fn place_in(cycle: &[Chan], channel: Chan) -> Option<usize>
-    ensures { result ≡ position (λ e. e == channel) cycle.now }
-{
-    cycle.iter().position(|e| *e == channel)
-}
 
 // A channel of the flow is bold, and told by its number.
 fn flow_attributes(alloc: Global, places: &[Place], channel: Chan) -> Result<String, AllocError>
     ensures { IfOk result (λ s. string_bytes s ≡ list_text (flow_attributes places.now channel)) }
 {
-    if !is_taken(places, channel) {
-        return Ok(String::new(alloc));
+    for place in places {
+        if place.channel == channel {
+            let number = channel.number();
+            return format!(in alloc; "style=\"bold\", xlabel=\"channel {number}\"");
+        }
     }
-    let number = channel.number();
-    format!(in alloc; "style=\"bold\", xlabel=\"channel {number}\"")
+    Ok(String::new(alloc))
+}
+
+// What stands between attributes that were told and more.
+fn comma(told: &str) -> &'static str
+    ensures { result.now ≡ comma told.now }
+{
+    if told.is_empty() { "" } else { ", " }
 }
 
 // A step of the cycle is red, and has its number.
-fn step_attributes(alloc: Global, before: usize) -> Result<String, AllocError>
-    requires { before + 1 < 2 ^ 64 }
-    ensures { IfOk result (λ s. string_bytes s ≡ list_text (step_attributes before)) }
+fn add_step(told: &mut String, cycle: &[Chan], channel: Chan) -> Result<(), AllocError>
+    ensures { OnOk result ((list : List AttributeText) → string_bytes told.old ≡ list_text list → string_bytes told.new ≡ list_text (list ++ cycle_attributes cycle.now channel)) }
 {
-    let number = before + 1;
-    format!(in alloc; "color=\"red\", fontcolor=\"red\", label=\"{number}\"")
-}
-
-fn cycle_attributes(alloc: Global, cycle: &[Chan], channel: Chan) -> Result<String, AllocError>
-    ensures { IfOk result (λ s. string_bytes s ≡ list_text (cycle_attributes cycle.now channel)) }
-{
-    match place_in(cycle, channel) {
-        Some(before) => step_attributes(alloc, before),
-        None => Ok(String::new(alloc)),
+    let between = comma(told.as_str());
+    for before in 0..cycle.len() {
+        if cycle[before] == channel {
+            let number = before + 1;
+            return write!(
+                told,
+                "{between}color=\"red\", fontcolor=\"red\", label=\"{number}\""
+            );
+        }
     }
+    Ok(())
 }
 
 // The channel's number in the certificate.
-fn number_attributes(alloc: Global, numbers: &[u16], channel: Chan) -> Result<String, AllocError>
-    ensures { IfOk result (λ s. string_bytes s ≡ list_text (number_attributes numbers.now channel)) }
+fn add_number(told: &mut String, numbers: &[u16], channel: Chan) -> Result<(), AllocError>
+    ensures { OnOk result ((list : List AttributeText) → string_bytes told.old ≡ list_text list → string_bytes told.new ≡ list_text (list ++ number_attributes numbers.now channel)) }
 {
+    let between = comma(told.as_str());
     match numbers.get(usize::from(channel.number())) {
-        Some(number) => format!(in alloc; "label=\"{number}\""),
-        None => Ok(String::new(alloc)),
+        Some(number) => write!(told, "{between}label=\"{number}\""),
+        None => Ok(()),
     }
 }
 
-// What is told of the channel by the cycle and by the certificate.
-fn label_attributes(
+/// Adds in brackets what is told of the channel, if anything is, and ends the line.
+pub(crate) fn add_marks(
+    text: &mut String,
     alloc: Global,
     drawing: &Drawing<'_>,
     channel: Chan,
-) -> Result<String, AllocError>
-    ensures { IfOk result (λ s. string_bytes s ≡ list_text (cycle_attributes drawing.now.cycle channel ++ number_attributes drawing.now.numbers channel)) }
+) -> Result<(), AllocError>
+    ensures { OnOk result (string_bytes text.new ≡ string_bytes text.old ++ (attributes_text (channel_attributes drawing.now channel) ++ codes ";\n")) }
 {
-    let cycle = cycle_attributes(alloc, drawing.cycle, channel)?;
-    let number = number_attributes(alloc, drawing.numbers, channel)?;
-    joined(alloc, &cycle, &number)
-}
-
-/// What is told of the channel.
-pub(crate) fn channel_attributes(
-    alloc: Global,
-    drawing: &Drawing<'_>,
-    channel: Chan,
-) -> Result<String, AllocError>
-    ensures { IfOk result (λ s. string_bytes s ≡ list_text (channel_attributes drawing.now channel)) }
-{
-    let flow = flow_attributes(alloc, drawing.places, channel)?;
-    let labels = label_attributes(alloc, drawing, channel)?;
-    joined(alloc, &flow, &labels)
+    let mut told = flow_attributes(alloc, drawing.places, channel)?;
+    add_step(&mut told, drawing.cycle, channel)?;
+    add_number(&mut told, drawing.numbers, channel)?;
+    if told.is_empty() {
+        return text.push_str(";\n");
+    }
+    write!(text, " [{told}];\n")
 }

@@ -1,19 +1,26 @@
-use Rattle.std.proofs.Common.{refl, string_bytes, subst}
-use Rattle.std.proofs.lemmas.Result.{IfOk-weaker}
-use Rattle.sw_command.specs.Ends.{Says}
-use Rattle.sw_app_draw.specs.DrawAnswers.{IsDrawnAnswer}
-use Rattle.sw_app_draw.specs.DrawTexts.{draw_text}
-use Rattle.sw_app_draw.specs.Drawings.{AreNumbersDrawn, DrawingView, IsDrawing, Wishes, numbers_of}
+use Rattle.std.proofs.Common.{[], ap, ◌∙◌, sym}
+use Rattle.sw_app_draw.specs.Drawings.{Wishes}
+use Rattle.sw_app_draw.proofs.NotFree.{drawn, none_asked, none_drawn, numbers_drawn}
 use Rattle.sw_app_draw.proofs.draw_answer.numbered_answer.Goals as goal
+
+pub returns-then-not-options : goal.returns-then-not-options
+returns-then-not-options g c =
+    let d = c.args.network.now in
+    let wishes = c.args.options.now in
+    let asked = ap (λ (w : Wishes). w.numbers) (sym c.options.view_is) ∙ c.if-not-options.true in
+    drawn d wishes c.args.places.now c.args.cycle.now [] c.drawing_answer.result c.requires (none_asked d wishes.numbers asked) c.drawing_answer.ensures
+
+pub returns-then-count-gt0 : goal.returns-then-count-gt0
+returns-then-count-gt0 g c =
+    let d = c.args.network.now in
+    let wishes = c.args.options.now in
+    drawn d wishes c.args.places.now c.args.cycle.now [] c.drawing_answer-then-count-gt0.result c.requires (none_drawn d wishes.cycle wishes.numbers c.args.cycle.now c.requires c.if-count-gt0.true)
+    c.drawing_answer-then-count-gt0.ensures
 
 pub returns : goal.returns
 returns g c =
     let d = c.args.network.now in
     let wishes = c.args.options.now in
-    let places = c.args.places.now in
-    let drawing : DrawingView = record { places = places; cycle = c.args.cycle.now; numbers = c.numbers_of.result.now } in
-    let wished : AreNumbersDrawn d wishes.numbers (numbers_of c.in_ok-verdict.verdict) =
-    subst (λ (w : Wishes). AreNumbersDrawn d w.numbers (numbers_of c.in_ok-verdict.verdict)) c.options.view_is c.in_ok-verdict.ensures in
-    let is : IsDrawing d wishes places drawing = record { places_are = refl; cycle_is = c.requires; numbers_are = rw c.numbers_of.ensures wished } in
-    IfOk-weaker c.drawing_answer.result (λ a. Says (draw_text d drawing) 0 (string_bytes a.text) a.status) (λ a. IsDrawnAnswer wishes d places (string_bytes a.text) a.status)
-    (λ a says. (drawing, is, says)) c.drawing_answer.ensures
+    let asked = ap (λ (w : Wishes). w.numbers) (sym c.options.view_is) ∙ c.if-not-options.false in
+    drawn d wishes c.args.places.now c.args.cycle.now c.numbers_of.result.now c.drawing_answer-2.result c.requires
+    (rw c.numbers_of.ensures (numbers_drawn d wishes.numbers c.in_ok-verdict.verdict asked c.in_ok-verdict.ensures.verdict)) c.drawing_answer-2.ensures
