@@ -1,5 +1,5 @@
 -- The way of a flow to its first place with a fault.
-use Rattle.std.proofs.Common.{◌≡◌, ◌<◌, ◌∙◌, ℕ, All, List, Option, Some, None, length, refl, sym, subst}
+use Rattle.std.proofs.Common.{◌≡◌, ◌<◌, ◌∙◌, ℕ, All, List, Option, Some, None, ap, length, refl, sym, subst}
 use Rattle.std.specs.Prelude.{IfSome, IsSome, Vec, option_map, slice_get}
 use Rattle.std.specs.declared.alloc.Global.{Global}
 use Rattle.sw_config.specs.Entries.{Declaration, FlowEntry, all_flows, wiring_of}
@@ -11,6 +11,7 @@ use Rattle.sw_flow.specs.Ways.{IsWayIfPlace, IsWayTo}
 use Rattle.sw_flow.proofs.Stepping.{places_are_in}
 use Rattle.sw_app_changes.proofs.OnChannels.{from_start}
 use Rattle.sw_search.proofs.Went.{faulty_listed}
+use Rattle.sw_verdict_hints.specs.FlowHints.{IsHintAt, IsHintOn}
 
 module _ (d : Declaration) (i : ℕ) (f : FlowEntry) (numbered : slice_get (all_flows d) i ≡ Some f) where
   -- what is said of the flow of that number is said of this one
@@ -43,6 +44,13 @@ module _ (d : Declaration) (i : ℕ) (f : FlowEntry) (numbered : slice_get (all_
       let same : Some is.flow ≡ Some f = sym is.numbered ∙ numbered in
       let flow : is.flow ≡ f = cc in
       subst (λ (g : FlowEntry). IsPlaceList d g places) flow is.list
+
+  -- what is told of the first place with a fault is told of the flow
+  pub told_on : (path : List ℕ) (places listed : List Place) (found : Option (Place × RouteFault)) (hint : Option (List ℕ)) → IsPlacesOf d i places → listed ≡ places
+      → IfSome (slice_get (all_flows d) i) (λ g. found ≡ first_fault_of d g listed) → IsHintAt path d i f found hint → IsHintOn path d i f hint
+  told_on path places listed found hint are same first said =
+      let is : found ≡ first_fault_of d f places = of_flow (λ g. found ≡ first_fault_of d g listed) first ∙ ap (λ ps. first_fault_of d f ps) same in
+      (places, listed_for places are, subst (λ (o : Option (Place × RouteFault)). IsHintAt path d i f o hint) is said)
 
   -- the first place with a fault is one of them
   pub faulty_place : (places : List Place) (p : Place) (fault : RouteFault) → IsPlaceList d f places → first_fault_of d f places ≡ Some (p, fault)

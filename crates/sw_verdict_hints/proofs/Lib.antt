@@ -3,5 +3,5 @@ mod LastPlace
 mod FlowWays
 mod FlowNames
 pub mod TextsMade
-mod SwitchHelps
-mod WordsBehind
+mod ChannelNumbers
+mod ListedPlaces

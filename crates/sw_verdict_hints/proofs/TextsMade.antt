@@ -1,30 +1,61 @@
 -- Texts of others, where they were made.
-use Rattle.std.proofs.Common.{◌≡◌, ◌∙◌, ◌++◌, ℕ, IfOk, List, Result, Ok, Err, ap, codes, string_bytes}
+use Rattle.std.proofs.Common.{◌≡◌, ◌∙◌, ◌++◌, ℕ, [], IfOk, List, None, Result, Ok, Err, ap, codes, string_bytes, subst}
 use Rattle.std.specs.Prelude.{String}
 use Rattle.std.specs.declared.alloc.Global.{Global}
 use Rattle.std.proofs.lemmas.Result.{IfOk-weaker}
-use Rattle.sw_hints.specs.HintLines.{told}
-use Rattle.sw_verdict_hints.specs.MadeTexts.{AreInTurn, AreTwoLines, IsTold}
+use Rattle.sw_hints.specs.HintLines.{head_line, told}
+use Rattle.sw_verdict_hints.specs.MadeTexts.{AreJoined, AreTwoLines, IsHead, IsTold}
 
-line_is : {E : Type 0} (words : Result (String Global) E) (word a line : List ℕ) → IfOk words (λ s. string_bytes s ≡ a) → IsTold word words line → line ≡ told word a
+-- this text, if there is one
+abbrev pub Gives : {E : Type 0} → Result (String Global) E → List ℕ → Type 0
+Gives r text = IfOk r (λ s. string_bytes s ≡ text)
+
+pub same_text : {E : Type 0} (r : Result (String Global) E) (a b : List ℕ) → a ≡ b → Gives r a → Gives r b
+same_text r a b same is = subst (λ (t : List ℕ). IfOk r (λ s. string_bytes s ≡ t)) same is
+
+line_is : {E : Type 0} (words : Result (String Global) E) (word a line : List ℕ) → Gives words a → IsTold word words line → line ≡ told word a
 line_is (Ok w) word a line is_a is = is ∙ ap (told word) is_a
 line_is (Err e) word a line is_a is = absurd is
 
 -- the line of a text
-pub told_if : {E : Type 0} (r words : Result (String Global) E) (word a : List ℕ) → IfOk r (λ s. IsTold word words (string_bytes s)) → IfOk words (λ s. string_bytes s ≡ a)
-    → IfOk r (λ s. string_bytes s ≡ told word a)
+pub told_if : {E : Type 0} (r words : Result (String Global) E) (word a : List ℕ) → IfOk r (λ s. IsTold word words (string_bytes s)) → Gives words a → Gives r (told word a)
 told_if r words word a made is_a =
     IfOk-weaker r (λ s. IsTold word words (string_bytes s)) (λ s. string_bytes s ≡ told word a) (λ s is. line_is words word a (string_bytes s) is_a is) made
 
--- the lines of two texts, each told by itself
-pub lines_told : {E : Type 0} (found behind : Result (String Global) E) (word a b lines : List ℕ) → IsTold (codes "found") found a → IsTold word behind b
-    → lines ≡ a ++ b → AreTwoLines found word behind lines
-lines_told (Ok f) (Ok e) word a b lines is_a is_b are = are ∙ ap (λ t. t ++ b) is_a ∙ ap (λ t. told (codes "found") (string_bytes f) ++ t) is_b
-lines_told (Ok f) (Err x) word a b lines is_a is_b are = absurd is_b
-lines_told (Err x) behind word a b lines is_a is_b are = absurd is_a
+first_is : {E : Type 0} (words : Result (String Global) E) (path a line : List ℕ) → Gives words a → IsHead path words line → line ≡ head_line path [] None a
+first_is (Ok w) path a line is_a is = is ∙ ap (head_line path [] None) is_a
+first_is (Err e) path a line is_a is = absurd is
 
-lines_are : {E : Type 0} (found behind : Result (String Global) E) (word a b lines : List ℕ) → IfOk found (λ s. string_bytes s ≡ a)
-    → IfOk behind (λ s. string_bytes s ≡ b) → AreTwoLines found word behind lines → lines ≡ told (codes "found") a ++ told word b
+-- the first line of a hint
+pub head_if : {E : Type 0} (r words : Result (String Global) E) (path a : List ℕ) → IfOk r (λ s. IsHead path words (string_bytes s)) → Gives words a
+    → Gives r (head_line path [] None a)
+head_if r words path a made is_a =
+    IfOk-weaker r (λ s. IsHead path words (string_bytes s)) (λ s. string_bytes s ≡ head_line path [] None a) (λ s is. first_is words path a (string_bytes s) is_a is) made
+
+text_is : {E : Type 0} (x y : Result (String Global) E) (a b text : List ℕ) → Gives x a → Gives y b → AreJoined x y text → text ≡ a ++ b
+text_is (Ok f) (Ok g) a b text is_a is_b are = are ∙ ap (λ t. t ++ string_bytes g) is_a ∙ ap (λ t. a ++ t) is_b
+text_is (Ok f) (Err e) a b text is_a is_b are = absurd are
+text_is (Err e) y a b text is_a is_b are = absurd are
+
+-- two texts, the one behind the other
+pub joined_if : {E : Type 0} (r x y : Result (String Global) E) (a b : List ℕ) → IfOk r (λ s. AreJoined x y (string_bytes s)) → Gives x a → Gives y b → Gives r (a ++ b)
+joined_if r x y a b made is_a is_b =
+    IfOk-weaker r (λ s. AreJoined x y (string_bytes s)) (λ s. string_bytes s ≡ a ++ b) (λ s are. text_is x y a b (string_bytes s) is_a is_b are) made
+
+-- the lines of two texts, each told by itself
+pub lines_told : {E : Type 0} (found behind x y : Result (String Global) E) (word text : List ℕ) → IfOk x (λ s. IsTold (codes "found") found (string_bytes s))
+    → IfOk y (λ s. IsTold word behind (string_bytes s)) → AreJoined x y text → AreTwoLines found word behind text
+lines_told (Ok f) (Ok e) (Ok x) (Ok y) word text is_x is_y are = are ∙ ap (λ t. t ++ string_bytes y) is_x ∙ ap (λ t. told (codes "found") (string_bytes f) ++ t) is_y
+lines_told (Ok f) (Ok e) (Ok x) (Err z) word text is_x is_y are = absurd are
+lines_told (Ok f) (Ok e) (Err z) y word text is_x is_y are = absurd are
+lines_told (Ok f) (Err z) (Ok x) (Ok y) word text is_x is_y are = absurd is_y
+lines_told (Ok f) (Err z) (Ok x) (Err u) word text is_x is_y are = absurd are
+lines_told (Ok f) (Err z) (Err u) y word text is_x is_y are = absurd are
+lines_told (Err z) behind (Ok x) y word text is_x is_y are = absurd is_x
+lines_told (Err z) behind (Err u) y word text is_x is_y are = absurd are
+
+lines_are : {E : Type 0} (found behind : Result (String Global) E) (word a b lines : List ℕ) → Gives found a → Gives behind b → AreTwoLines found word behind lines
+    → lines ≡ told (codes "found") a ++ told word b
 lines_are (Ok f) (Ok e) word a b lines is_a is_b are =
     are ∙ ap (λ t. told (codes "found") t ++ told word (string_bytes e)) is_a ∙ ap (λ t. told (codes "found") a ++ told word t) is_b
 lines_are (Ok f) (Err x) word a b lines is_a is_b are = absurd are
@@ -32,21 +63,7 @@ lines_are (Err x) behind word a b lines is_a is_b are = absurd are
 
 -- the lines of two texts
 pub two_lines_if : {E : Type 0} (r found behind : Result (String Global) E) (word a b : List ℕ) → IfOk r (λ s. AreTwoLines found word behind (string_bytes s))
-    → IfOk found (λ s. string_bytes s ≡ a) → IfOk behind (λ s. string_bytes s ≡ b) → IfOk r (λ s. string_bytes s ≡ told (codes "found") a ++ told word b)
+    → Gives found a → Gives behind b → Gives r (told (codes "found") a ++ told word b)
 two_lines_if r found behind word a b made is_a is_b =
     IfOk-weaker r (λ s. AreTwoLines found word behind (string_bytes s)) (λ s. string_bytes s ≡ told (codes "found") a ++ told word b)
     (λ s are. lines_are found behind word a b (string_bytes s) is_a is_b are) made
-
-text_is : {E : Type 0} (x y z : Result (String Global) E) (a b c text : List ℕ) → IfOk x (λ s. string_bytes s ≡ a) → IfOk y (λ s. string_bytes s ≡ b)
-    → IfOk z (λ s. string_bytes s ≡ c) → AreInTurn x y z text → text ≡ a ++ (b ++ c)
-text_is (Ok f) (Ok g) (Ok h) a b c text is_a is_b is_c are =
-    are ∙ ap (λ t. t ++ (string_bytes g ++ string_bytes h)) is_a ∙ ap (λ t. a ++ (t ++ string_bytes h)) is_b ∙ ap (λ t. a ++ (b ++ t)) is_c
-text_is (Ok f) (Ok g) (Err e) a b c text is_a is_b is_c are = absurd are
-text_is (Ok f) (Err e) z a b c text is_a is_b is_c are = absurd are
-text_is (Err e) y z a b c text is_a is_b is_c are = absurd are
-
--- three texts, one after the other
-pub in_turn_if : {E : Type 0} (r x y z : Result (String Global) E) (a b c : List ℕ) → IfOk r (λ s. AreInTurn x y z (string_bytes s))
-    → IfOk x (λ s. string_bytes s ≡ a) → IfOk y (λ s. string_bytes s ≡ b) → IfOk z (λ s. string_bytes s ≡ c) → IfOk r (λ s. string_bytes s ≡ a ++ (b ++ c))
-in_turn_if r x y z a b c made is_a is_b is_c =
-    IfOk-weaker r (λ s. AreInTurn x y z (string_bytes s)) (λ s. string_bytes s ≡ a ++ (b ++ c)) (λ s are. text_is x y z a b c (string_bytes s) is_a is_b is_c are) made

@@ -33,6 +33,10 @@ abbrev pub channel_words : Declaration → ℕ → List ℕ
 channel_words d c =
     if nat_lt c (length (ends_of d)) then codes "channel " ++ (decimal c ++ (codes " " ++ channel_text d c)) else codes "channel " ++ decimal c
 
+-- its ends behind a space, if the network has it
+abbrev pub ends_words : Declaration → ℕ → List ℕ
+ends_words d c = if nat_lt c (length (ends_of d)) then codes " " ++ channel_text d c else []
+
 -- a channel and its number in the certificate
 abbrev pub number_words : Declaration → List ℕ → ℕ → List ℕ
 number_words d numbers c = codes "number " ++ (decimal (slice_index numbers c) ++ (codes " at " ++ channel_words d c))

@@ -1,7 +1,12 @@
 -- Texts of others that were made (this project's choice).
-use Rattle.std.specs.Prelude.{◌≡◌, ℕ, List, ◌++◌, Result, Ok, Err, String, codes, string_bytes}
+use Rattle.std.specs.Prelude.{◌≡◌, ℕ, List, [], ◌++◌, None, Result, Ok, Err, String, codes, string_bytes}
 use Rattle.std.specs.declared.alloc.Global.{Global}
-use Rattle.sw_hints.specs.HintLines.{told}
+use Rattle.sw_hints.specs.HintLines.{head_line, told}
+
+-- the first line of a hint on what is at the path
+abbrev pub IsHead : {E : Type 0} → List ℕ → Result (String Global) E → List ℕ → Type 0
+IsHead path (Ok words) line = line ≡ head_line path [] None (string_bytes words)
+IsHead path (Err error) line = ⊥
 
 -- a line that this word begins
 abbrev pub IsTold : {E : Type 0} → List ℕ → Result (String Global) E → List ℕ → Type 0
@@ -13,7 +18,7 @@ abbrev pub AreTwoLines : {E : Type 0} → Result (String Global) E → List ℕ 
 AreTwoLines (Ok found) word (Ok behind) lines = lines ≡ told (codes "found") (string_bytes found) ++ told word (string_bytes behind)
 AreTwoLines _ word _ lines = ⊥
 
--- three texts, one after the other
-abbrev pub AreInTurn : {E : Type 0} → Result (String Global) E → Result (String Global) E → Result (String Global) E → List ℕ → Type 0
-AreInTurn (Ok first) (Ok second) (Ok third) text = text ≡ string_bytes first ++ (string_bytes second ++ string_bytes third)
-AreInTurn _ _ _ text = ⊥
+-- two texts, the one behind the other
+abbrev pub AreJoined : {E : Type 0} → Result (String Global) E → Result (String Global) E → List ℕ → Type 0
+AreJoined (Ok first) (Ok second) text = text ≡ string_bytes first ++ string_bytes second
+AreJoined _ _ text = ⊥

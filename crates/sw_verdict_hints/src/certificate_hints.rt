@@ -1,19 +1,18 @@
 //! The hint of a certificate that is refused for a network.
 ghost use Rattle.std.specs.Prelude.{◌≡◌, IfOk, option_map, string_bytes};
 ghost use Rattle.sw_cert.specs.Text.{read_text};
-ghost use Rattle.sw_verdict_hints.specs.CertificateHints.{IsCertificateHint, certificate_head, contents_hint, hint_of_texts, refusal_hint, refusal_lines};
+ghost use Rattle.sw_verdict_hints.specs.CertificateHints.{IsCertificateHint, contents_hint, hint_of_texts, refusal_hint, refusal_lines};
 
 use crate::certificate_numbers::not_rising_lines;
 use crate::certificate_places::{
     faulty_lines, no_start_lines, not_closed_lines, wrong_count_lines,
 };
-use crate::made_texts::{in_turn, told_of};
+use crate::made_texts::{head_of, joined, told_of};
 use std::alloc::{AllocError, Global};
 use sw_cert::{Certificate, CertificateFault};
 use sw_check::{Refusal, check};
 use sw_config::Network;
 use sw_file::read_network;
-use sw_hints::head_line;
 use sw_notes::text_fault;
 use sw_search::VerdictWorkers;
 
@@ -38,13 +37,6 @@ fn refusal_lines(
     }
 }
 
-fn certificate_head(alloc: Global, certificate: &str, network: &str) -> Result<String, AllocError>
-    ensures { IfOk result (λ s. string_bytes s ≡ certificate_head certificate.now network.now) }
-{
-    let words = format!(in alloc; "the certificate is refused for {network}")?;
-    head_line(alloc, certificate, &[], None, words.as_str())
-}
-
 /// The names of the two files.
 #[derive(Clone, Copy)]
 pub(crate) struct Names<'a> {
@@ -62,12 +54,14 @@ fn refusal_hint(
 ) -> Result<String, AllocError>
     ensures { IfOk result (λ s. string_bytes s ≡ refusal_hint names.entry.certificate.now names.entry.network.now network.now certificate.now refusal) }
 {
-    let head = certificate_head(alloc, names.certificate, names.network);
-    let lines = refusal_lines(alloc, network, certificate, refusal);
     let path = names.network;
-    let words = format!(in alloc; "swcheck decide {path} writes a certificate where there is one");
-    let help = told_of(alloc, "help", words);
-    in_turn(alloc, head, lines, help)
+    let words = format!(in alloc; "the certificate is refused for {path}");
+    let head = head_of(alloc, names.certificate, words);
+    let lines = refusal_lines(alloc, network, certificate, refusal);
+    let advice = format!(in alloc; "swcheck decide {path} writes a certificate where there is one");
+    let help = told_of(alloc, "help", advice);
+    let last = joined(alloc, lines, help);
+    joined(alloc, head, last)
 }
 
 // Of a certificate: none where it is accepted.

@@ -3,10 +3,10 @@ ghost use Rattle.std.specs.Prelude.{◌≡◌, ◌<◌, ◌≤◌, ◌==◌, ◌
 ghost use Rattle.std.specs.List.{list_any};
 ghost use Rattle.sw_config.specs.Entries.{all_flows};
 ghost use Rattle.sw_flow.specs.Followers.{followers_of};
-ghost use Rattle.sw_verdict_hints.specs.CertificateHints.{cause_words, goer, goes_on_at, not_rising_lines, number_words};
+ghost use Rattle.sw_verdict_hints.specs.CertificateHints.{cause_words, ends_words, goer, goes_on_at, not_rising_lines, number_words};
 
 use crate::certificate_places::listed_for;
-use crate::made_texts::{in_turn, two_lines};
+use crate::made_texts::{joined, two_lines};
 use std::alloc::{AllocError, Global};
 use sw_cert::Certificate;
 use sw_config::{Flow, Network};
@@ -24,6 +24,17 @@ fn number_of(numbers: &[u16], channel: Chan) -> u16
     }
 }
 
+// The ends of the channel, behind a space, if the network has it.
+fn ends_words(alloc: Global, network: &Network, channel: Chan) -> Result<String, AllocError>
+    ensures { IfOk result (λ s. string_bytes s ≡ ends_words network.now channel) }
+{
+    if channel.number() >= network.channels() {
+        return Ok(String::new(alloc));
+    }
+    let ends = channel_text(alloc, network, channel)?;
+    format!(in alloc; " {ends}")
+}
+
 // The channel and its number, behind these words; with its ends if the network has it.
 fn number_words(
     alloc: Global,
@@ -36,11 +47,8 @@ fn number_words(
 {
     let number = number_of(numbers, channel);
     let at = channel.number();
-    if at >= network.channels() {
-        return format!(in alloc; "{before}number {number} at channel {at}");
-    }
-    let ends = channel_text(alloc, network, channel)?;
-    format!(in alloc; "{before}number {number} at channel {at} {ends}")
+    let words = format!(in alloc; "{before}number {number} at channel {at}");
+    joined(alloc, words, ends_words(alloc, network, channel))
 }
 
 // Does the flow go on from this place, on the one channel, to the other?
@@ -124,7 +132,8 @@ pub(crate) fn not_rising_lines(
     let first = number_words(alloc, "", network, numbers, channel);
     let second = number_words(alloc, ", and ", network, numbers, next);
     let cause = cause_words(alloc, network, goer(network, certificate, channel, next));
-    let found = in_turn(alloc, first, second, cause);
+    let behind = joined(alloc, second, cause);
+    let found = joined(alloc, first, behind);
     let least = number_of(numbers, channel);
     let number = next.number();
     let expected = format!(in alloc; "a number above {least} at channel {number}");

@@ -1,10 +1,10 @@
 //! What of the places that a certificate lists is wrong, in words.
-ghost use Rattle.std.specs.Prelude.{◌≡◌, ◌<◌, ◌≤◌, ◌++◌, IfOk, codes, length, string_bytes};
+ghost use Rattle.std.specs.Prelude.{◌≡◌, ◌<◌, ◌≤◌, IfOk, length, string_bytes};
 ghost use Rattle.sw_config.specs.Entries.{all_flows};
 ghost use Rattle.sw_check.specs.Refusals.{is_in_range, is_listed, start_of};
 ghost use Rattle.sw_verdict_hints.specs.CertificateHints.{count_words, faulty_lines, is_of_size, listed_for, missing, no_start_lines, not_closed_lines, outside_at, outside_lines, place_words, range_lines, wrong_count_lines};
 
-use crate::made_texts::{told_of, two_lines};
+use crate::made_texts::{joined, told_of, two_lines};
 use crate::route_hints::found_words;
 use std::alloc::{AllocError, Global};
 use sw_cert::Certificate;
@@ -19,15 +19,6 @@ fn place_words(alloc: Global, place: &Place, flow: &str) -> Result<String, Alloc
     let channel = place.channel.number();
     let deleted = place.deleted;
     format!(in alloc; "place {channel} {deleted} of flow {flow}")
-}
-
-// The same with words behind it.
-fn place_with(alloc: Global, place: &Place, flow: &str, words: &str) -> Result<String, AllocError>
-    ensures { IfOk result (λ s. string_bytes s ≡ place_words place.now flow.now ++ (codes ", " ++ words.now)) }
-{
-    let channel = place.channel.number();
-    let deleted = place.deleted;
-    format!(in alloc; "place {channel} {deleted} of flow {flow}, {words}")
 }
 
 // ---- wrong counts
@@ -151,7 +142,6 @@ fn start_of(network: &Network, flow: &Flow) -> Place
 /// # Errors
 ///
 /// There is no memory for the text.
-#[tactic(auto, using(crate::proofs::TextsMade::told_if))]
 pub(crate) fn no_start_lines(
     alloc: Global,
     network: &Network,
@@ -159,14 +149,14 @@ pub(crate) fn no_start_lines(
 ) -> Result<String, AllocError>
     ensures { IfOk result (λ s. string_bytes s ≡ no_start_lines network.now number) }
 {
-    if number < network.flows() {
-        let flow = network.flow(number);
-        let start = start_of(network, flow);
-        let words = place_with(alloc, &start, flow.name(), "where it starts");
-        told_of(alloc, "expected", words)
-    } else {
-        Ok(String::new(alloc))
+    if number >= network.flows() {
+        return Ok(String::new(alloc));
     }
+    let flow = network.flow(number);
+    let start = start_of(network, flow);
+    let place = place_words(alloc, &start, flow.name());
+    let behind = String::from_str(alloc, ", where it starts");
+    told_of(alloc, "expected", joined(alloc, place, behind))
 }
 
 fn is_listed(listed: &[Place], place: &Place) -> bool
@@ -198,7 +188,6 @@ fn missing(network: &Network, flow: &Flow, listed: &[Place], place: &Place) -> O
 /// # Errors
 ///
 /// There is no memory for the text.
-#[tactic(auto, using(crate::proofs::TextsMade::two_lines_if))]
 pub(crate) fn not_closed_lines(
     alloc: Global,
     network: &Network,
@@ -216,9 +205,11 @@ pub(crate) fn not_closed_lines(
     let Some(next) = missing(network, flow, listed, place) else {
         return Ok(String::new(alloc));
     };
-    let found = place_words(alloc, place, flow.name());
-    let expected = place_with(alloc, &next, flow.name(), "which follows it");
-    two_lines(alloc, found, "expected", expected)
+    let name = flow.name();
+    let found = place_words(alloc, place, name);
+    let follower = place_words(alloc, &next, name);
+    let behind = String::from_str(alloc, ", which follows it");
+    two_lines(alloc, found, "expected", joined(alloc, follower, behind))
 }
 
 /// Of a place with a fault.
@@ -226,7 +217,6 @@ pub(crate) fn not_closed_lines(
 /// # Errors
 ///
 /// There is no memory for the text.
-#[tactic(auto, using(crate::proofs::TextsMade::two_lines_if))]
 pub(crate) fn faulty_lines(
     alloc: Global,
     network: &Network,
@@ -236,8 +226,11 @@ pub(crate) fn faulty_lines(
 ) -> Result<String, AllocError>
     ensures { IfOk result (λ s. string_bytes s ≡ faulty_lines network.now number place.now fault) }
 {
-    let words = found_words(alloc, network, place, fault)?;
-    let found = place_with(alloc, place, flow_name(network, number), words.as_str());
+    let listed = place_words(alloc, place, flow_name(network, number));
+    let comma = String::from_str(alloc, ", ");
+    let words = found_words(alloc, network, place, fault);
+    let behind = joined(alloc, comma, words);
+    let found = joined(alloc, listed, behind);
     let expected = String::from_str(alloc, "places of the flow alone, and none with a fault");
     two_lines(alloc, found, "expected", expected)
 }

@@ -1,11 +1,11 @@
 //! What to change, so that a flow is well routed.
-ghost use Rattle.std.specs.Prelude.{◌≡◌, ◌<◌, IfOk, Some, length, slice_index, string_bytes};
+ghost use Rattle.std.specs.Prelude.{◌≡◌, ◌<◌, ◌++◌, IfOk, Some, codes, length, slice_index, string_bytes};
 ghost use Rattle.sw_topo.specs.Checked.{IsIn};
-ghost use Rattle.sw_verdict_hints.specs.RouteHints.{address_words, change_words, help_words, switch_help, wrong_left_help, wrong_node_help};
+ghost use Rattle.sw_verdict_hints.specs.RouteHints.{address_words, change_words, help_words, links_words, switch_help, wrong_left_help, wrong_node_help};
 
-use crate::ways::add_numbers;
+use crate::made_texts::joined;
+use crate::ways::numbers_text;
 use std::alloc::{AllocError, Global};
-use std::fmt::Write;
 use sw_config::{Flow, Network};
 use sw_flow::RouteFault;
 use sw_output::{linked_ports, node_name, switch_name};
@@ -38,7 +38,18 @@ fn change_words(alloc: Global, address: &str, byte: Option<u8>) -> Result<String
     format!(in alloc; "a 'route' entry for address {byte} has to name a port with a link")
 }
 
-// The same, and where a packet can go on to from the switch.
+// Where a packet can go on to from the switch.
+fn links_words(alloc: Global, network: &Network, switch: u16) -> Result<String, AllocError>
+    requires { switch < length network.now.switches }
+    ensures { IfOk result (λ s. string_bytes s ≡ codes "; " ++ links_words network.now switch) }
+{
+    let name = switch_name(network, switch);
+    let linked = linked_ports(alloc, network, switch)?;
+    let ports = numbers_text(alloc, &linked)?;
+    format!(in alloc; "; {name} has links at ports{ports}")
+}
+
+// What to change at the switch, and where a packet can go on to from there.
 fn switch_help(
     alloc: Global,
     network: &Network,
@@ -49,12 +60,8 @@ fn switch_help(
     requires { switch < length network.now.switches }
     ensures { IfOk result (λ s. string_bytes s ≡ switch_help network.now number switch byte) }
 {
-    let name = switch_name(network, switch);
-    let linked = linked_ports(alloc, network, switch)?;
-    let mut text = change_words(alloc, address_words(network, number), byte)?;
-    write!(text, "; {name} has links at ports")?;
-    add_numbers(&mut text, &linked)?;
-    Ok(text)
+    let change = change_words(alloc, address_words(network, number), byte);
+    joined(alloc, change, links_words(alloc, network, switch))
 }
 
 fn wrong_node_help(

@@ -1,5 +1,5 @@
 //! The hint of a flow that a call names.
-ghost use Rattle.std.specs.Prelude.{◌≡◌, IfOk, Some, map, option_map, position, slice_get, string_bytes};
+ghost use Rattle.std.specs.Prelude.{◌≡◌, IfOk, Some, option_map, position, slice_get, string_bytes};
 ghost use Rattle.std.specs.Str.{bytes_eq};
 ghost use Rattle.sw_config.specs.Entries.{all_flows, flow_names};
 ghost use Rattle.sw_flow.specs.Places.{IsPlace};
@@ -7,7 +7,7 @@ ghost use Rattle.sw_hints.specs.Helps.{meant_help};
 ghost use Rattle.sw_hints.specs.Nearest.{like};
 ghost use Rattle.sw_verdict_hints.specs.FlowHints.{IsHintAt, IsHintNamed, IsHintOn, IsNamedFlowHint, unknown_hint};
 
-use crate::made_texts::{in_turn, told_of};
+use crate::made_texts::{joined, told_of};
 use crate::route_hints::flow_hint;
 use std::alloc::{AllocError, Global};
 use sw_config::{Flow, Network};
@@ -16,22 +16,14 @@ use sw_flow::{Place, RouteFault, first_fault, places, way_to};
 use sw_hints::{head_line, like, meant_help, told};
 use sw_notes::text_fault;
 
-// The names of all flows.
-fn flow_names(alloc: Global, network: &Network) -> Result<Vec<&str>, AllocError>
-    ensures { IfOk result (λ v. map (λ t. t.now) v.items ≡ flow_names (all_flows network.now)) }
+// Which flow is meant, maybe.
+fn meant_name(alloc: Global, network: &Network, name: &str) -> Result<String, AllocError>
+    ensures { IfOk result (λ s. string_bytes s ≡ meant_help (like name.now (flow_names (all_flows network.now)))) }
 {
     let mut names = Vec::new(alloc);
     for number in 0..network.flows() {
         names.push(network.flow(number).name())?;
     }
-    Ok(names)
-}
-
-// Which flow is meant, maybe.
-fn meant_name(alloc: Global, network: &Network, name: &str) -> Result<String, AllocError>
-    ensures { IfOk result (λ s. string_bytes s ≡ meant_help (like name.now (flow_names (all_flows network.now)))) }
-{
-    let names = flow_names(alloc, network)?;
     meant_help(alloc, like(alloc, name, &names)?)
 }
 
@@ -47,7 +39,8 @@ fn unknown_hint(
     let head = head_line(alloc, path, &[], None, "no flow has this name");
     let found = told(alloc, "found", name.as_bytes());
     let help = told_of(alloc, "help", meant_name(alloc, network, name));
-    in_turn(alloc, head, found, help)
+    let last = joined(alloc, found, help);
+    joined(alloc, head, last)
 }
 
 // Of the flow of that number, whose place has this fault.

@@ -1,9 +1,9 @@
 //! Texts of others that are made.
 ghost use Rattle.std.specs.Prelude.{IfOk, string_bytes};
-ghost use Rattle.sw_verdict_hints.specs.MadeTexts.{AreInTurn, AreTwoLines, IsTold};
+ghost use Rattle.sw_verdict_hints.specs.MadeTexts.{AreJoined, AreTwoLines, IsHead, IsTold};
 
 use std::alloc::{AllocError, Global};
-use sw_hints::told;
+use sw_hints::{head_line, told};
 
 /// A line that this word begins.
 ///
@@ -20,6 +20,38 @@ pub(crate) fn told_of(
     told(alloc, word, words?.as_bytes())
 }
 
+/// The first line of a hint on what is at the path.
+///
+/// # Errors
+///
+/// There was no memory for what is told, or there is none for the line.
+pub(crate) fn head_of(
+    alloc: Global,
+    path: &str,
+    words: Result<String, AllocError>,
+) -> Result<String, AllocError>
+    ensures { IfOk result (λ s. IsHead path.now words (string_bytes s)) }
+{
+    head_line(alloc, path, &[], None, words?.as_str())
+}
+
+/// Two texts, the one behind the other.
+///
+/// # Errors
+///
+/// There was no memory for one of the texts, or there is none for both.
+pub(crate) fn joined(
+    alloc: Global,
+    first: Result<String, AllocError>,
+    second: Result<String, AllocError>,
+) -> Result<String, AllocError>
+    ensures { IfOk result (λ s. AreJoined first second (string_bytes s)) }
+{
+    let first = first?;
+    let second = second?;
+    format!(in alloc; "{first}{second}")
+}
+
 /// A line of what was found, and one that this word begins.
 ///
 /// # Errors
@@ -33,26 +65,7 @@ pub(crate) fn two_lines(
 ) -> Result<String, AllocError>
     ensures { IfOk result (λ s. AreTwoLines found word.now behind (string_bytes s)) }
 {
-    let found = told_of(alloc, "found", found)?;
-    let behind = told_of(alloc, word, behind)?;
-    format!(in alloc; "{found}{behind}")
-}
-
-/// Three texts, one after the other.
-///
-/// # Errors
-///
-/// There was no memory for one of the texts, or there is none for all of them.
-pub(crate) fn in_turn(
-    alloc: Global,
-    first: Result<String, AllocError>,
-    second: Result<String, AllocError>,
-    third: Result<String, AllocError>,
-) -> Result<String, AllocError>
-    ensures { IfOk result (λ s. AreInTurn first second third (string_bytes s)) }
-{
-    let first = first?;
-    let second = second?;
-    let third = third?;
-    format!(in alloc; "{first}{second}{third}")
+    let found = told_of(alloc, "found", found);
+    let behind = told_of(alloc, word, behind);
+    joined(alloc, found, behind)
 }

@@ -2,16 +2,15 @@
 ghost use Rattle.std.specs.Prelude.{◌≡◌, ◌<◌, All, IfOk, length, string_bytes};
 ghost use Rattle.sw_config.specs.Entries.{wiring_of};
 ghost use Rattle.sw_flow.specs.Places.{end_of};
-ghost use Rattle.sw_verdict_hints.specs.RouteHints.{flow_head, flow_hint, found_words, place_name};
+ghost use Rattle.sw_verdict_hints.specs.RouteHints.{flow_hint, found_words, place_name};
 
 use crate::changes::help_words;
-use crate::made_texts::{in_turn, two_lines};
+use crate::made_texts::{head_of, joined, two_lines};
 use crate::ways::way_lines;
 use std::alloc::{AllocError, Global};
 use sw_app_changes::fault_words;
 use sw_config::{Flow, Network};
 use sw_flow::{Place, RouteFault};
-use sw_hints::head_line;
 use sw_output::{node_name, switch_name};
 use sw_topo::{Chan, PlaceEnd};
 
@@ -47,13 +46,6 @@ pub(crate) fn found_words(
     format!(in alloc; "{name}: {words}")
 }
 
-fn flow_head(alloc: Global, path: &str, name: &str) -> Result<String, AllocError>
-    ensures { IfOk result (λ s. string_bytes s ≡ flow_head path.now name.now) }
-{
-    let words = format!(in alloc; "flow {name} is misrouted")?;
-    head_line(alloc, path, &[], None, words.as_str())
-}
-
 /// What is told of a flow that is not well routed: the way to its place with a fault, what happens there, and what to change.
 ///
 /// # Errors
@@ -73,11 +65,13 @@ pub(crate) fn flow_hint(
     requires way { All (λ p. p.channel < length (wiring_of network.now).ends) way.now }
     ensures { IfOk result (λ s. string_bytes s ≡ flow_hint path.now network.now number flow.now place.now fault way.now) }
 {
-    let head = flow_head(alloc, path, flow.name());
+    let name = flow.name();
+    let head = head_of(alloc, path, format!(in alloc; "flow {name} is misrouted"));
     let lines = way_lines(alloc, network, flow, way);
     let end = network.topology().end_of(place.channel);
     let found = found_words(alloc, network, place, fault);
     let help = help_words(alloc, network, number, flow, place.deleted, fault, end);
     let last = two_lines(alloc, found, "help", help);
-    in_turn(alloc, head, lines, last)
+    let behind = joined(alloc, lines, last);
+    joined(alloc, head, behind)
 }

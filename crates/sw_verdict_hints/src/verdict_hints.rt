@@ -1,15 +1,13 @@
 //! The hint of a verdict that is not free, and of a misrouted one alone.
 ghost use Rattle.std.specs.Prelude.{◌≡◌, IfOk, option_map, string_bytes};
 ghost use Rattle.sw_file.specs.Network.{network_text};
-ghost use Rattle.sw_search.specs.Explanations.{GoesWrong, IsExplanation};
-ghost use Rattle.sw_verdict_hints.specs.RouteHints.{misrouted_hint};
+ghost use Rattle.sw_search.specs.Explanations.{IsExplanation};
 ghost use Rattle.sw_verdict_hints.specs.VerdictHints.{IsHintFor, IsHintOf, IsMisroutedHint, IsVerdictHint, hint_by};
 
 use crate::route_hints::flow_hint;
 use std::alloc::{AllocError, Global};
 use sw_config::Network;
 use sw_file::read_network;
-use sw_flow::{Place, RouteFault};
 use sw_hints::head_line;
 use sw_notes::text_fault;
 use sw_search::{Explanation, VerdictWorkers, explain};
@@ -19,25 +17,6 @@ use sw_search::{Explanation, VerdictWorkers, explain};
 pub(crate) enum Hinted {
     Each,
     MisroutedAlone,
-}
-
-// Of the flow that is the first one not well routed.
-fn misrouted_hint(
-    alloc: Global,
-    path: &str,
-    network: &Network,
-    number: u16,
-    place: &Place,
-    fault: RouteFault,
-    way: &[Place],
-) -> Result<String, AllocError>
-    requires { GoesWrong network.now number place.now fault way.now }
-    ensures { IfOk result (λ s. string_bytes s ≡ misrouted_hint path.now network.now number place.now fault way.now) }
-{
-    // Names the network, which is valid by its type.
-    let _topology = network.topology();
-    let flow = network.flow(number);
-    flow_hint(alloc, path, network, number, flow, place, fault, way)
 }
 
 const CYCLIC_HELP: &str =
@@ -60,7 +39,13 @@ fn hint_by(
             place,
             fault,
             way,
-        } => Ok(Some(misrouted_hint(alloc, path, network, *flow, place, *fault, way)?)),
+        } => {
+            // Names the network, which is valid by its type.
+            let _topology = network.topology();
+            let number = *flow;
+            let flow = network.flow(number);
+            Ok(Some(flow_hint(alloc, path, network, number, flow, place, *fault, way)?))
+        }
         Explanation::Cyclic(_) => match hinted {
             // Where to look at channels that can wait for one another in a circle.
             Hinted::Each => Ok(Some(head_line(alloc, "help", &[], None, CYCLIC_HELP)?)),

@@ -3,35 +3,37 @@ ghost use Rattle.std.specs.Prelude.{◌≡◌, ◌<◌, ◌+◌, ◌++◌, ◌^�
 ghost use Rattle.sw_config.specs.Entries.{wiring_of};
 ghost use Rattle.sw_verdict_hints.specs.RouteHints.{left_words, number_word, way_line, way_lines_from};
 
+use crate::made_texts::joined;
 use std::alloc::{AllocError, Global};
 use std::fmt::Write;
 use sw_config::{Flow, Network};
 use sw_flow::Place;
 use sw_output::channel_text;
 
-/// Adds the numbers, each behind a space.
+/// The numbers, each behind a space.
 ///
 /// # Errors
 ///
 /// There is no memory for the text.
-pub(crate) fn add_numbers(text: &mut String, numbers: &[u8]) -> Result<(), AllocError>
-    ensures { OnOk result (string_bytes text.new ≡ string_bytes text.old ++ flat_map number_word numbers.now) }
+pub(crate) fn numbers_text(alloc: Global, numbers: &[u8]) -> Result<String, AllocError>
+    ensures { IfOk result (λ s. string_bytes s ≡ flat_map number_word numbers.now) }
 {
+    let mut text = String::new(alloc);
     for number in numbers {
         write!(text, " {number}")?;
     }
-    Ok(())
+    Ok(text)
 }
 
-// Adds the address bytes that a packet still has.
-fn add_left(text: &mut String, bytes: &[u8]) -> Result<(), AllocError>
-    ensures { OnOk result (string_bytes text.new ≡ string_bytes text.old ++ left_words bytes.now) }
+// The address bytes that a packet still has.
+fn left_words(alloc: Global, bytes: &[u8]) -> Result<String, AllocError>
+    ensures { IfOk result (λ s. string_bytes s ≡ left_words bytes.now) }
 {
     match bytes {
-        [] => text.push_str("no address byte left"),
+        [] => String::from_str(alloc, "no address byte left"),
         bytes => {
-            text.push_str("address bytes left:")?;
-            add_numbers(text, bytes)
+            let before = String::from_str(alloc, "address bytes left:");
+            joined(alloc, before, numbers_text(alloc, bytes))
         }
     }
 }
@@ -42,26 +44,6 @@ fn behind(bytes: &[u8], deleted: u8) -> &[u8]
 {
     let from = (deleted as usize).min(bytes.len());
     &bytes[from..]
-}
-
-// Adds the line of the place that comes behind so many others.
-fn add_way_line(
-    text: &mut String,
-    alloc: Global,
-    network: &Network,
-    flow: &Flow,
-    before: usize,
-    place: Place,
-) -> Result<(), AllocError>
-    requires within { place.channel < length (wiring_of network.now).ends }
-    requires few { before + 1 < 2 ^ 64 }
-    ensures { OnOk result (string_bytes text.new ≡ string_bytes text.old ++ way_line network.now flow.now before place) }
-{
-    let number = before + 1;
-    let channel = channel_text(alloc, network, place.channel)?;
-    write!(text, "  {number}. {channel}, ")?;
-    add_left(text, behind(flow.address(), place.deleted))?;
-    text.push_str("\n")
 }
 
 /// A line for each place that packets of the flow go over, with the address bytes that are left there.
@@ -80,7 +62,10 @@ pub(crate) fn way_lines(
 {
     let mut text = String::new(alloc);
     for (before, place) in places.iter().enumerate() {
-        add_way_line(&mut text, alloc, network, flow, before, *place)?;
+        let number = before + 1;
+        let channel = channel_text(alloc, network, place.channel)?;
+        let left = left_words(alloc, behind(flow.address(), place.deleted))?;
+        write!(text, "  {number}. {channel}, {left}\n")?;
     }
     Ok(text)
 }
