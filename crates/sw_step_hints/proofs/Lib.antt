@@ -1,2 +1,3 @@
 pub mod Lines
 mod Numbered
+mod StepWords

@@ -43,6 +43,11 @@ abbrev pub expected : Declaration → StepRefusal → Step → List ℕ
 expected d NotEnabled step = needs d step
 expected d NotInFlow step = codes "no command that the target would answer, or one whose reply goes where the flow's 'reply' says"
 
+-- why a step is refused, behind its number
+abbrev pub refused_words : StepRefusal → List ℕ
+refused_words NotEnabled = codes " is not possible when the steps before it are made"
+refused_words NotInFlow = codes " begins a packet that its flow does not declare"
+
 -- why it is refused
 abbrev pub refused : ℕ → StepRefusal → List ℕ
 refused number NotEnabled = about (codes "step ") number (codes " is not possible when the steps before it are made")
@@ -75,6 +80,11 @@ line_with d n k (line ∷ lines) =
 abbrev pub step_head : List ℕ → Option (ℕ × List ℕ) → List ℕ → List ℕ
 step_head path None why = head_line path [] None why
 step_head path (Some at) why = head_line (path ++ (codes ":" ++ decimal at.0)) [] None why
+
+-- the name of the place
+abbrev pub step_place : List ℕ → Option (ℕ × List ℕ) → List ℕ
+step_place path None = path
+step_place path (Some at) = path ++ (codes ":" ++ decimal at.0)
 
 -- what stands there
 abbrev pub step_found : Option (ℕ × List ℕ) → List ℕ

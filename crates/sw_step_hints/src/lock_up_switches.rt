@@ -1,5 +1,5 @@
 //! What is told of a switch where the network is locked up.
-ghost use Rattle.std.specs.Prelude.{◌≡◌, ◌<◌, ◌++◌, IfOk, OnOk, flat_map, length, map, option_map, option_to_list, string_bytes};
+ghost use Rattle.std.specs.Prelude.{◌≡◌, ◌<◌, ◌++◌, IfOk, flat_map, length, map, option_map, option_to_list, string_bytes};
 ghost use Rattle.sw_step_hints.specs.LockHints.{credit_words, held_line, idle_line, named_ports, or_output, port_line, switch_lines, waiting_line, waiting_text};
 
 use crate::channel_names::{port_input, port_output};
@@ -76,21 +76,6 @@ fn named_ports(
     Ok(all)
 }
 
-// Adds one channel more that an input waits for.
-fn add_output(
-    text: &mut String,
-    alloc: Global,
-    network: &Network,
-    switch: u16,
-    port: Port,
-) -> Result<(), AllocError>
-    requires { switch < length network.now.switches }
-    ensures { OnOk result (string_bytes text.new ≡ string_bytes text.old ++ or_output network.now switch port) }
-{
-    let output = port_output(alloc, network, switch, port)?;
-    write!(text, " or {output}")
-}
-
 // More channels that it waits for.
 fn more_outputs(
     alloc: Global,
@@ -103,7 +88,8 @@ fn more_outputs(
 {
     let mut text = String::new(alloc);
     for port in ports {
-        add_output(&mut text, alloc, network, switch, *port)?;
+        let output = port_output(alloc, network, switch, *port)?;
+        write!(text, " or {output}")?;
     }
     Ok(text)
 }

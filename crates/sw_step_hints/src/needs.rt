@@ -1,10 +1,12 @@
 //! What a step needs, in words.
 ghost use Rattle.std.specs.Prelude.{◌≡◌, ◌++◌, IfOk, codes, string_bytes};
+ghost use Rattle.sw_hints.specs.HintLines.{told};
 ghost use Rattle.sw_model.specs.Steps.{machine_step};
-ghost use Rattle.sw_step_hints.specs.StepHints.{about, expected, needs, refused};
+ghost use Rattle.sw_step_hints.specs.StepHints.{about, expected, needs, refused, refused_words};
 
 use std::alloc::{AllocError, Global};
 use sw_config::Network;
+use sw_hints::told;
 use sw_output::{flow_name, node_name};
 use sw_schedule::{Step, StepRefusal};
 use sw_topo::Chan;
@@ -35,6 +37,9 @@ fn grant_needs(alloc: Global, output: Chan, input: Chan) -> Result<String, Alloc
     )?;
     about(alloc, "an input from channel ", input, named.as_str())
 }
+
+const NOT_IN_FLOW: &str =
+    "no command that the target would answer, or one whose reply goes where the flow's 'reply' says";
 
 // What the step needs to be possible.
 fn needs(alloc: Global, network: &Network, step: &Step) -> Result<String, AllocError>
@@ -105,25 +110,32 @@ fn needs(alloc: Global, network: &Network, step: &Step) -> Result<String, AllocE
     }
 }
 
-/// What is expected in place of the step.
+/// The line of what is expected in place of the step.
 ///
 /// # Errors
 ///
 /// There is no memory for the text.
-pub(crate) fn expected(
+pub(crate) fn expected_line(
     alloc: Global,
     network: &Network,
     refusal: StepRefusal,
     step: &Step,
 ) -> Result<String, AllocError>
-    ensures { IfOk result (λ s. string_bytes s ≡ expected network.now refusal (machine_step step.now)) }
+    ensures { IfOk result (λ s. string_bytes s ≡ told (codes "expected") (expected network.now refusal (machine_step step.now))) }
 {
     match refusal {
-        StepRefusal::NotEnabled => needs(alloc, network, step),
-        StepRefusal::NotInFlow => String::from_str(
-            alloc,
-            "no command that the target would answer, or one whose reply goes where the flow's 'reply' says",
-        ),
+        StepRefusal::NotEnabled => told(alloc, "expected", needs(alloc, network, step)?.as_bytes()),
+        StepRefusal::NotInFlow => told(alloc, "expected", NOT_IN_FLOW.as_bytes()),
+    }
+}
+
+// Why a step is refused, behind its number.
+fn refused_words(refusal: StepRefusal) -> &'static str
+    ensures { result.now ≡ refused_words refusal }
+{
+    match refusal {
+        StepRefusal::NotEnabled => " is not possible when the steps before it are made",
+        StepRefusal::NotInFlow => " begins a packet that its flow does not declare",
     }
 }
 
@@ -139,12 +151,6 @@ pub(crate) fn refused(
 ) -> Result<String, AllocError>
     ensures { IfOk result (λ s. string_bytes s ≡ refused number refusal) }
 {
-    match refusal {
-        StepRefusal::NotEnabled => {
-            format!(in alloc; "step {number} is not possible when the steps before it are made")
-        }
-        StepRefusal::NotInFlow => {
-            format!(in alloc; "step {number} begins a packet that its flow does not declare")
-        }
-    }
+    let words = refused_words(refusal);
+    format!(in alloc; "step {number}{words}")
 }

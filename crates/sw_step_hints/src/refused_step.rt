@@ -1,14 +1,24 @@
 //! What is told of a step that can't be made.
 ghost use Rattle.std.specs.Prelude.{◌≡◌, IfOk, option_map, string_bytes};
-ghost use Rattle.sw_step_hints.specs.StepHints.{refused, step_expected, step_found, step_head, step_hint, step_numbered};
+ghost use Rattle.sw_step_hints.specs.StepHints.{refused, step_expected, step_found, step_head, step_hint, step_numbered, step_place};
 
 use crate::line::line_with;
-use crate::needs::{expected, refused};
+use crate::needs::{expected_line, refused};
 use crate::step::step_numbered;
 use std::alloc::{AllocError, Global};
 use sw_config::Network;
-use sw_hints::{found_line, head_line, told};
+use sw_hints::{found_line, head_line};
 use sw_schedule::{Schedule, StepRefusal};
+
+// The name of the place.
+fn step_place(alloc: Global, path: &str, at: Option<(u64, &[u8])>) -> Result<String, AllocError>
+    ensures { IfOk result (λ s. string_bytes s ≡ step_place path.now (option_map (λ r. (r.0, r.1.now)) at.entry)) }
+{
+    match at {
+        None => String::from_str(alloc, path),
+        Some((line, _)) => format!(in alloc; "{path}:{line}"),
+    }
+}
 
 // Where, and why.
 fn step_head(
@@ -20,14 +30,9 @@ fn step_head(
 ) -> Result<String, AllocError>
     ensures { IfOk result (λ s. string_bytes s ≡ step_head path.now (option_map (λ r. (r.0, r.1.now)) at.entry) (refused number refusal)) }
 {
+    let place = step_place(alloc, path, at)?;
     let why = refused(alloc, number, refusal)?;
-    match at {
-        None => head_line(alloc, path, &[], None, why.as_str()),
-        Some((line, _)) => {
-            let place = format!(in alloc; "{path}:{line}")?;
-            head_line(alloc, place.as_str(), &[], None, why.as_str())
-        }
-    }
+    head_line(alloc, place.as_str(), &[], None, why.as_str())
 }
 
 // What stands there.
@@ -53,9 +58,9 @@ fn step_expected(
     match step_numbered(alloc, schedule.entries(), number)? {
         None => Ok(String::new(alloc)),
         Some(step) => {
-            let words = expected(alloc, network, refusal, &step);
+            let line = expected_line(alloc, network, refusal, &step);
             drop(step);
-            told(alloc, "expected", words?.as_bytes())
+            line
         }
     }
 }
