@@ -8,7 +8,6 @@ use Rattle.swcheck.specs.Accesses.{IsAccess, IsNoAccess}
 use Rattle.swcheck.specs.declared.engines.Engine.{Engine}
 use Rattle.swcheck.specs.declared.engines.Engine.TheVariants as engine
 use Rattle.swcheck.specs.declared.engines.SecondEngine.TheVariants as second
-use Rattle.swcheck.specs.declared.recorded.Shape.TheVariants as shape
 use Rattle.swcheck.specs.declared.work.Work.{Work}
 use Rattle.swcheck.specs.declared.work.Work.TheVariants as work
 
@@ -51,7 +50,7 @@ IsWorkOf (Check file certificate json) w = w ≡ (if json then work.Two file cer
 IsWorkOf (Replay file schedule json) w = w ≡ work.Two file schedule (if json then second.ReplayObject else second.Replay)
 IsWorkOf (Run file load workers limit schedule summary json) w =
     w ≡ work.Load (record
-    { network = file; load = load; workers = workers; limit = limit; schedule = schedule; summary = summary; shape = if json then shape.Json else shape.Text })
+    { network = file; load = load; workers = workers; limit = limit; schedule = schedule; summary = summary; json = json })
 IsWorkOf (Migrate file) w = w ≡ work.Migrate file
 IsWorkOf (Audit json quiet certificates) w = w ≡ work.Audit json quiet certificates
 IsWorkOf (Init name) w = w ≡ work.Init name

@@ -5,7 +5,7 @@ ghost use Rattle.swcheck.specs.Works.{HasJob};
 use crate::disk::{Disk, RELEASE};
 use crate::engines::{run_engine, run_second};
 use crate::hints::{MOST_EXPLAINED, hinted};
-use crate::noted::{Made, Noted};
+use crate::noted::Noted;
 use crate::recorded::run_load;
 use crate::work::{Work, work_of};
 use std::fs;
@@ -15,7 +15,7 @@ use std::sync::Wait;
 use std::thread::Threads;
 use sw_app::EndedWith;
 use sw_app_audit::audit;
-use sw_args::{Asked, Call};
+use sw_args::Asked;
 use sw_calls::{
     check_files, decide_file, given_call, given_texts, given_words, hints_of, migrate_file,
     no_hints, report_file, route_file, tell_refused, told_end, write_sample,
@@ -34,19 +34,10 @@ pub(crate) fn run_program<
     C: VerdictWorkers,
 >(rt: &R, workers: &C, host: &HostRuntime) -> u8 {
     match given_texts(rt) {
-        Ok(texts) => run_texts(rt, workers, host, texts.as_slice()),
-        Err(status) => status,
-    }
-}
-
-fn run_texts<R: Files + Print + Eprint + AllocGlobal + Threads + Wait + Sync, C: VerdictWorkers>(
-    rt: &R,
-    workers: &C,
-    host: &HostRuntime,
-    texts: &[String],
-) -> u8 {
-    match given_words(rt, texts) {
-        Ok(words) => run_words(rt, workers, host, words.as_slice()),
+        Ok(texts) => match given_words(rt, texts.as_slice()) {
+            Ok(words) => run_words(rt, workers, host, words.as_slice()),
+            Err(status) => status,
+        },
         Err(status) => status,
     }
 }
@@ -71,34 +62,18 @@ fn run_asked<R: Files + Print + Eprint + AllocGlobal + Threads + Wait + Sync, C:
 ) -> Ended
     requires { HasWorkers asked.now.call }
 {
-    let call = asked.call;
+    let call = &asked.call;
     match hints_of(asked.hints) {
         Some(hints) => {
-            let made = run_call(rt, workers, host, call, &asked.files);
-            told_end(rt, made.end.ended);
-            let ended = hinted(rt, workers, &call, hints, &made);
+            let mut writer = Noted::new("standard output", io::writer(rt));
+            let end = run_work(rt, workers, host, work_of(call), &asked.files, &mut writer);
+            told_end(rt, end.ended);
+            let ended = hinted(rt, workers, call, hints, &end, writer.unwritten);
             // The network is let go where engines let theirs go.
-            made.end.into_ended();
+            end.into_ended();
             ended
         }
         None => no_hints(rt),
-    }
-}
-
-fn run_call<'a, R: Files + Print + Eprint + AllocGlobal + Threads + Wait + Sync, C: VerdictWorkers>(
-    rt: &R,
-    workers: &C,
-    host: &HostRuntime,
-    call: Call<'a>,
-    files: &[&str],
-) -> Made<'a>
-    requires { HasWorkers call }
-{
-    let mut writer = Noted::new("standard output", io::writer(rt));
-    let end = run_work(rt, workers, host, work_of(&call), files, &mut writer);
-    Made {
-        end,
-        unwritten: writer.unwritten,
     }
 }
 

@@ -4,13 +4,14 @@ ghost use Rattle.std.specs.Prelude.{◌≡◌};
 ghost use Rattle.swcheck.specs.Asked.{due_after, due_of};
 
 use crate::asked::{file_of, flow_of, second_of};
-use crate::noted::Made;
+use crate::noted::Failed;
 use crate::notes::{is_noted, notes_on};
 use crate::told::tell_text;
 use crate::unread::{tell_failed, unread};
-use std::alloc::Global;
+use std::alloc::AllocError;
 use std::fs;
 use std::rt::Files;
+use sw_app::EndedWith;
 use sw_args::Call;
 use sw_calls::Hints;
 use sw_command::statuses::{BAD, FAULTY, LOCKED_UP};
@@ -72,152 +73,130 @@ fn text_of<R: Files + AllocGlobal>(rt: &R, file: &str, most: usize) -> Option<Ve
 }
 
 // What to tell of a fault of the second text of a run or a replay.
-fn second_hint(
-    alloc: Global,
-    call: &Call<'_>,
-    network: &[u8],
-    path: &str,
-    text: &[u8],
-) -> Option<String> {
-    match call {
-        Call::Run { .. } => load_hint(alloc, path, network, text).unwrap_or(None),
-        Call::Replay { .. } => schedule_hint(alloc, path, network, text).unwrap_or(None),
-        _ => None,
-    }
-}
-
-// The same of the second text that a call reads, if it reads one.
-fn second_fault_hint<R: Files + AllocGlobal>(
+fn second_hint<R: Files + AllocGlobal>(
     rt: &R,
     call: &Call<'_>,
     network: &[u8],
-) -> Option<String> {
-    let path = second_of(call)?;
-    match text_of(rt, path, MAX_TEXT) {
-        Some(text) => second_hint(rt.alloc(), call, network, path, &text),
-        None => None,
+) -> Result<Option<String>, AllocError> {
+    let Some(path) = second_of(call) else {
+        return Ok(None);
+    };
+    let Some(text) = text_of(rt, path, MAX_TEXT) else {
+        return Ok(None);
+    };
+    match call {
+        Call::Run { .. } => load_hint(rt.alloc(), path, network, &text),
+        Call::Replay { .. } => schedule_hint(rt.alloc(), path, network, &text),
+        _ => Ok(None),
     }
-}
-
-// What to tell of the flow that a call names.
-fn flow_hint(alloc: Global, call: &Call<'_>, network: &[u8]) -> Option<String> {
-    named_flow_hint(alloc, file_of(call)?, network, flow_of(call)?).unwrap_or(None)
 }
 
 // What to tell of the flow that a call names, or else of its second text.
-fn named_hint<R: Files + AllocGlobal>(rt: &R, call: &Call<'_>, network: &[u8]) -> Option<String> {
-    if flow_of(call).is_some() {
-        flow_hint(rt.alloc(), call, network)
-    } else {
-        second_fault_hint(rt, call, network)
-    }
-}
-
-// What to tell of a fault of the network file, or else of what else the call names. Nothing where there is no memory for it.
-fn fault_hint_on<R: Files + AllocGlobal>(
+fn named_hint<R: Files + AllocGlobal>(
     rt: &R,
     call: &Call<'_>,
     file: &str,
     network: &[u8],
-) -> Option<String> {
-    match network_hint(rt.alloc(), file, network) {
-        Ok(Some(hint)) => Some(hint),
-        Ok(None) => named_hint(rt, call, network),
-        Err(_) => None,
+) -> Result<Option<String>, AllocError> {
+    match flow_of(call) {
+        Some(flow) => named_flow_hint(rt.alloc(), file, network, flow),
+        None => second_hint(rt, call, network),
     }
 }
 
-// What to tell of a fault: of the network file, or else of the other text or of the flow that the call names. Nothing where none has one, and
-// where one can't be read or there is no memory for it.
-fn fault_hint<R: Files + AllocGlobal>(rt: &R, call: &Call<'_>) -> Option<String> {
-    let file = file_of(call)?;
-    match text_of(rt, file, MAX_TEXT) {
-        Some(text) => fault_hint_on(rt, call, file, &text),
-        None => None,
+// What to tell of a fault of the network file, or else of what else the call names.
+fn fault_hint<R: Files + AllocGlobal>(
+    rt: &R,
+    call: &Call<'_>,
+    file: &str,
+    network: &[u8],
+) -> Result<Option<String>, AllocError> {
+    match network_hint(rt.alloc(), file, network) {
+        Ok(Some(hint)) => Ok(Some(hint)),
+        Ok(None) => named_hint(rt, call, file, network),
+        Err(refused) => Err(refused),
     }
 }
 
 // What to tell of a certificate that is refused: the line that can't be read, or else what it is refused for.
-fn refusal_hint_on<C: VerdictWorkers>(
-    workers: &C,
-    alloc: Global,
-    file: &str,
-    network: &[u8],
-    path: &str,
-    certificate: &[u8],
-) -> Option<String> {
-    match certificate_hint(alloc, path, certificate) {
-        Ok(Some(hint)) => Some(hint),
-        Ok(None) => refused_certificate_hint(
-            workers,
-            alloc,
-            file,
-            network,
-            path,
-            certificate,
-        ).unwrap_or(None),
-        Err(_) => None,
-    }
-}
-
-// The same of the certificate of a file.
-fn refusal_hint<R: Files + AllocGlobal, C: VerdictWorkers>(
+fn certificate_hints<R: Files + AllocGlobal, C: VerdictWorkers>(
     rt: &R,
     workers: &C,
     file: &str,
     network: &[u8],
     path: &str,
-) -> Option<String> {
-    match text_of(rt, path, MOST_EXPLAINED) {
-        Some(text) => refusal_hint_on(workers, rt.alloc(), file, network, path, &text),
-        None => None,
+) -> Result<Option<String>, AllocError> {
+    let Some(text) = text_of(rt, path, MOST_EXPLAINED) else {
+        return Ok(None);
+    };
+    match certificate_hint(rt.alloc(), path, &text) {
+        Ok(Some(hint)) => Ok(Some(hint)),
+        Ok(None) => refused_certificate_hint(workers, rt.alloc(), file, network, path, &text),
+        Err(refused) => Err(refused),
     }
 }
 
 // What to tell of a step that is refused, or of a network that the steps lock up.
-fn steps_hint<R: Files + AllocGlobal>(rt: &R, network: &[u8], path: &str) -> Option<String> {
+fn steps_hint<R: Files + AllocGlobal>(
+    rt: &R,
+    network: &[u8],
+    path: &str,
+) -> Result<Option<String>, AllocError> {
     match text_of(rt, path, MOST_EXPLAINED) {
-        Some(text) => replay_hint(rt.alloc(), network, path, &text).unwrap_or(None),
-        None => None,
+        Some(text) => replay_hint(rt.alloc(), network, path, &text),
+        None => Ok(None),
     }
 }
 
 // What to tell of a verdict that is not free, of a flow that goes wrong, of a refused certificate or step, of a network that is locked up.
-fn verdict_hint_on<R: Files + AllocGlobal, C: VerdictWorkers>(
+fn refusal_hint<R: Files + AllocGlobal, C: VerdictWorkers>(
     rt: &R,
     workers: &C,
     call: &Call<'_>,
     file: &str,
     network: &[u8],
-) -> Option<String> {
+) -> Result<Option<String>, AllocError> {
     match call {
-        Call::Route { .. } => flow_hint(rt.alloc(), call, network),
-        Call::Decide { .. } => verdict_hint(workers, rt.alloc(), file, network).unwrap_or(None),
-        Call::Check { certificate, .. } => refusal_hint(rt, workers, file, network, certificate),
+        Call::Route { flow, .. } => named_flow_hint(rt.alloc(), file, network, flow),
+        Call::Decide { .. } => verdict_hint(workers, rt.alloc(), file, network),
+        Call::Check { certificate, .. } => {
+            certificate_hints(rt, workers, file, network, certificate)
+        }
         Call::Replay { schedule, .. } => steps_hint(rt, network, schedule),
         Call::Mend { .. } | Call::Witness { .. } => {
-            misrouted_verdict_hint(workers, rt.alloc(), file, network).unwrap_or(None)
+            misrouted_verdict_hint(workers, rt.alloc(), file, network)
         }
-        _ => None,
+        _ => Ok(None),
     }
 }
 
-// The same of the network file that a call reads, if it reads one.
-fn verdict_hint_of<R: Files + AllocGlobal, C: VerdictWorkers>(
+// What to tell of a fault of the texts that a call reads, or else of what is refused. Nothing where there is nothing to tell, and where a text
+// can't be read.
+fn hint_of<R: Files + AllocGlobal, C: VerdictWorkers>(
     rt: &R,
     workers: &C,
     call: &Call<'_>,
-) -> Option<String> {
-    let file = file_of(call)?;
-    match text_of(rt, file, MOST_EXPLAINED) {
-        Some(text) => verdict_hint_on(rt, workers, call, file, &text),
-        None => None,
+    due: Due,
+) -> Result<Option<String>, AllocError> {
+    let Some(file) = file_of(call) else {
+        return Ok(None);
+    };
+    let most = match due {
+        Due::Fault => MAX_TEXT,
+        _ => MOST_EXPLAINED,
+    };
+    let Some(text) = text_of(rt, file, most) else {
+        return Ok(None);
+    };
+    match due {
+        Due::Fault => fault_hint(rt, call, file, &text),
+        _ => refusal_hint(rt, workers, call, file, &text),
     }
 }
 
 // Tells what is to be noted on the network that the call handed on. In the object that `decide` gives the notes stand in it.
-fn tell_notes<R: Eprint + AllocGlobal>(rt: &R, made: &Made<'_>) {
-    if let Some(network) = &made.end.network {
+fn tell_notes<R: Eprint + AllocGlobal>(rt: &R, end: &EndedWith) {
+    if let Some(network) = &end.network {
         tell_text(rt, notes_on(rt.alloc(), network));
     }
 }
@@ -244,25 +223,29 @@ fn due_of(hints: Hints, ended: Ended) -> Due
     }
 }
 
-/// Tells what to do about the way the call ended, if hints are wanted. How it ended stays as it is.
+/// Tells what to do about the way the call ended, if hints are wanted: `unwritten` is what could not be written, as far as that is known. How it
+/// ended stays as it is.
 pub(crate) fn hinted<R: Files + Eprint + AllocGlobal, C: VerdictWorkers>(
     rt: &R,
     workers: &C,
     call: &Call<'_>,
     hints: Hints,
-    made: &Made<'_>,
+    end: &EndedWith,
+    unwritten: Option<Failed<'_>>,
 ) -> Ended
-    ensures { result ≡ made.now.end.ended }
+    ensures { result ≡ end.now.ended }
 {
-    match due_of(hints, made.end.ended) {
-        Due::Fault => tell_text(rt, fault_hint(rt, call)),
-        Due::Verdict => tell_text(rt, verdict_hint_of(rt, workers, call)),
+    let due = due_of(hints, end.ended);
+    match due {
+        Due::Fault | Due::Verdict => {
+            tell_text(rt, hint_of(rt, workers, call, due).unwrap_or(None));
+        }
         Due::Unread => tell_unread_files(rt, call),
-        Due::Unwritten => tell_failed(rt, made.unwritten),
+        Due::Unwritten => tell_failed(rt, unwritten),
         Due::Nothing => {}
     }
-    if is_noted(hints, made.end.ended) {
-        tell_notes(rt, made);
+    if is_noted(hints, end.ended) {
+        tell_notes(rt, end);
     }
-    made.end.ended
+    end.ended
 }

@@ -22,10 +22,11 @@ use sw_run::with_progress;
 
 // On a terminal it shows, while the call goes on, for how long it has.
 fn main(rt: HostRuntime) -> ExitCode {
-    if rt.stderr().is_terminal() {
-        let status = with_progress(&rt, || run_program(&rt, &SideBySide::new(&rt), &rt));
-        ExitCode::from(status)
+    let run = || run_program(&rt, &SideBySide::new(&rt), &rt);
+    let status = if rt.stderr().is_terminal() {
+        with_progress(&rt, run)
     } else {
-        ExitCode::from(run_program(&rt, &SideBySide::new(&rt), &rt))
-    }
+        run()
+    };
+    ExitCode::from(status)
 }

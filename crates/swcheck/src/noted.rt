@@ -2,20 +2,12 @@
 ghost use Rattle.std.specs.Prelude.{◌≡◌};
 
 use std::io::{self, ErrorKind, Write};
-use sw_app::EndedWith;
 
 /// What could not be read or written, and why.
 #[derive(Clone, Copy)]
 pub(crate) struct Failed<'a> {
     pub(crate) path: &'a str,
     pub(crate) kind: ErrorKind,
-}
-
-/// How a call ended, with the network to note on, if there is one, and what could not be written, as far as that is known.
-#[derive(Drop)]
-pub(crate) struct Made<'a> {
-    pub(crate) end: EndedWith,
-    pub(crate) unwritten: Option<Failed<'a>>,
 }
 
 /// A writer to what goes by this name. It writes as the one in it does.

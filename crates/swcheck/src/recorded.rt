@@ -16,15 +16,8 @@ use sw_app_run::{Open, Options, RecordEnd, Wants, run_recorded};
 use sw_calls::tell_refused;
 use sw_command::Ended;
 
-/// What an answer is written as.
-#[derive(Clone, Copy)]
-pub(crate) enum Shape {
-    Text,
-    Json,
-}
-
-/// What is run, by so many threads and in at most so many steps, what the answer is written as, and what is wanted besides: the file in which
-/// the steps are to be written, and a summary on standard error.
+/// What is run, by so many threads and in at most so many steps, and what is wanted besides: the file in which the steps are to be written, a
+/// summary on standard error, and the answer as an object of JSON.
 #[derive(Clone, Copy)]
 pub(crate) struct Job<'a> {
     pub(crate) network: &'a str,
@@ -33,7 +26,7 @@ pub(crate) struct Job<'a> {
     pub(crate) limit: u32,
     pub(crate) schedule: Option<&'a str>,
     pub(crate) summary: bool,
-    pub(crate) shape: Shape,
+    pub(crate) json: bool,
 }
 
 // How the call ends that ended so. That a schedule is too long is told, and so is a summary, but where a write failed.
@@ -52,31 +45,23 @@ fn ended_of(rt: &impl Eprint, end: RecordEnd) -> Ended
     }
 }
 
-// The device and the number of a file, if there is one.
-fn identity_of<R: Files>(rt: &R, path: &str) -> Option<(u64, u64)> {
-    match fs::metadata(rt, path) {
-        Ok(known) => Some((known.dev(), known.ino())),
-        Err(_) => None,
-    }
-}
-
-// Whether both paths lead to one file.
+// Whether both paths lead to one file: it has one device and one number.
 fn are_same<R: Files>(rt: &R, path: &str, other: &str) -> bool {
-    match (identity_of(rt, path), identity_of(rt, other)) {
-        (Some(identity), Some(other)) => identity == other,
+    match (fs::metadata(rt, path), fs::metadata(rt, other)) {
+        (Ok(known), Ok(other)) => known.dev() == other.dev() && known.ino() == other.ino(),
         _ => false,
     }
 }
 
 // Runs the load, and tells what comes of it. The schedule, where one is wanted, is written to `schedule`.
-fn run_job<R: AllocGlobal + Threads + Wait + Sync, N: Read, L: Read, W: Write, S: Write>(
+fn run_job<R: Eprint + AllocGlobal + Threads + Wait + Sync, N: Read, L: Read, W: Write, S: Write>(
     rt: &R,
     job: &Job<'_>,
     network: &mut N,
     load: &mut L,
     writer: &mut W,
     schedule: &mut S,
-) -> RecordEnd
+) -> Ended
     requires { 0 < job.now.workers }
 {
     let options = Options {
@@ -87,19 +72,8 @@ fn run_job<R: AllocGlobal + Threads + Wait + Sync, N: Read, L: Read, W: Write, S
         schedule: job.schedule.is_some(),
         summary: job.summary,
     };
-    match job.shape {
-        Shape::Text => run_recorded(
-            rt,
-            rt.alloc(),
-            network,
-            load,
-            options,
-            wants,
-            writer,
-            schedule,
-            &Open,
-        ),
-        Shape::Json => sw_json_runs::run_recorded(
+    let end = if job.json {
+        sw_json_runs::run_recorded(
             rt,
             rt.alloc(),
             network,
@@ -111,8 +85,21 @@ fn run_job<R: AllocGlobal + Threads + Wait + Sync, N: Read, L: Read, W: Write, S
             writer,
             schedule,
             &Open,
-        ),
-    }
+        )
+    } else {
+        run_recorded(
+            rt,
+            rt.alloc(),
+            network,
+            load,
+            options,
+            wants,
+            writer,
+            schedule,
+            &Open,
+        )
+    };
+    ended_of(rt, end)
 }
 
 // Runs the load. Where a schedule is wanted, the run's steps are written to that file, which is made, or emptied, before the run.
@@ -126,17 +113,14 @@ fn run_opened<
     requires { 0 < job.now.workers }
 {
     let Some(path) = job.schedule else {
-        let end = run_job(rt, job, network, load, writer, &mut io::sink());
-        return ended_of(rt, end);
+        return run_job(rt, job, network, load, writer, &mut io::sink());
     };
     match fs::create(rt, path) {
         Ok(file) => {
             let mut schedule = Noted::new(path, file);
-            let end = run_job(rt, job, network, load, writer, &mut schedule);
-            if schedule.unwritten.is_some() {
-                writer.unwritten = schedule.unwritten;
-            }
-            ended_of(rt, end)
+            let ended = run_job(rt, job, network, load, writer, &mut schedule);
+            writer.unwritten = schedule.unwritten.or(writer.unwritten);
+            ended
         }
         Err(error) => {
             let kind = error.kind();

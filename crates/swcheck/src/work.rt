@@ -5,7 +5,7 @@ ghost use Rattle.swcheck.specs.Accesses.{IsAccess, IsNoAccess};
 ghost use Rattle.swcheck.specs.Works.{HasJob, HasNoEngine, IsEngineOf, IsWorkOf};
 
 use crate::engines::{Engine, SecondEngine};
-use crate::recorded::{Job, Shape};
+use crate::recorded::Job;
 use sw_app_draw::DrawOptions;
 use sw_app_rmap::{Access, Request};
 use sw_args::Call;
@@ -150,18 +150,15 @@ pub(crate) fn work_of<'a>(call: &Call<'a>) -> Work<'a>
             schedule,
             summary,
             json,
-        } => {
-            let shape = if json { Shape::Json } else { Shape::Text };
-            Work::Load(Job {
-                network: file,
-                load,
-                workers,
-                limit,
-                schedule,
-                summary,
-                shape,
-            })
-        }
+        } => Work::Load(Job {
+            network: file,
+            load,
+            workers,
+            limit,
+            schedule,
+            summary,
+            json,
+        }),
         Call::Migrate { file } => Work::Migrate(file),
         Call::Audit {
             json,
