@@ -4,7 +4,6 @@ ghost use Rattle.sw_args.specs.CommandLine.{Gives, HasWorkers};
 ghost use Rattle.sw_calls.specs.Given.{EndsRefused};
 
 use crate::told::{refused, tell_refused};
-use std::alloc::{AllocError, Global};
 use std::rt::Env;
 use std::{env, io};
 use sw_args::{Asked, WordsFault, words};
@@ -31,17 +30,6 @@ pub fn given_texts<R: Env + Print + Eprint + AllocGlobal>(rt: &R) -> Result<Vec<
     }
 }
 
-// The texts' words.
-fn words_of(alloc: Global, texts: &[String]) -> Result<Vec<&str>, AllocError>
-    ensures { IfOk result (λ words. map (λ s. s.now) words.items ≡ map string_bytes texts.entry.now) }
-{
-    let mut words = Vec::new(alloc);
-    for text in texts {
-        words.push(text.as_str())?;
-    }
-    Ok(words)
-}
-
 /// The texts' words, as they are read.
 ///
 /// # Errors
@@ -54,10 +42,13 @@ pub fn given_words<'a, R: Print + Eprint + AllocGlobal>(
     ensures words { IfOk result (λ words. map (λ s. s.now) words.items ≡ map string_bytes texts.entry.now) }
     ensures fault { IfErr result (λ status. (status ≡ 5) ⊎ (status ≡ 6)) }
 {
-    match words_of(rt.alloc(), texts) {
-        Ok(words) => Ok(words),
-        Err(_) => Err(refused(rt, &WordsFault::Memory)),
+    let mut words = Vec::new(rt.alloc());
+    for text in texts {
+        let Ok(()) = words.push(text.as_str()) else {
+            return Err(refused(rt, &WordsFault::Memory));
+        };
     }
+    Ok(words)
 }
 
 /// What the words ask for; they begin with the program's name.

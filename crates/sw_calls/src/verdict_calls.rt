@@ -20,18 +20,10 @@ pub fn run_verdicts<R: Env + Files + Print + Eprint + AllocGlobal, C: VerdictWor
     workers: &C,
 ) -> u8 {
     match given_texts(rt) {
-        Ok(texts) => run_texts(rt, workers, texts.as_slice()),
-        Err(status) => status,
-    }
-}
-
-fn run_texts<R: Files + Print + Eprint + AllocGlobal, C: VerdictWorkers>(
-    rt: &R,
-    workers: &C,
-    texts: &[String],
-) -> u8 {
-    match given_words(rt, texts) {
-        Ok(words) => run_words(rt, workers, words.as_slice()),
+        Ok(texts) => match given_words(rt, texts.as_slice()) {
+            Ok(words) => run_words(rt, workers, words.as_slice()),
+            Err(status) => status,
+        },
         Err(status) => status,
     }
 }
