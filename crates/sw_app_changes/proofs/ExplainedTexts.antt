@@ -1,7 +1,10 @@
 -- Texts by the pieces that they are made of.
-use Rattle.std.proofs.Common.{◌≡◌, ◌∙◌, ◌<◌, ◌≤◌, ℕ, ◌+◌, All, Bool, List, ◌++◌, Vec, Global, ap, append_assoc, codes, get_or, length, refl, subst, sym, take}
+use Rattle.std.proofs.Common.{◌≡◌, ◌∙◌, ◌<◌, ◌≤◌, ℕ, suc, zero, ◌+◌, ◌-◌, All, Bool, List, [], ◌++◌, Vec, Global, ap, append_assoc, arith, codes, get_or, length, refl, subst, sym, take}
+use Rattle.std.specs.Prelude.{if◌then◌else◌}
 use Rattle.std.specs.Fmt.{decimal}
-use Rattle.std.specs.List.{flat_map}
+use Rattle.std.specs.List.{flat_map, range_with_len}
+use Rattle.std.proofs.Math.Dec.{eqb-suc-zero}
+use Rattle.std.proofs.lemmas.Bool.{le-ltb}
 use Rattle.std.proofs.lemmas.List.{take_all}
 use Rattle.std.proofs.lemmas.List.Elements.{All-get_or}
 use Rattle.sw_config.specs.Entries.{Declaration}
@@ -13,7 +16,7 @@ use Rattle.sw_output.specs.ChannelTexts.{channel_text}
 use Rattle.sw_output.specs.FlowTexts.{flow_name, route_fault_text}
 use Rattle.sw_output.proofs.EachLine.{numbered_more}
 use Rattle.sw_search.specs.declared.tangle.Tangle.{Tangle}
-use Rattle.sw_app_changes.specs.ExplainTexts.{counted, counts_text, cycle_line, ending, fault_line, fault_words, flows_text, misrouted_line, misrouted_text, numbered, place_words, step_line, step_lines, step_text, tangle_text, tangles_text, total_line, way_line, way_lines, way_lines_from}
+use Rattle.sw_app_changes.specs.ExplainTexts.{counted, counts_text, cycle_line, ending, fault_line, fault_words, flows_text, misrouted_line, misrouted_text, more_text, named, names_text, numbered, place_words, step_line, step_lines, step_text, tangle_text, tangles_text, total_line, way_line, way_lines, way_lines_from}
 
 -- each of some things has it
 pub each_is : {X : Type 0} (P : X → Type 0) (xs : List X) (i : ℕ) (x : X) → i < length xs → x ≡ get_or xs i x → All P xs → P x
@@ -101,3 +104,28 @@ pub parts_told : (before name held wanted from to c e said : List ℕ) → from 
     → said ≡ before ++ (name ++ (held ++ (from ++ (wanted ++ to))))
 parts_told before name held wanted from to c e said from_is to_is is =
     sym is ∙ ap (λ l. before ++ (name ++ (held ++ (l ++ (wanted ++ e))))) (sym from_is) ∙ ap (λ l. before ++ (name ++ (held ++ (from ++ (wanted ++ l))))) (sym to_is)
+
+-- the lines of all numbers, behind what stands there
+pub all_numbered : (line : ℕ → List ℕ) (start : List ℕ) (i count n : ℕ) (text : List ℕ) → count ≤ i → i ≤ count → count ≡ n
+    → text ≡ start ++ flat_map line (range_with_len 0 i) → text ≡ start ++ flat_map line (range_with_len 0 n)
+all_numbered line start i count n text ended most is so_far =
+    let same : i ≡ n = omega (arith, ended, most, is) in
+    so_far ∙ ap (λ k. start ++ flat_map line (range_with_len 0 k)) same
+
+-- ---- the flows that make a step
+
+pub none_more : (n : ℕ) → n ≡ 0 → more_text n ++ codes ")" ≡ codes ")"
+none_more n is = ap (λ k. more_text k ++ codes ")") is
+
+pub some_more : (n : ℕ) → (n ≡ 0 → ⊥) → more_text n ++ codes ")" ≡ codes " and " ++ (decimal n ++ codes " more)")
+some_more zero some = absurd (some refl)
+some_more (suc n) some =
+    ap (λ b. (if b then [] else codes " and " ++ (decimal (suc n) ++ codes " more")) ++ codes ")") (eqb-suc-zero n)
+    ∙ ap (λ l. codes " and " ++ l) (append_assoc (decimal (suc n)) (codes " more") (codes ")"))
+
+pub flows_told : (d : Declaration) (all : Bool) (flows chosen names rest : List ℕ) → 2 ≤ length flows → chosen ≡ named all flows → names ≡ names_text d chosen
+    → more_text (length flows - length chosen) ++ codes ")" ≡ rest → flows_text d all flows ≡ codes " (flows " ++ (names ++ rest)
+flows_told d all flows chosen names rest many chosen_is names_are rest_is =
+    let of : List ℕ → List ℕ = λ l. codes " (flows " ++ (names_text d l ++ (more_text (length flows - length l) ++ codes ")")) in
+    ap (λ b. if b then [] else of (named all flows)) (le-ltb (length flows) 2 many) ∙ ap of (sym chosen_is)
+    ∙ ap (λ l. codes " (flows " ++ (l ++ (more_text (length flows - length chosen) ++ codes ")"))) (sym names_are) ∙ ap (λ l. codes " (flows " ++ (names ++ l)) rest_is

@@ -7,4 +7,5 @@ pub mod OneMending
 mod OneMendAnswer
 mod MarginAnswered
 mod LossLines
+mod MendLines
 mod OneMarginAnswer

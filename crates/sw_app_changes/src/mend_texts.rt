@@ -1,7 +1,7 @@
 //! The lines of `mend`.
-ghost use Rattle.std.specs.Prelude.{◌≡◌, ◌∷◌, [], IfOk, flat_map, string_bytes};
+ghost use Rattle.std.specs.Prelude.{◌≡◌, ◌∷◌, [], IfOk, string_bytes};
 ghost use Rattle.sw_output.specs.Lines.{spaced};
-ghost use Rattle.sw_app_changes.specs.MendTexts.{change_words, mend_line, mending_status, mending_text, mends_status, mends_text, pair_line, pairs_text, split_words, trial_words};
+ghost use Rattle.sw_app_changes.specs.MendTexts.{change_words, mending_status, mending_text, mends_status, mends_text, pairs_text, split_words, trial_words};
 
 use crate::mending::Mending;
 use std::alloc::{AllocError, Global};
@@ -105,10 +105,13 @@ pub fn trial_words(alloc: Global, network: &Network, trial: &Trial) -> Result<St
     }
 }
 
-// The lines of the changes that free the network.
-fn mend_lines(alloc: Global, network: &Network, changes: &[Trial]) -> Result<String, AllocError>
-    ensures { IfOk result (λ s. string_bytes s ≡ flat_map (mend_line network.now) changes.now) }
+// The lines of the changes that free the network, or that there is none.
+fn mends_text(alloc: Global, network: &Network, changes: &[Trial]) -> Result<String, AllocError>
+    ensures { IfOk result (λ s. string_bytes s ≡ mends_text network.now changes.now) }
 {
+    if changes.is_empty() {
+        return String::from_str(alloc, "no single change frees it\n");
+    }
     let mut text = String::new(alloc);
     for change in changes {
         let words = trial_words(alloc, network, change)?;
@@ -117,10 +120,13 @@ fn mend_lines(alloc: Global, network: &Network, changes: &[Trial]) -> Result<Str
     Ok(text)
 }
 
-// The lines of the pairs of changes that free it.
-fn pair_lines(alloc: Global, network: &Network, pairs: &[Pair]) -> Result<String, AllocError>
-    ensures { IfOk result (λ s. string_bytes s ≡ flat_map (pair_line network.now) pairs.now) }
+// The lines of the pairs of changes that free it, or that there is none.
+fn pairs_text(alloc: Global, network: &Network, pairs: &[Pair]) -> Result<String, AllocError>
+    ensures { IfOk result (λ s. string_bytes s ≡ pairs_text network.now pairs.now) }
 {
+    if pairs.is_empty() {
+        return String::from_str(alloc, "no pair of changes frees it\n");
+    }
     let mut text = String::new(alloc);
     for pair in pairs {
         let first = change_words(alloc, network, &pair.first)?;
@@ -128,26 +134,6 @@ fn pair_lines(alloc: Global, network: &Network, pairs: &[Pair]) -> Result<String
         write!(text, "free {first} and {second}\n")?;
     }
     Ok(text)
-}
-
-// The lines of the changes that free the network, or that there is none.
-fn mends_text(alloc: Global, network: &Network, changes: &[Trial]) -> Result<String, AllocError>
-    ensures { IfOk result (λ s. string_bytes s ≡ mends_text network.now changes.now) }
-{
-    match changes {
-        [] => String::from_str(alloc, "no single change frees it\n"),
-        _ => mend_lines(alloc, network, changes),
-    }
-}
-
-// The lines of the pairs of changes that free it, or that there is none.
-fn pairs_text(alloc: Global, network: &Network, pairs: &[Pair]) -> Result<String, AllocError>
-    ensures { IfOk result (λ s. string_bytes s ≡ pairs_text network.now pairs.now) }
-{
-    match pairs {
-        [] => String::from_str(alloc, "no pair of changes frees it\n"),
-        _ => pair_lines(alloc, network, pairs),
-    }
 }
 
 /// The lines of what is found of the network.

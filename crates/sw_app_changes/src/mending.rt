@@ -33,14 +33,11 @@ fn freed<W: VerdictWorkers>(
     ensures { IfOk result (IsMending pairs network.now) }
 {
     let changes = mends(workers, alloc, network)?;
-    if !pairs {
+    let count = changes.len();
+    if !pairs || count > 0 {
         return Ok(Mending::Single(changes));
     }
-    let count = changes.len();
-    if count == 0 {
-        return Ok(Mending::Pairs(pair_mends(workers, alloc, network)?));
-    }
-    Ok(Mending::Single(changes))
+    Ok(Mending::Pairs(pair_mends(workers, alloc, network)?))
 }
 
 // What is found by the verdict on the network.

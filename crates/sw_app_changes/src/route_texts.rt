@@ -1,8 +1,7 @@
 //! The text of a flow that is not well routed.
-ghost use Rattle.std.specs.Prelude.{◌≡◌, ◌<◌, ◌+◌, ◌^◌, ◌++◌, IfOk, OnOk, length, string_bytes};
-ghost use Rattle.sw_config.specs.Entries.{wiring_of};
+ghost use Rattle.std.specs.Prelude.{◌≡◌, IfOk, string_bytes};
 ghost use Rattle.sw_search.specs.Explanations.{GoesWrong};
-ghost use Rattle.sw_app_changes.specs.ExplainTexts.{fault_words, misrouted_text, way_line};
+ghost use Rattle.sw_app_changes.specs.ExplainTexts.{fault_words, misrouted_text};
 
 use crate::words::ending;
 use std::alloc::{AllocError, Global};
@@ -10,30 +9,6 @@ use std::fmt::Write;
 use sw_config::Network;
 use sw_flow::{Place, RouteFault};
 use sw_output::{channel_text, flow_name, route_fault_text};
-
-// Adds the line of the place that comes behind so many others: its channel, and how many address bytes are deleted there.
-fn add_way_line(
-    text: &mut String,
-    alloc: Global,
-    network: &Network,
-    flow: u16,
-    before: usize,
-    place: Place,
-) -> Result<(), AllocError>
-    requires within { place.channel < length (wiring_of network.now).ends }
-    requires few { before + 1 < 2 ^ 64 }
-    ensures { OnOk result (string_bytes text.new ≡ string_bytes text.old ++ way_line network.now flow before place) }
-{
-    let number = before + 1;
-    let name = flow_name(network, flow);
-    let deleted = place.deleted;
-    let ending = ending(deleted as usize);
-    let channel = channel_text(alloc, network, place.channel)?;
-    write!(
-        text,
-        "{number}. a packet of {name} goes on {channel}, with {deleted} address byte{ending} deleted\n"
-    )
-}
 
 /// What is wrong where packets go no further.
 pub fn fault_words(fault: RouteFault) -> &'static str
@@ -62,12 +37,19 @@ pub(crate) fn misrouted_text(
     ensures { IfOk result (λ s. string_bytes s ≡ misrouted_text network.now flow fault way.now) }
 {
     let name = flow_name(network, flow);
-    let fault_name = route_fault_text(fault);
-    let words = fault_words(fault);
     let mut text = format!(in alloc; "misrouted {name}\n")?;
     for (before, place) in way.iter().enumerate() {
-        add_way_line(&mut text, alloc, network, flow, before, *place)?;
+        let number = before + 1;
+        let channel = channel_text(alloc, network, place.channel)?;
+        let deleted = place.deleted;
+        let ending = ending(deleted as usize);
+        write!(
+            text,
+            "{number}. a packet of {name} goes on {channel}, with {deleted} address byte{ending} deleted\n"
+        )?;
     }
+    let fault_name = route_fault_text(fault);
+    let words = fault_words(fault);
     write!(text, "{fault_name}: {words}\n")?;
     Ok(text)
 }

@@ -5,7 +5,7 @@ ghost use Rattle.sw_config.specs.Entries.{wiring_of};
 ghost use Rattle.sw_cycle.specs.Cycles.{cause_of};
 ghost use Rattle.sw_output.specs.ChannelTexts.{channel_text};
 ghost use Rattle.sw_output.specs.FlowTexts.{flow_name};
-ghost use Rattle.sw_app_changes.specs.ExplainTexts.{flows_text, more_text, names_text, named, step_words};
+ghost use Rattle.sw_app_changes.specs.ExplainTexts.{flows_text, names_text, named, step_words};
 
 use std::alloc::{AllocError, Global};
 use std::fmt::Write;
@@ -105,16 +105,6 @@ pub fn names_text(alloc: Global, network: &Network, flows: &[u16]) -> Result<Str
     }
 }
 
-// How many more flows there are.
-fn more_text(alloc: Global, count: usize) -> Result<String, AllocError>
-    ensures { IfOk result (λ s. string_bytes s ≡ more_text count) }
-{
-    if count == 0 {
-        return Ok(String::new(alloc));
-    }
-    format!(in alloc; " and {count} more")
-}
-
 /// All flows that make a step, where there are two or more.
 pub(crate) fn flows_text(
     alloc: Global,
@@ -130,6 +120,9 @@ pub(crate) fn flows_text(
     }
     let named = named(flows, all);
     let names = names_text(alloc, network, named)?;
-    let more = more_text(alloc, count - named.len())?;
-    format!(in alloc; " (flows {names}{more})")
+    let more = count - named.len();
+    if more == 0 {
+        return format!(in alloc; " (flows {names})");
+    }
+    format!(in alloc; " (flows {names} and {more} more)")
 }

@@ -1,11 +1,8 @@
 //! The text of tangles.
-ghost use Rattle.std.specs.Prelude.{◌≡◌, ◌<◌, ◌++◌, All, IfOk, OnOk, codes, length, string_bytes};
-ghost use Rattle.std.specs.List.{flat_map};
-ghost use Rattle.std.specs.Fmt.{decimal};
+ghost use Rattle.std.specs.Prelude.{◌≡◌, ◌<◌, ◌++◌, All, IfOk, OnOk, length, string_bytes};
 ghost use Rattle.sw_config.specs.Entries.{wiring_of};
 ghost use Rattle.sw_search.specs.Explanations.{IsTangled};
-ghost use Rattle.sw_search.specs.declared.tangle.Tangle.{Tangle};
-ghost use Rattle.sw_app_changes.specs.ExplainTexts.{counts_text, step_line, step_lines, step_text, tangle_text, tangles_text, IsOfChannels};
+ghost use Rattle.sw_app_changes.specs.ExplainTexts.{counts_text, step_line, tangle_text, tangles_text, IsOfChannels};
 
 use crate::step_texts::{flows_text, step_words};
 use crate::words::ending;
@@ -15,24 +12,7 @@ use sw_config::Network;
 use sw_cycle::Cycle;
 use sw_search::Tangle;
 
-// The step from that channel of the cycle to the next one, by its cause.
-fn step_text(
-    alloc: Global,
-    network: &Network,
-    cycle: &Cycle,
-    i: usize,
-) -> Result<String, AllocError>
-    requires within { All (λ c. c < length (wiring_of network.now).ends) cycle.now.channels }
-    requires caused { length cycle.now.causes ≡ length cycle.now.channels }
-    requires inside { i < length cycle.now.channels }
-    ensures { IfOk result (λ s. string_bytes s ≡ step_text network.now cycle.now i) }
-{
-    let channels = cycle.channels.as_slice();
-    let to = channels[(i + 1) % channels.len()];
-    step_words(alloc, network, channels[i], to, &cycle.causes[i])
-}
-
-// Adds the line of that channel of the cycle.
+// Adds the line of that channel of the cycle: the step from it to the next one, by its cause, and the flows that make it.
 fn add_step_line(
     text: &mut String,
     alloc: Global,
@@ -49,29 +29,11 @@ fn add_step_line(
     ensures { OnOk result (string_bytes text.new ≡ string_bytes text.old ++ step_line network.now all cycle.now flows.now i) }
 {
     let number = i + 1;
-    let step = step_text(alloc, network, cycle, i)?;
+    let channels = cycle.channels.as_slice();
+    let to = channels[number % channels.len()];
+    let step = step_words(alloc, network, channels[i], to, &cycle.causes[i])?;
     let flows = flows_text(alloc, network, &flows[i], all)?;
     write!(text, "{number}. {step}{flows}\n")
-}
-
-// Adds a line for each channel of the cycle.
-fn add_step_lines(
-    text: &mut String,
-    alloc: Global,
-    network: &Network,
-    all: bool,
-    cycle: &Cycle,
-    flows: &[Vec<u16>],
-) -> Result<(), AllocError>
-    requires within { All (λ c. c < length (wiring_of network.now).ends) cycle.now.channels }
-    requires caused { length cycle.now.causes ≡ length cycle.now.channels }
-    requires made { length flows.now ≡ length cycle.now.channels }
-    ensures { OnOk result (string_bytes text.new ≡ string_bytes text.old ++ step_lines network.now all cycle.now flows.now) }
-{
-    for i in 0..cycle.channels.len() {
-        add_step_line(text, alloc, network, all, cycle, flows, i)?;
-    }
-    Ok(())
 }
 
 // Adds the shortest cycle of a tangle.
@@ -88,16 +50,8 @@ fn add_tangle(
     let count = tangle.cycle.channels.len();
     let ending = ending(count);
     write!(text, "shortest cycle: {count} channel{ending}\n")?;
-    add_step_lines(text, alloc, network, all, &tangle.cycle, &tangle.flows)
-}
-
-// Adds how many channels each of more tangles has, each behind a comma.
-fn add_counts(text: &mut String, tangles: &[Tangle]) -> Result<(), AllocError>
-    ensures { OnOk result (string_bytes text.new ≡ string_bytes text.old ++ flat_map (λ (u : Tangle). codes ", " ++ decimal u.channels) tangles.now) }
-{
-    for tangle in tangles {
-        let count = tangle.channels;
-        write!(text, ", {count}")?;
+    for i in 0..count {
+        add_step_line(text, alloc, network, all, &tangle.cycle, &tangle.flows, i)?;
     }
     Ok(())
 }
@@ -111,7 +65,10 @@ fn counts_text(alloc: Global, tangles: &[Tangle]) -> Result<String, AllocError>
         [first, rest @ ..] => {
             let count = first.channels;
             let mut text = format!(in alloc; "{count}")?;
-            add_counts(&mut text, rest)?;
+            for tangle in rest {
+                let count = tangle.channels;
+                write!(text, ", {count}")?;
+            }
             Ok(text)
         }
     }

@@ -1,16 +1,25 @@
-use Rattle.std.proofs.Common.{rules, ◌≡◌, ◌++◌, OnOk, length, string_bytes}
-use Rattle.std.proofs.lemmas.Result.{on_ok_weaker}
-use Rattle.sw_app_changes.specs.ExplainTexts.{step_lines}
-use Rattle.sw_app_changes.proofs.ExplainedTexts.{tangle_added}
+use Rattle.std.proofs.Common.{length, rules, string_bytes, ◌≡◌, ◌++◌}
+use Rattle.sw_app_changes.specs.ExplainTexts.{step_line}
+use Rattle.sw_app_changes.proofs.ExplainedTexts.{all_numbered, tangle_added}
+use Rattle.sw_output.proofs.EachLine.{number_added}
 use Rattle.sw_app_changes.proofs.tangle_texts.add_tangle.Goals as goal
+
+pub loop-i-preserved : goal.loop-i-preserved
+loop-i-preserved c =
+    let tangle = c.args.tangle.now in
+    let line = step_line c.args.network.now c.args.all tangle.cycle tangle.flows.items in
+    let told : string_bytes c.add_step_line.new.text ≡ string_bytes c.loop-i.text ++ line c.loop-i.i = search rules in
+    number_added line c.loop-i.i (string_bytes c.write.new.self) (string_bytes c.loop-i.text) (string_bytes c.add_step_line.new.text) c.loop-i.invariant told
 
 pub returns : goal.returns
 returns c =
     let d = c.args.network.now in
     let all = c.args.all in
     let tangle = c.args.tangle.now in
-    let after = string_bytes c.add_step_lines.new.text in
     let first = string_bytes c.write.new.self in
     let size : c.len-count.result ≡ length tangle.cycle.channels = search rules in
-    let lines : OnOk c.add_step_lines.result (after ≡ first ++ step_lines d all tangle.cycle tangle.flows.items) = search rules in
-    on_ok_weaker c.add_step_lines.result (tangle_added d all tangle c.len-count.result c.ending-ending.result.now (string_bytes c.args.text.now) first after size c.ending-ending.ensures c.in_ok-write.ensures.bytes) lines
+    let lines =
+    all_numbered (step_line d all tangle.cycle tangle.flows.items) first c.loop-i.i c.len-count.result (length tangle.cycle.channels) (string_bytes c.loop-i.text) c.loop-i-test.false
+    c.loop-i.auto.i-end size c.loop-i.invariant in
+    tangle_added d all tangle c.len-count.result c.ending-ending.result.now (string_bytes c.args.text.now) first (string_bytes c.loop-i.text) size c.ending-ending.ensures
+    c.in_ok-write.ensures.bytes lines
