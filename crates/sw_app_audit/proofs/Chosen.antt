@@ -1,5 +1,5 @@
 -- From what was judged of each path to the findings of all.
-use Rattle.std.proofs.Common.{◌≡◌, ◌∙◌, ℕ, zero, suc, ◌+◌, List, [], ◌∷◌, Some, Option, IfSome, length, map, max, refl, sym, ap, subst, arith, unwrap_or}
+use Rattle.std.proofs.Common.{◌≡◌, ◌∙◌, ℕ, zero, suc, ◌+◌, ◌<◌, ◌≤◌, List, [], ◌∷◌, Some, Option, IfSome, get_or, length, map, max, refl, sym, ap, subst, arith, unwrap_or}
 use Rattle.std.specs.Borrow.{Bor}
 use Rattle.std.specs.Prelude.{slice_get}
 use Rattle.std.specs.List.{AllByRecursion, AllZip, range_with_len, reduce}
@@ -83,6 +83,18 @@ pub are_judged : (options : Options) (gives : Giving) (keeps : Keeping) (paths :
 are_judged options gives keeps paths all h =
     let texts = map (λ (s : Bor (List ℕ)). s.now) paths in
     subst (λ (n : ℕ). AllZip (IsJudgedAt options gives keeps texts) (range_with_len 0 n) all) (sym (length-map paths (λ (s : Bor (List ℕ)). s.now))) h
+
+-- what holds of the text of a place holds of that place's text among all
+pub at_place : {X : Type 0} (f : X → List ℕ) (P : List ℕ → Type 0) (xs : List X) (i : ℕ) (d : X) → i < length xs → P (f (get_or xs i d)) → IfSome (slice_get (map f xs) i) P
+at_place f P [] i d lt h = absurd (omega arith)
+at_place f P (x ∷ xs) zero d lt h = h
+at_place f P (x ∷ xs) (suc i) d lt h = at_place f P xs i d (omega arith) h
+
+-- what holds of the one text holds of all
+pub of_only : {X : Type 0} (f : X → List ℕ) (P : List (List ℕ) → Type 0) (xs : List X) (d : X) → 1 ≤ length xs → length xs < 2 → P (f (get_or xs 0 d) ∷ []) → P (map f xs)
+of_only f P [] d some few h = absurd (omega arith)
+of_only f P (x ∷ []) d some few h = h
+of_only f P (x ∷ y ∷ xs) d some few h = absurd (omega arith)
 
 -- ---- the worst status
 

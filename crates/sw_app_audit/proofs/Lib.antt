@@ -5,3 +5,5 @@ pub mod Plainly
 pub mod Wanted
 pub mod Zeros
 pub mod Told
+pub mod FileNames
+pub mod Greatest

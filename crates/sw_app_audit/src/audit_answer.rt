@@ -18,18 +18,15 @@ use sw_json::laws::{
 };
 use sw_search::VerdictWorkers;
 
-// The greatest status, if there is one.
-fn greatest(all: &[Judged]) -> Option<u8>
-    ensures { result ≡ reduce max (map (λ j. j.status) all.now) }
-{
-    all.iter().map(|judged| judged.status).max()
-}
-
 // The worst status is the greatest.
 fn worst(all: &[Judged]) -> u8
     ensures { result ≡ unwrap_or (reduce max (map (λ j. j.status) all.now)) 0 }
 {
-    greatest(all).unwrap_or(GOOD)
+    let mut worst = GOOD;
+    for judged in all {
+        worst = worst.max(judged.status);
+    }
+    worst
 }
 
 // The answer to files of these paths, of which this was found.
@@ -51,20 +48,6 @@ fn judged_answer<S: Storage>(
     let status = worst(&all);
     let text = audit_text(alloc, options, paths, all)?;
     Ok(Answer { text, status })
-}
-
-// The same, where the files are judged side by side.
-fn answer_to_all<T: Threads + Sync, S: Storage + Sync>(
-    rt: &T,
-    alloc: Global,
-    storage: &S,
-    paths: &[&str],
-    options: &Options<'_>,
-) -> Result<Answer, AllocError>
-    ensures { IfOk result (λ a. IsAuditAnswer options.now (S.gives storage.now) (S.keeps storage.now) (map (λ s. s.now) paths.now) (string_bytes a.text) a.status) }
-{
-    let all = all_judged(rt, alloc, storage, options, paths)?;
-    judged_answer(alloc, storage, paths, options, all)
 }
 
 /// The answer to one file, which is judged by the workers.
@@ -102,6 +85,9 @@ pub(crate) fn audit_answer<T: Threads + Sync, C: VerdictWorkers, S: Storage + Sy
 {
     match paths {
         [path] => answer_to_one(workers, alloc, storage, path, options),
-        _ => answer_to_all(rt, alloc, storage, paths, options),
+        _ => {
+            let all = all_judged(rt, alloc, storage, options, paths)?;
+            judged_answer(alloc, storage, paths, options, all)
+        }
     }
 }

@@ -4,29 +4,20 @@ ghost use Rattle.std.specs.List.{zip};
 ghost use Rattle.serde_json.specs.View.{view};
 ghost use Rattle.sw_json.specs.Plain.{IsPlain};
 ghost use Rattle.sw_app_audit.specs.AuditAnswers.{IsJson, IsText};
-ghost use Rattle.sw_app_audit.specs.AuditTexts.{finding_line, lines_text, objects};
+ghost use Rattle.sw_app_audit.specs.AuditTexts.{lines_text, objects};
 ghost use Rattle.sw_app_audit.specs.Judgements.{finding_of, findings_of, object_of};
 
 use crate::judged::{Judged, kind_entry};
 use crate::options::Options;
 use crate::statuses::is_told;
 use std::alloc::{AllocError, Global};
+use std::fmt::Write;
 use sw_command::statuses::NO_ROOM;
 use sw_hints::shown;
 use sw_json::laws::audits_are_plain;
 use sw_json::{Value, audit_value, text_of};
 
-// The status, the verdict in a word, and the path as a terminal shows it.
-fn finding_line(alloc: Global, path: &str, judged: &Judged) -> Result<String, AllocError>
-    ensures { IfOk result (λ s. string_bytes s ≡ finding_line (path.now, finding_of path.now judged.now)) }
-{
-    let status = judged.status;
-    let word = judged.word;
-    let path = shown(alloc, path.as_bytes())?;
-    format!(in alloc; "{status} {word} {path}\n")
-}
-
-// Adds the line of a file, if it is told.
+// Adds the line of a file, if it is told: the status, the verdict in a word, and the path as a terminal shows it.
 fn add_line(
     alloc: Global,
     quiet: bool,
@@ -39,8 +30,10 @@ fn add_line(
     if !is_told(quiet, judged.status) {
         return Ok(());
     }
-    let line = finding_line(alloc, path, judged)?;
-    text.push_str(line.as_str())
+    let status = judged.status;
+    let word = judged.word;
+    let path = shown(alloc, path.as_bytes())?;
+    write!(text, "{status} {word} {path}\n")
 }
 
 // A line for each file that is told.

@@ -1,6 +1,6 @@
 //! The engine: it has files judged, and writes one text.
 ghost use Rattle.std.specs.Prelude.{◌∷◌, [], map};
-ghost use Rattle.sw_app_audit.specs.AuditAnswers.{IsAuditAnswer, IsAuditTold, IsWantTold, TellsAudit};
+ghost use Rattle.sw_app_audit.specs.AuditAnswers.{IsAuditAnswer, IsAuditTold, TellsAudit};
 
 use crate::audit_answer::{answer_to_one, audit_answer};
 use crate::options::Options;
@@ -11,24 +11,18 @@ use std::thread::Threads;
 use sw_command::{Answer, Ended, tell};
 use sw_search::VerdictWorkers;
 
-// Writes that memory was wanted, as a line or as an object.
-fn tell_want<W: Write>(writer: &mut W, json: bool) -> Ended
-    ensures { IsWantTold json (W.contents writer.old) (W.contents writer.new) result }
-{
-    if json {
-        sw_json::tell_memory(writer)
-    } else {
-        sw_command::tell_memory(writer)
-    }
-}
-
-// Writes an answer, or that memory was wanted.
+// Writes an answer, or that memory was wanted, as a line or as an object.
 fn tell_audit<W: Write>(writer: &mut W, json: bool, answer: Result<Answer, AllocError>) -> Ended
     ensures { IsAuditTold json answer (W.contents writer.old) (W.contents writer.new) result }
 {
     match answer {
         Ok(answer) => tell(writer, answer.text.as_str(), answer.status),
-        Err(_) => tell_want(writer, json),
+        Err(_) => {
+            if json {
+                return sw_json::tell_memory(writer);
+            }
+            sw_command::tell_memory(writer)
+        }
     }
 }
 

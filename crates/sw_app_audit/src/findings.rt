@@ -25,17 +25,7 @@ use sw_lint::lint_texts;
 use sw_search::{Verdict, VerdictWorkers, decide};
 use sw_toml_table::{FileFault, TextFault};
 
-// The text of the certificate, empty where the verdict has none.
-fn certificate_bytes(alloc: Global, verdict: &Verdict) -> Result<Vec<u8>, AllocError>
-    ensures { IfOk result (λ text. text.items ≡ certificate_bytes verdict.now) }
-{
-    match verdict {
-        Verdict::Free(certificate) => certificate.write(alloc),
-        Verdict::Misrouted(_, _, _) | Verdict::Cyclic(_) => Ok(Vec::new(alloc)),
-    }
-}
-
-// The same where it is told or kept, and else nothing.
+// The text of the certificate where it is told or kept; empty where the verdict has none, or none is wanted.
 fn wanted_certificate(
     alloc: Global,
     options: &Options<'_>,
@@ -44,26 +34,15 @@ fn wanted_certificate(
     ensures told { IfOk result (λ text. options.now.json ≡ true → text.items ≡ certificate_bytes verdict.now) }
     ensures kept { IfOk result (λ text. options.now.certificates ≡ true → text.items ≡ certificate_bytes verdict.now) }
 {
-    if options.json {
-        return certificate_bytes(alloc, verdict);
+    match verdict {
+        Verdict::Misrouted(_, _, _) | Verdict::Cyclic(_) => Ok(Vec::new(alloc)),
+        Verdict::Free(certificate) => {
+            if !options.json && !options.certificates {
+                return Ok(Vec::new(alloc));
+            }
+            certificate.write(alloc)
+        }
     }
-    if options.certificates {
-        return certificate_bytes(alloc, verdict);
-    }
-    Ok(Vec::new(alloc))
-}
-
-// Whether the certificate of a file was kept under its name.
-fn is_kept<S: Storage>(
-    alloc: Global,
-    storage: &S,
-    named: Named<'_>,
-    certificate: &[u8],
-) -> Result<bool, AllocError>
-    ensures { IfOk result (S.keeps storage.now (certificate_name named.entry.number named.entry.path.now) certificate.now) }
-{
-    let name = certificate_name(alloc, named.number, named.path)?;
-    Ok(storage.keep(alloc, name.as_str(), certificate))
 }
 
 // The status of a verdict, whose certificate is kept if that is asked for.
@@ -84,7 +63,9 @@ fn status_of<S: Storage>(
             if !keeping {
                 return Ok(GOOD);
             }
-            Ok(kept_status(is_kept(alloc, storage, named, certificate)?))
+            let name = certificate_name(alloc, named.number, named.path)?;
+            let kept = storage.keep(alloc, name.as_str(), certificate);
+            Ok(kept_status(kept))
         }
     }
 }

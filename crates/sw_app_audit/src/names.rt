@@ -1,6 +1,5 @@
 //! The names of certificates that are kept.
-ghost use Rattle.std.specs.Prelude.{◌≡◌, ◌≤◌, ◌==◌, IfOk, length, map, not, reverse, string_bytes, take};
-ghost use Rattle.std.specs.List.{prefix_len};
+ghost use Rattle.std.specs.Prelude.{◌≡◌, IfOk, map, string_bytes, take};
 ghost use Rattle.sw_app_audit.specs.Names.{certificate_name, file_name, plain_byte};
 ghost use Rattle.sw_toml_table.specs.Names.{is_name_byte};
 
@@ -9,26 +8,14 @@ use std::alloc::{AllocError, Global};
 /// At most this many bytes of a file's name stand in that of its certificate.
 const MOST_NAMED: usize = 64;
 
-// How many bytes stand behind the last `/`.
-fn name_length(path: &[u8]) -> usize
-    ensures count { result ≡ prefix_len (λ b. not (b == 47)) (reverse path.now) }
-    ensures within { result ≤ length path.now }
-{
-    path.iter().rev().take_while(|byte| **byte != b'/').count()
-}
-
 // What stands behind the last `/`.
-fn file_name(path: &[u8]) -> &[u8]
+fn file_name(path: &str) -> &str
     ensures { result.now ≡ file_name path.now }
 {
-    &path[path.len() - name_length(path)..]
-}
-
-// The first bytes, as many as a name may have.
-fn first_bytes(name: &[u8]) -> &[u8]
-    ensures { result.now ≡ take 64 name.now }
-{
-    &name[..MOST_NAMED.min(name.len())]
+    match path.rsplit_once('/') {
+        Some((_, name)) => name,
+        None => path,
+    }
 }
 
 // A byte that a name of a network file may have.
@@ -44,12 +31,12 @@ fn plain_byte(byte: u8) -> u8
     if is_name_byte(byte) { byte } else { b'_' }
 }
 
-// The bytes as a name may have them.
-fn plain(alloc: Global, bytes: &[u8]) -> Result<String, AllocError>
-    ensures { IfOk result (λ s. string_bytes s ≡ map plain_byte bytes.now) }
+// The first bytes, as many as are told and as a name may have them.
+fn plain(alloc: Global, name: &[u8]) -> Result<String, AllocError>
+    ensures { IfOk result (λ s. string_bytes s ≡ map plain_byte (take 64 name.now)) }
 {
     let mut text = String::new(alloc);
-    for byte in bytes {
+    for byte in &name[..MOST_NAMED.min(name.len())] {
         text.push(char::from(plain_byte(*byte)))?;
     }
     Ok(text)
@@ -67,6 +54,6 @@ pub(crate) fn certificate_name(
 ) -> Result<String, AllocError>
     ensures { IfOk result (λ s. string_bytes s ≡ certificate_name number path.now) }
 {
-    let name = plain(alloc, first_bytes(file_name(path.as_bytes())))?;
+    let name = plain(alloc, file_name(path).as_bytes())?;
     format!(in alloc; "{number}-{name}.cert")
 }
