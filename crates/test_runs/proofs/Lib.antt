@@ -1,1 +1,2 @@
 mod Named
+mod Rows

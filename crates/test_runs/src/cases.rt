@@ -28,7 +28,7 @@ macro_rules! cases {
 }
 
 /// Loads that are drained.
-const DRAINS: &[Case] = cases! {
+pub(crate) const DRAINS: &[Case] = cases! {
     "> line.load\nfirst:" "line.toml" "line.load" Core(Drain(&LINE, Choice::First));
     "last:" "line.toml" "line.load" Core(Drain(&LINE, Choice::Last));
     "out of range:" "line.toml" "line.load" Core(Drain(&LINE, Choice::OutOfRange));
@@ -38,14 +38,14 @@ const DRAINS: &[Case] = cases! {
 };
 
 /// Limits that no history reaches.
-const LIMITS: &[Case] = cases! {
+pub(crate) const LIMITS: &[Case] = cases! {
     "line.load " "line.toml" "line.load" Limit;
     "turn.load " "turn.toml" "turn.load" Limit;
     "rmap.load " "rmap.toml" "rmap.load" Limit;
 };
 
 /// Loads whose packets begin as soon as they can.
-const WAITS: &[Case] = cases! {
+pub(crate) const WAITS: &[Case] = cases! {
     "> packets that begin as soon as they can\nline.toml line.load: " "line.toml" "line.load" Core(Wait);
     "line8.toml long.load: " "line8.toml" "long.load" Core(Wait);
     "star.toml star.load: " "star.toml" "star.load" Core(Wait);
@@ -62,13 +62,13 @@ const WAITS: &[Case] = cases! {
 };
 
 /// Single calls of the core.
-const CALLS: &[Case] = cases! {
+pub(crate) const CALLS: &[Case] = cases! {
     "> a packet from A to B\n" "line.toml" "line.load" Core(Make(PACKET));
     "> link end 0\n" "line.toml" "line.load" Core(Make(LINK_END));
 };
 
 /// Steps of a journal, and those of two threads.
-const JOURNALS: &[Case] = cases! {
+pub(crate) const JOURNALS: &[Case] = cases! {
     "# steps of journals\n> try line.toml line.load\n" "line.toml" "line.load" Journal(1000, BOTH);
     "> with a limit of 1\n" "line.toml" "line.load" Journal(1, THREE);
     "> by two threads\n" "line.toml" "line.load" Journal(1000, TAKEN);
@@ -76,7 +76,7 @@ const JOURNALS: &[Case] = cases! {
 };
 
 /// Runs: three inputs of a switch ask for one output, with each kind of arbiter, and workers wait for one another.
-const RUNS: &[Case] = cases! {
+pub(crate) const RUNS: &[Case] = cases! {
     "# runs by threads\n> fixed.toml grants.load\n" "fixed.toml" "grants.load" Run(0);
     "> round_robin.toml grants.load\n" "round_robin.toml" "grants.load" Run(0);
     "> least_recent.toml grants.load\n" "least_recent.toml" "grants.load" Run(0);
@@ -84,17 +84,12 @@ const RUNS: &[Case] = cases! {
 };
 
 /// The engine of `swcheck run`.
-const ENGINES: &[Case] = cases! {
+pub(crate) const ENGINES: &[Case] = cases! {
     "# the engine of run\n> turn.toml turn.load together\n" "turn.toml" "turn.load" Engine;
 };
 
 /// Cycles of networks, the first of the parts.
-const CYCLES: &[Case] = cases! {
+pub(crate) const CYCLES: &[Case] = cases! {
     "# the parts of a network\ncycles_of_targets_are_told " "duel.toml" "answers.load" Cycles(DUEL);
     "cycles_of_a_flow_are_told " "again.toml" "line.load" Cycles(AGAIN);
 };
-
-/// All cases, list by list.
-pub(crate) const SECTIONS: &[&[Case]] = &[
-    DRAINS, LIMITS, WAITS, CALLS, JOURNALS, RUNS, ENGINES, CYCLES,
-];

@@ -15,28 +15,24 @@ mod runs;
 mod together;
 mod work;
 
-use crate::cases::SECTIONS;
+use crate::cases::{CALLS, CYCLES, DRAINS, ENGINES, JOURNALS, LIMITS, RUNS, WAITS};
 use crate::memory::show_memory;
 use crate::parts::show_parts;
-use crate::work::show_case;
-use std::sync::Wait;
-use std::thread::Threads;
+use crate::work::show_cases;
 use std::{env, io};
 use sw_parallel::SideBySide;
 
-fn show_cases<R: Threads + Wait + Sync>(rt: &HostRuntime, threads: &R) -> io::Result<()> {
-    for &cases in SECTIONS {
-        for case in cases {
-            show_case(rt, threads, case)?;
-        }
-    }
-    Ok(())
-}
-
 fn main(rt: HostRuntime) -> io::Result<()> {
     if env::args(&rt)?.count() == 1 {
-        show_cases(&rt, &rt)?;
-        show_parts(&rt, &SideBySide::new(&rt))?;
+        show_cases(&rt, &rt, DRAINS)
+            .and(show_cases(&rt, &rt, LIMITS))
+            .and(show_cases(&rt, &rt, WAITS))
+            .and(show_cases(&rt, &rt, CALLS))
+            .and(show_cases(&rt, &rt, JOURNALS))
+            .and(show_cases(&rt, &rt, RUNS))
+            .and(show_cases(&rt, &rt, ENGINES))
+            .and(show_cases(&rt, &rt, CYCLES))
+            .and(show_parts(&rt, &SideBySide::new(&rt)))?;
     }
     show_memory(&rt)
 }

@@ -1,6 +1,8 @@
 //! Steps as tables have them.
 
 use std::alloc::{AllocError, Global};
+use std::fmt::Display;
+use std::io;
 use sw_char::End;
 use sw_model::Step;
 use sw_topo::Chan;
@@ -32,5 +34,17 @@ impl Move<'_> {
             Move::Arrive(channel) => Step::Arrive(Chan::new(channel)),
             Move::Accept(node) => Step::Accept(node),
         })
+    }
+}
+
+/// Prints whether a step was made that was tried, after what it is called.
+pub(crate) fn show_made<F: Display + Drop>(
+    rt: &HostRuntime,
+    name: &str,
+    made: Result<(), F>,
+) -> io::Result<()> {
+    match made {
+        Ok(()) => println!(rt; "{name}made"),
+        Err(fault) => println!(rt; "{name}{fault}"),
     }
 }

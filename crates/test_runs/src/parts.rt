@@ -15,8 +15,8 @@ mod streams;
 mod switches;
 mod wiring;
 
-use crate::parts::arbiters::{FIXED_AND_ROUND_ROBIN, LEAST_RECENT, Round};
-use crate::parts::memories::{ANSWERED, Answered, REFUSED};
+use crate::parts::arbiters::{FIXED_AND_ROUND_ROBIN, LEAST_RECENT};
+use crate::parts::memories::{ANSWERED, REFUSED};
 use std::alloc::Global;
 use std::io;
 use sw_graph::RoundWorkers;
@@ -25,12 +25,14 @@ use sw_parallel::OneByOne;
 /// What is tried.
 #[derive(Clone, Copy)]
 enum Part {
-    Arbiters(&'static [Round]),
+    InTurn,
+    LongestAgo,
     Certificates,
     Characters,
     Ends,
     Codes,
-    Targets(&'static [Answered]),
+    Written,
+    Refused,
     Commands,
     WaysBack,
     Nodes,
@@ -50,12 +52,9 @@ enum Part {
 const PARTS: &[(&str, Part)] = &[
     (
         "fixed_picks_the_lowest_and_round_robin_in_turn",
-        Part::Arbiters(FIXED_AND_ROUND_ROBIN),
+        Part::InTurn,
     ),
-    (
-        "least_recent_picks_the_longest_ago",
-        Part::Arbiters(LEAST_RECENT),
-    ),
+    ("least_recent_picks_the_longest_ago", Part::LongestAgo),
     (
         "a_certificate_is_written_and_lists_no_place_twice",
         Part::Certificates,
@@ -63,8 +62,8 @@ const PARTS: &[(&str, Part)] = &[
     ("one_packet_and_a_rest", Part::Characters),
     ("an_end_asks_where_it_has_room", Part::Ends),
     ("codes", Part::Codes),
-    ("targets_write", Part::Targets(ANSWERED)),
-    ("targets_refuse", Part::Targets(REFUSED)),
+    ("targets_write", Part::Written),
+    ("targets_refuse", Part::Refused),
     ("commands_as_bytes", Part::Commands),
     ("ways_back", Part::WaysBack),
     ("nodes_send_and_take_packets", Part::Nodes),
@@ -89,12 +88,14 @@ const PARTS: &[(&str, Part)] = &[
 // Whether all came as it is wanted.
 fn is_as_wanted<W: RoundWorkers>(workers: &W, alloc: Global, part: Part) -> bool {
     match part {
-        Part::Arbiters(rounds) => arbiters::pick(rounds),
+        Part::InTurn => arbiters::pick(FIXED_AND_ROUND_ROBIN),
+        Part::LongestAgo => arbiters::pick(LEAST_RECENT),
         Part::Certificates => certificates::are_written(alloc),
         Part::Characters => characters::are_cut(alloc),
         Part::Ends => ends::ask(alloc),
         Part::Codes => memories::have_codes(),
-        Part::Targets(cases) => memories::answer(alloc, cases),
+        Part::Written => memories::answer(alloc, ANSWERED),
+        Part::Refused => memories::answer(alloc, REFUSED),
         Part::Commands => memories::are_bytes(alloc),
         Part::WaysBack => memories::go_back(alloc),
         Part::Nodes => nodes::carry_packets(alloc),

@@ -92,8 +92,8 @@ fn show_texts<R: Threads + Wait + Sync>(
     }
 }
 
-/// Prints what comes of the case. `threads` is the same as `rt`, which is known to start threads and to wait in `main` alone.
-pub(crate) fn show_case<R: Threads + Wait + Sync>(
+// Prints what comes of the case.
+fn show_case<R: Threads + Wait + Sync>(
     rt: &HostRuntime,
     threads: &R,
     case: &Case,
@@ -106,4 +106,17 @@ pub(crate) fn show_case<R: Threads + Wait + Sync>(
         Work::Engine => show_engine(rt, threads, &network, &load),
         _ => show_texts(rt, threads, &network, &load, work),
     }
+}
+
+/// Prints what comes of each case. `threads` is the same as `rt`, which is known to start threads and to wait in `main` alone.
+pub(crate) fn show_cases<R: Threads + Wait + Sync>(
+    rt: &HostRuntime,
+    threads: &R,
+    cases: &[Case],
+) -> io::Result<()> {
+    let mut shown = Ok(());
+    for case in cases {
+        shown = shown.and(show_case(rt, threads, case));
+    }
+    shown
 }

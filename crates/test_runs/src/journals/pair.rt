@@ -84,14 +84,15 @@ impl<'n> Pair<'n> {
         }
     }
 
-    /// Whether the node's link end is idle, which is marked then, and its mark.
-    pub(crate) fn declare_idle(&mut self, node: u16) -> (bool, Option<u64>) {
+    /// Prints whether the node's link end is idle, which is marked then, and its mark.
+    pub(crate) fn tell_idle(&mut self, rt: &HostRuntime, node: u16) -> io::Result<()> {
         let (place, end) = (node as usize, LinkEnd::new(node));
         if node >= self.network.channels() || place >= self.cells.len() {
-            return (false, None);
+            return Err(no_text());
         }
         let idle = declare_idle(&mut self.journal, &self.cells[place], end);
-        (idle, self.journal.mark(end))
+        let mark = self.journal.mark(end);
+        println!(rt; "link end {node}: idle {idle}, mark {mark:?}")
     }
 
     /// Prints what the node has.

@@ -2,7 +2,7 @@
 
 use crate::journals::pair::Pair;
 use crate::journals::two_threads::{READ_AND_SEND, SEND_AND_TAKE, TwoThreads, show_two_threads};
-use crate::moves::Move;
+use crate::moves::{Move, show_made};
 use crate::numbers::show_numbers;
 use std::io;
 use std::sync::{Mutex, Wait};
@@ -74,38 +74,9 @@ pub(crate) const BETWEEN: &[Trial] = &[
     Trial::Numbers(1),
 ];
 
-// Tries the step at the cell of that node, and prints what came of it.
-fn attempt(rt: &HostRuntime, pair: &mut Pair<'_>, node: u16, tried: Move<'_>) -> io::Result<()> {
-    match pair.make(rt.alloc(), node, tried) {
-        Ok(()) => rt.println("made"),
-        Err(fault) => println!(rt; "{fault}"),
-    }
-}
-
-// Prints whether the node's link end is idle, and its mark.
-fn show_idle(rt: &HostRuntime, pair: &mut Pair<'_>, node: u16) -> io::Result<()> {
-    let (idle, mark) = pair.declare_idle(node);
-    println!(rt; "link end {node}: idle {idle}, mark {mark:?}")
-}
-
 // Prints the numbers of the node's link end.
 fn show_end(rt: &HostRuntime, pair: &Pair<'_>, node: u16) -> io::Result<()> {
     print!(rt; "link end {node}").and(show_numbers(rt, pair.numbers(node)))
-}
-
-fn show_trial<R: Threads + Wait + Sync>(
-    rt: &HostRuntime,
-    threads: &R,
-    pair: &mut Mutex<Pair<'_>>,
-    trial: Trial,
-) -> io::Result<()> {
-    match trial {
-        Trial::Numbers(node) => show_end(rt, pair.get_mut(), node),
-        Trial::Idle(node) => show_idle(rt, pair.get_mut(), node),
-        Trial::Tell(node) => pair.get_mut().tell(rt, node),
-        Trial::Make(node, tried) => attempt(rt, pair.get_mut(), node, tried),
-        Trial::ByTwo(work) => show_two_threads(rt, threads, pair, work),
-    }
 }
 
 /// Prints what comes of each.
@@ -117,7 +88,15 @@ pub(crate) fn show_tried<R: Threads + Wait + Sync>(
 ) -> io::Result<()> {
     let mut shown = Ok(());
     for &trial in trials {
-        shown = shown.and(show_trial(rt, threads, pair, trial));
+        shown = shown.and(match trial {
+            Trial::Numbers(node) => show_end(rt, pair.get_mut(), node),
+            Trial::Idle(node) => pair.get_mut().tell_idle(rt, node),
+            Trial::Tell(node) => pair.get_mut().tell(rt, node),
+            Trial::Make(node, tried) => {
+                show_made(rt, "", pair.get_mut().make(rt.alloc(), node, tried))
+            }
+            Trial::ByTwo(work) => show_two_threads(rt, threads, pair, work),
+        });
     }
     shown
 }

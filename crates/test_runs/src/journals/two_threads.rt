@@ -164,17 +164,6 @@ fn done_of<C: Cells>(cells: &C, turns: &AtomicU64, deed: &Deed) -> Told {
     Told { numbers, made }
 }
 
-fn show_told(rt: &HostRuntime, tells: bool, first: Told, second: Told) -> io::Result<()> {
-    let (sent, other) = (first.made, second.made == 1);
-    if !tells {
-        return println!(rt; "sent {sent}, one taken {other}");
-    }
-    let one = sent == 1;
-    rt.print("link end 1")
-        .and(show_numbers(rt, first.numbers))
-        .and(println!(rt; "another sent one {other}, then one sent {one}"))
-}
-
 // Prints what the two threads tell.
 fn show_threads<C: Cells + Sync, R: Threads>(
     rt: &HostRuntime,
@@ -188,7 +177,14 @@ fn show_threads<C: Cells + Sync, R: Threads>(
         || done_of(cells, &turns, &work.one),
         || done_of(cells, &turns, &work.other),
     );
-    show_told(rt, work.tells, first, second)
+    let (sent, other) = (first.made, second.made == 1);
+    if !work.tells {
+        return println!(rt; "sent {sent}, one taken {other}");
+    }
+    let one = sent == 1;
+    rt.print("link end 1")
+        .and(show_numbers(rt, first.numbers))
+        .and(println!(rt; "another sent one {other}, then one sent {one}"))
 }
 
 /// Prints what two threads tell that make steps at the pair's cells.

@@ -37,7 +37,7 @@ fn add_history(
     let is_added = is_begun(alloc, history)
         || (text_of(alloc, history.net())? == before && is_begun(alloc, history));
     if !is_added || history.steps(alloc)?.len() != 1 {
-        write!(text, "there are other steps\n")?;
+        return write!(text, "there are other steps\n");
     }
     add_parts(alloc, history.net(), text)
 }

@@ -41,15 +41,14 @@ fn add_part(
 
 /// Adds how many characters are undelivered, and all that each cell has.
 pub fn add_parts(alloc: Global, net: &Core<'_>, text: &mut String) -> Result<(), AllocError> {
-    let undelivered = net.undelivered();
-    write!(text, "undelivered {undelivered}\n")?;
+    let mut added = write!(text, "undelivered {}\n", net.undelivered());
     for node in 0..net.network().nodes() {
-        add_part(alloc, net, CellId::Node(node), text)?;
+        added = added.and(add_part(alloc, net, CellId::Node(node), text));
     }
     for switch in 0..net.network().switches() {
-        add_part(alloc, net, CellId::Switch(switch), text)?;
+        added = added.and(add_part(alloc, net, CellId::Switch(switch), text));
     }
-    Ok(())
+    added
 }
 
 /// The same as a text of its own.

@@ -1,12 +1,11 @@
 //! Single calls of the core, over one link between A and B.
 
-use crate::moves::Move;
+use crate::moves::{Move, show_made};
 use crate::nets::show::{Detail, show_first, show_nodes};
 use crate::nets::{Core, make, make_step};
 use crate::numbers::show_numbers;
 use std::alloc::Global;
 use std::io;
-use sw_cell::NetFault;
 use sw_char::End;
 use sw_model::Step;
 use sw_topo::{Chan, LinkEnd};
@@ -30,7 +29,7 @@ pub(crate) enum Asked {
 /// A call, with what is printed before its answer and after it.
 #[derive(Clone, Copy)]
 pub(crate) enum Call {
-    /// A step of that name is tried.
+    /// A step is tried, with what is printed before.
     Make(&'static str, Move<'static>),
     /// How many characters wait.
     Undelivered,
@@ -47,25 +46,25 @@ pub(crate) enum Call {
 }
 
 /// A packet of one byte begins.
-const BEGIN: Call = Call::Make("begin AA", Move::Begin(0, &[0xAA], End::Eop));
+const BEGIN: Call = Call::Make("begin AA: ", Move::Begin(0, &[0xAA], End::Eop));
 
 /// No packet has no cargo, and only one of two waits at A. B lets A send, which A is told, and then the packet's byte and its end go from A
 /// to B.
 pub(crate) const PACKET: &[Call] = &[
-    Call::Make("begin with no cargo", Move::Begin(0, &[], End::Eop)),
+    Call::Make("begin with no cargo: ", Move::Begin(0, &[], End::Eop)),
     Call::Undelivered,
     BEGIN,
     Call::Undelivered,
     BEGIN,
     Call::Undelivered,
-    Call::Make("fct 0", Move::Fct(0)),
-    Call::Make("fctin 0", Move::FctIn(0)),
-    Call::Make("emit A", Move::Emit(0)),
-    Call::Make("arrive 0", Move::Arrive(0)),
-    Call::Make("accept B", Move::Accept(1)),
-    Call::Make("emit A", Move::Emit(0)),
-    Call::Make("arrive 0", Move::Arrive(0)),
-    Call::Make("accept B", Move::Accept(1)),
+    Call::Make("fct 0: ", Move::Fct(0)),
+    Call::Make("fctin 0: ", Move::FctIn(0)),
+    Call::Make("emit A: ", Move::Emit(0)),
+    Call::Make("arrive 0: ", Move::Arrive(0)),
+    Call::Make("accept B: ", Move::Accept(1)),
+    Call::Make("emit A: ", Move::Emit(0)),
+    Call::Make("arrive 0: ", Move::Arrive(0)),
+    Call::Make("accept B: ", Move::Accept(1)),
     Call::Undelivered,
     Call::Nodes,
     Call::First,
@@ -85,13 +84,6 @@ pub(crate) const LINK_END: &[Call] = &[
 
 /// What is left where packets began as soon as they could.
 pub(crate) const LEFT: &[Call] = &[Call::First, Call::Undelivered, Call::Nodes];
-
-fn show_made(rt: &HostRuntime, name: &str, made: Result<(), NetFault>) -> io::Result<()> {
-    match made {
-        Ok(()) => println!(rt; "{name}: made"),
-        Err(fault) => println!(rt; "{name}: {fault}"),
-    }
-}
 
 fn is_so(alloc: Global, net: &mut Core<'_>, asked: Asked) -> bool {
     match asked {
