@@ -1,3 +1,6 @@
+mod Cargos
+mod Heads
 mod LoadHelps
+mod Notes
 pub mod PlaceNumbers
 pub mod Words

@@ -76,10 +76,7 @@ fn is_cargo(alloc: Global, word: &[u8]) -> Result<bool, AllocError>
     if word.len() >= 3 && word[2] == b'*' {
         return Ok(hex_pair(word[0], word[1]).is_some() && count_of(&word[3..]).is_some());
     }
-    match pairs_of(alloc, word)? {
-        Some(_) => Ok(true),
-        None => Ok(false),
-    }
+    Ok(pairs_of(alloc, word)?.is_some())
 }
 
 /// Whether a word is as it has to be.
