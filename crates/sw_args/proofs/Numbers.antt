@@ -34,6 +34,25 @@ says_none E G width m name None only value = go
         let failed = value t (one_text-rows m name ∙ is) in
         only t (Err failed.0) failed.1 (digits, rw same small)
 
+-- a text says one number
+says_one : (name : List ℕ) (values : List Row) (x y : ℕ) → SaysNumber name values x → SaysNumber name values y → x ≡ y
+says_one name values x y (t, is, digits, same) (u, was, others, other) = cc
+
+-- where the value says a number that is not from 1 up to the most, it says no count
+pub says_below : (most : ℕ) (name : List ℕ) (values : List Row) (x : ℕ) → SaysNumber name values x → x < 1
+    → (number : ℕ) → IsCount most name values number → ⊥
+says_below most name values x says below number is =
+    let same : x ≡ number = says_one name values x number says is.0 in
+    let least : 1 ≤ number = is.1 in
+    omega arith
+
+pub says_above : (most : ℕ) (name : List ℕ) (values : List Row) (x : ℕ) → SaysNumber name values x → most < x
+    → (number : ℕ) → IsCount most name values number → ⊥
+says_above most name values x says above number is =
+    let same : x ≡ number = says_one name values x number says is.0 in
+    let within : number ≤ most = is.2 in
+    omega arith
+
 -- where the value says no number that the type can hold, it says no count
 pub says_no_count : (bound most : ℕ) (name : List ℕ) (values : List Row) (o : Option ℕ) → most < bound
     → ((number : ℕ) → SaysNumber name values number → number < bound → ⊥)

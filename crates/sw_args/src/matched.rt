@@ -10,7 +10,7 @@ use crate::call::{Asked, Call, WordsFault};
 use crate::command_line::{
     MOST_SEED, MOST_STEPS, MOST_TRIES, MOST_WORKERS, fault_of, swcheck_command,
 };
-use crate::values::{all_of, count_of, is_set, value_of};
+use crate::values::{count_of, is_set, value_of};
 use clap::ArgMatches;
 use std::alloc::Global;
 
@@ -217,7 +217,7 @@ fn asked_of<'a>(
 {
     Ok(Asked {
         call,
-        files: all_of(alloc, values, "FILE")?,
+        files: Vec::from_slice(alloc, values.get_strs("FILE").unwrap_or(&[]))?,
         hints: value_of(values, "hints"),
     })
 }

@@ -1,10 +1,9 @@
 //! The values that clap found for a subcommand.
-ghost use Rattle.std.specs.Prelude.{◌≡◌, ◌<◌, ◌^◌, ℕ, option_map, IfOk, IfNone, IfSome};
+ghost use Rattle.std.specs.Prelude.{◌≡◌, ℕ, option_map, IfNone, IfSome};
 ghost use Rattle.clap.specs.Words.{first_of, found_of, rows_of};
-ghost use Rattle.sw_args.specs.CommandLine.{AreAll, IsCount, IsSet, SaysNumber};
+ghost use Rattle.sw_args.specs.CommandLine.{IsCount, IsSet};
 
 use clap::ArgMatches;
-use std::alloc::{AllocError, Global};
 
 // The first value of an argument, if it has one.
 pub(crate) fn value_of<'a>(values: &ArgMatches<'a>, name: &str) -> Option<&'a str>
@@ -13,20 +12,14 @@ pub(crate) fn value_of<'a>(values: &ArgMatches<'a>, name: &str) -> Option<&'a st
     values.get_str(name)
 }
 
-// The number that an option's value says.
-fn number_of(values: &ArgMatches<'_>, name: &str) -> Option<u32>
-    ensures says { IfSome result (SaysNumber name.now (rows_of (found_of values.now))) }
-    ensures none { IfNone result ((number : ℕ) → SaysNumber name.now (rows_of (found_of values.now)) number → number < 2 ^ 32 → ⊥) }
-{
-    values.get_one(name)
-}
-
-// The same, if it is 1 or more and not over the most; clap gives no other.
+// The number that an option's value says, if it is 1 or more and not over the most; clap gives no other.
 pub(crate) fn count_of(values: &ArgMatches<'_>, name: &str, most: u32) -> Option<u32>
     ensures counts { IfSome result (IsCount most name.now (rows_of (found_of values.now))) }
     ensures none { IfNone result ((number : ℕ) → IsCount most name.now (rows_of (found_of values.now)) number → ⊥) }
 {
-    let number = number_of(values, name)?;
+    let Some(number) = values.get_one::<u32>(name) else {
+        return None;
+    };
     if number < 1 {
         return None;
     }
@@ -34,17 +27,6 @@ pub(crate) fn count_of(values: &ArgMatches<'_>, name: &str, most: u32) -> Option
         return None;
     }
     Some(number)
-}
-
-// All values of an argument, in their order.
-pub(crate) fn all_of<'a>(
-    alloc: Global,
-    values: &ArgMatches<'a>,
-    name: &str,
-) -> Result<Vec<&'a str>, AllocError>
-    ensures { IfOk result (λ all. AreAll name.now (rows_of (found_of values.now)) all.items) }
-{
-    Vec::from_slice(alloc, values.get_strs(name).unwrap_or(&[]))
 }
 
 // Whether an option without a value was given.

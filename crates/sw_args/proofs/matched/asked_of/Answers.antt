@@ -1,9 +1,8 @@
-use Rattle.std.proofs.Common.{◌≡◌, ◌∙◌, ap, map, refl, Bor, List, ℕ, [], Option, Some, None}
+use Rattle.std.proofs.Common.{◌≡◌, ◌∙◌, ap, map, refl, Bor, List, ℕ, [], Option, Some, None, codes}
 use Rattle.std.specs.Option.{option_map, unwrap_or}
-use Rattle.std.proofs.lemmas.Result.{IfOk-weaker}
 use Rattle.clap.specs.Words.{found_of}
 use Rattle.clap.proofs.WalkLemmas.{raw_values-rows}
-use Rattle.sw_args.proofs.values.all_of.Goals as goal
+use Rattle.sw_args.proofs.matched.asked_of.Goals as goal
 
 -- the values behind references, or none
 all_given : (o : Option (Bor (List (Bor (List ℕ))))) (none : Bor (List (Bor (List ℕ)))) (q : Option (List (List ℕ))) → none.now ≡ []
@@ -11,8 +10,8 @@ all_given : (o : Option (Bor (List (Bor (List ℕ))))) (none : Bor (List (Bor (L
 all_given None none q empty same = rw empty (ap (λ x. unwrap_or x []) same)
 all_given (Some s) none q empty same = ap (λ x. unwrap_or x []) same
 
-pub returns : goal.returns
-returns c =
-    let found = c.get_strs.ensures ∙ raw_values-rows (found_of c.args.values.now) c.args.name.now in
+pub returns-clause-files : goal.returns-clause-files
+returns-clause-files c =
+    let found = c.get_strs.ensures ∙ raw_values-rows (found_of c.args.values.now) (codes "FILE") in
     let chosen = all_given c.get_strs.result _ _ refl found in
-    IfOk-weaker c.from_slice.result _ _ (λ all items. rw items (rw c.unwrap_or.ensures chosen)) c.from_slice.ensures.items
+    rw c.in_ok-from_slice.ensures.items (rw c.unwrap_or.ensures chosen)
