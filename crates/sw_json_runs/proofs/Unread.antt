@@ -1,17 +1,23 @@
--- What is told of a file that was not read, by what was found of it.
-use Rattle.std.proofs.Common.{◌∙◌, ℕ, List, IfOk}
+-- What is told of a file that was not read, by what was found of it; and what is told where nothing was recorded.
+use Rattle.std.proofs.Common.{◌∙◌, ℕ, List, IfOk, None, Option, Some, refl, subst, sym}
 use Rattle.std.specs.Prelude.{Err, IsOkAnd, Ok, Result}
 use Rattle.std.specs.declared.alloc.AllocError.{AllocError}
 use Rattle.serde_json.specs.Data.{Data}
 use Rattle.serde_json.specs.View.{view}
 use Rattle.sw_app_run.specs.declared.record_answer.Recorded.{Recorded}
+use Rattle.std.specs.Io.KnownBytes.{Keeps}
 use Rattle.sw_app_run.specs.declared.record_answer.Recorded.TheVariants.{Fault, Run, TooLong}
-use Rattle.sw_json.specs.Answering.{IsAnswer, IsOutcome, IsUnreadNetwork}
+use Rattle.sw_app_run.specs.declared.record_engine.RecordEnd.TheVariants as end
+use Rattle.sw_command.specs.declared.read_texts.InputError.{InputError}
+use Rattle.sw_command.specs.declared.read_texts.InputError.TheVariants as input
+use Rattle.sw_command.specs.declared.write_answer.Ended.{Ended}
+use Rattle.sw_command.specs.declared.write_answer.Ended.TheVariants.{Status, ReadFailed, WriteFailed}
+use Rattle.sw_json.specs.Answering.{IsAnswer, IsMemoryTold, IsOutcome, IsUnreadNetwork, IsUnreadTold}
 use Rattle.sw_json.specs.declared.files.Release.{Release}
 use Rattle.sw_json.specs.declared.outcome.Outcome.{Outcome}
 use Rattle.sw_toml_table.specs.declared.fault.FileFault.{FileFault}
 use Rattle.sw_toml_table.specs.declared.fault.FileFault.TheVariants.{Text, Memory}
-use Rattle.sw_json_runs.specs.RunRecords.{Answering, IsFault, IsUnreadRecord}
+use Rattle.sw_json_runs.specs.RunRecords.{Answering, IsFault, IsUnreadRecord, IsUnrecorded}
 
 module _ (command : List ℕ) (files : List Data) (release : Release) (path text : List ℕ) where
   abbrev says : Answering
@@ -32,3 +38,21 @@ module _ (command : List ℕ) (files : List Data) (release : Release) (path text
   unread fault (Err error) (Ok recorded) is h = absurd h
   unread fault (Ok o) (Err error) is h = h
   unread fault (Err other) (Err error) is h = h
+
+-- nothing is written of a schedule
+keeps_same : (kept : Option (List ℕ)) → Keeps kept kept
+keeps_same None = tt
+keeps_same (Some bytes) = refl
+
+-- that memory was wanted
+memory_unrecorded : (old new kept : Option (List ℕ)) (ended : Ended) → IsMemoryTold old new ended → IsUnrecorded old new kept kept (end.Told ended None)
+memory_unrecorded old new kept (Status n) is = (is, keeps_same kept, refl)
+memory_unrecorded old new kept WriteFailed is = (is, keeps_same kept, refl)
+memory_unrecorded old new kept ReadFailed is = absurd is
+
+-- why a text was not read
+pub unread_unrecorded : (error : InputError) (old new kept : Option (List ℕ)) (ended : Ended) → IsUnreadTold error old new ended
+    → IsUnrecorded old new kept kept (end.Told ended None)
+unread_unrecorded input.Memory old new kept ended is = memory_unrecorded old new kept ended is
+unread_unrecorded input.Failed old new kept ended is =
+    subst (λ (e : Ended). IsUnrecorded old new kept kept (end.Told e None)) (sym is.0) (is.1, keeps_same kept, refl)

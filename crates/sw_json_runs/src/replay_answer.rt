@@ -2,9 +2,6 @@
 ghost use Rattle.std.specs.Prelude.{IfOk};
 ghost use Rattle.serde_json.specs.View.{view};
 ghost use Rattle.sw_command.specs.Inputs.{given};
-ghost use Rattle.sw_json.specs.AnswerValues.{file_fault_value};
-ghost use Rattle.sw_json.specs.FaultValues.{schedule_fault_value};
-ghost use Rattle.sw_json.specs.Answering.{IsOutcome};
 ghost use Rattle.sw_json_runs.specs.ReplayAnswers.{IsReplayResult, IsScheduleFileResult, IsStepsResult};
 
 use crate::replay_values::replay_value;
@@ -31,15 +28,6 @@ fn steps_outcome(
     Ok(Outcome { result, status })
 }
 
-// That the line of this number is the schedule's first wrong one.
-fn bad_line_outcome(alloc: Global, path: &str, number: u64) -> Result<Outcome, AllocError>
-    ensures { IfOk result (λ o. IsOutcome (file_fault_value path.now (schedule_fault_value number)) 3 (view o.result) o.status) }
-{
-    faults_are_plain();
-    let fault = schedule_fault_value(alloc, number);
-    file_fault(alloc, path, fault)
-}
-
 // What comes of a schedule file.
 fn schedule_file_outcome(
     alloc: Global,
@@ -52,7 +40,10 @@ fn schedule_file_outcome(
     match text {
         InputText::Whole(text) => match read_steps(alloc, network, text) {
             Ok(schedule) => steps_outcome(alloc, network, &schedule),
-            Err(ScheduleFault::BadLine(number)) => bad_line_outcome(alloc, path, number),
+            Err(ScheduleFault::BadLine(number)) => {
+                faults_are_plain();
+                file_fault(alloc, path, schedule_fault_value(alloc, number))
+            }
             Err(ScheduleFault::Memory) => Err(AllocError),
         },
         InputText::TooLong => long_file(alloc, path),

@@ -1,5 +1,6 @@
-use Rattle.std.proofs.Common.{inl}
+use Rattle.std.proofs.Common.{inl, inr}
 use Rattle.sw_command.specs.Inputs.{given}
+use Rattle.sw_json_runs.proofs.Unread.{unread_unrecorded}
 use Rattle.sw_json_runs.proofs.run_engine.run_recorded.Goals as goal
 
 pub returns-in-Ok-call_record-clause-end : goal.returns-in-Ok-call_record-clause-end
@@ -15,3 +16,6 @@ returns-in-Ok-call_record-clause-end g c =
       ),
       c.tell_recorded.ensures,
     )
+
+pub returns-in-Err-clause-end : goal.returns-in-Err-clause-end
+returns-in-Err-clause-end g c = inr (unread_unrecorded _ _ _ _ _ c.tell_unread.ensures)
