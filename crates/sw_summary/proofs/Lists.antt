@@ -1,19 +1,22 @@
 -- Lists that loops make.
 use Rattle.std.proofs.Common.{Bool, List, [], ap, append-nil, append_assoc, arith, get_or, length, map, refl, suc, sym, take, zero, ℕ, ◌++◌, ◌+◌, ◌-◌, ◌<◌, ◌≤◌, ◌∙◌, ◌∷◌, ◌≡◌}
+use Rattle.std.proofs.lemmas.Bool.{eq-eqb}
 use Rattle.std.proofs.lemmas.List.{flat_map_more, get_or-map, map-append, take_more}
 use Rattle.std.proofs.lemmas.List.Elements.{filter-append}
 use Rattle.std.proofs.lemmas.List.Folds.{flat_map-map}
 use Rattle.std.proofs.lemmas.List.Sums.{fold-append}
 use Rattle.std.specs.Global.{Vec}
-use Rattle.std.specs.Prelude.{Some, false, if◌then◌else◌, slice_get, true}
+use Rattle.std.specs.Prelude.{Some, false, if◌then◌else◌, nat_eq, slice_get, true}
 use Rattle.std.specs.List.{flat_map, range_with_len}
 use Rattle.sw_char.specs.PacketView.{PacketView}
 use Rattle.sw_char.specs.declared.nchar.End.TheVariants.{Eop}
 use Rattle.sw_parallel.proofs.Ranges.{range_from_more}
-use Rattle.sw_machine.specs.Begun.{beginning, beginnings}
+use Rattle.sw_config.specs.Entries.{FlowEntry}
+use Rattle.sw_model.specs.Packets.{left_bytes}
+use Rattle.sw_machine.specs.Begun.{Begun, beginning, beginnings}
 use Rattle.sw_model.specs.Steps.{machine_step}
 use Rattle.sw_model.specs.declared.step.Step.{Step}
-use Rattle.sw_summary.specs.Counts.{items_at, replies_at, replies_of, statuses, statuses_of, with_status}
+use Rattle.sw_summary.specs.Counts.{form_of, forms, items_at, of_flow, replies_at, replies_of, statuses, statuses_of, with_status}
 use Rattle.sw_summary.specs.Replies.{is_reply, status_of}
 use Rattle.sw_summary.specs.Tallies.{Item, TallyView, counted, taken, taken_all, tallies}
 use Rattle.sw_summary.specs.Texts.{first_status_lines, status_line}
@@ -153,3 +156,22 @@ pub counted_more : (keys : List Item) (i : ℕ) (x k : Item) (before after : Lis
 counted_more keys i x k before after within at same so_far is =
     is ∙ ap (λ p. counted p before) same ∙ ap (counted x) so_far
     ∙ sym (ap tallies (take_more keys i x within ∙ ap (λ y. take i keys ++ y ∷ []) (sym at)) ∙ fold-append (λ ts p. counted p ts) [] (take i keys) (x ∷ []))
+
+-- what is told of one element more, behind what stands there
+pub told_at : {A : Type 0} (f : A → List ℕ) (xs : List A) (i : ℕ) (none : A) (start before after : List ℕ) → i < length xs → before ≡ start ++ flat_map f (take i xs)
+    → after ≡ before ++ f (get_or xs i none) → after ≡ start ++ flat_map f (take (i + 1) xs)
+told_at f xs i none start before after within so_far is =
+    is ∙ ap (λ l. l ++ f (get_or xs i none)) so_far ∙ flat_map_more f start (take i xs) (get_or xs i none) ∙ ap (λ l. start ++ flat_map f l) (sym (take_more xs i none within))
+
+-- the packets of a flow, with one more that was begun
+pub form_pushed : (f : FlowEntry) (n : ℕ) (begun : List Begun) (i : ℕ) (b : Begun) (left bytes : List ℕ) (before after : List PacketView) → i < length begun → b ≡ get_or begun i b
+    → b.flow ≡ n → left ≡ left_bytes f → bytes ≡ left ++ (b.cargo ++ []) → before ≡ forms f n (take i begun) → after ≡ before ++ record { bytes = bytes; end = b.end } ∷ []
+    → after ≡ forms f n (take (i + 1) begun)
+form_pushed f n begun i b left bytes before after within at is left_is bytes_are so_far more =
+    let packet : List ℕ → PacketView = λ l. record { bytes = l; end = b.end } in
+    let earlier : List PacketView = forms f n (take i begun) in
+    let whole : bytes ≡ left_bytes f ++ b.cargo = bytes_are ∙ ap (λ l. left ++ l) (append-nil b.cargo) ∙ ap (λ l. l ++ b.cargo) left_is in
+    let one : forms f n (b ∷ []) ≡ form_of f b ∷ [] = ap (λ (t : Bool). map (form_of f) (if t then b ∷ [] else [])) (eq-eqb b.flow n is) in
+    more ∙ ap (λ l. l ++ packet bytes ∷ []) so_far ∙ ap (λ l. earlier ++ packet l ∷ []) whole ∙ ap (λ l. earlier ++ l) (sym one)
+    ∙ sym (map-append (form_of f) (of_flow n (take i begun)) (of_flow n (b ∷ []))) ∙ ap (map (form_of f)) (sym (filter-append (λ (q : Begun). nat_eq q.flow n) (take i begun) (b ∷ [])))
+    ∙ ap (forms f n) (sym (take_more begun i b within ∙ ap (λ q. take i begun ++ q ∷ []) (sym at)))

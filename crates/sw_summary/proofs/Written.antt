@@ -1,9 +1,12 @@
 -- Texts as they are written at once.
-use Rattle.std.proofs.Common.{List, Option, [], ap, append-nil, append_assoc, sym, ◌++◌, ◌<◌, ◌∙◌, ◌∷◌, ◌≡◌, ℕ}
+use Rattle.std.proofs.Common.{List, Option, [], ap, append_assoc, arith, sym, ◌++◌, ◌<◌, ◌∙◌, ◌∷◌, ◌≡◌, ℕ}
 use Rattle.std.proofs.lemmas.Bool.{lt-ltb}
 use Rattle.std.specs.Fmt.{decimal}
-use Rattle.std.specs.Prelude.{codes, if◌then◌else◌, nat_lt}
+use Rattle.std.specs.Prelude.{codes, if◌then◌else◌, nat_lt, slice_index}
+use Rattle.sw_config.specs.Entries.{Declaration, capacities}
+use Rattle.sw_output.specs.ChannelTexts.{channel_text}
 use Rattle.sw_output.specs.Lines.{spaced}
+use Rattle.sw_summary.specs.BufferLines.{fill_line}
 use Rattle.sw_summary.specs.Texts.{answered_words, flow_line, steps_line}
 
 line_is : (name b o d r w : List ℕ) → r ≡ w
@@ -14,14 +17,6 @@ line_is name b o d r w same = rw same (simp append_assoc)
 pub summary_is : (k n : ℕ) (a b c e p q r s : List ℕ) → k ≡ n → a ≡ p → b ≡ q → c ≡ r → e ≡ s
     → codes "steps " ++ (decimal k ++ (codes "\n" ++ (a ++ (b ++ (c ++ e))))) ≡ steps_line n ++ (p ++ (q ++ (r ++ s)))
 summary_is k n a b c e p q r s count flows statuses unanswered caveats = rw (count, flows, statuses, unanswered, caveats) (simp append_assoc)
-
--- a text to which six lines were added one after the other
-pub six_lines : (l m n o p q : List ℕ) (t : List ℕ) {a b c d e f : List ℕ} → a ≡ t ++ l → b ≡ a ++ m → c ≡ b ++ n → d ≡ c ++ o → e ≡ d ++ p → f ≡ e ++ q → f ≡ t ++ (l ++ (m ++ (n ++ (o ++ (p ++ (q ++ []))))))
-six_lines l m n o p q t first second third fourth fifth sixth =
-    sixth ∙ ap (λ x. x ++ q) (fifth ∙ ap (λ x. x ++ p) (fourth ∙ ap (λ x. x ++ o) (third ∙ ap (λ x. x ++ n) (second ∙ ap (λ x. x ++ m) first))))
-    ∙ append_assoc (((((t ++ l) ++ m) ++ n) ++ o)) p q ∙ append_assoc ((((t ++ l) ++ m) ++ n)) o (p ++ q) ∙ append_assoc (((t ++ l) ++ m)) n (o ++ (p ++ q))
-    ∙ append_assoc (t ++ l) m (n ++ (o ++ (p ++ q))) ∙ append_assoc t l (m ++ (n ++ (o ++ (p ++ q))))
-    ∙ ap (λ r. t ++ (l ++ (m ++ (n ++ (o ++ (p ++ r)))))) (sym (append-nil q))
 
 -- a line that is told of some, added
 told_if : (n : ℕ) (told before after : List ℕ) → 0 < n → after ≡ before ++ told → after ≡ before ++ (if nat_lt 0 n then told else [])
@@ -56,3 +51,17 @@ pub told_fill : (before after name words : List ℕ) (fill capacity room : ℕ) 
 told_fill before after name words fill capacity room some named holds added =
     told_if fill (codes "buffer " ++ (name ++ (codes ": greatest fill " ++ (decimal fill ++ (codes " of " ++ (decimal capacity ++ codes "\n")))))) before after some added
     ∙ (λ i. before ++ (if nat_lt 0 fill then codes "buffer " ++ (named i ++ (codes ": greatest fill " ++ (decimal fill ++ (codes " of " ++ (decimal (holds i) ++ codes "\n"))))) else []))
+
+-- of a channel whose buffer never held a character, and of one whose buffer did
+pub no_fill : (d : Declaration) (fills : List ℕ) (c at : ℕ) → at ≡ c → slice_index fills at ≡ 0 → [] ≡ fill_line d c (slice_index fills c)
+no_fill d fills c at at_is none = ap (fill_line d c) (sym none ∙ ap (slice_index fills) at_is)
+
+pub told_fill_of : (d : Declaration) (fills : List ℕ) (c at channel : ℕ) (name : List ℕ) (capacity : ℕ) (before after : List ℕ) → at ≡ c → channel ≡ c
+    → (slice_index fills at ≡ 0 → ⊥) → name ≡ channel_text d channel → capacity ≡ slice_index (capacities d.links) channel
+    → after ≡ before ++ (codes "buffer " ++ (name ++ (codes ": greatest fill " ++ (decimal (slice_index fills at) ++ (codes " of " ++ (decimal capacity ++ codes "\n"))))))
+    → after ≡ before ++ fill_line d c (slice_index fills c)
+told_fill_of d fills c at channel name capacity before after at_is channel_is some name_is holds added =
+    let fill : ℕ = slice_index fills at in
+    let held : 0 < fill = omega (arith, some) in
+    told_fill before after name (channel_text d channel) fill capacity (slice_index (capacities d.links) channel) held name_is holds added
+    ∙ ap (λ k. before ++ fill_line d k fill) channel_is ∙ ap (λ k. before ++ fill_line d c (slice_index fills k)) at_is

@@ -2,7 +2,7 @@
 ghost use Rattle.std.specs.Prelude.{◌≡◌, ◌≤◌, IfOk, length, map};
 ghost use Rattle.sw_machine.specs.Begun.{beginnings};
 ghost use Rattle.sw_model.specs.Steps.{machine_step};
-ghost use Rattle.sw_summary.specs.Counts.{form_of, forms, loaded, of_entry, of_flow};
+ghost use Rattle.sw_summary.specs.Counts.{forms, loaded, of_entry, of_flow};
 
 use std::alloc::{AllocError, Global};
 use std::marker::Model;
@@ -84,18 +84,6 @@ pub(crate) fn loaded(flow: u16, load: &Load) -> u64
     sum
 }
 
-// The packet as the node at the end of its flow gets it.
-fn form_of(alloc: Global, flow: &Flow, begun: &Begun<'_>) -> Result<Packet, AllocError>
-    ensures { IfOk result (λ p. p ≡ form_of flow.now begun.now) }
-{
-    let mut bytes = Vec::from_slice(alloc, left_bytes(flow))?;
-    bytes.extend_from_slice(begun.cargo)?;
-    Ok(Packet {
-        bytes,
-        end: begun.end,
-    })
-}
-
 /// The packets of the flow of that number, as the node at its end gets them.
 pub(crate) fn forms(
     alloc: Global,
@@ -107,9 +95,14 @@ pub(crate) fn forms(
 {
     let mut all = Vec::new(alloc);
     for packet in begun {
-        if packet.flow == number {
-            all.push(form_of(alloc, flow, packet)?)?;
+        if packet.flow != number {
+            continue;
         }
+        let bytes = [left_bytes(flow), packet.cargo].concat(alloc)?;
+        all.push(Packet {
+            bytes,
+            end: packet.end,
+        })?;
     }
     Ok(all)
 }

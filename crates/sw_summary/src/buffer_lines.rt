@@ -1,33 +1,12 @@
 //! The lines of fills.
-ghost use Rattle.std.specs.Prelude.{◌≡◌, ◌<◌, ◌*◌, ◌++◌, IfOk, length, string_bytes};
-ghost use Rattle.sw_summary.specs.BufferLines.{fill_line, fill_lines};
+ghost use Rattle.std.specs.Prelude.{◌≡◌, ◌*◌, IfOk, length, string_bytes};
+ghost use Rattle.sw_summary.specs.BufferLines.{fill_lines};
 
 use std::alloc::{AllocError, Global};
 use std::fmt::Write;
 use sw_config::Network;
 use sw_output::channel_text;
 use sw_topo::Chan;
-
-// Adds the line of a channel, if its buffer ever held a character.
-fn add_fill(
-    alloc: Global,
-    network: &Network,
-    channel: Chan,
-    fill: u16,
-    text: &mut String,
-) -> Result<(), AllocError>
-    requires { channel < 2 * length network.now.links }
-    ensures { IfOk result (λ _. string_bytes text.new ≡ string_bytes text.old ++ fill_line network.now channel fill) }
-{
-    if fill == 0 {
-        return Ok(());
-    }
-    // Names how many channels there are.
-    let _channels = network.channels();
-    let name = channel_text(alloc, network, channel)?;
-    let capacity = network.capacity(channel);
-    write!(text, "buffer {name}: greatest fill {fill} of {capacity}\n")
-}
 
 /// A line for each channel whose buffer ever held a character.
 ///
@@ -41,7 +20,13 @@ pub fn fill_lines(alloc: Global, network: &Network, fills: &[u16]) -> Result<Str
     let mut text = String::new(alloc);
     for c in 0..network.channels() {
         let fill = fills[usize::from(c)];
-        add_fill(alloc, network, Chan::new(c), fill, &mut text)?;
+        if fill == 0 {
+            continue;
+        }
+        let channel = Chan::new(c);
+        let name = channel_text(alloc, network, channel)?;
+        let capacity = network.capacity(channel);
+        write!(text, "buffer {name}: greatest fill {fill} of {capacity}\n")?;
     }
     Ok(text)
 }

@@ -1,5 +1,5 @@
 //! What becomes of a packet at a target.
-ghost use Rattle.std.specs.Prelude.{◌≡◌, ◌==◌};
+ghost use Rattle.std.specs.Prelude.{◌≡◌};
 ghost use Rattle.sw_summary.specs.Counts.{fated};
 ghost use Rattle.sw_summary.specs.Fates.{fate_index, fate_of, read_fate, reason_text, unread_fate};
 
@@ -101,20 +101,13 @@ pub(crate) fn fate_of(bytes: &[u8]) -> Fate
     }
 }
 
-// Whether that becomes of the packet.
-fn has_fate(fate: Fate, packet: &Packet) -> bool
-    ensures { result ≡ (fate_index (fate_of packet.now.bytes) == fate_index fate) }
-{
-    fate_of(packet.bytes.as_slice()).index() == fate.index()
-}
-
 /// Of how many of the packets that becomes.
 pub(crate) fn fated(fate: Fate, packets: &[Packet]) -> usize
     ensures { result ≡ fated fate packets.now }
 {
     let mut count = 0;
     for packet in packets {
-        if !has_fate(fate, packet) {
+        if fate_of(packet.bytes.as_slice()).index() != fate.index() {
             continue;
         }
         count += 1;

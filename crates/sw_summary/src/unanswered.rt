@@ -11,6 +11,16 @@ use std::fmt::Write;
 use sw_char::Packet;
 use sw_config::Network;
 
+/// Why nobody answers a command, in the order of the lines.
+const REASONS: &[Fate] = &[
+    Fate::TooShort,
+    Fate::OtherProtocol,
+    Fate::WrongCrc,
+    Fate::IsReply,
+    Fate::NotAsked,
+    Fate::NoWay,
+];
+
 // How many of the flow's packets nobody answers, for this reason.
 fn push_line(
     text: &mut String,
@@ -36,12 +46,10 @@ fn push_line(
 fn push_reasons(text: &mut String, name: &str, packets: &[Packet]) -> Result<(), AllocError>
     ensures { IfOk result (λ _. string_bytes text.new ≡ string_bytes text.old ++ unanswered_text name.now packets.now) }
 {
-    push_line(text, name, packets, Fate::TooShort)?;
-    push_line(text, name, packets, Fate::OtherProtocol)?;
-    push_line(text, name, packets, Fate::WrongCrc)?;
-    push_line(text, name, packets, Fate::IsReply)?;
-    push_line(text, name, packets, Fate::NotAsked)?;
-    push_line(text, name, packets, Fate::NoWay)
+    for reason in REASONS {
+        push_line(text, name, packets, *reason)?;
+    }
+    Ok(())
 }
 
 // The lines of the flow of that number, if it ends at a target.
