@@ -6,11 +6,12 @@ use Rattle.std.specs.List.{list_all}
 use Rattle.sw_config.specs.Entries.{NodeEntry, ReplyEntry}
 use Rattle.sw_config.specs.Valid.{IsReply, has_no_leading_zero}
 use Rattle.sw_rmap.specs.declared.config.TargetConfig.{TargetConfig}
-use Rattle.sw_rmap.specs.CommandView.{IsCommand}
+use Rattle.sw_rmap.specs.CommandView.{CommandView, IsCommand, command}
+use Rattle.sw_rmap.specs.Commands.{written}
 use Rattle.sw_rmap.specs.Instruction.{increments, is_known, is_read_modify_write, is_write as is_write_bit, packet_type, reply_address_len, wants_reply as wants_reply_bit}
 use Rattle.sw_rmap.specs.Replies.{is_answered, leads_nowhere, path_of, without_leading_zeros}
-use Rattle.sw_app_rmap.specs.FlowCommands.{command_to, instruction, padded, path_back, units}
-use Rattle.sw_app_rmap.specs.Orders.{Action, IsSmall, Order, is_write, reads, wants_reply, writes}
+use Rattle.sw_app_rmap.specs.FlowCommands.{bytes_to, command_to, initiator_of, instruction, padded, path_back, units}
+use Rattle.sw_app_rmap.specs.Orders.{Action, IsSmall, Order, data_of, is_write, length_of, reads, wants_reply, writes}
 
 and_true : (b : Bool) → (b && true) ≡ b
 and_true true = refl
@@ -117,3 +118,10 @@ module _ (t : TargetConfig) (reply : Option ReplyEntry) (o : Order) (path : IsPa
 
   pub path_of_command : path_of (command_to t reply o) ≡ path_back reply
   path_of_command = path-padded (path_back reply) path.leading
+
+-- what is built of the parts is the command's text in bytes
+pub bytes_are : (t : TargetConfig) (reply : Option ReplyEntry) (o : Order) (write wants : Bool) (count n initiator size : ℕ) (path address body : List ℕ) (made : CommandView) → path ≡ path_back reply → address ≡ padded path
+    → write ≡ is_write o.action → wants ≡ wants_reply o.action → count ≡ units path → n ≡ instruction write wants count → initiator ≡ initiator_of reply → size ≡ length_of o.action
+    → made ≡ command t.logical n t.key address initiator o.transaction o.address size → body ≡ data_of o.action → written made body ≡ bytes_to t reply o
+bytes_are t reply o write wants count n initiator size path address body made path_is address_is write_is wants_is count_is n_is initiator_is size_is made_is body_is =
+    rw (made_is, n_is, address_is, write_is, wants_is, count_is, path_is, initiator_is, size_is, body_is) refl

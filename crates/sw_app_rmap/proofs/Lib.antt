@@ -3,5 +3,6 @@ mod Bounds
 mod Built
 mod Answered
 mod Asked
+mod Digits
 mod Tables
 mod ReadBack

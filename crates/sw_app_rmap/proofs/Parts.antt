@@ -1,17 +1,21 @@
 -- The parts of a packet that is made.
-use Rattle.std.proofs.Common.{◌≡◌, ℕ, Bool, true, false, not, ◌&&◌, List, length, drop, Option, Some, None, Result, Ok, Err, refl, sym}
-use Rattle.std.specs.Prelude.{is_some, nat_lt, position, slice_get, option_map, if◌then◌else◌}
+use Rattle.std.proofs.Common.{◌≡◌, ◌∙◌, ◌<◌, ◌++◌, ℕ, Bool, true, false, not, ◌&&◌, List, get_or, length, drop, Option, Some, None, Result, Ok, Err, refl, sym}
+use Rattle.std.specs.Prelude.{IsErr, IsErrAnd, is_some, nat_lt, position, slice_get, option_map, if◌then◌else◌}
 use Rattle.std.specs.Str.{bytes_eq}
-use Rattle.sw_config.specs.Entries.{Declaration, FlowEntry, NodeEntry, flow_names, target_of}
+use Rattle.std.proofs.lemmas.List.{get_or_append_left}
+use Rattle.std.proofs.lemmas.Option.{get_or_from_slice_get, slice_get_read}
+use Rattle.sw_config.specs.Entries.{Declaration, FlowEntry, NodeEntry, all_flows, flow_names, reply_flows, target_of}
 use Rattle.sw_model.specs.Packets.{left_bytes}
 use Rattle.sw_rmap.specs.declared.config.TargetConfig.{TargetConfig}
+use Rattle.sw_app_rmap.specs.declared.fault.RmapError.{RmapError}
+use Rattle.sw_app_rmap.specs.declared.fault.RmapError.TheVariants.{Fault, Memory}
 use Rattle.sw_app_rmap.specs.declared.fault.RmapFault.{RmapFault}
 use Rattle.sw_app_rmap.specs.declared.fault.RmapFault.TheVariants.{UnknownFlow, BadAddress, BadTransaction, NoTarget, NoReply, OutsideWindow, WrongLeft, TooLong}
 use Rattle.sw_app_rmap.specs.declared.request.Request.{Request}
 use Rattle.sw_app_rmap.specs.FlowCommands.{bytes_to}
 use Rattle.sw_app_rmap.specs.Orders.{Action, Order, action_of, order_of, transaction_of, wants_reply}
 use Rattle.sw_app_rmap.specs.Packets.{FlowPacket, begins_with, behind_left, cargo_of, cargo_to, is_in_window, packet_of}
-use Rattle.sw_app_rmap.specs.Told.{◌>>=◌, ok_or}
+use Rattle.sw_app_rmap.specs.Told.{◌>>=◌, Fails, Gives, ok_or}
 use Rattle.sw_app_rmap.specs.Words.{number_of}
 
 -- what went well went well in its first part, and then in the others
@@ -129,3 +133,34 @@ module _ (d : Declaration) (r : Request) where
         asked = order.1;
         carried = cargo.1;
       })
+
+-- a flow that is declared, of all flows
+of_declared : {A : Type 0} (xs ys : List A) (i : ℕ) (x : A) → i < length xs → slice_get (xs ++ ys) i ≡ Some x → slice_get xs i ≡ Some x
+of_declared xs ys i x lt is =
+    let at : get_or (xs ++ ys) i x ≡ x = get_or_from_slice_get (xs ++ ys) i x x is in
+    slice_get_read xs (length xs) i x refl lt (sym (sym (get_or_append_left xs ys x i lt) ∙ at))
+
+-- an error that is handed on
+pub handed_on : (r : Result FlowPacket RmapError) (e : RmapError) (made : Result FlowPacket RmapFault) → IsErr r × IsErrAnd r (λ x. x ≡ e) → Fails e made → Gives (λ p. p) r made
+handed_on (Ok p) e made is failed = absurd cc
+handed_on (Err x) e made is failed = rw is.1 failed
+
+-- what fails first is why there is no packet
+module _ (d : Declaration) (r : Request) (number : ℕ) (flow : FlowEntry) (named : Some number ≡ position (bytes_eq r.flow.now) (flow_names d.flows)) (low : number < length d.flows)
+    (there : slice_get (all_flows d) number ≡ Some flow) where
+  declared : slice_get d.flows number ≡ Some flow
+  declared = of_declared d.flows (reply_flows d.flows) number flow low there
+
+  pub order_refused : (e : RmapError) → Fails e (order_of r) → Fails e (packet_of d r)
+  unfolding packet_of
+  order_refused Memory failed = tt
+  order_refused (Fault fault) failed = rw (sym named, declared, failed) refl
+
+  pub cargo_refused : (e : RmapError) (order : Order) → order_of r ≡ Ok order → Fails e (cargo_of d.nodes flow order) → Fails e (packet_of d r)
+  unfolding packet_of
+  cargo_refused Memory order asked failed = tt
+  cargo_refused (Fault fault) order asked failed = rw (sym named, declared, asked, failed) refl
+
+  pub is_packet : (order : Order) (cargo : List ℕ) → order_of r ≡ Ok order → cargo_of d.nodes flow order ≡ Ok cargo → packet_of d r ≡ Ok (packet d r number cargo)
+  unfolding packet_of
+  is_packet order cargo asked carried = rw (sym named, declared, asked, carried) refl

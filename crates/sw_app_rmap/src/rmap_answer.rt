@@ -1,8 +1,5 @@
 //! What `rmap` answers.
-ghost use Rattle.std.specs.Prelude.{◌≡◌, ◌≤◌, IfOk, Ok, Some, length, position, string_bytes};
-ghost use Rattle.std.specs.Str.{bytes_eq};
-ghost use Rattle.sw_config.specs.Entries.{flow_names};
-ghost use Rattle.sw_model.specs.Packets.{IsDeclaredPacket};
+ghost use Rattle.std.specs.Prelude.{IfOk, string_bytes};
 ghost use Rattle.sw_app_rmap.specs.Packets.{packet_of};
 ghost use Rattle.sw_app_rmap.specs.RmapAnswers.{IsPacketAnswer, IsRmapAnswer};
 ghost use Rattle.sw_app_rmap.specs.EntryTexts.{fault_line};
@@ -10,10 +7,9 @@ ghost use Rattle.sw_command.specs.Ends.{Says};
 
 use crate::entry_texts::entry_text;
 use crate::fault::{RmapError, RmapFault, fault_words};
-use crate::packet::{FlowPacket, packet_of};
+use crate::packet::packet_of;
 use crate::request::Request;
 use std::alloc::{AllocError, Global};
-use std::marker::Model;
 use sw_command::Answer;
 use sw_command::statuses::{FAULTY, GOOD};
 use sw_config::Network;
@@ -31,22 +27,6 @@ fn fault_answer(alloc: Global, fault: RmapFault) -> Result<Answer, AllocError>
     })
 }
 
-// The answer of the flow's packet.
-fn packet_answer(
-    alloc: Global,
-    network: &Network,
-    name: &str,
-    packet: &FlowPacket,
-) -> Result<Answer, AllocError>
-    requires named { position (bytes_eq name.now) (flow_names network.now.flows) ≡ Some packet.now.flow }
-    requires declared { IsDeclaredPacket network.now packet.now.flow packet.now.cargo }
-    requires few { length packet.now.cargo ≤ 4096 }
-    ensures { IfOk result (λ a. IsPacketAnswer network.now name.now (Ok packet.now) (string_bytes a.text) a.status) }
-{
-    let text = entry_text(alloc, network, name, packet.flow, &packet.cargo)?;
-    Ok(Answer { text, status: GOOD })
-}
-
 // The answer for a network.
 fn network_answer(
     alloc: Global,
@@ -58,7 +38,10 @@ fn network_answer(
     // Names the network, which is valid by its type.
     let _flows = network.flows();
     match packet_of(alloc, network, request) {
-        Ok(packet) => packet_answer(alloc, network, request.flow, &packet),
+        Ok(packet) => {
+            let text = entry_text(alloc, network, request.flow, packet.flow, &packet.cargo)?;
+            Ok(Answer { text, status: GOOD })
+        }
         Err(RmapError::Fault(fault)) => fault_answer(alloc, fault),
         Err(RmapError::Memory) => Err(AllocError),
     }
