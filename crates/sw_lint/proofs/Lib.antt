@@ -13,3 +13,4 @@ pub mod Words
 pub mod Lawful
 pub mod Worded
 mod KindsOfSlips
+pub mod Rooms

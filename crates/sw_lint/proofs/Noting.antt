@@ -1,11 +1,12 @@
 -- What is noted of the places of flows says what holds of them.
-use Rattle.std.proofs.Common.{◌≡◌, ℕ, ◌+◌, ◌*◌, ◌<◌, ◌≤◌, All, Bool, true, false, ◌&&◌, not, List, [], ◌∷◌, ◌++◌, length, get_or, take, Option, Some, None, refl, sym, ap, ap₂, ◌∙◌, subst, arith, eq-eqb, append-nil, append_assoc}
+use Rattle.std.proofs.Common.{◌≡◌, ℕ, ◌+◌, ◌*◌, ◌<◌, ◌≤◌, All, Bool, true, false, ◌&&◌, not, List, [], ◌∷◌, ◌++◌, length, get_or, take, Bor, IfSome, MatchOption, Option, Some, None, refl, sym, ap, ap₂, ◌∙◌, subst, arith, eq-eqb, ltb, ltb-true, append-nil, append_assoc}
 use Rattle.std.specs.Prelude.{◌==◌, find, fold, is_some, option_and_then, option_map, slice_get, if◌then◌else◌}
+use Rattle.std.specs.Option.{option_copied}
 use Rattle.std.proofs.lemmas.Bool.{and_parts, eqb-true}
 use Rattle.std.proofs.lemmas.List.{get_or-replicate, length-replicate, length-take-le, map-append, take_all, take_more}
 use Rattle.std.proofs.lemmas.List.Elements.{Contains-get_or}
 use Rattle.std.proofs.lemmas.List.Sums.{fold-append, fold_push}
-use Rattle.std.proofs.lemmas.Option.{none-some, same_Some, slice_get_within}
+use Rattle.std.proofs.lemmas.Option.{none-some, same_Some, slice_get_past, slice_get_read, slice_get_within}
 use Rattle.std.proofs.lemmas.Slice.Zip.{AllZip-long, all_zipped_more}
 use Rattle.sw_topo.specs.Checked.{first_of}
 use Rattle.sw_config.specs.Entries.{FlowEntry, Declaration, all_flows}
@@ -287,3 +288,10 @@ noted_more_flows d flows n start before after same a f =
 
 pub all_noted : (d : Declaration) (flows : List FlowEntry) (n : ℕ) (start after : MarkLists) → length flows ≤ n → AreNoted d (take n flows) start after → AreNoted d flows start after
 all_noted d flows n start after le a = subst (λ (l : List FlowEntry). AreNoted d l start after) (take_all n flows le) a
+
+-- ---- a byte of an address
+
+pub read_byte : (Q : Bor ℕ → Type 0) (xs : List ℕ) (i : ℕ) (r : Option (Bor ℕ)) → is_some r ≡ ltb i (length xs) → IfSome r (λ x. x.now ≡ get_or xs i x.now) → MatchOption r (length xs ≤ i) Q
+    → option_copied r ≡ slice_get xs i
+read_byte Q xs i None is at past = sym (slice_get_past xs i past)
+read_byte Q xs i (Some x) is at past = sym (slice_get_read xs (length xs) i x.now refl (ltb-true i (length xs) (sym is)) at)

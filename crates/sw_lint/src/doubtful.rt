@@ -12,8 +12,9 @@ pub(crate) fn pair_by(marks: &Marks, link: u16) -> Option<Lint>
 {
     let a = 2 * usize::from(link);
     let b = a + 1;
-    let onward = marks.asking(a)?;
-    let back = marks.asking(b)?;
+    let (Some(onward), Some(back)) = (marks.asking(a), marks.asking(b)) else {
+        return None;
+    };
     if back.to != onward.to {
         return Some(Lint::Opposed {
             link,

@@ -53,12 +53,11 @@ fn switch_at(end: PlaceEnd) -> Option<u16>
 fn in_row(row: Option<u16>, byte: Option<u8>) -> Option<usize>
     ensures { result ≡ in_row row byte }
 {
-    let row = row?;
-    let byte = byte?;
-    if byte < 255 {
-        Some(256 * usize::from(row) + usize::from(byte))
-    } else {
-        None
+    match (row, byte) {
+        (Some(row), Some(byte)) if byte < 255 => {
+            Some(256 * usize::from(row) + usize::from(byte))
+        }
+        _ => None,
     }
 }
 
@@ -104,20 +103,6 @@ impl Marks {
     ghost use Rattle.sw_config.specs.Entries.{all_flows};
     ghost use Rattle.sw_lint.specs.FlowPlaces.{places_of_flow};
     ghost use Rattle.sw_lint.specs.Marks.{IsFlowNoted, IsNoted, first_led, is_met_by, is_used_by, no_places, no_rooms, note_at, with_command, with_place};
-
-    // No places for marks yet.
-    fn empty(alloc: Global) -> Marks
-        ensures { result ≡ no_rooms }
-    {
-        Marks {
-            starts: Vec::new(alloc),
-            ends: Vec::new(alloc),
-            arrivals: Vec::new(alloc),
-            led: Vec::new(alloc),
-            asking: Vec::new(alloc),
-            other: Vec::new(alloc),
-        }
-    }
 
     // Places for the marks of each switch and each channel, none set.
     fn make_room(&mut self, network: &Network) -> Result<(), AllocError>
@@ -212,7 +197,14 @@ impl Marks {
     pub(crate) fn of_network(alloc: Global, network: &Network) -> Result<Marks, AllocError>
         ensures { IfOk result (IsNoted network.now) }
     {
-        let mut marks = Marks::empty(alloc);
+        let mut marks = Marks {
+            starts: Vec::new(alloc),
+            ends: Vec::new(alloc),
+            arrivals: Vec::new(alloc),
+            led: Vec::new(alloc),
+            asking: Vec::new(alloc),
+            other: Vec::new(alloc),
+        };
         match marks.note_all(alloc, network) {
             Ok(()) => Ok(marks),
             Err(refused) => {

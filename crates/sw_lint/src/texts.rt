@@ -166,35 +166,6 @@ fn add_text(
     Ok(())
 }
 
-// Adds the texts of all that is told.
-fn add_texts(
-    alloc: Global,
-    network: &Network,
-    lints: &[Lint],
-    texts: &mut Vec<String>,
-) -> Result<(), AllocError>
-    ensures { OnOk result (map string_bytes texts.new.items ≡ map string_bytes texts.old.items ++ map (lint_text network.now) lints.now) }
-{
-    for lint in lints {
-        add_text(alloc, network, lint, texts)?;
-    }
-    Ok(())
-}
-
-// The texts of all that is told.
-fn texts_of(alloc: Global, network: &Network, lints: &[Lint]) -> Result<Vec<String>, AllocError>
-    ensures { IfOk result (λ v. map string_bytes v.items ≡ map (lint_text network.now) lints.now) }
-{
-    let mut texts = Vec::new(alloc);
-    match add_texts(alloc, network, lints, &mut texts) {
-        Ok(()) => Ok(texts),
-        Err(refused) => {
-            drop(texts);
-            Err(refused)
-        }
-    }
-}
-
 /// What in the network is probably a slip, each in a line of its own without LF, in the order of `lints`.
 ///
 /// # Errors
@@ -204,5 +175,9 @@ pub fn lint_texts(alloc: Global, network: &Network) -> Result<Vec<String>, Alloc
     ensures { IfOk result (λ v. AreLintTexts network.now (map string_bytes v.items)) }
 {
     let told = lints(alloc, network)?;
-    texts_of(alloc, network, &told)
+    let mut texts = Vec::new(alloc);
+    for lint in &told {
+        add_text(alloc, network, lint, &mut texts)?;
+    }
+    Ok(texts)
 }
