@@ -1,5 +1,7 @@
 use Rattle.std.proofs.Common.{◌≡◌, ◌∙◌, None, Some, ap, option_map, refl, string_bytes, sym}
 use Rattle.std.proofs.lemmas.Result.{IfOk-weaker}
+use Rattle.std.proofs.lemmas.Option.{slice_get_within}
+use Rattle.sw_config.specs.Entries.{all_flows}
 use Rattle.sw_flow.specs.Faults.{first_fault_of}
 use Rattle.sw_verdict_hints.specs.FlowHints.{IsHintAt, IsHintOn}
 use Rattle.sw_verdict_hints.proofs.FlowWays.{faulty_place, listed_for, of_flow, told_on}
@@ -30,3 +32,9 @@ returns c =
     IfOk-weaker c.hint_to.result (λ o. IsHintAt path d i f found (option_map string_bytes o)) (λ o. IsHintOn path d i f (option_map string_bytes o))
     (λ o said. told_on d i f c.requires path c.in_ok-listed.listed.items c.deref.result.now found (option_map string_bytes o)
     c.in_ok-listed.ensures c.deref.ensures.value c.in-Some.ensures said) c.hint_to.ensures
+
+pub places-requires : goal.places-requires
+places-requires c = slice_get_within (all_flows c.args.network.now) c.args.number c.args.flow.now c.requires
+
+pub first_fault-requires : goal.first_fault-requires
+first_fault-requires c = slice_get_within (all_flows c.args.network.now) c.args.number c.args.flow.now c.requires
