@@ -1,5 +1,5 @@
 //! The engine of `check` that answers with an object of JSON.
-ghost use Rattle.std.specs.Prelude.{◌≡◌, IfOk, codes, option_map};
+ghost use Rattle.std.specs.Prelude.{◌≡◌, IfOk, option_map};
 ghost use Rattle.serde_json.specs.View.{view};
 ghost use Rattle.sw_app.specs.CheckAnswers.{ChecksDeadlockFree};
 ghost use Rattle.sw_app.specs.CheckTexts.{grammar_words, refusal_words};
@@ -7,7 +7,6 @@ ghost use Rattle.sw_cert.specs.Text.{read_text};
 ghost use Rattle.sw_check.specs.Refusals.{refusal_of};
 ghost use Rattle.sw_command.specs.Ends.{AreReadInOrder};
 ghost use Rattle.sw_command.specs.Inputs.{given};
-ghost use Rattle.sw_json.specs.FileValues.{kind_value};
 ghost use Rattle.sw_json.specs.Objects.{member_value};
 ghost use Rattle.sw_json.specs.Simple.{text_or_null};
 ghost use Rattle.sw_json.specs.Answering.{EndsByTwoFiles, IsOutcome, OfFile};
@@ -89,18 +88,6 @@ fn refused_by_line(alloc: Global, number: usize) -> Result<Outcome, AllocError>
     refused(alloc, grammar_parts(number), text.as_str())
 }
 
-// The result for a certificate that is accepted.
-fn accepted(alloc: Global) -> Result<Outcome, AllocError>
-    ensures { IfOk result (λ o. IsOutcome (kind_value (codes "accepted")) 0 (view o.result) o.status) }
-{
-    kinds_are_plain();
-    let result = kind_value(alloc, "accepted")?;
-    Ok(Outcome {
-        result,
-        status: GOOD,
-    })
-}
-
 // The result for a certificate, by the first reason to refuse it.
 fn judgement<T: VerdictWorkers>(
     workers: &T,
@@ -111,7 +98,14 @@ fn judgement<T: VerdictWorkers>(
     ensures { IfOk result (λ o. IsJudgement network.now (refusal_of network.now certificate.now) (view o.result) o.status) }
 {
     match check_certificate(workers, network, certificate) {
-        Ok(_) => accepted(alloc),
+        Ok(_) => {
+            kinds_are_plain();
+            let result = kind_value(alloc, "accepted")?;
+            Ok(Outcome {
+                result,
+                status: GOOD,
+            })
+        }
         Err(refusal) => refused_by(alloc, network, refusal),
     }
 }

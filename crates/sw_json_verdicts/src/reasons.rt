@@ -1,6 +1,6 @@
 //! Reasons to refuse a certificate, in their parts.
 ghost use Rattle.std.specs.Prelude.{◌≡◌, option_map};
-ghost use Rattle.sw_json_verdicts.specs.CheckResults.{bare_reason, grammar_reason, not_rising_reason, placed_reason, reason_of};
+ghost use Rattle.sw_json_verdicts.specs.CheckResults.{bare_reason, grammar_reason, placed_reason, reason_of};
 ghost use Rattle.sw_json_verdicts.specs.Reasons.{parts_view};
 
 use sw_check::Refusal;
@@ -8,7 +8,6 @@ use sw_config::Network;
 use sw_flow::Place;
 use sw_json::route_fault_code;
 use sw_output::flow_name;
-use sw_topo::Chan;
 
 /// A reason: its code, the wrong line, the flow, a channel of it and how many address bytes are deleted there, the channel that
 /// depends on that one, and the code of the place's fault.
@@ -67,16 +66,6 @@ fn placed<'a>(
     }
 }
 
-fn not_rising<'a>(channel: Chan, next: Chan) -> Parts<'a>
-    ensures { parts_view result ≡ not_rising_reason channel next }
-{
-    Parts {
-        channel: Some(u64::from(channel.number())),
-        next: Some(u64::from(next.number())),
-        ..bare("C5")
-    }
-}
-
 /// The parts of a reason to refuse a certificate for the network.
 pub(crate) fn parts_of<'a>(network: &'a Network, refusal: &Refusal) -> Parts<'a>
     ensures { parts_view result ≡ reason_of network.entry.now refusal.now }
@@ -88,7 +77,11 @@ pub(crate) fn parts_of<'a>(network: &'a Network, refusal: &Refusal) -> Parts<'a>
             ..bare("C3")
         },
         Refusal::NotClosed(flow, place) => placed(network, "C4", *flow, *place, None),
-        Refusal::NotRising(channel, next) => not_rising(*channel, *next),
+        Refusal::NotRising(channel, next) => Parts {
+            channel: Some(u64::from(channel.number())),
+            next: Some(u64::from(next.number())),
+            ..bare("C5")
+        },
         Refusal::Faulty(flow, place, fault) => {
             placed(network, "C6", *flow, *place, Some(route_fault_code(*fault)))
         }

@@ -2,7 +2,7 @@
 ghost use Rattle.std.specs.Prelude.{◌≡◌, IfOk};
 ghost use Rattle.serde_json.specs.View.{view};
 ghost use Rattle.sw_command.specs.Inputs.{given};
-ghost use Rattle.sw_json.specs.VerdictValues.{certificate_bytes, verdict_value};
+ghost use Rattle.sw_json.specs.VerdictValues.{certificate_bytes};
 ghost use Rattle.sw_search.specs.Verdicts.{IsVerdict};
 ghost use Rattle.sw_json.specs.Answering.{EndsByOneFile, IsOutcome, OfNetworkFile};
 ghost use Rattle.sw_json_verdicts.specs.ReportResults.{IsFindingsResult, IsReportJson, KeepingOne, found_value, kept_of, report_value};
@@ -29,14 +29,6 @@ fn certificate_text(alloc: Global, verdict: &Verdict) -> Result<Vec<u8>, AllocEr
         Verdict::Misrouted(_, _, _) | Verdict::Cyclic(_) => Ok(Vec::new(alloc)),
         Verdict::Free(certificate) => certificate.write(alloc),
     }
-}
-
-fn told_verdict(alloc: Global, network: &Network, verdict: &Verdict) -> Result<Value, AllocError>
-    requires { IsVerdict network.now verdict.now }
-    ensures { IfOk result (λ v. view v ≡ verdict_value network.now verdict.now) }
-{
-    let text = certificate_text(alloc, verdict)?;
-    verdict_value(alloc, network, verdict, &text)
 }
 
 // How many parts the network has, with its verdict.
@@ -75,7 +67,8 @@ fn findings_outcome(
     ensures { IfOk result (λ o. IsOutcome (found_value network.now findings.now) 0 (view o.result) o.status) }
 {
     reports_are_plain();
-    let verdict = told_verdict(alloc, network, &findings.verdict)?;
+    let text = certificate_text(alloc, &findings.verdict)?;
+    let verdict = verdict_value(alloc, network, &findings.verdict, &text)?;
     let result = told_report(alloc, network, findings, verdict)?;
     Ok(Outcome {
         result,
