@@ -1,7 +1,6 @@
 //! The flows whose replies can't happen.
-ghost use Rattle.std.specs.Prelude.{◌≡◌, ◌<◌, ◌++◌, IfOk, OnOk, length};
-ghost use Rattle.sw_mend.specs.Changes.{by_number, made_at};
-ghost use Rattle.sw_witness.specs.Unanswered.{can_not_be_answered, has_other_instruction, has_other_protocol, is_of_answered, never_answered, number_if};
+ghost use Rattle.std.specs.Prelude.{◌≡◌, IfOk};
+ghost use Rattle.sw_witness.specs.Unanswered.{can_not_be_answered, has_other_instruction, has_other_protocol, is_of_answered, never_answered};
 
 use std::alloc::{AllocError, Global};
 use std::marker::Model;
@@ -52,26 +51,6 @@ fn can_not_be_answered(flow: &Flow) -> bool
     }
 }
 
-// The number, if the flow's replies can't happen.
-fn add_if(number: u16, flow: &Flow, numbers: &mut Vec<u16>) -> Result<(), AllocError>
-    ensures { OnOk result (numbers.new.items ≡ numbers.old.items ++ number_if number flow.now) }
-{
-    if can_not_be_answered(flow) {
-        numbers.push(number)?;
-    }
-    Ok(())
-}
-
-// The number of a flow, if its replies can't happen.
-fn add_flow(network: &Network, number: u16, numbers: &mut Vec<u16>) -> Result<(), AllocError>
-    requires { number < length network.now.flows }
-    ensures { OnOk result (numbers.new.items ≡ numbers.old.items ++ made_at number_if network.now.flows number) }
-{
-    // All flows are more.
-    let _flows = network.declared_flows();
-    add_if(number, network.flow(number), numbers)
-}
-
 /// The numbers of the flows whose replies can't happen, in their order: no packet that such a flow declares can begin a command that its
 /// target answers by the flow's path (ECSS-E-ST-50-52C). A flow that is not among them may still never be answered.
 ///
@@ -83,7 +62,10 @@ pub fn never_answered(alloc: Global, network: &Network) -> Result<Vec<u16>, Allo
 {
     let mut numbers = Vec::new(alloc);
     for number in 0..network.declared_flows() {
-        add_flow(network, number, &mut numbers)?;
+        if !can_not_be_answered(network.flow(number)) {
+            continue;
+        }
+        numbers.push(number)?;
     }
     Ok(numbers)
 }

@@ -1,8 +1,6 @@
 //! Whether a network is free without replies that can't happen.
-ghost use Rattle.std.specs.Prelude.{◌≡◌, ◌↔◌, ◌∷◌, IfOk, IsTrue, map};
-ghost use Rattle.sw_mend.specs.Changes.{changed_by_all};
+ghost use Rattle.std.specs.Prelude.{◌≡◌, ◌↔◌, IfOk, IsTrue, map};
 ghost use Rattle.sw_mend.specs.declared.change.Change.TheVariants.{WithoutReply};
-ghost use Rattle.sw_search.specs.Laws.{RoutedAndFree};
 ghost use Rattle.sw_witness.specs.Unanswered.{IsFreeWithout, never_answered};
 
 use std::alloc::{AllocError, Global};
@@ -12,45 +10,14 @@ use sw_mend::{Change, network_with_all};
 use sw_search::{VerdictWorkers, is_free};
 
 // The changes that take the replies of these flows away.
-fn replies_away(alloc: Global, first: u16, others: &[u16]) -> Result<Vec<Change>, AllocError>
-    ensures { IfOk result (λ v. v.items ≡ map WithoutReply (first ∷ others.now)) }
+fn replies_away(alloc: Global, flows: &[u16]) -> Result<Vec<Change>, AllocError>
+    ensures { IfOk result (λ v. v.items ≡ map WithoutReply flows.now) }
 {
     let mut changes = Vec::new(alloc);
-    changes.push(Change::WithoutReply(first))?;
-    for flow in others {
+    for flow in flows {
         changes.push(Change::WithoutReply(*flow))?;
     }
     Ok(changes)
-}
-
-// Is the network free after these changes?
-fn is_free_changed<W: VerdictWorkers>(
-    workers: &W,
-    alloc: Global,
-    network: &Network,
-    changes: &[Change],
-) -> Result<bool, AllocError>
-    ensures { IfOk result (λ b. IsTrue b ↔ RoutedAndFree (changed_by_all network.now changes.now)) }
-{
-    let left = network_with_all(alloc, network, changes)?;
-    let free = is_free(workers, alloc, &left);
-    left.discard();
-    free
-}
-
-// Is the network free without the replies of these flows, which can't happen?
-fn is_free_after<W: VerdictWorkers>(
-    workers: &W,
-    alloc: Global,
-    network: &Network,
-    first: u16,
-    others: &[u16],
-) -> Result<bool, AllocError>
-    requires { first ∷ others.now ≡ never_answered network.now }
-    ensures { IfOk result (λ b. IsTrue b ↔ IsFreeWithout network.now) }
-{
-    let changes = replies_away(alloc, first, others)?;
-    is_free_changed(workers, alloc, network, &changes)
 }
 
 /// Is there a reply that can't happen, and is the network free without these replies? Then it never locks up, though its verdict may be
@@ -59,7 +26,6 @@ fn is_free_after<W: VerdictWorkers>(
 /// # Errors
 ///
 /// There is no memory for the network without them, or its verdict.
-#[tactic(auto, using(crate::proofs::Away::none_away))]
 pub fn is_free_without<W: VerdictWorkers>(
     workers: &W,
     alloc: Global,
@@ -69,8 +35,12 @@ pub fn is_free_without<W: VerdictWorkers>(
     requires { flows.now ≡ never_answered network.now }
     ensures { IfOk result (λ b. IsTrue b ↔ IsFreeWithout network.now) }
 {
-    match flows {
-        [] => Ok(false),
-        [first, others @ ..] => is_free_after(workers, alloc, network, *first, others),
+    if flows.is_empty() {
+        return Ok(false);
     }
+    let changes = replies_away(alloc, flows)?;
+    let left = network_with_all(alloc, network, &changes)?;
+    let free = is_free(workers, alloc, &left);
+    left.discard();
+    free
 }

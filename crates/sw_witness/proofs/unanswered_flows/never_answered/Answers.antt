@@ -1,15 +1,28 @@
-use Rattle.std.proofs.Common.{[], ap, arith, ◌∙◌}
+use Rattle.std.proofs.Common.{◌<◌, ◌≡◌, ap, arith, false, length, rules, true, ◌∙◌}
 use Rattle.std.proofs.lemmas.List.{take_all}
+use Rattle.sw_config.specs.Entries.{reply_flows}
 use Rattle.sw_mend.specs.Changes.{by_number}
-use Rattle.sw_mend.proofs.Numbered.{grown_at}
 use Rattle.sw_witness.specs.Unanswered.{number_if}
+use Rattle.sw_witness.proofs.Away.{number_left, number_pushed}
 use Rattle.sw_witness.proofs.unanswered_flows.never_answered.Goals as goal
 
-pub add_flow-requires : goal.add_flow-requires
-add_flow-requires c = omega (arith, c.loop-number-test.true, c.declared_flows-number-end.ensures.count)
+pub loop-number-preserved-then-not-can_not_be_answered : goal.loop-number-preserved-then-not-can_not_be_answered
+loop-number-preserved-then-not-can_not_be_answered c =
+    let flows = c.args.network.now.flows in
+    let number = c.loop-number.number in
+    let lt : number < length flows = omega (arith, c.loop-number-test.true, c.declared_flows-number-end.ensures.count) in
+    let none : c.can_not_be_answered.result ≡ false = search rules in
+    number_left flows (reply_flows flows) number c.flow.result.now c.can_not_be_answered.result lt c.flow.ensures.flow c.can_not_be_answered.ensures c.loop-number.numbers.items none
+    c.loop-number.invariant
 
 pub loop-number-preserved : goal.loop-number-preserved
-loop-number-preserved c = grown_at number_if [] _ _ c.loop-number.number c.args.network.now.flows c.loop-number.invariant c.in_ok-add_flow.ensures
+loop-number-preserved c =
+    let flows = c.args.network.now.flows in
+    let number = c.loop-number.number in
+    let lt : number < length flows = omega (arith, c.loop-number-test.true, c.declared_flows-number-end.ensures.count) in
+    let never : c.can_not_be_answered.result ≡ true = search rules in
+    number_pushed flows (reply_flows flows) number c.flow.result.now c.can_not_be_answered.result lt c.flow.ensures.flow c.can_not_be_answered.ensures c.loop-number.numbers.items
+    c.push.new.self.items never c.loop-number.invariant c.in_ok-push.ensures.items
 
 pub returns : goal.returns
 returns c =

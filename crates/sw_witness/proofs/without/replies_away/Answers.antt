@@ -2,5 +2,4 @@ use Rattle.sw_witness.proofs.Away.{one_more_change}
 use Rattle.sw_witness.proofs.without.replies_away.Goals as goal
 
 pub loop-flow-preserved : goal.loop-flow-preserved
-loop-flow-preserved c =
-    one_more_change c.args.first c.args.others.now c.loop-flow.flow-index _ _ c.loop-flow-test.true c.loop-flow.invariant c.in_ok-push-2.ensures.items
+loop-flow-preserved c = one_more_change c.args.flows.now c.loop-flow.flow-index _ _ c.loop-flow-test.true c.loop-flow.invariant c.in_ok-push.ensures.items
