@@ -2,6 +2,7 @@ pub mod Entries
 pub mod Grown
 mod Listed
 mod Whole
+mod Ports
 pub mod Known
 pub mod Values
 pub mod Walked

@@ -1,10 +1,15 @@
 -- A loop over the tables of one of the document's lists.
-use Rattle.std.proofs.Common.{◌≡◌, ℕ, ◌≤◌, ◌<◌, List, map, length, take, get_or, Result, Ok, Err}
+use Rattle.std.proofs.Common.{◌≡◌, ℕ, ◌≤◌, ◌<◌, List, map, length, take, get_or, Result, Ok, Err, refl}
+use Rattle.std.proofs.lemmas.Bool.{le-leb, lt-leb}
+use Rattle.std.proofs.lemmas.List.{length-map}
 use Rattle.std.specs.Prelude.{IsErrAnd}
 use Rattle.toml.specs.Data.{Members}
 use Rattle.sw_topo.specs.declared.fault.Limit.{Limit}
 use Rattle.sw_topo.specs.declared.fault.TopoFault.TheVariants.{TooMany}
 use Rattle.sw_toml_table.specs.declared.keys.Key.{Key}
+use Rattle.sw_toml_table.specs.declared.keys.Section.{Section}
+use Rattle.sw_toml_table.specs.declared.keys.Section.TheVariants.{Document}
+use Rattle.sw_toml_table.specs.Table.{tables_or_none}
 use Rattle.sw_toml_table.specs.declared.fault.TextFault.{TextFault}
 use Rattle.sw_toml_table.specs.declared.fault.TextFault.TheVariants as fault
 use Rattle.sw_toml_table.specs.declared.fault.FileFault.{FileFault}
@@ -35,3 +40,11 @@ module _ {A X Y : Type 0} (one : Y → Result A TextFault) (f : X → Y) (tables
       → Fails e (one (f x)) → Gives view result (tables >>= λ ts. each one ts)
   each_list_fails view i done x e (Ok y) failed so_far lt at here = absurd failed
   each_list_fails view i done x e (Err y) failed so_far lt at here = rw (failed, read, ← same) (each_fails one f items i done x e so_far lt at here)
+
+-- the tables of a list were read and counted
+module _ {X : Type 0} (f : X → Members) (s : Section) (key : Key) (most : ℕ) (over : TextFault) (ms : Members) (items : List X) (count : ℕ) (same : s ≡ Document) (read : tables_or_none s key ms ≡ Ok (map f items)) (counted : count ≡ length items) where
+  pub entries_read : count ≤ most → entries key most over ms ≡ Ok (map f items)
+  entries_read few = rw (← same, read, length-map, ← counted, le-leb count most few) refl
+
+  pub entries_over : most < count → entries key most over ms ≡ Err over
+  entries_over many = rw (← same, read, length-map, ← counted, lt-leb count most many) refl

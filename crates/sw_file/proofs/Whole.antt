@@ -1,20 +1,22 @@
 -- What an entry is where all of its readings went well.
-use Rattle.std.proofs.Common.{◌≡◌, ◌≤◌, ◌<◌, ◌+◌, ◌-◌, ℕ, false, Bool, List, [], ◌∷◌, ◌++◌, length, Option, Some, Ok, refl, Fits, w8, w16, arith}
+use Rattle.std.proofs.Common.{length-append, ap, ◌∙◌, ◌≡◌, ◌≤◌, ◌<◌, ◌+◌, ◌-◌, ℕ, false, Bool, List, [], ◌∷◌, ◌++◌, length, Option, Some, Ok, Err, refl, Fits, w8, w16, w32, w64, arith}
 use Rattle.std.specs.Prelude.{nat_lt, position, IfSome}
 use Rattle.std.specs.Str.{bytes_eq}
-use Rattle.std.proofs.lemmas.Bool.{lt-ltb, ltb-true, le-leb, false_from_ne_true}
+use Rattle.std.proofs.lemmas.Bool.{lt-ltb, ltb-true, le-leb, lt-leb, false_from_ne_true}
 use Rattle.toml.specs.Data.{Members}
 use Rattle.sw_topo.specs.declared.place.PlaceEnd.{PlaceEnd}
 use Rattle.sw_topo.specs.declared.place.PlaceEnd.TheVariants as ends
 use Rattle.sw_route.specs.declared.look.Route.{Route as RouteEntry}
 use Rattle.sw_arb.specs.declared.arbitration.Arbitration.{Arbitration}
 use Rattle.sw_rmap.specs.declared.config.TargetConfig.{TargetConfig}
-use Rattle.sw_config.specs.Entries.{Declaration, part_names}
+use Rattle.sw_config.specs.Entries.{Declaration, NodeEntry, SwitchEntry, part_names}
 use Rattle.sw_toml_table.specs.declared.keys.Key.{Key}
 use Rattle.sw_toml_table.specs.declared.keys.Key.TheVariants.{Logical, TargetKey, Start, Size, Slots, Address, Last, Delete, A, APort, B, BPort, Buffer, BufferA, BufferB}
 use Rattle.sw_toml_table.specs.declared.keys.Section.{Section}
 use Rattle.sw_toml_table.specs.declared.keys.Section.TheVariants as section
 use Rattle.sw_toml_table.specs.declared.keys.Version.{Version}
+use Rattle.sw_toml_table.specs.declared.fault.KeyFault.TheVariants.{OutOfRange}
+use Rattle.sw_toml_table.specs.declared.fault.TextFault.TheVariants as fault
 use Rattle.sw_toml_table.specs.Table.{only_known, absent, text_at, number_at, number_or, flag_or_false}
 use Rattle.sw_file.specs.Keys.{node_keys, target_keys, switch_keys, route_keys, link_keys}
 use Rattle.sw_file.specs.Names.{new_name, place_at}
@@ -28,6 +30,12 @@ fits_byte n most le few = omega (arith, le, few)
 pub fits_two_bytes : (n most : ℕ) → n ≤ most → most ≤ 65535 → Fits w16 n
 fits_two_bytes n most le few = omega (arith, le, few)
 
+pub fits_window : (start size : ℕ) → start ≤ 1099511627775 → size ≤ 65536 → Fits w64 (start + size)
+fits_window start size low few = omega (arith, low, few)
+
+pub fits_size : (size : ℕ) → size ≤ 65536 → Fits w32 size
+fits_size size few = omega (arith, few)
+
 pub size_is : (i start size : ℕ) (ms : Members) → number_at (section.Target i) Size 1 65536 ms ≡ Ok size → start + size ≤ 1099511627776 → size_at i start ms ≡ Ok size
 unfolding size_at
 size_is i start size ms at_size window = rw (at_size, le-leb (start + size) 1099511627776 window) refl
@@ -40,6 +48,14 @@ unfolding config_of
 config_is version i ms keys u logical key start size slots same known at_logical at_key at_start at_size at_slots =
     let known_so : only_known (section.Target i) (target_keys version) ms ≡ Ok u = rw same at known in
     rw (known_so, at_logical, at_key, at_start, at_size, at_slots) refl
+
+pub config_refused : (version : Version) (i : ℕ) (ms : Members) (keys : List Key) (u : Unit {0}) (logical key start size : ℕ) → keys ≡ target_keys version → only_known (section.Target i) keys ms ≡ Ok u
+    → number_at (section.Target i) Logical 32 254 ms ≡ Ok logical → number_or (section.Target i) TargetKey 0 255 0 ms ≡ Ok key → number_or (section.Target i) Start 0 1099511627775 0 ms ≡ Ok start
+    → number_at (section.Target i) Size 1 65536 ms ≡ Ok size → 1099511627776 < start + size → config_of version i ms ≡ Err (fault.Key OutOfRange (section.Target i) Size)
+unfolding config_of size_at
+config_refused version i ms keys u logical key start size same known at_logical at_key at_start at_size past =
+    let known_so : only_known (section.Target i) (target_keys version) ms ≡ Ok u = rw same at known in
+    rw (known_so, at_logical, at_key, at_start, at_size, lt-leb (start + size) 1099511627776 past) refl
 
 pub route_is : (version : Version) (s : Section) (ms : Members) (keys : List Key) (u : Unit {0}) (first last ports : ℕ) (delete : Bool) → keys ≡ route_keys version → only_known s keys ms ≡ Ok u
     → number_at s Address 32 254 ms ≡ Ok first → number_or s Last first 254 first ms ≡ Ok last → ports_at s ms ≡ Ok ports → flag_or_false s Delete ms ≡ Ok delete
@@ -85,3 +101,14 @@ switch_end_is s key port nodes count names ms place number p made counted at_pla
     let same : p ≡ number = rw is at value in
     let after : nat_lt place nodes ≡ false = false_from_ne_true (nat_lt place nodes) (λ below. absurd (omega (arith, counted, past, ltb-true place nodes below))) in
     rw (at_place, after, at_number, counted, same) refl
+
+-- one part more
+pub node_more : (d e : Declaration) (n : NodeEntry) → e ≡ record d { nodes = d.nodes ++ n ∷ [] } → length e.nodes ≡ length d.nodes + 1
+node_more d e n same = ap (λ (x : Declaration). length x.nodes) same ∙ length-append d.nodes (n ∷ [])
+
+pub switch_more : (d e : Declaration) (s : SwitchEntry) → e ≡ record d { switches = d.switches ++ s ∷ [] } → length e.switches ≡ length d.switches + 1
+switch_more d e s same = ap (λ (x : Declaration). length x.switches) same ∙ length-append d.switches (s ∷ [])
+
+-- a link's end at a switch is inside
+pub within_switches : (place count nodes switches n : ℕ) (made : Option ℕ) → count ≡ nodes → count ≤ place → place < nodes + switches → made ≡ Some n → IfSome made (λ q. q < 32) → (place - count < switches) × (n < 32)
+within_switches place count nodes switches n made counted past below is small = (omega (arith, counted, past, below), rw is at small)

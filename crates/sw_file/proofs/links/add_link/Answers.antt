@@ -1,13 +1,14 @@
-use Rattle.std.proofs.Common.{Ok, sym, ap, ◌∙◌, arith}
+use Rattle.std.proofs.Common.{Ok, refl, sym, ap, ◌∙◌}
+use Rattle.std.proofs.lemmas.Bool.{leb-true}
 use Rattle.toml.specs.View.{table_view}
 use Rattle.sw_file.proofs.Whole.{fits_two_bytes, link_is}
 use Rattle.sw_file.proofs.links.add_link.Goals as goal
 
 pub overflow_cast-buffer_a : goal.overflow_cast-buffer_a
-overflow_cast-buffer_a c = fits_two_bytes c.in_ok-buffer_a.buffer_a 4096 c.in_ok-buffer_a.ensures.within.1 (omega arith)
+overflow_cast-buffer_a c = fits_two_bytes c.in_ok-buffer_a.buffer_a 4096 c.in_ok-buffer_a.ensures.within.1 (leb-true 4096 65535 refl)
 
 pub overflow_cast-buffer_b : goal.overflow_cast-buffer_b
-overflow_cast-buffer_b c = fits_two_bytes c.in_ok-buffer_b.buffer_b 4096 c.in_ok-buffer_b.ensures.within.1 (omega arith)
+overflow_cast-buffer_b c = fits_two_bytes c.in_ok-buffer_b.buffer_b 4096 c.in_ok-buffer_b.ensures.within.1 (leb-true 4096 65535 refl)
 
 pub returns : goal.returns
 returns c =

@@ -1,13 +1,14 @@
-use Rattle.std.proofs.Common.{arith}
+use Rattle.std.proofs.Common.{refl}
+use Rattle.std.proofs.lemmas.Bool.{leb-true}
 use Rattle.toml.specs.View.{table_view}
 use Rattle.sw_file.proofs.Whole.{fits_byte, route_is}
 use Rattle.sw_file.proofs.switches.route_of.Goals as goal
 
 pub overflow_cast-result : goal.overflow_cast-result
-overflow_cast-result c = fits_byte c.in_ok-first.first 254 c.in_ok-first.ensures.within.1 (omega arith)
+overflow_cast-result c = fits_byte c.in_ok-first.first 254 c.in_ok-first.ensures.within.1 (leb-true 254 255 refl)
 
 pub overflow_cast-result-2 : goal.overflow_cast-result-2
-overflow_cast-result-2 c = fits_byte c.in_ok-last.last 254 c.in_ok-last.ensures.within.1 (omega arith)
+overflow_cast-result-2 c = fits_byte c.in_ok-last.last 254 c.in_ok-last.ensures.within.1 (leb-true 254 255 refl)
 
 pub returns-clause-gives : goal.returns-clause-gives
 returns-clause-gives c =
