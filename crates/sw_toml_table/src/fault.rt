@@ -9,7 +9,7 @@ use sw_topo::TopoFault;
 use thiserror::Error;
 
 /// What is wrong at a key that the table may have.
-#[derive(Clone, Copy, Debug, PartialEq, Eq)]
+#[derive(Clone, Copy, Debug)]
 pub enum KeyFault {
     MissingKey,
     WrongType,

@@ -108,7 +108,7 @@ pub enum Section {
 }
 
 /// The version of a network file.
-#[derive(Clone, Copy, PartialEq, Eq)]
+#[derive(Clone, Copy)]
 pub enum Version {
     One,
     Two,
