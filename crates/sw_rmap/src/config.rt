@@ -1,7 +1,7 @@
 //! What a target answers by.
 
 /// The configuration of an RMAP target.
-#[derive(Clone, Copy, Debug, PartialEq, Eq)]
+#[derive(Clone, Copy)]
 pub struct TargetConfig {
     /// The target logical address: 32 to 254 (ECSS-E-ST-50-52C, the fields of a command).
     pub logical: u8,
