@@ -12,4 +12,3 @@ pub mod LinkEnds
 pub mod Enabling
 pub mod Spilling
 pub mod StepsAtNodes
-pub mod Cells

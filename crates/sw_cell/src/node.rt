@@ -169,7 +169,7 @@ pub fn can_begin(n: u16, node: &NodeCell) -> bool
 }
 
 /// A step at a node, other than to begin a packet.
-#[derive(Clone, Copy, PartialEq, Eq)]
+#[derive(Clone, Copy)]
 pub enum NodeStep {
     /// The end of the channel that comes to the node sends an FCT.
     Fct,

@@ -54,6 +54,6 @@ pub fn step_node(
         Step::Begin { flow, cargo, end } => {
             node::begin(alloc, network, n, *flow, cargo, *end, cell)
         }
-        Step::Grant(_, _) | Step::Drop(_) | Step::Forward(_) | Step::Spill(_) => Ok(false),
+        _ => Ok(false),
     }
 }

@@ -253,7 +253,7 @@ pub fn arbitrate<R: Routing, A: Arbiter>(
 }
 
 /// A step at the link end of a port of a switch, other than to grant its output.
-#[derive(Clone, Copy, PartialEq, Eq)]
+#[derive(Clone, Copy)]
 pub enum PortStep {
     /// An FCT leaves for the channel that comes to the port.
     Fct,

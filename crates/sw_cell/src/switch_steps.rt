@@ -38,6 +38,6 @@ pub fn step_switch<R: Routing, A: Arbiter>(
         Step::Drop(channel) => switch::drop_front(network, w, *channel, cell),
         Step::Forward(channel) => switch::forward(network, w, *channel, cell, wires),
         Step::Spill(channel) => switch::spill(network, w, *channel, cell),
-        Step::Begin { .. } | Step::Emit(_) | Step::Accept(_) | Step::Reply(_) => false,
+        _ => false,
     }
 }

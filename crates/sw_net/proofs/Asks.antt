@@ -1,5 +1,5 @@
 -- The inputs to which an output can be granted, as a switch tells them.
-use Rattle.std.proofs.Common.{Bool, Some, ap, false, refl, sym, true, ℕ, ◌∙◌, ◌≡◌, ◌↔◌, IsTrue}
+use Rattle.std.proofs.Common.{Bool, Some, ap, arith, false, refl, sym, true, ℕ, ◌∙◌, ◌≡◌, ◌↔◌, IsTrue}
 use Rattle.std.proofs.lemmas.Bool.{false≢true}
 use Rattle.std.specs.Prelude.{IsBitSet, slice_get}
 use Rattle.sw_cell.proofs.Dropping.{some_of}
@@ -16,6 +16,7 @@ use Rattle.sw_route.specs.declared.look.Look.{Look}
 use Rattle.sw_switch.specs.Cell.{Cell}
 use Rattle.sw_switch.specs.Conditions as ports
 use Rattle.sw_topo.proofs.Ends.{partner_back, port_starts}
+use Rattle.sw_topo.proofs.PortBits.{zero_none}
 use Rattle.sw_topo.specs.Wiring.{out_of, partner}
 use Rattle.sw_topo.specs.declared.place.PlaceEnd.TheVariants.{Switch}
 
@@ -25,6 +26,10 @@ same_switch w v p q e = cc
 
 same_port : (w v p q : ℕ) → Some (Switch w p) ≡ Some (Switch v q) → p ≡ q
 same_port w v p q e = cc
+
+-- no port is in the empty set
+pub none_set : (port : ℕ) → IsBitSet 0 port → ⊥
+none_set port h = zero_none 0 refl port (omega arith) h
 
 module _ {R A : Type 0} (answer : R → ℕ → Look) (arbiter_ports : A → ℕ) (v : NetView R A) (net : IsNet answer arbiter_ports v) (e : ℕ) where
   pub none_asks : (set : ℕ) → ((port : ℕ) → IsBitSet set port → ⊥) → ((w out : ℕ) → slice_get (ends_of v.declared) e ≡ Some (Switch w out) → ⊥) → AreAsking v e set

@@ -30,6 +30,10 @@ use Rattle.sw_switch.specs.Cell.{Cell}
 use Rattle.sw_topo.proofs.Ends.{partner_back}
 use Rattle.sw_topo.specs.Wiring.{partner}
 
+-- a node is no switch
+two_cells : (n w : ℕ) → AtNode n ≡ AtSwitch w → ⊥
+two_cells n w e = cc
+
 module _ {R A : Type 0} (v : NetView R A) where
   pub node_told : (n : ℕ) (node : Node) (step : Step) (told : Bool) → slice_get v.nodes n ≡ Some node → NodeTells (network_of v.declared) n node v.between step told → Tells v step told
   node_told n node step true at h = λ s is. h s (record { reached = is.reached; part = is.nodes n node at; between = is.between })
@@ -104,7 +108,7 @@ module _ {R A : Type 0} (v : NetView R A) where
       -- ---- what is never possible at a node
 
       no_switch : (c w : ℕ) → (network_of v.declared).end_of c ≡ AtNode n → (network_of v.declared).end_of c ≡ AtSwitch w → ⊥
-      no_switch c w ends is = let bad : AtNode n ≡ AtSwitch w = sym ends ∙ is in cc
+      no_switch c w ends is = two_cells n w (sym ends ∙ is)
 
       pub no_grant : (d c : ℕ) → step ≡ Grant d c → Tells v step false
       no_grant d c e = λ s is p. let h = subst (λ k. Leads (network_of v.declared) s k p.0) e p.1 in no_switch c h.switch (subst (λ k. cell_of (network_of v.declared) k ≡ AtNode n) e at.cell) h.at
@@ -130,16 +134,16 @@ module _ {R A : Type 0} (v : NetView R A) where
 
     module _ (w : ℕ) (at : IsAt v.declared step (place.Switch w)) where
       pub no_begin : (flow : ℕ) (cargo : List ℕ) (end : End) → step ≡ Begin flow cargo end → Tells v step false
-      no_begin flow cargo end e = absurd (let bad = subst (λ k. cell_of (network_of v.declared) k ≡ AtSwitch w) e at.cell in cc)
+      no_begin flow cargo end e = absurd (two_cells ((network_of v.declared).flow flow).from w (subst (λ k. cell_of (network_of v.declared) k ≡ AtSwitch w) e at.cell))
 
       pub no_emit : (m : ℕ) → step ≡ Emit m → Tells v step false
-      no_emit m e = absurd (let bad = subst (λ k. cell_of (network_of v.declared) k ≡ AtSwitch w) e at.cell in cc)
+      no_emit m e = absurd (two_cells m w (subst (λ k. cell_of (network_of v.declared) k ≡ AtSwitch w) e at.cell))
 
       pub no_accept : (m : ℕ) → step ≡ Accept m → Tells v step false
-      no_accept m e = absurd (let bad = subst (λ k. cell_of (network_of v.declared) k ≡ AtSwitch w) e at.cell in cc)
+      no_accept m e = absurd (two_cells m w (subst (λ k. cell_of (network_of v.declared) k ≡ AtSwitch w) e at.cell))
 
       pub no_reply : (m : ℕ) → step ≡ Reply m → Tells v step false
-      no_reply m e = absurd (let bad = subst (λ k. cell_of (network_of v.declared) k ≡ AtSwitch w) e at.cell in cc)
+      no_reply m e = absurd (two_cells m w (subst (λ k. cell_of (network_of v.declared) k ≡ AtSwitch w) e at.cell))
 
 -- ---- a step by its kind
 

@@ -10,7 +10,7 @@ use Rattle.sw_char.specs.declared.nchar.NChar.TheVariants.{Data}
 
 pub next_byte : (bytes : List ℕ) (n b : ℕ) (end : NChar) → n < length bytes → b ≡ get_or bytes n b → slice_get (drop n (map Data bytes ++ end ∷ [])) 0 ≡ Some (Data b)
 next_byte [] n b end lt e = absurd (omega arith)
-next_byte (x ∷ bytes) zero b end lt e = cc
+next_byte (x ∷ bytes) zero b end lt e = ap (λ k. Some (Data k)) (sym e)
 next_byte (x ∷ bytes) (suc n) b end lt e = next_byte bytes n b end (omega arith) e
 
 pub next_marker : (bytes : List ℕ) (n : ℕ) (end : NChar) → slice_get bytes n ≡ None → n ≤ length bytes → slice_get (drop n (map Data bytes ++ end ∷ [])) 0 ≡ Some end

@@ -35,6 +35,18 @@ returns-in_default-clause-made c =
     let none = ap (λ k. slice_get (wire_at b k) 0) o ∙ sym c.first.ensures ∙ c.in_default.is in
     nodes.arrive_not (network_of d) ok c.args.n inside node b none
 
+pub take-requires : goal.take-requires
+take-requires c =
+    let d = c.args.network.now in
+    let for = c.requires.node in
+    let ok = are_networks d for.valid in
+    let inside = in_network d c.args.n c.args.node.now for in
+    let long = nodes.wires_long (network_of d) ok c.args.n inside c.args.node.now c.args.wires.now c.requires.reached in
+    let all = channels_are d in
+    let w = ap (λ (w : Wiring). length w.ends) c.topology.ensures.wiring in
+    let lt = c.into-into.ensures.within in
+    omega arith
+
 pub arrive-requires : goal.arrive-requires
 arrive-requires c =
     let d = c.args.network.now in

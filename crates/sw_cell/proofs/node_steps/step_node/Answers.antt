@@ -1,4 +1,4 @@
-use Rattle.std.proofs.Common.{ap, false, sym, subst, ◌∙◌, ◌≡◌, ◌⊎◌, ⊎_elim, ℕ}
+use Rattle.std.proofs.Common.{Global, Vec, ap, false, refl, sym, subst, ◌∙◌, ◌≡◌, ℕ}
 use Rattle.sw_cell.proofs.StepsAtNodes as nodes
 use Rattle.sw_cell.specs.Places.{HasNamed}
 use Rattle.sw_cell.proofs.Nodes.{accept_made, begin_made}
@@ -7,7 +7,8 @@ use Rattle.sw_cell.proofs.Network.{answers_as, in_network}
 use Rattle.sw_cell.specs.Makes.{NodeMakes}
 use Rattle.sw_machine.specs.Network.{AtNode, IsDeclared}
 use Rattle.sw_machine.specs.Parts.{cell_of}
-use Rattle.sw_machine.specs.Steps.{Accept, Begin, IsPossible}
+use Rattle.sw_machine.specs.Steps.{Accept, Begin, Emit, IsPossible}
+use Rattle.sw_char.specs.declared.nchar.End.{End}
 use Rattle.sw_config.specs.Entries.{Declaration}
 use Rattle.sw_config.specs.Valid.{IsValid}
 use Rattle.sw_node.specs.Node.{Node}
@@ -19,20 +20,22 @@ use Rattle.sw_model.specs.Model.{network_of}
 use Rattle.sw_model.specs.Steps.{machine_step}
 use Rattle.sw_cell.proofs.node_steps.step_node.Goals as goal
 
--- one of the steps that are never done at a node
-abbrev IsOfSwitch : CodeStep → Type 0
-IsOfSwitch step = ((x : ℕ) × (y : ℕ) × (step ≡ code.Grant x y)) ⊎ (((x : ℕ) × (step ≡ code.Drop x)) ⊎ (((x : ℕ) × (step ≡ code.Forward x)) ⊎ ((x : ℕ) × (step ≡ code.Spill x))))
-
-never : (d : Declaration) → IsValid d → (n : ℕ) (node : Node) (b : Between) (step : CodeStep) → cell_of (network_of d) (machine_step step) ≡ AtNode n → IsOfSwitch step → NodeMakes (network_of d) n node b (machine_step step) false node b
-never d valid n node b step at one =
-    let net = network_of d in
-    let ok = are_networks d valid in
-    let m = machine_step step in
-    ⊎_elim
-    (λ e. nodes.no_grant net ok n node b m at e.0 e.1 (ap machine_step e.2))
-    (λ one. ⊎_elim (λ e. nodes.no_drop net ok n node b m at e.0 (ap machine_step e.1))
-    (λ one. ⊎_elim (λ e. nodes.no_forward net ok n node b m at e.0 (ap machine_step e.1)) (λ e. nodes.no_spill net ok n node b m at e.0 (ap machine_step e.1)) one) one)
-    one
+-- a step at a node that is none of seven is never possible
+never : (d : Declaration) → IsValid d → (n : ℕ) (node : Node) (b : Between) (step : CodeStep) → cell_of (network_of d) (machine_step step) ≡ AtNode n
+    → ((c : ℕ) → step ≡ code.Fct c → ⊥) → ((c : ℕ) → step ≡ code.FctIn c → ⊥) → ((c : ℕ) → step ≡ code.Arrive c → ⊥) → ((m : ℕ) → step ≡ code.Emit m → ⊥)
+    → ((m : ℕ) → step ≡ code.Accept m → ⊥) → ((m : ℕ) → step ≡ code.Reply m → ⊥) → ((flow : ℕ) (cargo : Vec ℕ Global) (end : End) → step ≡ code.Begin flow cargo end → ⊥)
+    → NodeMakes (network_of d) n node b (machine_step step) false node b
+never d valid n node b (code.Fct c) at fct fct_in arrive emit accept reply begin = absurd (fct c refl)
+never d valid n node b (code.FctIn c) at fct fct_in arrive emit accept reply begin = absurd (fct_in c refl)
+never d valid n node b (code.Arrive c) at fct fct_in arrive emit accept reply begin = absurd (arrive c refl)
+never d valid n node b (code.Grant o c) at fct fct_in arrive emit accept reply begin = nodes.no_grant (network_of d) (are_networks d valid) n node b (machine_step (code.Grant o c)) at o c refl
+never d valid n node b (code.Drop c) at fct fct_in arrive emit accept reply begin = nodes.no_drop (network_of d) (are_networks d valid) n node b (machine_step (code.Drop c)) at c refl
+never d valid n node b (code.Forward c) at fct fct_in arrive emit accept reply begin = nodes.no_forward (network_of d) (are_networks d valid) n node b (machine_step (code.Forward c)) at c refl
+never d valid n node b (code.Spill c) at fct fct_in arrive emit accept reply begin = nodes.no_spill (network_of d) (are_networks d valid) n node b (machine_step (code.Spill c)) at c refl
+never d valid n node b (code.Begin flow cargo end) at fct fct_in arrive emit accept reply begin = absurd (begin flow cargo end refl)
+never d valid n node b (code.Emit m) at fct fct_in arrive emit accept reply begin = absurd (emit m refl)
+never d valid n node b (code.Accept m) at fct fct_in arrive emit accept reply begin = absurd (accept m refl)
+never d valid n node b (code.Reply m) at fct fct_in arrive emit accept reply begin = absurd (reply m refl)
 
 pub returns-in-Fct-clause-made : goal.returns-in-Fct-clause-made
 returns-in-Fct-clause-made c =
@@ -89,8 +92,14 @@ returns-in-Begin-clause-possible c =
     subst (IsPossible net s) (ap (λ k. Begin c.in-Begin.flow k c.in-Begin.end) c.deref.ensures.value ∙ sym is) (made.0, made.1))
     c.begin.ensures.possible
 
-pub returns-in-Grant-3-clause-made : goal.returns-in-Grant-3-clause-made
-returns-in-Grant-3-clause-made c = never c.args.network.now c.requires.cell.valid c.args.n c.args.cell.now c.args.wires.now c.args.step.now c.requires.at c.in-Grant.is
+pub returns-in_default-clause-made : goal.returns-in_default-clause-made
+returns-in_default-clause-made c =
+    let no = c.in_default in
+    never c.args.network.now c.requires.cell.valid c.args.n c.args.cell.now c.args.wires.now c.args.step.now c.requires.at no.not-Fct no.not-FctIn no.not-Arrive no.not-Emit no.not-Accept no.not-Reply no.not-Begin
 
-pub returns-in-Grant-4-clause-made : goal.returns-in-Grant-4-clause-made
-returns-in-Grant-4-clause-made c = never c.args.network.now c.requires.cell.valid c.args.n c.args.cell.now c.args.wires.now c.args.step.now c.requires.at c.in-Grant.is
+pub returns-in-Emit-clause-made : goal.returns-in-Emit-clause-made
+returns-in-Emit-clause-made c =
+    let d = c.args.network.now in
+    let is = ap machine_step c.in-Emit.is in
+    let same = nodes.node_of c.args.n c.in-Emit.field-0 (subst (λ k. cell_of (network_of d) k ≡ AtNode c.args.n) is c.requires.at) in
+    subst (λ k. NodeMakes (network_of d) c.args.n c.args.cell.now c.args.wires.now k c.emit.result c.emit.new.node c.emit.new.wires) (ap Emit same ∙ sym is) c.emit.ensures.made

@@ -17,6 +17,12 @@ pub returns-in_default-clause-made : goal.returns-in_default-clause-made
 returns-in_default-clause-made g c =
     switches.arrive_not g.R.Routing.answer g.A.Arbiter.ports c.args.network.now c.args.w c.args.cell.now c.requires.cell c.args.wires.now c.args.channel c.input-port.result c.input-port.ensures (sym c.first.ensures ∙ c.in_default.is)
 
+pub take-requires : goal.take-requires
+take-requires g c =
+    let long = switches.wires_long g.R.Routing.answer g.A.Arbiter.ports c.args.network.now c.args.w c.args.cell.now c.requires.cell c.args.wires.now c.requires.reached in
+    let lt = switches.within c.args.network.now c.requires.cell.valid c.args.channel c.args.w c.input-port.result c.input-port.ensures in
+    omega arith
+
 pub arrive-requires : goal.arrive-requires
 arrive-requires g c =
     let front = sym c.first.ensures ∙ c.in-Some.is in

@@ -1,4 +1,4 @@
-use Rattle.std.proofs.Common.{subst, sym, refl, arith, rules, ◌∙◌, true}
+use Rattle.std.proofs.Common.{subst, sym, refl, arith, ◌∙◌, true}
 use Rattle.sw_link.specs.Ends.{asked}
 use Rattle.sw_switch.specs.Cell.{end_at}
 use Rattle.sw_cell.specs.SwitchParts.{IsSwitchFor}
@@ -22,12 +22,12 @@ send_fct-requires-clause-within g c =
 
 pub send_fct-requires-clause-few : goal.send_fct-requires-clause-few
 send_fct-requires-clause-few g c =
-    let can : CanIssue c.args.cell.now c.input-port.result = search rules in
+    let can : CanIssue c.args.cell.now c.input-port.result = c.can_issue.ensures.0 c.if-not-can_issue.false in
     switches.fct_few g.R.Routing.answer g.A.Arbiter.ports c.args.network.now c.args.w c.args.cell.now c.requires.cell c.args.wires.now c.args.channel c.input-port.result c.input-port.ensures c.requires.reached can
 
 pub returns-clause-made : goal.returns-clause-made
 returns-clause-made g c =
-    let can : CanIssue c.args.cell.now c.input-port.result = search rules in
+    let can : CanIssue c.args.cell.now c.input-port.result = c.can_issue.ensures.0 c.if-not-can_issue.false in
     switches.made_as c.args.network.now c.args.w c.args.cell.now c.args.wires.now (Fct c.args.channel) true _ c.issue.new.self _ c.send_fct.new.self
     c.issue.ensures
     c.send_fct.ensures

@@ -1,5 +1,6 @@
-use Rattle.std.proofs.Common.{◌≡◌, ◌<◌, Some, ap, arith, length, rules, subst, sym, true, ◌∙◌}
+use Rattle.std.proofs.Common.{◌≡◌, ◌<◌, Some, ap, arith, length, subst, sym, true, ◌∙◌}
 use Rattle.std.proofs.lemmas.Bool.{false≢true}
+use Rattle.std.specs.Prelude.{IfSome, IsSome}
 use Rattle.sw_cell.proofs.Network.{channels_are}
 use Rattle.sw_cell.proofs.Passing as passing
 use Rattle.sw_cell.proofs.Switches as switches
@@ -15,18 +16,27 @@ returns-then-not-can_forward-clause-made g c =
     let never = λ (can : CanForward c.args.cell.now c.input-port.result). false≢true (sym c.if-not-can_forward.true ∙ c.can_forward.ensures.1 can) in
     passing.forward_not g.R.Routing.answer g.A.Arbiter.ports c.args.network.now c.args.w c.args.cell.now c.requires.cell c.args.wires.now c.args.channel c.input-port.result c.input-port.ensures never
 
+pub out_of-requires : goal.out_of-requires
+out_of-requires g c = subst (λ (x : Wiring). c.args.w < x.switches) (sym c.topology.ensures.wiring) c.requires.cell.in_net
+
+pub unwrap-next-requires : goal.unwrap-next-requires
+unwrap-next-requires g c =
+    let out = c.forward-out.result.0 in
+    let goes = c.out_of.ensures.channel ∙ ap (λ (x : Wiring). out_of x.ends c.args.w out) c.topology.ensures.wiring in
+    subst IsSome (sym goes) (c.requires.cell.held c.input-port.result out c.forward-out.ensures.out).1
+
 pub put-requires-clause-within : goal.put-requires-clause-within
 put-requires-clause-within g c =
     let long = switches.wires_long g.R.Routing.answer g.A.Arbiter.ports c.args.network.now c.args.w c.args.cell.now c.requires.cell c.args.wires.now c.requires.reached in
     let all = channels_are c.args.network.now in
     let e = ap (λ (x : Wiring). length x.ends) c.topology.ensures.wiring in
-    let lt : c.unwrap-next.result < length c.topology.result.now.ends = search rules in
+    let lt : c.unwrap-next.result < length c.topology.result.now.ends = subst (λ o. IfSome o (λ k. k < length c.topology.result.now.ends)) c.unwrap-next.ensures c.out_of.ensures.within in
     omega arith
 
 pub put-requires-clause-room : goal.put-requires-clause-room
 put-requires-clause-room g c =
     let goes : out_of (ends_of c.args.network.now) c.args.w c.forward-out.result.0 ≡ Some c.unwrap-next.result = ap (λ (x : Wiring). out_of x.ends c.args.w c.forward-out.result.0) (sym c.topology.ensures.wiring) ∙ sym c.out_of.ensures.channel ∙ c.unwrap-next.ensures in
-    let can : CanForward c.args.cell.now c.input-port.result = search rules in
+    let can : CanForward c.args.cell.now c.input-port.result = c.can_forward.ensures.0 c.if-not-can_forward.false in
     passing.forward_room g.R.Routing.answer g.A.Arbiter.ports c.args.network.now c.args.w c.args.cell.now c.requires.cell c.args.wires.now c.input-port.result c.unwrap-next.result c.forward-out.result.0 c.forward-out.ensures.out goes can c.requires.reached
 
 pub returns-clause-cell : goal.returns-clause-cell
@@ -37,7 +47,7 @@ returns-clause-cell g c =
 pub returns-clause-made : goal.returns-clause-made
 returns-clause-made g c =
     let goes : out_of (ends_of c.args.network.now) c.args.w c.forward-out.result.0 ≡ Some c.unwrap-next.result = ap (λ (x : Wiring). out_of x.ends c.args.w c.forward-out.result.0) (sym c.topology.ensures.wiring) ∙ sym c.out_of.ensures.channel ∙ c.unwrap-next.ensures in
-    let can : CanForward c.args.cell.now c.input-port.result = search rules in
+    let can : CanForward c.args.cell.now c.input-port.result = c.can_forward.ensures.0 c.if-not-can_forward.false in
     switches.made_as c.args.network.now c.args.w c.args.cell.now c.args.wires.now (Forward c.args.channel) true _ c.forward-out.new.self _ c.put.new.self
     c.forward-out.ensures.after
     c.put.ensures

@@ -1,4 +1,4 @@
-use Rattle.std.proofs.Common.{None, ap, arith, refl, rules, set, subst, sym, ◌≡◌}
+use Rattle.std.proofs.Common.{ap, arith, refl, set, subst, sym, ◌≡◌}
 use Rattle.sw_cell.specs.Picks.{GrantsPick}
 use Rattle.sw_machine.specs.Network.{AtSwitch}
 use Rattle.sw_machine.specs.Steps.{Grant}
@@ -18,8 +18,7 @@ pub returns-in_err-channel-clause-moves : goal.returns-in_err-channel-clause-mov
 returns-in_err-channel-clause-moves g c =
     let at = switch_here g.R.Routing.answer g.A.Arbiter.ports (net_of c.self.inside.network.now c.self.inside.nodes.items c.self.inside.switches.items c.self.inside.wires) c.args.self.now c.self.view_is c.self.invariant c.args.w c.index_mut-cell.result.now c.requires.switch c.index_mut-cell.ensures.value in
     let starts = subst (λ (k : NetView g.row.R.Denot g.row.A.Denot). (network_of k.declared).start_of c.args.end ≡ AtSwitch c.args.w) (sym c.self.view_is) c.requires.at in
-    let nothing : c.from_residual.result ≡ None = search rules in
-    none_is_made g.R.Routing.answer g.A.Arbiter.ports g.A.Arbiter.policy c.self.inside.network.now c.self.inside.nodes.items c.self.inside.switches.items c.self.inside.wires c.self.invariant c.args.w c.index_mut-cell.result.now at c.args.end starts c.args.self.now c.self.view_is c.requires.no_other c.sends.result c.sends.ensures c.in_err-channel.ensures.none c.arbitrate.new.cell c.in_err-channel.ensures.kept c.from_residual.result nothing
+    none_is_made g.R.Routing.answer g.A.Arbiter.ports g.A.Arbiter.policy c.self.inside.network.now c.self.inside.nodes.items c.self.inside.switches.items c.self.inside.wires c.self.invariant c.args.w c.index_mut-cell.result.now at c.args.end starts c.args.self.now c.self.view_is c.requires.no_other c.sends.result c.sends.ensures c.in_err-channel.ensures.none c.arbitrate.new.cell c.in_err-channel.ensures.kept c.from_residual.result c.from_residual.ensures
 
 pub invariant_of-self-2 : goal.invariant_of-self-2
 invariant_of-self-2 g c =

@@ -1,6 +1,8 @@
 use Rattle.std.proofs.Common.{Some, ap, arith, length, subst, ◌∙◌, ◌≡◌}
+use Rattle.std.proofs.lemmas.Option.{slice_get_within}
 use Rattle.std.specs.Prelude.{slice_get}
-use Rattle.sw_net.proofs.Asks.{switch_asks}
+use Rattle.sw_flow.specs.Places.{ends_of}
+use Rattle.sw_net.proofs.Asks.{none_asks, none_set, switch_asks}
 use Rattle.sw_net.proofs.net.Net.asks.Goals as goal
 use Rattle.sw_config.specs.Entries.{Declaration, wiring_of}
 use Rattle.sw_topo.specs.Wiring.{Wiring}
@@ -28,3 +30,15 @@ switch-requires g c =
     let count = ap (λ (k : Wiring). k.switches) c.topology.ensures.wiring in
     let same = ap (λ (d : Declaration). length d.switches) c.network-network.ensures.network in
     omega arith
+
+pub returns-then-number-channels : goal.returns-then-number-channels
+returns-then-number-channels g c =
+    let v = c.args.self.now in
+    none_asks g.R.Routing.answer g.A.Arbiter.ports v c.network-network.ensures.sound c.args.end 0 none_set
+    (λ w out starts.
+    let lt = slice_get_within (ends_of v.declared) c.args.end (Switch w out) starts in
+    let same = ap (λ (d : Declaration). length (ends_of d)) c.network-network.ensures.network in
+    let count = c.channels.ensures.ends in
+    let number = c.number.ensures in
+    let past = c.if-number-channels.true in
+    omega arith)

@@ -7,7 +7,7 @@ use Rattle.sw_machine.specs.Steps.{Step}
 use Rattle.sw_model.proofs.Networks.{are_networks}
 use Rattle.sw_model.specs.Model.{network_of}
 use Rattle.sw_model.specs.Steps.{machine_step}
-use Rattle.sw_net.proofs.Making.{node_step_belongs, node_step_is_plain, none_at_switch, plain_move, then_none}
+use Rattle.sw_net.proofs.Making.{node_step_belongs, node_step_is_plain, none_at_switch, plain_move, port_step_belongs, port_step_is_plain, then_none}
 use Rattle.sw_net.proofs.Told.{start_at_node, start_at_switch}
 use Rattle.sw_net.proofs.net.Net.possible_at.Goals as goal
 use Rattle.sw_net.specs.Asked.{CanStep}
@@ -44,6 +44,14 @@ returns-in-None-clause-none g c =
 pub first_at_port-requires-clause-at : goal.first_at_port-requires-clause-at
 first_at_port-requires-clause-at g c = start_at_switch c.args.self.now.declared c.args.end c.in-Switch.w c.in-Switch.out c.in-Switch.ensures.starts
 
+pub returns-in-Some-first_at_port-clause-some : goal.returns-in-Some-first_at_port-clause-some
+returns-in-Some-first_at_port-clause-some g c =
+    let v = c.args.self.now in
+    let first = c.in-Some-first_at_port.first in
+    let plain = subst IsPlain (sym c.port_step.ensures) (port_step_is_plain c.args.end first) in
+    let belongs = ap (link_end_of (network_of v.declared)) c.port_step.ensures ∙ port_step_belongs (network_of v.declared) c.args.end first in
+    plain_move v c.args.end (machine_step c.port_step.result) plain belongs
+
 pub returns-in-Some-first_at_port-clause-possible : goal.returns-in-Some-first_at_port-clause-possible
 returns-in-Some-first_at_port-clause-possible g c = subst (λ (k : Step). Tells c.args.self.now k true) (sym c.port_step.ensures) c.in-Some-first_at_port.ensures.some
 
@@ -52,3 +60,9 @@ returns-in-None-first_at_port-clause-none g c =
     let v = c.args.self.now in
     let starts = start_at_switch v.declared c.args.end c.in-Switch.w c.in-Switch.out c.in-Switch.ensures.starts in
     then_none c.possible_grant.result _ _ (none_at_switch v c.place_of.ensures.sound.valid c.args.end c.in-Switch.w starts c.in-None-first_at_port.ensures.none) c.possible_grant.ensures.none
+
+pub returns-in-None-first_at_port-clause-some : goal.returns-in-None-first_at_port-clause-some
+returns-in-None-first_at_port-clause-some g c = c.possible_grant.ensures.some
+
+pub returns-in-None-first_at_port-clause-possible : goal.returns-in-None-first_at_port-clause-possible
+returns-in-None-first_at_port-clause-possible g c = c.possible_grant.ensures.possible
