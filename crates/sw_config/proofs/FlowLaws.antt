@@ -1,5 +1,5 @@
 -- The laws of the flows of each network.
-use Rattle.std.proofs.Common.{◌≡◌, ◌≢◌, ℕ, zero, suc, ◌+◌, cond, take, List, [], ◌∷◌, ◌++◌, length, is_some, Option, Some, None, codes, refl, sym, ap, ◌∙◌, arith, length-append, zero-add, All, AllPairs}
+use Rattle.std.proofs.Common.{◌≡◌, ◌≢◌, ℕ, zero, suc, ◌+◌, cond, take, List, [], ◌∷◌, ◌++◌, is_some, Option, Some, None, codes, refl, sym, ap, ◌∙◌, arith, length-append, zero-add, All, AllPairs}
 use Rattle.std.specs.Prelude.{slice_get}
 use Rattle.std.proofs.lemmas.Option.{same_Some}
 use Rattle.std.proofs.lemmas.List.{append_cancel_right, map-append}
@@ -9,12 +9,7 @@ use Rattle.std.proofs.lemmas.List.Kept.{AllPairs-cons}
 use Rattle.sw_config.specs.Entries.{NodeEntry, ReplyEntry, FlowEntry, flow_names, reply_flow, replies_of, reply_flows}
 use Rattle.sw_config.specs.Valid.{IsReply, IsFlow}
 use Rattle.sw_config.specs.Laws.{replies_before, RepliesFollowInOrder, IsReplyTo, LaterFlowsAreReplies, IsReplyFlow, FlowsAreValid, NamesAreDistinct}
-use Rattle.sw_config.proofs.Flows.{reply_flows_are_flows, is_reply_flow}
-
--- past the first list stands the second
-slice_get-append_right : {X : Type 0} (xs ys : List X) (k : ℕ) → slice_get (xs ++ ys) (length xs + k) ≡ slice_get ys k
-slice_get-append_right [] ys k = ap (slice_get ys) (zero-add k)
-slice_get-append_right (x ∷ xs) ys k = let e : length (x ∷ xs) + k ≡ suc (length xs + k) = omega arith in rw e (slice_get-append_right xs ys k)
+use Rattle.sw_config.proofs.Flows.{slice_get-append_right, reply_flows_are_flows, is_reply_flow}
 
 past_replies : (f : FlowEntry) (r : Option ReplyEntry) (rest : List FlowEntry) (n : ℕ) → slice_get (replies_of f r ++ rest) (cond (is_some r) 1 0 + n) ≡ slice_get rest n
 past_replies f None rest n = ap (slice_get rest) (zero-add n)

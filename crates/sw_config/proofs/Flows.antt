@@ -1,6 +1,6 @@
 -- Reply flows: how many there are, what they keep, their names; and the network with one flow more.
-use Rattle.std.proofs.Common.{◌≡◌, ℕ, zero, suc, ◌+◌, ◌*◌, ◌<◌, ◌≤◌, Bool, true, false, ◌||◌, List, [], ◌∷◌, ◌++◌, length, Option, Some, None, option_map, codes, refl, sym, subst, ap, ◌∙◌, inl, inr, arith, length-append, append_assoc, All}
-use Rattle.std.specs.Prelude.{slice_get, position}
+use Rattle.std.proofs.Common.{◌≡◌, ℕ, zero, suc, ◌+◌, ◌-◌, ◌*◌, ◌<◌, ◌≤◌, Bool, true, false, ◌||◌, take, List, [], ◌∷◌, ◌++◌, length, Option, Some, None, Result, Ok, Err, option_map, codes, refl, sym, subst, ap, ◌∙◌, inl, inr, arith, length-append, append_assoc, zero-add, All}
+use Rattle.std.specs.Prelude.{slice_get, position, OnOk, OnErr}
 use Rattle.std.specs.List.{list_any}
 use Rattle.std.specs.Str.{bytes_eq}
 use Rattle.std.proofs.lemmas.Bool.{cases_Bool, false≢true}
@@ -19,6 +19,28 @@ use Rattle.sw_config.proofs.Steps.{named_more}
 -- what holds of each element holds of one that is read
 pub All-at : {X : Type 0} (P : X → Type 0) (xs : List X) (i : ℕ) (x : X) → slice_get xs i ≡ Some x → All P xs → P x
 All-at P xs i x at all = subst P (get_or_from_slice_get xs i x x at) (All-get_or P xs i x (slice_get_within xs i x at) all)
+
+-- past the first list stands the second
+pub slice_get-append_right : {X : Type 0} (xs ys : List X) (k : ℕ) → slice_get (xs ++ ys) (length xs + k) ≡ slice_get ys k
+slice_get-append_right [] ys k = ap (slice_get ys) (zero-add k)
+slice_get-append_right (x ∷ xs) ys k = let e : length (x ∷ xs) + k ≡ suc (length xs + k) = omega arith in rw e (slice_get-append_right xs ys k)
+
+-- what stands in one of two lists stands in both together
+pub in_first : {X : Type 0} (xs ys : List X) (i : ℕ) (x : X) → slice_get xs i ≡ Some x → slice_get (xs ++ ys) i ≡ Some x
+in_first [] ys i x at = absurd cc
+in_first (y ∷ xs) ys zero x at = at
+in_first (y ∷ xs) ys (suc i) x at = in_first xs ys i x at
+
+pub in_second : {X : Type 0} (xs ys second : List X) (n i : ℕ) (x : X) → n ≡ length xs → second ≡ ys → n ≤ i → slice_get second (i - n) ≡ Some x → slice_get (xs ++ ys) i ≡ Some x
+in_second xs ys second n i x size same past at =
+    let split : i ≡ length xs + (i - n) = omega (arith, size, past) in
+    ap (slice_get (xs ++ ys)) split ∙ slice_get-append_right xs ys (i - n) ∙ ap (λ l. slice_get l (i - n)) (sym same) ∙ at
+
+-- a place in both that is past the first
+pub past_first : {X : Type 0} (xs ys second : List X) (n i : ℕ) → n ≡ length xs → second ≡ ys → i < length (xs ++ ys) → n ≤ i → i - n < length second
+past_first xs ys second n i size same within past =
+    let total : i < length xs + length ys = rw length-append at within in
+    rw same (omega (arith, size, past, total))
 
 few_replies : (f : FlowEntry) (r : Option ReplyEntry) → length (replies_of f r) ≤ 1
 few_replies f None = omega arith
@@ -111,6 +133,28 @@ pub position-all_flows : (test : List ℕ → Bool) (d : Declaration)
     → position test (flow_names (all_flows d)) ≡ first_of (position test (flow_names d.flows)) (option_map (λ i. length d.flows + i) (position test (flow_names (reply_flows d.flows))))
 position-all_flows test d =
     ap (position test) (map-append (λ (x : FlowEntry). x.name) d.flows (reply_flows d.flows)) ∙ position-append test (flow_names d.flows) (flow_names (reply_flows d.flows)) ∙ rw length-map refl
+
+-- the names of flows with one more, or as they were
+pub named_flows : {A E : Type 0} (r : Result A E) (names after : List (List ℕ)) (flows added : List FlowEntry) (f : FlowEntry) (text : List ℕ) → names ≡ flow_names flows → text ≡ f.name
+    → OnOk r (after ≡ names ++ text ∷ []) → OnErr r (after ≡ names) → OnOk r (added ≡ flows ++ f ∷ []) → OnErr r (added ≡ flows) → after ≡ flow_names added
+named_flows (Ok x) names after flows added f text before same named kept listed left = named ∙ rw (listed, map_push (λ (x : FlowEntry). x.name), before, same) refl
+named_flows (Err e) names after flows added f text before same named kept listed left = kept ∙ before ∙ ap flow_names (sym left)
+
+-- flows that were refused, after their replies were taken back
+first_kept : {X : Type 0} (xs ys : List X) → take (length xs) (xs ++ ys) ≡ xs
+first_kept [] ys = refl
+first_kept (x ∷ xs) ys = ap (λ l. x ∷ l) (first_kept xs ys)
+
+pub flow_refused : (w : Wiring) (names : List (List ℕ)) (replies more after cut flows : List FlowEntry) (n : ℕ) (d : Declaration) → IsNetwork w names replies d → after ≡ replies ++ more → n ≡ length replies
+    → cut ≡ take n after → flows ≡ d.flows → IsNetwork w names cut (record d { flows = flows })
+flow_refused w names replies more after cut flows n d so_far added size shorter kept = rw (shorter, size, added, first_kept replies more, kept) so_far
+
+-- places in both of two lists
+pub within_first : {X : Type 0} (xs ys : List X) (i : ℕ) → i < length xs → i < length (xs ++ ys)
+within_first xs ys i lt = rw length-append (omega (arith, lt))
+
+pub within_second : {X : Type 0} (xs ys second : List X) (n i : ℕ) → n ≡ length xs → second ≡ ys → i < length second → n + i < length (xs ++ ys)
+within_second xs ys second n i size same lt = let less : i < length ys = rw same at lt in rw length-append (omega (arith, size, less))
 
 -- the capacities of a link's channels
 pub capacity_even : (links : List LinkEntry) (i c : ℕ) (l : LinkEntry) → c ≡ 2 * i → slice_get links i ≡ Some l → slice_get (capacities links) c ≡ Some l.buffer_b

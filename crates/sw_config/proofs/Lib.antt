@@ -1,6 +1,7 @@
 pub mod Texts
 pub mod Positions
 pub mod Steps
+pub mod Wired
 pub mod Flows
 pub mod FlowLaws
 pub use Rattle.sw_route.proofs.PortBits

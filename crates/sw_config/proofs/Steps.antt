@@ -1,5 +1,6 @@
 -- What is being put together, one entry on.
-use Rattle.std.proofs.Common.{◌≡◌, ◌≢◌, ℕ, ◌+◌, ◌*◌, ◌<◌, ◌≤◌, false, List, [], ◌∷◌, ◌++◌, length, get_or, refl, sym, ap, ◌∙◌, arith, length-append, append_assoc, AllPairs}
+use Rattle.std.proofs.Common.{◌≡◌, ◌≢◌, ℕ, ◌+◌, ◌*◌, ◌<◌, ◌≤◌, false, List, [], ◌∷◌, ◌++◌, length, get_or, Result, Ok, Err, refl, sym, subst, ap, ◌∙◌, arith, length-append, append_assoc, AllPairs}
+use Rattle.std.specs.Prelude.{OnErr}
 use Rattle.std.specs.List.{list_any}
 use Rattle.std.specs.Str.{bytes_eq}
 use Rattle.std.proofs.lemmas.Bool.{false≢true}
@@ -24,6 +25,11 @@ apart names name absent k d lt same =
 -- names that are apart stay so with a new one
 pub named_more : (names : List (List ℕ)) (name : List ℕ) → AllPairs (λ x y. x ≢ y) names → list_any (bytes_eq name) names ≡ false → AllPairs (λ x y. x ≢ y) (names ++ name ∷ [])
 named_more names name before absent = all_pairs_push (λ x y. x ≢ y) names name before (apart names name absent)
+
+-- what holds, holds on an error
+pub on_err : {A E : Type 0} (r : Result A E) (P : Type 0) → P → OnErr r P
+on_err (Ok x) P holds = tt
+on_err (Err e) P holds = holds
 
 abbrev In : Declaration → PlaceEnd → Type 0
 In d = IsIn (length d.nodes) (length d.switches)
@@ -100,3 +106,33 @@ module _ (w : Wiring) (names : List (List ℕ)) (d : Declaration) (so_far : IsBu
       parts_named = so_far.draft.parts_named;
     };
   }
+
+  -- the same, of what was added
+  pub node_added : (after : Wiring) (keys : List (List ℕ)) (nodes : List NodeEntry) (n : NodeEntry) (text : List ℕ) → after ≡ record w { nodes = w.nodes + 1 } → keys ≡ names ++ n.name ∷ []
+      → nodes ≡ d.nodes ++ record n { name = text } ∷ [] → text ≡ n.name → d.switches ≡ [] → length d.nodes < 1024 → IsNode n → list_any (bytes_eq n.name) (part_names d) ≡ false
+      → IsBuilder after keys (record d { nodes = nodes })
+  node_added after keys nodes n text counted named listed of_text first few ok absent = rw (counted, named, listed, of_text) (node_more n first few ok absent)
+
+  pub switch_added : (after : Wiring) (keys : List (List ℕ)) (switches : List SwitchEntry) (s entry : SwitchEntry) → after ≡ record w { switches = w.switches + 1 } → keys ≡ names ++ s.name ∷ []
+      → switches ≡ d.switches ++ entry ∷ [] → entry ≡ s → length d.switches < 512 → IsSwitch entry → list_any (bytes_eq s.name) (part_names d) ≡ false
+      → IsBuilder after keys (record d { switches = switches })
+  switch_added after keys switches s entry counted named listed made few ok absent =
+      rw (counted, named, listed, made) (switch_more s few (subst IsSwitch made ok) absent)
+
+  pub link_added : (after : Wiring) (before links : List LinkEntry) (l : LinkEntry) → after ≡ record w { ends = w.ends ++ l.a ∷ l.b ∷ [] } → before ≡ d.links → links ≡ before ++ l ∷ [] → In d l.a → In d l.b → IsLink l
+      → IsBuilder after names (record d { links = links })
+  link_added after before links l joined kept listed a_in b_in ok = rw (joined, listed, kept) (link_more l a_in b_in ok)
+
+  -- what was refused changes nothing
+  pub node_refused : (keys : List (List ℕ)) (nodes : List NodeEntry) → keys ≡ names → nodes ≡ d.nodes → IsBuilder w keys (record d { nodes = nodes })
+  node_refused keys nodes same kept = rw (same, kept) so_far
+
+  pub switch_refused : (keys : List (List ℕ)) (switches : List SwitchEntry) → keys ≡ names → switches ≡ d.switches → IsBuilder w keys (record d { switches = switches })
+  switch_refused keys switches same kept = rw (same, kept) so_far
+
+  pub link_refused : (after : Wiring) (links : List LinkEntry) → after ≡ w → links ≡ d.links → IsBuilder after names (record d { links = links })
+  link_refused after links same kept = rw (same, kept) so_far
+
+  -- an end in the declaration is one in the wiring
+  pub end_inside : (e : PlaceEnd) → In d e → IsIn w.nodes w.switches e
+  end_inside e in' = subst (λ v. IsIn v.nodes v.switches e) (sym so_far.wired) in'

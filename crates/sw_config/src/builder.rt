@@ -57,7 +57,9 @@ impl NetworkBuilder {
     }
 
     /// Lets go of what was added, as [`Network::discard`] does.
-    pub fn discard(self) {}
+    pub fn discard(self) {
+        self.names.discard();
+    }
 
     /// How many nodes there are.
     pub fn node_count(&self) -> u16
@@ -108,11 +110,11 @@ impl NetworkBuilder {
         ensures ok { OnOk result (self.new ≡ record self.old { nodes = self.old.nodes ++ record { name = name.now; target = target } ∷ [] }) }
         ensures err { OnErr result (self.new ≡ self.old) }
     {
-        let key = String::from_str(alloc, name)?;
         let node = Node {
             name: String::from_str(alloc, name)?,
             target,
         };
+        let key = String::from_str(alloc, name);
         self.names.add(key, node, &mut self.nodes)?;
         self.wiring.node();
         Ok(())
@@ -136,7 +138,7 @@ impl NetworkBuilder {
         ensures err { OnErr result (self.new ≡ self.old) }
     {
         let entry = Switch::new(alloc, name, arbitration, table)?;
-        let key = String::from_str(alloc, name)?;
+        let key = String::from_str(alloc, name);
         self.names.add(key, entry, &mut self.switches)?;
         self.wiring.switch();
         Ok(())
@@ -163,15 +165,15 @@ impl NetworkBuilder {
         ensures ok { OnOk result (self.new ≡ record self.old { links = self.old.links ++ record { a = a; b = b; buffer_a = buffer_a; buffer_b = buffer_b } ∷ [] }) }
         ensures err { OnErr result (self.new ≡ self.old) }
     {
+        self.links.reserve(1)?;
         let link = Link {
             a,
             b,
             buffer_a,
             buffer_b,
         };
-        self.links.reserve(1)?;
         self.wiring.link(link.a, link.b)?;
-        self.links.push(link).unwrap();
+        self.links.push_reserved(link);
         Ok(())
     }
 
@@ -190,15 +192,20 @@ impl NetworkBuilder {
             switches,
             links,
         } = self;
-        let topology = wiring.finish(alloc)?;
-        Ok(Network {
-            topology,
-            names,
-            nodes,
-            switches,
-            links,
-            flows: FlowTable::new(alloc),
-            replies: FlowTable::new(alloc),
-        })
+        match wiring.finish(alloc) {
+            Ok(topology) => Ok(Network {
+                topology,
+                names,
+                nodes,
+                switches,
+                links,
+                flows: FlowTable::new(alloc),
+                replies: FlowTable::new(alloc),
+            }),
+            Err(refused) => {
+                names.discard();
+                Err(refused)
+            }
+        }
     }
 }

@@ -25,7 +25,7 @@ impl Model for Node {
 }
 
 /// A link.
-#[derive(Drop)]
+#[derive(Clone, Copy)]
 pub(crate) struct Link {
     pub(crate) a: PlaceEnd,
     pub(crate) b: PlaceEnd,
@@ -39,6 +39,8 @@ impl Model for Link {
     ghost Value = { LinkEntry };
 
     ghost view = { λ l. record { a = l.a; b = l.b; buffer_a = l.buffer_a; buffer_b = l.buffer_b } };
+
+    ghost inverse = { λ e. record { a = e.a; b = e.b; buffer_a = e.buffer_a; buffer_b = e.buffer_b } };
 }
 
 /// The greatest number of entries at which a routing table is searched from its first entry on.

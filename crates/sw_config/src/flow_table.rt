@@ -64,7 +64,7 @@ impl FlowTable {
         ensures ok { OnOk result (self.new ≡ self.old ++ flow ∷ []) }
         ensures err { OnErr result (self.new ≡ self.old) }
     {
-        let name = String::from_str(alloc, flow.name())?;
+        let name = String::from_str(alloc, flow.name());
         self.names.add(name, flow, &mut self.flows)
     }
 
@@ -82,6 +82,11 @@ impl FlowTable {
         let name = [flow.name(), "+reply"].concat(alloc)?;
         let back = Flow::new(name, flow.to(), flow.from(), address, 1, None);
         self.add(alloc, back)
+    }
+
+    /// Lets the flows go.
+    pub(crate) fn discard(self) {
+        self.names.discard();
     }
 
     /// Keeps the first `count` flows.

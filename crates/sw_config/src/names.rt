@@ -1,5 +1,5 @@
 //! Names in the order in which they came.
-ghost use Rattle.std.specs.Prelude.{◌≡◌, ◌<◌, ◌++◌, ◌∷◌, [], false, length, position, string_bytes, take, OnOk, OnErr, IfSome};
+ghost use Rattle.std.specs.Prelude.{◌≡◌, ℕ, List, ◌<◌, ◌++◌, ◌∷◌, [], false, length, position, string_bytes, take, OnOk, OnErr, IfOk, IfSome};
 ghost use Rattle.std.specs.List.{list_any};
 ghost use Rattle.std.specs.Str.{bytes_eq};
 
@@ -38,22 +38,29 @@ impl NameTable {
         self.names.get_index_of(name)
     }
 
-    /// Adds a new name at the end, and what has that name at the end of its list.
+    /// Lets the names go.
+    pub(crate) fn discard(self) {}
+
+    /// Adds a new name at the end, and what has that name at the end of its list. Nothing is added if there was no memory for
+    /// the name.
     pub(crate) fn add<T: Drop>(
         &mut self,
-        name: String,
+        name: Result<String, AllocError>,
         named: T,
         all: &mut Vec<T>,
     ) -> Result<(), AllocError>
-        requires { list_any (bytes_eq (string_bytes name)) self.old ≡ false }
-        ensures names { OnOk result (self.new ≡ self.old ++ string_bytes name ∷ []) }
+        requires { IfOk name (λ n. list_any (bytes_eq (string_bytes n)) self.old ≡ false) }
+        ensures names { (text : List ℕ) → IfOk name (λ n. string_bytes n ≡ text) → OnOk result (self.new ≡ self.old ++ text ∷ []) }
         ensures all { OnOk result (all.new.items ≡ all.old.items ++ named ∷ []) }
         ensures names_kept { OnErr result (self.new ≡ self.old) }
         ensures all_kept { OnErr result (all.new.items ≡ all.old.items) }
     {
+        let Ok(name) = name else {
+            return Err(AllocError);
+        };
         all.reserve(1)?;
         self.names.insert(name)?;
-        all.push(named).unwrap();
+        all.push_reserved(named);
         Ok(())
     }
 

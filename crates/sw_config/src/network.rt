@@ -71,7 +71,11 @@ impl Network {
     }
 
     /// Lets the network go. `drop` does the same, and has the crate that calls it prove the drop of each part once more.
-    pub fn discard(self) {}
+    pub fn discard(self) {
+        self.names.discard();
+        self.flows.discard();
+        self.replies.discard();
+    }
 
     /// Lets go of the network that there may be, as [`Network::discard`] does.
     pub fn discard_any(network: Option<Network>) {

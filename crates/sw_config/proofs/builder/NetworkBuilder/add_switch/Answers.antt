@@ -1,14 +1,39 @@
-use Rattle.std.proofs.Common.{◌≡◌, [], ◌∷◌, ◌++◌}
-use Rattle.sw_config.specs.Entries.{SwitchEntry, Declaration}
-use Rattle.sw_config.specs.Valid.{IsSwitch}
-use Rattle.sw_config.proofs.Steps.{switch_more}
+use Rattle.std.proofs.Common.{List, [], ◌∷◌, ◌++◌, refl, ap, ◌∙◌}
+use Rattle.sw_config.specs.Entries.{SwitchEntry, Declaration, part_names}
+use Rattle.sw_config.proofs.Steps.{switch_added, switch_refused, on_err}
+use Rattle.sw_config.proofs.Texts.{new_key}
 use Rattle.sw_config.proofs.builder.NetworkBuilder.add_switch.Goals as goal
 
 pub invariant_of-self-2 : goal.invariant_of-self-2
 invariant_of-self-2 c =
     let s : SwitchEntry = record { name = c.args.name.now; arbitration = c.args.arbitration; routes = c.args.table } in
-    let valid : IsSwitch s = rw c.in_ok-entry.ensures.entry at c.in_ok-entry.ensures.valid in
     let d : Declaration = record { nodes = c.self.inside.nodes.items; switches = c.self.inside.switches.items; links = c.self.inside.links.items; flows = [] } in
-    let switches : c.add.new.all.items ≡ c.self.inside.switches.items ++ s ∷ [] = cc (c.in_ok-entry.ensures.entry, c.in_ok-add.ensures.all) in
-    rw (switches, c.in_ok-add.ensures.names, c.in_ok-key.ensures.ok, c.switch.ensures.added)
-    (switch_more c.self.inside.wiring c.self.inside.names d c.self.invariant s (rw (← c.self.view_is) at c.requires.few) valid (rw (← c.self.view_is) at c.requires.new_name))
+    switch_added c.self.inside.wiring c.self.inside.names d c.self.invariant c.switch.new.self c.add.new.self c.add.new.all.items s _
+    c.switch.ensures.added (c.in_ok-add.ensures.names c.args.name.now c.from_str-key.ensures.ok) c.in_ok-add.ensures.all c.in_ok-entry.ensures.entry
+    (rw (← c.self.view_is) at c.requires.few) c.in_ok-entry.ensures.valid (rw (← c.self.view_is) at c.requires.new_name)
+
+pub add-requires : goal.add-requires
+add-requires c =
+    let inside = c.self.inside in
+    let d : Declaration = record { nodes = inside.nodes.items; switches = inside.switches.items; links = inside.links.items; flows = [] } in
+    new_key c.from_str-key.result c.args.name.now c.args.name.now inside.names (part_names d) c.from_str-key.ensures.ok refl c.self.invariant.named (rw (← c.self.view_is) at c.requires.new_name)
+
+pub invariant_of-self : goal.invariant_of-self
+invariant_of-self c =
+    let inside = c.self.inside in
+    let d : Declaration = record { nodes = inside.nodes.items; switches = inside.switches.items; links = inside.links.items; flows = [] } in
+    switch_refused inside.wiring inside.names d c.self.invariant c.add.new.self c.add.new.all.items c.in_err-add.ensures.names_kept c.in_err-add.ensures.all_kept
+
+pub returns-in_err-add-clause-err : goal.returns-in_err-add-clause-err
+returns-in_err-add-clause-err c =
+    let inside = c.self.inside in
+    let d : Declaration = record { nodes = inside.nodes.items; switches = inside.switches.items; links = inside.links.items; flows = [] } in
+    on_err c.from_residual-in_err-add.result _ (ap (λ (switches : List SwitchEntry). record d { switches = switches }) c.in_err-add.ensures.all_kept ∙ c.self.view_is)
+
+pub returns-clause-ok : goal.returns-clause-ok
+returns-clause-ok c =
+    let inside = c.self.inside in
+    let d : Declaration = record { nodes = inside.nodes.items; switches = inside.switches.items; links = inside.links.items; flows = [] } in
+    rw (← c.self.view_is)
+    (ap (λ (switches : List SwitchEntry). record d { switches = switches })
+    (◌∙◌ {A = List SwitchEntry} c.in_ok-add.ensures.all (ap (λ (s : SwitchEntry). inside.switches.items ++ s ∷ []) c.in_ok-entry.ensures.entry)))

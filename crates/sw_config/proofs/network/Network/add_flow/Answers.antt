@@ -1,5 +1,6 @@
-use Rattle.sw_config.specs.Entries.{Declaration}
-use Rattle.sw_config.proofs.Flows.{new_reply_name, flow_more}
+use Rattle.std.proofs.Common.{List, ap, ◌∙◌}
+use Rattle.sw_config.specs.Entries.{FlowEntry, Declaration, replies_of}
+use Rattle.sw_config.proofs.Flows.{new_reply_name, flow_more, flow_refused}
 use Rattle.sw_config.proofs.network.Network.add_flow.Goals as goal
 
 pub add_reply-requires : goal.add_reply-requires
@@ -13,3 +14,25 @@ invariant_of-self-in_default c =
     rw c.in_default.ensures.ok
     (flow_more inside.topology inside.names inside.replies d c.args.flow c.add_reply.new.self c.self.invariant c.in_ok-add_reply.ensures.ok
     (rw (← c.self.view_is) at c.requires.few) (rw (← c.self.view_is) at c.requires.new_name) (rw (← c.self.view_is) at c.requires.flow))
+
+pub add-requires : goal.add-requires
+add-requires c = rw (← c.self.view_is) at c.requires.new_name
+
+pub invariant_of-self-in-Err : goal.invariant_of-self-in-Err
+invariant_of-self-in-Err c =
+    let inside = c.self.inside in
+    let d : Declaration = record { nodes = inside.nodes.items; switches = inside.switches.items; links = inside.links.items; flows = inside.flows } in
+    flow_refused inside.topology inside.names inside.replies (replies_of c.args.flow c.args.flow.reply) c.add_reply.new.self c.truncate.new.self c.add.new.self c.len-replies_before.result d
+    c.self.invariant c.in_ok-add_reply.ensures.ok c.len-replies_before.ensures c.truncate.ensures c.in-Err.ensures.err
+
+pub returns-in-Err-clause-err : goal.returns-in-Err-clause-err
+returns-in-Err-clause-err c =
+    let inside = c.self.inside in
+    let d : Declaration = record { nodes = inside.nodes.items; switches = inside.switches.items; links = inside.links.items; flows = inside.flows } in
+    ap (λ (flows : List FlowEntry). record d { flows = flows }) c.in-Err.ensures.err ∙ c.self.view_is
+
+pub returns-clause-ok : goal.returns-clause-ok
+returns-clause-ok c =
+    let inside = c.self.inside in
+    let d : Declaration = record { nodes = inside.nodes.items; switches = inside.switches.items; links = inside.links.items; flows = inside.flows } in
+    rw (← c.self.view_is) (ap (λ (flows : List FlowEntry). record d { flows = flows }) c.in_default.ensures.ok)

@@ -1,7 +1,7 @@
 use Rattle.std.proofs.Common.{Some, None, ◌∙◌, sym, ap, ◌+◌, arith}
 use Rattle.std.specs.Str.{bytes_eq}
-use Rattle.sw_config.specs.Entries.{Declaration}
-use Rattle.sw_config.proofs.Flows.{found_declared, found_reply, few_replies_in}
+use Rattle.sw_config.specs.Entries.{Declaration, reply_flows}
+use Rattle.sw_config.proofs.Flows.{found_declared, found_reply, few_replies_in, within_first, within_second}
 use Rattle.sw_config.proofs.network.Network.flow_named.Goals as goal
 
 pub returns-in-Some-clause-number : goal.returns-in-Some-clause-number
@@ -32,3 +32,17 @@ returns-clause-number c =
     rw (← c.self.view_is)
     (ap (λ n. Some (n + c.in-Some-number_of.number)) c.len.ensures
     ∙ sym (found_reply (bytes_eq c.args.name.now) d inside.replies (Some c.in-Some-number_of.number) c.self.invariant.replied (sym c.number_of.ensures.number ∙ c.in_default.is) (sym c.in-Some-number_of.ensures.number)))
+
+pub overflow_cast-result : goal.overflow_cast-result
+overflow_cast-result c = omega (arith, c.in-Some.ensures.within, c.self.invariant.valid.few_flows)
+
+pub returns-in-Some-clause-within : goal.returns-in-Some-clause-within
+returns-in-Some-clause-within c =
+    let inside = c.self.inside in
+    rw (← c.self.view_is) (within_first inside.flows (reply_flows inside.flows) c.in-Some.number c.in-Some.ensures.within)
+
+pub returns-clause-within : goal.returns-clause-within
+returns-clause-within c =
+    let inside = c.self.inside in
+    rw (← c.self.view_is)
+    (within_second inside.flows (reply_flows inside.flows) inside.replies c.len.result c.in-Some-number_of.number c.len.ensures c.self.invariant.replied c.in-Some-number_of.ensures.within)
