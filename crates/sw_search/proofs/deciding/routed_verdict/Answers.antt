@@ -19,6 +19,18 @@ cycle-requires-clause-shown g c =
     let d = c.args.network.now in
     rw c.deref-in-Cycle.ensures.value (cycle_of (depends d) (length (ends_of d)) c.in_ok-levels.field-0 c.in-Cycle.members c.in-Cycle.is c.in_ok-levels.ensures).1
 
+pub cycle-requires-clause-lists : goal.cycle-requires-clause-lists
+cycle-requires-clause-lists g c = rw c.deref.ensures.value c.requires.lists
+
+pub cycle-requires-clause-routed : goal.cycle-requires-clause-routed
+cycle-requires-clause-routed g c = c.requires.routed
+
+pub free-requires-clause-lists : goal.free-requires-clause-lists
+free-requires-clause-lists g c = c.requires.lists
+
+pub free-requires-clause-routed : goal.free-requires-clause-routed
+free-requires-clause-routed g c = c.requires.routed
+
 pub returns-in-Levels : goal.returns-in-Levels
 returns-in-Levels g c = c.free.ensures
 
