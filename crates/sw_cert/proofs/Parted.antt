@@ -174,6 +174,10 @@ few_in_part text l at read begins le within =
     let few = few_lines (part_of text l.part) (map items_of l.flows.items) l.lines read in
     omega (arith, few, (part_before text l.part at begins le within).1)
 
+-- the lists that were read of a part
+pub read_here : (text : List ℕ) (lists : Option Lists) (l : Lists) → lists ≡ Some l → IfSome lists (IsReadPart text) → IsReadPart text l
+read_here text lists l is read = subst (λ (o : Option Lists). IfSome o (IsReadPart text)) is read
+
 -- what was made for each number is as asked
 pub all_made : {X Y : Type 0} (P : Y → Type 0) (xs : List X) (ys : List Y) → AllZip (λ x y. P y) xs ys → All P ys
 all_made P [] [] h = All-nil P

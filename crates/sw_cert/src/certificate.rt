@@ -93,7 +93,8 @@ fn read_text<'a, W: ReadWorkers>(
     ensures wrong { IfErr result (λ fault. Gives (read_rest 1 (state_of draft.old) text.entry.now) (Err fault)) }
 {
     let (lists, number) = read_lines(alloc, draft, text, 1, false)?;
-    let found = workers.lists_of_parts(alloc, lists, &parts_of(alloc, lists)?)?;
+    let (parts, count) = parts_of(lists);
+    let found = workers.lists_of_parts(alloc, lists, &parts[..count])?;
     let (rest, number) = take_lists(draft, lists, number, found)?;
     read_lines(alloc, draft, rest, number, true)
 }

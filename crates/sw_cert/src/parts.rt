@@ -1,5 +1,5 @@
 //! Parts of a certificate's text, each with whole lists of flows, that are read by themselves.
-ghost use Rattle.std.specs.Prelude.{◌<◌, All, IfOk, IfSome, length};
+ghost use Rattle.std.specs.Prelude.{◌<◌, ◌≤◌, All, IfOk, IfSome, length};
 ghost use Rattle.std.specs.Thread.{IsSync};
 ghost use Rattle.sw_cert.specs.Parts.{IsReadPart, IsWhole};
 ghost use Rattle.sw_cert.specs.Reading.{state_of};
@@ -36,12 +36,14 @@ pub struct Lists {
     pub(crate) lines: usize,
 }
 
-/// Cuts the lists of a text, behind which its last line stands, into parts of about the same length. Where they are cut decides only how
-/// many of them can be read by themselves.
-pub(crate) fn parts_of(alloc: Global, text: &[u8]) -> Result<Vec<Part>, AllocError> {
-    let mut parts = Vec::new(alloc);
+/// Cuts the lists of a text, behind which its last line stands, into parts of about the same length: the parts, and how many there are.
+/// Where they are cut decides only how many of them can be read by themselves.
+pub(crate) fn parts_of(text: &[u8]) -> ([Part; PARTS], usize)
+    ensures { result.1 ≤ 64 }
+{
+    let mut parts = [Part { begin: 0, end: 0 }; PARTS];
     if text.len() < LEAST_TEXT {
-        return Ok(parts);
+        return (parts, 0);
     }
     let lists = &text[..text.len() - LAST_LINE];
     let mut begin = 0;
@@ -51,10 +53,10 @@ pub(crate) fn parts_of(alloc: Global, text: &[u8]) -> Result<Vec<Part>, AllocErr
         while end < lists.len() && lists[end] != b'f' {
             end += 1;
         }
-        parts.push(Part { begin, end })?;
+        parts[number] = Part { begin, end };
         begin = end;
     }
-    Ok(parts)
+    (parts, PARTS)
 }
 
 /// The lists that a draft has of a part, if the last one is whole and no rest stands after the last line.

@@ -2,7 +2,7 @@
 use Rattle.std.proofs.Common.{◌≡◌, ℕ, ◌+◌, ◌<◌, All, List, get_or, length, Option, Some, None, refl, sym, ap, ◌∙◌, subst}
 use Rattle.std.specs.Prelude.{slice_get, IsSome}
 use Rattle.std.specs.Option.{option_map}
-use Rattle.sw_topo.specs.declared.place.PlaceEnd.TheVariants.{Node}
+use Rattle.sw_topo.specs.declared.place.PlaceEnd.TheVariants.{Node, Switch}
 use Rattle.sw_topo.specs.Wiring.{out, partner}
 use Rattle.sw_topo.proofs.Ends.{node_only, partner_back}
 use Rattle.sw_config.specs.Entries.{FlowEntry, ReplyEntry, Declaration, wiring_of, all_flows}
@@ -98,6 +98,13 @@ module _ (d : Declaration) (valid : IsValid d) where
 
   pub depends_within : (c e : ℕ) → IsDependency (network_of d) c e → c < length (ends_of d)
   depends_within c e h = within_by_parts c e (apart (network_of d) c e h)
+
+-- what stands at the end of a channel
+pub same_node : (n k : ℕ) → Some (Node n) ≡ Some (Node k) → n ≡ k
+same_node n k is = cc
+
+pub no_switch : (n s p : ℕ) → Some (Node n) ≡ Some (Switch s p) → ⊥
+no_switch n s p is = cc
 
 -- the channels of a round are the network's
 pub round_within : (d : Declaration) → IsValid d → (channels : List ℕ) → IsRound d channels → All (λ c. c < length (ends_of d)) channels

@@ -1,11 +1,21 @@
 -- The marks of nodes that answer, one flow more at a time.
-use Rattle.std.proofs.Common.{◌≡◌, ℕ, ◌+◌, ◌<◌, ◌≤◌, Bool, true, false, List, length, replicate, set, Some, sym, ap, ◌∙◌, subst, inl, inr, arith, get_or-set_same, get_or-set_other, length-set}
-use Rattle.std.specs.Prelude.{IsSome, slice_get}
+use Rattle.std.proofs.Common.{◌≡◌, ℕ, ◌+◌, ◌<◌, ◌≤◌, Bool, true, false, List, length, replicate, set, Option, Some, None, refl, sym, ap, ◌∙◌, subst, inl, inr, arith, get_or-set_same, get_or-set_other, length-set}
+use Rattle.std.specs.Prelude.{IsSome, option_map, slice_get}
+use Rattle.std.specs.Option.{is_some}
 use Rattle.std.proofs.lemmas.Bool.{cases_eq, cases_lt, false≢true}
 use Rattle.std.proofs.lemmas.List.{get_or-replicate, length-replicate, get_or_past}
 use Rattle.std.proofs.lemmas.Option.{same_Some}
-use Rattle.sw_config.specs.Entries.{FlowEntry, Declaration, all_flows}
+use Rattle.sw_config.specs.Entries.{FlowEntry, ReplyEntry, Declaration, all_flows}
 use Rattle.sw_cycle.specs.Answering.{AreMarked, IsAnswered, is_marked}
+
+-- whether a flow has a reply, as it is asked
+pub replied_where : {X : Type 0} (view : X → ReplyEntry) (o : Option X) (reply : Option ReplyEntry) (told : Bool) → option_map view o ≡ reply → told ≡ is_some o → told ≡ true → IsSome reply
+replied_where view None reply told is asked yes_told = absurd (false≢true (sym asked ∙ yes_told))
+replied_where view (Some x) reply told is asked yes_told = subst (λ (r : Option ReplyEntry). IsSome r) is refl
+
+pub unreplied_where : {X : Type 0} (view : X → ReplyEntry) (o : Option X) (reply : Option ReplyEntry) (told : Bool) → option_map view o ≡ reply → told ≡ is_some o → told ≡ false → IsSome reply → ⊥
+unreplied_where view None reply told is asked no_told = λ some. false≢true (subst (λ (r : Option ReplyEntry). IsSome r) (sym is) some)
+unreplied_where view (Some x) reply told is asked no_told = λ some. false≢true (sym no_told ∙ asked)
 
 unmarked : (n t : ℕ) → is_marked (replicate n false) t ≡ false
 unmarked n t = elim (cases_lt t n) [

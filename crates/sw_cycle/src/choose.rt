@@ -1,13 +1,13 @@
 //! The causes that are chosen.
-ghost use Rattle.std.specs.Prelude.{◌+◌, ◌<◌, map, IfOk, MatchOption, OnOk, length};
+ghost use Rattle.std.specs.Prelude.{map, IfOk, MatchOption};
 ghost use Rattle.std.specs.List.{AllZip};
 ghost use Rattle.sw_config.specs.Entries.{all_flows};
 ghost use Rattle.sw_flow.specs.Places.{IsPlaceList};
 ghost use Rattle.sw_machine.specs.Places.{IsDependency};
 ghost use Rattle.sw_model.specs.Model.{network_of};
 ghost use Rattle.sw_cycle.specs.Cycles.{cause_of};
-ghost use Rattle.sw_cycle.specs.Causes.{AreChosen, AreFor, IsChosenCause, IsRound, NoneGoesOn};
-ghost use Rattle.sw_cycle.specs.Firsts.{AreFirst, IsFirstStep};
+ghost use Rattle.sw_cycle.specs.Causes.{AreChosen, IsChosenCause, IsRound, NoneGoesOn};
+ghost use Rattle.sw_cycle.specs.Firsts.{IsFirstStep};
 
 use crate::cycle::Cause;
 use crate::firsts::first_steps;
@@ -41,27 +41,6 @@ fn cause_for(
     }
 }
 
-/// Adds the cause for the channel at this place of the round and the next one.
-fn add_cause(
-    alloc: Global,
-    network: &Network,
-    steps: &[Option<Step>],
-    channels: &[Chan],
-    place: usize,
-    causes: &mut Vec<Cause>,
-) -> Result<(), AllocError>
-    requires first { AreFirst network.now (NoneGoesOn network.now) channels.now steps.now }
-    requires cycle { IsRound network.now channels.now }
-    requires inside { place < length channels.now }
-    requires before { AreFor network.now channels.now place (map cause_of causes.old.items) }
-    ensures { OnOk result (AreFor network.now channels.now (place + 1) (map cause_of causes.new.items)) }
-{
-    let to = channels[(place + 1) % channels.len()];
-    let cause = cause_for(alloc, network, steps[place], channels[place], to)?;
-    causes.push(cause)?;
-    Ok(())
-}
-
 /// The causes of a cycle of dependencies: for each of the channels and the next one, for the last and the first, the first flow that
 /// goes on from the one to the other, and where no flow does, the target between them. `places` has the places of each flow, by the
 /// flows' numbers, as `all_places` gives them.
@@ -87,7 +66,9 @@ pub fn causes(
     let steps = first_steps(alloc, network, places, channels)?;
     let mut causes = Vec::new(alloc);
     for place in 0..channels.len() {
-        add_cause(alloc, network, &steps, channels, place, &mut causes)?;
+        let to = channels[(place + 1) % channels.len()];
+        let cause = cause_for(alloc, network, steps[place], channels[place], to)?;
+        causes.push(cause)?;
     }
     Ok(causes)
 }

@@ -1,5 +1,5 @@
 -- The first fault of a flow.
-use Rattle.std.proofs.Common.{◌≡◌, ℕ, zero, suc, ◌+◌, ◌<◌, List, [], ◌∷◌, length, get_or, refl, Option, Some, None, Vec, Global, sym, ap, ◌∙◌, subst, inl, inr, arith}
+use Rattle.std.proofs.Common.{◌≡◌, ℕ, zero, suc, ◌+◌, ◌<◌, ◌≤◌, List, [], ◌∷◌, length, get_or, refl, Option, Some, None, Vec, Global, sym, ap, ◌∙◌, subst, inl, inr, arith}
 use Rattle.std.specs.Prelude.{slice_get, IfSome}
 use Rattle.std.specs.List.{AllZip, range_with_len}
 use Rattle.std.proofs.lemmas.Bool.{cases_lt}
@@ -11,8 +11,8 @@ use Rattle.sw_flow.specs.Places.{IsPlaceList}
 use Rattle.sw_flow.specs.Faults.{first_fault_of, IsWellRouted}
 use Rattle.sw_flow.proofs.WellRouted.{well_routed_by_list}
 use Rattle.sw_cycle.proofs.Flows.{some_at}
-use Rattle.sw_search.specs.Lists.{AreFirstFaults, AreListed, IsFirstFault, IsRouted}
-use Rattle.sw_search.specs.Verdicts.{AllWellRouted}
+use Rattle.sw_search.specs.Lists.{AreFirstFaults, AreListed, IsFaulty, IsFirstFault, IsRouted}
+use Rattle.sw_search.specs.Verdicts.{AllWellRouted, IsMisrouted}
 use Rattle.sw_search.proofs.Zips.{zip_here}
 
 abbrev At : Declaration → FlowEntry → Vec Place Global → Type 0
@@ -48,6 +48,15 @@ all_routed d each i e lt =
     let f = some_at (all_flows d) i lt in
     let at : slice_get (all_flows d) i ≡ Some (get_or (all_flows d) i e) = f.1 ∙ ap Some (sym (get_or_from_slice_get (all_flows d) i f.0 e f.1)) in
     each i lt (get_or (all_flows d) i e) at
+
+-- the first flow that has a fault, and where none has one
+pub misrouted_here : (d : Declaration) (i : ℕ) (o : Option (Place × RouteFault)) (found : Place × RouteFault) → o ≡ Some found → ((j : ℕ) → j < i → IsRouted d j) → IsFirstFault d i o → IsMisrouted d i found.0 found.1
+misrouted_here d i o found is before here =
+    let faulty : IsFaulty d i found.0 found.1 = subst (IsFirstFault d i) is here in
+    record { flow = faulty.flow; numbered = faulty.numbered; before = λ j f lt at. before j lt f at; places = faulty.places; listed = faulty.listed; first = faulty.first }
+
+pub all_looked_at : (d : Declaration) (n end : ℕ) → end ≡ length (all_flows d) → end ≤ n → ((j : ℕ) → j < n → IsRouted d j) → AllWellRouted d
+all_looked_at d n end count all before = all_routed d (λ j lt. before j (omega (arith, count, all, lt)))
 
 -- ---- the first faults of all flows
 

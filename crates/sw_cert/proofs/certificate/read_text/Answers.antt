@@ -1,4 +1,4 @@
-use Rattle.std.proofs.Common.{◌∙◌, sym, subst}
+use Rattle.std.proofs.Common.{◌∙◌, refl, sym, subst}
 use Rattle.std.specs.Prelude.{Err, IfErr}
 use Rattle.std.proofs.lemmas.Result.{IfOk-weaker}
 use Rattle.sw_cert.specs.Reading.{state_of}
@@ -9,6 +9,12 @@ use Rattle.sw_cert.proofs.certificate.read_text.Goals as goal
 pub take_lists-requires-clause-sound : goal.take_lists-requires-clause-sound
 take_lists-requires-clause-sound g c =
     read_sound 1 c.in_ok-lists.number (state_of c.args.draft.now) (state_of c.read_lines.new.draft) c.args.text.now c.in_ok-lists.lists.now c.in_ok-lists.ensures.read c.requires
+
+pub take_lists-requires-clause-read : goal.take_lists-requires-clause-read
+take_lists-requires-clause-read g c = c.in_ok-found.ensures
+
+pub returns-clause-all : goal.returns-clause-all
+returns-clause-all g c = c.read_lines-2.ensures.all refl
 
 pub returns-clause-same : goal.returns-clause-same
 returns-clause-same g c =

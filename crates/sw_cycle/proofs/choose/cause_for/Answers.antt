@@ -1,12 +1,24 @@
-use Rattle.std.proofs.Common.{◌≡◌, ◌<◌, ℕ, Some, length, ap, sym, ◌∙◌, subst}
+use Rattle.std.proofs.Common.{◌<◌, ℕ, Some, length, ap, sym, ◌∙◌, subst}
 use Rattle.std.specs.Prelude.{option_map, slice_get}
-use Rattle.sw_topo.specs.declared.place.PlaceEnd.TheVariants.{Node, Switch}
 use Rattle.sw_topo.specs.Wiring.{Wiring, partner}
 use Rattle.sw_cycle.specs.Cycles.{IsTargetCause}
 use Rattle.sw_cycle.proofs.Found.{chosen_flow, first_of, missing, step_of}
-use Rattle.sw_cycle.proofs.Between.{between}
-use Rattle.sw_cycle.proofs.Extended.{shown_by_way}
+use Rattle.sw_cycle.proofs.Between.{between, no_switch, same_node}
+use Rattle.sw_cycle.proofs.Extended.{flow_inside, shown_by_way, way_found}
 use Rattle.sw_cycle.proofs.choose.cause_for.Goals as goal
+
+pub way_to-requires : goal.way_to-requires
+way_to-requires c =
+    let d = c.args.network.now in
+    let step = c.in-Some.step in
+    flow_inside d step.flow c.args.from c.args.to step.last step.next (first_of d c.args.from c.args.to c.args.first step c.in-Some.is c.requires.first).step
+
+pub unwrap-places-requires : goal.unwrap-places-requires
+unwrap-places-requires c =
+    let d = c.args.network.now in
+    let step = c.in-Some.step in
+    let is = first_of d c.args.from c.args.to c.args.first step c.in-Some.is c.requires.first in
+    way_found (λ v. v.items) d step.flow c.args.from c.args.to step.last step.next c.in_ok-way_to.field-0 is.step c.in_ok-way_to.ensures
 
 pub end_of-requires : goal.end_of-requires
 end_of-requires c =
@@ -21,8 +33,7 @@ unreachable-requires c =
     let none = missing d c.args.from c.args.to c.args.first c.in_default.is c.requires.first in
     let b = between d c.topology.ensures.valid c.args.from c.args.to c.requires.dependency none in
     let there = ap (λ (w : Wiring). slice_get w.ends (partner c.args.from)) (sym c.topology.ensures.wiring) ∙ c.end_of.ensures.place ∙ ap Some c.in-Switch.is in
-    let two : Some (Node b.node) ≡ Some (Switch c.in-Switch.field-0 c.in-Switch.field-1) = sym b.ends ∙ there in
-    cc
+    no_switch b.node c.in-Switch.field-0 c.in-Switch.field-1 (sym b.ends ∙ there)
 
 pub returns : goal.returns
 returns c =
@@ -30,8 +41,7 @@ returns c =
     let none = missing d c.args.from c.args.to c.args.first c.in_default.is c.requires.first in
     let b = between d c.topology.ensures.valid c.args.from c.args.to c.requires.dependency none in
     let there = ap (λ (w : Wiring). slice_get w.ends (partner c.args.from)) (sym c.topology.ensures.wiring) ∙ c.end_of.ensures.place ∙ ap Some c.in-Node.is in
-    let two : Some (Node b.node) ≡ Some (Node c.in-Node.node) = sym b.ends ∙ there in
-    let same : b.node ≡ c.in-Node.node = cc in
+    let same = same_node b.node c.in-Node.node (sym b.ends ∙ there) in
     record { shows = subst (λ (n : ℕ). IsTargetCause d n c.args.from c.args.to) same b.cause; first = none }
 
 pub returns-in-Some : goal.returns-in-Some

@@ -3,6 +3,9 @@ use Rattle.sw_cycle.proofs.dependency_rows.routed_dependencies.Goals as goal
 pub rows_from-requires : goal.rows_from-requires
 rows_from-requires g c = rw c.deref-2.ensures.value c.in_ok-sets.ensures.named
 
+pub returns-clause-size : goal.returns-clause-size
+returns-clause-size g c = c.in_ok-rows.ensures.size
+
 pub returns-clause-exact : goal.returns-clause-exact
 returns-clause-exact g c = c.in_ok-rows.ensures.exact
 

@@ -1,12 +1,13 @@
-use Rattle.std.proofs.Common.{◌≡◌, ◌∙◌, ℕ, ap, false, get_or, length, replicate, subst, arith, rules}
+use Rattle.std.proofs.Common.{◌≡◌, ◌<◌, ◌∙◌, ℕ, ap, false, get_or, length, replicate, subst, sym, arith}
 use Rattle.std.specs.Prelude.{IsSome, slice_index}
 use Rattle.std.proofs.lemmas.Grind.{get_or_default_zero}
+use Rattle.sw_topo.specs.Wiring.{Wiring}
 use Rattle.sw_config.specs.Entries.{all_flows}
 use Rattle.sw_flow.specs.Places.{ends_of}
 use Rattle.sw_cycle.specs.Answering.{AreMarked}
 use Rattle.sw_cycle.specs.Rows.{AreRows}
 use Rattle.sw_cycle.proofs.Bridge as bridge
-use Rattle.sw_cycle.proofs.Replying.{answered, none_answered, unanswered}
+use Rattle.sw_cycle.proofs.Replying.{answered, none_answered, replied_where, unanswered, unreplied_where}
 use Rattle.sw_cycle.proofs.Rowing.{row_is, rows_more, rows_none, rows_once}
 use Rattle.sw_cycle.proofs.dependency_rows.rows_from.Goals.{then-is_some, else-is_some}
 use Rattle.sw_cycle.proofs.dependency_rows.rows_from.Goals as goal
@@ -27,12 +28,34 @@ loop-number-preserved c =
     elim c.if-is_some.branch [
       | then-is_some w ↦
           let at = w.from-then-is_some.ensures ∙ w.to.ensures in
-          let some : IsSome flow.result.now.reply = search rules in
+          let some : IsSome flow.result.now.reply = replied_where _ c.reply.result flow.result.now.reply c.is_some.result c.reply.ensures c.is_some.ensures w.if-is_some.true in
           rw w.marks-is (answered d n flow.result.now flow.ensures.flow marks w.from-then-is_some.result at (omega (arith, at, flow.ensures.valid.to, marked.size)) some marked)
       | else-is_some w ↦
-          let none : IsSome flow.result.now.reply → ⊥ = search rules in
+          let none : IsSome flow.result.now.reply → ⊥ = unreplied_where _ c.reply.result flow.result.now.reply c.is_some.result c.reply.ensures c.is_some.ensures w.if-is_some.false in
           rw w.marks-is (unanswered d n flow.result.now flow.ensures.flow marks none marked)
     ]
+
+pub index_mut-requires : goal.index_mut-requires
+index_mut-requires c =
+    let flow = c.flow-flow in
+    let marks = c.loop-number.marks.items in
+    let at = c.from-then-is_some.ensures ∙ c.to.ensures in
+    let inside = subst (λ (n : ℕ). flow.result.now.to < n) (sym c.loop-number.invariant.size) flow.ensures.valid.to in
+    let within = subst (λ (n : ℕ). n < length marks) (sym at) inside in
+    subst (λ (n : ℕ). c.from-then-is_some.result < n) (sym c.loop-number.marks.ok.0) within
+
+pub row_of-requires : goal.row_of-requires
+row_of-requires c =
+    let within : c.loop-channel.channel < length (ends_of c.args.network.now) = subst (λ (n : ℕ). c.loop-channel.channel < n) c.channels-channel-end.ensures.ends c.loop-channel-test.true in
+    let there = subst (λ (w : Wiring). c.loop-channel.channel < length w.ends) (sym c.topology.ensures.wiring) within in
+    subst (λ (n : ℕ). n < length c.topology.result.now.ends) (sym c.new.ensures) there
+
+pub bounds-sets-from : goal.bounds-sets-from
+bounds-sets-from c =
+    let sets = c.args.sets.now in
+    let within : c.loop-channel.channel < length (ends_of c.args.network.now) = subst (λ (n : ℕ). c.loop-channel.channel < n) c.channels-channel-end.ensures.ends c.loop-channel-test.true in
+    let inside = subst (λ (n : ℕ). c.loop-channel.channel < n) (sym c.requires.size) within in
+    subst (λ (n : ℕ). n < length sets) (sym c.from-in-loop-channel.ensures) inside
 
 pub loop-channel-init : goal.loop-channel-init
 loop-channel-init c = rw c.new-rows.ensures.items (rows_none c.args.network.now c.args.sets.now c.loop-number.marks.items)

@@ -1,4 +1,4 @@
-use Rattle.std.proofs.Common.{◌≡◌, ◌∙◌, [], List, None, Option, Vec, Global, ℕ, length, replicate, ap, sym, subst, arith, rules}
+use Rattle.std.proofs.Common.{◌≡◌, ◌<◌, ◌∙◌, [], List, None, Option, Vec, Global, ℕ, length, replicate, ap, sym, subst, arith, rules}
 use Rattle.sw_cycle.specs.Positions.{ArePositions}
 use Rattle.sw_cycle.specs.declared.steps.Step.{Step}
 use Rattle.sw_cycle.specs.Firsts.{AreFirst, NoneYet}
@@ -11,6 +11,9 @@ loop-number-init c =
     let channels = c.args.channels.now in
     let blank : c.in_ok-steps.steps.items ≡ replicate (length channels) None = search rules in
     none_first c.args.network.now channels c.in_ok-steps.steps.items blank
+
+pub flow_and_places-requires-clause-inside : goal.flow_and_places-requires-clause-inside
+flow_and_places-requires-clause-inside c = subst (λ (n : ℕ). c.loop-number.number < n) c.flows-number-end.ensures.count c.loop-number-test.true
 
 pub note_places-requires-clause-first : goal.note_places-requires-clause-first
 note_places-requires-clause-first c =

@@ -1,4 +1,4 @@
-use Rattle.std.proofs.Common.{◌≡◌, ◌∙◌, length, ap, arith}
+use Rattle.std.proofs.Common.{◌≡◌, ◌<◌, ◌∙◌, ℕ, length, ap, subst, arith}
 use Rattle.sw_cycle.proofs.Naming.{whole}
 use Rattle.sw_cycle.proofs.Taken.{begun, ended}
 use Rattle.sw_cycle.proofs.goers.flows_of_steps.Goals as goal
@@ -12,6 +12,15 @@ loop-number-preserved c =
     let new = c.take_numbered.new.flows in
     let size : length new ≡ length flows.items = c.take_numbered.auto.flows ∙ ap length c.deref_mut.ensures.value in
     rw (whole flows.len new flows.items flows.ok.0 size) c.in_ok-take_numbered.ensures
+
+pub take_numbered-requires-clause-lists : goal.take_numbered-requires-clause-lists
+take_numbered-requires-clause-lists c = c.requires
+
+pub take_numbered-requires-clause-inside : goal.take_numbered-requires-clause-inside
+take_numbered-requires-clause-inside c = subst (λ (n : ℕ). c.loop-number.number < n) c.flows-number-end.ensures.count c.loop-number-test.true
+
+pub take_numbered-requires-clause-below : goal.take_numbered-requires-clause-below
+take_numbered-requires-clause-below c = rw c.deref_mut.ensures.value c.loop-number.invariant
 
 pub returns : goal.returns
 returns c =

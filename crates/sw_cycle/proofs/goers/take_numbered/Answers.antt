@@ -42,6 +42,18 @@ goes_on_from-goes-requires-clause-marked c =
     let marked : AreMarked xs c.loop-place.marks.items = rw (take_all c.loop-place.place-index xs (omega (arith, c.loop-place-test.false))) at c.loop-place.invariant.0 in
     rw c.deref.ensures.value marked
 
+pub goes_on_from-goes-requires-clause-short : goal.goes_on_from-goes-requires-clause-short
+goes_on_from-goes-requires-clause-short c = c.flow_and_places.ensures.short
+
+pub goes_on_from-goes-requires-clause-numbered : goal.goes_on_from-goes-requires-clause-numbered
+goes_on_from-goes-requires-clause-numbered c = c.flow_and_places.ensures.flow
+
+pub goes_on_from-goes-requires-clause-places : goal.goes_on_from-goes-requires-clause-places
+goes_on_from-goes-requires-clause-places c = c.flow_and_places.ensures.places
+
+pub add_to_row-requires : goal.add_to_row-requires
+add_to_row-requires c = subst (λ (n : ℕ). c.loop-step.step < n) (sym c.loop-step.invariant.size) c.loop-step-test.true
+
 pub loop-step-init : goal.loop-step-init
 loop-step-init c = taken_none c.args.network.now c.args.channels.now c.args.number c.args.flows.now c.requires.below
 
