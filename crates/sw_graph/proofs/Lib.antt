@@ -5,6 +5,7 @@ pub mod Counts
 pub mod Listed
 pub mod Backs
 pub mod Pigeons
+pub mod Places
 pub mod Peels
 pub mod Cycles
 pub mod Turns

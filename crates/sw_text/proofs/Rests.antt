@@ -1,10 +1,11 @@
 -- What several reads took of a reader, and several writes of a text's rest wrote.
-use Rattle.std.proofs.Common.{◌≡◌, ℕ, ◌≤◌, ◌+◌, ◌-◌, List, ◌++◌, Result, Ok, Err, IfErr, sym, ap, ◌∙◌, subst, length, take, drop, arith, length-drop, length-append}
+use Rattle.std.proofs.Common.{◌≡◌, ℕ, ◌≤◌, ◌+◌, ◌-◌, List, [], ◌++◌, Result, Ok, Err, IfErr, IsErr, refl, sym, ap, ◌∙◌, subst, length, take, drop, arith, length-drop, length-append, length-take}
 use Rattle.std.proofs.Math.Seq.{take-add, take-length}
 use Rattle.std.specs.Prelude.{Option}
-use Rattle.std.specs.Io.KnownBytes.{Appends, Consumes}
+use Rattle.std.proofs.lemmas.Bool.{false≢true}
+use Rattle.std.specs.Io.KnownBytes.{Appends, Consumes, ReadConsumes}
 use Rattle.sw_text.specs.Reading.{Takes}
-use Rattle.std.proofs.KnownBytes.{Appends-trans, Consumes-trans}
+use Rattle.std.proofs.KnownBytes.{Appends-trans, Consumes-kept, Consumes-nil, Consumes-trans}
 
 -- the rest of a text, as a range to its end
 rest_is : (text : List ℕ) (i : ℕ) → take (length text - i) (drop i text) ≡ drop i text
@@ -32,3 +33,24 @@ takes_more a b c bytes most limit read fits (n, within, (more, is, rest)) =
 pub at_any_error : {T E : Type 0} (r : Result T E) {P : Type 0} → P → IfErr r (λ _. P)
 at_any_error (Ok x) p = tt
 at_any_error (Err e) p = p
+
+-- a read after others
+pub read_on : (a b c : Option (List ℕ)) (bytes more new : List ℕ) → Consumes a b bytes → Consumes b c more → new ≡ bytes ++ more → Consumes a c new
+read_on a b c bytes more new read next is = subst (Consumes a c) (sym is) (Consumes-trans a b c bytes more read next)
+
+-- what it added fits
+pub fits_on : (old new room : List ℕ) (count most limit : ℕ) → new ≡ old ++ take count room → count ≤ most → length old + most ≤ limit → length new ≤ limit
+fits_on old new room count most limit is within fits =
+    omega (arith, ap (length {A = ℕ}) is, length-append old (take count room), length-take count room, within, fits)
+
+-- a read that failed took nothing
+pub none_taken : {E : Type 0} (a b : Option (List ℕ)) (r : Result ℕ E) (buf : List ℕ) (most : ℕ) → IsErr r → ReadConsumes a b r buf → (n : ℕ) × (n ≤ most) × Takes a b n
+none_taken a b (Ok count) buf most failed read = absurd (false≢true failed)
+none_taken a b (Err e) buf most failed read = (0, omega arith, ([], refl, Consumes-kept a a b [] (Consumes-nil a) read))
+
+-- what a read took fits
+pub some_taken : {E : Type 0} (a b : Option (List ℕ)) (r : Result ℕ E) (buf : List ℕ) (count most : ℕ) → r ≡ Ok count → ReadConsumes a b r buf → length buf ≡ most
+    → (n : ℕ) × (n ≤ most) × Takes a b n
+some_taken {E} a b r buf count most is read size =
+    let taken = subst (λ (q : Result ℕ E). ReadConsumes a b q buf) is read in
+    (length (take count buf), omega (arith, length-take count buf, size), (take count buf, refl, taken.0))

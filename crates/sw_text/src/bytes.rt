@@ -1,13 +1,6 @@
 //! A text is cut at a byte.
-ghost use Rattle.std.specs.Prelude.{◌≡◌, ◌==◌, ◌<◌, ◌∷◌, [], IfNone, IfSome, length, position};
+ghost use Rattle.std.specs.Prelude.{◌≡◌, ◌==◌, ◌<◌, ◌∷◌, [], IfNone, IfSome, length};
 ghost use Rattle.std.specs.List.{slice_split};
-
-fn place_of(text: &[u8], byte: u8) -> Option<usize>
-    ensures exact { result ≡ position (λ b. b == byte) text.now }
-    ensures within { IfSome result (λ at. at < length text.now) }
-{
-    text.iter().position(|b| *b == byte)
-}
 
 /// What stands before the first such byte, and what stands after it; nothing where there is none.
 pub fn cut<'a>(text: &'a [u8], byte: u8) -> Option<(&'a [u8], &'a [u8])>
@@ -15,8 +8,10 @@ pub fn cut<'a>(text: &'a [u8], byte: u8) -> Option<(&'a [u8], &'a [u8])>
     ensures shorter { IfSome result (λ r. length r.1.now < length text.entry.now) }
     ensures whole { IfNone result (slice_split (λ b. b == byte) text.entry.now ≡ text.entry.now ∷ []) }
 {
-    match place_of(text, byte) {
-        None => None,
-        Some(end) => Some((&text[..end], &text[end + 1..])),
+    for end in 0..text.len() {
+        if text[end] == byte {
+            return Some((&text[..end], &text[end + 1..]));
+        }
     }
+    None
 }

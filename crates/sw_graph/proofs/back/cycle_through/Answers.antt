@@ -10,6 +10,9 @@ search-requires-clause-graph c = reversed_graph c.args.successors.now c.args.pre
 pub search-requires-clause-inside : goal.search-requires-clause-inside
 search-requires-clause-inside c = let e = c.requires.reversed.size in let lt = c.requires.inside in omega arith
 
+pub search-requires-clause-steps : goal.search-requires-clause-steps
+search-requires-clause-steps c = c.deref_mut.ensures.value ∙ c.in_ok-steps.ensures
+
 pub way_round-requires-clause-known : goal.way_round-requires-clause-known
 way_round-requires-clause-known c =
     let steps = c.in_ok-steps.steps in

@@ -4,6 +4,9 @@ use Rattle.sw_graph.specs.Rows.{Precedes}
 use Rattle.sw_graph.proofs.Cycles.{walk_shows, on_ok_of}
 use Rattle.sw_graph.proofs.cycle.shown_cycle.Goals as goal
 
+pub since-requires : goal.since-requires
+since-requires c = rw c.deref.ensures.value c.in_ok-again.ensures.comes_again
+
 pub returns : goal.returns
 returns c =
     let g = c.args.predecessors.now in

@@ -14,6 +14,9 @@ returns-then-contains c =
     let one = list_any_at test c.deref-part-items.result.now c.loop-part.part-index part c.loop-part-test.true (ap test (sym c.part-item.is) ∙ told) in
     parting_taken (Leads c.args.successors.now) c.args.c c.args.parts.now.items c.requires.below (rw c.deref-part-items.ensures.value at one)
 
+pub push_part-requires-clause-fewest : goal.push_part-requires-clause-fewest
+push_part-requires-clause-fewest c = (rw c.in-Some.is at c.in_ok-count.ensures).1
+
 pub push_part-requires-clause-least : goal.push_part-requires-clause-least
 push_part-requires-clause-least c =
     let dep = Leads c.args.successors.now in

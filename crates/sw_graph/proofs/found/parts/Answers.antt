@@ -10,3 +10,12 @@ pub returns : goal.returns
 returns c =
     let g = c.args.successors.now in
     are_parts (Leads g) c.loop-c.c c.loop-c.parts.items c.loop-c.invariant (λ d on. let lt = on_inside g d on in omega (arith, c.loop-c-test.false))
+
+pub loop-c-preserved : goal.loop-c-preserved
+loop-c-preserved c = c.in_ok-add_part.ensures
+
+pub add_part-requires-clause-inside : goal.add_part-requires-clause-inside
+add_part-requires-clause-inside c = c.loop-c-test.true
+
+pub add_part-requires-clause-reversed : goal.add_part-requires-clause-reversed
+add_part-requires-clause-reversed c = rw c.deref.ensures.value c.in_ok-predecessors.ensures

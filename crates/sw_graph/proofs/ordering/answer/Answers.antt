@@ -34,3 +34,6 @@ pub shown_cycle-requires-clause-first : goal.shown_cycle-requires-clause-first
 shown_cycle-requires-clause-first g c =
     let first = rw c.deref.ensures.value at c.in-Some.ensures in
     rw c.deref-2.ensures.value first
+
+pub returns : goal.returns
+returns g c = c.in_ok-cycle.ensures

@@ -55,3 +55,21 @@ loop-c-preserved c =
 
 pub returns : goal.returns
 returns c = rw (take_all c.loop-c.c-index c.args.from.now c.loop-c-test.false) at c.loop-c.invariant
+
+pub bounds-steps-at : goal.bounds-steps-at
+bounds-steps-at c =
+    let rows = c.args.rows.now in
+    let xs = c.row_of-d-items.result.now in
+    let e = get_or c.args.from.now c.loop-c.c-index 0 in
+    let lt = All-get_or (λ d. d < length rows) c.args.from.now c.loop-c.c-index 0 c.loop-c-test.true c.requires.inside in
+    let within = All-get_or (λ d. d < length rows) xs c.loop-d.d-index 0 c.loop-d-test.true (subst (λ (l : List ℕ). All (λ d. d < length rows) l) (sym c.row_of-d-items.ensures) (row_within rows e c.requires.graph lt)) in
+    subst (λ (n : ℕ). c.from-at.result < n) (sym (c.loop-d.invariant.size ∙ c.requires.size)) (subst (λ (k : ℕ). k < length rows) (sym c.from-at.ensures) within)
+
+pub bounds-steps-at-then-is_none : goal.bounds-steps-at-then-is_none
+bounds-steps-at-then-is_none c =
+    let rows = c.args.rows.now in
+    let xs = c.row_of-d-items.result.now in
+    let e = get_or c.args.from.now c.loop-c.c-index 0 in
+    let lt = All-get_or (λ d. d < length rows) c.args.from.now c.loop-c.c-index 0 c.loop-c-test.true c.requires.inside in
+    let within = All-get_or (λ d. d < length rows) xs c.loop-d.d-index 0 c.loop-d-test.true (subst (λ (l : List ℕ). All (λ d. d < length rows) l) (sym c.row_of-d-items.ensures) (row_within rows e c.requires.graph lt)) in
+    subst (λ (n : ℕ). c.from-at.result < n) (sym (c.loop-d.invariant.size ∙ c.requires.size)) (subst (λ (k : ℕ). k < length rows) (sym c.from-at.ensures) within)

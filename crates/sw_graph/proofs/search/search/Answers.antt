@@ -55,3 +55,12 @@ loop-count-preserved c =
 
 pub returns : goal.returns
 returns c = λ i lt h. c.loop-count.invariant.searching.none i (let past = c.loop-count-test.false in omega arith) h
+
+pub bounds-steps-from : goal.bounds-steps-from
+bounds-steps-from c =
+    let n = length c.args.rows.now in
+    let size : length c.args.steps.now ≡ n = ap length c.requires.steps ∙ length-replicate n _ in
+    subst (λ (k : ℕ). c.from.result < k) (sym size) (subst (λ (k : ℕ). k < n) (sym c.from.ensures) c.requires.inside)
+
+pub add_next-requires-clause-size : goal.add_next-requires-clause-size
+add_next-requires-clause-size c = c.loop-count.invariant.size

@@ -1,4 +1,5 @@
-use Rattle.std.proofs.Common.{◌∷◌, [], ◌++◌, ℕ, Bool, List, get_or, ap, sym, ◌∙◌}
+use Rattle.std.proofs.Common.{◌∷◌, [], ◌++◌, ℕ, Bool, List, filter, get_or, ap, sym, ◌∙◌}
+use Rattle.std.proofs.lemmas.List.{take_all}
 use Rattle.sw_graph.specs.Walks.{holds}
 use Rattle.sw_graph.proofs.Loops.{filter_kept, filter_left}
 use Rattle.sw_graph.proofs.Sought.{among}
@@ -16,3 +17,6 @@ loop-c-preserved c =
       | then-is_ok+in_ok-push w ↦ ap (λ v. v.items) w.members-is ∙ w.in_ok-push.ensures.items ∙ ap (λ (l : List ℕ). l ++ e ∷ []) c.loop-c.invariant ∙ sym (filter_kept test xs i c.loop-c-test.true (sym told ∙ w.if-is_ok.true))
       | else-is_ok w ↦ ap (λ v. v.items) w.members-is ∙ c.loop-c.invariant ∙ sym (filter_left test xs i c.loop-c-test.true (sym told ∙ w.if-is_ok.false))
     ]
+
+pub returns : goal.returns
+returns c = c.loop-c.invariant ∙ ap (filter (holds c.args.others.now)) (take_all c.loop-c.c-index c.args.numbers.now c.loop-c-test.false)

@@ -1,0 +1,5 @@
+use Rattle.sw_text.proofs.Cuts.{NoneBefore}
+use Rattle.sw_text.proofs.bytes.cut.Given as goal
+
+abbrev pub invariant-loop-end : goal.invariant-loop-end
+invariant-loop-end l = NoneBefore l.byte l.text l.end
