@@ -5,8 +5,8 @@ ghost use Rattle.sw_text.specs.declared.read_stream.ReadError.TheVariants.{Memor
 ghost use Rattle.sw_text.specs.Reading.{Takes};
 
 use std::alloc::{AllocError, Global};
+use std::io;
 use std::io::Read;
-use std::{fmt, io};
 use thiserror::Error;
 
 /// The bytes that one call of `read` may give.
@@ -16,21 +16,14 @@ const CHUNK: usize = 65_536;
 #[derive(Clone, Copy, Debug, PartialEq, Eq, Error)]
 pub enum ReadError {
     /// There are more bytes than the limit.
+    #[error("the text is longer than its limit")]
     TooLong,
     /// A read failed.
+    #[error("a read failed")]
     Failed,
     /// A growth was refused.
+    #[error("out of memory")]
     Memory,
-}
-
-impl fmt::Display for ReadError {
-    fn fmt<W: fmt::Write>(&self, f: &mut fmt::Formatter<W>) -> fmt::Result {
-        f.write_str(match self {
-            Self::TooLong => "the text is longer than its limit",
-            Self::Failed => "a read failed",
-            Self::Memory => "out of memory",
-        })
-    }
 }
 
 impl From<AllocError> for ReadError {
