@@ -1,9 +1,9 @@
 -- What is told with the network that is handed on.
 use Rattle.std.proofs.Common.{ℕ, Bool, List, false, inl, inr, length, true}
 use Rattle.std.specs.Prelude.{Err, IfOk, MatchBool, Ok, Option, Result, nat_le}
-use Rattle.sw_command.specs.declared.write_answer.Ended.{Ended}
-use Rattle.sw_command.specs.declared.write_answer.Ended.TheVariants.{Status, ReadFailed, WriteFailed}
-use Rattle.sw_command.specs.Ends.{Answers, AnswersBy, EndsBy, OrMemory}
+use Rattle.sw_text.specs.declared.write_answer.Ended.{Ended}
+use Rattle.sw_text.specs.declared.write_answer.Ended.TheVariants.{Status, ReadFailed, WriteFailed}
+use Rattle.sw_text.specs.Ends.{Answers, AnswersBy, EndsBy, OrMemory}
 
 pub both_ok : {T E : Type 0} (r : Result T E) (P Q : T → Type 0) → IfOk r P → IfOk r Q → IfOk r (λ x. P x × Q x)
 both_ok (Ok x) P Q p q = (p, q)

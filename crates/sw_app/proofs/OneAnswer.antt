@@ -3,11 +3,11 @@ use Rattle.std.proofs.Common.{◌≡◌, ◌∙◌, ℕ, List, ap, sym, find}
 use Rattle.std.specs.Prelude.{Err, None, Ok, Option, Result, Some}
 use Rattle.std.specs.Str.{bytes_eq}
 use Rattle.sw_config.specs.Entries.{Declaration, FlowEntry, all_flows}
-use Rattle.sw_toml_table.specs.declared.fault.TextFault.{TextFault}
+use Rattle.sw_text.specs.declared.fault.TextFault.{TextFault}
 use Rattle.sw_file.specs.Network.{network_text}
 use Rattle.sw_flow.specs.declared.place.Place.{Place}
 use Rattle.sw_flow.specs.Faults.{first_fault_of}
-use Rattle.sw_command.specs.Ends.{Says}
+use Rattle.sw_text.specs.Ends.{Says}
 use Rattle.sw_app.specs.Laws.{RouteHasOneAnswer}
 use Rattle.sw_app.specs.RouteAnswers.{IsFlowAnswer, IsFoundAnswer, IsReadAnswer}
 use Rattle.sw_app.specs.RouteTexts.{outcome_status, route_text}

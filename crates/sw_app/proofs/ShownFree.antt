@@ -12,21 +12,21 @@ use Rattle.sw_flow.specs.declared.place.Place.{Place}
 use Rattle.sw_flow.specs.Places.{ends_of, IsPlaceList}
 use Rattle.sw_cert.specs.Grammar.{HasText, IsBlock}
 use Rattle.sw_cert.specs.Text.{Contents}
-use Rattle.sw_check.proofs.Accepted.{not_refused_is_accepted}
-use Rattle.sw_check.proofs.Headline.{is_deadlock_free}
-use Rattle.sw_check.specs.Contents.{certificate_of}
+use Rattle.sw_cert.proofs.Accepted.{not_refused_is_accepted}
+use Rattle.sw_cert.proofs.Headline.{is_deadlock_free}
+use Rattle.sw_cert.specs.Contents.{certificate_of}
 use Rattle.sw_search.specs.declared.verdict.Verdict.{Verdict}
 use Rattle.sw_search.specs.declared.verdict.Verdict.TheVariants.{Misrouted, Cyclic, Free}
 use Rattle.sw_search.specs.Laws.{IsChecked}
 use Rattle.sw_search.specs.Verdicts.{IsFree}
 use Rattle.sw_search.proofs.Blocks.{all_are_flows, is_block}
 use Rattle.sw_search.proofs.Zips.{zip_length}
-use Rattle.sw_command.specs.declared.read_texts.InputError.{InputError}
-use Rattle.sw_command.specs.declared.read_texts.InputError.TheVariants as input
-use Rattle.sw_command.specs.declared.write_answer.Ended.{Ended}
-use Rattle.sw_command.specs.declared.write_answer.Ended.TheVariants.{Status, ReadFailed, WriteFailed}
+use Rattle.sw_text.specs.declared.read_texts.InputError.{InputError}
+use Rattle.sw_text.specs.declared.read_texts.InputError.TheVariants as input
+use Rattle.sw_text.specs.declared.write_answer.Ended.{Ended}
+use Rattle.sw_text.specs.declared.write_answer.Ended.TheVariants.{Status, ReadFailed, WriteFailed}
 use Rattle.sw_app.specs.CheckAnswers.{AreShownDeadlockFree, IsShownDeadlockFree}
-use Rattle.sw_command.specs.Ends.{AreUnreadTold, IsMemoryTold, IsTold, IsUnreadTold}
+use Rattle.sw_text.specs.Ends.{AreUnreadTold, IsMemoryTold, IsTold, IsUnreadTold}
 use Rattle.sw_app.specs.VerdictAnswers.{SaysCertificate, WritesAccepted, verdict_status}
 
 -- ---- a free network's certificate has a text

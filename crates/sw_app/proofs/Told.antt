@@ -4,12 +4,12 @@ use Rattle.std.specs.Prelude.{Err, IfOk, IsSomeAnd, None, Ok, Option, Result, So
 use Rattle.std.specs.Io.KnownBytes.{Consumes, IsAtEnd}
 use Rattle.std.proofs.lemmas.Bool.Decides.{nat_tests}
 use Rattle.std.specs.declared.alloc.AllocError.{AllocError}
-use Rattle.sw_command.specs.declared.answer.Answer.{Answer}
-use Rattle.sw_command.specs.declared.answer.ByteAnswer.{ByteAnswer}
-use Rattle.sw_command.specs.declared.write_answer.Ended.{Ended}
-use Rattle.sw_command.specs.declared.write_answer.Ended.TheVariants.{Status}
-use Rattle.sw_command.specs.Ends.{GivesAll, GivesText}
-use Rattle.sw_command.specs.Told.{IsAnswerTold, IsByteAnswerTold}
+use Rattle.sw_text.specs.declared.answer.Answer.{Answer}
+use Rattle.sw_text.specs.declared.answer.ByteAnswer.{ByteAnswer}
+use Rattle.sw_text.specs.declared.write_answer.Ended.{Ended}
+use Rattle.sw_text.specs.declared.write_answer.Ended.TheVariants.{Status}
+use Rattle.sw_text.specs.Ends.{GivesAll, GivesText}
+use Rattle.sw_text.specs.Told.{IsAnswerTold, IsByteAnswerTold}
 use Rattle.sw_app.specs.CheckAnswers.{AreShownDeadlockFree}
 use Rattle.sw_app.specs.VerdictAnswers.{DecidesDeadlockFree}
 use Rattle.sw_app.proofs.ShownFree.{memory_not_zero, told_zero, writes_accepted}

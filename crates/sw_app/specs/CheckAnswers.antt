@@ -1,19 +1,19 @@
 -- What `check` answers (this project's choice), and what it means that a certificate is accepted.
 use Rattle.std.specs.Prelude.{◌≡◌, ℕ, List, [], ◌∷◌, Option, Some, None, Result, Ok, Err}
 use Rattle.sw_config.specs.Entries.{Declaration}
-use Rattle.sw_toml_table.specs.declared.fault.TextFault.{TextFault}
+use Rattle.sw_text.specs.declared.fault.TextFault.{TextFault}
 use Rattle.sw_file.specs.Network.{network_text}
 use Rattle.sw_cert.specs.Reading.{State}
 use Rattle.sw_cert.specs.Text as certificate
 use Rattle.sw_cert.specs.Text.{Contents, contents_of, read_text}
 use Rattle.sw_machine.specs.Certificate.{IsAccepted}
 use Rattle.sw_machine.specs.DeadlockFreedom.{IsDeadlockFree}
-use Rattle.sw_model.specs.Model.{network_of}
-use Rattle.sw_check.specs.declared.refusal.Refusal.{Refusal}
-use Rattle.sw_check.specs.Contents.{certificate_of}
-use Rattle.sw_check.specs.Refusals.{refusal_of}
-use Rattle.sw_command.specs.Ends.{Answers, GivesAll, IfLimited, Says}
-use Rattle.sw_command.specs.FaultTexts.{fault_text}
+use Rattle.sw_machine.specs.Model.{network_of}
+use Rattle.sw_cert.specs.declared.refusal.Refusal.{Refusal}
+use Rattle.sw_cert.specs.Contents.{certificate_of}
+use Rattle.sw_cert.specs.Refusals.{refusal_of}
+use Rattle.sw_text.specs.Ends.{Answers, GivesAll, IfLimited, Says}
+use Rattle.sw_text.specs.FaultTexts.{fault_text}
 use Rattle.sw_output.specs.Lines.{line}
 use Rattle.sw_app.specs.CheckTexts.{accepted_line, grammar_line, refusal_line}
 

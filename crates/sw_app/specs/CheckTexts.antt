@@ -2,8 +2,8 @@
 use Rattle.std.specs.Prelude.{ℕ, List, [], ◌∷◌, codes}
 use Rattle.std.specs.Fmt.{decimal}
 use Rattle.sw_config.specs.Entries.{Declaration}
-use Rattle.sw_check.specs.declared.refusal.Refusal.{Refusal}
-use Rattle.sw_check.specs.declared.refusal.Refusal.TheVariants.{WrongCount, NoStart, Faulty, NotClosed, NotRising}
+use Rattle.sw_cert.specs.declared.refusal.Refusal.{Refusal}
+use Rattle.sw_cert.specs.declared.refusal.Refusal.TheVariants.{WrongCount, NoStart, Faulty, NotClosed, NotRising}
 use Rattle.sw_output.specs.Lines.{line, spaced}
 use Rattle.sw_output.specs.FlowTexts.{flow_name, place_words, route_fault_text}
 

@@ -1,9 +1,9 @@
 -- The network that an engine hands on (this project's choice).
 use Rattle.std.specs.Prelude.{◌≡◌, ℕ, List, Option, Some, None, Result, Ok, Err, if◌then◌else◌, length, nat_le}
 use Rattle.sw_config.specs.Entries.{Declaration}
-use Rattle.sw_toml_table.specs.declared.fault.TextFault.{TextFault}
+use Rattle.sw_text.specs.declared.fault.TextFault.{TextFault}
 use Rattle.sw_file.specs.Network.{network_text}
-use Rattle.sw_command.specs.Ends.{Answers}
+use Rattle.sw_text.specs.Ends.{Answers}
 
 -- the network, of a text that declares one
 abbrev pub declared : Result Declaration TextFault → Option Declaration

@@ -3,8 +3,8 @@ use Rattle.std.specs.Prelude.{◌≡◌, ◌⊎◌, ℕ, List, [], ◌∷◌, co
 use Rattle.sw_file.specs.declared.fault.MigrateFault.{MigrateFault}
 use Rattle.sw_file.specs.declared.fault.MigrateFault.TheVariants.{Text, NotOld, Memory}
 use Rattle.sw_file.specs.Migration.{IsMigration, Refuses}
-use Rattle.sw_command.specs.Ends.{Answers, Says}
-use Rattle.sw_command.specs.FaultTexts.{fault_text}
+use Rattle.sw_text.specs.Ends.{Answers, Says}
+use Rattle.sw_text.specs.FaultTexts.{fault_text}
 use Rattle.sw_output.specs.Lines.{line}
 
 -- why a text is not migrated; want of memory has no answer

@@ -2,13 +2,13 @@
 use Rattle.std.specs.Prelude.{ℕ, List, [], ◌∷◌, codes, find, Option, Some, None, Result, Ok, Err}
 use Rattle.std.specs.Str.{bytes_eq}
 use Rattle.sw_config.specs.Entries.{Declaration, FlowEntry, all_flows}
-use Rattle.sw_toml_table.specs.declared.fault.TextFault.{TextFault}
+use Rattle.sw_text.specs.declared.fault.TextFault.{TextFault}
 use Rattle.sw_file.specs.Network.{network_text}
 use Rattle.sw_flow.specs.declared.place.Place.{Place}
 use Rattle.sw_flow.specs.Faults.{first_fault_of}
 use Rattle.sw_flow.specs.Places.{IsPlaceList}
-use Rattle.sw_command.specs.Ends.{Answers, Says}
-use Rattle.sw_command.specs.FaultTexts.{fault_text}
+use Rattle.sw_text.specs.Ends.{Answers, Says}
+use Rattle.sw_text.specs.FaultTexts.{fault_text}
 use Rattle.sw_output.specs.Lines.{line}
 use Rattle.sw_app.specs.RouteTexts.{outcome_status, route_text}
 

@@ -2,7 +2,7 @@
 use Rattle.std.specs.Prelude.{ℕ, List, [], ◌∷◌, Option, length, Result, Ok, Err}
 use Rattle.std.specs.Io.KnownBytes.{Appends}
 use Rattle.sw_config.specs.Entries.{Declaration}
-use Rattle.sw_toml_table.specs.declared.fault.TextFault.{TextFault}
+use Rattle.sw_text.specs.declared.fault.TextFault.{TextFault}
 use Rattle.sw_file.specs.Network.{network_text}
 use Rattle.sw_cert.specs.Grammar.{spelling}
 use Rattle.sw_cert.specs.Text as certificate
@@ -15,8 +15,8 @@ use Rattle.sw_output.specs.Lines.{line}
 use Rattle.sw_output.specs.ReportTexts.{report_text}
 use Rattle.sw_output.specs.VerdictTexts.{cycle_text, cyclic_words, free_words, misrouted_words}
 use Rattle.sw_app.specs.CheckAnswers.{AreShownDeadlockFree}
-use Rattle.sw_command.specs.Ends.{Answers, GivesAll, Says}
-use Rattle.sw_command.specs.FaultTexts.{fault_text}
+use Rattle.sw_text.specs.Ends.{Answers, GivesAll, Says}
+use Rattle.sw_text.specs.FaultTexts.{fault_text}
 
 -- the flow that is not well routed, or the cycle, or the certificate in its one spelling
 abbrev pub verdict_text : Declaration → Verdict → List ℕ

@@ -3,22 +3,21 @@ ghost use Rattle.std.specs.Prelude.{◌≡◌, IfOk, IsSomeAnd, string_bytes};
 ghost use Rattle.sw_cert.specs.Text.{read_text};
 ghost use Rattle.sw_machine.specs.Certificate.{IsAccepted};
 ghost use Rattle.sw_machine.specs.DeadlockFreedom.{IsDeadlockFree};
-ghost use Rattle.sw_model.specs.Model.{network_of};
-ghost use Rattle.sw_check.specs.Contents.{certificate_of};
-ghost use Rattle.sw_check.specs.Refusals.{refusal_of};
-ghost use Rattle.sw_command.specs.Ends.{IfLimited};
-ghost use Rattle.sw_command.specs.Inputs.{given};
+ghost use Rattle.sw_machine.specs.Model.{network_of};
+ghost use Rattle.sw_cert.specs.Contents.{certificate_of};
+ghost use Rattle.sw_cert.specs.Refusals.{refusal_of};
+ghost use Rattle.sw_text.specs.Ends.{IfLimited};
+ghost use Rattle.sw_text.specs.Inputs.{given};
 ghost use Rattle.sw_app.specs.CheckAnswers.{AreShownDeadlockFree, IsCertificateAnswer, IsCheckAnswer, IsJudgement, IsShownDeadlockFree};
 
 use crate::check_texts::{grammar_words, refusal_words, refused};
 use std::alloc::{AllocError, Global};
-use sw_cert::{Certificate, CertificateFault};
-use sw_check::check;
-use sw_command::statuses::GOOD;
-use sw_command::{Answer, InputText, fault_answer};
+use sw_cert::{Certificate, CertificateFault, check};
 use sw_config::Network;
 use sw_file::read_network;
 use sw_search::VerdictWorkers;
+use sw_text::statuses::GOOD;
+use sw_text::{Answer, InputText, fault_answer};
 
 // The answer for a certificate.
 fn judgement<W: VerdictWorkers>(

@@ -1,16 +1,16 @@
 //! The texts of `check`.
 ghost use Rattle.std.specs.Prelude.{◌≡◌, ◌∷◌, [], IfOk, string_bytes};
-ghost use Rattle.sw_command.specs.Ends.{Says};
+ghost use Rattle.sw_text.specs.Ends.{Says};
 ghost use Rattle.sw_output.specs.Lines.{line};
 ghost use Rattle.sw_app.specs.CheckTexts.{grammar_words, not_rising_words, refusal_words};
 
 use std::alloc::{AllocError, Global};
-use sw_check::Refusal;
-use sw_command::Answer;
-use sw_command::statuses::BAD;
+use sw_cert::Refusal;
 use sw_config::Network;
 use sw_flow::{Place, RouteFault};
 use sw_output::{flow_name, place_words, route_fault_text};
+use sw_text::Answer;
+use sw_text::statuses::BAD;
 use sw_topo::Chan;
 
 /// What is told of a text that is no certificate: the first line that is wrong, counted from 1.

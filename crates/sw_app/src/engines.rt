@@ -1,7 +1,7 @@
 //! The engines: each reads its texts whole, and writes one text.
 ghost use Rattle.std.specs.Prelude.{◌≡◌};
 ghost use Rattle.sw_app.specs.CheckAnswers.{ChecksDeadlockFree, IsCheckAnswer};
-ghost use Rattle.sw_command.specs.Ends.{AreReadInOrder, EndsBy, EndsByTwo};
+ghost use Rattle.sw_text.specs.Ends.{AreReadInOrder, EndsBy, EndsByTwo};
 ghost use Rattle.sw_app.specs.Kept.{Keeping};
 ghost use Rattle.sw_app.specs.MigrateAnswers.{IsMigrateAnswer};
 ghost use Rattle.sw_app.specs.RouteAnswers.{IsRouteAnswer};
@@ -14,11 +14,11 @@ use crate::route_answer::route_answer;
 use crate::verdict_answers::{decide_answer, report_answer};
 use std::alloc::Global;
 use std::io::{Read, Write};
-use sw_command::{
-    Ended, MAX_TEXT, read_two, tell_answer, tell_byte_answer, tell_two_unread, tell_unread,
-};
 use sw_search::VerdictWorkers;
-use sw_text::read_whole;
+use sw_text::{
+    Ended, MAX_TEXT, read_two, read_whole, tell_answer, tell_byte_answer, tell_two_unread,
+    tell_unread,
+};
 
 /// The places of a flow of a network file: 0 where packets arrive rightly, and 1 where a place has a fault.
 ///

@@ -1,8 +1,8 @@
 //! The network that an engine hands on, so that who notes on it does not read it once more.
 ghost use Rattle.std.specs.Prelude.{◌≡◌, None, Some, if◌then◌else◌, nat_le};
 
-use sw_command::Ended;
 use sw_config::Network;
+use sw_text::Ended;
 
 /// How an engine ended, with the network that its text declares, if that was to be kept.
 #[derive(Drop)]

@@ -19,5 +19,5 @@ pub use engines::{check, decide, decide_keeping, migrate, report, report_keeping
 pub use init_engine::init;
 pub use kept::{EndedWith, kept_network};
 pub use samples::{Sample, sample_named};
-pub use sw_command::{Ended, MAX_TEXT, fault_text};
 pub use sw_search::VerdictWorkers;
+pub use sw_text::{Ended, MAX_TEXT, fault_text};

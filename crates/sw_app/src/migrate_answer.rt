@@ -3,9 +3,9 @@ ghost use Rattle.std.specs.Prelude.{IfOk};
 ghost use Rattle.sw_app.specs.MigrateAnswers.{IsMigrateAnswer};
 
 use std::alloc::{AllocError, Global};
-use sw_command::statuses::{FAULTY, GOOD};
-use sw_command::{Answer, ByteAnswer};
 use sw_file::{MigrateFault, migrate};
+use sw_text::statuses::{FAULTY, GOOD};
+use sw_text::{Answer, ByteAnswer};
 
 /// The answer of `migrate` to the bytes of a network file.
 pub(crate) fn migrate_answer(alloc: Global, input: &[u8]) -> Result<ByteAnswer, AllocError>

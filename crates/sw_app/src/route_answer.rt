@@ -5,11 +5,11 @@ ghost use Rattle.sw_app.specs.RouteTexts.{outcome_status};
 
 use crate::route_texts::route_text;
 use std::alloc::{AllocError, Global};
-use sw_command::statuses::{BAD, FAULTY, GOOD};
-use sw_command::{Answer, fault_answer};
 use sw_config::Network;
 use sw_file::read_network;
 use sw_flow::{Place, RouteFault, first_fault, places};
+use sw_text::statuses::{BAD, FAULTY, GOOD};
+use sw_text::{Answer, fault_answer};
 
 fn status_of(fault: &Option<(Place, RouteFault)>) -> u8
     ensures { result ≡ outcome_status fault.now }

@@ -2,19 +2,18 @@
 ghost use Rattle.std.specs.Prelude.{◌≡◌, IfOk, length, string_bytes};
 ghost use Rattle.sw_app.specs.Kept.{kept};
 ghost use Rattle.sw_app.specs.CheckAnswers.{AreShownDeadlockFree, IsShownDeadlockFree};
-ghost use Rattle.sw_command.specs.Told.{IsFaultAnswer};
+ghost use Rattle.sw_text.specs.Told.{IsFaultAnswer};
 ghost use Rattle.sw_app.specs.VerdictAnswers.{IsDecideAnswer, IsFindingsAnswer, IsReportAnswer, IsVerdictAnswer, SaysFindings};
 
 use crate::kept::kept_network;
 use crate::verdict_texts::{told_verdict, verdict_words};
 use std::alloc::{AllocError, Global};
-use sw_command::statuses::GOOD;
-use sw_command::{Answer, ByteAnswer, fault_answer};
 use sw_config::Network;
 use sw_file::read_network;
 use sw_output::report_text;
 use sw_search::{Findings, VerdictWorkers, decide, survey};
-use sw_toml_table::FileFault;
+use sw_text::statuses::GOOD;
+use sw_text::{Answer, ByteAnswer, FileFault, fault_answer};
 
 // The answer of `decide` to a network.
 fn verdict_answer<W: VerdictWorkers>(

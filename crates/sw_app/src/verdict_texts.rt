@@ -1,17 +1,17 @@
 //! The texts of a verdict.
 ghost use Rattle.std.specs.Prelude.{◌≡◌, ◌≤◌, IfOk, string_bytes};
 ghost use Rattle.std.specs.List.{AllByRecursion};
-ghost use Rattle.sw_command.specs.Ends.{Says};
+ghost use Rattle.sw_text.specs.Ends.{Says};
 ghost use Rattle.sw_search.specs.Verdicts.{IsVerdict};
 ghost use Rattle.sw_app.specs.VerdictAnswers.{SaysCertificate, verdict_status, verdict_text, verdict_words};
 
 use std::alloc::{AllocError, Global};
 use sw_cert::laws::one_text;
-use sw_command::ByteAnswer;
-use sw_command::statuses::{BAD, GOOD};
 use sw_config::Network;
 use sw_output::{cycle_text, cyclic_words, free_words, misrouted_text, misrouted_words};
 use sw_search::Verdict;
+use sw_text::ByteAnswer;
+use sw_text::statuses::{BAD, GOOD};
 
 // Numbers of 16 bits have a place in a certificate's text: the proof reads their range here.
 fn have_text(numbers: &[u16])

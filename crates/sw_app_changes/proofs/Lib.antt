@@ -9,3 +9,6 @@ mod MarginAnswered
 mod LossLines
 mod MendLines
 mod OneMarginAnswer
+mod First
+mod Lists
+mod NotFree

@@ -2,8 +2,8 @@
 use Rattle.std.proofs.Common.{Bool, IfOk, string_bytes}
 use Rattle.std.specs.Prelude.{Result, Ok, Err}
 use Rattle.std.specs.declared.alloc.AllocError.{AllocError}
-use Rattle.sw_command.specs.declared.answer.Answer.{Answer}
-use Rattle.sw_command.specs.Ends.{Says}
+use Rattle.sw_text.specs.declared.answer.Answer.{Answer}
+use Rattle.sw_text.specs.Ends.{Says}
 use Rattle.sw_config.specs.Entries.{Declaration}
 use Rattle.sw_app_changes.specs.declared.mending.Mending.{Mending}
 use Rattle.sw_app_changes.specs.MendAnswers.{IsNetworkAnswer}

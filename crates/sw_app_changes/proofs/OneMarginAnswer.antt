@@ -1,7 +1,7 @@
 -- `margin` has one answer.
 use Rattle.std.proofs.Common.{◌≡◌, ◌∙◌, ℕ, List, Vec, Global, [], ◌∷◌, ◌++◌, ap, map, sym}
 use Rattle.std.specs.Prelude.{Err, Ok, Result, flat_map}
-use Rattle.sw_command.specs.Ends.{Says}
+use Rattle.sw_text.specs.Ends.{Says}
 use Rattle.sw_config.specs.Entries.{Declaration}
 use Rattle.sw_file.specs.Network.{network_text}
 use Rattle.sw_margin.specs.Laws.{AnswersAreDetermined, LossesAreDetermined, StallsAreDetermined}
@@ -11,7 +11,7 @@ use Rattle.sw_output.specs.VerdictTexts.{misrouted_words}
 use Rattle.sw_search.specs.Laws.{SaysTheSame, VerdictsAreDetermined}
 use Rattle.sw_search.specs.declared.verdict.Verdict.{Verdict}
 use Rattle.sw_search.specs.declared.verdict.Verdict.TheVariants.{Misrouted, Cyclic, Free}
-use Rattle.sw_toml_table.specs.declared.fault.TextFault.{TextFault}
+use Rattle.sw_text.specs.declared.fault.TextFault.{TextFault}
 use Rattle.sw_app_changes.specs.MarginLaws.{MarginHasOneAnswer}
 use Rattle.sw_app_changes.specs.MarginAnswers.{IsBent, IsByVerdict, IsReadAnswer}
 use Rattle.sw_app_changes.specs.MarginTexts.{answer_line, loss_lines, stall_line}

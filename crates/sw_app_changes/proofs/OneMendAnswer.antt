@@ -3,7 +3,7 @@ use Rattle.std.proofs.Common.{◌≡◌, ◌∙◌, ℕ, Bool, List, sym}
 use Rattle.std.specs.Prelude.{Err, Ok, Result}
 use Rattle.sw_config.specs.Entries.{Declaration}
 use Rattle.sw_file.specs.Network.{network_text}
-use Rattle.sw_toml_table.specs.declared.fault.TextFault.{TextFault}
+use Rattle.sw_text.specs.declared.fault.TextFault.{TextFault}
 use Rattle.sw_app_changes.proofs.OneMending.{one_status, one_text}
 use Rattle.sw_app_changes.specs.MendAnswers.{IsReadAnswer}
 use Rattle.sw_app_changes.specs.MendLaws.{MendHasOneAnswer, MendingsAreDetermined}

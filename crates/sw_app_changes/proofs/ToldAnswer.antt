@@ -2,8 +2,8 @@
 use Rattle.std.proofs.Common.{◌≡◌, ◌∙◌, ℕ, List, Global, IfOk, string_bytes, subst}
 use Rattle.std.specs.Prelude.{Result, Ok, Err, String}
 use Rattle.std.specs.declared.alloc.AllocError.{AllocError}
-use Rattle.sw_command.specs.declared.answer.Answer.{Answer}
-use Rattle.sw_command.specs.Ends.{Says}
+use Rattle.sw_text.specs.declared.answer.Answer.{Answer}
+use Rattle.sw_text.specs.Ends.{Says}
 
 pub told : (said : List ℕ) (n status : ℕ) (text : Result (String Global) AllocError) (r : Result Answer AllocError)
     → IfOk text (λ s. string_bytes s ≡ said) → status ≡ n → IfOk r (λ a. (text ≡ Ok a.text) × (a.status ≡ status))

@@ -1,13 +1,13 @@
 -- What `explain` answers (this project's choice).
 use Rattle.std.specs.Prelude.{Bool, List, ℕ, [], ◌∷◌, Result, Ok, Err}
-use Rattle.sw_command.specs.Ends.{Answers, Says}
-use Rattle.sw_command.specs.FaultTexts.{fault_text}
+use Rattle.sw_text.specs.Ends.{Answers, Says}
+use Rattle.sw_text.specs.FaultTexts.{fault_text}
 use Rattle.sw_config.specs.Entries.{Declaration}
 use Rattle.sw_search.specs.Explanations.{IsExplanation}
 use Rattle.sw_search.specs.declared.explanation.Explanation.{Explanation}
 use Rattle.sw_file.specs.Network.{network_text}
 use Rattle.sw_output.specs.Lines.{line}
-use Rattle.sw_toml_table.specs.declared.fault.TextFault.{TextFault}
+use Rattle.sw_text.specs.declared.fault.TextFault.{TextFault}
 use Rattle.sw_app_changes.specs.ExplainTexts.{explain_status, explain_text}
 
 -- of a network: the text and the status of what is told of it

@@ -7,3 +7,7 @@ pub mod MendLaws
 pub mod MarginTexts
 pub mod MarginAnswers
 pub mod MarginLaws
+pub mod Dot
+pub mod Drawings
+pub mod DrawTexts
+pub mod DrawAnswers

@@ -1,11 +1,11 @@
 -- What `mend` answers (this project's choice).
 use Rattle.std.specs.Prelude.{Bool, ℕ, List, [], ◌∷◌, Result, Ok, Err}
-use Rattle.sw_command.specs.Ends.{Answers, Says}
-use Rattle.sw_command.specs.FaultTexts.{fault_text}
+use Rattle.sw_text.specs.Ends.{Answers, Says}
+use Rattle.sw_text.specs.FaultTexts.{fault_text}
 use Rattle.sw_config.specs.Entries.{Declaration}
 use Rattle.sw_file.specs.Network.{network_text}
 use Rattle.sw_output.specs.Lines.{line}
-use Rattle.sw_toml_table.specs.declared.fault.TextFault.{TextFault}
+use Rattle.sw_text.specs.declared.fault.TextFault.{TextFault}
 use Rattle.sw_app_changes.specs.declared.mending.Mending.{Mending}
 use Rattle.sw_app_changes.specs.MendTexts.{mending_status, mending_text}
 use Rattle.sw_app_changes.specs.Mendings.{IsMending}

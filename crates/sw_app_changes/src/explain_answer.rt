@@ -5,10 +5,10 @@ ghost use Rattle.sw_app_changes.specs.ExplainAnswers.{IsExplainAnswer, IsNetwork
 use crate::explain_texts::{explain_status, explain_text};
 use crate::telling::answer_with;
 use std::alloc::{AllocError, Global};
-use sw_command::{Answer, fault_answer};
 use sw_config::Network;
 use sw_file::read_network;
 use sw_search::{VerdictWorkers, explain};
+use sw_text::{Answer, fault_answer};
 
 // The answer for a network.
 fn network_answer<W: VerdictWorkers>(

@@ -1,13 +1,12 @@
 //! The engine: it reads its text whole, and writes one text.
-ghost use Rattle.sw_command.specs.Ends.{EndsBy};
+ghost use Rattle.sw_text.specs.Ends.{EndsBy};
 ghost use Rattle.sw_app_changes.specs.ExplainAnswers.{IsExplainAnswer};
 
 use crate::explain_answer::explain_answer;
 use std::alloc::Global;
 use std::io::{Read, Write};
-use sw_command::{Ended, MAX_TEXT, tell_answer, tell_unread};
 use sw_search::VerdictWorkers;
-use sw_text::read_whole;
+use sw_text::{Ended, MAX_TEXT, read_whole, tell_answer, tell_unread};
 
 /// Why the network of a file can lock up, in words, or that it never does: 0 where it never does, and 1 where a flow is not well routed
 /// or packets can wait for one another in a circle. The workers share the work.

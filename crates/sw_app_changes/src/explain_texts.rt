@@ -6,9 +6,9 @@ ghost use Rattle.sw_app_changes.specs.ExplainTexts.{explain_status, explain_text
 use crate::route_texts::misrouted_text;
 use crate::tangle_texts::tangles_text;
 use std::alloc::{AllocError, Global};
-use sw_command::statuses::{BAD, GOOD};
 use sw_config::Network;
 use sw_search::Explanation;
+use sw_text::statuses::{BAD, GOOD};
 
 /// What is told of a network that never locks up.
 const FREE: &str =

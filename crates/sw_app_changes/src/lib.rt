@@ -1,6 +1,16 @@
 //! The engines of `swcheck explain`, `swcheck mend` and `swcheck margin`.
+//!
+//! The engine of `swcheck draw`.
 #![tactic(auto)]
 
+mod draw_answer;
+mod draw_engine;
+mod draw_options;
+mod draw_text;
+mod drawing;
+mod drawn_channels;
+mod drawn_marks;
+mod drawn_parts;
 mod explain_answer;
 mod explain_engine;
 mod explain_texts;
@@ -20,6 +30,8 @@ mod tangle_texts;
 mod telling;
 mod words;
 
+pub use draw_engine::draw;
+pub use draw_options::DrawOptions;
 pub use explain_engine::explain;
 pub use explain_texts::explain_status;
 pub use margin_engine::margin;

@@ -4,13 +4,13 @@ ghost use Rattle.sw_app_changes.specs.MarginAnswers.{IsBent, IsByVerdict, IsMarg
 
 use crate::margin_texts::margin_text;
 use std::alloc::{AllocError, Global};
-use sw_command::statuses::GOOD;
-use sw_command::{Answer, fault_answer};
 use sw_config::Network;
 use sw_file::read_network;
 use sw_margin::margins;
 use sw_output::misrouted_text;
 use sw_search::{Verdict, VerdictWorkers, decide};
+use sw_text::statuses::GOOD;
+use sw_text::{Answer, fault_answer};
 
 // What the premises of the network stand, where no channels can wait for one another.
 fn bent_text<W: VerdictWorkers>(

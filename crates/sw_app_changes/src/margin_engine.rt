@@ -1,13 +1,12 @@
 //! The engine: it reads its text whole, and writes one text.
-ghost use Rattle.sw_command.specs.Ends.{EndsBy};
+ghost use Rattle.sw_text.specs.Ends.{EndsBy};
 ghost use Rattle.sw_app_changes.specs.MarginAnswers.{IsMarginAnswer};
 
 use crate::margin_answer::margin_answer;
 use std::alloc::Global;
 use std::io::{Read, Write};
-use sw_command::{Ended, MAX_TEXT, tell_answer, tell_unread};
 use sw_search::VerdictWorkers;
-use sw_text::read_whole;
+use sw_text::{Ended, MAX_TEXT, read_whole, tell_answer, tell_unread};
 
 /// How far the premises of the free network of a file bend: a line for each node that answers nothing, for each flow without a reply
 /// and for each link. Of a network that is not free, that it is not, or the first flow that is not well routed. Its status is 0.

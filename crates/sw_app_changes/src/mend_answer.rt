@@ -6,10 +6,10 @@ use crate::mend_texts::{mending_status, mending_text};
 use crate::mending::find_mending;
 use crate::telling::answer_with;
 use std::alloc::{AllocError, Global};
-use sw_command::{Answer, fault_answer};
 use sw_config::Network;
 use sw_file::read_network;
 use sw_search::VerdictWorkers;
+use sw_text::{Answer, fault_answer};
 
 // The answer for a network.
 fn network_answer<W: VerdictWorkers>(

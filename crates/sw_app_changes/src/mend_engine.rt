@@ -1,13 +1,12 @@
 //! The engine: it reads its text whole, and writes one text.
-ghost use Rattle.sw_command.specs.Ends.{EndsBy};
+ghost use Rattle.sw_text.specs.Ends.{EndsBy};
 ghost use Rattle.sw_app_changes.specs.MendAnswers.{IsMendAnswer};
 
 use crate::mend_answer::mend_answer;
 use std::alloc::Global;
 use std::io::{Read, Write};
-use sw_command::{Ended, MAX_TEXT, tell_answer, tell_unread};
 use sw_search::VerdictWorkers;
-use sw_text::read_whole;
+use sw_text::{Ended, MAX_TEXT, read_whole, tell_answer, tell_unread};
 
 /// Which single changes make the network of a file free of deadlocks, a line each: 0 where some change does or the network is free
 /// already, and 1 where none does or a flow is not well routed. With pairs asked for, where no single change does, which pairs of single

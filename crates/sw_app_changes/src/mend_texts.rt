@@ -6,10 +6,10 @@ ghost use Rattle.sw_app_changes.specs.MendTexts.{change_words, mending_status, m
 use crate::mending::Mending;
 use std::alloc::{AllocError, Global};
 use std::fmt::Write;
-use sw_command::statuses::{BAD, GOOD};
 use sw_config::Network;
 use sw_mend::{Change, Pair, TargetLink, Trial};
 use sw_output::{entry_words, flow_name, misrouted_text, node_name, switch_name};
+use sw_text::statuses::{BAD, GOOD};
 use sw_topo::Port;
 
 // The words, and the name behind a space.

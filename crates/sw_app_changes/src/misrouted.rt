@@ -1,14 +1,14 @@
 //! The answer where a flow is not well routed.
 ghost use Rattle.std.specs.Prelude.{◌∷◌, [], IfOk, string_bytes};
-ghost use Rattle.sw_command.specs.Ends.{Says};
+ghost use Rattle.sw_text.specs.Ends.{Says};
 ghost use Rattle.sw_output.specs.Lines.{line};
 ghost use Rattle.sw_output.specs.VerdictTexts.{misrouted_words};
 
 use std::alloc::{AllocError, Global};
-use sw_command::Answer;
 use sw_config::Network;
 use sw_flow::{Place, RouteFault};
 use sw_output::misrouted_text;
+use sw_text::Answer;
 
 /// The answer where this flow has this fault at this place, with this status.
 ///

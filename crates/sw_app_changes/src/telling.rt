@@ -2,7 +2,7 @@
 ghost use Rattle.std.specs.Prelude.{◌≡◌, IfOk, Ok};
 
 use std::alloc::AllocError;
-use sw_command::Answer;
+use sw_text::Answer;
 
 /// The answer of this text, if there was memory for it, with this status.
 pub(crate) fn answer_with(

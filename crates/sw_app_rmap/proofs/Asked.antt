@@ -8,7 +8,7 @@ use Rattle.std.proofs.lemmas.Slice.Eq.{bytes_eq-Decides}
 use Rattle.sw_config.specs.Entries.{Declaration, FlowEntry, NodeEntry, ReplyEntry, flow_names, target_of}
 use Rattle.sw_config.specs.Valid.{IsFlow, IsValid}
 use Rattle.sw_config.proofs.Flows.{All-at}
-use Rattle.sw_model.specs.Packets.{IsAnsweredRightly, IsDeclaredPacket, IsRightWay, left_bytes, reply_from}
+use Rattle.sw_machine.specs.DeclaredPackets.{IsAnsweredRightly, IsDeclaredPacket, IsRightWay, left_bytes, reply_from}
 use Rattle.sw_rmap.specs.declared.config.TargetConfig.{TargetConfig}
 use Rattle.sw_rmap.specs.CommandView.{CommandView}
 use Rattle.sw_rmap.specs.Commands.{read}

@@ -5,7 +5,7 @@ use Rattle.std.specs.Str.{bytes_eq}
 use Rattle.std.proofs.lemmas.List.{get_or_append_left}
 use Rattle.std.proofs.lemmas.Option.{get_or_from_slice_get, slice_get_read}
 use Rattle.sw_config.specs.Entries.{Declaration, FlowEntry, NodeEntry, all_flows, flow_names, reply_flows, target_of}
-use Rattle.sw_model.specs.Packets.{left_bytes}
+use Rattle.sw_machine.specs.DeclaredPackets.{left_bytes}
 use Rattle.sw_rmap.specs.declared.config.TargetConfig.{TargetConfig}
 use Rattle.sw_app_rmap.specs.declared.fault.RmapError.{RmapError}
 use Rattle.sw_app_rmap.specs.declared.fault.RmapError.TheVariants.{Fault, Memory}

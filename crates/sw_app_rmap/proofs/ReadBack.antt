@@ -6,9 +6,9 @@ use Rattle.std.proofs.lemmas.Bool.{agree_below_at, and_parts, eqb-true, not-true
 use Rattle.hex.specs.Hex.{encode_upper, encode_with, upper_digits}
 use Rattle.sw_char.specs.declared.nchar.End.TheVariants.{Eop}
 use Rattle.sw_config.specs.Entries.{Declaration, flow_names}
-use Rattle.sw_toml_table.specs.Document.{document_of}
-use Rattle.sw_model.specs.Packets.{IsDeclaredPacket, is_declared_packet}
-use Rattle.sw_model.proofs.Declared.{declared_packets_pass}
+use Rattle.sw_text.specs.Document.{document_of}
+use Rattle.sw_machine.specs.DeclaredPackets.{IsDeclaredPacket, is_declared_packet}
+use Rattle.sw_machine.proofs.Declared.{declared_packets_pass}
 use Rattle.sw_load.specs.Cargo.{ArePairs, CargoIsRead, cargo_of, hex_pair, hex_value, without_spaces}
 use Rattle.sw_load.proofs.Digits.{IsBytes, are_pairs, digit_right}
 use Rattle.sw_load.specs.Load.{LoadEntry, cargo_at, count_at, flow_at, load_of, load_text, marker_at, next_packet, packet_of}

@@ -3,7 +3,7 @@ use Rattle.std.specs.Prelude.{◌≡◌, ℕ, ◌-◌, ◌++◌, List, [], lengt
 use Rattle.sw_char.specs.declared.nchar.End.TheVariants.{Eop}
 use Rattle.sw_config.specs.Entries.{Declaration, FlowEntry, ReplyEntry, target_of}
 use Rattle.sw_config.specs.Valid.{IsValid}
-use Rattle.sw_model.specs.Packets.{IsDeclaredPacket, left_bytes}
+use Rattle.sw_machine.specs.DeclaredPackets.{IsDeclaredPacket, left_bytes}
 use Rattle.sw_rmap.specs.declared.config.TargetConfig.{TargetConfig}
 use Rattle.sw_rmap.specs.Answers.{answer, first_of, stored}
 use Rattle.sw_rmap.specs.Replies.{reply_of}

@@ -3,11 +3,11 @@ use Rattle.std.specs.Prelude.{◌≡◌, ℕ, false, List, [], ◌∷◌, Result
 use Rattle.sw_char.specs.declared.nchar.End.TheVariants.{Eop}
 use Rattle.toml.specs.Text.{IsDocumentText}
 use Rattle.sw_config.specs.Entries.{Declaration}
-use Rattle.sw_toml_table.specs.declared.fault.TextFault.{TextFault}
+use Rattle.sw_text.specs.declared.fault.TextFault.{TextFault}
 use Rattle.sw_file.specs.Network.{network_text}
 use Rattle.sw_load.specs.Load.{LoadEntry, load_text}
-use Rattle.sw_command.specs.Ends.{Answers, Says}
-use Rattle.sw_command.specs.FaultTexts.{fault_text}
+use Rattle.sw_text.specs.Ends.{Answers, Says}
+use Rattle.sw_text.specs.FaultTexts.{fault_text}
 use Rattle.sw_output.specs.Lines.{line}
 use Rattle.sw_app_rmap.specs.declared.fault.RmapFault.{RmapFault}
 use Rattle.sw_app_rmap.specs.declared.request.Request.{Request}

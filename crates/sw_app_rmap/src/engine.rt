@@ -1,13 +1,12 @@
 //! The engine: it reads its text whole, and writes one text.
-ghost use Rattle.sw_command.specs.Ends.{EndsBy};
+ghost use Rattle.sw_text.specs.Ends.{EndsBy};
 ghost use Rattle.sw_app_rmap.specs.RmapAnswers.{IsRmapAnswer};
 
 use crate::request::Request;
 use crate::rmap_answer::rmap_answer;
 use std::alloc::Global;
 use std::io::{Read, Write};
-use sw_command::{Ended, MAX_TEXT, tell_answer, tell_unread};
-use sw_text::read_whole;
+use sw_text::{Ended, MAX_TEXT, read_whole, tell_answer, tell_unread};
 
 /// Writes the entry of a load whose packet brings the target of a flow the command that is asked for (ECSS-E-ST-50-52C): 0 where there is
 /// such a packet, and 3 with the first fault where there is none.

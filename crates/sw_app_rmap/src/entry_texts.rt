@@ -3,9 +3,9 @@ ghost use Rattle.std.specs.Prelude.{◌≡◌, ◌≤◌, IfOk, Some, length, po
 ghost use Rattle.std.specs.Str.{bytes_eq};
 ghost use Rattle.toml.specs.Data.{array, item, member, no_items, no_members, table};
 ghost use Rattle.toml.specs.View.{table_view, view};
-ghost use Rattle.sw_toml_table.specs.Keys.{key_text};
+ghost use Rattle.sw_text.specs.Keys.{key_text};
 ghost use Rattle.sw_config.specs.Entries.{flow_names};
-ghost use Rattle.sw_model.specs.Packets.{IsDeclaredPacket};
+ghost use Rattle.sw_machine.specs.DeclaredPackets.{IsDeclaredPacket};
 ghost use Rattle.sw_app_rmap.specs.RmapAnswers.{IsLoadText};
 ghost use Rattle.sw_app_rmap.specs.EntryTexts.{entry_table, load_table};
 
@@ -14,7 +14,7 @@ use std::alloc::{AllocError, Global};
 use std::marker::Model;
 use sw_config::Network;
 use sw_load::laws::cargo_is_read;
-use sw_toml_table::Key;
+use sw_text::Key;
 use toml::{Table, Value};
 
 // The table of one key.

@@ -15,7 +15,7 @@ use std::alloc::Global;
 use std::marker::Model;
 use sw_config::{Flow, Network};
 use sw_load::MAX_CARGO;
-use sw_model::left_bytes;
+use sw_machine::left_bytes;
 use sw_rmap::TargetConfig;
 
 /// A packet: the number of its flow, and its bytes behind the flow's address.

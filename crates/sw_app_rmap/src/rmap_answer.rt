@@ -3,18 +3,17 @@ ghost use Rattle.std.specs.Prelude.{IfOk, string_bytes};
 ghost use Rattle.sw_app_rmap.specs.Packets.{packet_of};
 ghost use Rattle.sw_app_rmap.specs.RmapAnswers.{IsPacketAnswer, IsRmapAnswer};
 ghost use Rattle.sw_app_rmap.specs.EntryTexts.{fault_line};
-ghost use Rattle.sw_command.specs.Ends.{Says};
+ghost use Rattle.sw_text.specs.Ends.{Says};
 
 use crate::entry_texts::entry_text;
 use crate::fault::{RmapError, RmapFault, fault_words};
 use crate::packet::packet_of;
 use crate::request::Request;
 use std::alloc::{AllocError, Global};
-use sw_command::Answer;
-use sw_command::statuses::{FAULTY, GOOD};
 use sw_config::Network;
 use sw_file::read_network;
-use sw_toml_table::FileFault;
+use sw_text::statuses::{FAULTY, GOOD};
+use sw_text::{Answer, FileFault};
 
 fn fault_answer(alloc: Global, fault: RmapFault) -> Result<Answer, AllocError>
     ensures { IfOk result (λ a. Says (fault_line fault) 3 (string_bytes a.text) a.status) }

@@ -1,14 +1,14 @@
 -- What is told of a run of which only the answer is wanted.
 use Rattle.std.proofs.Common.{◌≡◌, ℕ, ◌∷◌, [], List, false, refl, subst, sym}
 use Rattle.std.specs.Prelude.{Err, IsSome, IsSomeAnd, None, Ok, Option, Result, Some, codes, string_bytes}
-use Rattle.sw_command.specs.Ends.{Answers, IfLimited, Says}
-use Rattle.sw_command.specs.FaultTexts.{fault_text}
-use Rattle.sw_command.specs.declared.answer.Answer.{Answer}
+use Rattle.sw_text.specs.Ends.{Answers, IfLimited, Says}
+use Rattle.sw_text.specs.FaultTexts.{fault_text}
+use Rattle.sw_text.specs.declared.answer.Answer.{Answer}
 use Rattle.sw_config.specs.Entries.{Declaration}
 use Rattle.sw_file.specs.Network.{network_text}
 use Rattle.sw_load.specs.Load.{LoadEntry, load_text}
 use Rattle.sw_output.specs.Lines.{line}
-use Rattle.sw_toml_table.specs.declared.fault.TextFault.{TextFault}
+use Rattle.sw_text.specs.declared.fault.TextFault.{TextFault}
 use Rattle.sw_app_run.specs.Records.{IfGiven, IsFault, IsFileRecord, IsLoadRecord, IsOutcomeRecord, IsRecord, answer_told}
 use Rattle.sw_app_run.specs.RunAnswers.{IsLoadAnswer, IsOutcomeAnswer, IsRunAnswer, IsRunOf}
 use Rattle.sw_app_run.specs.RunTexts.{outcome_text, stop_status}

@@ -6,8 +6,8 @@ use Rattle.sw_config.specs.Entries.{Declaration}
 use Rattle.sw_schedule.proofs.OneReport.{replays_are_determined}
 use Rattle.sw_schedule.specs.Reports.{Report}
 use Rattle.sw_schedule.specs.Schedule.{steps_of_text}
-use Rattle.sw_toml_table.specs.declared.fault.TextFault.{TextFault}
-use Rattle.sw_command.specs.Ends.{Says}
+use Rattle.sw_text.specs.declared.fault.TextFault.{TextFault}
+use Rattle.sw_text.specs.Ends.{Says}
 use Rattle.sw_app_run.specs.Laws.{ReplayHasOneAnswer}
 use Rattle.sw_app_run.specs.ReplayAnswers.{IsReplayOf, IsScheduleAnswer}
 use Rattle.sw_app_run.specs.ReplayTexts.{replay_status, replay_text}

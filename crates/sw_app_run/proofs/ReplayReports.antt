@@ -2,7 +2,7 @@
 use Rattle.std.proofs.Common.{List, length, sym, ◌∙◌, ◌≡◌}
 use Rattle.std.proofs.lemmas.List.{length-map}
 use Rattle.sw_machine.specs.Steps.{Step}
-use Rattle.sw_model.specs.Model.{network_of}
+use Rattle.sw_machine.specs.Model.{network_of}
 use Rattle.sw_config.specs.Entries.{Declaration}
 use Rattle.sw_schedule.specs.declared.replayed.Replayed.{Replayed}
 use Rattle.sw_schedule.specs.Replays.{IsReplayed}

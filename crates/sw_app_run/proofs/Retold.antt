@@ -6,8 +6,8 @@ use Rattle.sw_machine.specs.Network.{Network}
 use Rattle.sw_machine.specs.Packets.{Packet}
 use Rattle.sw_machine.specs.Runs.{CameOut, IsLockedUp, undelivered}
 use Rattle.sw_machine.specs.State.{State, empty}
-use Rattle.sw_model.specs.Model.{network_of}
-use Rattle.sw_model.proofs.Flows.{some_at}
+use Rattle.sw_machine.specs.Model.{network_of}
+use Rattle.sw_machine.proofs.Flows.{some_at}
 use Rattle.sw_schedule.specs.declared.replayed.ReplayEnd.TheVariants.{Made}
 use Rattle.sw_schedule.specs.Replays.{Ends, IsReplayed}
 use Rattle.sw_schedule.specs.Reports.{AreOutputs, Report}

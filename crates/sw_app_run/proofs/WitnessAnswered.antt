@@ -2,7 +2,7 @@
 use Rattle.std.proofs.Common.{ℕ, IfOk, string_bytes}
 use Rattle.std.specs.Prelude.{Result, Ok, Err}
 use Rattle.std.specs.declared.alloc.AllocError.{AllocError}
-use Rattle.sw_command.specs.declared.answer.Answer.{Answer}
+use Rattle.sw_text.specs.declared.answer.Answer.{Answer}
 use Rattle.sw_config.specs.Entries.{Declaration}
 use Rattle.sw_search.specs.Explanations.{IsExplanation}
 use Rattle.sw_search.specs.declared.explanation.Explanation.{Explanation}

@@ -1,11 +1,11 @@
 -- What is told of a run whose steps are written as a schedule, or of which a summary is told (this project's choice).
 use Rattle.std.specs.Prelude.{◌≡◌, ◌⊎◌, ℕ, ◌<◌, Bool, true, false, IsSome, List, [], ◌∷◌, Option, Result, Some, None, Ok, Err, codes, length, option_map, string_bytes, take}
 use Rattle.std.specs.Io.KnownBytes.{Appends, Keeps}
-use Rattle.sw_command.specs.Ends.{GivesText, IsMemoryTold, IsTold, Says}
-use Rattle.sw_command.specs.FaultTexts.{fault_text}
-use Rattle.sw_command.specs.declared.answer.Answer.{Answer}
-use Rattle.sw_command.specs.declared.write_answer.Ended.{Ended}
-use Rattle.sw_command.specs.declared.write_answer.Ended.TheVariants as ended
+use Rattle.sw_text.specs.Ends.{GivesText, IsMemoryTold, IsTold, Says}
+use Rattle.sw_text.specs.FaultTexts.{fault_text}
+use Rattle.sw_text.specs.declared.answer.Answer.{Answer}
+use Rattle.sw_text.specs.declared.write_answer.Ended.{Ended}
+use Rattle.sw_text.specs.declared.write_answer.Ended.TheVariants as ended
 use Rattle.sw_config.specs.Entries.{Declaration}
 use Rattle.sw_file.specs.Network.{network_text}
 use Rattle.sw_load.specs.Load.{LoadEntry, load_text}
@@ -13,9 +13,9 @@ use Rattle.sw_output.specs.Lines.{line}
 use Rattle.sw_run.specs.Outcomes.{IsOutcome, steps_of}
 use Rattle.sw_run.specs.declared.outcome.Outcome.{Outcome}
 use Rattle.sw_schedule.specs.Runs.{readable_text}
-use Rattle.sw_toml_table.specs.declared.fault.FileFault.{FileFault}
-use Rattle.sw_toml_table.specs.declared.fault.FileFault.TheVariants.{Memory, Text}
-use Rattle.sw_toml_table.specs.declared.fault.TextFault.{TextFault}
+use Rattle.sw_text.specs.declared.fault.FileFault.{FileFault}
+use Rattle.sw_text.specs.declared.fault.FileFault.TheVariants.{Memory, Text}
+use Rattle.sw_text.specs.declared.fault.TextFault.{TextFault}
 use Rattle.sw_app_run.specs.RunTexts.{outcome_text, stop_status}
 use Rattle.sw_app_run.specs.Summaries.{IsWantedSummary}
 use Rattle.sw_app_run.specs.declared.record_answer.Recorded.{Recorded}

@@ -7,9 +7,9 @@ use Rattle.sw_config.specs.Entries.{Declaration}
 use Rattle.sw_schedule.specs.Replays.{IsReplayed}
 use Rattle.sw_schedule.specs.Reports.{Report}
 use Rattle.sw_schedule.specs.Schedule.{steps_of_text}
-use Rattle.sw_toml_table.specs.declared.fault.TextFault.{TextFault}
-use Rattle.sw_command.specs.Ends.{Answers, IfLimited, Says}
-use Rattle.sw_command.specs.FaultTexts.{fault_text}
+use Rattle.sw_text.specs.declared.fault.TextFault.{TextFault}
+use Rattle.sw_text.specs.Ends.{Answers, IfLimited, Says}
+use Rattle.sw_text.specs.FaultTexts.{fault_text}
 use Rattle.sw_output.specs.Lines.{line}
 use Rattle.sw_app_run.specs.ReplayTexts.{replay_status, replay_text}
 

@@ -1,14 +1,14 @@
 -- What `run` answers (this project's choice).
 use Rattle.std.specs.Prelude.{ℕ, List, [], ◌∷◌, Option, Result, Ok, Err}
-use Rattle.sw_command.specs.Ends.{Answers, IfLimited, Says}
-use Rattle.sw_command.specs.FaultTexts.{fault_text}
+use Rattle.sw_text.specs.Ends.{Answers, IfLimited, Says}
+use Rattle.sw_text.specs.FaultTexts.{fault_text}
 use Rattle.sw_file.specs.Network.{network_text}
 use Rattle.sw_load.specs.Load.{LoadEntry, load_text}
 use Rattle.sw_config.specs.Entries.{Declaration}
 use Rattle.sw_run.specs.Outcomes.{IsOutcome}
 use Rattle.sw_run.specs.declared.outcome.Outcome.{Outcome}
 use Rattle.sw_output.specs.Lines.{line}
-use Rattle.sw_toml_table.specs.declared.fault.TextFault.{TextFault}
+use Rattle.sw_text.specs.declared.fault.TextFault.{TextFault}
 use Rattle.sw_app_run.specs.RunTexts.{outcome_text, stop_status}
 
 -- of a load: the text of an outcome that is true of a run of it; runs of one load may have different outcomes

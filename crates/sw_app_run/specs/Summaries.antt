@@ -7,7 +7,7 @@ use Rattle.sw_summary.specs.BufferLines.{fill_lines}
 use Rattle.sw_load.specs.Load.{LoadEntry}
 use Rattle.sw_machine.specs.Packets.{Packet}
 use Rattle.sw_machine.specs.Steps.{Step}
-use Rattle.sw_model.specs.Model.{network_of}
+use Rattle.sw_machine.specs.Model.{network_of}
 use Rattle.sw_run.specs.Outcomes.{came_out_of, steps_of}
 use Rattle.sw_run.specs.declared.outcome.Outcome.{Outcome}
 use Rattle.sw_run.specs.declared.outcome.Stop.{Stop}

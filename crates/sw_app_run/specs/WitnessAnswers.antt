@@ -2,8 +2,8 @@
 use Rattle.std.specs.Prelude.{◌≡◌, ◌⊎◌, ℕ, List, [], ◌∷◌, codes, Result, Ok, Err}
 use Rattle.std.specs.Fmt.{decimal}
 use Rattle.sw_app_changes.specs.ExplainTexts.{names_text}
-use Rattle.sw_command.specs.Ends.{Answers, Says}
-use Rattle.sw_command.specs.FaultTexts.{fault_text}
+use Rattle.sw_text.specs.Ends.{Answers, Says}
+use Rattle.sw_text.specs.FaultTexts.{fault_text}
 use Rattle.sw_config.specs.Entries.{Declaration}
 use Rattle.sw_search.specs.Explanations.{IsExplanation}
 use Rattle.sw_search.specs.declared.explanation.Explanation.{Explanation}
@@ -11,7 +11,7 @@ use Rattle.sw_search.specs.declared.explanation.Explanation.TheVariants.{Misrout
 use Rattle.sw_file.specs.Network.{network_text}
 use Rattle.sw_output.specs.Lines.{line}
 use Rattle.sw_output.specs.VerdictTexts.{misrouted_words}
-use Rattle.sw_toml_table.specs.declared.fault.TextFault.{TextFault}
+use Rattle.sw_text.specs.declared.fault.TextFault.{TextFault}
 use Rattle.sw_witness.specs.Unanswered.{IsFreeWithout, never_answered}
 use Rattle.sw_witness.specs.Witnesses.{LocksUp}
 

@@ -1,6 +1,6 @@
 //! What a run whose steps are written as a schedule comes to.
 ghost use Rattle.std.specs.Prelude.{◌≡◌, ◌<◌, IfOk, length, option_map, string_bytes};
-ghost use Rattle.sw_command.specs.Inputs.{given};
+ghost use Rattle.sw_text.specs.Inputs.{given};
 ghost use Rattle.sw_load.specs.Laws.{AreDeclared};
 ghost use Rattle.sw_load.specs.Load.{load_text};
 ghost use Rattle.sw_run.specs.Outcomes.{IsOutcome, steps_of};
@@ -13,15 +13,14 @@ use crate::summaries::wanted_summary;
 use std::alloc::{AllocError, Global};
 use std::sync::Wait;
 use std::thread::Threads;
-use sw_command::{Answer, InputText, fault_answer};
 use sw_config::Network;
 use sw_file::read_network;
+use sw_graph::OneByOne;
 use sw_load::laws::listed_are_declared;
 use sw_load::{Load, read_load};
-use sw_parallel::OneByOne;
 use sw_run::{Gate, Outcome, run};
 use sw_schedule::{MAX_STEPS, write_steps};
-use sw_toml_table::FileFault;
+use sw_text::{Answer, FileFault, InputText, fault_answer};
 
 /// What is wanted of a run besides its answer.
 #[derive(Clone, Copy)]

@@ -1,6 +1,6 @@
 //! The engine that writes a run's steps too, and tells a summary.
 ghost use Rattle.std.specs.Prelude.{◌<◌, option_map, string_bytes};
-ghost use Rattle.sw_command.specs.Ends.{AreReadInOrder};
+ghost use Rattle.sw_text.specs.Ends.{AreReadInOrder};
 ghost use Rattle.sw_app_run.specs.Records.{EndsRecorded, IsRecordTold, IsRunTold};
 
 use crate::record_answer::{Recorded, Wants, record_answer};
@@ -9,9 +9,8 @@ use std::alloc::Global;
 use std::io::{Read, Write};
 use std::sync::Wait;
 use std::thread::Threads;
-use sw_command::{Answer, Ended, read_two, tell, tell_memory, tell_two_unread};
 use sw_run::Gate;
-use sw_text::write_whole;
+use sw_text::{Answer, Ended, read_two, tell, tell_memory, tell_two_unread, write_whole};
 
 /// How the engine ended.
 #[derive(Drop)]

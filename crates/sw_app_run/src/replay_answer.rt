@@ -1,17 +1,17 @@
 //! What `replay` answers.
 ghost use Rattle.std.specs.Prelude.{◌≡◌, IfOk, string_bytes};
 ghost use Rattle.sw_schedule.specs.Schedule.{steps_of_text};
-ghost use Rattle.sw_command.specs.Ends.{IfLimited, Says};
-ghost use Rattle.sw_command.specs.Inputs.{given};
+ghost use Rattle.sw_text.specs.Ends.{IfLimited, Says};
+ghost use Rattle.sw_text.specs.Inputs.{given};
 ghost use Rattle.sw_app_run.specs.ReplayAnswers.{IsReplayAnswer, IsScheduleAnswer, bad_line};
 
 use crate::replay_texts::{replay_status, replay_text};
 use std::alloc::{AllocError, Global};
-use sw_command::statuses::FAULTY;
-use sw_command::{Answer, InputText, fault_answer};
 use sw_config::Network;
 use sw_file::read_network;
 use sw_schedule::{Schedule, ScheduleFault, read_steps, replay};
+use sw_text::statuses::FAULTY;
+use sw_text::{Answer, InputText, fault_answer};
 
 // The answer for a schedule.
 fn steps_answer(alloc: Global, network: &Network, schedule: &Schedule) -> Result<Answer, AllocError>

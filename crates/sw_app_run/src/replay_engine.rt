@@ -1,11 +1,11 @@
 //! The engine of `replay`.
-ghost use Rattle.sw_command.specs.Ends.{AreReadInOrder, EndsByTwo};
+ghost use Rattle.sw_text.specs.Ends.{AreReadInOrder, EndsByTwo};
 ghost use Rattle.sw_app_run.specs.ReplayAnswers.{IsReplayAnswer};
 
 use crate::replay_answer::replay_answer;
 use std::alloc::Global;
 use std::io::{Read, Write};
-use sw_command::{Ended, read_two, tell_answer, tell_two_unread};
+use sw_text::{Ended, read_two, tell_answer, tell_two_unread};
 
 /// What comes of the steps of the second text's schedule, made one after another on the network of the first text from its empty
 /// state on: 0 where all are made and the network is not locked up then, 1 where one is refused, and 4 where the network is locked

@@ -4,10 +4,10 @@ ghost use Rattle.sw_schedule.specs.Reports.{report_of};
 ghost use Rattle.sw_app_run.specs.ReplayTexts.{made_line, refusal_text, replay_status, replay_text, state_lines, stuck_line};
 
 use std::alloc::{AllocError, Global};
-use sw_command::statuses::{BAD, GOOD, LOCKED_UP};
 use sw_config::Network;
 use sw_output::{all_node_lines, all_packet_lines, undelivered_line};
 use sw_schedule::{ReplayEnd, Replayed, StepRefusal};
+use sw_text::statuses::{BAD, GOOD, LOCKED_UP};
 
 fn refusal_text(refusal: StepRefusal) -> &'static str
     ensures { result.now ≡ refusal_text refusal }

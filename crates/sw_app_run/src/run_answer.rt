@@ -1,6 +1,6 @@
 //! What `run` answers.
 ghost use Rattle.std.specs.Prelude.{◌≡◌, ◌<◌, IfOk, IsSome, Some, string_bytes};
-ghost use Rattle.sw_command.specs.Inputs.{given};
+ghost use Rattle.sw_text.specs.Inputs.{given};
 ghost use Rattle.sw_app_run.specs.Records.{answer_told};
 ghost use Rattle.sw_app_run.specs.RunAnswers.{IsRunAnswer};
 
@@ -8,8 +8,8 @@ use crate::record_answer::{Recorded, Wants, record_answer};
 use std::alloc::{AllocError, Global};
 use std::sync::Wait;
 use std::thread::Threads;
-use sw_command::{Answer, InputText};
 use sw_run::Gate;
+use sw_text::{Answer, InputText};
 
 /// How a run is made.
 #[derive(Clone, Copy, PartialEq, Eq)]

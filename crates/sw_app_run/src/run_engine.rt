@@ -1,6 +1,6 @@
 //! The engine: it reads its texts whole, and writes one text.
 ghost use Rattle.std.specs.Prelude.{◌<◌};
-ghost use Rattle.sw_command.specs.Ends.{AreReadInOrder, EndsByTwo};
+ghost use Rattle.sw_text.specs.Ends.{AreReadInOrder, EndsByTwo};
 ghost use Rattle.sw_app_run.specs.RunAnswers.{IsRunAnswer};
 
 use crate::run_answer::{Options, run_answer};
@@ -8,8 +8,8 @@ use std::alloc::Global;
 use std::io::{Read, Write};
 use std::sync::Wait;
 use std::thread::Threads;
-use sw_command::{Ended, read_two, tell_answer, tell_two_unread};
 use sw_run::Gate;
+use sw_text::{Ended, read_two, tell_answer, tell_two_unread};
 
 /// What comes of a run of the second text's load on the network of the first text, by so many workers and in at most so many steps:
 /// 0 where all of it was delivered, 4 where the network is locked up, and 5 where memory or the limit on steps ended the run.

@@ -3,10 +3,10 @@ ghost use Rattle.std.specs.Prelude.{◌≡◌, IfOk, length, map, string_bytes};
 ghost use Rattle.sw_app_run.specs.RunTexts.{outcome_text, stop_status, stop_word};
 
 use std::alloc::{AllocError, Global};
-use sw_command::statuses::{GOOD, LOCKED_UP, NO_ROOM};
 use sw_config::Network;
 use sw_output::sent_text;
 use sw_run::{Outcome, Stop};
+use sw_text::statuses::{GOOD, LOCKED_UP, NO_ROOM};
 
 /// Why a run stopped, in a word.
 pub fn stop_word(stop: Stop) -> &'static str

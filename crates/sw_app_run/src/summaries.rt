@@ -1,6 +1,6 @@
 //! The summary of a run.
 ghost use Rattle.std.specs.Prelude.{◌≡◌, ◌↔◌, ◌≤◌, IfOk, IsTrue, length, map, option_map, string_bytes};
-ghost use Rattle.sw_model.specs.Steps.{machine_step};
+ghost use Rattle.sw_machine.specs.StepValues.{machine_step};
 ghost use Rattle.sw_search.specs.Laws.{RoutedAndFree};
 ghost use Rattle.sw_app_run.specs.Summaries.{AreFillsTold, IsSummary, IsSummaryOf, IsWantedSummary, ShowsNothing};
 
@@ -8,7 +8,7 @@ use std::alloc::{AllocError, Global};
 use sw_char::Packet;
 use sw_config::Network;
 use sw_load::Load;
-use sw_model::Step;
+use sw_machine::Step;
 use sw_run::{Outcome, Stop};
 use sw_search::{VerdictWorkers, is_free};
 use sw_summary::{fill_lines, greatest_fills, summary_of};

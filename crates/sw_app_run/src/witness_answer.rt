@@ -1,6 +1,6 @@
 //! What `witness` answers.
 ghost use Rattle.std.specs.Prelude.{IfOk, string_bytes};
-ghost use Rattle.sw_command.specs.Ends.{Says};
+ghost use Rattle.sw_text.specs.Ends.{Says};
 ghost use Rattle.sw_search.specs.Explanations.{IsExplanation};
 ghost use Rattle.sw_witness.specs.Unanswered.{never_answered};
 ghost use Rattle.sw_app_run.specs.WitnessAnswers.{IsNetworkAnswer, IsOfKind, IsOfTangled, IsSearched, IsWitnessAnswer, free_line, unanswered_line};
@@ -8,11 +8,11 @@ ghost use Rattle.sw_app_run.specs.WitnessAnswers.{IsNetworkAnswer, IsOfKind, IsO
 use crate::witness_texts::{none_found, with_note};
 use std::alloc::{AllocError, Global};
 use sw_app_changes::{misrouted_answer, names_text};
-use sw_command::statuses::{BAD, GOOD};
-use sw_command::{Answer, fault_answer};
 use sw_config::Network;
 use sw_file::read_network;
 use sw_search::{Explanation, Tangle, VerdictWorkers, explain};
+use sw_text::statuses::{BAD, GOOD};
+use sw_text::{Answer, fault_answer};
 use sw_witness::{find, is_free_without, never_answered};
 
 // The answer of a search, which tells also that the replies of these flows can't happen.

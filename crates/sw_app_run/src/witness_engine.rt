@@ -1,13 +1,12 @@
 //! The engine of `witness`: it reads its text whole, and writes one text.
-ghost use Rattle.sw_command.specs.Ends.{EndsBy};
+ghost use Rattle.sw_text.specs.Ends.{EndsBy};
 ghost use Rattle.sw_app_run.specs.WitnessAnswers.{IsWitnessAnswer};
 
 use crate::witness_answer::witness_answer;
 use std::alloc::Global;
 use std::io::{Read, Write};
-use sw_command::{Ended, MAX_TEXT, tell_answer, tell_unread};
 use sw_search::VerdictWorkers;
-use sw_text::read_whole;
+use sw_text::{Ended, MAX_TEXT, read_whole, tell_answer, tell_unread};
 
 /// A schedule that leads the network of a file into a lock-up: 0 where one is found, and 1 where none is found by so many tries, or
 /// where there is nothing to look for. The workers share the work of finding where to look.

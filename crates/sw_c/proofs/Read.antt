@@ -3,9 +3,9 @@ use Rattle.std.proofs.Common.{◌≡◌, ◌<◌, ◌+◌, ◌⊎◌, ℕ, false
 use Rattle.std.proofs.lemmas.List.{append-nil, length-append}
 use Rattle.std.proofs.lemmas.Bool.Decides.{nat_tests}
 use Rattle.sw_output.specs.Lines.{line}
-use Rattle.sw_command.specs.Ends.{Answers, AnswersBy, AnswersByTwo, AnswersToTwo, EndsBy, EndsByTwo, Gives, GivesAll, GivesText, IfShort, OrMemory, Says, limited, most_bytes}
-use Rattle.sw_command.specs.declared.write_answer.Ended.{Ended}
-use Rattle.sw_command.specs.declared.write_answer.Ended.TheVariants.{Status, ReadFailed, WriteFailed}
+use Rattle.sw_text.specs.Ends.{Answers, AnswersBy, AnswersByTwo, AnswersToTwo, EndsBy, EndsByTwo, Gives, GivesAll, GivesText, IfShort, OrMemory, Says, limited, most_bytes}
+use Rattle.sw_text.specs.declared.write_answer.Ended.{Ended}
+use Rattle.sw_text.specs.declared.write_answer.Ended.TheVariants.{Status, ReadFailed, WriteFailed}
 use Rattle.sw_app.specs.CheckAnswers.{AreShownDeadlockFree, ChecksDeadlockFree}
 use Rattle.sw_app.specs.VerdictAnswers.{DecidesDeadlockFree}
 use Rattle.sw_json_verdicts.specs.Answering.{AnswersByOne, AnswersToOne, EndsByOneFile, EndsByTwoFiles, memory_text}

@@ -1,7 +1,7 @@
 -- A file whose bytes are at hand (this project's choice).
 use Rattle.std.specs.Prelude.{◌≡◌, ◌⊎◌, ℕ, false, List, Option, Some, None}
-use Rattle.sw_app_audit.specs.Stores.{Given, Giving, Keeping, whole, too_long, no_memory}
-use Rattle.sw_command.specs.Ends.{limited}
+use Rattle.sw_json_verdicts.specs.Stores.{Given, Giving, Keeping, whole, too_long, no_memory}
+use Rattle.sw_text.specs.Ends.{limited}
 
 -- the text, or that it is too long
 abbrev pub text_given : Option (List ℕ) → Given

@@ -1,8 +1,8 @@
 -- What a call gives its caller (this project's choice).
 use Rattle.std.specs.Prelude.{◌≡◌, ◌⊎◌, ℕ, List, [], ◌∷◌, ◌++◌, codes, drop, length, min, take}
-use Rattle.sw_command.specs.Ends.{Answers, OrMemory, Says}
-use Rattle.sw_command.specs.declared.write_answer.Ended.{Ended}
-use Rattle.sw_command.specs.declared.write_answer.Ended.TheVariants.{Status, ReadFailed, WriteFailed}
+use Rattle.sw_text.specs.Ends.{Answers, OrMemory, Says}
+use Rattle.sw_text.specs.declared.write_answer.Ended.{Ended}
+use Rattle.sw_text.specs.declared.write_answer.Ended.TheVariants.{Status, ReadFailed, WriteFailed}
 use Rattle.sw_json_verdicts.specs.Answering.{memory_text}
 use Rattle.sw_output.specs.Lines.{line}
 

@@ -2,8 +2,8 @@
 ghost use Rattle.std.specs.Prelude.{◌≡◌, length};
 ghost use Rattle.sw_c.specs.Given.{IsEnded, IsObjectEnded, filled};
 
-use sw_command::Ended;
-use sw_command::statuses::NO_ROOM;
+use sw_text::Ended;
+use sw_text::statuses::NO_ROOM;
 
 // Fills the room with the beginning of the text, as much as there is room for.
 fn fill(text: &[u8], room: &mut [u8])

@@ -1,11 +1,11 @@
 //! A network file whose bytes are at hand, for an audit.
 ghost use Rattle.std.specs.Prelude.{◌≡◌, IfOk, false};
-ghost use Rattle.sw_app_audit.specs.Stores.{given_of};
+ghost use Rattle.sw_json_verdicts.specs.Stores.{given_of};
 ghost use Rattle.sw_c.specs.AtHand.{AreGiven};
 
 use std::alloc::{AllocError, Global};
-use sw_app_audit::{Input, Storage};
-use sw_command::MAX_TEXT;
+use sw_json_verdicts::{Input, Storage};
+use sw_text::MAX_TEXT;
 
 /// The bytes of a file. Each path gives them, and no certificate is kept.
 #[derive(Clone, Copy)]

@@ -2,13 +2,13 @@
 ghost use Rattle.std.specs.Prelude.{◌≡◌};
 ghost use Rattle.sw_app.specs.CheckAnswers.{AreShownDeadlockFree, IsCheckAnswer};
 ghost use Rattle.sw_app.specs.VerdictAnswers.{IsDecideAnswer, IsReportAnswer};
-ghost use Rattle.sw_command.specs.Ends.{IfShort, limited};
+ghost use Rattle.sw_text.specs.Ends.{IfShort, limited};
 ghost use Rattle.sw_c.specs.Given.{IsGiven, IsGivenSuch};
 
 use crate::answers::give_ended;
 use std::alloc::Global;
 use sw_app::{check, decide, report};
-use sw_parallel::OneByOne;
+use sw_graph::OneByOne;
 
 /// The verdict on the bytes of a network file: 0 with a certificate, and then the network never locks up, over every run; 1 with a cycle
 /// of dependencies, or a flow that is not well routed; 3 with a fault of the file; 5 where there was no memory.

@@ -6,10 +6,9 @@ ghost use Rattle.sw_c.specs.Objects.{IsCheckGiven, IsDecideGiven, IsReportGiven}
 use crate::answers::give_object;
 use crate::at_hand::AtHand;
 use std::alloc::Global;
-use sw_app_audit::{Options, Release, audit_one};
 use sw_args::{TOOLCHAIN, VERSION};
-use sw_json_verdicts::{check, report};
-use sw_parallel::OneByOne;
+use sw_graph::OneByOne;
+use sw_json_verdicts::{AuditOptions, Release, audit_one, check, report};
 
 // This release, and the toolchain that makes it.
 const RELEASE: Release<'static> = Release {
@@ -18,7 +17,7 @@ const RELEASE: Release<'static> = Release {
 };
 
 // An object for the file, which is told in any case; no certificate is kept.
-const OPTIONS: Options<'static> = Options {
+const OPTIONS: AuditOptions<'static> = AuditOptions {
     json: true,
     quiet: false,
     certificates: false,

@@ -1,8 +1,8 @@
 -- What a call on files may tell. No clause says which bytes a file's reader gives: here they are any bytes, and not those of the file.
 use Rattle.std.specs.Prelude.{◌≡◌, ℕ, List, Option, Some, None}
-use Rattle.sw_command.specs.declared.write_answer.Ended.{Ended}
-use Rattle.sw_command.specs.declared.write_answer.Ended.TheVariants.{Status}
-use Rattle.sw_command.specs.Ends.{Answers, AnswersToTwo, EndsBy, EndsByTwo, IsTold}
+use Rattle.sw_text.specs.declared.write_answer.Ended.{Ended}
+use Rattle.sw_text.specs.declared.write_answer.Ended.TheVariants.{Status}
+use Rattle.sw_text.specs.Ends.{Answers, AnswersToTwo, EndsBy, EndsByTwo, IsTold}
 use Rattle.sw_app.specs.CheckAnswers.{ChecksDeadlockFree}
 use Rattle.sw_app.specs.VerdictAnswers.{DecidesDeadlockFree}
 use Rattle.sw_app.specs.Samples.{sample_text}

@@ -16,7 +16,7 @@ use sw_app::{
     EndedWith, VerdictWorkers, check, decide_keeping, init, migrate, report_keeping, route,
     sample_named,
 };
-use sw_command::Ended;
+use sw_text::Ended;
 
 /// The places of a flow of a network file.
 pub fn route_file<R: Files + AllocGlobal, W: Write>(

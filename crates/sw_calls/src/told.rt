@@ -1,10 +1,10 @@
 //! What is told of words that give no call, and of reads and writes that fail.
 ghost use Rattle.std.specs.Prelude.{◌≡◌, ◌⊎◌};
 ghost use Rattle.sw_args.specs.CommandLine.{words_status};
-ghost use Rattle.sw_command.specs.Ends.{exit_status};
+ghost use Rattle.sw_text.specs.Ends.{exit_status};
 
 use sw_args::{REFUSED, WordsFault};
-use sw_command::Ended;
+use sw_text::Ended;
 
 /// Tells of a read or a write that failed. How the call ended stays as it is.
 pub fn told_end(rt: &impl Eprint, ended: Ended) -> Ended

@@ -7,7 +7,7 @@ use std::io::{self, Write};
 use std::rt::{Env, Files};
 use sw_app::VerdictWorkers;
 use sw_args::{Asked, Call};
-use sw_command::Ended;
+use sw_text::Ended;
 
 // What is told of a call that the program does not have.
 const OTHER_CALL: &str =

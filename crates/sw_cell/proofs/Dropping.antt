@@ -15,7 +15,7 @@ use Rattle.sw_machine.specs.Network.{AtSwitch}
 use Rattle.sw_machine.specs.State.{State, after_drop_byte, after_drop_marker}
 use Rattle.sw_machine.specs.Steps.{Drop, Drops, Leads}
 use Rattle.sw_machine.specs.declared.input.InputState.TheVariants.{Spilling}
-use Rattle.sw_model.specs.Model.{network_of}
+use Rattle.sw_machine.specs.Model.{network_of}
 use Rattle.sw_config.specs.Entries.{Declaration, look_at, wiring_of}
 use Rattle.sw_route.specs.declared.look.Look.{Look}
 use Rattle.sw_switch.specs.Cell.{Cell, end_at, front_at, input_at}

@@ -21,8 +21,8 @@ use Rattle.sw_flow.specs.Places.{end_of, ends_of}
 use Rattle.sw_machine.specs.Network.{AtSwitch, IsNetwork, Network, reverse_of}
 use Rattle.sw_machine.specs.State.{State}
 use Rattle.sw_machine.specs.Steps.{Accept, Arrive, Drop, Emit, Fct, FctIn, Forward, Grant, IsPossible, Reply, Spill}
-use Rattle.sw_model.proofs.Networks.{are_networks}
-use Rattle.sw_model.specs.Model.{network_of}
+use Rattle.sw_machine.proofs.DeclaredNetworks.{are_networks}
+use Rattle.sw_machine.specs.Model.{network_of}
 use Rattle.sw_config.specs.Entries.{Declaration}
 use Rattle.sw_node.specs.Conditions.{CanAccept, CanEmit, CanIssue, CanReply, CanStep}
 use Rattle.sw_node.specs.Node.{Node}

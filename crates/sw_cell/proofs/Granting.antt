@@ -22,8 +22,8 @@ use Rattle.sw_machine.specs.Network.{AtSwitch}
 use Rattle.sw_machine.specs.State.{State, after_grant}
 use Rattle.sw_machine.specs.Steps.{Grant, Leads}
 use Rattle.sw_machine.specs.declared.input.InputState.TheVariants.{Held}
-use Rattle.sw_model.proofs.Networks.{are_networks}
-use Rattle.sw_model.specs.Model.{network_of}
+use Rattle.sw_machine.proofs.DeclaredNetworks.{are_networks}
+use Rattle.sw_machine.specs.Model.{network_of}
 use Rattle.sw_config.specs.Entries.{Declaration, look_at, wiring_of}
 use Rattle.sw_route.specs.declared.look.Look.{Look}
 use Rattle.sw_switch.specs.Cell.{Cell, end_at, front_at, input_at}

@@ -11,7 +11,7 @@ use Rattle.sw_flow.specs.Places.{end_of, ends_of}
 use Rattle.sw_machine.specs.Network.{AtSwitch}
 use Rattle.sw_machine.specs.State.{State}
 use Rattle.sw_machine.specs.Steps.{Grant}
-use Rattle.sw_model.proofs.Networks.{are_networks}
+use Rattle.sw_machine.proofs.DeclaredNetworks.{are_networks}
 use Rattle.sw_config.specs.Entries.{Declaration}
 use Rattle.sw_route.specs.declared.look.Look.{Look}
 use Rattle.sw_switch.specs.Cell.{Cell, HasArbiter, HaveArbiters}

@@ -18,8 +18,8 @@ use Rattle.sw_machine.proofs.Lists.{put_here, put_there}
 use Rattle.sw_machine.specs.Network.{AtSwitch}
 use Rattle.sw_machine.specs.State.{State, after_arrive, after_fct, after_fct_in, put}
 use Rattle.sw_machine.specs.Steps.{Arrive, Fct, FctIn, Leads, Step}
-use Rattle.sw_model.proofs.Networks.{are_networks}
-use Rattle.sw_model.specs.Model.{cell_of, network_of}
+use Rattle.sw_machine.proofs.DeclaredNetworks.{are_networks}
+use Rattle.sw_machine.specs.Model.{cell_of, network_of}
 use Rattle.sw_config.proofs.Flows.{All-at}
 use Rattle.sw_config.specs.Entries.{Declaration, wiring_of}
 use Rattle.sw_config.specs.Valid.{IsValid}

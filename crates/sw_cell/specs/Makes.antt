@@ -1,11 +1,11 @@
 -- A call that makes one of the machine's steps.
 use Rattle.std.specs.Prelude.{Bool, List, false, true, ℕ, ◌≡◌}
 use Rattle.sw_cell.specs.Parts.{IsNodeFor, IsNodeState}
-use Rattle.sw_model.specs.Packets.{IsDeclaredPacket}
+use Rattle.sw_machine.specs.DeclaredPackets.{IsDeclaredPacket}
 use Rattle.sw_machine.specs.Network.{Network}
 use Rattle.sw_machine.specs.State.{State}
 use Rattle.sw_machine.specs.Steps.{IsPossible, Leads, Step}
-use Rattle.sw_model.specs.Model.{network_of}
+use Rattle.sw_machine.specs.Model.{network_of}
 use Rattle.sw_config.specs.Entries.{Declaration}
 use Rattle.sw_node.specs.Node.{Node}
 use Rattle.sw_link.specs.Between.{Between}

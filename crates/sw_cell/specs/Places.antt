@@ -8,7 +8,7 @@ use Rattle.sw_machine.specs.Network.{AtNode, AtSwitch, Cell, IsDeclared, Network
 use Rattle.sw_machine.specs.Parts.{cell_of}
 use Rattle.sw_machine.specs.State.{State}
 use Rattle.sw_machine.specs.Steps.{Accept, Arrive, Begin, Drop, Emit, Fct, FctIn, Forward, Grant, IsPossible, Reply, Spill, Step}
-use Rattle.sw_model.specs.Model.{network_of}
+use Rattle.sw_machine.specs.Model.{network_of}
 use Rattle.sw_config.specs.Entries.{Declaration}
 
 abbrev pub machine_cell : CellId → Cell

@@ -7,7 +7,7 @@ use Rattle.sw_machine.specs.State.{State}
 use Rattle.sw_machine.specs.Steps.{IsPossible, Leads, Step}
 use Rattle.sw_machine.specs.declared.input.InputState.{InputState}
 use Rattle.sw_machine.specs.declared.input.InputState.TheVariants.{Held, Idle, Spilling}
-use Rattle.sw_model.specs.Model.{network_of}
+use Rattle.sw_machine.specs.Model.{network_of}
 use Rattle.sw_config.specs.Entries.{Declaration, look_at}
 use Rattle.sw_config.specs.Valid.{IsValid}
 use Rattle.sw_route.specs.declared.look.Look.{Look}

@@ -4,9 +4,9 @@ ghost use Rattle.std.specs.Prelude.{◌≡◌, ◌<◌, IfNone, IfOk, IfSome, On
 ghost use Rattle.sw_cell.specs.Makes.{HasNodeState, IsDeclaredAt, NodeDoes, NodeMakes};
 ghost use Rattle.sw_cell.specs.Parts.{IsNodeFor};
 ghost use Rattle.sw_cell.specs.Possible.{BeginTells, NodeEnabled, NodeHas, NodeTells, step_at_node};
-ghost use Rattle.sw_model.specs.Packets.{IsDeclaredPacket};
+ghost use Rattle.sw_machine.specs.DeclaredPackets.{IsDeclaredPacket};
 ghost use Rattle.sw_machine.specs.Steps.{Accept, Arrive, Begin, Emit, Fct, FctIn, Reply};
-ghost use Rattle.sw_model.specs.Model.{network_of};
+ghost use Rattle.sw_machine.specs.Model.{network_of};
 ghost use Rattle.sw_config.specs.Entries.{Declaration};
 ghost use Rattle.sw_node.specs.Conditions.{CanAccept, CanBegin};
 
@@ -14,7 +14,7 @@ use std::alloc::{AllocError, Global};
 use sw_char::End;
 use sw_config::Network;
 use sw_link::Wires;
-use sw_model::in_flow;
+use sw_machine::in_flow;
 use sw_node::NodeCell;
 
 /// The end of the channel that comes to node `n` sends an FCT (ECSS-E-ST-50-12C, data link layer: flow
@@ -119,7 +119,7 @@ pub fn reply(n: u16, node: &mut NodeCell) -> bool
 
 /// The node where the flow starts, if a packet with this cargo is one that the flow declares.
 #[inline(never)]
-#[tactic(auto, unfolding(sw_model::specs::Model::network_of))]
+#[tactic(auto, unfolding(sw_machine::specs::Model::network_of))]
 pub fn begins_at(network: &Network, flow: u16, cargo: &[u8], end: End) -> Option<u16>
     ensures undeclared { IfNone result (¬ IsDeclaredPacket network.now flow cargo.now) }
     ensures declared { IfSome result (λ n. IsDeclaredAt network.now n flow cargo.now) }

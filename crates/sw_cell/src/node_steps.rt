@@ -8,14 +8,14 @@ ghost use Rattle.sw_machine.specs.Network.{AtNode};
 ghost use Rattle.sw_machine.specs.Parts.{cell_of};
 ghost use Rattle.sw_machine.specs.State.{State};
 ghost use Rattle.sw_machine.specs.Steps.{IsPossible};
-ghost use Rattle.sw_model.specs.Model.{network_of};
-ghost use Rattle.sw_model.specs.Steps.{machine_step};
+ghost use Rattle.sw_machine.specs.Model.{network_of};
+ghost use Rattle.sw_machine.specs.StepValues.{machine_step};
 
 use crate::node;
 use std::alloc::{AllocError, Global};
 use sw_config::Network;
 use sw_link::Wires;
-use sw_model::Step;
+use sw_machine::Step;
 use sw_node::NodeCell;
 
 /// Makes the step, which has to be one at node `n`, if it is possible.

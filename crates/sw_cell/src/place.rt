@@ -1,12 +1,12 @@
 //! Where a step is done.
 ghost use Rattle.sw_cell.specs.Places.{IsDoneAt};
-ghost use Rattle.sw_model.specs.Steps.{machine_step};
+ghost use Rattle.sw_machine.specs.StepValues.{machine_step};
 
 use crate::cell::CellId;
 use crate::fault::NetFault;
 use crate::node::begins_at;
 use sw_config::Network;
-use sw_model::Step;
+use sw_machine::Step;
 use sw_topo::PlaceEnd;
 
 /// The cell at which the step is done.
@@ -16,7 +16,7 @@ use sw_topo::PlaceEnd;
 /// `NotInFlow`: the step begins a packet that no flow declares. `NotEnabled`: it begins none such,
 /// and is never possible, since the network has not what it names. `Memory` does not come.
 #[inline(always)]
-#[tactic(auto, unfolding(sw_model::specs::Model::network_of))]
+#[tactic(auto, unfolding(sw_machine::specs::Model::network_of))]
 pub fn cell_of(network: &Network, step: &Step) -> Result<CellId, NetFault>
     ensures { IsDoneAt network.now (machine_step step.now) result }
 {

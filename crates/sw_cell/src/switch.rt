@@ -7,7 +7,7 @@ ghost use Rattle.sw_cell.specs.SwitchParts.{HasSwitchState, IsSwitchFor, SwitchM
 ghost use Rattle.sw_flow.specs.Places.{end_of, ends_of};
 ghost use Rattle.sw_machine.specs.Network.{AtSwitch};
 ghost use Rattle.sw_machine.specs.Steps.{Arrive, Drop, Fct, FctIn, Forward, Grant, Spill};
-ghost use Rattle.sw_model.specs.Model.{network_of};
+ghost use Rattle.sw_machine.specs.Model.{network_of};
 ghost use Rattle.sw_link.specs.Between.{Between};
 
 use sw_arb::Arbiter;

@@ -3,14 +3,14 @@ ghost use Rattle.std.specs.Prelude.{◌≡◌};
 ghost use Rattle.sw_cell.specs.SwitchParts.{HasSwitchState, IsSwitchFor, SwitchMakes};
 ghost use Rattle.sw_machine.specs.Network.{AtSwitch};
 ghost use Rattle.sw_machine.specs.Parts.{cell_of};
-ghost use Rattle.sw_model.specs.Model.{network_of};
-ghost use Rattle.sw_model.specs.Steps.{machine_step};
+ghost use Rattle.sw_machine.specs.Model.{network_of};
+ghost use Rattle.sw_machine.specs.StepValues.{machine_step};
 
 use crate::switch;
 use sw_arb::Arbiter;
 use sw_config::Network;
 use sw_link::Wires;
-use sw_model::Step;
+use sw_machine::Step;
 use sw_route::Routing;
 use sw_switch::SwitchCell;
 

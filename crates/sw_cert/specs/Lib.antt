@@ -4,3 +4,10 @@ pub mod Reading
 pub mod Sound
 pub mod Text
 pub mod Parts
+pub mod Least
+pub mod Contents
+pub mod Refusals
+pub mod Ranks
+pub mod Ends
+pub mod AcceptanceLaws
+pub mod Numbered

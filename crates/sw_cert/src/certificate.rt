@@ -16,7 +16,7 @@ use crate::write::spelled;
 use std::alloc::{AllocError, AllocFailed, Global};
 use std::marker::Model;
 use sw_flow::Place;
-use sw_parallel::OneByOne;
+use sw_graph::OneByOne;
 
 /// Why a certificate is refused.
 #[derive(Debug, Drop)]

@@ -11,7 +11,7 @@ use crate::reading::read_lines;
 use std::alloc::{AllocError, Global};
 use std::thread::Threads;
 use sw_flow::Place;
-use sw_parallel::{OneByOne, SideBySide, Workers, side_by_side};
+use sw_graph::{OneByOne, SideBySide, Workers, side_by_side};
 use sw_topo::limits::MAX_WAYS;
 
 /// Shorter texts are not cut into parts.

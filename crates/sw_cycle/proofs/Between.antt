@@ -14,10 +14,10 @@ use Rattle.sw_flow.proofs.Stepping.{places_are_in}
 use Rattle.sw_machine.specs.Network.{Network}
 use Rattle.sw_machine.specs.Places.{IsDependency, IsPlace, Follows}
 use Rattle.sw_machine.specs.Places.IsDependency.{ByFlow, ByTarget}
-use Rattle.sw_model.specs.Model.{network_of, reply_number}
-use Rattle.sw_model.proofs.Flows.{some_at}
-use Rattle.sw_model.proofs.Steps.{steps_agree}
-use Rattle.sw_model.proofs.Topology.{partner_within}
+use Rattle.sw_machine.specs.Model.{network_of, reply_number}
+use Rattle.sw_machine.proofs.Flows.{some_at}
+use Rattle.sw_machine.proofs.Steps.{steps_agree}
+use Rattle.sw_machine.proofs.Topology.{partner_within}
 use Rattle.sw_cycle.specs.Cycles.{IsTargetCause, round}
 use Rattle.sw_cycle.specs.Causes.{IsRound, NoneGoesOn}
 use Rattle.sw_cycle.proofs.Chosen.{here}

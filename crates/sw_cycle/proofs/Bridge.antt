@@ -24,10 +24,10 @@ use Rattle.sw_flow.proofs.Listed.{Contains-filter_map, Contains-from_filter_map,
 use Rattle.sw_flow.proofs.Stepping.{places_are_in}
 use Rattle.sw_machine.specs.Places.{IsDependency}
 use Rattle.sw_machine.specs.Places.IsDependency.{ByFlow, ByTarget}
-use Rattle.sw_model.specs.Model.{network_of, reply_number}
-use Rattle.sw_model.proofs.Flows.{flow_at, flow_ends, some_at}
-use Rattle.sw_model.proofs.Steps.{steps_agree}
-use Rattle.sw_model.proofs.Topology.{into_ends, out_starts}
+use Rattle.sw_machine.specs.Model.{network_of, reply_number}
+use Rattle.sw_machine.proofs.Flows.{flow_at, flow_ends, some_at}
+use Rattle.sw_machine.proofs.Steps.{steps_agree}
+use Rattle.sw_machine.proofs.Topology.{into_ends, out_starts}
 use Rattle.sw_graph.specs.Rows.{IsGraph, Leads, row}
 use Rattle.sw_graph.proofs.Listed.{row_member, row_read}
 use Rattle.sw_cycle.specs.Named.{AreNamed, IsNamed}

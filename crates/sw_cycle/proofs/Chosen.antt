@@ -10,7 +10,7 @@ use Rattle.sw_cycle.specs.declared.cycle.Cause.{Cause}
 use Rattle.sw_cycle.specs.Cycles.{cause_of, CauseEntry, round}
 use Rattle.sw_cycle.specs.Causes.{AreChosen, AreFor, IsChosenCause}
 use Rattle.sw_cycle.specs.Laws.{ChosenCausesShowCycles, ShownCyclesAreRounds}
-use Rattle.sw_model.proofs.Flows.{some_at}
+use Rattle.sw_machine.proofs.Flows.{some_at}
 use Rattle.sw_cycle.proofs.Shown.{causes_show}
 
 pub chosen_show : ChosenCausesShowCycles

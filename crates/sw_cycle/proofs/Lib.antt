@@ -15,7 +15,7 @@ pub mod Bridge
 pub mod Chunking
 pub mod Sound
 pub mod Replying
-pub use Rattle.sw_model.proofs.Flows
-pub use Rattle.sw_model.proofs.Networks
-pub use Rattle.sw_model.proofs.Steps
-pub use Rattle.sw_model.proofs.Topology
+pub use Rattle.sw_machine.proofs.Flows
+pub use Rattle.sw_machine.proofs.DeclaredNetworks
+pub use Rattle.sw_machine.proofs.Steps
+pub use Rattle.sw_machine.proofs.Topology

@@ -15,9 +15,9 @@ use Rattle.sw_flow.specs.Ways.{GoesFromStart, GoesOver, GoesTo, IsStart}
 use Rattle.sw_machine.specs.Network.{Network}
 use Rattle.sw_machine.specs.Places.{IsChain, IsCycle, IsDependency}
 use Rattle.sw_machine.specs.Places.IsDependency.{ByFlow, ByTarget}
-use Rattle.sw_model.specs.Model.{network_of, reply_number}
-use Rattle.sw_model.proofs.Flows.{flow_at, some_at}
-use Rattle.sw_model.proofs.Steps.{steps_agree}
+use Rattle.sw_machine.specs.Model.{network_of, reply_number}
+use Rattle.sw_machine.proofs.Flows.{flow_at, some_at}
+use Rattle.sw_machine.proofs.Steps.{steps_agree}
 use Rattle.sw_cycle.specs.Cycles as cycles
 use Rattle.sw_cycle.specs.Cycles.{CauseEntry, CycleEntry, IsCause, IsFlowCause, IsShown, IsTargetCause, round}
 use Rattle.sw_cycle.specs.Laws.{CausesShowDependencies, ShownCyclesAreCycles}

@@ -5,7 +5,7 @@ use Rattle.sw_flow.specs.declared.place.Place.{Place}
 use Rattle.sw_flow.specs.Places.{IsPlace}
 use Rattle.sw_flow.specs.Ways.{GoesTo}
 use Rattle.sw_machine.specs.Places.{IsDependency}
-use Rattle.sw_model.specs.Model.{network_of}
+use Rattle.sw_machine.specs.Model.{network_of}
 use Rattle.sw_cycle.specs.Cycles.{CauseEntry, IsCause, round, ByTarget, ByFlow}
 
 -- flow i goes on from its place p, on channel c, to the place q, on channel e

@@ -3,7 +3,7 @@ use Rattle.std.specs.Prelude.{ℕ, ◌<◌, List, length}
 use Rattle.sw_config.specs.Entries.{Declaration}
 use Rattle.sw_config.specs.Valid.{IsValid}
 use Rattle.sw_machine.specs.Places.{IsCycle, IsDependency, IsRising}
-use Rattle.sw_model.specs.Model.{network_of}
+use Rattle.sw_machine.specs.Model.{network_of}
 use Rattle.sw_cycle.specs.Cycles.{CauseEntry, CycleEntry, IsCause, IsShown}
 use Rattle.sw_cycle.specs.Causes.{AreChosen, IsRound}
 

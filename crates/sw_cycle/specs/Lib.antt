@@ -8,7 +8,7 @@ pub mod Named
 pub mod Answering
 pub mod Rows
 pub mod Chunks
-pub use Rattle.sw_model.specs.Model
-pub use Rattle.sw_model.specs.Laws as ModelLaws
+pub use Rattle.sw_machine.specs.Model
+pub use Rattle.sw_machine.specs.ModelLaws as ModelLaws
 pub use Rattle.sw_flow.specs.declared.place.Place
 pub use Rattle.sw_flow.specs.declared.fault.RouteFault

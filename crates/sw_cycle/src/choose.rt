@@ -4,7 +4,7 @@ ghost use Rattle.std.specs.List.{AllZip};
 ghost use Rattle.sw_config.specs.Entries.{all_flows};
 ghost use Rattle.sw_flow.specs.Places.{IsPlaceList};
 ghost use Rattle.sw_machine.specs.Places.{IsDependency};
-ghost use Rattle.sw_model.specs.Model.{network_of};
+ghost use Rattle.sw_machine.specs.Model.{network_of};
 ghost use Rattle.sw_cycle.specs.Cycles.{cause_of};
 ghost use Rattle.sw_cycle.specs.Causes.{AreChosen, IsChosenCause, IsRound, NoneGoesOn};
 ghost use Rattle.sw_cycle.specs.Firsts.{IsFirstStep};

@@ -4,7 +4,7 @@ ghost use Rattle.std.specs.List.{AllZip};
 ghost use Rattle.sw_config.specs.Entries.{all_flows};
 ghost use Rattle.sw_flow.specs.Places.{IsPlaceList, ends_of};
 ghost use Rattle.sw_machine.specs.Places.{IsDependency};
-ghost use Rattle.sw_model.specs.Model.{network_of};
+ghost use Rattle.sw_machine.specs.Model.{network_of};
 ghost use Rattle.sw_graph.specs.Rows.{IsGraph, Leads};
 ghost use Rattle.sw_cycle.specs.Named.{AreNamed, AreRouted};
 ghost use Rattle.sw_cycle.specs.Rows.{AreOnce};

@@ -13,7 +13,7 @@ use std::alloc::{AllocError, Global};
 use std::thread::Threads;
 use sw_config::Network;
 use sw_flow::Place;
-use sw_parallel::{OneByOne, SideBySide, Workers, side_by_side};
+use sw_graph::{OneByOne, SideBySide, Workers, side_by_side};
 use sw_topo::PortSet;
 
 /// The number of the first flow of a chunk, and behind the last chunk the number of flows.

@@ -5,11 +5,11 @@ use Rattle.std.proofs.lemmas.Bool.{leb-true, le-leb, false≢true}
 use Rattle.toml.specs.Data.{Members}
 use Rattle.sw_config.specs.Entries.{NodeEntry, ReplyEntry, FlowEntry, target_of}
 use Rattle.sw_config.specs.Valid.{has_no_leading_zero, IsReply}
-use Rattle.sw_toml_table.specs.declared.keys.Key.TheVariants.{From, To, Address, Left, Reply, Path, Initiator}
-use Rattle.sw_toml_table.specs.declared.keys.Section.TheVariants as section
-use Rattle.sw_toml_table.specs.declared.fault.KeyFault.TheVariants.{OutOfRange}
-use Rattle.sw_toml_table.specs.declared.fault.TextFault.TheVariants as fault
-use Rattle.sw_toml_table.specs.Table.{only_known, number_at, number_or, numbers_or_none}
+use Rattle.sw_text.specs.declared.keys.Key.TheVariants.{From, To, Address, Left, Reply, Path, Initiator}
+use Rattle.sw_text.specs.declared.keys.Section.TheVariants as section
+use Rattle.sw_text.specs.declared.fault.KeyFault.TheVariants.{OutOfRange}
+use Rattle.sw_text.specs.declared.fault.TextFault.TheVariants as fault
+use Rattle.sw_text.specs.Table.{only_known, number_at, number_or, numbers_or_none}
 use Rattle.sw_file.specs.Keys.{flow_keys, reply_keys}
 use Rattle.sw_file.specs.Names.{new_name, place_at}
 use Rattle.sw_file.specs.FlowTables.{node_names, address_at, reply_of, reply_or_none, can_reply, addressed, replies_at, flow_of}

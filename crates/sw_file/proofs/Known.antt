@@ -6,17 +6,17 @@ use Rattle.toml.specs.Data.{Members}
 use Rattle.sw_rmap.specs.declared.config.TargetConfig.{TargetConfig}
 use Rattle.sw_route.specs.declared.look.Route.{Route as RouteEntry}
 use Rattle.sw_config.specs.Entries.{NodeEntry, SwitchEntry, LinkEntry, ReplyEntry, FlowEntry, part_names, flow_names}
-use Rattle.sw_toml_table.specs.declared.keys.Key.{Key}
-use Rattle.sw_toml_table.specs.declared.keys.Key.TheVariants.{Node, Switch, Link, Flow, Target, Route, From, To, Reply}
-use Rattle.sw_toml_table.specs.declared.keys.Section.{Section}
-use Rattle.sw_toml_table.specs.declared.keys.Section.TheVariants as section
-use Rattle.sw_toml_table.specs.declared.keys.Version.{Version}
-use Rattle.sw_toml_table.specs.declared.fault.TextFault.{TextFault}
-use Rattle.sw_toml_table.specs.declared.fault.TextFault.TheVariants as fault
-use Rattle.sw_toml_table.specs.Gives.{walk_from}
-use Rattle.sw_toml_table.specs.Table.{only_known, tables_or_none, table_or_none}
-use Rattle.sw_toml_table.specs.Laws.{HasOnly}
-use Rattle.sw_toml_table.proofs.Unknown.{refuses_least_unknown}
+use Rattle.sw_text.specs.declared.keys.Key.{Key}
+use Rattle.sw_text.specs.declared.keys.Key.TheVariants.{Node, Switch, Link, Flow, Target, Route, From, To, Reply}
+use Rattle.sw_text.specs.declared.keys.Section.{Section}
+use Rattle.sw_text.specs.declared.keys.Section.TheVariants as section
+use Rattle.sw_text.specs.declared.keys.Version.{Version}
+use Rattle.sw_text.specs.declared.fault.TextFault.{TextFault}
+use Rattle.sw_text.specs.declared.fault.TextFault.TheVariants as fault
+use Rattle.sw_text.specs.Gives.{walk_from}
+use Rattle.sw_text.specs.Table.{only_known, tables_or_none, table_or_none}
+use Rattle.sw_text.specs.KeyLaws.{HasOnly}
+use Rattle.sw_text.proofs.Unknown.{refuses_least_unknown}
 use Rattle.sw_file.specs.Keys.{document_keys, node_keys, target_keys, switch_keys, route_keys, link_keys, flow_keys, reply_keys}
 use Rattle.sw_file.specs.Nodes.{config_of, target_or_none, node_of}
 use Rattle.sw_file.specs.Switches.{route_of, next_route, routes_at, arbitration_at, switch_of}

@@ -6,15 +6,15 @@ use Rattle.toml.specs.Data.{Data, Members, get_member}
 use Rattle.sw_topo.specs.declared.place.PlaceEnd.{PlaceEnd}
 use Rattle.sw_topo.specs.declared.place.PlaceEnd.TheVariants as places
 use Rattle.sw_config.specs.Entries.{LinkEntry}
-use Rattle.sw_toml_table.specs.declared.keys.Key.{Key}
-use Rattle.sw_toml_table.specs.declared.keys.Key.TheVariants.{A, APort, B, BPort, Buffer, BufferA, BufferB}
-use Rattle.sw_toml_table.specs.declared.keys.Section.{Section}
-use Rattle.sw_toml_table.specs.declared.keys.Section.TheVariants as section
-use Rattle.sw_toml_table.specs.declared.keys.Version.{Version}
-use Rattle.sw_toml_table.specs.declared.fault.TextFault.TheVariants as fault
-use Rattle.sw_toml_table.specs.Keys.{key_text}
-use Rattle.sw_toml_table.specs.Gives.{◌>>=◌}
-use Rattle.sw_toml_table.specs.Table.{only_known, absent, number_at, number_or}
+use Rattle.sw_text.specs.declared.keys.Key.{Key}
+use Rattle.sw_text.specs.declared.keys.Key.TheVariants.{A, APort, B, BPort, Buffer, BufferA, BufferB}
+use Rattle.sw_text.specs.declared.keys.Section.{Section}
+use Rattle.sw_text.specs.declared.keys.Section.TheVariants as section
+use Rattle.sw_text.specs.declared.keys.Version.{Version}
+use Rattle.sw_text.specs.declared.fault.TextFault.TheVariants as fault
+use Rattle.sw_text.specs.Keys.{key_text}
+use Rattle.sw_text.specs.Gives.{◌>>=◌}
+use Rattle.sw_text.specs.Table.{only_known, absent, number_at, number_or}
 use Rattle.sw_file.specs.Keys.{link_keys}
 use Rattle.sw_file.specs.Names.{place_at}
 use Rattle.sw_file.specs.Links.{end_at, link_of}

@@ -6,15 +6,15 @@ use Rattle.std.specs.Prelude.{IsErrAnd}
 use Rattle.toml.specs.Data.{Members}
 use Rattle.sw_topo.specs.declared.fault.Limit.{Limit}
 use Rattle.sw_topo.specs.declared.fault.TopoFault.TheVariants.{TooMany}
-use Rattle.sw_toml_table.specs.declared.keys.Key.{Key}
-use Rattle.sw_toml_table.specs.declared.keys.Section.{Section}
-use Rattle.sw_toml_table.specs.declared.keys.Section.TheVariants.{Document}
-use Rattle.sw_toml_table.specs.Table.{tables_or_none}
-use Rattle.sw_toml_table.specs.declared.fault.TextFault.{TextFault}
-use Rattle.sw_toml_table.specs.declared.fault.TextFault.TheVariants as fault
-use Rattle.sw_toml_table.specs.declared.fault.FileFault.{FileFault}
-use Rattle.sw_toml_table.specs.Gives.{◌>>=◌, Fails, Gives, walk, each}
-use Rattle.sw_toml_table.proofs.Walks.{walk_fails, walk_done, each_fails}
+use Rattle.sw_text.specs.declared.keys.Key.{Key}
+use Rattle.sw_text.specs.declared.keys.Section.{Section}
+use Rattle.sw_text.specs.declared.keys.Section.TheVariants.{Document}
+use Rattle.sw_text.specs.Table.{tables_or_none}
+use Rattle.sw_text.specs.declared.fault.TextFault.{TextFault}
+use Rattle.sw_text.specs.declared.fault.TextFault.TheVariants as fault
+use Rattle.sw_text.specs.declared.fault.FileFault.{FileFault}
+use Rattle.sw_text.specs.Gives.{◌>>=◌, Fails, Gives, walk, each}
+use Rattle.sw_text.proofs.Walks.{walk_fails, walk_done, each_fails}
 use Rattle.sw_file.specs.Network.{entries}
 use Rattle.sw_file.specs.Lists.{list_key, most_parts}
 

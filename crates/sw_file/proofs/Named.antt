@@ -8,8 +8,8 @@ use Rattle.std.proofs.lemmas.List.Elements.{All-append, All-map, All-weaker}
 use Rattle.toml.specs.Data.{Members}
 use Rattle.sw_config.specs.Entries.{NodeEntry, SwitchEntry, FlowEntry, Declaration}
 use Rattle.sw_config.proofs.FlowLaws.{distinct_names}
-use Rattle.sw_toml_table.specs.declared.keys.Version.{Version}
-use Rattle.sw_toml_table.specs.Names.{is_name_byte, is_name}
+use Rattle.sw_text.specs.declared.keys.Version.{Version}
+use Rattle.sw_text.specs.Names.{is_name_byte, is_name}
 use Rattle.sw_file.specs.Tables.{IsNodeTable, IsSwitchTable, IsFlowTable, IsNetworkTable}
 use Rattle.sw_file.specs.Laws.{HasNames, ReadNamesAreNames}
 use Rattle.sw_file.proofs.Documents.{networks_are_read_exactly}

@@ -7,15 +7,15 @@ use Rattle.toml.specs.Data.{Members}
 use Rattle.sw_rmap.specs.declared.config.TargetConfig.{TargetConfig}
 use Rattle.sw_route.specs.Looks.{look_of}
 use Rattle.sw_config.specs.Entries.{NodeEntry, SwitchEntry, LinkEntry, Declaration, part_names, flow_names}
-use Rattle.sw_toml_table.specs.declared.keys.Key.{Key}
-use Rattle.sw_toml_table.specs.declared.keys.Key.TheVariants.{Target, Slots, BufferA, BufferB}
-use Rattle.sw_toml_table.specs.declared.keys.Section.{Section}
-use Rattle.sw_toml_table.specs.declared.keys.Section.TheVariants as section
-use Rattle.sw_toml_table.specs.declared.keys.Version.TheVariants.{One, Two}
-use Rattle.sw_toml_table.specs.declared.fault.TextFault.{TextFault}
-use Rattle.sw_toml_table.specs.Keys.{key_text}
-use Rattle.sw_toml_table.specs.Gives.{walk_from, each}
-use Rattle.sw_toml_table.specs.Table.{is_known, only_known, table_or_none}
+use Rattle.sw_text.specs.declared.keys.Key.{Key}
+use Rattle.sw_text.specs.declared.keys.Key.TheVariants.{Target, Slots, BufferA, BufferB}
+use Rattle.sw_text.specs.declared.keys.Section.{Section}
+use Rattle.sw_text.specs.declared.keys.Section.TheVariants as section
+use Rattle.sw_text.specs.declared.keys.Version.TheVariants.{One, Two}
+use Rattle.sw_text.specs.declared.fault.TextFault.{TextFault}
+use Rattle.sw_text.specs.Keys.{key_text}
+use Rattle.sw_text.specs.Gives.{walk_from, each}
+use Rattle.sw_text.specs.Table.{is_known, only_known, table_or_none}
 use Rattle.sw_file.specs.Keys.{node_keys, target_keys, link_keys}
 use Rattle.sw_file.specs.Names.{new_name}
 use Rattle.sw_file.specs.Nodes.{config_of, target_or_none, node_of, next_node}

@@ -5,16 +5,16 @@ use Rattle.sw_route.specs.declared.look.Look.{Look}
 use Rattle.sw_route.specs.declared.look.Route.{Route as RouteEntry}
 use Rattle.sw_route.specs.Looks.{look_by, look_of}
 use Rattle.sw_config.specs.Entries.{SwitchEntry}
-use Rattle.sw_toml_table.specs.declared.keys.Key.{Key}
-use Rattle.sw_toml_table.specs.declared.keys.Key.TheVariants.{Name, Arbiter, Route}
-use Rattle.sw_toml_table.specs.declared.keys.Section.{Section}
-use Rattle.sw_toml_table.specs.declared.keys.Section.TheVariants as section
-use Rattle.sw_toml_table.specs.declared.keys.Version.TheVariants.{One, Two}
-use Rattle.sw_toml_table.specs.Keys.{key_text}
-use Rattle.sw_toml_table.specs.Gives.{each, walk}
-use Rattle.sw_toml_table.specs.Table.{only_known, tables_or_none}
-use Rattle.sw_toml_table.specs.Names.{name_at}
-use Rattle.sw_toml_table.specs.Laws.{HasOnly}
+use Rattle.sw_text.specs.declared.keys.Key.{Key}
+use Rattle.sw_text.specs.declared.keys.Key.TheVariants.{Name, Arbiter, Route}
+use Rattle.sw_text.specs.declared.keys.Section.{Section}
+use Rattle.sw_text.specs.declared.keys.Section.TheVariants as section
+use Rattle.sw_text.specs.declared.keys.Version.TheVariants.{One, Two}
+use Rattle.sw_text.specs.Keys.{key_text}
+use Rattle.sw_text.specs.Gives.{each, walk}
+use Rattle.sw_text.specs.Table.{only_known, tables_or_none}
+use Rattle.sw_text.specs.Names.{name_at}
+use Rattle.sw_text.specs.KeyLaws.{HasOnly}
 use Rattle.sw_file.specs.Keys.{switch_keys}
 use Rattle.sw_file.specs.Names.{new_name}
 use Rattle.sw_file.specs.Switches.{arbitration_at, next_route, routes_at, switch_of}

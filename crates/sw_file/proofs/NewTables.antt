@@ -2,13 +2,13 @@
 use Rattle.std.proofs.Common.{◌≡◌, List, [], ◌∷◌, map, Option, Some, None, Ok, refl, ap}
 use Rattle.toml.specs.Data.{Data, table, Members, get_member, as_array, as_table}
 use Rattle.toml.specs.View.{items_of}
-use Rattle.sw_toml_table.specs.declared.keys.Key.{Key}
-use Rattle.sw_toml_table.specs.declared.keys.Section.{Section}
-use Rattle.sw_toml_table.specs.declared.fault.KeyFault.TheVariants.{WrongType}
-use Rattle.sw_toml_table.specs.declared.fault.TextFault.TheVariants as fault
-use Rattle.sw_toml_table.specs.Keys.{key_text}
-use Rattle.sw_toml_table.specs.Gives.{◌>>=◌, ok_or, each}
-use Rattle.sw_toml_table.specs.Table.{item_list, items_value, table_value, tables_value, tables_or_none}
+use Rattle.sw_text.specs.declared.keys.Key.{Key}
+use Rattle.sw_text.specs.declared.keys.Section.{Section}
+use Rattle.sw_text.specs.declared.fault.KeyFault.TheVariants.{WrongType}
+use Rattle.sw_text.specs.declared.fault.TextFault.TheVariants as fault
+use Rattle.sw_text.specs.Keys.{key_text}
+use Rattle.sw_text.specs.Gives.{◌>>=◌, ok_or, each}
+use Rattle.sw_text.specs.Table.{item_list, items_value, table_value, tables_value, tables_or_none}
 use Rattle.sw_file.proofs.Grown.{bind_ok}
 use Rattle.sw_file.specs.Tree.{array_of, with_key, with_tables}
 use Rattle.sw_file.proofs.Values.{there as ok_or_is}

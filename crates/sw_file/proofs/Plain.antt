@@ -9,10 +9,10 @@ use Rattle.std.proofs.lemmas.Cmp.{nat_list_cmp_total, tied_itself}
 use Rattle.std.proofs.lemmas.Slice.Eq.{bytes_eq-Decides}
 use Rattle.toml.specs.Data.{Data, array, table, Items, no_items, item, Members, no_members, member, is_before, get_member, depth, items_depth, members_depth, has_valid_dates, items_have_valid_dates, members_have_valid_dates, is_sorted, members_are_sorted}
 use Rattle.toml.specs.View.{items_of}
-use Rattle.sw_toml_table.specs.declared.keys.Key.{Key}
-use Rattle.sw_toml_table.specs.Keys.{key_text}
-use Rattle.sw_toml_table.specs.Table.{is_known}
-use Rattle.sw_toml_table.specs.Laws.{HasOnly}
+use Rattle.sw_text.specs.declared.keys.Key.{Key}
+use Rattle.sw_text.specs.Keys.{key_text}
+use Rattle.sw_text.specs.Table.{is_known}
+use Rattle.sw_text.specs.KeyLaws.{HasOnly}
 use Rattle.sw_file.specs.Tree.{put}
 use Rattle.sw_file.proofs.PutMembers.{equal_names}
 

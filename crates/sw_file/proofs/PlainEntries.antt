@@ -8,15 +8,15 @@ use Rattle.sw_rmap.specs.declared.config.TargetConfig.{TargetConfig}
 use Rattle.sw_route.specs.declared.look.Route.{Route as RouteEntry}
 use Rattle.sw_arb.specs.declared.arbitration.Arbitration.{Arbitration}
 use Rattle.sw_config.specs.Entries.{NodeEntry, SwitchEntry, LinkEntry, ReplyEntry, FlowEntry}
-use Rattle.sw_toml_table.specs.declared.keys.Key.{Key}
-use Rattle.sw_toml_table.specs.declared.keys.Key.TheVariants.{Name, Target, Logical, TargetKey, Start, Size, Arbiter, Route, Address, Last, Ports, Delete, A, APort, B, BPort, Buffer, From, To, Left, Reply, Path, Initiator}
-use Rattle.sw_toml_table.specs.declared.keys.Section.{Section}
-use Rattle.sw_toml_table.specs.declared.keys.Section.TheVariants as section
-use Rattle.sw_toml_table.specs.declared.keys.Version.TheVariants.{One}
-use Rattle.sw_toml_table.specs.Keys.{key_text}
-use Rattle.sw_toml_table.specs.Gives.{walk_from}
-use Rattle.sw_toml_table.specs.Table.{only_known, absent, text_at, text_or_none, number_at, number_or, numbers_at, numbers_or_none, tables_or_none, table_or_none, flag_or_false}
-use Rattle.sw_toml_table.specs.Names.{name_at}
+use Rattle.sw_text.specs.declared.keys.Key.{Key}
+use Rattle.sw_text.specs.declared.keys.Key.TheVariants.{Name, Target, Logical, TargetKey, Start, Size, Arbiter, Route, Address, Last, Ports, Delete, A, APort, B, BPort, Buffer, From, To, Left, Reply, Path, Initiator}
+use Rattle.sw_text.specs.declared.keys.Section.{Section}
+use Rattle.sw_text.specs.declared.keys.Section.TheVariants as section
+use Rattle.sw_text.specs.declared.keys.Version.TheVariants.{One}
+use Rattle.sw_text.specs.Keys.{key_text}
+use Rattle.sw_text.specs.Gives.{walk_from}
+use Rattle.sw_text.specs.Table.{only_known, absent, text_at, text_or_none, number_at, number_or, numbers_at, numbers_or_none, tables_or_none, table_or_none, flag_or_false}
+use Rattle.sw_text.specs.Names.{name_at}
 use Rattle.sw_file.specs.Keys.{node_keys, target_keys, switch_keys, route_keys, link_keys, flow_keys, reply_keys}
 use Rattle.sw_file.specs.Names.{new_name, place_at}
 use Rattle.sw_file.specs.Nodes.{size_at, config_of, target_or_none, node_of}

@@ -3,13 +3,13 @@ use Rattle.std.proofs.Common.{◌≡◌, ℕ, suc, Bool, true, ℤ, List, [], �
 use Rattle.std.specs.List.{AllByRecursion}
 use Rattle.std.proofs.lemmas.Bool.{and_parts}
 use Rattle.toml.specs.Data.{Data, string, integer, float, boolean, datetime, array, table, Items, no_items, item, Members, get_member, as_str, as_integer, as_bool, as_array, as_table, is_sorted, items_are_sorted, members_are_sorted}
-use Rattle.sw_toml_table.specs.declared.keys.Key.{Key}
-use Rattle.sw_toml_table.specs.declared.keys.Section.{Section}
-use Rattle.sw_toml_table.specs.declared.fault.KeyFault.TheVariants.{MissingKey, WrongType, OutOfRange}
-use Rattle.sw_toml_table.specs.declared.fault.TextFault.TheVariants as fault
-use Rattle.sw_toml_table.specs.Keys.{key_text}
-use Rattle.sw_toml_table.specs.Gives.{◌>>=◌, ok_or, each}
-use Rattle.sw_toml_table.specs.Table.{required, text_value, in_range, number_value, item_list, items_value, table_value, numbers_value, text_at, text_or_none, number_at, number_or, numbers_at, numbers_or_none, tables_or_none, table_or_none, flag_or_false, absent}
+use Rattle.sw_text.specs.declared.keys.Key.{Key}
+use Rattle.sw_text.specs.declared.keys.Section.{Section}
+use Rattle.sw_text.specs.declared.fault.KeyFault.TheVariants.{MissingKey, WrongType, OutOfRange}
+use Rattle.sw_text.specs.declared.fault.TextFault.TheVariants as fault
+use Rattle.sw_text.specs.Keys.{key_text}
+use Rattle.sw_text.specs.Gives.{◌>>=◌, ok_or, each}
+use Rattle.sw_text.specs.Table.{required, text_value, in_range, number_value, item_list, items_value, table_value, numbers_value, text_at, text_or_none, number_at, number_or, numbers_at, numbers_or_none, tables_or_none, table_or_none, flag_or_false, absent}
 use Rattle.sw_file.proofs.Grown.{bind_ok}
 use Rattle.sw_file.proofs.Values.{there as ok_or_is}
 use Rattle.sw_file.proofs.Plain.{Plain, PlainItems, PlainMembers, Holds, one_item, no_item, plain_more, plain_table, plain_array, member_sorted, member_plain, item_parts, array_plain, inner_plain}

@@ -9,17 +9,17 @@ use Rattle.sw_topo.specs.declared.limits.TheConstants.{MAX_NODES, MAX_SWITCHES, 
 use Rattle.sw_topo.specs.declared.fault.Limit.TheVariants.{Nodes, Switches, Links}
 use Rattle.sw_topo.specs.declared.fault.TopoFault.TheVariants.{TooMany}
 use Rattle.sw_config.specs.Entries.{Declaration, part_names, flow_names, empty}
-use Rattle.sw_toml_table.specs.declared.keys.Key.{Key}
-use Rattle.sw_toml_table.specs.declared.keys.Key.TheVariants.{Version as VersionKey, Node, Switch, Link, Flow, Last, Route, Address, Ports, Delete}
-use Rattle.sw_toml_table.specs.declared.keys.Section.TheVariants.{Document}
-use Rattle.sw_toml_table.specs.declared.keys.Version.{Version}
-use Rattle.sw_toml_table.specs.declared.keys.Version.TheVariants.{One}
-use Rattle.sw_toml_table.specs.declared.fault.KeyFault.TheVariants.{OutOfRange}
-use Rattle.sw_toml_table.specs.declared.fault.TextFault.{TextFault}
-use Rattle.sw_toml_table.specs.declared.fault.TextFault.TheVariants as fault
-use Rattle.sw_toml_table.specs.Keys.{key_text}
-use Rattle.sw_toml_table.specs.Gives.{◌>>=◌, walk_from, walk, each}
-use Rattle.sw_toml_table.specs.Table.{only_known, number_at, numbers_at, tables_or_none, flag_or_false}
+use Rattle.sw_text.specs.declared.keys.Key.{Key}
+use Rattle.sw_text.specs.declared.keys.Key.TheVariants.{Version as VersionKey, Node, Switch, Link, Flow, Last, Route, Address, Ports, Delete}
+use Rattle.sw_text.specs.declared.keys.Section.TheVariants.{Document}
+use Rattle.sw_text.specs.declared.keys.Version.{Version}
+use Rattle.sw_text.specs.declared.keys.Version.TheVariants.{One}
+use Rattle.sw_text.specs.declared.fault.KeyFault.TheVariants.{OutOfRange}
+use Rattle.sw_text.specs.declared.fault.TextFault.{TextFault}
+use Rattle.sw_text.specs.declared.fault.TextFault.TheVariants as fault
+use Rattle.sw_text.specs.Keys.{key_text}
+use Rattle.sw_text.specs.Gives.{◌>>=◌, walk_from, walk, each}
+use Rattle.sw_text.specs.Table.{only_known, number_at, numbers_at, tables_or_none, flag_or_false}
 use Rattle.sw_file.specs.Keys.{document_keys}
 use Rattle.sw_file.specs.Nodes.{node_of, next_node}
 use Rattle.sw_file.specs.Switches.{switch_of, next_switch}

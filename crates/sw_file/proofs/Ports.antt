@@ -6,9 +6,9 @@ use Rattle.std.proofs.lemmas.Bool.{le-leb}
 use Rattle.toml.specs.Data.{Members}
 use Rattle.sw_topo.specs.Ports.{port_set}
 use Rattle.sw_topo.proofs.PortBits.{port_set_push}
-use Rattle.sw_toml_table.specs.declared.keys.Section.{Section}
-use Rattle.sw_toml_table.specs.declared.keys.Key.TheVariants.{Ports}
-use Rattle.sw_toml_table.specs.Table.{numbers_at}
+use Rattle.sw_text.specs.declared.keys.Section.{Section}
+use Rattle.sw_text.specs.declared.keys.Key.TheVariants.{Ports}
+use Rattle.sw_text.specs.Table.{numbers_at}
 use Rattle.sw_file.specs.Switches.{ports_at}
 
 pub port_more : (items : List ℕ) (i p set new : ℕ) (made : Option ℕ) → i < length items → made ≡ Some p → IfSome made (λ q. q ≡ get_or items i 0) → set ≡ port_set (take i items) → new ≡ bit_or set (2 ^ p) → new ≡ port_set (take (i + 1) items)

@@ -7,18 +7,18 @@ use Rattle.toml.specs.Data.{Data, integer, Members, get_member, as_integer, as_b
 use Rattle.sw_topo.specs.Ports.{port_set}
 use Rattle.sw_route.specs.declared.look.Route.{Route as RouteEntry}
 use Rattle.sw_route.specs.Looks.{entry}
-use Rattle.sw_toml_table.specs.declared.keys.Key.{Key}
-use Rattle.sw_toml_table.specs.declared.keys.Key.TheVariants.{Address, Last, Ports, Delete}
-use Rattle.sw_toml_table.specs.declared.keys.Section.{Section}
-use Rattle.sw_toml_table.specs.declared.keys.Section.TheVariants.{Document}
-use Rattle.sw_toml_table.specs.declared.keys.Version.TheVariants.{One, Two}
-use Rattle.sw_toml_table.specs.declared.fault.KeyFault.TheVariants.{MissingKey, WrongType, OutOfRange}
-use Rattle.sw_toml_table.specs.declared.fault.TextFault.{TextFault}
-use Rattle.sw_toml_table.specs.declared.fault.TextFault.TheVariants as fault
-use Rattle.sw_toml_table.specs.Keys.{key_text}
-use Rattle.sw_toml_table.specs.Gives.{◌>>=◌, ok_or, each}
-use Rattle.sw_toml_table.specs.Table.{is_known, only_known, required, in_range, item_list, number_value, items_value, numbers_value, number_at, number_or, numbers_at, flag_or_false}
-use Rattle.sw_toml_table.specs.Laws.{HasOnly}
+use Rattle.sw_text.specs.declared.keys.Key.{Key}
+use Rattle.sw_text.specs.declared.keys.Key.TheVariants.{Address, Last, Ports, Delete}
+use Rattle.sw_text.specs.declared.keys.Section.{Section}
+use Rattle.sw_text.specs.declared.keys.Section.TheVariants.{Document}
+use Rattle.sw_text.specs.declared.keys.Version.TheVariants.{One, Two}
+use Rattle.sw_text.specs.declared.fault.KeyFault.TheVariants.{MissingKey, WrongType, OutOfRange}
+use Rattle.sw_text.specs.declared.fault.TextFault.{TextFault}
+use Rattle.sw_text.specs.declared.fault.TextFault.TheVariants as fault
+use Rattle.sw_text.specs.Keys.{key_text}
+use Rattle.sw_text.specs.Gives.{◌>>=◌, ok_or, each}
+use Rattle.sw_text.specs.Table.{is_known, only_known, required, in_range, item_list, number_value, items_value, numbers_value, number_at, number_or, numbers_at, flag_or_false}
+use Rattle.sw_text.specs.KeyLaws.{HasOnly}
 use Rattle.sw_file.specs.Keys.{route_keys}
 use Rattle.sw_file.specs.Switches.{ports_at, route_of}
 use Rattle.sw_file.proofs.Grown.{bind_ok}

@@ -6,10 +6,10 @@ use Rattle.std.proofs.lemmas.Bool.{cases_Bool, or_parts, or_from}
 use Rattle.toml.specs.Data.{Members}
 use Rattle.sw_route.specs.declared.look.Route.{Route as RouteEntry}
 use Rattle.sw_route.specs.Looks.{overlaps}
-use Rattle.sw_toml_table.specs.declared.keys.Section.TheVariants as section
-use Rattle.sw_toml_table.specs.declared.keys.Version.TheVariants.{One, Two}
-use Rattle.sw_toml_table.specs.declared.fault.TextFault.TheVariants as fault
-use Rattle.sw_toml_table.specs.Gives.{each, walk_from}
+use Rattle.sw_text.specs.declared.keys.Section.TheVariants as section
+use Rattle.sw_text.specs.declared.keys.Version.TheVariants.{One, Two}
+use Rattle.sw_text.specs.declared.fault.TextFault.TheVariants as fault
+use Rattle.sw_text.specs.Gives.{each, walk_from}
 use Rattle.sw_file.specs.Switches.{route_of, next_route}
 use Rattle.sw_file.proofs.Grown.{bind_ok}
 use Rattle.sw_file.specs.Rows.{Entry, Row, goes_on, after, rows}

@@ -12,16 +12,16 @@ use Rattle.sw_route.specs.Looks.{overlaps}
 use Rattle.sw_arb.specs.declared.arbitration.Arbitration.{Arbitration}
 use Rattle.sw_arb.specs.declared.arbitration.Arbitration.TheVariants.{RoundRobin}
 use Rattle.sw_config.specs.Entries.{SwitchEntry}
-use Rattle.sw_toml_table.specs.declared.keys.Key.TheVariants.{Arbiter, Route, Address, Last, Ports, Delete}
-use Rattle.sw_toml_table.specs.declared.keys.Section.{Section}
-use Rattle.sw_toml_table.specs.declared.keys.Section.TheVariants as section
-use Rattle.sw_toml_table.specs.declared.keys.Version.{Version}
-use Rattle.sw_toml_table.specs.declared.fault.KeyFault.TheVariants.{WrongType, OutOfRange}
-use Rattle.sw_toml_table.specs.declared.fault.TextFault.{TextFault}
-use Rattle.sw_toml_table.specs.declared.fault.TextFault.TheVariants as fault
-use Rattle.sw_toml_table.specs.Keys.{key_text}
-use Rattle.sw_toml_table.specs.Gives.{◌>>=◌, ok_or, walk}
-use Rattle.sw_toml_table.specs.Table.{only_known, number_at, number_or, numbers_at, tables_or_none, flag_or_false}
+use Rattle.sw_text.specs.declared.keys.Key.TheVariants.{Arbiter, Route, Address, Last, Ports, Delete}
+use Rattle.sw_text.specs.declared.keys.Section.{Section}
+use Rattle.sw_text.specs.declared.keys.Section.TheVariants as section
+use Rattle.sw_text.specs.declared.keys.Version.{Version}
+use Rattle.sw_text.specs.declared.fault.KeyFault.TheVariants.{WrongType, OutOfRange}
+use Rattle.sw_text.specs.declared.fault.TextFault.{TextFault}
+use Rattle.sw_text.specs.declared.fault.TextFault.TheVariants as fault
+use Rattle.sw_text.specs.Keys.{key_text}
+use Rattle.sw_text.specs.Gives.{◌>>=◌, ok_or, walk}
+use Rattle.sw_text.specs.Table.{only_known, number_at, number_or, numbers_at, tables_or_none, flag_or_false}
 use Rattle.sw_file.specs.Keys.{switch_keys, route_keys}
 use Rattle.sw_file.specs.Names.{new_name}
 use Rattle.sw_file.specs.Switches.{arbitration_named, arbitration_at, ports_at, route_of, next_route, routes_at, switch_of}

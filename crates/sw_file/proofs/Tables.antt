@@ -10,18 +10,18 @@ use Rattle.std.proofs.lemmas.Slice.Eq.{bytes_eq-Decides}
 use Rattle.toml.specs.Data.{Members}
 use Rattle.sw_rmap.specs.declared.config.TargetConfig.{TargetConfig}
 use Rattle.sw_config.specs.Entries.{NodeEntry}
-use Rattle.sw_toml_table.specs.declared.keys.Key.{Key}
-use Rattle.sw_toml_table.specs.declared.keys.Key.TheVariants.{Name, Target, Logical, TargetKey, Start, Size, Slots}
-use Rattle.sw_toml_table.specs.declared.keys.Section.{Section}
-use Rattle.sw_toml_table.specs.declared.keys.Section.TheVariants as section
-use Rattle.sw_toml_table.specs.declared.keys.Version.{Version}
-use Rattle.sw_toml_table.specs.declared.fault.KeyFault.TheVariants.{OutOfRange, UnknownName, DuplicateName}
-use Rattle.sw_toml_table.specs.declared.fault.TextFault.TheVariants as fault
-use Rattle.sw_toml_table.specs.Gives.{ok_or}
-use Rattle.sw_toml_table.specs.Names.{is_name, name_at}
-use Rattle.sw_toml_table.specs.Table.{only_known, text_at, number_at, number_or, absent}
-use Rattle.sw_toml_table.specs.Laws.{HasOnly}
-use Rattle.sw_toml_table.proofs.Unknown.{refuses_least_unknown}
+use Rattle.sw_text.specs.declared.keys.Key.{Key}
+use Rattle.sw_text.specs.declared.keys.Key.TheVariants.{Name, Target, Logical, TargetKey, Start, Size, Slots}
+use Rattle.sw_text.specs.declared.keys.Section.{Section}
+use Rattle.sw_text.specs.declared.keys.Section.TheVariants as section
+use Rattle.sw_text.specs.declared.keys.Version.{Version}
+use Rattle.sw_text.specs.declared.fault.KeyFault.TheVariants.{OutOfRange, UnknownName, DuplicateName}
+use Rattle.sw_text.specs.declared.fault.TextFault.TheVariants as fault
+use Rattle.sw_text.specs.Gives.{ok_or}
+use Rattle.sw_text.specs.Names.{is_name, name_at}
+use Rattle.sw_text.specs.Table.{only_known, text_at, number_at, number_or, absent}
+use Rattle.sw_text.specs.KeyLaws.{HasOnly}
+use Rattle.sw_text.proofs.Unknown.{refuses_least_unknown}
 use Rattle.sw_file.specs.Keys.{node_keys, target_keys}
 use Rattle.sw_file.specs.Names.{new_name, place_at}
 use Rattle.sw_file.specs.Nodes.{size_at, config_of, target_or_none, node_of}

@@ -17,10 +17,10 @@ use Rattle.sw_rmap.specs.Config.{IsTargetConfig}
 use Rattle.sw_config.specs.Entries.{NodeEntry, SwitchEntry, LinkEntry, FlowEntry, Declaration, part_names, link_ends}
 use Rattle.sw_config.specs.Valid.{IsNode, IsSwitch, IsLink, IsFlow, IsValid}
 use Rattle.sw_config.proofs.Steps.{length-link_ends}
-use Rattle.sw_toml_table.specs.declared.keys.Key.{Key}
-use Rattle.sw_toml_table.specs.declared.keys.Key.TheVariants.{Target, A, APort, B, BPort}
-use Rattle.sw_toml_table.specs.declared.keys.Version.{Version}
-use Rattle.sw_toml_table.specs.Table.{item_list}
+use Rattle.sw_text.specs.declared.keys.Key.{Key}
+use Rattle.sw_text.specs.declared.keys.Key.TheVariants.{Target, A, APort, B, BPort}
+use Rattle.sw_text.specs.declared.keys.Version.{Version}
+use Rattle.sw_text.specs.Table.{item_list}
 use Rattle.sw_file.specs.Values.{IsNumber, IsTableOf, HasOr, HasIfAny, HasTables}
 use Rattle.sw_file.specs.Tables.{Refers, IsTargetTable, IsNodeTable, IsRouteTable, IsSwitchTable, HasEnd, IsLinkTable, IsFlowTable, IsNetworkTable}
 use Rattle.sw_file.specs.FlowTables.{node_names}

@@ -5,14 +5,14 @@ use Rattle.std.specs.List.{AllZip}
 use Rattle.std.proofs.lemmas.Bool.{and_parts, leb-true, le-leb}
 use Rattle.std.proofs.lemmas.Option.{cond_some}
 use Rattle.toml.specs.Data.{Data, Members, get_member, as_str, as_integer, as_bool, as_array, as_table}
-use Rattle.sw_toml_table.specs.declared.keys.Key.{Key}
-use Rattle.sw_toml_table.specs.declared.keys.Section.{Section}
-use Rattle.sw_toml_table.specs.declared.fault.KeyFault.TheVariants.{MissingKey, WrongType, OutOfRange}
-use Rattle.sw_toml_table.specs.declared.fault.TextFault.{TextFault}
-use Rattle.sw_toml_table.specs.declared.fault.TextFault.TheVariants as fault
-use Rattle.sw_toml_table.specs.Keys.{key_text}
-use Rattle.sw_toml_table.specs.Gives.{◌>>=◌, ok_or, each}
-use Rattle.sw_toml_table.specs.Table.{required, text_value, in_range, number_value, item_list, items_value, table_value, numbers_value, text_at, number_at, number_or, numbers_at, numbers_or_none, tables_or_none, table_or_none, flag_or_false}
+use Rattle.sw_text.specs.declared.keys.Key.{Key}
+use Rattle.sw_text.specs.declared.keys.Section.{Section}
+use Rattle.sw_text.specs.declared.fault.KeyFault.TheVariants.{MissingKey, WrongType, OutOfRange}
+use Rattle.sw_text.specs.declared.fault.TextFault.{TextFault}
+use Rattle.sw_text.specs.declared.fault.TextFault.TheVariants as fault
+use Rattle.sw_text.specs.Keys.{key_text}
+use Rattle.sw_text.specs.Gives.{◌>>=◌, ok_or, each}
+use Rattle.sw_text.specs.Table.{required, text_value, in_range, number_value, item_list, items_value, table_value, numbers_value, text_at, number_at, number_or, numbers_at, numbers_or_none, tables_or_none, table_or_none, flag_or_false}
 use Rattle.sw_file.specs.Values.{IsText, IsFlag, IsNumber, IsListOf, IsTableOf, Lacks, Has, HasOr, HasIfAny, HasTables}
 use Rattle.sw_file.proofs.Grown.{bind_ok}
 

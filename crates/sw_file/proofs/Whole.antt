@@ -10,14 +10,14 @@ use Rattle.sw_route.specs.declared.look.Route.{Route as RouteEntry}
 use Rattle.sw_arb.specs.declared.arbitration.Arbitration.{Arbitration}
 use Rattle.sw_rmap.specs.declared.config.TargetConfig.{TargetConfig}
 use Rattle.sw_config.specs.Entries.{Declaration, NodeEntry, SwitchEntry, part_names}
-use Rattle.sw_toml_table.specs.declared.keys.Key.{Key}
-use Rattle.sw_toml_table.specs.declared.keys.Key.TheVariants.{Logical, TargetKey, Start, Size, Slots, Address, Last, Delete, A, APort, B, BPort, Buffer, BufferA, BufferB}
-use Rattle.sw_toml_table.specs.declared.keys.Section.{Section}
-use Rattle.sw_toml_table.specs.declared.keys.Section.TheVariants as section
-use Rattle.sw_toml_table.specs.declared.keys.Version.{Version}
-use Rattle.sw_toml_table.specs.declared.fault.KeyFault.TheVariants.{OutOfRange}
-use Rattle.sw_toml_table.specs.declared.fault.TextFault.TheVariants as fault
-use Rattle.sw_toml_table.specs.Table.{only_known, absent, text_at, number_at, number_or, flag_or_false}
+use Rattle.sw_text.specs.declared.keys.Key.{Key}
+use Rattle.sw_text.specs.declared.keys.Key.TheVariants.{Logical, TargetKey, Start, Size, Slots, Address, Last, Delete, A, APort, B, BPort, Buffer, BufferA, BufferB}
+use Rattle.sw_text.specs.declared.keys.Section.{Section}
+use Rattle.sw_text.specs.declared.keys.Section.TheVariants as section
+use Rattle.sw_text.specs.declared.keys.Version.{Version}
+use Rattle.sw_text.specs.declared.fault.KeyFault.TheVariants.{OutOfRange}
+use Rattle.sw_text.specs.declared.fault.TextFault.TheVariants as fault
+use Rattle.sw_text.specs.Table.{only_known, absent, text_at, number_at, number_or, flag_or_false}
 use Rattle.sw_file.specs.Keys.{node_keys, target_keys, switch_keys, route_keys, link_keys}
 use Rattle.sw_file.specs.Names.{new_name, place_at}
 use Rattle.sw_file.specs.Nodes.{size_at, config_of, target_or_none, node_of, next_node}

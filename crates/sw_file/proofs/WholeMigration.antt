@@ -3,12 +3,12 @@ use Rattle.std.proofs.Common.{◌≡◌, ℕ, ◌≤◌, false, true, List, Resu
 use Rattle.toml.specs.Data.{Members, members_depth, members_have_valid_dates, members_are_sorted}
 use Rattle.toml.specs.Text.{IsDocumentText}
 use Rattle.sw_config.specs.Entries.{Declaration}
-use Rattle.sw_toml_table.specs.declared.keys.Version.TheVariants.{One, Two}
-use Rattle.sw_toml_table.specs.declared.fault.TextFault.{TextFault}
-use Rattle.sw_toml_table.specs.declared.fault.FileFault.{FileFault}
-use Rattle.sw_toml_table.specs.declared.fault.FileFault.TheVariants as file
-use Rattle.sw_toml_table.specs.Gives.{Fails}
-use Rattle.sw_toml_table.specs.Document.{document_of}
+use Rattle.sw_text.specs.declared.keys.Version.TheVariants.{One, Two}
+use Rattle.sw_text.specs.declared.fault.TextFault.{TextFault}
+use Rattle.sw_text.specs.declared.fault.FileFault.{FileFault}
+use Rattle.sw_text.specs.declared.fault.FileFault.TheVariants as file
+use Rattle.sw_text.specs.Gives.{Fails}
+use Rattle.sw_text.specs.Document.{document_of}
 use Rattle.sw_file.specs.Network.{version_of, network_of}
 use Rattle.sw_file.specs.Tree.{migrated}
 use Rattle.sw_file.specs.Migration.{IsSameNetwork, DeclaresAs, IsMigration, Refuses}

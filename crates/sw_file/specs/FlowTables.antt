@@ -3,13 +3,13 @@ use Rattle.std.specs.Prelude.{ℕ, Bool, true, ◌&&◌, nat_le, List, [], ◌�
 use Rattle.toml.specs.Data.{Members}
 use Rattle.sw_config.specs.Entries.{NodeEntry, ReplyEntry, FlowEntry, Declaration, flow_names, target_of}
 use Rattle.sw_config.specs.Valid.{has_no_leading_zero}
-use Rattle.sw_toml_table.specs.declared.keys.Key.TheVariants.{From, To, Address, Left, Reply, Path, Initiator}
-use Rattle.sw_toml_table.specs.declared.keys.Section.TheVariants as section
-use Rattle.sw_toml_table.specs.declared.fault.KeyFault.TheVariants.{OutOfRange}
-use Rattle.sw_toml_table.specs.declared.fault.TextFault.{TextFault}
-use Rattle.sw_toml_table.specs.declared.fault.TextFault.TheVariants as fault
-use Rattle.sw_toml_table.specs.Gives.{◌>>=◌}
-use Rattle.sw_toml_table.specs.Table.{only_known, number_at, number_or, numbers_or_none, table_or_none}
+use Rattle.sw_text.specs.declared.keys.Key.TheVariants.{From, To, Address, Left, Reply, Path, Initiator}
+use Rattle.sw_text.specs.declared.keys.Section.TheVariants as section
+use Rattle.sw_text.specs.declared.fault.KeyFault.TheVariants.{OutOfRange}
+use Rattle.sw_text.specs.declared.fault.TextFault.{TextFault}
+use Rattle.sw_text.specs.declared.fault.TextFault.TheVariants as fault
+use Rattle.sw_text.specs.Gives.{◌>>=◌}
+use Rattle.sw_text.specs.Table.{only_known, number_at, number_or, numbers_or_none, table_or_none}
 use Rattle.sw_file.specs.Keys.{flow_keys, reply_keys}
 use Rattle.sw_file.specs.Names.{new_name, place_at}
 

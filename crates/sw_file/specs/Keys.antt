@@ -1,9 +1,9 @@
 -- Which keys the tables of a network file may have, by the file's version (this project's choice).
 use Rattle.std.specs.Prelude.{List, [], ◌∷◌}
-use Rattle.sw_toml_table.specs.declared.keys.Key.{Key}
-use Rattle.sw_toml_table.specs.declared.keys.Key.TheVariants.{Version as VersionKey, Node, Switch, Link, Flow, Name, Target, Logical, TargetKey, Start, Size, Slots, Arbiter, Route, Address, Last, Ports, Delete, A, APort, B, BPort, Buffer, BufferA, BufferB, From, To, Left, Reply, Path, Initiator}
-use Rattle.sw_toml_table.specs.declared.keys.Version.{Version}
-use Rattle.sw_toml_table.specs.declared.keys.Version.TheVariants.{One, Two}
+use Rattle.sw_text.specs.declared.keys.Key.{Key}
+use Rattle.sw_text.specs.declared.keys.Key.TheVariants.{Version as VersionKey, Node, Switch, Link, Flow, Name, Target, Logical, TargetKey, Start, Size, Slots, Arbiter, Route, Address, Last, Ports, Delete, A, APort, B, BPort, Buffer, BufferA, BufferB, From, To, Left, Reply, Path, Initiator}
+use Rattle.sw_text.specs.declared.keys.Version.{Version}
+use Rattle.sw_text.specs.declared.keys.Version.TheVariants.{One, Two}
 
 abbrev pub document_keys : List Key
 document_keys = VersionKey ∷ Node ∷ Switch ∷ Link ∷ Flow ∷ []

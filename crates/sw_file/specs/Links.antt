@@ -4,14 +4,14 @@ use Rattle.toml.specs.Data.{Members}
 use Rattle.sw_topo.specs.declared.place.PlaceEnd.{PlaceEnd}
 use Rattle.sw_topo.specs.declared.place.PlaceEnd.TheVariants.{Node, Switch}
 use Rattle.sw_config.specs.Entries.{LinkEntry, Declaration, part_names}
-use Rattle.sw_toml_table.specs.declared.keys.Key.{Key}
-use Rattle.sw_toml_table.specs.declared.keys.Key.TheVariants.{A, APort, B, BPort, Buffer, BufferA, BufferB}
-use Rattle.sw_toml_table.specs.declared.keys.Section.{Section}
-use Rattle.sw_toml_table.specs.declared.keys.Section.TheVariants as section
-use Rattle.sw_toml_table.specs.declared.keys.Version.{Version}
-use Rattle.sw_toml_table.specs.declared.fault.TextFault.{TextFault}
-use Rattle.sw_toml_table.specs.Gives.{◌>>=◌}
-use Rattle.sw_toml_table.specs.Table.{only_known, absent, number_at, number_or}
+use Rattle.sw_text.specs.declared.keys.Key.{Key}
+use Rattle.sw_text.specs.declared.keys.Key.TheVariants.{A, APort, B, BPort, Buffer, BufferA, BufferB}
+use Rattle.sw_text.specs.declared.keys.Section.{Section}
+use Rattle.sw_text.specs.declared.keys.Section.TheVariants as section
+use Rattle.sw_text.specs.declared.keys.Version.{Version}
+use Rattle.sw_text.specs.declared.fault.TextFault.{TextFault}
+use Rattle.sw_text.specs.Gives.{◌>>=◌}
+use Rattle.sw_text.specs.Table.{only_known, absent, number_at, number_or}
 use Rattle.sw_file.specs.Keys.{link_keys}
 use Rattle.sw_file.specs.Names.{place_at}
 

@@ -3,15 +3,15 @@ use Rattle.std.specs.Prelude.{ℕ, List, position, Result, Ok, Err, if◌then◌
 use Rattle.std.specs.List.{list_any}
 use Rattle.std.specs.Str.{bytes_eq}
 use Rattle.toml.specs.Data.{Members}
-use Rattle.sw_toml_table.specs.declared.keys.Key.{Key}
-use Rattle.sw_toml_table.specs.declared.keys.Key.TheVariants.{Name}
-use Rattle.sw_toml_table.specs.declared.keys.Section.{Section}
-use Rattle.sw_toml_table.specs.declared.fault.KeyFault.TheVariants.{DuplicateName, UnknownName}
-use Rattle.sw_toml_table.specs.declared.fault.TextFault.{TextFault}
-use Rattle.sw_toml_table.specs.declared.fault.TextFault.TheVariants as fault
-use Rattle.sw_toml_table.specs.Gives.{◌>>=◌, ok_or}
-use Rattle.sw_toml_table.specs.Table.{text_at}
-use Rattle.sw_toml_table.specs.Names.{name_at}
+use Rattle.sw_text.specs.declared.keys.Key.{Key}
+use Rattle.sw_text.specs.declared.keys.Key.TheVariants.{Name}
+use Rattle.sw_text.specs.declared.keys.Section.{Section}
+use Rattle.sw_text.specs.declared.fault.KeyFault.TheVariants.{DuplicateName, UnknownName}
+use Rattle.sw_text.specs.declared.fault.TextFault.{TextFault}
+use Rattle.sw_text.specs.declared.fault.TextFault.TheVariants as fault
+use Rattle.sw_text.specs.Gives.{◌>>=◌, ok_or}
+use Rattle.sw_text.specs.Table.{text_at}
+use Rattle.sw_text.specs.Names.{name_at}
 
 -- the name of an entry, which has to be none of those that are taken
 unfoldable pub new_name : Section → List (List ℕ) → Members → Result (List ℕ) TextFault

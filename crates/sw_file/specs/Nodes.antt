@@ -3,14 +3,14 @@ use Rattle.std.specs.Prelude.{ℕ, ◌+◌, nat_le, List, [], ◌∷◌, ◌++�
 use Rattle.toml.specs.Data.{Members}
 use Rattle.sw_rmap.specs.declared.config.TargetConfig.{TargetConfig}
 use Rattle.sw_config.specs.Entries.{NodeEntry, Declaration, part_names}
-use Rattle.sw_toml_table.specs.declared.keys.Key.TheVariants.{Target, Logical, TargetKey, Start, Size, Slots}
-use Rattle.sw_toml_table.specs.declared.keys.Section.TheVariants as section
-use Rattle.sw_toml_table.specs.declared.keys.Version.{Version}
-use Rattle.sw_toml_table.specs.declared.fault.KeyFault.TheVariants.{OutOfRange}
-use Rattle.sw_toml_table.specs.declared.fault.TextFault.{TextFault}
-use Rattle.sw_toml_table.specs.declared.fault.TextFault.TheVariants as fault
-use Rattle.sw_toml_table.specs.Gives.{◌>>=◌}
-use Rattle.sw_toml_table.specs.Table.{only_known, number_at, number_or, table_or_none}
+use Rattle.sw_text.specs.declared.keys.Key.TheVariants.{Target, Logical, TargetKey, Start, Size, Slots}
+use Rattle.sw_text.specs.declared.keys.Section.TheVariants as section
+use Rattle.sw_text.specs.declared.keys.Version.{Version}
+use Rattle.sw_text.specs.declared.fault.KeyFault.TheVariants.{OutOfRange}
+use Rattle.sw_text.specs.declared.fault.TextFault.{TextFault}
+use Rattle.sw_text.specs.declared.fault.TextFault.TheVariants as fault
+use Rattle.sw_text.specs.Gives.{◌>>=◌}
+use Rattle.sw_text.specs.Table.{only_known, number_at, number_or, table_or_none}
 use Rattle.sw_file.specs.Keys.{node_keys, target_keys}
 use Rattle.sw_file.specs.Names.{new_name}
 

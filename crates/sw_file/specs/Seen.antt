@@ -2,9 +2,9 @@
 use Rattle.std.specs.Prelude.{◌≡◌, Result, Ok, Err}
 use Rattle.toml.specs.Data.{Members}
 use Rattle.toml.specs.View.{table_view}
-use Rattle.sw_toml_table.specs.declared.keys.Version.TheVariants.{One, Two}
-use Rattle.sw_toml_table.specs.declared.fault.FileFault.{FileFault}
-use Rattle.sw_toml_table.specs.declared.fault.FileFault.TheVariants as file
+use Rattle.sw_text.specs.declared.keys.Version.TheVariants.{One, Two}
+use Rattle.sw_text.specs.declared.fault.FileFault.{FileFault}
+use Rattle.sw_text.specs.declared.fault.FileFault.TheVariants as file
 use Rattle.sw_file.specs.Network.{network_of}
 use Rattle.sw_file.specs.declared.fault.MigrateFault.{MigrateFault}
 use Rattle.sw_file.specs.declared.fault.MigrateFault.TheVariants.{Text, NotOld, Memory}

@@ -9,15 +9,15 @@ use Rattle.sw_route.specs.Looks.{overlaps}
 use Rattle.sw_arb.specs.declared.arbitration.Arbitration.{Arbitration}
 use Rattle.sw_arb.specs.declared.arbitration.Arbitration.TheVariants.{Fixed, RoundRobin, LeastRecent}
 use Rattle.sw_config.specs.Entries.{SwitchEntry, Declaration, part_names}
-use Rattle.sw_toml_table.specs.declared.keys.Key.TheVariants.{Arbiter, Route, Address, Last, Ports, Delete}
-use Rattle.sw_toml_table.specs.declared.keys.Section.{Section}
-use Rattle.sw_toml_table.specs.declared.keys.Section.TheVariants as section
-use Rattle.sw_toml_table.specs.declared.keys.Version.{Version}
-use Rattle.sw_toml_table.specs.declared.fault.KeyFault.TheVariants.{OutOfRange}
-use Rattle.sw_toml_table.specs.declared.fault.TextFault.{TextFault}
-use Rattle.sw_toml_table.specs.declared.fault.TextFault.TheVariants as fault
-use Rattle.sw_toml_table.specs.Gives.{◌>>=◌, ok_or, walk}
-use Rattle.sw_toml_table.specs.Table.{only_known, text_or_none, number_at, number_or, numbers_at, tables_or_none, flag_or_false}
+use Rattle.sw_text.specs.declared.keys.Key.TheVariants.{Arbiter, Route, Address, Last, Ports, Delete}
+use Rattle.sw_text.specs.declared.keys.Section.{Section}
+use Rattle.sw_text.specs.declared.keys.Section.TheVariants as section
+use Rattle.sw_text.specs.declared.keys.Version.{Version}
+use Rattle.sw_text.specs.declared.fault.KeyFault.TheVariants.{OutOfRange}
+use Rattle.sw_text.specs.declared.fault.TextFault.{TextFault}
+use Rattle.sw_text.specs.declared.fault.TextFault.TheVariants as fault
+use Rattle.sw_text.specs.Gives.{◌>>=◌, ok_or, walk}
+use Rattle.sw_text.specs.Table.{only_known, text_or_none, number_at, number_or, numbers_at, tables_or_none, flag_or_false}
 use Rattle.sw_file.specs.Keys.{switch_keys, route_keys}
 use Rattle.sw_file.specs.Names.{new_name}
 

@@ -15,13 +15,13 @@ use Rattle.sw_arb.specs.declared.arbitration.Arbitration.TheVariants.{RoundRobin
 use Rattle.sw_rmap.specs.declared.config.TargetConfig.{TargetConfig}
 use Rattle.sw_config.specs.Entries.{NodeEntry, SwitchEntry, LinkEntry, ReplyEntry, FlowEntry, Declaration, part_names, flow_names, wiring_of}
 use Rattle.sw_config.specs.Valid.{IsReply}
-use Rattle.sw_toml_table.specs.declared.keys.Key.{Key}
-use Rattle.sw_toml_table.specs.declared.keys.Key.TheVariants.{Version as VersionKey, Node, Switch, Link, Flow, Name, Target, Logical, TargetKey, Start, Size, Slots, Arbiter, Route, Address, Last, Ports, Delete, A, APort, B, BPort, Buffer, BufferA, BufferB, From, To, Left, Reply, Path, Initiator}
-use Rattle.sw_toml_table.specs.declared.keys.Version.{Version}
-use Rattle.sw_toml_table.specs.declared.keys.Version.TheVariants.{One, Two}
-use Rattle.sw_toml_table.specs.Document.{document_of}
-use Rattle.sw_toml_table.specs.Laws.{HasOnly}
-use Rattle.sw_toml_table.specs.Names.{is_name}
+use Rattle.sw_text.specs.declared.keys.Key.{Key}
+use Rattle.sw_text.specs.declared.keys.Key.TheVariants.{Version as VersionKey, Node, Switch, Link, Flow, Name, Target, Logical, TargetKey, Start, Size, Slots, Arbiter, Route, Address, Last, Ports, Delete, A, APort, B, BPort, Buffer, BufferA, BufferB, From, To, Left, Reply, Path, Initiator}
+use Rattle.sw_text.specs.declared.keys.Version.{Version}
+use Rattle.sw_text.specs.declared.keys.Version.TheVariants.{One, Two}
+use Rattle.sw_text.specs.Document.{document_of}
+use Rattle.sw_text.specs.KeyLaws.{HasOnly}
+use Rattle.sw_text.specs.Names.{is_name}
 use Rattle.sw_file.specs.Keys.{document_keys, node_keys, target_keys, switch_keys, route_keys, link_keys, flow_keys, reply_keys}
 use Rattle.sw_file.specs.Switches.{arbitration_named}
 use Rattle.sw_file.specs.FlowTables.{node_names}

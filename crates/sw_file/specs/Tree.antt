@@ -4,13 +4,13 @@ use Rattle.std.specs.Ordering.{nat_cmp, match_ordering}
 use Rattle.std.specs.Cmp.Lexicographic.{slice_cmp}
 use Rattle.toml.specs.Data.{Data, integer, array, table, Members, no_members, member, get_member}
 use Rattle.toml.specs.View.{items_of}
-use Rattle.sw_toml_table.specs.declared.keys.Key.{Key}
-use Rattle.sw_toml_table.specs.declared.keys.Key.TheVariants.{Version as VersionKey, Switch, Route, Address, Last, Ports, Delete}
-use Rattle.sw_toml_table.specs.declared.keys.Section.TheVariants.{Document}
-use Rattle.sw_toml_table.specs.declared.fault.TextFault.{TextFault}
-use Rattle.sw_toml_table.specs.Keys.{key_text}
-use Rattle.sw_toml_table.specs.Gives.{◌>>=◌, each}
-use Rattle.sw_toml_table.specs.Table.{number_at, numbers_at, tables_or_none, flag_or_false}
+use Rattle.sw_text.specs.declared.keys.Key.{Key}
+use Rattle.sw_text.specs.declared.keys.Key.TheVariants.{Version as VersionKey, Switch, Route, Address, Last, Ports, Delete}
+use Rattle.sw_text.specs.declared.keys.Section.TheVariants.{Document}
+use Rattle.sw_text.specs.declared.fault.TextFault.{TextFault}
+use Rattle.sw_text.specs.Keys.{key_text}
+use Rattle.sw_text.specs.Gives.{◌>>=◌, each}
+use Rattle.sw_text.specs.Table.{number_at, numbers_at, tables_or_none, flag_or_false}
 use Rattle.sw_file.specs.Rows.{Entry, Row, rows}
 
 -- the table with the value at the name: in place of the one there, or as a new member at its place in the order of names

@@ -2,9 +2,9 @@
 use Rattle.std.specs.Prelude.{◌≡◌, ◌≤◌, ◌⊎◌, ℕ, pos, Bool, List, [], Option, Some, None}
 use Rattle.std.specs.List.{AllZip}
 use Rattle.toml.specs.Data.{Data, Members, Items, get_member, as_str, as_integer, as_bool, as_array, as_table}
-use Rattle.sw_toml_table.specs.declared.keys.Key.{Key}
-use Rattle.sw_toml_table.specs.Keys.{key_text}
-use Rattle.sw_toml_table.specs.Table.{item_list}
+use Rattle.sw_text.specs.declared.keys.Key.{Key}
+use Rattle.sw_text.specs.Keys.{key_text}
+use Rattle.sw_text.specs.Table.{item_list}
 
 -- the value is this text
 abbrev pub IsText : Data → List ℕ → Type 0

@@ -2,7 +2,7 @@
 ghost use Rattle.std.specs.Prelude.{◌≡◌, ◌≤◌, ◌<◌, ◌+◌, ℕ, [], vec_len, map, IfOk, OnOk};
 ghost use Rattle.toml.specs.View.{table_view};
 ghost use Rattle.sw_config.specs.Entries.{empty};
-ghost use Rattle.sw_toml_table.specs.Gives.{Gives};
+ghost use Rattle.sw_text.specs.Gives.{Gives};
 ghost use Rattle.sw_file.specs.Network.{version_of, entries, with_parts, with_flows, network_of, network_text};
 ghost use Rattle.sw_file.specs.Lists.{list_key, most_parts, next_part, with_list, HasParts};
 
@@ -14,9 +14,7 @@ use crate::switches::add_switch;
 use std::alloc::Global;
 use std::marker::Model;
 use sw_config::{Network, NetworkBuilder};
-use sw_toml_table::{
-    FileFault, Key, KeyFault, Section, TableEntry, TextFault, Version, read_document,
-};
+use sw_text::{FileFault, Key, KeyFault, Section, TableEntry, TextFault, Version, read_document};
 use sw_topo::limits::{MAX_FLOWS, MAX_LINKS, MAX_NODES, MAX_SWITCHES};
 use sw_topo::{Limit, TopoError, TopoFault};
 use toml::Table;

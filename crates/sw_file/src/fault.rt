@@ -4,7 +4,7 @@ ghost use Rattle.sw_file.specs.declared.fault.MigrateFault.TheVariants.{Memory};
 ghost use Rattle.sw_file.specs.Seen.{refusal};
 
 use std::alloc::AllocError;
-use sw_toml_table::{FileFault, TextFault};
+use sw_text::{FileFault, TextFault};
 use thiserror::Error;
 
 /// Why a text is not migrated.

@@ -5,8 +5,8 @@ ghost use Rattle.std.specs.Str.{bytes_eq};
 ghost use Rattle.toml.specs.View.{table_view};
 ghost use Rattle.sw_config.specs.Entries.{ReplyEntry, flow_names};
 ghost use Rattle.sw_config.specs.Valid.{IsFlow, IsReply};
-ghost use Rattle.sw_toml_table.specs.declared.fault.TextFault.{TextFault};
-ghost use Rattle.sw_toml_table.specs.Gives.{Gives};
+ghost use Rattle.sw_text.specs.declared.fault.TextFault.{TextFault};
+ghost use Rattle.sw_text.specs.Gives.{Gives};
 ghost use Rattle.sw_file.specs.Names.{place_at};
 ghost use Rattle.sw_file.specs.FlowTables.{node_names, addressed, can_reply, replies_at, with_replies, flow_of, next_flow};
 
@@ -14,7 +14,7 @@ use crate::keys::{FLOW_KEYS, REPLY_KEYS};
 use std::alloc::Global;
 use std::marker::Model;
 use sw_config::{Flow, Network, Reply};
-use sw_toml_table::{FileFault, Key, KeyFault, Section, TableEntry, TextFault};
+use sw_text::{FileFault, Key, KeyFault, Section, TableEntry, TextFault};
 use sw_topo::limits::{MAX_ADDRESS, MAX_FLOWS};
 use toml::Table;
 

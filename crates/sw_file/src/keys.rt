@@ -2,7 +2,7 @@
 ghost use Rattle.std.specs.Prelude.{◌≡◌};
 ghost use Rattle.sw_file.specs.Keys.{target_keys, route_keys, link_keys};
 
-use sw_toml_table::{Key, Version};
+use sw_text::{Key, Version};
 
 pub(crate) const DOCUMENT_KEYS: &[Key] = &[
     Key::Version,

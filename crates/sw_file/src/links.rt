@@ -3,14 +3,14 @@ ghost use Rattle.std.specs.Prelude.{◌≡◌, length, IfOk};
 ghost use Rattle.toml.specs.View.{table_view};
 ghost use Rattle.sw_topo.specs.Checked.{IsIn};
 ghost use Rattle.sw_config.specs.Entries.{part_names};
-ghost use Rattle.sw_toml_table.specs.Gives.{Gives};
+ghost use Rattle.sw_text.specs.Gives.{Gives};
 ghost use Rattle.sw_file.specs.Links.{end_at, next_link};
 
 use crate::keys::link_keys;
 use std::alloc::Global;
 use std::marker::Model;
 use sw_config::NetworkBuilder;
-use sw_toml_table::{FileFault, Key, KeyFault, Section, TableEntry, Version};
+use sw_text::{FileFault, Key, KeyFault, Section, TableEntry, Version};
 use sw_topo::{PlaceEnd, Port};
 use toml::Table;
 

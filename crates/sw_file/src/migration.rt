@@ -3,7 +3,7 @@ ghost use Rattle.std.specs.Prelude.{◌≡◌, ◌≤◌, ℕ, List, false, true
 ghost use Rattle.toml.specs.Data.{members_depth, members_have_valid_dates};
 ghost use Rattle.toml.specs.Text.{IsDocumentText};
 ghost use Rattle.toml.specs.View.{table_view};
-ghost use Rattle.sw_toml_table.specs.Document.{document_of};
+ghost use Rattle.sw_text.specs.Document.{document_of};
 ghost use Rattle.sw_file.specs.Migration.{Migrates};
 ghost use Rattle.sw_file.specs.Seen.{Admits};
 
@@ -12,7 +12,7 @@ use crate::fault::MigrateFault;
 use crate::order::table_ascends;
 use crate::tree::migrate_table;
 use std::alloc::{AllocError, Global};
-use sw_toml_table::{Version, read_document};
+use sw_text::{Version, read_document};
 use toml::Table;
 
 /// Refuses a table that declares no network, or one of a file of version 2.

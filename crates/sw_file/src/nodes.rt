@@ -5,7 +5,7 @@ ghost use Rattle.std.specs.Str.{bytes_eq};
 ghost use Rattle.toml.specs.View.{table_view};
 ghost use Rattle.sw_rmap.specs.Config.{IsTargetConfig};
 ghost use Rattle.sw_config.specs.Entries.{part_names};
-ghost use Rattle.sw_toml_table.specs.Gives.{Gives};
+ghost use Rattle.sw_text.specs.Gives.{Gives};
 ghost use Rattle.sw_file.specs.Names.{new_name};
 ghost use Rattle.sw_file.specs.Nodes.{config_of, target_or_none, next_node};
 
@@ -14,7 +14,7 @@ use std::alloc::Global;
 use std::marker::Model;
 use sw_config::NetworkBuilder;
 use sw_rmap::TargetConfig;
-use sw_toml_table::{FileFault, Key, KeyFault, Section, TableEntry, Version};
+use sw_text::{FileFault, Key, KeyFault, Section, TableEntry, Version};
 use sw_topo::limits::MAX_NODES;
 use toml::Table;
 

@@ -1,13 +1,13 @@
 //! The entries of a routing table, and their rows.
 ghost use Rattle.std.specs.Prelude.{◌≡◌, map, IfOk};
 ghost use Rattle.toml.specs.View.{table_view};
-ghost use Rattle.sw_toml_table.specs.Gives.{Gives, each};
+ghost use Rattle.sw_text.specs.Gives.{Gives, each};
 ghost use Rattle.sw_file.specs.Rows.{alone, goes_on, rows};
 ghost use Rattle.sw_file.specs.Tree.{entry_of};
 ghost use Rattle.sw_file.specs.Seen.{entry_view, row_view};
 
 use std::alloc::{AllocError, Global};
-use sw_toml_table::{FileFault, Key, Section, TableEntry};
+use sw_text::{FileFault, Key, Section, TableEntry};
 use toml::Table;
 
 /// An entry of a routing table as it is written.

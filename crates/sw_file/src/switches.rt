@@ -2,7 +2,7 @@
 ghost use Rattle.std.specs.Prelude.{◌≡◌, ◌+◌, ◌<◌, length, IfOk, OnOk};
 ghost use Rattle.toml.specs.View.{table_view};
 ghost use Rattle.sw_route.specs.Looks.{IsRoute};
-ghost use Rattle.sw_toml_table.specs.Gives.{Gives};
+ghost use Rattle.sw_text.specs.Gives.{Gives};
 ghost use Rattle.sw_file.specs.Switches.{arbitration_at, ports_at, route_of, next_route, routes_at, next_switch};
 
 use crate::keys::{SWITCH_KEYS, route_keys};
@@ -12,7 +12,7 @@ use std::marker::Model;
 use sw_arb::Arbitration;
 use sw_config::NetworkBuilder;
 use sw_route::{Route, RouteError, TableRoutes};
-use sw_toml_table::{FileFault, Key, KeyFault, Section, TableEntry, TextFault, Version};
+use sw_text::{FileFault, Key, KeyFault, Section, TableEntry, TextFault, Version};
 use sw_topo::limits::MAX_SWITCHES;
 use sw_topo::{Port, PortSet};
 use toml::Table;

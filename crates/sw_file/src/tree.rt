@@ -1,15 +1,15 @@
 //! The tree of a file made one of version 2.
 ghost use Rattle.std.specs.Prelude.{◌≡◌, map, IfOk, Ok, OnOk};
 ghost use Rattle.toml.specs.View.{view, table_view};
-ghost use Rattle.sw_toml_table.specs.Gives.{Gives};
-ghost use Rattle.sw_toml_table.specs.declared.keys.Key.TheVariants.{Route};
+ghost use Rattle.sw_text.specs.Gives.{Gives};
+ghost use Rattle.sw_text.specs.declared.keys.Key.TheVariants.{Route};
 ghost use Rattle.sw_file.specs.Tree.{with_key, with_tables, row_table, merged_switch, new_switches, migrated};
 ghost use Rattle.sw_file.specs.Rows.{rows};
 ghost use Rattle.sw_file.specs.Seen.{entry_view, row_view};
 
 use crate::rows::{RouteEntry, Row, entries_of, rows};
 use std::alloc::{AllocError, Global};
-use sw_toml_table::{FileFault, Key, Section, TableEntry};
+use sw_text::{FileFault, Key, Section, TableEntry};
 use toml::{Table, Value};
 
 fn put(alloc: Global, table: &mut Table, key: Key, value: Value) -> Result<(), AllocError>

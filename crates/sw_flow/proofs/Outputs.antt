@@ -12,7 +12,7 @@ use Rattle.sw_config.specs.Looks.{NamesOutput}
 use Rattle.sw_flow.specs.Faults.{output_at, has_output}
 use Rattle.sw_flow.specs.Numbers.{outputs, outputs_below}
 use Rattle.sw_flow.proofs.Listed.{Contains-filter_map, Contains-from_filter_map, Contains-range, Contains-from_range}
-use Rattle.sw_parallel.proofs.Ranges.{range_more}
+use Rattle.sw_graph.proofs.Ranges.{range_more}
 
 module _ (ends : List PlaceEnd) (s : ℕ) (look : Look) where
   pub output_at-named : (p e : ℕ) → IsBitSet look.ports p → out_of ends s p ≡ Some e → output_at ends s look p ≡ Some e

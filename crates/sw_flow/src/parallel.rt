@@ -10,7 +10,7 @@ use crate::routes::places;
 use std::alloc::{AllocError, Global};
 use std::thread::Threads;
 use sw_config::Network;
-use sw_parallel::{OneByOne, SideBySide, Workers, side_by_side};
+use sw_graph::{OneByOne, SideBySide, Workers, side_by_side};
 
 /// A thread takes as long to start as some hundred places to find: it is worth it where so many may be found in it.
 const PLACES_A_THREAD: usize = 4096;

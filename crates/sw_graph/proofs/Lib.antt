@@ -25,3 +25,5 @@ pub mod Sought
 pub mod Lawful
 pub mod Carried
 pub mod Loops
+mod Answers
+pub mod Ranges

@@ -14,7 +14,7 @@ use Rattle.sw_graph.specs.Walks.{IsWalk, holds, marked}
 use Rattle.sw_graph.proofs.Counts.{flag}
 use Rattle.sw_graph.proofs.Numbers.{Contains-from_holds}
 use Rattle.sw_graph.proofs.Peels.{kept, kept_from}
-use Rattle.sw_parallel.proofs.Ranges.{range_more}
+use Rattle.sw_graph.proofs.Ranges.{range_more}
 
 -- one number more
 pub marked_more : (test : ℕ → Bool) (n : ℕ) → filter test (range_with_len 0 (n + 1)) ≡ filter test (range_with_len 0 n) ++ filter test (n ∷ [])

@@ -6,7 +6,7 @@ use Rattle.std.proofs.lemmas.Bool.{cases_eq, false≢true}
 use Rattle.std.proofs.lemmas.List.{length_push}
 use Rattle.std.proofs.lemmas.List.Elements.{Contains-append_left, Contains-append_right, Contains-append_cases, Contains-push, Contains-push_cases}
 use Rattle.std.proofs.Math.Seq.{take-append_seam}
-use Rattle.sw_parallel.specs.Found.{AreKept}
+use Rattle.sw_graph.specs.Found.{AreKept}
 use Rattle.sw_graph.specs.Reversing.{AreAdded, AreBegun}
 use Rattle.sw_graph.specs.Rounds.{AllDone, AreFree, AreRounds, AreTaken, is_done}
 use Rattle.sw_graph.specs.Rows.{row, IsGraph, IsReversed, Leads}

@@ -15,3 +15,4 @@ pub mod Shortest
 pub mod Searches
 pub mod Bests
 pub mod PartLaws
+pub mod Found

@@ -1,6 +1,8 @@
 //! Finite relations: the least set of numbers that holds a start and is closed under steps, a way to
 //! one of them, and the order of a relation, the level of each member or a cycle; the parts in which each
 //! number leads to each other, and a shortest cycle of each.
+//!
+//! The same call at many numbers, in as many threads as there are processors, and who makes such calls: threads, or the caller's own thread alone.
 #![tactic(auto)]
 
 mod answer;
@@ -19,11 +21,13 @@ mod round_workers;
 mod rounds;
 mod rows;
 mod search;
+pub mod side_by_side;
 mod steps;
 mod together;
 mod turn;
 mod walk;
 mod ways;
+mod workers;
 
 pub use answer::Order;
 pub use found::parts;
@@ -35,3 +39,4 @@ pub use round_workers::RoundWorkers;
 pub use rows::{add_to_row, empty_rows};
 pub use steps::Steps;
 pub use ways::way;
+pub use workers::{OneByOne, SideBySide, Workers};

@@ -6,9 +6,9 @@ ghost use Rattle.sw_graph.specs.Rows.{row};
 
 use crate::marks::is_marked;
 use crate::rows::row_of;
+use crate::{OneByOne, SideBySide, Workers, side_by_side};
 use std::alloc::{AllocError, Global};
 use std::thread::Threads;
-use sw_parallel::{OneByOne, SideBySide, Workers, side_by_side};
 
 /// The fewest members that a thread is started for. Below twice as many a round goes through one
 /// thread: to look at a member's predecessors takes some hundred nanoseconds, and a thread some ten

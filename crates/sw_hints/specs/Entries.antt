@@ -1,8 +1,8 @@
 -- What the entries of a document say, as far as they say it.
 use Rattle.std.specs.Prelude.{ℕ, List, ◌++◌, flat_map, option_to_list}
 use Rattle.toml.specs.Data.{Members}
-use Rattle.sw_toml_table.specs.declared.keys.Key.{Key}
-use Rattle.sw_toml_table.specs.declared.keys.Key.TheVariants.{Name, Node, Switch}
+use Rattle.sw_text.specs.declared.keys.Key.{Key}
+use Rattle.sw_text.specs.declared.keys.Key.TheVariants.{Name, Node, Switch}
 use Rattle.sw_notes.specs.Entries.{tables_of, text_in}
 
 -- the names in tables, in their order

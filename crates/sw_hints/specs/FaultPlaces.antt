@@ -4,14 +4,14 @@ use Rattle.sw_topo.specs.declared.fault.Limit.{Limit}
 use Rattle.sw_topo.specs.declared.fault.Limit.TheVariants.{Nodes, Switches, Links}
 use Rattle.sw_topo.specs.declared.fault.TopoFault.{TopoFault}
 use Rattle.sw_topo.specs.declared.fault.TopoFault.TheVariants.{TooMany, PortTaken, NodeLinks, PortUnlinked}
-use Rattle.sw_toml_table.specs.declared.keys.Key.{Key as TableKey}
-use Rattle.sw_toml_table.specs.declared.keys.Key.TheVariants as key
-use Rattle.sw_toml_table.specs.declared.keys.Section.{Section}
-use Rattle.sw_toml_table.specs.declared.keys.Section.TheVariants as section
-use Rattle.sw_toml_table.specs.declared.fault.KeyFault.TheVariants.{MissingKey}
-use Rattle.sw_toml_table.specs.declared.fault.TextFault.{TextFault}
-use Rattle.sw_toml_table.specs.declared.fault.TextFault.TheVariants.{Syntax, UnknownKey, Key, Topology, DuplicateRoute, ReplyShape, NotInFlow}
-use Rattle.sw_toml_table.specs.Keys.{key_text}
+use Rattle.sw_text.specs.declared.keys.Key.{Key as TableKey}
+use Rattle.sw_text.specs.declared.keys.Key.TheVariants as key
+use Rattle.sw_text.specs.declared.keys.Section.{Section}
+use Rattle.sw_text.specs.declared.keys.Section.TheVariants as section
+use Rattle.sw_text.specs.declared.fault.KeyFault.TheVariants.{MissingKey}
+use Rattle.sw_text.specs.declared.fault.TextFault.{TextFault}
+use Rattle.sw_text.specs.declared.fault.TextFault.TheVariants.{Syntax, UnknownKey, Key, Topology, DuplicateRoute, ReplyShape, NotInFlow}
+use Rattle.sw_text.specs.Keys.{key_text}
 use Rattle.sw_notes.specs.declared.sought.Sought.{Sought}
 use Rattle.sw_notes.specs.Places.{IsPlace}
 

@@ -3,13 +3,13 @@ use Rattle.std.specs.Prelude.{ℕ, List, [], ◌∷◌, ◌++◌, codes, flat_ma
 use Rattle.sw_topo.specs.declared.fault.Limit.TheVariants.{Nodes, Switches, Links}
 use Rattle.sw_topo.specs.declared.fault.TopoFault.{TopoFault}
 use Rattle.sw_topo.specs.declared.fault.TopoFault.TheVariants.{TooMany, PortTaken, NodeLinks, PortUnlinked}
-use Rattle.sw_toml_table.specs.declared.keys.Key.{Key as TableKey}
-use Rattle.sw_toml_table.specs.declared.fault.KeyFault.{KeyFault}
-use Rattle.sw_toml_table.specs.declared.fault.KeyFault.TheVariants.{MissingKey, WrongType, OutOfRange, DuplicateName, UnknownName}
-use Rattle.sw_toml_table.specs.declared.fault.TextFault.{TextFault}
-use Rattle.sw_toml_table.specs.declared.fault.TextFault.TheVariants.{Syntax, UnknownKey, Key, Topology, DuplicateRoute, ReplyShape, NotInFlow}
-use Rattle.sw_toml_table.specs.Keys.{key_text}
-use Rattle.sw_command.specs.FaultTexts.{fault_text}
+use Rattle.sw_text.specs.declared.keys.Key.{Key as TableKey}
+use Rattle.sw_text.specs.declared.fault.KeyFault.{KeyFault}
+use Rattle.sw_text.specs.declared.fault.KeyFault.TheVariants.{MissingKey, WrongType, OutOfRange, DuplicateName, UnknownName}
+use Rattle.sw_text.specs.declared.fault.TextFault.{TextFault}
+use Rattle.sw_text.specs.declared.fault.TextFault.TheVariants.{Syntax, UnknownKey, Key, Topology, DuplicateRoute, ReplyShape, NotInFlow}
+use Rattle.sw_text.specs.Keys.{key_text}
+use Rattle.sw_text.specs.FaultTexts.{fault_text}
 use Rattle.sw_hints.specs.KeyWords.{keys_of, value_words}
 
 abbrev pub key_fault_words : KeyFault → List ℕ

@@ -4,8 +4,8 @@ use Rattle.std.specs.declared.alloc.Global.{Global}
 use Rattle.toml.specs.Data.{Members}
 use Rattle.sw_config.specs.Entries.{Declaration}
 use Rattle.sw_file.specs.Network.{network_text}
-use Rattle.sw_toml_table.specs.declared.fault.TextFault.{TextFault}
-use Rattle.sw_toml_table.specs.Document.{document_of}
+use Rattle.sw_text.specs.declared.fault.TextFault.{TextFault}
+use Rattle.sw_text.specs.Document.{document_of}
 use Rattle.sw_notes.specs.declared.note.Note.{Note}
 use Rattle.sw_notes.specs.Notes.{notes_of}
 use Rattle.sw_hints.specs.FaultPlaces.{IsFaultPlace}

@@ -1,9 +1,9 @@
 -- The lines of what there is to note of a fault (this project's choice).
 use Rattle.std.specs.Prelude.{◌≡◌, ◌≤◌, ℕ, IfSome, List, [], ◌∷◌, ◌++◌, Option, Some, None, codes, length}
 use Rattle.std.specs.Fmt.{decimal}
-use Rattle.sw_toml_table.specs.declared.keys.Section.{Section}
-use Rattle.sw_toml_table.specs.declared.keys.Section.TheVariants.{Document, Node, Target, Switch, Route, Link, Flow, Reply, Packet}
-use Rattle.sw_toml_table.specs.Keys.{key_text}
+use Rattle.sw_text.specs.declared.keys.Section.{Section}
+use Rattle.sw_text.specs.declared.keys.Section.TheVariants.{Document, Node, Target, Switch, Route, Link, Flow, Reply, Packet}
+use Rattle.sw_text.specs.Keys.{key_text}
 use Rattle.sw_notes.specs.LineColumn.{column_of, line_of}
 use Rattle.sw_notes.specs.Places.{IsPlace}
 use Rattle.sw_notes.specs.declared.note.Note.{Note}

@@ -5,7 +5,7 @@ ghost use Rattle.sw_hints.specs.Entries.{names_of};
 
 use std::alloc::{AllocError, Global};
 use sw_notes::{tables_of, text_in};
-use sw_toml_table::Key;
+use sw_text::Key;
 use toml::Table;
 
 /// Adds the names of a list of the document.

@@ -5,8 +5,7 @@ ghost use Rattle.sw_hints.specs.FaultWords.{expected_text, fault_words, one_of, 
 use crate::key_words::{keys_of, value_words};
 use std::alloc::{AllocError, Global};
 use std::fmt::Write;
-use sw_command::fault_text;
-use sw_toml_table::{Key, KeyFault, TextFault};
+use sw_text::{Key, KeyFault, TextFault, fault_text};
 use sw_topo::{Limit, TopoFault};
 
 fn fault_words(fault: &TextFault) -> &'static str

@@ -1,6 +1,6 @@
 //! What to do about a fault.
 ghost use Rattle.std.specs.Prelude.{◌≡◌, ◌++◌, IfOk, List, Option, codes, map, option_map, string_bytes};
-ghost use Rattle.sw_toml_table.specs.Table.{is_known};
+ghost use Rattle.sw_text.specs.Table.{is_known};
 ghost use Rattle.toml.specs.View.{table_view};
 ghost use Rattle.sw_hints.specs.Entries.{names_of, part_names};
 ghost use Rattle.sw_hints.specs.Helps.{help_text, key_help, meant_help, name_help, node_help, still_words, topology_help};
@@ -11,7 +11,7 @@ use crate::key_words::{keys_of, new_keys_of, outer_keys, port_keys};
 use crate::nearest::like;
 use std::alloc::{AllocError, Global};
 use sw_notes::text_of;
-use sw_toml_table::{Key, KeyFault, Section, TextFault};
+use sw_text::{Key, KeyFault, Section, TextFault};
 use sw_topo::TopoFault;
 use toml::Table;
 

@@ -1,6 +1,6 @@
 //! The hint of a fault.
 ghost use Rattle.std.specs.Prelude.{◌≡◌, ◌≤◌, IfOk, IfSome, length, string_bytes};
-ghost use Rattle.sw_toml_table.specs.Document.{document_of};
+ghost use Rattle.sw_text.specs.Document.{document_of};
 ghost use Rattle.sw_hints.specs.FaultWords.{expected_text, what_text};
 ghost use Rattle.sw_hints.specs.HintLines.{hint_lines};
 ghost use Rattle.sw_hints.specs.Hints.{AreNotes, IsHelp, IsHint, IsNetworkHint, help_by};
@@ -13,7 +13,7 @@ use crate::places::fault_place;
 use std::alloc::{AllocError, Global};
 use sw_file::read_network;
 use sw_notes::{notes_of, text_fault};
-use sw_toml_table::{FileFault, TextFault, read_document};
+use sw_text::{FileFault, TextFault, read_document};
 
 // What to do about a fault of a text.
 fn help_of(alloc: Global, text: &[u8], fault: &TextFault) -> Result<String, AllocError>

@@ -2,7 +2,7 @@
 ghost use Rattle.std.specs.Prelude.{◌≡◌};
 ghost use Rattle.sw_hints.specs.KeyWords.{keys_of, new_keys_of, outer_keys, port_keys, value_words};
 
-use sw_toml_table::{Key, Section};
+use sw_text::{Key, Section};
 
 /// The keys of a table, those of version 2 too.
 pub(crate) fn keys_of(section: Section) -> &'static [Key]

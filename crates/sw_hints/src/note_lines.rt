@@ -7,7 +7,7 @@ ghost use Rattle.sw_hints.specs.NoteLines.{AddsLine, AreNoteLines, IsNotePlace, 
 use crate::lines::told;
 use std::alloc::{AllocError, Global};
 use sw_notes::{Note, Position, Sought, place_of, position_at};
-use sw_toml_table::Section;
+use sw_text::Section;
 
 // A word, and a number behind it.
 fn numbered(alloc: Global, word: &str, number: usize) -> Result<String, AllocError>

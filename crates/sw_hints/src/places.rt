@@ -4,7 +4,7 @@ ghost use Rattle.sw_hints.specs.FaultPlaces.{IsFaultPlace, long_list, sought_of,
 
 use std::alloc::{AllocError, Global};
 use sw_notes::{Sought, place_of};
-use sw_toml_table::{Key, KeyFault, Section, TextFault};
+use sw_text::{Key, KeyFault, Section, TextFault};
 use sw_topo::{Limit, TopoFault};
 
 // What to show of a table: an entry itself, or the key of a table in an entry.

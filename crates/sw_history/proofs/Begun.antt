@@ -9,9 +9,9 @@ use Rattle.sw_load.proofs.Packets.{length-packets}
 use Rattle.sw_load.specs.History.{packet_of, packets_at, packets_of}
 use Rattle.sw_load.specs.Laws.{AreDeclared}
 use Rattle.sw_load.specs.Load.{LoadEntry, packet_count}
-use Rattle.sw_model.specs.Packets.{IsDeclaredPacket}
+use Rattle.sw_machine.specs.DeclaredPackets.{IsDeclaredPacket}
 use Rattle.sw_machine.specs.Begun.{Begun}
-use Rattle.sw_model.specs.Model.{network_of}
+use Rattle.sw_machine.specs.Model.{network_of}
 use Rattle.sw_config.specs.Entries.{Declaration}
 
 module _ {X : Type 0} where

@@ -12,7 +12,7 @@ use Rattle.sw_load.specs.History.{BeginsNext, next_packet, packets_at, packets_o
 use Rattle.sw_load.specs.Load.{LoadEntry, packet_count}
 use Rattle.sw_machine.specs.Begun.{Begun, beginnings}
 use Rattle.sw_machine.specs.Steps.{Accept, Arrive, Begin, Drop, Emit, Fct, FctIn, Forward, Grant, Reply, Spill, Step}
-use Rattle.sw_model.specs.Model.{network_of}
+use Rattle.sw_machine.specs.Model.{network_of}
 use Rattle.sw_config.specs.Entries.{Declaration}
 
 module _ (d : Declaration) (load : List LoadEntry) (steps : List Step) (begun : List ℕ) (counted : IsCounted d steps begun) where

@@ -14,7 +14,7 @@ use Rattle.sw_load.proofs.Grown.{slice_get-behind}
 use Rattle.sw_load.specs.History.{IsWhole, packets_at, packets_of}
 use Rattle.sw_load.specs.Limit.{enough_limit}
 use Rattle.sw_load.specs.Laws.{AreDeclared}
-use Rattle.sw_model.proofs.Declares.{declared_are_declared}
+use Rattle.sw_machine.proofs.Declares.{declared_are_declared}
 use Rattle.sw_load.specs.Load.{LoadEntry}
 use Rattle.sw_machine.proofs.Balance.{count_cons}
 use Rattle.sw_machine.proofs.RunLists.{all_moves}
@@ -25,9 +25,9 @@ use Rattle.sw_machine.specs.Network.{PendingReply, form}
 use Rattle.sw_machine.specs.Runs.{length_pending, total, undelivered}
 use Rattle.sw_machine.specs.State.{State, after_begin, empty, reply_packet}
 use Rattle.sw_machine.specs.Steps.{Accept, Arrive, Begin, Drop, Emit, Fct, FctIn, Forward, Grant, IsPossible, Reply, Spill, Step, is_begin}
-use Rattle.sw_model.proofs.Flows.{some_at}
-use Rattle.sw_model.proofs.Networks.{are_networks}
-use Rattle.sw_model.specs.Model.{network_of}
+use Rattle.sw_machine.proofs.Flows.{some_at}
+use Rattle.sw_machine.proofs.DeclaredNetworks.{are_networks}
+use Rattle.sw_machine.specs.Model.{network_of}
 use Rattle.sw_net.specs.Asked.{IsQuietNet}
 use Rattle.sw_net.specs.Net.{IsNetState, NetView}
 use Rattle.sw_config.specs.Valid.{IsValid}

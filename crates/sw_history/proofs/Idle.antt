@@ -13,14 +13,14 @@ use Rattle.sw_history.specs.Next.{BeginsOne, begin_of, IsIdle}
 use Rattle.sw_load.specs.History.{BeginsNext, next_packet, packet_of, packets_at, packets_of}
 use Rattle.sw_load.specs.Laws.{AreDeclared}
 use Rattle.sw_load.specs.Load.{LoadEntry}
-use Rattle.sw_model.specs.Packets.{IsDeclaredPacket}
+use Rattle.sw_machine.specs.DeclaredPackets.{IsDeclaredPacket}
 use Rattle.sw_machine.proofs.Parts.{link_ends}
 use Rattle.sw_machine.specs.Begun.{Begun, beginnings}
 use Rattle.sw_machine.specs.Network.{AtNode, AtSwitch, Network}
 use Rattle.sw_machine.specs.Parts.{link_end_of}
 use Rattle.sw_machine.specs.Steps.{Accept, Arrive, Begin, Drop, Emit, Fct, FctIn, Forward, Grant, IsPossible, Reply, Spill, Step, is_begin}
-use Rattle.sw_model.proofs.Networks.{are_networks}
-use Rattle.sw_model.specs.Model.{network_of}
+use Rattle.sw_machine.proofs.DeclaredNetworks.{are_networks}
+use Rattle.sw_machine.specs.Model.{network_of}
 use Rattle.sw_net.specs.Asked.{CanStep}
 use Rattle.sw_net.specs.Making.{IsMoveOf}
 use Rattle.sw_net.specs.Net.{NetView}

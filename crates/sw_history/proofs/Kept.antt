@@ -10,7 +10,7 @@ use Rattle.sw_load.specs.Laws.{AreDeclared}
 use Rattle.sw_load.specs.Load.{LoadEntry}
 use Rattle.sw_machine.specs.State.{State, empty}
 use Rattle.sw_machine.specs.Steps.{Begin}
-use Rattle.sw_model.specs.Model.{network_of}
+use Rattle.sw_machine.specs.Model.{network_of}
 use Rattle.sw_net.specs.Net.{IsNetState, NetView}
 use Rattle.sw_load.proofs.Sends.{flow_from}
 use Rattle.sw_config.specs.Entries.{Declaration, FlowEntry, all_flows}

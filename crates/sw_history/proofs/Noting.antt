@@ -15,7 +15,7 @@ use Rattle.sw_load.specs.Senders.{SendersView}
 use Rattle.sw_load.specs.Load.{LoadEntry}
 use Rattle.sw_machine.specs.Begun.{Begun, beginnings}
 use Rattle.sw_machine.specs.Steps.{Accept, Arrive, Begin, Drop, Emit, Fct, FctIn, Forward, Grant, Reply, Spill, Step}
-use Rattle.sw_model.specs.Model.{network_of}
+use Rattle.sw_machine.specs.Model.{network_of}
 
 -- a beginning is kept as its node, and how many packets that has begun
 pub record IsBeginning (h : HistoryView) (step : Step) (n before : ℕ) : Type 0 where

@@ -7,7 +7,7 @@ use Rattle.sw_history.specs.declared.fault.StepFault.{StepFault}
 use Rattle.sw_history.specs.declared.fault.StepFault.TheVariants.{Memory, NotEnabled}
 use Rattle.sw_load.specs.History.{BeginsNext, packets_of}
 use Rattle.sw_machine.specs.Steps.{IsPossible, Step}
-use Rattle.sw_model.specs.Model.{network_of}
+use Rattle.sw_machine.specs.Model.{network_of}
 use Rattle.sw_net.specs.Net.{NetView}
 use Rattle.sw_config.specs.Entries.{Declaration}
 

@@ -8,14 +8,14 @@ use Rattle.sw_net.specs.NetFault.TheVariants.{NotEnabled, NotInFlow}
 use Rattle.sw_char.specs.declared.nchar.End.{End}
 use Rattle.sw_history.specs.Way.{HasMoved}
 use Rattle.sw_machine.specs.Steps.{Begin}
-use Rattle.sw_model.specs.Steps.{machine_step}
+use Rattle.sw_machine.specs.StepValues.{machine_step}
 use Rattle.sw_net.proofs.Delivered.{channel_count}
 use Rattle.sw_net.specs.Asked.{CanStep, IsFirst}
 use Rattle.sw_net.specs.Making.{MovesAt}
 use Rattle.sw_net.specs.Net.{IsNet, NetAnswers, NetView}
 use Rattle.sw_net.specs.Possible.{Tells}
 use Rattle.sw_route.specs.declared.look.Look.{Look}
-use Rattle.sw_model.specs.declared.step.Step.{Step as CodeStep}
+use Rattle.sw_machine.specs.declared.step.Step.{Step as CodeStep}
 
 none_is : (x y : ⊥) → x ≡ y
 none_is x y = absurd x

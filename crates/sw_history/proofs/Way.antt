@@ -12,7 +12,7 @@ use Rattle.sw_load.specs.Load.{LoadEntry}
 use Rattle.sw_machine.proofs.RunLists.{moves_append, moves_cons}
 use Rattle.sw_machine.specs.Begun.{Begun, beginnings, moves}
 use Rattle.sw_machine.specs.Steps.{Begin, Step, is_begin}
-use Rattle.sw_model.specs.Model.{network_of}
+use Rattle.sw_machine.specs.Model.{network_of}
 use Rattle.sw_net.specs.Net.{NetAnswers, NetView}
 use Rattle.sw_config.specs.Entries.{Declaration}
 

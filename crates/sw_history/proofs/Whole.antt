@@ -8,13 +8,13 @@ use Rattle.sw_load.proofs.Grown.{slice_get-behind}
 use Rattle.sw_load.proofs.Sends.{entry_first, other_copies}
 use Rattle.sw_load.specs.History.{IsHistory, IsWhole, next_packet, packet_of, packets_at, packets_of}
 use Rattle.sw_load.specs.Laws.{AreDeclared}
-use Rattle.sw_model.proofs.Declares.{declared_are_declared}
+use Rattle.sw_machine.proofs.Declares.{declared_are_declared}
 use Rattle.sw_load.specs.Load.{LoadEntry}
 use Rattle.sw_machine.specs.Begun.{Begun, beginnings}
 use Rattle.sw_machine.specs.State.{State}
 use Rattle.sw_machine.specs.Steps.{Step}
-use Rattle.sw_model.proofs.Networks.{are_networks}
-use Rattle.sw_model.specs.Model.{network_of}
+use Rattle.sw_machine.proofs.DeclaredNetworks.{are_networks}
+use Rattle.sw_machine.specs.Model.{network_of}
 use Rattle.sw_config.specs.Entries.{Declaration}
 use Rattle.sw_config.specs.Valid.{IsValid}
 

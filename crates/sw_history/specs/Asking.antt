@@ -4,7 +4,7 @@ use Rattle.sw_config.specs.Entries.{Declaration}
 use Rattle.sw_history.specs.Next.{MayFollow}
 use Rattle.sw_machine.specs.Begun.{Begun}
 use Rattle.sw_machine.specs.Steps.{Grant, Step}
-use Rattle.sw_model.specs.Model.{network_of}
+use Rattle.sw_machine.specs.Model.{network_of}
 use Rattle.sw_net.specs.Asking.{IsInput}
 
 -- these are the ports to whose inputs the output where channel e starts can be granted by the next step (ECSS-E-ST-50-12C, network layer:

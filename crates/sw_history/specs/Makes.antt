@@ -4,7 +4,7 @@ use Rattle.sw_history.specs.declared.fault.StepFault.{StepFault}
 use Rattle.sw_history.specs.declared.fault.StepFault.TheVariants.{Memory, NotEnabled}
 use Rattle.sw_machine.specs.State.{State}
 use Rattle.sw_machine.specs.Steps.{IsPossible, Step}
-use Rattle.sw_model.specs.Model.{network_of}
+use Rattle.sw_machine.specs.Model.{network_of}
 use Rattle.sw_net.specs.Net.{IsNetState, NetAnswers, NetView}
 
 -- Ok: the step was made; NotEnabled: it is not possible; Memory: it is

@@ -9,7 +9,7 @@ use Rattle.sw_load.specs.History.{packets_at, packets_of}
 use Rattle.sw_load.specs.Senders.{SendersView}
 use Rattle.sw_machine.specs.Begun.{Begun}
 use Rattle.sw_machine.specs.Steps as machine
-use Rattle.sw_model.specs.Model.{network_of}
+use Rattle.sw_machine.specs.Model.{network_of}
 
 -- what the nodes send in a history
 abbrev pub senders_of : HistoryView → SendersView

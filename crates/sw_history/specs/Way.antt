@@ -7,7 +7,7 @@ use Rattle.sw_machine.specs.Begun.{Begun, beginnings, moves}
 use Rattle.sw_machine.specs.Parts.{link_end_of}
 use Rattle.sw_machine.specs.State.{State}
 use Rattle.sw_machine.specs.Steps.{Begin, Step, is_begin}
-use Rattle.sw_model.specs.Model.{network_of}
+use Rattle.sw_machine.specs.Model.{network_of}
 use Rattle.sw_net.specs.Asked.{IsQuietNet}
 use Rattle.sw_net.specs.Net.{IsNetState, NetAnswers, NetView}
 use Rattle.sw_net.specs.Possible.{TellsBeginning}

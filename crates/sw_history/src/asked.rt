@@ -2,9 +2,9 @@
 ghost use Rattle.std.specs.Prelude.{◌≡◌, ◌↔◌, ◌<◌, ◌*◌, IfOk, IsTrue, length, map};
 ghost use Rattle.sw_load.specs.History.{IsWhole, packets_of};
 ghost use Rattle.sw_machine.specs.State.{State};
-ghost use Rattle.sw_model.specs.Model.{network_of};
+ghost use Rattle.sw_machine.specs.Model.{network_of};
 ghost use Rattle.sw_net.specs.Net.{IsNetState};
-ghost use Rattle.sw_model.specs.Steps.{machine_step};
+ghost use Rattle.sw_machine.specs.StepValues.{machine_step};
 
 use crate::history::History;
 use crate::record::{Record, steps_of};
@@ -12,7 +12,7 @@ use std::alloc::{AllocError, Global};
 use sw_arb::Arbiter;
 use sw_config::Network;
 use sw_load::Load;
-use sw_model::Step;
+use sw_machine::Step;
 use sw_net::Net;
 use sw_route::Routing;
 use sw_topo::{LinkEnd, PortSet};

@@ -3,15 +3,15 @@ ghost use Rattle.std.specs.Prelude.{◌≡◌, ◌<◌, ◌*◌, IfNone, IfOk, I
 ghost use Rattle.sw_history.specs.Next.{begin_of};
 ghost use Rattle.sw_load.specs.History.{packet_of, packets_of};
 ghost use Rattle.sw_machine.specs.Begun.{Begun};
-ghost use Rattle.sw_model.specs.Model.{network_of};
-ghost use Rattle.sw_model.specs.Steps.{machine_step};
+ghost use Rattle.sw_machine.specs.Model.{network_of};
+ghost use Rattle.sw_machine.specs.StepValues.{machine_step};
 
 use crate::history::History;
 use crate::record::beginning;
 use std::alloc::{AllocError, Global};
 use sw_arb::Arbiter;
 use sw_load::LoadPacket;
-use sw_model::Step;
+use sw_machine::Step;
 use sw_route::Routing;
 use sw_topo::{LinkEnd, PlaceEnd};
 

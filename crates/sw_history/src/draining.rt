@@ -5,7 +5,7 @@ ghost use Rattle.sw_history.specs.Turns.{TurnsLead};
 ghost use Rattle.sw_history.specs.Way.{MovesPicked};
 ghost use Rattle.sw_load.specs.Laws.{AreDeclared};
 ghost use Rattle.sw_machine.specs.State.{empty};
-ghost use Rattle.sw_model.specs.Model.{network_of};
+ghost use Rattle.sw_machine.specs.Model.{network_of};
 ghost use Rattle.sw_net.specs.Net.{IsNetState};
 
 use crate::begin::begin_one;
@@ -13,7 +13,7 @@ use crate::moves::{count_enabled, move_one};
 use crate::packets::nothing_begun;
 use std::alloc::{AllocError, Global};
 use sw_arb::Arbiter;
-use sw_check::Passed;
+use sw_cert::Passed;
 use sw_load::{Load, Senders, enough_limit};
 use sw_net::Net;
 use sw_route::Routing;

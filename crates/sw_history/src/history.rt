@@ -9,7 +9,7 @@ use std::marker::Model;
 use sw_arb::Arbiter;
 use sw_char::End;
 use sw_load::{Load, LoadPacket, Senders};
-use sw_model::Step;
+use sw_machine::Step;
 use sw_net::Net;
 use sw_route::Routing;
 
@@ -44,9 +44,9 @@ impl<'n, R: Routing, A: Arbiter> History<'n, R, A> {
     ghost use Rattle.sw_history.specs.Noted.{IsNoted, noted_step, senders_of};
     ghost use Rattle.sw_history.specs.declared.fault.StepFault.TheVariants.{NotEnabled};
     ghost use Rattle.sw_machine.specs.Steps.{Begin};
-    ghost use Rattle.sw_model.specs.Steps.{machine_step};
+    ghost use Rattle.sw_machine.specs.StepValues.{machine_step};
     ghost use Rattle.sw_load.specs.History.{BeginsNext, next_packet, packet_of, packets_of};
-    ghost use Rattle.sw_model.specs.Model.{network_of};
+    ghost use Rattle.sw_machine.specs.Model.{network_of};
 
     /// How many steps there are.
     pub fn len(&self) -> usize
@@ -166,7 +166,7 @@ impl<'n, R: Routing + Drop, A: Arbiter + Drop> History<'n, R, A> {
     ghost use Rattle.std.specs.Prelude.{◌≡◌, IfOk, []};
     ghost use Rattle.sw_load.specs.Laws.{AreDeclared};
     ghost use Rattle.sw_machine.specs.State.{empty};
-    ghost use Rattle.sw_model.specs.Model.{network_of};
+    ghost use Rattle.sw_machine.specs.Model.{network_of};
     ghost use Rattle.sw_net.specs.Net.{IsNetState};
 
     /// The history of no steps, of a network in its empty state.

@@ -1,13 +1,13 @@
 //! A step of the network, for its history.
 ghost use Rattle.std.specs.Prelude.{◌≡◌, OnErr};
 ghost use Rattle.sw_history.specs.Makes.{Makes};
-ghost use Rattle.sw_model.specs.Steps.{machine_step};
+ghost use Rattle.sw_machine.specs.StepValues.{machine_step};
 
 use crate::fault::StepFault;
 use std::alloc::Global;
 use std::marker::Model;
 use sw_arb::Arbiter;
-use sw_model::Step;
+use sw_machine::Step;
 use sw_net::{Net, NetFault};
 use sw_route::Routing;
 

@@ -5,12 +5,12 @@ ghost use Rattle.sw_history.specs.Noted.{IsNoted, noted_step};
 ghost use Rattle.sw_load.specs.History.{packet_of};
 ghost use Rattle.sw_load.specs.Senders.{SendersView};
 ghost use Rattle.sw_machine.specs.Steps.{is_begin};
-ghost use Rattle.sw_model.specs.Steps.{machine_step};
+ghost use Rattle.sw_machine.specs.StepValues.{machine_step};
 
 use std::alloc::{AllocError, Global};
 use std::marker::Model;
 use sw_load::{LoadPacket, Senders};
-use sw_model::Step;
+use sw_machine::Step;
 use sw_topo::Chan;
 
 /// A step in few bytes. A beginning is the node that sends, and how many of its packets come before

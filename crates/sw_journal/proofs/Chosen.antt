@@ -8,9 +8,9 @@ use Rattle.sw_history.specs.Next.{IsIdle}
 use Rattle.sw_journal.proofs.Commit.{view_of}
 use Rattle.sw_journal.specs.Choices.{Chooses}
 use Rattle.sw_load.specs.History.{packets_of}
-use Rattle.sw_model.specs.Model.{network_of}
-use Rattle.sw_model.specs.Steps.{machine_step}
-use Rattle.sw_model.specs.declared.step.Step.{Step as CodeStep}
+use Rattle.sw_machine.specs.Model.{network_of}
+use Rattle.sw_machine.specs.StepValues.{machine_step}
+use Rattle.sw_machine.specs.declared.step.Step.{Step as CodeStep}
 
 pub chosen : (name : TableId) (h : HistoryView) (limit : ℕ) (marks : List (Option ℕ)) (e : ℕ) (r : Result (Option CodeStep) AllocError) → IfOk r (λ o. IfSome o (λ step. IsNextAt h e (machine_step step)))
     → IfOk r (λ o. IfNone o (IsIdle (network_of h.declared) (packets_of h.load) h.steps e)) → IfOk r (λ o. Chooses (view_of name h limit marks) e o)

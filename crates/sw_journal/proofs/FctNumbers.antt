@@ -13,7 +13,7 @@ use Rattle.sw_load.specs.History.{packets_of}
 use Rattle.sw_machine.specs.Network.{AtNode, AtSwitch, Cell, Network, reverse_of}
 use Rattle.sw_machine.specs.State.{State, after_fct}
 use Rattle.sw_machine.specs.Steps.{Fct}
-use Rattle.sw_model.specs.Model.{network_of}
+use Rattle.sw_machine.specs.Model.{network_of}
 use Rattle.sw_net.specs.Numbers.{numbers_at}
 use Rattle.sw_net.specs.declared.numbers.Numbers.{Numbers}
 

@@ -16,14 +16,14 @@ use Rattle.sw_journal.proofs.Told.{is_same_cell}
 use Rattle.sw_journal.specs.Cells.{all_known, same_cell}
 use Rattle.sw_journal.specs.Opening.{numbered_of}
 use Rattle.sw_journal.specs.Record.{JournalView, IsKept}
-use Rattle.sw_parallel.proofs.Ranges.{range_more}
+use Rattle.sw_graph.proofs.Ranges.{range_more}
 use Rattle.sw_load.specs.History.{IsHistory, packets_at, packets_of}
 use Rattle.sw_load.specs.Load.{LoadEntry}
 use Rattle.sw_machine.specs.Network.{AtNode, AtSwitch, Cell, Network}
 use Rattle.sw_machine.specs.State.{State, empty}
 use Rattle.sw_machine.specs.Steps.{Step}
-use Rattle.sw_model.proofs.Networks.{are_networks}
-use Rattle.sw_model.specs.Model.{cell_of, network_of}
+use Rattle.sw_machine.proofs.DeclaredNetworks.{are_networks}
+use Rattle.sw_machine.specs.Model.{cell_of, network_of}
 use Rattle.sw_net.proofs.Delivered.{channel_count}
 use Rattle.sw_net.specs.Net.{IsNetState, NetView}
 use Rattle.sw_net.specs.Numbers.{numbers_at}

@@ -17,7 +17,7 @@ use Rattle.sw_machine.specs.Parts.{SamePart, cell_of}
 use Rattle.sw_machine.specs.Runs.{IsReached}
 use Rattle.sw_machine.specs.State.{State}
 use Rattle.sw_machine.specs.Steps.{Leads, Step}
-use Rattle.sw_model.specs.Model.{network_of}
+use Rattle.sw_machine.specs.Model.{network_of}
 use Rattle.sw_net.specs.Numbers.{numbers_at}
 use Rattle.sw_config.specs.Entries.{Declaration}
 use Rattle.sw_journal.specs.declared.cell_table.Known.{Known}

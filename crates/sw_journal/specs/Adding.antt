@@ -8,7 +8,7 @@ use Rattle.sw_journal.specs.declared.fault.JournalFault.TheVariants.{Full, Memor
 use Rattle.sw_machine.specs.Parts.{cell_of}
 use Rattle.sw_machine.specs.State.{State}
 use Rattle.sw_machine.specs.Steps.{IsPossible, Step}
-use Rattle.sw_model.specs.Model.{network_of}
+use Rattle.sw_machine.specs.Model.{network_of}
 use Rattle.sw_config.specs.Entries.{Declaration}
 
 -- true: the step is done at this cell; false: it is not, or it is never possible

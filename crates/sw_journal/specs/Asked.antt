@@ -7,7 +7,7 @@ use Rattle.sw_machine.specs.Packets.{Packet}
 use Rattle.sw_machine.specs.Runs.{CameOut, IsLockedUp, undelivered}
 use Rattle.sw_machine.specs.State.{State}
 use Rattle.sw_machine.specs.Steps.{Step}
-use Rattle.sw_model.specs.Model.{network_of}
+use Rattle.sw_machine.specs.Model.{network_of}
 
 -- so many characters are undelivered in the state after the history
 abbrev pub IsUndelivered : JournalView → ℕ → Type 0

@@ -6,7 +6,7 @@ use Rattle.sw_cell.specs.declared.cell.CellId.{CellId}
 use Rattle.sw_cell.specs.declared.cell.CellId.TheVariants.{Node, Switch}
 use Rattle.sw_machine.specs.Network.{AtNode, AtSwitch, Cell, Network}
 use Rattle.sw_machine.specs.State.{State}
-use Rattle.sw_model.specs.Model.{network_of}
+use Rattle.sw_machine.specs.Model.{network_of}
 use Rattle.sw_net.specs.Numbers.{numbers_at}
 use Rattle.sw_net.specs.declared.numbers.Numbers.{Numbers}
 use Rattle.sw_config.specs.Entries.{Declaration}

@@ -6,9 +6,9 @@ use Rattle.sw_journal.specs.Record.{JournalView, Declares}
 use Rattle.sw_load.specs.History.{packets_of}
 use Rattle.sw_machine.specs.Parts.{link_end_of}
 use Rattle.sw_machine.specs.Steps.{Step}
-use Rattle.sw_model.specs.Model.{network_of}
-use Rattle.sw_model.specs.Steps.{machine_step}
-use Rattle.sw_model.specs.declared.step.Step.{Step as CodeStep}
+use Rattle.sw_machine.specs.Model.{network_of}
+use Rattle.sw_machine.specs.StepValues.{machine_step}
+use Rattle.sw_machine.specs.declared.step.Step.{Step as CodeStep}
 
 -- the step may be the next
 abbrev pub IsNext : JournalView → Step → Type 0

@@ -10,7 +10,7 @@ use Rattle.sw_journal.specs.Cells.{known_of, same_cell}
 use Rattle.sw_journal.specs.Record.{CellView, new_cell}
 use Rattle.sw_machine.specs.Network.{Network}
 use Rattle.sw_machine.specs.State.{State, empty}
-use Rattle.sw_model.specs.Model.{network_of}
+use Rattle.sw_machine.specs.Model.{network_of}
 use Rattle.sw_net.specs.Numbers.{numbers_at}
 use Rattle.sw_net.specs.declared.numbers.Numbers.{Numbers}
 use Rattle.sw_config.specs.Entries.{Declaration}

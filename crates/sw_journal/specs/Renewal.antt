@@ -4,7 +4,7 @@ use Rattle.sw_history.specs.History.{HistoryView, LeadsTo}
 use Rattle.sw_machine.specs.Network.{Network}
 use Rattle.sw_machine.specs.State.{State}
 use Rattle.sw_machine.specs.Steps.{Leads, Step}
-use Rattle.sw_model.specs.Model.{network_of}
+use Rattle.sw_machine.specs.Model.{network_of}
 use Rattle.sw_net.specs.Net.{IsNetState, NetView}
 use Rattle.sw_net.specs.Numbers.{numbers_at}
 use Rattle.sw_net.specs.declared.numbers.Numbers.{Numbers}

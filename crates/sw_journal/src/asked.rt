@@ -6,7 +6,7 @@ ghost use Rattle.sw_journal.specs.Cells.{end_numbers};
 ghost use Rattle.sw_journal.specs.Record.{Declares, IsTrueView, with_marks};
 ghost use Rattle.sw_load.specs.History.{IsWhole, packets_of};
 ghost use Rattle.sw_machine.specs.Steps.{Step as MachineStep};
-ghost use Rattle.sw_model.specs.Model.{network_of};
+ghost use Rattle.sw_machine.specs.Model.{network_of};
 
 use crate::cell::Cell;
 use crate::journal::Journal;

@@ -8,7 +8,7 @@ ghost use Rattle.sw_load.specs.History.{packets_of};
 use crate::cell::Cell;
 use crate::journal::Journal;
 use std::alloc::{AllocError, Global};
-use sw_model::Step;
+use sw_machine::Step;
 use sw_topo::{LinkEnd, PortSet};
 
 impl<'n> Journal<'n> {

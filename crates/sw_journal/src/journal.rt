@@ -1,7 +1,7 @@
 //! The journal.
 ghost use Rattle.std.specs.Prelude.{◌≡◌, ◌≤◌, length};
 ghost use Rattle.sw_journal.specs.Adding.{AddsAt, IsAtCell};
-ghost use Rattle.sw_model.specs.Steps.{machine_step};
+ghost use Rattle.sw_machine.specs.StepValues.{machine_step};
 
 use crate::cell::Cell;
 use crate::cell_table::{CellSeat, CellTable};
@@ -16,7 +16,7 @@ use sw_cell::{CellId, cell_of};
 use sw_config::Network;
 use sw_history::{History, StepFault};
 use sw_load::Load;
-use sw_model::Step;
+use sw_machine::Step;
 use sw_net::{SwitchRoutes, declared_net};
 
 /// The history of a run, which has a limit, and after how many steps each link end was found idle
@@ -63,7 +63,7 @@ impl<'n> Journal<'n> {
     ghost use Rattle.std.specs.Prelude.{IfOk};
     ghost use Rattle.sw_journal.specs.Record.{Commits, IsTrueView, IsNew, IsNowCell, new_cells};
     ghost use Rattle.sw_load.specs.Laws.{AreDeclared};
-    ghost use Rattle.sw_model.specs.Steps.{machine_step};
+    ghost use Rattle.sw_machine.specs.StepValues.{machine_step};
 
     /// A journal of no steps and no marks, and a cell for each node and each switch of the network,
     /// in their order, in the empty state.

@@ -7,7 +7,7 @@ ghost use Rattle.sw_journal.specs.Cells.{all_known, cells_of, numbered, same_cel
 ghost use Rattle.sw_journal.specs.Opening.{AreOpened};
 ghost use Rattle.sw_journal.specs.Record.{new_cells};
 ghost use Rattle.sw_machine.specs.State.{empty};
-ghost use Rattle.sw_model.specs.Model.{network_of};
+ghost use Rattle.sw_machine.specs.Model.{network_of};
 ghost use Rattle.sw_net.specs.Net.{IsNetState};
 ghost use Rattle.sw_journal.specs.Views.{knower};
 

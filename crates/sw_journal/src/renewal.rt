@@ -2,13 +2,13 @@
 ghost use Rattle.std.specs.Prelude.{◌≡◌, ◌*◌, ◌<◌, All, IfSome, None, Some, length, map, option_map, slice_get, true};
 ghost use Rattle.sw_journal.specs.Renewal.{AreOnce, AreRenewed, AreRenewedAfter, ChangesOnlyThen, IsRenewed};
 ghost use Rattle.sw_journal.specs.Views.{with_known};
-ghost use Rattle.sw_model.specs.Steps.{machine_step};
+ghost use Rattle.sw_machine.specs.StepValues.{machine_step};
 
 use crate::cell_table::{CellSeat, CellTable};
 use crate::seats::tell;
 use sw_arb::Policy;
 use sw_history::History;
-use sw_model::Step;
+use sw_machine::Step;
 use sw_net::{Net, Numbers, SwitchRoutes};
 use sw_topo::LinkEnd;
 

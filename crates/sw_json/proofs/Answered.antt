@@ -4,12 +4,12 @@ use Rattle.std.specs.Prelude.{Err, IfOk, IsOkAnd, Ok, Option, Result, string_byt
 use Rattle.std.specs.declared.alloc.AllocError.{AllocError}
 use Rattle.serde_json.specs.Data.{Data}
 use Rattle.serde_json.specs.View.{view}
-use Rattle.sw_command.specs.declared.answer.Answer.{Answer}
-use Rattle.sw_command.specs.declared.read_texts.InputError.{InputError}
-use Rattle.sw_command.specs.declared.read_texts.InputError.TheVariants as input
-use Rattle.sw_command.specs.declared.write_answer.Ended.{Ended}
-use Rattle.sw_command.specs.declared.write_answer.Ended.TheVariants.{Status, ReadFailed, WriteFailed}
-use Rattle.sw_command.specs.Ends.{AnswersByTwo, AnswersToTwo, GivesText, IsTold, Says}
+use Rattle.sw_text.specs.declared.answer.Answer.{Answer}
+use Rattle.sw_text.specs.declared.read_texts.InputError.{InputError}
+use Rattle.sw_text.specs.declared.read_texts.InputError.TheVariants as input
+use Rattle.sw_text.specs.declared.write_answer.Ended.{Ended}
+use Rattle.sw_text.specs.declared.write_answer.Ended.TheVariants.{Status, ReadFailed, WriteFailed}
+use Rattle.sw_text.specs.Ends.{AnswersByTwo, AnswersToTwo, GivesText, IsTold, Says}
 use Rattle.sw_json.specs.Texts.{ReadsBack, text_of}
 use Rattle.sw_json.specs.declared.files.Release.{Release}
 use Rattle.sw_json.specs.Answering.{AnswersByOne, AnswersToOne, EndsByOneFile, EndsByTwoFiles, IsAnswer, IsAnswerTold, IsOutcome, IsUnreadTold, Results, Spells, memory_text}

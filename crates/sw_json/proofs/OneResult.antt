@@ -7,7 +7,7 @@ use Rattle.sw_file.specs.Network.{network_text}
 use Rattle.sw_json.specs.AnswerValues.{answer_value}
 use Rattle.sw_json.specs.Texts.{text_of}
 use Rattle.sw_json.specs.declared.files.Release.{Release}
-use Rattle.sw_toml_table.specs.declared.fault.TextFault.{TextFault}
+use Rattle.sw_text.specs.declared.fault.TextFault.{TextFault}
 use Rattle.sw_json.specs.Answering.{IsAnswer, IsFaultyFile, IsOutcome, OfFile, OfNetwork, OfNetworkFile, Results}
 use Rattle.sw_json.specs.Laws.{AreOneButForFaults}
 

@@ -3,12 +3,12 @@ use Rattle.std.specs.Prelude.{◌≡◌, ◌⊎◌, ℕ, List, [], ◌∷◌, co
 use Rattle.std.specs.Io.KnownBytes.{Keeps}
 use Rattle.std.specs.declared.alloc.AllocError.{AllocError}
 use Rattle.serde_json.specs.Data.{Data, object, member, no_members}
-use Rattle.sw_command.specs.Ends.{Answers, AnswersByTwo, AnswersToTwo, GivesText, IsTold, Says}
-use Rattle.sw_command.specs.declared.answer.Answer.{Answer}
-use Rattle.sw_command.specs.declared.read_texts.InputError.{InputError}
-use Rattle.sw_command.specs.declared.read_texts.InputError.TheVariants as input
-use Rattle.sw_command.specs.declared.write_answer.Ended.{Ended}
-use Rattle.sw_command.specs.declared.write_answer.Ended.TheVariants.{Status, ReadFailed, WriteFailed}
+use Rattle.sw_text.specs.Ends.{Answers, AnswersByTwo, AnswersToTwo, GivesText, IsTold, Says}
+use Rattle.sw_text.specs.declared.answer.Answer.{Answer}
+use Rattle.sw_text.specs.declared.read_texts.InputError.{InputError}
+use Rattle.sw_text.specs.declared.read_texts.InputError.TheVariants as input
+use Rattle.sw_text.specs.declared.write_answer.Ended.{Ended}
+use Rattle.sw_text.specs.declared.write_answer.Ended.TheVariants.{Status, ReadFailed, WriteFailed}
 use Rattle.sw_config.specs.Entries.{Declaration}
 use Rattle.sw_file.specs.Network.{network_text}
 use Rattle.sw_json.specs.AnswerValues.{answer_value, file_fault_value, input_value, long_input}
@@ -17,9 +17,9 @@ use Rattle.sw_json.specs.FileValues.{kind_value}
 use Rattle.sw_json.specs.Simple.{count_value}
 use Rattle.sw_json.specs.Texts.{ReadsBack, text_of}
 use Rattle.sw_json.specs.declared.files.Release.{Release}
-use Rattle.sw_toml_table.specs.declared.fault.FileFault.{FileFault}
-use Rattle.sw_toml_table.specs.declared.fault.FileFault.TheVariants.{Text, Memory}
-use Rattle.sw_toml_table.specs.declared.fault.TextFault.{TextFault}
+use Rattle.sw_text.specs.declared.fault.FileFault.{FileFault}
+use Rattle.sw_text.specs.declared.fault.FileFault.TheVariants.{Text, Memory}
+use Rattle.sw_text.specs.declared.fault.TextFault.{TextFault}
 
 -- ---- results
 

@@ -1,6 +1,6 @@
 -- Laws of answers as JSON.
 use Rattle.std.specs.Prelude.{◌≡◌, ◌≢◌, ℕ, List}
-use Rattle.sw_command.specs.Ends.{Answers}
+use Rattle.sw_text.specs.Ends.{Answers}
 use Rattle.sw_json.specs.Texts.{ReadsBack, text_of}
 use Rattle.sw_json.specs.Answering.{memory_text, memory_value}
 

@@ -12,7 +12,7 @@ use Rattle.sw_json.specs.FileValues.{audit_value, bare_entry, kind_value, read_e
 use Rattle.sw_json.specs.PlaceValues.{misrouted_fault_value, place_value}
 use Rattle.sw_json.specs.VerdictValues.{verdict_value}
 use Rattle.sw_search.specs.declared.verdict.Verdict.{Verdict}
-use Rattle.sw_toml_table.specs.declared.fault.TextFault.{TextFault}
+use Rattle.sw_text.specs.declared.fault.TextFault.{TextFault}
 
 -- no float in the value, and at most so many levels
 pub record IsPlain (most : ℕ) (value : Data) : Type 0 where

@@ -3,7 +3,7 @@ ghost use Rattle.std.specs.Prelude.{◌≡◌, ◌∷◌, [], IfOk, IsOkAnd, map
 ghost use Rattle.serde_json.specs.View.{view};
 ghost use Rattle.sw_json.specs.AnswerValues.{file_fault_value};
 ghost use Rattle.sw_json.specs.Plain.{IsPlain};
-ghost use Rattle.sw_command.specs.Inputs.{given};
+ghost use Rattle.sw_text.specs.Inputs.{given};
 ghost use Rattle.sw_json.specs.Answering.{IsAnswer, IsAnswerTold, IsLongFile, IsMemoryTold, IsOutcome, IsUnreadNetwork, IsUnreadTold, read_value};
 
 use crate::answers::{answer_value, file_fault_value};
@@ -17,9 +17,8 @@ use crate::texts::text_of;
 use serde_json::Value;
 use std::alloc::{AllocError, Global};
 use std::io::Write;
-use sw_command::statuses::{FAULTY, NO_ROOM};
-use sw_command::{Answer, Ended, InputError, InputText, tell};
-use sw_toml_table::FileFault;
+use sw_text::statuses::{FAULTY, NO_ROOM};
+use sw_text::{Answer, Ended, FileFault, InputError, InputText, tell};
 
 /// The result where the file of this path has the fault.
 ///

@@ -4,7 +4,7 @@ ghost use Rattle.sw_json.specs.FaultValues.{fault_code};
 ghost use Rattle.sw_json.specs.PlaceValues.{route_fault_code};
 
 use sw_flow::RouteFault;
-use sw_toml_table::{KeyFault, TextFault};
+use sw_text::{KeyFault, TextFault};
 use sw_topo::TopoFault;
 
 /// The code of a fault of a text.

@@ -15,10 +15,9 @@ use crate::objects::{Member, object_of_six};
 use crate::simple::{count_or_null, text_or_null};
 use serde_json::Value;
 use std::alloc::{AllocError, Global};
-use sw_command::{fault_text, where_text};
 use sw_hints::fault_place;
 use sw_notes::position_at;
-use sw_toml_table::TextFault;
+use sw_text::{TextFault, fault_text, where_text};
 use sw_topo::{Limit, TopoFault};
 
 // What has the fault, by its kind and its number.

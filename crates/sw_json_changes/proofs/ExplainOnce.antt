@@ -7,7 +7,7 @@ use Rattle.std.proofs.lemmas.Option.{slice_get_within}
 use Rattle.serde_json.specs.Data.{Data}
 use Rattle.sw_app_changes.specs.ExplainAnswers as text
 use Rattle.sw_app_changes.specs.ExplainTexts.{explain_status}
-use Rattle.sw_command.specs.Ends.{IfLimited}
+use Rattle.sw_text.specs.Ends.{IfLimited}
 use Rattle.sw_config.specs.Entries.{Declaration, all_flows}
 use Rattle.sw_cycle.specs.Causes.{GoesOn, IsChosenCause}
 use Rattle.sw_cycle.specs.Cycles.{ByTarget, round}
@@ -28,7 +28,7 @@ use Rattle.sw_search.proofs.Exactly.{verdicts_tell}
 use Rattle.sw_search.specs.Laws.{SomeMisrouted}
 use Rattle.sw_search.specs.Verdicts.{AllWellRouted, IsMisrouted}
 use Rattle.sw_search.specs.declared.verdict.Verdict.TheVariants as verdict
-use Rattle.sw_toml_table.specs.declared.fault.TextFault.{TextFault}
+use Rattle.sw_text.specs.declared.fault.TextFault.{TextFault}
 use Rattle.sw_json.proofs.OneResult.{AreOne, one_answer}
 use Rattle.sw_json_changes.proofs.TanglesOnce.{one_tangles_value}
 use Rattle.sw_json.specs.Answering.{OfNetwork, OfNetworkFile, read_value}

@@ -6,8 +6,8 @@ use Rattle.serde_json.specs.View.{items_of}
 use Rattle.sw_app_changes.specs.MarginLaws as text_laws
 use Rattle.sw_app_changes.specs.MarginAnswers as text
 use Rattle.sw_app_changes.specs.MarginTexts.{margin_text, not_free_line}
-use Rattle.sw_command.specs.Ends.{IfLimited}
-use Rattle.sw_command.specs.FaultTexts.{fault_text}
+use Rattle.sw_text.specs.Ends.{IfLimited}
+use Rattle.sw_text.specs.FaultTexts.{fault_text}
 use Rattle.sw_config.specs.Entries.{Declaration}
 use Rattle.sw_file.specs.Network.{network_text}
 use Rattle.sw_margin.specs.Laws.{AnswersAreDetermined, LossesAreDetermined, StallsAreDetermined}
@@ -18,7 +18,7 @@ use Rattle.sw_search.specs.Laws.{SaysTheSame, VerdictsAreDetermined}
 use Rattle.sw_search.specs.Verdicts.{IsVerdict}
 use Rattle.sw_search.specs.declared.verdict.Verdict.{Verdict}
 use Rattle.sw_search.specs.declared.verdict.Verdict.TheVariants.{Misrouted, Cyclic, Free}
-use Rattle.sw_toml_table.specs.declared.fault.TextFault.{TextFault}
+use Rattle.sw_text.specs.declared.fault.TextFault.{TextFault}
 use Rattle.sw_json.proofs.OneResult.{AreOne, one_answer, one_of_network_file}
 use Rattle.sw_json.proofs.OneVerdict.{one_verdict_value}
 use Rattle.sw_json.specs.Answering.{OfNetwork, OfNetworkFile, read_value}

@@ -8,15 +8,15 @@ use Rattle.sw_app_changes.specs.declared.mending.Mending.TheVariants.{Misrouted,
 use Rattle.sw_app_changes.specs.MendLaws as text_laws
 use Rattle.sw_app_changes.specs.MendAnswers as text
 use Rattle.sw_app_changes.specs.MendTexts.{change_words, mending_text}
-use Rattle.sw_command.specs.Ends.{IfLimited}
-use Rattle.sw_command.specs.FaultTexts.{fault_text}
+use Rattle.sw_text.specs.Ends.{IfLimited}
+use Rattle.sw_text.specs.FaultTexts.{fault_text}
 use Rattle.sw_config.specs.Entries.{Declaration}
 use Rattle.sw_file.specs.Network.{network_text}
 use Rattle.sw_mend.specs.declared.change.Pair.{Pair}
 use Rattle.sw_mend.specs.declared.change.Trial.{Trial}
 use Rattle.sw_output.specs.Lines.{line}
 use Rattle.sw_search.specs.declared.verdict.Verdict.TheVariants as verdict
-use Rattle.sw_toml_table.specs.declared.fault.TextFault.{TextFault}
+use Rattle.sw_text.specs.declared.fault.TextFault.{TextFault}
 use Rattle.sw_json.proofs.OneResult.{AreOne, one_answer, one_of_network_file}
 use Rattle.sw_json.specs.Answering.{OfNetwork, OfNetworkFile, read_value}
 use Rattle.sw_json.specs.VerdictValues.{verdict_value}

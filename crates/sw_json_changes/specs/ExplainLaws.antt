@@ -1,7 +1,7 @@
 -- Laws of what `explain` answers with an object of JSON.
 use Rattle.std.specs.Prelude.{◌≡◌, All, Bool, ℕ, List, [], Ok, Option, Some, slice_get}
 use Rattle.sw_app_changes.specs.ExplainAnswers.{IsExplainAnswer}
-use Rattle.sw_command.specs.Ends.{IfLimited}
+use Rattle.sw_text.specs.Ends.{IfLimited}
 use Rattle.sw_config.specs.Entries.{Declaration}
 use Rattle.sw_cycle.specs.Cycles.{ByTarget}
 use Rattle.sw_search.specs.Tangles.{AreTangles}

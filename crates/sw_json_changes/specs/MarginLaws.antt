@@ -1,7 +1,7 @@
 -- Laws of what `margin` answers with an object of JSON.
 use Rattle.std.specs.Prelude.{ℕ, List, Option}
 use Rattle.sw_app_changes.specs.MarginAnswers.{IsMarginAnswer}
-use Rattle.sw_command.specs.Ends.{IfLimited}
+use Rattle.sw_text.specs.Ends.{IfLimited}
 use Rattle.sw_json.specs.declared.files.Release.{Release}
 use Rattle.sw_json.specs.Laws.{AreOneButForFaults, HaveOneStatus}
 use Rattle.sw_json_changes.specs.MarginJson.{IsMarginJson}

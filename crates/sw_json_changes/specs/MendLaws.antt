@@ -2,7 +2,7 @@
 use Rattle.std.specs.Prelude.{◌≡◌, ◌++◌, Bool, ℕ, List, Option, codes, map}
 use Rattle.sw_app_changes.specs.MendAnswers.{IsMendAnswer}
 use Rattle.sw_app_changes.specs.MendTexts.{mend_line, pair_line}
-use Rattle.sw_command.specs.Ends.{IfLimited}
+use Rattle.sw_text.specs.Ends.{IfLimited}
 use Rattle.sw_config.specs.Entries.{Declaration}
 use Rattle.sw_json.specs.declared.files.Release.{Release}
 use Rattle.sw_mend.specs.declared.change.Pair.{Pair}

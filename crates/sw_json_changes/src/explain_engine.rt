@@ -5,9 +5,9 @@ ghost use Rattle.sw_json_changes.specs.ExplainJson.{IsExplainJson};
 use crate::explain_outcome::explain_outcome;
 use std::alloc::Global;
 use std::io::{Read, Write};
-use sw_command::{Ended, read_one};
 use sw_json::{Release, answer_to_one, tell_answer, tell_unread};
 use sw_search::VerdictWorkers;
+use sw_text::{Ended, read_one};
 
 /// Why the network of a file can lock up, as an object of JSON: the first flow that is not well routed, with the places that its packets
 /// go over; or each tangle of channels with its shortest cycle, each step with all flows that make it; or that the network never locks up.

@@ -5,9 +5,9 @@ ghost use Rattle.sw_json_changes.specs.MarginJson.{IsMarginJson};
 use crate::margin_outcome::margin_outcome;
 use std::alloc::Global;
 use std::io::{Read, Write};
-use sw_command::{Ended, read_one};
 use sw_json::{Release, answer_to_one, tell_answer, tell_unread};
 use sw_search::VerdictWorkers;
+use sw_text::{Ended, read_one};
 
 /// How far the premises of the free network of a file bend, as an object of JSON: of each node that answers nothing and of each flow
 /// without a reply, whether the network stays free, and for each link the flows that are lost without it. Of a network that is not free,

@@ -1,7 +1,7 @@
 //! What `margin` finds.
 ghost use Rattle.std.specs.Prelude.{IfOk};
 ghost use Rattle.serde_json.specs.View.{view};
-ghost use Rattle.sw_command.specs.Inputs.{given};
+ghost use Rattle.sw_text.specs.Inputs.{given};
 ghost use Rattle.sw_search.specs.Verdicts.{IsVerdict};
 ghost use Rattle.sw_json.specs.Answering.{OfNetworkFile};
 ghost use Rattle.sw_json_changes.specs.MarginJson.{IsBent, IsByVerdict, IsMarginFound};
@@ -10,13 +10,13 @@ use crate::margin_laws::margins_are_plain;
 use crate::margin_values::margins_value;
 use crate::verdict_outcome::verdict_outcome;
 use std::alloc::{AllocError, Global};
-use sw_command::InputText;
-use sw_command::statuses::GOOD;
 use sw_config::Network;
 use sw_file::read_network;
 use sw_json::{Outcome, long_file, unread_network};
 use sw_margin::margins;
 use sw_search::{Verdict, VerdictWorkers, decide};
+use sw_text::InputText;
+use sw_text::statuses::GOOD;
 
 // What is found where no channels can wait for one another.
 fn bent<W: VerdictWorkers>(

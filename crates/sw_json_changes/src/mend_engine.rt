@@ -5,9 +5,9 @@ ghost use Rattle.sw_json_changes.specs.MendJson.{IsMendJson};
 use crate::mend_outcome::mend_outcome;
 use std::alloc::Global;
 use std::io::{Read, Write};
-use sw_command::{Ended, read_one};
 use sw_json::{Release, answer_to_one, tell_answer, tell_unread};
 use sw_search::VerdictWorkers;
+use sw_text::{Ended, read_one};
 
 /// Which single changes make the network of a file free of deadlocks, as an object of JSON, each change with its line of `mend`: 0 where
 /// some change does or the network is free already, and 1 where none does or a flow is not well routed, which is then told as a verdict.

@@ -1,18 +1,18 @@
 //! What `mend` finds.
 ghost use Rattle.std.specs.Prelude.{IfOk};
 ghost use Rattle.serde_json.specs.View.{view};
-ghost use Rattle.sw_command.specs.Inputs.{given};
+ghost use Rattle.sw_text.specs.Inputs.{given};
 ghost use Rattle.sw_json.specs.Answering.{OfNetworkFile};
 ghost use Rattle.sw_json_changes.specs.MendJson.{IsMendFound};
 
 use crate::mend_values::mending_value;
 use std::alloc::{AllocError, Global};
 use sw_app_changes::{find_mending, mending_status};
-use sw_command::InputText;
 use sw_config::Network;
 use sw_file::read_network;
 use sw_json::{Outcome, long_file, unread_network};
 use sw_search::VerdictWorkers;
+use sw_text::InputText;
 
 // What is found of a network.
 fn of_network<W: VerdictWorkers>(

@@ -7,16 +7,16 @@ use Rattle.sw_app_run.specs.declared.record_answer.Recorded.{Recorded}
 use Rattle.sw_app_run.specs.declared.record_answer.Recorded.TheVariants.{Fault, Run, TooLong}
 use Rattle.sw_app_run.specs.declared.record_engine.RecordEnd.{RecordEnd}
 use Rattle.sw_app_run.specs.declared.record_engine.RecordEnd.TheVariants as end
-use Rattle.sw_command.specs.Ends.{Answers, AnswersToTwo, GivesText}
-use Rattle.sw_command.specs.declared.answer.Answer.{Answer}
-use Rattle.sw_command.specs.declared.write_answer.Ended.{Ended}
-use Rattle.sw_command.specs.declared.write_answer.Ended.TheVariants.{Status, ReadFailed, WriteFailed}
+use Rattle.sw_text.specs.Ends.{Answers, AnswersToTwo, GivesText}
+use Rattle.sw_text.specs.declared.answer.Answer.{Answer}
+use Rattle.sw_text.specs.declared.write_answer.Ended.{Ended}
+use Rattle.sw_text.specs.declared.write_answer.Ended.TheVariants.{Status, ReadFailed, WriteFailed}
 use Rattle.sw_config.specs.Entries.{Declaration}
 use Rattle.sw_file.specs.Network.{network_text}
 use Rattle.sw_json.specs.declared.files.Release.{Release}
 use Rattle.sw_load.specs.Load.{LoadEntry, load_text}
 use Rattle.sw_app_run.specs.Outcome.{Outcome}
-use Rattle.sw_toml_table.specs.declared.fault.TextFault.{TextFault}
+use Rattle.sw_text.specs.declared.fault.TextFault.{TextFault}
 use Rattle.sw_json.proofs.Answered.{told_two}
 use Rattle.sw_json.specs.Answering.{EndsByTwoFiles, IsAnswer, IsFaultyFile, IsLongFile, OfFile, OfNetwork, Results, memory_text, read_value}
 use Rattle.sw_json_runs.specs.RunAnswers.{IsLoadResult, IsOutcomeResult, IsResultOf, IsRunJson, IsRunResult}

@@ -10,7 +10,7 @@ use Rattle.sw_machine.specs.Steps.{Step}
 use Rattle.sw_schedule.proofs.OneReport.{replays_are_determined}
 use Rattle.sw_schedule.specs.Reports.{Report}
 use Rattle.sw_schedule.specs.Schedule.{steps_of_text}
-use Rattle.sw_toml_table.specs.declared.fault.TextFault.{TextFault}
+use Rattle.sw_text.specs.declared.fault.TextFault.{TextFault}
 use Rattle.sw_json.specs.Answering.{OfNetwork}
 use Rattle.sw_json_runs.specs.ReplayAnswers.{IsReplayResult, IsScheduleFileResult, IsScheduleResult}
 use Rattle.sw_json_runs.specs.ReplayLaws.{ReplayHasStatusOfText}

@@ -4,12 +4,12 @@ use Rattle.std.specs.Prelude.{Err, None, Ok, Option, Result, Some}
 use Rattle.serde_json.specs.Data.{Data}
 use Rattle.sw_app_run.specs.RunAnswers.{IsLoadAnswer, IsRunAnswer, IsRunOf}
 use Rattle.sw_app_run.specs.RunTexts.{outcome_text}
-use Rattle.sw_command.specs.FaultTexts.{fault_text}
+use Rattle.sw_text.specs.FaultTexts.{fault_text}
 use Rattle.sw_config.specs.Entries.{Declaration}
 use Rattle.sw_file.specs.Network.{network_text}
 use Rattle.sw_load.specs.Load.{LoadEntry, load_text}
 use Rattle.sw_output.specs.Lines.{line}
-use Rattle.sw_toml_table.specs.declared.fault.TextFault.{TextFault}
+use Rattle.sw_text.specs.declared.fault.TextFault.{TextFault}
 use Rattle.sw_json.specs.Answering.{OfFile, OfNetwork}
 use Rattle.sw_json_runs.specs.RunAnswers.{IsLoadResult, IsRunResult}
 use Rattle.sw_json_runs.specs.RunLaws.{RunHasStatusesOfTexts}

@@ -8,15 +8,15 @@ use Rattle.sw_app_run.specs.declared.record_answer.Recorded.{Recorded}
 use Rattle.std.specs.Io.KnownBytes.{Keeps}
 use Rattle.sw_app_run.specs.declared.record_answer.Recorded.TheVariants.{Fault, Run, TooLong}
 use Rattle.sw_app_run.specs.declared.record_engine.RecordEnd.TheVariants as end
-use Rattle.sw_command.specs.declared.read_texts.InputError.{InputError}
-use Rattle.sw_command.specs.declared.read_texts.InputError.TheVariants as input
-use Rattle.sw_command.specs.declared.write_answer.Ended.{Ended}
-use Rattle.sw_command.specs.declared.write_answer.Ended.TheVariants.{Status, ReadFailed, WriteFailed}
+use Rattle.sw_text.specs.declared.read_texts.InputError.{InputError}
+use Rattle.sw_text.specs.declared.read_texts.InputError.TheVariants as input
+use Rattle.sw_text.specs.declared.write_answer.Ended.{Ended}
+use Rattle.sw_text.specs.declared.write_answer.Ended.TheVariants.{Status, ReadFailed, WriteFailed}
 use Rattle.sw_json.specs.Answering.{IsAnswer, IsMemoryTold, IsOutcome, IsUnreadNetwork, IsUnreadTold}
 use Rattle.sw_json.specs.declared.files.Release.{Release}
 use Rattle.sw_json.specs.declared.outcome.Outcome.{Outcome}
-use Rattle.sw_toml_table.specs.declared.fault.FileFault.{FileFault}
-use Rattle.sw_toml_table.specs.declared.fault.FileFault.TheVariants.{Text, Memory}
+use Rattle.sw_text.specs.declared.fault.FileFault.{FileFault}
+use Rattle.sw_text.specs.declared.fault.FileFault.TheVariants.{Text, Memory}
 use Rattle.sw_json_runs.specs.RunRecords.{Answering, IsFault, IsUnreadRecord, IsUnrecorded}
 
 module _ (command : List ℕ) (files : List Data) (release : Release) (path text : List ℕ) where

@@ -1,7 +1,7 @@
 -- What `replay` answers as an object of JSON (this project's choice).
 use Rattle.std.specs.Prelude.{ℕ, List, codes, Option, Result, Ok, Err}
 use Rattle.sw_app_run.specs.ReplayTexts.{replay_status}
-use Rattle.sw_command.specs.Ends.{AnswersToTwo}
+use Rattle.sw_text.specs.Ends.{AnswersToTwo}
 use Rattle.sw_config.specs.Entries.{Declaration}
 use Rattle.sw_json.specs.AnswerValues.{file_fault_value}
 use Rattle.sw_json.specs.FaultValues.{schedule_fault_value}

@@ -1,13 +1,13 @@
 -- What `run` answers as an object of JSON (this project's choice).
 use Rattle.std.specs.Prelude.{ℕ, List, codes, Option, Result, Ok, Err}
 use Rattle.sw_app_run.specs.RunTexts.{stop_status}
-use Rattle.sw_command.specs.Ends.{AnswersToTwo}
+use Rattle.sw_text.specs.Ends.{AnswersToTwo}
 use Rattle.sw_config.specs.Entries.{Declaration}
 use Rattle.sw_json.specs.declared.files.Release.{Release}
 use Rattle.sw_load.specs.Load.{LoadEntry, load_text}
 use Rattle.sw_app_run.specs.Outcomes.{IsOutcome as IsRunOutcome}
 use Rattle.sw_app_run.specs.Outcome.{Outcome}
-use Rattle.sw_toml_table.specs.declared.fault.TextFault.{TextFault}
+use Rattle.sw_text.specs.declared.fault.TextFault.{TextFault}
 use Rattle.sw_json.specs.Answering.{IsAnswerToTwo, IsFaultyFile, IsOutcome, OfFile, OfNetworkFile, Results}
 use Rattle.sw_json_runs.specs.RunValues.{run_value}
 

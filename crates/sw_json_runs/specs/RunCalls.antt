@@ -2,7 +2,7 @@
 use Rattle.std.specs.Prelude.{ℕ}
 use Rattle.sw_app_run.specs.declared.record_answer.Recorded.{Recorded}
 use Rattle.sw_app_run.specs.declared.record_answer.Wants.{Wants}
-use Rattle.sw_command.specs.Inputs.{given}
+use Rattle.sw_text.specs.Inputs.{given}
 use Rattle.sw_json_runs.specs.declared.run_answer.RunCall.{RunCall}
 use Rattle.sw_json_runs.specs.RunRecords.{Answering, IsRecord, run_answers}
 

@@ -8,18 +8,18 @@ use Rattle.sw_app_run.specs.declared.record_answer.Recorded.TheVariants.{Fault, 
 use Rattle.sw_app_run.specs.declared.record_answer.Wants.{Wants}
 use Rattle.sw_app_run.specs.declared.record_engine.RecordEnd.{RecordEnd}
 use Rattle.sw_app_run.specs.declared.record_engine.RecordEnd.TheVariants as end
-use Rattle.sw_command.specs.Ends.{Answers, GivesText}
-use Rattle.sw_command.specs.declared.answer.Answer.{Answer}
-use Rattle.sw_command.specs.declared.write_answer.Ended.TheVariants as ended
+use Rattle.sw_text.specs.Ends.{Answers, GivesText}
+use Rattle.sw_text.specs.declared.answer.Answer.{Answer}
+use Rattle.sw_text.specs.declared.write_answer.Ended.TheVariants as ended
 use Rattle.sw_config.specs.Entries.{Declaration}
 use Rattle.sw_file.specs.Network.{network_text}
 use Rattle.sw_json.specs.declared.files.Release.{Release}
 use Rattle.sw_load.specs.Load.{LoadEntry, load_text}
 use Rattle.sw_app_run.specs.Outcomes.{IsOutcome as IsRunOutcome}
 use Rattle.sw_app_run.specs.Outcome.{Outcome}
-use Rattle.sw_toml_table.specs.declared.fault.FileFault.{FileFault}
-use Rattle.sw_toml_table.specs.declared.fault.FileFault.TheVariants.{Text, Memory}
-use Rattle.sw_toml_table.specs.declared.fault.TextFault.{TextFault}
+use Rattle.sw_text.specs.declared.fault.FileFault.{FileFault}
+use Rattle.sw_text.specs.declared.fault.FileFault.TheVariants.{Text, Memory}
+use Rattle.sw_text.specs.declared.fault.TextFault.{TextFault}
 use Rattle.sw_json.specs.Answering.{IsAnswer, IsFaultyFile, IsLongFile, IsMemoryTold, Results, read_value}
 use Rattle.sw_json_runs.specs.RunAnswers.{IsResultOf}
 

@@ -1,18 +1,18 @@
 //! What `replay` finds.
 ghost use Rattle.std.specs.Prelude.{IfOk};
 ghost use Rattle.serde_json.specs.View.{view};
-ghost use Rattle.sw_command.specs.Inputs.{given};
+ghost use Rattle.sw_text.specs.Inputs.{given};
 ghost use Rattle.sw_json_runs.specs.ReplayAnswers.{IsReplayResult, IsScheduleFileResult, IsStepsResult};
 
 use crate::replay_values::replay_value;
 use std::alloc::{AllocError, Global};
 use sw_app_run::replay_status;
-use sw_command::InputText;
 use sw_config::Network;
 use sw_file::read_network;
 use sw_json::laws::faults_are_plain;
 use sw_json::{Outcome, file_fault, long_file, schedule_fault_value, unread_network};
 use sw_schedule::{Schedule, ScheduleFault, read_steps, replay};
+use sw_text::InputText;
 
 // What comes of a schedule's steps.
 fn steps_outcome(

@@ -1,13 +1,13 @@
 //! The engine of `replay`.
-ghost use Rattle.sw_command.specs.Ends.{AreReadInOrder};
+ghost use Rattle.sw_text.specs.Ends.{AreReadInOrder};
 ghost use Rattle.sw_json.specs.Answering.{EndsByTwoFiles};
 ghost use Rattle.sw_json_runs.specs.ReplayAnswers.{IsReplayJson};
 
 use crate::replay_answer::replay_outcome;
 use std::alloc::Global;
 use std::io::{Read, Write};
-use sw_command::{Ended, read_two};
 use sw_json::{Release, answer_to_two, tell_answer, tell_unread};
+use sw_text::{Ended, read_two};
 
 /// What comes of the steps of the second file's schedule, made one after another on the network of the first file from its empty state on:
 /// 0 where all are made and the network is not locked up then, 1 where one is refused, and 4 where the network is locked up. `paths` are

@@ -1,7 +1,7 @@
 //! What is told of a run, and of its steps.
 ghost use Rattle.std.specs.Prelude.{◌≡◌, ◌<◌, IfOk, IsOkAnd, length, string_bytes};
 ghost use Rattle.serde_json.specs.View.{view};
-ghost use Rattle.sw_command.specs.Inputs.{given};
+ghost use Rattle.sw_text.specs.Inputs.{given};
 ghost use Rattle.sw_load.specs.Laws.{AreDeclared};
 ghost use Rattle.sw_json.specs.Answering.{IsLongFile, IsOutcome};
 ghost use Rattle.sw_json_runs.specs.RunAnswers.{IsResultOf};
@@ -16,14 +16,13 @@ use sw_app_run::{
     Gate, Options, Outcome as RunOutcome, Recorded, Wants, run_load as run, stop_status,
     wanted_summary, with_schedule,
 };
-use sw_command::{Answer, InputText};
 use sw_config::Network;
 use sw_file::read_network;
+use sw_graph::OneByOne;
 use sw_json::{Outcome, Release, answer_to_two, long_file, unread_network};
 use sw_load::laws::listed_are_declared;
 use sw_load::{Load, read_load};
-use sw_parallel::OneByOne;
-use sw_toml_table::FileFault;
+use sw_text::{Answer, FileFault, InputText};
 
 /// The files of a call, and the program's release.
 #[derive(Drop)]

@@ -1,6 +1,6 @@
 //! The engines of `run`: one that tells of a run, and one that writes its steps too, and tells a summary.
 ghost use Rattle.std.specs.Prelude.{◌<◌};
-ghost use Rattle.sw_command.specs.Ends.{AreReadInOrder};
+ghost use Rattle.sw_text.specs.Ends.{AreReadInOrder};
 ghost use Rattle.sw_json.specs.Answering.{EndsByTwoFiles};
 ghost use Rattle.sw_json_runs.specs.RunAnswers.{IsRunJson};
 ghost use Rattle.sw_json_runs.specs.RunRecords.{EndsRecorded};
@@ -11,8 +11,8 @@ use std::io::{self, Read, Write};
 use std::sync::Wait;
 use std::thread::Threads;
 use sw_app_run::{Gate, Options, RecordEnd, Wants, tell_recorded};
-use sw_command::{Ended, read_two};
 use sw_json::{Release, tell_memory, tell_unread};
+use sw_text::{Ended, read_two};
 
 /// What comes of a run of the second file's load on the network of the first file, as `run` tells it, and what is wanted besides: the
 /// schedule of the run's steps, which is written before the answer, and the summary, which is handed on. A schedule that was not written

@@ -8,23 +8,23 @@ use Rattle.sw_app.proofs.Told.{shown_of_two}
 use Rattle.sw_app.specs.CheckAnswers.{AreShownDeadlockFree, ChecksDeadlockFree, IsShownDeadlockFree}
 use Rattle.sw_cert.specs.Reading.{State}
 use Rattle.sw_cert.specs.Text.{contents_of, read_text}
-use Rattle.sw_check.proofs.Accepted.{not_refused_is_accepted}
-use Rattle.sw_check.proofs.Headline.{is_deadlock_free}
-use Rattle.sw_check.specs.Contents.{certificate_of}
-use Rattle.sw_check.specs.Refusals.{refusal_of}
-use Rattle.sw_check.specs.declared.refusal.Refusal.{Refusal}
-use Rattle.sw_command.specs.declared.answer.Answer.{Answer}
-use Rattle.sw_command.specs.declared.read_texts.InputError.{InputError}
-use Rattle.sw_command.specs.declared.read_texts.InputError.TheVariants as input
-use Rattle.sw_command.specs.declared.write_answer.Ended.{Ended}
-use Rattle.sw_command.specs.declared.write_answer.Ended.TheVariants.{Status, ReadFailed}
-use Rattle.sw_command.specs.Ends.{GivesText}
+use Rattle.sw_cert.proofs.Accepted.{not_refused_is_accepted}
+use Rattle.sw_cert.proofs.Headline.{is_deadlock_free}
+use Rattle.sw_cert.specs.Contents.{certificate_of}
+use Rattle.sw_cert.specs.Refusals.{refusal_of}
+use Rattle.sw_cert.specs.declared.refusal.Refusal.{Refusal}
+use Rattle.sw_text.specs.declared.answer.Answer.{Answer}
+use Rattle.sw_text.specs.declared.read_texts.InputError.{InputError}
+use Rattle.sw_text.specs.declared.read_texts.InputError.TheVariants as input
+use Rattle.sw_text.specs.declared.write_answer.Ended.{Ended}
+use Rattle.sw_text.specs.declared.write_answer.Ended.TheVariants.{Status, ReadFailed}
+use Rattle.sw_text.specs.Ends.{GivesText}
 use Rattle.sw_config.specs.Entries.{Declaration}
 use Rattle.sw_config.specs.Valid.{IsValid}
 use Rattle.sw_file.specs.Network.{network_text}
 use Rattle.sw_file.proofs.Valid.{read_networks_are_valid}
 use Rattle.sw_json.specs.declared.files.Release.{Release}
-use Rattle.sw_toml_table.specs.declared.fault.TextFault.{TextFault}
+use Rattle.sw_text.specs.declared.fault.TextFault.{TextFault}
 use Rattle.sw_json.specs.Answering.{IsAnswerTold, IsMemoryTold, IsUnreadTold, OfFile, OfNetwork, memory_text}
 use Rattle.sw_json_verdicts.specs.CheckResults.{IsCertificateResult, IsCheckJson, IsCheckResult, IsJudgement}
 

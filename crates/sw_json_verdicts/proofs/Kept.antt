@@ -1,9 +1,9 @@
 -- What is told with the network that is handed on.
 use Rattle.std.proofs.Common.{◌⊎◌, ℕ, List, inl, inr}
 use Rattle.std.specs.Prelude.{Err, IfOk, IsOkAnd, Ok, Option, Result}
-use Rattle.sw_command.specs.declared.write_answer.Ended.{Ended}
-use Rattle.sw_command.specs.declared.write_answer.Ended.TheVariants.{Status, ReadFailed, WriteFailed}
-use Rattle.sw_command.specs.Ends.{Says}
+use Rattle.sw_text.specs.declared.write_answer.Ended.{Ended}
+use Rattle.sw_text.specs.declared.write_answer.Ended.TheVariants.{Status, ReadFailed, WriteFailed}
+use Rattle.sw_text.specs.Ends.{Says}
 use Rattle.sw_json.specs.Answering.{AnswersByOne, AnswersToOne, EndsByOneFile, memory_text}
 
 -- what holds where something was found holds where its answer was made

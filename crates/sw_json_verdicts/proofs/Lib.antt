@@ -4,5 +4,14 @@ mod CheckFound
 mod ReportFound
 mod Kept
 mod OneAnswer
-mod Statuses
+mod StatusesOfTexts
 mod Accepted
+pub mod Dashes
+pub mod Chosen
+pub mod Pairs
+pub mod Plainly
+pub mod Wanted
+pub mod Zeros
+pub mod Told
+pub mod FileNames
+pub mod Greatest

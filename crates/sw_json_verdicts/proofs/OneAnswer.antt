@@ -6,8 +6,8 @@ use Rattle.sw_app.proofs.OneReport.{dependencies_once, places_once}
 use Rattle.sw_app.specs.RouteTexts.{outcome_status}
 use Rattle.sw_cert.specs.Reading.{State}
 use Rattle.sw_cert.specs.Text.{contents_of, read_text}
-use Rattle.sw_check.specs.Refusals.{refusal_of}
-use Rattle.sw_check.specs.declared.refusal.Refusal.{Refusal}
+use Rattle.sw_cert.specs.Refusals.{refusal_of}
+use Rattle.sw_cert.specs.declared.refusal.Refusal.{Refusal}
 use Rattle.sw_config.specs.Entries.{Declaration, FlowEntry, all_flows}
 use Rattle.sw_flow.specs.Faults.{first_fault_of}
 use Rattle.sw_flow.specs.declared.place.Place.{Place}

@@ -4,10 +4,10 @@ use Rattle.serde_json.specs.Data.{Data, object, string, member, no_members}
 use Rattle.sw_app.specs.CheckTexts.{grammar_words, refusal_words}
 use Rattle.sw_cert.specs.Reading.{State}
 use Rattle.sw_cert.specs.Text.{contents_of, read_text}
-use Rattle.sw_check.specs.declared.refusal.Refusal.{Refusal}
-use Rattle.sw_check.specs.declared.refusal.Refusal.TheVariants.{WrongCount, NoStart, Faulty, NotClosed, NotRising}
-use Rattle.sw_check.specs.Refusals.{refusal_of}
-use Rattle.sw_command.specs.Ends.{AnswersToTwo}
+use Rattle.sw_cert.specs.declared.refusal.Refusal.{Refusal}
+use Rattle.sw_cert.specs.declared.refusal.Refusal.TheVariants.{WrongCount, NoStart, Faulty, NotClosed, NotRising}
+use Rattle.sw_cert.specs.Refusals.{refusal_of}
+use Rattle.sw_text.specs.Ends.{AnswersToTwo}
 use Rattle.sw_config.specs.Entries.{Declaration}
 use Rattle.sw_flow.specs.declared.place.Place.{Place}
 use Rattle.sw_json.specs.FileValues.{kind_value}

@@ -3,7 +3,7 @@ use Rattle.std.specs.Prelude.{ℕ, List, Option}
 use Rattle.sw_app.specs.CheckAnswers.{IsCheckAnswer}
 use Rattle.sw_app.specs.RouteAnswers.{IsRouteAnswer}
 use Rattle.sw_app.specs.VerdictAnswers.{IsReportAnswer}
-use Rattle.sw_command.specs.Ends.{IfLimited}
+use Rattle.sw_text.specs.Ends.{IfLimited}
 use Rattle.sw_json.specs.declared.files.Release.{Release}
 use Rattle.sw_json.specs.Laws.{AreOneButForFaults, HaveOneStatus}
 use Rattle.sw_json_verdicts.specs.CheckResults.{IsCheckJson}

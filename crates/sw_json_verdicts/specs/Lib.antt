@@ -4,5 +4,12 @@ pub mod ReportResults
 pub mod Reasons
 pub mod Plain
 pub mod Laws
+pub mod Stores
+pub mod Names
+pub mod Findings
+pub mod Judgements
+pub mod AuditTexts
+pub mod AuditAnswers
+pub mod AuditLaws
 pub use Rattle.sw_json.specs.Answering
 pub use Rattle.sw_json.specs.declared.files.Release

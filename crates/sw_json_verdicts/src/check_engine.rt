@@ -4,9 +4,9 @@ ghost use Rattle.serde_json.specs.View.{view};
 ghost use Rattle.sw_app.specs.CheckAnswers.{ChecksDeadlockFree};
 ghost use Rattle.sw_app.specs.CheckTexts.{grammar_words, refusal_words};
 ghost use Rattle.sw_cert.specs.Text.{read_text};
-ghost use Rattle.sw_check.specs.Refusals.{refusal_of};
-ghost use Rattle.sw_command.specs.Ends.{AreReadInOrder};
-ghost use Rattle.sw_command.specs.Inputs.{given};
+ghost use Rattle.sw_cert.specs.Refusals.{refusal_of};
+ghost use Rattle.sw_text.specs.Ends.{AreReadInOrder};
+ghost use Rattle.sw_text.specs.Inputs.{given};
 ghost use Rattle.sw_json.specs.Objects.{member_value};
 ghost use Rattle.sw_json.specs.Simple.{text_or_null};
 ghost use Rattle.sw_json.specs.Answering.{EndsByTwoFiles, IsOutcome, OfFile};
@@ -18,10 +18,7 @@ use crate::reasons::{Parts, grammar_parts, parts_of};
 use std::alloc::{AllocError, Global};
 use std::io::{Read, Write};
 use sw_app::{grammar_words, refusal_words};
-use sw_cert::{Certificate, CertificateFault};
-use sw_check::{Refusal, check as check_certificate};
-use sw_command::statuses::{BAD, GOOD};
-use sw_command::{Ended, InputText, read_two};
+use sw_cert::{Certificate, CertificateFault, Refusal, check as check_certificate};
 use sw_config::Network;
 use sw_file::read_network;
 use sw_json::laws::kinds_are_plain;
@@ -30,6 +27,8 @@ use sw_json::{
     object_of, tell_answer, tell_unread, unread_network,
 };
 use sw_search::VerdictWorkers;
+use sw_text::statuses::{BAD, GOOD};
+use sw_text::{Ended, InputText, read_two};
 
 // A text, or null where there is none.
 fn text_or_null(text: Option<&str>) -> Member<'_>

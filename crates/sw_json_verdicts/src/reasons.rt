@@ -3,7 +3,7 @@ ghost use Rattle.std.specs.Prelude.{◌≡◌, option_map};
 ghost use Rattle.sw_json_verdicts.specs.CheckResults.{bare_reason, grammar_reason, placed_reason, reason_of};
 ghost use Rattle.sw_json_verdicts.specs.Reasons.{parts_view};
 
-use sw_check::Refusal;
+use sw_cert::Refusal;
 use sw_config::Network;
 use sw_flow::Place;
 use sw_json::route_fault_code;

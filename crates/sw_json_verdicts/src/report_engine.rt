@@ -1,7 +1,7 @@
 //! The engine of `report` that answers with an object of JSON.
 ghost use Rattle.std.specs.Prelude.{◌≡◌, IfOk};
 ghost use Rattle.serde_json.specs.View.{view};
-ghost use Rattle.sw_command.specs.Inputs.{given};
+ghost use Rattle.sw_text.specs.Inputs.{given};
 ghost use Rattle.sw_json.specs.VerdictValues.{certificate_bytes};
 ghost use Rattle.sw_search.specs.Verdicts.{IsVerdict};
 ghost use Rattle.sw_json.specs.Answering.{EndsByOneFile, IsOutcome, OfNetworkFile};
@@ -11,8 +11,6 @@ use crate::laws::reports_are_plain;
 use std::alloc::{AllocError, Global};
 use std::io::{Read, Write};
 use sw_app::{EndedWith, kept_network};
-use sw_command::statuses::GOOD;
-use sw_command::{Ended, InputText, read_one};
 use sw_config::Network;
 use sw_file::read_network;
 use sw_json::{
@@ -20,6 +18,8 @@ use sw_json::{
     unread_network, verdict_value,
 };
 use sw_search::{Findings, Verdict, VerdictWorkers, survey};
+use sw_text::statuses::GOOD;
+use sw_text::{Ended, InputText, read_one};
 
 // The text of a verdict's certificate; of a verdict without one, nothing.
 fn certificate_text(alloc: Global, verdict: &Verdict) -> Result<Vec<u8>, AllocError>

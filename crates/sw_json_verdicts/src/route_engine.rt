@@ -1,7 +1,7 @@
 //! The engine of `route` that answers with an object of JSON.
 ghost use Rattle.std.specs.Prelude.{◌≡◌, ◌<◌, All, IfOk, IfSome, length, slice_get};
 ghost use Rattle.serde_json.specs.View.{view};
-ghost use Rattle.sw_command.specs.Inputs.{given};
+ghost use Rattle.sw_text.specs.Inputs.{given};
 ghost use Rattle.sw_config.specs.Entries.{all_flows, wiring_of};
 ghost use Rattle.sw_app.specs.RouteTexts.{outcome_status};
 ghost use Rattle.sw_json.specs.Answering.{EndsByOneFile, OfNetworkFile};
@@ -10,8 +10,6 @@ ghost use Rattle.sw_json_verdicts.specs.RouteResults.{IsFlowResult, IsNamedResul
 use crate::laws::routes_are_plain;
 use std::alloc::{AllocError, Global};
 use std::io::{Read, Write};
-use sw_command::statuses::{BAD, GOOD};
-use sw_command::{Ended, InputText, read_one};
 use sw_config::{Flow, Network};
 use sw_file::read_network;
 use sw_flow::{Place, RouteFault, first_fault, places};
@@ -20,6 +18,8 @@ use sw_json::{
     Member, Outcome, Release, Value, answer_to_one, file_fault, long_file, misrouted_fault_value,
     object_of_four, place_values, tell_answer, tell_unread, unknown_flow_value, unread_network,
 };
+use sw_text::statuses::{BAD, GOOD};
+use sw_text::{Ended, InputText, read_one};
 
 // A place with its fault, or null where there is none.
 fn fault_or_null(alloc: Global, fault: Option<(Place, RouteFault)>) -> Result<Value, AllocError>

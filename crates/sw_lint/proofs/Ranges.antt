@@ -8,7 +8,7 @@ use Rattle.std.proofs.lemmas.Option.{get_or_from_slice_get, slice_get_within}
 use Rattle.sw_topo.specs.Checked.{first_of}
 use Rattle.sw_route.specs.declared.look.Route.{Route}
 use Rattle.sw_flow.proofs.Listed.{Contains-head, Contains-later}
-use Rattle.sw_parallel.proofs.Ranges.{range_from_more, range_more}
+use Rattle.sw_graph.proofs.Ranges.{range_from_more, range_more}
 use Rattle.sw_lint.specs.declared.lint.Lint.{Lint}
 use Rattle.sw_lint.specs.Lints.{first_made, made_of}
 

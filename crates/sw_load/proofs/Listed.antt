@@ -6,18 +6,18 @@ use Rattle.std.proofs.lemmas.List.Elements.{All-append, All-nil}
 use Rattle.toml.specs.Data.{Members}
 use Rattle.sw_char.specs.declared.nchar.End.{End}
 use Rattle.sw_load.specs.Laws.{IsListedBy, ReadsEachEntry, AreDeclared, ListedAreDeclared}
-use Rattle.sw_model.proofs.Declared.{declared_packets_pass}
+use Rattle.sw_machine.proofs.Declared.{declared_packets_pass}
 use Rattle.sw_load.specs.Load.{LoadEntry, cargo_at, count_at, document_keys, flow_at, load_of, marker_at, next_packet, packet_count, packet_keys, packet_of}
-use Rattle.sw_model.specs.Packets.{IsDeclaredPacket, is_declared_packet}
+use Rattle.sw_machine.specs.DeclaredPackets.{IsDeclaredPacket, is_declared_packet}
 use Rattle.sw_config.specs.Entries.{Declaration}
-use Rattle.sw_toml_table.specs.Document.{document_of}
-use Rattle.sw_toml_table.specs.Table.{only_known, tables_or_none}
-use Rattle.sw_toml_table.specs.declared.fault.KeyFault.TheVariants.{OutOfRange}
-use Rattle.sw_toml_table.specs.declared.fault.TextFault.TheVariants as fault
-use Rattle.sw_toml_table.specs.declared.keys.Key.TheVariants.{Packet}
-use Rattle.sw_toml_table.specs.declared.keys.Section.TheVariants as section
-use Rattle.sw_toml_table.specs.Gives.{◌>>=◌, walk_from}
-use Rattle.sw_toml_table.specs.declared.fault.TextFault.{TextFault}
+use Rattle.sw_text.specs.Document.{document_of}
+use Rattle.sw_text.specs.Table.{only_known, tables_or_none}
+use Rattle.sw_text.specs.declared.fault.KeyFault.TheVariants.{OutOfRange}
+use Rattle.sw_text.specs.declared.fault.TextFault.TheVariants as fault
+use Rattle.sw_text.specs.declared.keys.Key.TheVariants.{Packet}
+use Rattle.sw_text.specs.declared.keys.Section.TheVariants as section
+use Rattle.sw_text.specs.Gives.{◌>>=◌, walk_from}
+use Rattle.sw_text.specs.declared.fault.TextFault.{TextFault}
 
 pub goes_on : {A B : Type 0} (r : Result A TextFault) (f : A → Result B TextFault) (b : B) → (r >>= f) ≡ Ok b → (a : A) × (r ≡ Ok a) × (f a ≡ Ok b)
 goes_on (Ok a) f b h = (a, refl, h)

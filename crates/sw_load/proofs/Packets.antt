@@ -11,12 +11,12 @@ use Rattle.sw_char.specs.declared.nchar.End.{End}
 use Rattle.sw_char.specs.declared.nchar.NChar.TheVariants.{Data}
 use Rattle.sw_load.specs.History.{packet_of, packets_of}
 use Rattle.sw_load.specs.Load.{LoadEntry, packet_count}
-use Rattle.sw_model.specs.Packets.{left_bytes}
+use Rattle.sw_machine.specs.DeclaredPackets.{left_bytes}
 use Rattle.sw_machine.specs.Begun.{Begun, length_with_reply}
 use Rattle.sw_machine.specs.Network.{Network, form}
 use Rattle.sw_machine.specs.Network as machine
 use Rattle.sw_machine.specs.Packets.{marker_of}
-use Rattle.sw_model.specs.Model.{answered_to, longest_reply, network_of}
+use Rattle.sw_machine.specs.Model.{answered_to, longest_reply, network_of}
 use Rattle.sw_config.specs.Entries.{Declaration, FlowEntry, all_flows, target_of}
 
 -- one entry more of a load whose packets each have at most so much weight

@@ -16,7 +16,7 @@ use Rattle.sw_load.specs.Senders.{AreAdded, ArePlaced, IsFound, items_of, packet
 use Rattle.sw_load.specs.Load.{LoadEntry}
 use Rattle.sw_machine.specs.Begun.{Begun}
 use Rattle.sw_machine.specs.Network.{Network}
-use Rattle.sw_model.specs.Model.{network_of}
+use Rattle.sw_machine.specs.Model.{network_of}
 use Rattle.sw_config.specs.Entries.{Declaration, FlowEntry, all_flows}
 
 map-copies : {A B : Type 0} (f : A → B) (k : ℕ) (x : A) → map f (replicate k x) ≡ replicate k (f x)

@@ -2,10 +2,10 @@
 use Rattle.std.specs.Prelude.{◌≡◌, ℕ, List, length, take, slice_get, Some, Ok, All}
 use Rattle.toml.specs.Data.{Members}
 use Rattle.sw_config.specs.Entries.{Declaration}
-use Rattle.sw_toml_table.specs.declared.keys.Key.TheVariants.{Packet}
-use Rattle.sw_toml_table.specs.declared.keys.Section.TheVariants as section
-use Rattle.sw_toml_table.specs.Table.{tables_or_none}
-use Rattle.sw_model.specs.Packets.{IsDeclaredPacket}
+use Rattle.sw_text.specs.declared.keys.Key.TheVariants.{Packet}
+use Rattle.sw_text.specs.declared.keys.Section.TheVariants as section
+use Rattle.sw_text.specs.Table.{tables_or_none}
+use Rattle.sw_machine.specs.DeclaredPackets.{IsDeclaredPacket}
 use Rattle.sw_load.specs.Load.{LoadEntry, packet_of, load_of, load_text}
 
 -- the document lists one table for each entry, and entry i is what table i declares behind the entries before it

@@ -5,16 +5,16 @@ use Rattle.toml.specs.Data.{Members}
 use Rattle.sw_char.specs.declared.nchar.End.{End}
 use Rattle.sw_char.specs.declared.nchar.End.TheVariants.{Eop, Eep}
 use Rattle.sw_config.specs.Entries.{FlowEntry, Declaration, flow_names}
-use Rattle.sw_toml_table.specs.declared.keys.Key.{Key}
-use Rattle.sw_toml_table.specs.declared.keys.Key.TheVariants.{Packet, Flow, Cargo, Count, End as EndKey}
-use Rattle.sw_toml_table.specs.declared.keys.Section.TheVariants as section
-use Rattle.sw_toml_table.specs.declared.fault.KeyFault.TheVariants.{OutOfRange, UnknownName}
-use Rattle.sw_toml_table.specs.declared.fault.TextFault.{TextFault}
-use Rattle.sw_toml_table.specs.declared.fault.TextFault.TheVariants as fault
-use Rattle.sw_toml_table.specs.Gives.{◌>>=◌, ok_or, walk}
-use Rattle.sw_toml_table.specs.Table.{only_known, number_or, text_at, text_or_none, tables_or_none}
-use Rattle.sw_toml_table.specs.Document.{document_of}
-use Rattle.sw_model.specs.Packets.{is_declared_packet}
+use Rattle.sw_text.specs.declared.keys.Key.{Key}
+use Rattle.sw_text.specs.declared.keys.Key.TheVariants.{Packet, Flow, Cargo, Count, End as EndKey}
+use Rattle.sw_text.specs.declared.keys.Section.TheVariants as section
+use Rattle.sw_text.specs.declared.fault.KeyFault.TheVariants.{OutOfRange, UnknownName}
+use Rattle.sw_text.specs.declared.fault.TextFault.{TextFault}
+use Rattle.sw_text.specs.declared.fault.TextFault.TheVariants as fault
+use Rattle.sw_text.specs.Gives.{◌>>=◌, ok_or, walk}
+use Rattle.sw_text.specs.Table.{only_known, number_or, text_at, text_or_none, tables_or_none}
+use Rattle.sw_text.specs.Document.{document_of}
+use Rattle.sw_machine.specs.DeclaredPackets.{is_declared_packet}
 use Rattle.sw_load.specs.Cargo.{cargo_of}
 
 -- so many packets of one declared flow, all with this cargo behind the flow's address and this end marker

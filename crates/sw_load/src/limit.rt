@@ -3,11 +3,11 @@ ghost use Rattle.std.specs.Prelude.{◌≡◌};
 ghost use Rattle.sw_load.specs.History.{packets_of};
 ghost use Rattle.sw_load.specs.Limit.{enough_limit};
 ghost use Rattle.sw_load.specs.Laws.{AreDeclared};
-ghost use Rattle.sw_model.specs.Model.{network_of};
+ghost use Rattle.sw_machine.specs.Model.{network_of};
 
 use crate::load::Load;
 use sw_config::Network;
-use sw_model::reply_length;
+use sw_machine::reply_length;
 
 /// One more than the steps that the network can make which begins the load's packets, each once, if
 /// it can't lock up: so many steps a history of the load never has.

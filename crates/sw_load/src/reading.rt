@@ -1,7 +1,7 @@
 //! The load that a text lists.
 ghost use Rattle.std.specs.Prelude.{◌≡◌, ◌+◌, ◌≤◌, map, IfOk};
 ghost use Rattle.toml.specs.View.{table_view};
-ghost use Rattle.sw_toml_table.specs.Gives.{Gives, walk};
+ghost use Rattle.sw_text.specs.Gives.{Gives, walk};
 ghost use Rattle.sw_load.specs.Load.{packet_count, flow_at, cargo_at, marker_at, count_at, packet_of, next_packet, load_of, load_text};
 
 use crate::cargo::cargo_of;
@@ -10,8 +10,8 @@ use std::alloc::Global;
 use std::marker::Model;
 use sw_char::End;
 use sw_config::Network;
-use sw_model::in_flow;
-use sw_toml_table::{FileFault, Key, KeyFault, Section, TableEntry, TextFault, read_document};
+use sw_machine::in_flow;
+use sw_text::{FileFault, Key, KeyFault, Section, TableEntry, TextFault, read_document};
 use toml::Table;
 
 /// A load has at most this many entries.
@@ -73,7 +73,7 @@ fn count_at(index: usize, packet: &TableEntry, before: u32) -> Result<u16, FileF
 }
 
 /// Adds the packets that the table lists.
-#[tactic(auto, using(sw_model::proofs::Declared::same_test), unfolding(crate::specs::Load::packet_of, crate::specs::Load::next_packet))]
+#[tactic(auto, using(sw_machine::proofs::Declared::same_test), unfolding(crate::specs::Load::packet_of, crate::specs::Load::next_packet))]
 fn add_packet(
     alloc: Global,
     index: usize,

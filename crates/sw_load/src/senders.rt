@@ -46,7 +46,7 @@ impl<'n> Senders<'n> {
     ghost use Rattle.std.specs.Prelude.{option_map, slice_get};
     ghost use Rattle.sw_load.specs.History.{packet_of, packets_at, packets_of};
     ghost use Rattle.sw_load.specs.Laws.{AreDeclared};
-    ghost use Rattle.sw_model.specs.Model.{network_of};
+    ghost use Rattle.sw_machine.specs.Model.{network_of};
 
     /// What the nodes of the network send of the load, whose packets its flows have to declare.
     ///

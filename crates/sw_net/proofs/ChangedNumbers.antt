@@ -14,8 +14,8 @@ use Rattle.sw_machine.specs.Network.{AtNode, AtSwitch, Network, reverse_of}
 use Rattle.sw_machine.specs.State.{State, after_accept, after_arrive, after_drop_byte, after_drop_marker, after_emit, after_fct, after_fct_in, after_forward, after_grant, after_spill}
 use Rattle.sw_machine.specs.Steps.{Accept, Arrive, Begin, Drop, Drops, Emit, Fct, FctIn, Forward, Grant, Reply, Spill, Step}
 use Rattle.sw_machine.specs.declared.input.InputState.TheVariants.{Held}
-use Rattle.sw_model.proofs.Networks.{are_networks}
-use Rattle.sw_model.specs.Model.{network_of}
+use Rattle.sw_machine.proofs.DeclaredNetworks.{are_networks}
+use Rattle.sw_machine.specs.Model.{network_of}
 use Rattle.sw_config.specs.Valid.{IsValid}
 use Rattle.sw_net.proofs.Delivered.{end_at_node}
 use Rattle.sw_net.specs.Changing.{ChangesOnly, IsChanged, IsEndOf, passed_from}

@@ -9,8 +9,8 @@ use Rattle.sw_flow.specs.Places.{end_of}
 use Rattle.sw_machine.specs.Network.{AtNode}
 use Rattle.sw_machine.specs.Runs.{length_pending, total, undelivered}
 use Rattle.sw_machine.specs.State.{State}
-use Rattle.sw_model.proofs.Networks.{are_networks}
-use Rattle.sw_model.specs.Model.{network_of}
+use Rattle.sw_machine.proofs.DeclaredNetworks.{are_networks}
+use Rattle.sw_machine.specs.Model.{network_of}
 use Rattle.sw_net.proofs.Few.{few_undelivered}
 use Rattle.sw_net.specs.Delivery.{IsAtNode, IsAtNodes, IsBuffered, IsInChannel, IsInChannels, IsUndelivered, at_node, in_channel}
 use Rattle.sw_net.specs.Net.{IsNet, IsNetState, NetView}

@@ -3,8 +3,8 @@ use Rattle.std.proofs.Common.{Some, ap, length, sym, ℕ, ◌-◌, ◌<◌, ◌�
 use Rattle.std.specs.Prelude.{slice_get}
 use Rattle.sw_flow.specs.Places.{ends_of}
 use Rattle.sw_machine.specs.State.{State}
-use Rattle.sw_model.proofs.Networks.{are_networks}
-use Rattle.sw_model.specs.Model.{network_of}
+use Rattle.sw_machine.proofs.DeclaredNetworks.{are_networks}
+use Rattle.sw_machine.specs.Model.{network_of}
 use Rattle.sw_net.proofs.Delivered.{end_at_node}
 use Rattle.sw_net.proofs.New.{node_capacity}
 use Rattle.sw_net.proofs.Told.{start_at_node}

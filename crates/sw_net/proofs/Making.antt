@@ -19,8 +19,8 @@ use Rattle.sw_cell.specs.declared.switch.PortStep.TheVariants as at_port
 use Rattle.sw_machine.specs.Network.{AtSwitch, IsNetwork, Network, reverse_of}
 use Rattle.sw_machine.specs.Parts.{link_end_of}
 use Rattle.sw_machine.specs.Steps.{Accept, Arrive, Begin, Drop, Emit, Fct, FctIn, Forward, Grant, Reply, Spill, Step, is_begin}
-use Rattle.sw_model.proofs.Networks.{are_networks}
-use Rattle.sw_model.specs.Model.{network_of}
+use Rattle.sw_machine.proofs.DeclaredNetworks.{are_networks}
+use Rattle.sw_machine.specs.Model.{network_of}
 use Rattle.sw_net.proofs.Possibles.{node_told, switch_told}
 use Rattle.sw_net.proofs.Steps.{same_switch, switch_leads, switch_net, switch_state}
 use Rattle.sw_net.proofs.Told.{node_tells}
@@ -32,7 +32,7 @@ use Rattle.sw_config.specs.Entries.{Declaration}
 use Rattle.sw_config.specs.Valid.{IsValid}
 use Rattle.sw_node.specs.Node.{Node}
 use Rattle.sw_route.specs.declared.look.Look.{Look}
-use Rattle.sw_model.specs.declared.step.Step.{Step as CodeStep}
+use Rattle.sw_machine.specs.declared.step.Step.{Step as CodeStep}
 use Rattle.sw_switch.specs.Cell.{Cell}
 use Rattle.sw_topo.proofs.Ends.{partner_back}
 use Rattle.sw_link.specs.Between.{Between}

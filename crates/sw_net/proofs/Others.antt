@@ -8,7 +8,7 @@ use Rattle.sw_flow.specs.Places.{ends_of}
 use Rattle.sw_machine.specs.Network.{AtNode, AtSwitch, IsNetwork, Network}
 use Rattle.sw_machine.specs.Parts.{SamePart}
 use Rattle.sw_machine.specs.State.{State}
-use Rattle.sw_model.specs.Model.{network_of}
+use Rattle.sw_machine.specs.Model.{network_of}
 use Rattle.sw_config.specs.Entries.{Declaration}
 use Rattle.sw_config.specs.Valid.{IsValid}
 use Rattle.sw_node.specs.Node.{Node}

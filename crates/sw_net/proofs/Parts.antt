@@ -10,7 +10,7 @@ use Rattle.sw_cell.specs.declared.cell.CellId.TheVariants as cells
 use Rattle.sw_flow.specs.Places.{end_of, ends_of}
 use Rattle.sw_machine.specs.State.{State}
 use Rattle.sw_machine.specs.declared.input.InputState.{InputState}
-use Rattle.sw_model.specs.Model.{network_of}
+use Rattle.sw_machine.specs.Model.{network_of}
 use Rattle.sw_net.specs.Kept.{NodeView, PortView, kept_at_port, kept_by_node}
 use Rattle.sw_net.specs.Net.{IsNetState, NetView}
 use Rattle.sw_net.specs.KeptParts.{IsKept}

@@ -15,13 +15,13 @@ use Rattle.sw_cell.specs.declared.node.NodeStep.TheVariants as at_node
 use Rattle.sw_cell.specs.declared.switch.PortStep.{PortStep}
 use Rattle.sw_cell.specs.declared.switch.PortStep.TheVariants as at_port
 use Rattle.sw_char.specs.declared.nchar.End.{End}
-use Rattle.sw_model.proofs.Declares.{declared_are_declared}
+use Rattle.sw_machine.proofs.Declares.{declared_are_declared}
 use Rattle.sw_machine.proofs.Wormhole.{held_once}
 use Rattle.sw_machine.specs.Network.{AtNode, AtSwitch, Network}
 use Rattle.sw_machine.specs.Parts.{cell_of}
 use Rattle.sw_machine.specs.Steps.{Accept, Arrive, Begin, Drop, Emit, Fct, FctIn, Forward, Grant, Leads, Reply, Spill, Step, is_begin}
-use Rattle.sw_model.proofs.Networks.{are_networks}
-use Rattle.sw_model.specs.Model.{network_of}
+use Rattle.sw_machine.proofs.DeclaredNetworks.{are_networks}
+use Rattle.sw_machine.specs.Model.{network_of}
 use Rattle.sw_net.specs.Net.{NetView}
 use Rattle.sw_net.specs.Possible.{Tells, TellsBeginning, granted_by, kind_at_node, kind_at_port}
 use Rattle.sw_config.specs.Valid.{IsValid}

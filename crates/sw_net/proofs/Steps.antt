@@ -20,8 +20,8 @@ use Rattle.sw_machine.specs.Parts.{SamePart, cell_of}
 use Rattle.sw_machine.specs.Runs.{IsReached}
 use Rattle.sw_machine.specs.State.{State}
 use Rattle.sw_machine.specs.Steps.{Accept, Arrive, Begin, Drop, Emit, Fct, FctIn, Forward, Grant, Leads, Reply, Spill, Step}
-use Rattle.sw_model.proofs.Networks.{are_networks}
-use Rattle.sw_model.specs.Model.{network_of}
+use Rattle.sw_machine.proofs.DeclaredNetworks.{are_networks}
+use Rattle.sw_machine.specs.Model.{network_of}
 use Rattle.sw_net.proofs.Others.{node_stays, switch_stays}
 use Rattle.sw_net.specs.Net.{IsNet, IsNetState, NetAnswers, NetView, net_of}
 use Rattle.sw_config.specs.Entries.{Declaration}

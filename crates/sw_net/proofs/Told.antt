@@ -8,8 +8,8 @@ use Rattle.sw_machine.specs.Network.{AtNode, AtSwitch}
 use Rattle.sw_machine.specs.Parts.{link_end_of}
 use Rattle.sw_machine.specs.Runs.{IsQuiet}
 use Rattle.sw_machine.specs.State.{State}
-use Rattle.sw_model.proofs.Networks.{are_networks}
-use Rattle.sw_model.specs.Model.{network_of}
+use Rattle.sw_machine.proofs.DeclaredNetworks.{are_networks}
+use Rattle.sw_machine.specs.Model.{network_of}
 use Rattle.sw_net.specs.Asked.{CanStep, IsFirst, IsQuietNet}
 use Rattle.sw_net.specs.Net.{IsNetState, NetView}
 use Rattle.sw_config.specs.Entries.{Declaration}

@@ -3,7 +3,7 @@ use Rattle.std.specs.Prelude.{Bool, None, Option, Some, false, true, ℕ, ◌<�
 use Rattle.sw_cell.specs.Possible.{CanStepAt}
 use Rattle.sw_machine.specs.Runs.{GoesOn, IsQuiet}
 use Rattle.sw_machine.specs.State.{State}
-use Rattle.sw_model.specs.Model.{network_of}
+use Rattle.sw_machine.specs.Model.{network_of}
 use Rattle.sw_net.specs.Net.{IsNetState, NetView}
 
 -- true: some step of the link end where channel e starts is possible, other than a beginning; false: none is

@@ -3,7 +3,7 @@ use Rattle.std.specs.Prelude.{None, Option, Some, ℕ, ◌≡◌, ◌≤◌}
 use Rattle.sw_machine.specs.Network.{Network}
 use Rattle.sw_machine.specs.State.{State}
 use Rattle.sw_machine.specs.Steps.{Accept, Arrive, Begin, Drop, Emit, Fct, FctIn, Forward, Grant, Leads, Reply, Spill, Step}
-use Rattle.sw_model.specs.Model.{network_of}
+use Rattle.sw_machine.specs.Model.{network_of}
 use Rattle.sw_net.specs.Net.{IsNetState, NetView}
 use Rattle.sw_net.specs.Numbers.{numbers_at}
 use Rattle.sw_topo.specs.Wiring.{partner}

@@ -2,7 +2,7 @@
 use Rattle.std.specs.Prelude.{length, ℕ, ◌+◌, ◌≡◌}
 use Rattle.sw_machine.specs.Runs.{length_pending, total, undelivered}
 use Rattle.sw_machine.specs.State.{State}
-use Rattle.sw_model.specs.Model.{network_of}
+use Rattle.sw_machine.specs.Model.{network_of}
 use Rattle.sw_net.specs.Net.{IsNetState, NetView}
 
 -- on the wire of a channel and in the buffer where it ends

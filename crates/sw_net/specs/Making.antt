@@ -5,13 +5,13 @@ use Rattle.sw_cell.specs.Answers.{Stores}
 use Rattle.sw_cell.specs.Picks.{GrantsPick}
 use Rattle.sw_machine.specs.Parts.{link_end_of}
 use Rattle.sw_machine.specs.Steps.{Begin, Grant, Step, is_begin}
-use Rattle.sw_model.specs.Model.{network_of}
+use Rattle.sw_machine.specs.Model.{network_of}
 use Rattle.sw_net.specs.Asked.{CanStep}
 use Rattle.sw_net.specs.Net.{NetAnswers, NetView, arbiters_of}
 use Rattle.sw_net.specs.Possible.{Tells}
 use Rattle.sw_route.specs.declared.look.Look.{Look}
-use Rattle.sw_model.specs.Steps.{machine_step}
-use Rattle.sw_model.specs.declared.step.Step.{Step as CodeStep}
+use Rattle.sw_machine.specs.StepValues.{machine_step}
+use Rattle.sw_machine.specs.declared.step.Step.{Step as CodeStep}
 use Rattle.sw_switch.specs.Cell.{Cell}
 
 -- the output where channel d starts is granted to input c, which its arbiter picks among those that ask; no other arbiter changes, and no other switch

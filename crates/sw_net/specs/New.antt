@@ -6,7 +6,7 @@ use Rattle.sw_cell.specs.Parts.{IsNodeFor, IsNodePart}
 use Rattle.sw_cell.specs.SwitchParts.{IsSwitchFor, IsSwitchPart}
 use Rattle.sw_flow.specs.Places.{ends_of}
 use Rattle.sw_machine.specs.State.{empty}
-use Rattle.sw_model.specs.Model.{network_of}
+use Rattle.sw_machine.specs.Model.{network_of}
 use Rattle.sw_net.specs.Net.{IsNetState, NetView}
 use Rattle.sw_net.specs.Outputs.{AreByOutput, StandsAt}
 use Rattle.sw_config.specs.Entries.{Declaration, capacities, look_at}

@@ -2,7 +2,7 @@
 use Rattle.std.specs.Prelude.{length, ℕ, ◌-◌, ◌≡◌}
 use Rattle.sw_machine.specs.Network.{Network, reverse_of}
 use Rattle.sw_machine.specs.State.{State}
-use Rattle.sw_model.specs.Model.{network_of}
+use Rattle.sw_machine.specs.Model.{network_of}
 use Rattle.sw_net.specs.Net.{IsNetState, NetView}
 use Rattle.sw_net.specs.declared.numbers.Numbers.{Numbers}
 

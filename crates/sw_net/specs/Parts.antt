@@ -8,7 +8,7 @@ use Rattle.sw_machine.specs.Network.{Network, reverse_of}
 use Rattle.sw_machine.specs.State.{State}
 use Rattle.sw_machine.specs.declared.input.InputState.{InputState}
 use Rattle.sw_machine.specs.declared.input.InputState.TheVariants.{Held, Idle, Spilling}
-use Rattle.sw_model.specs.Model.{network_of}
+use Rattle.sw_machine.specs.Model.{network_of}
 use Rattle.sw_net.specs.Kept.{NodeView, PortView}
 use Rattle.sw_net.specs.declared.part.Part.{Part}
 use Rattle.sw_net.specs.declared.part.Part.TheVariants.{Node, Switch}

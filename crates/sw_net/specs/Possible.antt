@@ -8,7 +8,7 @@ use Rattle.sw_cell.specs.declared.switch.PortStep.TheVariants as at_port
 use Rattle.sw_char.specs.declared.nchar.End.{End}
 use Rattle.sw_machine.specs.State.{State}
 use Rattle.sw_machine.specs.Steps.{Accept, Arrive, Begin, Drop, Emit, Fct, FctIn, Forward, Grant, IsPossible, Reply, Spill, Step}
-use Rattle.sw_model.specs.Model.{network_of}
+use Rattle.sw_machine.specs.Model.{network_of}
 use Rattle.sw_net.specs.Net.{IsNetState, NetView}
 use Rattle.sw_topo.specs.Wiring.{partner}
 

@@ -3,7 +3,7 @@ ghost use Rattle.std.specs.Prelude.{◌≡◌, ◌<◌, ◌*◌, IfOk, Some, len
 ghost use Rattle.sw_flow.specs.Places.{ends_of};
 ghost use Rattle.sw_machine.specs.Runs.{CameOut};
 ghost use Rattle.sw_machine.specs.State.{State};
-ghost use Rattle.sw_model.specs.Model.{network_of};
+ghost use Rattle.sw_machine.specs.Model.{network_of};
 ghost use Rattle.sw_topo.specs.Checked.{IsIn};
 
 use crate::net::Net;

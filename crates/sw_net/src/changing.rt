@@ -3,15 +3,15 @@ ghost use Rattle.std.specs.Prelude.{◌≡◌, ◌<◌, ℕ, Some, length};
 ghost use Rattle.sw_flow.specs.Places.{end_of, ends_of};
 ghost use Rattle.sw_machine.specs.State.{State};
 ghost use Rattle.sw_machine.specs.declared.input.InputState.TheVariants.{Held};
-ghost use Rattle.sw_model.specs.Model.{network_of};
-ghost use Rattle.sw_model.specs.Steps.{machine_step};
+ghost use Rattle.sw_machine.specs.Model.{network_of};
+ghost use Rattle.sw_machine.specs.StepValues.{machine_step};
 ghost use Rattle.sw_net.specs.Changing.{IsChanged, IsEndOf};
 ghost use Rattle.sw_topo.specs.Wiring.{out_of, partner};
 
 use crate::net::Net;
 use sw_arb::Arbiter;
 use sw_config::Network;
-use sw_model::Step;
+use sw_machine::Step;
 use sw_route::Routing;
 use sw_switch::Input;
 use sw_topo::{Chan, LinkEnd, PlaceEnd, Port};

@@ -2,13 +2,13 @@
 ghost use Rattle.std.specs.Prelude.{◌≡◌, ◌<◌, ◌*◌, ℕ, IfNone, IfSome, Some, false, length, slice_get, true};
 ghost use Rattle.sw_flow.specs.Places.{ends_of};
 ghost use Rattle.sw_machine.specs.Steps.{Grant};
-ghost use Rattle.sw_model.specs.Model.{network_of};
-ghost use Rattle.sw_model.specs.Steps.{machine_step};
+ghost use Rattle.sw_machine.specs.Model.{network_of};
+ghost use Rattle.sw_machine.specs.StepValues.{machine_step};
 
 use crate::net::Net;
 use crate::step_of::{node_step, port_step};
 use sw_arb::Arbiter;
-use sw_model::Step;
+use sw_machine::Step;
 use sw_route::Routing;
 use sw_topo::{LinkEnd, PlaceEnd, Port};
 

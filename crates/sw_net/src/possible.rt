@@ -3,8 +3,8 @@ ghost use Rattle.std.specs.Prelude.{◌≡◌, ◌<◌, length};
 ghost use Rattle.sw_cell.specs.Places.{IsAt};
 ghost use Rattle.sw_cell.specs.declared.cell.CellId.{CellId};
 ghost use Rattle.sw_machine.specs.Steps.{is_begin};
-ghost use Rattle.sw_model.specs.Model.{network_of};
-ghost use Rattle.sw_model.specs.Steps.{machine_step};
+ghost use Rattle.sw_machine.specs.Model.{network_of};
+ghost use Rattle.sw_machine.specs.StepValues.{machine_step};
 ghost use Rattle.sw_net.specs.Possible.{granted_by, kind_at_node, kind_at_port};
 
 use crate::changing::receiver;
@@ -13,7 +13,7 @@ use sw_arb::Arbiter;
 use sw_cell::node::NodeStep;
 use sw_cell::switch::PortStep;
 use sw_cell::{CellId, cell_of, node, switch};
-use sw_model::Step;
+use sw_machine::Step;
 use sw_route::Routing;
 use sw_topo::{Chan, LinkEnd};
 

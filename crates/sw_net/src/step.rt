@@ -5,8 +5,8 @@ ghost use Rattle.sw_cell.specs.Makes.{HasNodeState};
 ghost use Rattle.sw_cell.specs.Parts.{IsNodeFor, IsNodeState};
 ghost use Rattle.sw_cell.specs.Places.{IsAt};
 ghost use Rattle.sw_cell.specs.declared.cell.CellId.{CellId};
-ghost use Rattle.sw_model.specs.Model.{network_of};
-ghost use Rattle.sw_model.specs.Steps.{machine_step};
+ghost use Rattle.sw_machine.specs.Model.{network_of};
+ghost use Rattle.sw_machine.specs.StepValues.{machine_step};
 
 use crate::net::Net;
 use std::alloc::Global;
@@ -14,7 +14,7 @@ use sw_arb::Arbiter;
 use sw_cell::{CellId, NetFault, cell_of, made_or_not, step_node, step_switch};
 use sw_config::Network;
 use sw_link::Wires;
-use sw_model::Step;
+use sw_machine::Step;
 use sw_node::NodeCell;
 use sw_route::Routing;
 

@@ -4,9 +4,9 @@ ghost use Rattle.sw_cell.specs.Possible.{step_at_node, step_at_port};
 ghost use Rattle.sw_cell.specs.declared.switch.PortStep.{PortStep};
 ghost use Rattle.sw_machine.specs.Network.{AtSwitch};
 ghost use Rattle.sw_machine.specs.Parts.{link_end_of};
-ghost use Rattle.sw_model.specs.Model.{network_of};
+ghost use Rattle.sw_machine.specs.Model.{network_of};
 ghost use Rattle.sw_net.specs.Making.{IsPlain};
-ghost use Rattle.sw_model.specs.Steps.{machine_step};
+ghost use Rattle.sw_machine.specs.StepValues.{machine_step};
 
 use crate::net::Net;
 use std::alloc::{AllocError, Global};
@@ -15,12 +15,12 @@ use sw_cell::node::NodeStep;
 use sw_cell::switch::PortStep;
 use sw_cell::{NetFault, node, switch};
 use sw_config::Network;
-use sw_model::Step;
+use sw_machine::Step;
 use sw_route::Routing;
 use sw_topo::{LinkEnd, PlaceEnd};
 
 /// The step at node `n`.
-#[tactic(auto, unfolding(sw_model::specs::Model::network_of))]
+#[tactic(auto, unfolding(sw_machine::specs::Model::network_of))]
 pub(crate) fn node_step(network: &Network, n: u16, step: NodeStep) -> Step
     requires { n < length network.now.nodes }
     ensures { machine_step result ≡ step_at_node (network_of network.now) n step }

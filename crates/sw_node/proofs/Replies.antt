@@ -2,7 +2,7 @@
 use Rattle.std.proofs.Common.{◌≡◌, ℕ, ◌≤◌, List, take, drop, length, Option, Some, None, refl, ap, ◌∙◌, arith, length-append}
 use Rattle.std.proofs.lemmas.List.{take_at}
 use Rattle.sw_char.specs.declared.nchar.End.{End}
-use Rattle.sw_model.specs.Model.{parted, slots_of}
+use Rattle.sw_machine.specs.Model.{parted, slots_of}
 use Rattle.sw_node.specs.Changes.{with_memory}
 use Rattle.sw_node.specs.Node.{config_of}
 use Rattle.sw_rmap.specs.Answers.{TargetView, answer}

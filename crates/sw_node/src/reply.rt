@@ -1,7 +1,7 @@
 //! A reply that waits to be sent.
 ghost use Rattle.std.specs.Prelude.{◌≡◌, IfOk, OnErr, OnOk, length};
 ghost use Rattle.sw_machine.specs.State.{reply_packet};
-ghost use Rattle.sw_model.specs.Model.{answer_of, memory_after};
+ghost use Rattle.sw_machine.specs.Model.{answer_of, memory_after};
 ghost use Rattle.sw_node.specs.Changes.{with_memory};
 ghost use Rattle.sw_node.specs.Node.{config_of, memory_of};
 

@@ -2,7 +2,7 @@
 use Rattle.std.proofs.Common.{◌≡◌, ◌∙◌, ◌++◌, ◌∷◌, ◌<◌, ◌≤◌, ℕ, true, false, [], All, List, Option, ap, drop, length, take}
 use Rattle.std.proofs.lemmas.List.{append_assoc}
 use Rattle.std.proofs.lemmas.List.Elements.{All-push}
-use Rattle.sw_toml_table.specs.declared.keys.Section.{Section}
+use Rattle.sw_text.specs.declared.keys.Section.{Section}
 use Rattle.sw_notes.specs.Places.{Holds, IsClosing, IsPiece, IsPlace}
 
 -- one more bracket closes what was closed before

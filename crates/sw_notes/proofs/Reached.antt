@@ -2,8 +2,8 @@
 use Rattle.std.proofs.Common.{◌≡◌, ◌∙◌, ℕ, List, None, Option, Some, ap, refl}
 use Rattle.std.specs.Option.{option_and_then}
 use Rattle.toml.specs.Data.{Data, Members, as_table, at, get_member}
-use Rattle.sw_toml_table.specs.declared.keys.Key.{Key}
-use Rattle.sw_toml_table.specs.Keys.{key_text}
+use Rattle.sw_text.specs.declared.keys.Key.{Key}
+use Rattle.sw_text.specs.Keys.{key_text}
 use Rattle.sw_notes.specs.Lookup.{entry_of, inner_of}
 
 at_once : (n : ℕ) (list : Option Data) → option_and_then (λ v. option_and_then as_table (at n v)) list ≡ option_and_then as_table (option_and_then (at n) list)

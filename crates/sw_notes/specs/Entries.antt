@@ -1,15 +1,15 @@
 -- What the entries of a document say, as far as they say it (this project's choice).
 use Rattle.std.specs.Prelude.{ℕ, List, Option, Some, None, [], Result, Ok, Err, option_and_then, option_map}
 use Rattle.toml.specs.Data.{Data, Members, as_integer, as_str, get_member}
-use Rattle.sw_toml_table.specs.declared.fault.FileFault.{FileFault}
-use Rattle.sw_toml_table.specs.declared.fault.FileFault.TheVariants.{Text, Memory}
-use Rattle.sw_toml_table.specs.declared.fault.TextFault.{TextFault}
-use Rattle.sw_toml_table.specs.declared.keys.Key.{Key}
-use Rattle.sw_toml_table.specs.declared.keys.Key.TheVariants.{Address, Last}
-use Rattle.sw_toml_table.specs.declared.keys.Section.{Section}
-use Rattle.sw_toml_table.specs.declared.keys.Section.TheVariants.{Document}
-use Rattle.sw_toml_table.specs.Keys.{key_text}
-use Rattle.sw_toml_table.specs.Table.{in_range, numbers_or_none, tables_or_none}
+use Rattle.sw_text.specs.declared.fault.FileFault.{FileFault}
+use Rattle.sw_text.specs.declared.fault.FileFault.TheVariants.{Text, Memory}
+use Rattle.sw_text.specs.declared.fault.TextFault.{TextFault}
+use Rattle.sw_text.specs.declared.keys.Key.{Key}
+use Rattle.sw_text.specs.declared.keys.Key.TheVariants.{Address, Last}
+use Rattle.sw_text.specs.declared.keys.Section.{Section}
+use Rattle.sw_text.specs.declared.keys.Section.TheVariants.{Document}
+use Rattle.sw_text.specs.Keys.{key_text}
+use Rattle.sw_text.specs.Table.{in_range, numbers_or_none, tables_or_none}
 use Rattle.sw_notes.specs.Lookup.{value_of}
 
 -- the text at a key of a table of the document

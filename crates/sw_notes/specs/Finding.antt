@@ -1,7 +1,7 @@
 -- Which entries of a list pass (this project's choice).
 use Rattle.std.specs.Prelude.{ℕ, suc, Bool, List, [], ◌∷◌, Option, Some, None, if◌then◌else◌}
 use Rattle.toml.specs.Data.{Members}
-use Rattle.sw_toml_table.specs.declared.keys.Key.{Key}
+use Rattle.sw_text.specs.declared.keys.Key.{Key}
 use Rattle.sw_notes.specs.Entries.{tables_of}
 
 -- the places of the tables that pass, in order, where the first is counted as n

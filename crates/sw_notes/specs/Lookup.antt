@@ -1,11 +1,11 @@
 -- Tables and values of a document, by where they stand.
 use Rattle.std.specs.Prelude.{ℕ, List, Option, Some, option_and_then}
 use Rattle.toml.specs.Data.{Data, Members, get_member, as_table, at}
-use Rattle.sw_toml_table.specs.declared.keys.Key.{Key}
-use Rattle.sw_toml_table.specs.declared.keys.Key.TheVariants as key
-use Rattle.sw_toml_table.specs.declared.keys.Section.{Section}
-use Rattle.sw_toml_table.specs.declared.keys.Section.TheVariants.{Document, Node, Target, Switch, Route, Link, Flow, Reply, Packet}
-use Rattle.sw_toml_table.specs.Keys.{key_text}
+use Rattle.sw_text.specs.declared.keys.Key.{Key}
+use Rattle.sw_text.specs.declared.keys.Key.TheVariants as key
+use Rattle.sw_text.specs.declared.keys.Section.{Section}
+use Rattle.sw_text.specs.declared.keys.Section.TheVariants.{Document, Node, Target, Switch, Route, Link, Flow, Reply, Packet}
+use Rattle.sw_text.specs.Keys.{key_text}
 
 -- the table at a key
 abbrev pub inner_of : Key → Members → Option Members

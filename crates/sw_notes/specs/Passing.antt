@@ -3,8 +3,8 @@ use Rattle.std.specs.Prelude.{ℕ, Bool, false, List, ◌&&◌, ◌||◌, ◌==�
 use Rattle.std.specs.Option.{option_map_or}
 use Rattle.std.specs.Str.{bytes_eq}
 use Rattle.toml.specs.Data.{Members}
-use Rattle.sw_toml_table.specs.declared.keys.Key.{Key}
-use Rattle.sw_toml_table.specs.declared.keys.Key.TheVariants.{A, APort, B, BPort, Name}
+use Rattle.sw_text.specs.declared.keys.Key.{Key}
+use Rattle.sw_text.specs.declared.keys.Key.TheVariants.{A, APort, B, BPort, Name}
 use Rattle.sw_notes.specs.declared.passing.Test.{Test}
 use Rattle.sw_notes.specs.declared.passing.Test.TheVariants.{Named, IsAt, HasPort, Overlaps}
 use Rattle.sw_notes.specs.Entries.{number_in, range_in, text_in}

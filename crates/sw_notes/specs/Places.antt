@@ -1,9 +1,9 @@
 -- Where a table or a key stands in a text: where the piece begins that brings it into the document.
 use Rattle.std.specs.Prelude.{◌≡◌, ◌⊎◌, ◌<◌, ◌≤◌, ℕ, Bool, true, false, All, List, [], ◌∷◌, ◌++◌, length, take, drop, Option, Some, None, is_some, Ok}
 use Rattle.toml.specs.Data.{Members}
-use Rattle.sw_toml_table.specs.declared.keys.Section.{Section}
+use Rattle.sw_text.specs.declared.keys.Section.{Section}
 use Rattle.sw_notes.specs.Lookup.{table_of, value_of}
-use Rattle.sw_toml_table.specs.Document.{document_of}
+use Rattle.sw_text.specs.Document.{document_of}
 
 -- a bracket that closes a list or a table
 abbrev pub IsClosing : ℕ → Type 0

@@ -1,9 +1,9 @@
 -- Why the replies of a flow can't come back (this project's choice; ECSS-E-ST-50-52C, the reply address field of a command).
 use Rattle.std.specs.Prelude.{ℕ, Bool, false, List, [], ◌∷◌, ◌++◌, ◌==◌, ◌&&◌, Option, Some, None, if◌then◌else◌, length, nat_le, nat_lt, option_and_then}
 use Rattle.toml.specs.Data.{Members}
-use Rattle.sw_toml_table.specs.declared.keys.Key.{Key}
-use Rattle.sw_toml_table.specs.declared.keys.Key.TheVariants as key
-use Rattle.sw_toml_table.specs.declared.keys.Section.TheVariants as section
+use Rattle.sw_text.specs.declared.keys.Key.{Key}
+use Rattle.sw_text.specs.declared.keys.Key.TheVariants as key
+use Rattle.sw_text.specs.declared.keys.Section.TheVariants as section
 use Rattle.sw_notes.specs.Lookup.{table_of}
 use Rattle.sw_notes.specs.declared.note.Note.{Note}
 use Rattle.sw_notes.specs.declared.note.Note.TheVariants.{LongPath, LeadingZero, NoInitiator, NoTarget}

@@ -2,14 +2,14 @@
 ghost use Rattle.std.specs.Prelude.{◌≡◌, IfOk, map, option_and_then, option_map};
 ghost use Rattle.toml.specs.Data.{as_integer, get_member};
 ghost use Rattle.toml.specs.View.{table_view, view};
-ghost use Rattle.sw_toml_table.specs.Keys.{key_text};
-ghost use Rattle.sw_toml_table.specs.Table.{in_range};
+ghost use Rattle.sw_text.specs.Keys.{key_text};
+ghost use Rattle.sw_text.specs.Table.{in_range};
 ghost use Rattle.sw_notes.specs.Entries.{bytes_in, number_in, range_in, tables_of, text_in, text_of};
 
 use crate::lookup::{member_of, value_of};
 use crate::unread::text_fault;
 use std::alloc::{AllocError, Global};
-use sw_toml_table::{Key, Section, TableEntry};
+use sw_text::{Key, Section, TableEntry};
 use toml::{Table, Value};
 
 /// The text at a key of a table of the document.

@@ -7,7 +7,7 @@ ghost use Rattle.sw_notes.specs.Passing.{passes};
 use crate::entries::tables_of;
 use crate::passing::{Test, passes};
 use std::alloc::{AllocError, Global};
-use sw_toml_table::Key;
+use sw_text::Key;
 use toml::Table;
 
 /// The places of the entries of a list of a table that pass.

@@ -1,7 +1,7 @@
 //! Brackets that are open.
 ghost use Rattle.sw_notes.specs.Places.{IsClosing};
 
-use sw_toml_table::Section;
+use sw_text::Section;
 
 /// A bracket that is open, and the section of the table that it opened, or of the entry that stands next in its list.
 #[derive(Clone, Copy)]

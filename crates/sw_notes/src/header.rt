@@ -1,5 +1,5 @@
 //! The sections that headers and keys lead to.
-use sw_toml_table::Section;
+use sw_text::Section;
 
 /// How many headers of each list there were so far.
 #[derive(Clone, Copy)]

@@ -4,7 +4,7 @@ ghost use Rattle.toml.specs.Data.{get_member};
 ghost use Rattle.toml.specs.View.{table_view, view};
 ghost use Rattle.sw_notes.specs.Lookup.{entry_of, inner_of, table_of, value_of};
 
-use sw_toml_table::{Key, Section};
+use sw_text::{Key, Section};
 use toml::{Table, Value};
 
 /// What stands at this key of a table, if there is one.

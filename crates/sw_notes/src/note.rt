@@ -2,7 +2,7 @@
 ghost use Rattle.std.specs.Prelude.{◌≡◌, ◌++◌, ◌∷◌, [], IfOk};
 
 use std::alloc::AllocError;
-use sw_toml_table::{Key, Section};
+use sw_text::{Key, Section};
 
 /// What there is to note of a fault: another entry of the file, or a condition that failed.
 #[derive(Clone, Copy)]

@@ -11,7 +11,7 @@ use crate::note::{Note, add_note};
 use crate::passing::Test;
 use crate::reply_notes::add_reply;
 use std::alloc::{AllocError, Global};
-use sw_toml_table::{Key, KeyFault, Section, TextFault};
+use sw_text::{Key, KeyFault, Section, TextFault};
 use sw_topo::TopoFault;
 use toml::Table;
 

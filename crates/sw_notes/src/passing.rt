@@ -4,7 +4,7 @@ ghost use Rattle.toml.specs.View.{table_view};
 ghost use Rattle.sw_notes.specs.Passing.{has_number, has_text, passes};
 
 use crate::entries::{number_in, range_in, text_in};
-use sw_toml_table::Key;
+use sw_text::Key;
 use toml::Table;
 
 /// What is asked of an entry.

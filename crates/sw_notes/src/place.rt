@@ -10,7 +10,7 @@ use crate::sought::Sought;
 use crate::unread::text_fault;
 use crate::walk::proposed;
 use std::alloc::{AllocError, Global};
-use sw_toml_table::read_document;
+use sw_text::read_document;
 use toml::Table;
 use toml_parser::ParseError;
 

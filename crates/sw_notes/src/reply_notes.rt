@@ -9,7 +9,7 @@ use crate::lookup::table_of;
 use crate::note::{Note, add_note};
 use crate::passing::Test;
 use std::alloc::{AllocError, Global};
-use sw_toml_table::{Key, Section};
+use sw_text::{Key, Section};
 use toml::Table;
 
 /// The most numbers that a path of replies has.

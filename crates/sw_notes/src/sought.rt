@@ -1,5 +1,5 @@
 //! What is looked for in a text.
-use sw_toml_table::Section;
+use sw_text::Section;
 
 /// What is looked for in the text of a network file or a load file: a table, or a key of it.
 #[derive(Clone, Copy)]

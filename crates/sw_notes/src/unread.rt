@@ -1,10 +1,10 @@
 //! Texts that could not be read.
 ghost use Rattle.std.specs.Prelude.{◌≡◌, IfErr, IfOk};
 ghost use Rattle.sw_notes.specs.Entries.{IsOfText};
-ghost use Rattle.sw_toml_table.specs.declared.fault.FileFault.TheVariants.{Memory};
+ghost use Rattle.sw_text.specs.declared.fault.FileFault.TheVariants.{Memory};
 
 use std::alloc::AllocError;
-use sw_toml_table::FileFault;
+use sw_text::FileFault;
 
 /// Lets the fault of a text go.
 ///

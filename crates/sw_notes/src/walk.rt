@@ -4,7 +4,7 @@ use crate::header::{Headers, NO_HEADERS};
 use crate::proposal::Proposal;
 use crate::sought::Sought;
 use std::alloc::Global;
-use sw_toml_table::Section;
+use sw_text::Section;
 use toml_parser::text::{first, skip, skip_blank, skip_ws};
 use toml_parser::{ErrorKind, ParseError, dotted_key, quoted, starts_string, unquoted};
 

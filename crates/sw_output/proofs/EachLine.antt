@@ -4,7 +4,7 @@ use Rattle.std.specs.Prelude.{if◌then◌else◌}
 use Rattle.std.specs.List.{filter, flat_map, range_with_len}
 use Rattle.std.proofs.lemmas.List.{flat_map_more, length-take-le, take_all, take_more}
 use Rattle.std.proofs.lemmas.List.Elements.{filter-append}
-use Rattle.sw_parallel.proofs.Ranges.{range_more}
+use Rattle.sw_graph.proofs.Ranges.{range_more}
 
 -- the line of one number more
 pub lines_more : (text : ℕ → List ℕ) (n : ℕ) (before line read after : List ℕ) → before ≡ flat_map text (range_with_len 0 n) → line ≡ text n → read ≡ line

@@ -8,7 +8,7 @@ use Rattle.sw_load.specs.Load.{LoadEntry}
 use Rattle.sw_machine.specs.Runs.{IsLockedUp}
 use Rattle.sw_machine.specs.State.{State}
 use Rattle.sw_machine.specs.Steps.{Step}
-use Rattle.sw_model.specs.Model.{network_of}
+use Rattle.sw_machine.specs.Model.{network_of}
 use Rattle.sw_config.specs.Entries.{Declaration}
 use Rattle.sw_run.specs.Ends.{AreOutBy, EndsBy, IsOpen}
 use Rattle.sw_run.specs.Outcomes.{IsOutcome, IsUnfinished, NothingFollows, came_out_of, steps_of}

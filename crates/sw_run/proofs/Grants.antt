@@ -19,10 +19,10 @@ use Rattle.sw_load.specs.Load.{LoadEntry}
 use Rattle.sw_machine.specs.Network.{AtSwitch}
 use Rattle.sw_machine.specs.Parts.{link_end_of}
 use Rattle.sw_machine.specs.Steps as steps
-use Rattle.sw_model.specs.Model.{network_of}
-use Rattle.sw_model.specs.Steps.{machine_step}
-use Rattle.sw_model.specs.declared.step.Step.{Step as CodeStep}
-use Rattle.sw_model.specs.declared.step.Step.TheVariants as codes
+use Rattle.sw_machine.specs.Model.{network_of}
+use Rattle.sw_machine.specs.StepValues.{machine_step}
+use Rattle.sw_machine.specs.declared.step.Step.{Step as CodeStep}
+use Rattle.sw_machine.specs.declared.step.Step.TheVariants as codes
 use Rattle.sw_journal.specs.NetAsking.{IsInput}
 use Rattle.sw_journal.specs.Numbers.{Numbers}
 use Rattle.sw_run.specs.Arbiters.{HasArbiters, PicksAt}

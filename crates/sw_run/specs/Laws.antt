@@ -7,7 +7,7 @@ use Rattle.sw_machine.specs.Begun.{AsOften, Begun, is_answered_at, is_reply_at, 
 use Rattle.sw_machine.specs.Certificate.{Certificate, IsAccepted}
 use Rattle.sw_machine.specs.Network.{Network}
 use Rattle.sw_machine.specs.Packets.{Packet}
-use Rattle.sw_model.specs.Model.{network_of}
+use Rattle.sw_machine.specs.Model.{network_of}
 use Rattle.sw_config.specs.Entries.{Declaration}
 use Rattle.sw_config.specs.Valid.{IsValid}
 use Rattle.sw_run.specs.Outcomes.{IsOutcome, came_out_of}

@@ -3,7 +3,7 @@ ghost use Rattle.sw_run.specs.Laws.{HasOneCount, IsDeliveredWhereDrained, IsNotF
 
 use sw_load::history_laws::accepted_histories_end;
 use sw_machine::laws::accepted_is_never_locked_up;
-use sw_model::laws::declared_networks_are_networks;
+use sw_machine::model_laws::declared_networks_are_networks;
 
 /// No run ends stuck.
 pub fn accepted_is_not_stuck()

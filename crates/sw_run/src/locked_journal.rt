@@ -6,7 +6,7 @@ ghost use Rattle.sw_journal.specs.Cells.{end_numbers};
 ghost use Rattle.sw_journal.specs.Record.{CanCommit};
 ghost use Rattle.sw_machine.specs.Network.{AtSwitch};
 ghost use Rattle.sw_machine.specs.Steps.{Grant};
-ghost use Rattle.sw_model.specs.Steps.{machine_step};
+ghost use Rattle.sw_machine.specs.StepValues.{machine_step};
 ghost use Rattle.sw_run.specs.Ends.{AreOutBy, EndsBy};
 ghost use Rattle.sw_run.specs.Grants.{Advances, AdvancesAt, AreAskers, Begins, Grants, IsPicked, Takes};
 ghost use Rattle.sw_run.specs.Outcomes.{IsOutcome};
@@ -23,7 +23,7 @@ use sw_cell::CellId;
 use sw_char::Packet;
 use sw_config::Network;
 use sw_journal::{Cell, Journal};
-use sw_model::Step;
+use sw_machine::Step;
 use sw_topo::{Chan, LinkEnd, PlaceEnd, Port, PortSet};
 
 /// The journal of one run, and what is noted beside it. It is let go by `outcome` alone.

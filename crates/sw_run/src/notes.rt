@@ -7,7 +7,7 @@ use crate::outcome::Stop;
 use crate::turn::Turn;
 use std::alloc::{AllocError, Global};
 use sw_journal::JournalFault;
-use sw_model::Step;
+use sw_machine::Step;
 use sw_topo::LinkEnd;
 
 /// What is noted beside the journal of a run: whether the run goes on, and which outputs are granted.

@@ -12,7 +12,7 @@ use Rattle.sw_machine.specs.Network.{IsNetwork, Network}
 use Rattle.sw_machine.specs.Runs.{Run}
 use Rattle.sw_machine.specs.State.{State, empty}
 use Rattle.sw_machine.specs.Steps.{Leads, Step, Fct, FctIn, Arrive, Grant, Drop, Forward, Spill, Begin, Emit, Accept, Reply}
-use Rattle.sw_model.specs.Model.{network_of}
+use Rattle.sw_machine.specs.Model.{network_of}
 use Rattle.sw_schedule.specs.TextLaws.{IsShort}
 use Rattle.sw_schedule.proofs.Entries.{Each}
 use Rattle.sw_schedule.proofs.WrittenLines.{IsWritable}

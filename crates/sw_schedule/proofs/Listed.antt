@@ -10,14 +10,14 @@ use Rattle.sw_load.specs.Laws.{IsListedBy, ReadsEachEntry}
 use Rattle.sw_load.proofs.Listed.{goes_on, one_is_read}
 use Rattle.sw_load.specs.Load.{LoadEntry, cargo_at, load_of, packet_of}
 use Rattle.sw_schedule.specs.TextLaws.{IsShort, ListedAreShort}
-use Rattle.sw_toml_table.specs.Document.{document_of}
-use Rattle.sw_toml_table.specs.Gives.{ok_or}
-use Rattle.sw_toml_table.specs.Table.{text_at}
-use Rattle.sw_toml_table.specs.declared.fault.KeyFault.TheVariants.{OutOfRange}
-use Rattle.sw_toml_table.specs.declared.fault.TextFault.{TextFault}
-use Rattle.sw_toml_table.specs.declared.fault.TextFault.TheVariants as fault
-use Rattle.sw_toml_table.specs.declared.keys.Key.TheVariants.{Cargo}
-use Rattle.sw_toml_table.specs.declared.keys.Section.TheVariants as section
+use Rattle.sw_text.specs.Document.{document_of}
+use Rattle.sw_text.specs.Gives.{ok_or}
+use Rattle.sw_text.specs.Table.{text_at}
+use Rattle.sw_text.specs.declared.fault.KeyFault.TheVariants.{OutOfRange}
+use Rattle.sw_text.specs.declared.fault.TextFault.{TextFault}
+use Rattle.sw_text.specs.declared.fault.TextFault.TheVariants as fault
+use Rattle.sw_text.specs.declared.keys.Key.TheVariants.{Cargo}
+use Rattle.sw_text.specs.declared.keys.Section.TheVariants as section
 
 -- ---- a byte that is read is a byte
 

@@ -6,7 +6,7 @@ use Rattle.sw_config.specs.Entries.{Declaration}
 use Rattle.sw_machine.specs.Runs.{IsLockedUp}
 use Rattle.sw_machine.specs.State.{empty}
 use Rattle.sw_machine.specs.Steps.{Step}
-use Rattle.sw_model.specs.Model.{network_of}
+use Rattle.sw_machine.specs.Model.{network_of}
 use Rattle.sw_net.specs.Net.{NetView}
 use Rattle.sw_net.specs.New.{IsNewNet}
 use Rattle.sw_net.specs.declared.part.Part.{Part}

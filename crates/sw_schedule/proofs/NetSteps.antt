@@ -6,7 +6,7 @@ use Rattle.sw_machine.proofs.RunLists.{run_append}
 use Rattle.sw_machine.specs.Runs.{Run}
 use Rattle.sw_machine.specs.State.{empty}
 use Rattle.sw_machine.specs.Steps.{Leads, Step}
-use Rattle.sw_model.specs.Model.{network_of}
+use Rattle.sw_machine.specs.Model.{network_of}
 use Rattle.sw_net.specs.Net.{NetView}
 use Rattle.sw_net.specs.New.{IsNewNet}
 use Rattle.sw_config.specs.Entries.{Declaration}

@@ -5,7 +5,7 @@ use Rattle.sw_machine.specs.Network.{Network}
 use Rattle.sw_machine.specs.Packets.{Packet}
 use Rattle.sw_machine.specs.Runs.{CameOut, IsLockedUp}
 use Rattle.sw_machine.specs.State.{State, empty}
-use Rattle.sw_model.specs.Model.{network_of}
+use Rattle.sw_machine.specs.Model.{network_of}
 use Rattle.sw_schedule.specs.Reports.{IsTrueOf, Report}
 use Rattle.sw_schedule.specs.Replays.{ReplaysAreDetermined}
 use Rattle.sw_schedule.proofs.Stops.{one_end}

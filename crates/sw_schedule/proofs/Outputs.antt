@@ -8,7 +8,7 @@ use Rattle.std.specs.Global.{Vec}
 use Rattle.sw_machine.specs.Packets.{Packet}
 use Rattle.sw_machine.specs.Runs.{CameOut}
 use Rattle.sw_machine.specs.State.{State}
-use Rattle.sw_model.specs.Model.{network_of}
+use Rattle.sw_machine.specs.Model.{network_of}
 use Rattle.sw_net.specs.Net.{IsNetState, NetView}
 use Rattle.sw_config.specs.Entries.{Declaration}
 use Rattle.sw_schedule.specs.Reports.{AreOutputs}

@@ -5,8 +5,8 @@ use Rattle.std.proofs.lemmas.List.{at_drop_more, drop_all}
 use Rattle.std.specs.List.{flat_map}
 use Rattle.std.specs.Prelude.{nat_lt}
 use Rattle.sw_config.specs.Entries.{Declaration}
-use Rattle.sw_model.specs.Steps.{machine_step}
-use Rattle.sw_model.specs.declared.step.Step.{Step}
+use Rattle.sw_machine.specs.StepValues.{machine_step}
+use Rattle.sw_machine.specs.declared.step.Step.{Step}
 use Rattle.sw_schedule.specs.Runs.{entries_from, entry_line, is_same, short_text}
 
 -- what was written and what is still to be written are the whole text; the last step was made so often

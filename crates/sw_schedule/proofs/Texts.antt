@@ -10,7 +10,7 @@ use Rattle.sw_config.specs.Valid.{IsValid}
 use Rattle.sw_config.proofs.Steps.{length-link_ends}
 use Rattle.sw_load.specs.Cargo.{CargoIsRead}
 use Rattle.sw_machine.specs.Steps.{Step}
-use Rattle.sw_model.specs.Laws.{DeclaredNetworksAreNetworks}
+use Rattle.sw_machine.specs.ModelLaws.{DeclaredNetworksAreNetworks}
 use Rattle.sw_schedule.specs.Laws.{LinesAreRead}
 use Rattle.sw_schedule.specs.Lines.{Repeated, steps_of_line}
 use Rattle.sw_schedule.specs.Schedule.{steps_of, steps_of_text}

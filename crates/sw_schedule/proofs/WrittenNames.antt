@@ -19,7 +19,7 @@ use Rattle.sw_schedule.specs.Lines.{flow_of, node_of}
 use Rattle.sw_schedule.specs.Spelling.{IsWord}
 use Rattle.sw_schedule.specs.TextLaws.{HasNames}
 use Rattle.sw_schedule.proofs.Words.{Free}
-use Rattle.sw_toml_table.specs.Names.{is_name, is_name_byte}
+use Rattle.sw_text.specs.Names.{is_name, is_name_byte}
 
 -- ---- the bytes of a name
 

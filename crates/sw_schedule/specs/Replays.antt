@@ -5,7 +5,7 @@ use Rattle.sw_machine.specs.Network.{Network}
 use Rattle.sw_machine.specs.Runs.{Run}
 use Rattle.sw_machine.specs.State.{State, empty}
 use Rattle.sw_machine.specs.Steps.{IsPossible, Leads, Step}
-use Rattle.sw_model.specs.Model.{network_of}
+use Rattle.sw_machine.specs.Model.{network_of}
 use Rattle.sw_config.specs.Entries.{Declaration}
 use Rattle.sw_schedule.specs.declared.replayed.ReplayEnd.{ReplayEnd}
 use Rattle.sw_schedule.specs.declared.replayed.ReplayEnd.TheVariants.{Made, Refused}

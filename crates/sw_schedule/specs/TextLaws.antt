@@ -6,10 +6,10 @@ use Rattle.sw_load.specs.History.{IsHistory, packets_of}
 use Rattle.sw_load.specs.Load.{LoadEntry, load_text}
 use Rattle.sw_machine.specs.State.{State}
 use Rattle.sw_machine.specs.Steps.{Step}
-use Rattle.sw_model.specs.Model.{network_of}
+use Rattle.sw_machine.specs.Model.{network_of}
 use Rattle.sw_schedule.specs.Schedule.{steps_of_text}
 use Rattle.sw_schedule.specs.Runs.{readable_text}
-use Rattle.sw_toml_table.specs.Names.{is_name}
+use Rattle.sw_text.specs.Names.{is_name}
 
 -- the names of nodes, switches and flows are such as a network file may give
 pub record HasNames (d : Declaration) : Type 0 where

@@ -26,7 +26,7 @@ pub use replaying::replay;
 pub use schedule::{MAX_STEPS, Schedule, ScheduleFault, read_steps};
 pub use schedule_entry::ScheduleEntry;
 pub use sw_load::MAX_CARGO;
-pub use sw_model::Step;
+pub use sw_machine::Step;
 pub use sw_net::{
     CellId, Input, Net, NetFault, NodePart, Part, PortPart, SwitchRoutes, declared_net,
 };

@@ -2,13 +2,13 @@
 ghost use Rattle.std.specs.Prelude.{◌≡◌, ◌≤◌, IfOk, length, replicate};
 ghost use Rattle.sw_schedule.specs.Nets.{IsWithin, NetEnds, NetMakesOr};
 ghost use Rattle.sw_schedule.specs.Schedule.{steps_of};
-ghost use Rattle.sw_model.specs.Steps.{machine_step};
+ghost use Rattle.sw_machine.specs.StepValues.{machine_step};
 
 use crate::replayed::{ReplayEnd, StepRefusal};
 use crate::schedule_entry::ScheduleEntry;
 use std::alloc::{AllocError, Global};
 use sw_arb::Policy;
-use sw_model::Step;
+use sw_machine::Step;
 use sw_net::{Net, NetFault, SwitchRoutes};
 
 /// Makes the step, or tells why it is refused.

@@ -1,13 +1,13 @@
 //! A step of a schedule, and how many times it is made.
 ghost use Rattle.std.specs.Prelude.{◌≡◌, IfOk};
 ghost use Rattle.sw_schedule.specs.Kept.{begin_step, plain_step};
-ghost use Rattle.sw_model.specs.Steps.{machine_step};
+ghost use Rattle.sw_machine.specs.StepValues.{machine_step};
 
 use crate::cargo::Cargo;
 use std::alloc::{AllocError, Global};
 use std::marker::Model;
 use sw_char::End;
-use sw_model::Step;
+use sw_machine::Step;
 use sw_topo::Chan;
 
 /// A step without cargo.

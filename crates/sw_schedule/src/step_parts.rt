@@ -1,11 +1,11 @@
 //! What tells steps apart.
 ghost use Rattle.std.specs.Prelude.{◌≡◌, []};
-ghost use Rattle.sw_model.specs.Steps.{machine_step};
+ghost use Rattle.sw_machine.specs.StepValues.{machine_step};
 ghost use Rattle.sw_schedule.specs.Runs.{end_number, is_same, parts_of, plain};
 ghost use Rattle.sw_schedule.specs.Views.{parts_view};
 
 use sw_char::End;
-use sw_model::Step;
+use sw_machine::Step;
 use sw_topo::Chan;
 
 /// Of which kind a step is, its numbers and its cargo.

@@ -3,7 +3,7 @@ ghost use Rattle.sw_schedule.specs.TextLaws.{ListedAreShort, SchedulesAreRead};
 
 use crate::laws::lines_are_read;
 use sw_load::laws::{cargo_is_read, each_entry_is_read};
-use sw_model::laws::declared_networks_are_networks;
+use sw_machine::model_laws::declared_networks_are_networks;
 
 /// The cargo of each packet of a load that was read is bytes, at most 4,096 of them.
 pub fn listed_are_short()

@@ -1,6 +1,6 @@
 //! The text of steps.
 ghost use Rattle.std.specs.Prelude.{◌≡◌, ◌++◌, ◌∷◌, ◌&&◌, [], IfOk, map, nat_lt, option_map, string_bytes};
-ghost use Rattle.sw_model.specs.Steps.{machine_step};
+ghost use Rattle.sw_machine.specs.StepValues.{machine_step};
 ghost use Rattle.sw_output.specs.Lines.{line};
 ghost use Rattle.sw_schedule.specs.Runs.{entry_line, is_same, readable_text, schedule_text, short_text};
 ghost use Rattle.sw_schedule.specs.WrittenLines.{step_line};
@@ -12,7 +12,7 @@ use crate::written_line::add_step;
 use std::alloc::{AllocError, Global};
 use std::fmt::Write;
 use sw_config::Network;
-use sw_model::Step;
+use sw_machine::Step;
 use sw_text::MAX_TEXT;
 
 // Adds the line of a step that is made once.

@@ -2,7 +2,7 @@
 ghost use Rattle.std.specs.Prelude.{◌≡◌, ◌∷◌, ◌++◌, ◌==◌, [], IfOk, codes, string_bytes};
 ghost use Rattle.std.specs.Fmt.{decimal};
 ghost use Rattle.std.specs.List.{list_all};
-ghost use Rattle.sw_model.specs.Steps.{machine_step};
+ghost use Rattle.sw_machine.specs.StepValues.{machine_step};
 ghost use Rattle.sw_output.specs.ChannelTexts.{node_name};
 ghost use Rattle.sw_output.specs.FlowTexts.{flow_name};
 ghost use Rattle.sw_output.specs.Lines.{spaced};
@@ -14,7 +14,7 @@ use std::alloc::{AllocError, Global};
 use std::fmt::Write;
 use sw_char::End;
 use sw_config::Network;
-use sw_model::Step;
+use sw_machine::Step;
 use sw_output::{flow_name, node_name, packet_end_text};
 use sw_topo::Chan;
 

@@ -9,7 +9,7 @@ use Rattle.sw_flow.specs.declared.place.Place.{Place}
 use Rattle.sw_flow.specs.Places.{ends_of, IsPlaceList}
 use Rattle.sw_flow.specs.Faults.{IsWellRouted}
 use Rattle.sw_flow.proofs.Stepping.{places_are_in}
-use Rattle.sw_check.specs.Text.{Contents}
+use Rattle.sw_cert.specs.Text.{Contents}
 use Rattle.sw_machine.specs.Network.{IsNetwork}
 use Rattle.sw_machine.specs.Places as machine
 use Rattle.sw_machine.specs.Places.IsPlace.{Start, Goes}
@@ -18,11 +18,11 @@ use Rattle.sw_machine.specs.Certificate.{IsListed, IsAccepted}
 use Rattle.sw_cycle.specs.Model.{network_of}
 use Rattle.sw_cycle.specs.ModelLaws.{FlowAgrees}
 use Rattle.sw_cycle.proofs.Flows.{flow_at, some_at}
-use Rattle.sw_cycle.proofs.Networks.{are_networks}
+use Rattle.sw_cycle.proofs.DeclaredNetworks.{are_networks}
 use Rattle.sw_cycle.proofs.Steps.{steps_agree}
-use Rattle.sw_check.specs.Contents.{place_of, certificate_of}
-use Rattle.sw_check.proofs.ListedPlaces.{to_machine, from_machine}
-use Rattle.sw_check.proofs.Lists.{Contains-at}
+use Rattle.sw_cert.specs.Contents.{place_of, certificate_of}
+use Rattle.sw_cert.proofs.ListedPlaces.{to_machine, from_machine}
+use Rattle.sw_cert.proofs.Lists.{Contains-at}
 use Rattle.sw_search.specs.Verdicts.{depends, IsFree}
 use Rattle.sw_search.proofs.Levels.{rises}
 use Rattle.sw_search.proofs.Zips.{zip_here, zip_length}

@@ -10,8 +10,8 @@ use Rattle.sw_config.proofs.Flows.{reply_flows_are_flows}
 use Rattle.sw_flow.specs.declared.place.Place.{Place}
 use Rattle.sw_flow.specs.Places.{ends_of, IsBefore, IsPlaceList}
 use Rattle.sw_flow.proofs.Stepping.{places_are_in}
-use Rattle.sw_check.specs.Grammar.{Fits, IsBlock, Rises, stands_before}
-use Rattle.sw_check.specs.Reading.{items_of}
+use Rattle.sw_cert.specs.Grammar.{Fits, IsBlock, Rises, stands_before}
+use Rattle.sw_cert.specs.Reading.{items_of}
 use Rattle.sw_search.specs.Lists.{AreListed}
 use Rattle.sw_search.proofs.Zips.{zip_all}
 

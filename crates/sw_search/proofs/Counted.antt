@@ -7,8 +7,8 @@ use Rattle.sw_config.specs.Entries.{FlowEntry, Declaration, all_flows}
 use Rattle.sw_config.specs.Valid.{IsValid}
 use Rattle.sw_flow.specs.declared.place.Place.{Place}
 use Rattle.sw_flow.specs.Places.{ends_of, IsPlaceList}
-use Rattle.sw_check.specs.Grammar.{IsBlock}
-use Rattle.sw_check.specs.Reading.{items_of}
+use Rattle.sw_cert.specs.Grammar.{IsBlock}
+use Rattle.sw_cert.specs.Reading.{items_of}
 use Rattle.sw_graph.specs.Rows.{row}
 use Rattle.sw_search.specs.Findings.{IsDependencyCount, IsPlaceCount}
 use Rattle.sw_search.specs.Lists.{AreListed, AreRows}

@@ -28,7 +28,7 @@ use Rattle.sw_cycle.proofs.Topology.{into_ends, out_starts}
 use Rattle.sw_graph.specs.Laws.{IsAmong}
 use Rattle.sw_graph.specs.Levels.{HasCycle}
 use Rattle.sw_graph.proofs.Peels.{is_listed}
-use Rattle.sw_check.proofs.Lists.{Contains-at}
+use Rattle.sw_cert.proofs.Lists.{Contains-at}
 use Rattle.sw_search.specs.Laws.{SomeMisrouted}
 use Rattle.sw_search.specs.Verdicts.{AllWellRouted, depends}
 use Rattle.sw_search.proofs.Faulty.{all_routed}

@@ -9,7 +9,7 @@ use Rattle.sw_flow.specs.declared.place.Place.{Place}
 use Rattle.sw_flow.specs.Places.{ends_of, IsPlaceList}
 use Rattle.sw_flow.specs.Faults.{first_fault_of, IsWellRouted}
 use Rattle.sw_flow.proofs.WellRouted.{well_routed_by_list}
-use Rattle.sw_check.proofs.Lists.{Contains-at}
+use Rattle.sw_cert.proofs.Lists.{Contains-at}
 use Rattle.sw_cycle.specs.Causes.{AreChosen}
 use Rattle.sw_search.specs.declared.verdict.Verdict.TheVariants.{Misrouted, Cyclic, Free}
 use Rattle.sw_search.specs.Laws.{VerdictsAreDetermined}

@@ -13,7 +13,7 @@ use Rattle.sw_search.specs.Verdicts.{AllWellRouted, depends}
 use Rattle.sw_search.proofs.Decided.{among, depends_decided, some_cycle, some_or_all}
 use Rattle.sw_search.proofs.Determined.{faulty}
 use Rattle.sw_search.proofs.Levels.{has_cycle}
-use Rattle.sw_check.proofs.Lists.{Contains-at}
+use Rattle.sw_cert.proofs.Lists.{Contains-at}
 
 -- ---- numbers that rise
 

@@ -8,9 +8,9 @@ use Rattle.sw_machine.specs.Places.{IsRising}
 use Rattle.sw_cycle.specs.Model.{network_of}
 use Rattle.sw_graph.specs.Levels.{HasCycle}
 use Rattle.sw_cycle.specs.Cycles.{ByFlow, ByTarget, CauseEntry, CycleEntry, IsShown}
-use Rattle.sw_check.specs.Text.{Contents}
-use Rattle.sw_check.specs.Contents.{certificate_of}
-use Rattle.sw_check.specs.Refusals.{refusal_of}
+use Rattle.sw_cert.specs.Text.{Contents}
+use Rattle.sw_cert.specs.Contents.{certificate_of}
+use Rattle.sw_cert.specs.Refusals.{refusal_of}
 use Rattle.sw_search.specs.declared.verdict.Verdict.{Verdict}
 use Rattle.sw_search.specs.declared.verdict.Verdict.TheVariants.{Misrouted, Cyclic, Free}
 use Rattle.sw_search.specs.Verdicts.{AllWellRouted, IsCyclic, IsFree, IsVerdict, depends}

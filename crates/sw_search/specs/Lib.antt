@@ -5,7 +5,7 @@ pub mod Laws
 pub mod Tangles
 pub mod Explanations
 pub mod ExplanationLaws
-pub use Rattle.sw_check.specs.Contents
+pub use Rattle.sw_cert.specs.Contents
 pub use Rattle.sw_cycle.specs.Cycles
 pub use Rattle.sw_cycle.specs.declared.cycle.Cause
 pub use Rattle.sw_cycle.specs.Answering

@@ -11,7 +11,7 @@ use Rattle.sw_cycle.specs.Model.{network_of}
 use Rattle.sw_graph.specs.Levels.{HasCycle, IsLevels}
 use Rattle.sw_graph.specs.Cycles.{IsShownCycle}
 use Rattle.sw_cycle.specs.Cycles.{CycleEntry}
-use Rattle.sw_check.specs.Text.{Contents}
+use Rattle.sw_cert.specs.Text.{Contents}
 use Rattle.sw_cycle.specs.Causes.{AreChosen}
 use Rattle.sw_search.specs.declared.verdict.Verdict.{Verdict}
 use Rattle.sw_search.specs.declared.verdict.Verdict.TheVariants.{Misrouted, Cyclic, Free}

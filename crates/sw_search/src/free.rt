@@ -1,14 +1,14 @@
 //! The certificate of a free network.
 ghost use Rattle.std.specs.Prelude.{◌≡◌, ◌≤◌, length, map};
 ghost use Rattle.std.specs.List.{AllByRecursion};
-ghost use Rattle.sw_check.specs.Grammar.{IsBlock};
-ghost use Rattle.sw_check.specs.Reading.{items_of};
+ghost use Rattle.sw_cert.specs.Grammar.{IsBlock};
+ghost use Rattle.sw_cert.specs.Reading.{items_of};
 ghost use Rattle.sw_flow.specs.Places.{ends_of};
 ghost use Rattle.sw_graph.specs.Levels.{HasCycle, IsLevels};
 ghost use Rattle.sw_search.specs.Lists.{AreListed};
 ghost use Rattle.sw_search.specs.Verdicts.{AllWellRouted, IsFree, depends};
 
-use sw_check::Certificate;
+use sw_cert::Certificate;
 use sw_config::Network;
 use sw_flow::Place;
 

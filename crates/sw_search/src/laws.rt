@@ -1,7 +1,7 @@
 //! What verdicts show. These functions do nothing: each is the proof of what its clause says.
 ghost use Rattle.sw_search.specs.Laws.{CyclicIsShown, FreeIsAccepted, OneVerdictHolds, RisingIsWhereNoCycleIs, VerdictsAreDetermined, VerdictsTell};
 
-use sw_check::laws::not_refused_is_accepted;
+use sw_cert::acceptance_laws::not_refused_is_accepted;
 use sw_cycle::laws::shown_cycles_rule_out_rising;
 
 /// Any two verdicts on a network say the same.

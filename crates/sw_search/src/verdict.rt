@@ -1,6 +1,6 @@
 //! What is found of a network.
 
-use sw_check::Certificate;
+use sw_cert::Certificate;
 use sw_cycle::Cycle;
 use sw_flow::{Place, RouteFault};
 

@@ -16,7 +16,7 @@ use Rattle.sw_schedule.specs.Replays.{IsReplayed}
 use Rattle.sw_schedule.specs.Reports.{Report}
 use Rattle.sw_schedule.specs.Schedule.{steps_of_text, text_lines}
 use Rattle.sw_step_hints.specs.LockHints.{IsLockHint}
-use Rattle.sw_toml_table.specs.declared.fault.TextFault.{TextFault}
+use Rattle.sw_text.specs.declared.fault.TextFault.{TextFault}
 
 -- ---- what a step needs, as `Leads` of the machine has it
 

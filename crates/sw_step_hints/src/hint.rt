@@ -9,7 +9,7 @@ use std::alloc::{AllocError, Global};
 use sw_config::Network;
 use sw_file::read_network;
 use sw_schedule::{ReplayEnd, Schedule, ScheduleFault, read_steps, replay};
-use sw_toml_table::FileFault;
+use sw_text::FileFault;
 
 // Of a schedule, by how far its steps are made.
 fn steps_hint(

@@ -1,7 +1,7 @@
 //! What a step needs, in words.
 ghost use Rattle.std.specs.Prelude.{◌≡◌, ◌++◌, IfOk, codes, string_bytes};
 ghost use Rattle.sw_hints.specs.HintLines.{told};
-ghost use Rattle.sw_model.specs.Steps.{machine_step};
+ghost use Rattle.sw_machine.specs.StepValues.{machine_step};
 ghost use Rattle.sw_step_hints.specs.StepHints.{about, expected, needs, refused, refused_words};
 
 use std::alloc::{AllocError, Global};

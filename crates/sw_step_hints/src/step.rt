@@ -1,6 +1,6 @@
 //! The step of a number.
 ghost use Rattle.std.specs.Prelude.{◌≡◌, IfOk, option_map};
-ghost use Rattle.sw_model.specs.Steps.{machine_step};
+ghost use Rattle.sw_machine.specs.StepValues.{machine_step};
 ghost use Rattle.sw_schedule.specs.Schedule.{steps_of};
 ghost use Rattle.sw_step_hints.specs.StepHints.{step_numbered};
 

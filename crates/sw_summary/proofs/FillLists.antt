@@ -1,8 +1,8 @@
 -- Steps that a loop goes through.
 use Rattle.std.proofs.Common.{List, [], ap, drop, get_or, length, map, sym, take, ℕ, ◌++◌, ◌+◌, ◌<◌, ◌∙◌, ◌∷◌, ◌≡◌}
 use Rattle.std.proofs.lemmas.List.{drop_more, map-append, take-append-drop, take_more}
-use Rattle.sw_model.specs.Steps.{machine_step}
-use Rattle.sw_model.specs.declared.step.Step.{Step}
+use Rattle.sw_machine.specs.StepValues.{machine_step}
+use Rattle.sw_machine.specs.declared.step.Step.{Step}
 
 -- the steps up to one of them, and all with it in their midst
 pub steps_more : (steps : List Step) (i : ℕ) (x : Step) → i < length steps → x ≡ get_or steps i x → map machine_step (take (i + 1) steps) ≡ map machine_step (take i steps) ++ machine_step x ∷ []

@@ -5,8 +5,8 @@ use Rattle.sw_config.specs.Entries.{capacities}
 use Rattle.sw_config.specs.Valid.{IsValid}
 use Rattle.sw_summary.specs.NotedFills.{Holds}
 use Rattle.sw_machine.proofs.Credit.{reached_numbers}
-use Rattle.sw_model.proofs.Networks.{are_networks}
-use Rattle.sw_model.specs.Model.{network_of}
+use Rattle.sw_machine.proofs.DeclaredNetworks.{are_networks}
+use Rattle.sw_machine.specs.Model.{network_of}
 use Rattle.sw_net.proofs.Delivered.{channel_count}
 use Rattle.sw_net.proofs.New.{node_capacity}
 use Rattle.sw_net.specs.Net.{NetView}

@@ -10,12 +10,12 @@ use Rattle.std.specs.Prelude.{Some, false, if◌then◌else◌, nat_eq, slice_ge
 use Rattle.std.specs.List.{flat_map, range_with_len}
 use Rattle.sw_char.specs.PacketView.{PacketView}
 use Rattle.sw_char.specs.declared.nchar.End.TheVariants.{Eop}
-use Rattle.sw_parallel.proofs.Ranges.{range_from_more}
+use Rattle.sw_graph.proofs.Ranges.{range_from_more}
 use Rattle.sw_config.specs.Entries.{FlowEntry}
-use Rattle.sw_model.specs.Packets.{left_bytes}
+use Rattle.sw_machine.specs.DeclaredPackets.{left_bytes}
 use Rattle.sw_machine.specs.Begun.{Begun, beginning, beginnings}
-use Rattle.sw_model.specs.Steps.{machine_step}
-use Rattle.sw_model.specs.declared.step.Step.{Step}
+use Rattle.sw_machine.specs.StepValues.{machine_step}
+use Rattle.sw_machine.specs.declared.step.Step.{Step}
 use Rattle.sw_summary.specs.Counts.{form_of, forms, items_at, of_flow, replies_at, replies_of, statuses, statuses_of, with_status}
 use Rattle.sw_summary.specs.Replies.{is_reply, status_of}
 use Rattle.sw_summary.specs.Tallies.{Item, TallyView, counted, taken, taken_all, tallies}

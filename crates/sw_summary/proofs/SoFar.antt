@@ -10,7 +10,7 @@ use Rattle.sw_summary.proofs.Buffers.{noted_is}
 use Rattle.sw_summary.proofs.Through.{ThroughTo, fill_more, goes_on, last_held, through_more, through_of}
 use Rattle.sw_machine.specs.State.{State, empty}
 use Rattle.sw_machine.specs.Steps.{Leads, Step}
-use Rattle.sw_model.specs.Model.{network_of}
+use Rattle.sw_machine.specs.Model.{network_of}
 use Rattle.sw_net.specs.Net.{IsNetState, NetView}
 use Rattle.sw_net.specs.New.{IsNewNet}
 

@@ -7,7 +7,7 @@ use Rattle.sw_char.specs.declared.nchar.End.TheVariants.{Eop}
 use Rattle.sw_config.specs.Entries.{Declaration, FlowEntry, ReplyEntry}
 use Rattle.sw_load.specs.Load.{LoadEntry}
 use Rattle.sw_machine.specs.Begun.{Begun}
-use Rattle.sw_model.specs.Packets.{left_bytes}
+use Rattle.sw_machine.specs.DeclaredPackets.{left_bytes}
 use Rattle.sw_summary.specs.Fates.{fate_index, fate_of}
 use Rattle.sw_summary.specs.Replies.{is_reply, status_of}
 use Rattle.sw_summary.specs.Tallies.{Item, TallyView, found, taken_all}

@@ -2,7 +2,7 @@
 use Rattle.std.specs.Prelude.{Bool, List, false, if◌then◌else◌, length, max, nat_eq, slice_index, true, ℕ, ◌<◌, ◌≡◌}
 use Rattle.sw_machine.specs.State.{State}
 use Rattle.sw_machine.specs.Steps.{Arrive, IsPossible, Leads, Step}
-use Rattle.sw_model.specs.Model.{network_of}
+use Rattle.sw_machine.specs.Model.{network_of}
 use Rattle.sw_net.specs.Net.{IsNetState, NetView}
 
 -- the buffer of channel c holds so many characters

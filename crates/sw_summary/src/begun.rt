@@ -1,7 +1,7 @@
 //! The packets that a history begins.
 ghost use Rattle.std.specs.Prelude.{◌≡◌, ◌≤◌, IfOk, length, map};
 ghost use Rattle.sw_machine.specs.Begun.{beginnings};
-ghost use Rattle.sw_model.specs.Steps.{machine_step};
+ghost use Rattle.sw_machine.specs.StepValues.{machine_step};
 ghost use Rattle.sw_summary.specs.Counts.{forms, loaded, of_entry, of_flow};
 
 use std::alloc::{AllocError, Global};
@@ -9,7 +9,7 @@ use std::marker::Model;
 use sw_char::{End, Packet};
 use sw_config::Flow;
 use sw_load::{Load, LoadPacket};
-use sw_model::{Step, left_bytes};
+use sw_machine::{Step, left_bytes};
 
 /// A packet that a history begins.
 #[derive(Drop)]

@@ -2,14 +2,14 @@
 ghost use Rattle.std.specs.Prelude.{◌≡◌, ◌<◌, ◌*◌, IfOk, length, map, option_map};
 ghost use Rattle.sw_summary.specs.Fills.{AreFillsOrNone};
 ghost use Rattle.sw_summary.specs.NotedFills.{AreNoted, Holds, MakesOrNot};
-ghost use Rattle.sw_model.specs.Model.{network_of};
-ghost use Rattle.sw_model.specs.Steps.{machine_step};
+ghost use Rattle.sw_machine.specs.Model.{network_of};
+ghost use Rattle.sw_machine.specs.StepValues.{machine_step};
 ghost use Rattle.sw_net.specs.New.{IsNewNet};
 
 use std::alloc::{AllocError, Global};
 use sw_arb::Policy;
 use sw_config::Network;
-use sw_model::Step;
+use sw_machine::Step;
 use sw_net::{Net, NetFault, SwitchRoutes, declared_net};
 use sw_topo::{Chan, LinkEnd};
 

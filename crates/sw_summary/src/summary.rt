@@ -1,6 +1,6 @@
 //! The text of a summary.
 ghost use Rattle.std.specs.Prelude.{◌≡◌, ◌≤◌, IfOk, length, map, string_bytes};
-ghost use Rattle.sw_model.specs.Steps.{machine_step};
+ghost use Rattle.sw_machine.specs.StepValues.{machine_step};
 ghost use Rattle.sw_summary.specs.Texts.{caveats, summary_text};
 
 use crate::begun::beginnings;
@@ -11,7 +11,7 @@ use std::alloc::{AllocError, Global};
 use sw_char::Packet;
 use sw_config::Network;
 use sw_load::Load;
-use sw_model::Step;
+use sw_machine::Step;
 
 fn caveats(shows_nothing: bool) -> &'static str
     ensures { result.now ≡ caveats shows_nothing }

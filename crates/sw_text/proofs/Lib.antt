@@ -1,3 +1,9 @@
 pub mod Numbers
 pub mod Cuts
 mod Rests
+pub mod Documents
+pub mod Members
+pub mod Walks
+pub mod Unknown
+pub mod Tests
+pub mod Endings

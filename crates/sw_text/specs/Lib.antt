@@ -1,3 +1,13 @@
 pub mod Lines
 pub mod Number
 pub mod Reading
+pub mod Keys
+pub mod Gives
+pub mod Table
+pub mod Names
+pub mod Document
+pub mod KeyLaws
+pub mod FaultTexts
+pub mod Ends
+pub mod Inputs
+pub mod Told

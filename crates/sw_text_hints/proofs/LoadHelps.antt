@@ -5,8 +5,8 @@ use Rattle.std.specs.Prelude.{String}
 use Rattle.std.specs.declared.alloc.Global.{Global}
 use Rattle.toml.specs.Data.{Members}
 use Rattle.sw_config.specs.Entries.{Declaration}
-use Rattle.sw_toml_table.specs.declared.fault.TextFault.{TextFault}
-use Rattle.sw_toml_table.specs.Document.{document_of}
+use Rattle.sw_text.specs.declared.fault.TextFault.{TextFault}
+use Rattle.sw_text.specs.Document.{document_of}
 use Rattle.sw_text_hints.specs.LoadHints.{IsFaultHint, IsHintBy, IsHintWith, document_in, load_help}
 
 -- of the load's document, or that it has none

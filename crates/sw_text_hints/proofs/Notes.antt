@@ -6,10 +6,10 @@ use Rattle.std.specs.Prelude.{is_some, option_and_then, option_map, position, sl
 use Rattle.std.specs.Str.{bytes_eq}
 use Rattle.toml.specs.Data.{Members}
 use Rattle.sw_config.specs.Entries.{Declaration, FlowEntry, ReplyEntry, all_flows, flow_names, reply_flows}
-use Rattle.sw_toml_table.specs.declared.keys.Key.TheVariants as key
-use Rattle.sw_toml_table.specs.declared.keys.Section.TheVariants as section
-use Rattle.sw_toml_table.specs.declared.fault.TextFault.{TextFault}
-use Rattle.sw_toml_table.specs.declared.fault.TextFault.TheVariants.{NotInFlow}
+use Rattle.sw_text.specs.declared.keys.Key.TheVariants as key
+use Rattle.sw_text.specs.declared.keys.Section.TheVariants as section
+use Rattle.sw_text.specs.declared.fault.TextFault.{TextFault}
+use Rattle.sw_text.specs.declared.fault.TextFault.TheVariants.{NotInFlow}
 use Rattle.sw_notes.specs.Entries.{text_of}
 use Rattle.sw_text_hints.specs.LoadHints.{has_reply, load_note, way_words}
 

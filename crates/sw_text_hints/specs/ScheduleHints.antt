@@ -5,9 +5,9 @@ use Rattle.std.specs.List.{join_with_byte}
 use Rattle.std.specs.Str.{is_utf8}
 use Rattle.toml.specs.Data.{Members}
 use Rattle.sw_config.specs.Entries.{Declaration}
-use Rattle.sw_toml_table.specs.declared.keys.Key.TheVariants as key
-use Rattle.sw_toml_table.specs.declared.fault.TextFault.{TextFault}
-use Rattle.sw_toml_table.specs.Document.{document_of}
+use Rattle.sw_text.specs.declared.keys.Key.TheVariants as key
+use Rattle.sw_text.specs.declared.fault.TextFault.{TextFault}
+use Rattle.sw_text.specs.Document.{document_of}
 use Rattle.sw_file.specs.Network.{network_text}
 use Rattle.sw_machine.specs.Steps.{Step}
 use Rattle.sw_schedule.specs.Lines.{words_of}

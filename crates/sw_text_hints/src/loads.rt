@@ -1,7 +1,7 @@
 //! The hint of a load's fault.
 ghost use Rattle.std.specs.Prelude.{◌≡◌, IfOk, Some, map, option_map, string_bytes};
 ghost use Rattle.toml.specs.View.{table_view};
-ghost use Rattle.sw_toml_table.specs.Document.{document_of};
+ghost use Rattle.sw_text.specs.Document.{document_of};
 ghost use Rattle.sw_text_hints.specs.LoadHints.{IsFaultHint, IsHintBy, IsHintFor, IsHintWith, IsLoadHint, document_in, expected, flow_help, help_by, key_help, load_help, load_note, meant};
 
 use std::alloc::{AllocError, Global};
@@ -13,7 +13,7 @@ use sw_hints::{
 };
 use sw_load::read_load;
 use sw_notes::{text_fault, text_of};
-use sw_toml_table::{FileFault, Key, KeyFault, Section, TextFault, read_document};
+use sw_text::{FileFault, Key, KeyFault, Section, TextFault, read_document};
 use toml::Table;
 
 // What would be right.

@@ -15,7 +15,7 @@ use sw_file::read_network;
 use sw_hints::{found_line, names_of, shown, told};
 use sw_notes::text_fault;
 use sw_schedule::{ScheduleFault, read_steps};
-use sw_toml_table::Key;
+use sw_text::Key;
 use toml::Table;
 
 // What is wrong with a word that is none of what is wanted.

@@ -14,12 +14,12 @@ use Rattle.sw_output.specs.ChannelTexts.{channel_text}
 use Rattle.sw_output.specs.FlowTexts.{flow_name}
 use Rattle.sw_cert.specs.Reading.{State}
 use Rattle.sw_cert.specs.Text.{Contents, contents_of, read_text}
-use Rattle.sw_check.specs.declared.refusal.Refusal.{Refusal}
-use Rattle.sw_check.specs.declared.refusal.Refusal.TheVariants.{WrongCount, NoStart, Faulty, NotClosed, NotRising}
-use Rattle.sw_check.specs.Refusals.{is_in_range, is_listed, refusal_of, start_of}
+use Rattle.sw_cert.specs.declared.refusal.Refusal.{Refusal}
+use Rattle.sw_cert.specs.declared.refusal.Refusal.TheVariants.{WrongCount, NoStart, Faulty, NotClosed, NotRising}
+use Rattle.sw_cert.specs.Refusals.{is_in_range, is_listed, refusal_of, start_of}
 use Rattle.sw_file.specs.Network.{network_text}
 use Rattle.sw_hints.specs.HintLines.{head_line, told}
-use Rattle.sw_toml_table.specs.declared.fault.TextFault.{TextFault}
+use Rattle.sw_text.specs.declared.fault.TextFault.{TextFault}
 use Rattle.sw_verdict_hints.specs.RouteHints.{found_words}
 
 -- ---- words

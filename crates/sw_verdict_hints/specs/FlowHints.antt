@@ -12,7 +12,7 @@ use Rattle.sw_flow.specs.Ways.{IsWayTo}
 use Rattle.sw_hints.specs.Helps.{meant_help}
 use Rattle.sw_hints.specs.HintLines.{head_line, told}
 use Rattle.sw_hints.specs.Nearest.{like}
-use Rattle.sw_toml_table.specs.declared.fault.TextFault.{TextFault}
+use Rattle.sw_text.specs.declared.fault.TextFault.{TextFault}
 use Rattle.sw_verdict_hints.specs.RouteHints.{flow_hint}
 
 -- the flow that is meant, maybe, where none has this name

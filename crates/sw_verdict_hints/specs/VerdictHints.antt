@@ -7,7 +7,7 @@ use Rattle.sw_search.specs.declared.explanation.Explanation.TheVariants.{Misrout
 use Rattle.sw_search.specs.Explanations.{IsExplanation}
 use Rattle.sw_file.specs.Network.{network_text}
 use Rattle.sw_hints.specs.HintLines.{head_line}
-use Rattle.sw_toml_table.specs.declared.fault.TextFault.{TextFault}
+use Rattle.sw_text.specs.declared.fault.TextFault.{TextFault}
 use Rattle.sw_verdict_hints.specs.declared.verdict_hints.Hinted.{Hinted}
 use Rattle.sw_verdict_hints.specs.declared.verdict_hints.Hinted.TheVariants.{Each, MisroutedAlone}
 use Rattle.sw_verdict_hints.specs.RouteHints.{misrouted_hint}

@@ -9,8 +9,7 @@ use crate::certificate_places::{
 };
 use crate::made_texts::{head_of, joined, told_of};
 use std::alloc::{AllocError, Global};
-use sw_cert::{Certificate, CertificateFault};
-use sw_check::{Refusal, check};
+use sw_cert::{Certificate, CertificateFault, Refusal, check};
 use sw_config::Network;
 use sw_file::read_network;
 use sw_notes::text_fault;

@@ -1,7 +1,7 @@
 //! What of the places that a certificate lists is wrong, in words.
 ghost use Rattle.std.specs.Prelude.{◌≡◌, ◌<◌, ◌≤◌, IfOk, length, string_bytes};
 ghost use Rattle.sw_config.specs.Entries.{all_flows};
-ghost use Rattle.sw_check.specs.Refusals.{is_in_range, is_listed, start_of};
+ghost use Rattle.sw_cert.specs.Refusals.{is_in_range, is_listed, start_of};
 ghost use Rattle.sw_verdict_hints.specs.CertificateHints.{count_words, faulty_lines, is_of_size, listed_for, missing, no_start_lines, not_closed_lines, outside_at, outside_lines, place_words, range_lines, wrong_count_lines};
 
 use crate::made_texts::{joined, told_of, two_lines};

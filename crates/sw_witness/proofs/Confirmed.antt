@@ -4,7 +4,7 @@ use Rattle.std.specs.Prelude.{IsTrue}
 use Rattle.sw_config.specs.Entries.{Declaration}
 use Rattle.sw_machine.specs.State.{empty}
 use Rattle.sw_machine.specs.Steps.{Step}
-use Rattle.sw_model.specs.Model.{network_of}
+use Rattle.sw_machine.specs.Model.{network_of}
 use Rattle.sw_schedule.specs.declared.replayed.ReplayEnd.{ReplayEnd}
 use Rattle.sw_schedule.specs.declared.replayed.ReplayEnd.TheVariants.{Made}
 use Rattle.sw_schedule.specs.Replays.{Ends, IsReplayed}

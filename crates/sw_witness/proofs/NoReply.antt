@@ -11,8 +11,8 @@ use Rattle.sw_rmap.specs.Commands.{fields_of, is_command, read}
 use Rattle.sw_rmap.specs.Instruction.{reply_address_len}
 use Rattle.sw_rmap.specs.Replies.{is_answered, path_of, reply_to, way_back}
 use Rattle.sw_config.specs.Entries.{NodeEntry, ReplyEntry, target_of}
-use Rattle.sw_model.specs.Packets.{IsRightWay, left_bytes, reply_address, reply_from}
-use Rattle.sw_model.proofs.Headers.{length-path-le}
+use Rattle.sw_machine.specs.DeclaredPackets.{IsRightWay, left_bytes, reply_address, reply_from}
+use Rattle.sw_machine.proofs.Headers.{length-path-le}
 use Rattle.sw_witness.specs.Laws.{NoneIsAnswered}
 use Rattle.sw_witness.specs.Unanswered.{has_other_instruction, has_other_protocol, is_of_answered}
 

@@ -12,11 +12,11 @@ use Rattle.sw_machine.proofs.Free.{is_deadlock_free}
 use Rattle.sw_mend.specs.Changes.{by_number, changed, flow_after, flow_kept, route_after, switch_after}
 use Rattle.sw_mend.specs.Laws.{ChangesKeepValid}
 use Rattle.sw_mend.specs.declared.change.Change.TheVariants.{WithoutReply}
-use Rattle.sw_model.specs.Model.{flow_of, network_of, reply_number}
-use Rattle.sw_model.specs.Packets.{IsAnsweredRightly, IsDeclaredPacket, IsRightWay, left_bytes, reply_from}
-use Rattle.sw_model.proofs.Declares.{declared_are_declared}
-use Rattle.sw_model.proofs.Flows.{flow_at}
-use Rattle.sw_model.proofs.Networks.{are_networks}
+use Rattle.sw_machine.specs.Model.{flow_of, network_of, reply_number}
+use Rattle.sw_machine.specs.DeclaredPackets.{IsAnsweredRightly, IsDeclaredPacket, IsRightWay, left_bytes, reply_from}
+use Rattle.sw_machine.proofs.Declares.{declared_are_declared}
+use Rattle.sw_machine.proofs.Flows.{flow_at}
+use Rattle.sw_machine.proofs.DeclaredNetworks.{are_networks}
 use Rattle.sw_search.specs.Contents.{certificate_of}
 use Rattle.sw_search.proofs.Accepted.{accepted}
 use Rattle.sw_witness.specs.Laws.{FreeWithoutNeverLocksUp}

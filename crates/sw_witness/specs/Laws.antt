@@ -2,8 +2,8 @@
 use Rattle.std.specs.Prelude.{◌≡◌, ℕ, true, List, ◌++◌, None}
 use Rattle.sw_config.specs.Entries.{NodeEntry, FlowEntry, Declaration}
 use Rattle.sw_config.specs.Valid.{IsValid}
-use Rattle.sw_model.specs.Model.{network_of}
-use Rattle.sw_model.specs.Packets.{IsAnsweredRightly, left_bytes, reply_from}
+use Rattle.sw_machine.specs.Model.{network_of}
+use Rattle.sw_machine.specs.DeclaredPackets.{IsAnsweredRightly, left_bytes, reply_from}
 use Rattle.sw_witness.specs.OtherFlows.{NeverLocksUp}
 use Rattle.sw_witness.specs.Unanswered.{IsFreeWithout, can_not_be_answered}
 

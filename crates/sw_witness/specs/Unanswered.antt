@@ -3,7 +3,7 @@ use Rattle.std.specs.Prelude.{◌≢◌, ℕ, Bool, false, not, ◌==◌, ◌||�
 use Rattle.std.specs.Option.{option_map_or}
 use Rattle.sw_rmap.specs.Instruction.{packet_type, reply_address_len, wants_reply}
 use Rattle.sw_config.specs.Entries.{FlowEntry, Declaration}
-use Rattle.sw_model.specs.Packets.{left_bytes}
+use Rattle.sw_machine.specs.DeclaredPackets.{left_bytes}
 use Rattle.sw_search.specs.Laws.{RoutedAndFree}
 use Rattle.sw_mend.specs.Changes.{by_number, changed}
 use Rattle.sw_mend.specs.declared.change.Change.TheVariants.{WithoutReply}

@@ -4,7 +4,7 @@ use Rattle.sw_config.specs.Entries.{Declaration}
 use Rattle.sw_machine.specs.Runs.{IsLockedUp, Run}
 use Rattle.sw_machine.specs.State.{State, empty}
 use Rattle.sw_machine.specs.Steps.{Step}
-use Rattle.sw_model.specs.Model.{network_of}
+use Rattle.sw_machine.specs.Model.{network_of}
 use Rattle.sw_schedule.specs.Schedule.{steps_of_text}
 
 -- from the empty state on, these steps lead to a state in which the network is locked up; so each packet that they begin is one that its

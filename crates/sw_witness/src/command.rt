@@ -2,7 +2,7 @@
 
 use std::alloc::{AllocError, Global};
 use sw_config::{Flow, Network, Reply};
-use sw_model::left_bytes;
+use sw_machine::left_bytes;
 use sw_rmap::{PROTOCOL, TargetConfig, crc};
 
 /// The instruction of a read with increment that wants a reply, but for the length of the reply address

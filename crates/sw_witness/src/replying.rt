@@ -8,7 +8,7 @@ use crate::worm::{begin, place_packets};
 use std::alloc::{AllocError, Global};
 use sw_config::Network;
 use sw_flow::Place;
-use sw_model::Step;
+use sw_machine::Step;
 use sw_topo::Chan;
 
 /// How many commands follow one another, at most.

@@ -4,7 +4,7 @@ use std::alloc::{AllocError, Global};
 use sw_arb::Policy;
 use sw_config::Network;
 use sw_flow::Place;
-use sw_model::Step;
+use sw_machine::Step;
 use sw_schedule::{MAX_STEPS, Net, NetFault, SwitchRoutes, add_entry, declared_net};
 use sw_topo::{Chan, LinkEnd};
 

@@ -5,7 +5,7 @@ ghost use Rattle.sw_witness.specs.Unanswered.{can_not_be_answered, has_other_ins
 use std::alloc::{AllocError, Global};
 use std::marker::Model;
 use sw_config::{Flow, Network};
-use sw_model::left_bytes;
+use sw_machine::left_bytes;
 use sw_rmap::PROTOCOL;
 
 // Is the protocol identifier left, and another than RMAP's?

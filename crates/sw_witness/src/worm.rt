@@ -6,7 +6,7 @@ use std::alloc::{AllocError, Global};
 use sw_char::End;
 use sw_config::Network;
 use sw_flow::Place;
-use sw_model::Step;
+use sw_machine::Step;
 use sw_schedule::MAX_CARGO;
 
 /// How many long packets follow one another, at most.

@@ -2,8 +2,8 @@
 use Rattle.std.specs.Prelude.{ℕ, Bool, false, List, Option, Some, None, ◌==◌, ◌||◌, if◌then◌else◌, option_map}
 use Rattle.sw_args.specs.declared.call.Call.{Call}
 use Rattle.sw_args.specs.declared.call.Call.TheVariants.{Route, Decide, Check, Report, Replay, Run, Migrate, Explain, Draw, Rmap, Mend, Margin, Witness, Audit, Init}
-use Rattle.sw_command.specs.declared.write_answer.Ended.{Ended}
-use Rattle.sw_command.specs.declared.write_answer.Ended.TheVariants.{Status, ReadFailed, WriteFailed}
+use Rattle.sw_text.specs.declared.write_answer.Ended.{Ended}
+use Rattle.sw_text.specs.declared.write_answer.Ended.TheVariants.{Status, ReadFailed, WriteFailed}
 use Rattle.swcheck.specs.declared.hints.Due.{Due}
 use Rattle.swcheck.specs.declared.hints.Due.TheVariants.{Fault, Verdict, Unread, Unwritten, Nothing}
 use Rattle.sw_calls.specs.declared.hints.Hints.{Hints}

@@ -14,15 +14,14 @@ use std::rt::{Env, Files};
 use std::sync::Wait;
 use std::thread::Threads;
 use sw_app::EndedWith;
-use sw_app_audit::audit;
 use sw_args::Asked;
 use sw_calls::{
     check_files, decide_file, given_call, given_texts, given_words, hints_of, migrate_file,
     no_hints, report_file, route_file, tell_refused, told_end, write_sample,
 };
-use sw_command::Ended;
-use sw_json_verdicts::report_keeping;
+use sw_json_verdicts::{audit, report_keeping};
 use sw_search::VerdictWorkers;
+use sw_text::Ended;
 
 // What is told of words of `rmap` that ask for no command.
 const NO_ACCESS: &str = "ACTION is read or write, and --no-ack goes with write alone";
@@ -149,7 +148,7 @@ fn run_audit<R: AllocGlobal + Threads + Sync, C: VerdictWorkers, W: Write>(
     certificates: Option<&str>,
     writer: &mut W,
 ) -> Ended {
-    let options = sw_app_audit::Options {
+    let options = sw_json_verdicts::AuditOptions {
         json,
         quiet,
         certificates: certificates.is_some(),

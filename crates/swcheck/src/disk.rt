@@ -1,10 +1,9 @@
 //! The files of an audit.
 use std::alloc::Global;
 use std::fs;
-use sw_app_audit::{Input, Release, Storage};
 use sw_args::{TOOLCHAIN, VERSION};
-use sw_command::MAX_TEXT;
-use sw_text::{ReadError, read_whole, write_whole};
+use sw_json_verdicts::{Input, Release, Storage};
+use sw_text::{MAX_TEXT, ReadError, read_whole, write_whole};
 
 /// This release of the program, and the toolchain that it is made with.
 pub(crate) const RELEASE: Release<'static> = Release {

@@ -4,12 +4,11 @@ use std::alloc::Global;
 use std::fs;
 use std::io::{Read, Write};
 use std::rt::Files;
-use sw_app_changes::{explain, margin, mend};
-use sw_app_draw::{DrawOptions, draw};
+use sw_app_changes::{DrawOptions, draw, explain, margin, mend};
 use sw_app_rmap::{Request, rmap};
 use sw_app_run::{replay, witness};
-use sw_command::Ended;
 use sw_search::VerdictWorkers;
+use sw_text::Ended;
 
 /// An engine that reads one network file, and what is asked of it.
 #[derive(Drop)]

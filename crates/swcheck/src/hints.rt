@@ -14,12 +14,11 @@ use std::rt::Files;
 use sw_app::EndedWith;
 use sw_args::Call;
 use sw_calls::Hints;
-use sw_command::statuses::{BAD, FAULTY, LOCKED_UP};
-use sw_command::{Ended, MAX_TEXT};
 use sw_hints::network_hint;
 use sw_search::VerdictWorkers;
 use sw_step_hints::replay_hint;
-use sw_text::read_whole;
+use sw_text::statuses::{BAD, FAULTY, LOCKED_UP};
+use sw_text::{Ended, MAX_TEXT, read_whole};
 use sw_text_hints::{certificate_hint, load_hint, schedule_hint};
 use sw_verdict_hints::{
     misrouted_verdict_hint, named_flow_hint, refused_certificate_hint, verdict_hint,

@@ -17,7 +17,7 @@ mod work;
 use calls::run_program;
 use std::io::IsTerminal;
 use std::process::ExitCode;
-use sw_parallel::SideBySide;
+use sw_graph::SideBySide;
 use sw_run::with_progress;
 
 // On a terminal it shows, while the call goes on, for how long it has.

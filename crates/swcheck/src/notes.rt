@@ -5,10 +5,10 @@ ghost use Rattle.swcheck.specs.Asked.{is_noted};
 use std::alloc::{AllocError, Global};
 use std::fmt::Write;
 use sw_calls::Hints;
-use sw_command::Ended;
-use sw_command::statuses::{BAD, GOOD};
 use sw_config::Network;
 use sw_lint::lint_texts;
+use sw_text::Ended;
+use sw_text::statuses::{BAD, GOOD};
 
 /// Whether the network of a call that ended so is noted on: it is one, and hints are wanted.
 pub(crate) fn is_noted(hints: Hints, ended: Ended) -> bool

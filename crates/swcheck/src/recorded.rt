@@ -14,7 +14,7 @@ use std::sync::Wait;
 use std::thread::Threads;
 use sw_app_run::{Open, Options, RecordEnd, Wants, run_recorded};
 use sw_calls::tell_refused;
-use sw_command::Ended;
+use sw_text::Ended;
 
 /// What is run, by so many threads and in at most so many steps, and what is wanted besides: the file in which the steps are to be written, a
 /// summary on standard error, and the answer as an object of JSON.

@@ -1,8 +1,8 @@
 //! What is told besides what an engine writes.
 ghost use Rattle.std.specs.Prelude.{◌≡◌};
 
-use sw_command::Ended;
-use sw_command::statuses::UNREAD_OR_UNWRITTEN;
+use sw_text::Ended;
+use sw_text::statuses::UNREAD_OR_UNWRITTEN;
 
 /// Tells that a schedule is too long.
 pub(crate) fn tell_long(rt: &impl Eprint) -> Ended

@@ -6,7 +6,7 @@ ghost use Rattle.swcheck.specs.Works.{HasJob, HasNoEngine, IsEngineOf, IsWorkOf}
 
 use crate::engines::{Engine, SecondEngine};
 use crate::recorded::Job;
-use sw_app_draw::DrawOptions;
+use sw_app_changes::DrawOptions;
 use sw_app_rmap::{Access, Request};
 use sw_args::Call;
 

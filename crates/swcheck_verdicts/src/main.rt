@@ -3,7 +3,7 @@
 
 use std::process::ExitCode;
 use sw_calls::run_verdicts;
-use sw_parallel::SideBySide;
+use sw_graph::SideBySide;
 
 fn main(rt: HostRuntime) -> ExitCode {
     ExitCode::from(run_verdicts(&rt, &SideBySide::new(&rt)))

@@ -6,7 +6,7 @@ use std::io;
 use std::sync::Wait;
 use std::thread::Threads;
 use sw_app_run::{Options, run};
-use sw_command::Ended;
+use sw_text::Ended;
 
 /// As many workers as link ends, and so many steps as are enough for the load.
 const OPTIONS: Options = Options {

@@ -20,7 +20,7 @@ use crate::memory::show_memory;
 use crate::parts::show_parts;
 use crate::work::show_cases;
 use std::{env, io};
-use sw_parallel::SideBySide;
+use sw_graph::SideBySide;
 
 fn main(rt: HostRuntime) -> io::Result<()> {
     if env::args(&rt)?.count() == 1 {

@@ -4,7 +4,7 @@ use std::alloc::{AllocError, Global};
 use std::fmt::Display;
 use std::io;
 use sw_char::End;
-use sw_model::Step;
+use sw_machine::Step;
 use sw_topo::Chan;
 
 /// A step of a node, by the number of its flow, of its channel or of the node.

@@ -16,7 +16,7 @@ use sw_arb::Policy;
 use sw_cell::NetFault;
 use sw_config::Network;
 use sw_load::Load;
-use sw_model::Step;
+use sw_machine::Step;
 use sw_net::{Net, SwitchRoutes, declared_net};
 use sw_topo::LinkEnd;
 

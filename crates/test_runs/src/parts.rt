@@ -19,8 +19,7 @@ use crate::parts::arbiters::{FIXED_AND_ROUND_ROBIN, LEAST_RECENT};
 use crate::parts::memories::{ANSWERED, REFUSED};
 use std::alloc::Global;
 use std::io;
-use sw_graph::RoundWorkers;
-use sw_parallel::OneByOne;
+use sw_graph::{OneByOne, RoundWorkers};
 
 /// What is tried.
 #[derive(Clone, Copy)]

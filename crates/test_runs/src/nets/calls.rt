@@ -7,7 +7,7 @@ use crate::numbers::show_numbers;
 use std::alloc::Global;
 use std::io;
 use sw_char::End;
-use sw_model::Step;
+use sw_machine::Step;
 use sw_topo::{Chan, LinkEnd};
 
 /// The number of A's link end.

@@ -6,12 +6,11 @@ use crate::nets::Core;
 use crate::nets::show::{Detail, show_nodes};
 use crate::work::no_text;
 use std::{fs, io};
-use sw_cert::Certificate;
-use sw_check::check;
+use sw_cert::{Certificate, check};
 use sw_config::Network;
+use sw_graph::OneByOne;
 use sw_history::drain;
 use sw_load::Load;
-use sw_parallel::OneByOne;
 
 /// The file of a network's certificate, and the least and the most steps other than beginnings.
 pub(crate) struct Bounds {

@@ -3,8 +3,7 @@ ghost use Rattle.std.specs.Prelude.{◌≡◌, true};
 ghost use Rattle.sw_graph.specs.Rows.{IsGraph};
 
 use std::alloc::Global;
-use sw_graph::{Order, RoundWorkers, add_to_row, empty_rows, order};
-use sw_parallel::OneByOne;
+use sw_graph::{OneByOne, Order, RoundWorkers, add_to_row, empty_rows, order};
 
 // Adds the steps between members, each at the end of a row.
 fn add_steps(rows: &mut [Vec<u16>], steps: &[(u16, u16)]) -> bool

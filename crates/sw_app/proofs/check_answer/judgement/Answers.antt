@@ -1,4 +1,4 @@
-use Rattle.sw_check.proofs.Accepted.{not_refused_is_accepted}
+use Rattle.sw_cert.proofs.Accepted.{not_refused_is_accepted}
 use Rattle.sw_app.proofs.check_answer.judgement.Goals as goal
 
 pub returns-in_ok-text-in-Ok-clause-accepted : goal.returns-in_ok-text-in-Ok-clause-accepted

@@ -1,6 +1,6 @@
 use Rattle.sw_app.specs.CheckAnswers.{AreShownDeadlockFree, IsCheckAnswer}
-use Rattle.sw_command.specs.Inputs.{given}
-use Rattle.sw_command.proofs.Endings.{answered_of_two, told_unread_of_two}
+use Rattle.sw_text.specs.Inputs.{given}
+use Rattle.sw_text.proofs.Endings.{answered_of_two, told_unread_of_two}
 use Rattle.sw_app.proofs.ShownFree.{two_unread_not_zero}
 use Rattle.sw_app.proofs.Told.{shown_of_two}
 use Rattle.sw_app.proofs.engines.check.Goals as goal

@@ -1,7 +1,7 @@
 use Rattle.std.proofs.Common.{◌∙◌, ap, Err, sym}
 use Rattle.sw_app.specs.Kept.{Keeping}
 use Rattle.sw_app.specs.VerdictAnswers.{IsDecideAnswer}
-use Rattle.sw_command.proofs.Endings.{answered_bytes, told_unread}
+use Rattle.sw_text.proofs.Endings.{answered_bytes, told_unread}
 use Rattle.sw_app.proofs.Keeping.{both_ok}
 use Rattle.sw_app.proofs.ShownFree.{unread_not_zero}
 use Rattle.sw_app.proofs.Told.{accepted_written}

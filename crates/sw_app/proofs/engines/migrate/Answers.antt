@@ -1,6 +1,6 @@
 use Rattle.std.proofs.Common.{ap, Err}
 use Rattle.sw_app.specs.MigrateAnswers.{IsMigrateAnswer}
-use Rattle.sw_command.proofs.Endings.{answered_bytes, told_unread}
+use Rattle.sw_text.proofs.Endings.{answered_bytes, told_unread}
 use Rattle.sw_app.proofs.engines.migrate.Goals as goal
 
 pub returns-in-Err : goal.returns-in-Err

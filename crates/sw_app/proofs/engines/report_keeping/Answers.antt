@@ -1,7 +1,7 @@
 use Rattle.std.proofs.Common.{ap, Err}
 use Rattle.sw_app.specs.Kept.{Keeping}
 use Rattle.sw_app.specs.VerdictAnswers.{IsReportAnswer}
-use Rattle.sw_command.proofs.Endings.{answered, told_unread}
+use Rattle.sw_text.proofs.Endings.{answered, told_unread}
 use Rattle.sw_app.proofs.Keeping.{both_ok}
 use Rattle.sw_app.proofs.engines.report_keeping.Goals as goal
 

@@ -1,6 +1,6 @@
 use Rattle.std.proofs.Common.{string_bytes}
 use Rattle.std.proofs.lemmas.Result.{IfOk-weaker}
-use Rattle.sw_command.specs.Ends.{Says}
+use Rattle.sw_text.specs.Ends.{Says}
 use Rattle.sw_app_changes.specs.ExplainAnswers.{IsNetworkAnswer}
 use Rattle.sw_app_changes.specs.ExplainTexts.{explain_status, explain_text}
 use Rattle.sw_app_changes.proofs.ToldAnswer.{told}

@@ -1,5 +1,5 @@
 use Rattle.std.proofs.Common.{ap, Err}
-use Rattle.sw_command.proofs.Endings.{answered, told_unread}
+use Rattle.sw_text.proofs.Endings.{answered, told_unread}
 use Rattle.sw_app_changes.specs.MendAnswers.{IsMendAnswer}
 use Rattle.sw_app_changes.proofs.mend_engine.mend.Goals as goal
 

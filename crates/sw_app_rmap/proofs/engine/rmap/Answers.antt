@@ -1,5 +1,5 @@
 use Rattle.std.proofs.Common.{ap, Err}
-use Rattle.sw_command.proofs.Endings.{answered, told_unread}
+use Rattle.sw_text.proofs.Endings.{answered, told_unread}
 use Rattle.sw_app_rmap.specs.RmapAnswers.{IsRmapAnswer}
 use Rattle.sw_app_rmap.proofs.engine.rmap.Goals as goal
 

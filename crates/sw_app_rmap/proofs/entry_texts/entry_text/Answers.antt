@@ -4,8 +4,8 @@ use Rattle.std.proofs.lemmas.Str.{IsUtf8-string_bytes}
 use Rattle.toml.specs.Data.{Members}
 use Rattle.toml.specs.Text.{IsDocumentText}
 use Rattle.toml.specs.View.{table_view}
-use Rattle.sw_toml_table.proofs.Documents.{document_is}
-use Rattle.sw_toml_table.specs.Document.{document_of}
+use Rattle.sw_text.proofs.Documents.{document_is}
+use Rattle.sw_text.specs.Document.{document_of}
 use Rattle.sw_app_rmap.specs.EntryTexts.{load_table}
 use Rattle.sw_app_rmap.proofs.ReadBack.{are_bytes, reads_back}
 use Rattle.sw_app_rmap.proofs.entry_texts.entry_text.Goals as goal

@@ -1,6 +1,6 @@
 use Rattle.std.proofs.Common.{rules, ◌≡◌, string_bytes, ◌∙◌, ap}
 use Rattle.toml.specs.View.{members_view}
-use Rattle.sw_toml_table.specs.Keys.{key_text}
+use Rattle.sw_text.specs.Keys.{key_text}
 use Rattle.sw_app_rmap.proofs.Tables.{first_put}
 use Rattle.sw_app_rmap.proofs.entry_texts.one_member.Goals as goal
 

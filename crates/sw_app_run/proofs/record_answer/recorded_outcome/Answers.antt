@@ -1,6 +1,6 @@
 use Rattle.std.specs.Prelude.{option_map, string_bytes}
 use Rattle.std.proofs.lemmas.Result.{IfOk-weaker}
-use Rattle.sw_command.specs.declared.answer.Answer.{Answer}
+use Rattle.sw_text.specs.declared.answer.Answer.{Answer}
 use Rattle.sw_app_run.specs.Records.{IsRecordOf, IsWithSchedule}
 use Rattle.sw_app_run.proofs.record_answer.recorded_outcome.Goals as goal
 

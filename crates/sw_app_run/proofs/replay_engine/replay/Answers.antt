@@ -1,6 +1,6 @@
 use Rattle.sw_app_run.specs.ReplayAnswers.{IsReplayAnswer}
-use Rattle.sw_command.specs.Inputs.{given}
-use Rattle.sw_command.proofs.Endings.{answered_of_two, told_unread_of_two}
+use Rattle.sw_text.specs.Inputs.{given}
+use Rattle.sw_text.proofs.Endings.{answered_of_two, told_unread_of_two}
 use Rattle.sw_app_run.proofs.replay_engine.replay.Goals as goal
 
 pub returns-in-Err-clause-answer : goal.returns-in-Err-clause-answer

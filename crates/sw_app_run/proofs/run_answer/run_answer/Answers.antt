@@ -1,4 +1,4 @@
-use Rattle.sw_command.specs.Inputs.{given}
+use Rattle.sw_text.specs.Inputs.{given}
 use Rattle.sw_app_run.proofs.AnswerAlone.{answer_alone, answer_is_told}
 use Rattle.sw_app_run.proofs.run_answer.run_answer.Goals as goal
 

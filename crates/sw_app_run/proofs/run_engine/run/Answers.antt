@@ -1,5 +1,5 @@
-use Rattle.sw_command.proofs.Endings.{answered_of_two, told_unread_of_two}
-use Rattle.sw_command.specs.Inputs.{given}
+use Rattle.sw_text.proofs.Endings.{answered_of_two, told_unread_of_two}
+use Rattle.sw_text.specs.Inputs.{given}
 use Rattle.sw_app_run.specs.RunAnswers.{IsRunAnswer}
 use Rattle.sw_app_run.proofs.run_engine.run.Goals as goal
 

@@ -1,7 +1,7 @@
 use Rattle.std.proofs.Common.{◌∙◌, List, Option, ap, length, map, option_map, subst, ℕ, Vec, Global}
 use Rattle.sw_summary.specs.Fills.{AreFills, AreFillsOrNone}
-use Rattle.sw_model.specs.Model.{network_of}
-use Rattle.sw_model.specs.Steps.{machine_step}
+use Rattle.sw_machine.specs.Model.{network_of}
+use Rattle.sw_machine.specs.StepValues.{machine_step}
 use Rattle.sw_app_run.proofs.Filled.{one_each}
 use Rattle.sw_app_run.proofs.summaries.fills_text.Goals as goal
 

@@ -3,7 +3,7 @@ use Rattle.std.specs.Prelude.{string_bytes}
 use Rattle.std.proofs.lemmas.Result.{IfOk-weaker}
 use Rattle.sw_machine.specs.Packets.{Packet}
 use Rattle.sw_machine.specs.Steps.{Step}
-use Rattle.sw_model.specs.Steps.{machine_step}
+use Rattle.sw_machine.specs.StepValues.{machine_step}
 use Rattle.sw_run.specs.Outcomes.{came_out_of, steps_of}
 use Rattle.sw_app_run.specs.Summaries.{IsSummary, IsSummaryOf}
 use Rattle.sw_app_run.proofs.summaries.summary.Goals as goal

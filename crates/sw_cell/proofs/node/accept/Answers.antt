@@ -2,7 +2,7 @@ use Rattle.std.proofs.lemmas.Bool.{false≢true}
 use Rattle.std.proofs.Common.{ap, rules, subst, sym, ◌∙◌, true}
 use Rattle.sw_cell.proofs.Nodes as nodes
 use Rattle.sw_cell.proofs.Network.{answers_as, in_network}
-use Rattle.sw_model.specs.Model.{network_of}
+use Rattle.sw_machine.specs.Model.{network_of}
 use Rattle.sw_cell.proofs.node.accept.Goals as goal
 use Rattle.sw_node.specs.Conditions.{CanAccept}
 use Rattle.sw_cell.specs.Makes.{NodeDoes}

@@ -6,9 +6,9 @@ use Rattle.sw_cell.proofs.Nodes as nodes
 use Rattle.sw_cell.proofs.node.begin.Goals as goal
 use Rattle.sw_cell.specs.Makes.{NodeDoes}
 use Rattle.sw_config.specs.Entries.{reply_flows}
-use Rattle.sw_model.proofs.Declares.{declared_are_declared}
+use Rattle.sw_machine.proofs.Declares.{declared_are_declared}
 use Rattle.sw_machine.specs.Steps.{Begin}
-use Rattle.sw_model.specs.Model.{network_of}
+use Rattle.sw_machine.specs.Model.{network_of}
 use Rattle.sw_node.specs.Changes.{begun}
 use Rattle.sw_node.specs.Conditions.{CanBegin}
 

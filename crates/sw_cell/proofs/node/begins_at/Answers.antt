@@ -1,7 +1,7 @@
 use Rattle.std.proofs.Common.{arith, length-append, sym}
 use Rattle.std.proofs.lemmas.Option.{slice_get_within}
 use Rattle.sw_cell.proofs.node.begins_at.Goals as goal
-use Rattle.sw_model.specs.Model.{network_of}
+use Rattle.sw_machine.specs.Model.{network_of}
 use Rattle.sw_config.specs.Entries.{reply_flows}
 
 pub flow-requires : goal.flow-requires

@@ -1,8 +1,8 @@
 use Rattle.sw_cell.proofs.Network.{in_network}
 use Rattle.sw_cell.proofs.Telling as telling
 use Rattle.sw_cell.proofs.node.can_begin.Goals as goal
-use Rattle.sw_model.proofs.Declares.{declared_are_declared}
-use Rattle.sw_model.specs.Model.{network_of}
+use Rattle.sw_machine.proofs.Declares.{declared_are_declared}
+use Rattle.sw_machine.specs.Model.{network_of}
 
 pub returns : goal.returns
 returns c = λ d for flow cargo end b at.

@@ -6,8 +6,8 @@ use Rattle.sw_cell.proofs.Network.{answers_as, channels_are, in_network, into_is
 use Rattle.sw_cell.proofs.Nodes as nodes
 use Rattle.sw_cell.proofs.Telling.{any_tells}
 use Rattle.sw_cell.proofs.node.enabled.Goals as goal
-use Rattle.sw_model.proofs.Networks.{are_networks}
-use Rattle.sw_model.specs.Model.{network_of}
+use Rattle.sw_machine.proofs.DeclaredNetworks.{are_networks}
+use Rattle.sw_machine.specs.Model.{network_of}
 use Rattle.sw_node.specs.Conditions.{CanStep}
 use Rattle.sw_topo.specs.Wiring.{Wiring, out, partner}
 use Rattle.sw_link.specs.Between.{fcts_at, wire_at}

@@ -2,8 +2,8 @@ use Rattle.std.proofs.Common.{true, ◌≤◌, ◌+◌, ap, arith, rules, length
 use Rattle.sw_machine.specs.Steps.{Fct}
 use Rattle.sw_cell.proofs.Nodes as nodes
 use Rattle.sw_cell.proofs.Network.{channels_are, in_network, into_is}
-use Rattle.sw_model.proofs.Networks.{are_networks}
-use Rattle.sw_model.specs.Model.{network_of}
+use Rattle.sw_machine.proofs.DeclaredNetworks.{are_networks}
+use Rattle.sw_machine.specs.Model.{network_of}
 use Rattle.sw_topo.specs.Wiring.{Wiring, out, partner}
 use Rattle.std.specs.Prelude.{option_map}
 use Rattle.sw_link.specs.Between.{fcts_at, with_fcts}

@@ -4,8 +4,8 @@ use Rattle.sw_cell.proofs.Network.{in_network}
 use Rattle.sw_cell.proofs.node.first_possible.Goals as goal
 use Rattle.sw_cell.specs.Possible.{NodeTells, step_at_node}
 use Rattle.sw_cell.specs.declared.node.NodeStep.TheVariants as at_node
-use Rattle.sw_model.proofs.Networks.{are_networks}
-use Rattle.sw_model.specs.Model.{network_of}
+use Rattle.sw_machine.proofs.DeclaredNetworks.{are_networks}
+use Rattle.sw_machine.specs.Model.{network_of}
 
 pub returns-then-is_possible : goal.returns-then-is_possible
 returns-then-is_possible c =

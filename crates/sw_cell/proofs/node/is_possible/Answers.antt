@@ -7,8 +7,8 @@ use Rattle.sw_cell.proofs.Telling.{any_tells}
 use Rattle.sw_cell.proofs.node.is_possible.Goals as goal
 use Rattle.sw_cell.specs.Possible.{NodeTells, step_at_node}
 use Rattle.sw_cell.specs.declared.node.NodeStep.{NodeStep}
-use Rattle.sw_model.proofs.Networks.{are_networks}
-use Rattle.sw_model.specs.Model.{network_of}
+use Rattle.sw_machine.proofs.DeclaredNetworks.{are_networks}
+use Rattle.sw_machine.specs.Model.{network_of}
 use Rattle.sw_topo.specs.Wiring.{Wiring, out, partner}
 use Rattle.sw_link.specs.Between.{fcts_at, wire_at}
 

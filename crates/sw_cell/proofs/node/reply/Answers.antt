@@ -1,7 +1,7 @@
 use Rattle.std.proofs.Common.{rules, subst, sym, true}
 use Rattle.sw_cell.proofs.Nodes as nodes
 use Rattle.sw_cell.proofs.Network.{in_network}
-use Rattle.sw_model.specs.Model.{network_of}
+use Rattle.sw_machine.specs.Model.{network_of}
 use Rattle.sw_cell.specs.Makes.{NodeDoes}
 use Rattle.sw_machine.specs.Steps.{Reply}
 use Rattle.sw_cell.proofs.node.reply.Goals as goal

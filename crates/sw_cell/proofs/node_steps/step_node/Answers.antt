@@ -2,7 +2,7 @@ use Rattle.std.proofs.Common.{Global, Vec, ap, false, refl, sym, subst, ◌∙�
 use Rattle.sw_cell.proofs.StepsAtNodes as nodes
 use Rattle.sw_cell.specs.Places.{HasNamed}
 use Rattle.sw_cell.proofs.Nodes.{accept_made, begin_made}
-use Rattle.sw_model.proofs.Declares.{declared_are_declared}
+use Rattle.sw_machine.proofs.Declares.{declared_are_declared}
 use Rattle.sw_cell.proofs.Network.{answers_as, in_network}
 use Rattle.sw_cell.specs.Makes.{NodeMakes}
 use Rattle.sw_machine.specs.Network.{AtNode, IsDeclared}
@@ -13,11 +13,11 @@ use Rattle.sw_config.specs.Entries.{Declaration}
 use Rattle.sw_config.specs.Valid.{IsValid}
 use Rattle.sw_node.specs.Node.{Node}
 use Rattle.sw_link.specs.Between.{Between}
-use Rattle.sw_model.specs.declared.step.Step.{Step as CodeStep}
-use Rattle.sw_model.specs.declared.step.Step.TheVariants as code
-use Rattle.sw_model.proofs.Networks.{are_networks}
-use Rattle.sw_model.specs.Model.{network_of}
-use Rattle.sw_model.specs.Steps.{machine_step}
+use Rattle.sw_machine.specs.declared.step.Step.{Step as CodeStep}
+use Rattle.sw_machine.specs.declared.step.Step.TheVariants as code
+use Rattle.sw_machine.proofs.DeclaredNetworks.{are_networks}
+use Rattle.sw_machine.specs.Model.{network_of}
+use Rattle.sw_machine.specs.StepValues.{machine_step}
 use Rattle.sw_cell.proofs.node_steps.step_node.Goals as goal
 
 -- a step at a node that is none of seven is never possible

@@ -1,11 +1,11 @@
 use Rattle.std.proofs.Common.{ap, subst, sym, ◌≡◌}
 use Rattle.sw_cell.specs.Places.{HasNamed, IsUndeclared, machine_cell}
 use Rattle.sw_cell.specs.declared.cell.CellId.TheVariants.{Node}
-use Rattle.sw_model.proofs.Declares.{declared_are_declared}
+use Rattle.sw_machine.proofs.Declares.{declared_are_declared}
 use Rattle.sw_machine.specs.Network.{AtNode, IsDeclared}
 use Rattle.sw_machine.specs.Parts.{cell_of}
-use Rattle.sw_model.specs.Model.{network_of}
-use Rattle.sw_model.specs.Steps.{machine_step}
+use Rattle.sw_machine.specs.Model.{network_of}
+use Rattle.sw_machine.specs.StepValues.{machine_step}
 use Rattle.sw_cell.proofs.place.cell_of.Goals as goal
 
 pub returns-in-Some : goal.returns-in-Some

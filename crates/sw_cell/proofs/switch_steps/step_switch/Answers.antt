@@ -5,10 +5,10 @@ use Rattle.sw_config.specs.Entries.{Declaration}
 use Rattle.sw_link.specs.Between.{Between}
 use Rattle.sw_machine.specs.Network.{AtSwitch}
 use Rattle.sw_machine.specs.Parts.{cell_of}
-use Rattle.sw_model.specs.Model.{network_of}
-use Rattle.sw_model.specs.Steps.{machine_step}
-use Rattle.sw_model.specs.declared.step.Step.{Step}
-use Rattle.sw_model.specs.declared.step.Step.TheVariants.{Accept, Arrive, Begin, Drop, Emit, Fct, FctIn, Forward, Grant, Reply, Spill}
+use Rattle.sw_machine.specs.Model.{network_of}
+use Rattle.sw_machine.specs.StepValues.{machine_step}
+use Rattle.sw_machine.specs.declared.step.Step.{Step}
+use Rattle.sw_machine.specs.declared.step.Step.TheVariants.{Accept, Arrive, Begin, Drop, Emit, Fct, FctIn, Forward, Grant, Reply, Spill}
 use Rattle.sw_switch.specs.Cell.{Cell}
 
 -- the switch of a step, and what is made of it, once it is known which step it is

@@ -1,5 +1,5 @@
 use Rattle.std.proofs.Common.{None, drop}
-use Rattle.sw_cert.proofs.Rising.{Goes}
+use Rattle.sw_cert.proofs.RisingPlaces.{Goes}
 use Rattle.sw_cert.proofs.make.is_block.Given as goal
 
 abbrev pub invariant-loop-place : goal.invariant-loop-place

@@ -2,7 +2,7 @@ use Rattle.std.proofs.Common.{◌≡◌, ◌<◌, ◌∙◌, Option, None, get_o
 use Rattle.std.specs.Prelude.{MatchOption}
 use Rattle.std.proofs.lemmas.List.{get_or_default}
 use Rattle.sw_machine.specs.Places.{IsDependency}
-use Rattle.sw_model.specs.Model.{network_of}
+use Rattle.sw_machine.specs.Model.{network_of}
 use Rattle.sw_cycle.specs.declared.steps.Step.{Step}
 use Rattle.sw_cycle.specs.Causes.{NoneGoesOn}
 use Rattle.sw_cycle.specs.Cycles.{cause_of}

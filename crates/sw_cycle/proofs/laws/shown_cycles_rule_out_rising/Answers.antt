@@ -1,4 +1,4 @@
-use Rattle.sw_model.specs.Model.{network_of}
+use Rattle.sw_machine.specs.Model.{network_of}
 use Rattle.sw_cycle.proofs.Shown.{shown_are_cycles}
 use Rattle.sw_cycle.proofs.laws.shown_cycles_rule_out_rising.Goals as goal
 

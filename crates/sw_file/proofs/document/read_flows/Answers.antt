@@ -1,11 +1,11 @@
 use Rattle.std.proofs.Common.{arith}
 use Rattle.toml.specs.View.{table_view}
 use Rattle.sw_topo.specs.declared.limits.TheConstants.{MAX_FLOWS}
-use Rattle.sw_toml_table.specs.declared.fault.KeyFault.TheVariants.{OutOfRange}
-use Rattle.sw_toml_table.specs.declared.keys.Section.TheVariants as section
-use Rattle.sw_toml_table.specs.declared.fault.TextFault.TheVariants as fault
-use Rattle.sw_toml_table.specs.declared.keys.Key.TheVariants.{Flow}
-use Rattle.sw_toml_table.proofs.Walks.{walk_more}
+use Rattle.sw_text.specs.declared.fault.KeyFault.TheVariants.{OutOfRange}
+use Rattle.sw_text.specs.declared.keys.Section.TheVariants as section
+use Rattle.sw_text.specs.declared.fault.TextFault.TheVariants as fault
+use Rattle.sw_text.specs.declared.keys.Key.TheVariants.{Flow}
+use Rattle.sw_text.proofs.Walks.{walk_more}
 use Rattle.sw_file.specs.FlowTables.{next_flow}
 use Rattle.sw_file.specs.Network.{entries, with_flows}
 use Rattle.sw_file.proofs.Listed.{list_fails, list_done}

@@ -1,6 +1,6 @@
 use Rattle.std.proofs.Common.{◌≡◌, map, take, length, Ok}
 use Rattle.toml.specs.View.{table_view}
-use Rattle.sw_toml_table.specs.Gives.{walk}
+use Rattle.sw_text.specs.Gives.{walk}
 use Rattle.sw_file.specs.FlowTables.{next_flow}
 use Rattle.sw_file.proofs.document.read_flows.Given as goal
 

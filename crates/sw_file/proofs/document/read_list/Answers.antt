@@ -1,7 +1,7 @@
 use Rattle.toml.specs.View.{table_view}
 use Rattle.sw_topo.specs.declared.fault.TopoFault.TheVariants.{TooMany}
-use Rattle.sw_toml_table.specs.declared.fault.TextFault.TheVariants as fault
-use Rattle.sw_toml_table.proofs.Walks.{walk_more}
+use Rattle.sw_text.specs.declared.fault.TextFault.TheVariants as fault
+use Rattle.sw_text.proofs.Walks.{walk_more}
 use Rattle.sw_file.specs.Lists.{list_key, most_parts, next_part}
 use Rattle.sw_file.specs.Network.{entries}
 use Rattle.sw_file.proofs.Listed.{list_fails, list_done, read_so}

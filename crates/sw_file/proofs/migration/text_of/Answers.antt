@@ -1,7 +1,7 @@
 use Rattle.std.proofs.Common.{string_bytes}
 use Rattle.std.proofs.lemmas.Str.{IsUtf8-string_bytes}
 use Rattle.toml.specs.View.{table_view}
-use Rattle.sw_toml_table.proofs.Documents.{document_is}
+use Rattle.sw_text.proofs.Documents.{document_is}
 use Rattle.sw_file.proofs.migration.text_of.Goals as goal
 
 pub returns-in-Ok-clause-reads_back : goal.returns-in-Ok-clause-reads_back

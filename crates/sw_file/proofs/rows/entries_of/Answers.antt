@@ -2,7 +2,7 @@ use Rattle.std.proofs.Common.{map}
 use Rattle.std.proofs.lemmas.Result.{err_from_is_err_and}
 use Rattle.std.proofs.lemmas.List.{map_push}
 use Rattle.toml.specs.View.{table_view}
-use Rattle.sw_toml_table.proofs.Walks.{each_more, each_fails}
+use Rattle.sw_text.proofs.Walks.{each_more, each_fails}
 use Rattle.sw_file.specs.Tree.{entry_of}
 use Rattle.sw_file.specs.Seen.{entry_view}
 use Rattle.sw_file.proofs.rows.entries_of.Goals as goal

@@ -1,10 +1,10 @@
 use Rattle.std.proofs.Common.{[], sym, ap, ◌∙◌}
 use Rattle.toml.specs.View.{table_view}
-use Rattle.sw_toml_table.specs.declared.keys.Key.TheVariants.{Route}
-use Rattle.sw_toml_table.specs.declared.keys.Section.{Section}
-use Rattle.sw_toml_table.specs.declared.keys.Section.TheVariants as section
-use Rattle.sw_toml_table.specs.Table.{tables_or_none}
-use Rattle.sw_toml_table.proofs.Walks.{walk_more}
+use Rattle.sw_text.specs.declared.keys.Key.TheVariants.{Route}
+use Rattle.sw_text.specs.declared.keys.Section.{Section}
+use Rattle.sw_text.specs.declared.keys.Section.TheVariants as section
+use Rattle.sw_text.specs.Table.{tables_or_none}
+use Rattle.sw_text.proofs.Walks.{walk_more}
 use Rattle.sw_file.specs.Switches.{next_route, routes_at}
 use Rattle.sw_file.proofs.Listed.{list_fails, list_done}
 use Rattle.sw_file.proofs.switches.routes_at.Goals as goal

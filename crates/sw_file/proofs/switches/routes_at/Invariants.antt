@@ -1,6 +1,6 @@
 use Rattle.std.proofs.Common.{◌≡◌, map, take, [], Ok}
 use Rattle.toml.specs.View.{table_view}
-use Rattle.sw_toml_table.specs.Gives.{walk}
+use Rattle.sw_text.specs.Gives.{walk}
 use Rattle.sw_file.specs.Switches.{next_route}
 use Rattle.sw_file.proofs.switches.routes_at.Given as goal
 

@@ -1,10 +1,10 @@
 use Rattle.std.proofs.Common.{map}
 use Rattle.std.proofs.lemmas.List.{map_push}
 use Rattle.toml.specs.View.{table_view}
-use Rattle.sw_toml_table.specs.declared.keys.Key.TheVariants.{Switch}
-use Rattle.sw_toml_table.specs.declared.keys.Section.TheVariants.{Document}
-use Rattle.sw_toml_table.specs.Table.{tables_or_none}
-use Rattle.sw_toml_table.proofs.Walks.{each_more}
+use Rattle.sw_text.specs.declared.keys.Key.TheVariants.{Switch}
+use Rattle.sw_text.specs.declared.keys.Section.TheVariants.{Document}
+use Rattle.sw_text.specs.Table.{tables_or_none}
+use Rattle.sw_text.proofs.Walks.{each_more}
 use Rattle.sw_file.specs.Tree.{merged_switch, new_switches}
 use Rattle.sw_file.proofs.Listed.{each_list_fails}
 use Rattle.sw_file.proofs.tree.new_switches.Goals as goal

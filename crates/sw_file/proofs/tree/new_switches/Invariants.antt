@@ -1,6 +1,6 @@
 use Rattle.std.proofs.Common.{◌≡◌, map, take, Ok}
 use Rattle.toml.specs.View.{table_view}
-use Rattle.sw_toml_table.specs.Gives.{each}
+use Rattle.sw_text.specs.Gives.{each}
 use Rattle.sw_file.specs.Tree.{merged_switch}
 use Rattle.sw_file.proofs.tree.new_switches.Given as goal
 

@@ -1,6 +1,6 @@
 use Rattle.std.proofs.Common.{rules, ◌≡◌, string_bytes, ◌∙◌, ap}
 use Rattle.toml.specs.View.{view, table_view, members_view}
-use Rattle.sw_toml_table.specs.Keys.{key_text}
+use Rattle.sw_text.specs.Keys.{key_text}
 use Rattle.sw_file.specs.Tree.{put}
 use Rattle.sw_file.proofs.Puts.{inserted}
 use Rattle.sw_file.proofs.tree.put.Goals as goal

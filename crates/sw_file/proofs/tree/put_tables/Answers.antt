@@ -4,7 +4,7 @@ use Rattle.toml.specs.Data.{array, get_member}
 use Rattle.toml.specs.declared.value.Value.{Array}
 use Rattle.toml.specs.View.{view, items_view, table_view}
 use Rattle.toml.proofs.Views.{view-Array}
-use Rattle.sw_toml_table.specs.Keys.{key_text}
+use Rattle.sw_text.specs.Keys.{key_text}
 use Rattle.sw_file.specs.Tree.{array_of}
 use Rattle.sw_file.proofs.Puts.{contains, tables_view}
 use Rattle.sw_file.proofs.tree.put_tables.Goals as goal

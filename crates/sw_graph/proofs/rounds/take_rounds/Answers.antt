@@ -1,6 +1,6 @@
 use Rattle.std.proofs.Common.{◌≡◌, ◌++◌, ◌∷◌, [], length, sym, ap, ◌∙◌, arith}
 use Rattle.std.specs.List.{range_with_len}
-use Rattle.sw_parallel.proofs.Ranges.{range_more}
+use Rattle.sw_graph.proofs.Ranges.{range_more}
 use Rattle.sw_graph.proofs.Peels.{rounds_none, peeled, free_inside, left_inside, none_left, round_fits, some_left}
 use Rattle.sw_graph.proofs.RelationSteps.{round_step}
 use Rattle.sw_graph.proofs.rounds.take_rounds.Goals as goal

@@ -1,7 +1,7 @@
 use Rattle.std.proofs.Common.{◌∙◌, [], ◌∷◌, ap, map, option_to_list}
 use Rattle.std.proofs.lemmas.List.{map_push}
 use Rattle.toml.specs.View.{table_view}
-use Rattle.sw_toml_table.specs.declared.keys.Key.TheVariants.{Name}
+use Rattle.sw_text.specs.declared.keys.Key.TheVariants.{Name}
 use Rattle.sw_notes.specs.Entries.{tables_of, text_in}
 use Rattle.sw_hints.proofs.Pieces.{all_brought, brought_more, brought_none}
 use Rattle.sw_hints.proofs.entries.add_names.Goals as goal

@@ -1,5 +1,5 @@
 use Rattle.std.proofs.Common.{◌-◌, ◌∙◌, ◌++◌, ap, codes, drop, length, string_bytes, take}
-use Rattle.sw_toml_table.specs.Keys.{key_text}
+use Rattle.sw_text.specs.Keys.{key_text}
 use Rattle.sw_hints.proofs.Named.{all_listed}
 use Rattle.sw_hints.proofs.Pieces.{added_behind}
 use Rattle.sw_hints.proofs.fault_words.one_of.Goals as goal

@@ -1,6 +1,6 @@
 use Rattle.std.proofs.Common.{◌≡◌, ◌++◌, codes, take, string_bytes}
 use Rattle.std.specs.List.{flat_map}
-use Rattle.sw_toml_table.specs.Keys.{key_text}
+use Rattle.sw_text.specs.Keys.{key_text}
 use Rattle.sw_hints.proofs.fault_words.one_of.Given as goal
 
 abbrev pub invariant-loop-key : goal.invariant-loop-key

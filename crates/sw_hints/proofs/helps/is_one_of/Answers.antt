@@ -1,6 +1,6 @@
 use Rattle.std.proofs.Common.{◌∙◌, ap, arith}
 use Rattle.std.specs.Str.{bytes_eq}
-use Rattle.sw_toml_table.specs.Keys.{key_text}
+use Rattle.sw_text.specs.Keys.{key_text}
 use Rattle.sw_hints.proofs.Named.{none_passes, none_read, one_read}
 use Rattle.sw_hints.proofs.helps.is_one_of.Goals as goal
 

@@ -1,6 +1,6 @@
 use Rattle.std.proofs.Common.{◌∙◌, ap, map}
 use Rattle.std.proofs.lemmas.Result.{IfOk-weaker}
-use Rattle.sw_toml_table.specs.Keys.{key_text}
+use Rattle.sw_text.specs.Keys.{key_text}
 use Rattle.sw_hints.specs.KeyWords.{keys_of, new_keys_of, outer_keys, port_keys}
 use Rattle.sw_hints.proofs.Named.{not_known, unknown_told}
 use Rattle.sw_hints.proofs.Pieces.{all_mapped, mapped_more}

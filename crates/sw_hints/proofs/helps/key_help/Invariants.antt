@@ -1,5 +1,5 @@
 use Rattle.std.proofs.Common.{◌≡◌, map, take}
-use Rattle.sw_toml_table.specs.Keys.{key_text}
+use Rattle.sw_text.specs.Keys.{key_text}
 use Rattle.sw_hints.proofs.helps.key_help.Given as goal
 
 abbrev pub invariant-loop-key : goal.invariant-loop-key

@@ -6,7 +6,7 @@ use Rattle.sw_history.proofs.Way.{begun_on}
 use Rattle.sw_history.proofs.begin.begin_one.Goals as goal
 use Rattle.sw_load.specs.History.{packet_of, packets_at, packets_of}
 use Rattle.sw_load.specs.Load.{packet_count}
-use Rattle.sw_model.specs.Model.{network_of}
+use Rattle.sw_machine.specs.Model.{network_of}
 use Rattle.sw_config.specs.Entries.{Declaration}
 
 pub begin_packet-requires : goal.begin_packet-requires

@@ -8,7 +8,7 @@ use Rattle.sw_load.specs.History.{packet_of, packets_at, packets_of}
 use Rattle.sw_load.specs.Load.{LoadEntry}
 use Rattle.sw_load.specs.declared.load.LoadPacket.{LoadPacket}
 use Rattle.sw_machine.specs.Begun.{Begun}
-use Rattle.sw_model.specs.Model.{network_of}
+use Rattle.sw_machine.specs.Model.{network_of}
 use Rattle.sw_net.specs.Net.{NetView}
 use Rattle.sw_net.specs.Possible.{TellsBeginning}
 

@@ -8,7 +8,7 @@ use Rattle.sw_load.specs.Laws.{AreDeclared}
 use Rattle.sw_load.specs.Load.{LoadEntry}
 use Rattle.sw_load.specs.Limit.{enough_limit}
 use Rattle.sw_machine.specs.DeadlockFreedom.{IsDeadlockFree}
-use Rattle.sw_model.specs.Model.{network_of}
+use Rattle.sw_machine.specs.Model.{network_of}
 use Rattle.sw_config.specs.Entries.{Declaration}
 
 pub loop-init : goal.loop-init

@@ -3,8 +3,8 @@ use Rattle.sw_journal.proofs.Commit.{possible_of}
 use Rattle.sw_journal.proofs.journal.add_at.Goals as goal
 use Rattle.sw_journal.specs.Adding.{IsAtCell}
 use Rattle.sw_load.specs.History.{packets_of}
-use Rattle.sw_model.specs.Model.{network_of}
-use Rattle.sw_model.specs.Steps.{machine_step}
+use Rattle.sw_machine.specs.Model.{network_of}
+use Rattle.sw_machine.specs.StepValues.{machine_step}
 
 pub returns-then-not-is_at : goal.returns-then-not-is_at
 returns-then-not-is_at c =

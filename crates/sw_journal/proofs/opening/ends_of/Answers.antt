@@ -4,7 +4,7 @@ use Rattle.sw_journal.proofs.Opened.{numbered_more, numbered_none, numbered_one,
 use Rattle.sw_journal.proofs.opening.ends_of.Goals as goal
 use Rattle.sw_journal.specs.Opening.{numbered_of}
 use Rattle.sw_machine.specs.State.{empty}
-use Rattle.sw_model.specs.Model.{network_of}
+use Rattle.sw_machine.specs.Model.{network_of}
 use Rattle.sw_net.proofs.Delivered.{channel_count}
 use Rattle.sw_config.specs.Entries.{Declaration}
 

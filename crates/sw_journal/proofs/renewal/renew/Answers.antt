@@ -1,7 +1,7 @@
 use Rattle.std.proofs.Common.{None, Some, length, refl, rules, ◌∙◌, ◌≡◌}
 use Rattle.sw_journal.proofs.Renewed.{all_renewed, more_renewed, seat_first, seat_more, seat_same, within_names}
 use Rattle.sw_journal.proofs.renewal.renew.Goals as goal
-use Rattle.sw_model.specs.Model.{network_of}
+use Rattle.sw_machine.specs.Model.{network_of}
 
 pub loop-place-init : goal.loop-place-init
 loop-place-init c = record {

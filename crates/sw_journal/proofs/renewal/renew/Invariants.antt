@@ -2,7 +2,7 @@ use Rattle.std.proofs.Common.{None, Some, map, ℕ, ◌≡◌}
 use Rattle.sw_journal.proofs.Renewed.{first_renewed, with_ends}
 use Rattle.sw_journal.proofs.renewal.renew.Given as goal
 use Rattle.sw_machine.specs.State.{State}
-use Rattle.sw_model.specs.Model.{network_of}
+use Rattle.sw_machine.specs.Model.{network_of}
 use Rattle.sw_net.specs.Net.{IsNetState}
 use Rattle.sw_net.specs.declared.numbers.Numbers.{Numbers}
 

@@ -3,7 +3,7 @@ use Rattle.sw_config.specs.Entries.{Declaration}
 use Rattle.sw_journal.proofs.Renewed.{seat_more, two_renewed, within_names}
 use Rattle.sw_journal.proofs.renewal.renew_after.Goals as goal
 use Rattle.sw_journal.specs.Renewal.{renewed}
-use Rattle.sw_model.specs.Model.{network_of}
+use Rattle.sw_machine.specs.Model.{network_of}
 use Rattle.sw_net.specs.declared.numbers.Numbers.{Numbers}
 
 pub renew_end-requires-2-clause-within : goal.renew_end-requires-2-clause-within

@@ -3,7 +3,7 @@ use Rattle.std.specs.Prelude.{option_map, slice_get}
 use Rattle.sw_journal.proofs.Renewed.{end_renewed, no_end_renewed, seat_first, stands_within}
 use Rattle.sw_journal.proofs.renewal.renew_end.Goals as goal
 use Rattle.sw_journal.specs.Renewal.{renewed}
-use Rattle.sw_model.specs.Model.{network_of}
+use Rattle.sw_machine.specs.Model.{network_of}
 use Rattle.sw_net.specs.declared.numbers.Numbers.{Numbers}
 
 pub returns-in_default-clause-numbers : goal.returns-in_default-clause-numbers

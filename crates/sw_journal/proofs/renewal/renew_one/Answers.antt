@@ -4,7 +4,7 @@ use Rattle.std.proofs.lemmas.Option.{get_or_from_slice_get, slice_get_read}
 use Rattle.std.specs.Prelude.{slice_get}
 use Rattle.sw_journal.proofs.Renewed.{is_other, is_that, one_renewed, other_renewed, same_renewed, seat_first, seat_told, set_renewed}
 use Rattle.sw_journal.proofs.renewal.renew_one.Goals as goal
-use Rattle.sw_model.specs.Model.{network_of}
+use Rattle.sw_machine.specs.Model.{network_of}
 use Rattle.sw_net.specs.declared.numbers.Numbers.{Numbers}
 
 pub returns-clause-numbers : goal.returns-clause-numbers

@@ -1,6 +1,6 @@
 use Rattle.std.proofs.Common.{map, refl}
 use Rattle.serde_json.specs.View.{view}
-use Rattle.sw_command.specs.Inputs.{given}
+use Rattle.sw_text.specs.Inputs.{given}
 use Rattle.sw_json.specs.Answering.{read_value}
 use Rattle.sw_json.proofs.Answered.{spelled}
 use Rattle.sw_json.proofs.PlainAnswers.{answer_is_plain, answer_of, files_are_plain}

@@ -1,4 +1,4 @@
-use Rattle.sw_command.specs.Inputs.{given}
+use Rattle.sw_text.specs.Inputs.{given}
 use Rattle.sw_json.specs.Answering.{read_value}
 use Rattle.sw_json.proofs.Added.{all_made, one_more}
 use Rattle.sw_json.proofs.answering.file_values.Goals as goal

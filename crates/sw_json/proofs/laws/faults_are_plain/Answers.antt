@@ -1,5 +1,5 @@
 use Rattle.std.proofs.Common.{[], ◌∷◌, None, Some, codes, decimal, option_map}
-use Rattle.sw_command.specs.FaultTexts.{fault_text}
+use Rattle.sw_text.specs.FaultTexts.{fault_text}
 use Rattle.sw_json.specs.FaultValues.{fault_code, fault_where}
 use Rattle.sw_json.proofs.PlainValues.{told_plain}
 use Rattle.sw_output.specs.Lines.{spaced}

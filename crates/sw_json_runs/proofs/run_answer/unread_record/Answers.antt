@@ -1,5 +1,5 @@
 use Rattle.std.specs.Prelude.{[], ◌∷◌, codes}
-use Rattle.sw_command.specs.Inputs.{given}
+use Rattle.sw_text.specs.Inputs.{given}
 use Rattle.sw_json.specs.Answering.{read_value}
 use Rattle.sw_json_runs.proofs.Unread.{unread}
 use Rattle.sw_json_runs.proofs.run_answer.unread_record.Goals as goal

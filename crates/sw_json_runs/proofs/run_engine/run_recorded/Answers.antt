@@ -1,5 +1,5 @@
 use Rattle.std.proofs.Common.{inl, inr}
-use Rattle.sw_command.specs.Inputs.{given}
+use Rattle.sw_text.specs.Inputs.{given}
 use Rattle.sw_json_runs.proofs.Unread.{unread_unrecorded}
 use Rattle.sw_json_runs.proofs.run_engine.run_recorded.Goals as goal
 

@@ -1,5 +1,5 @@
 use Rattle.std.specs.Prelude.{[], ◌∷◌, codes}
-use Rattle.sw_command.specs.Inputs.{given}
+use Rattle.sw_text.specs.Inputs.{given}
 use Rattle.sw_json_verdicts.proofs.Accepted.{shown_by_zero, unread_not_zero}
 use Rattle.sw_json.proofs.Answered.{answered_two, unread_two, with_result}
 use Rattle.sw_json.specs.Answering.{read_value}

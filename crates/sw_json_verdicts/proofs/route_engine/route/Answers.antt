@@ -1,5 +1,5 @@
 use Rattle.std.specs.Prelude.{[], ◌∷◌, codes}
-use Rattle.sw_command.specs.Inputs.{given}
+use Rattle.sw_text.specs.Inputs.{given}
 use Rattle.sw_json.proofs.Answered.{answered_one, unread_one, with_result}
 use Rattle.sw_json.specs.Answering.{OfNetworkFile, read_value}
 use Rattle.sw_json_verdicts.specs.RouteResults.{IsNamedResult, IsRouteJson}

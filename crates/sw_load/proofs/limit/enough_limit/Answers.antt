@@ -5,9 +5,9 @@ use Rattle.std.proofs.lemmas.List.Elements.{All-get_or}
 use Rattle.sw_config.specs.Entries.{all_flows}
 use Rattle.sw_load.specs.History.{packet_of}
 use Rattle.sw_load.specs.Load.{LoadEntry}
-use Rattle.sw_model.specs.Packets.{IsDeclaredPacket}
+use Rattle.sw_machine.specs.DeclaredPackets.{IsDeclaredPacket}
 use Rattle.sw_machine.specs.Begun.{length_with_reply}
-use Rattle.sw_model.specs.Model.{network_of}
+use Rattle.sw_machine.specs.Model.{network_of}
 use Rattle.sw_load.proofs.Packets.{length-packets, length_with_reply-entry, same-limit, sum-packets, weighed_more}
 use Rattle.sw_load.proofs.Sends.{read_at}
 use Rattle.sw_load.proofs.limit.enough_limit.Goals as goal

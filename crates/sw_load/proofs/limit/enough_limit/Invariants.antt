@@ -3,7 +3,7 @@ use Rattle.std.specs.Prelude.{sum_by}
 use Rattle.sw_load.specs.History.{packet_of}
 use Rattle.sw_load.specs.Load.{packet_count}
 use Rattle.sw_machine.specs.Begun.{length_with_reply}
-use Rattle.sw_model.specs.Model.{network_of}
+use Rattle.sw_machine.specs.Model.{network_of}
 use Rattle.sw_load.proofs.limit.enough_limit.Given as goal
 
 abbrev pub invariant-loop-packet : goal.invariant-loop-packet

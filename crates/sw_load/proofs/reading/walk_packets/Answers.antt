@@ -1,6 +1,6 @@
 use Rattle.std.proofs.lemmas.Result.{err_from_is_err_and}
 use Rattle.toml.specs.View.{table_view}
-use Rattle.sw_toml_table.proofs.Walks.{walk_more, walk_fails}
+use Rattle.sw_text.proofs.Walks.{walk_more, walk_fails}
 use Rattle.sw_load.specs.Load.{next_packet}
 use Rattle.sw_load.proofs.reading.walk_packets.Goals as goal
 

@@ -1,6 +1,6 @@
 use Rattle.std.proofs.Common.{◌≡◌, map, take, Ok}
 use Rattle.toml.specs.View.{table_view}
-use Rattle.sw_toml_table.specs.Gives.{walk}
+use Rattle.sw_text.specs.Gives.{walk}
 use Rattle.sw_load.specs.Load.{next_packet}
 use Rattle.sw_load.proofs.reading.walk_packets.Given as goal
 

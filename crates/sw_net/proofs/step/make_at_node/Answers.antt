@@ -3,8 +3,8 @@ use Rattle.std.specs.Prelude.{OnErr}
 use Rattle.sw_cell.specs.Answers.{Answers}
 use Rattle.sw_cell.specs.Parts.{IsNodeState}
 use Rattle.sw_cell.specs.declared.fault.NetFault.TheVariants.{Memory}
-use Rattle.sw_model.specs.Model.{network_of}
-use Rattle.sw_model.specs.Steps.{machine_step}
+use Rattle.sw_machine.specs.Model.{network_of}
+use Rattle.sw_machine.specs.StepValues.{machine_step}
 use Rattle.sw_net.proofs.Steps.{node_done, node_done_between, node_done_cell}
 use Rattle.sw_net.proofs.step.make_at_node.Goals as goal
 

@@ -1,7 +1,7 @@
 use Rattle.std.proofs.Common.{◌∙◌, ap, sym}
 use Rattle.std.specs.Option.{option_and_then}
 use Rattle.toml.specs.View.{table_view}
-use Rattle.sw_toml_table.specs.declared.keys.Key.TheVariants as key
+use Rattle.sw_text.specs.declared.keys.Key.TheVariants as key
 use Rattle.sw_notes.specs.Lookup.{entry_of, inner_of, table_of}
 use Rattle.sw_notes.proofs.lookup.table_of.Goals as goal
 

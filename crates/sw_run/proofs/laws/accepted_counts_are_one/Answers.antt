@@ -1,6 +1,6 @@
 use Rattle.std.proofs.Common.{◌∙◌}
 use Rattle.sw_load.specs.History.{packets_of}
-use Rattle.sw_model.specs.Model.{network_of}
+use Rattle.sw_machine.specs.Model.{network_of}
 use Rattle.sw_run.proofs.Delivered.{same_nodes}
 use Rattle.sw_run.proofs.OneCount.{one_count}
 use Rattle.sw_run.proofs.laws.accepted_counts_are_one.Goals as goal

@@ -1,5 +1,5 @@
 use Rattle.sw_schedule.proofs.NetReports.{refused_here}
-use Rattle.sw_model.specs.Steps.{machine_step}
+use Rattle.sw_machine.specs.StepValues.{machine_step}
 use Rattle.sw_schedule.proofs.made_steps.make.Goals as goal
 
 pub returns-in-Err-NotEnabled-clause-made : goal.returns-in-Err-NotEnabled-clause-made

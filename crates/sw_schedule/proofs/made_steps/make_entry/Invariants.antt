@@ -1,7 +1,7 @@
 use Rattle.std.proofs.Common.{replicate, ◌≡◌}
 use Rattle.sw_schedule.specs.Nets.{NetEnds}
 use Rattle.sw_schedule.specs.declared.replayed.ReplayEnd.TheVariants.{Made}
-use Rattle.sw_model.specs.Steps.{machine_step}
+use Rattle.sw_machine.specs.StepValues.{machine_step}
 use Rattle.sw_schedule.proofs.made_steps.make_entry.Given as goal
 
 abbrev pub invariant-loop-made : goal.invariant-loop-made

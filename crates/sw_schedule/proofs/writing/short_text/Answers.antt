@@ -1,5 +1,5 @@
 use Rattle.std.proofs.Common.{◌≡◌, ◌+◌, ◌-◌, ◌∙◌, [], append-nil, arith, drop, length, map, rules, string_bytes, sym, take}
-use Rattle.sw_model.specs.Steps.{machine_step}
+use Rattle.sw_machine.specs.StepValues.{machine_step}
 use Rattle.sw_schedule.specs.Runs.{schedule_text}
 use Rattle.sw_schedule.proofs.TextSoFar.{all_written, entry_ends, once_again, short_enough, text_from, too_long}
 use Rattle.sw_schedule.proofs.writing.short_text.Goals as goal

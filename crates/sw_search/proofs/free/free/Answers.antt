@@ -1,6 +1,6 @@
 use Rattle.std.proofs.Common.{◌≤◌, length, arith, sym, subst, Vec, Global}
 use Rattle.sw_config.specs.Entries.{FlowEntry, all_flows}
-use Rattle.sw_check.specs.Reading.{items_of}
+use Rattle.sw_cert.specs.Reading.{items_of}
 use Rattle.sw_flow.specs.declared.place.Place.{Place}
 use Rattle.sw_flow.specs.Places.{ends_of, IsPlaceList}
 use Rattle.sw_search.specs.Verdicts.{IsFree}

@@ -2,8 +2,8 @@ use Rattle.std.proofs.Common.{List, [], ap, append-nil, rules, sym, ◌∙◌, �
 use Rattle.std.proofs.lemmas.List.{take_all}
 use Rattle.std.specs.List.{flat_map}
 use Rattle.sw_machine.specs.Begun.{beginning}
-use Rattle.sw_model.specs.Steps.{machine_step}
-use Rattle.sw_model.specs.declared.step.Step.{Step}
+use Rattle.sw_machine.specs.StepValues.{machine_step}
+use Rattle.sw_machine.specs.declared.step.Step.{Step}
 use Rattle.sw_summary.proofs.Lists.{beginnings_are, made_more}
 use Rattle.sw_summary.proofs.begun.beginnings.Goals as goal
 

@@ -1,7 +1,7 @@
 use Rattle.std.proofs.Common.{◌≡◌, take}
 use Rattle.std.specs.List.{flat_map}
 use Rattle.sw_machine.specs.Begun.{beginning}
-use Rattle.sw_model.specs.Steps.{machine_step}
+use Rattle.sw_machine.specs.StepValues.{machine_step}
 use Rattle.sw_summary.proofs.begun.beginnings.Given as goal
 
 abbrev pub invariant-loop-step : goal.invariant-loop-step

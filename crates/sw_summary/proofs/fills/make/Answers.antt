@@ -1,4 +1,4 @@
-use Rattle.sw_model.specs.Steps.{machine_step}
+use Rattle.sw_machine.specs.StepValues.{machine_step}
 use Rattle.sw_summary.proofs.Refused.{not_enabled, not_in_flow}
 use Rattle.sw_summary.proofs.fills.make.Goals as goal
 

@@ -1,8 +1,8 @@
 use Rattle.std.proofs.Common.{List, [], ap, arith, drop, false, length, map, replicate, rules, subst, take, true, ◌+◌, ◌<◌, ◌≤◌, ◌≡◌}
 use Rattle.std.proofs.lemmas.List.{take_all, take_at}
-use Rattle.sw_model.specs.Model.{network_of}
-use Rattle.sw_model.specs.Steps.{machine_step}
-use Rattle.sw_model.specs.declared.step.Step.{Step}
+use Rattle.sw_machine.specs.Model.{network_of}
+use Rattle.sw_machine.specs.StepValues.{machine_step}
+use Rattle.sw_machine.specs.declared.step.Step.{Step}
 use Rattle.sw_net.proofs.Delivered.{channel_count}
 use Rattle.sw_summary.proofs.FillLists.{steps_more, steps_split}
 use Rattle.sw_summary.proofs.SoFar.{all_made, made_so_far, none_so_far, not_made, rewritten}

@@ -1,5 +1,5 @@
 use Rattle.std.proofs.Common.{map, take}
-use Rattle.sw_model.specs.Steps.{machine_step}
+use Rattle.sw_machine.specs.StepValues.{machine_step}
 use Rattle.sw_summary.proofs.SoFar.{IsSoFar}
 use Rattle.sw_summary.proofs.fills.noted_fills.Given as goal
 

@@ -4,7 +4,7 @@ use Rattle.std.specs.Fmt.{decimal}
 use Rattle.std.specs.Prelude.{IfOk, codes}
 use Rattle.sw_char.specs.PacketView.{PacketView}
 use Rattle.sw_machine.specs.Begun.{Begun, beginnings}
-use Rattle.sw_model.specs.Steps.{machine_step}
+use Rattle.sw_machine.specs.StepValues.{machine_step}
 use Rattle.sw_summary.specs.Texts.{caveats, flow_texts, status_lines, unanswered_texts}
 use Rattle.sw_summary.proofs.Lists.{items_in}
 use Rattle.sw_summary.proofs.Written.{summary_is}

@@ -1,5 +1,5 @@
 use Rattle.std.proofs.Common.{◌≡◌, find, not}
-use Rattle.sw_check.specs.Refusals.{is_listed}
+use Rattle.sw_cert.specs.Refusals.{is_listed}
 use Rattle.sw_verdict_hints.proofs.certificate_places.missing.Given as goal
 
 abbrev pub invariant-loop-next : goal.invariant-loop-next

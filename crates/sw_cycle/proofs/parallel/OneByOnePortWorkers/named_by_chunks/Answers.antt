@@ -1,7 +1,7 @@
 use Rattle.std.proofs.Common.{◌≡◌, ℕ, subst, arith}
 use Rattle.std.specs.List.{AllZip, range_with_len}
 use Rattle.std.proofs.lemmas.Slice.Zip.{all_zipped_more}
-use Rattle.sw_parallel.proofs.Ranges.{range_more}
+use Rattle.sw_graph.proofs.Ranges.{range_more}
 use Rattle.sw_cycle.specs.Chunks.{IsNamedChunk}
 use Rattle.sw_cycle.proofs.parallel.OneByOnePortWorkers.named_by_chunks.Goals as goal
 

@@ -10,9 +10,9 @@ use Rattle.sw_history.specs.History.{Adds, HistoryView, IsCounted, IsKept}
 use Rattle.sw_history.specs.Makes.{counted_with}
 use Rattle.sw_load.specs.History.{BeginsNext, packets_of}
 use Rattle.sw_load.specs.Load.{packet_count}
-use Rattle.sw_model.specs.Model.{network_of}
+use Rattle.sw_machine.specs.Model.{network_of}
 use Rattle.sw_net.specs.Net.{NetView}
-use Rattle.sw_model.specs.Steps.{machine_step}
+use Rattle.sw_machine.specs.StepValues.{machine_step}
 
 pub returns-in_err-made : goal.returns-in_err-made
 returns-in_err-made g c =

@@ -2,7 +2,7 @@ use Rattle.std.proofs.Common.{subst, sym}
 use Rattle.sw_history.proofs.Idle.{idle_by, next_move}
 use Rattle.sw_history.proofs.history.History.choose.Goals as goal
 use Rattle.sw_history.specs.History.{HistoryView, IsKept, IsNextAt}
-use Rattle.sw_model.specs.Steps.{machine_step}
+use Rattle.sw_machine.specs.StepValues.{machine_step}
 
 pub returns-in-Some-clause-some : goal.returns-in-Some-clause-some
 returns-in-Some-clause-some g c =

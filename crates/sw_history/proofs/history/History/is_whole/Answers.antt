@@ -5,7 +5,7 @@ use Rattle.sw_history.proofs.Whole.{mapped_told, not_whole, whole}
 use Rattle.sw_history.proofs.history.History.is_whole.Goals as goal
 use Rattle.sw_history.specs.History.{HistoryView, IsKept}
 use Rattle.sw_load.specs.History.{next_packet, packet_of, packets_of}
-use Rattle.sw_model.specs.Model.{network_of}
+use Rattle.sw_machine.specs.Model.{network_of}
 use Rattle.sw_config.specs.Entries.{Declaration}
 use Rattle.sw_config.specs.Valid.{IsValid}
 

@@ -9,7 +9,7 @@ use Rattle.sw_history.specs.History.{HistoryView, IsKept, IsNext}
 use Rattle.sw_history.specs.Next.{begin_of}
 use Rattle.sw_load.specs.History.{packet_of}
 use Rattle.sw_machine.specs.Begun.{Begun}
-use Rattle.sw_model.specs.Model.{network_of}
+use Rattle.sw_machine.specs.Model.{network_of}
 use Rattle.sw_net.proofs.Told.{start_at_node, start_at_switch}
 use Rattle.sw_topo.specs.declared.place.PlaceEnd.TheVariants.{Node, Switch}
 

@@ -2,7 +2,7 @@ use Rattle.std.proofs.Common.{subst}
 use Rattle.sw_history.proofs.Idle.{tells_next}
 use Rattle.sw_history.proofs.history.History.may_follow.Goals as goal
 use Rattle.sw_history.specs.History.{HistoryView, IsKept}
-use Rattle.sw_model.specs.Steps.{machine_step}
+use Rattle.sw_machine.specs.StepValues.{machine_step}
 
 pub returns-in-Ok : goal.returns-in-Ok
 returns-in-Ok g c =

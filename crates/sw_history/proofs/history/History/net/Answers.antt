@@ -3,7 +3,7 @@ use Rattle.sw_history.proofs.Follows.{one_state_after}
 use Rattle.sw_history.proofs.history.History.net.Goals as goal
 use Rattle.sw_history.specs.History.{HistoryView, LeadsTo}
 use Rattle.sw_load.specs.History.{packets_of}
-use Rattle.sw_model.specs.Model.{network_of}
+use Rattle.sw_machine.specs.Model.{network_of}
 use Rattle.sw_net.specs.Net.{IsNetState}
 
 pub returns-clause-state : goal.returns-clause-state

@@ -7,7 +7,7 @@ use Rattle.sw_history.proofs.history.History.note.Goals as goal
 use Rattle.sw_history.specs.History.{HistoryView, IsKept}
 use Rattle.sw_history.specs.Noted.{senders_of}
 use Rattle.sw_load.specs.Load.{packet_count}
-use Rattle.sw_model.specs.Steps.{machine_step}
+use Rattle.sw_machine.specs.StepValues.{machine_step}
 
 pub overflow_cast-result : goal.overflow_cast-result
 overflow_cast-result g c =

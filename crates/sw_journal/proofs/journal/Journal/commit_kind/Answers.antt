@@ -2,8 +2,8 @@ use Rattle.std.proofs.Common.{ap, refl, sym, ◌++◌, ◌∙◌, ◌∷◌, []}
 use Rattle.sw_journal.proofs.Commit.{account_same, commits_same, ends_within, kept_after, kept_same, met, names_once, now_cell, now_same, refused_same, renewed_then, same_cell_after}
 use Rattle.sw_journal.proofs.journal.Journal.commit_kind.Goals as goal
 use Rattle.sw_journal.specs.Record.{JournalView, CellView}
-use Rattle.sw_model.specs.Model.{network_of}
-use Rattle.sw_model.specs.Steps.{machine_step}
+use Rattle.sw_machine.specs.Model.{network_of}
+use Rattle.sw_machine.specs.StepValues.{machine_step}
 
 pub invariant_of-self : goal.invariant_of-self
 invariant_of-self c =

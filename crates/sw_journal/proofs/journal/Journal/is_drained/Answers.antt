@@ -2,7 +2,7 @@ use Rattle.std.proofs.Common.{subst, sym, true, ◌≡◌}
 use Rattle.sw_journal.proofs.journal.Journal.is_drained.Goals as goal
 use Rattle.sw_journal.specs.Record.{JournalView}
 use Rattle.sw_load.specs.History.{IsWhole, packets_of}
-use Rattle.sw_model.specs.Model.{network_of}
+use Rattle.sw_machine.specs.Model.{network_of}
 
 pub returns-else-is_whole : goal.returns-else-is_whole
 returns-else-is_whole c =

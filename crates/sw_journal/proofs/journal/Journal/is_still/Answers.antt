@@ -4,7 +4,7 @@ use Rattle.sw_journal.proofs.journal.Journal.is_still.Goals as goal
 use Rattle.sw_journal.specs.Record.{JournalView}
 use Rattle.sw_load.specs.History.{packets_of}
 use Rattle.sw_machine.specs.Network.{IsNetwork}
-use Rattle.sw_model.specs.Model.{network_of}
+use Rattle.sw_machine.specs.Model.{network_of}
 use Rattle.sw_config.specs.Entries.{Declaration}
 
 pub returns-then-not-is_idle : goal.returns-then-not-is_idle

@@ -4,7 +4,7 @@ use Rattle.sw_journal.proofs.Idle.{kept_mark}
 use Rattle.sw_journal.proofs.journal.Journal.set_mark.Goals as goal
 use Rattle.sw_journal.specs.Record.{JournalView}
 use Rattle.sw_load.specs.History.{packets_of}
-use Rattle.sw_model.specs.Model.{network_of}
+use Rattle.sw_machine.specs.Model.{network_of}
 
 pub invariant_of-self : goal.invariant_of-self
 invariant_of-self c =

@@ -2,7 +2,7 @@ use Rattle.std.proofs.Common.{ap, arith, refl, set, subst, sym, ◌≡◌}
 use Rattle.sw_cell.specs.Picks.{GrantsPick}
 use Rattle.sw_machine.specs.Network.{AtSwitch}
 use Rattle.sw_machine.specs.Steps.{Grant}
-use Rattle.sw_model.specs.Model.{network_of}
+use Rattle.sw_machine.specs.Model.{network_of}
 use Rattle.sw_net.proofs.Making.{none_is_made, picked_moves, picked_net, switch_here}
 use Rattle.sw_net.proofs.Steps.{same_switch, switch_within}
 use Rattle.sw_net.proofs.net.Net.arbitrate.Goals as goal

@@ -1,9 +1,9 @@
 use Rattle.std.proofs.Common.{None, ap, refl, subst, ◌≡◌}
 use Rattle.sw_config.specs.Entries.{Declaration}
-use Rattle.sw_model.specs.Model.{network_of}
-use Rattle.sw_model.specs.Steps.{machine_step}
-use Rattle.sw_model.specs.declared.step.Step.{Step}
-use Rattle.sw_model.specs.declared.step.Step.TheVariants.{Forward}
+use Rattle.sw_machine.specs.Model.{network_of}
+use Rattle.sw_machine.specs.StepValues.{machine_step}
+use Rattle.sw_machine.specs.declared.step.Step.{Step}
+use Rattle.sw_machine.specs.declared.step.Step.TheVariants.{Forward}
 use Rattle.sw_net.proofs.ChangedNumbers.{both_only, one_only}
 use Rattle.sw_net.proofs.net.Net.changing.Goals as goal
 use Rattle.sw_net.specs.Changing.{IsChanged, passed_from}

@@ -5,7 +5,7 @@ use Rattle.sw_cell.specs.Possible.{NodeEnabled, PortEnabled}
 use Rattle.sw_cell.specs.SwitchParts.{HasSwitchState, IsSwitchFor}
 use Rattle.sw_machine.specs.Network.{AtSwitch}
 use Rattle.sw_machine.specs.Steps.{Emit}
-use Rattle.sw_model.specs.Model.{network_of}
+use Rattle.sw_machine.specs.Model.{network_of}
 use Rattle.sw_net.proofs.Steps.{has_node, has_switch}
 use Rattle.sw_net.proofs.Told.{node_tells, start_at_node, start_at_switch, switch_tells}
 use Rattle.sw_net.proofs.net.Net.enabled.Goals as goal

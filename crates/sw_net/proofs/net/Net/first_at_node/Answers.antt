@@ -4,7 +4,7 @@ use Rattle.sw_cell.specs.Makes.{HasNodeState}
 use Rattle.sw_cell.specs.Parts.{IsNodeFor}
 use Rattle.sw_cell.specs.Possible.{NodeHas}
 use Rattle.sw_machine.specs.Steps.{Emit}
-use Rattle.sw_model.specs.Model.{network_of}
+use Rattle.sw_machine.specs.Model.{network_of}
 use Rattle.sw_net.proofs.Making.{node_has, node_has_none}
 use Rattle.sw_net.proofs.Steps.{has_node}
 use Rattle.sw_net.proofs.net.Net.first_at_node.Goals as goal

@@ -1,6 +1,6 @@
 use Rattle.std.proofs.Common.{ap, arith, below_more, false, length, subst, sym, ℕ, ◌<◌, ◌∙◌}
 use Rattle.sw_cell.proofs.Network.{channels_are}
-use Rattle.sw_model.specs.Model.{network_of}
+use Rattle.sw_machine.specs.Model.{network_of}
 use Rattle.sw_net.proofs.Told.{all_quiet}
 use Rattle.sw_net.proofs.net.Net.first_enabled.Goals as goal
 use Rattle.sw_net.specs.Asked.{CanStep}

@@ -1,6 +1,6 @@
 use Rattle.std.proofs.Common.{Some, ap, arith, length, subst, ◌+◌, ◌<◌, ◌∙◌, ◌≡◌}
 use Rattle.std.specs.Prelude.{slice_get}
-use Rattle.sw_model.specs.Model.{network_of}
+use Rattle.sw_machine.specs.Model.{network_of}
 use Rattle.sw_net.proofs.Delivered.{channel_count, channel_fits, channel_is, node_buffered, switch_buffered, wires_long}
 use Rattle.sw_net.proofs.net.Net.in_channel.Goals as goal
 use Rattle.sw_net.specs.Net.{NetView}

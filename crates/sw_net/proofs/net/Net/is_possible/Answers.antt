@@ -9,8 +9,8 @@ use Rattle.sw_cell.specs.declared.cell.CellId.TheVariants as place
 use Rattle.sw_config.specs.Entries.{Declaration}
 use Rattle.sw_machine.specs.Network.{AtSwitch}
 use Rattle.sw_machine.specs.Steps.{Emit, Grant}
-use Rattle.sw_model.specs.Model.{network_of}
-use Rattle.sw_model.specs.Steps.{machine_step}
+use Rattle.sw_machine.specs.Model.{network_of}
+use Rattle.sw_machine.specs.StepValues.{machine_step}
 use Rattle.sw_net.proofs.Possibles as steps
 use Rattle.sw_net.proofs.Steps.{has_node, has_switch}
 use Rattle.sw_net.proofs.net.Net.is_possible.Goals as goal

@@ -1,6 +1,6 @@
 use Rattle.std.proofs.Common.{ap, ◌∙◌}
 use Rattle.std.specs.Prelude.{Err}
-use Rattle.sw_model.specs.Steps.{machine_step}
+use Rattle.sw_machine.specs.StepValues.{machine_step}
 use Rattle.sw_net.proofs.Making.{not_refused, not_undeclared, plain_moves, wants_room}
 use Rattle.sw_net.proofs.net.Net.make_and_tell.Goals as goal
 

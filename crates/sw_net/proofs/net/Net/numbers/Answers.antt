@@ -1,7 +1,7 @@
 use Rattle.std.proofs.Common.{Some, subst, sym, ◌≡◌}
 use Rattle.std.specs.Prelude.{slice_get}
 use Rattle.sw_config.specs.Entries.{Declaration, capacities}
-use Rattle.sw_model.proofs.Networks.{are_networks}
+use Rattle.sw_machine.proofs.DeclaredNetworks.{are_networks}
 use Rattle.sw_net.proofs.LinkNumbers.{node_numbers, switch_numbers}
 use Rattle.sw_net.proofs.net.Net.numbers.Goals as goal
 use Rattle.sw_net.specs.Numbers.{AreNumbers}

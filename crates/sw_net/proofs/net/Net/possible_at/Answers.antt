@@ -4,9 +4,9 @@ use Rattle.sw_cell.specs.Possible.{step_at_node}
 use Rattle.sw_config.specs.Entries.{Declaration}
 use Rattle.sw_machine.specs.Parts.{link_end_of}
 use Rattle.sw_machine.specs.Steps.{Step}
-use Rattle.sw_model.proofs.Networks.{are_networks}
-use Rattle.sw_model.specs.Model.{network_of}
-use Rattle.sw_model.specs.Steps.{machine_step}
+use Rattle.sw_machine.proofs.DeclaredNetworks.{are_networks}
+use Rattle.sw_machine.specs.Model.{network_of}
+use Rattle.sw_machine.specs.StepValues.{machine_step}
 use Rattle.sw_net.proofs.Making.{node_step_belongs, node_step_is_plain, none_at_switch, plain_move, port_step_belongs, port_step_is_plain, then_none}
 use Rattle.sw_net.proofs.Told.{start_at_node, start_at_switch}
 use Rattle.sw_net.proofs.net.Net.possible_at.Goals as goal

@@ -3,7 +3,7 @@ use Rattle.std.specs.Prelude.{OnErr}
 use Rattle.sw_cell.specs.Answers.{done}
 use Rattle.sw_cell.specs.Places.{IsAt, IsDoneAt}
 use Rattle.sw_cell.specs.declared.cell.CellId.TheVariants as place
-use Rattle.sw_model.specs.Steps.{machine_step}
+use Rattle.sw_machine.specs.StepValues.{machine_step}
 use Rattle.sw_net.proofs.Making.{same_arbiters}
 use Rattle.sw_net.proofs.Steps as steps
 use Rattle.sw_net.proofs.net.Net.step.Goals as goal

@@ -1,7 +1,7 @@
 use Rattle.std.proofs.Common.{ap, arith, length, subst, ◌*◌, ◌<◌, ◌≡◌}
 use Rattle.sw_cell.proofs.Network.{nodes_are}
 use Rattle.sw_config.specs.Entries.{Declaration}
-use Rattle.sw_model.specs.Model.{network_of}
+use Rattle.sw_machine.specs.Model.{network_of}
 use Rattle.sw_net.proofs.Delivered.{all_are, all_fits, channel_count, channels_fit, node_fits, node_is, nodes_fit, nodes_more}
 use Rattle.sw_net.proofs.net.Net.undelivered.Goals as goal
 use Rattle.sw_net.specs.Delivery.{IsAtNodes, IsInChannel, IsInChannels}

@@ -1,7 +1,7 @@
 use Rattle.sw_run.proofs.Grants.{keeps_arbiters, same_id, same_name, same_run, takes}
 use Rattle.sw_run.proofs.locked_journal.LockedJournal.commit.Goals as goal
 use Rattle.std.proofs.Common.{◌∙◌}
-use Rattle.sw_model.specs.Steps.{machine_step}
+use Rattle.sw_machine.specs.StepValues.{machine_step}
 
 pub returns-clause-takes : goal.returns-clause-takes
 returns-clause-takes g c =

@@ -1,7 +1,0 @@
-use Rattle.std.proofs.Common.{List, ℕ}
-use Rattle.std.specs.Borrow.{Bor}
-use Rattle.sw_app_audit.proofs.Chosen.{at_place}
-use Rattle.sw_app_audit.proofs.parallel.judged_at.Goals as goal
-
-pub returns : goal.returns
-returns g c = at_place (λ (s : Bor (List ℕ)). s.now) _ c.args.paths.now c.args.place _ c.requires c.judged.ensures

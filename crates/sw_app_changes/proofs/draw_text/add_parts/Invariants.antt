@@ -1,0 +1,13 @@
+use Rattle.std.proofs.Common.{◌≡◌, ◌++◌, string_bytes}
+use Rattle.std.specs.List.{flat_map, range_with_len}
+use Rattle.sw_app_changes.specs.DrawTexts.{channel_statement, node_statement, switch_statement}
+use Rattle.sw_app_changes.proofs.draw_text.add_parts.Given as goal
+
+abbrev pub invariant-loop-node : goal.invariant-loop-node
+invariant-loop-node l = string_bytes l.text ≡ string_bytes l.initial.text ++ flat_map (node_statement l.network) (range_with_len 0 l.node)
+
+abbrev pub invariant-loop-switch : goal.invariant-loop-switch
+invariant-loop-switch l = string_bytes l.text ≡ string_bytes l.initial.text ++ flat_map (switch_statement l.network) (range_with_len 0 l.switch)
+
+abbrev pub invariant-loop-number : goal.invariant-loop-number
+invariant-loop-number l = string_bytes l.text ≡ string_bytes l.initial.text ++ flat_map (channel_statement l.network l.drawing) (range_with_len 0 l.number)

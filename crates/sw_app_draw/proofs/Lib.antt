@@ -1,3 +1,0 @@
-mod First
-mod Lists
-mod NotFree

@@ -1,4 +1,0 @@
-pub mod Dot
-pub mod Drawings
-pub mod DrawTexts
-pub mod DrawAnswers

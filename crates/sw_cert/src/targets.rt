@@ -1,0 +1,50 @@
+//! Whether the numbers of a certificate rise at the nodes that answer.
+ghost use Rattle.std.specs.Prelude.{◌≡◌, ◌<◌, length, IfSome};
+ghost use Rattle.sw_config.specs.Entries.{all_flows};
+ghost use Rattle.sw_cert.specs.Least.{least};
+ghost use Rattle.sw_cert.specs.Refusals.{answering_nodes, is_falling_at, not_rising_at_targets};
+ghost use Rattle.sw_cert.specs.Ends.{falling_end};
+
+use crate::refusal::Refusal;
+use crate::rising::{is_not_above, lesser};
+use sw_config::{Flow, Network};
+
+/// The node where the flow ends, if the flow has replies and the numbers do not rise there.
+fn falling_end(network: &Network, numbers: &[u16], flow: &Flow) -> Option<u16>
+    requires { flow.now.to < length network.now.nodes }
+    ensures end { result ≡ falling_end network.now numbers.now flow.now }
+    ensures within { IfSome result (λ n. n < length network.now.nodes) }
+{
+    if flow.reply().is_none() {
+        return None;
+    }
+    let topology = network.topology();
+    let node = flow.to();
+    if is_not_above(numbers, topology.into(node), topology.out(node)) {
+        Some(node)
+    } else {
+        None
+    }
+}
+
+fn least_falling(network: &Network, numbers: &[u16]) -> Option<u16>
+    ensures least { result ≡ least (is_falling_at network.now numbers.now) (answering_nodes (all_flows network.now)) }
+    ensures within { IfSome result (λ n. n < length network.now.nodes) }
+{
+    let mut found = None;
+    for number in 0..network.flows() {
+        let entry = network.flow(number);
+        let end = falling_end(network, numbers, entry);
+        found = lesser(found, end);
+    }
+    found
+}
+
+/// The refusal for the least node that answers and at which the numbers do not rise.
+pub(crate) fn not_rising_at_targets(network: &Network, numbers: &[u16]) -> Option<Refusal>
+    ensures { result ≡ not_rising_at_targets network.now numbers.now }
+{
+    let node = least_falling(network, numbers)?;
+    let topology = network.topology();
+    Some(Refusal::NotRising(topology.into(node), topology.out(node)))
+}

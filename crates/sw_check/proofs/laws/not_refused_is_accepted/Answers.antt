@@ -1,5 +1,0 @@
-use Rattle.sw_check.proofs.Accepted.{not_refused_is_accepted}
-use Rattle.sw_check.proofs.laws.not_refused_is_accepted.Goals as goal
-
-pub returns : goal.returns
-returns c = not_refused_is_accepted

@@ -1,4 +1,0 @@
-pub mod FaultTexts
-pub mod Ends
-pub mod Inputs
-pub mod Told

@@ -1,0 +1,57 @@
+-- What `audit` answers (this project's choice).
+use Rattle.std.specs.Prelude.{◌≡◌, ℕ, ◌+◌, Bool, false, true, List, Option, Result, Ok, Err, length, slice_get, string_bytes, Some}
+use Rattle.std.specs.List.{zip}
+use Rattle.sw_json_verdicts.specs.AuditTexts.{json_text, lines_text, objects, worst}
+use Rattle.sw_json_verdicts.specs.Findings.{Finding, IsFinding}
+use Rattle.sw_json_verdicts.specs.Stores.{Giving, Keeping}
+use Rattle.sw_json_verdicts.specs.declared.audit_options.AuditOptions.{AuditOptions}
+use Rattle.std.specs.declared.alloc.AllocError.{AllocError}
+use Rattle.sw_text.specs.Ends.{Answers, IsTold}
+use Rattle.sw_text.specs.Ends as lines
+use Rattle.sw_text.specs.declared.answer.Answer.{Answer}
+use Rattle.sw_text.specs.declared.write_answer.Ended.{Ended}
+use Rattle.sw_json.specs.FileValues.{audit_value}
+use Rattle.sw_json.specs.Texts.{ReadsBack}
+use Rattle.sw_json.specs.Answering as objects
+
+-- for each path one finding, in their order; files are numbered from 1
+pub record AreFindings (options : AuditOptions) (gives : Giving) (keeps : Keeping) (paths : List (List ℕ)) (findings : List Finding) : Type 0 where
+  pub as_many : length findings ≡ length paths
+  pub found : (i : ℕ) (path : List ℕ) (f : Finding)
+      → slice_get paths i ≡ Some path → slice_get findings i ≡ Some f → IsFinding options gives keeps (i + 1) path f
+
+-- one value for all that are told, which the text reads back as
+abbrev pub IsJson : AuditOptions → List (List ℕ × Finding) → List ℕ → Type 0
+IsJson options files text =
+    (text ≡ json_text options.quiet options.release.toolchain.now options.release.version.now files)
+    × ReadsBack (audit_value (objects options.quiet files) options.release.toolchain.now options.release.version.now)
+
+-- a line for each, or one value
+abbrev pub IsTextBy : Bool → AuditOptions → List (List ℕ × Finding) → List ℕ → Type 0
+IsTextBy false options files text = text ≡ lines_text options.quiet files
+IsTextBy true options files text = IsJson options files text
+
+-- by what is asked for
+abbrev pub IsText : AuditOptions → List (List ℕ × Finding) → List ℕ → Type 0
+IsText options = IsTextBy options.json options
+
+-- of files: all findings decide the status, those that are told the text
+abbrev pub IsAuditAnswer : AuditOptions → Giving → Keeping → List (List ℕ) → Answers
+IsAuditAnswer options gives keeps paths text status =
+    (findings : List Finding) × AreFindings options gives keeps paths findings
+    × IsText options (zip paths findings) text × (status ≡ worst findings)
+
+-- one of the answers was told, or that memory was wanted, as a line or as an object
+abbrev pub TellsAudit : Bool → Option (List ℕ) → Option (List ℕ) → Answers → Ended → Type 0
+TellsAudit false = lines.Tells
+TellsAudit true = objects.Tells
+
+-- that memory was wanted was told
+abbrev pub IsWantTold : Bool → Option (List ℕ) → Option (List ℕ) → Ended → Type 0
+IsWantTold false = lines.IsMemoryTold
+IsWantTold true = objects.IsMemoryTold
+
+-- the answer was told, or that memory was wanted
+abbrev pub IsAuditTold : Bool → Result Answer AllocError → Option (List ℕ) → Option (List ℕ) → Ended → Type 0
+IsAuditTold json (Ok answer) old new ended = IsTold old new (string_bytes answer.text) answer.status ended
+IsAuditTold json (Err none) old new ended = IsWantTold json old new ended

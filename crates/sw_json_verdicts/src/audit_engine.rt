@@ -1,0 +1,61 @@
+//! The engine: it has files judged, and writes one text.
+ghost use Rattle.std.specs.Prelude.{◌∷◌, [], map};
+ghost use Rattle.sw_json_verdicts.specs.AuditAnswers.{IsAuditAnswer, IsAuditTold, TellsAudit};
+
+use crate::audit_answer::{answer_to_one, audit_answer};
+use crate::audit_options::AuditOptions;
+use crate::stores::Storage;
+use std::alloc::{AllocError, Global};
+use std::io::Write;
+use std::thread::Threads;
+use sw_search::VerdictWorkers;
+use sw_text::{Answer, Ended, tell};
+
+// Writes an answer, or that memory was wanted, as a line or as an object.
+fn tell_audit<W: Write>(writer: &mut W, json: bool, answer: Result<Answer, AllocError>) -> Ended
+    ensures { IsAuditTold json answer (W.contents writer.old) (W.contents writer.new) result }
+{
+    match answer {
+        Ok(answer) => tell(writer, answer.text.as_str(), answer.status),
+        Err(_) => {
+            if json {
+                return sw_json::tell_memory(writer);
+            }
+            sw_text::tell_memory(writer)
+        }
+    }
+}
+
+/// The verdicts on the files of these paths, in their order: a line for each, or one JSON object. The status is the worst of them: 6 where a
+/// file can't be read or a certificate not kept, 5 where there was no memory for one, 3 where one has a fault, 1 where a network is cyclic
+/// or misrouted, and 0 where each is free; then no network of them ever locks up. Threads share the files; a file alone is left
+/// to the workers.
+pub fn audit<T: Threads + Sync, C: VerdictWorkers, S: Storage + Sync, W: Write>(
+    rt: &T,
+    workers: &C,
+    alloc: Global,
+    storage: &S,
+    paths: &[&str],
+    options: &AuditOptions<'_>,
+    writer: &mut W,
+) -> Ended
+    ensures { TellsAudit options.now.json (W.contents writer.old) (W.contents writer.new) (IsAuditAnswer options.now (S.gives storage.now) (S.keeps storage.now) (map (λ s. s.now) paths.now)) result }
+{
+    let answer = audit_answer(rt, workers, alloc, storage, paths, options);
+    tell_audit(writer, options.json, answer)
+}
+
+/// The same of one file. It needs nothing of the host.
+pub fn audit_one<C: VerdictWorkers, S: Storage, W: Write>(
+    workers: &C,
+    alloc: Global,
+    storage: &S,
+    path: &str,
+    options: &AuditOptions<'_>,
+    writer: &mut W,
+) -> Ended
+    ensures { TellsAudit options.now.json (W.contents writer.old) (W.contents writer.new) (IsAuditAnswer options.now (S.gives storage.now) (S.keeps storage.now) (path.now ∷ [])) result }
+{
+    let answer = answer_to_one(workers, alloc, storage, path, options);
+    tell_audit(writer, options.json, answer)
+}

@@ -1,0 +1,76 @@
+//! Files that are judged side by side, and one alone.
+ghost use Rattle.std.specs.Prelude.{◌<◌, ◌∷◌, [], IfOk, length, map};
+ghost use Rattle.sw_json_verdicts.specs.Judgements.{AreJudged, IsJudgedAt};
+
+use crate::audit_options::AuditOptions;
+use crate::findings::judged;
+use crate::judged::{Judged, Named};
+use crate::stores::Storage;
+use rayon::prelude::*;
+use std::alloc::{AllocError, Global};
+use std::thread::Threads;
+use sw_graph::OneByOne;
+use sw_search::VerdictWorkers;
+
+// What is found of the file of that place.
+fn judged_at<S: Storage>(
+    alloc: Global,
+    storage: &S,
+    options: &AuditOptions<'_>,
+    paths: &[&str],
+    place: usize,
+) -> Judged
+    requires { place < length paths.now }
+    ensures { IsJudgedAt options.now (S.gives storage.now) (S.keeps storage.now) (map (λ s. s.now) paths.now) place result }
+{
+    let number = place + 1;
+    let path = paths[place];
+    judged(&OneByOne, alloc, storage, options, Named { number, path })
+}
+
+/// What is found of each file, in the order of the paths, from as many threads as there are processors, each file in one of them.
+///
+/// # Errors
+///
+/// There is no memory for the list.
+pub(crate) fn all_judged<T: Threads + Sync, S: Storage + Sync>(
+    rt: &T,
+    alloc: Global,
+    storage: &S,
+    options: &AuditOptions<'_>,
+    paths: &[&str],
+) -> Result<Vec<Judged>, AllocError>
+    ensures { IfOk result (λ v. AreJudged options.now (S.gives storage.now) (S.keeps storage.now) (map (λ s. s.now) paths.now) v.items) }
+{
+    (0..paths.len())
+        .into_par_iter()
+        .with_min_len(1)
+        .map(
+            |place: usize| -> Judged
+                requires { place < length paths.now }
+                ensures { IsJudgedAt options.entry.now (S.gives storage.entry.now) (S.keeps storage.entry.now) (map (λ s. s.now) paths.entry.now) place result }
+            { judged_at(alloc, storage, options, paths, place) },
+        )
+        .collect(rt, alloc)
+}
+
+/// What is found of one file by the workers.
+///
+/// # Errors
+///
+/// There is no memory for the list.
+pub(crate) fn one_judged<C: VerdictWorkers, S: Storage>(
+    workers: &C,
+    alloc: Global,
+    storage: &S,
+    options: &AuditOptions<'_>,
+    path: &str,
+) -> Result<Vec<Judged>, AllocError>
+    ensures { IfOk result (λ v. AreJudged options.now (S.gives storage.now) (S.keeps storage.now) (path.now ∷ []) v.items) }
+{
+    let number = 1;
+    let found = judged(workers, alloc, storage, options, Named { number, path });
+    let mut all = Vec::new(alloc);
+    all.push(found)?;
+    Ok(all)
+}

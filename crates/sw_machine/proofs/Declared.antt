@@ -1,0 +1,52 @@
+-- The test for declared packets.
+use Rattle.std.proofs.Common.{◌≡◌, ℕ, ◌≤◌, Bool, true, false, ◌&&◌, List, ◌++◌, length, Option, Some, None, IsTrue, refl, sym, ap, inl, inr}
+use Rattle.std.specs.Prelude.{nat_le, slice_get, ◌↔◌}
+use Rattle.std.specs.Option.{option_map_or}
+use Rattle.std.proofs.lemmas.Slice.Eq.{bytes_eq-Decides}
+use Rattle.std.proofs.lemmas.Bool.{and_parts, and_from, leb-true, le-leb}
+use Rattle.sw_flow.specs.Entries.{ReplyEntry, FlowEntry, Declaration}
+use Rattle.sw_machine.specs.DeclaredPackets.{reply_address, reply_from, left_bytes, IsRightWay, IsDeclaredPacket, is_right_way, is_answered_rightly, is_declared_packet}
+use Rattle.sw_machine.specs.ModelLaws.{DeclaredPacketsPass}
+
+right_way : (way : Option (List ℕ)) (reply : Option ReplyEntry) → is_right_way way reply ≡ true → IsRightWay way reply
+right_way None reply e = inl refl
+right_way (Some w) None e = absurd cc
+right_way (Some w) (Some r) e = inr (ap Some ((bytes_eq-Decides w (reply_address r)).0 e))
+
+way_passes : (way : Option (List ℕ)) (reply : Option ReplyEntry) → IsRightWay way reply → is_right_way way reply ≡ true
+way_passes None reply p = refl
+way_passes (Some w) None (inl e) = absurd cc
+way_passes (Some w) None (inr e) = absurd cc
+way_passes (Some w) (Some r) (inl e) = absurd cc
+way_passes (Some w) (Some r) (inr e) = let same : w ≡ reply_address r = cc in (bytes_eq-Decides w (reply_address r)).1 same
+
+test_parts : (d : Declaration) (flow : ℕ) (cargo : List ℕ) (o : Option FlowEntry) → slice_get d.flows flow ≡ o → 1 ≤ length cargo → length cargo ≤ 33554432 → option_map_or (is_answered_rightly d.nodes cargo) o false ≡ true → IsDeclaredPacket d flow cargo
+test_parts d flow cargo None is some few e = absurd cc
+test_parts d flow cargo (Some f) is some few e =
+    record { entry = f; declared = is; some = some; few = few; answered = right_way (reply_from d.nodes f.to (left_bytes f ++ cargo)) f.reply e }
+
+passed : (d : Declaration) (flow : ℕ) (cargo : List ℕ) → is_declared_packet d flow cargo ≡ true → IsDeclaredPacket d flow cargo
+passed d flow cargo e =
+    let outer = and_parts (nat_le 1 (length cargo) && nat_le (length cargo) 33554432) (option_map_or (is_answered_rightly d.nodes cargo) (slice_get d.flows flow) false) e in
+    let inner = and_parts (nat_le 1 (length cargo)) (nat_le (length cargo) 33554432) outer.0 in
+    test_parts d flow cargo (slice_get d.flows flow) refl (leb-true 1 (length cargo) inner.0) (leb-true (length cargo) 33554432 inner.1) outer.1
+
+passes : (d : Declaration) (flow : ℕ) (cargo : List ℕ) → IsDeclaredPacket d flow cargo → is_declared_packet d flow cargo ≡ true
+passes d flow cargo p =
+    let right : is_answered_rightly d.nodes cargo p.entry ≡ true = way_passes (reply_from d.nodes p.entry.to (left_bytes p.entry ++ cargo)) p.entry.reply p.answered in
+    let found : option_map_or (is_answered_rightly d.nodes cargo) (slice_get d.flows flow) false ≡ true = rw p.declared right in
+    and_from (nat_le 1 (length cargo) && nat_le (length cargo) 33554432) (option_map_or (is_answered_rightly d.nodes cargo) (slice_get d.flows flow) false)
+    (and_from (nat_le 1 (length cargo)) (nat_le (length cargo) 33554432) (le-leb 1 (length cargo) p.some) (le-leb (length cargo) 33554432 p.few))
+    found
+
+pub declared_packets_pass : DeclaredPacketsPass
+declared_packets_pass d flow cargo = (passed d flow cargo, passes d flow cargo)
+
+-- two tests that pass for the same
+same_bool : (a b : Bool) → (a ≡ true → b ≡ true) → (b ≡ true → a ≡ true) → a ≡ b
+same_bool true b f g = sym (f refl)
+same_bool false true f g = g refl
+same_bool false false f g = refl
+
+pub same_test : (b : Bool) (d : Declaration) (flow : ℕ) (cargo : List ℕ) → (IsTrue b ↔ IsDeclaredPacket d flow cargo) → b ≡ is_declared_packet d flow cargo
+same_test b d flow cargo so = same_bool b (is_declared_packet d flow cargo) (λ e. passes d flow cargo (so.0 e)) (λ e. so.1 (passed d flow cargo e))

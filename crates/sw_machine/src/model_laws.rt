@@ -1,0 +1,33 @@
+//! What holds of the machine's network of a declared network. These functions do nothing: each is the proof of what its clause says.
+ghost use Rattle.sw_machine.specs.ModelLaws.{DeclaredNetworksAreNetworks, DeclaredPacketsAgree, DeclaredPacketsPass, LooksAgree, MemoriesKeepTheirLength, StepsOfFlowsAgree};
+
+/// Each valid network is one of the machine's.
+pub fn declared_networks_are_networks()
+    ensures { DeclaredNetworksAreNetworks }
+{}
+
+/// Each flow of a valid network has the same steps, places and faults in the machine.
+pub fn steps_of_flows_agree()
+    ensures { StepsOfFlowsAgree }
+{}
+
+/// Each byte, of an address or of a cargo, names the same channels at a switch as by its routes.
+pub fn looks_agree()
+    ensures { LooksAgree }
+{}
+
+/// In each state that a declared network reaches, each target's memory has as many bytes as its
+/// window: no command, whatever its bytes, makes it longer or shorter.
+pub fn memories_keep_their_length()
+    ensures { MemoriesKeepTheirLength }
+{}
+
+/// The test for declared packets passes for these alone.
+pub fn declared_packets_pass()
+    ensures { DeclaredPacketsPass }
+{}
+
+/// A flow declares the same packets by its entry and in the machine.
+pub fn declared_packets_agree()
+    ensures { DeclaredPacketsAgree }
+{}

@@ -1,5 +1,0 @@
-use Rattle.sw_model.proofs.Memories.{memories_keep_their_length}
-use Rattle.sw_model.proofs.laws.memories_keep_their_length.Goals as goal
-
-pub returns : goal.returns
-returns c = memories_keep_their_length

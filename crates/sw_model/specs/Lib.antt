@@ -1,4 +1,0 @@
-pub mod Model
-pub mod Laws
-pub mod Steps
-pub mod Packets

@@ -1,2 +1,0 @@
-mod Answers
-pub mod Ranges

@@ -1,0 +1,65 @@
+//! Why a text is no network, or no load.
+ghost use Rattle.std.specs.Prelude.{◌≡◌};
+ghost use Rattle.sw_text.specs.declared.fault.FileFault.TheVariants.{Memory};
+
+use crate::keys::{Key, Section};
+use crate::names::Name;
+use std::alloc::{AllocError, AllocFailed};
+use sw_topo::TopoFault;
+use thiserror::Error;
+
+/// What is wrong at a key that the table may have.
+#[derive(Clone, Copy, Debug)]
+pub enum KeyFault {
+    MissingKey,
+    WrongType,
+    OutOfRange,
+    /// The name is another entry's already.
+    DuplicateName,
+    /// Nothing suitable has that name.
+    UnknownName,
+}
+
+/// The first fault of a text.
+#[derive(Debug, Drop)]
+pub enum TextFault {
+    /// It is no TOML.
+    Syntax,
+    /// A table has a key that it may not have.
+    UnknownKey(Section, Name),
+    /// A key is missing, or what stands there is wrong.
+    Key(KeyFault, Section, Key),
+    /// Nodes and switches are wrongly joined.
+    Topology(TopoFault),
+    /// Of this switch, this entry of its table is for an address that one before it is for.
+    DuplicateRoute(usize, usize),
+    /// The replies of this flow cannot come back.
+    ReplyShape(usize),
+    /// This entry of a load is no packet of its flow.
+    NotInFlow(usize),
+}
+
+/// The first fault of a text, or want of memory.
+#[derive(Debug, Drop, Error)]
+pub enum FileFault {
+    #[error("the text has a fault")]
+    Text(TextFault),
+    #[error("out of memory")]
+    Memory,
+}
+
+impl From<AllocError> for FileFault {
+    ghost from_gives = { λ _ e. e ≡ Memory };
+
+    fn from(_error: AllocError) -> FileFault {
+        FileFault::Memory
+    }
+}
+
+impl<T: Drop> From<AllocFailed<T>> for FileFault {
+    ghost from_gives = { λ _ e. e ≡ Memory };
+
+    fn from(_error: AllocFailed<T>) -> FileFault {
+        FileFault::Memory
+    }
+}

@@ -1,5 +1,0 @@
-use Rattle.sw_toml_table.proofs.Unknown.{refuses_least_unknown}
-use Rattle.sw_toml_table.proofs.laws.least_unknown_key_is_refused.Goals as goal
-
-pub returns : goal.returns
-returns c = refuses_least_unknown

@@ -1,6 +1,0 @@
-use Rattle.std.proofs.Common.{◌≡◌, false, take}
-use Rattle.sw_toml_table.specs.Table.{is_known}
-use Rattle.sw_toml_table.proofs.table.is_known.Given as goal
-
-abbrev pub invariant-loop-key : goal.invariant-loop-key
-invariant-loop-key l = is_known (take l.key-index l.known) l.name ≡ false
