@@ -12,3 +12,4 @@ pub mod LinkEnds
 pub mod Enabling
 pub mod Spilling
 pub mod StepsAtNodes
+pub mod Cells

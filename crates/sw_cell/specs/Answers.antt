@@ -1,9 +1,11 @@
 -- What a call answers that makes one of the machine's steps.
-use Rattle.std.specs.Prelude.{Bool, Err, Ok, Result, false, true}
-use Rattle.sw_cell.specs.Places.{IsUndeclared}
+use Rattle.std.specs.Prelude.{Bool, Err, Ok, Result, false, true, ◌≡◌}
+use Rattle.sw_cell.specs.Places.{IsUndeclared, machine_cell}
+use Rattle.sw_cell.specs.declared.cell.CellId.{CellId}
 use Rattle.sw_cell.specs.declared.fault.NetFault.{NetFault}
 use Rattle.sw_cell.specs.declared.fault.NetFault.TheVariants.{Memory, NotEnabled, NotInFlow}
 use Rattle.sw_machine.specs.Network.{Network}
+use Rattle.sw_machine.specs.Parts.{cell_of}
 use Rattle.sw_machine.specs.State.{State}
 use Rattle.sw_machine.specs.Steps.{Accept, Begin, IsPossible, Leads, Step}
 
@@ -22,6 +24,13 @@ Answers net before step (Ok done) after = (s : State) → before s → (t : Stat
 Answers net before step (Err NotInFlow) after = IsUndeclared net step
 Answers net before step (Err NotEnabled) after = (IsUndeclared net step → ⊥) × ((s : State) → before s → IsPossible net s step → ⊥)
 Answers net before step (Err Memory) after = Stores step × ((s : State) → before s → IsPossible net s step)
+
+-- the same at one cell alone: a step of another cell is not enabled
+abbrev pub AnswersAt : Network → CellId → (State → Type 0) → Step → Result Unit NetFault → (State → Type 0) → Type 0
+AnswersAt net at before step (Ok done) after = (cell_of net step ≡ machine_cell at) × Answers net before step (Ok done) after
+AnswersAt net at before step (Err NotInFlow) after = IsUndeclared net step
+AnswersAt net at before step (Err NotEnabled) after = (IsUndeclared net step → ⊥) × (cell_of net step ≡ machine_cell at → (s : State) → before s → IsPossible net s step → ⊥)
+AnswersAt net at before step (Err Memory) after = (cell_of net step ≡ machine_cell at) × Answers net before step (Err Memory) after
 
 -- the answer where a step was made, or was not possible
 abbrev pub done : Bool → Result Unit NetFault

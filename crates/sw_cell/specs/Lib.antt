@@ -4,4 +4,5 @@ pub mod SwitchParts
 pub mod Picks
 pub mod Possible
 pub mod Places
+pub mod CellParts
 pub mod Answers

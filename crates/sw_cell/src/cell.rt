@@ -1,6 +1,11 @@
 //! The cells of a network.
 ghost use Rattle.std.specs.Prelude.{◌≡◌, ◌↔◌, IsTrue};
 
+use sw_arb::Arbiter;
+use sw_node::NodeCell;
+use sw_route::Routing;
+use sw_switch::SwitchCell;
+
 /// Which cell of a network: the node, or the switch, of that number.
 #[derive(Clone, Copy, PartialEq, Eq)]
 pub enum CellId {
@@ -28,4 +33,13 @@ impl CellId {
             },
         }
     }
+}
+
+/// What a network keeps of a node, or of a routing switch.
+#[derive(Drop)]
+pub enum CellState<R: Routing, A: Arbiter> {
+    /// A node, with its link.
+    Node(NodeCell),
+    /// A routing switch, with its ports.
+    Switch(SwitchCell<R, A>),
 }

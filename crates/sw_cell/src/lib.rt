@@ -10,9 +10,9 @@ mod step;
 pub mod switch;
 mod switch_steps;
 
-pub use cell::CellId;
+pub use cell::{CellId, CellState};
 pub use fault::NetFault;
 pub use node_steps::step_node;
 pub use place::cell_of;
-pub use step::made_or_not;
+pub use step::{made_or_not, step_cell};
 pub use switch_steps::step_switch;
