@@ -1,32 +1,34 @@
 -- A text is cut at its first such byte.
-use Rattle.std.proofs.Common.{◌≡◌, ◌≢◌, ℕ, ◌+◌, ◌<◌, ◌≤◌, false, List, [], ◌∷◌, length, get_or, sym, ap, ◌∙◌, inl, inr, subst, arith, take, drop, eq-eqb, ne_eqb}
-use Rattle.std.specs.Prelude.{◌==◌}
-use Rattle.std.specs.List.{position_or_len, slice_split}
-use Rattle.std.proofs.lemmas.Bool.{cases_lt}
-use Rattle.std.proofs.lemmas.List.{get_or_default}
-use Rattle.std.proofs.lemmas.List.Splits.{slice_split_first, slice_split_none}
-use Rattle.std.proofs.lemmas.List.Sums.{position_or_len_is}
+use Rattle.std.proofs.Common.{◌≡◌, ℕ, ◌+◌, ◌≤◌, Bool, true, false, List, [], ◌∷◌, length, refl, sym, ap, ◌∙◌, inl, inr, arith, suc, take, drop, cond, Some, None}
+use Rattle.std.specs.Prelude.{◌==◌, position, nat_lt}
+use Rattle.std.specs.List.{position_or_len, onto_first, slice_split}
+use Rattle.std.proofs.lemmas.Bool.{false≢true, ltb-true, ltb-false, cases_Bool}
+use Rattle.std.proofs.lemmas.List.Splits.{slice_split_first}
 
--- none of the first i bytes is such a one
-abbrev pub NoneBefore : ℕ → List ℕ → ℕ → Type 0
-NoneBefore byte xs i = (k : ℕ) → k < i → (get_or xs k 0 == byte) ≡ false
+some_of : {A : Type 0} (b : Bool) (x y : A) → cond b (Some x) None ≡ Some y → (b ≡ true) × (x ≡ y)
+some_of true x y e = let s : x ≡ y = cc in (refl, s)
+some_of false x y e = let bad : ◌≡◌ {A = Bool} true false = cc in absurd (false≢true (sym bad))
 
-pub none_more : (byte : ℕ) (xs : List ℕ) (i : ℕ) → get_or xs i 0 ≢ byte → NoneBefore byte xs i → NoneBefore byte xs (i + 1)
-none_more byte xs i fails before k below =
-    elim (cases_lt k i) [
-      | inl low ↦ before k low
-      | inr high ↦ let e : k ≡ i = omega (arith, below, high) in rw e (ne_eqb (get_or xs i 0) byte fails)
-    ]
+none_of : {A : Type 0} (b : Bool) (x : A) → cond b (Some x) None ≡ None → b ≡ false
+none_of true x e = let bad : ◌≡◌ {A = Bool} true false = cc in bad
+none_of false x e = refl
 
 -- what stands before the first, and what stands after it
-pub split_found : (byte : ℕ) (xs : List ℕ) (i : ℕ) → i < length xs → NoneBefore byte xs i → get_or xs i 0 ≡ byte
-    → slice_split (λ b. b == byte) xs ≡ take i xs ∷ slice_split (λ b. b == byte) (drop (i + 1) xs)
-split_found byte xs i within before is =
-    let at : position_or_len (λ b. b == byte) xs ≡ i = position_or_len_is (λ b. b == byte) xs i 0 (omega (arith, within)) before (λ _. eq-eqb (get_or xs i 0) byte is) in
-    slice_split_first (λ b. b == byte) xs 0 (subst (λ (k : ℕ). k < length xs) (sym at) within)
-    ∙ ap (λ k. take k xs ∷ slice_split (λ b. b == byte) (drop (k + 1) xs)) at
+pub split_found : (byte : ℕ) (xs : List ℕ) (i : ℕ) → position (λ b. b == byte) xs ≡ Some i → slice_split (λ b. b == byte) xs ≡ take i xs ∷ slice_split (λ b. b == byte) (drop (i + 1) xs)
+split_found byte xs i e =
+    let h = some_of (nat_lt (position_or_len (λ b. b == byte) xs) (length xs)) (position_or_len (λ b. b == byte) xs) i e in
+    slice_split_first (λ b. b == byte) xs 0 (ltb-true _ _ h.0)
+    ∙ ap (λ k. take k xs ∷ slice_split (λ b. b == byte) (drop (k + 1) xs)) h.1
+
+whole_split : (byte : ℕ) (xs : List ℕ) → length xs ≤ position_or_len (λ b. b == byte) xs → slice_split (λ b. b == byte) xs ≡ xs ∷ []
+whole_split byte [] le = refl
+whole_split byte (x ∷ xs) le = elim (cases_Bool (x == byte)) [
+  | inl t ↦ let le2 : suc (length xs) ≤ 0 = rw t at le in absurd (omega arith)
+  | inr f ↦ let le2 : suc (length xs) ≤ 1 + position_or_len (λ b. b == byte) xs = rw f at le in rw f (ap (onto_first x) (whole_split byte xs (omega arith)))
+]
 
 -- there is none
-pub split_whole : (byte : ℕ) (xs : List ℕ) (i : ℕ) → length xs ≤ i → NoneBefore byte xs i → slice_split (λ b. b == byte) xs ≡ xs ∷ []
-split_whole byte xs i past before =
-    slice_split_none (λ b. b == byte) xs (λ k d within. rw (get_or_default xs k d 0 within) (before k (omega (arith, within, past))))
+pub split_whole : (byte : ℕ) (xs : List ℕ) → position (λ b. b == byte) xs ≡ None → slice_split (λ b. b == byte) xs ≡ xs ∷ []
+split_whole byte xs e =
+    let h = none_of (nat_lt (position_or_len (λ b. b == byte) xs) (length xs)) (position_or_len (λ b. b == byte) xs) e in
+    whole_split byte xs (ltb-false _ _ h)

@@ -1,5 +1,6 @@
 pub mod Numbers
 pub mod Cuts
+mod FirstByte
 mod Rests
 pub mod Documents
 pub mod Members

@@ -1,4 +1,4 @@
-use Rattle.sw_text.proofs.Cuts.{NoneBefore}
+use Rattle.sw_text.proofs.FirstByte.{NoneBefore}
 use Rattle.sw_text.proofs.bytes.cut.Given as goal
 
 abbrev pub invariant-loop-end : goal.invariant-loop-end
