@@ -1,3 +1,5 @@
+#!/usr/bin/env python3
+"""check_imports.py TREE: tells each import of a module or a name of TREE's crates that is not there, and names that are imported twice."""
 import sys,os,re,glob
 top=sys.argv[1]; C=f"{top}/crates"
 crates=set(os.listdir(C))

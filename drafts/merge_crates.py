@@ -1,5 +1,5 @@
 #!/usr/bin/env python3
-"""merge.py TREE FROM INTO [src:old=new] [specs:Old=New] [proofs:Old=New] [into-src:..] [into-specs:..] [into-proofs:..] ..: moves crate FROM into INTO."""
+"""merge_crates.py TREE FROM INTO [src:old=new] [specs:Old=New] [proofs:Old=New] [into-src:..] [into-specs:..] [into-proofs:..] ..: moves crate FROM into INTO."""
 import sys,os,re,shutil,glob
 top,frm,into=sys.argv[1:4]
 ren=[a.split(':',1) for a in sys.argv[4:]]
