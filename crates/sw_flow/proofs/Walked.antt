@@ -1,14 +1,16 @@
 -- The places that follow a place, as a walk over ports gives them.
-use Rattle.std.proofs.Common.{◌≡◌, ℕ, ◌+◌, ◌*◌, ◌/◌, ◌%◌, ◌^◌, ◌==◌, ◌<◌, ◌≤◌, Bool, cond, not, Option, Some, None, List, [], ◌∷◌, length, map, filter, filter_map, is_some, bit_and, Contains, refl, sym, ap, ◌∙◌, subst, ◌⊎◌, inl, inr, arith}
-use Rattle.std.specs.Prelude.{MatchOption}
+use Rattle.std.proofs.Common.{◌≡◌, ℕ, ◌+◌, ◌*◌, ◌/◌, ◌%◌, ◌^◌, ◌==◌, ◌<◌, ◌≤◌, Bool, false, IsTrue, cond, not, Option, Some, None, List, [], ◌∷◌, ◌++◌, append-nil, length, get_or, map, filter, filter_map, is_some, bit_and, Contains, refl, sym, ap, ◌∙◌, subst, ◌⊎◌, inl, inr, arith}
+use Rattle.std.specs.Prelude.{MatchOption, ◌↔◌, slice_get, slice_index}
 use Rattle.std.specs.List.{range_with_len, cons_option}
 use Rattle.std.proofs.lemmas.Bool.{cases_Bool, cases_lt, lt-ltb, le-ltb}
+use Rattle.std.proofs.lemmas.Option.{get_or_from_slice_get, slice_get_read}
 use Rattle.sw_config.specs.PlaceEnd.{PlaceEnd}
 use Rattle.sw_config.specs.PlaceEnd.TheVariants.{Node, Switch}
-use Rattle.sw_config.specs.Wiring.{out_of}
+use Rattle.sw_config.specs.Wiring.{Wiring, out_of, partner}
+use Rattle.sw_config.specs.Looks.{NamesOutput}
 use Rattle.sw_config.specs.Ports.{ports_of}
 use Rattle.sw_config.specs.Look.{Look}
-use Rattle.sw_config.specs.Entries.{FlowEntry, Declaration}
+use Rattle.sw_config.specs.Entries.{FlowEntry, Declaration, look_at, wiring_of}
 use Rattle.sw_flow.specs.declared.place.Place.{Place}
 use Rattle.sw_flow.specs.Places.{ends_of, end_of, look_after, deleted_behind, Follows}
 use Rattle.sw_flow.specs.Followers.{outputs_of, places_on, followers_at_switch, followers_at_end, followers_of}
@@ -95,6 +97,72 @@ followers_numbered d f n address place followers same at so =
     let here : place ≡ place_of f n = at ∙ ap (λ (w : ℕ). record { channel = n / w; deleted = n % w }) wide in
     let list : followers ≡ followers_of d f (n / width f) (n % width f) = so ∙ ap (λ (p : Place). followers_of d f p.channel p.deleted) here in
     ap (λ (w : ℕ). map (λ (p : Place). p.channel * w + p.deleted) followers) wide ∙ ap (map (λ (p : Place). p.channel * width f + p.deleted)) list ∙ numbers_of_followers d f (n / width f) (n % width f)
+
+-- a place that is a port of two switches is one of one
+pub same_switch : (s p t q : ℕ) → Some (Switch s p) ≡ Some (Switch t q) → s ≡ t
+same_switch s p t q e = cc
+
+pub same_port : (s p t q : ℕ) → Some (Switch s p) ≡ Some (Switch t q) → p ≡ q
+same_port s p t q e = cc
+
+pub no_port : (n t q : ℕ) → Some (Node n) ≡ Some (Switch t q) → ⊥
+no_port n t q e = cc
+
+pub untrue : IsTrue false → ⊥
+untrue bad = absurd cc
+
+-- ---- one step, with its parts as the code has them
+
+-- what is looked up is what the leading byte names
+look_is : (d : Declaration) (f : FlowEntry) (s k byte : ℕ) (address : List ℕ) (look : Look) → address ≡ f.address → k < length address → byte ≡ get_or address k byte → look ≡ look_at d.switches s byte → look ≡ look_after d f s k
+look_is d f s k byte address look same lt read is =
+    is
+    ∙ ap (look_at d.switches s) (sym (get_or_from_slice_get address k byte 0 (slice_get_read address (length address) k byte refl lt read)))
+    ∙ ap (λ (a : List ℕ). look_at d.switches s (slice_index a k)) same
+
+module _ (d : Declaration) (f : FlowEntry) (w : Wiring) (c k s p byte : ℕ) (address : List ℕ) (look : Look) (wired : w ≡ wiring_of d) (at : slice_get w.ends (partner c) ≡ Some (Switch s p)) (same : address ≡ f.address) (lt : k < length address) (read : byte ≡ get_or address k byte) (is : look ≡ look_at d.switches s byte) where
+  here : end_of d c ≡ Some (Switch s p)
+  here = ap (λ (v : Wiring). slice_get v.ends (partner c)) (sym wired) ∙ at
+
+  after : look ≡ look_after d f s k
+  after = look_is d f s k byte address look same lt read is
+
+  long : k < length f.address
+  long = subst (λ (a : List ℕ). k < length a) same lt
+
+  -- the followers as a walk over the look's ports
+  pub walked_at_switch : (ports deleted : ℕ) → ports ≡ look.ports → deleted ≡ deleted_behind look k → places_on deleted (outputs_of w.ends s ports) ≡ followers_of d f c k
+  unfolding followers_of
+  walked_at_switch ports deleted all behind =
+      rw (here, lt-ltb k (length f.address) long)
+      (ap (λ (m : ℕ). places_on m (outputs_of w.ends s ports)) behind
+      ∙ ap (λ (q : ℕ). places_on (deleted_behind look k) (outputs_of w.ends s q)) all
+      ∙ ap (λ (v : Wiring). places_on (deleted_behind look k) (outputs_of v.ends s look.ports)) wired
+      ∙ ap (λ (l : Look). places_on (deleted_behind l k) (outputs_of (ends_of d) s l.ports)) after)
+
+  -- what follows is on a channel that the look names, with as many bytes deleted as are behind the switch
+  pub steps_to : (e m behind : ℕ) → behind ≡ deleted_behind look k → Follows d f c k e m ↔ ((m ≡ behind) × NamesOutput w.ends s look e)
+  steps_to e m behind counted = (
+    λ h.
+        let two : Some (Switch h.switch h.port) ≡ Some (Switch s p) = sym h.ends ∙ here in
+        let one : h.switch ≡ s = same_switch h.switch h.port s p two in
+        let names : NamesOutput (ends_of d) s (look_after d f s k) e = subst (λ (t : ℕ). NamesOutput (ends_of d) t (look_after d f t k) e) one h.named in (
+          h.deleted ∙ ap (λ (t : ℕ). deleted_behind (look_after d f t k) k) one ∙ ap (λ (l : Look). deleted_behind l k) (sym after) ∙ sym counted,
+          subst (λ (v : Wiring). NamesOutput v.ends s look e) (sym wired) (subst (λ (l : Look). NamesOutput (ends_of d) s l e) (sym after) names),
+        ),
+    λ n. record {
+      switch = s;
+      port = p;
+      ends = here;
+      bytes_left = long;
+      named = subst (λ (l : Look). NamesOutput (ends_of d) s l e) after (subst (λ (v : Wiring). NamesOutput v.ends s look e) wired n.1);
+      deleted = n.0 ∙ counted ∙ ap (λ (l : Look). deleted_behind l k) after;
+    },
+  )
+
+-- once none is left, all that were to come are added
+pub all_pushed : {A : Type 0} (f : A → ℕ) (to before : List ℕ) (left started : List A) (numbers : List ℕ) → to ++ map f left ≡ before ++ map f started → left ≡ [] → map f started ≡ numbers → to ≡ before ++ numbers
+all_pushed f to before left started numbers so_far none all = sym (append-nil to) ∙ ap (λ l. to ++ map f l) (sym none) ∙ so_far ∙ ap (λ l. before ++ l) all
 
 -- the first of the outputs tells whether there is one
 pub has_output-by_first : (ends : List PlaceEnd) (s : ℕ) (look : Look) (o : Option ℕ) (rest : List ℕ) → MatchOption o (outputs_of ends s look.ports ≡ []) (λ c. outputs_of ends s look.ports ≡ c ∷ rest) → is_some o ≡ has_output ends s look

@@ -1,8 +1,8 @@
 //! Whether a flow goes from one place to another.
-ghost use Rattle.std.specs.Prelude.{◌≡◌, ◌<◌, ◌↔◌, IsTrue, length};
+ghost use Rattle.std.specs.Prelude.{◌≡◌, ◌<◌, ◌↔◌, IsTrue};
 ghost use Rattle.sw_config.specs.Checked.{IsSound};
 ghost use Rattle.sw_config.specs.Looks.{NamesOutput};
-ghost use Rattle.sw_flow.specs.Places.{deleted_behind, ends_of, look_after, Follows};
+ghost use Rattle.sw_flow.specs.Places.{Follows};
 
 use crate::place::Place;
 use sw_config::{Chan, Flow, Look, Network, PlaceEnd, Topology, outputs_are_the_named_channels};
@@ -22,20 +22,6 @@ fn names_output(topology: &Topology, switch: u16, look: &Look, channel: Chan) ->
     }
 }
 
-/// Does the place follow at the switch, where packets of the flow arrive with that many address bytes deleted?
-fn follows_at(network: &Network, flow: &Flow, switch: u16, deleted: u8, to: Place) -> bool
-    requires { switch < length network.now.switches }
-    ensures { IsTrue result ↔ ((deleted < length flow.now.address) × NamesOutput (ends_of network.now) switch (look_after network.now flow.now switch deleted) to.channel × (to.deleted ≡ deleted_behind (look_after network.now flow.now switch deleted) deleted)) }
-{
-    let Some(byte) = flow.address().get(deleted as usize) else {
-        return false;
-    };
-    let look = network.look(switch, *byte);
-    let deleted = deleted as u16;
-    let behind = if look.delete { deleted + 1 } else { deleted };
-    to.deleted as u16 == behind && names_output(network.topology(), switch, &look, to.channel)
-}
-
 /// Does the flow go from the first place to the second by one step (ECSS-E-ST-50-12C, network layer: packet addressing)? Not where
 /// there is no such place.
 pub fn follows(network: &Network, flow: &Flow, from: Place, to: Place) -> bool
@@ -45,8 +31,14 @@ pub fn follows(network: &Network, flow: &Flow, from: Place, to: Place) -> bool
     if from.channel.number() >= topology.channels() {
         return false;
     }
-    match topology.end_of(from.channel) {
-        PlaceEnd::Node(_) => false,
-        PlaceEnd::Switch(switch, _) => follows_at(network, flow, switch, from.deleted, to),
-    }
+    let PlaceEnd::Switch(switch, _) = topology.end_of(from.channel) else {
+        return false;
+    };
+    let deleted = from.deleted as u16;
+    let Some(byte) = flow.address().get(deleted as usize) else {
+        return false;
+    };
+    let look = network.look(switch, *byte);
+    let behind = if look.delete { deleted + 1 } else { deleted };
+    to.deleted as u16 == behind && names_output(topology, switch, &look, to.channel)
 }

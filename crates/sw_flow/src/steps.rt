@@ -3,7 +3,7 @@ ghost use Rattle.std.specs.Prelude.{◌≡◌, ◌<◌, ◌≤◌, ◌+◌, ◌*
 ghost use Rattle.sw_flow.specs.Places.{ends_of};
 
 use crate::place::Place;
-use crate::walk::{Followers, followers_in};
+use crate::walk::followers_in;
 use std::alloc::AllocError;
 use sw_config::{Chan, Flow, Network};
 use sw_graph::Steps;
@@ -37,22 +37,6 @@ pub(crate) fn place_of(number: usize, width: usize) -> Place
     }
 }
 
-/// Adds the numbers of the places, where each channel has `width` places.
-#[inline(always)]
-fn push_numbers(
-    followers: Followers<'_>,
-    width: usize,
-    to: &mut Vec<usize>,
-) -> Result<(), AllocError>
-    requires { width ≤ 33 }
-    ensures { OnOk result (to.new.items ≡ to.old.items ++ map (λ p. p.channel * width + p.deleted) followers.entry) }
-{
-    for place in followers {
-        to.push(place.channel.number() as usize * width + place.deleted as usize)?;
-    }
-    Ok(())
-}
-
 impl Steps for FlowSteps<'_> {
     ghost use Rattle.sw_flow.specs.Numbers.{number_bound, next_numbers};
 
@@ -63,7 +47,10 @@ impl Steps for FlowSteps<'_> {
     #[inline(always)]
     fn push_next(&self, number: usize, to: &mut Vec<usize>) -> Result<(), AllocError> {
         let width = self.flow.address().len() + 1;
-        let place = place_of(number, width);
-        push_numbers(followers_in(self.network, self.flow, place), width, to)
+        let at = place_of(number, width);
+        for place in followers_in(self.network, self.flow, at) {
+            to.push(place.channel.number() as usize * width + place.deleted as usize)?;
+        }
+        Ok(())
     }
 }

@@ -1,7 +1,7 @@
 //! The places that follow a place.
 ghost use Rattle.std.specs.Prelude.{◌≡◌, ◌<◌, ◌≤◌, ◌∷◌, [], length, MatchOption};
 ghost use Rattle.sw_config.specs.Ports.{ports_of};
-ghost use Rattle.sw_flow.specs.Followers.{outputs_of, followers_at_switch, followers_of};
+ghost use Rattle.sw_flow.specs.Followers.{outputs_of, followers_of};
 
 use crate::place::Place;
 use std::marker::Model;
@@ -77,31 +77,6 @@ fn no_followers(topology: &Topology) -> Followers<'_>
     }
 }
 
-/// The places behind a switch, where packets of the flow arrive with that many address bytes deleted.
-#[inline(always)]
-fn followers_at_switch<'a>(
-    network: &'a Network,
-    flow: &Flow,
-    switch: u16,
-    deleted: u8,
-) -> Followers<'a>
-    requires switch { switch < length network.now.switches }
-    requires short { length flow.now.address ≤ 32 }
-    ensures { result ≡ followers_at_switch network.now flow.now switch deleted }
-{
-    let topology = network.topology();
-    let Some(byte) = flow.address().get(deleted as usize) else {
-        return no_followers(topology);
-    };
-    let look = network.look(switch, *byte);
-    Followers {
-        topology,
-        switch,
-        ports: look.ports.ports(),
-        deleted: if look.delete { deleted + 1 } else { deleted },
-    }
-}
-
 /// The places that follow a place of the flow (ECSS-E-ST-50-12C, network layer: packet addressing), in the order of the ports that
 /// lead to them; none where the network has no such channel.
 #[tactic(auto, unfolding(crate::specs::Followers::followers_of))]
@@ -114,8 +89,18 @@ pub fn followers_in<'a>(network: &'a Network, flow: &Flow, place: Place) -> Foll
     if place.channel.number() >= topology.channels() {
         return no_followers(topology);
     }
-    match topology.end_of(place.channel) {
-        PlaceEnd::Node(_) => no_followers(topology),
-        PlaceEnd::Switch(switch, _) => { followers_at_switch(network, flow, switch, place.deleted) }
+    let PlaceEnd::Switch(switch, _) = topology.end_of(place.channel) else {
+        return no_followers(topology);
+    };
+    let deleted = place.deleted;
+    let Some(byte) = flow.address().get(deleted as usize) else {
+        return no_followers(topology);
+    };
+    let look = network.look(switch, *byte);
+    Followers {
+        topology,
+        switch,
+        ports: look.ports.ports(),
+        deleted: if look.delete { deleted + 1 } else { deleted },
     }
 }

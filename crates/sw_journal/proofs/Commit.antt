@@ -11,7 +11,7 @@ use Rattle.sw_cell.specs.declared.fault.NetFault.{NetFault}
 use Rattle.sw_cell.specs.declared.fault.NetFault.TheVariants.{Memory, NotEnabled, NotInFlow}
 use Rattle.sw_cell.specs.declared.cell.CellId.{CellId}
 use Rattle.sw_history.proofs.Follows.{one_state_after, split_last}
-use Rattle.sw_history.specs.History.{HistoryView}
+use Rattle.sw_history.specs.History.{HistoryView, IsNext, with_steps}
 use Rattle.sw_history.specs.Next.{IsIdle, MayFollow}
 use Rattle.sw_journal.specs.Adding.{AddsAt, IsAtCell, IsWithSteps}
 use Rattle.sw_journal.proofs.Told.{at_its_cell, ends_once, known_after, known_at, placed}
@@ -228,6 +228,25 @@ pub refused_same : (h k : HistoryView) (at : CellId) (limit : ℕ) (step : Step)
 refused_same h k at limit step journal.NotEnabled adds = adds.1
 refused_same h k at limit step journal.Full adds = adds.2
 refused_same h k at limit step journal.Memory adds = adds.2
+
+-- ---- a step added to a history, where room for it was made before
+
+module _ (h k : HistoryView) (same : IsWithSteps h h.steps k) (step : Step) where
+  pub next_of : IsNext k step → IsNext h step
+  next_of next = subst (λ (v : Declaration × (List LoadEntry × List Step)). MayFollow (network_of v.0) (packets_of v.1.0) v.1.1 step) (λ i. (same.declared i, (same.load i, same.steps i))) next
+
+  pub next_in : IsNext h step → IsNext k step
+  next_in next = subst (λ (v : Declaration × (List LoadEntry × List Step)). MayFollow (network_of v.0) (packets_of v.1.0) v.1.1 step) (sym (λ i. (same.declared i, (same.load i, same.steps i)))) next
+
+  pub steps_more : (m : HistoryView) (room : ℕ) → m ≡ with_steps k (k.steps ++ step ∷ []) room → IsWithSteps h (h.steps ++ step ∷ []) m
+  steps_more m room is = record {
+    declared = ap (λ (v : HistoryView). v.declared) is ∙ same.declared;
+    load = ap (λ (v : HistoryView). v.load) is ∙ same.load;
+    steps = ap (λ (v : HistoryView). v.steps) is ∙ ap (λ (l : List Step). l ++ step ∷ []) same.steps;
+  }
+
+  pub steps_same : (m : HistoryView) → m ≡ k → IsWithSteps h h.steps m
+  steps_same m is = subst (λ (v : HistoryView). IsWithSteps h h.steps v) (sym is) same
 
 pub account_same : (name : TableId) (h k : HistoryView) (limit : ℕ) (marks : List (Option ℕ)) (steps : List Step) → IsWithSteps h steps k
     → view_of name k limit marks ≡ record { name = name; declared = h.declared; load = h.load; limit = limit; history = steps; marks = marks }

@@ -1,5 +1,5 @@
 -- A new journal.
-use Rattle.std.proofs.Common.{Bool, IsTrue, cond, List, None, Option, Some, [], ap, append-nil, arith, false, filter, length, map, refl, replicate, subst, sym, true, zero, suc, ℕ, ◌*◌, ◌++◌, ◌+◌, ◌∙◌, ◌∷◌, ◌≡◌, ◌↔◌}
+use Rattle.std.proofs.Common.{Bool, IsTrue, cond, List, None, Option, Some, [], ap, append-nil, arith, false, filter, length, map, refl, replicate, subst, sym, true, zero, suc, ℕ, ◌*◌, ◌++◌, ◌+◌, ◌∙◌, ◌∷◌, ◌≡◌, ◌≤◌, ◌↔◌}
 use Rattle.atomic_table.specs.Seated.{TableId}
 use Rattle.atomic_table.specs.Table.{Me}
 use Rattle.std.proofs.lemmas.Bool.{eq-eqb}
@@ -133,3 +133,7 @@ state_first h net declared none reached =
     let packets = packets_of h.load in
     let leads = subst (λ (steps : List Step). IsHistory n packets steps (empty n)) (sym none) (record { run = refl; in_order = λ m. (packets_at n m packets, refl) }) in
     subst (λ (d : Declaration). IsNetState net (empty (network_of d))) (sym declared) (reached (empty n) leads)
+
+-- a loop that came to its end counted all
+pub all_counted : (n end count : ℕ) → end ≤ n → n ≤ end → end ≡ count → n ≡ count
+all_counted n end count past most is = omega (arith, past, most, is)

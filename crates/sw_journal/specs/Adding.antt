@@ -33,3 +33,8 @@ AddsAt h at limit step (Ok done) k = IsNextAt h at step × (length h.steps < lim
 AddsAt h at limit step (Err NotEnabled) k = (IsNextAt h at step → ⊥) × IsWithSteps h h.steps k
 AddsAt h at limit step (Err Full) k = IsNextAt h at step × (length h.steps ≡ limit) × IsWithSteps h h.steps k
 AddsAt h at limit step (Err Memory) k = IsNextAt h at step × (length h.steps < limit) × IsWithSteps h h.steps k
+
+-- Ok: the step is done at this cell, and there is room for it below the limit; else it is as it is told of one that was to be added
+abbrev pub HasRoom : HistoryView → CellId → ℕ → Step → Result Unit JournalFault → HistoryView → Type 0
+HasRoom h at limit step (Ok done) k = (cell_of (network_of h.declared) step ≡ machine_cell at) × (length h.steps < limit) × (0 < k.room) × IsWithSteps h h.steps k
+HasRoom h at limit step (Err fault) k = AddsAt h at limit step (Err fault) k

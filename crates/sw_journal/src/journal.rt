@@ -1,6 +1,6 @@
 //! The journal.
 ghost use Rattle.std.specs.Prelude.{◌≡◌, ◌≤◌, length};
-ghost use Rattle.sw_journal.specs.Adding.{AddsAt, IsAtCell};
+ghost use Rattle.sw_journal.specs.Adding.{AddsAt, HasRoom, IsAtCell};
 ghost use Rattle.sw_machine.specs.StepValues.{machine_step};
 
 use crate::cell::Cell;
@@ -193,6 +193,35 @@ fn is_at(network: &Network, at: CellId, step: &Step) -> bool
     }
 }
 
+// Whether the step is one of the cell's and there is room for it below the limit. Where there is
+// none, whether it may be the next.
+#[inline(always)]
+fn make_room(
+    history: &mut History<'_, SwitchRoutes<'_>, Policy>,
+    at: CellId,
+    limit: usize,
+    step: &Step,
+) -> Result<(), JournalFault>
+    requires { length history.old.steps ≤ limit }
+    ensures { HasRoom history.old at limit (machine_step step.now) result history.new }
+{
+    if !is_at(history.network(), at, step) {
+        return Err(JournalFault::NotEnabled);
+    }
+    let full = if history.len() == limit {
+        JournalFault::Full
+    } else if history.reserve().is_err() {
+        JournalFault::Memory
+    } else {
+        return Ok(());
+    };
+    if history.may_follow(step) {
+        Err(full)
+    } else {
+        Err(JournalFault::NotEnabled)
+    }
+}
+
 // Adds the step, if it is one of the cell's, may be the next, and there is room below the limit.
 #[inline(always)]
 fn add_at(
@@ -205,20 +234,8 @@ fn add_at(
     requires { length history.old.steps ≤ limit }
     ensures adds { AddsAt history.old at limit (machine_step step) result history.new }
 {
-    if !is_at(history.network(), at, &step) {
-        return Err(JournalFault::NotEnabled);
-    }
-    if history.len() == limit {
-        if history.may_follow(&step) {
-            return Err(JournalFault::Full);
-        }
-        return Err(JournalFault::NotEnabled);
-    }
-    if history.reserve().is_err() {
-        if history.may_follow(&step) {
-            return Err(JournalFault::Memory);
-        }
-        return Err(JournalFault::NotEnabled);
+    if let Err(fault) = make_room(history, at, limit, &step) {
+        return Err(fault);
     }
     match history.add(alloc, step) {
         Ok(()) => Ok(()),

@@ -5,64 +5,51 @@ ghost use Rattle.sw_schedule.specs.Kept.{plain_step};
 ghost use Rattle.sw_schedule.specs.Lines.{at_channel, at_node, begin_of, channel_of, grant_of, is_skipped, node_of, repeated_of, step_of, words_of};
 
 use crate::cargo::cargo_of;
-use crate::names::{channel_of, count_of, end_of, flow_of, node_of};
-use crate::schedule_entry::{Beginning, Plain, ScheduleEntry};
+use crate::names::{channel_of, count_of, end_of, flow_of, is_word, node_of};
+use crate::schedule_entry::{Plain, ScheduleEntry};
 use std::alloc::{AllocError, Global};
 use sw_config::Network;
 use sw_text::cut;
-use sw_topo::Chan;
 
-/// A step at one channel.
-fn at_channel(verb: &[u8], channel: Chan) -> Option<Plain>
-    ensures { option_map plain_step result ≡ at_channel verb.now channel }
+/// A step at the channel of that number.
+fn at_channel(network: &Network, verb: &[u8], place: &[u8]) -> Option<Plain>
+    ensures { option_map plain_step result ≡ option_and_then (at_channel verb.now) (channel_of network.now place.now) }
 {
-    if verb == b"fct".as_slice() {
+    let Some(channel) = channel_of(network, place) else {
+        return None;
+    };
+    if is_word(verb, b"fct") {
         Some(Plain::Fct(channel))
-    } else if verb == b"fctin".as_slice() {
+    } else if is_word(verb, b"fctin") {
         Some(Plain::FctIn(channel))
-    } else if verb == b"arrive".as_slice() {
+    } else if is_word(verb, b"arrive") {
         Some(Plain::Arrive(channel))
-    } else if verb == b"drop".as_slice() {
+    } else if is_word(verb, b"drop") {
         Some(Plain::Drop(channel))
-    } else if verb == b"forward".as_slice() {
+    } else if is_word(verb, b"forward") {
         Some(Plain::Forward(channel))
-    } else if verb == b"spill".as_slice() {
+    } else if is_word(verb, b"spill") {
         Some(Plain::Spill(channel))
     } else {
         None
     }
 }
 
-/// A step at a node.
-fn at_node(verb: &[u8], node: u16) -> Option<Plain>
-    ensures { option_map plain_step result ≡ at_node verb.now node }
+/// A step at the node of that name.
+fn at_node(network: &Network, verb: &[u8], place: &[u8]) -> Option<Plain>
+    ensures { option_map plain_step result ≡ option_and_then (at_node verb.now) (node_of network.now place.now) }
 {
-    if verb == b"emit".as_slice() {
+    let Some(node) = node_of(network, place) else {
+        return None;
+    };
+    if is_word(verb, b"emit") {
         Some(Plain::Emit(node))
-    } else if verb == b"accept".as_slice() {
+    } else if is_word(verb, b"accept") {
         Some(Plain::Accept(node))
-    } else if verb == b"reply".as_slice() {
+    } else if is_word(verb, b"reply") {
         Some(Plain::Reply(node))
     } else {
         None
-    }
-}
-
-fn of_channel(network: &Network, verb: &[u8], place: &[u8]) -> Option<Plain>
-    ensures { option_map plain_step result ≡ option_and_then (at_channel verb.now) (channel_of network.now place.now) }
-{
-    match channel_of(network, place) {
-        Some(channel) => at_channel(verb, channel),
-        None => None,
-    }
-}
-
-fn of_node(network: &Network, verb: &[u8], place: &[u8]) -> Option<Plain>
-    ensures { option_map plain_step result ≡ option_and_then (at_node verb.now) (node_of network.now place.now) }
-{
-    match node_of(network, place) {
-        Some(node) => at_node(verb, node),
-        None => None,
     }
 }
 
@@ -70,9 +57,9 @@ fn of_node(network: &Network, verb: &[u8], place: &[u8]) -> Option<Plain>
 fn of_place(network: &Network, verb: &[u8], place: &[u8]) -> Option<Plain>
     ensures { option_map plain_step result ≡ step_of network.now (verb.now ∷ place.now ∷ []) }
 {
-    match of_channel(network, verb, place) {
+    match at_channel(network, verb, place) {
         Some(step) => Some(step),
-        None => of_node(network, verb, place),
+        None => at_node(network, verb, place),
     }
 }
 
@@ -80,7 +67,7 @@ fn of_place(network: &Network, verb: &[u8], place: &[u8]) -> Option<Plain>
 fn grant_of(network: &Network, verb: &[u8], output: &[u8], input: &[u8]) -> Option<Plain>
     ensures { option_map plain_step result ≡ grant_of network.now verb.now output.now input.now }
 {
-    if verb != b"grant".as_slice() {
+    if !is_word(verb, b"grant") {
         return None;
     }
     let Some(output) = channel_of(network, output) else {
@@ -114,7 +101,7 @@ fn begin_entry(
 ) -> Result<Option<ScheduleEntry>, AllocError>
     ensures { IfOk result (λ o. o ≡ option_map (λ s. record { count = count; step = s }) (begin_of network.now verb.now flow.now end.now cargo.now)) }
 {
-    if verb != b"begin".as_slice() {
+    if !is_word(verb, b"begin") {
         return Ok(None);
     }
     let Some(flow) = flow_of(network, flow) else {
@@ -123,13 +110,7 @@ fn begin_entry(
     let Some(end) = end_of(end) else {
         return Ok(None);
     };
-    match cargo_of(alloc, cargo)? {
-        Some(cargo) => {
-            let step = Beginning { flow, cargo, end };
-            Ok(Some(ScheduleEntry::with_cargo(alloc, count, step)?))
-        }
-        None => Ok(None),
-    }
+    ScheduleEntry::begin(alloc, count, flow, end, cargo_of(alloc, cargo)?)
 }
 
 /// The entry of the step that the words of a text write, if they write one, which is made so many times.

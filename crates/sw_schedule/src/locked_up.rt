@@ -2,7 +2,7 @@
 ghost use Rattle.std.specs.Prelude.{◌≡◌, All, IfOk, option_map};
 ghost use Rattle.sw_net.specs.Places.{IsIn};
 ghost use Rattle.sw_net.specs.New.{IsNewNet};
-ghost use Rattle.sw_schedule.specs.Locked.{ArePartsOfNet, TellsLocked, TellsLockedAt, TellsLockedParts, cells_of};
+ghost use Rattle.sw_schedule.specs.Locked.{ArePartsOfNet, TellsLocked, TellsLockedAt, cells_of};
 
 use crate::made_steps::make_all;
 use crate::replay_report::is_locked_up;
@@ -44,21 +44,7 @@ fn parts(alloc: Global, net: &Net<'_, SwitchRoutes<'_>, Policy>) -> Result<Vec<P
     Ok(all)
 }
 
-/// What each cell has, if the network is locked up.
-fn locked_parts(
-    alloc: Global,
-    net: &Net<'_, SwitchRoutes<'_>, Policy>,
-) -> Result<Option<Vec<Part>>, AllocError>
-    ensures { IfOk result (λ o. TellsLockedParts net.now (option_map (λ all. all.items) o)) }
-{
-    if is_locked_up(net, net.undelivered()) {
-        Ok(Some(parts(alloc, net)?))
-    } else {
-        Ok(None)
-    }
-}
-
-/// The same where all steps were made, and none where one was refused.
+/// What each cell has, if all steps were made and the network is locked up.
 fn parts_at(
     alloc: Global,
     net: &Net<'_, SwitchRoutes<'_>, Policy>,
@@ -67,7 +53,13 @@ fn parts_at(
     ensures { IfOk result (λ o. TellsLockedAt net.now outcome (option_map (λ all. all.items) o)) }
 {
     match outcome {
-        ReplayEnd::Made(_) => locked_parts(alloc, net),
+        ReplayEnd::Made(_) => {
+            if is_locked_up(net, net.undelivered()) {
+                Ok(Some(parts(alloc, net)?))
+            } else {
+                Ok(None)
+            }
+        }
         ReplayEnd::Refused(_, _) => Ok(None),
     }
 }

@@ -1,7 +1,6 @@
 //! What single words of a schedule's line name.
-ghost use Rattle.std.specs.Prelude.{◌≡◌, ◌<◌, ◌*◌, false, true, length, map, position, IfNone, IfSome};
+ghost use Rattle.std.specs.Prelude.{◌≡◌, ◌<◌, ◌*◌, false, true, length, map, IfNone, IfSome};
 ghost use Rattle.std.specs.Str.{bytes_eq, is_utf8};
-ghost use Rattle.sw_config.specs.Entries.{flow_names};
 ghost use Rattle.sw_schedule.specs.Lines.{channel_of, count_of, end_of, flow_of, node_of};
 
 use std::str;
@@ -12,6 +11,13 @@ use sw_topo::Chan;
 
 /// How often a line of a schedule may have its step.
 pub const MAX_COUNT: u32 = 100_000;
+
+/// Whether the word is that one.
+pub(crate) fn is_word(word: &[u8], other: &[u8]) -> bool
+    ensures { result ≡ bytes_eq word.now other.now }
+{
+    word == other
+}
 
 /// The channel of that number, if the network has one.
 pub(crate) fn channel_of(network: &Network, word: &[u8]) -> Option<Chan>
@@ -47,24 +53,21 @@ pub(crate) fn node_of(network: &Network, word: &[u8]) -> Option<u16>
     }
 }
 
-/// The number of the declared flow of that name.
-fn declared_flow(network: &Network, name: &str) -> Option<u16>
-    ensures { result ≡ position (bytes_eq name.now) (flow_names network.now.flows) }
-{
-    let flow = network.flow_named(name)?;
-    if flow < network.declared_flows() {
-        Some(flow)
-    } else {
-        None
-    }
-}
-
 /// The declared flow of that name.
 pub(crate) fn flow_of(network: &Network, word: &[u8]) -> Option<u16>
     ensures { result ≡ flow_of network.now word.now }
 {
-    match text_of(word) {
-        Some(name) => declared_flow(network, name),
+    let Some(name) = text_of(word) else {
+        return None;
+    };
+    match network.flow_named(name) {
+        Some(flow) => {
+            if flow < network.declared_flows() {
+                Some(flow)
+            } else {
+                None
+            }
+        }
         None => None,
     }
 }
@@ -73,9 +76,9 @@ pub(crate) fn flow_of(network: &Network, word: &[u8]) -> Option<u16>
 pub(crate) fn end_of(word: &[u8]) -> Option<End>
     ensures { result ≡ end_of word.now }
 {
-    if word == b"EOP".as_slice() {
+    if is_word(word, b"EOP") {
         Some(End::Eop)
-    } else if word == b"EEP".as_slice() {
+    } else if is_word(word, b"EEP") {
         Some(End::Eep)
     } else {
         None

@@ -3,7 +3,7 @@
 use sw_char::Packet;
 
 /// Why a step is refused.
-#[derive(Clone, Copy, PartialEq, Eq)]
+#[derive(Clone, Copy)]
 pub enum StepRefusal {
     /// It is not possible in the state that the steps before it lead to.
     NotEnabled,
@@ -12,7 +12,7 @@ pub enum StepRefusal {
 }
 
 /// How far the steps were made.
-#[derive(Clone, Copy, PartialEq, Eq)]
+#[derive(Clone, Copy)]
 pub enum ReplayEnd {
     /// All of them were made, so many.
     Made(u32),

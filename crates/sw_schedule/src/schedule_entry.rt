@@ -1,6 +1,7 @@
 //! A step of a schedule, and how many times it is made.
-ghost use Rattle.std.specs.Prelude.{◌≡◌, IfOk};
-ghost use Rattle.sw_schedule.specs.Kept.{begin_step, plain_step};
+ghost use Rattle.std.specs.Prelude.{◌≡◌, IfOk, option_map};
+ghost use Rattle.sw_schedule.specs.Kept.{cargo_bytes, plain_step};
+ghost use Rattle.sw_machine.specs.Steps.{Begin};
 ghost use Rattle.sw_machine.specs.StepValues.{machine_step};
 
 use crate::cargo::Cargo;
@@ -82,16 +83,25 @@ impl ScheduleEntry {
         }
     }
 
-    pub(crate) fn with_cargo(
+    /// The entry of a step that begins a packet, if there is cargo.
+    pub(crate) fn begin(
         alloc: Global,
         count: u32,
-        step: Beginning,
-    ) -> Result<ScheduleEntry, AllocError>
-        ensures { IfOk result (λ e. e ≡ record { count = count; step = begin_step step }) }
+        flow: u16,
+        end: End,
+        cargo: Option<Cargo>,
+    ) -> Result<Option<ScheduleEntry>, AllocError>
+        ensures { IfOk result (λ o. o ≡ option_map (λ s. record { count = count; step = s }) (option_map (λ bytes. Begin flow bytes end) (option_map cargo_bytes cargo))) }
     {
-        Ok(ScheduleEntry {
-            packed: Packed::WithCargo(count, Box::new(alloc, step)?),
-        })
+        match cargo {
+            Some(cargo) => {
+                let step = Box::new(alloc, Beginning { flow, cargo, end })?;
+                Ok(Some(ScheduleEntry {
+                    packed: Packed::WithCargo(count, step),
+                }))
+            }
+            None => Ok(None),
+        }
     }
 
     /// How many times the step is made: 1 to 100,000 in a schedule that was read.

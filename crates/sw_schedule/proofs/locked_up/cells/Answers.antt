@@ -1,4 +1,4 @@
-use Rattle.std.proofs.Common.{◌<◌, List, arith, length, map, subst, sym}
+use Rattle.std.proofs.Common.{◌<◌, ◌≡◌, ◌++◌, ◌∙◌, List, ap, append-nil, arith, length, map, subst, sym}
 use Rattle.std.proofs.lemmas.List.Elements.{All-push}
 use Rattle.std.specs.List.{All, range_with_len}
 use Rattle.sw_net.specs.Places.{IsIn}
@@ -28,3 +28,21 @@ loop-w-preserved c =
       cells = one_more_behind Switch (map Node (range_with_len 0 (length d.nodes))) all c.push-in-loop-w.new.self.items c.loop-w.w c.loop-w.invariant.cells is;
       inside = subst (λ (l : List CellId). All (IsIn d) l) (sym is) (All-push (IsIn d) all (Switch c.loop-w.w) c.loop-w.invariant.inside inside);
     }
+
+pub loop-w-init : goal.loop-w-init
+loop-w-init c =
+    let d = c.args.network.now in
+    let is : c.loop-n.n ≡ length d.nodes = omega (arith, c.loop-n-test.false, c.loop-n.auto.n-end, c.nodes-n-end.ensures.count) in
+    record {
+      cells = c.loop-n.invariant.cells ∙ ap (λ k. map Node (range_with_len 0 k)) is ∙ sym (append-nil (map Node (range_with_len 0 (length d.nodes))));
+      inside = c.loop-n.invariant.inside;
+    }
+
+pub returns-clause-cells : goal.returns-clause-cells
+returns-clause-cells c =
+    let d = c.args.network.now in
+    let is : c.loop-w.w ≡ length d.switches = omega (arith, c.loop-w-test.false, c.loop-w.auto.w-end, c.switches-w-end.ensures.count) in
+    c.loop-w.invariant.cells ∙ ap (λ k. map Node (range_with_len 0 (length d.nodes)) ++ map Switch (range_with_len 0 k)) is
+
+pub returns-clause-inside : goal.returns-clause-inside
+returns-clause-inside c = c.loop-w.invariant.inside

@@ -1,10 +1,10 @@
-use Rattle.std.proofs.Common.{◌≡◌, ◌++◌, ℕ, List, subst}
-use Rattle.std.specs.Result.{OnOk}
-use Rattle.sw_flow.proofs.Walked.{followers_numbered}
+use Rattle.std.proofs.Common.{◌∙◌, ◌+◌, ◌*◌, length}
+use Rattle.sw_flow.specs.Numbers.{next_numbers}
+use Rattle.sw_flow.proofs.Walked.{all_pushed, followers_numbered}
 use Rattle.sw_flow.proofs.steps.FlowStepsSteps.push_next.Goals as goal
 
 pub returns : goal.returns
 returns c =
-    subst (λ (numbers : List ℕ). OnOk c.push_numbers.result (c.push_numbers.new.to.items ≡ c.args.to.now.items ++ numbers))
-    (followers_numbered c.args.self.now.network.now c.args.self.now.flow.now c.args.number c.address.result.now c.place_of-place.result c.followers_in.result c.address.ensures c.place_of-place.ensures c.followers_in.ensures)
-    c.push_numbers.ensures
+    all_pushed (λ p. p.channel * (length c.address.result.now + 1) + p.deleted) c.loop-place.to.items c.args.to.now.items c.loop-place.place-iterator c.into_iter-place-iterator.result (next_numbers c.args.self.now.network.now c.args.self.now.flow.now c.args.number)
+    c.loop-place.invariant c.in-None.ensures.steps.0
+    (followers_numbered c.args.self.now.network.now c.args.self.now.flow.now c.args.number c.address.result.now c.place_of-at.result c.into_iter-place-iterator.result c.address.ensures c.place_of-at.ensures (c.into_iter-place-iterator.ensures.into_iter_gives ∙ c.followers_in-place-items.ensures))

@@ -1,5 +1,5 @@
 use Rattle.std.proofs.Common.{◌≡◌, ◌+◌, ◌*◌, ◌++◌, map}
-use Rattle.sw_flow.proofs.steps.push_numbers.Given as goal
+use Rattle.sw_flow.proofs.steps.FlowStepsSteps.push_next.Given as goal
 
 abbrev pub invariant-loop-place : goal.invariant-loop-place
 invariant-loop-place l =
