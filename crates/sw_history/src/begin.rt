@@ -13,24 +13,6 @@ use sw_load::{LoadPacket, Senders};
 use sw_net::{Net, NetFault};
 use sw_route::Routing;
 
-/// Whether the node, which has begun so many of its packets, can begin its next.
-fn is_ready<R: Routing, A: Arbiter>(
-    net: &Net<'_, R, A>,
-    senders: &Senders<'_>,
-    node: u16,
-    begun: u32,
-) -> bool
-    requires packets { AreDeclared net.now.declared senders.now.load }
-    requires network { senders.now.declared ≡ net.now.declared }
-    requires node { node < length net.now.declared.nodes }
-    ensures { IsReady senders.now.load net.now node begun result }
-{
-    if !net.can_begin(node) {
-        return false;
-    }
-    senders.packet(node, begun).is_some()
-}
-
 /// A node that can begin its next packet.
 fn find_ready<R: Routing, A: Arbiter>(
     net: &Net<'_, R, A>,
@@ -45,7 +27,10 @@ fn find_ready<R: Routing, A: Arbiter>(
     ensures none { IfNone result (NoneIsReady senders.now.load net.now begun.now) }
 {
     for node in 0..net.network().nodes() {
-        if is_ready(net, senders, node, begun[node as usize]) {
+        if !net.can_begin(node) {
+            continue;
+        }
+        if senders.packet(node, begun[node as usize]).is_some() {
             return Some(node);
         }
     }

@@ -1,5 +1,6 @@
-use Rattle.std.proofs.Common.{List, ap, arith, false, refl, rules, subst, sym, true, ◌∙◌, ◌≡◌}
+use Rattle.std.proofs.Common.{List, ap, refl, subst, sym, ◌∙◌}
 use Rattle.sw_history.proofs.Loop.{finished, never_over, new_way, one_moved, under_way}
+use Rattle.sw_history.proofs.Ready.{all_counted}
 use Rattle.sw_history.proofs.Turned.{begun_turn, moved_turn, no_turn, turned}
 use Rattle.sw_history.proofs.draining.send_all.Goals as goal
 use Rattle.sw_history.specs.Way.{BeginsOne, MovesOne}
@@ -35,7 +36,7 @@ returns-then-not-branch-clause-drained g c =
     let v = c.loop.net in
     let u = c.begin_one.new.net in
     let begins = subst (λ k. BeginsOne load v c.loop.begun k u c.begin_one.new.begun) c.if-branch.false c.in_ok-begin_one.ensures.begins in
-    let no : c.in_ok-move_picked.field-0 ≡ false = search rules in
+    let no = c.if-not-branch.true in
     let picked = c.in_ok-move_picked.ensures.moves in
     let stops = subst (λ k. MovesOne u picked.index k c.move_picked.new.net) no picked.moved in
     finished load v u c.move_picked.new.net c.loop.begun c.begin_one.new.begun c.loop.counter c.loop.moves begins c.loop.invariant.1 d c.loop.invariant.0 valid c.requires.packets cert free picked.index stops
@@ -46,7 +47,7 @@ loop-preserved g c =
     let v = c.loop.net in
     let u = c.begin_one.new.net in
     let begins = subst (λ k. BeginsOne load v c.loop.begun k u c.begin_one.new.begun) c.if-branch.false c.in_ok-begin_one.ensures.begins in
-    let yes : c.in_ok-move_picked.field-0 ≡ true = search rules in
+    let yes = c.if-not-branch.false in
     let picked = c.in_ok-move_picked.ensures.moves in
     let moves = subst (λ k. MovesOne u picked.index k c.move_picked.new.net) yes picked.moved in (
       c.move_picked.ensures.network ∙ c.begin_one.ensures.network ∙ c.loop.invariant.0,
@@ -89,7 +90,7 @@ returns-then-not-branch-clause-turns g c =
     let v = c.loop.net in
     let u = c.begin_one.new.net in
     let begins = subst (λ k. BeginsOne load v c.loop.begun k u c.begin_one.new.begun) c.if-branch.false c.in_ok-begin_one.ensures.begins in
-    let no : c.in_ok-move_picked.field-0 ≡ false = search rules in
+    let no = c.if-not-branch.true in
     let picked = c.in_ok-move_picked.ensures.moves in
     let stops = subst (λ k. MovesOne u picked.index k c.move_picked.new.net) no picked.moved in
     (c.loop.begun, c.loop.pick, turned load _ c.args.net.now c.args.pick.now v c.move_picked.new.net c.loop.begun c.loop.pick c.loop.invariant.2 (stops.0 ∙ begins.0))
@@ -101,9 +102,7 @@ unreachable-requires g c =
     let valid = c.network.ensures.sound.valid in
     let cert = c.is_deadlock_free.ensures.0 in
     let free = subst (λ (e : Declaration). IsDeadlockFree (network_of e) cert) c.requires.passed c.is_deadlock_free.ensures.2 in
-    let past = c.loop-test.false in
-    let end = c.loop.auto.counter-end in
-    let over : c.loop.counter ≡ c.enough_limit-end.result = omega arith in
+    let over = all_counted c.loop.counter c.enough_limit-end.result c.enough_limit-end.result c.loop-test.false c.loop.auto.counter-end refl in
     never_over load c.loop.net c.loop.begun c.loop.counter c.loop.moves c.loop.invariant.1 d c.loop.invariant.0 valid c.requires.packets cert free
     (over ∙ c.enough_limit-end.ensures ∙ ap (λ l. enough_limit (network_of c.network.result.now) (packets_of l)) c.load.ensures ∙ ap (λ (e : Declaration). enough_limit (network_of e) (packets_of load)) c.network.ensures.network)
 

@@ -1,5 +1,6 @@
-use Rattle.std.proofs.Common.{ap, arith, false, length, subst, true, ◌*◌, ◌+◌, ◌≡◌}
+use Rattle.std.proofs.Common.{ap, arith, false, length, subst, true, ◌*◌, ◌+◌, ◌∙◌, ◌≡◌}
 use Rattle.sw_history.proofs.Enabled.{none_below, one_more}
+use Rattle.sw_history.proofs.Ready.{add_none, all_counted}
 use Rattle.sw_history.proofs.moves.count_enabled.Goals as goal
 use Rattle.sw_history.proofs.moves.count_enabled.Goals.{else-enabled, then-enabled}
 use Rattle.sw_history.specs.Enabled.{CanStepBelow}
@@ -17,18 +18,15 @@ loop-number-preserved g c =
     let below = c.loop-number.invariant.1 in
     let few = c.loop-number.invariant.0 in
     let here = subst (λ k. CanStep v k c.enabled.result) c.new.ensures c.enabled.ensures in
-    let same : count + 0 ≡ count = omega arith in
+    let same = add_none count in
     elim c.if-enabled.branch [
-      | then-enabled w ↦ rw w.count-is (omega arith, one_more v n count true (subst (CanStep v n) w.if-enabled.true here) below)
-      | else-enabled w ↦ rw w.count-is (omega arith, subst (CanStepBelow v (n + 1)) same (one_more v n count false (subst (CanStep v n) w.if-enabled.false here) below))
+      | then-enabled w ↦ rw w.count-is (omega (arith, few), one_more v n count true (subst (CanStep v n) w.if-enabled.true here) below)
+      | else-enabled w ↦ rw w.count-is (omega (arith, few), subst (CanStepBelow v (n + 1)) same (one_more v n count false (subst (CanStep v n) w.if-enabled.false here) below))
     ]
 
 pub returns : goal.returns
 returns g c =
     let v = c.args.net.now in
-    let past = c.loop-number-test.false in
-    let end = c.loop-number.auto.number-end in
-    let count = c.channels-number-end.ensures.count in
-    let same = ap (λ (d : Declaration). length d.links) c.network.ensures.network in
-    let all : c.loop-number.number ≡ 2 * length v.declared.links = omega arith in
+    let all = all_counted c.loop-number.number c.channels-number-end.result (2 * length v.declared.links) c.loop-number-test.false c.loop-number.auto.number-end
+    (c.channels-number-end.ensures.count ∙ ap (λ (d : Declaration). 2 * length d.links) c.network.ensures.network) in
     subst (λ k. CanStepBelow v k c.loop-number.count) all c.loop-number.invariant.1

@@ -1,5 +1,6 @@
-use Rattle.std.proofs.Common.{ap, arith, false, length, subst, sym, true, ◌*◌, ◌+◌, ◌≡◌}
+use Rattle.std.proofs.Common.{ap, arith, false, length, subst, sym, true, ◌*◌, ◌+◌, ◌∙◌, ◌≡◌}
 use Rattle.sw_history.proofs.Enabled.{none_below, one_more}
+use Rattle.sw_history.proofs.Ready.{add_none, all_counted}
 use Rattle.sw_history.proofs.moves.nth_enabled.Goals as goal
 use Rattle.sw_history.proofs.moves.nth_enabled.Goals.{else-enabled, then-enabled+else-before-index}
 use Rattle.sw_history.specs.Enabled.{CanStepBelow}
@@ -23,18 +24,15 @@ loop-number-preserved g c =
     let few = c.loop-number.invariant.0 in
     let small = c.loop-number.invariant.1 in
     let here = subst (λ k. CanStep v k c.enabled.result) c.new-end.ensures c.enabled.ensures in
-    let same : before + 0 ≡ before = omega arith in
+    let same = add_none before in
     elim c.if-enabled.branch [
-      | then-enabled+else-before-index w ↦ let other = w.if-before-index.false in rw w.before-is (omega arith, omega arith, one_more v n before true (subst (CanStep v n) w.if-enabled.true here) below)
-      | else-enabled w ↦ rw w.before-is (omega arith, omega arith, subst (CanStepBelow v (n + 1)) same (one_more v n before false (subst (CanStep v n) w.if-enabled.false here) below))
+      | then-enabled+else-before-index w ↦ let other = w.if-before-index.false in rw w.before-is (omega (arith, few, small, other), omega (arith, few, small, other), one_more v n before true (subst (CanStep v n) w.if-enabled.true here) below)
+      | else-enabled w ↦ rw w.before-is (omega (arith, few, small), omega (arith, few, small), subst (CanStepBelow v (n + 1)) same (one_more v n before false (subst (CanStep v n) w.if-enabled.false here) below))
     ]
 
 pub returns-clause-nth : goal.returns-clause-nth
 returns-clause-nth g c =
     let v = c.args.net.now in
-    let past = c.loop-number-test.false in
-    let end = c.loop-number.auto.number-end in
-    let count = c.channels-number-end.ensures.count in
-    let same = ap (λ (d : Declaration). length d.links) c.network.ensures.network in
-    let all : c.loop-number.number ≡ 2 * length v.declared.links = omega arith in
+    let all = all_counted c.loop-number.number c.channels-number-end.result (2 * length v.declared.links) c.loop-number-test.false c.loop-number.auto.number-end
+    (c.channels-number-end.ensures.count ∙ ap (λ (d : Declaration). 2 * length d.links) c.network.ensures.network) in
     (c.loop-number.before, subst (λ k. CanStepBelow v k c.loop-number.before) all c.loop-number.invariant.2, c.loop-number.invariant.0)
