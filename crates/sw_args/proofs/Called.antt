@@ -1,6 +1,6 @@
 -- Words at which clap meets no fault are a call.
-use Rattle.std.proofs.Common.{◌≡◌, ◌∙◌, ◌∷◌, ◌||◌, Bool, Bor, List, Option, Some, None, [], true, false, true≢false, refl, sym, codes, is_some}
-use Rattle.std.specs.Prelude.{IfNone, IsSome, find, option_map}
+use Rattle.std.proofs.Common.{◌≡◌, ◌∙◌, ◌∷◌, ◌||◌, Bool, Bor, List, Option, Some, None, [], true, false, true≢false, refl, subst, sym, codes, is_some}
+use Rattle.std.specs.Prelude.{find, option_map}
 use Rattle.std.specs.List.{list_any}
 use Rattle.std.specs.Option.{option_map_or}
 use Rattle.std.specs.Str.{bytes_eq}
@@ -9,16 +9,12 @@ use Rattle.clap.specs.Faults.{built_fault, check_fault, defaults_fault, entered_
 use Rattle.clap.specs.Kinds.{check_kinds}
 use Rattle.clap.specs.Simple.{App, Shape, argument_words, built, entered, label_of, names_of, rows_at, subcommand_of}
 use Rattle.clap.specs.Walk.{Row, Text, answers_to, finished, first_of, nothing_held, rows_after, settled, stop_after, walk, walk_from}
-use Rattle.sw_args.specs.CommandLine.{IsCallOf, IsMet, IsSet, swcheck_app}
-use Rattle.sw_args.specs.declared.call.Call.{Call}
+use Rattle.sw_args.specs.CommandLine.{HasCall, MeetsCall, IsSet, swcheck_app}
 use Rattle.sw_args.specs.declared.call.Call.TheVariants.{Route, Decide, Check, Report, Replay, Run, Migrate, Explain, Draw, Rmap, Mend, Margin, Witness, Audit, Init}
 use Rattle.sw_args.proofs.Kept.{Each, first_none, found_in, then_none}
 use Rattle.sw_args.proofs.Given.{answer_given, answer_rules, audit_rules, draw_given, draw_rules, file_given, file_rules, flag_given, flag_rules, init_rules, leaf, pair_given, pair_rules, rmap_given, rmap_rules, run_given, run_rules, witness_given, witness_rules}
 use Rattle.sw_args.proofs.Flags.{some_flag}
 use Rattle.sw_args.proofs.Named.{NotAtHelp, not_at_help}
-
-abbrev HasCall : Text → List Row → Type 0
-HasCall name rows = (call : Call) × IsCallOf name rows call
 
 -- a subcommand other than `help` at whose words there is no fault is a call
 abbrev GivesCall : Shape → Type 0
@@ -195,7 +191,7 @@ no_help s named none name is other words e = go s.aliases none is
     go (x ∷ xs) empty f = absurd cc
 
 pub called : (words : List Text) → fault_of swcheck_app words ≡ []
-    → (call : Call) × (values : List Row) × IsMet (subcommand_of swcheck_app words) call values
+    → MeetsCall (subcommand_of swcheck_app words)
 called words e =
     let found = found_call (built swcheck_app) (argument_words swcheck_app words) refl refl (
       route_call,
@@ -225,9 +221,5 @@ called words e =
     (found.3.0, found.1, (found.0, found.2, found.3.1))
 
 -- what was matched is a call where the words are one
-pub matched : {M : Type 0} (found : Option (Text × List Row)) (words : List Text) (o : Option M) → found ≡ subcommand_of swcheck_app words
-    → fault_of swcheck_app words ≡ [] → IfNone o ((call : Call) (values : List Row) → IsMet found call values → ⊥) → IsSome o
-matched found words (Some met) same e none = refl
-matched found words None same e none =
-    let is = called words e in
-    absurd (none is.0 is.1 (rw same is.2))
+pub matched : (found : Option (Text × List Row)) (words : List Text) → found ≡ subcommand_of swcheck_app words → fault_of swcheck_app words ≡ [] → MeetsCall found
+matched found words same e = subst MeetsCall (sym same) (called words e)

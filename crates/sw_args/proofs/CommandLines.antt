@@ -1,25 +1,23 @@
 -- What clap's matches say of the words.
-use Rattle.std.proofs.Common.{◌≡◌, ◌||◌, ◌+◌, ◌<◌, Bor, List, ℕ, [], Option, codes, refl, sym, ap, ◌∙◌, subst, true, false, inl, inr, length, take, get_or}
+use Rattle.std.proofs.Common.{◌≡◌, ◌∷◌, ◌||◌, ◌+◌, ◌-◌, ◌<◌, Fits, w64, Bor, List, ℕ, [], Option, arith, refl, sym, ap, ◌∙◌, subst, true, false, inl, inr, length, take, get_or, zero, suc}
 use Rattle.std.proofs.lemmas.List.Sums.{fold_more}
-use Rattle.std.specs.Prelude.{IfErr, IfOk, IfSome, Result, Ok, Err, Some, None, option_map}
+use Rattle.std.specs.Prelude.{IfErr, IfOk, IsSome, Result, Ok, Err, Some, None, option_map, slice_get}
 use Rattle.std.specs.Option.{unwrap_or}
 use Rattle.clap.specs.Built.{AddsArg, AddsSubcommand}
 use Rattle.clap.specs.Simple.{app_of_fields, with_rule, with_subcommand}
-use Rattle.clap.specs.Words.{App, Row, Rule, app_of, rule_of, HasKind, HasMatchesOf, fault_of, is_simple, is_simple_and_free, kind_of, subcommand_name_of, subcommand_of, subcommand_rows_of}
+use Rattle.clap.specs.Words.{App, Row, Rule, app_of, rule_of, FailsBy, HasKind, HasMatchesOf, fault_of, is_simple, is_simple_and_free, kind_of, subcommand_of}
 use Rattle.clap.specs.declared.builder.Arg.{Arg}
 use Rattle.clap.specs.declared.builder.Command.{Command}
 use Rattle.clap.specs.declared.builder.Command.TheViews.{out-Command}
 use Rattle.clap.specs.declared.builder.command.Command.TheOpen.{Command-F}
 use Rattle.clap.specs.declared.parser.matches.ArgMatches.{ArgMatches}
-use Rattle.clap.specs.declared.parser.matches.ArgMatches.TheViews.{out-ArgMatches}
 use Rattle.clap.specs.declared.error.Error.{Error}
 use Rattle.sw_args.specs.declared.call.Asked.{Asked}
-use Rattle.sw_args.specs.declared.call.Call.{Call}
 use Rattle.sw_args.specs.declared.call.WordsFault.{WordsFault}
 use Rattle.sw_args.specs.declared.parts.Subcommand.{Subcommand}
 use Rattle.sw_args.specs.declared.call.WordsFault.TheVariants.{Help, Refused, Memory}
-use Rattle.sw_args.specs.Parts.{Part, part_rule, subcommand_app, with_parts, with_subcommands}
-use Rattle.sw_args.specs.CommandLine.{swcheck_app, AreAll, Gives, IsCallOf, IsMade, IsMet, IsOf, IsOption, IsToldAs, Refuses}
+use Rattle.sw_args.specs.Parts.{HasFound, Part, part_rule, subcommand_app, subcommand_apps, with_parts, with_subcommands}
+use Rattle.sw_args.specs.CommandLine.{swcheck_app, top_app, Gives, HasCall, IsCallOf, IsMade, IsMatched, IsOf, IsToldAs, MeetsCall, Refuses}
 
 swcheck_simple : is_simple swcheck_app ≡ true
 swcheck_simple = refl
@@ -27,14 +25,21 @@ swcheck_simple = refl
 swcheck_free : is_simple_and_free swcheck_app ≡ true
 swcheck_free = refl
 
--- the matches have the words' subcommand, where clap's fault of the words is none
-pub matched_rows : (app : App) (words : List (List ℕ)) (m : ArgMatches) → app ≡ swcheck_app → HasMatchesOf app words m
-    → (is_simple_and_free app ≡ true → fault_of app words ≡ []) → (subcommand_rows_of m ≡ subcommand_of swcheck_app words) × (fault_of swcheck_app words ≡ [])
-matched_rows app words m is found free =
+-- clap's own answer to the words is one of the whole command line
+pub found_words : (app : App) (words : List (List ℕ)) (r : Result ArgMatches Error) → app ≡ swcheck_app → IfOk r (HasMatchesOf app words)
+    → (is_simple_and_free app ≡ true → FailsBy (fault_of app words) r) → IfOk r (HasFound words)
+found_words app words (Ok m) is found free =
     let simple : is_simple app ≡ true = ap is_simple is ∙ swcheck_simple in (
       (found simple).1 ∙ ap (λ (a : App). subcommand_of a words) is,
       ap (λ (a : App). fault_of a words) (sym is) ∙ free (ap is_simple_and_free is ∙ swcheck_free),
     )
+found_words app words (Err e) is found free = tt
+
+pub failed_words : (app : App) (words : List (List ℕ)) (r : Result ArgMatches Error) → app ≡ swcheck_app
+    → (is_simple_and_free app ≡ true → FailsBy (fault_of app words) r) → IfErr r (HasKind (fault_of swcheck_app words))
+failed_words app words (Ok m) is has = tt
+failed_words app words (Err e) is has =
+    subst (λ (a : App). HasKind (fault_of a words) e) is (has (ap is_simple_and_free is ∙ swcheck_free))
 
 -- the subcommand that was met, by its name and its values
 named : {S : Type 0} (f : S → List ℕ × List Row) (o : Option S) (name : List ℕ) (values : List Row) → Some name ≡ option_map (λ b. (f b).0) o
@@ -43,69 +48,44 @@ named f None name values first second = absurd cc
 named f (Some b) name values first second =
     ap Some (λ i. (unwrap_or (sym first i) name, unwrap_or (sym second i) values))
 
--- a call of it is met
-pub met : (m : ArgMatches) (name : List ℕ) (values : List Row) (call : Call) → Some name ≡ subcommand_name_of m
-    → Some values ≡ option_map (λ p. p.1) (subcommand_rows_of m) → IsCallOf name values call → IsMet (subcommand_rows_of m) call values
-met m name values call first second is = (name, named _ (out-ArgMatches m).subcommand name values first second, is)
+-- the subcommand that clap gives is the one that was met
+pub met_at : {X S : Type 0} (name : X → List ℕ) (rows : X → List Row) (f : S → List ℕ × List Row) (s : Option S) (o : Option X) (x : X) → o ≡ Some x
+    → option_map name o ≡ option_map (λ b. (f b).0) s → option_map rows o ≡ option_map (λ p. p.1) (option_map f s) → option_map f s ≡ Some (name x, rows x)
+met_at name rows f s o x is first second = named f s (name x) (rows x) (ap (option_map name) (sym is) ∙ first) (ap (option_map rows) (sym is) ∙ second)
 
--- where it is no call, none is met
-pub not_met : (m : ArgMatches) (name : List ℕ) (values : List Row) → Some name ≡ subcommand_name_of m
-    → Some values ≡ option_map (λ p. p.1) (subcommand_rows_of m) → ((call : Call) → IsCallOf name values call → ⊥)
-    → (call : Call) (others : List Row) → IsMet (subcommand_rows_of m) call others → ⊥
-not_met m name values first second none call others is =
-    let same = sym (named _ (out-ArgMatches m).subcommand name values first second) ∙ is.1 in
-    none call (subst (λ (o : Option (List ℕ × List Row)). IsCallOf (unwrap_or o (name, values)).0 (unwrap_or o (name, values)).1 call) (sym same) is.2)
+-- where a call is met, clap gives a subcommand
+pub gives_one : {X : Type 0} (rows : X → List Row) (o : Option X) (found : Option (List ℕ × List Row)) → option_map rows o ≡ option_map (λ p. p.1) found
+    → MeetsCall found → IsSome o
+gives_one rows (Some x) found same meets = refl
+gives_one rows None found same (call, values, (name, is, is_call)) =
+    let both : None ≡ Some values = same ∙ ap (λ (o : Option (List ℕ × List Row)). option_map (λ p. p.1) o) is in absurd cc
 
--- where no subcommand was met, there is no call
-pub none_met : (o : Option (List ℕ × List Row)) → None ≡ option_map (λ p. p.1) o → (call : Call) (values : List Row) → IsMet o call values → ⊥
-none_met o none call values is =
-    let both : None ≡ Some values = none ∙ ap (λ (o : Option (List ℕ × List Row)). option_map (λ p. p.1) o) is.1 in absurd cc
+-- and it is a call
+pub has_call : (found : Option (List ℕ × List Row)) (name : List ℕ) (values : List Row) → found ≡ Some (name, values) → MeetsCall found → HasCall name values
+has_call found name values is (call, others, (other, at, is_call)) =
+    (call, subst (λ (o : Option (List ℕ × List Row)). IsCallOf (unwrap_or o (name, values)).0 (unwrap_or o (name, values)).1 call) (sym at ∙ is) is_call)
 
--- a call of the matches is one of the words
-gives : (app : App) (words : List (List ℕ)) (m : ArgMatches) (asked : Asked) (call : Call) (values : List Row) → app ≡ swcheck_app
-    → HasMatchesOf app words m → (is_simple_and_free app ≡ true → fault_of app words ≡ [])
-    → IsMet (subcommand_rows_of m) call values → asked.call ≡ call → AreAll (codes "FILE") values asked.files.items → IsOption (codes "hints") values asked.hints
-    → Gives words asked
-gives app words m asked call values is found free (name, met, is_call) of_call is_files is_hints =
-    let simple : is_simple app ≡ true = ap is_simple is ∙ swcheck_simple in
-    let same = ap (λ (a : App). subcommand_of a words) (sym is) ∙ sym (found simple).1 in (
-      ap (λ (a : App). fault_of a words) (sym is) ∙ free (ap is_simple_and_free is ∙ swcheck_free),
-      (name, values, same ∙ met, subst (IsCallOf name values) (sym of_call) is_call, is_files, is_hints),
-    )
-
-pub all_given : (app : App) (words : List (List ℕ)) (m : ArgMatches) (told : Result Asked WordsFault) (call : Call) (values : List Row) → app ≡ swcheck_app
-    → HasMatchesOf app words m → (is_simple_and_free app ≡ true → fault_of app words ≡ [])
-    → IsMet (subcommand_rows_of m) call values → IfOk told (λ asked. asked.call ≡ call) → IfOk told (λ asked. AreAll (codes "FILE") values asked.files.items)
-    → IfOk told (λ asked. IsOption (codes "hints") values asked.hints) → IfOk told (Gives words)
-all_given app words m (Ok asked) call values is found free met of_call files hints = gives app words m asked call values is found free met of_call files hints
-all_given app words m (Err fault) call values is found free met of_call files hints = tt
+-- what was asked for is what the words ask for
+pub gives : (words : List (List ℕ)) (found : Option (List ℕ × List Row)) (told : Result Asked WordsFault) → found ≡ subcommand_of swcheck_app words
+    → fault_of swcheck_app words ≡ [] → IfOk told (IsMatched found) → IfOk told (Gives words)
+gives words found (Ok asked) same free is = (free, subst (λ (o : Option (List ℕ × List Row)). IsMatched o asked) same is)
+gives words found (Err fault) same free is = tt
 
 -- want of memory may come of any words
 pub memory_refused : (words : List (List ℕ)) (told : Result Asked WordsFault) → IfErr told (λ fault. fault ≡ Memory) → IfErr told (Refuses words)
 memory_refused words (Ok asked) is = tt
 memory_refused words (Err fault) is = subst (Refuses words) (sym is) tt
 
-among : (app : App) (words : List (List ℕ)) (e : Error) → app ≡ swcheck_app
-    → (is_simple_and_free app ≡ true → HasKind (fault_of app words) e) → HasKind (fault_of swcheck_app words) e
-among app words e is has =
-    subst (λ (a : App). HasKind (fault_of a words) e) is (has (ap is_simple_and_free is ∙ swcheck_free))
-
--- what holds of an option's value, if there is one, holds of this one
-pub of_some : {X : Type 0} (P : X → Type 0) (o : Option X) (x : X) → IfSome o P → o ≡ Some x → P x
-of_some P None x each is = absurd cc
-of_some P (Some y) x each is = subst P (ap (λ o. unwrap_or o y) is) each
-
 -- the fault that tells of an error of clap's tells of one that the words have
-pub refuses : (app : App) (words : List (List ℕ)) (e : Error) (f : WordsFault) → app ≡ swcheck_app
-    → (is_simple_and_free app ≡ true → HasKind (fault_of app words) e) → IsToldAs (kind_of e) f → Refuses words f
-refuses app words e Memory is has shows = tt
-refuses app words e (Help text) is has shows =
-    elim (among app words e is has) [
+pub refuses : (words : List (List ℕ)) (e : Error) (f : WordsFault) → HasKind (fault_of swcheck_app words) e → IsToldAs (kind_of e) f → Refuses words f
+refuses words e Memory has shows = tt
+refuses words e (Help text) has shows =
+    elim has [
       | inl memory ↦ absurd (elim shows [ inl help ↦ cc | inr version ↦ cc ])
       | inr known ↦ (kind_of e, known, shows)
     ]
-refuses app words e (Refused text) is has shows =
-    elim (among app words e is has) [
+refuses words e (Refused text) has shows =
+    elim has [
       | inl memory ↦ absurd (shows.0 memory)
       | inr known ↦ (kind_of e, known, shows)
     ]
@@ -137,9 +117,39 @@ with_one_part app parts i d old new arg within made is adds =
     subst (λ (a : App). IsMade a new) (sym (fold_more (λ a part. with_rule a (part_rule part)) app parts i d within))
     (with_argument old arg new (with_parts app (take i parts)) (part_rule (get_or parts i d)) made is adds)
 
--- a command with one more subcommand of its table
-pub with_one_subcommand : (app : App) (rows : List Subcommand) (i : ℕ) (d : Subcommand) (new : Command) → i < length rows
-    → IsOf (with_subcommand (with_subcommands app (take i rows)) (subcommand_app (get_or rows i d)).top) new
-    → IsOf (with_subcommands app (take (i + 1) rows)) new
-with_one_subcommand app rows i d new within is =
-    subst (λ (a : App). IsOf a new) (sym (fold_more (λ a row. with_subcommand a (subcommand_app row).top) app rows i d within)) is
+-- the place of what a list has there
+placed : {X : Type 0} (xs : List X) (i : ℕ) (x : X) → slice_get xs i ≡ Some x → (i < length xs) × (get_or xs i x ≡ x)
+placed [] i x is = absurd cc
+placed (y ∷ ys) zero x is = (omega arith, ap (λ o. unwrap_or o x) is)
+placed (y ∷ ys) (suc i) x is = let rest = placed ys i x is in (let within : i < length ys = rest.0 in omega (arith, within), rest.1)
+
+-- a command with one more of the subcommands
+pub with_next : (i : ℕ) (row : Subcommand) (old sub new : Command) → Some (subcommand_app row) ≡ slice_get subcommand_apps i
+    → IsOf (with_subcommands top_app (take i subcommand_apps)) old → IsMade (subcommand_app row) sub → AddsSubcommand old sub new
+    → IsOf (with_subcommands top_app (take (i + 1) subcommand_apps)) new
+with_next i row old sub new at is made adds =
+    let place = placed subcommand_apps i (subcommand_app row) (sym at) in
+    let more = fold_more (λ a (b : App). with_subcommand a b.top) top_app subcommand_apps i (subcommand_app row) place.0 in
+    let added = with_added old sub new (with_subcommands top_app (take i subcommand_apps)) (subcommand_app row) is made adds in
+    added ∙ (λ j. with_subcommand (with_subcommands top_app (take i subcommand_apps)) (sym place.1 j).top) ∙ sym more
+
+-- there are fifteen of them
+within : (i : ℕ) (row : Subcommand) → Some (subcommand_app row) ≡ slice_get subcommand_apps i → i < 15
+within i row at = (placed subcommand_apps i (subcommand_app row) (sym at)).0
+
+pub smaller : (i : ℕ) (row : Subcommand) → Some (subcommand_app row) ≡ slice_get subcommand_apps i → 15 - (i + 1) < 15 - i
+smaller i row at = let below = within i row at in omega (arith, below)
+
+pub fits : (i : ℕ) (row : Subcommand) → Some (subcommand_app row) ≡ slice_get subcommand_apps i → Fits w64 (i + 1)
+fits i row at = let below = within i row at in omega (arith, below)
+
+-- and where there is none more, it has them all
+pub with_all : (i : ℕ) (command : Command) → None ≡ slice_get subcommand_apps i → IsOf (with_subcommands top_app (take i subcommand_apps)) command
+    → IsOf swcheck_app command
+with_all i command none is = is ∙ ap (with_subcommands top_app) (passed subcommand_apps i none)
+  where
+    passed : (xs : List App) (i : ℕ) → None ≡ slice_get xs i → take i xs ≡ xs
+    passed [] zero none = refl
+    passed [] (suc i) none = refl
+    passed (x ∷ xs) zero none = absurd cc
+    passed (x ∷ xs) (suc i) none = ap (λ l. x ∷ l) (passed xs i none)

@@ -5,5 +5,5 @@ mod Given
 mod Kept
 mod Named
 mod Numbers
-mod Uncalled
+mod Wanted
 pub mod Workers

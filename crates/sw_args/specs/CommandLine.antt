@@ -1,7 +1,5 @@
 -- The words that the program takes.
 use Rattle.std.specs.Prelude.{◌≡◌, ◌≢◌, ◌≤◌, ◌<◌, ◌⊎◌, ◌↔◌, ℕ, Bool, List, [], ◌∷◌, Option, Some, codes, false, map, option_map, pos, true, unwrap_or}
-use Rattle.std.specs.List.{list_any}
-use Rattle.std.specs.Str.{bytes_eq}
 use Rattle.std.specs.Borrow.{Bor}
 use Rattle.clap.specs.declared.builder.command.Command.{Command}
 use Rattle.clap.specs.declared.builder.Command.TheViews.{out-Command}
@@ -268,17 +266,13 @@ IsCallOf name values (Audit json quiet certificates) = (name ≡ codes "audit")
     × IsOption (codes "certificates") values certificates
 IsCallOf name values (Init sample) = (name ≡ codes "init") × IsOption (codes "NAME") values sample
 
--- the subcommands that want no value but the file's
-abbrev pub plain_names : List (List ℕ)
-plain_names = codes "decide" ∷ codes "report" ∷ codes "migrate" ∷ codes "explain" ∷ codes "draw" ∷ codes "mend" ∷ codes "margin" ∷ []
+-- a subcommand with these values is some call
+abbrev pub HasCall : List ℕ → List Row → Type 0
+HasCall name values = (call : Call) × IsCallOf name values call
 
--- the subcommands that want no file, or more than one value beside it
-abbrev pub other_names : List (List ℕ)
-other_names = codes "audit" ∷ codes "init" ∷ codes "run" ∷ codes "rmap" ∷ codes "witness" ∷ []
-
--- the name is one of these
-abbrev pub is_among : List (List ℕ) → List ℕ → Bool
-is_among names name = list_any (bytes_eq name) names
+-- the subcommand is none of those that want no file, or more than one value beside it
+abbrev pub IsOther : List ℕ → Type 0
+IsOther name = (name ≢ codes "audit") × (name ≢ codes "init") × (name ≢ codes "run") × (name ≢ codes "rmap") × (name ≢ codes "witness")
 
 -- a run has a worker
 abbrev pub HasWorkers : Call → Type 0
@@ -295,6 +289,10 @@ IsMatched found asked = (name : List ℕ) × (values : List Row) × (found ≡ S
 -- the subcommand that was met has these values, and is this call
 abbrev pub IsMet : Option (List ℕ × List Row) → Call → List Row → Type 0
 IsMet found call values = (name : List ℕ) × (found ≡ Some (name, values)) × IsCallOf name values call
+
+-- the subcommand that was met is some call
+abbrev pub MeetsCall : Option (List ℕ × List Row) → Type 0
+MeetsCall found = (call : Call) × (values : List Row) × IsMet found call values
 
 -- clap's own matches of the words have no error, and the call's subcommand and values
 abbrev pub Gives : List (List ℕ) → Asked → Type 0

@@ -1,13 +1,12 @@
 -- A command by a table of its words and options (this project's choice).
-use Rattle.std.specs.Prelude.{List, ℕ, fold, IfOk, Result}
-use Rattle.clap.specs.Words.{App, Rule, new_app, with_rule, with_subcommand}
+use Rattle.std.specs.Prelude.{◌≡◌, List, ℕ, [], ◌∷◌, fold}
+use Rattle.clap.specs.Words.{App, Rule, fault_of, new_app, subcommand_of, subcommand_rows_of, with_rule, with_subcommand}
 use Rattle.std.specs.Borrow.{Bor}
-use Rattle.std.specs.declared.alloc.AllocError.{AllocError}
-use Rattle.clap.specs.declared.builder.command.Command.{Command}
+use Rattle.clap.specs.declared.parser.matches.ArgMatches.{ArgMatches}
 use Rattle.sw_args.specs.declared.parts.Subcommand.{Subcommand}
 use Rattle.sw_args.specs.declared.parts.Takes.{Takes}
 use Rattle.sw_args.specs.declared.parts.Takes.TheVariants.{Value, Values, Optional, Count, Flag, Text}
-use Rattle.sw_args.specs.CommandLine.{count_rule, flag_rule, option_rule, optional_value, required_value, required_values, with_hints, IsOf}
+use Rattle.sw_args.specs.CommandLine.{count_rule, flag_rule, option_rule, optional_value, required_value, required_values, swcheck_app, with_hints, route_app, decide_app, check_app, report_app, replay_app, run_app, migrate_app, explain_app, draw_app, rmap_app, mend_app, margin_app, witness_app, audit_app, init_app}
 
 -- the rule of an argument of this name that takes this
 abbrev pub taking : List ℕ → Takes → Rule
@@ -33,10 +32,29 @@ with_parts app parts = fold (λ a part. with_rule a (part_rule part)) app parts
 abbrev pub subcommand_app : Subcommand → App
 subcommand_app subcommand = with_hints (with_parts (new_app subcommand.name.now) subcommand.parts.now)
 
--- the command with each of the subcommands besides, in their order
-abbrev pub with_subcommands : App → List Subcommand → App
-with_subcommands app subcommands = fold (λ a subcommand. with_subcommand a (subcommand_app subcommand).top) app subcommands
+-- the subcommands, in the order of the help
+abbrev pub subcommand_apps : List App
+subcommand_apps =
+    with_hints route_app ∷
+    with_hints decide_app ∷
+    with_hints check_app ∷
+    with_hints report_app ∷
+    with_hints replay_app ∷
+    with_hints run_app ∷
+    with_hints migrate_app ∷
+    with_hints explain_app ∷
+    with_hints draw_app ∷
+    with_hints rmap_app ∷
+    with_hints mend_app ∷
+    with_hints margin_app ∷
+    with_hints witness_app ∷
+    with_hints audit_app ∷
+    with_hints init_app ∷ []
 
--- whatever app the one command is of, if it was made, the other is of that app with the subcommands besides
-abbrev pub HasBesides : List Subcommand → Result Command AllocError → Command → Type 0
-HasBesides subcommands made new = (app : App) → IfOk made (IsOf app) → IsOf (with_subcommands app subcommands) new
+-- the command with each of the subcommands besides, in their order
+abbrev pub with_subcommands : App → List App → App
+with_subcommands app subcommands = fold (λ a (subcommand : App). with_subcommand a subcommand.top) app subcommands
+
+-- clap met no fault in the words, and these are its matches
+abbrev pub HasFound : List (List ℕ) → ArgMatches → Type 0
+HasFound words matches = (subcommand_rows_of matches ≡ subcommand_of swcheck_app words) × (fault_of swcheck_app words ≡ [])

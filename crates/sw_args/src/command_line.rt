@@ -1,27 +1,27 @@
 //! The words of the command line.
-ghost use Rattle.std.specs.Prelude.{IfOk};
-ghost use Rattle.clap.specs.Words.{kind_of};
-ghost use Rattle.sw_args.specs.CommandLine.{IsOf, IsToldAs, swcheck_app};
-ghost use Rattle.sw_args.specs.Parts.{HasBesides};
+ghost use Rattle.std.specs.Prelude.{◌≡◌, map, option_map, slice_get, IfErr, IfOk};
+ghost use Rattle.clap.specs.Words.{HasKind, fault_of, kind_of};
+ghost use Rattle.sw_args.specs.CommandLine.{IsToldAs, swcheck_app};
+ghost use Rattle.sw_args.specs.Parts.{HasFound, subcommand_app, subcommand_apps};
 
 use crate::call::WordsFault;
 use crate::parts::{Part, Subcommand, Takes, subcommand_of};
 use crate::release::RELEASE;
-use clap::Command;
 use clap::error::ErrorKind;
-use std::alloc::{AllocError, Global};
+use clap::{ArgMatches, Command};
+use std::alloc::Global;
 
-/// The most threads that `run` may be asked for.
-pub(crate) const MOST_WORKERS: u32 = 64;
+// The most threads that `run` may be asked for.
+const MOST_WORKERS: u32 = 64;
 
-/// The most steps that `run` may be asked for.
-pub(crate) const MOST_STEPS: u32 = 16_777_216;
+// The most steps that `run` may be asked for.
+const MOST_STEPS: u32 = 16_777_216;
 
-/// The most tries of a search.
-pub(crate) const MOST_TRIES: u32 = 1_000_000;
+// The most tries of a search.
+const MOST_TRIES: u32 = 1_000_000;
 
-/// The greatest number that a search may begin with.
-pub(crate) const MOST_SEED: u32 = 4_294_967_295;
+// The greatest number that a search may begin with.
+const MOST_SEED: u32 = 4_294_967_295;
 
 // A network file, which must be given.
 const FILE: Part = ("FILE", Takes::Value, "A network file");
@@ -29,244 +29,269 @@ const FILE: Part = ("FILE", Takes::Value, "A network file");
 // The answer as an object of JSON.
 const JSON: Part = ("json", Takes::Flag, "Print the answer as one JSON object");
 
-// The subcommands, in the order of the help; one table of all would take three times as long to prove.
-const FIRST_SUBCOMMANDS: &[Subcommand] = &[
-    Subcommand {
-        name: "route",
-        about: "Print the places of a flow, and whether packets arrive rightly",
-        example: "Example: swcheck route examples/line.toml f",
-        parts: &[
-            FILE,
-            (
-                "FLOW",
-                Takes::Value,
-                "The name of a flow, or NAME+reply of its replies",
-            ),
-            JSON,
-        ],
-    },
-    Subcommand {
-        name: "decide",
-        about: "Print a certificate that a network never locks up, or why there is none",
-        example: "Example: swcheck decide examples/ring.toml",
-        parts: &[FILE, JSON],
-    },
-    Subcommand {
-        name: "check",
-        about: "Check a certificate that a network never locks up",
-        example: "Example: swcheck check examples/turn.toml examples/turn.cert",
-        parts: &[FILE, ("CERT", Takes::Value, "A certificate file"), JSON],
-    },
-    Subcommand {
-        name: "report",
-        about: "Print how many parts a network has, and the verdict on it",
-        example: "Example: swcheck report examples/ring.toml",
-        parts: &[FILE, JSON],
-    },
-    Subcommand {
-        name: "replay",
-        about: "Make the steps of a schedule, and print what comes of them",
-        example: "Example: swcheck replay examples/line.toml examples/line.schedule",
-        parts: &[FILE, ("SCHEDULE", Takes::Value, "A schedule file"), JSON],
-    },
-];
+// The subcommands, each by itself: what a table costs to prove grows faster than the square of its rows.
+const ROUTE: &Subcommand = &Subcommand {
+    name: "route",
+    about: "Print the places of a flow, and whether packets arrive rightly",
+    example: "Example: swcheck route examples/line.toml f",
+    parts: &[
+        FILE,
+        (
+            "FLOW",
+            Takes::Value,
+            "The name of a flow, or NAME+reply of its replies",
+        ),
+        JSON,
+    ],
+};
 
-const NEXT_SUBCOMMANDS: &[Subcommand] = &[
-    Subcommand {
-        name: "run",
-        about: "Send the packets of a load through a network, and print what comes of them",
-        example: "Example: swcheck run examples/turn.toml examples/turn.load",
-        parts: &[
-            FILE,
-            ("LOAD", Takes::Value, "A load file"),
-            (
-                "workers",
-                Takes::Count("4", MOST_WORKERS),
-                "How many threads work, 1 to 64",
-            ),
-            (
-                "limit",
-                Takes::Count("1000000", MOST_STEPS),
-                "How many steps may be made, 1 to 16777216",
-            ),
-            (
-                "schedule",
-                Takes::Text,
-                "A file to write the steps to, as a schedule",
-            ),
-            (
-                "summary",
-                Takes::Flag,
-                "Tell on standard error what became of each flow's packets",
-            ),
-            JSON,
-        ],
-    },
-    Subcommand {
-        name: "migrate",
-        about: "Print a network file of version 1 as one of version 2",
-        example: "Example: swcheck migrate examples/ring.toml",
-        parts: &[FILE],
-    },
-    Subcommand {
-        name: "explain",
-        about: "Print in words why a network can lock up, or that it never does",
-        example: "Example: swcheck explain examples/ring.toml",
-        parts: &[
-            FILE,
-            (
-                "all",
-                Takes::Flag,
-                "Name each flow that makes a step, not just six of them",
-            ),
-            JSON,
-        ],
-    },
-    Subcommand {
-        name: "draw",
-        about: "Print a drawing of a network, in the language DOT of Graphviz",
-        example: "Example: swcheck draw examples/ring.toml --cycle",
-        parts: &[
-            FILE,
-            ("flow", Takes::Text, "A flow whose places are drawn bold"),
-            (
-                "cycle",
-                Takes::Flag,
-                "Draw the first shortest cycle red, its steps numbered",
-            ),
-            (
-                "numbers",
-                Takes::Flag,
-                "Write the numbers of the channels, where the network never locks up",
-            ),
-        ],
-    },
-    Subcommand {
-        name: "rmap",
-        about: "Print the entry of a load for an RMAP command of a flow",
-        example: "Example: swcheck rmap examples/rmap.toml w read 0xA0000000 16",
-        parts: &[
-            FILE,
-            ("FLOW", Takes::Value, "The name of a flow to a target"),
-            ("ACTION", Takes::Value, "read or write"),
-            (
-                "ADDRESS",
-                Takes::Value,
-                "The first address, decimal or 0x and hexadecimal",
-            ),
-            (
-                "VALUE",
-                Takes::Value,
-                "How many bytes are read, or the bytes that are written, as hexadecimal pairs",
-            ),
-            ("no-ack", Takes::Flag, "Ask for no reply to a write"),
-            (
-                "transaction",
-                Takes::Text,
-                "The transaction identifier, 0 to 65535; 0 if left out",
-            ),
-        ],
-    },
-];
+const DECIDE: &Subcommand = &Subcommand {
+    name: "decide",
+    about: "Print a certificate that a network never locks up, or why there is none",
+    example: "Example: swcheck decide examples/ring.toml",
+    parts: &[FILE, JSON],
+};
 
-const LAST_SUBCOMMANDS: &[Subcommand] = &[
-    Subcommand {
-        name: "mend",
-        about: "Print each single change that makes a network free, or that there is none",
-        example: "Example: swcheck mend examples/ring.toml",
-        parts: &[
-            FILE,
-            (
-                "pairs",
-                Takes::Flag,
-                "Where no single change makes it free, print each pair of them that does",
-            ),
-            JSON,
-        ],
-    },
-    Subcommand {
-        name: "margin",
-        about: "Print how far the premises of a network that never locks up bend",
-        example: "Example: swcheck margin examples/turn.toml",
-        parts: &[FILE, JSON],
-    },
-    Subcommand {
-        name: "witness",
-        about: "Look for a schedule of steps that locks a network up, and print it",
-        example: "Example: swcheck witness examples/ring.toml",
-        parts: &[
-            FILE,
-            (
-                "tries",
-                Takes::Count("200", MOST_TRIES),
-                "How often to try, 1 to 1000000",
-            ),
-            (
-                "seed",
-                Takes::Count("1", MOST_SEED),
-                "Where the choices begin, 1 to 4294967295",
-            ),
-        ],
-    },
-    Subcommand {
-        name: "audit",
-        about: "Print the verdicts on many networks",
-        example: "Example: swcheck audit --json examples/*.toml",
-        parts: &[
-            ("FILE", Takes::Values, "A network file, or several"),
-            JSON,
-            (
-                "quiet",
-                Takes::Flag,
-                "Print only files whose network is not free",
-            ),
-            (
-                "certificates",
-                Takes::Text,
-                "A directory for the certificates of free networks",
-            ),
-        ],
-    },
-    Subcommand {
-        name: "init",
-        about: "Print a sample network file",
-        example: "Example: swcheck init",
-        parts: &[("NAME", Takes::Optional, "The name of a sample")],
-    },
-];
+const CHECK: &Subcommand = &Subcommand {
+    name: "check",
+    about: "Check a certificate that a network never locks up",
+    example: "Example: swcheck check examples/turn.toml examples/turn.cert",
+    parts: &[FILE, ("CERT", Takes::Value, "A certificate file"), JSON],
+};
+
+const REPORT: &Subcommand = &Subcommand {
+    name: "report",
+    about: "Print how many parts a network has, and the verdict on it",
+    example: "Example: swcheck report examples/ring.toml",
+    parts: &[FILE, JSON],
+};
+
+const REPLAY: &Subcommand = &Subcommand {
+    name: "replay",
+    about: "Make the steps of a schedule, and print what comes of them",
+    example: "Example: swcheck replay examples/line.toml examples/line.schedule",
+    parts: &[FILE, ("SCHEDULE", Takes::Value, "A schedule file"), JSON],
+};
+
+const RUN: &Subcommand = &Subcommand {
+    name: "run",
+    about: "Send the packets of a load through a network, and print what comes of them",
+    example: "Example: swcheck run examples/turn.toml examples/turn.load",
+    parts: &[
+        FILE,
+        ("LOAD", Takes::Value, "A load file"),
+        (
+            "workers",
+            Takes::Count("4", MOST_WORKERS),
+            "How many threads work, 1 to 64",
+        ),
+        (
+            "limit",
+            Takes::Count("1000000", MOST_STEPS),
+            "How many steps may be made, 1 to 16777216",
+        ),
+        (
+            "schedule",
+            Takes::Text,
+            "A file to write the steps to, as a schedule",
+        ),
+        (
+            "summary",
+            Takes::Flag,
+            "Tell on standard error what became of each flow's packets",
+        ),
+        JSON,
+    ],
+};
+
+const MIGRATE: &Subcommand = &Subcommand {
+    name: "migrate",
+    about: "Print a network file of version 1 as one of version 2",
+    example: "Example: swcheck migrate examples/ring.toml",
+    parts: &[FILE],
+};
+
+const EXPLAIN: &Subcommand = &Subcommand {
+    name: "explain",
+    about: "Print in words why a network can lock up, or that it never does",
+    example: "Example: swcheck explain examples/ring.toml",
+    parts: &[
+        FILE,
+        (
+            "all",
+            Takes::Flag,
+            "Name each flow that makes a step, not just six of them",
+        ),
+        JSON,
+    ],
+};
+
+const DRAW: &Subcommand = &Subcommand {
+    name: "draw",
+    about: "Print a drawing of a network, in the language DOT of Graphviz",
+    example: "Example: swcheck draw examples/ring.toml --cycle",
+    parts: &[
+        FILE,
+        ("flow", Takes::Text, "A flow whose places are drawn bold"),
+        (
+            "cycle",
+            Takes::Flag,
+            "Draw the first shortest cycle red, its steps numbered",
+        ),
+        (
+            "numbers",
+            Takes::Flag,
+            "Write the numbers of the channels, where the network never locks up",
+        ),
+    ],
+};
+
+const RMAP: &Subcommand = &Subcommand {
+    name: "rmap",
+    about: "Print the entry of a load for an RMAP command of a flow",
+    example: "Example: swcheck rmap examples/rmap.toml w read 0xA0000000 16",
+    parts: &[
+        FILE,
+        ("FLOW", Takes::Value, "The name of a flow to a target"),
+        ("ACTION", Takes::Value, "read or write"),
+        (
+            "ADDRESS",
+            Takes::Value,
+            "The first address, decimal or 0x and hexadecimal",
+        ),
+        (
+            "VALUE",
+            Takes::Value,
+            "How many bytes are read, or the bytes that are written, as hexadecimal pairs",
+        ),
+        ("no-ack", Takes::Flag, "Ask for no reply to a write"),
+        (
+            "transaction",
+            Takes::Text,
+            "The transaction identifier, 0 to 65535; 0 if left out",
+        ),
+    ],
+};
+
+const MEND: &Subcommand = &Subcommand {
+    name: "mend",
+    about: "Print each single change that makes a network free, or that there is none",
+    example: "Example: swcheck mend examples/ring.toml",
+    parts: &[
+        FILE,
+        (
+            "pairs",
+            Takes::Flag,
+            "Where no single change makes it free, print each pair of them that does",
+        ),
+        JSON,
+    ],
+};
+
+const MARGIN: &Subcommand = &Subcommand {
+    name: "margin",
+    about: "Print how far the premises of a network that never locks up bend",
+    example: "Example: swcheck margin examples/turn.toml",
+    parts: &[FILE, JSON],
+};
+
+const WITNESS: &Subcommand = &Subcommand {
+    name: "witness",
+    about: "Look for a schedule of steps that locks a network up, and print it",
+    example: "Example: swcheck witness examples/ring.toml",
+    parts: &[
+        FILE,
+        (
+            "tries",
+            Takes::Count("200", MOST_TRIES),
+            "How often to try, 1 to 1000000",
+        ),
+        (
+            "seed",
+            Takes::Count("1", MOST_SEED),
+            "Where the choices begin, 1 to 4294967295",
+        ),
+    ],
+};
+
+const AUDIT: &Subcommand = &Subcommand {
+    name: "audit",
+    about: "Print the verdicts on many networks",
+    example: "Example: swcheck audit --json examples/*.toml",
+    parts: &[
+        ("FILE", Takes::Values, "A network file, or several"),
+        JSON,
+        (
+            "quiet",
+            Takes::Flag,
+            "Print only files whose network is not free",
+        ),
+        (
+            "certificates",
+            Takes::Text,
+            "A directory for the certificates of free networks",
+        ),
+    ],
+};
+
+const INIT: &Subcommand = &Subcommand {
+    name: "init",
+    about: "Print a sample network file",
+    example: "Example: swcheck init",
+    parts: &[("NAME", Takes::Optional, "The name of a sample")],
+};
+
+// The subcommand at a place of the help.
+fn subcommand_at(place: usize) -> Option<&'static Subcommand>
+    ensures { option_map (λ row. subcommand_app row.now) result ≡ slice_get subcommand_apps place }
+{
+    match place {
+        0 => Some(ROUTE),
+        1 => Some(DECIDE),
+        2 => Some(CHECK),
+        3 => Some(REPORT),
+        4 => Some(REPLAY),
+        5 => Some(RUN),
+        6 => Some(MIGRATE),
+        7 => Some(EXPLAIN),
+        8 => Some(DRAW),
+        9 => Some(RMAP),
+        10 => Some(MEND),
+        11 => Some(MARGIN),
+        12 => Some(WITNESS),
+        13 => Some(AUDIT),
+        14 => Some(INIT),
+        _ => None,
+    }
+}
 
 const NO_WORDS: &[&str] = &[];
 
-// The command, if it was made, with the subcommands of a table besides, in their order.
-fn with_subcommands<'a>(
+/// What clap finds in the words, or its error.
+pub(crate) fn found_in<'a>(
     alloc: Global,
-    made: Result<Command<'a>, AllocError>,
-    rows: &[Subcommand],
-) -> Result<Command<'a>, AllocError>
-    ensures { IfOk result (HasBesides rows.now made.entry) }
+    words: &'a [&'a str],
+) -> Result<ArgMatches<'a>, clap::Error>
+    ensures found { IfOk result (λ matches. HasFound (map (λ s. s.now) words.entry.now) matches) }
+    ensures kinds { IfErr result (HasKind (fault_of swcheck_app (map (λ s. s.now) words.entry.now))) }
 {
-    let mut command = made?;
-    for row in rows {
+    let mut command = Command::new(alloc, "swcheck")
+        .about("Checks SpaceWire networks")
+        .version(RELEASE)
+        .subcommand_required(true);
+    let mut place = 0;
+    while let Some(row) = subcommand_at(place) {
         match subcommand_of(alloc, row) {
             Ok(subcommand) => command = command.subcommand(subcommand)?,
             Err(refused) => {
                 // By its own parse clap lets a command go: so no drop of one is proved here.
                 drop(command.try_get_matches_from(NO_WORDS));
-                return Err(refused);
+                return Err(refused.into());
             }
         }
+        place += 1;
     }
-    Ok(command)
-}
-
-pub(crate) fn swcheck_command<'a>(alloc: Global) -> Result<Command<'a>, AllocError>
-    ensures { IfOk result (IsOf swcheck_app) }
-{
-    let command = Command::new(alloc, "swcheck").about("Checks SpaceWire networks");
-    let command = command.version(RELEASE).subcommand_required(true);
-    let command = with_subcommands(alloc, Ok(command), FIRST_SUBCOMMANDS);
-    let command = with_subcommands(alloc, command, NEXT_SUBCOMMANDS);
-    with_subcommands(alloc, command, LAST_SUBCOMMANDS)
+    command.try_get_matches_from(words)
 }
 
 // How an error of clap's is told. That of a growth that was refused is told as any other such.

@@ -1,7 +1,7 @@
 //! The values that clap found for a subcommand.
-ghost use Rattle.std.specs.Prelude.{◌≡◌, ℕ, option_map, IfNone, IfSome};
+ghost use Rattle.std.specs.Prelude.{◌≡◌, ◌<◌, ◌^◌, ℕ, Some, option_map, IsSome};
 ghost use Rattle.clap.specs.Words.{first_of, found_of, rows_of};
-ghost use Rattle.sw_args.specs.CommandLine.{IsCount, IsSet};
+ghost use Rattle.sw_args.specs.CommandLine.{IsSet, SaysNumber};
 
 use clap::ArgMatches;
 
@@ -12,21 +12,20 @@ pub(crate) fn value_of<'a>(values: &ArgMatches<'a>, name: &str) -> Option<&'a st
     values.get_str(name)
 }
 
-// The number that an option's value says, if it is 1 or more and not over the most; clap gives no other.
-pub(crate) fn count_of(values: &ArgMatches<'_>, name: &str, most: u32) -> Option<u32>
-    ensures counts { IfSome result (IsCount most name.now (rows_of (found_of values.now))) }
-    ensures none { IfNone result ((number : ℕ) → IsCount most name.now (rows_of (found_of values.now)) number → ⊥) }
+// The first value of an argument that has one.
+pub(crate) fn given<'a>(values: &ArgMatches<'a>, name: &str) -> &'a str
+    requires { IsSome (first_of name.now (rows_of (found_of values.now))) }
+    ensures { first_of name.now (rows_of (found_of values.now)) ≡ Some result.now }
 {
-    let Some(number) = values.get_one::<u32>(name) else {
-        return None;
-    };
-    if number < 1 {
-        return None;
-    }
-    if most < number {
-        return None;
-    }
-    Some(number)
+    value_of(values, name).unwrap()
+}
+
+// The number that an option's value says; clap gives no other than a number from 1 up to the option's most.
+pub(crate) fn number_of(values: &ArgMatches<'_>, name: &str) -> u32
+    requires { (number : ℕ) × SaysNumber name.now (rows_of (found_of values.now)) number × (number < 2 ^ 32) }
+    ensures { SaysNumber name.now (rows_of (found_of values.now)) result }
+{
+    values.get_one::<u32>(name).unwrap()
 }
 
 // Whether an option without a value was given.
