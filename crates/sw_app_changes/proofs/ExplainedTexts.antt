@@ -1,10 +1,10 @@
 -- Texts by the pieces that they are made of.
-use Rattle.std.proofs.Common.{◌≡◌, ◌∙◌, ◌<◌, ◌≤◌, ℕ, suc, zero, ◌+◌, ◌-◌, All, Bool, List, [], ◌++◌, Vec, Global, ap, append_assoc, arith, codes, get_or, length, refl, subst, sym, take}
+use Rattle.std.proofs.Common.{◌≡◌, ◌∙◌, ◌<◌, ◌≤◌, ℕ, suc, zero, ◌+◌, ◌-◌, All, Bool, List, [], ◌∷◌, ◌++◌, Vec, Global, ap, append_assoc, arith, codes, drop, get_or, length, refl, subst, sym, take}
 use Rattle.std.specs.Prelude.{if◌then◌else◌}
 use Rattle.std.specs.Fmt.{decimal}
 use Rattle.std.specs.List.{flat_map, range_with_len}
 use Rattle.std.proofs.Math.Dec.{eqb-suc-zero}
-use Rattle.std.proofs.lemmas.Bool.{le-ltb}
+use Rattle.std.proofs.lemmas.Bool.{le-ltb, lt-ltb}
 use Rattle.std.proofs.lemmas.List.{take_all}
 use Rattle.std.proofs.lemmas.List.Elements.{All-get_or}
 use Rattle.sw_config.specs.Entries.{Declaration}
@@ -16,7 +16,7 @@ use Rattle.sw_output.specs.ChannelTexts.{channel_text}
 use Rattle.sw_output.specs.FlowTexts.{flow_name, route_fault_text}
 use Rattle.sw_output.proofs.EachLine.{numbered_more}
 use Rattle.sw_search.specs.declared.tangle.Tangle.{Tangle}
-use Rattle.sw_app_changes.specs.ExplainTexts.{counted, counts_text, cycle_line, ending, fault_line, fault_words, flows_text, misrouted_line, misrouted_text, more_text, named, names_text, numbered, place_words, step_line, step_lines, step_text, tangle_text, tangles_text, total_line, way_line, way_lines, way_lines_from}
+use Rattle.sw_app_changes.specs.ExplainTexts.{counted, counts_text, cycle_line, ending, fault_line, fault_words, flows_text, joined_names, misrouted_line, misrouted_text, more_text, named, names_text, numbered, place_words, step_line, step_lines, step_text, tangle_text, tangles_text, total_line, way_line, way_lines, way_lines_from}
 
 -- each of some things has it
 pub each_is : {X : Type 0} (P : X → Type 0) (xs : List X) (i : ℕ) (x : X) → i < length xs → x ≡ get_or xs i x → All P xs → P x
@@ -72,11 +72,23 @@ misrouted_told d flow fault way i which words before after ended which_is words_
     more ∙ ap (λ l. l ++ (which ++ (codes ": " ++ (words ++ codes "\n")))) (so_far ∙ ap (λ places. misrouted_line d flow ++ way_lines_from d flow 0 places) (take_all i way ended))
     ∙ append_assoc (misrouted_line d flow) lines (which ++ (codes ": " ++ (words ++ codes "\n"))) ∙ ap (λ l. misrouted_line d flow ++ (lines ++ l)) last
 
-pub step_told : (d : Declaration) (all : Bool) (cycle : CycleEntry) (rows : List (Vec ℕ Global)) (i : ℕ) (step flows : List ℕ)
+step_told : (d : Declaration) (all : Bool) (cycle : CycleEntry) (rows : List (Vec ℕ Global)) (i : ℕ) (step flows : List ℕ)
     → step ≡ step_text d cycle i → flows ≡ flows_text d all (row rows i)
     → step_line d all cycle rows i ≡ decimal (i + 1) ++ (codes ". " ++ (step ++ (flows ++ codes "\n")))
 step_told d all cycle rows i step flows step_is flows_are =
     rw (step_is, flows_are) (numbered_then i (codes " " ++ (step_text d cycle i ++ (flows_text d all (row rows i) ++ codes "\n"))))
+
+line_then : (old number dot words rest : List ℕ) → (old ++ (number ++ (dot ++ words))) ++ rest ≡ old ++ (number ++ (dot ++ (words ++ rest)))
+line_then old number dot words rest = simp append_assoc
+
+-- a step's words, and then its flows
+pub step_ended : (d : Declaration) (all : Bool) (cycle : CycleEntry) (rows : List (Vec ℕ Global)) (i : ℕ) (words flows old first : List ℕ)
+    → words ≡ step_text d cycle i → flows ≡ row rows i → first ≡ old ++ (decimal (i + 1) ++ (codes ". " ++ words))
+    → first ++ (flows_text d all flows ++ codes "\n") ≡ old ++ step_line d all cycle rows i
+step_ended d all cycle rows i words flows old first words_are flows_are first_is =
+    let rest = flows_text d all flows ++ codes "\n" in
+    ap (λ l. l ++ rest) first_is ∙ line_then old (decimal (i + 1)) (codes ". ") words rest
+    ∙ ap (λ l. old ++ l) (sym (step_told d all cycle rows i words (flows_text d all flows) words_are (ap (flows_text d all) flows_are)))
 
 -- the line of how many channels a tangle's cycle has, and then its steps
 pub tangle_added : (d : Declaration) (all : Bool) (t : Tangle) (n : ℕ) (end start first after : List ℕ) → n ≡ length t.cycle.channels → end ≡ ending n
@@ -89,15 +101,20 @@ tangle_added d all t n end start first after n_is end_is first_is after_is =
     let steps = step_lines d all t.cycle t.flows.items in
     after_is ∙ ap (λ l. l ++ steps) (first_is ∙ ap (λ l. start ++ l) told) ∙ append_assoc start head steps
 
-pub tangles_told : (d : Declaration) (all : Bool) (ts : List Tangle) (i n : ℕ) (end counts before after : List ℕ) → length ts ≤ i → n ≡ length ts → end ≡ ending n
-    → counts ≡ counts_text ts → before ≡ flat_map (tangle_text d all) (take i ts)
-    → after ≡ before ++ (decimal n ++ (codes " tangle" ++ (end ++ (codes " of " ++ (counts ++ codes " channels; buffers, slots and arbiters do not change this\n")))))
-    → after ≡ tangles_text d all ts
-tangles_told d all ts i n end counts before after ended n_is end_is counts_are so_far more =
-    let last : decimal n ++ (codes " tangle" ++ (end ++ (codes " of " ++ (counts ++ codes " channels; buffers, slots and arbiters do not change this\n")))) ≡ total_line ts =
-    rw (counts_are, end_is, n_is)
-    (sym (counted_then (length ts) (codes "tangle") (codes " of " ++ (counts_text ts ++ codes " channels; buffers, slots and arbiters do not change this\n")))) in
-    more ∙ ap (λ l. before ++ l) last ∙ ap (λ l. l ++ total_line ts) (so_far ∙ ap (flat_map (tangle_text d all)) (take_all i ts ended))
+total_line_is : (before total noun end of counts last : List ℕ)
+    → ((before ++ (total ++ (noun ++ (end ++ of)))) ++ counts) ++ last ≡ before ++ (total ++ (noun ++ (end ++ (of ++ (counts ++ last)))))
+total_line_is before total noun end of counts last = simp append_assoc
+
+pub tangles_told : (d : Declaration) (all : Bool) (ts : List Tangle) (i n : ℕ) (end before first second after : List ℕ) → length ts ≤ i → n ≡ length ts → end ≡ ending n
+    → before ≡ flat_map (tangle_text d all) (take i ts) → first ≡ before ++ (decimal n ++ (codes " tangle" ++ (end ++ codes " of "))) → second ≡ first ++ counts_text ts
+    → after ≡ second ++ codes " channels; buffers, slots and arbiters do not change this\n" → after ≡ tangles_text d all ts
+tangles_told d all ts i n end before first second after ended n_is end_is so_far first_is second_is after_is =
+    let rest = codes " channels; buffers, slots and arbiters do not change this\n" in
+    let last : decimal n ++ (codes " tangle" ++ (end ++ (codes " of " ++ (counts_text ts ++ rest)))) ≡ total_line ts =
+    rw (end_is, n_is) (sym (counted_then (length ts) (codes "tangle") (codes " of " ++ (counts_text ts ++ rest)))) in
+    after_is ∙ ap (λ l. l ++ rest) (second_is ∙ ap (λ l. l ++ counts_text ts) first_is)
+    ∙ total_line_is before (decimal n) (codes " tangle") end (codes " of ") (counts_text ts) rest
+    ∙ ap (λ l. before ++ l) last ∙ ap (λ l. l ++ total_line ts) (so_far ∙ ap (flat_map (tangle_text d all)) (take_all i ts ended))
 
 -- words with two channels among them
 pub parts_told : (before name held wanted from to c e said : List ℕ) → from ≡ c → to ≡ e → before ++ (name ++ (held ++ (c ++ (wanted ++ e)))) ≡ said
@@ -114,18 +131,53 @@ all_numbered line start i count n text ended most is so_far =
 
 -- ---- the flows that make a step
 
-pub none_more : (n : ℕ) → n ≡ 0 → more_text n ++ codes ")" ≡ codes ")"
-none_more n is = ap (λ k. more_text k ++ codes ")") is
+pub none_more : (n : ℕ) → n ≡ 0 → (more_text n ++ codes ")") ++ codes "\n" ≡ codes ")\n"
+none_more n is = ap (λ k. (more_text k ++ codes ")") ++ codes "\n") is
 
-pub some_more : (n : ℕ) → (n ≡ 0 → ⊥) → more_text n ++ codes ")" ≡ codes " and " ++ (decimal n ++ codes " more)")
+more_then : (count more close end : List ℕ) → ((count ++ more) ++ close) ++ end ≡ count ++ (more ++ (close ++ end))
+more_then count more close end = simp append_assoc
+
+pub some_more : (n : ℕ) → (n ≡ 0 → ⊥) → (more_text n ++ codes ")") ++ codes "\n" ≡ codes " and " ++ (decimal n ++ codes " more)\n")
 some_more zero some = absurd (some refl)
 some_more (suc n) some =
-    ap (λ b. (if b then [] else codes " and " ++ (decimal (suc n) ++ codes " more")) ++ codes ")") (eqb-suc-zero n)
-    ∙ ap (λ l. codes " and " ++ l) (append_assoc (decimal (suc n)) (codes " more") (codes ")"))
+    ap (λ b. ((if b then [] else codes " and " ++ (decimal (suc n) ++ codes " more")) ++ codes ")") ++ codes "\n") (eqb-suc-zero n)
+    ∙ ap (λ l. codes " and " ++ l) (more_then (decimal (suc n)) (codes " more") (codes ")") (codes "\n"))
 
-pub flows_told : (d : Declaration) (all : Bool) (flows chosen names rest : List ℕ) → 2 ≤ length flows → chosen ≡ named all flows → names ≡ names_text d chosen
-    → more_text (length flows - length chosen) ++ codes ")" ≡ rest → flows_text d all flows ≡ codes " (flows " ++ (names ++ rest)
-flows_told d all flows chosen names rest many chosen_is names_are rest_is =
+pub few_told : (d : Declaration) (all : Bool) (flows : List ℕ) → length flows < 2 → codes "\n" ≡ flows_text d all flows ++ codes "\n"
+few_told d all flows few =
+    let told : List ℕ = codes " (flows " ++ (names_text d (named all flows) ++ (more_text (length flows - length (named all flows)) ++ codes ")")) in
+    sym (ap (λ b. (if b then [] else told) ++ codes "\n") (lt-ltb (length flows) 2 few))
+
+flows_told : (d : Declaration) (all : Bool) (flows chosen : List ℕ) → 2 ≤ length flows → chosen ≡ named all flows
+    → flows_text d all flows ≡ codes " (flows " ++ (names_text d chosen ++ (more_text (length flows - length chosen) ++ codes ")"))
+flows_told d all flows chosen many chosen_is =
     let of : List ℕ → List ℕ = λ l. codes " (flows " ++ (names_text d l ++ (more_text (length flows - length l) ++ codes ")")) in
     ap (λ b. if b then [] else of (named all flows)) (le-ltb (length flows) 2 many) ∙ ap of (sym chosen_is)
-    ∙ ap (λ l. codes " (flows " ++ (l ++ (more_text (length flows - length chosen) ++ codes ")"))) (sym names_are) ∙ ap (λ l. codes " (flows " ++ (names ++ l)) rest_is
+
+joined_are : (d : Declaration) (flows : List ℕ) → joined_names d (codes ", ") flows ≡ names_text d flows
+joined_are d [] = refl
+joined_are d (flow ∷ flows) = refl
+
+flows_then : (old head names more end : List ℕ) → ((old ++ head) ++ names) ++ (more ++ end) ≡ old ++ ((head ++ (names ++ more)) ++ end)
+flows_then old head names more end = simp append_assoc
+
+-- the flows, and the line's end
+pub flows_ended : (d : Declaration) (all : Bool) (flows chosen old first second rest : List ℕ) → 2 ≤ length flows → chosen ≡ named all flows
+    → first ≡ old ++ codes " (flows " → second ≡ first ++ joined_names d (codes ", ") chosen
+    → (more_text (length flows - length chosen) ++ codes ")") ++ codes "\n" ≡ rest → second ++ rest ≡ old ++ (flows_text d all flows ++ codes "\n")
+flows_ended d all flows chosen old first second rest many chosen_is first_is second_is rest_is =
+    let names : List ℕ = names_text d chosen in
+    let more : List ℕ = more_text (length flows - length chosen) ++ codes ")" in
+    ap (λ l. second ++ l) (sym rest_is)
+    ∙ ap (λ l. l ++ (more ++ codes "\n")) (second_is ∙ ap (λ l. l ++ joined_names d (codes ", ") chosen) first_is ∙ ap (λ l. (old ++ codes " (flows ") ++ l) (joined_are d chosen))
+    ∙ flows_then old (codes " (flows ") names more (codes "\n") ∙ ap (λ l. old ++ (l ++ codes "\n")) (sym (flows_told d all flows chosen many chosen_is))
+
+-- ---- a text of a first element and of more
+
+pub first_added : {X : Type 0} (head more : X → List ℕ) (told : List X → List ℕ) → ((x : X) (xs : List X) → head x ++ flat_map more xs ≡ told (x ∷ xs)) → (xs : List X) (x none : X)
+    (old first text : List ℕ) → 1 ≤ length xs → x ≡ get_or xs 0 none → first ≡ old ++ head x → text ≡ first ++ flat_map more (take (length xs - 1) (drop 1 xs)) → text ≡ old ++ told xs
+first_added head more told each [] x none old first text some x_is first_is text_is = absurd (omega (arith, some))
+first_added head more told each (y ∷ ys) x none old first text some x_is first_is text_is =
+    let rest : take (length (y ∷ ys) - 1) ys ≡ ys = take_all (length (y ∷ ys) - 1) ys (omega arith) in
+    text_is ∙ ap (λ l. first ++ flat_map more l) rest ∙ ap (λ l. l ++ flat_map more ys) (first_is ∙ ap (λ z. old ++ head z) x_is)
+    ∙ append_assoc old (head y) (flat_map more ys) ∙ ap (λ l. old ++ l) (each y ys)

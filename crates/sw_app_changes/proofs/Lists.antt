@@ -1,6 +1,6 @@
 -- Lists of attributes as texts.
-use Rattle.std.proofs.Common.{◌≡◌, ◌∙◌, ◌<◌, ◌≤◌, ◌+◌, ℕ, ◌==◌, Bool, true, false, Result, Ok, Err, List, [], ◌∷◌, ◌++◌, ap, append-nil, append_assoc, arith, codes, get_or, length, ne_eqb, refl, sym}
-use Rattle.std.specs.Prelude.{OnOk, Some, None, if◌then◌else◌, is_ok, position, slice_get}
+use Rattle.std.proofs.Common.{◌≡◌, ◌∙◌, ◌<◌, ◌≤◌, ◌+◌, ℕ, ◌==◌, Bool, true, false, Result, Ok, Err, List, [], ◌∷◌, ◌++◌, ap, append-nil, append_assoc, arith, codes, get_or, length, refl, subst, sym}
+use Rattle.std.specs.Prelude.{OnOk, Option, Some, None, if◌then◌else◌, is_ok, position, slice_get}
 use Rattle.std.specs.Fmt.{decimal}
 use Rattle.std.specs.List.{flat_map, list_any, range_with_len}
 use Rattle.std.specs.Option.{option_map_or}
@@ -12,108 +12,104 @@ use Rattle.sw_output.specs.ChannelTexts.{switch_name}
 use Rattle.sw_output.specs.LinkedPorts.{linked_ports}
 use Rattle.sw_topo.specs.declared.place.PlaceEnd.{PlaceEnd}
 use Rattle.sw_topo.specs.Wiring.{Wiring, partner}
-use Rattle.sw_app_changes.specs.Dot.{AttributeText, attribute_text, attributes_text, comma, list_text, quoted, statement}
+use Rattle.sw_app_changes.specs.Dot.{AttributeText, IsBegun, are_some, attribute_text, attributes_text, begun_text, closing, list_text, opening, quoted, statement}
 use Rattle.sw_app_changes.specs.Drawings.{DrawingView}
 use Rattle.sw_app_changes.specs.DrawTexts.{attribute, channel_attributes, channel_statement, cycle_attributes, edge_text, end_text, field_text, flow_attributes, number_attributes, port_fields, start_text, step_attributes, switch_statement}
 
 abbrev more_text : List AttributeText → List ℕ
 more_text more = flat_map (λ b. codes ", " ++ attribute_text b) more
 
--- an attribute has a text
-has_text : (name value rest : List ℕ) → 0 < length (attribute_text (attribute name value) ++ rest)
-has_text [] value rest = omega arith
-has_text (x ∷ xs) value rest = omega arith
+begun_more : (xs : List AttributeText) (b : AttributeText) (rest : List AttributeText)
+    → begun_text xs ++ (opening (are_some xs) ++ list_text (b ∷ rest)) ≡ begun_text (xs ++ b ∷ rest)
+begun_more [] b rest = refl
+begun_more (a ∷ more) b rest =
+    rw (flat_map-append (λ b. codes ", " ++ attribute_text b) more (b ∷ rest)) (ap (λ l. codes " [" ++ l) (append_assoc (attribute_text a) (more_text more) (codes ", " ++ list_text (b ∷ rest))))
 
-list_some : (a : AttributeText) (more : List AttributeText) → (length (list_text (a ∷ more)) == 0) ≡ false
-list_some a more = ne_eqb _ 0 (λ e. omega (arith, e, has_text a.name a.value (more_text more)))
-
-joined_lists : (xs : List AttributeText) (b : AttributeText) (rest : List AttributeText)
-    → list_text xs ++ (comma (list_text xs) ++ list_text (b ∷ rest)) ≡ list_text (xs ++ b ∷ rest)
-joined_lists [] b rest = refl
-joined_lists (a ∷ more) b rest =
-    rw (list_some a more, flat_map-append (λ b. codes ", " ++ attribute_text b) more (b ∷ rest)) (append_assoc (attribute_text a) (more_text more) (codes ", " ++ list_text (b ∷ rest)))
+some_more : (xs : List AttributeText) (b : AttributeText) (rest : List AttributeText) → true ≡ are_some (xs ++ b ∷ rest)
+some_more [] b rest = refl
+some_more (a ∷ more) b rest = refl
 
 -- attributes behind others
-pub more_told : (xs : List AttributeText) (b : AttributeText) (rest : List AttributeText) (old between told new : List ℕ) → old ≡ list_text xs → between ≡ comma old
-    → told ≡ list_text (b ∷ rest) → new ≡ old ++ (between ++ told) → new ≡ list_text (xs ++ b ∷ rest)
-more_told xs b rest old between told new old_is between_is told_is new_is =
-    new_is ∙ ap (λ l. old ++ (l ++ told)) between_is ∙ ap (λ l. old ++ (comma old ++ l)) told_is
-    ∙ ap (λ l. l ++ (comma l ++ list_text (b ∷ rest))) old_is ∙ joined_lists xs b rest
+mark_added : (start old new : List ℕ) (list : List AttributeText) (b : AttributeText) (rest : List AttributeText) (begun : Bool) (between told : List ℕ) → IsBegun start old list begun
+    → between ≡ opening begun → told ≡ list_text (b ∷ rest) → new ≡ old ++ (between ++ told) → IsBegun start new (list ++ b ∷ rest) true
+mark_added start old new list b rest begun between told old_is between_is told_is new_is = (
+  new_is ∙ ap (λ l. l ++ (between ++ told)) old_is.0 ∙ append_assoc start (begun_text list) (between ++ told)
+      ∙ ap (λ l. start ++ (begun_text list ++ (l ++ told))) (between_is ∙ ap opening old_is.1) ∙ ap (λ l. start ++ (begun_text list ++ (opening (are_some list) ++ l))) told_is
+      ∙ ap (λ l. start ++ l) (begun_more list b rest),
+  some_more list b rest,
+)
 
--- no attributes have no brackets
-pub none_told : (list : List AttributeText) (text : List ℕ) → text ≡ list_text list → (length text == 0) ≡ true → attributes_text list ++ codes ";\n" ≡ codes ";\n"
-none_told [] text is none = refl
-none_told (a ∷ more) text is none =
-    let not : (length text == 0) ≡ false = rw is (list_some a more) in
-    absurd cc
+none_added : (start old : List ℕ) (list : List AttributeText) (begun : Bool) → IsBegun start old list begun → IsBegun start old (list ++ []) begun
+none_added start old list begun is = subst (λ (l : List AttributeText). IsBegun start old l begun) (sym (append-nil list)) is
 
--- others stand in brackets
-pub some_told : (list : List AttributeText) (text : List ℕ) → text ≡ list_text list → (length text == 0) ≡ false
-    → attributes_text list ++ codes ";\n" ≡ codes " [" ++ (text ++ codes "];\n")
-some_told [] text is some =
-    let not : (length text == 0) ≡ true = rw is refl in
-    absurd cc
-some_told (a ∷ more) text is some =
-    let all = attribute_text a ++ more_text more in
-    let same : attributes_text (a ∷ more) ++ codes ";\n" ≡ codes " [" ++ (all ++ codes "];\n") =
-    rw (sym (append_assoc (attribute_text a) (more_text more) (codes "]"))) (ap (λ l. codes " [" ++ l) (append_assoc all (codes "]") (codes ";\n"))) in
-    same ∙ ap (λ l. codes " [" ++ (l ++ codes "];\n")) (sym is)
+-- the end of the line
+close_then : (first more close end : List ℕ) → (first ++ (more ++ close)) ++ end ≡ (first ++ more) ++ (close ++ end)
+close_then first more close end = simp append_assoc
 
--- a channel of a flow's places
-pub flow_told : (places : List Place) (c n : ℕ) → n ≡ c → list_any (λ (p : Place). p.channel == c) places ≡ true
-    → list_text (flow_attributes places c) ≡ codes "style=\"bold\", xlabel=\"channel " ++ (decimal n ++ codes "\"")
-flow_told places c n same is = rw (same, is, append-nil (decimal c ++ codes "\"")) refl
+closed : (xs : List AttributeText) → attributes_text xs ++ codes ";\n" ≡ begun_text xs ++ closing (are_some xs)
+closed [] = refl
+closed (a ∷ more) = ap (λ l. codes " [" ++ l) (close_then (attribute_text a) (more_text more) (codes "]") (codes ";\n"))
 
-pub flow_not_told : (places : List Place) (c : ℕ) → list_any (λ (p : Place). p.channel == c) places ≡ false → list_text (flow_attributes places c) ≡ []
-flow_not_told places c is = rw is refl
+marks_ended : (start old new : List ℕ) (list : List AttributeText) (begun : Bool) (end : List ℕ) → IsBegun start old list begun → end ≡ closing begun → new ≡ old ++ end
+    → new ≡ start ++ (attributes_text list ++ codes ";\n")
+marks_ended start old new list begun end old_is end_is new_is =
+    new_is ∙ ap (λ l. l ++ end) old_is.0 ∙ append_assoc start (begun_text list) end ∙ ap (λ l. start ++ (begun_text list ++ l)) (end_is ∙ ap closing old_is.1)
+    ∙ ap (λ l. start ++ l) (sym (closed list))
 
-label_told : (n : ℕ) → list_text (attribute (codes "label") (decimal n) ∷ []) ≡ codes "label=\"" ++ (decimal n ++ codes "\"")
+-- a channel of a flow's places, and one that is not
+pub flow_begun : (places : List Place) (c n : ℕ) (old before new : List ℕ) → n ≡ c → list_any (λ (p : Place). p.channel == c) places ≡ true → before ≡ old
+    → new ≡ before ++ (codes " [style=\"bold\", xlabel=\"channel " ++ (decimal n ++ codes "\"")) → IsBegun old new (flow_attributes places c) true
+flow_begun places c n old before new same is before_is new_is =
+    let told : codes " [style=\"bold\", xlabel=\"channel " ++ (decimal n ++ codes "\"") ≡ begun_text (flow_attributes places c) = rw (same, is, append-nil (decimal c ++ codes "\"")) refl in
+    let some : true ≡ are_some (flow_attributes places c) = rw is refl in
+    (new_is ∙ ap (λ l. l ++ (codes " [style=\"bold\", xlabel=\"channel " ++ (decimal n ++ codes "\""))) before_is ∙ ap (λ l. old ++ l) told, some)
+
+pub flow_not_begun : (places : List Place) (c : ℕ) (old before : List ℕ) → list_any (λ (p : Place). p.channel == c) places ≡ false → before ≡ old → IsBegun old before (flow_attributes places c) false
+flow_not_begun places c old before is before_is =
+    let told : [] ≡ begun_text (flow_attributes places c) = rw is refl in
+    let none : false ≡ are_some (flow_attributes places c) = rw is refl in
+    (before_is ∙ sym (append-nil old) ∙ ap (λ l. old ++ l) told, none)
+
+label_told : (n : ℕ) → codes "label=\"" ++ (decimal n ++ codes "\"") ≡ list_text (attribute (codes "label") (decimal n) ∷ [])
 label_told n = rw (append-nil (decimal n ++ codes "\"")) refl
 
 -- a channel of the cycle, and one that is not
-pub step_added : (cycle : List ℕ) (c before n : ℕ) (list : List AttributeText) (old between new : List ℕ) → position (λ e. e == c) cycle ≡ Some before → n ≡ before + 1
-    → old ≡ list_text list → between ≡ comma old → new ≡ old ++ (between ++ (codes "color=\"red\", fontcolor=\"red\", label=\"" ++ (decimal n ++ codes "\"")))
-    → new ≡ list_text (list ++ cycle_attributes cycle c)
-step_added cycle c before n list old between new found same old_is between_is new_is =
+pub step_added : (cycle : List ℕ) (c before n : ℕ) (start old new : List ℕ) (list : List AttributeText) (begun : Bool) (between : List ℕ) → position (λ e. e == c) cycle ≡ Some before
+    → n ≡ before + 1 → IsBegun start old list begun → between ≡ opening begun → new ≡ old ++ (between ++ (codes "color=\"red\", fontcolor=\"red\", label=\"" ++ (decimal n ++ codes "\"")))
+    → IsBegun start new (list ++ cycle_attributes cycle c) true
+step_added cycle c before n start old new list begun between found same old_is between_is new_is =
     let told : codes "color=\"red\", fontcolor=\"red\", label=\"" ++ (decimal n ++ codes "\"") ≡ list_text (step_attributes before) =
     rw (same, append-nil (decimal (before + 1) ++ codes "\"")) refl in
-    more_told list _ _ old between _ new old_is between_is told new_is ∙ ap (λ o. list_text (list ++ option_map_or step_attributes o [])) (sym found)
+    subst (λ (o : Option ℕ). IsBegun start new (list ++ option_map_or step_attributes o []) true) (sym found) (mark_added start old new list _ _ begun between _ old_is between_is told new_is)
 
-pub no_step : (cycle : List ℕ) (c : ℕ) (list : List AttributeText) (old : List ℕ) → position (λ e. e == c) cycle ≡ None → old ≡ list_text list
-    → old ≡ list_text (list ++ cycle_attributes cycle c)
-no_step cycle c list old none is = is ∙ ap list_text (sym (append-nil list)) ∙ ap (λ o. list_text (list ++ option_map_or step_attributes o [])) (sym none)
+pub no_step : (cycle : List ℕ) (c : ℕ) (start old : List ℕ) (list : List AttributeText) (begun : Bool) → position (λ e. e == c) cycle ≡ None → IsBegun start old list begun
+    → IsBegun start old (list ++ cycle_attributes cycle c) begun
+no_step cycle c start old list begun none is =
+    subst (λ (o : Option ℕ). IsBegun start old (list ++ option_map_or step_attributes o []) begun) (sym none) (none_added start old list begun is)
 
 -- a channel with a number, and one without
 abbrev numbered : ℕ → List AttributeText
 numbered n = attribute (codes "label") (decimal n) ∷ []
 
-pub number_added : (numbers : List ℕ) (c i n : ℕ) (list : List AttributeText) (old between new : List ℕ) → i ≡ c → i < length numbers → n ≡ get_or numbers i n
-    → old ≡ list_text list → between ≡ comma old → new ≡ old ++ (between ++ (codes "label=\"" ++ (decimal n ++ codes "\"")))
-    → new ≡ list_text (list ++ number_attributes numbers c)
-number_added numbers c i n list old between new at lt is old_is between_is new_is =
-    more_told list _ _ old between _ new old_is between_is (sym (label_told n)) new_is
-    ∙ ap (λ o. list_text (list ++ option_map_or numbered o [])) (sym (slice_get_read numbers (length numbers) i n refl lt is)) ∙ ap (λ j. list_text (list ++ number_attributes numbers j)) at
+mark_then : (old between label number quote end : List ℕ) → old ++ (between ++ (label ++ (number ++ (quote ++ end)))) ≡ (old ++ (between ++ (label ++ (number ++ quote)))) ++ end
+mark_then old between label number quote end = simp append_assoc
 
-pub no_number : (numbers : List ℕ) (c i : ℕ) (list : List AttributeText) (old : List ℕ) → i ≡ c → length numbers ≤ i → old ≡ list_text list
-    → old ≡ list_text (list ++ number_attributes numbers c)
-no_number numbers c i list old at past is =
-    is ∙ ap list_text (sym (append-nil list)) ∙ ap (λ o. list_text (list ++ option_map_or numbered o [])) (sym (slice_get_past numbers i past))
-    ∙ ap (λ j. list_text (list ++ number_attributes numbers j)) at
+pub number_ended : (numbers : List ℕ) (c i n : ℕ) (start old new : List ℕ) (list : List AttributeText) (begun : Bool) (between : List ℕ) → i ≡ c → i < length numbers → n ≡ get_or numbers i n
+    → IsBegun start old list begun → between ≡ opening begun → new ≡ old ++ (between ++ (codes "label=\"" ++ (decimal n ++ codes "\"];\n")))
+    → new ≡ start ++ (attributes_text (list ++ number_attributes numbers c) ++ codes ";\n")
+number_ended numbers c i n start old new list begun between at lt is old_is between_is new_is =
+    let marked = old ++ (between ++ (codes "label=\"" ++ (decimal n ++ codes "\""))) in
+    let whole = mark_added start old marked list _ _ begun between _ old_is between_is (label_told n) refl in
+    marks_ended start marked new (list ++ numbered n) true (codes "];\n") whole refl (new_is ∙ mark_then old between (codes "label=\"") (decimal n) (codes "\"") (codes "];\n"))
+    ∙ ap (λ o. start ++ (attributes_text (list ++ option_map_or numbered o []) ++ codes ";\n")) (sym (slice_get_read numbers (length numbers) i n refl lt is))
+    ∙ ap (λ j. start ++ (attributes_text (list ++ number_attributes numbers j) ++ codes ";\n")) at
 
--- what is told of a channel, and the end of its line
-module _ (drawing : DrawingView) (c : ℕ) (told : List ℕ) (size : ℕ) (empty : Bool) (sized : size ≡ length told) (tested : empty ≡ (size == 0))
-    (is : told ≡ list_text (flow_attributes drawing.places c ++ cycle_attributes drawing.cycle c ++ number_attributes drawing.numbers c)) where
-  all_told : told ≡ list_text (channel_attributes drawing c)
-  all_told = is ∙ ap list_text (append_assoc (flow_attributes drawing.places c) (cycle_attributes drawing.cycle c) (number_attributes drawing.numbers c))
-
-  tested_so : (length told == 0) ≡ empty
-  tested_so = sym (tested ∙ ap (λ n. n == 0) sized)
-
-  pub nothing_marked : empty ≡ true → codes ";\n" ≡ attributes_text (channel_attributes drawing c) ++ codes ";\n"
-  nothing_marked none = sym (none_told (channel_attributes drawing c) told all_told (tested_so ∙ none))
-
-  pub marked : empty ≡ false → codes " [" ++ (told ++ codes "];\n") ≡ attributes_text (channel_attributes drawing c) ++ codes ";\n"
-  marked some = sym (some_told (channel_attributes drawing c) told all_told (tested_so ∙ some))
+pub no_number_ended : (numbers : List ℕ) (c i : ℕ) (start old new : List ℕ) (list : List AttributeText) (begun : Bool) (end : List ℕ) → i ≡ c → length numbers ≤ i → end ≡ closing begun
+    → IsBegun start old list begun → new ≡ old ++ end → new ≡ start ++ (attributes_text (list ++ number_attributes numbers c) ++ codes ";\n")
+no_number_ended numbers c i start old new list begun end at past end_is old_is new_is =
+    marks_ended start old new (list ++ []) begun end (none_added start old list begun old_is) end_is new_is
+    ∙ ap (λ o. start ++ (attributes_text (list ++ option_map_or numbered o []) ++ codes ";\n")) (sym (slice_get_past numbers i past))
+    ∙ ap (λ j. start ++ (attributes_text (list ++ number_attributes numbers j) ++ codes ";\n")) at
 
 -- a switch's line: its name, the fields of its ports, and the end
 line_told : (old name fields : List ℕ)
@@ -134,13 +130,15 @@ edge_line old start end marks = simp append_assoc
 
 pub channel_added : (d : Declaration) (drawing : DrawingView) (n c : ℕ) (wired : Wiring) (start end : PlaceEnd) (old first second new : List ℕ) → wired ≡ wiring_of d → c ≡ n → slice_get wired.ends c ≡ Some start
     → slice_get wired.ends (partner c) ≡ Some end → first ≡ old ++ (codes "  " ++ end_text d start) → second ≡ first ++ (codes " -> " ++ end_text d end)
-    → new ≡ second ++ (attributes_text (channel_attributes drawing c) ++ codes ";\n") → new ≡ old ++ channel_statement d drawing n
+    → new ≡ second ++ (attributes_text ((flow_attributes drawing.places c ++ cycle_attributes drawing.cycle c) ++ number_attributes drawing.numbers c) ++ codes ";\n")
+    → new ≡ old ++ channel_statement d drawing n
 channel_added d drawing n c wired start end old first second new wired_is same at_start at_end first_is second_is new_is =
     let place = λ (v : Wiring) (k : ℕ). option_map_or (end_text d) (slice_get v.ends k) [] in
     let marks = λ (k : ℕ). attributes_text (channel_attributes drawing k) ++ codes ";\n" in
     let starts : end_text d start ≡ start_text d n = ap (λ o. option_map_or (end_text d) o []) (sym at_start) ∙ ap (λ v. place v c) wired_is ∙ ap (start_text d) same in
     let ends : end_text d end ≡ start_text d (partner n) = ap (λ o. option_map_or (end_text d) o []) (sym at_end) ∙ ap (λ v. place v (partner c)) wired_is ∙ ap (λ k. start_text d (partner k)) same in
-    new_is ∙ ap (λ l. l ++ marks c) (second_is ∙ ap (λ l. l ++ (codes " -> " ++ end_text d end)) first_is) ∙ edge_line old (end_text d start) (end_text d end) (marks c)
+    new_is ∙ ap (λ l. second ++ (attributes_text l ++ codes ";\n")) (append_assoc (flow_attributes drawing.places c) (cycle_attributes drawing.cycle c) (number_attributes drawing.numbers c))
+    ∙ ap (λ l. l ++ marks c) (second_is ∙ ap (λ l. l ++ (codes " -> " ++ end_text d end)) first_is) ∙ edge_line old (end_text d start) (end_text d end) (marks c)
     ∙ ap (λ l. old ++ (codes "  " ++ (l ++ (codes " -> " ++ end_text d end) ++ marks c))) starts ∙ ap (λ l. old ++ (codes "  " ++ (start_text d n ++ (codes " -> " ++ l) ++ marks c))) ends
     ∙ ap (λ k. old ++ (codes "  " ++ (edge_text d n ++ marks k))) same
 
@@ -156,3 +154,8 @@ pub parts_added : (start nodes switches channels first second after : List ℕ) 
 parts_added start nodes switches channels first second after first_is second_is after_is =
     after_is ∙ ap (λ l. l ++ channels) (second_is ∙ ap (λ l. l ++ switches) first_is)
     ∙ append_assoc (start ++ nodes) switches channels ∙ append_assoc start nodes (switches ++ channels)
+
+-- a text between its first lines and its last one
+pub whole_drawn : (head parts end start after whole : List ℕ) → start ≡ head → after ≡ start ++ parts → whole ≡ after ++ end → whole ≡ head ++ (parts ++ end)
+whole_drawn head parts end start after whole start_is after_is whole_is =
+    whole_is ∙ ap (λ l. l ++ end) (after_is ∙ ap (λ l. l ++ parts) start_is) ∙ append_assoc head parts end

@@ -1,10 +1,12 @@
 -- The lines of links, one after another.
-use Rattle.std.proofs.Common.{◌≡◌, ◌∙◌, ℕ, ◌+◌, ◌*◌, ◌<◌, List, Vec, Global, [], ◌∷◌, ◌++◌, ap, append-nil, append_assoc, arith, codes, get_or, length, map, sym, take}
+use Rattle.std.proofs.Common.{◌≡◌, ◌∙◌, ℕ, ◌+◌, ◌*◌, ◌<◌, ◌≤◌, List, Vec, Global, [], ◌∷◌, ◌++◌, ap, append-nil, append_assoc, arith, codes, get_or, length, map, refl, sym, take}
 use Rattle.std.specs.List.{flat_map}
-use Rattle.std.proofs.lemmas.List.{flat_map_more, length-map, length-take-le, map-append, take_more}
+use Rattle.std.proofs.lemmas.List.{flat_map_more, length-map, length-take-le, map-append, take_all, take_more}
 use Rattle.sw_config.specs.Entries.{Declaration}
+use Rattle.sw_margin.specs.declared.bend.Bend.{Bend}
+use Rattle.sw_margin.specs.declared.bend.Margins.{Margins}
 use Rattle.sw_output.specs.ChannelTexts.{channel_text}
-use Rattle.sw_app_changes.specs.MarginTexts.{flows_words, loss_line, loss_lines}
+use Rattle.sw_app_changes.specs.MarginTexts.{answer_line, flows_words, loss_line, loss_lines, margin_text, stall_line}
 
 abbrev pub items_of : Vec ℕ Global → List ℕ
 items_of flows = flows.items
@@ -32,12 +34,22 @@ loss_lines_more d i rows flows start before line after lt at so_far is more =
     more ∙ ap (λ l. l ++ line) so_far ∙ append_assoc start so_many line ∙ ap (λ l. start ++ (so_many ++ l)) is
     ∙ ap (λ l. start ++ l) (sym (loss_lines_push d 0 i (map items_of (take i rows)) flows.items size) ∙ ap (loss_lines d 0) (sym parts))
 
--- a text that three parts were added to, one after another
-pub three_parts : (a b c x y z start first second third : List ℕ) → start ≡ [] → x ≡ a → y ≡ b → z ≡ c → first ≡ start ++ x → second ≡ first ++ y → third ≡ second ++ z
-    → third ≡ a ++ (b ++ c)
-three_parts a b c x y z start first second third none x_is y_is z_is first_is second_is third_is =
+-- the lines of all links, behind what stands there
+pub all_losses : (d : Declaration) (rows : List (Vec ℕ Global)) (i : ℕ) (start text : List ℕ) → length rows ≤ i → text ≡ start ++ loss_lines d 0 (map items_of (take i rows))
+    → text ≡ start ++ loss_lines d 0 (map items_of rows)
+all_losses d rows i start text ended so_far = so_far ∙ ap (λ l. start ++ loss_lines d 0 (map items_of l)) (take_all i rows ended)
+
+-- a text that the lines of three lists were added to, one after another
+pub three_lists : (d : Declaration) (stalls answers : List Bend) (losses : List (Vec ℕ Global)) (told : Margins) (start first second third : List ℕ) → start ≡ []
+    → stalls ≡ told.stalls.items → answers ≡ told.answers.items → losses ≡ told.losses.items → first ≡ start ++ flat_map (stall_line d) stalls → second ≡ first ++ flat_map (answer_line d) answers
+    → third ≡ second ++ loss_lines d 0 (map items_of losses) → third ≡ margin_text d told
+three_lists d stalls answers losses told start first second third none stalls_are answers_are losses_are first_is second_is third_is =
+    let x = flat_map (stall_line d) stalls in
+    let y = flat_map (answer_line d) answers in
+    let z = loss_lines d 0 (map items_of losses) in
     third_is ∙ ap (λ l. l ++ z) (second_is ∙ ap (λ l. l ++ y) (first_is ∙ ap (λ l. l ++ x) none)) ∙ append_assoc x y z
-    ∙ ap (λ l. l ++ (y ++ z)) x_is ∙ ap (λ l. a ++ (l ++ z)) y_is ∙ ap (λ l. a ++ (b ++ l)) z_is
+    ∙ ap (λ (s : List Bend). flat_map (stall_line d) s ++ (y ++ z)) stalls_are ∙ ap (λ (a : List Bend). flat_map (stall_line d) told.stalls.items ++ (flat_map (answer_line d) a ++ z)) answers_are
+    ∙ ap (λ (l : List (Vec ℕ Global)). flat_map (stall_line d) told.stalls.items ++ (flat_map (answer_line d) told.answers.items ++ loss_lines d 0 (map items_of l))) losses_are
 
 -- the line of one element more, behind what stands there
 pub line_at : {X : Type 0} (f : X → List ℕ) (xs : List X) (i : ℕ) (none : X) (start before after : List ℕ) → i < length xs → before ≡ start ++ flat_map f (take i xs)
@@ -46,12 +58,23 @@ line_at f xs i none start before after lt so_far more =
     more ∙ ap (λ l. l ++ f (get_or xs i none)) so_far ∙ flat_map_more f start (take i xs) (get_or xs i none) ∙ ap (λ l. start ++ flat_map f l) (sym (take_more xs i none lt))
 
 -- the line of a link with its flows
-pub loss_told : (d : Declaration) (link : ℕ) (flows name words : List ℕ) → name ≡ channel_text d (2 * link) → words ≡ flows_words d flows
+loss_told : (d : Declaration) (link : ℕ) (flows name words : List ℕ) → name ≡ channel_text d (2 * link) → words ≡ flows_words d flows
     → loss_line d link flows ≡ codes "lost without the link " ++ (name ++ (codes ": " ++ (words ++ codes "\n")))
 loss_told d link flows name words name_is words_are =
     let end : List ℕ = flows_words d flows ++ codes "\n" in
     ap (λ l. codes "lost without the link " ++ l) (append_assoc (channel_text d (2 * link)) (codes ":") (codes " " ++ end)
     ∙ ap (λ l. l ++ (codes ": " ++ end)) (sym name_is) ∙ ap (λ l. name ++ (codes ": " ++ (l ++ codes "\n"))) (sym words_are))
+
+put_between : (old head name between rest : List ℕ) → (old ++ (head ++ (name ++ between))) ++ rest ≡ old ++ (head ++ (name ++ (between ++ rest)))
+put_between old head name between rest = simp append_assoc
+
+-- the line of a link, and then its flows
+pub loss_ended : (d : Declaration) (link : ℕ) (flows name old first : List ℕ) → name ≡ channel_text d (2 * link)
+    → first ≡ old ++ (codes "lost without the link " ++ (name ++ codes ": ")) → first ++ (flows_words d flows ++ codes "\n") ≡ old ++ loss_line d link flows
+loss_ended d link flows name old first name_is first_is =
+    let end : List ℕ = flows_words d flows ++ codes "\n" in
+    ap (λ l. l ++ end) first_is ∙ put_between old (codes "lost without the link ") name (codes ": ") end
+    ∙ ap (λ l. old ++ l) (sym (loss_told d link flows name (flows_words d flows) name_is refl))
 
 -- words, a name and what ends a line
 pub words_told : (words name end said named : List ℕ) → words ≡ said → name ≡ named → words ++ (codes " " ++ (name ++ end)) ≡ said ++ (codes " " ++ (named ++ end))

@@ -1,5 +1,5 @@
 -- Statements of DOT, the language of Graphviz.
-use Rattle.std.specs.Prelude.{ℕ, List, [], ◌∷◌, ◌++◌, ◌==◌, codes, flat_map, if◌then◌else◌, length}
+use Rattle.std.specs.Prelude.{◌≡◌, ℕ, Bool, true, false, List, [], ◌∷◌, ◌++◌, codes, flat_map, if◌then◌else◌}
 
 -- an attribute of what is drawn: its name and its value
 pub record AttributeText : Type 0 where
@@ -30,6 +30,24 @@ abbrev pub list_text : List AttributeText → List ℕ
 list_text [] = []
 list_text (a ∷ more) = attribute_text a ++ flat_map (λ b. codes ", " ++ attribute_text b) more
 
--- what stands between the text of a list and more
-abbrev pub comma : List ℕ → List ℕ
-comma text = if length text == 0 then [] else codes ", "
+-- attributes in brackets that are not closed yet
+abbrev pub begun_text : List AttributeText → List ℕ
+begun_text [] = []
+begun_text (a ∷ more) = codes " [" ++ list_text (a ∷ more)
+
+-- there are some
+abbrev pub are_some : List AttributeText → Bool
+are_some [] = false
+are_some (a ∷ more) = true
+
+-- what stands before one more, behind others or as the first
+abbrev pub opening : Bool → List ℕ
+opening begun = if begun then codes ", " else codes " ["
+
+-- what ends the line
+abbrev pub closing : Bool → List ℕ
+closing begun = if begun then codes "];\n" else codes ";\n"
+
+-- the attributes stand behind a text, and it is known whether there are any
+abbrev pub IsBegun : List ℕ → List ℕ → List AttributeText → Bool → Type 0
+IsBegun start text list begun = (text ≡ start ++ begun_text list) × (begun ≡ are_some list)

@@ -21,6 +21,10 @@ pub record DrawingView : Type 0 where
   pub cycle : List ℕ
   pub numbers : List ℕ
 
+-- these places, this cycle and these numbers
+abbrev pub drawn_over : List Place → List ℕ → List ℕ → DrawingView
+drawn_over places cycle numbers = record { places = places; cycle = cycle; numbers = numbers }
+
 -- the shortest cycle of the first tangle
 abbrev pub first_cycle : List Tangle → List ℕ
 first_cycle [] = []

@@ -96,6 +96,11 @@ abbrev pub names_text : Declaration → List ℕ → List ℕ
 names_text d [] = []
 names_text d (flow ∷ flows) = flow_name d flow ++ flat_map (λ f. codes ", " ++ flow_name d f) flows
 
+-- names of flows, with this between each two
+abbrev pub joined_names : Declaration → List ℕ → List ℕ → List ℕ
+joined_names d between [] = []
+joined_names d between (flow ∷ flows) = flow_name d flow ++ flat_map (λ f. between ++ flow_name d f) flows
+
 -- how many more there are
 abbrev pub more_text : ℕ → List ℕ
 more_text count = if count == 0 then [] else codes " and " ++ (decimal count ++ codes " more")

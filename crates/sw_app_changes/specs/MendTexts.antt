@@ -1,5 +1,5 @@
 -- The text of `mend` (this project's choice).
-use Rattle.std.specs.Prelude.{ℕ, List, [], ◌∷◌, ◌++◌, codes, flat_map}
+use Rattle.std.specs.Prelude.{ℕ, List, Option, Some, None, [], ◌∷◌, ◌++◌, codes, flat_map}
 use Rattle.std.specs.Fmt.{decimal}
 use Rattle.sw_config.specs.Entries.{Declaration}
 use Rattle.sw_mend.specs.declared.change.Change.{Change}
@@ -15,6 +15,11 @@ use Rattle.sw_output.specs.Lines.{line, spaced}
 use Rattle.sw_output.specs.VerdictTexts.{misrouted_words}
 use Rattle.sw_app_changes.specs.declared.mending.Mending.{Mending}
 use Rattle.sw_app_changes.specs.declared.mending.Mending.TheVariants.{Misrouted, Free, Single, Pairs}
+
+-- what is less of a table entry: that port, or all of it
+abbrev pub less_of : ℕ → ℕ → Option ℕ → Change
+less_of switch entry (Some port) = WithoutPort switch entry port
+less_of switch entry None = WithoutEntry switch entry
 
 -- what is taken away
 abbrev pub change_words : Declaration → Change → List ℕ

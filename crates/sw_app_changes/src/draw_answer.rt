@@ -5,14 +5,14 @@ ghost use Rattle.sw_app_changes.specs.Drawings.{IsCycleDrawn};
 
 use crate::draw_options::DrawOptions;
 use crate::draw_text::drawing_answer;
-use crate::drawing::{Drawing, first_cycle, numbers_of};
+use crate::drawing::{first_cycle, numbers_of};
 use std::alloc::{AllocError, Global};
 use sw_config::Network;
 use sw_file::read_network;
 use sw_flow::{Place, all_places, places};
 use sw_search::{VerdictWorkers, decide, tangles};
 use sw_text::statuses::FAULTY;
-use sw_text::{Answer, FileFault};
+use sw_text::{Answer, fault_answer};
 use sw_topo::Chan;
 
 // With these places of a flow, this cycle, and the numbers if they are asked for.
@@ -27,27 +27,18 @@ fn numbered_answer<W: VerdictWorkers>(
     requires { IsCycleDrawn network.now options.now.cycle cycle.now }
     ensures { IfOk result (λ a. IsDrawnAnswer options.now network.now places.now (string_bytes a.text) a.status) }
 {
-    let numbers = &[];
-    let unnumbered = Drawing {
-        places,
-        cycle,
-        numbers,
-    };
     if !options.numbers {
-        return drawing_answer(alloc, network, &unnumbered);
+        return drawing_answer(alloc, network, places, cycle, &[]);
     }
     let count = cycle.len();
     // A cycle shows already that there are none.
     if count > 0 {
-        return drawing_answer(alloc, network, &unnumbered);
+        return drawing_answer(alloc, network, places, cycle, &[]);
     }
     let verdict = decide(workers, alloc, network)?;
-    let drawing = Drawing {
-        places,
-        cycle,
-        numbers: numbers_of(&verdict),
-    };
-    drawing_answer(alloc, network, &drawing)
+    let answer = drawing_answer(alloc, network, places, cycle, numbers_of(&verdict));
+    drop(verdict);
+    answer
 }
 
 // With these places of a flow, and what else is asked for.
@@ -107,7 +98,6 @@ pub(crate) fn draw_answer<W: VerdictWorkers>(
             network.discard();
             answer
         }
-        Err(FileFault::Text(fault)) => Answer::of_fault(alloc, &fault),
-        Err(FileFault::Memory) => Err(AllocError),
+        Err(fault) => fault_answer(alloc, fault),
     }
 }

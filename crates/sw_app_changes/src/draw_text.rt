@@ -1,47 +1,39 @@
 //! The text of a drawing.
-ghost use Rattle.std.specs.Prelude.{◌≡◌, ◌++◌, IfOk, OnOk, string_bytes};
+ghost use Rattle.std.specs.Prelude.{IfOk, string_bytes};
 ghost use Rattle.sw_text.specs.Ends.{Says};
-ghost use Rattle.sw_app_changes.specs.DrawTexts.{draw_text, parts_text};
+ghost use Rattle.sw_app_changes.specs.Drawings.{drawn_over};
+ghost use Rattle.sw_app_changes.specs.DrawTexts.{draw_text};
 
-use crate::drawing::Drawing;
 use crate::drawn_channels::add_channel;
 use crate::drawn_parts::{add_node, add_switch};
 use std::alloc::{AllocError, Global};
 use sw_config::Network;
+use sw_flow::Place;
 use sw_text::Answer;
 use sw_text::statuses::GOOD;
+use sw_topo::Chan;
 
-// Adds a line for each node, each switch and each channel.
-fn add_parts(
-    text: &mut String,
-    alloc: Global,
-    network: &Network,
-    drawing: &Drawing<'_>,
-) -> Result<(), AllocError>
-    ensures { OnOk result (string_bytes text.new ≡ string_bytes text.old ++ parts_text network.now drawing.now) }
-{
-    for node in 0..network.nodes() {
-        add_node(text, network, node)?;
-    }
-    for switch in 0..network.switches() {
-        add_switch(text, alloc, network, switch)?;
-    }
-    for number in 0..network.channels() {
-        add_channel(text, alloc, network, drawing, number)?;
-    }
-    Ok(())
-}
-
-/// The network in DOT, its nodes as boxes, with what is drawn over its parts.
+/// The network in DOT, its nodes as boxes, with what is drawn over its parts: the places of a flow, a cycle of channels, and the channels'
+/// numbers, each empty where it is not drawn. A line for each node, each switch and each channel.
 pub(crate) fn drawing_answer(
     alloc: Global,
     network: &Network,
-    drawing: &Drawing<'_>,
+    places: &[Place],
+    cycle: &[Chan],
+    numbers: &[u16],
 ) -> Result<Answer, AllocError>
-    ensures { IfOk result (λ a. Says (draw_text network.now drawing.now) 0 (string_bytes a.text) a.status) }
+    ensures { IfOk result (λ a. Says (draw_text network.now (drawn_over places.now cycle.now numbers.now)) 0 (string_bytes a.text) a.status) }
 {
     let mut text = String::from_str(alloc, "digraph network {\n  node [shape=\"box\"];\n")?;
-    add_parts(&mut text, alloc, network, drawing)?;
+    for node in 0..network.nodes() {
+        add_node(&mut text, network, node)?;
+    }
+    for switch in 0..network.switches() {
+        add_switch(&mut text, alloc, network, switch)?;
+    }
+    for number in 0..network.channels() {
+        add_channel(&mut text, network, places, cycle, numbers, number)?;
+    }
     text.push_str("}\n")?;
     Ok(Answer { text, status: GOOD })
 }

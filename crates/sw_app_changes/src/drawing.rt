@@ -2,26 +2,8 @@
 ghost use Rattle.std.specs.Prelude.{◌≡◌, Some};
 ghost use Rattle.sw_app_changes.specs.Drawings.{first_cycle, numbers_of};
 
-use std::marker::Model;
-use sw_flow::Place;
 use sw_search::{Tangle, Verdict};
 use sw_topo::Chan;
-
-/// The places of a flow, a cycle of channels, and the channels' numbers, each empty where it is not drawn.
-#[derive(Drop)]
-pub(crate) struct Drawing<'a> {
-    pub(crate) places: &'a [Place],
-    pub(crate) cycle: &'a [Chan],
-    pub(crate) numbers: &'a [u16],
-}
-
-impl<'a> Model for Drawing<'a> {
-    ghost use Rattle.sw_app_changes.specs.Drawings.{DrawingView};
-
-    ghost Value = { DrawingView };
-
-    ghost view = { λ w. record { places = w.places.now; cycle = w.cycle.now; numbers = w.numbers.now } };
-}
 
 /// The shortest cycle of the first tangle.
 pub(crate) fn first_cycle(tangles: &[Tangle]) -> &[Chan]

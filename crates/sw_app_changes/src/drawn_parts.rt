@@ -30,8 +30,8 @@ pub(crate) fn add_switch(
     ensures { OnOk result (string_bytes text.new ≡ string_bytes text.old ++ switch_statement network.now switch) }
 {
     let name = switch_name(network, switch);
-    let ports = linked_ports(alloc, network, switch)?;
     write!(text, "  \"{name}\" [shape=\"record\", label=\"{name}")?;
+    let ports = linked_ports(alloc, network, switch)?;
     for port in ports.iter() {
         write!(text, "|<{port}>{port}")?;
     }

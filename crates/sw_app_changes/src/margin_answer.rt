@@ -1,6 +1,6 @@
 //! What `margin` answers.
 ghost use Rattle.std.specs.Prelude.{IfOk, string_bytes};
-ghost use Rattle.sw_app_changes.specs.MarginAnswers.{IsBent, IsByVerdict, IsMarginAnswer, IsNetworkAnswer};
+ghost use Rattle.sw_app_changes.specs.MarginAnswers.{IsByVerdict, IsMarginAnswer, IsNetworkAnswer};
 
 use crate::margin_texts::margin_text;
 use std::alloc::{AllocError, Global};
@@ -12,19 +12,7 @@ use sw_search::{Verdict, VerdictWorkers, decide};
 use sw_text::statuses::GOOD;
 use sw_text::{Answer, fault_answer};
 
-// What the premises of the network stand, where no channels can wait for one another.
-fn bent_text<W: VerdictWorkers>(
-    workers: &W,
-    alloc: Global,
-    network: &Network,
-) -> Result<String, AllocError>
-    ensures { IfOk result (λ s. IsBent network.now (string_bytes s) 0) }
-{
-    let found = margins(workers, alloc, network)?;
-    margin_text(alloc, network, &found)
-}
-
-// What is told by the verdict on the network.
+// What is told by the verdict on the network: of a free one what its premises stand.
 fn text_by_verdict<W: VerdictWorkers>(
     workers: &W,
     alloc: Global,
@@ -38,7 +26,10 @@ fn text_by_verdict<W: VerdictWorkers>(
             misrouted_text(alloc, network, *flow, *place, *fault)
         }
         Verdict::Cyclic(_) => String::from_str(alloc, "not free\n"),
-        Verdict::Free(_) => bent_text(workers, alloc, network),
+        Verdict::Free(_) => {
+            let found = margins(workers, alloc, network)?;
+            margin_text(alloc, network, &found)
+        }
     }
 }
 
@@ -51,7 +42,9 @@ fn network_text<W: VerdictWorkers>(
     ensures { IfOk result (λ s. IsNetworkAnswer network.now (string_bytes s) 0) }
 {
     let verdict = decide(workers, alloc, network)?;
-    text_by_verdict(workers, alloc, network, &verdict)
+    let text = text_by_verdict(workers, alloc, network, &verdict);
+    drop(verdict);
+    text
 }
 
 /// The answer to the bytes of a network file.

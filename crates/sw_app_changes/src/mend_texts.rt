@@ -1,7 +1,7 @@
 //! The lines of `mend`.
 ghost use Rattle.std.specs.Prelude.{◌≡◌, ◌∷◌, [], IfOk, string_bytes};
 ghost use Rattle.sw_output.specs.Lines.{spaced};
-ghost use Rattle.sw_app_changes.specs.MendTexts.{change_words, mending_status, mending_text, mends_status, mends_text, pairs_text, split_words, trial_words};
+ghost use Rattle.sw_app_changes.specs.MendTexts.{change_words, less_of, mending_status, mending_text, mends_status, mends_text, pairs_text, split_words, trial_words};
 
 use crate::mending::Mending;
 use std::alloc::{AllocError, Global};
@@ -19,32 +19,25 @@ fn with_name(alloc: Global, words: &str, name: &str) -> Result<String, AllocErro
     format!(in alloc; "{words} {name}")
 }
 
-fn without_port(
+// What is less of a table entry: that port, or all of it.
+fn less_words(
     alloc: Global,
     network: &Network,
     switch: u16,
     entry: usize,
-    port: Port,
+    port: Option<Port>,
 ) -> Result<String, AllocError>
-    ensures { IfOk result (λ s. string_bytes s ≡ change_words network.now (Change.WithoutPort switch entry port)) }
-{
-    let port = port.number();
-    let words = entry_words(alloc, network, switch, entry)?;
-    let name = switch_name(network, switch);
-    format!(in alloc; "without port {port} for {words} at {name}")
-}
-
-fn without_entry(
-    alloc: Global,
-    network: &Network,
-    switch: u16,
-    entry: usize,
-) -> Result<String, AllocError>
-    ensures { IfOk result (λ s. string_bytes s ≡ change_words network.now (Change.WithoutEntry switch entry)) }
+    ensures { IfOk result (λ s. string_bytes s ≡ change_words network.now (less_of switch entry port)) }
 {
     let words = entry_words(alloc, network, switch, entry)?;
     let name = switch_name(network, switch);
-    format!(in alloc; "without the entry for {words} at {name}")
+    match port {
+        Some(port) => {
+            let port = port.number();
+            format!(in alloc; "without port {port} for {words} at {name}")
+        }
+        None => format!(in alloc; "without the entry for {words} at {name}"),
+    }
 }
 
 /// What is taken away.
@@ -69,8 +62,8 @@ pub fn change_words(alloc: Global, network: &Network, change: &Change) -> Result
             switch,
             entry,
             port,
-        } => without_port(alloc, network, *switch, *entry, *port),
-        Change::WithoutEntry { switch, entry } => without_entry(alloc, network, *switch, *entry),
+        } => less_words(alloc, network, *switch, *entry, Some(*port)),
+        Change::WithoutEntry { switch, entry } => less_words(alloc, network, *switch, *entry, None),
         Change::WithoutFlowsOf(node) => {
             with_name(
                 alloc,

@@ -1,7 +1,7 @@
 //! What `mend` finds of a network.
 ghost use Rattle.std.specs.Prelude.{IfOk};
 ghost use Rattle.sw_search.specs.Verdicts.{IsVerdict};
-ghost use Rattle.sw_app_changes.specs.Mendings.{IsMending, SaysCyclic};
+ghost use Rattle.sw_app_changes.specs.Mendings.{IsMending};
 
 use std::alloc::{AllocError, Global};
 use sw_config::Network;
@@ -22,24 +22,6 @@ pub enum Mending {
     Pairs(Vec<Pair>),
 }
 
-// What is found where channels can wait for one another.
-fn freed<W: VerdictWorkers>(
-    workers: &W,
-    alloc: Global,
-    pairs: bool,
-    network: &Network,
-) -> Result<Mending, AllocError>
-    requires { SaysCyclic network.now }
-    ensures { IfOk result (IsMending pairs network.now) }
-{
-    let changes = mends(workers, alloc, network)?;
-    let count = changes.len();
-    if !pairs || count > 0 {
-        return Ok(Mending::Single(changes));
-    }
-    Ok(Mending::Pairs(pair_mends(workers, alloc, network)?))
-}
-
 // What is found by the verdict on the network.
 fn by_verdict<W: VerdictWorkers>(
     workers: &W,
@@ -53,7 +35,16 @@ fn by_verdict<W: VerdictWorkers>(
 {
     match verdict {
         Verdict::Misrouted(flow, place, fault) => Ok(Mending::Misrouted(*flow, *place, *fault)),
-        Verdict::Cyclic(_) => freed(workers, alloc, pairs, network),
+        Verdict::Cyclic(_) => {
+            let changes = mends(workers, alloc, network)?;
+            if !pairs {
+                return Ok(Mending::Single(changes));
+            }
+            if changes.is_empty() {
+                return Ok(Mending::Pairs(pair_mends(workers, alloc, network)?));
+            }
+            Ok(Mending::Single(changes))
+        }
         Verdict::Free(_) => Ok(Mending::Free),
     }
 }
@@ -73,5 +64,7 @@ pub fn find_mending<W: VerdictWorkers>(
     ensures { IfOk result (IsMending pairs network.now) }
 {
     let verdict = decide(workers, alloc, network)?;
-    by_verdict(workers, alloc, pairs, network, &verdict)
+    let found = by_verdict(workers, alloc, pairs, network, &verdict);
+    drop(verdict);
+    found
 }

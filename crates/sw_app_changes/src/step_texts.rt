@@ -1,25 +1,21 @@
 //! The text of a step of a cycle.
-ghost use Rattle.std.specs.Prelude.{◌≡◌, ◌≤◌, ◌<◌, ◌+◌, ◌++◌, ℕ, IfOk, length, string_bytes};
-ghost use Rattle.std.specs.List.{flat_map};
-ghost use Rattle.sw_config.specs.Entries.{wiring_of};
+ghost use Rattle.std.specs.Prelude.{◌≡◌, ◌≤◌, ◌++◌, ℕ, IfOk, OnOk, codes, length, string_bytes};
 ghost use Rattle.sw_cycle.specs.Cycles.{cause_of};
 ghost use Rattle.sw_output.specs.ChannelTexts.{channel_text};
-ghost use Rattle.sw_output.specs.FlowTexts.{flow_name};
-ghost use Rattle.sw_app_changes.specs.ExplainTexts.{flows_text, names_text, named, step_words};
+ghost use Rattle.sw_app_changes.specs.ExplainTexts.{flows_text, joined_names, names_text, named, step_words};
 
 use std::alloc::{AllocError, Global};
 use std::fmt::Write;
 use sw_config::Network;
 use sw_cycle::Cause;
-use sw_output::{channel_text, flow_name, node_name};
-use sw_topo::Chan;
+use sw_output::{flow_name, node_name};
 
 /// How many of the flows that make a step are named, unless all are.
 const MOST_NAMED: usize = 6;
 
-// What stands before a name, the name, and what stands before each of two channels: a flow's packet holds one until it gets the other,
-// or a target takes nothing from one while it answers on the other.
-fn step_parts<'a>(
+/// What stands before a name, the name, and what stands before each of two channels: a flow's packet holds one until it gets the other,
+/// or a target takes nothing from one while it answers on the other.
+pub(crate) fn step_parts<'a>(
     network: &'a Network,
     cause: &Cause,
 ) -> (&'static str, &'a str, &'static str, &'static str)
@@ -41,24 +37,6 @@ fn step_parts<'a>(
     }
 }
 
-/// Why a packet on one channel may wait for the next one.
-pub(crate) fn step_words(
-    alloc: Global,
-    network: &Network,
-    from: Chan,
-    to: Chan,
-    cause: &Cause,
-) -> Result<String, AllocError>
-    requires from { from < length (wiring_of network.now).ends }
-    requires to { to < length (wiring_of network.now).ends }
-    ensures { IfOk result (λ s. string_bytes s ≡ step_words network.now from to (cause_of cause.now)) }
-{
-    let from = channel_text(alloc, network, from)?;
-    let to = channel_text(alloc, network, to)?;
-    let (before, name, held, wanted) = step_parts(network, cause);
-    format!(in alloc; "{before}{name}{held}{from}{wanted}{to}")
-}
-
 // The flows that are named.
 fn named(flows: &[u16], all: bool) -> &[u16]
     ensures is { result.now ≡ named all flows.now }
@@ -73,22 +51,26 @@ fn named(flows: &[u16], all: bool) -> &[u16]
     &flows[..MOST_NAMED]
 }
 
-/// The names of a flow and of more flows, with this between each two.
-pub(crate) fn names_of(
-    alloc: Global,
+/// Adds the names of flows, with this between each two.
+pub(crate) fn add_names(
+    text: &mut String,
     network: &Network,
     between: &str,
-    first: u16,
-    rest: &[u16],
-) -> Result<String, AllocError>
-    ensures { IfOk result (λ s. string_bytes s ≡ flow_name network.now first ++ flat_map (λ f. between.now ++ flow_name network.now f) rest.now) }
+    flows: &[u16],
+) -> Result<(), AllocError>
+    ensures { OnOk result (string_bytes text.new ≡ string_bytes text.old ++ joined_names network.now between.now flows.now) }
 {
-    let mut text = String::from_str(alloc, flow_name(network, first))?;
-    for flow in rest {
-        let name = flow_name(network, *flow);
-        write!(text, "{between}{name}")?;
+    match flows {
+        [] => Ok(()),
+        [first, rest @ ..] => {
+            text.push_str(flow_name(network, *first))?;
+            for flow in rest {
+                let name = flow_name(network, *flow);
+                write!(text, "{between}{name}")?;
+            }
+            Ok(())
+        }
     }
-    Ok(text)
 }
 
 /// The names of flows, with a comma between each two.
@@ -99,30 +81,30 @@ pub(crate) fn names_of(
 pub fn names_text(alloc: Global, network: &Network, flows: &[u16]) -> Result<String, AllocError>
     ensures { IfOk result (λ s. string_bytes s ≡ names_text network.now flows.now) }
 {
-    match flows {
-        [] => Ok(String::new(alloc)),
-        [first, rest @ ..] => names_of(alloc, network, ", ", *first, rest),
-    }
+    let mut text = String::new(alloc);
+    add_names(&mut text, network, ", ", flows)?;
+    Ok(text)
 }
 
-/// All flows that make a step, where there are two or more.
-pub(crate) fn flows_text(
-    alloc: Global,
+/// Adds all flows that make a step, where there are two or more, and ends the line.
+pub(crate) fn end_step_line(
+    text: &mut String,
     network: &Network,
     flows: &[u16],
     all: bool,
-) -> Result<String, AllocError>
-    ensures { IfOk result (λ s. string_bytes s ≡ flows_text network.now all flows.now) }
+) -> Result<(), AllocError>
+    ensures { OnOk result (string_bytes text.new ≡ string_bytes text.old ++ (flows_text network.now all flows.now ++ codes "\n")) }
 {
     let count = flows.len();
     if count < 2 {
-        return Ok(String::new(alloc));
+        return text.push_str("\n");
     }
     let named = named(flows, all);
-    let names = names_text(alloc, network, named)?;
+    text.push_str(" (flows ")?;
+    add_names(text, network, ", ", named)?;
     let more = count - named.len();
     if more == 0 {
-        return format!(in alloc; " (flows {names})");
+        return text.push_str(")\n");
     }
-    format!(in alloc; " (flows {names} and {more} more)")
+    write!(text, " and {more} more)\n")
 }

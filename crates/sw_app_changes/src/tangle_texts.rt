@@ -4,12 +4,13 @@ ghost use Rattle.sw_config.specs.Entries.{wiring_of};
 ghost use Rattle.sw_search.specs.Explanations.{IsTangled};
 ghost use Rattle.sw_app_changes.specs.ExplainTexts.{counts_text, step_line, tangle_text, tangles_text, IsOfChannels};
 
-use crate::step_texts::{flows_text, step_words};
+use crate::step_texts::{end_step_line, step_parts};
 use crate::words::ending;
 use std::alloc::{AllocError, Global};
 use std::fmt::Write;
 use sw_config::Network;
 use sw_cycle::Cycle;
+use sw_output::channel_text;
 use sw_search::Tangle;
 
 // Adds the line of that channel of the cycle: the step from it to the next one, by its cause, and the flows that make it.
@@ -30,10 +31,11 @@ fn add_step_line(
 {
     let number = i + 1;
     let channels = cycle.channels.as_slice();
-    let to = channels[number % channels.len()];
-    let step = step_words(alloc, network, channels[i], to, &cycle.causes[i])?;
-    let flows = flows_text(alloc, network, &flows[i], all)?;
-    write!(text, "{number}. {step}{flows}\n")
+    let from = channel_text(alloc, network, channels[i])?;
+    let to = channel_text(alloc, network, channels[number % channels.len()])?;
+    let (before, name, held, wanted) = step_parts(network, &cycle.causes[i]);
+    write!(text, "{number}. {before}{name}{held}{from}{wanted}{to}")?;
+    end_step_line(text, network, &flows[i], all)
 }
 
 // Adds the shortest cycle of a tangle.
@@ -56,20 +58,20 @@ fn add_tangle(
     Ok(())
 }
 
-// How many channels each tangle has, with a comma between each two.
-fn counts_text(alloc: Global, tangles: &[Tangle]) -> Result<String, AllocError>
-    ensures { IfOk result (λ s. string_bytes s ≡ counts_text tangles.now) }
+// Adds how many channels each tangle has, with a comma between each two.
+fn add_counts(text: &mut String, tangles: &[Tangle]) -> Result<(), AllocError>
+    ensures { OnOk result (string_bytes text.new ≡ string_bytes text.old ++ counts_text tangles.now) }
 {
     match tangles {
-        [] => Ok(String::new(alloc)),
+        [] => Ok(()),
         [first, rest @ ..] => {
             let count = first.channels;
-            let mut text = format!(in alloc; "{count}")?;
+            write!(text, "{count}")?;
             for tangle in rest {
                 let count = tangle.channels;
                 write!(text, ", {count}")?;
             }
-            Ok(text)
+            Ok(())
         }
     }
 }
@@ -88,14 +90,12 @@ pub(crate) fn tangles_text(
     let _topology = network.topology();
     let total = tangles.len();
     let ending = ending(total);
-    let counts = counts_text(alloc, tangles)?;
     let mut text = String::new(alloc);
     for tangle in tangles {
         add_tangle(&mut text, alloc, network, all, tangle)?;
     }
-    write!(
-        text,
-        "{total} tangle{ending} of {counts} channels; buffers, slots and arbiters do not change this\n"
-    )?;
+    write!(text, "{total} tangle{ending} of ")?;
+    add_counts(&mut text, tangles)?;
+    text.push_str(" channels; buffers, slots and arbiters do not change this\n")?;
     Ok(text)
 }

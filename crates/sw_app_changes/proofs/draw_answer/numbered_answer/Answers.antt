@@ -22,5 +22,5 @@ returns g c =
     let d = c.args.network.now in
     let wishes = c.args.options.now in
     let asked = ap (λ (w : Wishes). w.numbers) (sym c.options.view_is) ∙ c.if-not-options.false in
-    drawn d wishes c.args.places.now c.args.cycle.now c.numbers_of.result.now c.drawing_answer-2.result c.requires
-    (rw c.numbers_of.ensures (numbers_drawn d wishes.numbers c.in_ok-verdict.verdict asked c.in_ok-verdict.ensures.verdict)) c.drawing_answer-2.ensures
+    drawn d wishes c.args.places.now c.args.cycle.now c.numbers_of.result.now c.drawing_answer-answer.result c.requires
+    (rw c.numbers_of.ensures (numbers_drawn d wishes.numbers c.in_ok-verdict.verdict asked c.in_ok-verdict.ensures.verdict)) c.drawing_answer-answer.ensures

@@ -1,10 +1,11 @@
 use Rattle.std.proofs.Common.{◌≡◌, ◌∙◌, ◌<◌, List, ap, arith, length, map, string_bytes, subst, sym, ℕ}
 use Rattle.std.proofs.lemmas.List.{length-map}
+use Rattle.std.proofs.lemmas.Result.{on_ok_weaker}
 use Rattle.sw_cycle.specs.Cycles.{CycleEntry, cause_of}
-use Rattle.sw_graph.specs.Rows.{row}
-use Rattle.sw_app_changes.specs.ExplainTexts.{flows_text, step_text}
+use Rattle.sw_output.specs.ChannelTexts.{channel_text}
+use Rattle.sw_app_changes.specs.ExplainTexts.{step_text}
 use Rattle.sw_app_changes.proofs.ExplainedSteps.{row_read, step_read}
-use Rattle.sw_app_changes.proofs.ExplainedTexts.{step_told}
+use Rattle.sw_app_changes.proofs.ExplainedTexts.{parts_told, step_ended}
 use Rattle.sw_app_changes.proofs.tangle_texts.add_step_line.Goals as goal
 
 pub returns : goal.returns
@@ -23,9 +24,15 @@ returns c =
     let is =
     step_read d channels causes i c.index-channels-i.result c.index-channels-number.result c.index.result.now lt also c.index-channels-i.is c.index-channels-number.is c.index.ensures in
     let named : List ℕ → CycleEntry = λ l. record { channels = l; causes = map cause_of causes } in
-    let step_is : string_bytes c.in_ok-step.step ≡ step_text d c.args.cycle.now i =
-    c.in_ok-step.ensures ∙ is ∙ ap (λ (l : List ℕ). step_text d (named l) i) value ∙ ap (λ (v : CycleEntry). step_text d v i) c.cycle.view_is in
+    let parts = c.step_parts.result in
+    let from = c.index-channels-i.result in
+    let to = c.index-channels-number.result in
+    let said =
+    parts_told parts.0.now parts.1.now parts.2.now parts.3.now (string_bytes c.in_ok-from.from) (string_bytes c.in_ok-to.to) (channel_text d from) (channel_text d to) _
+    c.in_ok-from.ensures c.in_ok-to.ensures (c.step_parts.ensures from to) in
+    let step_is = sym said ∙ is ∙ ap (λ (l : List ℕ). step_text d (named l) i) value ∙ ap (λ (v : CycleEntry). step_text d v i) c.cycle.view_is in
     let here : i < length rows = omega (arith, c.requires.inside, c.requires.made) in
     let row_is = row_read rows i c.index-flows-i.result here c.index-flows-i.is in
-    let flows_are : string_bytes c.in_ok-flows.flows ≡ flows_text d all (row rows i) = c.in_ok-flows.ensures ∙ ap (flows_text d all) (c.deref.ensures.value ∙ sym row_is) in
-    rw (step_told d all c.args.cycle.now rows i (string_bytes c.in_ok-step.step) (string_bytes c.in_ok-flows.flows) step_is flows_are) c.write.ensures.bytes
+    let told =
+    step_ended d all c.args.cycle.now rows i _ c.deref.result.now (string_bytes c.args.text.now) (string_bytes c.write.new.self) step_is (c.deref.ensures.value ∙ sym row_is) c.in_ok-write.ensures.bytes in
+    on_ok_weaker c.end_step_line.result (λ ended. ended ∙ told) c.end_step_line.ensures

@@ -1,4 +1,5 @@
-use Rattle.std.proofs.Common.{length, rules, string_bytes, ◌≡◌, ◌++◌}
+use Rattle.std.proofs.Common.{List, Vec, Global, ap, length, rules, string_bytes, ℕ, ◌≡◌, ◌++◌, ◌∙◌}
+use Rattle.sw_search.specs.declared.tangle.Tangle.{Tangle}
 use Rattle.sw_app_changes.specs.ExplainTexts.{step_line}
 use Rattle.sw_app_changes.proofs.ExplainedTexts.{all_numbered, tangle_added}
 use Rattle.sw_output.proofs.EachLine.{number_added}
@@ -8,7 +9,10 @@ pub loop-i-preserved : goal.loop-i-preserved
 loop-i-preserved c =
     let tangle = c.args.tangle.now in
     let line = step_line c.args.network.now c.args.all tangle.cycle tangle.flows.items in
-    let told : string_bytes c.add_step_line.new.text ≡ string_bytes c.loop-i.text ++ line c.loop-i.i = search rules in
+    let told =
+    c.in_ok-add_step_line.ensures
+    ∙ ap (λ (rows : List (Vec ℕ Global)). string_bytes c.loop-i.text ++ step_line c.args.network.now c.args.all tangle.cycle rows c.loop-i.i) c.deref.ensures.value
+    ∙ ap (λ (t : Tangle). string_bytes c.loop-i.text ++ step_line c.args.network.now c.args.all tangle.cycle t.flows.items c.loop-i.i) c.tangle.view_is in
     number_added line c.loop-i.i (string_bytes c.write.new.self) (string_bytes c.loop-i.text) (string_bytes c.add_step_line.new.text) c.loop-i.invariant told
 
 pub returns : goal.returns

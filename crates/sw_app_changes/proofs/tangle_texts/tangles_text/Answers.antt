@@ -17,6 +17,6 @@ loop-tangle-preserved c =
 
 pub returns : goal.returns
 returns c =
-    tangles_told c.args.network.now c.args.all c.args.tangles.now c.loop-tangle.tangle-index (length c.args.tangles.now) c.ending-ending.result.now (string_bytes c.in_ok-counts.counts)
-    (string_bytes c.loop-tangle.text) (string_bytes c.write.new.self) c.loop-tangle-test.false refl c.ending-ending.ensures c.in_ok-counts.ensures c.loop-tangle.invariant
-    c.in_ok-write.ensures.bytes
+    tangles_told c.args.network.now c.args.all c.args.tangles.now c.loop-tangle.tangle-index (length c.args.tangles.now) c.ending-ending.result.now
+    (string_bytes c.loop-tangle.text) (string_bytes c.write.new.self) (string_bytes c.add_counts.new.text) (string_bytes c.push_str.new.self) c.loop-tangle-test.false refl c.ending-ending.ensures
+    c.loop-tangle.invariant c.in_ok-write.ensures.bytes c.in_ok-add_counts.ensures c.in_ok-push_str.ensures.bytes
