@@ -1,12 +1,12 @@
 -- Lists that loops make.
 use Rattle.std.proofs.Common.{Bool, List, [], ap, append-nil, append_assoc, arith, get_or, length, map, refl, suc, sym, take, zero, ℕ, ◌++◌, ◌+◌, ◌-◌, ◌<◌, ◌≤◌, ◌∙◌, ◌∷◌, ◌≡◌}
-use Rattle.std.proofs.lemmas.Bool.{eq-eqb}
-use Rattle.std.proofs.lemmas.List.{flat_map_more, get_or-map, map-append, take_more}
+use Rattle.std.proofs.lemmas.Bool.{eq-eqb, ne_eqb}
+use Rattle.std.proofs.lemmas.Grind.{get_or_default_zero}
+use Rattle.std.proofs.lemmas.List.{flat_map_more, get_or-map, length-map, map-append, take_more}
 use Rattle.std.proofs.lemmas.List.Elements.{filter-append}
 use Rattle.std.proofs.lemmas.List.Folds.{flat_map-map}
-use Rattle.std.proofs.lemmas.List.Sums.{fold-append}
 use Rattle.std.specs.Global.{Vec}
-use Rattle.std.specs.Prelude.{Some, false, if◌then◌else◌, nat_eq, slice_get, true}
+use Rattle.std.specs.Prelude.{None, Option, Some, false, if◌then◌else◌, nat_eq, slice_get, true}
 use Rattle.std.specs.List.{flat_map, range_with_len}
 use Rattle.sw_char.specs.PacketView.{PacketView}
 use Rattle.sw_char.specs.declared.nchar.End.TheVariants.{Eop}
@@ -16,9 +16,9 @@ use Rattle.sw_machine.specs.DeclaredPackets.{left_bytes}
 use Rattle.sw_machine.specs.Begun.{Begun, beginning, beginnings}
 use Rattle.sw_machine.specs.StepValues.{machine_step}
 use Rattle.sw_machine.specs.declared.step.Step.{Step}
-use Rattle.sw_summary.specs.Counts.{form_of, forms, items_at, of_flow, replies_at, replies_of, statuses, statuses_of, with_status}
+use Rattle.sw_summary.specs.Counts.{all_keys, form_of, forms, items_at, key_of, of_flow, replies_at, replies_of, statuses, statuses_of, with_status}
 use Rattle.sw_summary.specs.Replies.{is_reply, status_of}
-use Rattle.sw_summary.specs.Tallies.{Item, TallyView, counted, taken, taken_all, tallies}
+use Rattle.sw_summary.specs.Tallies.{Item, TallyView, taken, taken_all}
 use Rattle.sw_summary.specs.Texts.{first_status_lines, status_line}
 
 pub beginnings_are : (steps : List Step) → flat_map (λ step. beginning (machine_step step)) steps ≡ beginnings (map machine_step steps)
@@ -44,6 +44,11 @@ next_more_from f a n m k next is =
 pub next_more : {A : Type 0} (f : ℕ → List A) (n : ℕ) → flat_map f (range_with_len 0 n) ++ f n ≡ flat_map f (range_with_len 0 (n + 1))
 next_more f n = next_more_from f 0 n (n + 1) n refl (omega arith)
 
+-- what is made of one element more comes behind what was made of those before, and behind what was there
+pub grown : {A : Type 0} (old so_far all before here after : List A) → before ≡ old ++ so_far → all ≡ so_far ++ here → after ≡ before ++ here → after ≡ old ++ all
+grown old so_far all before here after was more is =
+    is ∙ ap (λ l. l ++ here) was ∙ append_assoc old so_far here ∙ ap (λ l. old ++ l) (sym more)
+
 -- the text of one flow more
 pub text_more : (f : ℕ → List ℕ) (n : ℕ) (before here after : List ℕ) → before ≡ flat_map f (range_with_len 0 n) → here ≡ f n → after ≡ before ++ here
     → after ≡ flat_map f (range_with_len 0 (n + 1))
@@ -51,13 +56,13 @@ text_more f n before here after so_far line is =
     is ∙ ap (λ (l : List ℕ). l ++ here) so_far ∙ ap (λ (l : List ℕ). flat_map f (range_with_len 0 n) ++ l) line ∙ next_more f n
 
 -- the line of one status more
-pub status_more : (out : List (List PacketView)) (s : ℕ) (before here after : List ℕ) → 1 ≤ s → before ≡ first_status_lines out (s - 1)
-    → here ≡ status_line s (with_status out s) → after ≡ before ++ here → after ≡ first_status_lines out (s + 1 - 1)
+pub status_more : (out : List (List PacketView)) (s : ℕ) (start before here after : List ℕ) → 1 ≤ s → before ≡ start ++ first_status_lines out (s - 1)
+    → here ≡ status_line s (with_status out s) → after ≡ before ++ here → after ≡ start ++ first_status_lines out (s + 1 - 1)
 unfolding first_status_lines
-status_more out s before here after some so_far line is =
+status_more out s start before here after some so_far line is =
     let f : ℕ → List ℕ = λ (k : ℕ). status_line k (with_status out k) in
-    is ∙ ap (λ (l : List ℕ). l ++ here) so_far ∙ ap (λ (l : List ℕ). flat_map f (range_with_len 1 (s - 1)) ++ l) line
-    ∙ next_more_from f 1 (s - 1) (s + 1 - 1) s (omega (arith, some)) (omega (arith, some))
+    grown start (flat_map f (range_with_len 1 (s - 1))) (flat_map f (range_with_len 1 (s + 1 - 1))) before (f s) after so_far
+    (sym (next_more_from f 1 (s - 1) (s + 1 - 1) s (omega (arith, some)) (omega (arith, some)))) (is ∙ ap (λ (l : List ℕ). before ++ l) line)
 
 -- one node more
 pub node_more : (text : ℕ → List PacketView → List Item) (all : List (Vec PacketView)) (n : ℕ) (before here after : List Item) (q : Vec PacketView)
@@ -91,11 +96,6 @@ packet_more n packets i q k within at is =
     ap (items_at n) (take_more packets i q within ∙ ap (λ (p : PacketView). take i packets ++ p ∷ []) (sym at))
     ∙ map-append (at_node n) (take i packets) (q ∷ []) ∙ ap (λ (p : Item). items_at n (take i packets) ++ p ∷ []) (sym is)
 
--- what is made of one element more comes behind what was made of those before, and behind what was there
-pub grown : {A : Type 0} (old so_far all before here after : List A) → before ≡ old ++ so_far → all ≡ so_far ++ here → after ≡ before ++ here → after ≡ old ++ all
-grown old so_far all before here after was more is =
-    is ∙ ap (λ l. l ++ here) was ∙ append_assoc old so_far here ∙ ap (λ l. old ++ l) (sym more)
-
 -- the elements that are made of one more
 pub made_more : {A B : Type 0} (f : A → List B) (xs : List A) (i : ℕ) (x : A) (before here after : List B) → i < length xs → x ≡ get_or xs i x → before ≡ flat_map f (take i xs)
     → here ≡ f x → after ≡ before ++ here → after ≡ flat_map f (take (i + 1) xs)
@@ -124,6 +124,12 @@ status_of_more packets i q within at =
     ap statuses_of (one_more_packet packets i q within at)
     ∙ ap (map status) (replies_join (take i packets) (q ∷ [])) ∙ map-append status (replies_of (take i packets)) (replies_of (q ∷ []))
 
+-- the status that is read of a reply
+pub status_read : (inside bytes lent : List ℕ) (n : ℕ) → 8 ≤ length lent → lent ≡ inside → n ≡ get_or inside 3 n → inside ≡ bytes → n ≡ status_of bytes
+status_read inside bytes lent n long lends is same =
+    let size = ap length lends in
+    is ∙ get_or_default_zero inside 3 n (omega (arith, long, size)) ∙ ap status_of same
+
 -- of one packet more, if it is a reply and if it is none
 module _ (packets : List PacketView) (i : ℕ) (q : PacketView) (within : i < length packets) (at : q ≡ get_or packets i q) where
   pub status_kept : (start before : List ℕ) → is_reply q.bytes ≡ false → before ≡ start ++ statuses_of (take i packets) → before ≡ start ++ statuses_of (take (i + 1) packets)
@@ -137,31 +143,63 @@ module _ (packets : List PacketView) (i : ℕ) (q : PacketView) (within : i < le
       let one : statuses_of (q ∷ []) ≡ status_of q.bytes ∷ [] = ap (λ (b : Bool). map (λ (p : PacketView). status_of p.bytes) (if b then q ∷ [] else [])) is in
       grown start _ _ before _ after so_far (status_of_more packets i q within at) (more ∙ ap (λ (k : ℕ). before ++ k ∷ []) same ∙ ap (λ l. before ++ l) (sym one))
 
-  pub reply_kept : (n : ℕ) (start before : List Item) → is_reply q.bytes ≡ false → before ≡ start ++ replies_at n (take i packets) → before ≡ start ++ replies_at n (take (i + 1) packets)
-  reply_kept n start before is so_far =
-      let none : replies_at n (q ∷ []) ≡ [] = ap (λ (b : Bool). map (λ (p : PacketView). record { node = n; packet = record { bytes = take 1 p.bytes; end = Eop } }) (if b then q ∷ [] else [])) is in
-      so_far ∙ ap (λ l. start ++ l) (sym (reply_more n packets i q within at ∙ ap (λ l. replies_at n (take i packets) ++ l) none ∙ append-nil (replies_at n (take i packets))))
+-- what is counted at a node
+abbrev pub keys_at : Bool → ℕ → List PacketView → List Item
+keys_at replies n packets = if replies then replies_at n packets else items_at n packets
 
-  pub reply_pushed : (n : ℕ) (start before after : List Item) (key : Item) → is_reply q.bytes ≡ true → key ≡ record { node = n; packet = record { bytes = take 1 q.bytes; end = Eop } }
-      → before ≡ start ++ replies_at n (take i packets) → after ≡ before ++ key ∷ [] → after ≡ start ++ replies_at n (take (i + 1) packets)
-  reply_pushed n start before after key is same so_far more =
-      let one : replies_at n (q ∷ []) ≡ record { node = n; packet = record { bytes = take 1 q.bytes; end = Eop } } ∷ [] =
-      ap (λ (b : Bool). map (λ (p : PacketView). record { node = n; packet = record { bytes = take 1 p.bytes; end = Eop } }) (if b then q ∷ [] else [])) is
-      in
-      grown start _ _ before _ after so_far (reply_more n packets i q within at) (more ∙ ap (λ (k : Item). before ++ k ∷ []) same ∙ ap (λ l. before ++ l) (sym one))
+abbrev listed : Option Item → List Item
+listed None = []
+listed (Some k) = k ∷ []
 
--- one key more is counted
-pub counted_more : (keys : List Item) (i : ℕ) (x k : Item) (before after : List TallyView) → i < length keys → x ≡ get_or keys i x → k ≡ x → before ≡ tallies (take i keys)
-    → after ≡ counted k before → after ≡ tallies (take (i + 1) keys)
-counted_more keys i x k before after within at same so_far is =
-    is ∙ ap (λ p. counted p before) same ∙ ap (counted x) so_far
-    ∙ sym (ap tallies (take_more keys i x within ∙ ap (λ y. take i keys ++ y ∷ []) (sym at)) ∙ fold-append (λ ts p. counted p ts) [] (take i keys) (x ∷ []))
+keys_of_one : (replies : Bool) (n : ℕ) (q : PacketView) → keys_at replies n (q ∷ []) ≡ listed (key_of replies n q)
+keys_of_one false n q = refl
+keys_of_one true n q = go (is_reply q.bytes)
+  where
+    go : (b : Bool) → map (λ (p : PacketView). record { node = n; packet = record { bytes = take 1 p.bytes; end = Eop } }) (if b then q ∷ [] else [])
+        ≡ listed (if b then Some (record { node = n; packet = record { bytes = take 1 q.bytes; end = Eop } }) else None)
+    go true = refl
+    go false = refl
+
+keys_parted : (replies : Bool) (n : ℕ) (packets : List PacketView) (i : ℕ) (q : PacketView) → i < length packets → q ≡ get_or packets i q
+    → keys_at replies n (take (i + 1) packets) ≡ keys_at replies n (take i packets) ++ keys_at replies n (q ∷ [])
+keys_parted true n packets i q within at = reply_more n packets i q within at
+keys_parted false n packets i q within at = ap (items_at n) (one_more_packet packets i q within at) ∙ map-append (at_node n) (take i packets) (q ∷ [])
+
+-- of one packet more, if something of it is counted and if nothing is
+pub key_more : (replies : Bool) (n : ℕ) (packets : List PacketView) (i : ℕ) (q : PacketView) (o : Option Item) (start before after : List Item) → i < length packets → q ≡ get_or packets i q
+    → o ≡ key_of replies n q → before ≡ start ++ keys_at replies n (take i packets) → after ≡ before ++ listed o → after ≡ start ++ keys_at replies n (take (i + 1) packets)
+key_more replies n packets i q o start before after within at is so_far more =
+    grown start _ _ before (listed o) after so_far
+    (keys_parted replies n packets i q within at ∙ ap (λ l. keys_at replies n (take i packets) ++ l) (keys_of_one replies n q ∙ sym (ap listed is))) more
+
+pub no_keys : (replies : Bool) (n : ℕ) (start : List Item) → start ≡ start ++ keys_at replies n []
+no_keys true n start = sym (append-nil start)
+no_keys false n start = sym (append-nil start)
+
+all_keys_are : (replies : Bool) (out : List (List PacketView)) → flat_map (λ n. keys_at replies n (get_or out n [])) (range_with_len 0 (length out)) ≡ all_keys replies out
+all_keys_are true out = refl
+all_keys_are false out = refl
+
+pub keys_done : (replies : Bool) (out : List (Vec PacketView)) (n : ℕ) (all : List Item) → length out ≤ n → n ≤ length out
+    → all ≡ flat_map (λ k. keys_at replies k (get_or (map items_in out) k [])) (range_with_len 0 n) → all ≡ all_keys replies (map items_in out)
+keys_done replies out n all ended inside so_far =
+    let last : n ≡ length out = omega (arith, ended, inside) in
+    so_far ∙ ap (λ m. flat_map (λ k. keys_at replies k (get_or (map items_in out) k [])) (range_with_len 0 m)) (last ∙ sym (length-map out items_in))
+    ∙ all_keys_are replies (map items_in out)
 
 -- what is told of one element more, behind what stands there
 pub told_at : {A : Type 0} (f : A → List ℕ) (xs : List A) (i : ℕ) (none : A) (start before after : List ℕ) → i < length xs → before ≡ start ++ flat_map f (take i xs)
     → after ≡ before ++ f (get_or xs i none) → after ≡ start ++ flat_map f (take (i + 1) xs)
 told_at f xs i none start before after within so_far is =
     is ∙ ap (λ l. l ++ f (get_or xs i none)) so_far ∙ flat_map_more f start (take i xs) (get_or xs i none) ∙ ap (λ l. start ++ flat_map f l) (sym (take_more xs i none within))
+
+-- the packets of a flow, with one more that was begun of another
+pub form_kept : (f : FlowEntry) (n : ℕ) (begun : List Begun) (i : ℕ) (b : Begun) (before : List PacketView) → i < length begun → b ≡ get_or begun i b → (b.flow ≡ n → ⊥)
+    → before ≡ forms f n (take i begun) → before ≡ forms f n (take (i + 1) begun)
+form_kept f n begun i b before within at other so_far =
+    so_far ∙ ap (map (form_of f)) (sym (append-nil (of_flow n (take i begun))) ∙ ap (λ (t : Bool). of_flow n (take i begun) ++ (if t then b ∷ [] else [])) (sym (ne_eqb b.flow n other))
+    ∙ sym (filter-append (λ (q : Begun). nat_eq q.flow n) (take i begun) (b ∷ [])))
+    ∙ ap (forms f n) (sym (take_more begun i b within ∙ ap (λ q. take i begun ++ q ∷ []) (sym at)))
 
 -- the packets of a flow, with one more that was begun
 pub form_pushed : (f : FlowEntry) (n : ℕ) (begun : List Begun) (i : ℕ) (b : Begun) (left bytes : List ℕ) (before after : List PacketView) → i < length begun → b ≡ get_or begun i b

@@ -1,7 +1,8 @@
 -- What is left where items take one each.
 use Rattle.std.proofs.Common.{◌≡◌, ◌∙◌, ◌<◌, ◌≤◌, ◌+◌, ◌-◌, ℕ, suc, zero, List, [], ◌∷◌, ◌++◌, ap, arith, get_or, length, map, refl, slice_set, subst, sym}
 use Rattle.std.proofs.lemmas.Bool.Decides.{nat_tests}
-use Rattle.std.specs.Prelude.{if◌then◌else◌, nat_lt}
+use Rattle.std.proofs.lemmas.List.{length-map}
+use Rattle.std.specs.Prelude.{if◌then◌else◌, min, nat_lt}
 use Rattle.std.specs.Cmp.{tied_back}
 use Rattle.std.specs.List.{HoldsAt}
 use Rattle.std.specs.List.Sorted.{IsNonDecreasingBy, IsPartitionPoint, IsStrictlySortedBy}
@@ -82,13 +83,24 @@ is_taken p ts after n count h is same all = record {
 }
 
 -- an item that a search found
-pub found_taken : (p : Item) (ts : List TallyView) (i : ℕ) (d new : TallyView) (n : ℕ) → IsRising ts → i < length ts
+found_taken : (p : Item) (ts : List TallyView) (i : ℕ) (d new : TallyView) (n : ℕ) → IsRising ts → i < length ts
     → HoldsAt (λ (u : TallyView). item_order u.item p ≡ Equal) ts i → n ≡ (if nat_lt 0 (get_or ts i d).count then 1 else 0) → new ≡ lower_one (get_or ts i d)
     → IsTaken p ts (slice_set ts i new) n
 found_taken p ts i d new n h within is count after =
     let here : item_order (get_or ts i d).item p ≡ Equal = is d in
     let there = taken_there p ts i d within (λ k less. less_before item_order_total (get_or ts k d).item (get_or ts i d).item p Equal (rises item_order_total ts k i d h less within) here (omega arith)) here in
     is_taken p ts (slice_set ts i new) n (get_or ts i d).count h count (sym there.1) (ap (slice_set ts i) after ∙ sym there.0)
+
+min_one : (n : ℕ) → min n 1 ≡ (if nat_lt 0 n then 1 else 0)
+min_one zero = omega arith
+min_one (suc n) = grind (arith, nat_tests)
+
+-- the same where the tally there is lowered in place
+pub found_lowered : (p : Item) (ts : List TallyView) (i : ℕ) (t u : TallyView) (n low : ℕ) → IsRising ts → i < length ts → HoldsAt (λ (v : TallyView). item_order v.item p ≡ Equal) ts i
+    → u ≡ get_or ts i t → n ≡ min u.count 1 → low ≡ u.count - 1 → IsTaken p ts (slice_set ts i (record u { count = low })) n
+found_lowered p ts i t u n low h within holds here least lowers =
+    found_taken p ts i t (record u { count = low }) n h within holds (least ∙ min_one u.count ∙ ap (λ (v : TallyView). if nat_lt 0 v.count then 1 else 0) here)
+    (ap (λ k. record u { count = k }) lowers ∙ ap lower_one here)
 
 -- an item that it did not find
 pub missing_taken : (p : Item) (ts : List TallyView) (i : ℕ) → IsRising ts → i ≤ length ts
@@ -104,6 +116,15 @@ missing_taken p ts i h within found_by =
 pub taken_all_rises : (items : List Item) (ts : List TallyView) → IsRising ts → IsRising (taken_all ts items)
 taken_all_rises [] ts h = h
 taken_all_rises (p ∷ ps) ts h = taken_all_rises ps (taken p ts) (taken_rises p ts h)
+
+taken_long : (p : Item) (ts : List TallyView) → length (taken p ts) ≡ length ts
+taken_long p ts =
+    let item : TallyView → Item = λ t. t.item in
+    sym (length-map (taken p ts) item) ∙ ap length (taken_items p ts) ∙ length-map ts item
+
+pub taken_all_long : (items : List Item) (ts : List TallyView) → length (taken_all ts items) ≡ length ts
+taken_all_long [] ts = refl
+taken_all_long (p ∷ ps) ts = taken_all_long ps (taken p ts) ∙ taken_long p ts
 
 -- one item more
 pub found_more : (ts : List TallyView) (ps : List Item) (p : Item) → found ts (ps ++ p ∷ []) ≡ found ts ps + (if nat_lt 0 (left p (taken_all ts ps)) then 1 else 0)

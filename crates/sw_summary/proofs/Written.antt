@@ -1,5 +1,5 @@
 -- Texts as they are written at once.
-use Rattle.std.proofs.Common.{List, Option, [], ap, append_assoc, arith, sym, ◌++◌, ◌<◌, ◌∙◌, ◌∷◌, ◌≡◌, ℕ}
+use Rattle.std.proofs.Common.{List, Option, [], ap, append-nil, append_assoc, arith, sym, ◌++◌, ◌<◌, ◌∙◌, ◌∷◌, ◌≡◌, ℕ}
 use Rattle.std.proofs.lemmas.Bool.{lt-ltb}
 use Rattle.std.specs.Fmt.{decimal}
 use Rattle.std.specs.Prelude.{codes, if◌then◌else◌, nat_lt, slice_index}
@@ -7,33 +7,54 @@ use Rattle.sw_config.specs.Entries.{Declaration, capacities}
 use Rattle.sw_output.specs.ChannelTexts.{channel_text}
 use Rattle.sw_output.specs.Lines.{spaced}
 use Rattle.sw_summary.specs.BufferLines.{fill_line}
-use Rattle.sw_summary.specs.Texts.{answered_words, flow_line, steps_line}
+use Rattle.sw_char.specs.PacketView.{PacketView}
+use Rattle.sw_summary.specs.Counts.{fated}
+use Rattle.sw_summary.specs.declared.fate.Fate.{Fate}
+use Rattle.sw_summary.specs.Texts.{answered_words, flow_line, status_line, steps_line, unanswered_line}
 
 line_is : (name b o d r w : List ℕ) → r ≡ w
     → codes "flow " ++ (name ++ (codes " begun " ++ (b ++ (codes " of " ++ (o ++ (codes " delivered " ++ (d ++ (r ++ codes "\n"))))))))
     ≡ spaced (codes "flow" ∷ name ∷ codes "begun" ∷ b ∷ codes "of" ∷ o ∷ codes "delivered" ∷ d ∷ []) ++ (w ++ codes "\n")
 line_is name b o d r w same = rw same (simp append_assoc)
 
-pub summary_is : (k n : ℕ) (a b c e p q r s : List ℕ) → k ≡ n → a ≡ p → b ≡ q → c ≡ r → e ≡ s
-    → codes "steps " ++ (decimal k ++ (codes "\n" ++ (a ++ (b ++ (c ++ e))))) ≡ steps_line n ++ (p ++ (q ++ (r ++ s)))
-summary_is k n a b c e p q r s count flows statuses unanswered caveats = rw (count, flows, statuses, unanswered, caveats) (simp append_assoc)
+joined : (t a b c e : List ℕ) → (((t ++ a) ++ b) ++ c) ++ e ≡ t ++ (a ++ (b ++ (c ++ e)))
+joined t a b c e = simp append_assoc
+
+pub summary_is : (k n : ℕ) (t u v w x a b c e p r s : List ℕ) → k ≡ n → t ≡ codes "steps " ++ (decimal k ++ codes "\n") → u ≡ t ++ a → v ≡ u ++ b → w ≡ v ++ c → x ≡ w ++ e
+    → a ≡ p → c ≡ r → e ≡ s → x ≡ steps_line n ++ (p ++ (b ++ (r ++ s)))
+summary_is k n t u v w x a b c e p r s count one two three four five flows unanswered caveats =
+    let first : t ≡ steps_line n = one ∙ ap (λ m. codes "steps " ++ (decimal m ++ codes "\n")) count in
+    five ∙ ap (λ l. l ++ e) (four ∙ ap (λ l. l ++ c) (three ∙ ap (λ l. l ++ b) (two ∙ ap (λ l. l ++ a) first))) ∙ joined (steps_line n) a b c e
+    ∙ (λ i. steps_line n ++ (flows i ++ (b ++ (unanswered i ++ caveats i))))
 
 -- a line that is told of some, added
 told_if : (n : ℕ) (told before after : List ℕ) → 0 < n → after ≡ before ++ told → after ≡ before ++ (if nat_lt 0 n then told else [])
 told_if n told before after some added = added ∙ ap (λ b. before ++ (if b then told else [])) (sym (lt-ltb 0 n some))
 
-pub told_line : (before after name : List ℕ) (n k : ℕ) (reason words : List ℕ) → 0 < n → n ≡ k → reason ≡ words
+untold_if : (n : ℕ) (told before : List ℕ) → n ≡ 0 → before ≡ before ++ (if nat_lt 0 n then told else [])
+untold_if n told before none = sym (append-nil before) ∙ ap (λ (k : ℕ). before ++ (if nat_lt 0 k then told else [])) (sym none)
+
+pub untold_line : (before name : List ℕ) (packets : List PacketView) (fate : Fate) (n : ℕ) → n ≡ 0 → n ≡ fated fate packets → before ≡ before ++ unanswered_line name packets fate
+untold_line before name packets fate n none same = untold_if (fated fate packets) _ before (sym same ∙ none)
+
+pub untold_status : (before : List ℕ) (status n : ℕ) → n ≡ 0 → before ≡ before ++ status_line status n
+untold_status before status n none = untold_if n _ before none
+
+pub positive : (n : ℕ) → (n ≡ 0 → ⊥) → 0 < n
+positive n some = omega (arith, some)
+
+pub told_line : (before after name : List ℕ) (n k : ℕ) (reason words : List ℕ) → (n ≡ 0 → ⊥) → n ≡ k → reason ≡ words
     → after ≡ before ++ (codes "commands of " ++ (name ++ (codes " that nobody answers: " ++ (decimal n ++ (codes " (" ++ (reason ++ codes ")\n"))))))
     → after ≡ before ++ (if nat_lt 0 k then codes "commands of " ++ (name ++ (codes " that nobody answers: " ++ (decimal k ++ (codes " (" ++ (words ++ codes ")\n"))))) else [])
 told_line before after name n k reason words some same named added =
-    told_if n (codes "commands of " ++ (name ++ (codes " that nobody answers: " ++ (decimal n ++ (codes " (" ++ (reason ++ codes ")\n")))))) before after some added
+    told_if n (codes "commands of " ++ (name ++ (codes " that nobody answers: " ++ (decimal n ++ (codes " (" ++ (reason ++ codes ")\n")))))) before after (positive n some) added
     ∙ (λ i. before ++ (if nat_lt 0 (same i) then codes "commands of " ++ (name ++ (codes " that nobody answers: " ++ (decimal (same i) ++ (codes " (" ++ (named i ++ codes ")\n"))))) else []))
 
-pub told_status : (before after : List ℕ) (status n : ℕ) (name words : List ℕ) → 0 < n → name ≡ words
+pub told_status : (before after : List ℕ) (status n : ℕ) (name words : List ℕ) → (n ≡ 0 → ⊥) → name ≡ words
     → after ≡ before ++ (codes "replies with status " ++ (decimal status ++ (codes " (" ++ (name ++ (codes "): " ++ (decimal n ++ codes "\n"))))))
     → after ≡ before ++ (if nat_lt 0 n then codes "replies with status " ++ (decimal status ++ (codes " (" ++ (words ++ (codes "): " ++ (decimal n ++ codes "\n"))))) else [])
 told_status before after status n name words some named added =
-    told_if n (codes "replies with status " ++ (decimal status ++ (codes " (" ++ (name ++ (codes "): " ++ (decimal n ++ codes "\n")))))) before after some added
+    told_if n (codes "replies with status " ++ (decimal status ++ (codes " (" ++ (name ++ (codes "): " ++ (decimal n ++ codes "\n")))))) before after (positive n some) added
     ∙ (λ i. before ++ (if nat_lt 0 n then codes "replies with status " ++ (decimal status ++ (codes " (" ++ (named i ++ (codes "): " ++ (decimal n ++ codes "\n"))))) else []))
 
 pub told_flow : (before after name words : List ℕ) (count b n o d : ℕ) (replies others : Option ℕ) → 0 < n → name ≡ words → count ≡ b → n ≡ o → others ≡ replies

@@ -1,5 +1,5 @@
 -- What a run did with the packets of its load (this project's choice).
-use Rattle.std.specs.Prelude.{List, None, Option, Some, [], ◌∷◌, ◌++◌, count_by, filter, flat_map, if◌then◌else◌, length, map, nat_eq, replicate, slice_get, slice_index_or, sum_by, take, ℕ, ◌==◌}
+use Rattle.std.specs.Prelude.{Bool, List, None, Option, Some, [], ◌∷◌, ◌++◌, count_by, filter, flat_map, if◌then◌else◌, length, map, nat_eq, replicate, slice_get, slice_index_or, sum_by, take, ℕ, ◌==◌}
 use Rattle.std.specs.List.{range_with_len}
 use Rattle.std.specs.Option.{option_map_or}
 use Rattle.sw_char.specs.PacketView.{PacketView}
@@ -83,6 +83,16 @@ replies_at n packets = map (λ p. record { node = n; packet = record { bytes = t
 
 abbrev pub all_replies : List (List PacketView) → List Item
 all_replies out = flat_map (λ n. replies_at n (slice_index_or out n [])) (range_with_len 0 (length out))
+
+-- what is counted of a packet at a node: itself, or, of replies, the reply by its first byte
+abbrev pub key_of : Bool → ℕ → PacketView → Option Item
+key_of replies n p =
+    if replies then (if is_reply p.bytes then Some (record { node = n; packet = record { bytes = take 1 p.bytes; end = Eop } }) else None)
+    else Some (record { node = n; packet = p })
+
+-- all of one of both kinds, node by node
+abbrev pub all_keys : Bool → List (List PacketView) → List Item
+all_keys replies out = if replies then all_replies out else all_items out
 
 -- of the replies that came out, how many answer commands of flow i: each counts for one that asked for it, first for those of the first flow
 abbrev pub answered : Declaration → List Begun → List TallyView → ℕ → ℕ

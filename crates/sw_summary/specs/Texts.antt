@@ -39,6 +39,11 @@ abbrev pub flow_text_of : List LoadEntry → List Begun → ℕ → ℕ → ℕ 
 flow_text_of load begun i came_out replies f =
     if nat_lt 0 (loaded i load) then flow_line f.name (length (of_flow i begun)) (loaded i load) came_out (replies_told f replies) else []
 
+-- the same, where so many were begun
+abbrev pub flow_text_where : List LoadEntry → ℕ → ℕ → ℕ → ℕ → FlowEntry → List ℕ
+flow_text_where load begun i came_out replies f =
+    if nat_lt 0 (loaded i load) then flow_line f.name begun (loaded i load) came_out (replies_told f replies) else []
+
 abbrev pub flow_text : Declaration → List LoadEntry → List Begun → ℕ → ℕ → ℕ → List ℕ
 flow_text d load begun came_out replies i = option_map_or (flow_text_of load begun i came_out replies) (slice_get d.flows i) []
 

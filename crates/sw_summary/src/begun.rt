@@ -1,8 +1,8 @@
 //! The packets that a history begins.
-ghost use Rattle.std.specs.Prelude.{◌≡◌, ◌≤◌, IfOk, length, map};
+ghost use Rattle.std.specs.Prelude.{◌≡◌, IfOk, map};
 ghost use Rattle.sw_machine.specs.Begun.{beginnings};
 ghost use Rattle.sw_machine.specs.StepValues.{machine_step};
-ghost use Rattle.sw_summary.specs.Counts.{forms, loaded, of_entry, of_flow};
+ghost use Rattle.sw_summary.specs.Counts.{forms, loaded};
 
 use std::alloc::{AllocError, Global};
 use std::marker::Model;
@@ -45,32 +45,6 @@ pub(crate) fn beginnings<'a>(alloc: Global, steps: &'a [Step]) -> Result<Vec<Beg
     Ok(all)
 }
 
-/// How many of the packets are the flow's.
-pub(crate) fn begun_of(flow: u16, begun: &[Begun<'_>]) -> usize
-    ensures { result ≡ length (of_flow flow begun.now) }
-{
-    let mut count = 0;
-    for packet in begun {
-        if packet.flow != flow {
-            continue;
-        }
-        count += 1;
-    }
-    count
-}
-
-// How many packets the entry has of the flow.
-fn count_of(flow: u16, entry: &LoadPacket) -> u64
-    ensures count { result ≡ of_entry flow entry.now }
-    ensures few { result ≤ entry.now.count }
-{
-    if entry.flow() == flow {
-        u64::from(entry.count())
-    } else {
-        0
-    }
-}
-
 /// How many packets of the flow the load has.
 pub(crate) fn loaded(flow: u16, load: &Load) -> u64
     ensures { result ≡ loaded flow load.now }
@@ -79,7 +53,10 @@ pub(crate) fn loaded(flow: u16, load: &Load) -> u64
     let _total = load.total();
     let mut sum = 0;
     for entry in load.packets() {
-        sum += count_of(flow, entry);
+        if entry.flow() != flow {
+            continue;
+        }
+        sum += u64::from(entry.count());
     }
     sum
 }

@@ -1,69 +1,67 @@
 //! What came out of a network, as keys.
-ghost use Rattle.std.specs.Prelude.{◌≡◌, ◌≤◌, ◌++◌, IfOk, length, map};
-ghost use Rattle.sw_summary.specs.Counts.{all_items, all_replies, items_at, replies_at};
+ghost use Rattle.std.specs.Prelude.{◌≡◌, ◌≤◌, IfOk, length, map};
+ghost use Rattle.sw_summary.specs.Counts.{all_keys, key_of};
 
 use crate::replies::is_reply;
-use crate::tallies::Key;
 use std::alloc::{AllocError, Global};
-use sw_char::Packet;
+use std::marker::Model;
+use sw_char::{End, Packet};
 
-// The packets of a node.
-fn push_packets<'a>(
-    all: &mut Vec<Key<'a>>,
-    node: u16,
-    packets: &'a [Packet],
-) -> Result<(), AllocError>
-    ensures { IfOk result (λ _. all.new.items ≡ all.old.items ++ items_at node packets.now) }
-{
-    for packet in packets {
-        all.push(Key::of(node, packet))?;
-    }
-    Ok(())
+/// A packet at a node, or the part of it that matters.
+#[derive(Drop)]
+pub(crate) struct Key<'a> {
+    pub(crate) node: u16,
+    pub(crate) bytes: &'a [u8],
+    pub(crate) end: End,
 }
 
-/// All packets, node by node.
-pub(crate) fn all_packets<'a>(
+impl<'a> Model for Key<'a> {
+    ghost use Rattle.sw_summary.specs.Tallies.{Item};
+
+    ghost Value = { Item };
+
+    ghost view = { λ k. record { node = k.node; packet = record { bytes = k.bytes.now; end = k.end } } };
+}
+
+// What is counted of the packet at the node: itself, or, of replies, the reply by its first byte.
+fn counted(node: u16, packet: &Packet, replies: bool) -> Option<Key<'_>>
+    ensures { result ≡ key_of replies node packet.now }
+{
+    let bytes = packet.bytes.as_slice();
+    if !replies {
+        return Some(Key {
+            node,
+            bytes,
+            end: packet.end,
+        });
+    }
+    if !is_reply(bytes) {
+        return None;
+    }
+    Some(Key {
+        node,
+        bytes: &bytes[..1],
+        end: End::Eop,
+    })
+}
+
+/// All packets, or all replies by their first byte, node by node.
+pub(crate) fn keys<'a>(
     alloc: Global,
     out: &'a [Vec<Packet>],
+    replies: bool,
 ) -> Result<Vec<Key<'a>>, AllocError>
     requires { length out.now ≤ 1024 }
-    ensures { IfOk result (λ all. all.items ≡ all_items (map (λ packets. packets.items) out.now)) }
+    ensures { IfOk result (λ all. all.items ≡ all_keys replies (map (λ packets. packets.items) out.now)) }
 {
     let mut all = Vec::new(alloc);
     for n in 0..out.len() {
-        push_packets(&mut all, n as u16, &out[n])?;
-    }
-    Ok(all)
-}
-
-// The replies of a node.
-fn push_replies<'a>(
-    all: &mut Vec<Key<'a>>,
-    node: u16,
-    packets: &'a [Packet],
-) -> Result<(), AllocError>
-    ensures { IfOk result (λ _. all.new.items ≡ all.old.items ++ replies_at node packets.now) }
-{
-    for packet in packets {
-        if !is_reply(&packet.bytes) {
-            continue;
+        for packet in out[n].as_slice() {
+            let Some(key) = counted(n as u16, packet, replies) else {
+                continue;
+            };
+            all.push(key)?;
         }
-        all.push(Key::of_reply(node, packet))?;
-    }
-    Ok(())
-}
-
-/// All replies by their first byte, node by node.
-pub(crate) fn all_replies<'a>(
-    alloc: Global,
-    out: &'a [Vec<Packet>],
-) -> Result<Vec<Key<'a>>, AllocError>
-    requires { length out.now ≤ 1024 }
-    ensures { IfOk result (λ all. all.items ≡ all_replies (map (λ packets. packets.items) out.now)) }
-{
-    let mut all = Vec::new(alloc);
-    for n in 0..out.len() {
-        push_replies(&mut all, n as u16, &out[n])?;
     }
     Ok(all)
 }

@@ -1,7 +1,7 @@
 //! How full the receive buffers of a network get.
 ghost use Rattle.std.specs.Prelude.{◌≡◌, ◌<◌, ◌*◌, IfOk, length, map, option_map};
 ghost use Rattle.sw_summary.specs.Fills.{AreFillsOrNone};
-ghost use Rattle.sw_summary.specs.NotedFills.{AreNoted, Holds, MakesOrNot};
+ghost use Rattle.sw_summary.specs.NotedFills.{Holds, MakesOrNot};
 ghost use Rattle.sw_machine.specs.Model.{network_of};
 ghost use Rattle.sw_machine.specs.StepValues.{machine_step};
 ghost use Rattle.sw_net.specs.New.{IsNewNet};
@@ -25,23 +25,7 @@ fn held(net: &Net<'_, SwitchRoutes<'_>, Policy>, channel: Chan) -> u16
     used.saturating_sub(u16::from(numbers.outstanding))
 }
 
-// The fills are greater, if need be, where a character has arrived.
-fn note(net: &Net<'_, SwitchRoutes<'_>, Policy>, step: &Step, fills: &mut [u16])
-    requires { length fills.old ≡ 2 * length net.now.declared.links }
-    ensures { AreNoted net.now (machine_step step.now) fills.old fills.new }
-{
-    match step {
-        Step::Arrive(channel) => {
-            let number = usize::from(channel.number());
-            if number < fills.len() {
-                fills[number] = fills[number].max(held(net, *channel));
-            }
-        }
-        _ => {}
-    }
-}
-
-// Makes the step and notes the fills, if it is possible: whether it is.
+// Makes the step, if it is possible: whether it is. Where a character has arrived, the fill is greater then, if need be.
 fn make(
     alloc: Global,
     net: &mut Net<'_, SwitchRoutes<'_>, Policy>,
@@ -55,7 +39,14 @@ fn make(
 {
     match net.step(alloc, step) {
         Ok(()) => {
-            note(net, step, fills);
+            let Step::Arrive(channel) = step else {
+                return Ok(true);
+            };
+            let number = usize::from(channel.number());
+            if number >= fills.len() {
+                return Ok(true);
+            }
+            fills[number] = fills[number].max(held(net, *channel));
             Ok(true)
         }
         Err(NetFault::NotEnabled) => Ok(false),

@@ -1,6 +1,6 @@
 //! Replies among packets.
 ghost use Rattle.std.specs.Prelude.{◌≡◌, ◌≤◌, true, length};
-ghost use Rattle.sw_summary.specs.Replies.{head_len, is_reply, status_name, status_of};
+ghost use Rattle.sw_summary.specs.Replies.{head_len, is_reply, status_name};
 
 use sw_rmap::crc;
 
@@ -24,14 +24,6 @@ pub(crate) fn is_reply(bytes: &[u8]) -> bool
         return false;
     }
     crc(&bytes[..head]) == bytes[head]
-}
-
-/// The status of a reply.
-pub(crate) fn status_of(bytes: &[u8]) -> u8
-    requires { 8 ≤ length bytes.now }
-    ensures { result ≡ status_of bytes.now }
-{
-    bytes[3]
 }
 
 /// The standard's name of a status.

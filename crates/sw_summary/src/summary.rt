@@ -4,9 +4,9 @@ ghost use Rattle.sw_machine.specs.StepValues.{machine_step};
 ghost use Rattle.sw_summary.specs.Texts.{caveats, summary_text};
 
 use crate::begun::beginnings;
-use crate::flow_lines::flow_texts;
-use crate::status_lines::status_lines;
-use crate::unanswered::unanswered_texts;
+use crate::flow_lines::add_flows;
+use crate::status_lines::add_statuses;
+use crate::unanswered::add_unanswered;
 use std::alloc::{AllocError, Global};
 use sw_char::Packet;
 use sw_config::Network;
@@ -42,9 +42,10 @@ pub fn summary_of(
 {
     let count = steps.len();
     let begun = beginnings(alloc, steps)?;
-    let flows = flow_texts(alloc, network, load, &begun, out)?;
-    let statuses = status_lines(alloc, out)?;
-    let unanswered = unanswered_texts(alloc, network, &begun)?;
-    let caveats = caveats(shows_nothing);
-    format!(in alloc; "steps {count}\n{flows}{statuses}{unanswered}{caveats}")
+    let mut text = format!(in alloc; "steps {count}\n")?;
+    add_flows(alloc, network, load, &begun, out, &mut text)?;
+    add_statuses(alloc, out, &mut text)?;
+    add_unanswered(alloc, network, &begun, &mut text)?;
+    text.push_str(caveats(shows_nothing))?;
+    Ok(text)
 }

@@ -1,69 +1,15 @@
 //! What came out of a network and is not counted yet.
-ghost use Rattle.std.specs.Prelude.{◌≡◌, ◌<◌, ◌≤◌, ◌^◌, ◌+◌, All, ◌-◌, IfOk, if◌then◌else◌, length, nat_lt, replicate, take};
+ghost use Rattle.std.specs.Prelude.{◌≡◌, ◌≤◌, ◌-◌, IfOk, if◌then◌else◌, length, map, nat_lt, replicate};
 ghost use Rattle.std.specs.List.Sorted.{IsBinarySearchResult, IsSearchInRange};
-ghost use Rattle.sw_summary.specs.Counts.{items_at};
-ghost use Rattle.sw_summary.specs.Tallies.{IsRising, counted, found, item_order, left, taken, taken_all, tallies};
+ghost use Rattle.sw_summary.specs.Counts.{all_keys, items_at};
+ghost use Rattle.sw_summary.specs.Tallies.{IsRising, found, item_order, left, taken, taken_all, tallies};
 
+use crate::came_out::{Key, keys};
 use std::alloc::{AllocError, Global};
 use std::cmp::Ordering;
 use std::marker::Model;
-use sw_char::{End, Packet};
+use sw_char::Packet;
 use sw_output::end_rank;
-
-/// A packet at a node, or the part of it that matters.
-#[derive(Drop)]
-pub(crate) struct Key<'a> {
-    pub(crate) node: u16,
-    pub(crate) bytes: &'a [u8],
-    pub(crate) end: End,
-}
-
-impl<'a> Model for Key<'a> {
-    ghost use Rattle.sw_summary.specs.Tallies.{Item};
-
-    ghost Value = { Item };
-
-    ghost view = { λ k. record { node = k.node; packet = record { bytes = k.bytes.now; end = k.end } } };
-}
-
-impl<'a> Key<'a> {
-    ghost use Rattle.sw_char.specs.declared.nchar.End.TheVariants.{Eop as ByEop};
-
-    /// The packet at the node.
-    pub(crate) fn of(node: u16, packet: &'a Packet) -> Key<'a>
-        ensures { result ≡ record { node = node; packet = packet.now } }
-    {
-        Key {
-            node,
-            bytes: packet.bytes.as_slice(),
-            end: packet.end,
-        }
-    }
-
-    /// The reply at the node, by its first byte.
-    pub(crate) fn of_reply(node: u16, packet: &'a Packet) -> Key<'a>
-        requires { 8 ≤ length packet.now.bytes }
-        ensures { result ≡ record { node = node; packet = record { bytes = take 1 packet.now.bytes; end = ByEop } } }
-    {
-        let bytes = packet.bytes.as_slice();
-        Key {
-            node,
-            bytes: &bytes[..1],
-            end: End::Eop,
-        }
-    }
-
-    // The same key.
-    fn again(&self) -> Key<'a>
-        ensures { result ≡ self.now }
-    {
-        Key {
-            node: self.node,
-            bytes: self.bytes,
-            end: self.end,
-        }
-    }
-}
 
 /// A key, and how often it is there.
 #[derive(Drop)]
@@ -80,26 +26,6 @@ impl<'a> Model for Tally<'a> {
     ghost view = { λ t. record { item = t.key; count = t.count } };
 }
 
-impl<'a> Tally<'a> {
-    // One fewer, where there is one: how many fewer.
-    fn lower(&mut self) -> usize
-        ensures lowered { result ≡ (if nat_lt 0 self.old.count then 1 else 0) }
-        ensures fewer { self.new ≡ record self.old { count = self.old.count - 1 } }
-    {
-        let before = self.count;
-        self.count = self.count.saturating_sub(1);
-        if before > 0 { 1 } else { 0 }
-    }
-}
-
-fn order(key: &Key<'_>, other: &Key<'_>) -> Ordering
-    ensures { result ≡ item_order key.now other.now }
-{
-    let ends = end_rank(key.end).cmp(&end_rank(other.end));
-    let bytes = key.bytes.cmp(other.bytes);
-    key.node.cmp(&other.node).then(bytes.then(ends))
-}
-
 // Where the key stands, or where it has to be put.
 fn place(tallies: &[Tally<'_>], key: &Key<'_>) -> Result<usize, usize>
     ensures bound { IsSearchInRange result (length tallies.now) }
@@ -108,21 +34,12 @@ fn place(tallies: &[Tally<'_>], key: &Key<'_>) -> Result<usize, usize>
     tallies.binary_search_by(
         |tally: &Tally<'_>| -> Ordering
             ensures { result ≡ item_order tally.now.item key.entry.now }
-        { order(&tally.key, key) },
+        {
+            let ends = end_rank(tally.key.end).cmp(&end_rank(key.end));
+            let bytes = tally.key.bytes.cmp(key.bytes);
+            tally.key.node.cmp(&key.node).then(bytes.then(ends))
+        },
     )
-}
-
-// One more of the key.
-fn add<'a>(tallies: &mut Vec<Tally<'a>>, key: Key<'a>) -> Result<(), AllocError>
-    requires rising { IsRising tallies.old.items }
-    requires few { All (λ t. t.count + 1 < 2 ^ 64) tallies.old.items }
-    ensures { IfOk result (λ _. tallies.new.items ≡ counted key.entry tallies.old.items) }
-{
-    match place(tallies, &key) {
-        Ok(i) => tallies[i].count += 1,
-        Err(i) => tallies.insert(i, Tally { key, count: 1 })?,
-    }
-    Ok(())
 }
 
 // One fewer of the key, where there is one: how many fewer.
@@ -134,18 +51,39 @@ fn take(tallies: &mut [Tally<'_>], key: &Key<'_>) -> usize
     ensures few { result ≤ 1 }
 {
     match place(tallies, key) {
-        Ok(i) => tallies[i].lower(),
+        Ok(i) => {
+            let tally = &mut tallies[i];
+            let before = tally.count;
+            tally.count = before.saturating_sub(1);
+            before.min(1) as usize
+        }
         Err(_) => 0,
     }
 }
 
-/// The different keys in rising order, each with how often it is listed.
-pub(crate) fn tallies<'a>(alloc: Global, keys: &[Key<'a>]) -> Result<Vec<Tally<'a>>, AllocError>
-    ensures { IfOk result (λ all. all.items ≡ tallies keys.now) }
+/// The different packets that came out, or replies, in rising order, each with how often it did.
+pub(crate) fn tallies<'a>(
+    alloc: Global,
+    out: &'a [Vec<Packet>],
+    replies: bool,
+) -> Result<Vec<Tally<'a>>, AllocError>
+    requires { length out.now ≤ 1024 }
+    ensures { IfOk result (λ all. all.items ≡ tallies (all_keys replies (map (λ packets. packets.items) out.now))) }
 {
+    let keys = keys(alloc, out, replies)?;
     let mut all = Vec::new(alloc);
-    for key in keys {
-        add(&mut all, key.again())?;
+    for key in &keys {
+        match place(&all, key) {
+            Ok(i) => all[i].count += 1,
+            Err(i) => {
+                let key = Key {
+                    node: key.node,
+                    bytes: key.bytes,
+                    end: key.end,
+                };
+                all.insert(i, Tally { key, count: 1 })?;
+            }
+        }
     }
     Ok(all)
 }
@@ -158,7 +96,12 @@ pub(crate) fn found_packets(tallies: &mut [Tally<'_>], node: u16, packets: &[Pac
 {
     let mut count = 0;
     for packet in packets {
-        count += take(tallies, &Key::of(node, packet));
+        let key = Key {
+            node,
+            bytes: packet.bytes.as_slice(),
+            end: packet.end,
+        };
+        count += take(tallies, &key);
     }
     count
 }

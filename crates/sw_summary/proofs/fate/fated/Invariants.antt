@@ -1,9 +1,7 @@
-use Rattle.std.proofs.Common.{◌≡◌, ◌≤◌, take}
-use Rattle.sw_summary.specs.Counts.{fated}
+use Rattle.std.specs.Prelude.{◌==◌}
+use Rattle.sw_summary.specs.Fates.{fate_index, fate_of}
+use Rattle.sw_summary.proofs.Counted.{AreCounted}
 use Rattle.sw_summary.proofs.fate.fated.Given as goal
 
 abbrev pub invariant-loop-packet : goal.invariant-loop-packet
-invariant-loop-packet l = record {
-  count : l.count ≡ fated l.fate (take l.packet-index l.packets);
-  few : l.count ≤ l.packet-index;
-}
+invariant-loop-packet l = AreCounted (λ p. fate_index (fate_of p.bytes) == fate_index l.fate) l.packets l.packet-index l.count

@@ -1,9 +1,9 @@
-use Rattle.std.proofs.Common.{List, None, Some, ap, arith, rules, string_bytes, sym, ◌++◌, ◌<◌, ◌∙◌, ◌≡◌, ℕ}
+use Rattle.std.proofs.Common.{List, None, Some, refl, rules, string_bytes, ◌++◌, ◌<◌, ◌≡◌, ℕ}
 use Rattle.std.proofs.lemmas.Result.{IfOk-weaker}
 use Rattle.std.specs.Fmt.{decimal}
 use Rattle.std.specs.Prelude.{IfOk, codes}
-use Rattle.sw_summary.specs.Texts.{answered_words, flow_text_of, replies_told}
-use Rattle.sw_summary.proofs.Written.{told_flow}
+use Rattle.sw_summary.specs.Texts.{flow_text_where, replies_told}
+use Rattle.sw_summary.proofs.Written.{positive, told_flow}
 use Rattle.sw_summary.proofs.flow_lines.add_line.Goals as goal
 
 pub returns-then-is_some : goal.returns-then-is_some
@@ -12,16 +12,15 @@ returns-then-is_some c =
     let before = string_bytes c.args.text.now in
     let after = string_bytes c.write.new.self in
     let of_them = c.loaded-of_them.result in
-    let none = c.if-of_them-eq0.false in
-    let some : 0 < of_them = omega arith in
+    let some : 0 < of_them = positive of_them c.if-of_them-eq0.false in
     let told : replies_told f c.args.answered ≡ Some c.args.answered = search rules in
     let line : List ℕ =
-    codes "flow " ++ (c.name-name.result.now ++ (codes " begun " ++ (decimal c.begun_of-count.result ++ (codes " of " ++ (decimal of_them ++ (codes " delivered " ++ (decimal c.args.delivered
+    codes "flow " ++ (c.name-name.result.now ++ (codes " begun " ++ (decimal c.args.begun ++ (codes " of " ++ (decimal of_them ++ (codes " delivered " ++ (decimal c.args.delivered
     ++ (codes " answered " ++ (decimal c.args.answered ++ codes "\n")))))))))
     in
     let written : IfOk c.write.result (λ u. after ≡ before ++ line) = search rules in
-    IfOk-weaker c.write.result (λ u. after ≡ before ++ line) (λ u. after ≡ before ++ flow_text_of c.args.load.now c.args.begun.now c.args.number c.args.delivered c.args.answered f)
-    (λ u added. told_flow before after c.name-name.result.now f.name c.begun_of-count.result _ of_them _ c.args.delivered (Some c.args.answered) _ some c.name-name.ensures c.begun_of-count.ensures
+    IfOk-weaker c.write.result (λ u. after ≡ before ++ line) (λ u. after ≡ before ++ flow_text_where c.args.load.now c.args.begun c.args.number c.args.delivered c.args.answered f)
+    (λ u added. told_flow before after c.name-name.result.now f.name c.args.begun _ of_them _ c.args.delivered (Some c.args.answered) _ some c.name-name.ensures refl
     c.loaded-of_them.ensures told added)
     written
 
@@ -31,15 +30,14 @@ returns c =
     let before = string_bytes c.args.text.now in
     let after = string_bytes c.write-2.new.self in
     let of_them = c.loaded-of_them.result in
-    let none = c.if-of_them-eq0.false in
-    let some : 0 < of_them = omega arith in
+    let some : 0 < of_them = positive of_them c.if-of_them-eq0.false in
     let told : replies_told f c.args.answered ≡ None = search rules in
     let line : List ℕ =
-    codes "flow " ++ (c.name-name.result.now ++ (codes " begun " ++ (decimal c.begun_of-count.result ++ (codes " of " ++ (decimal of_them ++ (codes " delivered " ++ (decimal c.args.delivered
+    codes "flow " ++ (c.name-name.result.now ++ (codes " begun " ++ (decimal c.args.begun ++ (codes " of " ++ (decimal of_them ++ (codes " delivered " ++ (decimal c.args.delivered
     ++ codes "\n")))))))
     in
     let written : IfOk c.write-2.result (λ u. after ≡ before ++ line) = search rules in
-    IfOk-weaker c.write-2.result (λ u. after ≡ before ++ line) (λ u. after ≡ before ++ flow_text_of c.args.load.now c.args.begun.now c.args.number c.args.delivered c.args.answered f)
-    (λ u added. told_flow before after c.name-name.result.now f.name c.begun_of-count.result _ of_them _ c.args.delivered None _ some c.name-name.ensures c.begun_of-count.ensures
+    IfOk-weaker c.write-2.result (λ u. after ≡ before ++ line) (λ u. after ≡ before ++ flow_text_where c.args.load.now c.args.begun c.args.number c.args.delivered c.args.answered f)
+    (λ u added. told_flow before after c.name-name.result.now f.name c.args.begun _ of_them _ c.args.delivered None _ some c.name-name.ensures refl
     c.loaded-of_them.ensures told added)
     written

@@ -1,20 +1,20 @@
-use Rattle.sw_summary.proofs.Taken.{found_taken, missing_taken}
+use Rattle.sw_summary.proofs.Taken.{found_lowered, missing_taken}
 use Rattle.sw_summary.proofs.tallies.take.Goals as goal
 
 pub returns-in-Ok-clause-lowered : goal.returns-in-Ok-clause-lowered
 returns-in-Ok-clause-lowered c =
-    (found_taken c.args.key.now c.args.tallies.now c.in-Ok.i c.index-tallies-i.result c.lower.new.self c.lower.result c.requires c.in-Ok.ensures.bound
-    c.in-Ok.ensures.position c.lower.ensures.lowered c.lower.ensures.fewer).lowered
+    (found_lowered c.args.key.now c.args.tallies.now c.in-Ok.i c.index-tallies-i.result _ c.min.result
+    c.saturating_sub-tally-inside.result c.requires c.in-Ok.ensures.bound c.in-Ok.ensures.position c.tally.view_is c.min.ensures c.saturating_sub-tally-inside.ensures).lowered
 
 pub returns-in-Ok-clause-fewer : goal.returns-in-Ok-clause-fewer
 returns-in-Ok-clause-fewer c =
-    (found_taken c.args.key.now c.args.tallies.now c.in-Ok.i c.index-tallies-i.result c.lower.new.self c.lower.result c.requires c.in-Ok.ensures.bound
-    c.in-Ok.ensures.position c.lower.ensures.lowered c.lower.ensures.fewer).fewer
+    (found_lowered c.args.key.now c.args.tallies.now c.in-Ok.i c.index-tallies-i.result _ c.min.result
+    c.saturating_sub-tally-inside.result c.requires c.in-Ok.ensures.bound c.in-Ok.ensures.position c.tally.view_is c.min.ensures c.saturating_sub-tally-inside.ensures).fewer
 
 pub returns-in-Ok-clause-rising : goal.returns-in-Ok-clause-rising
 returns-in-Ok-clause-rising c =
-    (found_taken c.args.key.now c.args.tallies.now c.in-Ok.i c.index-tallies-i.result c.lower.new.self c.lower.result c.requires c.in-Ok.ensures.bound
-    c.in-Ok.ensures.position c.lower.ensures.lowered c.lower.ensures.fewer).rising
+    (found_lowered c.args.key.now c.args.tallies.now c.in-Ok.i c.index-tallies-i.result _ c.min.result
+    c.saturating_sub-tally-inside.result c.requires c.in-Ok.ensures.bound c.in-Ok.ensures.position c.tally.view_is c.min.ensures c.saturating_sub-tally-inside.ensures).rising
 
 pub returns-in-Err-clause-lowered : goal.returns-in-Err-clause-lowered
 returns-in-Err-clause-lowered c =
