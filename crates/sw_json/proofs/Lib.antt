@@ -8,4 +8,5 @@ pub mod OneResult
 pub mod OneVerdict
 mod Memory
 mod OneMember
+mod FreeObject
 pub mod Added

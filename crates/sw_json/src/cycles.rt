@@ -32,19 +32,6 @@ fn cause_value(alloc: Global, network: &Network, cause: &Cause) -> Result<Value,
     }
 }
 
-fn channel_value(
-    alloc: Global,
-    network: &Network,
-    channel: Chan,
-    cause: &Cause,
-) -> Result<Value, AllocError>
-    requires { channel < length (wiring_of network.now).ends }
-    ensures { IfOk result (λ v. view v ≡ channel_value network.now (channel, cause_of cause.now)) }
-{
-    let by = cause_value(alloc, network, cause)?;
-    channel_object(alloc, network, channel, "by", Member::Value(by))
-}
-
 // A value for each channel, with its cause.
 fn channel_values(
     alloc: Global,
@@ -57,22 +44,11 @@ fn channel_values(
 {
     let mut values = Vec::new(alloc);
     for (channel, cause) in channels.iter().zip(causes) {
-        add_value(&mut values, channel_value(alloc, network, *channel, cause))?;
+        let by = cause_value(alloc, network, cause);
+        let value = channel_object(alloc, network, *channel, "by", by);
+        add_value(&mut values, value)?;
     }
     Ok(values)
-}
-
-// The object that stands for a cycle of the network's channels.
-fn cycle_value(alloc: Global, network: &Network, cycle: &Cycle) -> Result<Value, AllocError>
-    requires { All (λ c. c < length (wiring_of network.now).ends) cycle.now.channels }
-    ensures { IfOk result (λ v. view v ≡ cyclic_value network.now cycle.now) }
-{
-    let channels = channel_values(alloc, network, &cycle.channels, &cycle.causes)?;
-    object_of_two(
-        alloc,
-        ("channels", Member::Value(Value::Array(channels))),
-        ("kind", Member::Text("cyclic")),
-    )
 }
 
 /// The channels of a cyclic network's cycle, each with what makes it wait for the next.
@@ -86,5 +62,10 @@ pub(crate) fn cyclic_value(
 {
     // Names the network, which is valid by its type: the channels of a shown cycle are its own.
     let _topology = network.topology();
-    cycle_value(alloc, network, cycle)
+    let channels = channel_values(alloc, network, &cycle.channels, &cycle.causes)?;
+    object_of_two(
+        alloc,
+        ("channels", Member::Value(Value::Array(channels))),
+        ("kind", Member::Text("cyclic")),
+    )
 }

@@ -4,8 +4,11 @@ ghost use Rattle.serde_json.specs.View.{view};
 ghost use Rattle.sw_json.specs.FileValues.{audit_value, bare_entry, kind_value, read_entry};
 
 use crate::digests::digest_text;
-use crate::lists::text_values;
-use crate::objects::{Member, object_of_six, object_of_text, object_of_three};
+use crate::lists::{list_value, text_values};
+use crate::objects::{
+    Member, four_members, object_of_six, object_of_text, object_of_three, whole_object, with_value,
+};
+use crate::simple::text_value;
 use serde_json::Value;
 use std::alloc::{AllocError, Global};
 
@@ -42,18 +45,19 @@ pub fn read_entry(
 ) -> Result<Value, AllocError>
     ensures { IfOk result (λ v. view v ≡ read_entry path.now text.now (map string_bytes lint.now) status (view verdict)) }
 {
-    let digest = digest_text(alloc, text)?;
-    let lint = text_values(alloc, lint)?;
     let bytes = text.len();
-    object_of_six(
+    let four = four_members(
         alloc,
         ("bytes", Member::Number(bytes as u64)),
-        ("lint", Member::Value(Value::Array(lint))),
         ("path", Member::Text(path)),
-        ("sha256", Member::Value(Value::String(digest))),
         ("status", Member::Number(u64::from(status))),
         ("verdict", Member::Value(verdict)),
-    )
+    );
+    let lint = list_value(text_values(alloc, lint));
+    let five = with_value(alloc, four, "lint", lint);
+    let digest = text_value(digest_text(alloc, text));
+    let six = with_value(alloc, five, "sha256", digest);
+    whole_object(six)
 }
 
 /// What is found of a file whose text was not read, or not whole.

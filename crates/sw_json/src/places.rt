@@ -1,17 +1,18 @@
 //! Channels and places of flows as values.
 ghost use Rattle.std.specs.Prelude.{◌≡◌, ◌<◌, ◌∷◌, [], All, IfOk, codes, length, map, string_bytes};
-ghost use Rattle.serde_json.specs.Data.{string};
+ghost use Rattle.serde_json.specs.Data.{Data, string};
 ghost use Rattle.serde_json.specs.View.{view};
 ghost use Rattle.sw_config.specs.Entries.{wiring_of};
 ghost use Rattle.sw_output.specs.ChannelTexts.{start_text};
-ghost use Rattle.sw_json.specs.Objects.{member_value, object_of};
+ghost use Rattle.sw_json.specs.Objects.{object_of};
 ghost use Rattle.sw_json.specs.PlaceValues.{finish_text, misrouted_fault_value, place_value};
 ghost use Rattle.sw_json.specs.Simple.{count_value};
 
 use crate::codes::route_fault_code;
 use crate::lists::add_value;
-use crate::objects::{Member, object_of_four};
-use serde_json::Value;
+use crate::objects::{Member, made_value, object_of_four, whole_object, with_member, with_value};
+use crate::simple::text_value;
+use serde_json::{Map, Value};
 use std::alloc::{AllocError, Global};
 use sw_config::Network;
 use sw_flow::{Place, RouteFault};
@@ -43,26 +44,24 @@ pub fn finish_text(alloc: Global, network: &Network, channel: Chan) -> Result<St
 }
 
 /// The object that stands for a channel: its number, the ends of its link at which it ends and starts, and one member more.
-pub(crate) fn channel_object<'a>(
+pub(crate) fn channel_object(
     alloc: Global,
     network: &Network,
     channel: Chan,
-    name: &'a str,
-    more: Member<'a>,
+    name: &str,
+    more: Result<Value, AllocError>,
 ) -> Result<Value, AllocError>
     requires { channel < length (wiring_of network.now).ends }
-    ensures { IfOk result (λ v. view v ≡ object_of ((name.now, member_value more.entry) ∷ (codes "channel", count_value channel) ∷ (codes "end", string (finish_text network.now channel)) ∷ (codes "start", string (start_text network.now channel)) ∷ [])) }
+    ensures { (made : Data) → IfOk more (λ v. view v ≡ made) → IfOk result (λ v. view v ≡ object_of ((name.now, made) ∷ (codes "channel", count_value channel) ∷ (codes "end", string (finish_text network.now channel)) ∷ (codes "start", string (start_text network.now channel)) ∷ [])) }
 {
-    let end = finish_text(alloc, network, channel)?;
-    let start = start_text(alloc, network, channel)?;
     let number = channel.number();
-    object_of_four(
-        alloc,
-        (name, more),
-        ("channel", Member::Number(u64::from(number))),
-        ("end", Member::Value(Value::String(end))),
-        ("start", Member::Value(Value::String(start))),
-    )
+    let one = with_value(alloc, Ok(Map::new(alloc)), name, more);
+    let two = with_member(alloc, one, ("channel", Member::Number(u64::from(number))));
+    let end = text_value(finish_text(alloc, network, channel));
+    let three = with_value(alloc, two, "end", end);
+    let start = text_value(start_text(alloc, network, channel));
+    let four = with_value(alloc, three, "start", start);
+    whole_object(four)
 }
 
 /// The object that stands for a place of a flow.
@@ -75,7 +74,8 @@ pub fn place_value(alloc: Global, network: &Network, place: Place) -> Result<Val
     ensures { IfOk result (λ v. view v ≡ place_value network.now place) }
 {
     let deleted = Member::Number(u64::from(place.deleted));
-    channel_object(alloc, network, place.channel, "deleted", deleted)
+    let made = made_value(alloc, deleted);
+    channel_object(alloc, network, place.channel, "deleted", made)
 }
 
 /// An object for each of the places.

@@ -8,7 +8,8 @@ ghost use Rattle.sw_json.specs.VerdictValues.{certificate_bytes, free_value, mis
 use crate::codes::route_fault_code;
 use crate::cycles::cyclic_value;
 use crate::digests::digest_text;
-use crate::objects::{Member, object_of, object_of_six};
+use crate::objects::{Member, four_members, object_of_six, whole_object, with_member, with_value};
+use crate::simple::text_value;
 use serde_json::Value;
 use std::alloc::{AllocError, Global};
 use sw_cert::Certificate;
@@ -26,7 +27,6 @@ fn free_value(
     requires { text.now ≡ spelling certificate.now.numbers certificate.now.places }
     ensures { IfOk result (λ v. view v ≡ free_value network.now certificate.now) }
 {
-    let digest = digest_text(alloc, text)?;
     let height = height(certificate.numbers());
     let declared = network.declared_flows();
     let replies = network.flows() - declared;
@@ -34,18 +34,24 @@ fn free_value(
     let links = network.links();
     let nodes = network.nodes();
     let switches = network.switches();
-    let members = vec![in alloc;
-        ("certificate_sha256", Member::Value(Value::String(digest))),
+    let four = four_members(
+        alloc,
         ("channels", Member::Number(u64::from(channels))),
         ("flows", Member::Number(u64::from(declared))),
         ("height", Member::Number(u64::from(height))),
         ("kind", Member::Text("free")),
-        ("links", Member::Number(u64::from(links))),
-        ("nodes", Member::Number(u64::from(nodes))),
-        ("replies", Member::Number(u64::from(replies))),
+    );
+    let five = with_member(alloc, four, ("links", Member::Number(u64::from(links))));
+    let six = with_member(alloc, five, ("nodes", Member::Number(u64::from(nodes))));
+    let seven = with_member(alloc, six, ("replies", Member::Number(u64::from(replies))));
+    let eight = with_member(
+        alloc,
+        seven,
         ("switches", Member::Number(u64::from(switches))),
-    ]?;
-    object_of(alloc, members)
+    );
+    let digest = text_value(digest_text(alloc, text));
+    let nine = with_value(alloc, eight, "certificate_sha256", digest);
+    whole_object(nine)
 }
 
 fn misrouted_value(
