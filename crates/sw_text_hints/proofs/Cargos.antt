@@ -1,7 +1,7 @@
 -- Whether a word is a cargo.
-use Rattle.std.proofs.Common.{◌≡◌, ◌≢◌, ◌∙◌, ◌-◌, ◌<◌, ◌≤◌, ℕ, Bool, true, false, List, Option, Some, None, ap, arith, cond, drop, get_or, length, refl, sym, take}
-use Rattle.std.specs.Prelude.{is_some, option_and_then, option_map, replicate}
-use Rattle.std.proofs.lemmas.Grind.{common_steps}
+use Rattle.std.proofs.Common.{◌≡◌, ◌≢◌, ◌∙◌, ◌-◌, ◌<◌, ◌≤◌, ◌==◌, ◌&&◌, ℕ, Bool, true, false, List, Option, Some, None, ap, cond, drop, get_or, length, refl, sym, take}
+use Rattle.std.specs.Prelude.{is_some, nat_le, option_and_then, option_map, replicate}
+use Rattle.std.proofs.lemmas.Bool.{and_from, eq-eqb, le-leb, lt-leb, ne_eqb}
 use Rattle.std.proofs.lemmas.List.{take_rest}
 use Rattle.sw_load.specs.Cargo.{bytes_of, count_of, hex_pair, is_repetition, pairs_of, repeated_of}
 
@@ -9,15 +9,19 @@ is_some_of_map : {A B : Type 0} (f : A → B) (o : Option A) → is_some o ≡ i
 is_some_of_map f None = refl
 is_some_of_map f (Some x) = refl
 
+and_none : (b : Bool) → (b && false) ≡ false
+and_none true = refl
+and_none false = refl
+
 -- the third character is no star, or there is none
 pub no_star : (word : List ℕ) → get_or word 2 0 ≢ 42 → is_repetition word ≡ false
-no_star word other = grind (arith, common_steps)
+no_star word other = ap (λ b. nat_le 3 (length word) && b) (ne_eqb (get_or word 2 0) 42 other) ∙ and_none (nat_le 3 (length word))
 
 pub too_short : (word : List ℕ) → length word < 3 → is_repetition word ≡ false
-too_short word short = grind (arith, common_steps)
+too_short word short = ap (λ b. b && (get_or word 2 0 == 42)) (lt-leb 3 (length word) short)
 
 star : (word : List ℕ) → 3 ≤ length word → get_or word 2 0 ≡ 42 → is_repetition word ≡ true
-star word long same = grind (arith, common_steps)
+star word long same = and_from (nat_le 3 (length word)) (get_or word 2 0 == 42) (le-leb 3 (length word) long) (eq-eqb (get_or word 2 0) 42 same)
 
 -- without a star, pairs
 pub pairs_told : {A : Type 0} (f : A → List ℕ) (word : List ℕ) (found : Option A) (b : Bool) → is_repetition word ≡ false → b ≡ is_some found

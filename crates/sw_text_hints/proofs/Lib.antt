@@ -1,6 +1,9 @@
 mod Cargos
 mod Heads
 mod LoadHelps
+mod NearNames
 mod Notes
 pub mod PlaceNumbers
+mod TextsMade
+mod Verbs
 pub mod Words

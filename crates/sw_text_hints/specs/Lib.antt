@@ -1,4 +1,5 @@
 pub mod CertificateHints
+pub mod LineHints
 pub mod LoadHints
 pub mod ScheduleHints
 pub mod StepWords

@@ -1,12 +1,13 @@
 //! The hint of a certificate that can't be read.
 ghost use Rattle.std.specs.Prelude.{◌≡◌, IfOk, option_map, string_bytes};
 ghost use Rattle.sw_schedule.specs.Schedule.{text_lines};
-ghost use Rattle.sw_text_hints.specs.CertificateHints.{certificate_hint, expected_after, expected_line, flows_before, hint_at, hint_by, line_before, line_hint, note_line, place_note, place_numbers, rises, rising_note};
+ghost use Rattle.sw_text_hints.specs.CertificateHints.{certificate_hint, expected_after, flows_before, hint_at, line_before, place_note, place_numbers, rises, rising_note};
 
+use crate::line_hints::{joined, place_lines, told_of};
 use crate::wrong_word::nth_line;
 use std::alloc::{AllocError, Global};
 use sw_cert::{Certificate, CertificateFault};
-use sw_hints::{found_line, shown, told};
+use sw_hints::told;
 use sw_text::{cut, number};
 
 // What may stand behind this line.
@@ -121,80 +122,27 @@ fn line_before(text: &[u8], number: usize) -> &[u8]
     nth_line(text, (number - 1) as u64)
 }
 
-// A line of a text, that it is not as the grammar asks, and the lines of what stands there and what is told of it.
-#[tactic(auto, unfolding(crate::specs::CertificateHints::hint_by))]
-fn hint_by(
-    alloc: Global,
-    path: &str,
-    number: usize,
-    found: &str,
-    expected: &str,
-    note: &str,
-) -> Result<String, AllocError>
-    ensures { IfOk result (λ s. string_bytes s ≡ hint_by path.now number found.now expected.now note.now) }
-{
-    format!(in alloc;
-        "{path}:{number}:1: refused C1 Grammar {number}: the line is not as the grammar asks\n{found}{expected}{note}"
-    )
-}
-
-// What may stand behind this line, as a line of a hint.
-#[tactic(auto, unfolding(crate::specs::CertificateHints::expected_line))]
-fn expected_line(alloc: Global, before: &[u8]) -> Result<String, AllocError>
-    ensures { IfOk result (λ s. string_bytes s ≡ expected_line before.now) }
-{
-    told(alloc, "expected", expected_after(before).as_bytes())
-}
-
-// Of a place that does not rise.
-#[tactic(auto, unfolding(crate::specs::CertificateHints::note_line))]
-fn note_line(alloc: Global, flows: usize, before: &[u8], line: &[u8]) -> Result<String, AllocError>
-    ensures { IfOk result (λ s. string_bytes s ≡ note_line flows before.now line.now) }
-{
-    let note = rising_note(alloc, flows, before, line)?;
-    told(alloc, "note", note.as_bytes())
-}
-
-// Of a line with the one before it, and with how many lines before it begin a flow.
-#[tactic(auto, unfolding(crate::specs::CertificateHints::line_hint, crate::specs::CertificateHints::found_in))]
-fn line_hint(
-    alloc: Global,
-    path: &str,
-    number: usize,
-    flows: usize,
-    before: &[u8],
-    line: &[u8],
-) -> Result<String, AllocError>
-    ensures { IfOk result (λ s. string_bytes s ≡ line_hint path.now number flows before.now line.now) }
-{
-    let path = shown(alloc, path.as_bytes())?;
-    let found = found_line(alloc, line, Some(0))?;
-    let expected = expected_line(alloc, before)?;
-    let note = note_line(alloc, flows, before, line)?;
-    hint_by(
-        alloc,
-        path.as_str(),
-        number,
-        found.as_str(),
-        expected.as_str(),
-        note.as_str(),
-    )
-}
-
 // The lines of the hint of a line.
 fn hint_at(alloc: Global, path: &str, text: &[u8], number: usize) -> Result<String, AllocError>
     ensures { IfOk result (λ s. string_bytes s ≡ hint_at path.now text.now number) }
 {
     let line = nth_line(text, number as u64);
     let before = line_before(text, number);
-    line_hint(
+    let what = "the line is not as the grammar asks";
+    let head = place_lines(
         alloc,
         path,
-        number,
-        flows_before(text, number),
-        before,
+        ": refused C1 Grammar ",
+        number as u64,
         line,
-    )
+        0,
+        what,
+    );
+    let after = told(alloc, "expected", expected_after(before).as_bytes());
+    let flows = flows_before(text, number);
+    let note = told_of(alloc, "note", rising_note(alloc, flows, before, line));
+    let more = joined(alloc, after, note);
+    joined(alloc, head, more)
 }
 
 /// The hint of the first line of a text that is not as the grammar of certificates asks; none where each is. `path` is told as the text's

@@ -2,6 +2,7 @@
 #![tactic(auto)]
 
 mod certificates;
+mod line_hints;
 mod loads;
 mod schedules;
 mod step_words;

@@ -2,8 +2,11 @@
 ghost use Rattle.std.specs.Prelude.{◌≡◌, IfOk, Some, map, option_map, string_bytes};
 ghost use Rattle.toml.specs.View.{table_view};
 ghost use Rattle.sw_text.specs.Document.{document_of};
-ghost use Rattle.sw_text_hints.specs.LoadHints.{IsFaultHint, IsHintBy, IsHintFor, IsHintWith, IsLoadHint, document_in, expected, flow_help, help_by, key_help, load_help, load_note, meant};
+ghost use Rattle.sw_hints.specs.Entries.{names_of};
+ghost use Rattle.sw_text_hints.specs.LineHints.{more_by};
+ghost use Rattle.sw_text_hints.specs.LoadHints.{IsFaultHint, IsHintFor, IsLoadHint, document_in, expected, help_by, key_help, load_help, load_note, meant};
 
+use crate::line_hints::{joined, told_of};
 use std::alloc::{AllocError, Global};
 use sw_config::Network;
 use sw_file::read_network;
@@ -50,22 +53,21 @@ fn key_help(alloc: Global, name: &str) -> Result<String, AllocError>
     meant(alloc, name, &["packet"])
 }
 
-// What to do about a name that no flow has.
-fn flow_help(
+/// What to do about a name that no entry at this key has.
+///
+/// # Errors
+///
+/// There is no memory for the text, or for the names.
+pub(crate) fn name_help(
     alloc: Global,
     network: &Table,
-    load: &Table,
-    section: Section,
+    key: Key,
+    name: &str,
 ) -> Result<String, AllocError>
-    ensures { IfOk result (λ s. string_bytes s ≡ flow_help section (table_view network.now) (table_view load.now)) }
+    ensures { IfOk result (λ s. string_bytes s ≡ meant name.now (names_of key (table_view network.now))) }
 {
-    match text_of(load, section, Key::Flow) {
-        Some(name) => {
-            let flows = names_of(alloc, network, Key::Flow)?;
-            meant(alloc, name, &flows)
-        }
-        None => Ok(String::new(alloc)),
-    }
+    let names = names_of(alloc, network, key)?;
+    meant(alloc, name, &names)
 }
 
 // What to do about a fault of a load.
@@ -80,7 +82,10 @@ fn load_help(
     match fault {
         TextFault::UnknownKey(Section::Document, name) => key_help(alloc, name.as_str()),
         TextFault::Key(KeyFault::UnknownName, section, _) => {
-            flow_help(alloc, network, load, *section)
+            match text_of(load, *section, Key::Flow) {
+                Some(name) => name_help(alloc, network, Key::Flow, name),
+                None => Ok(String::new(alloc)),
+            }
         }
         fault => help_text(alloc, load, fault),
     }
@@ -138,54 +143,28 @@ fn help_of(
     }
 }
 
-// What is told of a fault of a load, with what to do and a line of a note.
-fn hint_with(
+// What to do about a fault of a load for this network, whose text is the first one, and what there is to note of it, each as a line; nothing
+// of a load that has no document.
+fn more_of(
     alloc: Global,
-    path: &str,
-    load: &[u8],
-    fault: &TextFault,
-    help: &str,
-    note: &str,
-) -> Result<String, AllocError>
-    ensures { IfOk result (λ s. IsHintWith path.now load.now fault.now help.now note.now (string_bytes s)) }
-{
-    let place = fault_place(alloc, load, fault)?;
-    let what = what_text(alloc, fault)?;
-    let expected = expected(alloc, fault)?;
-    hint_lines(
-        alloc,
-        path,
-        load,
-        place,
-        what.as_str(),
-        expected.as_str(),
-        help,
-        note,
-    )
-}
-
-// The same for this network, whose text is the first one, of a load that has this document.
-fn hint_by(
-    alloc: Global,
-    path: &str,
     text: &[u8],
     network: &Network,
     load: &[u8],
-    document: &Table,
     fault: &TextFault,
 ) -> Result<String, AllocError>
-    ensures { IfOk result (λ s. IsHintBy path.now text.now network.now load.now fault.now (Some (table_view document.now)) (string_bytes s)) }
+    ensures { IfOk result (λ s. string_bytes s ≡ more_by fault.now text.now network.now (document_in (document_of load.now))) }
 {
-    let help = help_of(alloc, text, document, fault)?;
-    let note = told(
-        alloc,
-        "note",
-        load_note(network, document, fault).as_bytes(),
-    )?;
-    hint_with(alloc, path, load, fault, help.as_str(), note.as_str())
+    match document_in(alloc, load)? {
+        Some(document) => {
+            let help = told_of(alloc, "help", help_of(alloc, text, &document, fault));
+            let words = load_note(network, &document, fault);
+            joined(alloc, help, told(alloc, "note", words.as_bytes()))
+        }
+        None => Ok(String::new(alloc)),
+    }
 }
 
-// The same of a load, which may have no document.
+// What is told of a fault of a load for this network, whose text is the first one.
 fn hint_of(
     alloc: Global,
     path: &str,
@@ -196,10 +175,20 @@ fn hint_of(
 ) -> Result<String, AllocError>
     ensures { IfOk result (λ s. IsFaultHint path.now text.now network.now load.now fault.now (string_bytes s)) }
 {
-    match document_in(alloc, load)? {
-        Some(document) => hint_by(alloc, path, text, network, load, &document, fault),
-        None => hint_with(alloc, path, load, fault, "", ""),
-    }
+    let place = fault_place(alloc, load, fault)?;
+    let more = more_of(alloc, text, network, load, fault)?;
+    let what = what_text(alloc, fault)?;
+    let expected = expected(alloc, fault)?;
+    hint_lines(
+        alloc,
+        path,
+        load,
+        place,
+        what.as_str(),
+        expected.as_str(),
+        "",
+        more.as_str(),
+    )
 }
 
 // The hint of a load for this network.

@@ -1,22 +1,30 @@
 //! The hint of a schedule's fault.
-ghost use Rattle.std.specs.Prelude.{◌≡◌, ◌≤◌, IfOk, codes, length, map, option_map, string_bytes};
+ghost use Rattle.std.specs.Prelude.{◌≡◌, IfOk, option_map, string_bytes};
 ghost use Rattle.toml.specs.View.{table_view};
-ghost use Rattle.sw_hints.specs.Entries.{names_of};
-ghost use Rattle.sw_hints.specs.HintLines.{told};
-ghost use Rattle.sw_text_hints.specs.ScheduleHints.{expected, head_by, head_lines, help_of, hint_for, like_help, limit_line, line_hint, offset_of, schedule_hint, total_lines, verbs, wanted_words, what_words, word_help, word_lines};
+ghost use Rattle.sw_text_hints.specs.ScheduleHints.{expected, help_of, hint_for, line_hint, offset_of, schedule_hint, wanted_words, what_words, word_help, word_lines};
 ghost use Rattle.sw_text_hints.specs.WrongWords.{wrong_view};
 
-use crate::loads::{document_in, meant};
+use crate::line_hints::{joined, place_lines, told_of};
+use crate::loads::{document_in, meant, name_help};
 use crate::step_words::{Wanted, text_of};
 use crate::wrong_word::{Wrong, first_word, nth_line, wrong_of};
 use std::alloc::{AllocError, Global};
 use sw_config::Network;
 use sw_file::read_network;
-use sw_hints::{found_line, names_of, shown, told};
+use sw_hints::told;
 use sw_notes::text_fault;
 use sw_schedule::{ScheduleFault, read_steps};
 use sw_text::Key;
 use toml::Table;
+
+/// The words that steps begin with.
+const VERBS: &[&str] = &[
+    "fct", "fctin", "arrive", "grant", "drop", "spill", "forward", "begin", "emit", "accept",
+    "reply",
+];
+
+/// The fault, with what stands before and behind it.
+const BAD_LINE: &str = ": fault S1 BadLine ";
 
 // What is wrong with a word that is none of what is wanted.
 fn wanted_words(wanted: Wanted) -> &'static str
@@ -82,39 +90,6 @@ fn offset_of(line: &[u8], wrong: &Wrong<'_>) -> usize
     }
 }
 
-// What to do about a word that is none of these.
-#[tactic(auto, unfolding(crate::specs::LoadHints::meant))]
-fn like_help(alloc: Global, word: &[u8], names: &[&str]) -> Result<String, AllocError>
-    ensures { IfOk result (λ s. string_bytes s ≡ like_help word.now (map (λ t. t.now) names.now)) }
-{
-    match text_of(word) {
-        Some(word) => meant(alloc, word, names),
-        None => Ok(String::new(alloc)),
-    }
-}
-
-// What to do about a word that no step begins with.
-fn verb_help(alloc: Global, word: &[u8]) -> Result<String, AllocError>
-    ensures { IfOk result (λ s. string_bytes s ≡ like_help word.now verbs) }
-{
-    like_help(
-        alloc,
-        word,
-        &[
-            "fct", "fctin", "arrive", "grant", "drop", "spill", "forward", "begin", "emit",
-            "accept", "reply",
-        ],
-    )
-}
-
-// What to do about a word that no entry at this key has for its name.
-fn name_help(alloc: Global, network: &Table, key: Key, word: &[u8]) -> Result<String, AllocError>
-    ensures { IfOk result (λ s. string_bytes s ≡ like_help word.now (names_of key (table_view network.now))) }
-{
-    let names = names_of(alloc, network, key)?;
-    like_help(alloc, word, &names)
-}
-
 // What to do about a wrong word.
 fn word_help(
     alloc: Global,
@@ -124,10 +99,13 @@ fn word_help(
 ) -> Result<String, AllocError>
     ensures { IfOk result (λ s. string_bytes s ≡ word_help (table_view network.now) wanted word.now) }
 {
+    let Some(name) = text_of(word) else {
+        return Ok(String::new(alloc));
+    };
     match wanted {
-        Wanted::Verb => verb_help(alloc, word),
-        Wanted::Node => name_help(alloc, network, Key::Node, word),
-        Wanted::Flow => name_help(alloc, network, Key::Flow, word),
+        Wanted::Verb => meant(alloc, name, VERBS),
+        Wanted::Node => name_help(alloc, network, Key::Node, name),
+        Wanted::Flow => name_help(alloc, network, Key::Flow, name),
         _ => Ok(String::new(alloc)),
     }
 }
@@ -146,61 +124,6 @@ fn help_of(alloc: Global, network: &[u8], wrong: &Wrong<'_>) -> Result<String, A
     }
 }
 
-// A place in a text, what is wrong there, and the line of what stands there.
-fn head_by(
-    alloc: Global,
-    path: &str,
-    number: u64,
-    column: usize,
-    what: &str,
-    found: &str,
-) -> Result<String, AllocError>
-    ensures { IfOk result (λ s. string_bytes s ≡ head_by path.now number column what.now found.now) }
-{
-    format!(in alloc; "{path}:{number}:{column}: fault S1 BadLine {number}: {what}\n{found}")
-}
-
-// The first two lines: where the fault is and what is wrong, and what stands there.
-#[tactic(auto, unfolding(crate::specs::ScheduleHints::head_lines))]
-fn head_lines(
-    alloc: Global,
-    path: &str,
-    number: u64,
-    line: &[u8],
-    offset: usize,
-    what: &str,
-) -> Result<String, AllocError>
-    requires { offset ≤ length line.now }
-    ensures { IfOk result (λ s. string_bytes s ≡ head_lines path.now number line.now offset what.now) }
-{
-    let path = shown(alloc, path.as_bytes())?;
-    let found = found_line(alloc, line, Some(offset))?;
-    head_by(
-        alloc,
-        path.as_str(),
-        number,
-        offset + 1,
-        what,
-        found.as_str(),
-    )
-}
-
-// What would be right, as a line of a hint.
-fn expected_line(alloc: Global, network: &Network, wanted: Wanted) -> Result<String, AllocError>
-    ensures { IfOk result (λ s. string_bytes s ≡ told (codes "expected") (expected network.now wanted)) }
-{
-    let words = expected(alloc, network, wanted)?;
-    told(alloc, "expected", words.as_bytes())
-}
-
-// What to do, as a line of a hint.
-fn help_line(alloc: Global, network: &[u8], wrong: &Wrong<'_>) -> Result<String, AllocError>
-    ensures { IfOk result (λ s. string_bytes s ≡ told (codes "help") (help_of network.now (wrong_view wrong.now))) }
-{
-    let help = help_of(alloc, network, wrong)?;
-    told(alloc, "help", help.as_bytes())
-}
-
 // The lines of a hint of a line with a wrong word.
 fn word_lines(
     alloc: Global,
@@ -213,43 +136,23 @@ fn word_lines(
 ) -> Result<String, AllocError>
     ensures { IfOk result (λ s. string_bytes s ≡ word_lines path.now text.now network.now number line.now (wrong_view wrong.now)) }
 {
-    let head = head_lines(
+    let offset = offset_of(line, wrong);
+    let head = place_lines(
         alloc,
         path,
+        BAD_LINE,
         number,
         line,
-        offset_of(line, wrong),
+        offset,
         what_words(wrong),
-    )?;
-    let expected = expected_line(alloc, network, wrong.wanted)?;
-    let help = help_line(alloc, text, wrong)?;
-    format!(in alloc; "{head}{expected}{help}")
+    );
+    let would_be = told_of(alloc, "expected", expected(alloc, network, wrong.wanted));
+    let help = told_of(alloc, "help", help_of(alloc, text, wrong));
+    let more = joined(alloc, would_be, help);
+    joined(alloc, head, more)
 }
 
-// How many there may be.
-#[tactic(auto, unfolding(crate::specs::ScheduleHints::limit_line))]
-fn limit_line(alloc: Global) -> Result<String, AllocError>
-    ensures { IfOk result (λ s. string_bytes s ≡ limit_line) }
-{
-    told(
-        alloc,
-        "expected",
-        b"at most 1000000 steps in all".as_slice(),
-    )
-}
-
-// The lines of a hint of the line with which the steps are too many.
-#[tactic(auto, unfolding(crate::specs::ScheduleHints::total_head))]
-fn total_lines(alloc: Global, path: &str, number: u64, line: &[u8]) -> Result<String, AllocError>
-    ensures { IfOk result (λ s. string_bytes s ≡ total_lines path.now number line.now) }
-{
-    let what = "with this line there are too many steps";
-    let head = head_lines(alloc, path, number, line, 0, what)?;
-    let limit = limit_line(alloc)?;
-    format!(in alloc; "{head}{limit}")
-}
-
-// The lines of a hint of a line.
+// The lines of a hint of a line: of a wrong word, or that with this line the steps are too many.
 fn line_hint(
     alloc: Global,
     path: &str,
@@ -262,7 +165,12 @@ fn line_hint(
 {
     match wrong_of(alloc, network, line)? {
         Some(wrong) => word_lines(alloc, path, text, network, number, line, &wrong),
-        None => total_lines(alloc, path, number, line),
+        None => {
+            let what = "with this line there are too many steps";
+            let head = place_lines(alloc, path, BAD_LINE, number, line, 0, what);
+            let limit = told(alloc, "expected", "at most 1000000 steps in all".as_bytes());
+            joined(alloc, head, limit)
+        }
     }
 }
 

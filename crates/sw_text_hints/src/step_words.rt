@@ -1,8 +1,8 @@
 //! What the words of a schedule's line have to be.
 ghost use Rattle.std.specs.Prelude.{◌≡◌, false, true, IfNone, IfOk, IfSome, is_some, option_map};
-ghost use Rattle.std.specs.Str.{is_utf8};
+ghost use Rattle.std.specs.List.{list_any};
+ghost use Rattle.std.specs.Str.{bytes_eq, is_utf8};
 ghost use Rattle.sw_load.specs.Cargo.{bytes_of};
-ghost use Rattle.sw_schedule.specs.Lines.{channel_of, end_of, flow_of, node_of};
 ghost use Rattle.sw_text_hints.specs.StepWords.{is_channel_verb, is_count, is_node_verb, is_right, wanted_by};
 
 use std::alloc::{AllocError, Global};
@@ -37,39 +37,6 @@ pub(crate) fn text_of<'a>(word: &'a [u8]) -> Option<&'a str>
     }
 }
 
-fn is_channel(network: &Network, word: &[u8]) -> bool
-    ensures { result ≡ is_some (channel_of network.now word.now) }
-{
-    match number(word, 65535) {
-        Some(number) => number < network.channels() as u32,
-        None => false,
-    }
-}
-
-fn is_node(network: &Network, word: &[u8]) -> bool
-    ensures { result ≡ is_some (node_of network.now word.now) }
-{
-    match text_of(word) {
-        Some(name) => network.node_named(name).is_some(),
-        None => false,
-    }
-}
-
-fn is_flow(network: &Network, word: &[u8]) -> bool
-    ensures { result ≡ is_some (flow_of network.now word.now) }
-{
-    match text_of(word) {
-        Some(name) => network.declared_flow_named(name).is_some(),
-        None => false,
-    }
-}
-
-fn is_end(word: &[u8]) -> bool
-    ensures { result ≡ is_some (end_of word.now) }
-{
-    word == b"EOP".as_slice() || word == b"EEP".as_slice()
-}
-
 fn is_cargo(alloc: Global, word: &[u8]) -> Result<bool, AllocError>
     ensures { IfOk result (λ b. b ≡ is_some (bytes_of word.now)) }
 {
@@ -89,10 +56,19 @@ pub(crate) fn is_right(
     ensures { IfOk result (λ b. b ≡ is_right network.now wanted word.now) }
 {
     match wanted {
-        Wanted::Channel => Ok(is_channel(network, word)),
-        Wanted::Node => Ok(is_node(network, word)),
-        Wanted::Flow => Ok(is_flow(network, word)),
-        Wanted::End => Ok(is_end(word)),
+        Wanted::Channel => match number(word, 65535) {
+            Some(number) => Ok(number < network.channels() as u32),
+            None => Ok(false),
+        },
+        Wanted::Node => match text_of(word) {
+            Some(name) => Ok(network.node_named(name).is_some()),
+            None => Ok(false),
+        },
+        Wanted::Flow => match text_of(word) {
+            Some(name) => Ok(network.declared_flow_named(name).is_some()),
+            None => Ok(false),
+        },
+        Wanted::End => Ok(word == b"EOP".as_slice() || word == b"EEP".as_slice()),
         Wanted::Cargo => is_cargo(alloc, word),
         Wanted::Verb | Wanted::Nothing => Ok(false),
     }
@@ -108,21 +84,34 @@ pub(crate) fn is_count(word: &[u8]) -> bool
     }
 }
 
+// The words that a step at one channel begins with.
+const CHANNEL_VERBS: &[&str] = &["fct", "fctin", "arrive", "drop", "forward", "spill"];
+
+// The words that a step at a node begins with.
+const NODE_VERBS: &[&str] = &["emit", "accept", "reply"];
+
+// Whether a word is one of these.
+fn is_among(word: &[u8], words: &[&str]) -> bool
+    ensures { result ≡ list_any (λ w. bytes_eq word.now w.now) words.now }
+{
+    for known in words {
+        if word == known.as_bytes() {
+            return true;
+        }
+    }
+    false
+}
+
 fn is_channel_verb(verb: &[u8]) -> bool
     ensures { result ≡ is_channel_verb verb.now }
 {
-    verb == b"fct".as_slice()
-        || verb == b"fctin".as_slice()
-        || verb == b"arrive".as_slice()
-        || verb == b"drop".as_slice()
-        || verb == b"forward".as_slice()
-        || verb == b"spill".as_slice()
+    is_among(verb, CHANNEL_VERBS)
 }
 
 fn is_node_verb(verb: &[u8]) -> bool
     ensures { result ≡ is_node_verb verb.now }
 {
-    verb == b"emit".as_slice() || verb == b"accept".as_slice() || verb == b"reply".as_slice()
+    is_among(verb, NODE_VERBS)
 }
 
 /// What the words behind this one have to be, and whether a step begins with it.
