@@ -5,25 +5,18 @@ use sw_config::Network;
 use sw_output::channel_text;
 use sw_topo::Chan;
 
-/// The ends of the channel; nothing where the network has no such channel.
-fn channel_words(alloc: Global, network: &Network, channel: Chan) -> Result<String, AllocError> {
-    if channel.number() >= network.channels() {
-        return Ok(String::new(alloc));
-    }
-    channel_text(alloc, network, channel)
-}
-
 /// What stands in the note of a flow, whose packets are to hold the one channel and to wait for the other.
-pub(crate) const OF_FLOW: [&str; 3] = ["a packet of ", "is to hold", "and to wait for"];
+pub(crate) const OF_FLOW: [&str; 3] = ["# a packet of ", " is to hold ", " and to wait for "];
 
 /// What stands in the note of a target, which is to take nothing from the one channel until a reply has left on the other.
 pub(crate) const OF_TARGET: [&str; 3] = [
-    "",
-    "is to take nothing from",
-    "until its reply has left on",
+    "# ",
+    " is to take nothing from ",
+    " until its reply has left on ",
 ];
 
-/// A line with these words, the name behind the first of them, and a channel behind each other.
+/// Adds a line with these words, the name behind the first of them, and a channel behind each other; nothing where the network has no
+/// such channel.
 pub(crate) fn note(
     alloc: Global,
     network: &Network,
@@ -31,9 +24,14 @@ pub(crate) fn note(
     name: &str,
     from: Chan,
     to: Chan,
-) -> Result<String, AllocError> {
+    text: &mut String,
+) -> Result<(), AllocError> {
     let [begun, held, wanted] = words;
-    let from = channel_words(alloc, network, from)?;
-    let to = channel_words(alloc, network, to)?;
-    format!(in alloc; "# {begun}{name} {held} {from} {wanted} {to}\n")
+    let channels = network.channels();
+    if from.number() >= channels || to.number() >= channels {
+        return Ok(());
+    }
+    let from = channel_text(alloc, network, from)?;
+    let to = channel_text(alloc, network, to)?;
+    write!(text, "{begun}{name}{held}{from}{wanted}{to}\n")
 }

@@ -1,4 +1,6 @@
 //! Ways of flows to a channel.
+ghost use Rattle.std.specs.Prelude.{◌<◌, length};
+ghost use Rattle.sw_config.specs.Entries.{all_flows};
 
 use std::alloc::{AllocError, Global};
 use sw_config::{Flow, Network};
@@ -8,46 +10,45 @@ use sw_topo::Chan;
 /// A flow has at most so many address bytes.
 const MOST_DELETED: u8 = 32;
 
-/// Does the flow go from the one channel to the other, where so many address bytes are deleted on the one and on the other?
-fn steps_to(network: &Network, flow: &Flow, from: Chan, deleted: u8, to: Chan, behind: u8) -> bool {
-    let next = Place {
-        channel: to,
-        deleted: behind,
-    };
-    let place = Place {
-        channel: from,
-        deleted,
-    };
-    follows(network, flow, place, next)
-}
-
 /// Does the flow go on from the one channel to the other, where so many address bytes are deleted on the one?
 fn goes_on(network: &Network, flow: &Flow, from: Chan, deleted: u8, to: Chan) -> bool {
-    let behind = deleted.saturating_add(1);
-    steps_to(network, flow, from, deleted, to, deleted)
-        || steps_to(network, flow, from, deleted, to, behind)
+    for more in 0..2 {
+        let place = Place {
+            channel: from,
+            deleted,
+        };
+        let next = Place {
+            channel: to,
+            deleted: deleted.saturating_add(more),
+        };
+        if follows(network, flow, place, next) {
+            return true;
+        }
+    }
+    false
 }
 
-/// A way of the flow to the channel, from which it goes on to the next, if there is to be one; none where it has none.
+/// Finds a way of the flow to the channel, from which it goes on to the next, if there is to be one; whether it has one.
 pub(crate) fn way_onto(
     alloc: Global,
     network: &Network,
     flow: u16,
     channel: Chan,
     next: Option<Chan>,
-) -> Result<Option<Vec<Place>>, AllocError> {
-    if flow >= network.flows() {
-        return Ok(None);
-    }
+    way: &mut Vec<Place>,
+) -> Result<bool, AllocError>
+    requires { flow < length (all_flows network.now) }
+{
     for deleted in 0..MOST_DELETED + 1 {
         if let Some(to) = next {
             if !goes_on(network, network.flow(flow), channel, deleted, to) {
                 continue;
             }
         }
-        if let Some(way) = way_to(alloc, network, flow, Place { channel, deleted })? {
-            return Ok(Some(way));
+        if let Some(found) = way_to(alloc, network, flow, Place { channel, deleted })? {
+            *way = found;
+            return Ok(true);
         }
     }
-    Ok(None)
+    Ok(false)
 }

@@ -1,0 +1,209 @@
+//! Packets that are to be placed so that they hold one channel and wait for another.
+ghost use Rattle.std.specs.Prelude.{◌<◌, length};
+ghost use Rattle.sw_config.specs.Entries.{all_flows};
+
+use crate::command::header;
+use crate::notes::{OF_FLOW, OF_TARGET, note};
+use crate::random::Random;
+use crate::way::way_onto;
+use crate::worm::{long_cargo, short_cargo};
+use std::alloc::{AllocError, Global};
+use std::mem;
+use sw_config::Network;
+use sw_flow::Place;
+use sw_machine::left_bytes;
+use sw_output::node_name;
+use sw_rmap::crc;
+use sw_search::Tangle;
+use sw_topo::{Chan, PlaceEnd};
+
+/// How many long packets follow one another, at most.
+const MOST_PACKETS: u32 = 40;
+
+/// How many commands follow one another, at most.
+const MOST_COMMANDS: u32 = 300;
+
+/// Packets of one flow that are to be sent one after another; none at first.
+#[derive(Drop)]
+pub(crate) struct Placing {
+    /// The flow's number.
+    pub(crate) flow: u16,
+    /// The node where it starts.
+    pub(crate) source: u16,
+    /// The node where it ends.
+    pub(crate) target: u16,
+    /// The cargo of each packet.
+    pub(crate) cargo: Vec<u8>,
+    /// How many follow one another, at most.
+    pub(crate) most: u32,
+    /// The way of the packets.
+    pub(crate) there: Vec<Place>,
+    /// The way of the replies to them; none where the target is not to take them.
+    pub(crate) back: Vec<Place>,
+}
+
+/// Commands of the flow on its way to the channel, if it has replies, and ends at a target. The cargo is a header and its code, but for
+/// the bytes in front that are left of the flow's address.
+fn plan_commands(
+    alloc: Global,
+    network: &Network,
+    flow: u16,
+    channel: Chan,
+    placing: &mut Placing,
+) -> Result<(), AllocError>
+    requires { flow < length (all_flows network.now) }
+{
+    if !way_onto(alloc, network, flow, channel, None, &mut placing.there)? {
+        return Ok(());
+    }
+    let entry = network.flow(flow);
+    let Some(reply) = entry.reply() else {
+        return Ok(());
+    };
+    let Some(target) = network.target(entry.to()) else {
+        return Ok(());
+    };
+    placing.flow = flow;
+    placing.source = entry.from();
+    placing.target = entry.to();
+    placing.most = MOST_COMMANDS;
+    let header = header(alloc, &target, reply)?;
+    let left = left_bytes(entry);
+    let bytes = &header[left.len().min(header.len())..];
+    let mut code = crc(left);
+    for byte in bytes {
+        code = crc(&[code ^ byte]);
+    }
+    placing.cargo.extend_from_slice(bytes)?;
+    placing.cargo.extend_from_slice(&[code])
+}
+
+/// Commands whose replies, a reply flow, are placed at the end of the way that was found for these.
+fn plan_replies(
+    alloc: Global,
+    network: &Network,
+    reply: u16,
+    placing: &mut Placing,
+) -> Result<(), AllocError> {
+    mem::swap(&mut placing.there, &mut placing.back);
+    let Some(first) = placing.back.first() else {
+        return Ok(());
+    };
+    let channel = first.channel.partner();
+    let mut number = network.declared_flows();
+    for flow in 0..network.declared_flows() {
+        if network.flow(flow).reply().is_some() {
+            if number == reply {
+                return plan_commands(alloc, network, flow, channel, placing);
+            }
+            number = number.saturating_add(1);
+        }
+    }
+    Ok(())
+}
+
+/// Packets of the flow that hold the one channel and wait for the other. Those of a declared flow are long ones, the tail of the last of
+/// which is held up at its source, or a short one, which fills the last channel of the way; their cargo is no command.
+fn plan_flow(
+    alloc: Global,
+    network: &Network,
+    random: &mut Random,
+    flow: u16,
+    from: Chan,
+    to: Chan,
+    text: &mut String,
+    placing: &mut Placing,
+) -> Result<(), AllocError> {
+    if flow >= network.flows() {
+        return Ok(());
+    }
+    if !way_onto(alloc, network, flow, from, Some(to), &mut placing.there)? {
+        return Ok(());
+    }
+    let entry = network.flow(flow);
+    note(alloc, network, OF_FLOW, entry.name(), from, to, text)?;
+    if flow >= network.declared_flows() {
+        return plan_replies(alloc, network, flow, placing);
+    }
+    placing.flow = flow;
+    placing.source = entry.from();
+    if random.below(3) > 0 {
+        placing.most = MOST_PACKETS;
+        let count = long_cargo(network, &placing.there);
+        placing.cargo.resize(count, 0)
+    } else {
+        placing.most = 1;
+        let count = short_cargo(network, entry.address().len(), &placing.there);
+        placing.cargo.resize(count, 0)
+    }
+}
+
+/// Commands that fill the one channel, if it ends at a node, whose replies leave on the other: of the first flow that the node
+/// answers, from some number on.
+fn plan_target(
+    alloc: Global,
+    network: &Network,
+    random: &mut Random,
+    from: Chan,
+    to: Chan,
+    text: &mut String,
+    placing: &mut Placing,
+) -> Result<(), AllocError> {
+    if from.number() >= network.channels() {
+        return Ok(());
+    }
+    let PlaceEnd::Node(node) = network.topology().end_of(from) else {
+        return Ok(());
+    };
+    note(
+        alloc,
+        network,
+        OF_TARGET,
+        node_name(network, node),
+        from,
+        to,
+        text,
+    )?;
+    let flows = network.declared_flows();
+    let mut number = random.number(flows);
+    for _ in 0..flows {
+        if number >= flows {
+            number = 0;
+        }
+        let flow = network.flow(number);
+        if flow.to() == node && flow.reply().is_some() {
+            return plan_commands(alloc, network, number, from, placing);
+        }
+        number = number.saturating_add(1);
+    }
+    Ok(())
+}
+
+/// What makes the channel of that number in the tangle's cycle wait for the next: packets of one of the flows, or commands where there
+/// are none. A note of it goes to the text.
+pub(crate) fn plan(
+    alloc: Global,
+    network: &Network,
+    random: &mut Random,
+    tangle: &Tangle,
+    number: usize,
+    text: &mut String,
+    placing: &mut Placing,
+) -> Result<(), AllocError> {
+    let channels = tangle.cycle.channels.as_slice();
+    let behind = number.saturating_add(1);
+    let next = if behind < channels.len() { behind } else { 0 };
+    let Some(flows) = tangle.flows.get(number) else {
+        return Ok(());
+    };
+    let Some(from) = channels.get(number) else {
+        return Ok(());
+    };
+    let Some(to) = channels.get(next) else {
+        return Ok(());
+    };
+    match flows.get(random.below(flows.len())) {
+        Some(flow) => plan_flow(alloc, network, random, *flow, *from, *to, text, placing),
+        None => plan_target(alloc, network, random, *from, *to, text, placing),
+    }
+}
