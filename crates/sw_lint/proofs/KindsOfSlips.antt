@@ -3,18 +3,18 @@ use Rattle.std.proofs.Common.{◌≡◌, ◌∙◌, ℕ, ◌+◌, ◌<◌, List,
 use Rattle.std.specs.Prelude.{flat_map}
 use Rattle.std.proofs.lemmas.List.{flat_map_more, take_more}
 use Rattle.sw_config.specs.Entries.{Declaration}
-use Rattle.sw_lint.specs.Marks.{MarkLists, NodeLists, doubtful_by, nodes_of, slip_lints, unused_by}
+use Rattle.sw_lint.specs.Marks.{MarkLists, NodeLists, doubtful_by, slip_lints, unused_by}
 use Rattle.sw_lint.specs.declared.entries.EntrySlip.TheVariants.{Unused, OneLinked, Back}
 use Rattle.sw_lint.specs.declared.lint.Lint.{Lint}
 use Rattle.sw_lint.specs.declared.slips.Slip.{Slip}
 use Rattle.sw_lint.specs.declared.slips.Slip.TheVariants.{Node, Switch, Target, Entry, Link}
 
--- one kind more
-pub slip_more : (d : Declaration) (n : NodeLists) (m : MarkLists) (slips : List Slip) (i : ℕ) (e : Slip) (before after : List Lint) → i < length slips
-    → before ≡ flat_map (slip_lints d n m) (take i slips) → after ≡ before ++ slip_lints d n m (get_or slips i e) → after ≡ flat_map (slip_lints d n m) (take (i + 1) slips)
-slip_more d n m slips i e before after lt so_far more =
+-- one kind more, with what is noted of nodes
+pub slip_more : (d : Declaration) (n v : NodeLists) (m : MarkLists) (slips : List Slip) (i : ℕ) (e : Slip) (before after : List Lint) → v ≡ n → i < length slips
+    → before ≡ flat_map (slip_lints d n m) (take i slips) → after ≡ before ++ slip_lints d v m (get_or slips i e) → after ≡ flat_map (slip_lints d n m) (take (i + 1) slips)
+slip_more d n v m slips i e before after are lt so_far more =
     let slip : Slip = get_or slips i e in
-    more ∙ ap (λ l. l ++ slip_lints d n m slip) so_far ∙ flat_map_more (slip_lints d n m) [] (take i slips) slip ∙ ap (flat_map (slip_lints d n m)) (sym (take_more slips i e lt))
+    more ∙ (λ j. so_far j ++ slip_lints d (are j) m slip) ∙ flat_map_more (slip_lints d n m) [] (take i slips) slip ∙ ap (flat_map (slip_lints d n m)) (sym (take_more slips i e lt))
 
 seven : (a b c e f g h : List Lint) → a ++ (b ++ (c ++ (e ++ (f ++ (g ++ (h ++ [])))))) ≡ (a ++ (b ++ (c ++ e))) ++ (f ++ (g ++ h))
 seven a b c e f g h =
@@ -22,8 +22,9 @@ seven a b c e f g h =
     ∙ ap (λ l. a ++ l) (sym (append_assoc b (c ++ e) (f ++ (g ++ h)))) ∙ sym (append_assoc a (b ++ (c ++ e)) (f ++ (g ++ h)))
 
 -- all kinds
-pub all_slips : (d : Declaration) (n : NodeLists) (m : MarkLists) → n ≡ nodes_of d
-    → flat_map (slip_lints d n m) (Node ∷ Switch ∷ Target ∷ Entry Unused ∷ Entry OneLinked ∷ Entry Back ∷ Link ∷ []) ≡ unused_by d (nodes_of d) m ++ doubtful_by d m
-all_slips d n m are =
+abbrev pub kinds : List Slip
+kinds = Node ∷ Switch ∷ Target ∷ Entry Unused ∷ Entry OneLinked ∷ Entry Back ∷ Link ∷ []
+
+pub all_slips : (d : Declaration) (n : NodeLists) (m : MarkLists) → flat_map (slip_lints d n m) kinds ≡ unused_by d n m ++ doubtful_by d m
+all_slips d n m =
     seven (slip_lints d n m Node) (slip_lints d n m Switch) (slip_lints d n m Target) (slip_lints d n m (Entry Unused)) (slip_lints d n m (Entry OneLinked)) (slip_lints d n m (Entry Back)) (slip_lints d n m Link)
-    ∙ ap (λ (k : NodeLists). unused_by d k m ++ doubtful_by d m) are

@@ -2,15 +2,15 @@
 ghost use Rattle.std.specs.Prelude.{◌≡◌, ◌<◌, ◌++◌, OnOk, Some, filter, length, option_map};
 ghost use Rattle.std.specs.Option.{option_to_list};
 ghost use Rattle.sw_topo.specs.Ports.{ports_of};
-ghost use Rattle.sw_lint.specs.Lints.{is_group, linked, made_of, one_linked_port};
-ghost use Rattle.sw_lint.specs.Marks.{back_at, entry_lint_by, first_back_by};
+ghost use Rattle.sw_lint.specs.Lints.{linked, made_of, one_linked_port};
+ghost use Rattle.sw_lint.specs.Marks.{entry_lint_by, first_back_by};
 
 use crate::lint::{Lint, add};
 use crate::marks::Marks;
 use std::alloc::AllocError;
 use sw_config::Network;
 use sw_route::Route;
-use sw_topo::{Port, PortSet};
+use sw_topo::PortSet;
 
 /// What is looked for in the entries of routing tables.
 #[derive(Clone, Copy)]
@@ -31,19 +31,12 @@ fn linked(network: &Network, switch: u16, route: &Route) -> PortSet
     route.ports.meet(network.topology().linked(switch))
 }
 
-// Are there several?
-fn is_group(ports: PortSet) -> bool
-    ensures { result ≡ is_group (ports_of ports) }
-{
-    ports.len() > 1
-}
-
 // The entry, if it names several ports of which one alone has a link.
 fn one_linked_port(network: &Network, switch: u16, entry: usize, route: &Route) -> Option<Lint>
     requires { switch < length network.now.switches }
     ensures { option_to_list result ≡ one_linked_port network.now switch entry route.now }
 {
-    if !is_group(route.ports) {
+    if route.ports.len() <= 1 {
         return None;
     }
     let mut ports = linked(network, switch, route).ports();
@@ -58,16 +51,7 @@ fn one_linked_port(network: &Network, switch: u16, entry: usize, route: &Route) 
     }
 }
 
-// The first flow whose packets come by the port of the switch, to the least address of the entry.
-fn back_at(network: &Network, marks: &Marks, switch: u16, route: &Route, port: Port) -> Option<u16>
-    requires { switch < length network.now.switches }
-    ensures { result ≡ back_at network.now marks.now switch route.now port }
-{
-    let out = network.topology().out_of(switch, port)?;
-    marks.first_led(route, out.partner())
-}
-
-// The first port of the entry by which packets come that it is for.
+// The first port of the entry by which packets come that it is for, and the first flow of those to the least address of the entry.
 fn first_back(
     network: &Network,
     marks: &Marks,
@@ -79,7 +63,10 @@ fn first_back(
     ensures { result ≡ first_back_by network.now marks.now switch entry route.now }
 {
     for port in route.ports.ports() {
-        if let Some(flow) = back_at(network, marks, switch, route, port) {
+        let Some(out) = network.topology().out_of(switch, port) else {
+            continue;
+        };
+        if let Some(flow) = marks.first_led(route, out.partner()) {
             return Some(Lint::LeadsBack {
                 switch,
                 entry,
@@ -113,7 +100,7 @@ fn entry_lint(
         }
         EntrySlip::OneLinked => one_linked_port(network, switch, entry, route),
         EntrySlip::Back => {
-            if is_group(linked(network, switch, route)) {
+            if linked(network, switch, route).len() > 1 {
                 first_back(network, marks, switch, entry, route)
             } else {
                 None

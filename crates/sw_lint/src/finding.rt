@@ -1,7 +1,7 @@
 //! All that is told of a network.
-ghost use Rattle.std.specs.Prelude.{◌≡◌, ◌++◌, IfOk, flat_map};
+ghost use Rattle.std.specs.Prelude.{◌≡◌, ◌++◌, IfOk};
 ghost use Rattle.sw_lint.specs.Lints.{AreLints};
-ghost use Rattle.sw_lint.specs.Marks.{doubtful_by, nodes_of, slip_lints, unused_by};
+ghost use Rattle.sw_lint.specs.Marks.{doubtful_by, nodes_of, unused_by};
 
 use crate::entries::EntrySlip;
 use crate::lint::Lint;
@@ -22,29 +22,16 @@ const SLIPS: &[Slip] = &[
     Slip::Link,
 ];
 
-// What is told by what is noted, one kind of slip after the other.
-fn told_by(
-    alloc: Global,
-    network: &Network,
-    nodes: &NodeMarks,
-    marks: &Marks,
-    slips: &[Slip],
-) -> Result<Vec<Lint>, AllocError>
-    ensures { IfOk result (λ v. v.items ≡ flat_map (slip_lints network.now nodes.now marks.now) slips.now) }
-{
-    let mut lints = Vec::new(alloc);
-    for slip in slips {
-        add_slips(network, nodes, marks, slip, &mut lints)?;
-    }
-    Ok(lints)
-}
-
-// What is told by what is noted of the places of flows.
+// What is told by what is noted of the places of flows, one kind of slip after the other.
 fn found_by(alloc: Global, network: &Network, marks: &Marks) -> Result<Vec<Lint>, AllocError>
     ensures { IfOk result (λ v. v.items ≡ unused_by network.now (nodes_of network.now) marks.now ++ doubtful_by network.now marks.now) }
 {
     let nodes = NodeMarks::of_network(alloc, network)?;
-    told_by(alloc, network, &nodes, marks, SLIPS)
+    let mut lints = Vec::new(alloc);
+    for slip in SLIPS {
+        add_slips(network, &nodes, marks, slip, &mut lints)?;
+    }
+    Ok(lints)
 }
 
 /// What in the network is probably a slip, in this order: that it has no flows, and then that alone; nodes, switches, targets and table

@@ -3,7 +3,6 @@
 
 mod alike;
 mod asking;
-mod doubtful;
 mod entries;
 mod finding;
 pub mod laws;
@@ -13,7 +12,6 @@ mod node_marks;
 mod slips;
 mod tables;
 mod texts;
-mod unused;
 
 pub use finding::lints;
 pub use lint::Lint;

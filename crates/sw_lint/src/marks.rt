@@ -1,11 +1,12 @@
 //! What is noted of switches and channels, in one pass over the places of all flows.
-ghost use Rattle.std.specs.Prelude.{◌≡◌, ◌<◌, ◌≤◌, ◌+◌, ◌*◌, ◌-◌, IfOk, OnOk, Option, length, option_map};
+ghost use Rattle.std.specs.Prelude.{◌≡◌, ◌<◌, ◌≤◌, ◌+◌, ◌*◌, ◌-◌, IfOk, IfSome, OnOk, Option, length, option_map};
 ghost use Rattle.sw_topo.specs.declared.place.PlaceEnd.{PlaceEnd};
 ghost use Rattle.sw_flow.specs.Places.{ends_of};
-ghost use Rattle.sw_lint.specs.Marks.{in_row, is_other, switch_at};
+ghost use Rattle.sw_lint.specs.Marks.{in_row, switch_at};
 
 use crate::alike::is_like_last;
 use crate::asking::Asking;
+use crate::lint::Lint;
 use crate::tables::{first_noted, is_any_marked, is_marked, mark, note, note_at};
 use std::alloc::{AllocError, Global};
 use std::marker::Model;
@@ -40,23 +41,23 @@ impl Model for Marks {
 }
 
 /// The switch at which the end stands, if it is at one.
-fn switch_at(end: PlaceEnd) -> Option<u16>
-    ensures { result ≡ switch_at (Option.Some end) }
+fn switch_at(end: PlaceEnd) -> Option<usize>
+    ensures value { result ≡ switch_at (Option.Some end) }
+    ensures small { IfSome result (λ s. s < 65536) }
 {
     match end {
         PlaceEnd::Node(_) => None,
-        PlaceEnd::Switch(switch, _) => Some(switch),
+        PlaceEnd::Switch(switch, _) => Some(usize::from(switch)),
     }
 }
 
 /// The number of the byte in a row of 256, if there are both; none of 255, which no entry is for.
-fn in_row(row: Option<u16>, byte: Option<u8>) -> Option<usize>
+fn in_row(row: Option<usize>, byte: Option<u8>) -> Option<usize>
+    requires { IfSome row (λ r. r < 65536) }
     ensures { result ≡ in_row row byte }
 {
     match (row, byte) {
-        (Some(row), Some(byte)) if byte < 255 => {
-            Some(256 * usize::from(row) + usize::from(byte))
-        }
+        (Some(row), Some(byte)) if byte < 255 => { Some(256 * row + usize::from(byte)) }
         _ => None,
     }
 }
@@ -79,30 +80,12 @@ fn count_of(route: &Route) -> usize
     (usize::from(last) + 1).saturating_sub(first_of(route))
 }
 
-/// Does the flow go to another target than that one?
-fn is_other(first: Option<Asking>, to: u16) -> bool
-    ensures { result ≡ is_other first to }
-{
-    match first {
-        Some(asking) => to != asking.to,
-        None => false,
-    }
-}
-
-/// The number of the switch, if there is one.
-fn alone(row: Option<u16>) -> Option<usize>
-    ensures { result ≡ row }
-{
-    Some(usize::from(row?))
-}
-
 impl Marks {
-    ghost use Rattle.std.specs.Prelude.{All, fold, slice_get};
+    ghost use Rattle.std.specs.Prelude.{slice_get};
     ghost use Rattle.std.specs.List.{list_any};
     ghost use Rattle.sw_route.specs.declared.look.Route.{Route};
     ghost use Rattle.sw_config.specs.Entries.{all_flows};
-    ghost use Rattle.sw_lint.specs.FlowPlaces.{places_of_flow};
-    ghost use Rattle.sw_lint.specs.Marks.{IsFlowNoted, IsNoted, first_led, is_met_by, is_used_by, no_places, no_rooms, note_at, with_command, with_place};
+    ghost use Rattle.sw_lint.specs.Marks.{IsFlowNoted, IsNoted, first_led, is_met_by, is_used_by, no_places, no_rooms, pair_by, with_command, with_place};
 
     // Places for the marks of each switch and each channel, none set.
     fn make_room(&mut self, network: &Network) -> Result<(), AllocError>
@@ -111,12 +94,13 @@ impl Marks {
     {
         let switches = usize::from(network.switches());
         let channels = usize::from(network.channels());
-        self.starts.resize(switches, false)?;
-        self.ends.resize(switches, false)?;
-        self.arrivals.resize(256 * switches, false)?;
-        self.led.resize(256 * channels, None)?;
-        self.asking.resize(channels, None)?;
-        self.other.resize(channels, None)
+        self.starts
+            .resize(switches, false)
+            .and(self.ends.resize(switches, false))
+            .and(self.arrivals.resize(256 * switches, false))
+            .and(self.led.resize(256 * channels, None))
+            .and(self.asking.resize(channels, None))
+            .and(self.other.resize(channels, None))
     }
 
     // On the place's channel, if the flow has a reply.
@@ -128,10 +112,11 @@ impl Marks {
         }
         let at = usize::from(channel.number());
         let to = flow.to();
-        if is_other(note_at(&self.asking, at), to) {
-            note(&mut self.other, Some(at), number);
+        match note_at(&self.asking, at) {
+            Some(asking) if to != asking.to => note(&mut self.other, Some(at), number),
+            Some(_) => {}
+            None => note(&mut self.asking, Some(at), Asking { number, to }),
         }
-        note(&mut self.asking, Some(at), Asking { number, to });
     }
 
     // One place more: at the switches where its channel starts and ends, and on the channel.
@@ -143,25 +128,15 @@ impl Marks {
         let start = switch_at(topology.start_of(place.channel));
         let end = switch_at(topology.end_of(place.channel));
         let byte = flow.address().get(usize::from(place.deleted)).copied();
-        mark(&mut self.starts, alone(start));
-        mark(&mut self.ends, alone(end));
+        mark(&mut self.starts, start);
+        mark(&mut self.ends, end);
         mark(&mut self.arrivals, in_row(end, byte));
         note(
             &mut self.led,
-            in_row(Some(place.channel.number()), byte),
+            in_row(Some(usize::from(place.channel.number())), byte),
             number,
         );
         self.note_command(number, flow, place.channel);
-    }
-
-    // The places of one flow more.
-    fn note_flow(&mut self, network: &Network, number: u16, flow: &Flow, places: &[Place])
-        requires { All (λ p. p.channel < length (ends_of network.now)) places.now }
-        ensures { self.new ≡ fold (with_place network.now) self.old (places_of_flow number flow.now places.now) }
-    {
-        for place in places {
-            self.note_place(network, number, flow, *place);
-        }
     }
 
     // The places of the flow of that number.
@@ -175,7 +150,10 @@ impl Marks {
         ensures { OnOk result (IsFlowNoted network.now number self.old self.new) }
     {
         let listed = places(alloc, network, number)?;
-        self.note_flow(network, number, network.flow(number), &listed);
+        let flow = network.flow(number);
+        for place in &listed {
+            self.note_place(network, number, flow, *place);
+        }
         Ok(())
     }
 
@@ -238,17 +216,34 @@ impl Marks {
         first_noted(&self.led, from, count_of(route))
     }
 
-    /// The first flow with a reply that has a place on the channel.
-    pub(crate) fn asking(&self, channel: usize) -> Option<Asking>
-        ensures { result ≡ note_at self.now.asking channel }
+    /// Two flows with replies to two targets that go over the link both ways, if there are such: of the first ones both ways, and the
+    /// first ones to other targets than those, the first two to two targets.
+    pub(crate) fn opposed(&self, link: u16) -> Option<Lint>
+        ensures { result ≡ pair_by self.now link }
     {
-        note_at(&self.asking, channel)
-    }
-
-    /// The first of those to another target than that one's.
-    pub(crate) fn other(&self, channel: usize) -> Option<u16>
-        ensures { result ≡ note_at self.now.other channel }
-    {
-        note_at(&self.other, channel)
+        let a = 2 * usize::from(link);
+        let b = a + 1;
+        let (Some(onward), Some(back)) = (note_at(&self.asking, a), note_at(&self.asking, b)) else {
+            return None;
+        };
+        if back.to != onward.to {
+            return Some(Lint::Opposed {
+                link,
+                onward: onward.number,
+                back: back.number,
+            });
+        }
+        if let Some(number) = note_at(&self.other, b) {
+            return Some(Lint::Opposed {
+                link,
+                onward: onward.number,
+                back: number,
+            });
+        }
+        Some(Lint::Opposed {
+            link,
+            onward: note_at(&self.other, a)?,
+            back: back.number,
+        })
     }
 }

@@ -1,6 +1,7 @@
 //! What is noted of nodes.
 ghost use Rattle.std.specs.Prelude.{◌≡◌, IfOk};
 
+use crate::lint::Lint;
 use crate::tables::{is_marked, mark};
 use std::alloc::{AllocError, Global};
 use std::marker::Model;
@@ -22,8 +23,9 @@ impl Model for NodeMarks {
 }
 
 impl NodeMarks {
-    ghost use Rattle.std.specs.Prelude.{◌&&◌, ◌||◌, fold, not};
-    ghost use Rattle.sw_lint.specs.Marks.{is_marked, nodes_of, with_flow};
+    ghost use Rattle.std.specs.Prelude.{◌<◌, fold, length};
+    ghost use Rattle.std.specs.Option.{option_to_list};
+    ghost use Rattle.sw_lint.specs.Marks.{nodes_of, unused_node_by, unused_target_by, with_flow};
 
     fn note(&mut self, flow: &Flow)
         ensures { self.new ≡ with_flow self.old flow.now }
@@ -53,19 +55,28 @@ impl NodeMarks {
         Ok(marks)
     }
 
-    /// Is a flow from the node or to it?
-    pub(crate) fn is_used(&self, node: u16) -> bool
-        ensures { result ≡ (is_marked self.now.from node || is_marked self.now.to node) }
+    /// The node, if no flow is from or to it.
+    pub(crate) fn unused_node(&self, node: u16) -> Option<Lint>
+        ensures { option_to_list result ≡ unused_node_by self.now node }
     {
         let at = usize::from(node);
-        is_marked(&self.from, at) || is_marked(&self.to, at)
+        if is_marked(&self.from, at) || is_marked(&self.to, at) {
+            None
+        } else {
+            Some(Lint::UnusedNode(node))
+        }
     }
 
-    /// Is a flow from the node, and none to it?
-    pub(crate) fn is_idle(&self, node: u16) -> bool
-        ensures { result ≡ (is_marked self.now.from node && not (is_marked self.now.to node)) }
+    /// The node, if it is a target to which no flow goes, and a flow is from it.
+    pub(crate) fn unused_target(&self, network: &Network, node: u16) -> Option<Lint>
+        requires { node < length network.now.nodes }
+        ensures { option_to_list result ≡ unused_target_by network.now self.now node }
     {
         let at = usize::from(node);
-        is_marked(&self.from, at) && !is_marked(&self.to, at)
+        if network.is_target(node) && is_marked(&self.from, at) && !is_marked(&self.to, at) {
+            Some(Lint::UnusedTarget(node))
+        } else {
+            None
+        }
     }
 }

@@ -2,12 +2,10 @@
 ghost use Rattle.std.specs.Prelude.{◌≡◌, ◌<◌, ◌++◌, OnOk};
 ghost use Rattle.sw_lint.specs.Marks.{count_of, slip_at, slip_lints};
 
-use crate::doubtful::pair_by;
 use crate::entries::{EntrySlip, add_entries_of};
 use crate::lint::{Lint, add};
 use crate::marks::Marks;
 use crate::node_marks::NodeMarks;
-use crate::unused::{unused_node, unused_switch, unused_target};
 use std::alloc::AllocError;
 use sw_config::Network;
 
@@ -39,14 +37,15 @@ fn add_at(
     ensures { OnOk result (lints.new.items ≡ lints.old.items ++ slip_at network.now nodes.now marks.now slip number) }
 {
     match slip {
-        Slip::Node => add(unused_node(nodes, number), lints),
-        Slip::Switch => add(unused_switch(marks, number), lints),
-        Slip::Target => add(unused_target(network, nodes, number), lints),
+        Slip::Node => add(nodes.unused_node(number), lints),
+        Slip::Switch if marks.is_used(number) => Ok(()),
+        Slip::Switch => add(Some(Lint::UnusedSwitch(number)), lints),
+        Slip::Target => add(nodes.unused_target(network, number), lints),
         Slip::Entry(entry) => {
             let routes = network.routes(number);
             add_entries_of(network, marks, entry, number, routes, lints)
         }
-        Slip::Link => add(pair_by(marks, number), lints),
+        Slip::Link => add(marks.opposed(number), lints),
     }
 }
 

@@ -56,12 +56,11 @@ pub(crate) fn note_at<T: Copy>(notes: &[Option<T>], at: usize) -> Option<T>
 pub(crate) fn note<T: Copy>(notes: &mut Vec<Option<T>>, key: Option<usize>, value: T)
     ensures { notes.new.items ≡ noted key value notes.old.items }
 {
-    if let Some(at) = key {
-        if at < notes.len() {
-            if notes[at].is_none() {
-                notes[at] = Some(value);
-            }
-        }
+    let Some(at) = key else {
+        return;
+    };
+    if let Some(None) = notes.get(at) {
+        notes[at] = Some(value);
     }
 }
 

@@ -11,18 +11,19 @@ use sw_config::Network;
 use sw_output::{channel_text, entry_words, flow_name, node_name, switch_name};
 use sw_topo::{Chan, Port};
 
-// The addresses of an entry of the switch's table, and the switch.
-fn entry_at_words(
+// What is told of an entry of the switch's table, its addresses, and the switch.
+fn of_entry(
     alloc: Global,
+    told: &str,
     network: &Network,
     switch: u16,
     entry: usize,
 ) -> Result<String, AllocError>
-    ensures { IfOk result (λ s. string_bytes s ≡ entry_at_words network.now switch entry) }
+    ensures { IfOk result (λ s. string_bytes s ≡ spaced (told.now ∷ entry_at_words network.now switch entry ∷ [])) }
 {
     let words = entry_words(alloc, network, switch, entry)?;
     let name = switch_name(network, switch);
-    format!(in alloc; "{words} at {name}")
+    format!(in alloc; "{told} {words} at {name}")
 }
 
 // The node to which the flow goes.
@@ -40,19 +41,7 @@ fn end_name(network: &Network, flow: u16) -> &str
 fn named(alloc: Global, told: &str, name: &str) -> Result<String, AllocError>
     ensures { IfOk result (λ s. string_bytes s ≡ spaced (told.now ∷ name.now ∷ [])) }
 {
-    format!(in alloc; "{told} {name}")
-}
-
-fn unused_entry(
-    alloc: Global,
-    network: &Network,
-    switch: u16,
-    entry: usize,
-) -> Result<String, AllocError>
-    ensures { IfOk result (λ s. string_bytes s ≡ lint_text network.now (Lint.UnusedEntry switch entry)) }
-{
-    let words = entry_at_words(alloc, network, switch, entry)?;
-    format!(in alloc; "no flow uses the entry for {words}")
+    [told, name].join(alloc, " ")
 }
 
 fn one_linked_port(
@@ -64,9 +53,9 @@ fn one_linked_port(
 ) -> Result<String, AllocError>
     ensures { IfOk result (λ s. string_bytes s ≡ lint_text network.now (Lint.OneLinkedPort switch entry port)) }
 {
-    let words = entry_at_words(alloc, network, switch, entry)?;
+    let group = of_entry(alloc, "of the group for", network, switch, entry)?;
     let port = port.number();
-    format!(in alloc; "of the group for {words} one port alone has a link: {port}")
+    format!(in alloc; "{group} one port alone has a link: {port}")
 }
 
 fn leads_back(
@@ -79,12 +68,10 @@ fn leads_back(
 ) -> Result<String, AllocError>
     ensures { IfOk result (λ s. string_bytes s ≡ lint_text network.now (Lint.LeadsBack switch entry port flow)) }
 {
-    let words = entry_at_words(alloc, network, switch, entry)?;
+    let group = of_entry(alloc, "the group for", network, switch, entry)?;
     let name = flow_name(network, flow);
     let port = port.number();
-    format!(in alloc;
-        "the group for {words} may lead packets of {name} back over port {port} by which they come"
-    )
+    format!(in alloc; "{group} may lead packets of {name} back over port {port} by which they come")
 }
 
 // The link, from its end a to its end b.
@@ -137,7 +124,13 @@ fn lint_text(alloc: Global, network: &Network, lint: &Lint) -> Result<String, Al
             "no flow goes to the target",
             node_name(network, *node),
         ),
-        Lint::UnusedEntry { switch, entry } => unused_entry(alloc, network, *switch, *entry),
+        Lint::UnusedEntry { switch, entry } => of_entry(
+            alloc,
+            "no flow uses the entry for",
+            network,
+            *switch,
+            *entry,
+        ),
         Lint::OneLinkedPort {
             switch,
             entry,

@@ -1,4 +1,6 @@
 mod Spelled
+mod Tables
+mod Weights
 pub mod Listed
 pub mod Digits
 pub mod Fronts

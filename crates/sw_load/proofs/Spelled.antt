@@ -1,11 +1,23 @@
 -- A cargo text is read exactly where it spells bytes.
-use Rattle.std.proofs.Common.{◌≡◌, ℕ, suc, ◌+◌, ◌-◌, ◌*◌, ◌≤◌, ◌<◌, Bool, true, false, ◌&&◌, List, [], ◌∷◌, ◌++◌, length, drop, get_or, refl, sym, ap, subst, ◌∙◌, ◌⊎◌, drop-cons, eqb-true, arith, inl, inr, append_assoc, append-nil, Option, Some, None}
+use Rattle.std.proofs.Common.{◌≡◌, ℕ, suc, ◌+◌, ◌-◌, ◌*◌, ◌≤◌, ◌<◌, Bool, true, false, ◌&&◌, List, [], ◌∷◌, ◌++◌, length, drop, get_or, refl, sym, ap, subst, ◌∙◌, ◌⊎◌, drop-cons, eqb-true, arith, inl, inr, append_assoc, append-nil, Option, Some, None, not, take, cond, ne_eqb, eq-eqb}
 use Rattle.std.specs.Prelude.{if◌then◌else◌, nat_le, ◌==◌, fold, option_and_then, option_map, replicate, slice_index}
 use Rattle.std.specs.List.{list_all}
 use Rattle.std.specs.Option.{option_to_list}
 use Rattle.std.proofs.lemmas.List.{drop_all}
+use Rattle.std.proofs.lemmas.List.Elements.{filter_more}
 use Rattle.std.proofs.lemmas.Bool.{cases_Bool, and_parts, and_from, leb-true, le-leb}
 use Rattle.sw_load.specs.Cargo.{without_spaces, IsRepeated, CargoIsRead, cargo_of, bytes_of, is_repetition, repeated_of, hex_pair, ArePairs, is_digit, is_well_begun, IsCount, IsPairs, count_after, count_of, bytes_after, if_some_and_few, pairs_of}
+
+-- a character more that is kept, or left out as a space
+pub bare_kept : (text bare : List ℕ) (i : ℕ) → bare ≡ without_spaces (take i text) → i < length text → (get_or text i 0 ≡ 32 → ⊥) → bare ++ get_or text i 0 ∷ [] ≡ without_spaces (take (i + 1) text)
+bare_kept text bare i is lt other =
+    let c = get_or text i 0 in
+    ap (λ l. l ++ c ∷ []) is ∙ sym (filter_more (λ k. not (k == 32)) text i 0 lt ∙ ap (λ b. without_spaces (take i text) ++ cond (not b) (c ∷ []) []) (ne_eqb c 32 other))
+
+pub bare_left : (text bare : List ℕ) (i : ℕ) → bare ≡ without_spaces (take i text) → i < length text → get_or text i 0 ≡ 32 → bare ≡ without_spaces (take (i + 1) text)
+bare_left text bare i is lt space =
+    let c = get_or text i 0 in
+    is ∙ sym (filter_more (λ k. not (k == 32)) text i 0 lt ∙ ap (λ b. without_spaces (take i text) ++ cond (not b) (c ∷ []) []) (eq-eqb c 32 space) ∙ append-nil (without_spaces (take i text)))
 
 none_some : {A : Type 0} (x : A) → ◌≡◌ {A = Option A} None (Some x) → ⊥
 none_some x e = cc

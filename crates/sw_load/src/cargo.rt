@@ -1,6 +1,6 @@
 //! The cargo text of a load file.
 ghost use Rattle.std.specs.Prelude.{◌≡◌, ◌<◌, ◌≤◌, [], IfOk, IfSome, option_map};
-ghost use Rattle.sw_load.specs.Cargo.{hex_value, hex_pair, count_of, bytes_after, pairs_of, bytes_of, cargo_of};
+ghost use Rattle.sw_load.specs.Cargo.{hex_value, hex_pair, count_of, bytes_after, pairs_of, bytes_of};
 
 use std::alloc::{AllocError, Global};
 
@@ -23,8 +23,12 @@ fn hex_value(c: u8) -> Option<u8>
 pub fn hex_pair(high: u8, low: u8) -> Option<u8>
     ensures { result ≡ hex_pair high low }
 {
-    let high = hex_value(high)?;
-    let low = hex_value(low)?;
+    let Some(high) = hex_value(high) else {
+        return None;
+    };
+    let Some(low) = hex_value(low) else {
+        return None;
+    };
     Some(16 * high + low)
 }
 
@@ -90,8 +94,9 @@ pub fn pairs_of(alloc: Global, text: &[u8]) -> Result<Option<Vec<u8>>, AllocErro
     }
 }
 
-/// The bytes that a text without spaces spells.
-fn bytes_of(alloc: Global, text: &[u8]) -> Result<Option<Vec<u8>>, AllocError>
+/// The bytes that a text without spaces spells: hexadecimal pairs in either case, of 1 to 4,096 bytes, or one
+/// pair, `*` and how many times it stands, 1 to 4,096.
+pub(crate) fn bytes_of(alloc: Global, text: &[u8]) -> Result<Option<Vec<u8>>, AllocError>
     ensures { IfOk result (λ o. option_map (λ v. v.items) o ≡ bytes_of text.now) }
 {
     if text.len() >= 3 && text[2] == b'*' {
@@ -101,26 +106,8 @@ fn bytes_of(alloc: Global, text: &[u8]) -> Result<Option<Vec<u8>>, AllocError>
         let Some(count) = count_of(&text[3..]) else {
             return Ok(None);
         };
-        let bytes = vec![in alloc; byte; count as usize]?;
-        Ok(Some(bytes))
+        Ok(Some(vec![in alloc; byte; count as usize]?))
     } else {
         pairs_of(alloc, text)
     }
-}
-
-/// The bytes that a cargo text spells: hexadecimal pairs in either case, of 1 to 4,096 bytes, or one
-/// pair, `*` and how many times it stands, 1 to 4,096. Spaces count for nothing.
-#[tactic(auto, unfolding(crate::specs::Cargo::cargo_of))]
-pub(crate) fn cargo_of(alloc: Global, text: &str) -> Result<Option<Vec<u8>>, AllocError>
-    ensures { IfOk result (λ o. option_map (λ v. v.items) o ≡ cargo_of text.now) }
-{
-    let mut bare = Vec::new(alloc);
-    let spelled = text.as_bytes();
-    for c in spelled {
-        if *c == b' ' {
-            continue;
-        }
-        bare.push(*c)?;
-    }
-    bytes_of(alloc, &bare)
 }

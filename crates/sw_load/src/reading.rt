@@ -1,10 +1,10 @@
 //! The load that a text lists.
-ghost use Rattle.std.specs.Prelude.{◌≡◌, ◌+◌, ◌≤◌, map, IfOk};
+ghost use Rattle.std.specs.Prelude.{◌≡◌, ◌+◌, ◌≤◌, IfOk};
 ghost use Rattle.toml.specs.View.{table_view};
-ghost use Rattle.sw_text.specs.Gives.{Gives, walk};
-ghost use Rattle.sw_load.specs.Load.{packet_count, flow_at, cargo_at, marker_at, count_at, packet_of, next_packet, load_of, load_text};
+ghost use Rattle.sw_text.specs.Gives.{Gives};
+ghost use Rattle.sw_load.specs.Load.{flow_at, cargo_at, marker_at, count_at, next_packet, load_of, load_text};
 
-use crate::cargo::cargo_of;
+use crate::cargo::bytes_of;
 use crate::load::{Load, MAX_PACKETS};
 use std::alloc::Global;
 use std::marker::Model;
@@ -33,13 +33,22 @@ fn flow_at(index: usize, packet: &TableEntry, network: &Network) -> Result<u16, 
     }
 }
 
-#[tactic(auto, unfolding(crate::specs::Load::cargo_at))]
+/// The bytes that the packet's cargo text spells, in which spaces count for nothing.
+#[tactic(auto, unfolding(crate::specs::Load::cargo_at, crate::specs::Cargo::cargo_of))]
 fn cargo_at(alloc: Global, index: usize, packet: &TableEntry) -> Result<Vec<u8>, FileFault>
     requires { packet.now.section ≡ Section.Packet index }
     ensures { Gives (λ v. v.items) result (cargo_at index (table_view packet.now.table.now)) }
 {
     let text = packet.text(Key::Cargo)?;
-    match cargo_of(alloc, text)? {
+    let mut bare = Vec::new(alloc);
+    let spelled = text.as_bytes();
+    for c in spelled {
+        if *c == b' ' {
+            continue;
+        }
+        bare.push(*c)?;
+    }
+    match bytes_of(alloc, &bare)? {
         Some(bytes) => Ok(bytes),
         None => Err(packet.fault(KeyFault::OutOfRange, Key::Cargo)),
     }
@@ -50,11 +59,13 @@ fn marker_at(index: usize, packet: &TableEntry) -> Result<End, FileFault>
     requires { packet.now.section ≡ Section.Packet index }
     ensures { Gives (λ e. e) result (marker_at index (table_view packet.now.table.now)) }
 {
-    match packet.text_or_none(Key::End)? {
-        None => Ok(End::Eop),
-        Some(text) if text == "EOP" => Ok(End::Eop),
-        Some(text) if text == "EEP" => Ok(End::Eep),
-        Some(_) => Err(packet.fault(KeyFault::OutOfRange, Key::End)),
+    let Some(text) = packet.text_or_none(Key::End)? else {
+        return Ok(End::Eop);
+    };
+    match text {
+        "EOP" => Ok(End::Eop),
+        "EEP" => Ok(End::Eep),
+        _ => Err(packet.fault(KeyFault::OutOfRange, Key::End)),
     }
 }
 
@@ -99,20 +110,6 @@ fn add_packet(
     Ok(())
 }
 
-fn walk_packets(
-    alloc: Global,
-    tables: &[&Table],
-    network: &Network,
-    load: &mut Load,
-) -> Result<(), FileFault>
-    ensures { Gives (λ _. load.new) result (walk (next_packet network.now) load.old (map (λ t. table_view t.now) tables.now)) }
-{
-    for (i, table) in tables.iter().enumerate() {
-        add_packet(alloc, i, table, network, load)?;
-    }
-    Ok(())
-}
-
 #[tactic(auto, unfolding(crate::specs::Load::load_of))]
 fn load_of(alloc: Global, network: &Network, document: &TableEntry) -> Result<Load, FileFault>
     requires { document.now.section ≡ Section.Document }
@@ -124,7 +121,9 @@ fn load_of(alloc: Global, network: &Network, document: &TableEntry) -> Result<Lo
         return Err(document.fault(KeyFault::OutOfRange, Key::Packet));
     }
     let mut load = Load::new(alloc);
-    walk_packets(alloc, &tables, network, &mut load)?;
+    for (i, table) in tables.iter().enumerate() {
+        add_packet(alloc, i, table, network, &mut load)?;
+    }
     Ok(load)
 }
 

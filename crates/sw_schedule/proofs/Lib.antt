@@ -1,5 +1,7 @@
 mod Named
+mod Utf8
 mod Reading
+mod LineSteps
 mod Parts
 mod Written
 mod Words

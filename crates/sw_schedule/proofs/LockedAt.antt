@@ -1,7 +1,5 @@
 -- Where steps end in a lock-up of a network's cells.
-use Rattle.std.proofs.Common.{◌≡◌, ◌∙◌, Err, List, None, Ok, Option, Result, Some, subst, sym}
-use Rattle.std.specs.Global.{Vec}
-use Rattle.std.specs.Prelude.{IfOk, option_map}
+use Rattle.std.proofs.Common.{◌≡◌, ◌∙◌, Bool, List, None, Option, Some, false, subst, sym, true}
 use Rattle.sw_config.specs.Entries.{Declaration}
 use Rattle.sw_machine.specs.Runs.{IsLockedUp}
 use Rattle.sw_machine.specs.State.{empty}
@@ -10,8 +8,8 @@ use Rattle.sw_machine.specs.Model.{network_of}
 use Rattle.sw_net.specs.Net.{NetView}
 use Rattle.sw_net.specs.New.{IsNewNet}
 use Rattle.sw_net.specs.declared.part.Part.{Part}
-use Rattle.sw_schedule.specs.Locked.{ArePartsOf, TellsLocked, TellsLockedAt}
-use Rattle.sw_schedule.specs.Nets.{NetEnds}
+use Rattle.sw_schedule.specs.Locked.{ArePartsOf, TellsLocked, TellsLockedAt, TellsLockedParts}
+use Rattle.sw_schedule.specs.Nets.{NetEnds, TellsLockedUp}
 use Rattle.sw_schedule.specs.Replays.{Ends}
 use Rattle.sw_schedule.specs.declared.replayed.ReplayEnd.{ReplayEnd}
 use Rattle.sw_schedule.specs.declared.replayed.ReplayEnd.TheVariants.{Made, Refused}
@@ -39,7 +37,7 @@ module _ {R A : Type 0} (d : Declaration) (v w : NetView R A) (steps : List Step
       let so_far = subst (λ (e : Declaration). Ends (network_of e) (empty (network_of d)) steps (Refused number refusal) end.0) new.network end.1 in
       (end.0, Refused number refusal, so_far, λ made locked. absurd cc)
 
-  pub told_if : {E : Type 0} (o : ReplayEnd) (r : Result (Option (Vec Part)) E) → NetEnds v steps o w
-      → IfOk r (λ x. TellsLockedAt w o (option_map (λ (all : Vec Part). all.items) x)) → IfOk r (λ x. TellsLocked d steps (option_map (λ (all : Vec Part). all.items) x))
-  told_if o (Ok x) ends told = told_at o (option_map (λ (all : Vec Part). all.items) x) ends told
-  told_if o (Err e) ends told = tt
+-- what is told of a network that is not locked up
+pub not_locked : {R A : Type 0} (w : NetView R A) (told : Bool) → told ≡ false → TellsLockedUp w told → TellsLockedParts w None
+not_locked w true is tells = absurd cc
+not_locked w false is tells = λ s at locked. (let told = (tells s at).1 locked in absurd cc)

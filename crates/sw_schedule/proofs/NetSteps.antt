@@ -1,5 +1,5 @@
 -- Steps that a network's cells make one after another.
-use Rattle.std.proofs.Common.{Err, List, None, Ok, Option, Result, Some, [], ap, arith, length, length-append, refl, replicate, subst, sym, ℕ, ◌++◌, ◌+◌, ◌<◌, ◌∙◌, ◌≡◌}
+use Rattle.std.proofs.Common.{List, None, Result, Some, [], ap, arith, length, length-append, refl, replicate, subst, sym, ℕ, ◌++◌, ◌+◌, ◌<◌, ◌∙◌, ◌≡◌}
 use Rattle.std.proofs.lemmas.List.{length-replicate}
 use Rattle.std.specs.Prelude.{IfOk}
 use Rattle.sw_machine.proofs.RunLists.{run_append}
@@ -13,15 +13,15 @@ use Rattle.sw_config.specs.Entries.{Declaration}
 use Rattle.sw_schedule.proofs.Making.{once_more, refused_then, stopped_at}
 use Rattle.sw_schedule.specs.Nets.{IsTrueOfNet, NetEnds, NetMakesOr}
 use Rattle.sw_schedule.specs.Replays.{Ends, IsReplayed, MakesOr}
-use Rattle.sw_schedule.specs.Reports.{IsTrueOf, Report, report_of}
+use Rattle.sw_schedule.specs.Reports.{IsTrueOf, Report}
 use Rattle.sw_schedule.specs.declared.replayed.ReplayEnd.{ReplayEnd}
 use Rattle.sw_schedule.specs.declared.replayed.ReplayEnd.TheVariants.{Made, Refused}
-use Rattle.sw_schedule.specs.declared.replayed.Replayed.{Replayed}
 use Rattle.sw_schedule.specs.declared.replayed.StepRefusal.{StepRefusal}
 
--- what a step and its answer came to, told of what they are
-pub makes_so : {R A : Type 0} {w u : NetView R A} {x y : Step} {r q : Option StepRefusal} → x ≡ y → r ≡ q → NetMakesOr w x r u → NetMakesOr w y q u
-makes_so {w = w} {u = u} {y = y} {r = r} step answer h = subst (λ (o : Option StepRefusal). NetMakesOr w y o u) answer (subst (λ (z : Step). NetMakesOr w z r u) step h)
+-- what was made of a step so often, told of what the two are
+pub again_so : {R A E : Type 0} (v w : NetView R A) (n m : ℕ) (x y : Step) (r : Result ReplayEnd E) → n ≡ m → x ≡ y → IfOk r (λ o. NetEnds v (replicate n x) o w) → IfOk r (λ o. NetEnds v (replicate m y) o w)
+again_so v w n m x y r count step h =
+    subst (λ (k : ℕ). IfOk r (λ o. NetEnds v (replicate k y) o w)) count (subst (λ (z : Step). IfOk r (λ o. NetEnds v (replicate n z) o w)) step h)
 
 module _ {R A : Type 0} (v w u : NetView R A) (same : w.declared ≡ v.declared) where
   -- a step that is made once more
@@ -80,7 +80,3 @@ replayed d v w steps o r new same ends is report =
       ends = subst (λ (p : ReplayEnd). Ends (network_of d) (empty (network_of d)) steps p end.0) (sym is) so_far;
       report = subst (λ (e : Declaration). IsTrueOf (network_of e) end.0 r) (same ∙ new.network) (report end.0 end.2);
     }
-
-pub replayed_if : {R A E : Type 0} (d : Declaration) (v w : NetView R A) (steps : List Step) (o : ReplayEnd) (r : Result Replayed E) → IsNewNet d v → w.declared ≡ v.declared → NetEnds v steps o w → IfOk r (λ x. x.outcome ≡ o) → IfOk r (λ x. IsTrueOfNet w (report_of x)) → IfOk r (λ x. IsReplayed d steps (report_of x))
-replayed_if d v w steps o (Ok x) new same ends is report = replayed d v w steps o (report_of x) new same ends is report
-replayed_if d v w steps o (Err e) new same ends is report = tt

@@ -1,13 +1,13 @@
 -- The text of the steps so far, and what is still to be written.
 use Rattle.std.proofs.Common.{◌≡◌, ℕ, ◌+◌, ◌<◌, ◌≤◌, ◌&&◌, true, false, List, ◌∷◌, ◌++◌, None, Some, append-nil, append_assoc, drop, get_or, length, length-append, map, refl, subst, ap, sym, ◌∙◌, arith, ltb-true}
 use Rattle.std.proofs.lemmas.Bool.{and_parts, le-leb, lt-leb}
-use Rattle.std.proofs.lemmas.List.{at_drop_more, drop_all}
+use Rattle.std.proofs.lemmas.List.{at_drop_more, drop_all, length-map}
 use Rattle.std.specs.List.{flat_map}
 use Rattle.std.specs.Prelude.{nat_lt}
 use Rattle.sw_config.specs.Entries.{Declaration}
 use Rattle.sw_machine.specs.StepValues.{machine_step}
 use Rattle.sw_machine.specs.declared.step.Step.{Step}
-use Rattle.sw_schedule.specs.Runs.{entries_from, entry_line, is_same, short_text}
+use Rattle.sw_schedule.specs.Runs.{entries_from, entry_line, is_same, readable_text, schedule_text, short_text}
 
 -- what was written and what is still to be written are the whole text; the last step was made so often
 pub record IsBegun (before after whole : List ℕ) (count : ℕ) : Type 0 where
@@ -59,3 +59,9 @@ too_long before after whole goes long =
 -- one that is short enough
 pub short_enough : (text whole : List ℕ) → text ≡ whole → length text ≤ 67108864 → Some text ≡ short_text whole
 short_enough text whole is few = subst (λ (t : List ℕ). Some text ≡ short_text t) is (rw (le-leb (length text) 67108864 few) refl)
+
+-- of no more steps than a schedule may have
+pub readable : (d : Declaration) (steps : List Step) → length steps ≤ 1000000 → short_text (schedule_text d (map machine_step steps)) ≡ readable_text d (map machine_step steps)
+readable d steps few =
+    let count : length (map machine_step steps) ≡ length steps = rw length-map refl in
+    sym (rw (le-leb (length (map machine_step steps)) 1000000 (omega (arith, count, few))) refl)

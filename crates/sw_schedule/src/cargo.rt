@@ -14,18 +14,6 @@ pub(crate) enum Cargo {
     Repeated(u8, u16),
 }
 
-impl Cargo {
-    /// The bytes, written out.
-    pub(crate) fn bytes(&self, alloc: Global) -> Result<Vec<u8>, AllocError>
-        ensures { IfOk result (λ bytes. bytes.items ≡ cargo_bytes self.now) }
-    {
-        match self {
-            Cargo::Bytes(bytes) => Vec::from_slice(alloc, bytes),
-            Cargo::Repeated(byte, times) => vec![in alloc; *byte; *times as usize],
-        }
-    }
-}
-
 fn repeated_of(high: u8, low: u8, digits: &[u8]) -> Option<Cargo>
     ensures { option_map cargo_bytes result ≡ repeated_of high low digits.now }
 {

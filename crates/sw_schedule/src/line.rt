@@ -2,14 +2,15 @@
 ghost use Rattle.std.specs.Prelude.{◌≡◌, ◌==◌, ◌∷◌, [], IfOk, option_and_then, option_map};
 ghost use Rattle.std.specs.List.{slice_split};
 ghost use Rattle.sw_schedule.specs.Kept.{plain_step};
-ghost use Rattle.sw_schedule.specs.Lines.{at_channel, at_node, begin_of, channel_of, grant_of, is_skipped, node_of, repeated_of, step_of, words_of};
+ghost use Rattle.sw_schedule.specs.Lines.{at_channel, begin_of, channel_of, grant_of, is_skipped, node_of, repeated_of, step_of, words_of};
 
 use crate::cargo::cargo_of;
-use crate::names::{channel_of, count_of, end_of, flow_of, is_word, node_of};
-use crate::schedule_entry::{Plain, ScheduleEntry};
+use crate::names::{MAX_COUNT, channel_of, flow_of, is_word, node_of};
+use crate::schedule_entry::{Beginning, Packed, Plain, ScheduleEntry};
 use std::alloc::{AllocError, Global};
+use sw_char::End;
 use sw_config::Network;
-use sw_text::cut;
+use sw_text::{cut, number};
 
 /// A step at the channel of that number.
 fn at_channel(network: &Network, verb: &[u8], place: &[u8]) -> Option<Plain>
@@ -35,10 +36,13 @@ fn at_channel(network: &Network, verb: &[u8], place: &[u8]) -> Option<Plain>
     }
 }
 
-/// A step at the node of that name.
-fn at_node(network: &Network, verb: &[u8], place: &[u8]) -> Option<Plain>
-    ensures { option_map plain_step result ≡ option_and_then (at_node verb.now) (node_of network.now place.now) }
+/// The step of two words.
+fn of_place(network: &Network, verb: &[u8], place: &[u8]) -> Option<Plain>
+    ensures { option_map plain_step result ≡ step_of network.now (verb.now ∷ place.now ∷ []) }
 {
+    if let Some(step) = at_channel(network, verb, place) {
+        return Some(step);
+    }
     let Some(node) = node_of(network, place) else {
         return None;
     };
@@ -50,16 +54,6 @@ fn at_node(network: &Network, verb: &[u8], place: &[u8]) -> Option<Plain>
         Some(Plain::Reply(node))
     } else {
         None
-    }
-}
-
-/// The step of two words.
-fn of_place(network: &Network, verb: &[u8], place: &[u8]) -> Option<Plain>
-    ensures { option_map plain_step result ≡ step_of network.now (verb.now ∷ place.now ∷ []) }
-{
-    match at_channel(network, verb, place) {
-        Some(step) => Some(step),
-        None => at_node(network, verb, place),
     }
 }
 
@@ -75,16 +69,6 @@ fn grant_of(network: &Network, verb: &[u8], output: &[u8], input: &[u8]) -> Opti
     };
     match channel_of(network, input) {
         Some(input) => Some(Plain::Grant(output, input)),
-        None => None,
-    }
-}
-
-/// The entry of a step without cargo, if there is one.
-fn plain_entry(count: u32, step: Option<Plain>) -> Option<ScheduleEntry>
-    ensures { result ≡ option_map (λ s. record { count = count; step = plain_step s }) step }
-{
-    match step {
-        Some(step) => Some(ScheduleEntry::plain(count, step)),
         None => None,
     }
 }
@@ -107,10 +91,20 @@ fn begin_entry(
     let Some(flow) = flow_of(network, flow) else {
         return Ok(None);
     };
-    let Some(end) = end_of(end) else {
+    let end = if is_word(end, b"EOP") {
+        End::Eop
+    } else if is_word(end, b"EEP") {
+        End::Eep
+    } else {
         return Ok(None);
     };
-    ScheduleEntry::begin(alloc, count, flow, end, cargo_of(alloc, cargo)?)
+    let Some(cargo) = cargo_of(alloc, cargo)? else {
+        return Ok(None);
+    };
+    let step = Box::new(alloc, Beginning { flow, cargo, end })?;
+    Ok(Some(ScheduleEntry {
+        packed: Packed::WithCargo(count, step),
+    }))
 }
 
 /// The entry of the step that the words of a text write, if they write one, which is made so many times.
@@ -126,10 +120,10 @@ fn counted_entry(
         return Ok(None);
     };
     let Some((first, rest)) = cut(rest, b' ') else {
-        return Ok(plain_entry(count, of_place(network, verb, rest)));
+        return Ok(ScheduleEntry::plain(count, of_place(network, verb, rest)));
     };
     let Some((second, rest)) = cut(rest, b' ') else {
-        return Ok(plain_entry(count, grant_of(network, verb, first, rest)));
+        return Ok(ScheduleEntry::plain(count, grant_of(network, verb, first, rest)));
     };
     match cut(rest, b' ') {
         None => begin_entry(alloc, network, count, verb, first, second, rest),
@@ -158,8 +152,8 @@ pub(crate) fn entry_of(
     let Some((word, rest)) = cut(line, b' ') else {
         return counted_entry(alloc, network, 1, line);
     };
-    match count_of(word) {
+    match number(word, MAX_COUNT) {
+        None | Some(0) => counted_entry(alloc, network, 1, line),
         Some(count) => counted_entry(alloc, network, count, rest),
-        None => counted_entry(alloc, network, 1, line),
     }
 }

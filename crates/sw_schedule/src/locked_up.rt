@@ -2,7 +2,7 @@
 ghost use Rattle.std.specs.Prelude.{◌≡◌, All, IfOk, option_map};
 ghost use Rattle.sw_net.specs.Places.{IsIn};
 ghost use Rattle.sw_net.specs.New.{IsNewNet};
-ghost use Rattle.sw_schedule.specs.Locked.{ArePartsOfNet, TellsLocked, TellsLockedAt, cells_of};
+ghost use Rattle.sw_schedule.specs.Locked.{ArePartsOfNet, TellsLocked, cells_of};
 
 use crate::made_steps::make_all;
 use crate::replay_report::is_locked_up;
@@ -44,26 +44,6 @@ fn parts(alloc: Global, net: &Net<'_, SwitchRoutes<'_>, Policy>) -> Result<Vec<P
     Ok(all)
 }
 
-/// What each cell has, if all steps were made and the network is locked up.
-fn parts_at(
-    alloc: Global,
-    net: &Net<'_, SwitchRoutes<'_>, Policy>,
-    outcome: ReplayEnd,
-) -> Result<Option<Vec<Part>>, AllocError>
-    ensures { IfOk result (λ o. TellsLockedAt net.now outcome (option_map (λ all. all.items) o)) }
-{
-    match outcome {
-        ReplayEnd::Made(_) => {
-            if is_locked_up(net, net.undelivered()) {
-                Ok(Some(parts(alloc, net)?))
-            } else {
-                Ok(None)
-            }
-        }
-        ReplayEnd::Refused(_, _) => Ok(None),
-    }
-}
-
 /// What each cell has where all steps are made on a network that is still empty, if it is locked up then.
 fn parts_after(
     alloc: Global,
@@ -76,7 +56,16 @@ fn parts_after(
     // Tells that there are at most as many steps as a schedule may have.
     let _total = schedule.total();
     let outcome = make_all(alloc, net, schedule.entries())?;
-    parts_at(alloc, net, outcome)
+    match outcome {
+        ReplayEnd::Made(_) => {
+            if is_locked_up(net, net.undelivered()) {
+                Ok(Some(parts(alloc, net)?))
+            } else {
+                Ok(None)
+            }
+        }
+        ReplayEnd::Refused(_, _) => Ok(None),
+    }
 }
 
 /// Makes the steps of the schedule one after another, from the empty network on. Where all are

@@ -1,6 +1,6 @@
 //! Steps that are made one after another, up to the first that is refused.
 ghost use Rattle.std.specs.Prelude.{◌≡◌, ◌≤◌, IfOk, length, replicate};
-ghost use Rattle.sw_schedule.specs.Nets.{IsWithin, NetEnds, NetMakesOr};
+ghost use Rattle.sw_schedule.specs.Nets.{IsWithin, NetEnds};
 ghost use Rattle.sw_schedule.specs.Schedule.{steps_of};
 ghost use Rattle.sw_machine.specs.StepValues.{machine_step};
 
@@ -11,21 +11,30 @@ use sw_arb::Policy;
 use sw_machine::Step;
 use sw_net::{Net, NetFault, SwitchRoutes};
 
-/// Makes the step, or tells why it is refused.
-fn make(
+/// Makes the step so many times, up to the first time that it is refused.
+fn make_times(
     alloc: Global,
     net: &mut Net<'_, SwitchRoutes<'_>, Policy>,
     step: &Step,
-) -> Result<Option<StepRefusal>, AllocError>
+    count: u32,
+) -> Result<ReplayEnd, AllocError>
     ensures network { net.new.declared ≡ net.old.declared }
-    ensures made { IfOk result (λ r. NetMakesOr net.old (machine_step step.now) r net.new) }
+    ensures ends { IfOk result (λ o. NetEnds net.old (replicate count (machine_step step.now)) o net.new) }
+    ensures within { IfOk result (IsWithin count) }
 {
-    match net.step(alloc, step) {
-        Ok(()) => Ok(None),
-        Err(NetFault::NotEnabled) => Ok(Some(StepRefusal::NotEnabled)),
-        Err(NetFault::NotInFlow) => Ok(Some(StepRefusal::NotInFlow)),
-        Err(NetFault::Memory) => Err(AllocError),
+    for made in 0..count {
+        match net.step(alloc, step) {
+            Ok(()) => {}
+            Err(NetFault::NotEnabled) => {
+                return Ok(ReplayEnd::Refused(made + 1, StepRefusal::NotEnabled));
+            }
+            Err(NetFault::NotInFlow) => {
+                return Ok(ReplayEnd::Refused(made + 1, StepRefusal::NotInFlow));
+            }
+            Err(NetFault::Memory) => return Err(AllocError),
+        }
     }
+    Ok(ReplayEnd::Made(count))
 }
 
 /// Makes the steps of an entry, up to the first that is refused.
@@ -39,14 +48,7 @@ fn make_entry(
     ensures within { IfOk result (IsWithin entry.now.count) }
 {
     let step = entry.step(alloc)?;
-    let count = entry.count();
-    for made in 0..count {
-        match make(alloc, net, &step)? {
-            None => {}
-            Some(refusal) => return Ok(ReplayEnd::Refused(made + 1, refusal)),
-        }
-    }
-    Ok(ReplayEnd::Made(count))
+    make_times(alloc, net, &step, entry.count())
 }
 
 /// Makes the steps of entries, up to the first that is refused.

@@ -5,7 +5,7 @@ ghost use Rattle.sw_schedule.specs.Replays.{IsReplayed};
 ghost use Rattle.sw_schedule.specs.Reports.{report_of};
 
 use crate::made_steps::make_all;
-use crate::replay_report::report;
+use crate::replay_report::is_locked_up;
 use crate::replayed::Replayed;
 use crate::schedule::Schedule;
 use std::alloc::{AllocError, Global};
@@ -25,7 +25,17 @@ fn replay_on(
     // Tells that there are at most as many steps as a schedule may have.
     let _total = schedule.total();
     let outcome = make_all(alloc, net, schedule.entries())?;
-    report(alloc, net, outcome)
+    let undelivered = net.undelivered();
+    let mut came_out = Vec::new(alloc);
+    for n in 0..net.network().nodes() {
+        came_out.push(net.came_out(alloc, n)?)?;
+    }
+    Ok(Replayed {
+        outcome,
+        undelivered,
+        stuck: is_locked_up(net, undelivered),
+        came_out,
+    })
 }
 
 /// Makes the steps of the schedule one after another, from the empty network on, up to the first

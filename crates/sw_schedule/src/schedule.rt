@@ -1,6 +1,6 @@
 //! Schedules, and their text.
-ghost use Rattle.std.specs.Prelude.{◌≡◌, ◌≤◌, [], length, replicate};
-ghost use Rattle.sw_schedule.specs.Schedule.{Reads, steps_of, steps_of_text, with_line, with_steps};
+ghost use Rattle.std.specs.Prelude.{◌≡◌, ◌≤◌, length};
+ghost use Rattle.sw_schedule.specs.Schedule.{Reads, steps_of, steps_of_text, with_line};
 ghost use Rattle.sw_schedule.specs.declared.schedule.ScheduleFault.TheVariants.{Memory};
 
 use crate::line::{entry_of, is_skipped};
@@ -66,15 +66,6 @@ impl Model for Schedule {
 impl Schedule {
     ghost use Rattle.sw_schedule.specs.Lines.{Repeated};
 
-    pub(crate) fn new(alloc: Global) -> Schedule
-        ensures { result ≡ [] }
-    {
-        Schedule {
-            entries: Vec::new(alloc),
-            total: 0,
-        }
-    }
-
     /// The steps, in order, each with how many times it is made before the next.
     pub fn entries(&self) -> &[ScheduleEntry]
         ensures { steps_of result.now ≡ self.now }
@@ -88,19 +79,6 @@ impl Schedule {
         ensures few { result ≤ MAX_STEPS }
     {
         self.total
-    }
-
-    /// Adds the step of line `number` at the end, as many times as it is made, if there are not too many steps then.
-    fn add(&mut self, entry: ScheduleEntry, number: u64) -> Result<(), ScheduleFault>
-        ensures { Reads (λ _. self.new) result (with_steps number self.old (replicate entry.count entry.step)) }
-    {
-        let count = entry.count();
-        if count > MAX_STEPS - self.total {
-            return Err(ScheduleFault::BadLine(number));
-        }
-        self.entries.push(entry)?;
-        self.total += count;
-        Ok(())
     }
 }
 
@@ -116,14 +94,20 @@ fn add_line(
     ensures { Reads (λ _. schedule.new) result (with_line network.now number schedule.old line.now) }
 {
     // Tells that there are not too many steps before.
-    let _total = schedule.total();
+    let total = schedule.total();
     if is_skipped(line) {
         return Ok(());
     }
-    match entry_of(alloc, network, line)? {
-        Some(entry) => schedule.add(entry, number),
-        None => Err(ScheduleFault::BadLine(number)),
+    let Some(entry) = entry_of(alloc, network, line)? else {
+        return Err(ScheduleFault::BadLine(number));
+    };
+    let count = entry.count();
+    if count > MAX_STEPS - total {
+        return Err(ScheduleFault::BadLine(number));
     }
+    schedule.entries.push(entry)?;
+    schedule.total += count;
+    Ok(())
 }
 
 /// Reads the text of a schedule: the steps that it lists for the network.
@@ -135,7 +119,10 @@ fn add_line(
 pub fn read_steps(alloc: Global, network: &Network, text: &[u8]) -> Result<Schedule, ScheduleFault>
     ensures { Reads (λ steps. steps) result (steps_of_text network.now text.now) }
 {
-    let mut schedule = Schedule::new(alloc);
+    let mut schedule = Schedule {
+        entries: Vec::new(alloc),
+        total: 0,
+    };
     let mut rest = text;
     let mut number: u64 = 1;
     while let Some((line, more)) = cut(rest, b'\n') {

@@ -1,7 +1,6 @@
 //! A step of a schedule, and how many times it is made.
 ghost use Rattle.std.specs.Prelude.{◌≡◌, IfOk, option_map};
 ghost use Rattle.sw_schedule.specs.Kept.{cargo_bytes, plain_step};
-ghost use Rattle.sw_machine.specs.Steps.{Begin};
 ghost use Rattle.sw_machine.specs.StepValues.{machine_step};
 
 use crate::cargo::Cargo;
@@ -62,7 +61,7 @@ pub(crate) enum Packed {
 /// A step, and how many times it is made, one after another.
 #[derive(Drop)]
 pub struct ScheduleEntry {
-    packed: Packed,
+    pub(crate) packed: Packed,
 }
 
 impl Model for ScheduleEntry {
@@ -75,32 +74,15 @@ impl Model for ScheduleEntry {
 }
 
 impl ScheduleEntry {
-    pub(crate) fn plain(count: u32, step: Plain) -> ScheduleEntry
-        ensures { result ≡ record { count = count; step = plain_step step } }
+    /// The entry of a step without cargo, if there is one.
+    pub(crate) fn plain(count: u32, step: Option<Plain>) -> Option<ScheduleEntry>
+        ensures { result ≡ option_map (λ s. record { count = count; step = plain_step s }) step }
     {
-        ScheduleEntry {
-            packed: Packed::Plain(count, step),
-        }
-    }
-
-    /// The entry of a step that begins a packet, if there is cargo.
-    pub(crate) fn begin(
-        alloc: Global,
-        count: u32,
-        flow: u16,
-        end: End,
-        cargo: Option<Cargo>,
-    ) -> Result<Option<ScheduleEntry>, AllocError>
-        ensures { IfOk result (λ o. o ≡ option_map (λ s. record { count = count; step = s }) (option_map (λ bytes. Begin flow bytes end) (option_map cargo_bytes cargo))) }
-    {
-        match cargo {
-            Some(cargo) => {
-                let step = Box::new(alloc, Beginning { flow, cargo, end })?;
-                Ok(Some(ScheduleEntry {
-                    packed: Packed::WithCargo(count, step),
-                }))
-            }
-            None => Ok(None),
+        match step {
+            Some(step) => Some(ScheduleEntry {
+                packed: Packed::Plain(count, step),
+            }),
+            None => None,
         }
     }
 
@@ -125,7 +107,10 @@ impl ScheduleEntry {
             Packed::Plain(_, plain) => Ok(step_of(*plain)),
             Packed::WithCargo(_, beginning) => Ok(Step::Begin {
                 flow: beginning.flow,
-                cargo: beginning.cargo.bytes(alloc)?,
+                cargo: match &beginning.cargo {
+                    Cargo::Bytes(bytes) => Vec::from_slice(alloc, bytes)?,
+                    Cargo::Repeated(byte, times) => vec![in alloc; *byte; *times as usize]?,
+                },
                 end: beginning.end,
             }),
         }

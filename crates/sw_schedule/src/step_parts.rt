@@ -1,12 +1,11 @@
 //! What tells steps apart.
 ghost use Rattle.std.specs.Prelude.{◌≡◌, []};
 ghost use Rattle.sw_machine.specs.StepValues.{machine_step};
-ghost use Rattle.sw_schedule.specs.Runs.{end_number, is_same, parts_of, plain};
+ghost use Rattle.sw_schedule.specs.Runs.{is_same, parts_of, plain};
 ghost use Rattle.sw_schedule.specs.Views.{parts_view};
 
 use sw_char::End;
 use sw_machine::Step;
-use sw_topo::Chan;
 
 /// Of which kind a step is, its numbers and its cargo.
 #[derive(Clone, Copy)]
@@ -17,27 +16,12 @@ pub(crate) struct Parts<'a> {
     cargo: &'a [u8],
 }
 
-fn end_number(end: End) -> u16
-    ensures { result ≡ end_number end }
-{
-    match end {
-        End::Eop => 0,
-        End::Eep => 1,
-    }
-}
-
-fn of_channel<'a>(kind: u8, channel: Chan) -> Parts<'a>
-    ensures { parts_view result ≡ plain kind channel }
-{
-    of_node(kind, channel.number())
-}
-
-fn of_node<'a>(kind: u8, node: u16) -> Parts<'a>
-    ensures { parts_view result ≡ plain kind node }
+fn of_number<'a>(kind: u8, number: u16) -> Parts<'a>
+    ensures { parts_view result ≡ plain kind number }
 {
     Parts {
         kind,
-        first: node,
+        first: number,
         second: 0,
         cargo: &[],
     }
@@ -47,27 +31,30 @@ fn parts_of<'a>(step: &'a Step) -> Parts<'a>
     ensures { parts_view result ≡ parts_of (machine_step step.entry.now) }
 {
     match step {
-        Step::Fct(channel) => of_channel(0, *channel),
-        Step::FctIn(channel) => of_channel(1, *channel),
-        Step::Arrive(channel) => of_channel(2, *channel),
+        Step::Fct(channel) => of_number(0, channel.number()),
+        Step::FctIn(channel) => of_number(1, channel.number()),
+        Step::Arrive(channel) => of_number(2, channel.number()),
         Step::Grant(output, input) => Parts {
             kind: 3,
             first: output.number(),
             second: input.number(),
             cargo: &[],
         },
-        Step::Drop(channel) => of_channel(4, *channel),
-        Step::Forward(channel) => of_channel(5, *channel),
-        Step::Spill(channel) => of_channel(6, *channel),
+        Step::Drop(channel) => of_number(4, channel.number()),
+        Step::Forward(channel) => of_number(5, channel.number()),
+        Step::Spill(channel) => of_number(6, channel.number()),
         Step::Begin { flow, cargo, end } => Parts {
             kind: 7,
             first: *flow,
-            second: end_number(*end),
+            second: match end {
+                End::Eop => 0,
+                End::Eep => 1,
+            },
             cargo,
         },
-        Step::Emit(node) => of_node(8, *node),
-        Step::Accept(node) => of_node(9, *node),
-        Step::Reply(node) => of_node(10, *node),
+        Step::Emit(node) => of_number(8, *node),
+        Step::Accept(node) => of_number(9, *node),
+        Step::Reply(node) => of_number(10, *node),
     }
 }
 

@@ -1,9 +1,7 @@
 //! The text of steps.
-ghost use Rattle.std.specs.Prelude.{◌≡◌, ◌++◌, ◌∷◌, ◌&&◌, [], IfOk, map, nat_lt, option_map, string_bytes};
+ghost use Rattle.std.specs.Prelude.{◌≡◌, ◌++◌, ◌&&◌, IfOk, map, nat_lt, option_map, string_bytes};
 ghost use Rattle.sw_machine.specs.StepValues.{machine_step};
-ghost use Rattle.sw_output.specs.Lines.{line};
-ghost use Rattle.sw_schedule.specs.Runs.{entry_line, is_same, readable_text, schedule_text, short_text};
-ghost use Rattle.sw_schedule.specs.WrittenLines.{step_line};
+ghost use Rattle.sw_schedule.specs.Runs.{entry_line, is_same, readable_text};
 
 use crate::names::MAX_COUNT;
 use crate::schedule::MAX_STEPS;
@@ -14,19 +12,6 @@ use std::fmt::Write;
 use sw_config::Network;
 use sw_machine::Step;
 use sw_text::MAX_TEXT;
-
-// Adds the line of a step that is made once.
-fn add_once(
-    alloc: Global,
-    network: &Network,
-    step: &Step,
-    text: &mut String,
-) -> Result<(), AllocError>
-    ensures { IfOk result (λ _. string_bytes text.new ≡ string_bytes text.old ++ line (step_line network.now (machine_step step.now) ∷ [])) }
-{
-    add_step(alloc, network, step, text)?;
-    text.push_str("\n")
-}
 
 /// Adds the line of a step that is made so often, one time after another.
 ///
@@ -42,11 +27,11 @@ pub fn add_entry(
 ) -> Result<(), AllocError>
     ensures { IfOk result (λ _. string_bytes text.new ≡ string_bytes text.old ++ entry_line network.now (record { count = count; step = machine_step step.now })) }
 {
-    if count == 1 {
-        return add_once(alloc, network, step, text);
+    if count != 1 {
+        write!(text, "{count} ")?;
     }
-    write!(text, "{count} ")?;
-    add_once(alloc, network, step, text)
+    add_step(alloc, network, step, text)?;
+    text.push_str("\n")
 }
 
 // Whether the step is one more of the last one's line, which has it so often.
@@ -56,14 +41,22 @@ fn is_one_more(count: u32, step: &Step, last: &Step) -> bool
     count < MAX_COUNT && is_same(step, last)
 }
 
-// The text of these steps, if it is no longer than a schedule's may be.
-fn short_text(
+/// The text of a schedule of these steps, equal neighbours as one line with their count. None where it would be longer than a
+/// schedule may be.
+///
+/// # Errors
+///
+/// There is no memory for the text.
+pub fn write_steps(
     alloc: Global,
     network: &Network,
     steps: &[Step],
 ) -> Result<Option<String>, AllocError>
-    ensures { IfOk result (λ o. option_map string_bytes o ≡ short_text (schedule_text network.now (map machine_step steps.now))) }
+    ensures { IfOk result (λ o. option_map string_bytes o ≡ readable_text network.now (map machine_step steps.now)) }
 {
+    if steps.len() > MAX_STEPS as usize {
+        return Ok(None);
+    }
     let mut text = String::new(alloc);
     let [first, rest @ ..] = steps else {
         return Ok(Some(text));
@@ -87,25 +80,5 @@ fn short_text(
         Ok(None)
     } else {
         Ok(Some(text))
-    }
-}
-
-/// The text of a schedule of these steps, equal neighbours as one line with their count. None where it would be longer than a
-/// schedule may be.
-///
-/// # Errors
-///
-/// There is no memory for the text.
-pub fn write_steps(
-    alloc: Global,
-    network: &Network,
-    steps: &[Step],
-) -> Result<Option<String>, AllocError>
-    ensures { IfOk result (λ o. option_map string_bytes o ≡ readable_text network.now (map machine_step steps.now)) }
-{
-    if steps.len() > MAX_STEPS as usize {
-        Ok(None)
-    } else {
-        short_text(alloc, network, steps)
     }
 }

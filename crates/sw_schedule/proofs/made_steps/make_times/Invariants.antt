@@ -2,11 +2,10 @@ use Rattle.std.proofs.Common.{replicate, ◌≡◌}
 use Rattle.sw_schedule.specs.Nets.{NetEnds}
 use Rattle.sw_schedule.specs.declared.replayed.ReplayEnd.TheVariants.{Made}
 use Rattle.sw_machine.specs.StepValues.{machine_step}
-use Rattle.sw_schedule.proofs.made_steps.make_entry.Given as goal
+use Rattle.sw_schedule.proofs.made_steps.make_times.Given as goal
 
 abbrev pub invariant-loop-made : goal.invariant-loop-made
 invariant-loop-made l = record {
   network : l.net.declared ≡ l.initial.net.declared;
-  made : NetEnds l.initial.net (replicate l.made l.entry.step) (Made l.made) l.net;
-  same : machine_step l.step ≡ l.entry.step;
+  made : NetEnds l.initial.net (replicate l.made (machine_step l.step)) (Made l.made) l.net;
 }

@@ -1,9 +1,9 @@
 use Rattle.std.proofs.Common.{◌≡◌, ◌+◌, ◌-◌, ◌∙◌, [], append-nil, arith, drop, length, map, rules, string_bytes, sym, take}
 use Rattle.sw_machine.specs.StepValues.{machine_step}
 use Rattle.sw_schedule.specs.Runs.{schedule_text}
-use Rattle.sw_schedule.proofs.TextSoFar.{all_written, entry_ends, once_again, short_enough, text_from, too_long}
-use Rattle.sw_schedule.proofs.writing.short_text.Goals as goal
-use Rattle.sw_schedule.proofs.writing.short_text.Goals.{then-is_one_more, else-is_one_more+in_ok-add_entry+else-len-gt-MAX_TEXT}
+use Rattle.sw_schedule.proofs.TextSoFar.{all_written, entry_ends, once_again, readable, short_enough, text_from, too_long}
+use Rattle.sw_schedule.proofs.writing.write_steps.Goals as goal
+use Rattle.sw_schedule.proofs.writing.write_steps.Goals.{then-is_one_more, else-is_one_more+in_ok-add_entry+else-len-gt-MAX_TEXT}
 
 pub returns-then-len-gt-MAX_TEXT : goal.returns-then-len-gt-MAX_TEXT
 returns-then-len-gt-MAX_TEXT c =
@@ -16,6 +16,7 @@ returns-then-len-gt-MAX_TEXT c =
     c.loop-step-test.true c.step-item.is (sym c.is_one_more.ensures ∙ c.if-is_one_more.false) c.in_ok-add_entry.ensures in
     let size : c.len.result ≡ length after = search rules in
     sym (too_long after (text_from d c.step-item.result 1 (drop (c.loop-step.step-index + 1) rest)) whole ended.goes (omega (arith, size, c.if-len-gt-MAX_TEXT.true)))
+    ∙ readable d c.args.steps.now (omega (arith, c.if-steps.false))
 
 pub loop-step-preserved : goal.loop-step-preserved
 loop-step-preserved c =
@@ -46,6 +47,7 @@ returns-then-len-gt-MAX_TEXT-2 c =
     c.in_ok-add_entry-2.ensures in
     let size : c.len-2.result ≡ length after = search rules in
     sym (too_long after [] whole (append-nil after ∙ is) (omega (arith, size, c.if-len-gt-MAX_TEXT-2.true)))
+    ∙ readable d c.args.steps.now (omega (arith, c.if-steps.false))
 
 pub returns-else-len-gt-MAX_TEXT-2 : goal.returns-else-len-gt-MAX_TEXT-2
 returns-else-len-gt-MAX_TEXT-2 c =
@@ -58,3 +60,4 @@ returns-else-len-gt-MAX_TEXT-2 c =
     c.in_ok-add_entry-2.ensures in
     let size : c.len-2.result ≡ length after = search rules in
     short_enough after whole is (omega (arith, size, c.if-len-gt-MAX_TEXT-2.false))
+    ∙ readable d c.args.steps.now (omega (arith, c.if-steps.false))
