@@ -16,7 +16,7 @@ use Rattle.sw_output.specs.ChannelTexts.{channel_text}
 use Rattle.sw_output.specs.FlowTexts.{flow_name, route_fault_text}
 use Rattle.sw_output.proofs.EachLine.{numbered_more}
 use Rattle.sw_search.specs.declared.tangle.Tangle.{Tangle}
-use Rattle.sw_app_changes.specs.ExplainTexts.{counted, counts_text, cycle_line, ending, fault_line, fault_words, flows_text, joined_names, misrouted_line, misrouted_text, more_text, named, names_text, numbered, place_words, step_line, step_lines, step_text, tangle_text, tangles_text, total_line, way_line, way_lines, way_lines_from}
+use Rattle.sw_app_changes.specs.ExplainTexts.{counted, counts_text, cycle_line, ending, fault_line, fault_words, flows_text, misrouted_line, misrouted_text, more_text, named, names_text, numbered, place_words, step_line, step_lines, step_text, tangle_text, tangles_text, total_line, way_line, way_lines, way_lines_from}
 
 -- each of some things has it
 pub each_is : {X : Type 0} (P : X → Type 0) (xs : List X) (i : ℕ) (x : X) → i < length xs → x ≡ get_or xs i x → All P xs → P x
@@ -154,22 +154,18 @@ flows_told d all flows chosen many chosen_is =
     let of : List ℕ → List ℕ = λ l. codes " (flows " ++ (names_text d l ++ (more_text (length flows - length l) ++ codes ")")) in
     ap (λ b. if b then [] else of (named all flows)) (le-ltb (length flows) 2 many) ∙ ap of (sym chosen_is)
 
-joined_are : (d : Declaration) (flows : List ℕ) → joined_names d (codes ", ") flows ≡ names_text d flows
-joined_are d [] = refl
-joined_are d (flow ∷ flows) = refl
-
 flows_then : (old head names more end : List ℕ) → ((old ++ head) ++ names) ++ (more ++ end) ≡ old ++ ((head ++ (names ++ more)) ++ end)
 flows_then old head names more end = simp append_assoc
 
 -- the flows, and the line's end
 pub flows_ended : (d : Declaration) (all : Bool) (flows chosen old first second rest : List ℕ) → 2 ≤ length flows → chosen ≡ named all flows
-    → first ≡ old ++ codes " (flows " → second ≡ first ++ joined_names d (codes ", ") chosen
+    → first ≡ old ++ codes " (flows " → second ≡ first ++ names_text d chosen
     → (more_text (length flows - length chosen) ++ codes ")") ++ codes "\n" ≡ rest → second ++ rest ≡ old ++ (flows_text d all flows ++ codes "\n")
 flows_ended d all flows chosen old first second rest many chosen_is first_is second_is rest_is =
     let names : List ℕ = names_text d chosen in
     let more : List ℕ = more_text (length flows - length chosen) ++ codes ")" in
     ap (λ l. second ++ l) (sym rest_is)
-    ∙ ap (λ l. l ++ (more ++ codes "\n")) (second_is ∙ ap (λ l. l ++ joined_names d (codes ", ") chosen) first_is ∙ ap (λ l. (old ++ codes " (flows ") ++ l) (joined_are d chosen))
+    ∙ ap (λ l. l ++ (more ++ codes "\n")) (second_is ∙ ap (λ l. l ++ names) first_is)
     ∙ flows_then old (codes " (flows ") names more (codes "\n") ∙ ap (λ l. old ++ (l ++ codes "\n")) (sym (flows_told d all flows chosen many chosen_is))
 
 -- ---- a text of a first element and of more

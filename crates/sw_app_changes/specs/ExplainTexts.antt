@@ -91,15 +91,14 @@ step_words d c e (ByTarget node) = answering_words (node_name d node) (channel_t
 abbrev pub named : Bool → List ℕ → List ℕ
 named all flows = if all then flows else take 6 flows
 
--- their names, with a comma between each two
-abbrev pub names_text : Declaration → List ℕ → List ℕ
-names_text d [] = []
-names_text d (flow ∷ flows) = flow_name d flow ++ flat_map (λ f. codes ", " ++ flow_name d f) flows
-
 -- names of flows, with this between each two
 abbrev pub joined_names : Declaration → List ℕ → List ℕ → List ℕ
 joined_names d between [] = []
 joined_names d between (flow ∷ flows) = flow_name d flow ++ flat_map (λ f. between ++ flow_name d f) flows
+
+-- with a comma between each two
+abbrev pub names_text : Declaration → List ℕ → List ℕ
+names_text d flows = joined_names d (codes ", ") flows
 
 -- how many more there are
 abbrev pub more_text : ℕ → List ℕ

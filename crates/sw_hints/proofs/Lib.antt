@@ -3,3 +3,4 @@ pub mod Heads
 pub mod Named
 pub mod Noted
 pub mod Pieces
+pub mod TextsMade

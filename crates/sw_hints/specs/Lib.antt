@@ -5,6 +5,7 @@ pub mod Helps
 pub mod HintLines
 pub mod Hints
 pub mod KeyWords
+pub mod MadeTexts
 pub mod Nearest
 pub mod NoteLines
 pub mod Shown

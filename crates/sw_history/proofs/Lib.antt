@@ -3,7 +3,7 @@ pub mod Adds
 mod Counts
 mod Idle
 mod Kept
-mod Ready
+pub mod Ready
 mod Refused
 mod Undeclared
 mod Whole

@@ -133,7 +133,3 @@ state_first h net declared none reached =
     let packets = packets_of h.load in
     let leads = subst (λ (steps : List Step). IsHistory n packets steps (empty n)) (sym none) (record { run = refl; in_order = λ m. (packets_at n m packets, refl) }) in
     subst (λ (d : Declaration). IsNetState net (empty (network_of d))) (sym declared) (reached (empty n) leads)
-
--- a loop that came to its end counted all
-pub all_counted : (n end count : ℕ) → end ≤ n → n ≤ end → end ≡ count → n ≡ count
-all_counted n end count past most is = omega (arith, past, most, is)

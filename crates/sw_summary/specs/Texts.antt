@@ -34,15 +34,14 @@ flow_line name begun of_them came_out replies =
 abbrev pub replies_told : FlowEntry → ℕ → Option ℕ
 replies_told f count = if is_some f.reply then Some count else None
 
--- of flow i, if the load has a packet of it, of which so many came out and so many were answered
-abbrev pub flow_text_of : List LoadEntry → List Begun → ℕ → ℕ → ℕ → FlowEntry → List ℕ
-flow_text_of load begun i came_out replies f =
-    if nat_lt 0 (loaded i load) then flow_line f.name (length (of_flow i begun)) (loaded i load) came_out (replies_told f replies) else []
-
--- the same, where so many were begun
+-- of flow i, if the load has a packet of it, where so many were begun, so many came out and so many were answered
 abbrev pub flow_text_where : List LoadEntry → ℕ → ℕ → ℕ → ℕ → FlowEntry → List ℕ
 flow_text_where load begun i came_out replies f =
     if nat_lt 0 (loaded i load) then flow_line f.name begun (loaded i load) came_out (replies_told f replies) else []
+
+-- the same, where these packets were begun
+abbrev pub flow_text_of : List LoadEntry → List Begun → ℕ → ℕ → ℕ → FlowEntry → List ℕ
+flow_text_of load begun i came_out replies f = flow_text_where load (length (of_flow i begun)) i came_out replies f
 
 abbrev pub flow_text : Declaration → List LoadEntry → List Begun → ℕ → ℕ → ℕ → List ℕ
 flow_text d load begun came_out replies i = option_map_or (flow_text_of load begun i came_out replies) (slice_get d.flows i) []

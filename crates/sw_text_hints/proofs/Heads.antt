@@ -13,7 +13,7 @@ use Rattle.sw_text_hints.specs.ScheduleHints.{head_lines, limit_line, line_hint 
 use Rattle.sw_config.specs.Entries.{Declaration}
 use Rattle.sw_schedule.specs.Lines.{words_of}
 use Rattle.sw_text_hints.specs.StepWords.{Wrong, wrong_of}
-use Rattle.sw_text_hints.proofs.TextsMade.{same_text}
+use Rattle.sw_hints.proofs.TextsMade.{same_text}
 
 -- where the fault is and what is wrong, and what stands there
 pub place_told : (path fault : List ℕ) (number : ℕ) (line : List ℕ) (offset : ℕ) (what shown_path found made : List ℕ) → shown_path ≡ shown path

@@ -4,6 +4,5 @@ mod LoadHelps
 mod NearNames
 mod Notes
 pub mod PlaceNumbers
-mod TextsMade
 mod Verbs
 pub mod Words

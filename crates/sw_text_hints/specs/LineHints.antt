@@ -1,7 +1,6 @@
 -- What is told of a line of a text, by texts that were made (this project's choice).
-use Rattle.std.specs.Prelude.{◌≡◌, ◌+◌, ℕ, List, ◌++◌, Option, Some, Result, Ok, Err, String, codes, string_bytes}
+use Rattle.std.specs.Prelude.{◌+◌, ℕ, List, ◌++◌, Option, Some, codes}
 use Rattle.std.specs.Fmt.{decimal}
-use Rattle.std.specs.declared.alloc.Global.{Global}
 use Rattle.sw_hints.specs.HintLines.{found_line, told}
 use Rattle.sw_hints.specs.Shown.{shown}
 use Rattle.toml.specs.Data.{Members}
@@ -17,16 +16,6 @@ place_by path fault number column what found =
 -- where the fault is and what is wrong, and what stands there
 unfoldable pub place_lines : List ℕ → List ℕ → ℕ → List ℕ → ℕ → List ℕ → List ℕ
 place_lines path fault number line offset what = place_by (shown path) fault number (offset + 1) what (found_line line (Some offset))
-
--- a line that this word begins
-abbrev pub IsTold : {E : Type 0} → List ℕ → Result (String Global) E → List ℕ → Type 0
-IsTold word (Ok words) line = line ≡ told word (string_bytes words)
-IsTold word (Err error) line = ⊥
-
--- two texts, the one behind the other
-abbrev pub AreJoined : {E : Type 0} → Result (String Global) E → Result (String Global) E → List ℕ → Type 0
-AreJoined (Ok first) (Ok second) text = text ≡ string_bytes first ++ string_bytes second
-AreJoined _ _ text = ⊥
 
 -- what to do about a fault of the load that has this document, if any, and what there is to note of it, each as a line
 abbrev pub more_by : TextFault → List ℕ → Declaration → Option Members → List ℕ

@@ -3,11 +3,11 @@ ghost use Rattle.std.specs.Prelude.{◌≡◌, IfOk, option_map, string_bytes};
 ghost use Rattle.sw_schedule.specs.Schedule.{text_lines};
 ghost use Rattle.sw_text_hints.specs.CertificateHints.{certificate_hint, expected_after, flows_before, hint_at, line_before, place_note, place_numbers, rises, rising_note};
 
-use crate::line_hints::{joined, place_lines, told_of};
+use crate::line_hints::place_lines;
 use crate::wrong_word::nth_line;
 use std::alloc::{AllocError, Global};
 use sw_cert::{Certificate, CertificateFault};
-use sw_hints::told;
+use sw_hints::{joined, told, told_of};
 use sw_text::{cut, number};
 
 // What may stand behind this line.

@@ -1,9 +1,9 @@
 //! The lines of a hint of a line of a text.
 ghost use Rattle.std.specs.Prelude.{◌≡◌, ◌≤◌, IfOk, length, string_bytes};
-ghost use Rattle.sw_text_hints.specs.LineHints.{AreJoined, IsTold, place_by, place_lines};
+ghost use Rattle.sw_text_hints.specs.LineHints.{place_by, place_lines};
 
 use std::alloc::{AllocError, Global};
-use sw_hints::{found_line, shown, told};
+use sw_hints::{found_line, shown};
 
 // A place in a text, the fault, what is wrong there, and the line of what stands there.
 fn place_by(
@@ -49,36 +49,4 @@ pub(crate) fn place_lines(
         what,
         found.as_str(),
     )
-}
-
-/// A line that this word begins.
-///
-/// # Errors
-///
-/// There was no memory for what is told, or there is none for the line.
-pub(crate) fn told_of(
-    alloc: Global,
-    word: &str,
-    words: Result<String, AllocError>,
-) -> Result<String, AllocError>
-    ensures { IfOk result (λ s. IsTold word.now words (string_bytes s)) }
-{
-    told(alloc, word, words?.as_bytes())
-}
-
-/// Two texts, the one behind the other.
-///
-/// # Errors
-///
-/// There was no memory for one of the texts, or there is none for both.
-pub(crate) fn joined(
-    alloc: Global,
-    first: Result<String, AllocError>,
-    second: Result<String, AllocError>,
-) -> Result<String, AllocError>
-    ensures { IfOk result (λ s. AreJoined first second (string_bytes s)) }
-{
-    let first = first?;
-    let second = second?;
-    format!(in alloc; "{first}{second}")
 }

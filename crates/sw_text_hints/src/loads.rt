@@ -6,13 +6,12 @@ ghost use Rattle.sw_hints.specs.Entries.{names_of};
 ghost use Rattle.sw_text_hints.specs.LineHints.{more_by};
 ghost use Rattle.sw_text_hints.specs.LoadHints.{IsFaultHint, IsHintFor, IsLoadHint, document_in, expected, help_by, key_help, load_help, load_note, meant};
 
-use crate::line_hints::{joined, told_of};
 use std::alloc::{AllocError, Global};
 use sw_config::Network;
 use sw_file::read_network;
 use sw_hints::{
-    expected_text, fault_place, help_text, hint_lines, is_one_of, like, meant_help, names_of, told,
-    what_text,
+    expected_text, fault_place, help_text, hint_lines, is_one_of, joined, like, meant_help,
+    names_of, told, told_of, what_text,
 };
 use sw_load::read_load;
 use sw_notes::{text_fault, text_of};

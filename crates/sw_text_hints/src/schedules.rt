@@ -4,14 +4,14 @@ ghost use Rattle.toml.specs.View.{table_view};
 ghost use Rattle.sw_text_hints.specs.ScheduleHints.{expected, help_of, hint_for, line_hint, offset_of, schedule_hint, wanted_words, what_words, word_help, word_lines};
 ghost use Rattle.sw_text_hints.specs.WrongWords.{wrong_view};
 
-use crate::line_hints::{joined, place_lines, told_of};
+use crate::line_hints::place_lines;
 use crate::loads::{document_in, meant, name_help};
 use crate::step_words::{Wanted, text_of};
 use crate::wrong_word::{Wrong, first_word, nth_line, wrong_of};
 use std::alloc::{AllocError, Global};
 use sw_config::Network;
 use sw_file::read_network;
-use sw_hints::told;
+use sw_hints::{joined, told, told_of};
 use sw_notes::text_fault;
 use sw_schedule::{ScheduleFault, read_steps};
 use sw_text::Key;

@@ -8,8 +8,10 @@ use Rattle.sw_config.specs.Entries.{Declaration}
 use Rattle.sw_flow.specs.Places.{ends_of}
 use Rattle.sw_output.specs.ChannelTexts.{channel_text}
 use Rattle.sw_verdict_hints.specs.CertificateHints.{above_words, cause_words, channel_words, ends_words, goer, not_rising_lines, number_words, rising_found}
-use Rattle.sw_verdict_hints.specs.MadeTexts.{AreJoined, AreTwoLines}
-use Rattle.sw_verdict_hints.proofs.TextsMade.{Gives, joined_if, same_text, two_lines_if}
+use Rattle.sw_hints.specs.MadeTexts.{AreJoined}
+use Rattle.sw_verdict_hints.specs.MadeTexts.{AreTwoLines}
+use Rattle.sw_hints.proofs.TextsMade.{Gives, joined_if, same_text}
+use Rattle.sw_verdict_hints.proofs.TextsMade.{two_lines_if}
 
 ends_behind : (has : Bool) (channel ends : List ℕ) → channel ++ (if has then codes " " ++ ends else []) ≡ (if has then channel ++ (codes " " ++ ends) else channel)
 ends_behind true channel ends = refl

@@ -11,9 +11,11 @@ use Rattle.sw_flow.specs.declared.place.Place.{Place}
 use Rattle.sw_hints.specs.HintLines.{told}
 use Rattle.sw_output.specs.FlowTexts.{flow_name}
 use Rattle.sw_verdict_hints.specs.CertificateHints.{faulty_lines, followed_words, listed_for, missing, missing_lines, no_start_lines, not_closed_lines, place_words}
-use Rattle.sw_verdict_hints.specs.MadeTexts.{AreJoined, AreTwoLines, IsTold}
+use Rattle.sw_hints.specs.MadeTexts.{AreJoined, IsTold}
+use Rattle.sw_verdict_hints.specs.MadeTexts.{AreTwoLines}
 use Rattle.sw_verdict_hints.specs.RouteHints.{found_words}
-use Rattle.sw_verdict_hints.proofs.TextsMade.{Gives, joined_if, same_text, told_if, two_lines_if}
+use Rattle.sw_hints.proofs.TextsMade.{Gives, joined_if, same_text, told_if}
+use Rattle.sw_verdict_hints.proofs.TextsMade.{two_lines_if}
 
 -- nothing is told of a flow that there is not
 none_past : (d : Declaration) (i : ℕ) (said : FlowEntry → List ℕ) → length (all_flows d) ≤ i → [] ≡ option_map_or said (slice_get (all_flows d) i) []

@@ -8,17 +8,7 @@ abbrev pub IsHead : {E : Type 0} → List ℕ → Result (String Global) E → L
 IsHead path (Ok words) line = line ≡ head_line path [] None (string_bytes words)
 IsHead path (Err error) line = ⊥
 
--- a line that this word begins
-abbrev pub IsTold : {E : Type 0} → List ℕ → Result (String Global) E → List ℕ → Type 0
-IsTold word (Ok words) line = line ≡ told word (string_bytes words)
-IsTold word (Err error) line = ⊥
-
 -- a line of what was found, and one that this word begins
 abbrev pub AreTwoLines : {E : Type 0} → Result (String Global) E → List ℕ → Result (String Global) E → List ℕ → Type 0
 AreTwoLines (Ok found) word (Ok behind) lines = lines ≡ told (codes "found") (string_bytes found) ++ told word (string_bytes behind)
 AreTwoLines _ word _ lines = ⊥
-
--- two texts, the one behind the other
-abbrev pub AreJoined : {E : Type 0} → Result (String Global) E → Result (String Global) E → List ℕ → Type 0
-AreJoined (Ok first) (Ok second) text = text ≡ string_bytes first ++ string_bytes second
-AreJoined _ _ text = ⊥

@@ -7,11 +7,12 @@ use crate::certificate_numbers::not_rising_lines;
 use crate::certificate_places::{
     faulty_lines, no_start_lines, not_closed_lines, wrong_count_lines,
 };
-use crate::made_texts::{head_of, joined, told_of};
+use crate::made_texts::head_of;
 use std::alloc::{AllocError, Global};
 use sw_cert::{Certificate, CertificateFault, Refusal, check};
 use sw_config::Network;
 use sw_file::read_network;
+use sw_hints::{joined, told_of};
 use sw_notes::text_fault;
 use sw_search::VerdictWorkers;
 

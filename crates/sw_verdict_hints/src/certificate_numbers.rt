@@ -6,11 +6,12 @@ ghost use Rattle.sw_flow.specs.Followers.{followers_of};
 ghost use Rattle.sw_verdict_hints.specs.CertificateHints.{cause_words, ends_words, goer, goes_on_at, not_rising_lines, number_words};
 
 use crate::certificate_places::listed_for;
-use crate::made_texts::{joined, two_lines};
+use crate::made_texts::two_lines;
 use std::alloc::{AllocError, Global};
 use sw_cert::Certificate;
 use sw_config::{Flow, Network};
 use sw_flow::{Place, followers_in};
+use sw_hints::joined;
 use sw_output::{channel_text, flow_name};
 use sw_topo::Chan;
 

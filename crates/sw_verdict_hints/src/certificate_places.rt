@@ -4,12 +4,13 @@ ghost use Rattle.sw_config.specs.Entries.{all_flows};
 ghost use Rattle.sw_cert.specs.Refusals.{is_in_range, is_listed, start_of};
 ghost use Rattle.sw_verdict_hints.specs.CertificateHints.{count_words, faulty_lines, is_of_size, listed_for, missing, no_start_lines, not_closed_lines, outside_at, outside_lines, place_words, range_lines, wrong_count_lines};
 
-use crate::made_texts::{joined, told_of, two_lines};
+use crate::made_texts::two_lines;
 use crate::route_hints::found_words;
 use std::alloc::{AllocError, Global};
 use sw_cert::Certificate;
 use sw_config::{Flow, Network};
 use sw_flow::{Place, RouteFault, followers_in};
+use sw_hints::{joined, told_of};
 use sw_output::flow_name;
 
 // A place of a flow, as a certificate lists it.

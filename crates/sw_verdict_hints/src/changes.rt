@@ -3,11 +3,11 @@ ghost use Rattle.std.specs.Prelude.{◌≡◌, ◌<◌, ◌++◌, IfOk, Some, co
 ghost use Rattle.sw_topo.specs.Checked.{IsIn};
 ghost use Rattle.sw_verdict_hints.specs.RouteHints.{address_words, change_words, help_words, links_words, switch_help, wrong_left_help, wrong_node_help};
 
-use crate::made_texts::joined;
 use crate::ways::numbers_text;
 use std::alloc::{AllocError, Global};
 use sw_config::{Flow, Network};
 use sw_flow::RouteFault;
+use sw_hints::joined;
 use sw_output::{linked_ports, node_name, switch_name};
 use sw_topo::PlaceEnd;
 

@@ -7,13 +7,12 @@ ghost use Rattle.sw_hints.specs.Helps.{meant_help};
 ghost use Rattle.sw_hints.specs.Nearest.{like};
 ghost use Rattle.sw_verdict_hints.specs.FlowHints.{IsHintAt, IsHintNamed, IsHintOn, IsNamedFlowHint, unknown_hint};
 
-use crate::made_texts::{joined, told_of};
 use crate::route_hints::flow_hint;
 use std::alloc::{AllocError, Global};
 use sw_config::{Flow, Network};
 use sw_file::read_network;
 use sw_flow::{Place, RouteFault, first_fault, places, way_to};
-use sw_hints::{head_line, like, meant_help, told};
+use sw_hints::{head_line, joined, like, meant_help, told, told_of};
 use sw_notes::text_fault;
 
 // Which flow is meant, maybe.

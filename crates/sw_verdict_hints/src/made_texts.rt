@@ -1,24 +1,9 @@
 //! Texts of others that are made.
 ghost use Rattle.std.specs.Prelude.{IfOk, string_bytes};
-ghost use Rattle.sw_verdict_hints.specs.MadeTexts.{AreJoined, AreTwoLines, IsHead, IsTold};
+ghost use Rattle.sw_verdict_hints.specs.MadeTexts.{AreTwoLines, IsHead};
 
 use std::alloc::{AllocError, Global};
-use sw_hints::{head_line, told};
-
-/// A line that this word begins.
-///
-/// # Errors
-///
-/// There was no memory for what is told, or there is none for the line.
-pub(crate) fn told_of(
-    alloc: Global,
-    word: &str,
-    words: Result<String, AllocError>,
-) -> Result<String, AllocError>
-    ensures { IfOk result (λ s. IsTold word.now words (string_bytes s)) }
-{
-    told(alloc, word, words?.as_bytes())
-}
+use sw_hints::{head_line, joined, told_of};
 
 /// The first line of a hint on what is at the path.
 ///
@@ -33,23 +18,6 @@ pub(crate) fn head_of(
     ensures { IfOk result (λ s. IsHead path.now words (string_bytes s)) }
 {
     head_line(alloc, path, &[], None, words?.as_str())
-}
-
-/// Two texts, the one behind the other.
-///
-/// # Errors
-///
-/// There was no memory for one of the texts, or there is none for both.
-pub(crate) fn joined(
-    alloc: Global,
-    first: Result<String, AllocError>,
-    second: Result<String, AllocError>,
-) -> Result<String, AllocError>
-    ensures { IfOk result (λ s. AreJoined first second (string_bytes s)) }
-{
-    let first = first?;
-    let second = second?;
-    format!(in alloc; "{first}{second}")
 }
 
 /// A line of what was found, and one that this word begins.

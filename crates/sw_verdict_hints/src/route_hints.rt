@@ -5,12 +5,13 @@ ghost use Rattle.sw_flow.specs.Places.{end_of};
 ghost use Rattle.sw_verdict_hints.specs.RouteHints.{flow_hint, found_words, place_name};
 
 use crate::changes::help_words;
-use crate::made_texts::{head_of, joined, two_lines};
+use crate::made_texts::{head_of, two_lines};
 use crate::ways::way_lines;
 use std::alloc::{AllocError, Global};
 use sw_app_changes::fault_words;
 use sw_config::{Flow, Network};
 use sw_flow::{Place, RouteFault};
+use sw_hints::joined;
 use sw_output::{node_name, switch_name};
 use sw_topo::{Chan, PlaceEnd};
 

@@ -3,11 +3,11 @@ ghost use Rattle.std.specs.Prelude.{◌≡◌, ◌<◌, ◌+◌, ◌++◌, ◌^�
 ghost use Rattle.sw_config.specs.Entries.{wiring_of};
 ghost use Rattle.sw_verdict_hints.specs.RouteHints.{left_words, number_word, way_line, way_lines_from};
 
-use crate::made_texts::joined;
 use std::alloc::{AllocError, Global};
 use std::fmt::Write;
 use sw_config::{Flow, Network};
 use sw_flow::Place;
+use sw_hints::joined;
 use sw_output::channel_text;
 
 /// The numbers, each behind a space.

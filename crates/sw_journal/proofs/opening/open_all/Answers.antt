@@ -3,7 +3,8 @@ use Rattle.sw_cell.specs.declared.cell.CellId.{CellId}
 use Rattle.sw_cell.specs.declared.cell.CellId.TheVariants.{Node, Switch}
 use Rattle.std.specs.List.{range_with_len}
 use Rattle.std.specs.Prelude.{List}
-use Rattle.sw_journal.proofs.Opened.{all_counted, ids_more}
+use Rattle.sw_history.proofs.Ready.{all_counted}
+use Rattle.sw_journal.proofs.Opened.{ids_more}
 use Rattle.sw_journal.proofs.opening.open_all.Goals as goal
 use Rattle.sw_config.specs.Entries.{Declaration}
 use Rattle.sw_journal.specs.Opening.{AreOpened, node_ids}

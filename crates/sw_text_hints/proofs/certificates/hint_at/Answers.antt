@@ -3,7 +3,7 @@ use Rattle.sw_hints.specs.HintLines.{told}
 use Rattle.sw_text_hints.specs.CertificateHints.{expected_after, rising_note}
 use Rattle.sw_text_hints.specs.LineHints.{place_lines}
 use Rattle.sw_text_hints.proofs.Heads.{hint_is, line_is}
-use Rattle.sw_text_hints.proofs.TextsMade.{joined_if, same_text, told_if}
+use Rattle.sw_hints.proofs.TextsMade.{joined_if, same_text, told_if}
 use Rattle.sw_text_hints.proofs.certificates.hint_at.Goals as goal
 
 pub returns : goal.returns

@@ -5,7 +5,7 @@ use Rattle.sw_text.specs.Document.{document_of}
 use Rattle.sw_text_hints.specs.LineHints.{more_by}
 use Rattle.sw_text_hints.specs.LoadHints.{document_in, help_by, load_note}
 use Rattle.sw_text_hints.proofs.LoadHelps.{no_more}
-use Rattle.sw_text_hints.proofs.TextsMade.{joined_if, same_text, told_if}
+use Rattle.sw_hints.proofs.TextsMade.{joined_if, same_text, told_if}
 use Rattle.sw_text_hints.proofs.loads.more_of.Goals as goal
 
 pub returns-in-Some : goal.returns-in-Some

@@ -2,7 +2,7 @@ use Rattle.std.proofs.Common.{◌∙◌, ◌++◌, ap, codes, rules}
 use Rattle.sw_hints.specs.HintLines.{told}
 use Rattle.sw_text_hints.specs.LineHints.{place_lines}
 use Rattle.sw_text_hints.proofs.Heads.{no_wrong, total_is}
-use Rattle.sw_text_hints.proofs.TextsMade.{joined_if, same_text}
+use Rattle.sw_hints.proofs.TextsMade.{joined_if, same_text}
 use Rattle.sw_text_hints.proofs.schedules.line_hint.Goals as goal
 
 pub returns-in-None : goal.returns-in-None

@@ -4,7 +4,7 @@ use Rattle.sw_hints.specs.Entries.{names_of}
 use Rattle.sw_text.specs.declared.keys.Key.TheVariants as key
 use Rattle.sw_text_hints.specs.ScheduleHints.{verbs, word_help}
 use Rattle.sw_text_hints.proofs.NearNames.{near, unread}
-use Rattle.sw_text_hints.proofs.TextsMade.{same_text}
+use Rattle.sw_hints.proofs.TextsMade.{same_text}
 use Rattle.sw_text_hints.proofs.schedules.word_help.Goals as goal
 
 pub returns-in_default : goal.returns-in_default

@@ -3,7 +3,7 @@ use Rattle.sw_hints.specs.HintLines.{told}
 use Rattle.sw_text_hints.specs.ScheduleHints.{expected, help_of}
 use Rattle.sw_text_hints.specs.WrongWords.{wrong_view}
 use Rattle.sw_text_hints.proofs.Heads.{wrong_head}
-use Rattle.sw_text_hints.proofs.TextsMade.{joined_if, told_if}
+use Rattle.sw_hints.proofs.TextsMade.{joined_if, told_if}
 use Rattle.sw_text_hints.proofs.schedules.word_lines.Goals as goal
 
 pub returns : goal.returns

@@ -1,7 +1,8 @@
 use Rattle.std.proofs.Common.{◌++◌, ℕ, List, codes}
 use Rattle.sw_hints.specs.HintLines.{told}
 use Rattle.sw_verdict_hints.specs.CertificateHints.{certificate_head, refusal_lines}
-use Rattle.sw_verdict_hints.proofs.TextsMade.{head_if, joined_if, told_if}
+use Rattle.sw_hints.proofs.TextsMade.{joined_if, told_if}
+use Rattle.sw_verdict_hints.proofs.TextsMade.{head_if}
 use Rattle.sw_verdict_hints.proofs.certificate_hints.refusal_hint.Goals as goal
 
 pub returns : goal.returns

@@ -3,7 +3,7 @@ use Rattle.std.proofs.lemmas.Bool.{le-ltb, lt-ltb, ne_eqb}
 use Rattle.std.specs.Fmt.{decimal}
 use Rattle.std.specs.Prelude.{◌==◌, if◌then◌else◌}
 use Rattle.sw_verdict_hints.specs.RouteHints.{change_words}
-use Rattle.sw_verdict_hints.proofs.TextsMade.{same_text}
+use Rattle.sw_hints.proofs.TextsMade.{same_text}
 use Rattle.sw_verdict_hints.proofs.changes.change_words.Goals as goal
 
 port_words : ℕ → List ℕ → List ℕ

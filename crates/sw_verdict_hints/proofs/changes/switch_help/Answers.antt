@@ -1,6 +1,6 @@
 use Rattle.std.proofs.Common.{◌++◌, ap, codes}
 use Rattle.sw_verdict_hints.specs.RouteHints.{address_words, change_words, links_words}
-use Rattle.sw_verdict_hints.proofs.TextsMade.{joined_if, same_text}
+use Rattle.sw_hints.proofs.TextsMade.{joined_if, same_text}
 use Rattle.sw_verdict_hints.proofs.changes.switch_help.Goals as goal
 
 pub returns : goal.returns

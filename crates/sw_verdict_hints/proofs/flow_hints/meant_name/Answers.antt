@@ -4,7 +4,7 @@ use Rattle.sw_config.specs.Entries.{all_flows, flow_names}
 use Rattle.sw_hints.specs.Helps.{meant_help}
 use Rattle.sw_hints.specs.Nearest.{like}
 use Rattle.sw_verdict_hints.proofs.FlowNames.{names_pushed}
-use Rattle.sw_verdict_hints.proofs.TextsMade.{same_text}
+use Rattle.sw_hints.proofs.TextsMade.{same_text}
 use Rattle.sw_verdict_hints.proofs.flow_hints.meant_name.Goals as goal
 
 pub loop-number-preserved : goal.loop-number-preserved

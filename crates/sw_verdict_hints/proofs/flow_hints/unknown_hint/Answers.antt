@@ -3,7 +3,7 @@ use Rattle.sw_config.specs.Entries.{all_flows, flow_names}
 use Rattle.sw_hints.specs.Helps.{meant_help}
 use Rattle.sw_hints.specs.HintLines.{head_line, told}
 use Rattle.sw_hints.specs.Nearest.{like}
-use Rattle.sw_verdict_hints.proofs.TextsMade.{joined_if, same_text, told_if}
+use Rattle.sw_hints.proofs.TextsMade.{joined_if, same_text, told_if}
 use Rattle.sw_verdict_hints.proofs.flow_hints.unknown_hint.Goals as goal
 
 pub returns : goal.returns

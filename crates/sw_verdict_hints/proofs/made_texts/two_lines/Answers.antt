@@ -1,6 +1,7 @@
 use Rattle.std.proofs.Common.{string_bytes}
 use Rattle.std.proofs.lemmas.Result.{IfOk-weaker}
-use Rattle.sw_verdict_hints.specs.MadeTexts.{AreJoined, AreTwoLines}
+use Rattle.sw_hints.specs.MadeTexts.{AreJoined}
+use Rattle.sw_verdict_hints.specs.MadeTexts.{AreTwoLines}
 use Rattle.sw_verdict_hints.proofs.TextsMade.{lines_told}
 use Rattle.sw_verdict_hints.proofs.made_texts.two_lines.Goals as goal
 

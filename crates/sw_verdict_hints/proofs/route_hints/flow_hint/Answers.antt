@@ -4,7 +4,8 @@ use Rattle.sw_flow.specs.Places.{end_of}
 use Rattle.sw_hints.specs.HintLines.{head_line, told}
 use Rattle.sw_topo.specs.Wiring.{partner}
 use Rattle.sw_verdict_hints.specs.RouteHints.{flow_head, found_words, help_words, way_lines_from}
-use Rattle.sw_verdict_hints.proofs.TextsMade.{head_if, joined_if, same_text, two_lines_if}
+use Rattle.sw_hints.proofs.TextsMade.{joined_if, same_text}
+use Rattle.sw_verdict_hints.proofs.TextsMade.{head_if, two_lines_if}
 use Rattle.sw_verdict_hints.proofs.route_hints.flow_hint.Goals as goal
 
 pub returns : goal.returns

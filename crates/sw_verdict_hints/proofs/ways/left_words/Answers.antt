@@ -1,7 +1,7 @@
 use Rattle.std.proofs.Common.{◌≡◌, ◌≤◌, ◌++◌, ◌∷◌, [], List, arith, codes, length, refl, ℕ}
 use Rattle.std.specs.List.{flat_map}
 use Rattle.sw_verdict_hints.specs.RouteHints.{left_words, number_word}
-use Rattle.sw_verdict_hints.proofs.TextsMade.{joined_if, same_text}
+use Rattle.sw_hints.proofs.TextsMade.{joined_if, same_text}
 use Rattle.sw_verdict_hints.proofs.ways.left_words.Goals as goal
 
 left_is : (bytes : List ℕ) → 1 ≤ length bytes → codes "address bytes left:" ++ flat_map number_word bytes ≡ left_words bytes

@@ -4,7 +4,7 @@ use Rattle.std.specs.Prelude.{String}
 use Rattle.std.specs.declared.alloc.Global.{Global}
 use Rattle.std.proofs.lemmas.Result.{IfOk-weaker}
 use Rattle.sw_hints.specs.HintLines.{told}
-use Rattle.sw_text_hints.specs.LineHints.{AreJoined, IsTold}
+use Rattle.sw_hints.specs.MadeTexts.{AreJoined, IsTold}
 
 -- this text, if there is one
 abbrev pub Gives : {E : Type 0} → Result (String Global) E → List ℕ → Type 0
