@@ -1,4 +1,4 @@
-use Rattle.std.proofs.Common.{◌≡◌, ◌+◌, eqb, not, true, false, get_or, ap, sym, ◌∙◌}
+use Rattle.std.proofs.Common.{◌≡◌, ◌+◌, eqb, not, true, false, get_or, ap, sym, ◌∙◌, arith}
 use Rattle.std.specs.Prelude.{count_by}
 use Rattle.std.proofs.lemmas.List.{take_all}
 use Rattle.std.proofs.lemmas.List.Sums.{count_by_more_yes, count_by_more_no}
@@ -15,11 +15,11 @@ loop-end-preserved c =
     elim c.if-is_node.branch [
       | then-is_node w ↦
           let passes : p (get_or ends i end) ≡ true = ap p (sym c.end-item.is) ∙ sym c.is_node.ensures ∙ w.if-is_node.true in
-          w.linked-is ∙ ap (λ n. n + 1) c.loop-end.invariant ∙ sym (count_by_more_yes p ends i end c.loop-end-test.true passes)
+          record { count = w.linked-is ∙ ap (λ n. n + 1) c.loop-end.invariant.count ∙ sym (count_by_more_yes p ends i end c.loop-end-test.true passes); few = omega (arith, w.linked-is, c.loop-end.invariant.few) }
       | else-is_node w ↦
           let fails : p (get_or ends i end) ≡ false = ap p (sym c.end-item.is) ∙ sym c.is_node.ensures ∙ w.if-is_node.false in
-          w.linked-is ∙ c.loop-end.invariant ∙ sym (count_by_more_no p ends i end c.loop-end-test.true fails)
+          record { count = w.linked-is ∙ c.loop-end.invariant.count ∙ sym (count_by_more_no p ends i end c.loop-end-test.true fails); few = omega (arith, w.linked-is, c.loop-end.invariant.few) }
     ]
 
 pub returns : goal.returns
-returns c = ap (λ n. not (eqb n 1)) (c.loop-end.invariant ∙ ap (count_by (is_node c.args.node)) (take_all c.loop-end.end-index c.args.ends.now c.loop-end-test.false))
+returns c = ap (λ n. not (eqb n 1)) (c.loop-end.invariant.count ∙ ap (count_by (is_node c.args.node)) (take_all c.loop-end.end-index c.args.ends.now c.loop-end-test.false))
