@@ -1,10 +1,32 @@
 //! How a fault is printed.
-ghost use Rattle.std.specs.Prelude.{◌≡◌, IfOk, string_bytes};
+ghost use Rattle.std.specs.Prelude.{◌≡◌, ◌++◌, ◌∷◌, [], IfOk, codes, string_bytes};
+ghost use Rattle.std.specs.Fmt.{decimal};
 ghost use Rattle.sw_text.specs.FaultTexts.{fault_text, key_fault_text, limit_text, topology_fault_text, where_text};
+ghost use Rattle.sw_text.specs.Lines.{spaced};
 
 use crate::{KeyFault, Section, TextFault};
 use std::alloc::{AllocError, Global};
 use sw_topo::{Limit, TopoFault};
+
+// A number behind what it counts.
+fn numbered(alloc: Global, words: &str, number: usize) -> Result<String, AllocError>
+    ensures { IfOk result (λ s. string_bytes s ≡ spaced (words.now ∷ decimal number ∷ [])) }
+{
+    format!(in alloc; "{words} {number}")
+}
+
+// A key of an entry of that list, or of that part of the entry: a space begins a part.
+fn key_in(
+    alloc: Global,
+    list: &str,
+    number: usize,
+    part: &str,
+    key: &str,
+) -> Result<String, AllocError>
+    ensures { IfOk result (λ s. string_bytes s ≡ list.now ++ (codes " " ++ (decimal number ++ (part.now ++ (codes " " ++ key.now))))) }
+{
+    format!(in alloc; "{list} {number}{part} {key}")
+}
 
 /// Where a key stands.
 ///
@@ -16,14 +38,14 @@ pub fn where_text(alloc: Global, section: Section, key: &str) -> Result<String, 
 {
     match section {
         Section::Document => format!(in alloc; "document {key}"),
-        Section::Node(i) => format!(in alloc; "node {i} {key}"),
-        Section::Target(i) => format!(in alloc; "node {i} target {key}"),
-        Section::Switch(i) => format!(in alloc; "switch {i} {key}"),
+        Section::Node(i) => key_in(alloc, "node", i, "", key),
+        Section::Target(i) => key_in(alloc, "node", i, " target", key),
+        Section::Switch(i) => key_in(alloc, "switch", i, "", key),
         Section::Route(i, j) => format!(in alloc; "switch {i} route {j} {key}"),
-        Section::Link(i) => format!(in alloc; "link {i} {key}"),
-        Section::Flow(i) => format!(in alloc; "flow {i} {key}"),
-        Section::Reply(i) => format!(in alloc; "flow {i} reply {key}"),
-        Section::Packet(i) => format!(in alloc; "packet {i} {key}"),
+        Section::Link(i) => key_in(alloc, "link", i, "", key),
+        Section::Flow(i) => key_in(alloc, "flow", i, "", key),
+        Section::Reply(i) => key_in(alloc, "flow", i, " reply", key),
+        Section::Packet(i) => key_in(alloc, "packet", i, "", key),
     }
 }
 
@@ -49,17 +71,31 @@ fn limit_text(limit: Limit) -> &'static str
     }
 }
 
+// A fault at a key, by its code and name.
+fn fault_at(alloc: Global, name: &str, section: Section, key: &str) -> Result<String, AllocError>
+    ensures { IfOk result (λ s. string_bytes s ≡ spaced (codes "fault" ∷ name.now ∷ where_text section key.now ∷ [])) }
+{
+    let place = where_text(alloc, section, key)?;
+    format!(in alloc; "fault {name} {place}")
+}
+
 fn topology_fault_text(alloc: Global, fault: TopoFault) -> Result<String, AllocError>
-    ensures { IfOk result (λ s. string_bytes s ≡ topology_fault_text fault) }
+    ensures { IfOk result (λ s. string_bytes s ≡ spaced (codes "fault F8" ∷ topology_fault_text fault ∷ [])) }
 {
     match fault {
         TopoFault::TooMany(limit) => {
             let limit = limit_text(limit);
-            format!(in alloc; "E4 TooMany {limit}")
+            format!(in alloc; "fault F8 E4 TooMany {limit}")
         }
-        TopoFault::PortTaken(link) => format!(in alloc; "E1 PortTaken link {link}"),
-        TopoFault::NodeLinks(node) => format!(in alloc; "E2 NodeLinks node {node}"),
-        TopoFault::PortUnlinked(switch) => format!(in alloc; "E3 PortUnlinked switch {switch}"),
+        TopoFault::PortTaken(link) => {
+            numbered(alloc, "fault F8 E1 PortTaken link", link as usize)
+        }
+        TopoFault::NodeLinks(node) => {
+            numbered(alloc, "fault F8 E2 NodeLinks node", node as usize)
+        }
+        TopoFault::PortUnlinked(switch) => {
+            numbered(alloc, "fault F8 E3 PortUnlinked switch", switch as usize)
+        }
     }
 }
 
@@ -74,22 +110,16 @@ pub fn fault_text(alloc: Global, fault: &TextFault) -> Result<String, AllocError
     match fault {
         TextFault::Syntax => String::from_str(alloc, "fault F1 Syntax"),
         TextFault::UnknownKey(section, key) => {
-            let place = where_text(alloc, *section, key.as_str())?;
-            format!(in alloc; "fault F2 UnknownKey {place}")
+            fault_at(alloc, "F2 UnknownKey", *section, key.as_str())
         }
         TextFault::Key(fault, section, key) => {
-            let place = where_text(alloc, *section, key.text())?;
-            let name = key_fault_text(*fault);
-            format!(in alloc; "fault {name} {place}")
+            fault_at(alloc, key_fault_text(*fault), *section, key.text())
         }
-        TextFault::Topology(fault) => {
-            let detail = topology_fault_text(alloc, *fault)?;
-            format!(in alloc; "fault F8 {detail}")
-        }
+        TextFault::Topology(fault) => topology_fault_text(alloc, *fault),
         TextFault::DuplicateRoute(switch, route) => {
             format!(in alloc; "fault F9 DuplicateRoute switch {switch} route {route}")
         }
-        TextFault::ReplyShape(flow) => format!(in alloc; "fault F10 ReplyShape flow {flow}"),
-        TextFault::NotInFlow(packet) => format!(in alloc; "fault F11 NotInFlow packet {packet}"),
+        TextFault::ReplyShape(flow) => numbered(alloc, "fault F10 ReplyShape flow", *flow),
+        TextFault::NotInFlow(packet) => numbered(alloc, "fault F11 NotInFlow packet", *packet),
     }
 }
