@@ -1,9 +1,11 @@
 -- What several reads took of a reader, and several writes of a text's rest wrote.
-use Rattle.std.proofs.Common.{◌≡◌, ℕ, ◌≤◌, ◌+◌, ◌-◌, List, [], ◌++◌, Result, Ok, Err, IfErr, IsErr, refl, sym, ap, ◌∙◌, subst, length, take, drop, arith, length-drop, length-append, length-take}
+use Rattle.std.proofs.Common.{◌≡◌, ℕ, ◌<◌, ◌≤◌, ◌+◌, ◌-◌, min, List, [], ◌++◌, Result, Ok, Err, IfErr, IsErr, refl, sym, ap, ◌∙◌, subst, length, take, drop, arith, length-drop, length-append, length-take}
 use Rattle.std.proofs.Math.Seq.{take-add, take-length}
 use Rattle.std.specs.Prelude.{Option}
 use Rattle.std.proofs.lemmas.Bool.{false≢true}
-use Rattle.std.specs.Io.KnownBytes.{Appends, Consumes, ReadConsumes}
+use Rattle.std.specs.Io.KnownBytes.{Appends, Consumes, Keeps, ReadConsumes}
+use Rattle.sw_text.specs.declared.read_stream.ReadError.{ReadError}
+use Rattle.sw_text.specs.declared.read_stream.ReadError.TheVariants.{Failed}
 use Rattle.sw_text.specs.Reading.{Takes}
 use Rattle.std.proofs.KnownBytes.{Appends-trans, Consumes-kept, Consumes-nil, Consumes-trans}
 
@@ -54,3 +56,28 @@ pub some_taken : {E : Type 0} (a b : Option (List ℕ)) (r : Result ℕ E) (buf 
 some_taken {E} a b r buf count most is read size =
     let taken = subst (λ (q : Result ℕ E). ReadConsumes a b q buf) is read in
     (length (take count buf), omega (arith, length-take count buf, size), (take count buf, refl, taken.0))
+
+-- what is left for a read after others
+module _ (text chunk : List ℕ) (m sum most limit : ℕ) (size : m ≡ length text) (left : sum ≡ min ((limit - m) + 1) 18446744073709551615) (at_most : most ≡ min sum 65536) where
+  pub room_fits : length text ≤ limit → length text + length (take most chunk) ≤ limit + 1
+  room_fits fits = omega (arith, length-take most chunk, size, left, at_most, fits)
+
+  pub room_some : length chunk ≡ 65536 → 0 < length (take most chunk)
+  room_some whole = omega (arith, length-take most chunk, left, at_most, whole)
+
+-- less is left after a read that gave some
+pub less_left : (old new room : List ℕ) (count most limit : ℕ) → new ≡ old ++ take count room → length room ≡ most → count ≤ most → (count ≡ 0 → ⊥) → length old ≤ limit
+    → limit + 1 - length new < limit + 1 - length old
+less_left old new room count most limit is size within some fits =
+    omega (arith, ap (length {A = ℕ}) is, length-append old (take count room), length-take count room, size, within, some, fits)
+
+-- a read that failed after others
+pub short_on : {T : Type 0} (r : Result T ReadError) (d e : ReadError) (a b c : Option (List ℕ)) (bytes : List ℕ) (limit : ℕ) → r ≡ Err d → d ≡ e
+    → (◌≡◌ {A = Result ℕ ReadError} (Err e) (Err Failed) → Keeps b c) → Consumes a b bytes → length bytes ≤ limit → r ≡ Err Failed → (n : ℕ) × (n ≤ limit) × Takes a c n
+short_on r d e a b c bytes limit is same kept read fits failed =
+    let is_failed : e ≡ Failed = cc in
+    (length bytes, fits, (bytes, refl, Consumes-kept a b c bytes read (kept (ap Err is_failed))))
+
+-- one byte past the limit
+pub one_past : (m n limit : ℕ) → m ≡ n → n ≤ limit + 1 → limit < m → n ≡ limit + 1
+one_past m n limit size within past = omega (arith, size, within, past)
