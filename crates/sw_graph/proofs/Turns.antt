@@ -51,6 +51,9 @@ since_within [] c (suc k) some = absurd (omega arith)
 since_within (x ∷ xs) c zero some = omega arith
 since_within (x ∷ xs) c (suc k) some = let r = since_within xs c k some in omega arith
 
+pub fewer_behind : (xs : List ℕ) (c k : ℕ) → 0 < times (drop k xs) c → length xs - (k + 1) < length xs - k
+fewer_behind xs c k some = let lt = since_within xs c k some in omega arith
+
 pub since_more : (xs : List ℕ) (c k : ℕ) → 0 < times (drop k xs) c → (get_or xs k 0 == c) ≡ false → 0 < times (drop (k + 1) xs) c
 since_more xs c k some other =
     let here : times (drop k xs) c ≡ times (get_or xs k 0 ∷ drop (k + 1) xs) c = ap (λ l. times l c) (drop_more xs k 0 (since_within xs c k some)) in

@@ -1,5 +1,5 @@
 -- A walk along the steps: what it keeps, and what it has found at its end.
-use Rattle.std.proofs.Common.{◌≡◌, ℕ, ◌+◌, ◌<◌, ◌≤◌, ◌↔◌, List, [], ◌∷◌, ◌++◌, length, get_or, All, sym, ap, ◌∙◌, subst, arith, below_more}
+use Rattle.std.proofs.Common.{◌≡◌, ℕ, ◌+◌, ◌-◌, ◌<◌, ◌≤◌, ◌↔◌, List, [], ◌∷◌, ◌++◌, length, get_or, All, sym, ap, ◌∙◌, subst, arith, below_more}
 use Rattle.std.specs.Prelude.{Contains, IfOk, Result, Ok, Err}
 use Rattle.std.specs.List.Sorted.{IsStrictlyIncreasing}
 use Rattle.std.proofs.lemmas.List.{length-append, get_or_default}
@@ -12,6 +12,10 @@ use Rattle.sw_graph.proofs.Numbers.{Grows, Contains-grows, get_or-grows, grows_a
 -- what a list has that was empty before
 pub led_by : (led pushed none new : List ℕ) → led ≡ pushed → pushed ≡ none ++ new → none ≡ [] → led ≡ new
 led_by led pushed none new a b e = a ∙ b ∙ ap (λ l. l ++ new) e
+
+-- fewer places are left behind the next one
+pub nearer : (bound later done count all : ℕ) → done < count → count ≤ all → all ≡ bound → later ≡ bound → later - (done + 1) < bound - done
+nearer bound later done count all lt few same kept = omega arith
 
 -- two things that are so of what went well give a third
 pub on_ok_both : {A E : Type 0} {P Q R : A → Type 0} (r : Result A E) → ((x : A) → P x → Q x → R x) → IfOk r P → IfOk r Q → IfOk r R

@@ -18,7 +18,7 @@ pub free_members-requires-clause-inside : goal.free_members-requires-clause-insi
 free_members-requires-clause-inside g c = rw c.deref.ensures.value (left_inside c.args.predecessors.now _ _ _ _ c.loop-left.invariant)
 
 pub take_all-requires-clause-size : goal.take_all-requires-clause-size
-take_all-requires-clause-size g c = let i = c.loop-left.invariant in omega (arith, i.numbered, i.marked)
+take_all-requires-clause-size g c = let i = c.loop-left.invariant in i.numbered ∙ sym i.marked
 
 pub take_all-requires-clause-inside : goal.take_all-requires-clause-inside
 take_all-requires-clause-inside g c =

@@ -3,7 +3,7 @@ use Rattle.std.specs.Prelude.{ℕ}
 use Rattle.sw_graph.specs.Parents.{AreParents}
 use Rattle.sw_graph.specs.Walks.{with_number}
 use Rattle.sw_graph.proofs.Parents.{filled, first_stays, longer_with, parents_first, parents_more}
-use Rattle.sw_graph.proofs.Walking.{Walks, complete, walks_first, walks_on}
+use Rattle.sw_graph.proofs.Walking.{Walks, complete, nearer, walks_first, walks_on}
 use Rattle.sw_graph.proofs.ways.walk_with_parents.Goals as goal
 
 pub loop-done-init : goal.loop-done-init
@@ -28,7 +28,7 @@ add_next-requires-clause-inside g c =
     subst Q (sym c.loop-done.invariant.bound) c.requires.inside
 
 pub loop-done-smaller : goal.loop-done-smaller
-loop-done-smaller g c = omega arith
+loop-done-smaller g c = nearer c.loop-done.walk.bound c.add_next.new.walk.bound c.loop-done.done c.len.result c.loop-done.walk.bound c.loop-done-test.true c.len.ensures.few refl c.in_ok-add_next.ensures.bound
 
 pub loop-done-preserved : goal.loop-done-preserved
 loop-done-preserved g c =
@@ -38,6 +38,7 @@ loop-done-preserved g c =
     let parents = c.loop-done.parents.items in
     let done = c.loop-done.done in
     let here = get_or numbers done 0 in
+    let within : done < length numbers = subst (λ (n : ℕ). done < n) c.len.ensures.len c.loop-done-test.true in
     let after = c.add_next.new.walk.numbers in
     let found = c.in_ok-add_next.ensures.numbers in
     let longer = longer_with numbers (next here) after found in
@@ -45,8 +46,8 @@ loop-done-preserved g c =
     let more = filled parents c.resize.new.self.items done c.loop-done.parents.len c.len-in-loop-done.result (length after) c.loop-done.parents.ok.0 c.len-in-loop-done.ensures.len few c.in_ok-resize.ensures.items in
     record {
       bound = c.in_ok-add_next.ensures.bound ∙ old.bound;
-      walks = walks_on next c.args.start numbers (next here) after done here old.walks (omega arith) refl refl found;
-      parents = parents_more next numbers parents (next here) after c.resize.new.self.items done here old.parents (omega arith) refl refl found more;
+      walks = walks_on next c.args.start numbers (next here) after done here old.walks within refl refl found;
+      parents = parents_more next numbers parents (next here) after c.resize.new.self.items done here old.parents within refl refl found more;
       first = first_stays numbers (next here) after c.args.start found old.first.0 old.first.1;
     }
 
@@ -55,4 +56,4 @@ returns-clause-first g c = c.loop-done.invariant.first.1
 
 pub returns-clause-complete : goal.returns-clause-complete
 returns-clause-complete g c =
-    complete (g.S.Steps.next c.args.steps.now) c.args.start c.loop-done.walk.numbers c.loop-done.done c.loop-done.invariant.walks (omega arith)
+    complete (g.S.Steps.next c.args.steps.now) c.args.start c.loop-done.walk.numbers c.loop-done.done c.loop-done.invariant.walks (subst (λ (n : ℕ). n ≤ c.loop-done.done) c.len.ensures.len c.loop-done-test.false)

@@ -20,7 +20,7 @@ loop-at-preserved g c =
     let at = c.loop-at.at in
     let parent = get_or c.args.parents.now at 0 in
     let old = c.loop-at.invariant in
-    let some : 0 < at = omega arith in
+    let some : 0 < at = c.loop-at-test.true in
     let earlier = c.requires.earlier at some old.within in
     let pushed = c.in_ok-push-2.ensures.items ∙ ap (λ n. c.loop-at.way.items ++ n ∷ []) c.at.ensures.number in
     record {
@@ -28,3 +28,6 @@ loop-at-preserved g c =
       onward = subst (λ (l : List ℕ). Onward next c.args.goal (get_or numbers parent 0) (reverse l)) (sym pushed)
           (onward_more next c.args.goal (get_or numbers parent 0) (get_or numbers at 0) c.loop-at.way.items old.onward (c.requires.leads at some old.within));
     }
+
+pub loop-at-smaller : goal.loop-at-smaller
+loop-at-smaller g c = c.requires.earlier c.loop-at.at c.loop-at-test.true c.loop-at.invariant.within
