@@ -3,14 +3,15 @@ use mathlib.Core.Logic.{∥∥₁_elim}
 use Rattle.std.proofs.Common.{List, None, Ok, Option, Some, ap, arith, false, get_or, length, refl, set, subst, sym, true, ℕ, ◌<◌, ◌∙◌, ◌≡◌}
 use Rattle.std.proofs.Math.Seq.{map-set_same}
 use Rattle.std.proofs.lemmas.Option.{get_or_from_slice_get, slice_get-get_or}
-use Rattle.std.specs.Prelude.{Err, IfNone, IfSome, OnErr, Result, slice_get}
+use Rattle.std.specs.Prelude.{Err, OnErr, Result, slice_get}
 use Rattle.sw_cell.specs.Places.{IsUndeclared}
 use Rattle.sw_cell.specs.declared.fault.NetFault.{NetFault}
 use Rattle.sw_cell.specs.declared.fault.NetFault.TheVariants.{Memory, NotEnabled, NotInFlow}
 use Rattle.sw_cell.proofs.LinkEnds.{none_at_port}
+use Rattle.sw_cell.proofs.Network.{nodes_are}
 use Rattle.sw_cell.proofs.Switches.{ends_at}
 use Rattle.sw_cell.specs.Picks.{CannotGrant, GrantsPick}
-use Rattle.sw_cell.specs.Possible.{NodeHas, PortHas, step_at_node, step_at_port}
+use Rattle.sw_cell.specs.Possible.{NodeEnabled, NodeTells, SwitchTells, step_at_node, step_at_port}
 use Rattle.sw_cell.specs.SwitchParts.{IsSwitchFor}
 use Rattle.sw_cell.specs.declared.node.NodeStep.{NodeStep}
 use Rattle.sw_cell.specs.declared.node.NodeStep.TheVariants as at_node
@@ -23,18 +24,21 @@ use Rattle.sw_machine.proofs.DeclaredNetworks.{are_networks}
 use Rattle.sw_machine.specs.Model.{network_of}
 use Rattle.sw_net.proofs.Possibles.{node_told, switch_told}
 use Rattle.sw_net.proofs.Steps.{same_switch, switch_leads, switch_net, switch_state}
-use Rattle.sw_net.proofs.Told.{node_tells}
+use Rattle.sw_net.proofs.Told.{node_tells, start_at_node}
 use Rattle.sw_net.specs.Asked.{CanStep}
-use Rattle.sw_net.specs.Making.{IsDecided, IsMoveOf, IsPlain, Moves, MovesAt, WantsRoom}
+use Rattle.sw_net.specs.Making.{IsDecided, IsMoveOf, IsPlain, IsReady, Moves, MovesAt, TellsReady, WantsRoom}
 use Rattle.sw_net.specs.Net.{IsNet, NetAnswers, NetView, arbiters_of, net_of}
 use Rattle.sw_net.specs.Possible.{Tells}
 use Rattle.sw_config.specs.Entries.{Declaration}
 use Rattle.sw_config.specs.Valid.{IsValid}
+use Rattle.sw_flow.specs.Places.{ends_of}
 use Rattle.sw_node.specs.Node.{Node}
 use Rattle.sw_route.specs.declared.look.Look.{Look}
 use Rattle.sw_machine.specs.declared.step.Step.{Step as CodeStep}
 use Rattle.sw_switch.specs.Cell.{Cell}
 use Rattle.sw_topo.proofs.Ends.{partner_back}
+use Rattle.sw_topo.specs.declared.place.PlaceEnd.{PlaceEnd}
+use Rattle.sw_topo.specs.declared.place.PlaceEnd.TheVariants as place
 use Rattle.sw_link.specs.Between.{Between}
 
 -- one switch changes, and keeps its arbiters
@@ -130,14 +134,31 @@ node_step_belongs net ok n in_net at_node.Emit = refl
 node_step_belongs net ok n in_net at_node.Accept = refl
 node_step_belongs net ok n in_net at_node.Reply = refl
 
-module _ {R A : Type 0} (v : NetView R A) (valid : IsValid v.declared) (n : ℕ) (node : Node) (at : slice_get v.nodes n ≡ Some node) where
-  pub node_has : (o : Option NodeStep) → NodeHas (network_of v.declared) n node v.between o → IfSome o (λ step. Tells v (step_at_node (network_of v.declared) n step) true)
-  node_has None h = tt
-  node_has (Some step) h = node_told v n node (step_at_node (network_of v.declared) n step) true at h
+module _ {R A : Type 0} (v : NetView R A) (valid : IsValid v.declared) (e n : ℕ) (starts : slice_get (ends_of v.declared) e ≡ Some (place.Node n)) (within : e < (network_of v.declared).channels) (node : Node) (at : slice_get v.nodes n ≡ Some node) where
+  declared_ready : n < length v.declared.nodes → (step : NodeStep) (made : Step) → NodeTells (network_of v.declared) n node v.between (step_at_node (network_of v.declared) n step) true → made ≡ step_at_node (network_of v.declared) n step → IsReady v e made
+  declared_ready inside step made tells is =
+      let net = network_of v.declared in
+      let ok = are_networks v.declared valid in
+      let all = nodes_are v.declared in
+      let in_net : n < net.nodes = omega (arith, all, inside) in
+      let out = (ok.starts_at_node e n within (start_at_node v.declared e n starts)).1 in
+      record {
+        plain = subst IsPlain (sym is) (node_step_is_plain net n step);
+        belongs = ap (link_end_of net) is ∙ node_step_belongs net ok n in_net step ∙ out;
+        possible = subst (λ (k : Step). Tells v k true) (sym is) (node_told v n node (step_at_node net n step) true at tells);
+      }
 
-  pub node_has_none : (o : Option NodeStep) → n < (network_of v.declared).nodes → NodeHas (network_of v.declared) n node v.between o → IfNone o (CanStep v ((network_of v.declared).out n) false)
-  node_has_none None in_net h = let out = (are_networks v.declared valid).out_starts n in_net in node_tells v valid n node ((network_of v.declared).out n) false at out.0 out.1 h
-  node_has_none (Some step) in_net h = tt
+  pub node_ready : n < length v.declared.nodes → (d : Declaration) → d ≡ v.declared → (b : Between) → b ≡ v.between → (step : NodeStep) (made : Step) → NodeTells (network_of d) n node b (step_at_node (network_of d) n step) true → made ≡ step_at_node (network_of d) n step → IsReady v e made
+  node_ready inside d same b between step made tells is =
+      declared_ready inside step made
+      (subst (λ (k : Between). NodeTells (network_of v.declared) n node k (step_at_node (network_of v.declared) n step) true) between
+      (subst (λ (k : Declaration). NodeTells (network_of k) n node b (step_at_node (network_of k) n step) true) same tells))
+      (is ∙ ap (λ (k : Declaration). step_at_node (network_of k) n step) same)
+
+  pub node_not_ready : (d : Declaration) → d ≡ v.declared → (b : Between) → b ≡ v.between → NodeEnabled (network_of d) n node b false → CanStep v e false
+  node_not_ready d same b between none =
+      node_tells v valid n node e false at within (start_at_node v.declared e n starts)
+      (subst (λ (k : Between). NodeEnabled (network_of v.declared) n node k false) between (subst (λ (k : Declaration). NodeEnabled (network_of k) n node b false) same none))
 
 -- ---- the steps of a port's link end
 
@@ -157,18 +178,23 @@ port_step_belongs net e at_port.DropFront = partner_back e
 port_step_belongs net e at_port.Forward = partner_back e
 port_step_belongs net e at_port.Spill = partner_back e
 
-module _ {R A : Type 0} (v : NetView R A) (w : ℕ) (cell : Cell R A) (at : slice_get v.switches w ≡ Some cell) (e : ℕ) where
-  pub port_has : (o : Option PortStep) → PortHas v.declared w cell v.between e o → IfSome o (λ step. Tells v (step_at_port e step) true)
-  port_has None h = tt
-  port_has (Some step) h = switch_told v w cell (step_at_port e step) true at h
+module _ {R A : Type 0} (v : NetView R A) (e w : ℕ) (cell : Cell R A) (at : slice_get v.switches w ≡ Some cell) (d : Declaration) (same : d ≡ v.declared) (b : Between) (between : b ≡ v.between) where
+  pub port_ready : (step : PortStep) (made : Step) → SwitchTells d w cell b (step_at_port e step) true → made ≡ step_at_port e step → IsReady v e made
+  port_ready step made tells is = record {
+    plain = subst IsPlain (sym is) (port_step_is_plain e step);
+    belongs = ap (link_end_of (network_of v.declared)) is ∙ port_step_belongs (network_of v.declared) e step;
+    possible = subst (λ (k : Step). Tells v k true) (sym is) (switch_told v w cell (step_at_port e step) true at
+        (subst (λ (k : Between). SwitchTells v.declared w cell k (step_at_port e step) true) between (subst (λ (k : Declaration). SwitchTells k w cell b (step_at_port e step) true) same tells)));
+  }
 
-  pub port_has_none : (o : Option PortStep) → PortHas v.declared w cell v.between e o → IfNone o ((step : PortStep) → Tells v (step_at_port e step) false)
-  port_has_none None h = λ step. switch_told v w cell (step_at_port e step) false at (h step)
-  port_has_none (Some step) h = tt
+  pub port_not_ready : ((step : PortStep) → SwitchTells d w cell b (step_at_port e step) false) → (step : PortStep) → Tells v (step_at_port e step) false
+  port_not_ready none = λ step. switch_told v w cell (step_at_port e step) false at
+      (subst (λ (k : Between). SwitchTells v.declared w cell k (step_at_port e step) false) between (subst (λ (k : Declaration). SwitchTells k w cell b (step_at_port e step) false) same (none step)))
 
-pub then_none : {X : Type 0} (o : Option X) (P Q : Type 0) → (P → Q) → IfNone o P → IfNone o Q
-then_none None P Q then none = then none
-then_none (Some x) P Q then none = tt
+-- what stands at no switch stands at a node
+pub none_at_node : {R A : Type 0} (v : NetView R A) (e : ℕ) (at : PlaceEnd) → TellsReady v e None at → ((w port : ℕ) → at ≡ place.Switch w port → ⊥) → CanStep v e false
+none_at_node v e (place.Node n) none other = none
+none_at_node v e (place.Switch w port) none other = absurd (other w port refl)
 
 -- a link end of a switch with none of these steps and no grant of its output
 pub none_at_switch : {R A : Type 0} (v : NetView R A) → IsValid v.declared → (e w : ℕ) → (network_of v.declared).start_of e ≡ AtSwitch w → ((step : PortStep) → Tells v (step_at_port e step) false) → ((c : ℕ) → Tells v (Grant e c) false) → CanStep v e false

@@ -7,7 +7,7 @@ use Rattle.std.proofs.lemmas.Option.{get_or_from_slice_get, same_Some, slice_get
 use Rattle.std.specs.Global.{Vec}
 use Rattle.std.specs.Int.{bit_at}
 use Rattle.std.specs.Option.{option_map_or}
-use Rattle.std.specs.Prelude.{Err, IfOk, Ok, OnOk, Result, slice_get, slice_index}
+use Rattle.std.specs.Prelude.{Err, IfOk, Ok, Result, slice_get, slice_index}
 use Rattle.sw_cell.proofs.Dropping.{some_of}
 use Rattle.sw_cell.proofs.Switches.{port_small}
 use Rattle.sw_cell.specs.Parts.{IsBetweenPart}
@@ -79,10 +79,6 @@ made_too P l all made n size is (x, was, pushed) others =
 pub if_ok : {T E : Type 0} {P Q : T → Type 0} (r : Result T E) → ((x : T) → P x → Q x) → IfOk r P → IfOk r Q
 if_ok (Ok x) then h = then x h
 if_ok (Err e) then h = tt
-
-pub on_ok : {T E P Q : Type 0} (r : Result T E) → (P → Q) → OnOk r P → OnOk r Q
-on_ok (Ok x) then h = then h
-on_ok (Err e) then h = tt
 
 pub if_is : {T E : Type 0} (P : T → Type 0) (r : Result T E) (x : T) → r ≡ Ok x → IfOk r P → P x
 if_is {T} {E} P r x is h = subst (λ (k : Result T E). IfOk k P) is h

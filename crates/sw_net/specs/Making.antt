@@ -3,6 +3,8 @@ use Rattle.std.specs.Prelude.{Err, None, Ok, Option, Result, Some, false, slice_
 use Rattle.std.specs.declared.alloc.AllocError.{AllocError}
 use Rattle.sw_cell.specs.Answers.{Stores}
 use Rattle.sw_cell.specs.Picks.{GrantsPick}
+use Rattle.sw_cell.specs.Possible.{step_at_port}
+use Rattle.sw_cell.specs.declared.switch.PortStep.{PortStep}
 use Rattle.sw_machine.specs.Parts.{link_end_of}
 use Rattle.sw_machine.specs.Steps.{Begin, Grant, Step, is_begin}
 use Rattle.sw_machine.specs.Model.{network_of}
@@ -13,6 +15,8 @@ use Rattle.sw_route.specs.declared.look.Look.{Look}
 use Rattle.sw_machine.specs.StepValues.{machine_step}
 use Rattle.sw_machine.specs.declared.step.Step.{Step as CodeStep}
 use Rattle.sw_switch.specs.Cell.{Cell}
+use Rattle.sw_topo.specs.declared.place.PlaceEnd.{PlaceEnd}
+use Rattle.sw_topo.specs.declared.place.PlaceEnd.TheVariants.{Node, Switch}
 
 -- the output where channel d starts is granted to input c, which its arbiter picks among those that ask; no other arbiter changes, and no other switch
 pub record IsPicked {R A : Type 0} (answer : R → ℕ → Look) (policy : A → ℕ → ℕ → A → Type 0) (v : NetView R A) (d c : ℕ) (w : NetView R A) : Type 0 where
@@ -58,3 +62,15 @@ abbrev pub IsPlain : Step → Type 0
 IsPlain (Grant d c) = ⊥
 IsPlain (Begin flow cargo end) = ⊥
 IsPlain step = Unit {0}
+
+-- such a step, which is possible and belongs to the link end where channel e starts
+pub record IsReady {R A : Type 0} (v : NetView R A) (e : ℕ) (step : Step) : Type 0 where
+  pub plain : IsPlain step
+  pub belongs : link_end_of (network_of v.declared) step ≡ e
+  pub possible : Tells v step true
+
+-- Some: that step of the link end where channel e starts is ready; None: none of its steps is possible, apart from grants of its output
+abbrev pub TellsReady : {R A : Type 0} → NetView R A → ℕ → Option CodeStep → PlaceEnd → Type 0
+TellsReady v e (Some step) place = IsReady v e (machine_step step)
+TellsReady v e None (Node n) = CanStep v e false
+TellsReady v e None (Switch w port) = (step : PortStep) → Tells v (step_at_port e step) false

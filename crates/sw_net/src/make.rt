@@ -1,18 +1,16 @@
 //! A new network.
-ghost use Rattle.std.specs.Prelude.{◌≡◌, ◌<◌, ◌+◌, ◌++◌, ℕ, All, List, Option, IfOk, OnOk, Some, drop, length, slice_get};
+ghost use Rattle.std.specs.Prelude.{◌≡◌, ◌<◌, ◌+◌, ℕ, All, List, Option, IfOk, OnOk, Some, drop, length, slice_get};
 ghost use Rattle.std.specs.Global.{Vec};
-ghost use Rattle.std.specs.Vec.Iter.{into_iter_items};
 ghost use Rattle.sw_flow.specs.Places.{ends_of};
 ghost use Rattle.sw_link.specs.Ends.{IsCapacity};
 ghost use Rattle.sw_net.specs.Net.{arbiters_of};
-ghost use Rattle.sw_net.specs.New.{AreArbiters, AreLeft, ArePlaced, AreRoutes, IsNewNet, IsNewNode, IsNewSwitch, IsOneMore, IsRow, port_capacity, rows_of};
+ghost use Rattle.sw_net.specs.New.{AreArbiters, ArePlaced, AreRoutes, IsNewNet, IsNewNode, IsNewSwitch, IsOneMore, IsRow, port_capacity, rows_of};
 ghost use Rattle.sw_net.specs.Outputs.{AreByOutput, StandsAt};
 ghost use Rattle.sw_node.specs.Node.{Node};
 ghost use Rattle.sw_switch.specs.Cell.{Cell};
 
 use crate::net::Net;
 use std::alloc::{AllocError, Global};
-use std::vec::IntoIter;
 use sw_arb::Arbiter;
 use sw_config::Network;
 use sw_link::Wires;
@@ -131,28 +129,7 @@ fn placed<A: Arbiter + Drop>(
     Ok(rows)
 }
 
-/// The next switch has the next routing and the next row.
-fn push_switch<R: Routing + Drop, A: Arbiter + Drop>(
-    alloc: Global,
-    network: &Network,
-    w: u16,
-    tables: &mut IntoIter<R>,
-    rows: &mut IntoIter<Vec<Option<A>>>,
-    switches: &mut Vec<SwitchCell<R, A>>,
-) -> Result<(), AllocError>
-    requires switch { w < length network.now.switches }
-    requires left { AreLeft R.answer A.ports network.now w (into_iter_items tables.old) (into_iter_items rows.old) switches.old.items }
-    ensures left { OnOk result (AreLeft R.answer A.ports network.now (w + 1) (into_iter_items tables.new) (into_iter_items rows.new) switches.new.items) }
-    ensures rows { OnOk result (arbiters_of switches.new.items ++ rows_of (into_iter_items rows.new) ≡ arbiters_of switches.old.items ++ rows_of (into_iter_items rows.old)) }
-{
-    let capacities = capacities(alloc, network, w)?;
-    let table = tables.next().unwrap();
-    let row = rows.next().unwrap();
-    let linked = network.topology().linked(w);
-    let switch = SwitchCell::new(alloc, table, linked, &capacities, row);
-    push_made(switches, switch)
-}
-
+/// A switch for each routing and row of arbiters, in their order.
 fn new_switches<R: Routing + Drop, A: Arbiter + Drop>(
     alloc: Global,
     network: &Network,
@@ -170,7 +147,12 @@ fn new_switches<R: Routing + Drop, A: Arbiter + Drop>(
     let mut tables = routes.into_iter();
     let mut arbiters = rows.into_iter();
     for w in 0..network.switches() {
-        push_switch(alloc, network, w, &mut tables, &mut arbiters, &mut switches)?;
+        let capacities = capacities(alloc, network, w)?;
+        let table = tables.next().unwrap();
+        let row = arbiters.next().unwrap();
+        let linked = network.topology().linked(w);
+        let switch = SwitchCell::new(alloc, table, linked, &capacities, row);
+        push_made(&mut switches, switch)?;
     }
     Ok(switches)
 }

@@ -1,12 +1,12 @@
 //! A step of a link end.
-ghost use Rattle.std.specs.Prelude.{◌≡◌, ◌<◌, ◌*◌, ℕ, IfNone, IfSome, Ok, false, length, true};
+ghost use Rattle.std.specs.Prelude.{◌≡◌, ◌<◌, ◌*◌, Ok, Some, false, length, slice_get};
 ghost use Rattle.sw_cell.specs.Possible.{step_at_node, step_at_port};
 ghost use Rattle.sw_cell.specs.declared.switch.PortStep.{PortStep};
+ghost use Rattle.sw_flow.specs.Places.{ends_of};
 ghost use Rattle.sw_machine.specs.Network.{AtSwitch};
-ghost use Rattle.sw_machine.specs.Parts.{link_end_of};
 ghost use Rattle.sw_machine.specs.Model.{network_of};
-ghost use Rattle.sw_net.specs.Making.{IsPlain};
 ghost use Rattle.sw_machine.specs.StepValues.{machine_step};
+ghost use Rattle.sw_topo.specs.Checked.{IsIn};
 
 use crate::net::Net;
 use std::alloc::{AllocError, Global};
@@ -21,7 +21,7 @@ use sw_topo::{LinkEnd, PlaceEnd};
 
 /// The step at node `n`.
 #[tactic(auto, unfolding(sw_machine::specs::Model::network_of))]
-pub(crate) fn node_step(network: &Network, n: u16, step: NodeStep) -> Step
+fn node_step(network: &Network, n: u16, step: NodeStep) -> Step
     requires { n < length network.now.nodes }
     ensures { machine_step result ≡ step_at_node (network_of network.now) n step }
 {
@@ -36,7 +36,7 @@ pub(crate) fn node_step(network: &Network, n: u16, step: NodeStep) -> Step
 }
 
 /// The step at the link end of a port.
-pub(crate) fn port_step(end: LinkEnd, step: PortStep) -> Step
+fn port_step(end: LinkEnd, step: PortStep) -> Step
     ensures { machine_step result ≡ step_at_port end step }
 {
     match step {
@@ -50,51 +50,33 @@ pub(crate) fn port_step(end: LinkEnd, step: PortStep) -> Step
 }
 
 impl<'n, R: Routing, A: Arbiter> Net<'n, R, A> {
-    ghost use Rattle.sw_net.specs.Asked.{CanStep};
-    ghost use Rattle.sw_net.specs.Making.{MovesAt};
+    ghost use Rattle.sw_net.specs.Making.{MovesAt, TellsReady};
     ghost use Rattle.sw_net.specs.Possible.{Tells};
 
-    /// Makes the step, which has to be possible, and no beginning or grant, and tells it.
+    /// A step of the link end, which stands at `place`, that is possible, other than to begin a packet
+    /// or to grant its output. None where it has none.
     #[inline(always)]
-    fn make_and_tell(&mut self, alloc: Global, step: Step) -> Result<Option<Step>, AllocError>
-        requires plain { IsPlain (machine_step step) }
-        requires possible { Tells self.old (machine_step step) true }
-        ensures network { self.new.declared ≡ self.old.declared }
-        ensures moves { (e : ℕ) → link_end_of (network_of self.old.declared) (machine_step step) ≡ e → MovesAt R.answer A.policy self.old e result self.new }
+    pub(crate) fn first_ready(&self, end: LinkEnd, place: PlaceEnd) -> Option<Step>
+        requires starts { slice_get (ends_of self.now.declared) end ≡ Some place }
+        requires inside { IsIn (length self.now.declared.nodes) (length self.now.declared.switches) place }
+        requires within { end < (network_of self.now.declared).channels }
+        ensures { TellsReady self.now end result place }
     {
-        let _network = self.network();
-        match self.step(alloc, &step) {
-            Ok(()) => Ok(Some(step)),
-            Err(fault) => match fault {
-                NetFault::Memory => Err(AllocError),
-                NetFault::NotEnabled => unreachable!(),
-                NetFault::NotInFlow => unreachable!(),
-            },
+        let network = self.network();
+        match place {
+            PlaceEnd::Node(n) => {
+                match node::first_possible(network, n, self.node(n), &self.wires) {
+                    Some(first) => Some(node_step(network, n, first)),
+                    None => None,
+                }
+            }
+            PlaceEnd::Switch(w, _) => {
+                match switch::first_possible(network, w, end, self.switch(w), &self.wires) {
+                    Some(first) => Some(port_step(end, first)),
+                    None => None,
+                }
+            }
         }
-    }
-
-    /// A step of node `n` that is possible, other than to begin a packet.
-    #[inline(always)]
-    pub(crate) fn first_at_node(&self, n: u16) -> Option<NodeStep>
-        requires { n < length self.now.declared.nodes }
-        ensures some { IfSome result (λ step. Tells self.now (step_at_node (network_of self.now.declared) n step) true) }
-        ensures none { IfNone result (CanStep self.now ((network_of self.now.declared).out n) false) }
-    {
-        let network = self.network();
-        node::first_possible(network, n, self.node(n), &self.wires)
-    }
-
-    /// A step of the link end, which stands at switch `w`, that is possible, other than to grant its
-    /// output.
-    #[inline(always)]
-    pub(crate) fn first_at_port(&self, w: u16, end: LinkEnd) -> Option<PortStep>
-        requires switch { w < length self.now.declared.switches }
-        requires at { (network_of self.now.declared).start_of end ≡ AtSwitch w }
-        ensures some { IfSome result (λ step. Tells self.now (step_at_port end step) true) }
-        ensures none { IfNone result ((step : PortStep) → Tells self.now (step_at_port end step) false) }
-    {
-        let network = self.network();
-        switch::first_possible(network, w, end, self.switch(w), &self.wires)
     }
 
     /// Grants the output of the link end, which stands at switch `w` and can make no other step, to
@@ -124,20 +106,20 @@ impl<'n, R: Routing, A: Arbiter> Net<'n, R, A> {
         ensures network { self.new.declared ≡ self.old.declared }
         ensures moves { MovesAt R.answer A.policy self.old end result self.new }
     {
-        match self.place_of(end) {
-            PlaceEnd::Node(n) => {
-                let Some(first) = self.first_at_node(n) else {
-                    return Ok(None);
-                };
-                let step = node_step(self.network(), n, first);
-                self.make_and_tell(alloc, step)
-            }
-            PlaceEnd::Switch(w, _) => {
-                let Some(first) = self.first_at_port(w, end) else {
-                    return Ok(self.arbitrate(w, end));
-                };
-                self.make_and_tell(alloc, port_step(end, first))
-            }
+        let place = self.place_of(end);
+        match self.first_ready(end, place) {
+            Some(step) => match self.step(alloc, &step) {
+                Ok(()) => Ok(Some(step)),
+                Err(fault) => match fault {
+                    NetFault::Memory => Err(AllocError),
+                    NetFault::NotEnabled => unreachable!(),
+                    NetFault::NotInFlow => unreachable!(),
+                },
+            },
+            None => match &place {
+                PlaceEnd::Node(_) => Ok(None),
+                PlaceEnd::Switch(w, _) => Ok(self.arbitrate(*w, end)),
+            },
         }
     }
 }

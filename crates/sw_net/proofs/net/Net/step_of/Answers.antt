@@ -1,74 +1,41 @@
-use Rattle.std.proofs.Common.{ap, arith, false, refl, subst, sym, true, ◌<◌, ◌∙◌, ℕ}
-use Rattle.sw_cell.proofs.Network.{nodes_are}
-use Rattle.sw_cell.specs.Possible.{step_at_node}
-use Rattle.sw_config.specs.Entries.{Declaration}
-use Rattle.sw_machine.specs.Parts.{link_end_of}
-use Rattle.sw_machine.specs.Steps.{Step}
-use Rattle.sw_machine.proofs.DeclaredNetworks.{are_networks}
-use Rattle.sw_machine.specs.Model.{network_of}
-use Rattle.sw_net.proofs.Making.{node_step_belongs, node_step_is_plain, port_step_belongs, port_step_is_plain}
-use Rattle.sw_net.proofs.Told.{start_at_node, start_at_switch}
+use Rattle.std.proofs.Common.{None, Some, ap, length, refl, subst, ◌∙◌, ◌≡◌}
+use Rattle.std.specs.Prelude.{Err, slice_get}
+use Rattle.sw_flow.specs.Places.{ends_of}
+use Rattle.sw_machine.specs.StepValues.{machine_step}
+use Rattle.sw_net.proofs.Making.{not_refused, not_undeclared, plain_moves, wants_room}
+use Rattle.sw_net.proofs.Told.{start_at_switch}
 use Rattle.sw_net.proofs.net.Net.step_of.Goals as goal
-use Rattle.sw_net.specs.Asked.{CanStep}
-use Rattle.sw_net.specs.Making.{IsPlain}
-use Rattle.sw_net.specs.Possible.{Tells}
+use Rattle.sw_net.specs.Making.{TellsReady}
+use Rattle.sw_topo.specs.Checked.{IsIn}
 
-pub make_and_tell-requires-clause-plain : goal.make_and_tell-requires-clause-plain
-make_and_tell-requires-clause-plain g c =
-    let net = network_of c.args.self.now.declared in
-    let is = c.node_step-step.ensures ∙ ap (λ (d : Declaration). step_at_node (network_of d) c.in-Node.n c.in-Some.first) c.network.ensures.network in
-    subst IsPlain (sym is) (node_step_is_plain net c.in-Node.n c.in-Some.first)
+pub returns-in-Ok-clause-moves : goal.returns-in-Ok-clause-moves
+returns-in-Ok-clause-moves g c =
+    plain_moves g.R.Routing.answer g.A.Arbiter.policy c.args.self.now c.step.new.self c.args.end (machine_step c.in-Some.step) c.in-Some.ensures.plain c.in-Some.ensures.belongs c.in-Ok.ensures.answers c.step.ensures.arbiters
 
-pub make_and_tell-requires-clause-possible : goal.make_and_tell-requires-clause-possible
-make_and_tell-requires-clause-possible g c =
-    let is = c.node_step-step.ensures ∙ ap (λ (d : Declaration). step_at_node (network_of d) c.in-Node.n c.in-Some.first) c.network.ensures.network in
-    subst (λ (k : Step). Tells c.args.self.now k true) (sym is) c.in-Some.ensures.some
+pub returns-in-Memory-clause-moves : goal.returns-in-Memory-clause-moves
+returns-in-Memory-clause-moves g c =
+    wants_room c.args.self.now c.step.new.self c.args.end (machine_step c.in-Some.step) c.in-Some.ensures.plain c.in-Some.ensures.possible c.in-Some.ensures.belongs c.step.result c.step.ensures.answers c.step.ensures.refused (c.in-Err.is ∙ ap Err c.in-Memory.is)
 
-pub returns-in-Some-clause-network : goal.returns-in-Some-clause-network
-returns-in-Some-clause-network g c = c.make_and_tell.ensures.network
+pub unreachable-requires : goal.unreachable-requires
+unreachable-requires g c = not_refused g.R.Routing.answer g.A.Arbiter.ports c.args.self.now c.place_of-place.ensures.sound (machine_step c.in-Some.step) c.in-Some.ensures.plain c.in-Some.ensures.possible c.step.result c.step.new.self c.step.ensures.answers (c.in-Err.is ∙ ap Err c.in-NotEnabled.is)
 
-pub returns-in-Some-clause-moves : goal.returns-in-Some-clause-moves
-returns-in-Some-clause-moves g c =
-    let v = c.args.self.now in
-    let net = network_of v.declared in
-    let n = c.in-Node.n in
-    let starts = start_at_node v.declared c.args.end n c.in-Node.ensures.starts in
-    let out = ((are_networks v.declared c.place_of.ensures.sound.valid).starts_at_node c.args.end n c.place_of.ensures.within starts).1 in
-    let is = c.node_step-step.ensures ∙ ap (λ (d : Declaration). step_at_node (network_of d) n c.in-Some.first) c.network.ensures.network in
-    let all = nodes_are v.declared in
-    let r = c.in-Node.ensures.inside in
-    let in_net : n < net.nodes = omega arith in
-    c.make_and_tell.ensures.moves c.args.end (ap (link_end_of net) is ∙ node_step_belongs net (are_networks v.declared c.place_of.ensures.sound.valid) n in_net c.in-Some.first ∙ out)
+pub unreachable-requires-in-NotInFlow : goal.unreachable-requires-in-NotInFlow
+unreachable-requires-in-NotInFlow g c = not_undeclared g.R.Routing.answer g.A.Arbiter.ports c.args.self.now c.place_of-place.ensures.sound (machine_step c.in-Some.step) c.in-Some.ensures.plain c.in-Some.ensures.possible c.step.result c.step.new.self c.step.ensures.answers (c.in-Err.is ∙ ap Err c.in-NotInFlow.is)
 
-pub returns-in_default-clause-moves : goal.returns-in_default-clause-moves
-returns-in_default-clause-moves g c =
-    let v = c.args.self.now in
-    let starts = start_at_node v.declared c.args.end c.in-Node.n c.in-Node.ensures.starts in
-    let out = ((are_networks v.declared c.place_of.ensures.sound.valid).starts_at_node c.args.end c.in-Node.n c.place_of.ensures.within starts).1 in
-    (subst (λ (k : ℕ). CanStep v k false) out c.in_default.ensures.none, refl)
+pub returns-in-Node-clause-moves : goal.returns-in-Node-clause-moves
+returns-in-Node-clause-moves g c = (subst (TellsReady c.args.self.now c.args.end None) c.in-Node.is c.in-None.ensures, refl)
 
-pub first_at_port-requires-clause-at : goal.first_at_port-requires-clause-at
-first_at_port-requires-clause-at g c = start_at_switch c.args.self.now.declared c.args.end c.in-Switch.w c.in-Switch.field-1 c.in-Switch.ensures.starts
+pub arbitrate-requires-clause-switch : goal.arbitrate-requires-clause-switch
+arbitrate-requires-clause-switch g c = (subst (IsIn (length c.args.self.now.declared.nodes) (length c.args.self.now.declared.switches)) c.in-Switch.is c.place_of-place.ensures.inside).0
 
 pub arbitrate-requires-clause-at : goal.arbitrate-requires-clause-at
-arbitrate-requires-clause-at g c = start_at_switch c.args.self.now.declared c.args.end c.in-Switch.w c.in-Switch.field-1 c.in-Switch.ensures.starts
+arbitrate-requires-clause-at g c = start_at_switch c.args.self.now.declared c.args.end c.in-Switch.w c.in-Switch.field-1 (subst (λ p. slice_get (ends_of c.args.self.now.declared) c.args.end ≡ Some p) c.in-Switch.is c.place_of-place.ensures.starts)
 
-pub returns-in_default-first_at_port-clause-network : goal.returns-in_default-first_at_port-clause-network
-returns-in_default-first_at_port-clause-network g c = c.arbitrate.ensures.network
+pub arbitrate-requires-clause-no_other : goal.arbitrate-requires-clause-no_other
+arbitrate-requires-clause-no_other g c = subst (TellsReady c.args.self.now c.args.end None) c.in-Switch.is c.in-None.ensures
 
-pub returns-in_default-first_at_port-clause-moves : goal.returns-in_default-first_at_port-clause-moves
-returns-in_default-first_at_port-clause-moves g c = c.arbitrate.ensures.moves
+pub returns-in-Switch-clause-network : goal.returns-in-Switch-clause-network
+returns-in-Switch-clause-network g c = c.arbitrate.ensures.network
 
-pub make_and_tell-requires-in-Switch-clause-plain : goal.make_and_tell-requires-in-Switch-clause-plain
-make_and_tell-requires-in-Switch-clause-plain g c = subst IsPlain (sym c.port_step.ensures) (port_step_is_plain c.args.end c.in-Some-first_at_port.first)
-
-pub make_and_tell-requires-in-Switch-clause-possible : goal.make_and_tell-requires-in-Switch-clause-possible
-make_and_tell-requires-in-Switch-clause-possible g c = subst (λ (k : Step). Tells c.args.self.now k true) (sym c.port_step.ensures) c.in-Some-first_at_port.ensures.some
-
-pub returns-in-Some-first_at_port-clause-network : goal.returns-in-Some-first_at_port-clause-network
-returns-in-Some-first_at_port-clause-network g c = c.make_and_tell-in-Switch.ensures.network
-
-pub returns-in-Some-first_at_port-clause-moves : goal.returns-in-Some-first_at_port-clause-moves
-returns-in-Some-first_at_port-clause-moves g c =
-    let net = network_of c.args.self.now.declared in
-    c.make_and_tell-in-Switch.ensures.moves c.args.end (ap (link_end_of net) c.port_step.ensures ∙ port_step_belongs net c.args.end c.in-Some-first_at_port.first)
+pub returns-in-Switch-clause-moves : goal.returns-in-Switch-clause-moves
+returns-in-Switch-clause-moves g c = c.arbitrate.ensures.moves
