@@ -33,28 +33,6 @@ fn rows_of<W: VerdictWorkers>(
     routed_dependencies(workers, alloc, network, places)
 }
 
-/// The verdict on a network in which each flow is well routed.
-fn routed_verdict<W: VerdictWorkers>(
-    workers: &W,
-    alloc: Global,
-    network: &Network,
-    places: Vec<Vec<Place>>,
-    rows: &[Vec<u16>],
-) -> Result<Verdict, AllocError>
-    requires routed { AllWellRouted network.now }
-    requires lists { AreListed network.now places.items }
-    requires rows { AreRows network.now rows.now }
-    ensures { IfOk result (IsVerdict network.now) }
-{
-    match ordered(workers, alloc, network, rows)? {
-        Order::Levels(levels) => Ok(Verdict::Free(free(network, levels, places))),
-        Order::Cycle(members) => {
-            let cycle = cycle(alloc, network, &places, &members)?;
-            Ok(Verdict::Cyclic(cycle))
-        }
-    }
-}
-
 /// The verdict, by the places of the flows and the rows of dependencies. Where it is not known that
 /// each flow is well routed, the first that is not is looked for.
 fn verdict_by<W: VerdictWorkers>(
@@ -70,12 +48,15 @@ fn verdict_by<W: VerdictWorkers>(
     requires routed { IsTrue is_routed → AllWellRouted network.now }
     ensures { IfOk result (IsVerdict network.now) }
 {
-    if is_routed {
-        return routed_verdict(workers, alloc, network, places, rows);
-    }
-    match first_misrouted(workers, alloc, network, &places)? {
+    match first_misrouted(workers, alloc, network, &places, is_routed)? {
         Some((flow, place, fault)) => Ok(Verdict::Misrouted(flow, place, fault)),
-        None => routed_verdict(workers, alloc, network, places, rows),
+        None => match ordered(workers, alloc, network, rows)? {
+            Order::Levels(levels) => Ok(Verdict::Free(free(network, levels, places))),
+            Order::Cycle(members) => {
+                let cycle = cycle(alloc, network, &places, &members)?;
+                Ok(Verdict::Cyclic(cycle))
+            }
+        },
     }
 }
 

@@ -1,7 +1,5 @@
 //! What is told of a network.
 ghost use Rattle.std.specs.Prelude.{IfOk};
-ghost use Rattle.sw_search.specs.Lists.{AreListed};
-ghost use Rattle.sw_search.specs.Verdicts.{AllWellRouted};
 ghost use Rattle.sw_search.specs.Explanations.{IsExplanation};
 
 use crate::explanation::Explanation;
@@ -10,26 +8,7 @@ use crate::tangling::tangles;
 use crate::workers::VerdictWorkers;
 use std::alloc::{AllocError, Global};
 use sw_config::Network;
-use sw_flow::{Place, all_places};
-
-/// What is told of a network in which each flow is well routed.
-fn routed<W: VerdictWorkers>(
-    workers: &W,
-    alloc: Global,
-    network: &Network,
-    places: &[Vec<Place>],
-) -> Result<Explanation, AllocError>
-    requires lists { AreListed network.now places.now }
-    requires routed { AllWellRouted network.now }
-    ensures { IfOk result (IsExplanation network.now) }
-{
-    let found = tangles(workers, alloc, network, places)?;
-    let count = found.len();
-    if count == 0 {
-        return Ok(Explanation::Free);
-    }
-    Ok(Explanation::Cyclic(found))
-}
+use sw_flow::all_places;
 
 /// Why a network can lock up, or that it can't: the first flow that is not well routed, with a way to
 /// where its packets go wrong; else the tangles of its channels, each with a shortest cycle; else
@@ -51,6 +30,13 @@ pub fn explain<W: VerdictWorkers>(
     let places = all_places(workers, alloc, network)?;
     match first_misrouted(network, &places) {
         Some((flow, place, fault)) => misrouted(alloc, network, flow, place, fault),
-        None => routed(workers, alloc, network, &places),
+        None => {
+            let found = tangles(workers, alloc, network, &places)?;
+            let count = found.len();
+            if count == 0 {
+                return Ok(Explanation::Free);
+            }
+            Ok(Explanation::Cyclic(found))
+        }
     }
 }

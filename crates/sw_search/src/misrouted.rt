@@ -1,5 +1,5 @@
 //! The first flow that is not well routed.
-ghost use Rattle.std.specs.Prelude.{◌<◌, IfOk, length, MatchOption};
+ghost use Rattle.std.specs.Prelude.{◌<◌, IfOk, IsTrue, length, MatchOption};
 ghost use Rattle.sw_config.specs.Entries.{all_flows};
 ghost use Rattle.sw_search.specs.Verdicts.{AllWellRouted, IsMisrouted};
 ghost use Rattle.sw_search.specs.Lists.{AreFirstFaults, AreListed, IsFirstFault};
@@ -52,16 +52,22 @@ fn first_faulty(
     None
 }
 
-/// The first flow that is not well routed, with the first of its places that has a fault.
+/// The first flow that is not well routed, with the first of its places that has a fault. It is looked for where it is not known that
+/// each flow is well routed.
 pub(crate) fn first_misrouted<W: VerdictWorkers>(
     workers: &W,
     alloc: Global,
     network: &Network,
     places: &[Vec<Place>],
+    is_routed: bool,
 ) -> Result<Option<(u16, Place, RouteFault)>, AllocError>
-    requires { AreListed network.now places.now }
+    requires lists { AreListed network.now places.now }
+    requires routed { IsTrue is_routed → AllWellRouted network.now }
     ensures { IfOk result (λ o. MatchOption o (AllWellRouted network.now) (λ found. IsMisrouted network.now found.0 found.1 found.2)) }
 {
+    if is_routed {
+        return Ok(None);
+    }
     let faults = workers.faults_of_flows(alloc, network, places)?;
     Ok(first_faulty(network, &faults))
 }
