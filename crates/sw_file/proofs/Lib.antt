@@ -14,6 +14,7 @@ pub mod Documents
 pub mod Valid
 pub mod Named
 mod Puts
+mod TableValues
 mod RowSteps
 mod LongestRows
 mod RowLooks

@@ -1,15 +1,15 @@
 -- A map of the program beside the table that it stands for, where one member is put into it, and where it is copied.
-use Rattle.std.proofs.Common.{◌≡◌, ℕ, List, [], ◌∷◌, map, String, BTreeMap, Global, Ordering, Less, Equal, Greater, nat_cmp, string_bytes, Option, Some, None, option_map, is_some, refl, sym, ap, ◌∙◌}
+use Rattle.std.proofs.Common.{◌≡◌, ℕ, List, [], ◌∷◌, String, Global, Ordering, Less, Equal, Greater, nat_cmp, string_bytes, Option, Some, None, option_map, is_some, refl, sym, ap, ◌∙◌}
 use Rattle.std.specs.List.{AllZip}
 use Rattle.std.specs.Ordering.{match_ordering}
 use Rattle.std.specs.BTreeMap.{insert_entry, is_at}
 use Rattle.std.specs.Map.{lookup}
 use Rattle.std.specs.Cmp.Lexicographic.{slice_cmp}
 use Rattle.std.specs.String.{string_cmp}
-use Rattle.toml.specs.Data.{table, get_member}
-use Rattle.toml.specs.declared.value.Value.{Value, Table}
-use Rattle.toml.specs.View.{view, members_view, items_of, items_view, table_view}
-use Rattle.toml.proofs.Views.{Entry, view-Table, view-lookup}
+use Rattle.toml.specs.Data.{get_member}
+use Rattle.toml.specs.declared.value.Value.{Value}
+use Rattle.toml.specs.View.{view, members_view}
+use Rattle.toml.proofs.Views.{Entry, view-lookup}
 use Rattle.sw_file.specs.Tree.{put}
 
 match_members : (o : Ordering) (a b c : List Entry) → members_view (match_ordering o a b c) ≡ match_ordering o (members_view a) (members_view b) (members_view c)
@@ -26,11 +26,6 @@ cloned [] [] all = refl
 cloned [] (f ∷ fs) all = absurd all
 cloned (e ∷ es) [] all = absurd all
 cloned (e ∷ es) (f ∷ fs) all = rw (all.0.0, all.0.1, cloned es fs all.1) refl
-
--- tables as values
-pub tables_view : (ts : List (BTreeMap (String Global) Value)) → items_view (map Table ts) ≡ items_of (map table (map table_view ts))
-tables_view [] = refl
-tables_view (t ∷ ts) = rw (view-Table t, tables_view ts) refl
 
 is_some-map : {A B : Type 0} (f : A → B) (o : Option A) → is_some (option_map f o) ≡ is_some o
 is_some-map f None = refl

@@ -56,6 +56,10 @@ new_switches ms = do
   tables ← tables_or_none Document Switch ms
   each merged_switch tables
 
+-- tables that were read, as values
+abbrev pub as_values : Result (List Members) TextFault → Result (List Data) TextFault
+as_values read = read >>= λ tables. Ok (map table tables)
+
 -- the document's table with version 2 and these switches
 unfoldable pub migrated : Members → Result Members TextFault
 migrated ms = do

@@ -3,7 +3,7 @@ ghost use Rattle.std.specs.Prelude.{◌≡◌, ◌+◌, ◌<◌, length, IfOk, O
 ghost use Rattle.toml.specs.View.{table_view};
 ghost use Rattle.sw_route.specs.Looks.{IsRoute};
 ghost use Rattle.sw_text.specs.Gives.{Gives};
-ghost use Rattle.sw_file.specs.Switches.{arbitration_at, ports_at, route_of, next_route, routes_at, next_switch};
+ghost use Rattle.sw_file.specs.Switches.{arbitration_named, arbitration_at, ports_at, route_of, next_route, routes_at, next_switch};
 
 use crate::keys::{SWITCH_KEYS, route_keys};
 use crate::nodes::new_part_name;
@@ -17,6 +17,18 @@ use sw_topo::limits::MAX_SWITCHES;
 use sw_topo::{Port, PortSet};
 use toml::Table;
 
+/// The arbitration of that name.
+fn arbitration_named(name: &str) -> Option<Arbitration>
+    ensures { result ≡ arbitration_named name.now }
+{
+    match name {
+        "fixed" => Some(Arbitration::Fixed),
+        "round-robin" => Some(Arbitration::RoundRobin),
+        "least-recent" => Some(Arbitration::LeastRecent),
+        _ => None,
+    }
+}
+
 #[tactic(auto, unfolding(crate::specs::Switches::arbitration_at))]
 fn arbitration_at(index: usize, switch: &TableEntry) -> Result<Arbitration, FileFault>
     requires { switch.now.section ≡ Section.Switch index }
@@ -25,14 +37,9 @@ fn arbitration_at(index: usize, switch: &TableEntry) -> Result<Arbitration, File
     let Some(name) = switch.text_or_none(Key::Arbiter)? else {
         return Ok(Arbitration::RoundRobin);
     };
-    if name == "fixed" {
-        Ok(Arbitration::Fixed)
-    } else if name == "round-robin" {
-        Ok(Arbitration::RoundRobin)
-    } else if name == "least-recent" {
-        Ok(Arbitration::LeastRecent)
-    } else {
-        Err(switch.fault(KeyFault::OutOfRange, Key::Arbiter))
+    match arbitration_named(name) {
+        Some(arbitration) => Ok(arbitration),
+        None => Err(switch.fault(KeyFault::OutOfRange, Key::Arbiter)),
     }
 }
 

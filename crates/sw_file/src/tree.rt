@@ -1,15 +1,17 @@
 //! The tree of a file made one of version 2.
-ghost use Rattle.std.specs.Prelude.{◌≡◌, map, IfOk, Ok, OnOk};
+ghost use Rattle.std.specs.Prelude.{◌≡◌, List, map, IfOk, Ok, OnOk};
+ghost use Rattle.toml.specs.Data.{Members, table as table_data};
 ghost use Rattle.toml.specs.View.{view, table_view};
 ghost use Rattle.sw_text.specs.Gives.{Gives};
 ghost use Rattle.sw_text.specs.declared.keys.Key.TheVariants.{Route};
-ghost use Rattle.sw_file.specs.Tree.{with_key, with_tables, row_table, merged_switch, new_switches, migrated};
+ghost use Rattle.sw_file.specs.Tree.{with_key, with_tables, row_table, merged_switch, new_switches, as_values, migrated};
 ghost use Rattle.sw_file.specs.Rows.{rows};
 ghost use Rattle.sw_file.specs.Seen.{entry_view, row_view};
 
 use crate::rows::{RouteEntry, Row, entries_of, rows};
 use std::alloc::{AllocError, Global};
 use sw_text::{FileFault, Key, Section, TableEntry};
+use toml::value::Array;
 use toml::{Table, Value};
 
 fn put(alloc: Global, table: &mut Table, key: Key, value: Value) -> Result<(), AllocError>
@@ -20,30 +22,14 @@ fn put(alloc: Global, table: &mut Table, key: Key, value: Value) -> Result<(), A
     Ok(())
 }
 
-fn values_of(alloc: Global, tables: Vec<Table>) -> Result<Vec<Value>, AllocError>
-    ensures { IfOk result (λ v. v.items ≡ map Value.Table tables.items) }
-{
-    let mut values = Vec::new(alloc);
-    for table in tables {
-        values.push(Value::Table(table))?;
-    }
-    Ok(values)
-}
-
 /// Makes the tables the value of the key, if the table has it.
-fn put_tables(
-    alloc: Global,
-    table: &mut Table,
-    key: Key,
-    tables: Vec<Table>,
-) -> Result<(), AllocError>
-    ensures { OnOk result (table_view table.new ≡ with_tables key (map table_view tables.items) (table_view table.old)) }
+fn put_tables(alloc: Global, table: &mut Table, key: Key, tables: Array) -> Result<(), AllocError>
+    ensures { (listed : List Members) → map view tables.items ≡ map table_data listed → OnOk result (table_view table.new ≡ with_tables key listed (table_view table.old)) }
 {
     if !table.contains_key(key.text()) {
         return Ok(());
     }
-    let values = values_of(alloc, tables)?;
-    put(alloc, table, key, Value::Array(values))
+    put(alloc, table, key, Value::Array(tables))
 }
 
 fn copied(table: &Table) -> Result<Table, AllocError>
@@ -68,8 +54,8 @@ fn row_table(alloc: Global, row: &Row) -> Result<Table, AllocError>
 }
 
 /// A copy of the switch's table, with these tables as its routing table, if it has one.
-fn with_routes(alloc: Global, table: &Table, routes: Vec<Table>) -> Result<Table, AllocError>
-    ensures { IfOk result (λ t. table_view t ≡ with_tables Route (map table_view routes.items) (table_view table.now)) }
+fn with_routes(alloc: Global, table: &Table, routes: Array) -> Result<Table, AllocError>
+    ensures { (listed : List Members) → map view routes.items ≡ map table_data listed → IfOk result (λ t. table_view t ≡ with_tables Route listed (table_view table.now)) }
 {
     let mut merged = copied(table)?;
     match put_tables(alloc, &mut merged, Key::Route, routes) {
@@ -93,7 +79,7 @@ fn merged_table<'a>(
     let mut routes = Vec::new(alloc);
     for row in &rows {
         let route = row_table(alloc, row)?;
-        routes.push(route)?;
+        routes.push(Value::Table(route))?;
     }
     let merged = with_routes(alloc, table, routes)?;
     Ok(merged)
@@ -114,8 +100,8 @@ fn merged_switch(alloc: Global, table: &Table) -> Result<Table, FileFault>
 
 /// The tables of the document's switches, their routing tables merged.
 #[tactic(auto, unfolding(crate::specs::Tree::new_switches))]
-fn new_switches(alloc: Global, table: &Table) -> Result<Vec<Table>, FileFault>
-    ensures { Gives (λ v. map table_view v.items) result (new_switches (table_view table.now)) }
+fn new_switches(alloc: Global, table: &Table) -> Result<Array, FileFault>
+    ensures { Gives (λ v. map view v.items) result (as_values (new_switches (table_view table.now))) }
 {
     let document = TableEntry {
         section: Section::Document,
@@ -125,7 +111,7 @@ fn new_switches(alloc: Global, table: &Table) -> Result<Vec<Table>, FileFault>
     let mut switches = Vec::new(alloc);
     for table in &tables {
         let switch = merged_switch(alloc, table)?;
-        switches.push(switch)?;
+        switches.push(Value::Table(switch))?;
     }
     Ok(switches)
 }
