@@ -35,6 +35,17 @@ fails_then : {A B : Type 0} (e : FileFault) (r : Result A TextFault) (f : A → 
 fails_then file.Memory r f failed = tt
 fails_then (file.Text e) r f failed = rw failed refl
 
+module _ {A X Y : Type 0} (one : Y → Result A TextFault) (f : X → Y) (tables : Result (List Y) TextFault) (listed items : List X) (read : tables ≡ Ok (map f listed)) (same : items ≡ listed) where
+  -- what is read of the entry at i fails, and with it what is made of all
+  pub made_fails : {B T : Type 0} (make : List A → Result B TextFault) (seen : T → B) (i : ℕ) (done : List A) (x : X) (e : FileFault) (result : Result T FileFault) → IsErrAnd result (λ y. y ≡ e) → each one (take i (map f items)) ≡ Ok done → i < length items → x ≡ get_or items i x
+      → Fails e (one (f x)) → Gives seen result (tables >>= λ ts. each one ts >>= make)
+  made_fails make seen i done x e (Ok y) failed so_far lt at here = absurd failed
+  made_fails make seen i done x e (Err y) failed so_far lt at here = rw (failed, read, ← same) (fails_then e (each one (map f items)) make (each_fails one f items i done x e so_far lt at here))
+
+  -- each was read
+  pub made_done : {B : Type 0} (make : List A → Result B TextFault) (i : ℕ) (done : List A) → each one (take i (map f items)) ≡ Ok done → length items ≤ i → (tables >>= λ ts. each one ts >>= make) ≡ make done
+  made_done make i done so_far past = rw (read, ← same, each_done one f items i done so_far past) refl
+
 module _ {X Y : Type 0} (one : Y → Result Members TextFault) (f : X → Y) (tables : Result (List Y) TextFault) (listed items : List X) (read : tables ≡ Ok (map f listed)) (same : items ≡ listed) where
   -- what is read of the entry at i fails, and with it what is read of each
   pub values_fail : {T : Type 0} (seen : T → List Data) (i : ℕ) (done : List Members) (x : X) (e : FileFault) (result : Result T FileFault) → IsErrAnd result (λ y. y ≡ e) → each one (take i (map f items)) ≡ Ok done → i < length items → x ≡ get_or items i x

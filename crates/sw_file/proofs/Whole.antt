@@ -11,13 +11,14 @@ use Rattle.sw_arb.specs.declared.arbitration.Arbitration.{Arbitration}
 use Rattle.sw_rmap.specs.declared.config.TargetConfig.{TargetConfig}
 use Rattle.sw_config.specs.Entries.{Declaration, NodeEntry, SwitchEntry, part_names}
 use Rattle.sw_text.specs.declared.keys.Key.{Key}
-use Rattle.sw_text.specs.declared.keys.Key.TheVariants.{Logical, TargetKey, Start, Size, Slots, Address, Last, Delete, A, APort, B, BPort, Buffer, BufferA, BufferB}
+use Rattle.sw_text.specs.declared.keys.Key.TheVariants.{Target, Logical, TargetKey, Start, Size, Slots, Address, Last, Delete, A, APort, B, BPort, Buffer, BufferA, BufferB}
 use Rattle.sw_text.specs.declared.keys.Section.{Section}
 use Rattle.sw_text.specs.declared.keys.Section.TheVariants as section
 use Rattle.sw_text.specs.declared.keys.Version.{Version}
 use Rattle.sw_text.specs.declared.fault.KeyFault.TheVariants.{OutOfRange}
+use Rattle.sw_text.specs.declared.fault.TextFault.{TextFault}
 use Rattle.sw_text.specs.declared.fault.TextFault.TheVariants as fault
-use Rattle.sw_text.specs.Table.{only_known, absent, text_at, number_at, number_or, flag_or_false}
+use Rattle.sw_text.specs.Table.{only_known, absent, text_at, number_at, number_or, table_or_none, flag_or_false}
 use Rattle.sw_file.specs.Keys.{node_keys, target_keys, switch_keys, route_keys, link_keys}
 use Rattle.sw_file.specs.Names.{new_name, place_at}
 use Rattle.sw_file.specs.Nodes.{size_at, config_of, target_or_none, node_of, next_node}
@@ -35,6 +36,22 @@ fits_window start size low few = omega (arith, low, few)
 
 pub fits_size : (size : ℕ) → size ≤ 65536 → Fits w32 size
 fits_size size few = omega (arith, few)
+
+pub fits_sum : (a b : ℕ) → a < 65536 → b < 65536 → Fits w64 (a + b)
+fits_sum a b small few = omega (arith, small, few)
+
+pub fits_below : (n most : ℕ) → n < most → most < 65536 → Fits w16 n
+fits_below n most below few = omega (arith, below, few)
+
+pub below_next : (n most : ℕ) → n ≤ most → n < most + 1
+below_next n most le = omega (arith, le)
+
+-- a place among the nodes and the switches, of which there are as many as were counted
+pub fits_rest : (place count more nodes switches : ℕ) → count ≡ nodes → more ≡ switches → place < nodes + switches → more < 65536 → Fits w16 (place - count)
+fits_rest place count more nodes switches counted told below few = omega (arith, counted, told, below, few)
+
+pub none_past : (place count more nodes switches : ℕ) → count ≡ nodes → more ≡ switches → place < nodes + switches → count + more ≤ place → ⊥
+none_past place count more nodes switches counted told below past = omega (arith, counted, told, below, past)
 
 pub size_is : (i start size : ℕ) (ms : Members) → number_at (section.Target i) Size 1 65536 ms ≡ Ok size → start + size ≤ 1099511627776 → size_at i start ms ≡ Ok size
 unfolding size_at
@@ -56,6 +73,16 @@ unfolding config_of size_at
 config_refused version i ms keys u logical key start size same known at_logical at_key at_start at_size past =
     let known_so : only_known (section.Target i) (target_keys version) ms ≡ Ok u = rw same at known in
     rw (known_so, at_logical, at_key, at_start, at_size, lt-leb (start + size) 1099511627776 past) refl
+
+-- a node's target, where it has a table for it
+module _ (version : Version) (i : ℕ) (s : Section) (ms t : Members) where
+  pub target_is : (config : TargetConfig) → s ≡ section.Node i → table_or_none s Target ms ≡ Ok (Some t) → config_of version i t ≡ Ok config → target_or_none version i ms ≡ Ok (Some config)
+  unfolding target_or_none
+  target_is config at there well = rw (← at, there, well) refl
+
+  pub target_refused : (fault : TextFault) → s ≡ section.Node i → table_or_none s Target ms ≡ Ok (Some t) → config_of version i t ≡ Err fault → target_or_none version i ms ≡ Err fault
+  unfolding target_or_none
+  target_refused fault at there refused = rw (← at, there, refused) refl
 
 pub route_is : (version : Version) (s : Section) (ms : Members) (keys : List Key) (u : Unit {0}) (first last ports : ℕ) (delete : Bool) → keys ≡ route_keys version → only_known s keys ms ≡ Ok u
     → number_at s Address 32 254 ms ≡ Ok first → number_or s Last first 254 first ms ≡ Ok last → ports_at s ms ≡ Ok ports → flag_or_false s Delete ms ≡ Ok delete

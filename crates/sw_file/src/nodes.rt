@@ -7,7 +7,7 @@ ghost use Rattle.sw_rmap.specs.Config.{IsTargetConfig};
 ghost use Rattle.sw_config.specs.Entries.{part_names};
 ghost use Rattle.sw_text.specs.Gives.{Gives};
 ghost use Rattle.sw_file.specs.Names.{new_name};
-ghost use Rattle.sw_file.specs.Nodes.{config_of, target_or_none, next_node};
+ghost use Rattle.sw_file.specs.Nodes.{target_or_none, next_node};
 
 use crate::keys::{NODE_KEYS, target_keys};
 use std::alloc::Global;
@@ -21,16 +21,21 @@ use toml::Table;
 /// One more than the greatest address of a target's memory.
 const MEMORY_END: u64 = 1_099_511_627_776;
 
-#[tactic(auto, unfolding(crate::specs::Nodes::config_of, crate::specs::Nodes::size_at))]
-fn target_config(
+/// How the node answers as a target, if it is one.
+#[tactic(auto, unfolding(crate::specs::Nodes::target_or_none, crate::specs::Nodes::config_of, crate::specs::Nodes::size_at))]
+fn target_or_none(
     alloc: Global,
     version: Version,
     index: usize,
-    table: &Table,
-) -> Result<TargetConfig, FileFault>
-    ensures gives { Gives (λ t. t) result (config_of version index (table_view table.now)) }
-    ensures valid { IfOk result IsTargetConfig }
+    node: &TableEntry,
+) -> Result<Option<TargetConfig>, FileFault>
+    requires { node.now.section ≡ Section.Node index }
+    ensures gives { Gives (λ t. t) result (target_or_none version index (table_view node.now.table.now)) }
+    ensures valid { IfOk result (λ t. IfSome t IsTargetConfig) }
 {
+    let Some(table) = node.table_or_none(Key::Target)? else {
+        return Ok(None);
+    };
     let target = TableEntry {
         section: Section::Target(index),
         table,
@@ -44,33 +49,13 @@ fn target_config(
         return Err(target.fault(KeyFault::OutOfRange, Key::Size));
     }
     let slots = target.number_or(Key::Slots, 1, 8, 1)? as u8;
-    Ok(TargetConfig {
+    Ok(Some(TargetConfig {
         logical,
         key,
         start,
         size: size as u32,
         slots,
-    })
-}
-
-#[tactic(auto, unfolding(crate::specs::Nodes::target_or_none))]
-fn target_or_none(
-    alloc: Global,
-    version: Version,
-    index: usize,
-    node: &TableEntry,
-) -> Result<Option<TargetConfig>, FileFault>
-    requires { node.now.section ≡ Section.Node index }
-    ensures gives { Gives (λ t. t) result (target_or_none version index (table_view node.now.table.now)) }
-    ensures valid { IfOk result (λ t. IfSome t IsTargetConfig) }
-{
-    match node.table_or_none(Key::Target)? {
-        Some(table) => {
-            let target = target_config(alloc, version, index, table)?;
-            Ok(Some(target))
-        }
-        None => Ok(None),
-    }
+    }))
 }
 
 /// The name of a node or switch, which none before it has.

@@ -1,7 +1,7 @@
 //! The entries of a routing table, and their rows.
 ghost use Rattle.std.specs.Prelude.{◌≡◌, map, IfOk};
 ghost use Rattle.toml.specs.View.{table_view};
-ghost use Rattle.sw_text.specs.Gives.{Gives, each};
+ghost use Rattle.sw_text.specs.Gives.{Gives};
 ghost use Rattle.sw_file.specs.Rows.{alone, goes_on, rows};
 ghost use Rattle.sw_file.specs.Tree.{entry_of};
 ghost use Rattle.sw_file.specs.Seen.{entry_view, row_view};
@@ -27,7 +27,7 @@ pub(crate) struct Row<'a> {
 }
 
 #[tactic(auto, unfolding(crate::specs::Tree::entry_of))]
-fn entry_of<'a>(alloc: Global, table: &'a Table) -> Result<RouteEntry<'a>, FileFault>
+pub(crate) fn entry_of<'a>(alloc: Global, table: &'a Table) -> Result<RouteEntry<'a>, FileFault>
     ensures { Gives (λ e. entry_view e) result (entry_of (table_view table.now)) }
 {
     let route = TableEntry {
@@ -43,21 +43,6 @@ fn entry_of<'a>(alloc: Global, table: &'a Table) -> Result<RouteEntry<'a>, FileF
         ports,
         delete,
     })
-}
-
-/// The entries of a routing table.
-pub(crate) fn entries_of<'a>(
-    alloc: Global,
-    tables: &[&'a Table],
-) -> Result<Vec<RouteEntry<'a>>, FileFault>
-    ensures { Gives (λ v. map entry_view v.items) result (each entry_of (map (λ t. table_view t.now) tables.now)) }
-{
-    let mut entries = Vec::new(alloc);
-    for table in tables {
-        let entry = entry_of(alloc, table)?;
-        entries.push(entry)?;
-    }
-    Ok(entries)
 }
 
 fn alone<'a>(entry: &'a RouteEntry<'a>) -> Row<'a>

@@ -8,7 +8,7 @@ ghost use Rattle.sw_file.specs.Tree.{with_key, with_tables, row_table, merged_sw
 ghost use Rattle.sw_file.specs.Rows.{rows};
 ghost use Rattle.sw_file.specs.Seen.{entry_view, row_view};
 
-use crate::rows::{RouteEntry, Row, entries_of, rows};
+use crate::rows::{RouteEntry, Row, entry_of, rows};
 use std::alloc::{AllocError, Global};
 use sw_text::{FileFault, Key, Section, TableEntry};
 use toml::value::Array;
@@ -53,20 +53,6 @@ fn row_table(alloc: Global, row: &Row) -> Result<Table, AllocError>
     Ok(table)
 }
 
-/// A copy of the switch's table, with these tables as its routing table, if it has one.
-fn with_routes(alloc: Global, table: &Table, routes: Array) -> Result<Table, AllocError>
-    ensures { (listed : List Members) → map view routes.items ≡ map table_data listed → IfOk result (λ t. table_view t ≡ with_tables Route listed (table_view table.now)) }
-{
-    let mut merged = copied(table)?;
-    match put_tables(alloc, &mut merged, Key::Route, routes) {
-        Ok(()) => Ok(merged),
-        Err(refused) => {
-            drop(merged);
-            Err(refused)
-        }
-    }
-}
-
 /// A copy of the switch's table, with an entry for each row of these.
 fn merged_table<'a>(
     alloc: Global,
@@ -81,8 +67,14 @@ fn merged_table<'a>(
         let route = row_table(alloc, row)?;
         routes.push(Value::Table(route))?;
     }
-    let merged = with_routes(alloc, table, routes)?;
-    Ok(merged)
+    let mut merged = copied(table)?;
+    match put_tables(alloc, &mut merged, Key::Route, routes) {
+        Ok(()) => Ok(merged),
+        Err(_) => {
+            drop(merged);
+            Err(FileFault::Memory)
+        }
+    }
 }
 
 #[tactic(auto, unfolding(crate::specs::Tree::merged_switch))]
@@ -94,7 +86,11 @@ fn merged_switch(alloc: Global, table: &Table) -> Result<Table, FileFault>
         table,
     };
     let tables = switch.tables_or_none(alloc, Key::Route)?;
-    let entries = entries_of(alloc, &tables)?;
+    let mut entries = Vec::new(alloc);
+    for route in &tables {
+        let entry = entry_of(alloc, route)?;
+        entries.push(entry)?;
+    }
     merged_table(alloc, table, &entries)
 }
 

@@ -2,7 +2,7 @@ use Rattle.std.proofs.Common.{length, ◌<◌, refl, subst}
 use Rattle.std.proofs.lemmas.Bool.{leb-true}
 use Rattle.toml.specs.View.{table_view}
 use Rattle.sw_config.specs.Entries.{part_names}
-use Rattle.sw_file.proofs.Whole.{fits_byte, place_is, node_end_is, switch_end_is, within_switches}
+use Rattle.sw_file.proofs.Whole.{fits_byte, fits_sum, fits_below, fits_rest, none_past, below_next, place_is, node_end_is, switch_end_is, within_switches}
 use Rattle.sw_file.proofs.links.link_end.Goals as goal
 
 pub returns-then-part-nodes-clause-gives : goal.returns-then-part-nodes-clause-gives
@@ -27,3 +27,20 @@ pub returns-clause-inside : goal.returns-clause-inside
 returns-clause-inside c =
     within_switches c.in-Some.part c.node_count-nodes.result (length c.args.builder.now.nodes) (length c.args.builder.now.switches) c.unwrap-port.result c.new.result
     c.node_count-nodes.ensures.count c.if-part-nodes.false c.in-Some.ensures.within c.unwrap-port.ensures c.new.ensures.within
+
+pub overflow_add-nodes : goal.overflow_add-nodes
+overflow_add-nodes c = fits_sum c.node_count-nodes.result c.switch_count.result c.node_count-nodes.type_inv c.switch_count.type_inv
+
+pub overflow_cast-result : goal.overflow_cast-result
+overflow_cast-result c = fits_below c.in-Some.part c.node_count-nodes.result c.if-part-nodes.true c.node_count-nodes.type_inv
+
+pub overflow_cast-result-2 : goal.overflow_cast-result-2
+overflow_cast-result-2 c =
+    fits_rest c.in-Some.part c.node_count-nodes.result c.switch_count.result (length c.args.builder.now.nodes) (length c.args.builder.now.switches) c.node_count-nodes.ensures.count c.switch_count.ensures.count c.in-Some.ensures.within c.switch_count.type_inv
+
+pub prove-unreachable-requires : goal.prove-unreachable-requires
+prove-unreachable-requires c =
+    none_past c.in-Some.part c.node_count-nodes.result c.switch_count.result (length c.args.builder.now.nodes) (length c.args.builder.now.switches) c.node_count-nodes.ensures.count c.switch_count.ensures.count c.in-Some.ensures.within c.if-prove.true
+
+pub unwrap-port-requires : goal.unwrap-port-requires
+unwrap-port-requires c κs = c.new.ensures.valid.1 (below_next c.in_ok-number.number 31 c.in_ok-number.ensures.within.1) κs

@@ -1,8 +1,8 @@
 use Rattle.std.proofs.Common.{refl}
 use Rattle.std.proofs.lemmas.Bool.{leb-true}
 use Rattle.toml.specs.View.{table_view}
-use Rattle.sw_file.proofs.Whole.{fits_byte, fits_window, fits_size, size_is, config_is, config_refused}
-use Rattle.sw_file.proofs.nodes.target_config.Goals as goal
+use Rattle.sw_file.proofs.Whole.{fits_byte, fits_window, fits_size, size_is, config_is, config_refused, target_is, target_refused}
+use Rattle.sw_file.proofs.nodes.target_or_none.Goals as goal
 
 pub overflow_cast-logical : goal.overflow_cast-logical
 overflow_cast-logical c = fits_byte c.in_ok-logical.field-0 254 c.in_ok-logical.ensures.within.1 (leb-true 254 255 refl)
@@ -15,8 +15,9 @@ overflow_cast-slots c = fits_byte c.in_ok-slots.field-0 8 c.in_ok-slots.ensures.
 
 pub returns-clause-gives : goal.returns-clause-gives
 returns-clause-gives c =
-    config_is c.args.version c.args.index (table_view c.args.table.now) c.target_keys.result.now c.in_ok-only_known.field-0 c.in_ok-logical.field-0 c.in_ok-key.field-0 c.in_ok-start.start c.in_ok-size.size c.in_ok-slots.field-0
-    c.target_keys.ensures c.in_ok-only_known.ensures c.in_ok-logical.ensures.gives c.in_ok-key.ensures.gives c.in_ok-start.ensures.gives (size_is c.args.index c.in_ok-start.start c.in_ok-size.size (table_view c.args.table.now) c.in_ok-size.ensures.gives c.if-start-size-gt-MEMORY_END.false) c.in_ok-slots.ensures.gives
+    target_is c.args.version c.args.index c.args.node.now.section (table_view c.args.node.now.table.now) (table_view c.in-Some.table.now) _ c.requires (rw c.in-Some.is at c.in_ok-table.ensures)
+    (config_is c.args.version c.args.index (table_view c.in-Some.table.now) c.target_keys.result.now c.in_ok-only_known.field-0 c.in_ok-logical.field-0 c.in_ok-key.field-0 c.in_ok-start.start c.in_ok-size.size c.in_ok-slots.field-0
+    c.target_keys.ensures c.in_ok-only_known.ensures c.in_ok-logical.ensures.gives c.in_ok-key.ensures.gives c.in_ok-start.ensures.gives (size_is c.args.index c.in_ok-start.start c.in_ok-size.size (table_view c.in-Some.table.now) c.in_ok-size.ensures.gives c.if-start-size-gt-MEMORY_END.false) c.in_ok-slots.ensures.gives)
 
 pub returns-clause-valid : goal.returns-clause-valid
 returns-clause-valid c =
@@ -33,5 +34,6 @@ overflow_cast-result c = fits_size c.in_ok-size.size c.in_ok-size.ensures.within
 
 pub returns-then-start-size-gt-MEMORY_END-clause-gives : goal.returns-then-start-size-gt-MEMORY_END-clause-gives
 returns-then-start-size-gt-MEMORY_END-clause-gives c =
-    rw c.fault.ensures (config_refused c.args.version c.args.index (table_view c.args.table.now) c.target_keys.result.now c.in_ok-only_known.field-0 c.in_ok-logical.field-0 c.in_ok-key.field-0 c.in_ok-start.start c.in_ok-size.size
-    c.target_keys.ensures c.in_ok-only_known.ensures c.in_ok-logical.ensures.gives c.in_ok-key.ensures.gives c.in_ok-start.ensures.gives c.in_ok-size.ensures.gives c.if-start-size-gt-MEMORY_END.true)
+    rw c.fault.ensures (target_refused c.args.version c.args.index c.args.node.now.section (table_view c.args.node.now.table.now) (table_view c.in-Some.table.now) _ c.requires (rw c.in-Some.is at c.in_ok-table.ensures)
+    (config_refused c.args.version c.args.index (table_view c.in-Some.table.now) c.target_keys.result.now c.in_ok-only_known.field-0 c.in_ok-logical.field-0 c.in_ok-key.field-0 c.in_ok-start.start c.in_ok-size.size
+    c.target_keys.ensures c.in_ok-only_known.ensures c.in_ok-logical.ensures.gives c.in_ok-key.ensures.gives c.in_ok-start.ensures.gives c.in_ok-size.ensures.gives c.if-start-size-gt-MEMORY_END.true))
