@@ -1,7 +1,10 @@
--- A walk over the ports of a set, in rising order, that gathers those of some kind.
+-- A walk over the ports of a set, in rising order, that gathers those of some kind; and which inputs ask.
 use Rattle.std.specs.Prelude.{IsBitSet}
-use Rattle.std.proofs.Common.{◌≢◌, ◌↔◌, ℕ, ◌+◌, ◌<◌, ◌≤◌, inl, inr, arith}
+use Rattle.std.proofs.Common.{◌≡◌, ◌≢◌, ◌↔◌, ℕ, ◌+◌, ◌<◌, ◌≤◌, false, inl, inr, refl, arith}
 use Rattle.std.proofs.lemmas.Bool.{cases_eq, cases_lt}
+use Rattle.sw_route.specs.declared.look.Look.{Look}
+use Rattle.sw_switch.specs.Cell.{Cell}
+use Rattle.sw_switch.specs.Conditions.{AreAsking, Asks, CanGrant, is_held}
 
 -- the ports of the kind below n are gathered, and no other
 pub record IsGathered (Kind : ℕ → Type 0) (gathered n : ℕ) : Type 0 where
@@ -48,3 +51,14 @@ gathered_all Kind gathered n so_far none p = elim (cases_lt p n) [
   | inl below ↦ so_far.below p below
   | inr above ↦ (λ set. absurd (so_far.above p above set), λ kind. absurd (none p above kind))
 ]
+
+-- the output has a link and is free: all that ask can be granted
+pub all_can : {R A : Type 0} (answer : R → ℕ → Look) (cell : Cell R A) (out asking : ℕ) → IsBitSet cell.linked out → is_held cell out ≡ false →
+    ((input : ℕ) → IsBitSet asking input ↔ Asks answer cell out input) → AreAsking answer cell out asking
+all_can answer cell out asking linked free asks input = (λ set. record { linked = linked; free = free; asks = (asks input).0 set }, λ can. (asks input).1 can.asks)
+
+pub none_can : {R A : Type 0} (answer : R → ℕ → Look) (cell : Cell R A) (out : ℕ) → ((input : ℕ) → ¬ CanGrant answer cell out input) → AreAsking answer cell out 0
+none_can answer cell out none input = (λ set. absurd (set refl), λ can. absurd (none input can))
+
+pub none_in_empty : (set port : ℕ) → set ≡ 0 → ¬ IsBitSet set port
+none_in_empty set port empty has = (rw empty at has) refl

@@ -1,11 +1,13 @@
 -- The entries of a switch's lists, and what a new one keeps of its invariant.
-use Rattle.std.specs.Prelude.{slice_get, slice_set, Option, Some, IsBitSet}
-use Rattle.std.proofs.Common.{◌≡◌, ◌≢◌, ℕ, zero, suc, ◌<◌, List, [], ◌∷◌, get_or, refl, sym, ap, ◌∙◌, inl, inr, get_or-set_other}
+use Rattle.std.specs.Prelude.{slice_get, slice_set, Option, Some, IsBitSet, drop}
+use Rattle.std.proofs.Common.{◌≡◌, ◌≢◌, ℕ, zero, suc, ◌<◌, List, [], ◌∷◌, length, get_or, refl, sym, ap, subst, ◌∙◌, inl, inr, get_or-set_other, get_or-set_same}
 use Rattle.std.proofs.lemmas.Bool.{cases_eq}
-use Rattle.std.proofs.lemmas.List.{length-set}
+use Rattle.std.proofs.lemmas.List.{get_or_read, length-set}
 use Rattle.std.proofs.lemmas.Option.{slice_get_read}
+use Rattle.sw_char.specs.declared.nchar.NChar.{NChar}
 use Rattle.sw_link.specs.Ends.{Received}
-use Rattle.sw_switch.specs.Cell.{Cell, HasArbiter, HasWaiting, IsCell, new_end}
+use Rattle.sw_switch.specs.Cell.{Cell, HasArbiter, HasWaiting, IsCell, end_at, front_at, new_end}
+use Rattle.sw_switch.specs.Changes.{with_end, with_input}
 use Rattle.sw_switch.specs.declared.input.Input.{Input}
 use Rattle.sw_switch.specs.declared.input.Input.TheVariants.{Idle}
 
@@ -67,3 +69,65 @@ has_waiting_with_end before after inputs received port r has own others p idle f
   | inl same ↦ rw same (own (rw same at idle))
   | inr apart ↦ others p apart (has p idle (rw (get_or-set_other received port p r (new_end 0) apart) at full))
 ]
+
+-- the receiving end that was read at the number of a port
+pub end_read : {R A : Type 0} (ports : A → ℕ) (cell now : Cell R A) (number port : ℕ) (r : Received) → IsCell ports cell → cell ≡ now → number ≡ port → number < 32 →
+    r ≡ get_or cell.received number r → r ≡ end_at now port
+end_read ports cell now number port r is view same below read =
+    rw (← view, ← same) (get_or_read cell.received number r (subst (λ n. number < n) (sym is.all_received) below) read (new_end 0))
+
+-- where one entry becomes r, and r has a character only if the old one had, an entry has one only if it had
+had_some : (received : List Received) (i p : ℕ) (r d : Received) → (0 < length r.buffer → 0 < length (get_or received i d).buffer) →
+    0 < length (get_or (slice_set received i r) p d).buffer → 0 < length (get_or received p d).buffer
+had_some [] i p r d had full = full
+had_some (x ∷ received) zero zero r d had full = had full
+had_some (x ∷ received) zero (suc p) r d had full = full
+had_some (x ∷ received) (suc i) zero r d had full = full
+had_some (x ∷ received) (suc i) (suc p) r d had full = had_some received i p r d had full
+
+-- another receiving end keeps the invariant, if it has a character only where the old one had
+pub keeps_with_end : {R A : Type 0} (ports : A → ℕ) (cell now : Cell R A) (waiting number port : ℕ) (r : Received) → IsCell ports cell × HasWaiting waiting cell.inputs cell.received →
+    cell ≡ now → number ≡ port → (0 < length r.buffer → 0 < length (end_at now port).buffer) →
+    IsCell ports (record cell { received = slice_set cell.received number r }) × HasWaiting waiting cell.inputs (slice_set cell.received number r)
+keeps_with_end ports cell now waiting number port r is view same had = (
+  is_cell_with_end ports cell number r is.0,
+  λ p idle full. is.1 p idle (had_some cell.received number p r (new_end 0) (λ some. rw (view, same) (had some)) full),
+)
+
+pub with_end_is : {R A : Type 0} (cell now : Cell R A) (number port : ℕ) (r s : Received) → cell ≡ now → number ≡ port → r ≡ s →
+    record cell { received = slice_set cell.received number r } ≡ with_end now port s
+with_end_is cell now number port r s view same is = rw (view, same, is) refl
+
+-- the character in front was taken
+pub taken_after : (old new : Received) (x : NChar) → old ≡ record new { buffer = x ∷ new.buffer } → new ≡ record old { buffer = drop 1 old.buffer }
+taken_after old new x is = rw is refl
+
+pub taken_front : {R A : Type 0} (now : Cell R A) (port : ℕ) (old new : Received) (x : NChar) → old ≡ end_at now port → old ≡ record new { buffer = x ∷ new.buffer } →
+    front_at now port ≡ Some x
+taken_front now port old new x is taken = ap (λ (r : Received). slice_get r.buffer 0) (sym is ∙ taken)
+
+-- what an input does now keeps the invariant, if it is in the set where it waits
+pub keeps_with_input : {R A : Type 0} (ports : A → ℕ) (cell now : Cell R A) (before after number port : ℕ) (input : Input) →
+    IsCell ports cell × HasWaiting before cell.inputs cell.received → cell ≡ now → number ≡ port → number < 32 →
+    (input ≡ Idle → 0 < length (end_at now port).buffer → IsBitSet after port) → ((p : ℕ) → p ≢ port → IsBitSet before p → IsBitSet after p) →
+    IsCell ports (record cell { inputs = slice_set cell.inputs number input }) × HasWaiting after (slice_set cell.inputs number input) cell.received
+keeps_with_input ports cell now before after number port input is view same below own others = (
+  record {
+    all_credits = is.0.all_credits;
+    all_inputs = length-set cell.inputs number input ∙ is.0.all_inputs;
+    all_received = is.0.all_received;
+    all_arbiters = is.0.all_arbiters;
+    arbiter_ports = is.0.arbiter_ports;
+  },
+  λ p idle full. elim (cases_eq p number) [
+    | inl here ↦
+        let within : number < length cell.inputs = subst (λ n. number < n) (sym is.0.all_inputs) below in
+        let idle_here : input ≡ Idle = sym (get_or-set_same cell.inputs number input Idle within) ∙ (rw here at idle) in
+        rw (here, same) (own idle_here (rw (view, here, same) at full))
+    | inr apart ↦ others p (rw same at apart) (is.1 p (sym (get_or-set_other cell.inputs number p input Idle apart) ∙ idle) full)
+  ],
+)
+
+pub with_input_is : {R A : Type 0} (cell now : Cell R A) (number port : ℕ) (input : Input) → cell ≡ now → number ≡ port →
+    record cell { inputs = slice_set cell.inputs number input } ≡ with_input now port input
+with_input_is cell now number port input view same = rw (view, same) refl
