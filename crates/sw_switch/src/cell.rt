@@ -112,7 +112,12 @@ impl<R: Routing, A: Arbiter> SwitchCell<R, A> {
     pub(crate) fn is_held(&self, out: Port) -> bool
         ensures { result ≡ is_held self.now out }
     {
-        self.inputs.iter().any(|input| input.holds(out))
+        for input in &self.inputs {
+            if input.holds(out) {
+                return true;
+            }
+        }
+        false
     }
 
     /// Is there a character in the port's buffer?
