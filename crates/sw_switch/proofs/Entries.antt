@@ -1,8 +1,10 @@
 -- The entries of a switch's lists, and what a new one keeps of its invariant.
 use Rattle.std.specs.Prelude.{slice_get, slice_set, Option, Some, IsBitSet, drop}
-use Rattle.std.proofs.Common.{◌≡◌, ◌≢◌, ℕ, zero, suc, ◌<◌, List, [], ◌∷◌, length, get_or, refl, sym, ap, subst, ◌∙◌, inl, inr, get_or-set_other, get_or-set_same}
+use Rattle.std.specs.List.{list_any}
+use Rattle.std.proofs.Common.{◌≡◌, ◌≢◌, ℕ, zero, suc, ◌+◌, ◌<◌, Bool, false, replicate, ◌||◌, List, [], ◌∷◌, ◌++◌, take, length, get_or, refl, sym, ap, subst, ◌∙◌, inl, inr, get_or-set_other, get_or-set_same}
 use Rattle.std.proofs.lemmas.Bool.{cases_eq}
-use Rattle.std.proofs.lemmas.List.{get_or_read, length-set}
+use Rattle.std.proofs.lemmas.List.{get_or_read, length-set, replicate_more}
+use Rattle.std.proofs.lemmas.List.Folds.{list_any_more}
 use Rattle.std.proofs.lemmas.Option.{slice_get_read}
 use Rattle.sw_char.specs.declared.nchar.NChar.{NChar}
 use Rattle.sw_link.specs.Ends.{Received}
@@ -131,3 +133,14 @@ keeps_with_input ports cell now before after number port input is view same belo
 pub with_input_is : {R A : Type 0} (cell now : Cell R A) (number port : ℕ) (input : Input) → cell ≡ now → number ≡ port →
     record cell { inputs = slice_set cell.inputs number input } ≡ with_input now port input
 with_input_is cell now number port input view same = rw (view, same) refl
+
+-- one more port without credit
+pub credit_more : (n : ℕ) (before after : List ℕ) (x : ℕ) → before ≡ replicate n 0 → x ≡ 0 → after ≡ before ++ x ∷ [] → after ≡ replicate (n + 1) 0
+credit_more n before after x so_far new adds = adds ∙ ap (λ l. l ++ x ∷ []) so_far ∙ ap (λ y. replicate n 0 ++ y ∷ []) new ∙ replicate_more n 0
+
+-- one more input that does not pass a test
+pub none_more : (test : Input → Bool) (inputs all : List Input) (i : ℕ) (item : Input) (passes : Bool) → i < length all → all ≡ inputs → item ≡ get_or all i item →
+    passes ≡ test item → passes ≡ false → list_any test (take i inputs) ≡ false → list_any test (take (i + 1) inputs) ≡ false
+none_more test inputs all i item passes within same is told fails before =
+    let none : list_any test (take i all) ≡ false = rw same before in
+    rw (← same) (list_any_more test all i item within ∙ ap (λ b. b || test (get_or all i item)) none ∙ ap test (sym is) ∙ sym told ∙ fails)
