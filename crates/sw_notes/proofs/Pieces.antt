@@ -1,9 +1,10 @@
 -- Pieces that bring what is sought.
-use Rattle.std.proofs.Common.{◌≡◌, ◌∙◌, ◌++◌, ◌∷◌, ◌<◌, ◌≤◌, ℕ, true, false, [], All, List, Option, ap, drop, length, take}
+use Rattle.std.proofs.Common.{◌≡◌, ◌∙◌, ◌++◌, ◌∷◌, ◌<◌, ◌≤◌, ℕ, Bool, true, false, [], All, List, Option, ap, drop, length, sym, take}
 use Rattle.std.proofs.lemmas.List.{append_assoc}
 use Rattle.std.proofs.lemmas.List.Elements.{All-push}
 use Rattle.sw_text.specs.declared.keys.Section.{Section}
-use Rattle.sw_notes.specs.Places.{Holds, IsClosing, IsPiece, IsPlace}
+use Rattle.sw_text.specs.Document.{document_of}
+use Rattle.sw_notes.specs.Places.{Holds, IsClosing, IsPiece, IsPlace, Reads}
 
 -- one more bracket closes what was closed before
 pub one_closes : (start before after : List ℕ) (bracket : ℕ) → (closing : List ℕ) × All IsClosing closing × (before ≡ start ++ closing)
@@ -13,6 +14,12 @@ one_closes start before after bracket (closing, all, is) adds closes = (
   All-push IsClosing closing bracket all closes,
   adds ∙ ap (λ l. l ++ bracket ∷ []) is ∙ append_assoc start closing (bracket ∷ []),
 )
+
+-- what is read with its brackets closed holds
+pub reads_closed : (held : Bool) (s : Section) (key : Option (List ℕ)) (start closed read : List ℕ) →
+    (closing : List ℕ) × All IsClosing closing × (closed ≡ start ++ closing) → read ≡ closed → Reads held s key read → Holds held s key start
+reads_closed held s key start closed read (closing, all, is) same (document, reads, has_it) =
+    (document, (closing, all, ap document_of (sym is ∙ sym same) ∙ reads), has_it)
 
 as_piece : (p q : List ℕ) → p ≡ q → IsPiece p → IsPiece q
 as_piece p q is piece = rw is at piece

@@ -18,6 +18,10 @@ abbrev pub has : Section → Option (List ℕ) → Members → Bool
 has section None document = is_some (table_of section document)
 has section (Some key) document = is_some (value_of section key document)
 
+-- a text is a document that has it, or does not
+abbrev pub Reads : Bool → Section → Option (List ℕ) → List ℕ → Type 0
+Reads held section key text = (document : Members) × (document_of text ≡ Ok document) × (has section key document ≡ held)
+
 -- the beginning of a text has it, or does not
 abbrev pub Holds : Bool → Section → Option (List ℕ) → List ℕ → Type 0
 Holds held section key beginning = (document : Members) × ReadsAs beginning document × (has section key document ≡ held)

@@ -1,7 +1,7 @@
 //! Where a table or a key stands.
 ghost use Rattle.std.specs.Prelude.{◌≡◌, ◌≤◌, IfOk, IfSome, IsTrue, length, option_map, take};
 ghost use Rattle.toml.specs.View.{table_view};
-ghost use Rattle.sw_notes.specs.Places.{Holds, IsPiece, IsPlace, has};
+ghost use Rattle.sw_notes.specs.Places.{Holds, IsPiece, IsPlace, Reads, has};
 
 use crate::frame::Frame;
 use crate::lookup::{table_of, value_of};
@@ -23,6 +23,19 @@ fn has(document: &Table, sought: &Sought<'_>) -> bool
     }
 }
 
+// Whether the bytes are a document that has what is sought, or has not.
+fn reads(alloc: Global, bytes: &[u8], sought: &Sought<'_>, held: bool) -> Result<bool, AllocError>
+    ensures { IfOk result (λ b. IsTrue b → Reads held sought.now.section (option_map (λ s. s.now) sought.now.key) bytes.now) }
+{
+    match read_document(alloc, bytes) {
+        Ok(document) => Ok(has(&document, sought) == held),
+        Err(fault) => {
+            text_fault(fault)?;
+            Ok(false)
+        }
+    }
+}
+
 // Whether the text up to an offset, where these brackets are open, is a document that has what is sought, or has not.
 fn holds(
     alloc: Global,
@@ -39,13 +52,7 @@ fn holds(
     for frame in open.iter().rev() {
         closed.push(frame.closing())?;
     }
-    match read_document(alloc, &closed) {
-        Ok(document) => Ok(has(&document, sought) == held),
-        Err(fault) => {
-            text_fault(fault)?;
-            Ok(false)
-        }
-    }
+    reads(alloc, &closed, sought, held)
 }
 
 // Whether the bytes are an opening brace or statements.

@@ -6,7 +6,7 @@ use crate::sought::Sought;
 use std::alloc::Global;
 use sw_text::Section;
 use toml_parser::text::{first, skip, skip_blank, skip_ws};
-use toml_parser::{ErrorKind, ParseError, dotted_key, quoted, starts_string, unquoted};
+use toml_parser::{ErrorKind, Key, ParseError, dotted_key, quoted, starts_string, unquoted};
 
 /// The piece that was begun: where, and how many brackets are open before it and at its end.
 #[derive(Clone, Copy)]
@@ -18,28 +18,42 @@ struct Begun {
 
 /// What a walk knows beside the brackets that are open.
 #[derive(Clone, Copy)]
-struct Walk<'a> {
-    sought: &'a Sought<'a>,
+struct Walk {
     headers: Headers,
     /// The table of the last header.
     section: Option<Section>,
     begun: Option<Begun>,
 }
 
-// The table of all parts of a key but the last, from a table on.
-fn parent_of(headers: &mut Headers, section: Option<Section>, path: &[String]) -> Option<Section> {
-    let mut parent = section;
-    for part in path {
-        parent = headers.entered(parent, part.as_str(), false);
-    }
-    parent
-}
-
 // Begins a piece at a table, or at a key of it, if that is sought and none was begun.
-fn begin(walk: &mut Walk<'_>, section: Option<Section>, key: Option<&str>, piece: Begun) {
-    if walk.begun.is_none() && walk.sought.key == key && section == Some(walk.sought.section) {
+fn begin(
+    walk: &mut Walk,
+    sought: &Sought<'_>,
+    section: Option<Section>,
+    key: Option<&str>,
+    piece: Begun,
+) {
+    if walk.begun.is_none() && sought.key == key && section == Some(sought.section) {
         walk.begun = Some(piece);
     }
+}
+
+// The table that a key leads to, from a table on. Begins a piece at its last part, if that is sought. `opens`: it opens an entry.
+fn reached(
+    walk: &mut Walk,
+    sought: &Sought<'_>,
+    section: Option<Section>,
+    key: &Key,
+    piece: Begun,
+    opens: bool,
+) -> Option<Section> {
+    let mut parent = section;
+    for part in &key.path {
+        parent = walk.headers.entered(parent, part.as_str(), false);
+    }
+    let last = key.last.as_str();
+    begin(walk, sought, parent, Some(last), piece);
+    walk.headers.entered(parent, last, opens)
 }
 
 // Notes a bracket as open, and hands on what stands behind it.
@@ -55,7 +69,8 @@ fn opened<'t>(
 // Reads the beginning of a value, or all of it.
 fn value<'t>(
     alloc: Global,
-    walk: &mut Walk<'_>,
+    walk: &mut Walk,
+    sought: &Sought<'_>,
     frames: &mut Vec<Frame>,
     section: Option<Section>,
     at: usize,
@@ -72,7 +87,7 @@ fn value<'t>(
             before: open,
             behind: open.saturating_add(1),
         };
-        begin(walk, section, None, piece);
+        begin(walk, sought, section, None, piece);
         return opened(frames, Frame::Table(section), skip(rest, 1));
     }
     if starts_string(rest) {
@@ -90,38 +105,38 @@ fn value<'t>(
 // Reads a key, `=`, and the beginning of the value or all of it.
 fn member<'t>(
     alloc: Global,
-    walk: &mut Walk<'_>,
+    walk: &mut Walk,
+    sought: &Sought<'_>,
     frames: &mut Vec<Frame>,
     section: Option<Section>,
     at: usize,
     rest: &'t str,
 ) -> Result<&'t str, ParseError> {
     let (key, after) = dotted_key(alloc, rest)?;
-    let parent = parent_of(&mut walk.headers, section, &key.path);
     let open = frames.len();
     let piece = Begun {
         from: at,
         before: open,
         behind: open,
     };
-    begin(walk, parent, Some(key.last.as_str()), piece);
+    let inner = reached(walk, sought, section, &key, piece, false);
     if let Some(part) = key.path.first() {
-        begin(walk, section, Some(part.as_str()), piece);
+        begin(walk, sought, section, Some(part.as_str()), piece);
     }
-    let inner = walk.headers.entered(parent, key.last.as_str(), false);
     drop(key);
     if first(after) != b'=' {
         return Err(ParseError::at(ErrorKind::MissingEquals, after));
     }
     let behind = skip_ws(skip(after, 1));
     let offset = at.saturating_add(rest.len().saturating_sub(behind.len()));
-    value(alloc, walk, frames, inner, offset, behind)
+    value(alloc, walk, sought, frames, inner, offset, behind)
 }
 
 // Reads a header, behind its first bracket.
 fn header<'t>(
     alloc: Global,
-    walk: &mut Walk<'_>,
+    walk: &mut Walk,
+    sought: &Sought<'_>,
     at: usize,
     rest: &'t str,
 ) -> Result<&'t str, ParseError> {
@@ -132,19 +147,18 @@ fn header<'t>(
         (rest, "]")
     };
     let (key, after) = dotted_key(alloc, skip_ws(inner))?;
-    let parent = parent_of(&mut walk.headers, Some(Section::Document), &key.path);
-    let section = walk.headers.entered(parent, key.last.as_str(), opens);
-    walk.section = section;
     let piece = Begun {
         from: at,
         before: 0,
         behind: 0,
     };
-    if opens {
-        begin(walk, section, None, piece);
-    }
-    begin(walk, parent, Some(key.last.as_str()), piece);
+    let document = Some(Section::Document);
+    let section = reached(walk, sought, document, &key, piece, opens);
     drop(key);
+    walk.section = section;
+    if opens {
+        begin(walk, sought, section, None, piece);
+    }
     match after.strip_prefix(closing) {
         Some(behind) => Ok(behind),
         None => Err(ParseError::at(ErrorKind::UnclosedTable, after)),
@@ -154,7 +168,8 @@ fn header<'t>(
 // Reads the next part of the text.
 fn turn<'t>(
     alloc: Global,
-    walk: &mut Walk<'_>,
+    walk: &mut Walk,
+    sought: &Sought<'_>,
     frames: &mut Vec<Frame>,
     at: usize,
     rest: &'t str,
@@ -162,10 +177,10 @@ fn turn<'t>(
     let byte = first(rest);
     let Some(frame) = frames.last().copied() else {
         if byte == b'[' {
-            return header(alloc, walk, at, skip(rest, 1));
+            return header(alloc, walk, sought, at, skip(rest, 1));
         }
         let section = walk.section;
-        return member(alloc, walk, frames, section, at, rest);
+        return member(alloc, walk, sought, frames, section, at, rest);
     };
     if byte == frame.closing() {
         let _ = frames.pop();
@@ -176,8 +191,8 @@ fn turn<'t>(
         return opened(frames, frame.next(), skip(rest, 1));
     }
     match frame {
-        Frame::Table(section) => member(alloc, walk, frames, section, at, rest),
-        Frame::List(section) => value(alloc, walk, frames, section, at, rest),
+        Frame::Table(section) => member(alloc, walk, sought, frames, section, at, rest),
+        Frame::List(section) => value(alloc, walk, sought, frames, section, at, rest),
     }
 }
 
@@ -189,7 +204,6 @@ pub(crate) fn proposed(
     frames: &mut Vec<Frame>,
 ) -> Result<Option<Proposal>, ParseError> {
     let mut walk = Walk {
-        sought,
         headers: NO_HEADERS,
         section: Some(Section::Document),
         begun: None,
@@ -198,7 +212,7 @@ pub(crate) fn proposed(
     for _ in 0..text.len() {
         rest = skip_blank(rest, true);
         let at = text.len().saturating_sub(rest.len());
-        rest = turn(alloc, &mut walk, frames, at, rest)?;
+        rest = turn(alloc, &mut walk, sought, frames, at, rest)?;
         match walk.begun {
             Some(begun) if begun.behind == frames.len() => {
                 return Ok(Some(Proposal {
