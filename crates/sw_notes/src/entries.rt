@@ -4,7 +4,7 @@ ghost use Rattle.toml.specs.Data.{as_integer, get_member};
 ghost use Rattle.toml.specs.View.{table_view, view};
 ghost use Rattle.sw_text.specs.Keys.{key_text};
 ghost use Rattle.sw_text.specs.Table.{in_range};
-ghost use Rattle.sw_notes.specs.Entries.{bytes_in, number_in, range_in, tables_of, text_in, text_of};
+ghost use Rattle.sw_notes.specs.Entries.{number_in, range_in, tables_of, text_in, text_of};
 
 use crate::lookup::{member_of, value_of};
 use crate::unread::text_fault;
@@ -40,23 +40,6 @@ pub fn tables_of<'a>(
     };
     match entry.tables_or_none(alloc, list) {
         Ok(tables) => Ok(tables),
-        Err(fault) => {
-            text_fault(fault)?;
-            Ok(Vec::new(alloc))
-        }
-    }
-}
-
-/// The bytes of a list of numbers of a table.
-pub(crate) fn bytes_in(alloc: Global, table: &Table, list: Key) -> Result<Vec<u8>, AllocError>
-    ensures { IfOk result (λ v. v.items ≡ bytes_in list (table_view table.now)) }
-{
-    let entry = TableEntry {
-        section: Section::Document,
-        table,
-    };
-    match entry.numbers_or_none(alloc, list, 255) {
-        Ok(bytes) => Ok(bytes),
         Err(fault) => {
             text_fault(fault)?;
             Ok(Vec::new(alloc))

@@ -1,28 +1,39 @@
 //! Why the replies of a flow can't come back.
 ghost use Rattle.std.specs.Prelude.{◌≡◌, ◌++◌, IfOk, option_map};
 ghost use Rattle.toml.specs.View.{table_view};
+ghost use Rattle.sw_text.specs.declared.keys.Key.TheVariants.{Path};
+ghost use Rattle.sw_notes.specs.Entries.{bytes_in};
 ghost use Rattle.sw_notes.specs.ReplyNotes.{path_notes, reply_notes, table_notes};
 
-use crate::entries::{bytes_in, number_in, text_of};
+use crate::entries::{number_in, text_of};
 use crate::finding::first_place;
 use crate::lookup::table_of;
 use crate::note::{Note, add_note};
 use crate::passing::Test;
+use crate::unread::text_fault;
 use std::alloc::{AllocError, Global};
-use sw_text::{Key, Section};
+use sw_text::{Key, Section, TableEntry};
 use toml::Table;
 
 /// The most numbers that a path of replies has.
 const MOST_STEPS: usize = 12;
 
-// Adds what is wrong with the path.
-fn add_path(path: &[u8], notes: &mut Vec<Note>) -> Result<(), AllocError>
-    ensures { IfOk result (λ _. notes.new.items ≡ notes.old.items ++ path_notes path.now) }
+// Adds what is wrong with the path in the table of the replies.
+fn add_path(alloc: Global, reply: &Table, notes: &mut Vec<Note>) -> Result<(), AllocError>
+    ensures { IfOk result (λ _. notes.new.items ≡ notes.old.items ++ path_notes (bytes_in Path (table_view reply.now))) }
 {
+    let entry = TableEntry {
+        section: Section::Document,
+        table: reply,
+    };
+    let path = match entry.numbers_or_none(alloc, Key::Path, 255) {
+        Ok(path) => path,
+        Err(fault) => return text_fault(fault),
+    };
     if path.len() > MOST_STEPS {
         add_note(Note::LongPath(path.len()), notes)?;
     }
-    match path {
+    match path.as_slice() {
         [0, ..] => add_note(Note::LeadingZero, notes),
         _ => Ok(()),
     }
@@ -35,8 +46,7 @@ fn add_shape(alloc: Global, reply: Option<&Table>, notes: &mut Vec<Note>) -> Res
     let Some(reply) = reply else {
         return Ok(());
     };
-    let path = bytes_in(alloc, reply, Key::Path)?;
-    add_path(&path, notes)?;
+    add_path(alloc, reply, notes)?;
     match number_in(reply, Key::Initiator, 0, 255) {
         Some(initiator) if initiator < 32 || initiator > 254 => {
             add_note(Note::NoInitiator(initiator), notes)

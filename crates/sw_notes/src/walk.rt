@@ -19,10 +19,19 @@ struct Begun {
 /// What a walk knows beside the brackets that are open.
 #[derive(Clone, Copy)]
 struct Walk {
+    /// How long the whole text is.
+    length: usize,
     headers: Headers,
     /// The table of the last header.
     section: Option<Section>,
     begun: Option<Begun>,
+}
+
+impl Walk {
+    // Where the rest of the text begins.
+    fn offset(&self, rest: &str) -> usize {
+        self.length.saturating_sub(rest.len())
+    }
 }
 
 // Begins a piece at a table, or at a key of it, if that is sought and none was begun.
@@ -73,7 +82,6 @@ fn value<'t>(
     sought: &Sought<'_>,
     frames: &mut Vec<Frame>,
     section: Option<Section>,
-    at: usize,
     rest: &'t str,
 ) -> Result<&'t str, ParseError> {
     let byte = first(rest);
@@ -83,7 +91,7 @@ fn value<'t>(
     if byte == b'{' {
         let open = frames.len();
         let piece = Begun {
-            from: at,
+            from: walk.offset(rest),
             before: open,
             behind: open.saturating_add(1),
         };
@@ -109,13 +117,12 @@ fn member<'t>(
     sought: &Sought<'_>,
     frames: &mut Vec<Frame>,
     section: Option<Section>,
-    at: usize,
     rest: &'t str,
 ) -> Result<&'t str, ParseError> {
     let (key, after) = dotted_key(alloc, rest)?;
     let open = frames.len();
     let piece = Begun {
-        from: at,
+        from: walk.offset(rest),
         before: open,
         behind: open,
     };
@@ -127,9 +134,7 @@ fn member<'t>(
     if first(after) != b'=' {
         return Err(ParseError::at(ErrorKind::MissingEquals, after));
     }
-    let behind = skip_ws(skip(after, 1));
-    let offset = at.saturating_add(rest.len().saturating_sub(behind.len()));
-    value(alloc, walk, sought, frames, inner, offset, behind)
+    value(alloc, walk, sought, frames, inner, skip_ws(skip(after, 1)))
 }
 
 // Reads a header, behind its first bracket.
@@ -137,7 +142,6 @@ fn header<'t>(
     alloc: Global,
     walk: &mut Walk,
     sought: &Sought<'_>,
-    at: usize,
     rest: &'t str,
 ) -> Result<&'t str, ParseError> {
     let opens = first(rest) == b'[';
@@ -148,7 +152,7 @@ fn header<'t>(
     };
     let (key, after) = dotted_key(alloc, skip_ws(inner))?;
     let piece = Begun {
-        from: at,
+        from: walk.offset(rest).saturating_sub(1),
         before: 0,
         behind: 0,
     };
@@ -171,16 +175,15 @@ fn turn<'t>(
     walk: &mut Walk,
     sought: &Sought<'_>,
     frames: &mut Vec<Frame>,
-    at: usize,
     rest: &'t str,
 ) -> Result<&'t str, ParseError> {
     let byte = first(rest);
     let Some(frame) = frames.last().copied() else {
         if byte == b'[' {
-            return header(alloc, walk, sought, at, skip(rest, 1));
+            return header(alloc, walk, sought, skip(rest, 1));
         }
         let section = walk.section;
-        return member(alloc, walk, sought, frames, section, at, rest);
+        return member(alloc, walk, sought, frames, section, rest);
     };
     if byte == frame.closing() {
         let _ = frames.pop();
@@ -191,8 +194,8 @@ fn turn<'t>(
         return opened(frames, frame.next(), skip(rest, 1));
     }
     match frame {
-        Frame::Table(section) => member(alloc, walk, sought, frames, section, at, rest),
-        Frame::List(section) => value(alloc, walk, sought, frames, section, at, rest),
+        Frame::Table(section) => member(alloc, walk, sought, frames, section, rest),
+        Frame::List(section) => value(alloc, walk, sought, frames, section, rest),
     }
 }
 
@@ -204,6 +207,7 @@ pub(crate) fn proposed(
     frames: &mut Vec<Frame>,
 ) -> Result<Option<Proposal>, ParseError> {
     let mut walk = Walk {
+        length: text.len(),
         headers: NO_HEADERS,
         section: Some(Section::Document),
         begun: None,
@@ -211,13 +215,12 @@ pub(crate) fn proposed(
     let mut rest = text;
     for _ in 0..text.len() {
         rest = skip_blank(rest, true);
-        let at = text.len().saturating_sub(rest.len());
-        rest = turn(alloc, &mut walk, sought, frames, at, rest)?;
+        rest = turn(alloc, &mut walk, sought, frames, rest)?;
         match walk.begun {
             Some(begun) if begun.behind == frames.len() => {
                 return Ok(Some(Proposal {
                     from: begun.from,
-                    to: text.len().saturating_sub(rest.len()),
+                    to: walk.offset(rest),
                     open: begun.before,
                 }));
             }
