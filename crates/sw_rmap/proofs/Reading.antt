@@ -1,9 +1,10 @@
 -- What is known of a packet that is read.
-use Rattle.std.proofs.Common.{◌≡◌, ℕ, ◌+◌, ◌≤◌, true, List, length, get_or, Some, take, drop, refl, ap}
-use Rattle.std.proofs.lemmas.Bool.{and_parts, not-true, ltb-false}
+use Rattle.std.proofs.Common.{◌≡◌, ◌∙◌, ℕ, ◌+◌, ◌<◌, ◌≤◌, ◌^◌, true, List, length, length-drop, length-take, get_or, Some, take, drop, refl, ap, arith}
+use Rattle.std.proofs.Math.Nat.{pow-le-pow_right}
+use Rattle.std.proofs.lemmas.Bool.{and_parts, both_ways, eq-eqb, not-true, ltb-false}
 use Rattle.std.proofs.lemmas.Option.{cond_some}
 use Rattle.sw_rmap.specs.Instruction.{reply_address_len}
-use Rattle.sw_rmap.specs.CommandView.{CommandView, command}
+use Rattle.sw_rmap.specs.CommandView.{CommandView, IsCommand, command}
 use Rattle.sw_rmap.specs.Commands.{number_of, instruction_of, is_command, fields_of, read, body_of}
 
 pub record IsRead (bytes : List ℕ) (c : CommandView) : Type 0 where
@@ -36,3 +37,29 @@ pub read_fields : (bytes kept back : List ℕ) (path count transaction address d
 unfolding read fields_of
 read_fields bytes kept back path count transaction address data_length here at_path at_kept same at_back at_transaction at_address at_length =
     rw (here, at_transaction, at_address, at_length, at_kept, same, at_back, at_path) refl
+
+digits_within : (n k : ℕ) (bytes : List ℕ) → n < 256 ^ length (take k bytes) → n < 256 ^ k
+digits_within n k bytes fits =
+    let few : length (take k bytes) ≤ k = omega (arith, length-take k bytes) in
+    let grows : 256 ^ length (take k bytes) ≤ 256 ^ k = pow-le-pow_right {n = 256} (omega arith) {i = length (take k bytes)} {j = k} few in
+    omega arith
+
+-- what stands at the places of a command's fields makes a command
+pub fields_are_right : (bytes kept back : List ℕ) (path count transaction address data_length : ℕ) → is_command bytes ≡ true → path ≡ reply_address_len (get_or bytes 2 0) → kept ≡ take count (drop 4 bytes) → count ≡ path
+    → transaction < 256 ^ length (take 2 (drop 1 back)) → address < 256 ^ length (take 5 (drop 3 back)) → data_length < 256 ^ length (take 3 (drop 8 back))
+    → IsCommand (command (get_or bytes 0 0) (get_or bytes 2 0) (get_or bytes 3 0) kept (get_or back 0 0) transaction address data_length)
+fields_are_right bytes kept back path count transaction address data_length here at_path at_kept same small_transaction small_address small_length =
+    let p = and_parts _ _ here in
+    let q = and_parts _ _ p.0 in
+    let r = and_parts _ _ q.0 in
+    let long : 16 + reply_address_len (get_or bytes 2 0) ≤ length bytes = ltb-false _ _ (not-true _ r.0) in
+    let taken = length-take count (drop 4 bytes) in
+    let rest = length-drop 4 bytes in
+    let whole : length (take count (drop 4 bytes)) ≡ reply_address_len (get_or bytes 2 0) = omega arith in
+    record {
+      type_of_command = λ zero. both_ways _ (not-true _ p.1) (eq-eqb _ _ zero);
+      reply_address = ap (λ (l : List ℕ). length l) at_kept ∙ whole;
+      transaction = digits_within transaction 2 (drop 1 back) small_transaction;
+      address = digits_within address 5 (drop 3 back) small_address;
+      data_length = digits_within data_length 3 (drop 8 back) small_length;
+    }

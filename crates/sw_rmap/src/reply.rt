@@ -1,6 +1,6 @@
 //! Replies, and where they go.
 ghost use Rattle.std.specs.Prelude.{◌≡◌, ◌<◌, ◌++◌, [], length, option_map, IfOk, OnOk};
-ghost use Rattle.sw_rmap.specs.Replies.{code_of, left_form, reply_of, reply_to as reply_to_of};
+ghost use Rattle.sw_rmap.specs.Replies.{code_of, left_form, reply_to as reply_to_of};
 
 use crate::command::{Command, PROTOCOL};
 use crate::status::Status;
@@ -23,28 +23,13 @@ pub fn reply_to(alloc: Global, bytes: &[u8]) -> Result<Option<Vec<u8>>, AllocErr
     if !command.is_answered() {
         return Ok(None);
     }
-    let mut way = Vec::from_slice(alloc, command.path())?;
-    way.push(command.initiator())?;
+    let initiator = [command.initiator()];
+    let way = [command.path(), initiator.as_slice()].concat(alloc)?;
     Ok(Some(way))
 }
 
-/// The whole reply, of the data that a read found.
-#[tactic(auto, unfolding(crate::specs::Replies::reply_of))]
-pub(crate) fn reply(
-    alloc: Global,
-    command: &Command,
-    status: Status,
-    found: &[u8],
-) -> Result<Vec<u8>, AllocError>
-    requires { length found.now < 16777216 }
-    ensures { IfOk result (λ bytes. bytes.items ≡ reply_of command.now status found.now) }
-{
-    let mut out = Vec::from_slice(alloc, command.path())?;
-    push_left_form(&mut out, command, status, found)?;
-    Ok(out)
-}
-
-fn push_left_form(
+/// Puts a reply from the initiator's address on behind the path, with the data that a read found.
+pub(crate) fn push_left_form(
     out: &mut Vec<u8>,
     command: &Command,
     status: Status,

@@ -7,7 +7,7 @@ ghost use Rattle.sw_rmap.specs.Replies.{is_answered, reply_of};
 use crate::command::Command;
 use crate::command_status::status;
 use crate::config::TargetConfig;
-use crate::reply::reply;
+use crate::reply::push_left_form;
 use crate::status::Status;
 use std::alloc::{AllocError, Global};
 use std::marker::Model;
@@ -106,7 +106,8 @@ impl Target {
     }
 }
 
-/// The reply to the command, if it gets one.
+/// The reply to the command, if it gets one, with the data that a read found.
+#[tactic(auto, unfolding(crate::specs::Replies::reply_of))]
 fn reply_if_wanted(
     alloc: Global,
     command: &Command,
@@ -119,7 +120,9 @@ fn reply_if_wanted(
     if !command.is_answered() {
         return Ok(None);
     }
-    Ok(Some(reply(alloc, command, status, found)?))
+    let mut reply = Vec::from_slice(alloc, command.path())?;
+    push_left_form(&mut reply, command, status, found)?;
+    Ok(Some(reply))
 }
 
 /// Stores the data of a write that succeeds.

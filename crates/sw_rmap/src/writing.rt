@@ -18,8 +18,7 @@ pub fn write_command(alloc: Global, command: &Command, body: &[u8]) -> Result<Ve
     requires { length body.now ≡ carried_len command.now }
     ensures { IfOk result (λ bytes. bytes.items ≡ written command.now body.now) }
 {
-    let mut bytes = Vec::new(alloc);
-    push_header(&mut bytes, command)?;
+    let mut bytes = header(alloc, command)?;
     let code = crc(&bytes);
     bytes.push(code)?;
     if command.bits().is_write() {
@@ -28,8 +27,9 @@ pub fn write_command(alloc: Global, command: &Command, body: &[u8]) -> Result<Ve
     Ok(bytes)
 }
 
-fn push_header(out: &mut Vec<u8>, command: &Command) -> Result<(), AllocError>
-    ensures { OnOk result (out.new.items ≡ out.old.items ++ header_of command.now) }
+/// The header of a command without its code.
+fn header(alloc: Global, command: &Command) -> Result<Vec<u8>, AllocError>
+    ensures { IfOk result (λ bytes. bytes.items ≡ header_of command.now) }
 {
     let front = [
         command.logical(),
@@ -42,9 +42,7 @@ fn push_header(out: &mut Vec<u8>, command: &Command) -> Result<(), AllocError>
     let [_, _, _, a4, a3, a2, a1, a0] = command.address().to_be_bytes();
     let [_, l2, l1, l0] = command.length().to_be_bytes();
     let back = [initiator, t1, t0, a4, a3, a2, a1, a0, l2, l1, l0];
-    out.extend_from_slice(&front)?;
-    out.extend_from_slice(command.reply_address())?;
-    out.extend_from_slice(&back)
+    [front.as_slice(), command.reply_address(), back.as_slice()].concat(alloc)
 }
 
 /// Adds the bytes, and then their code.
