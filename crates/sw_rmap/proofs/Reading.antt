@@ -1,11 +1,12 @@
 -- What is known of a packet that is read.
-use Rattle.std.proofs.Common.{◌≡◌, ◌∙◌, ℕ, ◌+◌, ◌<◌, ◌≤◌, ◌^◌, true, List, length, length-drop, length-take, get_or, Some, take, drop, refl, ap, arith}
+use Rattle.std.proofs.Common.{◌≡◌, ◌∙◌, ℕ, ◌+◌, ◌<◌, ◌≤◌, ◌^◌, ◌==◌, Bool, false, not, true, List, length, length-drop, length-take, get_or, None, Some, take, drop, refl, ap, sym, arith}
 use Rattle.std.proofs.Math.Nat.{pow-le-pow_right}
-use Rattle.std.proofs.lemmas.Bool.{and_parts, both_ways, eq-eqb, not-true, ltb-false}
+use Rattle.std.proofs.lemmas.Bool.{and_from, and_left, and_parts, and_right, both_ways, cond-false, eq-eqb, le-ltb, lt-ltb, ltb-false, not-true}
 use Rattle.std.proofs.lemmas.Option.{cond_some}
-use Rattle.sw_rmap.specs.Instruction.{reply_address_len}
+use Rattle.sw_rmap.specs.Crc.{crc_of}
+use Rattle.sw_rmap.specs.Instruction.{packet_type, reply_address_len}
 use Rattle.sw_rmap.specs.CommandView.{CommandView, IsCommand, command}
-use Rattle.sw_rmap.specs.Commands.{number_of, instruction_of, is_command, fields_of, read, body_of}
+use Rattle.sw_rmap.specs.Commands.{number_of, instruction_of, has_right_crc, is_command, fields_of, read, body_of}
 
 pub record IsRead (bytes : List ℕ) (c : CommandView) : Type 0 where
   pub long : 16 + reply_address_len (instruction_of bytes) ≤ length bytes
@@ -29,6 +30,31 @@ read_long bytes c h = rw (instruction-read bytes c h) (is_read bytes c h).long
 
 pub body-read : (bytes : List ℕ) (c : CommandView) → read bytes ≡ Some c → drop (16 + reply_address_len c.instruction) bytes ≡ body_of bytes
 body-read bytes c h = ap (λ i. drop (16 + reply_address_len i) bytes) (instruction-read bytes c h)
+
+-- bytes that are no command
+no_command : (bytes : List ℕ) → is_command bytes ≡ false → None ≡ read bytes
+unfolding read
+no_command bytes refused = sym (cond-false (is_command bytes) (Some (fields_of bytes)) None refused)
+
+pub too_short : (bytes : List ℕ) → length bytes < 16 + reply_address_len (instruction_of bytes) → None ≡ read bytes
+too_short bytes short = no_command bytes (and_left _ _ (and_left _ _ (and_left _ _ (ap not (lt-ltb _ _ short)))))
+
+pub other_protocol : (bytes : List ℕ) → (get_or bytes 1 0 == 1) ≡ false → None ≡ read bytes
+other_protocol bytes other = no_command bytes (and_left _ _ (and_left _ _ (and_right _ _ other)))
+
+pub wrong_code : (bytes : List ℕ) → has_right_crc bytes ≡ false → None ≡ read bytes
+wrong_code bytes wrong = no_command bytes (and_left _ _ (and_right _ _ wrong))
+
+pub no_type : (bytes : List ℕ) → not (packet_type (instruction_of bytes) == 0) ≡ false → None ≡ read bytes
+no_type bytes none = no_command bytes (and_right _ _ none)
+
+-- the code that was reckoned, compared with that at the header's end
+pub code_told : (bytes back : List ℕ) (path code : ℕ) → path ≡ reply_address_len (instruction_of bytes) → code ≡ crc_of (take (15 + path) bytes) → back ≡ drop (4 + path) bytes → (code == get_or back 11 0) ≡ has_right_crc bytes
+code_told bytes back path code at is behind = rw (is, behind, at) refl
+
+-- bytes that are one
+pub command_here : (bytes : List ℕ) → 16 + reply_address_len (instruction_of bytes) ≤ length bytes → (get_or bytes 1 0 == 1) ≡ true → has_right_crc bytes ≡ true → not (packet_type (instruction_of bytes) == 0) ≡ true → is_command bytes ≡ true
+command_here bytes long protocol code kind = and_from _ _ (and_from _ _ (and_from _ _ (ap not (le-ltb _ _ long)) protocol) code) kind
 
 -- a command whose fields are what stands at their places
 pub read_fields : (bytes kept back : List ℕ) (path count transaction address data_length : ℕ) → is_command bytes ≡ true → path ≡ reply_address_len (get_or bytes 2 0) → kept ≡ take count (drop 4 bytes) → count ≡ path

@@ -2,7 +2,7 @@
 ghost use Rattle.std.specs.Prelude.{◌≡◌, ◌≤◌, ◌^◌, ◌<◌, length};
 ghost use Rattle.std.specs.Option.{SomeIff};
 ghost use Rattle.sw_rmap.specs.CommandView.{IsCommand, command};
-ghost use Rattle.sw_rmap.specs.Commands.{read as read_of, is_command, number_of};
+ghost use Rattle.sw_rmap.specs.Commands.{read as read_of, number_of};
 ghost use Rattle.sw_rmap.specs.Replies.{is_answered, path_of, without_leading_zeros};
 
 use crate::checksum::crc;
@@ -80,12 +80,24 @@ impl Command {
     pub fn read(bytes: &[u8]) -> Option<Command>
         ensures { result ≡ read_of bytes.now }
     {
-        if !begins_with_command(bytes) {
+        if bytes.len() < 16 {
             return None;
         }
         let instruction = Instruction(bytes[2]);
         let path = instruction.reply_address_len();
+        if bytes.len() < 16 + path {
+            return None;
+        }
+        if bytes[1] != PROTOCOL {
+            return None;
+        }
         let back = &bytes[4 + path..];
+        if crc(&bytes[..15 + path]) != back[11] {
+            return None;
+        }
+        if !instruction.is_command() {
+            return None;
+        }
         Some(Command {
             logical: bytes[0],
             instruction,
@@ -185,21 +197,6 @@ impl Command {
     {
         without_leading_zeros(self.reply_address())
     }
-}
-
-fn begins_with_command(bytes: &[u8]) -> bool
-    ensures { result ≡ is_command bytes.now }
-{
-    if bytes.len() < 16 {
-        return false;
-    }
-    let instruction = Instruction(bytes[2]);
-    let path = instruction.reply_address_len();
-    if bytes.len() < 16 + path {
-        return false;
-    }
-    let back = &bytes[4 + path..];
-    bytes[1] == PROTOCOL && crc(&bytes[..15 + path]) == back[11] && instruction.is_command()
 }
 
 fn kept(reply_address: &[u8]) -> ArrayVec<u8, 12>

@@ -1,18 +1,46 @@
-use Rattle.std.proofs.Common.{sym, ◌∙◌, ◌+◌, ◌-◌, arith, drop, length, take}
+use Rattle.std.proofs.Common.{subst, sym, ◌<◌, ◌≤◌, ◌∙◌, ◌+◌, ◌-◌, arith, drop, length, take}
+use Rattle.std.proofs.lemmas.Bool.{eq-eqb, ne_eqb}
 use Rattle.std.proofs.lemmas.List.{take_rest}
-use Rattle.sw_rmap.proofs.Reading.{fields_are_right, read_fields}
+use Rattle.sw_rmap.proofs.Reading.{code_told, command_here, fields_are_right, no_type, other_protocol, read_fields, too_short, wrong_code}
 use Rattle.sw_rmap.proofs.command.Command.read.Goals as goal
+
+pub returns-then-bytes-lt16 : goal.returns-then-bytes-lt16
+returns-then-bytes-lt16 c = too_short c.args.bytes.now (omega (arith, c.if-bytes-lt16.true))
+
+pub returns-then-bytes-path : goal.returns-then-bytes-path
+returns-then-bytes-path c = too_short c.args.bytes.now (subst (λ n. length c.args.bytes.now < 16 + n) c.reply_address_len-path.ensures.value c.if-bytes-path.true)
+
+pub returns-then-bytes-ne-PROTOCOL : goal.returns-then-bytes-ne-PROTOCOL
+returns-then-bytes-ne-PROTOCOL c = other_protocol c.args.bytes.now (ne_eqb _ _ c.if-bytes-ne-PROTOCOL.true)
+
+pub returns-then-crc-back : goal.returns-then-crc-back
+returns-then-crc-back c =
+    let bytes = c.args.bytes.now in
+    let path = c.reply_address_len-path.result in
+    wrong_code bytes (sym (code_told bytes _ path c.crc.result c.reply_address_len-path.ensures.value c.crc.ensures (take_rest bytes (4 + path))) ∙ ne_eqb _ _ c.if-crc-back.true)
+
+pub returns-then-not-is_command : goal.returns-then-not-is_command
+returns-then-not-is_command c = no_type c.args.bytes.now (sym c.is_command.ensures ∙ c.if-not-is_command.true)
 
 pub returns : goal.returns
 returns c =
-    read_fields c.args.bytes.now c.kept.result.items _ c.reply_address_len-path.result _ c.number.result c.number-2.result c.number-3.result
-    (sym c.begins_with_command.ensures ∙ c.if-not-begins_with_command.false) c.reply_address_len-path.ensures.value c.kept.ensures (omega arith)
-    (take_rest c.args.bytes.now (4 + c.reply_address_len-path.result)) c.number.ensures.value c.number-2.ensures.value c.number-3.ensures.value
+    let bytes = c.args.bytes.now in
+    let path = c.reply_address_len-path.result in
+    let here = command_here bytes (subst (λ n. 16 + n ≤ length bytes) c.reply_address_len-path.ensures.value c.if-bytes-path.false) (eq-eqb _ _ c.if-bytes-ne-PROTOCOL.false)
+    (sym (code_told bytes _ path c.crc.result c.reply_address_len-path.ensures.value c.crc.ensures (take_rest bytes (4 + path))) ∙ eq-eqb _ _ c.if-crc-back.false)
+    (sym c.is_command.ensures ∙ c.if-not-is_command.false) in
+    read_fields bytes c.kept.result.items _ path _ c.number.result c.number-2.result c.number-3.result
+    here c.reply_address_len-path.ensures.value c.kept.ensures (omega arith)
+    (take_rest bytes (4 + path)) c.number.ensures.value c.number-2.ensures.value c.number-3.ensures.value
 
 pub invariant_of-result : goal.invariant_of-result
 invariant_of-result c =
     let bytes = c.args.bytes.now in
-    let from = 4 + c.reply_address_len-path.result in
-    fields_are_right bytes c.kept.result.items (take (length bytes - from) (drop from bytes)) c.reply_address_len-path.result _ c.number.result c.number-2.result c.number-3.result
-    (sym c.begins_with_command.ensures ∙ c.if-not-begins_with_command.false) c.reply_address_len-path.ensures.value c.kept.ensures (omega arith)
+    let path = c.reply_address_len-path.result in
+    let from = 4 + path in
+    let here = command_here bytes (subst (λ n. 16 + n ≤ length bytes) c.reply_address_len-path.ensures.value c.if-bytes-path.false) (eq-eqb _ _ c.if-bytes-ne-PROTOCOL.false)
+    (sym (code_told bytes _ path c.crc.result c.reply_address_len-path.ensures.value c.crc.ensures (take_rest bytes from)) ∙ eq-eqb _ _ c.if-crc-back.false)
+    (sym c.is_command.ensures ∙ c.if-not-is_command.false) in
+    fields_are_right bytes c.kept.result.items (take (length bytes - from) (drop from bytes)) path _ c.number.result c.number-2.result c.number-3.result
+    here c.reply_address_len-path.ensures.value c.kept.ensures (omega arith)
     c.number.ensures.fits c.number-2.ensures.fits c.number-3.ensures.fits
