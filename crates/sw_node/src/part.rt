@@ -1,9 +1,9 @@
 //! What a node has; all but its receive buffer is copied.
-ghost use Rattle.std.specs.Prelude.{◌≡◌, ◌++◌, IfOk, OnOk};
+ghost use Rattle.std.specs.Prelude.{◌≡◌, ◌++◌, IfOk};
 ghost use Rattle.sw_node.specs.Node.{memory_of, taken};
 
 use crate::cell::NodeCell;
-use crate::reply::Reply;
+use crate::reply::push_replies;
 use crate::sending::{push_chars, push_data};
 use std::alloc::{AllocError, Global};
 use std::marker::Model;
@@ -24,20 +24,6 @@ impl Model for PendingReply {
     ghost Value = { Pending };
 
     ghost view = { λ r. record { address = r.address.items; cargo = r.cargo.items } };
-}
-
-/// Puts copies of the replies that wait behind the others.
-fn push_replies(
-    replies: &mut Vec<PendingReply>,
-    alloc: Global,
-    waiting: &[Reply],
-) -> Result<(), AllocError>
-    ensures { OnOk result (replies.new.items ≡ replies.old.items ++ waiting.now) }
-{
-    for reply in waiting {
-        replies.push(reply.copied(alloc)?)?;
-    }
-    Ok(())
 }
 
 impl NodeCell {

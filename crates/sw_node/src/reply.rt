@@ -1,5 +1,5 @@
 //! A reply that waits to be sent.
-ghost use Rattle.std.specs.Prelude.{◌≡◌, IfOk, OnErr, OnOk, length};
+ghost use Rattle.std.specs.Prelude.{◌≡◌, ◌++◌, IfOk, OnErr, OnOk, length};
 ghost use Rattle.sw_machine.specs.State.{reply_packet};
 ghost use Rattle.sw_machine.specs.Model.{answer_of, memory_after};
 ghost use Rattle.sw_node.specs.Changes.{with_memory};
@@ -40,23 +40,29 @@ impl Reply {
         self.bytes.len() as u64 + 1
     }
 
-    /// A copy of its address and of its cargo.
-    pub(crate) fn copied(&self, alloc: Global) -> Result<PendingReply, AllocError>
-        ensures { IfOk result (λ reply. reply ≡ self.now) }
-    {
-        let (address, cargo) = self.bytes.split_at(self.address);
-        Ok(PendingReply {
-            address: Vec::from_slice(alloc, address)?,
-            cargo: Vec::from_slice(alloc, cargo)?,
-        })
-    }
-
     /// Its characters, to be sent.
     pub(crate) fn into_sending(self) -> Sending
         ensures { result ≡ reply_packet self }
     {
         Sending::packet(self.bytes, End::Eop)
     }
+}
+
+/// Puts copies of the replies that wait behind the others.
+pub(crate) fn push_replies(
+    replies: &mut Vec<PendingReply>,
+    alloc: Global,
+    waiting: &[Reply],
+) -> Result<(), AllocError>
+    ensures { OnOk result (replies.new.items ≡ replies.old.items ++ waiting.now) }
+{
+    for reply in waiting {
+        let (front, back) = reply.bytes.split_at(reply.address);
+        let address = Vec::from_slice(alloc, front)?;
+        let cargo = Vec::from_slice(alloc, back)?;
+        replies.push(PendingReply { address, cargo })?;
+    }
+    Ok(())
 }
 
 /// Hands the packet to the target, and makes the reply to it if it gets one: a plain node answers

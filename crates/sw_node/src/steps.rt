@@ -30,8 +30,7 @@ impl NodeCell {
         ensures ok { OnOk result (self.new ≡ begun self.old address.now cargo.now end) }
         ensures err { OnErr result (self.new ≡ self.old) }
     {
-        let mut bytes = Vec::from_slice(alloc, address)?;
-        bytes.extend_from_slice(cargo)?;
+        let bytes = [address, cargo].concat(alloc)?;
         self.sending = Sending::packet(bytes, end);
         Ok(())
     }
@@ -77,7 +76,7 @@ impl NodeCell {
         self.packets.reserve(1)?;
         let reply = answer(&mut self.target, alloc, &self.bytes, end)?;
         let bytes = mem::replace(&mut self.bytes, Vec::new(alloc));
-        self.packets.push(Packet { bytes, end }).unwrap();
+        self.packets.push_reserved(Packet { bytes, end });
         if let Some(reply) = reply {
             self.pending.try_push_back(reply).unwrap();
             self.owed += 1;

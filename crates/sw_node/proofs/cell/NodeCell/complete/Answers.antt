@@ -44,11 +44,11 @@ pub returns-in_default-clause-ok : goal.returns-in_default-clause-ok
 returns-in_default-clause-ok c =
     let p = c.self.inside in
     let e = c.args.end in
-    let done = whole p.target c.answer.new.target p.credit p.received p.sending p.pending.items p.pending.items p.owed p.owed p.packets.items c.push.new.self.items p.bytes.items c.replace-bytes.new.dest.items e None
+    let done = whole p.target c.answer.new.target p.credit p.received p.sending p.pending.items p.pending.items p.owed p.owed p.packets.items c.push_reserved.new.self.items p.bytes.items c.replace-bytes.new.dest.items e None
     (c.in_ok-reply.ensures.target ∙ ap (λ b. with_memory p.target (memory_after (config_of p.target) (memory_of p.target) b e)) c.deref.ensures.value)
     (sym c.in_default.is ∙ c.in_ok-reply.ensures.reply ∙ ap (λ b. answer_of (config_of p.target) (memory_of p.target) b e) c.deref.ensures.value)
     refl refl
-    ((rw c.unwrap.ensures at c.push.ensures.items) ∙ ap (λ (ps : List PacketView). ps ++ record { bytes = c.replace-bytes.result.items; end = e } ∷ []) c.in_ok-reserve.ensures.items
+    (c.push_reserved.ensures.items ∙ ap (λ (ps : List PacketView). ps ++ record { bytes = c.replace-bytes.result.items; end = e } ∷ []) c.in_ok-reserve.ensures.items
     ∙ ap (λ (v : Vec ℕ Global). p.packets.items ++ record { bytes = v.items; end = e } ∷ []) c.replace-bytes.ensures.value)
     (ap (λ (v : Vec ℕ Global). v.items) c.replace-bytes.ensures.after ∙ c.new.ensures.items) in
     done ∙ ap (λ n. completed n e) c.self.view_is
@@ -57,11 +57,11 @@ pub returns-in-Some-clause-ok : goal.returns-in-Some-clause-ok
 returns-in-Some-clause-ok c =
     let p = c.self.inside in
     let e = c.args.end in
-    let done = whole p.target c.answer.new.target p.credit p.received p.sending p.pending.items c.try_push_back.new.self.items p.owed (p.owed + 1) p.packets.items c.push.new.self.items p.bytes.items c.replace-bytes.new.dest.items e (Some c.in-Some.reply)
+    let done = whole p.target c.answer.new.target p.credit p.received p.sending p.pending.items c.try_push_back.new.self.items p.owed (p.owed + 1) p.packets.items c.push_reserved.new.self.items p.bytes.items c.replace-bytes.new.dest.items e (Some c.in-Some.reply)
     (c.in_ok-reply.ensures.target ∙ ap (λ b. with_memory p.target (memory_after (config_of p.target) (memory_of p.target) b e)) c.deref.ensures.value)
     (sym c.in-Some.is ∙ c.in_ok-reply.ensures.reply ∙ ap (λ b. answer_of (config_of p.target) (memory_of p.target) b e) c.deref.ensures.value)
-    (ap (λ (b : Buffer _). b.items) (was_ok c.try_push_back.result c.unwrap-in-Some.result c.unwrap-in-Some.ensures c.try_push_back.ensures.ok)) refl
-    ((rw c.unwrap.ensures at c.push.ensures.items) ∙ ap (λ (ps : List PacketView). ps ++ record { bytes = c.replace-bytes.result.items; end = e } ∷ []) c.in_ok-reserve.ensures.items
+    (ap (λ (b : Buffer _). b.items) (was_ok c.try_push_back.result c.unwrap.result c.unwrap.ensures c.try_push_back.ensures.ok)) refl
+    (c.push_reserved.ensures.items ∙ ap (λ (ps : List PacketView). ps ++ record { bytes = c.replace-bytes.result.items; end = e } ∷ []) c.in_ok-reserve.ensures.items
     ∙ ap (λ (v : Vec ℕ Global). p.packets.items ++ record { bytes = v.items; end = e } ∷ []) c.replace-bytes.ensures.value)
     (ap (λ (v : Vec ℕ Global). v.items) c.replace-bytes.ensures.after ∙ c.new.ensures.items) in
     done ∙ ap (λ n. completed n e) c.self.view_is
@@ -78,7 +78,7 @@ invariant_of-self-in-Some c =
     let p = c.self.inside in
     let is = c.self.invariant.0 in
     let same = ap (λ o. slots_of (config_of o)) c.in_ok-reply.ensures.target ∙ same_slots p.target _ in
-    let pushed = (was_ok c.try_push_back.result c.unwrap-in-Some.result c.unwrap-in-Some.ensures c.try_push_back.ensures.ok) in
+    let pushed = (was_ok c.try_push_back.result c.unwrap.result c.unwrap.ensures c.try_push_back.ensures.ok) in
     let less = subst (λ (n : Node). n.owed < slots n) (sym c.self.view_is) c.requires in
     let more : p.owed + 1 ≤ slots_of (config_of p.target) = omega (arith, less) in (
       record {
@@ -89,7 +89,7 @@ invariant_of-self-in-Some c =
       ap (λ (b : Buffer _). b.capacity) pushed ∙ c.self.invariant.1 ∙ sym same,
     )
 
-pub unwrap-requires-in-Some : goal.unwrap-requires-in-Some
-unwrap-requires-in-Some c =
+pub unwrap-requires : goal.unwrap-requires
+unwrap-requires c =
     let less = subst (λ (n : Node). n.owed < slots n) (sym c.self.view_is) c.requires in
     c.try_push_back.ensures.variant.1 (room _ c.self.invariant.0 less c.self.inside.pending.capacity c.self.invariant.1)
