@@ -40,11 +40,11 @@ impl NodeCell {
     {
         Ok(NodeCell {
             received: RxEnd::new(alloc, capacity)?,
+            pending: HeapCircularBuffer::with_capacity(alloc, slots(target))?,
             target: match target {
                 Some(config) => Some(Target::new(alloc, config)?),
                 None => None,
             },
-            pending: HeapCircularBuffer::with_capacity(alloc, slots(target))?,
             credit: TxEnd::new(),
             sending: Sending::nothing(alloc),
             owed: 0,

@@ -81,13 +81,12 @@ pub(crate) fn answer(
         return Ok(None);
     };
     answers_by_the_way_back();
-    let way = reply_to(alloc, bytes)?;
-    let reply = target.answer(alloc, bytes, end)?;
-    match (way, reply) {
-        (Some(way), Some(bytes)) => Ok(Some(Reply {
-            bytes,
-            address: way.len(),
-        })),
-        _ => Ok(None),
+    let address = match reply_to(alloc, bytes)? {
+        Some(way) => way.len(),
+        None => 0,
+    };
+    match target.answer(alloc, bytes, end)? {
+        Some(bytes) => Ok(Some(Reply { bytes, address })),
+        None => Ok(None),
     }
 }
