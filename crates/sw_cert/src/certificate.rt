@@ -117,8 +117,10 @@ impl Certificate {
         ensures { Reads text.now result }
     {
         let mut draft = Draft::new(alloc, Expected::Title);
-        let (rest, number) = read_text(workers, alloc, &mut draft, text)?;
-        finished(draft, rest, number)
+        match read_text(workers, alloc, &mut draft, text) {
+            Ok((rest, number)) => finished(draft, rest, number),
+            Err(fault) => Err(fault),
+        }
     }
 
     /// The certificate of a text, as `read_by` reads it in one thread.

@@ -53,10 +53,10 @@ fn refusal_of_place(
 {
     let mut followers = followers_in(network, flow, *place);
     match followers.next() {
-        None => {
-            let fault = fault_in(network, flow, *place)?;
-            Some(Refusal::Faulty(number, *place, fault))
-        }
+        None => match fault_in(network, flow, *place) {
+            Some(fault) => Some(Refusal::Faulty(number, *place, fault)),
+            None => None,
+        },
         Some(first) => {
             if is_closed(listed, next, &first, followers) {
                 None

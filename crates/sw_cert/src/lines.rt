@@ -46,7 +46,10 @@ fn field(word: &[u8], limit: u32, line: &[u8]) -> Option<u32>
     ensures exact { result ≡ field word.now limit line.now }
     ensures within { IfSome result (λ n. n ≤ limit) }
 {
-    number(after_word(word, line)?, limit)
+    match after_word(word, line) {
+        Some(digits) => number(digits, limit),
+        None => None,
+    }
 }
 
 /// Whether the first place stands before the second.
@@ -84,9 +87,15 @@ fn is_line(word: &[u8], line: &[u8]) -> bool
 fn place_of(bytes: &[u8]) -> Option<Place>
     ensures { result ≡ place_of bytes.now }
 {
-    let (channel, deleted) = cut(bytes, b' ')?;
-    let channel = number(channel, 65535)?;
-    let deleted = number(deleted, MAX_ADDRESS as u32)?;
+    let Some((channel, deleted)) = cut(bytes, b' ') else {
+        return None;
+    };
+    let Some(channel) = number(channel, 65535) else {
+        return None;
+    };
+    let Some(deleted) = number(deleted, MAX_ADDRESS as u32) else {
+        return None;
+    };
     Some(Place {
         channel: Chan::new(channel as u16),
         deleted: deleted as u8,
@@ -116,10 +125,13 @@ pub(crate) fn said_by(expected: Expected, last: Option<Place>, line: &[u8]) -> O
             Some(count) => Some(Said::PlaceCount(count)),
             None => None,
         },
-        Expected::Places(..) => {
-            let place = place_of(after_word(b"place ", line)?)?;
-            stands_before(last, &place).then_some(Said::Listed(place))
-        }
+        Expected::Places(..) => match after_word(b"place ", line) {
+            Some(numbers) => match place_of(numbers) {
+                Some(place) => stands_before(last, &place).then_some(Said::Listed(place)),
+                None => None,
+            },
+            None => None,
+        },
         Expected::Nothing => None,
     }
 }

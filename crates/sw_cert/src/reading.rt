@@ -42,17 +42,17 @@ pub(crate) fn read_lines<'a>(
     Ok((rest, number))
 }
 
-/// Takes the lists of a part, if it was read, begins at that byte of the text, and its lists are to come: where it ends, and the number
-/// of the line that begins there.
+/// Takes the lists of a part, if it begins at that byte of the text, and its lists are to come: where it ends, and the number of the
+/// line that begins there.
 fn take_part(
     draft: &mut Draft,
     text: &[u8],
     at: usize,
     number: usize,
-    lists: Option<Lists>,
+    lists: &mut Lists,
 ) -> Result<Option<(usize, usize)>, AllocError>
     requires sound { IsSound (state_of draft.old) }
-    requires read { IfSome lists (IsReadPart text.now) }
+    requires read { IsReadPart text.now lists.old }
     requires within { at ≤ length text.now }
     requires few { number + (length text.now - at) ≤ 2 ^ 63 }
     ensures same { IfOk result (λ r. IfSome r (λ r. read_rest r.1 (state_of draft.new) (drop r.0 text.now) ≡ read_rest number (state_of draft.old) (drop at text.now))) }
@@ -61,24 +61,18 @@ fn take_part(
     ensures few { IfOk result (λ r. IfSome r (λ r. r.1 + (length text.now - r.0) ≤ number + (length text.now - at))) }
     ensures none { IfOk result (λ r. IfNone r (state_of draft.new ≡ state_of draft.old)) }
 {
-    let Some(
-        Lists {
-            part,
-            mut flows,
-            lines,
-        },
-    ) = lists
-    else {
-        return Ok(None);
-    };
+    let part = lists.part;
+    let lines = lists.lines;
     if part.begin != at || part.end < at || part.end > text.len() {
         return Ok(None);
     }
     let left = match draft.expected {
-        Expected::Flows(left) if flows.len() <= left as usize => left - flows.len() as u32,
+        Expected::Flows(left) if lists.flows.len() <= left as usize => {
+            left - lists.flows.len() as u32
+        }
         _ => return Ok(None),
     };
-    draft.flows.append(&mut flows)?;
+    draft.flows.append(&mut lists.flows)?;
     draft.expected = Expected::Flows(left);
     Ok(Some((part.end, number + lines)))
 }
@@ -101,12 +95,14 @@ pub(crate) fn take_lists<'a>(
     let mut at = 0;
     let mut number = number;
     for lists in found {
-        match take_part(draft, text, at, number, lists)? {
-            Some((end, line)) => {
+        let Some(mut lists) = lists else { break };
+        match take_part(draft, text, at, number, &mut lists) {
+            Ok(Some((end, line))) => {
                 at = end;
                 number = line;
             }
-            None => break,
+            Ok(None) => break,
+            Err(error) => return Err(error),
         }
     }
     Ok((&text[at..], number))

@@ -64,8 +64,10 @@ fn not_rising_from(
     for next in followers_in(network, flow, *place) {
         found = lesser(found, if_not_above(numbers, channel, next.channel));
     }
-    let next = found?;
-    Some(Refusal::NotRising(channel, Chan::new(next)))
+    match found {
+        Some(next) => Some(Refusal::NotRising(channel, Chan::new(next))),
+        None => None,
+    }
 }
 
 /// The first refusal for numbers that do not rise along the flow of that number.

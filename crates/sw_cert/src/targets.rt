@@ -44,7 +44,11 @@ fn least_falling(network: &Network, numbers: &[u16]) -> Option<u16>
 pub(crate) fn not_rising_at_targets(network: &Network, numbers: &[u16]) -> Option<Refusal>
     ensures { result ≡ not_rising_at_targets network.now numbers.now }
 {
-    let node = least_falling(network, numbers)?;
-    let topology = network.topology();
-    Some(Refusal::NotRising(topology.into(node), topology.out(node)))
+    match least_falling(network, numbers) {
+        Some(node) => {
+            let topology = network.topology();
+            Some(Refusal::NotRising(topology.into(node), topology.out(node)))
+        }
+        None => None,
+    }
 }

@@ -13,7 +13,7 @@ take_part-requires-clause-few c = le_trans c.loop-lists.invariant.few c.requires
 
 pub loop-lists-preserved : goal.loop-lists-preserved
 loop-lists-preserved c =
-    let taken = rw c.in-Some-2.is at c.in_ok-end.ensures in
+    let taken = rw c.in-Ok-Some.field-0-is at c.in-Ok-Some.ensures in
     record {
       within = taken.within;
       same = taken.same ∙ c.loop-lists.invariant.same;
