@@ -8,7 +8,7 @@ use Rattle.std.specs.Fmt.{decimal}
 use Rattle.std.proofs.lemmas.Fmt.{decimal_injective}
 use Rattle.std.proofs.Math.Seq.{drop-append-add}
 use Rattle.std.proofs.lemmas.Bool.{le-leb}
-use Rattle.std.proofs.lemmas.List.{length-append, length-drop, length-map, length-take-le, map-append, nil_from_length, take-append-drop, take_all}
+use Rattle.std.proofs.lemmas.List.{length-append, length-drop, length-map, length-take-le, map-append, nil_from_length, take-append-drop}
 use Rattle.std.proofs.lemmas.List.Splits.{join_with_byte-slice_split, slice_split_at}
 use Rattle.sw_flow.specs.declared.place.Place.{Place}
 use Rattle.sw_cert.specs.declared.lines.Expected.{Expected}
@@ -157,10 +157,6 @@ pub part_taken : (n : ℕ) (d e : State) (text : List ℕ) (l : Lists) (at : ℕ
 part_taken n d e text l at s read begins le within added =
     let over = over_lists n d e (part_of text l.part) (drop l.part.end text) (map items_of l.flows.items) l.lines s read added in
     (over.0 ∙ ap (read_rest n d) (part_before text l.part at begins le within).0, over.1)
-
--- what stands from a byte on, as it is cut
-pub cut_rest : (at : ℕ) (text : List ℕ) → take (length text - at) (drop at text) ≡ drop at text
-cut_rest at text = take_all (length text - at) (drop at text) (omega (arith, length-drop at text))
 
 -- lists that were appended
 pub appended : (before n : ℕ) (e : Expected) (ns : List ℕ) (ps : List Place) (fs gs hs : List (Vec Place Global)) → e ≡ Flows before → n ≡ length gs → n ≤ before → hs ≡ fs ++ gs

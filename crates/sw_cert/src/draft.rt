@@ -22,11 +22,10 @@ impl Draft {
         ensures { OnOk result (state_of self.new ≡ with_place (state_of self.old) place self.old.expected) }
     {
         self.block.push(place)?;
-        let Expected::Places(0, _) = self.expected else {
-            return Ok(());
-        };
-        let block = mem::replace(&mut self.block, Vec::new(alloc));
-        self.flows.push(block)?;
+        if let Expected::Places(0, _) = self.expected {
+            let block = mem::replace(&mut self.block, Vec::new(alloc));
+            self.flows.push(block)?;
+        }
         Ok(())
     }
 
@@ -34,11 +33,12 @@ impl Draft {
         ensures { OnOk result (state_of self.new ≡ with_said (state_of self.old) said) }
     {
         match said {
-            Said::Number(v) => Ok(self.numbers.push(v)?),
-            Said::PlaceCount(0) => Ok(self.flows.push(Vec::new(alloc))?),
-            Said::Listed(place) => self.add_place(alloc, place),
-            _ => Ok(()),
+            Said::Number(v) => self.numbers.push(v)?,
+            Said::PlaceCount(0) => self.flows.push(Vec::new(alloc))?,
+            Said::Listed(place) => return self.add_place(alloc, place),
+            _ => {}
         }
+        Ok(())
     }
 }
 

@@ -66,15 +66,14 @@ fn take_part(
     if part.begin != at || part.end < at || part.end > text.len() {
         return Ok(None);
     }
-    let Expected::Flows(left) = draft.expected else {
-        return Ok(None);
+    let left = match draft.expected {
+        Expected::Flows(left) if lists.flows.len() <= left as usize => {
+            left - lists.flows.len() as u32
+        }
+        _ => return Ok(None),
     };
-    let count = lists.flows.len();
-    if count > left as usize {
-        return Ok(None);
-    }
     draft.flows.append(&mut lists.flows)?;
-    draft.expected = Expected::Flows(left - count as u32);
+    draft.expected = Expected::Flows(left);
     Ok(Some((part.end, number + lines)))
 }
 

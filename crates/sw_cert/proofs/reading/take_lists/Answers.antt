@@ -1,7 +1,5 @@
-use Rattle.std.proofs.Common.{◌∙◌, ◌+◌, ◌≤◌, ℕ, ap, length, subst, sym}
+use Rattle.std.proofs.Common.{◌∙◌}
 use Rattle.std.proofs.Math.Nat.{le_trans}
-use Rattle.std.proofs.lemmas.List.{length-drop}
-use Rattle.sw_cert.proofs.Parted.{cut_rest}
 use Rattle.sw_cert.proofs.reading.take_lists.Goals as goal
 
 pub take_part-requires-clause-sound : goal.take_part-requires-clause-sound
@@ -22,9 +20,3 @@ loop-lists-preserved c =
       sound = taken.sound;
       few = le_trans taken.few c.loop-lists.invariant.few;
     }
-
-pub returns-clause-few : goal.returns-clause-few
-returns-clause-few c =
-    let text = c.args.text.now in
-    let long = ap length (cut_rest c.loop-lists.at text) ∙ length-drop c.loop-lists.at text in
-    subst (λ (n : ℕ). c.loop-lists.number + n ≤ c.args.number + length text) (sym long) c.loop-lists.invariant.few

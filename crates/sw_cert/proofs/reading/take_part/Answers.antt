@@ -1,4 +1,4 @@
-use Rattle.std.proofs.Common.{◌∙◌, ◌≡◌, ◌≤◌, ◌-◌, ◌+◌, drop, length, map, arith}
+use Rattle.std.proofs.Common.{rules, ◌∙◌, ◌≡◌, ◌≤◌, ◌-◌, ◌+◌, drop, length, map, arith}
 use Rattle.sw_cert.specs.declared.lines.Expected.TheVariants.{Flows}
 use Rattle.sw_cert.specs.Parts.{read_rest}
 use Rattle.sw_cert.specs.Reading.{State, items_of, state_of}
@@ -16,16 +16,16 @@ overflow_add-result c =
     omega (arith, few, le, within, c.requires.few)
 
 abbrev after : (c : goal.After-draft-1) → State
-after c = record { expected = Flows (c.in-Flows.left - c.len-count.result); numbers = c.args.draft.now.numbers.items; flows = map items_of c.append.new.self.items; open_block = c.args.draft.now.block.items }
+after c = record { expected = Flows (c.in-Flows.left - c.len-in-Flows.result); numbers = c.args.draft.now.numbers.items; flows = map items_of c.append.new.self.items; open_block = c.args.draft.now.block.items }
 
 taken : (c : goal.After-draft-1)
     → (read_rest (c.args.number + c.args.lists.now.lines) (after c) (drop c.args.lists.now.part.end c.args.text.now) ≡ read_rest c.args.number (state_of c.args.draft.now) (drop c.args.at c.args.text.now)) × IsSound (after c)
 taken c =
     let l = c.args.lists.now in
     let d = c.args.draft.now in
-    let count : c.len-count.result ≡ length l.flows.items = c.len-count.ensures ∙ l.flows.ok.0 in
-    let few : c.len-count.result ≤ c.in-Flows.left = c.if-count-left.false in
-    let added = appended c.in-Flows.left c.len-count.result d.expected d.numbers.items d.block.items d.flows.items l.flows.items c.append.new.self.items c.in-Flows.is count few c.in_ok-append.ensures.items in
+    let count : c.len-in-Flows.result ≡ length l.flows.items = c.len-in-Flows.ensures ∙ l.flows.ok.0 in
+    let few : c.len-in-Flows.result ≤ c.in-Flows.left = search rules in
+    let added = appended c.in-Flows.left c.len-in-Flows.result d.expected d.numbers.items d.block.items d.flows.items l.flows.items c.append.new.self.items c.in-Flows.is count few c.in_ok-append.ensures.items in
     let begins : l.part.begin ≡ c.args.at = c.if-part-at.false in
     let le : c.args.at ≤ l.part.end = c.if-part-at-2.false in
     let within : l.part.end ≤ length c.args.text.now = c.if-part-text.false in
