@@ -6,16 +6,30 @@ ghost use Rattle.sw_flow.specs.Places.{IsPlaceList, ends_of};
 ghost use Rattle.sw_machine.specs.Places.{IsDependency};
 ghost use Rattle.sw_machine.specs.Model.{network_of};
 ghost use Rattle.sw_graph.specs.Rows.{IsGraph, Leads};
+ghost use Rattle.sw_cycle.specs.Answering.{AreMarked};
 ghost use Rattle.sw_cycle.specs.Named.{AreNamed, AreRouted};
 ghost use Rattle.sw_cycle.specs.Rows.{AreOnce};
 
-use crate::named::Named;
 use crate::parallel::{PortWorkers, joined};
 use crate::rows::row_of;
 use std::alloc::{AllocError, Global};
 use sw_config::Network;
 use sw_flow::Place;
 use sw_topo::{Chan, PortSet};
+
+/// A mark for each node: set where a flow ends whose packets are answered.
+fn answering_marks(alloc: Global, network: &Network) -> Result<Vec<bool>, AllocError>
+    ensures { IfOk result (λ v. AreMarked network.now (length (all_flows network.now)) v.items) }
+{
+    let mut marks = vec![in alloc; false; usize::from(network.nodes())]?;
+    for number in 0..network.flows() {
+        let flow = network.flow(number);
+        if flow.reply().is_some() {
+            marks[usize::from(flow.to())] = true;
+        }
+    }
+    Ok(marks)
+}
 
 /// The rows of the dependencies, from the sets of ports that flows name, by channel.
 fn rows_from(
@@ -31,14 +45,7 @@ fn rows_from(
 {
     // Names the network, which is valid by its type.
     let _topology = network.topology();
-    // A mark for each node: set where a flow ends whose packets are answered.
-    let mut marks = vec![in alloc; false; usize::from(network.nodes())]?;
-    for number in 0..network.flows() {
-        let flow = network.flow(number);
-        if flow.reply().is_some() {
-            marks[usize::from(flow.to())] = true;
-        }
-    }
+    let marks = answering_marks(alloc, network)?;
     let mut rows = Vec::new(alloc);
     for channel in 0..network.channels() {
         let ports = sets[usize::from(channel)];
@@ -65,10 +72,15 @@ pub fn routed_dependencies<W: PortWorkers>(
     ensures once { IfOk result (λ r. AreOnce r.0.items) }
     ensures routed { IfOk result (λ r. IsTrue r.1 ↔ AreRouted network.now 0 (length (all_flows network.now))) }
 {
-    let parts = workers.named_by_chunks(alloc, network, places)?;
-    let Named { sets, is_routed } = joined(alloc, network, &parts)?;
-    let rows = rows_from(alloc, network, &sets)?;
-    Ok((rows, is_routed))
+    let named = joined(
+        alloc,
+        network,
+        &workers.named_by_chunks(alloc, network, places)?,
+    )?;
+    match rows_from(alloc, network, &named.sets) {
+        Ok(rows) => Ok((rows, named.is_routed)),
+        Err(error) => Err(error),
+    }
 }
 
 /// For each channel those on which a packet that is on it may wait, by their numbers: where a flow
@@ -91,6 +103,8 @@ pub fn dependencies<W: PortWorkers>(
     ensures graph { IfOk result (λ v. IsGraph v.items) }
     ensures once { IfOk result (λ v. AreOnce v.items) }
 {
-    let (rows, _) = routed_dependencies(workers, alloc, network, places)?;
-    Ok(rows)
+    match routed_dependencies(workers, alloc, network, places) {
+        Ok((rows, _)) => Ok(rows),
+        Err(error) => Err(error),
+    }
 }

@@ -32,6 +32,8 @@ pub(crate) fn positions_of(
     for _ in 0..count {
         rows.push(Vec::new(alloc))?;
     }
-    add_positions(channels, &mut rows)?;
-    Ok(rows)
+    match add_positions(channels, &mut rows) {
+        Ok(()) => Ok(rows),
+        Err(error) => Err(error),
+    }
 }

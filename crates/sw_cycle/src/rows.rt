@@ -23,16 +23,18 @@ pub(crate) fn row_of(
     match topology.end_of(channel) {
         PlaceEnd::Switch(switch, _) => {
             for port in ports.ports() {
-                if let Some(next) = topology.out_of(switch, port) {
-                    row.push(next.number())?;
-                }
+                let Some(next) = topology.out_of(switch, port) else {
+                    continue;
+                };
+                row.push(next.number())?;
             }
             Ok(row)
         }
         PlaceEnd::Node(node) => {
-            if is_marked(marks, node) {
-                row.push(topology.out(node).number())?;
+            if !is_marked(marks, node) {
+                return Ok(row);
             }
+            row.push(topology.out(node).number())?;
             Ok(row)
         }
     }

@@ -16,7 +16,6 @@ pub(crate) struct Step {
 }
 
 /// The place on the second channel to which the flow goes by one step from this place, if that is on the first.
-#[tactic(auto, using(crate::proofs::Stepped::no_other))]
 pub(crate) fn follower_between(
     network: &Network,
     flow: &Flow,

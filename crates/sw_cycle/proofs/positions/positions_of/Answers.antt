@@ -13,20 +13,20 @@ add_positions-requires-clause-inside c =
 pub add_positions-requires-clause-empty : goal.add_positions-requires-clause-empty
 add_positions-requires-clause-empty c = λ q. subst (λ (rows : List (Vec ℕ Global)). row rows q ≡ []) (sym c.deref_mut.ensures.value) (c.loop.invariant.0 q)
 
-pub returns-clause-size : goal.returns-clause-size
-returns-clause-size c =
+pub returns-in-Ok-clause-size : goal.returns-in-Ok-clause-size
+returns-in-Ok-clause-size c =
     let rows = c.loop.rows in
     let new = c.add_positions.new.rows in
     let size : length new ≡ length rows.items = c.add_positions.auto.rows ∙ ap length c.deref_mut.ensures.value in
     let all : c.loop.counter ≡ c.args.count = omega (arith, c.loop-test.false, c.loop.auto.counter-end) in
     rw (whole rows.len new rows.items rows.ok.0 size) (size ∙ c.loop.invariant.1 ∙ all)
 
-pub returns-clause-positions : goal.returns-clause-positions
-returns-clause-positions c =
+pub returns-in-Ok-clause-positions : goal.returns-in-Ok-clause-positions
+returns-in-Ok-clause-positions c =
     let rows = c.loop.rows in
     let new = c.add_positions.new.rows in
     let size : length new ≡ length rows.items = c.add_positions.auto.rows ∙ ap length c.deref_mut.ensures.value in
-    rw (whole rows.len new rows.items rows.ok.0 size) c.in_ok-add_positions.ensures
+    rw (whole rows.len new rows.items rows.ok.0 size) c.in-Ok.ensures
 
 pub loop-preserved : goal.loop-preserved
 loop-preserved c = empty_rows_more c.loop.rows.items c.push.new.self.items c.new.result c.loop.counter c.loop.invariant c.new.ensures.items c.in_ok-push.ensures.items
