@@ -1,5 +1,5 @@
 -- The rows, step by step.
-use Rattle.std.proofs.Common.{◌≡◌, ◌≢◌, if◌then◌else◌, ℕ, zero, suc, ◌+◌, ◌<◌, ◌≤◌, inl, inr, Bool, true, false, List, [], ◌∷◌, ◌++◌, filter_map, length, get_or, Option, Some, None, refl, sym, ap, ◌∙◌, subst, arith, Contains, length-append}
+use Rattle.std.proofs.Common.{◌≡◌, ◌≢◌, if◌then◌else◌, ℕ, zero, suc, ◌+◌, ◌<◌, inl, inr, Bool, true, false, List, [], ◌∷◌, ◌++◌, filter_map, length, get_or, Option, Some, None, refl, sym, ap, ◌∙◌, subst, arith, Contains, length-append}
 use Rattle.std.specs.Prelude.{slice_get, slice_index, AllPairs, Vec}
 use Rattle.std.specs.Option.{option_to_list}
 use Rattle.std.specs.List.{cons_option}
@@ -21,10 +21,6 @@ use Rattle.sw_graph.specs.Rows.{row}
 use Rattle.sw_graph.proofs.Listed.{row_read}
 use Rattle.sw_cycle.specs.Answering.{is_marked}
 use Rattle.sw_cycle.specs.Rows.{AreOnce, AreRows, row_at_end, row_of}
-
--- a count that has come to its end
-pub at_end : (n m k : ℕ) → m ≤ n → n ≤ m → m ≡ k → n ≡ k
-at_end n m k past within is = omega arith
 
 -- ---- one more row
 

@@ -6,7 +6,6 @@ ghost use Rattle.sw_flow.specs.Places.{IsPlaceList, ends_of};
 ghost use Rattle.sw_machine.specs.Places.{IsDependency};
 ghost use Rattle.sw_machine.specs.Model.{network_of};
 ghost use Rattle.sw_graph.specs.Rows.{IsGraph, Leads};
-ghost use Rattle.sw_cycle.specs.Answering.{AreMarked};
 ghost use Rattle.sw_cycle.specs.Named.{AreNamed, AreRouted};
 ghost use Rattle.sw_cycle.specs.Rows.{AreOnce};
 
@@ -16,20 +15,6 @@ use std::alloc::{AllocError, Global};
 use sw_config::Network;
 use sw_flow::Place;
 use sw_topo::{Chan, PortSet};
-
-/// A mark for each node: set where a flow ends whose packets are answered.
-fn answering_marks(alloc: Global, network: &Network) -> Result<Vec<bool>, AllocError>
-    ensures { IfOk result (λ v. AreMarked network.now (length (all_flows network.now)) v.items) }
-{
-    let mut marks = vec![in alloc; false; usize::from(network.nodes())]?;
-    for number in 0..network.flows() {
-        let flow = network.flow(number);
-        if flow.reply().is_some() {
-            marks[usize::from(flow.to())] = true;
-        }
-    }
-    Ok(marks)
-}
 
 /// The rows of the dependencies, from the sets of ports that flows name, by channel.
 fn rows_from(
@@ -45,7 +30,14 @@ fn rows_from(
 {
     // Names the network, which is valid by its type.
     let _topology = network.topology();
-    let marks = answering_marks(alloc, network)?;
+    // A mark for each node: set where a flow ends whose packets are answered.
+    let mut marks = vec![in alloc; false; usize::from(network.nodes())]?;
+    for number in 0..network.flows() {
+        let flow = network.flow(number);
+        if flow.reply().is_some() {
+            marks[usize::from(flow.to())] = true;
+        }
+    }
     let mut rows = Vec::new(alloc);
     for channel in 0..network.channels() {
         let ports = sets[usize::from(channel)];

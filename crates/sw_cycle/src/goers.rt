@@ -1,9 +1,9 @@
 //! All flows that go on from each channel of a round to the next one.
-ghost use Rattle.std.specs.Prelude.{◌≡◌, ◌+◌, ◌<◌, ◌≤◌, ◌↔◌, All, AllPairs, Contains, IfOk, IsTrue, OnOk, Some, length, nat_lt, slice_get};
+ghost use Rattle.std.specs.Prelude.{◌≡◌, ◌+◌, ◌<◌, ◌≤◌, ◌↔◌, AllPairs, Contains, IfOk, IsTrue, OnOk, Some, length, nat_lt, slice_get};
 ghost use Rattle.std.specs.List.{AllZip};
 ghost use Rattle.sw_config.specs.Entries.{all_flows};
 ghost use Rattle.sw_flow.specs.declared.place.Place.{Place};
-ghost use Rattle.sw_flow.specs.Places.{IsBefore, IsPlaceList, ends_of};
+ghost use Rattle.sw_flow.specs.Places.{IsBefore, IsPlaceList};
 ghost use Rattle.sw_cycle.specs.Causes.{GoesOn};
 ghost use Rattle.sw_cycle.specs.Goers.{AreBelow, AreFlows, AreMarked};
 
@@ -61,22 +61,6 @@ fn goes_on_from(
     false
 }
 
-/// A mark for each channel: set where one of the places is on it.
-fn channel_marks(
-    alloc: Global,
-    network: &Network,
-    places: &[Place],
-) -> Result<Vec<bool>, AllocError>
-    requires { All (λ p. p.channel < length (ends_of network.now)) places.now }
-    ensures { IfOk result (λ v. AreMarked places.now v.items) }
-{
-    let mut marks = vec![in alloc; false; usize::from(network.channels())]?;
-    for place in places {
-        marks[usize::from(place.channel.number())] = true;
-    }
-    Ok(marks)
-}
-
 /// Takes the flow of that number into account at each step of the round.
 fn take_numbered(
     alloc: Global,
@@ -92,7 +76,10 @@ fn take_numbered(
     ensures { OnOk result (AreBelow network.now channels.now (number + 1) flows.new) }
 {
     let (flow, listed) = flow_and_places(network, places, number);
-    let marks = channel_marks(alloc, network, listed)?;
+    let mut marks = vec![in alloc; false; usize::from(network.channels())]?;
+    for place in listed {
+        marks[usize::from(place.channel.number())] = true;
+    }
     for step in 0..channels.len() {
         let to = channels[(step + 1) % channels.len()];
         let goes = goes_on_from(network, number, flow, listed, &marks, channels[step], to);

@@ -23,18 +23,16 @@ pub(crate) fn row_of(
     match topology.end_of(channel) {
         PlaceEnd::Switch(switch, _) => {
             for port in ports.ports() {
-                let Some(next) = topology.out_of(switch, port) else {
-                    continue;
-                };
-                row.push(next.number())?;
+                if let Some(next) = topology.out_of(switch, port) {
+                    row.push(next.number())?;
+                }
             }
             Ok(row)
         }
         PlaceEnd::Node(node) => {
-            if !is_marked(marks, node) {
-                return Ok(row);
+            if is_marked(marks, node) {
+                row.push(topology.out(node).number())?;
             }
-            row.push(topology.out(node).number())?;
             Ok(row)
         }
     }
