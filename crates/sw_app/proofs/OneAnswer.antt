@@ -7,14 +7,11 @@ use Rattle.sw_text.specs.declared.fault.TextFault.{TextFault}
 use Rattle.sw_file.specs.Network.{network_text}
 use Rattle.sw_flow.specs.declared.place.Place.{Place}
 use Rattle.sw_flow.specs.Faults.{first_fault_of}
-use Rattle.sw_text.specs.Ends.{Says}
 use Rattle.sw_app.specs.Laws.{RouteHasOneAnswer}
 use Rattle.sw_app.specs.RouteAnswers.{IsFlowAnswer, IsFoundAnswer, IsReadAnswer}
 use Rattle.sw_app.specs.RouteTexts.{outcome_status, route_text}
 use Rattle.sw_flow.proofs.Sorted.{same_places}
-
-pub says_once : (said : List ℕ) (n : ℕ) (text other : List ℕ) (status number : ℕ) → Says said n text status → Says said n other number → (text ≡ other) × (status ≡ number)
-says_once said n text other status number p q = (p.0 ∙ sym q.0, p.1 ∙ sym q.1)
+use Rattle.sw_text.proofs.Results.{says_once}
 
 flow_once : (d : Declaration) (f : FlowEntry) (text other : List ℕ) (status number : ℕ) → IsFlowAnswer d f text status → IsFlowAnswer d f other number
     → (text ≡ other) × (status ≡ number)

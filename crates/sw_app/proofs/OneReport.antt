@@ -19,8 +19,8 @@ use Rattle.sw_output.specs.ReportTexts.{report_text}
 use Rattle.sw_output.specs.VerdictTexts.{cyclic_words, free_words, misrouted_words}
 use Rattle.sw_app.specs.Laws.{ReportHasOneAnswer}
 use Rattle.sw_app.specs.VerdictAnswers.{IsFindingsAnswer, OfNetwork, verdict_words}
-use Rattle.sw_app.proofs.OneAnswer.{says_once}
 use Rattle.sw_app.proofs.OneCount.{one_count}
+use Rattle.sw_text.proofs.Results.{says_once}
 
 words_once : (d : Declaration) (v w : Verdict) → IsVerdict d v → IsVerdict d w → verdict_words d v ≡ verdict_words d w
 words_once d (Misrouted i p fault) (Misrouted j q other) h k =

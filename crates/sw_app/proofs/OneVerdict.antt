@@ -16,7 +16,7 @@ use Rattle.sw_output.specs.VerdictTexts.{cycle_line, cycle_lines, cycle_text, cy
 use Rattle.sw_output.specs.Lines.{line}
 use Rattle.sw_app.specs.Laws.{DecideHasOneAnswer}
 use Rattle.sw_app.specs.VerdictAnswers.{IsVerdictAnswer, OfNetwork, verdict_status, verdict_text}
-use Rattle.sw_app.proofs.OneAnswer.{says_once}
+use Rattle.sw_text.proofs.Results.{says_once}
 
 -- a cycle's text says nothing of the places that show its causes
 without : (d : Declaration) (channels : List ℕ) (causes : List CauseEntry) → cycle_lines d channels causes ≡ cycle_lines d channels (map without_places causes)

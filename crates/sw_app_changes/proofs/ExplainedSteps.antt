@@ -1,5 +1,5 @@
 -- What is read for a step of a cycle.
-use Rattle.std.proofs.Common.{◌≡◌, ◌∙◌, ℕ, ◌+◌, ◌<◌, ◌%◌, List, [], Vec, Global, ap, get_or, length, map, refl, sym}
+use Rattle.std.proofs.Common.{◌≡◌, ◌∙◌, ℕ, ◌+◌, ◌<◌, ◌%◌, List, [], ap, get_or, length, map, refl, sym}
 use Rattle.std.specs.Prelude.{Some, slice_get}
 use Rattle.std.specs.Option.{option_map, option_map_or}
 use Rattle.std.proofs.lemmas.Option.{slice_get-map, slice_get_read}
@@ -7,12 +7,7 @@ use Rattle.sw_config.specs.Entries.{Declaration}
 use Rattle.sw_cycle.proofs.Chosen.{as_round}
 use Rattle.sw_cycle.specs.Cycles.{cause_of, round}
 use Rattle.sw_cycle.specs.declared.cycle.Cause.{Cause}
-use Rattle.sw_graph.specs.Rows.{items_of, row}
 use Rattle.sw_app_changes.specs.ExplainTexts.{step_text, step_words}
-
--- the row that is read
-pub row_read : (rows : List (Vec ℕ Global)) (i : ℕ) (r : Vec ℕ Global) → i < length rows → r ≡ get_or rows i r → row rows i ≡ r.items
-row_read rows i r lt is = ap items_of (slice_get_read rows (length rows) i r refl lt is)
 
 cause_read : (causes : List Cause) (i : ℕ) (cause : Cause) → i < length causes → cause ≡ get_or causes i cause → slice_get (map cause_of causes) i ≡ Some (cause_of cause)
 cause_read causes i cause lt is = slice_get-map cause_of causes i ∙ ap (option_map cause_of) (slice_get_read causes (length causes) i cause refl lt is)

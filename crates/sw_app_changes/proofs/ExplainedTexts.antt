@@ -78,7 +78,7 @@ step_told : (d : Declaration) (all : Bool) (cycle : CycleEntry) (rows : List (Ve
 step_told d all cycle rows i step flows step_is flows_are =
     rw (step_is, flows_are) (numbered_then i (codes " " ++ (step_text d cycle i ++ (flows_text d all (row rows i) ++ codes "\n"))))
 
-line_then : (old number dot words rest : List ℕ) → (old ++ (number ++ (dot ++ words))) ++ rest ≡ old ++ (number ++ (dot ++ (words ++ rest)))
+pub line_then : (old number dot words rest : List ℕ) → (old ++ (number ++ (dot ++ words))) ++ rest ≡ old ++ (number ++ (dot ++ (words ++ rest)))
 line_then old number dot words rest = simp append_assoc
 
 -- a step's words, and then its flows

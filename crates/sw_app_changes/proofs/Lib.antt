@@ -1,6 +1,6 @@
 pub mod OnChannels
 mod ExplainedSteps
-mod ExplainedTexts
+pub mod ExplainedTexts
 mod ToldAnswer
 mod MendAnswered
 pub mod OneMending

@@ -1,12 +1,13 @@
 -- The lines of links, one after another.
 use Rattle.std.proofs.Common.{◌≡◌, ◌∙◌, ℕ, ◌+◌, ◌*◌, ◌<◌, ◌≤◌, List, Vec, Global, [], ◌∷◌, ◌++◌, ap, append-nil, append_assoc, arith, codes, get_or, length, map, refl, sym, take}
 use Rattle.std.specs.List.{flat_map}
-use Rattle.std.proofs.lemmas.List.{flat_map_more, length-map, length-take-le, map-append, take_all, take_more}
+use Rattle.std.proofs.lemmas.List.{length-map, length-take-le, map-append, take_all, take_more}
 use Rattle.sw_config.specs.Entries.{Declaration}
 use Rattle.sw_margin.specs.declared.bend.Bend.{Bend}
 use Rattle.sw_margin.specs.declared.bend.Margins.{Margins}
 use Rattle.sw_output.specs.ChannelTexts.{channel_text}
 use Rattle.sw_app_changes.specs.MarginTexts.{answer_line, flows_words, loss_line, loss_lines, margin_text, stall_line}
+use Rattle.sw_app_changes.proofs.ExplainedTexts.{line_then}
 
 abbrev pub items_of : Vec ℕ Global → List ℕ
 items_of flows = flows.items
@@ -51,12 +52,6 @@ three_lists d stalls answers losses told start first second third none stalls_ar
     ∙ ap (λ (s : List Bend). flat_map (stall_line d) s ++ (y ++ z)) stalls_are ∙ ap (λ (a : List Bend). flat_map (stall_line d) told.stalls.items ++ (flat_map (answer_line d) a ++ z)) answers_are
     ∙ ap (λ (l : List (Vec ℕ Global)). flat_map (stall_line d) told.stalls.items ++ (flat_map (answer_line d) told.answers.items ++ loss_lines d 0 (map items_of l))) losses_are
 
--- the line of one element more, behind what stands there
-pub line_at : {X : Type 0} (f : X → List ℕ) (xs : List X) (i : ℕ) (none : X) (start before after : List ℕ) → i < length xs → before ≡ start ++ flat_map f (take i xs)
-    → after ≡ before ++ f (get_or xs i none) → after ≡ start ++ flat_map f (take (i + 1) xs)
-line_at f xs i none start before after lt so_far more =
-    more ∙ ap (λ l. l ++ f (get_or xs i none)) so_far ∙ flat_map_more f start (take i xs) (get_or xs i none) ∙ ap (λ l. start ++ flat_map f l) (sym (take_more xs i none lt))
-
 -- the line of a link with its flows
 loss_told : (d : Declaration) (link : ℕ) (flows name words : List ℕ) → name ≡ channel_text d (2 * link) → words ≡ flows_words d flows
     → loss_line d link flows ≡ codes "lost without the link " ++ (name ++ (codes ": " ++ (words ++ codes "\n")))
@@ -65,15 +60,12 @@ loss_told d link flows name words name_is words_are =
     ap (λ l. codes "lost without the link " ++ l) (append_assoc (channel_text d (2 * link)) (codes ":") (codes " " ++ end)
     ∙ ap (λ l. l ++ (codes ": " ++ end)) (sym name_is) ∙ ap (λ l. name ++ (codes ": " ++ (l ++ codes "\n"))) (sym words_are))
 
-put_between : (old head name between rest : List ℕ) → (old ++ (head ++ (name ++ between))) ++ rest ≡ old ++ (head ++ (name ++ (between ++ rest)))
-put_between old head name between rest = simp append_assoc
-
 -- the line of a link, and then its flows
 pub loss_ended : (d : Declaration) (link : ℕ) (flows name old first : List ℕ) → name ≡ channel_text d (2 * link)
     → first ≡ old ++ (codes "lost without the link " ++ (name ++ codes ": ")) → first ++ (flows_words d flows ++ codes "\n") ≡ old ++ loss_line d link flows
 loss_ended d link flows name old first name_is first_is =
     let end : List ℕ = flows_words d flows ++ codes "\n" in
-    ap (λ l. l ++ end) first_is ∙ put_between old (codes "lost without the link ") name (codes ": ") end
+    ap (λ l. l ++ end) first_is ∙ line_then old (codes "lost without the link ") name (codes ": ") end
     ∙ ap (λ l. old ++ l) (sym (loss_told d link flows name (flows_words d flows) name_is refl))
 
 -- words, a name and what ends a line

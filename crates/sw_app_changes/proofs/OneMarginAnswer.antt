@@ -1,7 +1,6 @@
 -- `margin` has one answer.
 use Rattle.std.proofs.Common.{◌≡◌, ◌∙◌, ℕ, List, Vec, Global, [], ◌∷◌, ◌++◌, ap, map, sym}
 use Rattle.std.specs.Prelude.{Err, Ok, Result, flat_map}
-use Rattle.sw_text.specs.Ends.{Says}
 use Rattle.sw_config.specs.Entries.{Declaration}
 use Rattle.sw_file.specs.Network.{network_text}
 use Rattle.sw_margin.specs.Laws.{AnswersAreDetermined, LossesAreDetermined, StallsAreDetermined}
@@ -15,9 +14,7 @@ use Rattle.sw_text.specs.declared.fault.TextFault.{TextFault}
 use Rattle.sw_app_changes.specs.MarginLaws.{MarginHasOneAnswer}
 use Rattle.sw_app_changes.specs.MarginAnswers.{IsBent, IsByVerdict, IsReadAnswer}
 use Rattle.sw_app_changes.specs.MarginTexts.{answer_line, loss_lines, stall_line}
-
-says_once : (said : List ℕ) (n : ℕ) (text other : List ℕ) (status number : ℕ) → Says said n text status → Says said n other number → (text ≡ other) × (status ≡ number)
-says_once said n text other status number p q = (p.0 ∙ sym q.0, p.1 ∙ sym q.1)
+use Rattle.sw_text.proofs.Results.{says_once}
 
 abbrev items_of : Vec ℕ Global → List ℕ
 items_of flows = flows.items

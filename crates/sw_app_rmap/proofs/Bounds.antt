@@ -12,9 +12,7 @@ use Rattle.sw_app_rmap.specs.Orders.{Action, IsSmall, Order, action_of, length_o
 use Rattle.sw_app_rmap.specs.Told.{ok_or}
 use Rattle.sw_app_rmap.specs.Words.{digits_of, goes_on, is_hexadecimal, number_of}
 use Rattle.sw_app_rmap.proofs.Parts.{goes_on as parts_of, is_read, is_there}
-
-none_some : {A : Type 0} (x : A) → ◌≡◌ {A = Option A} None (Some x) → ⊥
-none_some x e = cc
+use Rattle.sw_config.proofs.Lists.{none_some}
 
 only_if : {A : Type 0} (test : Bool) (o : Option A) (a : A) → (if test then o else None) ≡ Some a → (test ≡ true) × (o ≡ Some a)
 only_if true o a h = (refl, h)

@@ -1,9 +1,7 @@
 -- The parts of a packet that is made.
-use Rattle.std.proofs.Common.{◌≡◌, ◌∙◌, ◌<◌, ◌++◌, ℕ, Bool, true, false, not, ◌&&◌, List, get_or, length, drop, Option, Some, None, Result, Ok, Err, refl, sym}
+use Rattle.std.proofs.Common.{◌≡◌, ◌<◌, ℕ, Bool, true, false, not, ◌&&◌, List, length, drop, Option, Some, None, Result, Ok, Err, refl, sym}
 use Rattle.std.specs.Prelude.{IsErr, IsErrAnd, is_some, nat_lt, position, slice_get, option_map, if◌then◌else◌}
 use Rattle.std.specs.Str.{bytes_eq}
-use Rattle.std.proofs.lemmas.List.{get_or_append_left}
-use Rattle.std.proofs.lemmas.Option.{get_or_from_slice_get, slice_get_read}
 use Rattle.sw_config.specs.Entries.{Declaration, FlowEntry, NodeEntry, all_flows, flow_names, reply_flows, target_of}
 use Rattle.sw_machine.specs.DeclaredPackets.{left_bytes}
 use Rattle.sw_rmap.specs.declared.config.TargetConfig.{TargetConfig}
@@ -17,6 +15,7 @@ use Rattle.sw_app_rmap.specs.Orders.{Action, Order, action_of, order_of, transac
 use Rattle.sw_app_rmap.specs.Packets.{FlowPacket, begins_with, behind_left, cargo_of, cargo_to, is_in_window, packet_of}
 use Rattle.sw_app_rmap.specs.Told.{◌>>=◌, Fails, Gives, ok_or}
 use Rattle.sw_app_rmap.specs.Words.{number_of}
+use Rattle.sw_config.proofs.Lists.{in_front}
 
 -- what went well went well in its first part, and then in the others
 pub goes_on : {A B : Type 0} (r : Result A RmapFault) (f : A → Result B RmapFault) (b : B) → (r >>= f) ≡ Ok b → (a : A) × (r ≡ Ok a) × (f a ≡ Ok b)
@@ -134,12 +133,6 @@ module _ (d : Declaration) (r : Request) where
         carried = cargo.1;
       })
 
--- a flow that is declared, of all flows
-of_declared : {A : Type 0} (xs ys : List A) (i : ℕ) (x : A) → i < length xs → slice_get (xs ++ ys) i ≡ Some x → slice_get xs i ≡ Some x
-of_declared xs ys i x lt is =
-    let at : get_or (xs ++ ys) i x ≡ x = get_or_from_slice_get (xs ++ ys) i x x is in
-    slice_get_read xs (length xs) i x refl lt (sym (sym (get_or_append_left xs ys x i lt) ∙ at))
-
 -- an error that is handed on
 pub handed_on : (r : Result FlowPacket RmapError) (e : RmapError) (made : Result FlowPacket RmapFault) → IsErr r × IsErrAnd r (λ x. x ≡ e) → Fails e made → Gives (λ p. p) r made
 handed_on (Ok p) e made is failed = absurd cc
@@ -149,7 +142,7 @@ handed_on (Err x) e made is failed = rw is.1 failed
 module _ (d : Declaration) (r : Request) (number : ℕ) (flow : FlowEntry) (named : Some number ≡ position (bytes_eq r.flow.now) (flow_names d.flows)) (low : number < length d.flows)
     (there : slice_get (all_flows d) number ≡ Some flow) where
   declared : slice_get d.flows number ≡ Some flow
-  declared = of_declared d.flows (reply_flows d.flows) number flow low there
+  declared = in_front d.flows (reply_flows d.flows) number flow low there
 
   pub order_refused : (e : RmapError) → Fails e (order_of r) → Fails e (packet_of d r)
   unfolding packet_of

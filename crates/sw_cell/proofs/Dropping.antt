@@ -1,6 +1,6 @@
 -- The step of a switch that drops what goes nowhere.
-use Rattle.std.proofs.Common.{◌≡◌, ℕ, ◌<◌, true, false, List, [], ◌∷◌, Contains, drop, Option, Some, None, IsSome, bit_and, refl, ap, sym, subst, ◌∙◌, arith}
-use Rattle.sw_cell.proofs.Passing.{input_here, input_other, kept_front, kept_input, rest_at, was_idle}
+use Rattle.std.proofs.Common.{◌≡◌, ℕ, ◌<◌, true, false, List, [], drop, Option, Some, None, bit_and, refl, ap, sym, subst, ◌∙◌, arith}
+use Rattle.sw_cell.proofs.Passing.{input_here, input_other, kept_front, kept_input, rest_at, was_idle, some_of}
 use Rattle.sw_cell.proofs.Puts.{front_is, front_of, reached_more}
 use Rattle.sw_cell.proofs.Switches.{end_here, end_other, ends_at, port_small, ports_change, within}
 use Rattle.sw_cell.specs.SwitchParts.{IsSwitchFor, IsSwitchState, SwitchMakes, input_of}
@@ -11,7 +11,6 @@ use Rattle.sw_flow.specs.Numbers.{outputs}
 use Rattle.sw_flow.specs.Places.{end_of, ends_of}
 use Rattle.sw_link.specs.Ends.{Received}
 use Rattle.sw_machine.proofs.Lists.{put_here, put_there}
-use Rattle.sw_machine.specs.Network.{AtSwitch}
 use Rattle.sw_machine.specs.State.{State, after_drop_byte, after_drop_marker}
 use Rattle.sw_machine.specs.Steps.{Drop, Drops, Leads}
 use Rattle.sw_machine.specs.declared.input.InputState.TheVariants.{Spilling}
@@ -27,21 +26,12 @@ use Rattle.sw_topo.proofs.PortBits.{and_members, none_zero, zero_none}
 use Rattle.sw_topo.specs.Wiring.{out_of, partner}
 use Rattle.sw_topo.specs.declared.place.PlaceEnd.TheVariants.{Switch}
 use Rattle.sw_link.specs.Between.{Between}
-
-none_contained : (l : List ℕ) → ((e : ℕ) → Contains l e → ⊥) → l ≡ []
-none_contained [] never = refl
-none_contained (x ∷ l) never = absurd (never x (0, omega arith, refl))
-
-pub some_of : {A : Type 0} (o : Option A) → IsSome o → (x : A) × (o ≡ Some x)
-some_of None is = absurd (cc)
-some_of (Some x) is = (x, refl)
+use Rattle.sw_topo.proofs.Lists.{none_listed}
+use Rattle.sw_machine.proofs.Steps.{switch_is}
 
 pub looks_are : (d : Declaration) (w h : ℕ) → (network_of d).look w h ≡ outputs (ends_of d) w (look_at d.switches w h)
 unfolding network_of
 looks_are d w h = refl
-
-pub switch_is : (v w : ℕ) → AtSwitch v ≡ AtSwitch w → v ≡ w
-switch_is v w e = cc
 
 module _ {R A : Type 0} where
   -- what dropping this character leaves
@@ -61,7 +51,7 @@ module _ {R A : Type 0} (answer : R → ℕ → Look) (arbiter_ports : A → ℕ
   goes_nowhere h none =
       let look = look_at d.switches w h in
       let ports_none = subst (λ (l : Look). bit_and l.ports cell.linked ≡ 0) (for.routes h) none in
-      looks_are d w h ∙ none_contained (outputs (ends_of d) w look) (λ e c.
+      looks_are d w h ∙ none_listed (outputs (ends_of d) w look) (λ e c.
       let n = (outputs_are (ends_of d) w look e).0 c in
       let linked = (for.linked n.port).1 (rw n.linked refl) in
       zero_none (bit_and look.ports cell.linked) ports_none n.port (omega arith) ((and_members look.ports cell.linked n.port).1 (n.named, linked)))

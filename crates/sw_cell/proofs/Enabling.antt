@@ -35,7 +35,7 @@ use Rattle.sw_topo.specs.declared.place.PlaceEnd.TheVariants.{Switch}
 use Rattle.sw_link.specs.Between.{Between, fcts_at, wire_at}
 
 -- the link end of a node
-into_back : (net : Network) → IsNetwork net → (n : ℕ) → n < net.nodes → reverse_of (net.into n) ≡ net.out n
+pub into_back : (net : Network) → IsNetwork net → (n : ℕ) → n < net.nodes → reverse_of (net.into n) ≡ net.out n
 into_back net ok n in_net =
     let at = ok.into_ends n in_net in
     let back = ok.reversed (net.into n) at.0 in

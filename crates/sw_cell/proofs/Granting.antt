@@ -6,8 +6,8 @@ use Rattle.std.proofs.lemmas.List.Folds.{Any-from_list_any, list_any_at}
 use Rattle.std.proofs.lemmas.Option.{same_Some}
 use Rattle.std.specs.List.{list_any}
 use Rattle.std.specs.Prelude.{slice_get, unwrap_or}
-use Rattle.sw_cell.proofs.Dropping.{looks_are, some_of, switch_is}
-use Rattle.sw_cell.proofs.Passing.{input_here, input_other, kept_front, kept_input, rest_at, was_held, was_idle}
+use Rattle.sw_cell.proofs.Dropping.{looks_are}
+use Rattle.sw_cell.proofs.Passing.{input_here, input_other, kept_front, kept_input, rest_at, was_held, was_idle, some_of}
 use Rattle.sw_cell.proofs.Puts.{front_is, front_of, reached_more}
 use Rattle.sw_cell.proofs.Switches.{end_here, end_other, end_place, ends_at, is_linked, port_small, ports_change, within}
 use Rattle.sw_cell.specs.SwitchParts.{IsSwitchFor, IsSwitchState, SwitchMakes, input_of, port_at}
@@ -36,6 +36,7 @@ use Rattle.sw_topo.specs.Wiring.{out_of, partner}
 use Rattle.sw_topo.specs.declared.place.PlaceEnd.{PlaceEnd}
 use Rattle.sw_topo.specs.declared.place.PlaceEnd.TheVariants.{Node, Switch}
 use Rattle.sw_link.specs.Between.{Between}
+use Rattle.sw_machine.proofs.Steps.{switch_is}
 
 deletes_are : (d : Declaration) (w h : ℕ) → (network_of d).deletes w h ≡ (look_at d.switches w h).delete
 unfolding network_of

@@ -37,7 +37,7 @@ pub some_first : {A : Type 0} (l : List A) → 0 < length l → (x : A) × (slic
 some_first [] lt = absurd (omega arith)
 some_first (x ∷ l) lt = (x, refl)
 
-some_of : {A : Type 0} (o : Option A) → IsSome o → (x : A) × (o ≡ Some x)
+pub some_of : {A : Type 0} (o : Option A) → IsSome o → (x : A) × (o ≡ Some x)
 some_of None is = absurd (cc)
 some_of (Some x) is = (x, refl)
 

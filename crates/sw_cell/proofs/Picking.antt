@@ -1,8 +1,7 @@
 -- The step of a switch that grants an output as its arbiter picks.
-use Rattle.std.proofs.Common.{◌≡◌, ◌≢◌, ℕ, zero, suc, List, [], ◌∷◌, length, length-set, Option, Some, refl, ap, sym, subst, ◌∙◌, ⊎_elim, arith, true}
+use Rattle.std.proofs.Common.{◌≡◌, ℕ, List, length, length-set, Option, Some, ap, sym, subst, ◌∙◌, ⊎_elim, arith, true}
 use Rattle.std.proofs.lemmas.Bool.{cases_eq}
 use Rattle.std.specs.Prelude.{slice_get, slice_set}
-use Rattle.sw_cell.proofs.Dropping.{switch_is}
 use Rattle.sw_cell.proofs.Granting.{grant_made, grant_not, kept_granted, starts_at}
 use Rattle.sw_cell.proofs.Switches.{end_place}
 use Rattle.sw_cell.specs.Picks.{CannotGrant}
@@ -19,19 +18,8 @@ use Rattle.sw_switch.specs.Changes.{Grants, granted_to}
 use Rattle.sw_switch.specs.Conditions.{CanGrant}
 use Rattle.sw_topo.specs.declared.place.PlaceEnd.TheVariants.{Switch}
 use Rattle.sw_link.specs.Between.{Between}
-
--- what stands in a list after a change
-other_stays : {X : Type 0} (xs : List X) (i j : ℕ) (y : X) → j ≢ i → slice_get (slice_set xs i y) j ≡ slice_get xs j
-other_stays [] i j y other = refl
-other_stays (x ∷ xs) zero zero y other = absurd (other refl)
-other_stays (x ∷ xs) zero (suc j) y other = refl
-other_stays (x ∷ xs) (suc i) zero y other = refl
-other_stays (x ∷ xs) (suc i) (suc j) y other = other_stays xs i j y (λ e. other (ap suc e))
-
-new_is_there : {X : Type 0} (xs : List X) (i : ℕ) (x y : X) → slice_get xs i ≡ Some x → slice_get (slice_set xs i y) i ≡ Some y
-new_is_there [] i x y e = cc
-new_is_there (z ∷ xs) zero x y e = refl
-new_is_there (z ∷ xs) (suc i) x y e = new_is_there xs i x y e
+use Rattle.sw_topo.proofs.Lists.{slice_get-set_other, slice_get-set_same}
+use Rattle.sw_machine.proofs.Steps.{switch_is}
 
 module _ {R A : Type 0} (answer : R → ℕ → Look) (arbiter_ports : A → ℕ) (d : Declaration) (w : ℕ) where
   -- other arbiters of the same ports
@@ -66,9 +54,9 @@ module _ {R A : Type 0} (answer : R → ℕ → Look) (arbiter_ports : A → ℕ
     have_arbiters keeps port lt linked = ⊎_elim
         (λ e.
         let before : arbiter_ports grants.before ≡ cell.linked = subst (λ (o : Option (Option A)). HasArbiter arbiter_ports cell.linked o) grants.arbiter (for.sound.arbiter_ports out (omega arith) grants.possible.linked) in
-        subst (λ (o : Option (Option A)). HasArbiter arbiter_ports cell.linked o) (sym (ap (slice_get (slice_set cell.arbiters out (Some grants.after))) e ∙ new_is_there cell.arbiters out (Some grants.before) (Some grants.after) grants.arbiter))
+        subst (λ (o : Option (Option A)). HasArbiter arbiter_ports cell.linked o) (sym (ap (slice_get (slice_set cell.arbiters out (Some grants.after))) e ∙ slice_get-set_same cell.arbiters out (Some grants.before) (Some grants.after) grants.arbiter))
         (keeps grants.before grants.after grants.asking p grants.picks ∙ before))
-        (λ ne. subst (λ (o : Option (Option A)). HasArbiter arbiter_ports cell.linked o) (sym (other_stays cell.arbiters out port (Some grants.after) ne)) (for.sound.arbiter_ports port lt linked))
+        (λ ne. subst (λ (o : Option (Option A)). HasArbiter arbiter_ports cell.linked o) (sym (slice_get-set_other cell.arbiters out port (Some grants.after) ne)) (for.sound.arbiter_ports port lt linked))
         (cases_eq port out)
 
     pub kept_picked : (c : ℕ) → end_of d c ≡ Some (Switch w p) → ((a b : A) (asking pick : ℕ) → policy a asking pick b → arbiter_ports b ≡ arbiter_ports a) → IsSwitchFor answer arbiter_ports d w new

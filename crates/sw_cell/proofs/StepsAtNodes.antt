@@ -1,6 +1,5 @@
 -- The steps at a node: those of its two channels, and those that are never possible there.
 use Rattle.std.proofs.Common.{ℕ, Bool, ◌≡◌, ap, false, refl, subst, sym, ◌∙◌}
-use Rattle.std.specs.Prelude.{Err, Ok, OnErr, Result}
 use Rattle.sw_cell.proofs.Spilling.{spilling_at_switches}
 use Rattle.sw_cell.specs.Places.{HasNamed}
 use Rattle.sw_cell.specs.Makes.{NodeMakes}
@@ -75,8 +74,3 @@ module _ (net : Network) (ok : IsNetwork net) (n : ℕ) (node : Node) (b : Betwe
     refl,
     refl,
   )
-
--- what holds after an error, if what it follows from does
-pub on_err : {T E P Q : Type 0} (r : Result T E) → (P → Q) → OnErr r P → OnErr r Q
-on_err (Ok x) then h = tt
-on_err (Err e) then h = then h

@@ -1,7 +1,7 @@
 -- The parts of a switch that a step changes, and those that it leaves.
 use mathlib.Core.Logic.{∥∥₁_elim}
 use native.Mathlib.Bridge.{le_prop}
-use Rattle.std.proofs.Common.{◌≡◌, ℕ, ◌+◌, ◌-◌, ◌<◌, ◌≤◌, Bool, true, false, List, [], ◌∷◌, ◌++◌, drop, length, length-set, get_or-set_same, get_or-set_other, Option, Some, None, IsBitSet, refl, ap, sym, subst, ◌∙◌, ⊎_elim, arith}
+use Rattle.std.proofs.Common.{◌≡◌, ℕ, ◌+◌, ◌-◌, ◌<◌, ◌≤◌, Bool, true, false, List, [], ◌∷◌, ◌++◌, drop, length, length-set, get_or-set_same, get_or-set_other, Some, None, IsBitSet, refl, ap, sym, subst, ◌∙◌, ⊎_elim, arith}
 use Rattle.std.proofs.lemmas.Bool.{cases_eq}
 use Rattle.std.proofs.lemmas.Option.{slice_get_within, same_Some}
 use Rattle.std.specs.Prelude.{slice_get}
@@ -19,7 +19,7 @@ use Rattle.sw_machine.specs.Network.{AtSwitch}
 use Rattle.sw_machine.specs.State.{State, after_arrive, after_fct, after_fct_in, put}
 use Rattle.sw_machine.specs.Steps.{Arrive, Fct, FctIn, Leads, Step}
 use Rattle.sw_machine.proofs.DeclaredNetworks.{are_networks}
-use Rattle.sw_machine.specs.Model.{cell_of, network_of}
+use Rattle.sw_machine.specs.Model.{network_of}
 use Rattle.sw_config.proofs.Flows.{All-at}
 use Rattle.sw_config.specs.Entries.{Declaration, wiring_of}
 use Rattle.sw_config.specs.Valid.{IsValid}
@@ -30,9 +30,9 @@ use Rattle.sw_switch.specs.Conditions.{CanIssue}
 use Rattle.sw_topo.proofs.Ends.{one_port, partner_back, port_found}
 use Rattle.sw_topo.specs.Checked.{IsIn}
 use Rattle.sw_topo.specs.Wiring.{partner}
-use Rattle.sw_topo.specs.declared.place.PlaceEnd.{PlaceEnd}
-use Rattle.sw_topo.specs.declared.place.PlaceEnd.TheVariants.{Node, Switch}
+use Rattle.sw_topo.specs.declared.place.PlaceEnd.TheVariants.{Switch}
 use Rattle.sw_link.specs.Between.{Between, fcts_at, wire_at, with_fcts, with_wire}
+use Rattle.sw_machine.proofs.Steps.{switch_of}
 
 -- ---- channels and ports
 
@@ -312,15 +312,10 @@ made_as d w cell b step made x y v u e f h =
 
 -- ---- what the code finds
 
-place_is : (o : Option PlaceEnd) (w : ℕ) → cell_of o ≡ AtSwitch w → (p : ℕ) × (o ≡ Some (Switch w p))
-place_is None w e = absurd (cc)
-place_is (Some (Node n)) w e = absurd (cc)
-place_is (Some (Switch v p)) w e = let same : v ≡ w = cc in (p, ap (λ k. Some (Switch k p)) same)
-
 pub end_place : (d : Declaration) (c w : ℕ) → (network_of d).end_of c ≡ AtSwitch w → (p : ℕ) × (end_of d c ≡ Some (Switch w p))
 unfolding network_of
-end_place d c w e = place_is (end_of d c) w e
+end_place d c w e = switch_of (end_of d c) w e
 
 pub start_place : (d : Declaration) (c w : ℕ) → (network_of d).start_of c ≡ AtSwitch w → (p : ℕ) × (slice_get (ends_of d) c ≡ Some (Switch w p))
 unfolding network_of
-start_place d c w e = place_is (slice_get (ends_of d) c) w e
+start_place d c w e = switch_of (slice_get (ends_of d) c) w e

@@ -2,7 +2,7 @@
 use Rattle.std.proofs.Common.{◌≡◌, ℕ, ◌+◌, ◌<◌, ◌≤◌, ◌==◌, true, false, List, length, map, Some, None, option_map, is_some, Contains, refl, sym, ◌∙◌, subst, arith}
 use Rattle.std.specs.Prelude.{slice_get, slice_index, if◌then◌else◌}
 use Rattle.std.specs.List.{list_all}
-use Rattle.std.proofs.lemmas.Bool.{eqb-true, eq-eqb, leb-false, lt-leb}
+use Rattle.std.proofs.lemmas.Bool.{eqb-true, eq-eqb, leb-false, lt-leb, and_parts, and_from}
 use Rattle.std.proofs.lemmas.List.{length-map}
 use Rattle.std.proofs.lemmas.Option.{slice_get_within}
 use Rattle.sw_config.specs.Entries.{FlowEntry, ReplyEntry, Declaration, all_flows}
@@ -26,11 +26,12 @@ use Rattle.sw_cert.specs.Least.{least}
 use Rattle.sw_cert.specs.Refusals.{first_refusal, is_in_range, are_in_range, is_listed, out_at, into_at, start_of, is_closed_at, refusal_of_place, refusal_of_flow, is_not_above, not_rising_from, not_rising_along, answering_nodes, is_falling_at}
 use Rattle.sw_cert.specs.AcceptanceLaws.{NotRefusedIsAccepted}
 use Rattle.sw_cert.proofs.ListedPlaces.{to_machine, from_machine}
-use Rattle.sw_cert.proofs.Lists.{first_none, both_none, unless_none, none_unless, mapped_none, none_mapped, none_refused, refused_none, all_each, each_all, Contains-at, at_Contains, none_by_flow, by_flow_none, listed_place, place_listed}
-use Rattle.sw_cert.proofs.Ranged.{true_both, both_true, as_many, in_range_each, each_in_range, range_of, of_range}
+use Rattle.sw_cert.proofs.Lists.{first_none, both_none, unless_none, none_unless, none_mapped, none_refused, refused_none, all_each, each_all, Contains-at, at_Contains, none_by_flow, by_flow_none, listed_place, place_listed}
+use Rattle.sw_cert.proofs.Ranged.{as_many, in_range_each, each_in_range, range_of, of_range}
 use Rattle.sw_cert.proofs.Leasts.{none_passes, passes_none}
 use Rattle.sw_cert.proofs.Answering.{replies_end, end_of_replies, some_reply, its_number}
 use Rattle.sw_cert.proofs.Reasons.{NoReason, no_reason, none_of}
+use Rattle.sw_topo.proofs.Faultless.{no_map}
 
 -- ---- a flow, here and in the machine
 
@@ -59,7 +60,7 @@ record IsHere (d : Declaration) (c : Contents) (i : ℕ) : Type 0 where
 module _ (d : Declaration) (c : Contents) (valid : IsValid d) (r : NoReason d c) where
   ranges : (length c.numbers ≡ length (ends_of d)) × (are_in_range d (all_flows d) c.places ≡ true)
   ranges =
-      let both = true_both (length c.numbers == length (ends_of d)) (are_in_range d (all_flows d) c.places) r.network in
+      let both = and_parts (length c.numbers == length (ends_of d)) (are_in_range d (all_flows d) c.places) r.network in
       (eqb-true (length c.numbers) (length (ends_of d)) both.0, both.1)
 
   here_at : (i : ℕ) → i < length (all_flows d) → IsHere d c i
@@ -90,12 +91,12 @@ module _ (d : Declaration) (c : Contents) (valid : IsValid d) (r : NoReason d c)
       place_none =
           let none = none_refused (refusal_of_place d (0 + i) a.flow a.listed) a.listed flow_none.1 p m in
           let both = first_none (option_map (Faulty (0 + i) p) (fault_of d a.flow p.channel p.deleted)) (if is_closed_at d a.flow a.listed p then None else Some (NotClosed (0 + i) p)) none in
-          (mapped_none (Faulty (0 + i) p) (fault_of d a.flow p.channel p.deleted) both.0, unless_none (is_closed_at d a.flow a.listed p) (NotClosed (0 + i) p) both.1)
+          (no_map (Faulty (0 + i) p) (fault_of d a.flow p.channel p.deleted) both.0, unless_none (is_closed_at d a.flow a.listed p) (NotClosed (0 + i) p) both.1)
 
       rises : least (is_not_above c.numbers p.channel) (map (λ (q : Place). q.channel) (followers_of d a.flow p.channel p.deleted)) ≡ None
       rises =
           let none = none_by_flow (not_rising_along d c.numbers) 0 (all_flows d) c.places r.numbers i a.flow a.listed a.here a.there in
-          mapped_none (NotRising p.channel) (least (is_not_above c.numbers p.channel) (map (λ (q : Place). q.channel) (followers_of d a.flow p.channel p.deleted))) (none_refused (not_rising_from d c.numbers a.flow) a.listed none p m)
+          no_map (NotRising p.channel) (least (is_not_above c.numbers p.channel) (map (λ (q : Place). q.channel) (followers_of d a.flow p.channel p.deleted))) (none_refused (not_rising_from d c.numbers a.flow) a.listed none p m)
 
       module _ (e k : ℕ) (step : machine.Follows (network_of d) i p.channel p.deleted e k) where
         follower : Contains (followers_of d a.flow p.channel p.deleted) (record { channel = e; deleted = k })
@@ -113,7 +114,7 @@ module _ (d : Declaration) (c : Contents) (valid : IsValid d) (r : NoReason d c)
     target_at j has =
         let some : is_some a.flow.reply ≡ true = some_reply (reply_number d i) j a.flow.reply (sym (reply_is d i a.flow a.here) ∙ has) in
         let node : Contains (answering_nodes (all_flows d)) a.flow.to = replies_end (all_flows d) a.flow (Contains-at (all_flows d) i a.flow a.here) some in
-        let none : least (is_falling_at d c.numbers) (answering_nodes (all_flows d)) ≡ None = mapped_none (λ n. NotRising (into_at d n) (out_at d n)) (least (is_falling_at d c.numbers) (answering_nodes (all_flows d))) r.targets in
+        let none : least (is_falling_at d c.numbers) (answering_nodes (all_flows d)) ≡ None = no_map (λ n. NotRising (into_at d n) (out_at d n)) (least (is_falling_at d c.numbers) (answering_nodes (all_flows d))) r.targets in
         leb-false (slice_index c.numbers (out_at d a.flow.to)) (slice_index c.numbers (into_at d a.flow.to)) (none_passes (is_falling_at d c.numbers) (answering_nodes (all_flows d)) none a.flow.to node)
 
   member : (i : ℕ) (a : IsHere d c i) (e k : ℕ) → IsListed (certificate_of c) i e k → Contains a.listed (record { channel = e; deleted = k })
@@ -223,7 +224,7 @@ module _ (d : Declaration) (c : Contents) (valid : IsValid d) (acc : IsAccepted 
 
   no_reason_at : NoReason d c
   no_reason_at = record {
-    network = both_true (length c.numbers == length (ends_of d)) (are_in_range d (all_flows d) c.places) (eq-eqb (length c.numbers) (length (ends_of d)) channels) (each_in_range d (all_flows d) c.places flows in_it);
+    network = and_from (length c.numbers == length (ends_of d)) (are_in_range d (all_flows d) c.places) (eq-eqb (length c.numbers) (length (ends_of d)) channels) (each_in_range d (all_flows d) c.places flows in_it);
     flows = by_flow_none (refusal_of_flow d) 0 (all_flows d) c.places (λ i f ps here there. flow_passes i f ps here there (0 + i));
     numbers = by_flow_none (not_rising_along d c.numbers) 0 (all_flows d) c.places (λ i f ps here there. along_passes i f ps here there (0 + i));
     targets = none_mapped (λ n. NotRising (into_at d n) (out_at d n)) (least (is_falling_at d c.numbers) (answering_nodes (all_flows d))) (passes_none (is_falling_at d c.numbers) (answering_nodes (all_flows d)) target_rises);

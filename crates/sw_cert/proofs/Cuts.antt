@@ -9,6 +9,7 @@ use Rattle.std.proofs.lemmas.List.Elements.{All-nil, All-cons, All-append}
 use Rattle.std.proofs.lemmas.Fmt.{decimal_by_steps}
 use Rattle.sw_flow.specs.declared.place.Place.{Place}
 use Rattle.sw_cert.specs.Grammar.{head_lines, flow_lines, lines_of, block, place_line, with_lf, HasText, Fits, IsBlock}
+use Rattle.sw_machine.proofs.Load.{all_append}
 
 abbrev pub IsBreak : ℕ → Bool
 IsBreak b = b == 10
@@ -49,10 +50,6 @@ word_line (b ∷ w) e =
 number_after : (w : List ℕ) (n : ℕ) → list_all (λ b. not (IsBreak b)) w ≡ true → n < 2 ^ 30 → IsOneLine (w ++ decimal n)
 number_after w n e lt = All-append (λ b. IsBreak b ≡ false) w (decimal n) (word_line w e) (decimal_line n lt)
 
-all_both : {A : Type 0} (P : A → Type 0) (xs ys : List A) → AllByRecursion P xs → AllByRecursion P ys → AllByRecursion P (xs ++ ys)
-all_both P [] ys h k = k
-all_both P (x ∷ xs) ys h k = (h.0, all_both P xs ys h.1 k)
-
 numbers_are_lines : (ns : List ℕ) → AllByRecursion (λ v. v ≤ 65535) ns → AllByRecursion IsOneLine (map (λ v. codes "number " ++ decimal v) ns)
 numbers_are_lines [] h = tt
 numbers_are_lines (v ∷ ns) h = (number_after (codes "number ") v refl (omega (arith, h.0)), numbers_are_lines ns h.1)
@@ -71,15 +68,15 @@ pub blocks_are_lines : (fs : List (List Place)) → AllByRecursion IsBlock fs �
 blocks_are_lines [] h = tt
 blocks_are_lines (f ∷ fs) h =
     let b = h.0 in
-    all_both IsOneLine (block f) (flat_map block fs) (number_after (codes "flow ") (length f) refl (omega (arith, b.0)), places_are_lines f b.1) (blocks_are_lines fs h.1)
+    all_append IsOneLine (block f) (flat_map block fs) (number_after (codes "flow ") (length f) refl (omega (arith, b.0)), places_are_lines f b.1) (blocks_are_lines fs h.1)
 
 -- each line of a certificate is one line
 pub are_lines : (ns : List ℕ) (fs : List (List Place)) → HasText ns fs → AllByRecursion IsOneLine (lines_of ns fs)
 are_lines ns fs h =
     let few = h.channels in
     let flows = h.few in
-    all_both IsOneLine (head_lines (length ns) ns) (flow_lines (length fs) fs ++ codes "end" ∷ [])
+    all_append IsOneLine (head_lines (length ns) ns) (flow_lines (length fs) fs ++ codes "end" ∷ [])
     (word_line (codes "swcert 1") refl, (number_after (codes "channels ") (length ns) refl (omega arith), numbers_are_lines ns h.numbers_fit))
-    (all_both IsOneLine (flow_lines (length fs) fs) (codes "end" ∷ [])
+    (all_append IsOneLine (flow_lines (length fs) fs) (codes "end" ∷ [])
     (number_after (codes "flows ") (length fs) refl (omega arith), blocks_are_lines fs h.blocks)
     (word_line (codes "end") refl, tt))

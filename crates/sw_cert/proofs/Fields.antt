@@ -10,9 +10,7 @@ use Rattle.sw_text.specs.Number.{number_of}
 use Rattle.sw_cert.specs.Grammar.{after_word, field, place_at, place_of}
 use Rattle.sw_text.proofs.Cuts.{split_found, split_whole}
 use Rattle.sw_text.proofs.Numbers.{read_spelled, spelled_read}
-
-no_some : {A : Type 0} (x : A) → ◌≡◌ {A = Option A} None (Some x) → ⊥
-no_some x e = cc
+use Rattle.sw_topo.proofs.Lists.{none_some}
 
 pub begins : (word line : List ℕ) → starts_with nat_eq line word ≡ true → line ≡ word ++ drop (length word) line
 begins [] line e = refl
@@ -26,7 +24,7 @@ begun (w ∷ word) rest = let r = begun word rest in (rw (eq-eqb w w refl) r.0, 
 pub after_spelled : (word line rest : List ℕ) → after_word word line ≡ Some rest → line ≡ word ++ rest
 after_spelled word line rest e = elim (cases_Bool (starts_with nat_eq line word)) [
   | inl t ↦ let s : Some (drop (length word) line) ≡ Some rest = rw t at e in let k : drop (length word) line ≡ rest = cc in begins word line t ∙ ap (λ l. word ++ l) k
-  | inr f ↦ let bad : None ≡ Some rest = rw f at e in absurd (no_some rest bad)
+  | inr f ↦ let bad : None ≡ Some rest = rw f at e in absurd (none_some rest bad)
 ]
 
 pub after_read : (word rest : List ℕ) → after_word word (word ++ rest) ≡ Some rest
@@ -37,7 +35,7 @@ pub field_spelled : (word line : List ℕ) (limit n : ℕ) → limit < 2 ^ 24 �
 field_spelled word line limit n few e = go (after_word word line) refl e
   where
     go : (o : Option (List ℕ)) → after_word word line ≡ o → option_and_then (number_of limit) o ≡ Some n → (line ≡ word ++ decimal n) × (n ≤ limit)
-    go None h e = absurd (no_some n e)
+    go None h e = absurd (none_some n e)
     go (Some rest) h e = let r = read_spelled limit n rest few e in (after_spelled word line rest h ∙ ap (λ l. word ++ l) r.0, r.1)
 
 pub field_read : (word : List ℕ) (limit n : ℕ) → limit < 2 ^ 24 → n ≤ limit → field word limit (word ++ decimal n) ≡ Some n

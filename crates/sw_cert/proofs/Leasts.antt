@@ -7,7 +7,8 @@ use Rattle.sw_flow.proofs.Listed.{Contains-head, Contains-later, Contains-cases}
 use Rattle.sw_cert.specs.Least.{lesser, least, IsLeast, LeastIsLeast}
 use Rattle.sw_cert.specs.Refusals.{answering_nodes, is_falling_at}
 use Rattle.sw_cert.specs.Ends.{falling_end}
-use Rattle.sw_cert.proofs.Lists.{drop_at, drop_past}
+use Rattle.sw_cert.proofs.Lists.{drop_past}
+use Rattle.sw_topo.proofs.Lists.{drop_at}
 
 pub lesser_none : (o : Option ℕ) → lesser o None ≡ o
 lesser_none None = refl

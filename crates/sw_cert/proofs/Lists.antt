@@ -29,10 +29,6 @@ module _ {X : Type 0} where
   none_unless true x h = refl
   none_unless false x h = absurd cc
 
-pub mapped_none : {X Y : Type 0} (g : X → Y) (o : Option X) → option_map g o ≡ None → o ≡ None
-mapped_none g None h = refl
-mapped_none g (Some x) h = absurd (let bad : Some (g x) ≡ None = h in cc)
-
 pub none_mapped : {X Y : Type 0} (g : X → Y) (o : Option X) → o ≡ None → option_map g o ≡ None
 none_mapped g None h = refl
 none_mapped g (Some x) h = absurd cc
@@ -93,11 +89,6 @@ module _ {X : Type 0} where
       by : (y ≡ x) ⊎ Contains ys x → (Contains ys x → (i : ℕ) × (i < length ys) × (slice_get ys i ≡ Some x)) → (i : ℕ) × (i < length (y ∷ ys)) × (slice_get (y ∷ ys) i ≡ Some x)
       by (inl same) rest = (0, omega arith, ap Some same)
       by (inr later) rest = let r = rest later in (suc r.0, omega (arith, r.1), r.2)
-
-  pub drop_at : (xs : List X) (i : ℕ) (x : X) → slice_get xs i ≡ Some x → drop i xs ≡ x ∷ drop (suc i) xs
-  drop_at [] i x h = absurd (let bad : None ≡ Some x = h in cc)
-  drop_at (y ∷ ys) zero x h = let same : y ≡ x = cc in ap (λ (z : X). z ∷ ys) same
-  drop_at (y ∷ ys) (suc i) x h = drop_at ys i x h
 
 -- ---- flow by flow
 

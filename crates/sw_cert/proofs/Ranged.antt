@@ -2,19 +2,13 @@
 use Rattle.std.proofs.Common.{◌≡◌, ℕ, zero, suc, ◌+◌, ◌<◌, ◌≤◌, ◌==◌, ◌&&◌, Bool, true, false, List, [], ◌∷◌, length, drop, Some, None, refl, sym, ap, ◌∙◌, ◌⊎◌, inl, inr, arith}
 use Rattle.std.specs.Prelude.{slice_get}
 use Rattle.std.specs.List.{list_all}
-use Rattle.std.proofs.lemmas.Bool.{cases_Bool, cases_lt, eq-eqb, ne_eqb, lt-ltb, le-ltb, le-leb, lt-leb}
+use Rattle.std.proofs.lemmas.Bool.{cases_Bool, cases_lt, eq-eqb, ne_eqb, lt-ltb, le-ltb, le-leb, lt-leb, and_parts, and_from}
 use Rattle.sw_config.specs.Entries.{FlowEntry, Declaration}
 use Rattle.sw_flow.specs.declared.place.Place.{Place}
 use Rattle.sw_flow.specs.Places.{ends_of}
 use Rattle.sw_cert.specs.Refusals.{is_in_range, are_in_range}
-use Rattle.sw_cert.proofs.Lists.{drop_at, drop_past}
-
-pub true_both : (a b : Bool) → (a && b) ≡ true → (a ≡ true) × (b ≡ true)
-true_both true b h = (refl, h)
-true_both false b h = absurd cc
-
-pub both_true : (a b : Bool) → a ≡ true → b ≡ true → (a && b) ≡ true
-both_true a b ha hb = rw (ha, hb) refl
+use Rattle.sw_cert.proofs.Lists.{drop_past}
+use Rattle.sw_topo.proofs.Lists.{drop_at}
 
 -- two counts, and what else is looked at
 pub other_count : (a b : ℕ) (r : Bool) → (a ≡ b → ⊥) → ((a == b) && r) ≡ false
@@ -28,7 +22,7 @@ module _ (d : Declaration) where
   as_many [] [] h = refl
   as_many [] (ps ∷ pss) h = absurd cc
   as_many (f ∷ fs) [] h = absurd cc
-  as_many (f ∷ fs) (ps ∷ pss) h = ap suc (as_many fs pss (true_both (list_all (is_in_range d f) ps) (are_in_range d fs pss) h).1)
+  as_many (f ∷ fs) (ps ∷ pss) h = ap suc (as_many fs pss (and_parts (list_all (is_in_range d f) ps) (are_in_range d fs pss) h).1)
 
   pub not_as_many : (fs : List FlowEntry) (pss : List (List Place)) → (length pss ≡ length fs → ⊥) → are_in_range d fs pss ≡ false
   not_as_many fs pss other = elim (cases_Bool (are_in_range d fs pss)) [ inl all ↦ absurd (other (as_many fs pss all)) | inr none ↦ none ]
@@ -39,15 +33,15 @@ module _ (d : Declaration) where
   in_range_each (g ∷ fs) (qs ∷ pss) h zero f ps here there =
       let same : g ≡ f = cc in
       let list : qs ≡ ps = cc in
-      rw (← same, ← list) (true_both (list_all (is_in_range d g) qs) (are_in_range d fs pss) h).0
-  in_range_each (g ∷ fs) (qs ∷ pss) h (suc i) f ps here there = in_range_each fs pss (true_both (list_all (is_in_range d g) qs) (are_in_range d fs pss) h).1 i f ps here there
+      rw (← same, ← list) (and_parts (list_all (is_in_range d g) qs) (are_in_range d fs pss) h).0
+  in_range_each (g ∷ fs) (qs ∷ pss) h (suc i) f ps here there = in_range_each fs pss (and_parts (list_all (is_in_range d g) qs) (are_in_range d fs pss) h).1 i f ps here there
 
   pub each_in_range : (fs : List FlowEntry) (pss : List (List Place)) → length pss ≡ length fs
       → ((i : ℕ) (f : FlowEntry) (ps : List Place) → slice_get fs i ≡ Some f → slice_get pss i ≡ Some ps → list_all (is_in_range d f) ps ≡ true) → are_in_range d fs pss ≡ true
   each_in_range [] [] same each = refl
   each_in_range [] (ps ∷ pss) same each = absurd (omega arith)
   each_in_range (f ∷ fs) [] same each = absurd (omega arith)
-  each_in_range (f ∷ fs) (ps ∷ pss) same each = both_true (list_all (is_in_range d f) ps) (are_in_range d fs pss) (each 0 f ps refl refl) (each_in_range fs pss (omega arith) (λ i g qs here there. each (suc i) g qs here there))
+  each_in_range (f ∷ fs) (ps ∷ pss) same each = and_from (list_all (is_in_range d f) ps) (are_in_range d fs pss) (each 0 f ps refl refl) (each_in_range fs pss (omega arith) (λ i g qs here there. each (suc i) g qs here there))
 
   module _ (i : ℕ) (fs : List FlowEntry) (pss : List (List Place)) where
     in_range_more : (f : FlowEntry) (ps : List Place) → slice_get fs i ≡ Some f → slice_get pss i ≡ Some ps → are_in_range d (drop i fs) (drop i pss) ≡ (list_all (is_in_range d f) ps && are_in_range d (drop (suc i) fs) (drop (suc i) pss))

@@ -1,7 +1,7 @@
 -- What is read is spelled so: the lines that lead to a state.
 use Rattle.std.proofs.Common.{◌≡◌, ℕ, zero, suc, ◌+◌, ◌-◌, ◌<◌, ◌≤◌, ◌^◌, true, List, [], ◌∷◌, ◌++◌, length, map, drop, refl, sym, ap, ◌∙◌, subst, inl, inr, arith, Option, Some, None, append_assoc, append-nil, get_or, drop-cons, zero-add}
 use Rattle.std.specs.Prelude.{codes, option_and_then, option_map, ◌==◌, take, position, slice_get, if◌then◌else◌}
-use Rattle.std.specs.List.{AllByRecursion, flat_map}
+use Rattle.std.specs.List.{flat_map}
 use Rattle.std.specs.Fmt.{decimal}
 use Rattle.std.proofs.lemmas.Bool.{cases_Bool, and_parts, eqb-true}
 use Rattle.std.proofs.lemmas.List.{map-append, length_push, drop_all, take-append-drop}
@@ -18,9 +18,8 @@ use Rattle.sw_cert.specs.Reading.{State, next, with_said, last_of}
 use Rattle.sw_cert.specs.Sound.{IsSound}
 use Rattle.sw_text.proofs.Numbers.{read_spelled}
 use Rattle.sw_cert.proofs.Fields.{begins, field_spelled, after_spelled}
-
-no_some : {A : Type 0} (x : A) → ◌≡◌ {A = Option A} None (Some x) → ⊥
-no_some x e = cc
+use Rattle.sw_topo.proofs.Lists.{none_some}
+use Rattle.sw_machine.proofs.Lists.{all_push}
 
 same_some : {A : Type 0} (x y : A) → ◌≡◌ {A = Option A} (Some x) (Some y) → x ≡ y
 same_some x y e = cc
@@ -29,7 +28,7 @@ same_some x y e = cc
 pub word_case : (word line : List ℕ) (s : Said) (h : Said → State) (f : State) (P : State → Type 0) → option_map h (if is_line word line then Some s else None) ≡ Some f → (line ≡ word → P (h s)) → P f
 word_case word line s h f P e done = elim (cases_Bool (is_line word line)) [
   | inl t ↦ let k : Some (h s) ≡ Some f = rw t at e in subst P (same_some (h s) f k) (done (whole word line t))
-  | inr g ↦ let bad : None ≡ Some f = rw g at e in absurd (no_some f bad)
+  | inr g ↦ let bad : None ≡ Some f = rw g at e in absurd (none_some f bad)
 ]
   where
     whole : (w l : List ℕ) → is_line w l ≡ true → l ≡ w
@@ -45,7 +44,7 @@ pub field_case : (word line : List ℕ) (limit : ℕ) (g : ℕ → Said) (h : Sa
 field_case word line limit g h f P few e done = go (field word limit line) refl e
   where
     go : (o : Option ℕ) → field word limit line ≡ o → option_map h (option_and_then (λ n. Some (g n)) o) ≡ Some f → P f
-    go None k e = absurd (no_some f e)
+    go None k e = absurd (none_some f e)
     go (Some n) k e = let r = field_spelled word line limit n few k in subst P (same_some (h (g n)) f e) (done n r.0 r.1)
 
 -- two numbers with a space between them
@@ -63,15 +62,15 @@ place_spelled bytes p e = go (position (λ b. b == 32) bytes) refl e
         (sym (take-append-drop at bytes) ∙ ap (λ l. l ++ drop at bytes) a.0 ∙ ap (λ l. decimal c ++ l) tail, a.1, b.1)
 
     two : (at c : ℕ) → position (λ b. b == 32) bytes ≡ Some at → number_of 65535 (take at bytes) ≡ Some c → (o : Option ℕ) → number_of 32 (drop (at + 1) bytes) ≡ o → option_and_then (λ k. Some (record { channel = c; deleted = k })) o ≡ Some p → (bytes ≡ decimal p.channel ++ (32 ∷ decimal p.deleted)) × (p.channel ≤ 65535) × (p.deleted ≤ 32)
-    two at c h m None n e = absurd (no_some p e)
+    two at c h m None n e = absurd (none_some p e)
     two at c h m (Some k) n e = subst (λ q. (bytes ≡ decimal q.channel ++ (32 ∷ decimal q.deleted)) × (q.channel ≤ 65535) × (q.deleted ≤ 32)) (same_some _ p e) (last at c k h m n)
 
     one : (at : ℕ) → position (λ b. b == 32) bytes ≡ Some at → (o : Option ℕ) → number_of 65535 (take at bytes) ≡ o → option_and_then (λ c. option_and_then (λ k. Some (record { channel = c; deleted = k })) (number_of 32 (drop (at + 1) bytes))) o ≡ Some p → (bytes ≡ decimal p.channel ++ (32 ∷ decimal p.deleted)) × (p.channel ≤ 65535) × (p.deleted ≤ 32)
-    one at h None m e = absurd (no_some p e)
+    one at h None m e = absurd (none_some p e)
     one at h (Some c) m e = two at c h m (number_of 32 (drop (at + 1) bytes)) refl e
 
     go : (o : Option ℕ) → position (λ b. b == 32) bytes ≡ o → option_and_then (place_at bytes) o ≡ Some p → (bytes ≡ decimal p.channel ++ (32 ∷ decimal p.deleted)) × (p.channel ≤ 65535) × (p.deleted ≤ 32)
-    go None h e = absurd (no_some p e)
+    go None h e = absurd (none_some p e)
     go (Some at) h e = one at h (number_of 65535 (take at bytes)) refl e
 
 -- a line of a place that stands behind the last
@@ -83,15 +82,15 @@ place_case last line h f P e done = one (after_word (codes "place ") line) refl 
     three : (p : Place) → line ≡ place_line p → p.channel ≤ 65535 → p.deleted ≤ 32 → option_map h (if_rising last p) ≡ Some f → P f
     three p l a b e = elim (cases_Bool (stands_before last p)) [
       | inl t ↦ let k : Some (h (said.Listed p)) ≡ Some f = rw t at e in subst P (same_some _ f k) (done p l a b t)
-      | inr g ↦ let bad : None ≡ Some f = rw g at e in absurd (no_some f bad)
+      | inr g ↦ let bad : None ≡ Some f = rw g at e in absurd (none_some f bad)
     ]
 
     two : (rest : List ℕ) → after_word (codes "place ") line ≡ Some rest → (o : Option Place) → place_of rest ≡ o → option_map h (option_and_then (if_rising last) o) ≡ Some f → P f
-    two rest a None b e = absurd (no_some f e)
+    two rest a None b e = absurd (none_some f e)
     two rest a (Some p) b e = let s = place_spelled rest p b in three p (after_spelled (codes "place ") line rest a ∙ ap (λ l. codes "place " ++ l) s.0) s.1 s.2 e
 
     one : (o : Option (List ℕ)) → after_word (codes "place ") line ≡ o → option_map h (option_and_then (if_rising last) (option_and_then place_of o)) ≡ Some f → P f
-    one None a e = absurd (no_some f e)
+    one None a e = absurd (none_some f e)
     one (Some rest) a e = two rest a (place_of rest) refl e
 
 -- the lines of a block of which the count and some places were read
@@ -114,10 +113,6 @@ lines_to d = written d.expected d.numbers d.flows d.open_block
 pub record GoesOn (d : State) (line : List ℕ) (e : State) : Type 0 where
   pub lines : lines_to e ≡ lines_to d ++ line ∷ []
   pub sound : IsSound e
-
-all_push : {A : Type 0} (P : A → Type 0) (xs : List A) (x : A) → AllByRecursion P xs → P x → AllByRecursion P (xs ++ x ∷ [])
-all_push P [] x h p = (p, tt)
-all_push P (y ∷ xs) x h p = (h.0, all_push P xs x h.1 p)
 
 -- the last of the list, or what was last before it
 abbrev pub last_or : Option Place → List Place → Option Place
@@ -280,4 +275,4 @@ goes_on_from (Places zero k) ns fs ps line f h e =
     place_case (last_of ps) line _ f (GoesOn (record { expected = Places zero k; numbers = ns; flows = fs; open_block = ps }) line) e (last_goes_on k ns fs ps line h)
 goes_on_from (Places (suc p) k) ns fs ps line f h e =
     place_case (last_of ps) line _ f (GoesOn (record { expected = Places (suc p) k; numbers = ns; flows = fs; open_block = ps }) line) e (place_goes_on p k ns fs ps line h)
-goes_on_from Nothing ns fs ps line f h e = absurd (no_some f e)
+goes_on_from Nothing ns fs ps line f h e = absurd (none_some f e)

@@ -18,6 +18,7 @@ use Rattle.sw_text.proofs.Numbers.{spelled_read}
 use Rattle.sw_cert.proofs.Fields.{field_read, after_read}
 use Rattle.sw_cert.proofs.Runs.{runs_append}
 use Rattle.sw_cert.proofs.Spelled.{last_or, last_is}
+use Rattle.sw_machine.proofs.Load.{all_append}
 
 abbrev pub at : Expected → List ℕ → List (List Place) → List Place → State
 at e ns fs ps = record { expected = e; numbers = ns; flows = fs; open_block = ps }
@@ -37,10 +38,6 @@ numbers_run xs (v ∷ vs) h = (
 
 no_space_digit : (d : ℕ) → d < 10 → ((48 + d) == 32) ≡ false
 no_space_digit d lt = ne_eqb (48 + d) 32 (λ e. omega arith)
-
-all_append : {A : Type 0} (P : A → Type 0) (xs ys : List A) → AllByRecursion P xs → AllByRecursion P ys → AllByRecursion P (xs ++ ys)
-all_append P [] ys h k = k
-all_append P (x ∷ xs) ys h k = (h.0, all_append P xs ys h.1 k)
 
 -- no space stands among the digits of a number
 no_space : (n : ℕ) → n < 2 ^ 30 → AllByRecursion (λ b. (b == 32) ≡ false) (decimal n)

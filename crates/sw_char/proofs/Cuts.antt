@@ -67,7 +67,7 @@ one_cut l = (
       (sym (ap (λ (c : Cut). c.packets) e), sym (ap (λ (c : Cut). c.rest) e)),
 )
 
-chars-push : (ps : List PacketView) (p : PacketView) → chars (ps ++ p ∷ []) ≡ chars ps ++ chars_of p
+pub chars-push : (ps : List PacketView) (p : PacketView) → chars (ps ++ p ∷ []) ≡ chars ps ++ chars_of p
 chars-push [] p = append-nil (chars_of p)
 chars-push (q ∷ ps) p = ap (λ (x : List NChar). chars_of q ++ x) (chars-push ps p) ∙ sym (append_assoc (chars_of q) (chars ps) (chars_of p))
 

@@ -1,9 +1,9 @@
 -- Reply flows: how many there are, what they keep, their names; and the network with one flow more.
-use Rattle.std.proofs.Common.{◌≡◌, ℕ, zero, suc, ◌+◌, ◌-◌, ◌*◌, ◌<◌, ◌≤◌, Bool, true, false, ◌||◌, take, List, [], ◌∷◌, ◌++◌, length, Option, Some, None, Result, Ok, Err, option_map, codes, refl, sym, subst, ap, ◌∙◌, inl, inr, arith, length-append, append_assoc, zero-add, All}
+use Rattle.std.proofs.Common.{◌≡◌, ℕ, zero, suc, ◌+◌, ◌-◌, ◌*◌, ◌<◌, ◌≤◌, Bool, true, false, take, List, [], ◌∷◌, ◌++◌, length, Option, Some, None, Result, Ok, Err, option_map, codes, refl, sym, subst, ap, ◌∙◌, inl, inr, arith, length-append, append_assoc, zero-add, All}
 use Rattle.std.specs.Prelude.{slice_get, position, OnOk, OnErr}
 use Rattle.std.specs.List.{list_any}
 use Rattle.std.specs.Str.{bytes_eq}
-use Rattle.std.proofs.lemmas.Bool.{cases_Bool, false≢true}
+use Rattle.std.proofs.lemmas.Bool.{cases_Bool, false≢true, or_parts}
 use Rattle.std.proofs.lemmas.Slice.Eq.{bytes_eq-Decides}
 use Rattle.std.proofs.lemmas.Option.{get_or_from_slice_get, slice_get_within}
 use Rattle.std.proofs.lemmas.List.{append_cancel_right, map_push, map-append, length-map, append-nil}
@@ -24,12 +24,6 @@ All-at P xs i x at all = subst P (get_or_from_slice_get xs i x x at) (All-get_or
 pub slice_get-append_right : {X : Type 0} (xs ys : List X) (k : ℕ) → slice_get (xs ++ ys) (length xs + k) ≡ slice_get ys k
 slice_get-append_right [] ys k = ap (slice_get ys) (zero-add k)
 slice_get-append_right (x ∷ xs) ys k = let e : length (x ∷ xs) + k ≡ suc (length xs + k) = omega arith in rw e (slice_get-append_right xs ys k)
-
--- what stands in one of two lists stands in both together
-pub in_first : {X : Type 0} (xs ys : List X) (i : ℕ) (x : X) → slice_get xs i ≡ Some x → slice_get (xs ++ ys) i ≡ Some x
-in_first [] ys i x at = absurd cc
-in_first (y ∷ xs) ys zero x at = at
-in_first (y ∷ xs) ys (suc i) x at = in_first xs ys i x at
 
 pub in_second : {X : Type 0} (xs ys second : List X) (n i : ℕ) (x : X) → n ≡ length xs → second ≡ ys → n ≤ i → slice_get second (i - n) ≡ Some x → slice_get (xs ++ ys) i ≡ Some x
 in_second xs ys second n i x size same past at =
@@ -76,11 +70,6 @@ reply_flows_are_flows nodes [] all = All-nil (IsFlow nodes)
 reply_flows_are_flows nodes (f ∷ fs) all =
     All-append (IsFlow nodes) (replies_of f f.reply) (reply_flows fs) (replies_are_flows nodes f f.reply refl (All-head (IsFlow nodes) f fs all)) (reply_flows_are_flows nodes fs (All-tail (IsFlow nodes) f fs all))
 
--- where a name is new among the flows, the name of its replies is new among the reply flows
-neither : (a b : Bool) → (a || b) ≡ false → (a ≡ false) × (b ≡ false)
-neither false b e = (refl, e)
-neither true b e = absurd (false≢true (sym e))
-
 unlike : (name other : List ℕ) → bytes_eq name other ≡ false → bytes_eq (name ++ codes "+reply") (other ++ codes "+reply") ≡ false
 unlike name other apart =
     elim (cases_Bool (bytes_eq (name ++ codes "+reply") (other ++ codes "+reply"))) [
@@ -98,7 +87,7 @@ new_among name f (Some r) fs apart rest = rw (unlike name f.name apart, rest) re
 pub new_reply_name : (name : List ℕ) (fs : List FlowEntry) → list_any (bytes_eq name) (flow_names fs) ≡ false → list_any (bytes_eq (name ++ codes "+reply")) (flow_names (reply_flows fs)) ≡ false
 new_reply_name name [] new = refl
 new_reply_name name (f ∷ fs) new =
-    let both = neither (bytes_eq name f.name) (list_any (bytes_eq name) (flow_names fs)) new in
+    let both = or_parts (bytes_eq name f.name) (list_any (bytes_eq name) (flow_names fs)) new in
     new_among name f f.reply fs both.0 (new_reply_name name fs both.1)
 
 reply_name : (f x : FlowEntry) (r : Option ReplyEntry) → x ∷ [] ≡ replies_of f r → x.name ≡ f.name ++ codes "+reply"

@@ -7,3 +7,4 @@ pub mod FlowLaws
 pub use Rattle.sw_route.proofs.PortBits
 pub use Rattle.sw_route.proofs.PortWalk
 pub use Rattle.sw_route.proofs.Ends
+pub use Rattle.sw_route.proofs.Lists

@@ -35,7 +35,7 @@ abbrev In : Declaration → PlaceEnd → Type 0
 In d = IsIn (length d.nodes) (length d.switches)
 
 -- an end in a network is in one with more parts
-stays_in : (n s m t : ℕ) → n ≤ m → s ≤ t → (e : PlaceEnd) → IsIn n s e → IsIn m t e
+pub stays_in : (n s m t : ℕ) → n ≤ m → s ≤ t → (e : PlaceEnd) → IsIn n s e → IsIn m t e
 stays_in n s m t more_n more_s (Node k) lt = omega arith
 stays_in n s m t more_n more_s (Switch k p) in' = (omega arith, in'.1)
 

@@ -2,7 +2,7 @@
 use Rattle.std.proofs.Common.{◌≡◌, ℕ, ◌+◌, ◌<◌, All, List, get_or, length, Option, Some, None, refl, sym, ap, ◌∙◌, subst}
 use Rattle.std.specs.Prelude.{slice_get, IsSome}
 use Rattle.std.specs.Option.{option_map}
-use Rattle.sw_topo.specs.declared.place.PlaceEnd.TheVariants.{Node, Switch}
+use Rattle.sw_topo.specs.declared.place.PlaceEnd.TheVariants.{Node}
 use Rattle.sw_topo.specs.Wiring.{out, partner}
 use Rattle.sw_topo.proofs.Ends.{node_only, partner_back}
 use Rattle.sw_config.specs.Entries.{FlowEntry, ReplyEntry, Declaration, wiring_of, all_flows}
@@ -33,7 +33,7 @@ apart : (net : Network) (c e : ℕ) → IsDependency net c e → IsBy net c e
 apart net c e (ByFlow i b k x m lt p f) = flow i k m lt p f
 apart net c e (ByTarget i j lt reply) = target i j lt reply refl refl
 
-has_reply : (n j : ℕ) (o : Option ReplyEntry) → option_map (λ r. n) o ≡ Some j → IsSome o
+pub has_reply : (n j : ℕ) (o : Option ReplyEntry) → option_map (λ r. n) o ≡ Some j → IsSome o
 has_reply n j None h = absurd cc
 has_reply n j (Some r) h = refl
 
@@ -102,9 +102,6 @@ module _ (d : Declaration) (valid : IsValid d) where
 -- what stands at the end of a channel
 pub same_node : (n k : ℕ) → Some (Node n) ≡ Some (Node k) → n ≡ k
 same_node n k is = cc
-
-pub no_switch : (n s p : ℕ) → Some (Node n) ≡ Some (Switch s p) → ⊥
-no_switch n s p is = cc
 
 -- the channels of a round are the network's
 pub round_within : (d : Declaration) → IsValid d → (channels : List ℕ) → IsRound d channels → All (λ c. c < length (ends_of d)) channels

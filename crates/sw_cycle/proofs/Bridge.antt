@@ -33,12 +33,8 @@ use Rattle.sw_graph.proofs.Listed.{row_member, row_read}
 use Rattle.sw_cycle.specs.Named.{AreNamed, IsNamed}
 use Rattle.sw_cycle.specs.Answering.{AreMarked, IsAnswered, is_marked}
 use Rattle.sw_cycle.specs.Rows.{AreRows, row_at_end, row_of}
-use Rattle.sw_cycle.proofs.Naming.{none_in}
-
--- a reply's number is that of a reply
-replied_by : (n j : ℕ) (o : Option ReplyEntry) → option_map (λ r. n) o ≡ Some j → IsSome o
-replied_by n j None h = absurd cc
-replied_by n j (Some r) h = refl
+use Rattle.sw_topo.proofs.Lists.{none_in}
+use Rattle.sw_cycle.proofs.Between.{has_reply}
 
 replied_with : (n : ℕ) (o : Option ReplyEntry) → IsSome o → option_map (λ r. n) o ≡ Some n
 replied_with n None h = absurd cc
@@ -153,7 +149,7 @@ module _ (d : Declaration) (valid : IsValid d) where
         let is = All-at (IsFlow d.nodes) (all_flows d) i f.0 f.1 (valid_flows d valid).0 in
         let only = node_only (wiring_of d) valid.sound f.0.to is.to in
         let answered : IsAnswered d (length (all_flows d)) f.0.to =
-        record { number = i; flow = f.0; below = lt; numbered = f.1; replied = replied_by (reply_number d i) j f.0.reply (rw f.1 at reply); ends_there = refl } in
+        record { number = i; flow = f.0; below = lt; numbered = f.1; replied = has_reply (reply_number d i) j f.0.reply (rw f.1 at reply); ends_there = refl } in
         rw (to, only.1.first) (target_listed f.0.to only.0 answered only.1.first only.1.starts.here)
 
     row_exact : (c e : ℕ) → Contains (row_of d sets marks c) e ↔ IsDependency (network_of d) c e

@@ -1,5 +1,5 @@
 -- What the check of a cycle looks at.
-use Rattle.std.proofs.Common.{not, eqb, false, ◌≡◌, ℕ, ◌+◌, ◌%◌, ◌<◌, ◌≤◌, ◌↔◌, ◌∷◌, List, length, map, get_or, drop, drop-cons, suc, Some, refl, sym, ap, ◌∙◌, subst, inl, inr, arith}
+use Rattle.std.proofs.Common.{not, eqb, false, ◌≡◌, ℕ, ◌+◌, ◌%◌, ◌<◌, ◌≤◌, ◌↔◌, List, length, map, get_or, Some, refl, sym, ap, ◌∙◌, subst, inl, inr, arith}
 use Rattle.std.specs.Prelude.{Bool, IsTrue, slice_get}
 use Rattle.std.specs.Option.{option_map}
 use Rattle.std.proofs.Math.Nat.{mod-eq_of_lt, mod-lt}
@@ -11,7 +11,6 @@ use Rattle.sw_config.specs.Entries.{Declaration, all_flows}
 use Rattle.sw_config.specs.Valid.{IsFlow, IsValid}
 use Rattle.sw_config.proofs.Flows.{All-at}
 use Rattle.sw_config.proofs.FlowLaws.{valid_flows}
-use Rattle.sw_flow.specs.declared.place.Place.{Place}
 use Rattle.sw_cycle.specs.declared.cycle.Cause.{Cause}
 use Rattle.sw_cycle.specs.Cycles.{cause_of, CauseEntry, IsAnswered, IsCause, IsCausedAt, IsShown, round}
 
@@ -69,12 +68,6 @@ all_caused d channels causes n some one_each all caused = record {
   one_each = length-map causes cause_of ∙ one_each;
   caused = λ k cause at. caused k (let within = slice_get_within (map cause_of causes) k cause at in omega (arith, within, length-map causes cause_of)) cause at;
 }
-
--- the places from one on
-pub next_place : (places : List Place) (i : ℕ) (q : Place) → i < length places → q ≡ get_or places i q → drop i places ≡ q ∷ drop (i + 1) places
-next_place places i q lt is =
-    let next : suc i ≡ i + 1 = omega arith in
-    drop-cons places i q lt ∙ ap (λ (p : Place). p ∷ drop (suc i) places) (sym is) ∙ ap (λ (k : ℕ). q ∷ drop k places) next
 
 -- what is not told to differ is equal
 pub equal_where : (a b : ℕ) (r : Bool) → r ≡ not (eqb a b) → r ≡ false → a ≡ b

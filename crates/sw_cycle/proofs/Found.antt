@@ -15,6 +15,7 @@ use Rattle.sw_cycle.specs.declared.steps.Step.{Step}
 use Rattle.sw_cycle.specs.Causes.{GoesOn, IsChosenCause, IsStep, NoneBelow, NoneGoesOn}
 use Rattle.sw_cycle.specs.Firsts.{AreFirst, IsFirstStep, IsNotedAt, IsStepAfter, IsTaken, NoneYet}
 use Rattle.sw_cycle.proofs.Stepped.{no_step}
+use Rattle.sw_topo.proofs.Lists.{none_in}
 
 -- ---- before the first flow
 
@@ -53,9 +54,6 @@ module _ (d : Declaration) (c e : ℕ) (s : Step) (f : IsFirstStep d c e s) wher
     shows = subst (λ (y : ℕ). IsFlowCause d s.flow places c y) f.step.to (subst (λ (x : ℕ). IsFlowCause d s.flow places x s.next.channel) f.step.from h);
     first = f.first;
   }
-
-none_in : {X : Type 0} (x : X) → Contains [] x → ⊥
-none_in x h = let lt = h.1 in omega arith
 
 -- all places of the flow are looked at
 pub flow_more : (d : Declaration) (n : ℕ) (f : FlowEntry) (places : List Place) (channels : List ℕ) (steps : List (Option Step)) → slice_get (all_flows d) n ≡ Some f → IsPlaceList d f places

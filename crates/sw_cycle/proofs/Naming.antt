@@ -1,5 +1,5 @@
 -- The sets of ports that are named, step by step.
-use Rattle.std.proofs.Common.{◌≡◌, ℕ, zero, suc, ◌+◌, ◌<◌, ◌≤◌, ◌↔◌, ◌⊎◌, inl, inr, List, [], ◌∷◌, ◌++◌, length, get_or, set, take, drop, replicate, Option, Some, None, refl, sym, ap, ◌∙◌, subst, arith, Contains, get_or-set_same, get_or-set_other, length-set, All}
+use Rattle.std.proofs.Common.{◌≡◌, ℕ, zero, suc, ◌+◌, ◌<◌, ◌≤◌, ◌↔◌, ◌⊎◌, inl, inr, List, [], ◌∷◌, ◌++◌, length, get_or, set, replicate, Option, Some, None, refl, sym, ap, ◌∙◌, subst, arith, get_or-set_same, get_or-set_other, length-set, All}
 use Rattle.std.specs.Prelude.{IsBitSet, bit_or, slice_get, slice_index, Vec}
 use Rattle.std.specs.List.{AllZip}
 use Rattle.std.specs.declared.alloc.Global.{Global}
@@ -9,7 +9,6 @@ use Rattle.std.proofs.lemmas.List.Elements.{Contains-append_left, Contains-appen
 use Rattle.std.proofs.lemmas.Option.{same_Some}
 use Rattle.sw_topo.specs.declared.place.PlaceEnd.{PlaceEnd}
 use Rattle.sw_topo.specs.declared.place.PlaceEnd.TheVariants.{Node, Switch}
-use Rattle.std.proofs.Math.Seq.{take-append_seam}
 use Rattle.sw_topo.proofs.PortBits.{or_members}
 use Rattle.sw_config.specs.Entries.{FlowEntry, Declaration, all_flows}
 use Rattle.sw_flow.specs.declared.place.Place.{Place}
@@ -17,12 +16,10 @@ use Rattle.sw_flow.specs.Places.{ends_of, end_of, IsPlace, IsPlaceList}
 use Rattle.sw_flow.proofs.Listed.{Contains-head, Contains-cases}
 use Rattle.sw_flow.proofs.Stepping.{places_are_in}
 use Rattle.sw_cycle.specs.Named.{AreAdded, AreNamed, IsNamedAt, NamesPort, ports_at_end, ports_named}
+use Rattle.sw_topo.proofs.Lists.{none_in}
 
 pub none_set : (p : ℕ) → IsBitSet 0 p → ⊥
 none_set p set = set refl
-
-pub none_in : {X : Type 0} (x : X) → Contains [] x → ⊥
-none_in x h = omega (arith, h.1)
 
 -- the set of ports has those that are named
 pub ports_are_named : (d : Declaration) (f : FlowEntry) (c k p : ℕ) → IsBitSet (ports_named d f c k) p ↔ NamesPort d f c k p
@@ -174,7 +171,3 @@ all_inside d f places n list long i q lt =
     let place = (list.member p).0 (Contains-get_or places i q lt) in
     let inside = (places_are_in d f p.channel p.deleted place).0 in
     omega arith
-
--- what a slice's owner holds after a call that keeps its length
-pub whole : {A : Type 0} (len : ℕ) (new old : List A) → len ≡ length old → length new ≡ length old → take len (new ++ drop (length new) old) ≡ new
-whole len new old a b = let e : len ≡ length new = omega arith in ap (λ k. take k (new ++ drop (length new) old)) e ∙ take-append_seam new (drop (length new) old)

@@ -17,7 +17,7 @@ pub unreplied_where : {X : Type 0} (view : X → ReplyEntry) (o : Option X) (rep
 unreplied_where view None reply told is asked no_told = λ some. false≢true (subst (λ (r : Option ReplyEntry). IsSome r) (sym is) some)
 unreplied_where view (Some x) reply told is asked no_told = λ some. false≢true (sym no_told ∙ asked)
 
-unmarked : (n t : ℕ) → is_marked (replicate n false) t ≡ false
+pub unmarked : (n t : ℕ) → is_marked (replicate n false) t ≡ false
 unmarked n t = elim (cases_lt t n) [
   | inl lt ↦ get_or-replicate n t false false lt
   | inr le ↦ let past : length (replicate n false) ≤ t = omega (arith, le, length-replicate n false) in get_or_past (replicate n false) t false past

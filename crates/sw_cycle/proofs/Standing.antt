@@ -10,6 +10,7 @@ use Rattle.sw_graph.specs.Reversing.{AreAdded}
 use Rattle.sw_graph.specs.Rows.{row}
 use Rattle.sw_graph.proofs.Listed.{row_read}
 use Rattle.sw_cycle.specs.Positions.{ArePositions}
+use Rattle.sw_graph.proofs.RelationSteps.{set_row}
 
 none_in : (i : ℕ) → Contains [] i → ⊥
 none_in i h = let lt = h.1 in omega arith
@@ -20,11 +21,6 @@ one c d (suc k, lt, is) = absurd (omega (arith, lt))
 
 -- ---- one number more in a row
 
-set_same : (rows : List (Vec ℕ Global)) (c : ℕ) (v : Vec ℕ Global) → c < length rows → row (set rows c v) c ≡ v.items
-set_same [] c v lt = absurd (omega arith)
-set_same (x ∷ rows) zero v lt = refl
-set_same (x ∷ rows) (suc c) v lt = set_same rows c v (omega arith)
-
 set_other : (rows : List (Vec ℕ Global)) (c d : ℕ) (v : Vec ℕ Global) → (c ≡ d → ⊥) → row (set rows c v) d ≡ row rows d
 set_other [] c d v other = refl
 set_other (x ∷ rows) zero zero v other = absurd (other refl)
@@ -34,7 +30,7 @@ set_other (x ∷ rows) (suc c) (suc d) v other = set_other rows c d v (λ e. oth
 
 pub added_at : (rows : List (Vec ℕ Global)) (c n : ℕ) (old new : Vec ℕ Global) → c < length rows → old ≡ get_or rows c old → new.items ≡ old.items ++ n ∷ [] → AreAdded (c ∷ []) n rows (set rows c new)
 added_at rows c n old new lt was push =
-    let now : row (set rows c new) c ≡ row rows c ++ n ∷ [] = set_same rows c new lt ∙ push ∙ ap (λ (l : List ℕ). l ++ n ∷ []) (sym (row_read rows c old lt was)) in
+    let now : row (set rows c new) c ≡ row rows c ++ n ∷ [] = set_row rows c new lt ∙ push ∙ ap (λ (l : List ℕ). l ++ n ∷ []) (sym (row_read rows c old lt was)) in
     record {
       size = length-set rows c new;
       each = λ b d. elim (cases_eq c d) [

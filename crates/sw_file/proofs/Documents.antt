@@ -31,14 +31,14 @@ use Rattle.sw_file.specs.Network.{version_of, entries, with_nodes, with_switches
 use Rattle.sw_file.specs.Values.{IsNumber, Has, HasTables}
 use Rattle.sw_file.specs.Tables.{IsNodeTable, IsSwitchTable, IsLinkTable, IsFlowTable, version_number, IsNetworkTable, IsNetworkText}
 use Rattle.sw_file.specs.Laws.{NetworksAreReadExactly}
-use Rattle.sw_file.proofs.Grown.{bind_ok}
 use Rattle.sw_file.proofs.Known.{well, passed}
-use Rattle.sw_file.proofs.Values.{test_passed, has_number, has_number_it, has_tables, tables_is, joined, parted}
+use Rattle.sw_file.proofs.Values.{has_number, has_number_it, has_tables, tables_is, joined, parted}
 use Rattle.sw_file.proofs.Walked.{as_long, walked, walks}
 use Rattle.sw_file.proofs.Tables.{passes, is_node, node_is}
 use Rattle.sw_file.proofs.SwitchTables.{is_switch, switch_is}
 use Rattle.sw_file.proofs.LinkTables.{is_link, link_is}
 use Rattle.sw_file.proofs.FlowTables.{is_flow, flow_is}
+use Rattle.sw_text.proofs.Results.{bind_ok, test_passed}
 
 -- names that differ, without those after them
 pairs_start : (xs ys : List (List ℕ)) → AllPairs (λ x y. x ≢ y) (xs ++ ys) → AllPairs (λ x y. x ≢ y) (xs ++ [])

@@ -26,7 +26,8 @@ use Rattle.sw_file.specs.Links.{link_of, next_link}
 use Rattle.sw_file.specs.FlowTables.{flow_of, next_flow}
 use Rattle.sw_file.specs.Network.{version_of, entries, with_nodes, with_switches, with_links, with_parts, wired, with_flows, network_of}
 use Rattle.sw_file.specs.Laws.{Declares, IsDeclaredBy, ReadsEachEntry}
-use Rattle.sw_file.proofs.Grown.{bind_ok, grown_from, as_many, entry_at}
+use Rattle.sw_file.proofs.Grown.{grown_from, as_many, entry_at}
+use Rattle.sw_text.proofs.Results.{bind_ok}
 
 -- one more of each kind
 abbrev add_node : Declaration → NodeEntry → Declaration

@@ -15,10 +15,10 @@ use Rattle.sw_file.specs.Names.{new_name, place_at}
 use Rattle.sw_file.specs.FlowTables.{node_names, address_at, reply_of, reply_or_none, can_reply, addressed, replies_at, flow_of}
 use Rattle.sw_file.specs.Values.{IsNumber, IsTableOf, HasOr, HasIfAny}
 use Rattle.sw_file.specs.Tables.{HasBytes, IsReplyTable, IsFlowTable}
-use Rattle.sw_file.proofs.Grown.{bind_ok}
 use Rattle.sw_file.proofs.Known.{well, passed}
-use Rattle.sw_file.proofs.Values.{test_passed, has_number, has_number_it, has_number_or, number_or_is, has_numbers_or, numbers_or_is, has_if_any, if_any_is}
+use Rattle.sw_file.proofs.Values.{has_number, has_number_it, has_number_or, number_or_is, has_numbers_or, numbers_or_is, has_if_any, if_any_is}
 use Rattle.sw_file.proofs.Tables.{passes, has_new_name, new_name_is, refers, place_is}
+use Rattle.sw_text.proofs.Results.{bind_ok, test_passed}
 
 -- the address bytes
 has_address : (i : ℕ) (ms : Members) (bytes : List ℕ) → address_at i ms ≡ Ok bytes → HasBytes Address ms bytes × (length bytes ≤ 32)

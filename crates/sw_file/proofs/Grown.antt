@@ -1,14 +1,10 @@
 -- A walk that reads one entry a step and adds it to what was read before.
-use Rattle.std.proofs.Common.{◌≡◌, ℕ, zero, suc, ◌+◌, List, [], ◌∷◌, length, take, Some, Result, Ok, Err, refl, sym, ap, ◌∙◌, arith}
+use Rattle.std.proofs.Common.{◌≡◌, ℕ, zero, suc, ◌+◌, List, [], ◌∷◌, length, take, Some, Result, Ok, refl, sym, ap, ◌∙◌, arith}
 use Rattle.std.specs.List.{fold}
 use Rattle.std.specs.Prelude.{slice_get}
 use Rattle.sw_text.specs.declared.fault.TextFault.{TextFault}
 use Rattle.sw_text.specs.Gives.{◌>>=◌, walk_from}
-
--- what went well went well in its parts
-pub bind_ok : {A B : Type 0} (r : Result A TextFault) (f : A → Result B TextFault) (y : B) → (r >>= f) ≡ Ok y → (x : A) × (r ≡ Ok x) × (f x ≡ Ok y)
-bind_ok (Ok x) f y well = (x, refl, well)
-bind_ok (Err e) f y well = absurd cc
+use Rattle.sw_text.proofs.Results.{bind_ok}
 
 module _ {S A X : Type 0} (step : ℕ → S → X → Result S TextFault) (read : ℕ → S → X → Result A TextFault) (add : S → A → S) (is : (i : ℕ) (s : S) (x : X) → step i s x ≡ (read i s x >>= λ e. Ok (add s e))) where
   -- the entries, each read after those before it

@@ -25,8 +25,8 @@ use Rattle.sw_file.specs.FlowTables.{node_names, addressed, can_reply, reply_of,
 use Rattle.sw_file.specs.Names.{new_name, place_at}
 use Rattle.sw_file.specs.Network.{version_of}
 use Rattle.sw_file.specs.Laws.{before_node, before_switch, Declares, IsKnownNode, IsKnownSwitch, IsKnownFlow, RefusesUnknownKeys}
-use Rattle.sw_file.proofs.Grown.{bind_ok}
 use Rattle.sw_file.proofs.Entries.{reads_each_entry}
+use Rattle.sw_text.proofs.Results.{bind_ok}
 
 -- a part of what went well went well
 pub well : {A B : Type 0} {P : Type 0} (r : Result A TextFault) (y : B) → ((f : TextFault) → r ≡ Err f → Err f ≡ Ok y) → ((x : A) → r ≡ Ok x → P) → P

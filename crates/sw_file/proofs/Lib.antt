@@ -20,7 +20,7 @@ mod LongestRows
 mod RowLooks
 mod RowsApart
 mod PutMembers
-mod RowEntries
+pub mod RowEntries
 mod RowRoutes
 mod NewTables
 mod NewSwitches

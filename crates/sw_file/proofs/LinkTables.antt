@@ -20,10 +20,10 @@ use Rattle.sw_file.specs.Names.{place_at}
 use Rattle.sw_file.specs.Links.{end_at, link_of}
 use Rattle.sw_file.specs.Values.{Lacks}
 use Rattle.sw_file.specs.Tables.{HasEnd, IsLinkTable}
-use Rattle.sw_file.proofs.Grown.{bind_ok}
 use Rattle.sw_file.proofs.Known.{well, passed}
 use Rattle.sw_file.proofs.Values.{has_number, has_number_it, has_number_or, number_or_is}
 use Rattle.sw_file.proofs.Tables.{passes, refers, place_is}
+use Rattle.sw_text.proofs.Results.{bind_ok}
 
 lacks_by : (s : Section) (key : Key) (ms : Members) (u : Unit {0}) → absent s key ms ≡ Ok u → (o : Option Data) → get_member (key_text key) ms ≡ o → Lacks key ms
 lacks_by s key ms u h None e = e

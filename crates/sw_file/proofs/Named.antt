@@ -1,5 +1,5 @@
 -- The names of a network that is read.
-use Rattle.std.proofs.Common.{◌≡◌, ◌≢◌, ℕ, ◌&&◌, Bool, true, false, List, map, length, get_or, All, sym, ap, ◌∙◌}
+use Rattle.std.proofs.Common.{◌≡◌, ◌≢◌, ℕ, true, false, List, map, length, get_or, All, sym, ap, ◌∙◌}
 use Rattle.std.specs.Prelude.{nat_le}
 use Rattle.std.specs.List.{list_all}
 use Rattle.std.proofs.lemmas.Bool.{false≢true}
@@ -14,14 +14,10 @@ use Rattle.sw_file.specs.Tables.{IsNodeTable, IsSwitchTable, IsFlowTable, IsNetw
 use Rattle.sw_file.specs.Laws.{HasNames, ReadNamesAreNames}
 use Rattle.sw_file.proofs.Documents.{networks_are_read_exactly}
 use Rattle.sw_file.proofs.Valid.{of_each, network_valid}
+use Rattle.sw_topo.proofs.Lists.{third}
 
 abbrev IsName : List ℕ → Type 0
 IsName name = is_name name ≡ true
-
-third : (a b c : Bool) → (a && b && c) ≡ true → c ≡ true
-third false b c h = absurd (false≢true h)
-third true false c h = absurd (false≢true h)
-third true true c h = h
 
 -- no name has a plus sign
 without_plus : (name : List ℕ) → IsName name → All (λ b. b ≢ 43) name

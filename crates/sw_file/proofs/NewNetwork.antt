@@ -29,7 +29,6 @@ use Rattle.sw_file.specs.Switches.{next_switch}
 use Rattle.sw_file.specs.Links.{next_link}
 use Rattle.sw_file.specs.FlowTables.{next_flow}
 use Rattle.sw_file.specs.Network.{version_of, entries, with_nodes, with_switches, with_links, with_parts, wired, with_flows, network_of}
-use Rattle.sw_file.proofs.Grown.{bind_ok}
 use Rattle.sw_file.specs.Tree.{array_of, with_key, with_tables, merged_switch, new_switches, migrated}
 use Rattle.sw_file.specs.Migration.{IsSameNetwork}
 use Rattle.sw_file.proofs.Known.{passed}
@@ -38,6 +37,7 @@ use Rattle.sw_file.proofs.PutMembers.{get_other, get_same, only_put}
 use Rattle.sw_file.proofs.RowEntries.{ok_same}
 use Rattle.sw_file.proofs.NewTables.{without, within, new_tables}
 use Rattle.sw_file.proofs.NewParts.{IsSameSwitch, same_names, Alike, Steps, node_step, link_step, flow_step, walk_alike, walk_switches}
+use Rattle.sw_text.proofs.Results.{bind_ok}
 
 abbrev pub version_two : Members → Members
 version_two ms = with_key VersionKey (integer (pos 2)) ms

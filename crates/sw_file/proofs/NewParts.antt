@@ -22,13 +22,13 @@ use Rattle.sw_file.specs.Nodes.{config_of, target_or_none, node_of, next_node}
 use Rattle.sw_file.specs.Switches.{switch_of, next_switch}
 use Rattle.sw_file.specs.Links.{link_of, next_link}
 use Rattle.sw_file.specs.FlowTables.{flow_of, next_flow}
-use Rattle.sw_file.proofs.Grown.{bind_ok}
 use Rattle.sw_file.specs.Tree.{merged_switch}
 use Rattle.sw_file.proofs.Known.{passed}
 use Rattle.sw_file.proofs.Tables.{passes}
 use Rattle.sw_file.proofs.PutMembers.{only_more}
 use Rattle.sw_file.proofs.RowEntries.{ok_same}
 use Rattle.sw_file.proofs.NewSwitches.{merged_read}
+use Rattle.sw_text.proofs.Results.{bind_ok}
 
 any_more : (f : Key → Bool) (xs ys : List Key) → list_any f xs ≡ true → list_any f (xs ++ ys) ≡ true
 any_more f [] ys known = absurd cc

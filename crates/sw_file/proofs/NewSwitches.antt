@@ -18,7 +18,6 @@ use Rattle.sw_text.specs.KeyLaws.{HasOnly}
 use Rattle.sw_file.specs.Keys.{switch_keys}
 use Rattle.sw_file.specs.Names.{new_name}
 use Rattle.sw_file.specs.Switches.{arbitration_at, next_route, routes_at, switch_of}
-use Rattle.sw_file.proofs.Grown.{bind_ok}
 use Rattle.sw_file.specs.Rows.{Entry, rows}
 use Rattle.sw_file.specs.Tree.{array_of, with_key, with_tables, entry_of, row_table, merged_switch}
 use Rattle.sw_file.proofs.RowLooks.{single, row_route, answer, rows_answer}
@@ -28,6 +27,7 @@ use Rattle.sw_file.proofs.PutMembers.{get_other, only_put}
 use Rattle.sw_file.proofs.RowEntries.{ok_same}
 use Rattle.sw_file.proofs.RowRoutes.{AreEntries, old_routes, new_routes, rows_fresh, rows_readable}
 use Rattle.sw_file.proofs.NewTables.{tables-anywhere, without, within, new_tables}
+use Rattle.sw_text.proofs.Results.{bind_ok}
 
 -- two routing tables answer alike where they do so for each logical address
 look_alike : (f g : ℕ → Look) (byte : ℕ) → ((a : ℕ) → f a ≡ g a) → look_by f byte ≡ look_by g byte

@@ -1,18 +1,19 @@
 -- The list of tables at a key, where it was changed and where it was not.
 use Rattle.std.proofs.Common.{◌≡◌, List, [], ◌∷◌, map, Option, Some, None, Ok, refl, ap}
-use Rattle.toml.specs.Data.{Data, table, Members, get_member, as_array, as_table}
+use Rattle.toml.specs.Data.{Data, table, Members, get_member, as_table}
 use Rattle.toml.specs.View.{items_of}
 use Rattle.sw_text.specs.declared.keys.Key.{Key}
 use Rattle.sw_text.specs.declared.keys.Section.{Section}
 use Rattle.sw_text.specs.declared.fault.KeyFault.TheVariants.{WrongType}
 use Rattle.sw_text.specs.declared.fault.TextFault.TheVariants as fault
 use Rattle.sw_text.specs.Keys.{key_text}
-use Rattle.sw_text.specs.Gives.{◌>>=◌, ok_or, each}
+use Rattle.sw_text.specs.Gives.{◌>>=◌, each}
 use Rattle.sw_text.specs.Table.{item_list, items_value, table_value, tables_value, tables_or_none}
-use Rattle.sw_file.proofs.Grown.{bind_ok}
 use Rattle.sw_file.specs.Tree.{array_of, with_key, with_tables}
 use Rattle.sw_file.proofs.Values.{there as ok_or_is}
 use Rattle.sw_file.proofs.PutMembers.{get_same}
+use Rattle.sw_file.proofs.RowEntries.{items_value-anywhere}
+use Rattle.sw_text.proofs.Results.{bind_ok}
 
 listed : (ts : List Members) → item_list (items_of (map table ts)) ≡ map table ts
 listed [] = refl
@@ -35,17 +36,12 @@ each-anywhere s t key (d ∷ ds) ts well =
     let b = bind_ok (each (table_value s key) ds) (λ rest. Ok (a.0 ∷ rest)) ts a.2 in
     rw (table_value-anywhere s t key d a.0 a.1, each-anywhere s t key ds b.0 b.1) b.2
 
-items-anywhere : (s t : Section) (key : Key) (d : Data) (ds : List Data) → items_value s key d ≡ Ok ds → items_value t key d ≡ Ok ds
-items-anywhere s t key d ds well =
-    let a = bind_ok (ok_or (as_array d) (fault.Key WrongType s key)) (λ xs. Ok (item_list xs)) ds well in
-    rw (ok_or_is (as_array d) (fault.Key WrongType s key) a.0 a.1) a.2
-
 tables_at : (s t : Section) (key : Key) (ms : Members) (ts : List Members) (o : Option Data) → get_member (key_text key) ms ≡ o → tables_or_none s key ms ≡ Ok ts → tables_or_none t key ms ≡ Ok ts
 tables_at s t key ms ts None is well = rw is (rw is at well)
 tables_at s t key ms ts (Some d) is well =
     let well' : tables_value s key d ≡ Ok ts = rw is at well in
     let a = bind_ok (items_value s key d) (each (table_value s key)) ts well' in
-    rw (is, items-anywhere s t key d a.0 a.1) (each-anywhere s t key a.0 ts a.2)
+    rw (is, items_value-anywhere s t key d a.0 a.1) (each-anywhere s t key a.0 ts a.2)
 
 -- the tables of a list do not depend on where it stands
 pub tables-anywhere : (s t : Section) (key : Key) (ms : Members) (ts : List Members) → tables_or_none s key ms ≡ Ok ts → tables_or_none t key ms ≡ Ok ts

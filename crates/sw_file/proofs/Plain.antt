@@ -3,7 +3,7 @@ use Rattle.std.proofs.Common.{◌≡◌, ℕ, suc, ◌≤◌, max, true, ◌&&�
 use Rattle.std.specs.List.{AllByRecursion}
 use Rattle.std.specs.Str.{bytes_eq}
 use Rattle.std.specs.Cmp.Lexicographic.{slice_cmp}
-use Rattle.std.specs.Ordering.{is_lt, match_ordering, ordering_reverse}
+use Rattle.std.specs.Ordering.{match_ordering, ordering_reverse}
 use Rattle.std.proofs.lemmas.Bool.{cases_Bool, and_parts, and_from, true≢false}
 use Rattle.std.proofs.lemmas.Cmp.{nat_list_cmp_total, tied_itself}
 use Rattle.std.proofs.lemmas.Slice.Eq.{bytes_eq-Decides}
@@ -15,6 +15,7 @@ use Rattle.sw_text.specs.Table.{is_known}
 use Rattle.sw_text.specs.KeyLaws.{HasOnly}
 use Rattle.sw_file.specs.Tree.{put}
 use Rattle.sw_file.proofs.PutMembers.{equal_names}
+use Rattle.sw_text.proofs.Unknown.{less_is}
 
 -- at most so deep, with dates that can be written
 pub record Plain (n : ℕ) (d : Data) : Type 0 where
@@ -60,11 +61,6 @@ in_order k d ms sorted =
     let outer = and_parts (is_before k ms && is_sorted d) (members_are_sorted ms) sorted in
     let inner = and_parts (is_before k ms) (is_sorted d) outer.0 in
     (inner.0, inner.1, outer.1)
-
-less_is : (o : Ordering) → is_lt o ≡ true → o ≡ Less
-less_is Less less = refl
-less_is Equal less = absurd (true≢false (sym less))
-less_is Greater less = absurd (true≢false (sym less))
 
 -- what is found is the first member or is found in the rest
 found_at : (name l : List ℕ) (f e : Data) (rest : Members) (o : Ordering) → slice_cmp nat_cmp name l ≡ o → match_ordering o (get_member name rest) (Some f) (get_member name rest) ≡ Some e → ((name ≡ l) × (f ≡ e)) ⊎ (get_member name rest ≡ Some e)

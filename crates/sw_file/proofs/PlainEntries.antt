@@ -23,11 +23,11 @@ use Rattle.sw_file.specs.Nodes.{size_at, config_of, target_or_none, node_of}
 use Rattle.sw_file.specs.Switches.{arbitration_at, ports_at, route_of, next_route, routes_at, switch_of}
 use Rattle.sw_file.specs.Links.{end_at, link_of}
 use Rattle.sw_file.specs.FlowTables.{node_names, address_at, reply_of, reply_or_none, addressed, replies_at, flow_of}
-use Rattle.sw_file.proofs.Grown.{bind_ok}
 use Rattle.sw_file.proofs.Known.{passed}
 use Rattle.sw_file.proofs.RowRoutes.{route_step}
 use Rattle.sw_file.proofs.Plain.{PlainMembers, Holds, known_plain}
 use Rattle.sw_file.proofs.PlainReaders.{text_plain, text_or_plain, number_plain, number_or_plain, flag_plain, absent_plain, numbers_plain, numbers_or_plain, table_plain, tables_sorted, tables_hold}
+use Rattle.sw_text.proofs.Results.{bind_ok}
 
 name_plain : (n : ℕ) (s : Section) (taken : List (List ℕ)) (ms : Members) (x : List ℕ) → new_name s taken ms ≡ Ok x → Holds n ms (key_text Name)
 unfolding new_name name_at

@@ -10,9 +10,9 @@ use Rattle.sw_text.specs.declared.fault.TextFault.TheVariants as fault
 use Rattle.sw_text.specs.Keys.{key_text}
 use Rattle.sw_text.specs.Gives.{◌>>=◌, ok_or, each}
 use Rattle.sw_text.specs.Table.{required, text_value, in_range, number_value, item_list, items_value, table_value, numbers_value, text_at, text_or_none, number_at, number_or, numbers_at, numbers_or_none, tables_or_none, table_or_none, flag_or_false, absent}
-use Rattle.sw_file.proofs.Grown.{bind_ok}
 use Rattle.sw_file.proofs.Values.{there as ok_or_is}
 use Rattle.sw_file.proofs.Plain.{Plain, PlainItems, PlainMembers, Holds, one_item, no_item, plain_more, plain_table, plain_array, member_sorted, member_plain, item_parts, array_plain, inner_plain}
+use Rattle.sw_text.proofs.Results.{bind_ok}
 
 atom : (n : ℕ) (d : Data) → Plain 0 d → Plain n d
 atom n d plain = plain_more 0 n d (omega arith) plain

@@ -26,7 +26,6 @@ use Rattle.sw_file.specs.Switches.{switch_of, next_switch}
 use Rattle.sw_file.specs.Links.{link_of, next_link}
 use Rattle.sw_file.specs.FlowTables.{flow_of, next_flow}
 use Rattle.sw_file.specs.Network.{version_of, entries, with_nodes, with_switches, with_links, with_flows, network_of}
-use Rattle.sw_file.proofs.Grown.{bind_ok}
 use Rattle.sw_file.specs.Rows.{Entry, Row, goes_on, after, rows}
 use Rattle.sw_file.specs.Tree.{array_of, with_tables, entry_of, row_table, merged_switch, new_switches}
 use Rattle.sw_file.proofs.RowEntries.{ok_same}
@@ -35,6 +34,7 @@ use Rattle.sw_file.proofs.NewNetwork.{version_two, new_tree, entries_parts, old_
 use Rattle.sw_file.proofs.Plain.{Plain, PlainMembers, Holds, plain_more, known_plain, put_plain, tables_plain, plain_array}
 use Rattle.sw_file.proofs.PlainReaders.{number_plain, tables_sorted, tables_hold, tables_inner}
 use Rattle.sw_file.proofs.PlainEntries.{node_plain, switch_plain, link_plain, flow_plain}
+use Rattle.sw_text.proofs.Results.{bind_ok}
 
 abbrev InOrder : Members → Type 0
 InOrder t = members_are_sorted t ≡ true

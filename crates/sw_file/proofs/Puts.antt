@@ -1,5 +1,5 @@
 -- A map of the program beside the table that it stands for, where one member is put into it, and where it is copied.
-use Rattle.std.proofs.Common.{◌≡◌, ℕ, List, [], ◌∷◌, String, Global, Ordering, Less, Equal, Greater, nat_cmp, string_bytes, Option, Some, None, option_map, is_some, refl, sym, ap, ◌∙◌}
+use Rattle.std.proofs.Common.{◌≡◌, ℕ, List, [], ◌∷◌, String, Global, Ordering, Less, Equal, Greater, nat_cmp, string_bytes, is_some, refl, sym, ap, ◌∙◌}
 use Rattle.std.specs.List.{AllZip}
 use Rattle.std.specs.Ordering.{match_ordering}
 use Rattle.std.specs.BTreeMap.{insert_entry, is_at}
@@ -11,6 +11,7 @@ use Rattle.toml.specs.declared.value.Value.{Value}
 use Rattle.toml.specs.View.{view, members_view}
 use Rattle.toml.proofs.Views.{Entry, view-lookup}
 use Rattle.sw_file.specs.Tree.{put}
+use Rattle.sw_topo.proofs.Lists.{is_some-map}
 
 match_members : (o : Ordering) (a b c : List Entry) → members_view (match_ordering o a b c) ≡ match_ordering o (members_view a) (members_view b) (members_view c)
 match_members Less a b c = refl
@@ -26,10 +27,6 @@ cloned [] [] all = refl
 cloned [] (f ∷ fs) all = absurd all
 cloned (e ∷ es) [] all = absurd all
 cloned (e ∷ es) (f ∷ fs) all = rw (all.0.0, all.0.1, cloned es fs all.1) refl
-
-is_some-map : {A B : Type 0} (f : A → B) (o : Option A) → is_some (option_map f o) ≡ is_some o
-is_some-map f None = refl
-is_some-map f (Some x) = refl
 
 -- whether a name stands in the table
 pub contains : (name : List ℕ) (es : List Entry) → is_some (lookup (is_at (λ k. slice_cmp nat_cmp name (string_bytes k))) es) ≡ is_some (get_member name (members_view es))

@@ -21,7 +21,6 @@ use Rattle.sw_text.specs.Table.{is_known, only_known, required, in_range, item_l
 use Rattle.sw_text.specs.KeyLaws.{HasOnly}
 use Rattle.sw_file.specs.Keys.{route_keys}
 use Rattle.sw_file.specs.Switches.{ports_at, route_of}
-use Rattle.sw_file.proofs.Grown.{bind_ok}
 use Rattle.sw_file.specs.Rows.{Entry, Row}
 use Rattle.sw_file.specs.Tree.{with_key, entry_of, row_table}
 use Rattle.sw_file.proofs.RowLooks.{single, row_route}
@@ -29,6 +28,7 @@ use Rattle.sw_file.proofs.Known.{passed}
 use Rattle.sw_file.proofs.Values.{there as ok_or_is}
 use Rattle.sw_file.proofs.Tables.{passes}
 use Rattle.sw_file.proofs.PutMembers.{get_other, get_same, only_put, only_more, absent_name}
+use Rattle.sw_text.proofs.Results.{bind_ok}
 
 -- the table is that of the entry, wherever it stands
 pub record IsEntry (t : Members) (e : Entry) : Type 0 where
@@ -57,7 +57,7 @@ each-anywhere s t key high (d ∷ ds) ns well =
     let b = bind_ok (each (number_value s key 0 high) ds) (λ rest. Ok (a.0 ∷ rest)) ns a.2 in
     rw (number_value-anywhere s t key 0 high d a.0 a.1, each-anywhere s t key high ds b.0 b.1) b.2
 
-items_value-anywhere : (s t : Section) (key : Key) (d : Data) (ds : List Data) → items_value s key d ≡ Ok ds → items_value t key d ≡ Ok ds
+pub items_value-anywhere : (s t : Section) (key : Key) (d : Data) (ds : List Data) → items_value s key d ≡ Ok ds → items_value t key d ≡ Ok ds
 items_value-anywhere s t key d ds well =
     let a = bind_ok (ok_or (as_array d) (fault.Key WrongType s key)) (λ xs. Ok (item_list xs)) ds well in
     rw (ok_or_is (as_array d) (fault.Key WrongType s key) a.0 a.1) a.2

@@ -11,12 +11,13 @@ use Rattle.sw_text.specs.declared.keys.Version.TheVariants.{One, Two}
 use Rattle.sw_text.specs.declared.fault.TextFault.TheVariants as fault
 use Rattle.sw_text.specs.Gives.{each, walk_from}
 use Rattle.sw_file.specs.Switches.{route_of, next_route}
-use Rattle.sw_file.proofs.Grown.{bind_ok}
 use Rattle.sw_file.specs.Rows.{Entry, Row, goes_on, after, rows}
 use Rattle.sw_file.specs.Tree.{entry_of, row_table}
 use Rattle.sw_file.proofs.RowLooks.{single, row_route, Rising, goes_on_parts}
-use Rattle.sw_file.proofs.RowsApart.{FreeOf, Apart, turned, rows_apart}
+use Rattle.sw_file.proofs.RowsApart.{FreeOf, Apart, rows_apart}
 use Rattle.sw_file.proofs.RowEntries.{IsEntry, ok_same, entry_read, row_read}
+use Rattle.sw_route.proofs.Entries.{overlaps_turned}
+use Rattle.sw_text.proofs.Results.{bind_ok}
 
 -- each overlaps none that was there before it
 abbrev pub Fresh : List RouteEntry → List RouteEntry → Type 0
@@ -44,11 +45,11 @@ split_free done r [] free = (tt, tt)
 split_free done r (q ∷ rs) free =
     let here = any_parts (overlaps q) done r free.0 in
     let rest = split_free done r rs free.1 in
-    ((here.0, rest.0), (turned q r here.1, rest.1))
+    ((here.0, rest.0), (overlaps_turned q r here.1, rest.1))
 
 join_free : (done : List RouteEntry) (r : RouteEntry) (rs : List RouteEntry) → AllFree done rs → FreeOf r rs → AllFree (done ++ r ∷ []) rs
 join_free done r [] free off = tt
-join_free done r (q ∷ rs) free off = (any_from (overlaps q) done r free.0 (turned r q off.0), join_free done r rs free.1 off.1)
+join_free done r (q ∷ rs) free off = (any_from (overlaps q) done r free.0 (overlaps_turned r q off.0), join_free done r rs free.1 off.1)
 
 fresh_apart : (done rs : List RouteEntry) → Fresh done rs → AllFree done rs × Apart rs
 fresh_apart done [] fresh = (tt, tt)

@@ -7,6 +7,7 @@ use Rattle.sw_route.specs.declared.look.Route.{Route}
 use Rattle.sw_route.specs.Looks.{overlaps}
 use Rattle.sw_file.specs.Rows.{Entry, Row, goes_on, after, rows}
 use Rattle.sw_file.proofs.RowLooks.{single, row_route, goes_on_parts, Rising, after_rising}
+use Rattle.sw_route.proofs.Entries.{overlaps_turned}
 
 -- a route for some addresses
 abbrev pub Straight : Route → Type 0
@@ -32,13 +33,6 @@ pub sides_apart : (r q : Route) → (r.last < q.first) ⊎ (q.last < r.first) �
 sides_apart r q (inl lt) = and_left (leb q.first r.last) (leb r.first q.last) (lt-leb q.first r.last lt)
 sides_apart r q (inr lt) = and_right (leb q.first r.last) (leb r.first q.last) (lt-leb r.first q.last lt)
 
-pub turned : (r q : Route) → overlaps r q ≡ false → overlaps q r ≡ false
-turned r q off =
-    elim (apart_sides r q off) [
-      | inl lt ↦ sides_apart q r (inr lt)
-      | inr lt ↦ sides_apart q r (inl lt)
-    ]
-
 -- what overlaps neither a range nor the address after it does not overlap the two joined
 joined_sides : (first last a b : ℕ) → a ≤ b → (last < a) ⊎ (b < first) → (suc last < a) ⊎ (b < suc last) → (suc last < a) ⊎ (b < first)
 joined_sides first last a b straight (inr lt) other = inr lt
@@ -60,7 +54,7 @@ after_free : (q : Route) (rs : List Row) (e : Entry) (rest : List Route) → Str
 after_free q [] e rest straight free = free
 after_free q (r ∷ []) e rest straight free =
     elim (cases_Bool (goes_on r e)) [
-      | inl on ↦ rw on (turned (row_route (record { first = r.first; last = e.address })) q (grown_free r e q straight on (turned q (row_route r) free.0) (turned q (single e) free.1.0)), free.1.1)
+      | inl on ↦ rw on (overlaps_turned (row_route (record { first = r.first; last = e.address })) q (grown_free r e q straight on (overlaps_turned q (row_route r) free.0) (overlaps_turned q (single e) free.1.0)), free.1.1)
       | inr off ↦ rw off free
     ]
 after_free q (r ∷ s ∷ rs) e rest straight free = (free.0, after_free q (s ∷ rs) e rest straight free.1)

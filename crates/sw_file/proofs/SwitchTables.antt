@@ -27,11 +27,11 @@ use Rattle.sw_file.specs.Names.{new_name}
 use Rattle.sw_file.specs.Switches.{arbitration_named, arbitration_at, ports_at, route_of, next_route, routes_at, switch_of}
 use Rattle.sw_file.specs.Values.{HasOr, HasTables}
 use Rattle.sw_file.specs.Tables.{IsArbitration, HasPorts, IsRouteTable, IsSwitchTable}
-use Rattle.sw_file.proofs.Grown.{bind_ok}
 use Rattle.sw_file.proofs.Known.{well, passed}
-use Rattle.sw_file.proofs.Values.{there, test_passed, has_or, has_or_it, has_number, has_number_it, has_number_or, number_or_is, has_numbers, numbers_is, has_flag, flag_is, has_tables, tables_is, joined, parted}
+use Rattle.sw_file.proofs.Values.{there, has_or, has_or_it, has_number, has_number_it, has_number_or, number_or_is, has_numbers, numbers_is, has_flag, flag_is, has_tables, tables_is, joined, parted}
 use Rattle.sw_file.proofs.Walked.{walked, walks}
 use Rattle.sw_file.proofs.Tables.{passes, has_new_name, new_name_is}
+use Rattle.sw_text.proofs.Results.{bind_ok, test_passed}
 
 -- how a switch arbitrates
 arbitration_value : (i : ℕ) (ms : Members) (a : Arbitration) (d : Data) → get_member (key_text Arbiter) ms ≡ Some d → arbitration_at i ms ≡ Ok a → (t : Option (List ℕ)) → as_str d ≡ t → IsArbitration d a

@@ -14,8 +14,8 @@ use Rattle.sw_text.specs.Gives.{◌>>=◌, Fails, Gives, each}
 use Rattle.sw_text.proofs.Walks.{each_fails, each_done}
 use Rattle.sw_file.specs.Rows.{Row}
 use Rattle.sw_file.specs.Tree.{with_key, with_tables, row_table, new_switches, as_values, migrated}
-use Rattle.sw_file.proofs.Grown.{bind_ok}
 use Rattle.sw_file.proofs.RowEntries.{ok_same}
+use Rattle.sw_text.proofs.Results.{bind_ok}
 
 -- one table more
 pub table_more : (done : List Members) (values new : List Value) (t : BTreeMap (String Global) Value) → map view values ≡ map table done → new ≡ values ++ Table t ∷ [] → map view new ≡ map table (done ++ table_view t ∷ [])

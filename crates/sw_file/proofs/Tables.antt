@@ -27,9 +27,9 @@ use Rattle.sw_file.specs.Names.{new_name, place_at}
 use Rattle.sw_file.specs.Nodes.{size_at, config_of, target_or_none, node_of}
 use Rattle.sw_file.specs.Values.{IsNumber, Has}
 use Rattle.sw_file.specs.Tables.{IsNamed, Refers, IsTargetTable, IsNodeTable}
-use Rattle.sw_file.proofs.Grown.{bind_ok}
 use Rattle.sw_file.proofs.Known.{well, passed}
-use Rattle.sw_file.proofs.Values.{there, test_passed, has_text, text_is, has_number, has_number_it, has_number_or, number_or_is, has_if_any, if_any_is}
+use Rattle.sw_file.proofs.Values.{there, has_text, text_is, has_number, has_number_it, has_number_or, number_or_is, has_if_any, if_any_is}
+use Rattle.sw_text.proofs.Results.{bind_ok, test_passed}
 
 -- a table that has its keys alone passes
 pub passes : (s : Section) (keys : List Key) (ms : Members) → HasOnly keys ms → only_known s keys ms ≡ Ok tt

@@ -1,6 +1,6 @@
 -- Reading of values and of keys, in words.
-use Rattle.std.proofs.Common.{◌≡◌, ℕ, ◌≤◌, ◌&&◌, Bool, true, false, List, [], ◌∷◌, Option, Some, None, Result, Ok, Err, refl, sym, subst, ap, ◌∙◌, arith, inl, inr}
-use Rattle.std.specs.Prelude.{ℤ, pos, negsuc, nat_le, if◌then◌else◌}
+use Rattle.std.proofs.Common.{◌≡◌, ℕ, ◌≤◌, ◌&&◌, Bool, false, List, [], ◌∷◌, Option, Some, None, Result, Ok, refl, sym, subst, ap, ◌∙◌, arith, inl, inr}
+use Rattle.std.specs.Prelude.{ℤ, pos, negsuc, nat_le}
 use Rattle.std.specs.List.{AllZip}
 use Rattle.std.proofs.lemmas.Bool.{and_parts, leb-true, le-leb}
 use Rattle.std.proofs.lemmas.Option.{cond_some}
@@ -14,16 +14,12 @@ use Rattle.sw_text.specs.Keys.{key_text}
 use Rattle.sw_text.specs.Gives.{◌>>=◌, ok_or, each}
 use Rattle.sw_text.specs.Table.{required, text_value, in_range, number_value, item_list, items_value, table_value, numbers_value, text_at, number_at, number_or, numbers_at, numbers_or_none, tables_or_none, table_or_none, flag_or_false}
 use Rattle.sw_file.specs.Values.{IsText, IsFlag, IsNumber, IsListOf, IsTableOf, Lacks, Has, HasOr, HasIfAny, HasTables}
-use Rattle.sw_file.proofs.Grown.{bind_ok}
+use Rattle.sw_text.proofs.Results.{bind_ok}
 
 -- what is there, and what passes a test
 pub there : {A : Type 0} (o : Option A) (e : TextFault) (a : A) → ok_or o e ≡ Ok a → o ≡ Some a
 there (Some x) e a h = let same : x ≡ a = cc in ap Some same
 there None e a h = absurd cc
-
-pub test_passed : {A : Type 0} (test : Bool) (x a : A) (e : TextFault) → (if test then Ok x else Err e) ≡ Ok a → (test ≡ true) × (x ≡ a)
-test_passed true x a e h = (refl, cc)
-test_passed false x a e h = absurd cc
 
 -- a number in its range
 whole : (low high n : ℕ) (z : ℤ) → in_range low high z ≡ Some n → (z ≡ pos n) × (low ≤ n) × (n ≤ high)

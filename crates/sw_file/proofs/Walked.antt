@@ -6,7 +6,7 @@ use Rattle.std.proofs.lemmas.List.Elements.{All-nil, All-cons, All-head, All-tai
 use Rattle.std.proofs.lemmas.List.Quantifiers.{all_pairs_push}
 use Rattle.sw_text.specs.declared.fault.TextFault.{TextFault}
 use Rattle.sw_text.specs.Gives.{◌>>=◌, walk_from}
-use Rattle.sw_file.proofs.Grown.{bind_ok}
+use Rattle.sw_text.proofs.Results.{bind_ok}
 
 -- there are as many entries as tables
 pub as_long : {X A : Type 0} (Is : X → A → Type 0) (xs : List X) (es : List A) → AllZip Is xs es → length es ≡ length xs

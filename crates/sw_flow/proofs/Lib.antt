@@ -11,3 +11,5 @@ pub mod WellRouted
 pub use Rattle.sw_config.proofs.FlowLaws
 pub use Rattle.sw_config.proofs.Flows
 pub use Rattle.sw_config.proofs.Ends
+pub use Rattle.sw_config.proofs.Lists
+pub mod Partners

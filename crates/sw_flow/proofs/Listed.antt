@@ -1,8 +1,7 @@
 -- What lists made by `map` and `filter_map` have, and ranges.
 use Rattle.std.proofs.Common.{◌≡◌, ℕ, zero, suc, ◌<◌, List, [], ◌∷◌, map, filter_map, Contains, Option, Some, None, refl, sym, ap, ◌∙◌, subst, ◌⊎◌, inl, inr, arith}
-use Rattle.std.specs.List.{range_with_len, cons_option}
+use Rattle.std.specs.List.{cons_option}
 use Rattle.std.proofs.lemmas.List.{get_or-map, length-map}
-use Rattle.std.proofs.lemmas.List.FromFn.{length-range_with_len, get_or-range_with_len}
 
 module _ {X : Type 0} where
   pub Contains-head : (x : X) (xs : List X) → Contains (x ∷ xs) x
@@ -64,12 +63,3 @@ module _ {X Y : Type 0} where
       by : (z ≡ x) ⊎ Contains xs x → (Contains xs x → Contains (filter_map h xs) y) → Contains (filter_map h (z ∷ xs)) y
       by (inl same) rest = rw (ap h same ∙ e) (Contains-head y (filter_map h xs))
       by (inr k) rest = later (h z) (rest k)
-
-pub Contains-range : (n x : ℕ) → x < n → Contains (range_with_len 0 n) x
-Contains-range n x lt = (x, subst (λ (m : ℕ). x < m) (sym (length-range_with_len 0 n)) lt, get_or-range_with_len 0 n x x lt ∙ omega arith)
-
-pub Contains-from_range : (n x : ℕ) → Contains (range_with_len 0 n) x → x < n
-Contains-from_range n x h =
-    let lt : h.0 < n = subst (λ (m : ℕ). h.0 < m) (length-range_with_len 0 n) h.1 in
-    let e = get_or-range_with_len 0 n h.0 x lt in
-    omega (arith, h.2)

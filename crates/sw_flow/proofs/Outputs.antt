@@ -11,8 +11,9 @@ use Rattle.sw_config.specs.Look.{Look}
 use Rattle.sw_config.specs.Looks.{NamesOutput}
 use Rattle.sw_flow.specs.Faults.{output_at, has_output}
 use Rattle.sw_flow.specs.Numbers.{outputs, outputs_below}
-use Rattle.sw_flow.proofs.Listed.{Contains-filter_map, Contains-from_filter_map, Contains-range, Contains-from_range}
+use Rattle.sw_flow.proofs.Listed.{Contains-filter_map, Contains-from_filter_map}
 use Rattle.sw_graph.proofs.Ranges.{range_more}
+use Rattle.sw_graph.proofs.Marked.{in_range, from_range}
 
 module _ (ends : List PlaceEnd) (s : ℕ) (look : Look) where
   pub output_at-named : (p e : ℕ) → IsBitSet look.ports p → out_of ends s p ≡ Some e → output_at ends s look p ≡ Some e
@@ -31,8 +32,8 @@ module _ (ends : List PlaceEnd) (s : ℕ) (look : Look) where
   pub outputs_are : (e : ℕ) → Contains (outputs ends s look) e ↔ NamesOutput ends s look e
   unfolding outputs
   outputs_are e = (
-    λ h. let m = Contains-from_filter_map (output_at ends s look) (range_with_len 0 32) e h in names m.0 e (Contains-from_range 32 m.0 m.1) m.2,
-    λ n. Contains-filter_map (output_at ends s look) (range_with_len 0 32) n.port e (Contains-range 32 n.port n.is_port) (output_at-named n.port e n.named n.linked),
+    λ h. let m = Contains-from_filter_map (output_at ends s look) (range_with_len 0 32) e h in names m.0 e (from_range 32 m.0 m.1) m.2,
+    λ n. Contains-filter_map (output_at ends s look) (range_with_len 0 32) n.port e (in_range 32 n.port n.is_port) (output_at-named n.port e n.named n.linked),
   )
 
   some_output : (p : ℕ) → p < 32 → is_some (output_at ends s look p) ≡ true → (e : ℕ) × NamesOutput ends s look e
@@ -49,17 +50,17 @@ module _ (ends : List PlaceEnd) (s : ℕ) (look : Look) where
   names_from_any : (n : ℕ) → n ≤ 32 → any_below n ≡ true → (e : ℕ) × NamesOutput ends s look e
   names_from_any n le h =
       let a = Any-from_list_any (λ p. is_some (output_at ends s look p)) (range_with_len 0 n) h in
-      let lt : a.1 < n = Contains-from_range n a.1 (a.0, a.2, a.3) in
+      let lt : a.1 < n = from_range n a.1 (a.0, a.2, a.3) in
       some_output a.1 (omega arith) a.4
 
   any_from_port : (n p : ℕ) → p < n → is_some (output_at ends s look p) ≡ true → any_below n ≡ true
   any_from_port n p lt h =
-      let c = Contains-range n p lt in
+      let c = in_range n p lt in
       list_any_at (λ q. is_some (output_at ends s look q)) (range_with_len 0 n) c.0 p c.1 (rw c.2 h)
 
   none_from_ports : (n : ℕ) → ((p : ℕ) → p < n → is_some (output_at ends s look p) ≡ false) → any_below n ≡ false
   none_from_ports n none =
-      list_any_none (λ q. is_some (output_at ends s look q)) (range_with_len 0 n) (λ k d lt. none _ (Contains-from_range n _ (Contains-get_or (range_with_len 0 n) k d lt)))
+      list_any_none (λ q. is_some (output_at ends s look q)) (range_with_len 0 n) (λ k d lt. none _ (from_range n _ (Contains-get_or (range_with_len 0 n) k d lt)))
 
   pub names-from_has_output : has_output ends s look ≡ true → (e : ℕ) × NamesOutput ends s look e
   unfolding has_output

@@ -33,7 +33,7 @@ walks_map P Q f [] end w = tt
 walks_map P Q f (c ∷ []) end w = f c end w
 walks_map P Q f (c ∷ d ∷ rest) end w = (f c d w.0, walks_map P Q f (d ∷ rest) end w.1)
 
-head_more : (xs : List ℕ) (now q : ℕ) → slice_index ((xs ++ now ∷ []) ++ q ∷ []) 0 ≡ slice_index (xs ++ now ∷ []) 0
+pub head_more : (xs : List ℕ) (now q : ℕ) → slice_index ((xs ++ now ∷ []) ++ q ∷ []) 0 ≡ slice_index (xs ++ now ∷ []) 0
 head_more [] now q = refl
 head_more (x ∷ xs) now q = refl
 

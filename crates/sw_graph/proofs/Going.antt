@@ -6,7 +6,7 @@ use Rattle.std.proofs.lemmas.List.{length-append}
 use Rattle.sw_graph.specs.Cycles.{IsLeast, Walks}
 use Rattle.sw_graph.specs.Levels.{Chain}
 use Rattle.sw_graph.specs.Rows.{IsReversed, Leads}
-use Rattle.sw_graph.proofs.Backs.{walks_more}
+use Rattle.sw_graph.proofs.Backs.{walks_more, head_more}
 use Rattle.sw_graph.specs.Searches.{AreKnown, IsSearch, steps_to}
 use Rattle.sw_graph.specs.Shortest.{IsFewest, IsNext, IsShortestFrom}
 use Rattle.sw_graph.proofs.Chains.{chain_cons, chain_first, chain_flip}
@@ -27,10 +27,6 @@ going_first dep start count f = record {
   goes = tt;
   fewest = let some = f.some in let e : count ≡ suc (count - 1) = omega arith in let P : ℕ → Type 0 = λ n. IsFewest dep start start n in subst P e f;
 }
-
-head_more : (xs : List ℕ) (now q : ℕ) → slice_index ((xs ++ now ∷ []) ++ q ∷ []) 0 ≡ slice_index (xs ++ now ∷ []) 0
-head_more [] now q = refl
-head_more (x ∷ xs) now q = refl
 
 -- two least counts are the same
 same_fewest : (dep : ℕ → ℕ → Type 0) (c d m n : ℕ) → IsFewest dep c d (suc m) → IsFewest dep c d (suc n) → m ≡ n

@@ -43,10 +43,10 @@ range_rises n k lt =
 pub marked_rise : (marks : List Bool) → IsStrictlyIncreasing (marked marks)
 marked_rise marks = IsStrictlyIncreasing-filter (λ n. slice_index_or marks n false) (range_with_len 0 (length marks)) (range_rises (length marks))
 
-in_range : (n x : ℕ) → x < n → Contains (range_with_len 0 n) x
+pub in_range : (n x : ℕ) → x < n → Contains (range_with_len 0 n) x
 in_range n x lt = let size = length-range_with_len 0 n in (x, omega arith, get_or-range_with_len 0 n x x lt ∙ omega arith)
 
-from_range : (n x : ℕ) → Contains (range_with_len 0 n) x → x < n
+pub from_range : (n x : ℕ) → Contains (range_with_len 0 n) x → x < n
 from_range n x h =
     let size = length-range_with_len 0 n in
     let lt = h.1 in
@@ -54,7 +54,7 @@ from_range n x h =
     let here = h.2 in
     omega arith
 
-holds-from_Contains : (xs : List ℕ) (n : ℕ) → Contains xs n → holds xs n ≡ true
+pub holds-from_Contains : (xs : List ℕ) (n : ℕ) → Contains xs n → holds xs n ≡ true
 holds-from_Contains xs n h = list_any_at (λ m. eqb m n) xs h.0 n h.1 (eq-eqb (get_or xs h.0 n) n h.2)
 
 -- the marks of a walk say which numbers it has

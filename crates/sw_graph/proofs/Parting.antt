@@ -27,7 +27,7 @@ use Rattle.sw_graph.specs.Shortest.{IsFewest, IsNext, IsShortestFrom}
 use Rattle.sw_graph.proofs.Adding.{at_contains}
 use Rattle.sw_graph.proofs.Chains.{chain_cons, chain_first, chain_reached, reached_chain, shortened}
 use Rattle.sw_graph.proofs.Going.{ahead, behind}
-use Rattle.sw_graph.proofs.Searching.{has}
+use Rattle.sw_graph.proofs.Marked.{holds-from_Contains}
 
 module _ (dep : ℕ → ℕ → Type 0) where
   leads_on : (b c d : ℕ) → LeadsTo dep b c → LeadsTo dep c d → LeadsTo dep b d
@@ -160,7 +160,7 @@ module _ (dep : ℕ → ℕ → Type 0) where
     }
 
     not_in : list_any (has_member c) parts ≡ false → (k : ℕ) (d : Part) → k < length parts → Contains (get_or parts k d).members.items c → ⊥
-    not_in e k d lt m = false≢true (sym e ∙ list_any_at (has_member c) parts k d lt (has (get_or parts k d).members.items c m))
+    not_in e k d lt m = false≢true (sym e ∙ list_any_at (has_member c) parts k d lt (holds-from_Contains (get_or parts k d).members.items c m))
 
     -- no lesser number is in the part of c
     pub least_of : list_any (has_member c) parts ≡ false → LeadsTo dep c c → IsLeast (AreTogether dep c) c
@@ -249,6 +249,6 @@ among_rows rows ok c d h = lead_inside rows ok c d h
 pub on_inside : (rows : List (Vec ℕ Global)) (c : ℕ) → LeadsTo (Leads rows) c c → c < length rows
 on_inside rows c h = let r = chain_first (Leads rows) h.0 c c h.1 in row_member rows c r.0 r.1
 
--- no part has the number, after all were looked at
+-- no part holds-from_Contains the number, after all were looked at
 pub untaken : (c : ℕ) (parts items : List Part) (i : ℕ) → items ≡ parts → length items ≤ i → list_any (λ p. holds p.members.items c) (take i items) ≡ false → list_any (λ p. holds p.members.items c) parts ≡ false
 untaken c parts items i same past none = ap (list_any (λ p. holds p.members.items c)) (sym same ∙ sym (take_all i items past)) ∙ none

@@ -86,7 +86,7 @@ empty_rows_more rows more v counter old none is =
     (λ c. ap (λ x. row x c) is ∙ empty_more rows v old.0 none c, ap length is ∙ length_push rows v ∙ ap (λ n. n + 1) old.1)
 
 -- a row that is set
-set_row : (rows : List (Vec ℕ Global)) (k : ℕ) (v : Vec ℕ Global) → k < length rows → row (set rows k v) k ≡ v.items
+pub set_row : (rows : List (Vec ℕ Global)) (k : ℕ) (v : Vec ℕ Global) → k < length rows → row (set rows k v) k ≡ v.items
 set_row [] k v lt = absurd (omega arith)
 set_row (x ∷ rows) zero v lt = refl
 set_row (x ∷ rows) (suc k) v lt = set_row rows k v (omega arith)

@@ -1,9 +1,9 @@
 -- The search, level by level.
-use Rattle.std.proofs.Common.{◌≡◌, ℕ, zero, suc, length, refl, ◌<◌, ◌≤◌, ◌⊎◌, List, [], ◌∷◌, Option, Some, None, replicate, sym, ap, ◌∙◌, subst, inl, inr, arith, true, false, get_or, eqb}
+use Rattle.std.proofs.Common.{◌≡◌, ℕ, zero, suc, length, refl, ◌<◌, ◌≤◌, ◌⊎◌, List, [], ◌∷◌, Option, Some, None, replicate, sym, ap, ◌∙◌, subst, inl, inr, arith, true, false}
 use Rattle.std.specs.Prelude.{Contains, Vec}
 use Rattle.std.specs.List.{flat_map, list_any}
 use Rattle.std.specs.declared.alloc.Global.{Global}
-use Rattle.std.proofs.lemmas.Bool.{cases_eq, cases_lt, eq-eqb, false≢true}
+use Rattle.std.proofs.lemmas.Bool.{cases_eq, cases_lt, false≢true}
 use Rattle.std.proofs.lemmas.List.{get_or_past, get_or-replicate, length-replicate}
 use Rattle.std.proofs.lemmas.List.Elements.{Contains-append_cases, Contains-append_left, Contains-append_right, Contains-push}
 use Rattle.std.proofs.lemmas.List.Folds.{Any-from_list_any, list_any_at}
@@ -13,6 +13,7 @@ use Rattle.sw_graph.specs.Walks.{holds}
 use Rattle.sw_graph.proofs.Numbers.{Contains-from_holds}
 use Rattle.sw_graph.specs.Searches.{AreAdded, IsSearch, NoRound, steps_to}
 use Rattle.sw_graph.proofs.Adding.{none_some, nothing_in, only_one}
+use Rattle.sw_graph.proofs.Marked.{holds-from_Contains}
 
 -- after so many levels: the numbers of the last one are those of so many steps, and none leads back to the start in as many or fewer
 pub record Searching (dep : ℕ → ℕ → Type 0) (start count : ℕ) (steps : List (Option ℕ)) (level : List ℕ) : Type 0 where
@@ -160,16 +161,13 @@ ended dep start count most steps (x ∷ xs) s empty = absurd cc
 
 -- ---- what leads on, as the search tests it
 
-pub has : (xs : List ℕ) (d : ℕ) → Contains xs d → holds xs d ≡ true
-has xs d h = list_any_at (λ m. eqb m d) xs h.0 d h.1 (eq-eqb (get_or xs h.0 d) d h.2)
-
 pub one_led : (rows : List (Vec ℕ Global)) (level : List ℕ) (d : ℕ) → list_any (λ c. holds (row rows c) d) level ≡ true → (b : ℕ) × Contains level b × Leads rows b d
 one_led rows level d e = let a = Any-from_list_any (λ c. holds (row rows c) d) level e in (a.1, (a.0, a.2, a.3), Contains-from_holds (row rows a.1) d a.4)
 
 pub none_led : (rows : List (Vec ℕ Global)) (level : List ℕ) (d : ℕ) → list_any (λ c. holds (row rows c) d) level ≡ false → (b : ℕ) → Contains level b → Leads rows b d → ⊥
 none_led rows level d e b k h =
     let P : ℕ → Type 0 = λ x. holds (row rows x) d ≡ true in
-    false≢true (sym e ∙ list_any_at (λ c. holds (row rows c) d) level k.0 b k.1 (subst P (sym k.2) (has (row rows b) d h)))
+    false≢true (sym e ∙ list_any_at (λ c. holds (row rows c) d) level k.0 b k.1 (subst P (sym k.2) (holds-from_Contains (row rows b) d h)))
 
 pub flat_from : (f : ℕ → List ℕ) (xs : List ℕ) (d : ℕ) → Contains (flat_map f xs) d → (b : ℕ) × Contains xs b × Contains (f b) d
 flat_from f [] d h = nothing_in d h

@@ -1,14 +1,14 @@
 -- Numbers that are in two lists.
-use Rattle.std.proofs.Common.{◌≡◌, ℕ, suc, ◌<◌, ◌≤◌, List, [], ◌∷◌, length, get_or, refl, sym, ap, ◌∙◌, subst, inl, inr, arith, All, Bool, true, false, eqb, Option, Some, None}
+use Rattle.std.proofs.Common.{◌≡◌, ℕ, suc, ◌<◌, ◌≤◌, List, length, get_or, refl, sym, ap, inl, inr, arith, All, eqb, Option, Some, None}
 use Rattle.std.specs.Prelude.{Contains, Result, Ok, Err, IsSome, Vec}
 use Rattle.std.specs.declared.alloc.Global.{Global}
 use Rattle.std.specs.List.{filter}
 use Rattle.std.specs.List.Sorted.{IsBinarySearchResult, IsStrictlyIncreasing}
 use Rattle.std.specs.Ordering.{nat_cmp}
 use Rattle.std.specs.Result.{is_ok}
-use Rattle.std.proofs.lemmas.Bool.{cases_eq, cases_lt, eq-eqb, false≢true, ne_eqb}
+use Rattle.std.proofs.lemmas.Bool.{cases_eq, cases_lt, eq-eqb, ne_eqb}
 use Rattle.std.proofs.lemmas.List.{get_or_default, get_or_past}
-use Rattle.std.proofs.lemmas.List.Elements.{All-contains, All-contains_itself, All-filter, Contains-append_cases, Contains-append_left, Contains-append_right, filter_passes}
+use Rattle.std.proofs.lemmas.List.Elements.{All-contains_itself}
 use Rattle.std.proofs.lemmas.List.Folds.{list_any_at, list_any_none}
 use Rattle.std.proofs.lemmas.List.Kept.{AllPairs-from_increasing, IsStrictlyIncreasing-filter}
 use Rattle.std.proofs.lemmas.List.Sorted.{searched}
@@ -19,9 +19,11 @@ use Rattle.sw_graph.proofs.Numbers.{Contains-from_holds}
 use Rattle.sw_graph.proofs.Listed.{row_member}
 use Rattle.sw_graph.specs.Searches.{IsLeastOf, steps_to}
 use Rattle.sw_graph.specs.Shortest.{IsFewest}
-use Rattle.sw_graph.proofs.Adding.{none_some, nothing_in, only_one}
+use Rattle.sw_graph.proofs.Adding.{none_some}
 use Rattle.sw_graph.proofs.Chains.{chain_first}
-use Rattle.sw_graph.proofs.Searching.{Searching, has}
+use Rattle.sw_graph.proofs.Searching.{Searching}
+use Rattle.sw_graph.proofs.Marked.{holds-from_Contains}
+use Rattle.sw_graph.proofs.Peels.{kept, kept_from}
 
 -- what a search in rising numbers tells
 pub among : (xs : List ℕ) (x : ℕ) (r : Result ℕ ℕ) → IsStrictlyIncreasing xs → IsBinarySearchResult (λ y. nat_cmp y x) xs r → is_ok r ≡ holds xs x
@@ -41,26 +43,12 @@ among xs x (Err i) rising h =
     rises : (ys : List ℕ) → IsStrictlyIncreasing ys → (i k : ℕ) → i ≤ k → k < length ys → get_or ys i 0 ≤ get_or ys k 0
     rises ys up i k le lt = elim (cases_eq i k) [ inl e ↦ (let a : get_or ys i 0 ≡ get_or ys k 0 = ap (λ n. get_or ys n 0) e in omega arith) | inr ne ↦ (let a = AllPairs-from_increasing ys up i k 0 (omega arith) lt in omega arith) ]
 
-filter_from : (p : ℕ → Bool) (xs : List ℕ) (d : ℕ) → Contains (filter p xs) d → Contains xs d × (p d ≡ true)
-filter_from p xs d h = (All-contains (Contains xs) (filter p xs) d (All-filter p (Contains xs) xs (All-contains_itself xs)) h, All-contains (λ x. p x ≡ true) (filter p xs) d (filter_passes p xs) h)
-
-filter_to : (p : ℕ → Bool) (xs : List ℕ) (d : ℕ) → Contains xs d → p d ≡ true → Contains (filter p xs) d
-filter_to p [] d h e = nothing_in d h
-filter_to p (x ∷ xs) d h e = by (p x) refl (λ k. filter_to p xs d k e)
-  where
-    by : (b : Bool) → p x ≡ b → (Contains xs d → Contains (filter p xs) d) → Contains (filter p (x ∷ xs)) d
-    by true q on = rw q (elim (Contains-append_cases (x ∷ []) xs d h) [ inl here ↦ Contains-append_left (x ∷ []) (filter p xs) d here | inr later ↦ Contains-append_right (x ∷ []) (filter p xs) d (on later) ])
-    by false q on = rw q (elim (Contains-append_cases (x ∷ []) xs d h) [
-      | inl here ↦ let P : ℕ → Type 0 = λ y. p y ≡ true in absurd (false≢true (sym q ∙ subst P (sym (only_one x d here)) e))
-      | inr later ↦ on later
-    ])
-
 pub both_listing : (P Q : ℕ → Type 0) (ahead back : List ℕ) → IsListing P ahead → IsListing Q back → IsListing (λ d. P d × Q d) (filter (holds back) ahead)
 both_listing P Q ahead back a b = record {
   rising = IsStrictlyIncreasing-filter (holds back) ahead a.rising;
   member = λ d. (
-    λ h. let f = filter_from (holds back) ahead d h in ((a.member d).0 f.0, (b.member d).0 (Contains-from_holds back d f.1)),
-    λ h. filter_to (holds back) ahead d ((a.member d).1 h.0) (has back d ((b.member d).1 h.1)),
+    λ h. let f = kept_from (holds back) ahead d h in ((a.member d).0 f.0, (b.member d).0 (Contains-from_holds back d f.1)),
+    λ h. kept (holds back) ahead d ((a.member d).1 h.0) (holds-from_Contains back d ((b.member d).1 h.1)),
   );
 }
 

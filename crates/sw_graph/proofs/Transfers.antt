@@ -15,7 +15,7 @@ pub chain_map : (P Q : ℕ → ℕ → Type 0) → ((c d : ℕ) → P c d → Q 
 chain_map P Q f zero c d h = h
 chain_map P Q f (suc n) c d h = (h.0, chain_map P Q f n c h.0 h.1, f h.0 d h.2)
 
-cycle_map : (P Q : ℕ → ℕ → Type 0) → ((c d : ℕ) → P c d → Q c d) → HasCycle P → HasCycle Q
+pub cycle_map : (P Q : ℕ → ℕ → Type 0) → ((c d : ℕ) → P c d → Q c d) → HasCycle P → HasCycle Q
 cycle_map P Q f h = (h.0, h.1, chain_map P Q f (suc h.0) h.1 h.1 h.2)
 
 behind_map : (P Q : ℕ → ℕ → Type 0) → ((c d : ℕ) → P c d → Q c d) → (c : ℕ) → IsBehindCycle P c → IsBehindCycle Q c

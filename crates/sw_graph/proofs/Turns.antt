@@ -1,15 +1,11 @@
 -- A part of a walk turned round.
 use Rattle.std.proofs.Common.{◌≡◌, ℕ, zero, suc, ◌+◌, ◌-◌, ◌<◌, ◌≤◌, List, [], ◌∷◌, ◌++◌, length, take, drop, get_or, refl, sym, ap, ◌∙◌, subst, arith, All, false, length-take, length-drop}
 use Rattle.std.specs.Prelude.{slice_index, ◌==◌, reverse}
-use Rattle.std.proofs.lemmas.List.{reverse-append, get_or-reverse, length-reverse, get_or-take, get_or-drop, get_or_append_left, take-append-drop, drop_more}
+use Rattle.std.proofs.lemmas.List.{reverse-append, get_or-reverse, length-reverse, get_or-take, get_or-drop, get_or_append_left, take-append-drop, drop_more, take_rest}
 use Rattle.std.proofs.lemmas.List.Elements.{All-append, All-from_get_or}
-use Rattle.std.proofs.Math.Seq.{take-length}
 use Rattle.sw_graph.specs.Cycles.{IsTurned}
 use Rattle.sw_graph.specs.Walking.{times, IsLowest, IsSince}
 use Rattle.sw_graph.proofs.Counts.{flag, times_cons}
-
-rest_whole : (xs : List ℕ) (k : ℕ) → take (length xs - k) (drop k xs) ≡ drop k xs
-rest_whole xs k = let e : length xs - k ≡ length (drop k xs) = sym (length-drop k xs) in ap (λ n. take n (drop k xs)) e ∙ take-length (drop k xs)
 
 all_reversed : (P : ℕ → Type 0) (xs : List ℕ) → ((k : ℕ) → k < length xs → P (slice_index xs k)) → All P (reverse xs)
 all_reversed P xs h = All-from_get_or P (reverse xs) 0 (λ i lt. let n = length-reverse xs in subst P (sym (get_or-reverse xs i 0 (omega arith))) (h (length xs - 1 - i) (omega arith)))
@@ -41,7 +37,7 @@ pub turned_made : (xs : List ℕ) (low : ℕ) (made cycle : List ℕ) → IsLowe
 turned_made xs low made cycle h made_is is =
     let a = take (low + 1) xs in
     let b = drop (low + 1) xs in
-    let whole : made ≡ b ++ a = made_is ∙ ap (λ l. l ++ a) (rest_whole xs (low + 1)) in
+    let whole : made ≡ b ++ a = made_is ∙ ap (λ l. l ++ a) (take_rest xs (low + 1)) in
     turned_is xs low cycle h (is ∙ ap reverse whole ∙ reverse-append b a)
 
 -- where c stands first at k or later
@@ -65,7 +61,7 @@ pub since_is : (xs : List ℕ) (c k : ℕ) → k < length xs → get_or xs k 0 �
 since_is xs c k lt found =
     let here = drop_more xs k 0 lt in
     let n = length-drop k xs in
-    rw (rest_whole xs k) (record {
+    rw (take_rest xs k) (record {
       before = take k xs;
       parts = take-append-drop k xs;
       some = omega arith;

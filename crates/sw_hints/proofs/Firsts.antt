@@ -2,7 +2,8 @@
 use Rattle.std.proofs.Common.{◌≡◌, ◌∙◌, ◌<◌, ◌≤◌, ◌+◌, ◌++◌, ℕ, zero, suc, Bool, true, false, List, [], ◌∷◌, Option, Some, None, ap, arith, cond, find, get_or, length, map, sym, take}
 use Rattle.std.proofs.lemmas.List.{take_all, take_more}
 use Rattle.std.specs.Str.{str_eq_ignore_ascii_case}
-use Rattle.sw_hints.specs.Nearest.{is_near, like, nearest, or_else}
+use Rattle.sw_hints.specs.Nearest.{is_near, like, nearest}
+use Rattle.sw_notes.specs.Notes.{or_else}
 
 step : {A : Type 0} (b : Bool) (x before all found : Option A) → cond b x before ≡ None → (x ≡ None → ⊥) → (before ≡ None → all ≡ found) → cond b x all ≡ found
 step true x before all found none some more = absurd (some none)

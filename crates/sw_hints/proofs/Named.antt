@@ -1,5 +1,5 @@
 -- A test of what elements are, and of the elements.
-use Rattle.std.proofs.Common.{◌≡◌, ◌∙◌, ◌+◌, ◌++◌, ◌<◌, ◌≤◌, ◌-◌, ℕ, Bor, List, Bool, true, false, codes, cond, get_or, length, map, take, [], ◌∷◌, ap, append_assoc, arith, drop, refl, sym, ◌||◌}
+use Rattle.std.proofs.Common.{◌≡◌, ◌∙◌, ◌+◌, ◌++◌, ◌<◌, ◌≤◌, ◌-◌, ℕ, Bor, List, Bool, true, false, codes, cond, get_or, length, map, take, [], ◌∷◌, ap, append_assoc, arith, drop, sym, ◌||◌}
 use Rattle.sw_text.specs.declared.keys.Key.{Key}
 use Rattle.sw_text.specs.declared.keys.Section.{Section}
 use Rattle.sw_text.specs.Keys.{key_text}
@@ -12,16 +12,13 @@ use Rattle.sw_hints.specs.FaultWords.{one_of}
 use Rattle.sw_hints.specs.Helps.{key_help, meant_help, node_help}
 use Rattle.sw_hints.specs.KeyWords.{keys_of, new_keys_of, outer_keys, port_keys}
 use Rattle.sw_hints.specs.Nearest.{like}
-
-pub any_of_map : {A B : Type 0} (f : A → B) (test : B → Bool) (xs : List A) → list_any (λ x. test (f x)) xs ≡ list_any test (map f xs)
-any_of_map f test [] = refl
-any_of_map f test (x ∷ xs) = ap (λ b. test (f x) || b) (any_of_map f test xs)
+use Rattle.sw_config.proofs.Texts.{list_any-map}
 
 -- a name among those that were read
 pub any_of_names : (name : List ℕ) (lent read : List (Bor (List ℕ))) (names : List (List ℕ)) → lent ≡ read → map (λ t. t.now) read ≡ names
     → list_any (λ t. bytes_eq t.now name) lent ≡ list_any (λ t. bytes_eq t name) names
 any_of_names name lent read names same is =
-    any_of_map (λ t. t.now) (λ t. bytes_eq t name) lent ∙ ap (λ l. list_any (λ t. bytes_eq t name) (map (λ t. t.now) l)) same
+    list_any-map (λ t. t.now) (λ t. bytes_eq t name) lent ∙ ap (λ l. list_any (λ t. bytes_eq t name) (map (λ t. t.now) l)) same
     ∙ ap (list_any (λ t. bytes_eq t name)) is
 
 -- one passes, none up to one more does, or none at all

@@ -1,16 +1,12 @@
 -- The text of a list that is most like another text (this project's choice).
-use Rattle.std.specs.Prelude.{ℕ, Bool, List, Option, Some, None, ◌==◌, ◌&&◌, find, length, nat_eq, nat_le, nat_lt}
+use Rattle.std.specs.Prelude.{ℕ, Bool, List, Option, ◌==◌, ◌&&◌, find, length, nat_eq, nat_le, nat_lt}
 use Rattle.std.specs.Str.{chars, str_eq_ignore_ascii_case}
 use Rattle.strsim.specs.Edits.{levenshtein_row}
+use Rattle.sw_notes.specs.Notes.{or_else}
 
 -- the least count of single insertions, deletions and changes of characters that lead from one text to the other
 abbrev pub distance : List ℕ → List ℕ → ℕ
 distance name text = levenshtein_row nat_eq (chars name) (chars text) (length (chars text))
-
--- the first, or where there is none the second
-abbrev pub or_else : {A : Type 0} → Option A → Option A → Option A
-or_else (Some x) other = Some x
-or_else None other = other
 
 -- the text is at this distance from a longer name, which is of at most 64 bytes
 abbrev pub is_near : List ℕ → ℕ → List ℕ → Bool

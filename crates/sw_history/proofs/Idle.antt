@@ -1,8 +1,8 @@
 -- Whether a step of a link end may follow.
-use Rattle.std.proofs.Common.{◌≡◌, ◌↔◌, ◌<◌, ◌∷◌, ◌∙◌, [], ℕ, suc, zero, Bool, List, None, Option, Some, ap, arith, eq-eqb, false, length, ne_eqb, refl, replicate, subst, sym, true, ⊎_elim}
+use Rattle.std.proofs.Common.{◌≡◌, ◌↔◌, ◌<◌, ◌∷◌, ◌∙◌, [], ℕ, suc, Bool, List, None, Option, Some, ap, arith, eq-eqb, false, length, ne_eqb, refl, replicate, subst, sym, true, ⊎_elim}
 use Rattle.std.specs.Prelude.{All, IfNone, IfSome, IsTrue, is_some, nat_eq, not, option_map, slice_get}
 use Rattle.std.proofs.lemmas.Bool.{cases_eq, false≢true}
-use Rattle.std.proofs.lemmas.List.Elements.{All-append, All-filter, All-nil, All-replicate}
+use Rattle.std.proofs.lemmas.List.Elements.{All-append, All-filter, All-nil, All-replicate, All-cons}
 use Rattle.std.proofs.lemmas.List.Concat.{flat_map-cons}
 use Rattle.std.proofs.lemmas.Option.{get_or_from_slice_get, slice_get_within}
 use Rattle.sw_net.specs.Makes.{IsDeclaredAt}
@@ -30,17 +30,13 @@ use Rattle.sw_config.specs.Valid.{IsValid}
 
 -- ---- the packets of a load
 
-one_more : {X : Type 0} (P : X → Type 0) (x : X) (xs : List X) → P x → All P xs → All P (x ∷ xs)
-one_more P x xs p all zero y lt = p
-one_more P x xs p all (suc k) y lt = all k y (omega arith)
-
 at_place : {X : Type 0} (P : X → Type 0) (xs : List X) (k : ℕ) (x : X) → All P xs → slice_get xs k ≡ Some x → P x
 at_place P xs k x all at = subst P (get_or_from_slice_get xs k x x at) (all k x (slice_get_within xs k x at))
 
 own : (net : Network) (n : ℕ) (packets : List Begun) → All (λ (b : Begun). (net.flow b.flow).from ≡ n) (packets_at net n packets)
 own net n [] = All-nil (λ (b : Begun). (net.flow b.flow).from ≡ n)
 own net n (b ∷ packets) = ⊎_elim
-    (λ e. rw (eq-eqb (net.flow b.flow).from n e) (one_more (λ (b : Begun). (net.flow b.flow).from ≡ n) b (packets_at net n packets) e (own net n packets)))
+    (λ e. rw (eq-eqb (net.flow b.flow).from n e) (All-cons (λ (b : Begun). (net.flow b.flow).from ≡ n) b (packets_at net n packets) e (own net n packets)))
     (λ ne. rw (ne_eqb (net.flow b.flow).from n ne) (own net n packets))
     (cases_eq (net.flow b.flow).from n)
 

@@ -1,5 +1,5 @@
 -- What a history keeps.
-use Rattle.std.proofs.Common.{◌≡◌, ◌<◌, ◌≤◌, ◌∙◌, [], ℕ, zero, suc, List, None, Option, Some, arith, length, refl, sym, ap}
+use Rattle.std.proofs.Common.{◌≡◌, ◌<◌, ◌≤◌, ◌∙◌, [], ℕ, List, None, Option, Some, arith, length, refl, sym, ap}
 use Rattle.std.specs.Prelude.{replicate, slice_get}
 use Rattle.std.proofs.lemmas.List.{length-replicate}
 use Rattle.sw_char.specs.declared.nchar.End.{End}
@@ -14,11 +14,7 @@ use Rattle.sw_machine.specs.Model.{network_of}
 use Rattle.sw_net.specs.Net.{IsNetState, NetView}
 use Rattle.sw_load.proofs.Sends.{flow_from}
 use Rattle.sw_config.specs.Entries.{Declaration, FlowEntry, all_flows}
-
-all_zero : (n k count : ℕ) → slice_get (replicate n 0) k ≡ Some count → count ≡ 0
-all_zero zero k count h = absurd cc
-all_zero (suc n) zero count h = cc
-all_zero (suc n) (suc k) count h = all_zero n k count h
+use Rattle.sw_history.proofs.Loop.{all_zero}
 
 pub new_is_kept : {R A : Type 0} (net : NetView R A) (load : List LoadEntry) (room nodes : ℕ) → IsNetState net (empty (network_of net.declared)) → AreDeclared net.declared load → nodes ≡ length net.declared.nodes
     → IsKept net (record { declared = net.declared; load = load; steps = []; room = room }) (replicate nodes 0)

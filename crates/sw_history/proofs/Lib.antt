@@ -5,7 +5,6 @@ mod Idle
 mod Kept
 pub mod Ready
 mod Refused
-mod Undeclared
 mod Whole
 mod Noting
 mod Asking

@@ -20,7 +20,7 @@ use Rattle.sw_net.specs.Net.{IsNetState, NetView}
 use Rattle.sw_config.specs.Entries.{Declaration}
 use Rattle.sw_config.specs.Valid.{IsValid}
 
-all_zero : (n k count : ℕ) → slice_get (replicate n 0) k ≡ Some count → count ≡ 0
+pub all_zero : (n k count : ℕ) → slice_get (replicate n 0) k ≡ Some count → count ≡ 0
 all_zero zero k count h = absurd cc
 all_zero (suc n) zero count h = cc
 all_zero (suc n) (suc k) count h = all_zero n k count h

@@ -6,7 +6,7 @@ use Rattle.std.proofs.lemmas.List.{length-append, length-map, take-append-le}
 use Rattle.std.specs.Prelude.{false, option_map, slice_get, slice_set, true, ◌||◌, ◌↔◌}
 use Rattle.atomic_table.specs.Seated.{TableId}
 use Rattle.atomic_table.specs.Table.{Me}
-use Rattle.sw_cell.specs.Places.{IsAt, IsDoneAt, IsUndeclared, machine_cell}
+use Rattle.sw_cell.specs.Places.{IsAt, IsDoneAt, machine_cell}
 use Rattle.sw_cell.specs.declared.fault.NetFault.{NetFault}
 use Rattle.sw_cell.specs.declared.fault.NetFault.TheVariants.{Memory, NotEnabled, NotInFlow}
 use Rattle.sw_cell.specs.declared.cell.CellId.{CellId}
@@ -28,7 +28,7 @@ use Rattle.sw_machine.specs.Begun.{Begun}
 use Rattle.sw_machine.specs.Network.{IsNetwork, Network}
 use Rattle.sw_machine.specs.Parts.{cell_of}
 use Rattle.sw_machine.specs.State.{State, empty}
-use Rattle.sw_machine.specs.Steps.{Accept, Arrive, Begin, Drop, Emit, Fct, FctIn, Forward, Grant, IsPossible, Leads, Reply, Spill, Step}
+use Rattle.sw_machine.specs.Steps.{IsPossible, Leads, Step}
 use Rattle.sw_machine.specs.Model.{network_of}
 use Rattle.sw_config.specs.Entries.{Declaration}
 use Rattle.sw_net.specs.Numbers.{numbers_at}
@@ -37,6 +37,7 @@ use Rattle.sw_journal.specs.Views.{holder, kept_of, knower, shown, with_known}
 use Rattle.sw_journal.specs.declared.cell_table.Change.{Change}
 use Rattle.sw_journal.specs.declared.cell_table.Known.{Known}
 use Rattle.sw_journal.specs.declared.cell_table.View.{View}
+use Rattle.sw_net.proofs.Undeclared.{never_begun}
 
 abbrev pub known : CellId → List (ℕ × Numbers) → Known
 known id ends = record { id = id; ends = ends }
@@ -190,19 +191,6 @@ module _ (j : JournalView) (before : Me Change View) (is : IsKept j before) (num
       subst (λ (a : JournalView). IsNowCell a cell) (sym same) (now_cell (with_step j step) t number cell next.1 here)
 
 -- ---- refusals
-
-never_begun : (n : Network) (s : State) (step : Step) → IsUndeclared n step → IsPossible n s step → ⊥
-never_begun n s (Begin f cargo end) none p = none p.1.declared
-never_begun n s (Fct c) none p = absurd none
-never_begun n s (FctIn c) none p = absurd none
-never_begun n s (Arrive c) none p = absurd none
-never_begun n s (Grant d c) none p = absurd none
-never_begun n s (Drop c) none p = absurd none
-never_begun n s (Forward c) none p = absurd none
-never_begun n s (Spill c) none p = absurd none
-never_begun n s (Emit m) none p = absurd none
-never_begun n s (Accept m) none p = absurd none
-never_begun n s (Reply m) none p = absurd none
 
 pub at_own : (d : Declaration) (step : Step) (own at : CellId) (r : Bool) → IsAt d step own → IsTrue r ↔ (machine_cell own ≡ machine_cell at) → IsAtCell d at step r
 at_own d step own at true is same = is.cell ∙ same.0 refl

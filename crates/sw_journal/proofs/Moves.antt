@@ -13,39 +13,24 @@ use Rattle.sw_cell.specs.declared.cell.CellId.{CellId}
 use Rattle.sw_journal.specs.declared.cell_table.Change.TheVariants as told
 use Rattle.sw_journal.specs.declared.cell_table.Change.{Change}
 use Rattle.sw_journal.specs.Views.{knower, nobody, shown, kept_of, held_of, with_known, Fits, Kept, Checked, changed, Changed, pushed, Pushed, grown, opened, Opened}
+use Rattle.sw_topo.proofs.Lists.{slice_get-set_other, slice_get-set_same, slice_get-push_last}
 
 off : {X : Type 0} → false ≡ true → X
 off e = absurd (true≢false (sym e))
 
 -- ---- places of lists
 
--- the last of a longer list is the new one
+-- the slice_get-push_last of a longer list is the new one
 at_snoc : {A : Type 0} (l : List A) (a b : A) (j : ℕ) → get_elem? (l ++ a ∷ []) j ≡ some b → (get_elem? l j ≡ some b) ⊎ ((j ≡ length l) × (a ≡ b))
 at_snoc [] a b zero e = inr (refl, some-injective a b e)
 at_snoc [] a b (suc j) e = absurd (some-ne-none b (sym e))
 at_snoc (x ∷ xs) a b zero e = inl e
 at_snoc (x ∷ xs) a b (suc j) e = ⊎_elim (λ t. inl t) (λ t. inr (ap suc t.0, t.1)) (at_snoc xs a b j e)
 
-set_same : {X : Type 0} (xs : List X) (i : ℕ) (x y : X) → slice_get xs i ≡ Some x → slice_get (slice_set xs i y) i ≡ Some y
-set_same [] i x y e = absurd cc
-set_same (z ∷ zs) zero x y e = refl
-set_same (z ∷ zs) (suc i) x y e = set_same zs i x y e
-
-set_other : {X : Type 0} (xs : List X) (i j : ℕ) (y : X) → j ≢ i → slice_get (slice_set xs i y) j ≡ slice_get xs j
-set_other [] i j y n = refl
-set_other (z ∷ zs) zero zero y n = absurd (n refl)
-set_other (z ∷ zs) zero (suc j) y n = refl
-set_other (z ∷ zs) (suc i) zero y n = refl
-set_other (z ∷ zs) (suc i) (suc j) y n = set_other zs i j y (λ e. n (ap suc e))
-
 front : {X : Type 0} (xs : List X) (y x : X) (i : ℕ) → slice_get xs i ≡ Some x → slice_get (xs ++ y ∷ []) i ≡ Some x
 front [] y x i e = absurd cc
 front (z ∷ zs) y x zero e = e
 front (z ∷ zs) y x (suc i) e = front zs y x i e
-
-last : {X : Type 0} (xs : List X) (y : X) → slice_get (xs ++ y ∷ []) (length xs) ≡ Some y
-last [] y = refl
-last (x ∷ xs) y = last xs y
 
 beyond : {X : Type 0} (xs : List X) (x : X) → slice_get xs (length xs) ≡ Some x → ⊥
 beyond [] x e = cc
@@ -97,11 +82,11 @@ sets slots id me new f is claims s h _ at _ =
       (λ c.
           let there = theirs.1 c in
           let ne : u.cell ≢ v.cell = λ same. apart (sym there.1 ∙ ap h.2 same ∙ here.1) in
-          (set_other h.1 v.cell u.cell new ne ∙ there.0, there.1)),
+          (slice_get-set_other h.1 v.cell u.cell new ne ∙ there.0, there.1)),
     ) in
     let after : Fits h.0 now h.2 id w = (
       (λ _. (known.0, ap (λ (l : List Known). slice_set l v.cell new) known.1)),
-      (λ _. (set_same h.1 v.cell v.known new here.0, here.1)),
+      (λ _. (slice_get-set_same h.1 v.cell v.known new here.0, here.1)),
     ) in
     (w, keeps, tt, (h.0, now, h.2, fits_set h.0 now h.2 s.views id w others after), refl)
 
@@ -126,7 +111,7 @@ opens slots id me cell f is s h _ at _ =
     let same : length v.all ≡ length h.1 = ap (length {A = Known}) known.1 in
     let after : Fits h.0 now owner id w = (
       (λ _. (known.0, ap (λ (l : List Known). l ++ new ∷ []) known.1)),
-      (λ _. (ap (slice_get now) same ∙ last h.1 new, rw (eq-eqb (length v.all) (length h.1) same) refl)),
+      (λ _. (ap (slice_get now) same ∙ slice_get-push_last h.1 new, rw (eq-eqb (length v.all) (length h.1) same) refl)),
     ) in
     (w, keeps, tt, (h.0, now, owner, fits_set h.0 now owner s.views id w others after), refl)
 

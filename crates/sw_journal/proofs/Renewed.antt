@@ -14,6 +14,7 @@ use Rattle.sw_journal.specs.Views.{changed, ends_with, with_known}
 use Rattle.sw_journal.specs.declared.cell_table.Change.{Change}
 use Rattle.sw_journal.specs.declared.cell_table.Known.{Known}
 use Rattle.sw_journal.specs.declared.cell_table.View.{View}
+use Rattle.sw_topo.proofs.Lists.{slice_get-set_same}
 
 set_back : {X : Type 0} (xs : List X) (k : ℕ) (x : X) → slice_get xs k ≡ Some x → slice_set xs k x ≡ xs
 set_back [] zero x e = refl
@@ -155,11 +156,6 @@ set_twice [] (suc k) x y = refl
 set_twice (z ∷ xs) zero x y = refl
 set_twice (z ∷ xs) (suc k) x y = ap (λ l. z ∷ l) (set_twice xs k x y)
 
-set_there : {X : Type 0} (xs : List X) (k : ℕ) (x y : X) → slice_get xs k ≡ Some x → slice_get (slice_set xs k y) k ≡ Some y
-set_there [] k x y e = cc
-set_there (z ∷ xs) zero x y e = refl
-set_there (z ∷ xs) (suc k) x y e = set_there xs k x y e
-
 abbrev pub with_ends : Me Change View → List (ℕ × Numbers) → Me Change View
 with_ends m ends = (with_known m.0 (record { id = m.0.known.id; ends = ends }), m.1)
 
@@ -174,7 +170,7 @@ seat_first before ends at is =
 pub seat_same : (first before : Me Change View) (ends : List (ℕ × Numbers)) → slice_get first.0.all first.0.cell ≡ Some first.0.known → before ≡ with_ends first ends → slice_get before.0.all before.0.cell ≡ Some before.0.known
 seat_same first before ends at is =
     let known : Known = record { id = first.0.known.id; ends = ends } in
-    subst (λ (m : Me Change View). slice_get m.0.all m.0.cell ≡ Some m.0.known) (sym is) (set_there first.0.all first.0.cell first.0.known known at)
+    subst (λ (m : Me Change View). slice_get m.0.all m.0.cell ≡ Some m.0.known) (sym is) (slice_get-set_same first.0.all first.0.cell first.0.known known at)
 
 -- it is told of one
 pub seat_told : (before after : Me Change View) (ends : List (ℕ × Numbers)) (k : ℕ) (p : ℕ × Numbers) (numbers : Numbers) → before.0.known.ends ≡ ends → slice_get ends k ≡ Some p

@@ -1,14 +1,14 @@
 -- `explain` has one status, that of the text answer; and where a target makes a step no flow does.
 use Rattle.std.proofs.Common.{◌≡◌, ◌∙◌, ℕ, ◌+◌, ◌<◌, Bool, List, [], ◌∷◌, All, arith, codes, length, refl, subst, sym}
-use Rattle.std.specs.List.{AllZip, Contains}
+use Rattle.std.specs.List.{AllZip}
 use Rattle.std.specs.Prelude.{Err, None, Ok, Option, Result, Some, slice_get}
-use Rattle.std.proofs.lemmas.List.Elements.{All-cons, All-contains, All-nil, Contains-get_or}
+use Rattle.std.proofs.lemmas.List.Elements.{All-cons, All-nil}
 use Rattle.std.proofs.lemmas.Option.{slice_get_within}
 use Rattle.serde_json.specs.Data.{Data}
 use Rattle.sw_app_changes.specs.ExplainAnswers as text
 use Rattle.sw_app_changes.specs.ExplainTexts.{explain_status}
 use Rattle.sw_text.specs.Ends.{IfLimited}
-use Rattle.sw_config.specs.Entries.{Declaration, all_flows}
+use Rattle.sw_config.specs.Entries.{Declaration}
 use Rattle.sw_cycle.specs.Causes.{GoesOn, IsChosenCause}
 use Rattle.sw_cycle.specs.Cycles.{ByTarget, round}
 use Rattle.sw_search.specs.Explanations.{IsExplanation}
@@ -18,15 +18,10 @@ use Rattle.sw_search.specs.declared.explanation.Explanation.{Explanation}
 use Rattle.sw_search.specs.declared.explanation.Explanation.TheVariants.{Misrouted, Cyclic, Free}
 use Rattle.sw_search.specs.declared.tangle.Tangle.{Tangle}
 use Rattle.sw_file.specs.Network.{network_text}
-use Rattle.sw_flow.specs.Faults.{IsWellRouted}
-use Rattle.sw_flow.specs.declared.fault.RouteFault.{RouteFault}
-use Rattle.sw_flow.specs.declared.place.Place.{Place}
 use Rattle.sw_graph.specs.Reached.{IsListing}
 use Rattle.sw_graph.specs.Rows.{row}
 use Rattle.sw_graph.specs.declared.part.Part.{Part}
-use Rattle.sw_search.proofs.Exactly.{verdicts_tell}
-use Rattle.sw_search.specs.Laws.{SomeMisrouted}
-use Rattle.sw_search.specs.Verdicts.{AllWellRouted, IsMisrouted}
+use Rattle.sw_search.specs.Verdicts.{AllWellRouted}
 use Rattle.sw_search.specs.declared.verdict.Verdict.TheVariants as verdict
 use Rattle.sw_text.specs.declared.fault.TextFault.{TextFault}
 use Rattle.sw_json.proofs.OneResult.{AreOne, one_answer}
@@ -35,6 +30,8 @@ use Rattle.sw_json.specs.Answering.{OfNetwork, OfNetworkFile, read_value}
 use Rattle.sw_json_changes.specs.ExplainJson.{IsExplained}
 use Rattle.sw_json_changes.specs.ExplainValues.{explain_value}
 use Rattle.sw_json_changes.specs.ExplainLaws.{ExplainHasOneAnswer, ExplainHasOneStatus, ExplainHasStatusOfText, HasNoFlowsAtTargets, TargetsHaveNoFlows}
+use Rattle.sw_topo.proofs.Lists.{none_listed}
+use Rattle.sw_search.proofs.Determined.{not_routed}
 
 -- ---- the status
 
@@ -82,18 +79,13 @@ module _ (of_verdict : ExplanationsAreOfTheVerdict) (where_cycles : TanglesAreWh
 
 -- ---- one answer where each flow is well routed
 
-not_wrong : (d : Declaration) (i : ℕ) (p : Place) (fault : RouteFault) → IsMisrouted d i p fault → AllWellRouted d → ⊥
-not_wrong d i p fault h all =
-    let some : SomeMisrouted d = verdicts_tell d (verdict.Misrouted i p fault) h in
-    some.2 (All-contains (IsWellRouted d) (all_flows d) some.0 all some.1)
-
 found_once : ExplanationsAreOfTheVerdict → TanglesAreWhereCyclesAre → (d : Declaration) → AllWellRouted d → (e f : Explanation) → IsExplanation d e → IsExplanation d f
     → explain_value d e ≡ explain_value d f
-found_once of_verdict where_cycles d all (Misrouted i p fault way) f h k = absurd (not_wrong d i p fault h.misrouted all)
-found_once of_verdict where_cycles d all (Cyclic tangles) (Misrouted j q other round) h k = absurd (not_wrong d j q other k.misrouted all)
+found_once of_verdict where_cycles d all (Misrouted i p fault way) f h k = absurd (not_routed d i p fault h.misrouted all)
+found_once of_verdict where_cycles d all (Cyclic tangles) (Misrouted j q other round) h k = absurd (not_routed d j q other k.misrouted all)
 found_once of_verdict where_cycles d all (Cyclic tangles) (Cyclic others) h k = one_tangles_value d tangles.items others.items h.are k.are
 found_once of_verdict where_cycles d all (Cyclic tangles) Free h k = absurd (h.some ((where_cycles d tangles.items h.are).1 k.no_cycle))
-found_once of_verdict where_cycles d all Free (Misrouted j q other round) h k = absurd (not_wrong d j q other k.misrouted all)
+found_once of_verdict where_cycles d all Free (Misrouted j q other round) h k = absurd (not_routed d j q other k.misrouted all)
 found_once of_verdict where_cycles d all Free (Cyclic others) h k = absurd (k.some ((where_cycles d others.items k.are).1 h.no_cycle))
 found_once of_verdict where_cycles d all Free Free h k = refl
 
@@ -109,10 +101,6 @@ explain_has_one_answer of_verdict where_cycles path release bytes d is all =
     (subst (λ (r : Result Declaration TextFault). AreOne (OfNetwork path bytes IsExplained r)) (sym is) (network_once of_verdict where_cycles path bytes d all))
 
 -- ---- steps that targets make
-
-none_listed : (xs : List ℕ) → ((n : ℕ) → Contains xs n → ⊥) → xs ≡ []
-none_listed [] none = refl
-none_listed (x ∷ xs) none = absurd (none x (Contains-get_or (x ∷ xs) 0 x (omega arith)))
 
 no_flows : (d : Declaration) (part : Part) (t : Tangle) → IsTangle d part t → HasNoFlowsAtTargets t
 no_flows d part t is i node at =

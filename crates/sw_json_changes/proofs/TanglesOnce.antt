@@ -3,7 +3,7 @@ use Rattle.std.proofs.Common.{◌≡◌, ◌∙◌, ℕ, suc, ◌+◌, ◌<◌, 
 use Rattle.std.specs.List.{AllZip, Contains}
 use Rattle.std.specs.Prelude.{AllPairs, codes, slice_index}
 use Rattle.std.proofs.lemmas.List.Elements.{All-contains, All-map}
-use Rattle.std.proofs.lemmas.List.Kept.{AllPairs-cons, AllPairs-from_increasing}
+use Rattle.std.proofs.lemmas.List.Kept.{AllPairs-cons}
 use Rattle.serde_json.specs.Data.{Data, array, object, string, member, no_members}
 use Rattle.serde_json.specs.View.{items_of}
 use Rattle.sw_config.specs.Entries.{Declaration}
@@ -13,7 +13,7 @@ use Rattle.sw_cycle.specs.Goers.{AreFlows}
 use Rattle.sw_search.specs.Tangles.{AreTangles, IsTangle}
 use Rattle.sw_search.specs.declared.tangle.Tangle.{Tangle}
 use Rattle.sw_flow.proofs.Listed.{Contains-from_map, Contains-map}
-use Rattle.sw_graph.specs.Cycles.{IsLeast, Walks}
+use Rattle.sw_graph.specs.Cycles.{Walks}
 use Rattle.sw_graph.specs.Laws.{IsChain, IsCycle}
 use Rattle.sw_graph.specs.Levels.{Chain}
 use Rattle.sw_graph.specs.Reached.{IsListing}
@@ -29,12 +29,8 @@ use Rattle.sw_flow.proofs.Sorted.{same_sorted}
 use Rattle.sw_search.specs.Laws.{without_places}
 use Rattle.sw_search.specs.Verdicts.{depends}
 use Rattle.sw_json_changes.specs.ExplainValues.{step_value, step_values, tangle_value, tangles_value, target_value}
-
--- a set has one listing
-same_listing : (P : ℕ → Type 0) (xs ys : List ℕ) → IsListing P xs → IsListing P ys → xs ≡ ys
-same_listing P xs ys h k =
-    same_sorted (λ x y. x < y) (λ x y a b. omega arith) xs ys (AllPairs-from_increasing xs h.rising) (AllPairs-from_increasing ys k.rising)
-    (λ p m. (k.member p).1 ((h.member p).0 m)) (λ p m. (h.member p).1 ((k.member p).0 m))
+use Rattle.sw_search.proofs.Cycles.{same_least}
+use Rattle.sw_margin.proofs.Lawful.{same_listing}
 
 -- ---- the parts of a relation
 
@@ -47,16 +43,13 @@ module _ (dep : ℕ → ℕ → Type 0) where
   chain_of c [] d k = (c, refl, k)
   chain_of c (e ∷ es) d k = chain_cons dep (suc (length es)) c e d k.0 (chain_of e es d k.1)
 
-  one_least : (P : ℕ → Type 0) (a b : ℕ) → IsLeast P a → IsLeast P b → a ≡ b
-  one_least P a b h k = omega (arith, h.least b k.member, k.least a h.member)
-
   -- from a member on there is one shortest way back to show
   one_walk : (goal c : ℕ) (xs ys : List ℕ) → length xs ≡ length ys → Walks (IsNext dep goal) (c ∷ xs) goal → Walks (IsNext dep goal) (c ∷ ys) goal → xs ≡ ys
   one_walk goal c [] [] size h k = refl
   one_walk goal c [] (y ∷ ys) size h k = absurd (omega arith)
   one_walk goal c (x ∷ xs) [] size h k = absurd (omega arith)
   one_walk goal c (x ∷ xs) (y ∷ ys) size h k =
-      let same : x ≡ y = one_least _ x y h.0 k.0 in
+      let same : x ≡ y = same_least _ x y h.0 k.0 in
       let moved : Walks (IsNext dep goal) (x ∷ ys) goal = subst (λ (z : ℕ). Walks (IsNext dep goal) (z ∷ ys) goal) (sym same) k.1 in
       let rest : xs ≡ ys = one_walk goal x xs ys (omega arith) h.1 moved in
       λ i. same i ∷ rest i

@@ -9,6 +9,7 @@ use Rattle.std.proofs.lemmas.Str.{len_utf8_ascii}
 use Rattle.std.proofs.lemmas.Str.Pattern.{NoCharPasses-char}
 use Rattle.sw_json_verdicts.specs.Names.{plain_byte}
 use Rattle.sw_text.specs.Names.{is_name_byte}
+use Rattle.sw_text.proofs.NameBytes.{name_byte_is_small}
 
 -- what stands behind the last c, or all where there is none
 abbrev pub behind : ℕ → List ℕ → List ℕ
@@ -38,9 +39,6 @@ behind_last c bs (Some x) h low =
     (λ some. ap (λ n. get_or bs n 0) back ∙ h.2.1.byte low)
 
 -- ---- a byte more
-
-name_byte_is_small : (b : ℕ) → is_name_byte b ≡ true → b < 128
-name_byte_is_small b is = grind (arith, is)
 
 by_test : (b : ℕ) (t : Bool) → is_name_byte b ≡ t → cond t b 95 < 128
 by_test b true is = name_byte_is_small b is

@@ -24,6 +24,7 @@ use Rattle.sw_lint.proofs.Tests.{any_passes}
 use Rattle.sw_lint.proofs.TableSteps.{Marked, Noted, is_key}
 use Rattle.sw_lint.proofs.Noting.{AreMarks, asker, asks_key, key_given, marks_of, number_of, other_of, places_more}
 use Rattle.sw_lint.proofs.Members.{joined_has}
+use Rattle.sw_topo.proofs.Lists.{is_some-map}
 
 -- ---- tables
 
@@ -56,10 +57,6 @@ find_some {X} p (y ∷ ys) x h is = by (p y) refl (λ later. find_some p ys x la
       | inr later ↦ on later
     ]
 
-mapped_some : {X Y : Type 0} (f : X → Y) (o : Option X) → is_some (option_map f o) ≡ is_some o
-mapped_some f None = refl
-mapped_some f (Some x) = refl
-
 module _ {X : Type 0} (all : List X) (w v : X) (has : Contains all w) where
   marked_again : (key : X → Option ℕ) (marks : List Bool) → Marked key all marks → key w ≡ key v → marked (key v) marks ≡ marks
   marked_again key marks a same = nothing_marked (key v) marks (λ k lt is. a k lt ∙ any_passes (λ x. is_key k (key x)) all w has (ap (is_key k) same ∙ is))
@@ -67,7 +64,7 @@ module _ {X : Type 0} (all : List X) (w v : X) (has : Contains all w) where
   noted_again : {A : Type 0} (key : X → Option ℕ) (value : X → A) (notes : List (Option A)) → Noted key value all notes → key w ≡ key v → noted (key v) (value v) notes ≡ notes
   noted_again key value notes a same = nothing_noted (key v) (value v) notes (λ k lt is.
       let hits : X → Bool = λ x. is_key k (key x) in
-      ap is_some (a k lt) ∙ mapped_some value (find hits all) ∙ find_some hits all w has (ap (is_key k) same ∙ is))
+      ap is_some (a k lt) ∙ is_some-map value (find hits all) ∙ find_some hits all w has (ap (is_key k) same ∙ is))
 
 -- ---- one place
 
@@ -87,7 +84,7 @@ module _ (d : Declaration) (all : List FlowPlace) (m : MarkLists) (a : AreMarks 
 
   asking_again : noted (asking_key v) (asker v) m.asking ≡ m.asking
   asking_again = nothing_noted (asking_key v) (asker v) m.asking (λ k lt is.
-      ap is_some (a.asking k (omega (arith, lt, a.long_asking))) ∙ mapped_some asker (find (asks_on k) all)
+      ap is_some (a.asking k (omega (arith, lt, a.long_asking))) ∙ is_some-map asker (find (asks_on k) all)
       ∙ find_some (asks_on k) all w has (asked_there k (sym (asks_key k v) ∙ is)))
 
   -- the first flow to another target than the first one's is there, where this one goes to another
@@ -96,7 +93,7 @@ module _ (d : Declaration) (all : List FlowPlace) (m : MarkLists) (a : AreMarks 
   other_there c asks (Some u) found elsewhere =
       let p : FlowPlace → Bool = λ x. asks_on c x && goes_elsewhere u x in
       let passes : p w ≡ true = ap₂ (λ b (t : ℕ). b && not (t == u.flow.to)) (asked_there c asks) same.to ∙ elsewhere in
-      ap (λ (o : Option FlowPlace). is_some (option_map_then c o)) found ∙ mapped_some number_of (find p all) ∙ find_some p all w has passes
+      ap (λ (o : Option FlowPlace). is_some (option_map_then c o)) found ∙ is_some-map number_of (find p all) ∙ find_some p all w has passes
     where
       option_map_then : ℕ → Option FlowPlace → Option ℕ
       option_map_then k None = None

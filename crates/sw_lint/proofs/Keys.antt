@@ -20,7 +20,8 @@ use Rattle.sw_lint.specs.FlowPlaces.{FlowPlace, leading_byte}
 use Rattle.sw_lint.specs.Lints.{addresses, comes_by, comes_to, is_matched, starts_at}
 use Rattle.sw_lint.specs.Marks.{arrival_key, end_key, in_row, led_key, start_key, switch_at}
 use Rattle.sw_lint.proofs.TableSteps.{is_key}
-use Rattle.sw_lint.proofs.Tests.{any_passes, passing, same_bool}
+use Rattle.sw_lint.proofs.Tests.{any_passes, passing}
+use Rattle.sw_topo.proofs.Lists.{same_bool}
 
 at_switch : (s : ℕ) (o : Option PlaceEnd) → is_key s (switch_at o) ≡ option_map_or (is_at_switch s) o false
 at_switch s None = refl

@@ -2,10 +2,11 @@
 use Rattle.std.proofs.Common.{◌≡◌, ℕ, Bool, true, false, not, ◌&&◌, List, [], ◌∷◌, filter, refl, sym, ap, ◌∙◌, eq-eqb}
 use Rattle.std.specs.Prelude.{◌↔◌, ◌^◌, IsBitSet, bit_and, if◌then◌else◌}
 use Rattle.std.specs.List.{range_with_len}
-use Rattle.std.proofs.lemmas.Bool.{and_from, and_parts, false≢true, ne_eqb}
+use Rattle.std.proofs.lemmas.Bool.{and_from, and_parts, false≢true}
 use Rattle.std.proofs.lemmas.List.Elements.{filter_agree}
 use Rattle.sw_topo.specs.Ports.{has_port, ports_of}
-use Rattle.sw_lint.proofs.Tests.{same_bool}
+use Rattle.sw_topo.proofs.Lists.{same_bool}
+use Rattle.sw_topo.proofs.PortWalk.{has_set}
 
 filter_both : (p q : ℕ → Bool) (xs : List ℕ) → filter q (filter p xs) ≡ filter (λ x. p x && q x) xs
 filter_both p q [] = refl
@@ -14,9 +15,6 @@ filter_both p q (x ∷ xs) = by (p x) (filter_both p q xs)
     by : (b : Bool) → filter q (filter p xs) ≡ filter (λ y. p y && q y) xs → filter q (if b then x ∷ filter p xs else filter p xs) ≡ (if b && q x then x ∷ filter (λ y. p y && q y) xs else filter (λ y. p y && q y) xs)
     by true on = ap (λ l. if q x then x ∷ l else l) on
     by false on = on
-
-has_set : (set p : ℕ) → IsBitSet set p → has_port set p ≡ true
-has_set set p here = ap not (ne_eqb (bit_and set (2 ^ p)) 0 here)
 
 set_has : (set p : ℕ) → has_port set p ≡ true → IsBitSet set p
 set_has set p is = λ gone. false≢true (sym (ap not (eq-eqb (bit_and set (2 ^ p)) 0 gone)) ∙ is)

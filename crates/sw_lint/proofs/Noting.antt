@@ -19,7 +19,8 @@ use Rattle.sw_lint.specs.Lints.{asks_on, goes_elsewhere}
 use Rattle.sw_lint.specs.Marks.{AreNoted, IsFlowNoted, MarkLists, NodeLists, arrival_key, asking_key, end_key, is_other, led_key, no_nodes, no_places, nodes_of, note_at, noted, other_key, start_key, with_flow, with_place}
 use Rattle.sw_lint.proofs.Ranges.{take_one_more}
 use Rattle.sw_lint.proofs.Tests.{find_push}
-use Rattle.sw_lint.proofs.TableSteps.{Marked, Noted, first_none, is_key, length-marked, length-noted, mapped_first, marked_more, marked_none, noted_at, noted_more, noted_none}
+use Rattle.sw_lint.proofs.TableSteps.{Marked, Noted, is_key, length-marked, length-noted, mapped_first, marked_more, marked_none, noted_at, noted_more, noted_none}
+use Rattle.sw_topo.proofs.TableSteps.{first_alone}
 
 -- ---- nodes
 
@@ -138,9 +139,9 @@ module _ (asking : List (Option Asking)) (other : List (Option ℕ)) (all : List
 
   not_asking : asks_on c v ≡ false → note_at (noted (other_key asking v) v.number other) c ≡ other_of later c
   not_asking is =
-      let gone : find (asks_on c) later ≡ find (asks_on c) all = find_push (asks_on c) all v ∙ ap (λ b. first_of (find (asks_on c) all) (if b then Some v else None)) is ∙ first_none (find (asks_on c) all) in
-      let each : (w : FlowPlace) → inner w later ≡ inner w all = λ w. inner_push w ∙ ap (λ b. first_of (inner w all) (if b && goes_elsewhere w v then Some v.number else None)) is ∙ first_none (inner w all) in
-      noted_there ∙ ap (λ b. first_of (other_of all c) (if b && is_other (note_at asking v.place.channel) v.flow.to then Some v.number else None)) is ∙ first_none (other_of all c)
+      let gone : find (asks_on c) later ≡ find (asks_on c) all = find_push (asks_on c) all v ∙ ap (λ b. first_of (find (asks_on c) all) (if b then Some v else None)) is ∙ first_alone (find (asks_on c) all) in
+      let each : (w : FlowPlace) → inner w later ≡ inner w all = λ w. inner_push w ∙ ap (λ b. first_of (inner w all) (if b && goes_elsewhere w v then Some v.number else None)) is ∙ first_alone (inner w all) in
+      noted_there ∙ ap (λ b. first_of (other_of all c) (if b && is_other (note_at asking v.place.channel) v.flow.to then Some v.number else None)) is ∙ first_alone (other_of all c)
       ∙ sym (ap (option_and_then (λ w. inner w later)) gone ∙ on_same (λ w. inner w later) (λ w. inner w all) (find (asks_on c) all) each)
 
   differs_not : goes_elsewhere v v ≡ false

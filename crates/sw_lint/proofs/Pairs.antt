@@ -12,7 +12,8 @@ use Rattle.sw_lint.specs.Lints.{asks_on, first_made, first_opposed, goes_elsewhe
 use Rattle.sw_lint.specs.Marks.{pair_of}
 use Rattle.sw_lint.proofs.Noting.{asker, none_more, number_of, other_of}
 use Rattle.sw_lint.proofs.Ranges.{first_made_none, first_made_same}
-use Rattle.sw_lint.proofs.Tests.{find_none, find_same, same_bool}
+use Rattle.sw_lint.proofs.Tests.{find_none, find_same}
+use Rattle.sw_topo.proofs.Lists.{same_bool}
 
 and_true : (b : Bool) → b && true ≡ b
 and_true true = refl

@@ -152,11 +152,6 @@ none_made f a step before is =
 
 -- ---- folds
 
-pub in_front : {A : Type 0} (xs ys : List A) (i : ℕ) (x : A) → i < length xs → slice_get (xs ++ ys) i ≡ Some x → slice_get xs i ≡ Some x
-in_front [] ys i x lt here = absurd (omega (arith, lt))
-in_front (z ∷ xs) ys zero x lt here = here
-in_front (z ∷ xs) ys (suc i) x lt here = in_front xs ys i x (omega arith) here
-
 pub take_one_more : {A : Type 0} (xs : List A) (n : ℕ) (x : A) → slice_get xs n ≡ Some x → take (n + 1) xs ≡ take n xs ++ x ∷ []
 take_one_more xs n x here = take_more xs n x (slice_get_within xs n x here) ∙ ap (λ y. take n xs ++ y ∷ []) (get_or_from_slice_get xs n x x here)
 

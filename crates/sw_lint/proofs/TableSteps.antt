@@ -8,6 +8,7 @@ use Rattle.std.proofs.lemmas.List.{get_or-replicate, get_or-set_same, get_or-set
 use Rattle.sw_topo.specs.Checked.{first_of}
 use Rattle.sw_lint.specs.Marks.{is_marked, marked, note_at, noted}
 use Rattle.sw_lint.proofs.Tests.{find_push, list_any_push}
+use Rattle.sw_topo.proofs.TableSteps.{first_alone}
 
 -- it is that number
 abbrev pub is_key : ℕ → Option ℕ → Bool
@@ -53,18 +54,14 @@ marked_more key xs x marks before = λ k lt.
 pub marked_none : {X : Type 0} (key : X → Option ℕ) (n : ℕ) → Marked key [] (replicate n false)
 marked_none key n = λ k lt. get_or-replicate n k false false (omega (arith, length-replicate {A = Bool} n false))
 
-pub first_none : {A : Type 0} (o : Option A) → first_of o None ≡ o
-first_none None = refl
-first_none (Some x) = refl
-
 pub noted_at : {A : Type 0} (o : Option ℕ) (x : A) (notes : List (Option A)) (k : ℕ) → k < length notes → note_at (noted o x notes) k ≡ first_of (note_at notes k) (if is_key k o then Some x else None)
-noted_at None x notes k lt = sym (first_none (note_at notes k))
+noted_at None x notes k lt = sym (first_alone (note_at notes k))
 noted_at {A} (Some j) x notes k lt =
     let v : Option A = first_of (note_at notes j) (Some x) in
     elim (cases_eq j k) [
       | inl same ↦ ap (λ i. note_at (set notes i (first_of (note_at notes i) (Some x))) k) same ∙ get_or-set_same notes k (first_of (note_at notes k) (Some x)) None lt
           ∙ ap (λ b. first_of (note_at notes k) (if b then Some x else None)) (sym (eq-eqb j k same))
-      | inr other ↦ get_or-set_other notes j k v None (λ e. other (sym e)) ∙ sym (first_none (note_at notes k))
+      | inr other ↦ get_or-set_other notes j k v None (λ e. other (sym e)) ∙ sym (first_alone (note_at notes k))
           ∙ ap (λ b. first_of (note_at notes k) (if b then Some x else None)) (sym (ne_eqb j k other))
     ]
 

@@ -26,7 +26,9 @@ use Rattle.sw_lint.proofs.Noting.{AreMarks, asker, marks_of, no_flow_places, nod
 use Rattle.sw_lint.proofs.Pairs.{pair_told}
 use Rattle.sw_lint.proofs.Ranges.{first_made_none, first_made_same, first_made_shifted, flat_map_same, list_any_shifted, made_if, made_same}
 use Rattle.sw_lint.proofs.TableSteps.{is_key}
-use Rattle.sw_lint.proofs.Tests.{any_passes, find_none, find_same, list_any_same, passing, same_bool}
+use Rattle.sw_lint.proofs.Tests.{any_passes, find_none, find_same, list_any_same, passing}
+use Rattle.sw_topo.proofs.Lists.{same_bool}
+use Rattle.sw_flow.proofs.Partners.{partner_within}
 
 -- some byte at some element, or some element with some byte
 any_swap : {X : Type 0} (p : X → Bool) (q : ℕ → X → Bool) (bytes : List ℕ) (xs : List X) → list_any (λ b. list_any (λ v. p v && q b v) xs) bytes ≡ list_any (λ v. p v && list_any (λ b. q b v) bytes) xs
@@ -41,9 +43,6 @@ any_swap {X} p q bytes xs = same_bool _ _ (λ is.
     let at = passing (λ b. q b v.element) bytes both.1 in
     any_passes (λ b. list_any (λ v. p v && q b v) xs) bytes at.element at.listed
     (any_passes (λ v. p v && q at.element v) xs v.element v.listed (and_from (p v.element) (q at.element v.element) both.0 at.passes)))
-
-partner_inside : (d : Declaration) (c : ℕ) → c < length (ends_of d) → partner c < length (ends_of d)
-partner_inside d c lt = let even = length-link_ends d.links in grind arith
 
 Contains-at : {X : Type 0} (xs : List X) (i : ℕ) (x : X) → slice_get xs i ≡ Some x → Contains xs x
 Contains-at xs i x is = (i, slice_get_within xs i x is, get_or_from_slice_get xs i x x is)
@@ -85,7 +84,7 @@ module _ (d : Declaration) (valid : IsValid d) (all : List FlowPlace) (m : MarkL
       by (Some c) out =
           let rises = route.rising in
           let high = route.last in
-          let inside : partner c < length (ends_of d) = partner_inside d c (slice_get_within (ends_of d) c _ (port_starts (wiring_of d) s port c out)) in
+          let inside : partner c < length (ends_of d) = partner_within d c (slice_get_within (ends_of d) c _ (port_starts (wiring_of d) s port c out)) in
           first_made_shifted (note_at m.led) (first_by d all s port) (256 * partner c) (256 * partner c + r.first) r.first (r.last + 1 - r.first) refl
           (λ b from to.
           let small : b < 255 = omega arith in

@@ -7,11 +7,6 @@ use Rattle.std.proofs.lemmas.Option.{none-some}
 use Rattle.sw_topo.specs.Checked.{first_of}
 use Rattle.sw_flow.proofs.Listed.{Contains-cases, Contains-head, Contains-later}
 
-pub same_bool : (a b : Bool) → (a ≡ true → b ≡ true) → (b ≡ true → a ≡ true) → a ≡ b
-same_bool true b to back = sym (to refl)
-same_bool false true to back = back refl
-same_bool false false to back = refl
-
 or_assoc : (a b c : Bool) → (a || b) || c ≡ a || (b || c)
 or_assoc true b c = refl
 or_assoc false b c = refl

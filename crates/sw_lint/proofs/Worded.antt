@@ -22,6 +22,7 @@ use Rattle.sw_lint.specs.InWords.{Asks, ComeTo, ComesFor, IsGoneOver, ToldInWord
 use Rattle.sw_lint.proofs.Keys.{leads, matched}
 use Rattle.sw_lint.proofs.Members.{all_listed}
 use Rattle.sw_lint.proofs.Tests.{any_passes, passing}
+use Rattle.sw_topo.proofs.Lists.{is_some-map}
 
 -- the end is at the switch
 at_switch : (s : ℕ) (o : Option PlaceEnd) → option_map_or (is_at_switch s) o false ≡ true → (port : ℕ) × (o ≡ Some (Switch s port))
@@ -53,10 +54,6 @@ byte_matched r b o is low high = ap (λ (p : Option ℕ). option_map_or (λ x. c
 some_first : {A : Type 0} (a b : Option A) → is_some (first_of a b) ≡ is_some a || is_some b
 some_first None b = refl
 some_first (Some x) b = refl
-
-some_mapped : {A B : Type 0} (f : A → B) (o : Option A) → is_some (option_map f o) ≡ is_some o
-some_mapped f None = refl
-some_mapped f (Some x) = refl
 
 some_made : {A B : Type 0} (make : A → Option B) (xs : List A) → is_some (first_made make xs) ≡ list_any (λ x. is_some (make x)) xs
 some_made make [] = refl
@@ -127,7 +124,7 @@ module _ (d : Declaration) (all : List FlowPlace) (a : AreAllPlaces d all) where
   by_port s port r = (
     λ is.
         let at = passing (λ b. is_some (first_by d all s port b)) (addresses r) (sym (some_made (first_by d all s port) (addresses r)) ∙ is) in
-        let v = passing (comes_by d s port at.element) all (sym (some_mapped (λ (x : FlowPlace). x.number) (find (comes_by d s port at.element) all) ∙ some_found (comes_by d s port at.element) all) ∙ at.passes) in
+        let v = passing (comes_by d s port at.element) all (sym (is_some-map (λ (x : FlowPlace). x.number) (find (comes_by d s port at.element) all) ∙ some_found (comes_by d s port at.element) all) ∙ at.passes) in
         let both = and_parts (option_map_or (is_port s port) (end_of d v.element.place.channel) false) (leads at.element v.element) v.passes in
         let byte = matched_byte r (leading_byte v.element) (sym (matched r v.element) ∙ any_passes (λ b. leads b v.element) (addresses r) at.element at.listed both.1) in
         record { at = v.element; come = come v.element v.listed; ends = at_port s port (end_of d v.element.place.channel) both.0; byte = byte.0; leads = byte.1; first = byte.2; last = byte.3 },
@@ -135,7 +132,7 @@ module _ (d : Declaration) (all : List FlowPlace) (a : AreAllPlaces d all) where
         let at = passing (λ b. leads b f.at) (addresses r) (matched r f.at ∙ byte_matched r f.byte (leading_byte f.at) f.leads f.first f.last) in
         some_made (first_by d all s port) (addresses r)
         ∙ any_passes (λ b. is_some (first_by d all s port b)) (addresses r) at.element at.listed
-        (some_mapped (λ (x : FlowPlace). x.number) (find (comes_by d s port at.element) all) ∙ some_found (comes_by d s port at.element) all
+        (is_some-map (λ (x : FlowPlace). x.number) (find (comes_by d s port at.element) all) ∙ some_found (comes_by d s port at.element) all
         ∙ any_passes (comes_by d s port at.element) all f.at (listed f.at f.come)
         (and_from (option_map_or (is_port s port) (end_of d f.at.place.channel) false) (leads at.element f.at) (port_at s port (end_of d f.at.place.channel) f.ends) at.passes)),
   )
@@ -144,10 +141,10 @@ module _ (d : Declaration) (all : List FlowPlace) (a : AreAllPlaces d all) where
   backs s e r = (
     λ is.
         let at = passing (λ port. is_some (made port)) (ports_of r.ports) (sym (some_made made (ports_of r.ports)) ∙ is) in
-        (at.element, at.listed, (by_port s at.element r).0 (sym (some_mapped (λ flow. LeadsBack s e at.element flow) (back_by d all s r at.element)) ∙ at.passes)),
+        (at.element, at.listed, (by_port s at.element r).0 (sym (is_some-map (λ flow. LeadsBack s e at.element flow) (back_by d all s r at.element)) ∙ at.passes)),
     λ c.
         some_made made (ports_of r.ports)
-        ∙ any_passes (λ port. is_some (made port)) (ports_of r.ports) c.0 c.1 (some_mapped (λ flow. LeadsBack s e c.0 flow) (back_by d all s r c.0) ∙ (by_port s c.0 r).1 c.2),
+        ∙ any_passes (λ port. is_some (made port)) (ports_of r.ports) c.0 c.1 (is_some-map (λ flow. LeadsBack s e c.0 flow) (back_by d all s r c.0) ∙ (by_port s c.0 r).1 c.2),
   )
     where
       made : ℕ → Option Lint
@@ -184,7 +181,7 @@ module _ (d : Declaration) (all : List FlowPlace) (a : AreAllPlaces d all) where
 
       found : (v : FlowPlace) → is_some (first_opposed all link (2 * link + 1) v) ≡ list_any (λ x. asks_on (2 * link + 1) x && goes_elsewhere v x) all
       found v =
-          some_mapped (λ (w : FlowPlace). Opposed link v.number w.number) (find (λ x. asks_on (2 * link + 1) x && goes_elsewhere v x) all) ∙ some_found (λ x. asks_on (2 * link + 1) x && goes_elsewhere v x) all
+          is_some-map (λ (w : FlowPlace). Opposed link v.number w.number) (find (λ x. asks_on (2 * link + 1) x && goes_elsewhere v x) all) ∙ some_found (λ x. asks_on (2 * link + 1) x && goes_elsewhere v x) all
 
       apart : (v w : FlowPlace) → goes_elsewhere v w ≡ true → v.flow.to ≢ w.flow.to
       apart v w is same = false≢true (sym (ap not (eq-eqb w.flow.to v.flow.to (sym same))) ∙ is)

@@ -9,33 +9,7 @@ use Rattle.sw_load.specs.Limit.{AcceptedHistoriesEnd, HistoriesEnd}
 use Rattle.sw_machine.specs.Begun.{Begun, IsBoundedByLoad, beginnings, length_with_reply}
 use Rattle.sw_machine.specs.Network.{Network}
 use Rattle.sw_machine.proofs.Free.{is_deadlock_free}
-
-sum-add : {X : Type 0} (f g : X → ℕ) (xs : List X) → sum_by (λ x. f x + g x) xs ≡ sum_by f xs + sum_by g xs
-sum-add f g [] = refl
-sum-add f g (x ∷ xs) =
-    let r = sum-add f g xs in
-    let a = sum_by-cons f x xs in
-    let b = sum_by-cons g x xs in
-    let c = sum_by-cons (λ x. f x + g x) x xs in
-    omega arith
-
-sum-same : {X : Type 0} (f g : X → ℕ) (xs : List X) → ((x : X) → f x ≡ g x) → sum_by f xs ≡ sum_by g xs
-sum-same f g [] h = refl
-sum-same f g (x ∷ xs) h =
-    let r = sum-same f g xs h in
-    let e = h x in
-    let a = sum_by-cons f x xs in
-    let b = sum_by-cons g x xs in
-    omega arith
-
-sum-le : {X : Type 0} (f g : X → ℕ) (xs : List X) → ((x : X) → f x ≤ g x) → sum_by f xs ≤ sum_by g xs
-sum-le f g [] h = omega arith
-sum-le f g (x ∷ xs) h =
-    let r = sum-le f g xs h in
-    let e = h x in
-    let a = sum_by-cons f x xs in
-    let b = sum_by-cons g x xs in
-    omega arith
+use Rattle.sw_machine.proofs.Load.{sum_le, sum_same, sum_add}
 
 sum-filter : {X : Type 0} (f : X → ℕ) (p : X → Bool) (xs : List X) → sum_by f (filter p xs) ≡ sum_by (λ x. cond (p x) (f x) 0) xs
 sum-filter f p [] = refl
@@ -63,8 +37,8 @@ module _ {X : Type 0} (key : X → ℕ) (f : X → ℕ) where
   below-more : (n : ℕ) (xs : List X) → below (n + 1) xs ≡ below n xs + here n xs
   unfolding below here
   below-more n xs =
-      sum-same (λ x. cond (ltb (key x) (n + 1)) (f x) 0) (λ x. cond (ltb (key x) n) (f x) 0 + cond (eqb (key x) n) (f x) 0) xs (λ x. one (key x) n (f x))
-      ∙ sum-add (λ x. cond (ltb (key x) n) (f x) 0) (λ x. cond (eqb (key x) n) (f x) 0) xs
+      sum_same (λ x. cond (ltb (key x) (n + 1)) (f x) 0) (λ x. cond (ltb (key x) n) (f x) 0 + cond (eqb (key x) n) (f x) 0) xs (λ x. one (key x) n (f x))
+      ∙ sum_add (λ x. cond (ltb (key x) n) (f x) 0) (λ x. cond (eqb (key x) n) (f x) 0) xs
       ∙ ap (λ (m : ℕ). below n xs + m) (sym (sum-filter f (λ x. nat_eq (key x) n) xs))
 
   none : (xs : List X) → below 0 xs ≡ 0
@@ -96,7 +70,7 @@ module _ {X : Type 0} (key : X → ℕ) (f : X → ℕ) where
 
   below-most : (n : ℕ) (xs : List X) → below n xs ≤ sum_by f xs
   unfolding below
-  below-most n xs = sum-le (λ x. cond (ltb (key x) n) (f x) 0) f xs (λ x. by (ltb (key x) n) (f x))
+  below-most n xs = sum_le (λ x. cond (ltb (key x) n) (f x) 0) f xs (λ x. by (ltb (key x) n) (f x))
     where
       by : (b : Bool) (w : ℕ) → cond b w 0 ≤ w
       by true w = omega arith

@@ -18,14 +18,7 @@ use Rattle.sw_text.specs.declared.keys.Key.TheVariants.{Packet}
 use Rattle.sw_text.specs.declared.keys.Section.TheVariants as section
 use Rattle.sw_text.specs.Gives.{◌>>=◌, walk_from}
 use Rattle.sw_text.specs.declared.fault.TextFault.{TextFault}
-
-pub goes_on : {A B : Type 0} (r : Result A TextFault) (f : A → Result B TextFault) (b : B) → (r >>= f) ≡ Ok b → (a : A) × (r ≡ Ok a) × (f a ≡ Ok b)
-goes_on (Ok a) f b h = (a, refl, h)
-goes_on (Err e) f b h = absurd cc
-
-if_so : {A : Type 0} (test : Bool) (a b : A) (e : TextFault) → (if test then Ok a else Err e) ≡ Ok b → (test ≡ true) × (a ≡ b)
-if_so true a b e h = (refl, cc)
-if_so false a b e h = absurd cc
+use Rattle.sw_text.proofs.Results.{bind_ok, test_passed}
 
 if_chosen : {A : Type 0} (test : Bool) (r : Result A TextFault) (b : A) (e : TextFault) → (if test then r else Err e) ≡ Ok b → r ≡ Ok b
 if_chosen true r b e h = h
@@ -53,19 +46,19 @@ module _ (d : Declaration) where
       → (cargo_at i ms ≡ Ok p.cargo) × IsDeclaredPacket d p.flow p.cargo
   unfolding packet_of
   one_is_read i load ms p h =
-      let a = goes_on (only_known (section.Packet i) packet_keys ms) (λ known. flow_at i d.flows ms >>= λ flow. from_flow i load ms flow) p h in
-      let flow = goes_on (flow_at i d.flows ms) (λ flow. from_flow i load ms flow) p a.2 in
-      let cargo = goes_on (cargo_at i ms) (λ cargo. from_cargo i load ms flow.0 cargo) p flow.2 in
-      let marker = goes_on (marker_at i ms) (λ marker. from_marker i load ms flow.0 cargo.0 marker) p cargo.2 in
-      let count = goes_on (count_at i (packet_count load) ms) (λ count. entry i flow.0 cargo.0 marker.0 count) p marker.2 in
-      let last = if_so (is_declared_packet d flow.0 cargo.0) (record { flow = flow.0; cargo = cargo.0; marker = marker.0; count = count.0 }) p (fault.NotInFlow i) count.2 in
+      let a = bind_ok (only_known (section.Packet i) packet_keys ms) (λ known. flow_at i d.flows ms >>= λ flow. from_flow i load ms flow) p h in
+      let flow = bind_ok (flow_at i d.flows ms) (λ flow. from_flow i load ms flow) p a.2 in
+      let cargo = bind_ok (cargo_at i ms) (λ cargo. from_cargo i load ms flow.0 cargo) p flow.2 in
+      let marker = bind_ok (marker_at i ms) (λ marker. from_marker i load ms flow.0 cargo.0 marker) p cargo.2 in
+      let count = bind_ok (count_at i (packet_count load) ms) (λ count. entry i flow.0 cargo.0 marker.0 count) p marker.2 in
+      let last = test_passed (is_declared_packet d flow.0 cargo.0) (record { flow = flow.0; cargo = cargo.0; marker = marker.0; count = count.0 }) p (fault.NotInFlow i) count.2 in
       let is = (declared_packets_pass d flow.0 cargo.0).0 last.0 in
       subst (λ (q : LoadEntry). (cargo_at i ms ≡ Ok q.cargo) × IsDeclaredPacket d q.flow q.cargo) last.1 (cargo.1, is)
 
   next_is_declared : (i : ℕ) (load : List LoadEntry) (ms : Members) (more : List LoadEntry) → next_packet d i load ms ≡ Ok more → AreDeclared d load → AreDeclared d more
   unfolding next_packet
   next_is_declared i load ms more h all =
-      let a = goes_on (packet_of i d load ms) (λ packet. Ok (load ++ packet ∷ [])) more h in
+      let a = bind_ok (packet_of i d load ms) (λ packet. Ok (load ++ packet ∷ [])) more h in
       let is = a.2 in
       let e : load ++ a.0 ∷ [] ≡ more = cc in
       let P : LoadEntry → Type 0 = λ p. IsDeclaredPacket d p.flow p.cargo in
@@ -74,7 +67,7 @@ module _ (d : Declaration) where
   walk_is_declared : (i : ℕ) (load : List LoadEntry) (tables : List Members) (more : List LoadEntry) → walk_from (next_packet d) i load tables ≡ Ok more → AreDeclared d load → AreDeclared d more
   walk_is_declared i load [] more h all = let e : load ≡ more = cc in subst (AreDeclared d) e all
   walk_is_declared i load (ms ∷ tables) more h all =
-      let a = goes_on (next_packet d i load ms) (λ next. walk_from (next_packet d) (suc i) next tables) more h in
+      let a = bind_ok (next_packet d i load ms) (λ next. walk_from (next_packet d) (suc i) next tables) more h in
       walk_is_declared (suc i) a.0 tables more a.2 (next_is_declared i load ms a.0 a.1 all)
 
   -- entry i is what table i declares, from number k on and behind these entries
@@ -95,7 +88,7 @@ module _ (d : Declaration) where
   one_more : (k : ℕ) (load : List LoadEntry) (ms : Members) (more : List LoadEntry) → next_packet d k load ms ≡ Ok more → (p : LoadEntry) × (packet_of k d load ms ≡ Ok p) × (load ++ p ∷ [] ≡ more)
   unfolding next_packet
   one_more k load ms more h =
-      let a = goes_on (packet_of k d load ms) (λ packet. Ok (load ++ packet ∷ [])) more h in
+      let a = bind_ok (packet_of k d load ms) (λ packet. Ok (load ++ packet ∷ [])) more h in
       let given : Ok (load ++ a.0 ∷ []) ≡ Ok more = a.2 in
       (a.0, a.1, cc)
 
@@ -103,7 +96,7 @@ module _ (d : Declaration) where
       → (rest : List LoadEntry) × (more ≡ load ++ rest) × (length rest ≡ length tables) × Each k load tables rest
   walked k load [] more h = let here : load ≡ more = cc in ([], sym here ∙ sym (append-nil load), refl, λ i ms p at. absurd cc)
   walked k load (ms ∷ tables) more h =
-      let a = goes_on (next_packet d k load ms) (λ next. walk_from (next_packet d) (suc k) next tables) more h in
+      let a = bind_ok (next_packet d k load ms) (λ next. walk_from (next_packet d) (suc k) next tables) more h in
       let one = one_more k load ms a.0 a.1 in
       let rest = walked (suc k) (load ++ one.0 ∷ []) tables more (subst (λ l. walk_from (next_packet d) (suc k) l tables ≡ Ok more) (sym one.2) a.2) in
       (one.0 ∷ rest.0, rest.1 ∙ append_assoc load (one.0 ∷ []) rest.0, ap suc rest.2, one_first k load ms one.0 tables rest.0 one.1 rest.3)
@@ -112,8 +105,8 @@ module _ (d : Declaration) where
   from_tables : (ms : Members) (load : List LoadEntry) → load_of d ms ≡ Ok load → (tables : List Members) × (tables_or_none section.Document Packet ms ≡ Ok tables) × (walk_from (next_packet d) 0 [] tables ≡ Ok load)
   unfolding load_of
   from_tables ms load h =
-      let known = goes_on (only_known section.Document document_keys ms) (λ known. tables_or_none section.Document Packet ms >>= λ tables. if nat_le (length tables) 4096 then walk_from (next_packet d) 0 [] tables else Err (fault.Key OutOfRange section.Document Packet)) load h in
-      let tables = goes_on (tables_or_none section.Document Packet ms) (λ tables. if nat_le (length tables) 4096 then walk_from (next_packet d) 0 [] tables else Err (fault.Key OutOfRange section.Document Packet)) load known.2 in
+      let known = bind_ok (only_known section.Document document_keys ms) (λ known. tables_or_none section.Document Packet ms >>= λ tables. if nat_le (length tables) 4096 then walk_from (next_packet d) 0 [] tables else Err (fault.Key OutOfRange section.Document Packet)) load h in
+      let tables = bind_ok (tables_or_none section.Document Packet ms) (λ tables. if nat_le (length tables) 4096 then walk_from (next_packet d) 0 [] tables else Err (fault.Key OutOfRange section.Document Packet)) load known.2 in
       (tables.0, tables.1, if_chosen (nat_le (length tables.0) 4096) (walk_from (next_packet d) 0 [] tables.0) load (fault.Key OutOfRange section.Document Packet) tables.2)
 
 pub reads_each_entry : ReadsEachEntry
@@ -129,6 +122,6 @@ reads_each_entry d ms load h =
 
 pub listed_are_declared : ListedAreDeclared
 listed_are_declared d bytes load h =
-    let ms = goes_on (document_of bytes) (λ ms. load_of d ms) load h in
+    let ms = bind_ok (document_of bytes) (λ ms. load_of d ms) load h in
     let from = from_tables d ms.0 load ms.2 in
     walk_is_declared d 0 [] from.0 load from.2 (All-nil (λ p. IsDeclaredPacket d p.flow p.cargo))

@@ -1,10 +1,9 @@
 -- The places of the packets of a node, entry by entry of a load.
-use Rattle.std.proofs.Common.{append_assoc, set, ◌≡◌, ◌++◌, ◌+◌, ◌<◌, ◌∷◌, ◌∙◌, [], ℕ, zero, suc, List, None, Option, Some, get_or, length, length-append, map, refl, sym, ap, subst, take, append-nil, arith, drop, ne_eqb, eq-eqb, ⊎_elim}
+use Rattle.std.proofs.Common.{append_assoc, set, ◌≡◌, ◌++◌, ◌+◌, ◌<◌, ◌∷◌, ◌∙◌, [], ℕ, zero, suc, List, None, Option, Some, get_or, length, length-append, map, refl, sym, ap, subst, take, append-nil, arith, ne_eqb, eq-eqb, ⊎_elim}
 use Rattle.std.specs.Prelude.{Vec, nat_eq, option_map, replicate, slice_get}
 use Rattle.std.specs.Borrow.{Bor}
 use Rattle.std.specs.Slice.{IsItemAt}
 use Rattle.std.specs.declared.alloc.Global.{Global}
-use Rattle.std.proofs.Math.Seq.{take-append_seam}
 use Rattle.std.proofs.lemmas.Bool.{cases_eq}
 use Rattle.std.proofs.lemmas.Grind.{flat_map-append}
 use Rattle.std.proofs.lemmas.List.Concat.{flat_map-cons}
@@ -121,10 +120,6 @@ flow_from d f e at = rw at refl
 
 pub read_at : {A : Type 0} (items load : List A) (i : ℕ) (p : A) → items ≡ load → i < length items → p ≡ get_or items i p → (i < length load) × (p ≡ get_or load i p)
 read_at items load i p same lt here = (let e = ap length same in omega arith, here ∙ ap (λ l. get_or l i p) same)
-
--- what a slice's owner holds after a call that keeps its length
-pub whole : {A : Type 0} (len : ℕ) (new old : List A) → len ≡ length old → length new ≡ length old → take len (new ++ drop (length new) old) ≡ new
-whole len new old a b = let e : len ≡ length new = omega arith in ap (λ k. take k (new ++ drop (length new) old)) e ∙ take-append_seam new (drop (length new) old)
 
 pub row_read : (rows : List (Vec ℕ Global)) (n : ℕ) (v : Vec ℕ Global) → n < length rows → v ≡ get_or rows n v → places_at rows n ≡ v.items
 row_read rows n v lt at = ap items_of (slice_get_read rows (length rows) n v refl lt at)

@@ -7,6 +7,7 @@ use Rattle.std.proofs.lemmas.List.{drop_all}
 use Rattle.std.proofs.lemmas.List.Elements.{filter_more}
 use Rattle.std.proofs.lemmas.Bool.{cases_Bool, and_parts, and_from, leb-true, le-leb}
 use Rattle.sw_load.specs.Cargo.{without_spaces, IsRepeated, CargoIsRead, cargo_of, bytes_of, is_repetition, repeated_of, hex_pair, ArePairs, is_digit, is_well_begun, IsCount, IsPairs, count_after, count_of, bytes_after, if_some_and_few, pairs_of}
+use Rattle.sw_config.proofs.Lists.{none_some}
 
 -- a character more that is kept, or left out as a space
 pub bare_kept : (text bare : List ℕ) (i : ℕ) → bare ≡ without_spaces (take i text) → i < length text → (get_or text i 0 ≡ 32 → ⊥) → bare ++ get_or text i 0 ∷ [] ≡ without_spaces (take (i + 1) text)
@@ -18,9 +19,6 @@ pub bare_left : (text bare : List ℕ) (i : ℕ) → bare ≡ without_spaces (ta
 bare_left text bare i is lt space =
     let c = get_or text i 0 in
     is ∙ sym (filter_more (λ k. not (k == 32)) text i 0 lt ∙ ap (λ b. without_spaces (take i text) ++ cond (not b) (c ∷ []) []) (eq-eqb c 32 space) ∙ append-nil (without_spaces (take i text)))
-
-none_some : {A : Type 0} (x : A) → ◌≡◌ {A = Option A} None (Some x) → ⊥
-none_some x e = cc
 
 -- pairs that are read are pairs
 pub pairs_read : (done text all : List ℕ) → bytes_after done text ≡ Some all → (bytes : List ℕ) × (all ≡ done ++ bytes) × ArePairs text bytes

@@ -153,7 +153,7 @@ module _ (net : Network) (ok : IsNetwork net) (n : ℕ) (ln : n < net.nodes) (te
       let sent = count_sent net n is_answered begun in
       omega arith
 
-  no_pending : (pending : List PendingReply) → length_pending pending ≡ 0 → pending ≡ []
+  pub no_pending : (pending : List PendingReply) → length_pending pending ≡ 0 → pending ≡ []
   no_pending [] e = refl
   no_pending (r ∷ others) e =
       let c = sum_by-cons (λ r. length (reply_packet r)) r others in

@@ -1,5 +1,5 @@
 -- The test for declared packets.
-use Rattle.std.proofs.Common.{◌≡◌, ℕ, ◌≤◌, Bool, true, false, ◌&&◌, List, ◌++◌, length, Option, Some, None, IsTrue, refl, sym, ap, inl, inr}
+use Rattle.std.proofs.Common.{◌≡◌, ℕ, ◌≤◌, Bool, true, false, ◌&&◌, List, ◌++◌, length, Option, Some, None, IsTrue, refl, ap, inl, inr}
 use Rattle.std.specs.Prelude.{nat_le, slice_get, ◌↔◌}
 use Rattle.std.specs.Option.{option_map_or}
 use Rattle.std.proofs.lemmas.Slice.Eq.{bytes_eq-Decides}
@@ -7,6 +7,7 @@ use Rattle.std.proofs.lemmas.Bool.{and_parts, and_from, leb-true, le-leb}
 use Rattle.sw_flow.specs.Entries.{ReplyEntry, FlowEntry, Declaration}
 use Rattle.sw_machine.specs.DeclaredPackets.{reply_address, reply_from, left_bytes, IsRightWay, IsDeclaredPacket, is_right_way, is_answered_rightly, is_declared_packet}
 use Rattle.sw_machine.specs.ModelLaws.{DeclaredPacketsPass}
+use Rattle.sw_flow.proofs.Lists.{same_bool}
 
 right_way : (way : Option (List ℕ)) (reply : Option ReplyEntry) → is_right_way way reply ≡ true → IsRightWay way reply
 right_way None reply e = inl refl
@@ -41,12 +42,6 @@ passes d flow cargo p =
 
 pub declared_packets_pass : DeclaredPacketsPass
 declared_packets_pass d flow cargo = (passed d flow cargo, passes d flow cargo)
-
--- two tests that pass for the same
-same_bool : (a b : Bool) → (a ≡ true → b ≡ true) → (b ≡ true → a ≡ true) → a ≡ b
-same_bool true b f g = sym (f refl)
-same_bool false true f g = g refl
-same_bool false false f g = refl
 
 pub same_test : (b : Bool) (d : Declaration) (flow : ℕ) (cargo : List ℕ) → (IsTrue b ↔ IsDeclaredPacket d flow cargo) → b ≡ is_declared_packet d flow cargo
 same_test b d flow cargo so = same_bool b (is_declared_packet d flow cargo) (λ e. passes d flow cargo (so.0 e)) (λ e. so.1 (passed d flow cargo e))

@@ -1,5 +1,5 @@
 -- The packets that a file's flow declares are those that the machine's flow declares.
-use Rattle.std.proofs.Common.{◌≡◌, ◌↔◌, ◌<◌, ◌++◌, ◌∷◌, [], ℕ, zero, suc, List, length, Option, Some, None, inl, inr, refl, sym, ap, subst, ◌∙◌, arith}
+use Rattle.std.proofs.Common.{◌≡◌, ◌↔◌, ◌<◌, ◌++◌, ℕ, List, length, Option, Some, None, inl, inr, refl, sym, ap, subst, ◌∙◌}
 use Rattle.std.specs.Prelude.{slice_get, option_map, is_some, if◌then◌else◌}
 use Rattle.std.proofs.lemmas.Option.{same_Some, slice_get_within}
 use Rattle.sw_rmap.specs.declared.config.TargetConfig.{TargetConfig}
@@ -10,13 +10,7 @@ use Rattle.sw_machine.specs.DeclaredPackets.{IsDeclaredPacket, IsRightWay, reply
 use Rattle.sw_machine.specs.DeclaredPackets as file
 use Rattle.sw_machine.specs.Network.{AnsweredBy, IsDeclared, left_bytes}
 use Rattle.sw_machine.specs.Model.{answered_to, network_of, reply_number}
-use Rattle.sw_machine.proofs.Flows.{flow_at, some_at}
-
--- a declared flow is one of all
-at_front : {X : Type 0} (xs ys : List X) (i : ℕ) → i < length xs → slice_get (xs ++ ys) i ≡ slice_get xs i
-at_front [] ys i lt = absurd (omega arith)
-at_front (x ∷ xs) ys zero lt = refl
-at_front (x ∷ xs) ys (suc i) lt = at_front xs ys i (omega arith)
+use Rattle.sw_machine.proofs.Flows.{flow_at, some_at, slice_get-append_left}
 
 -- what a node answers
 same_way : (nodes : List NodeEntry) (n : ℕ) (bytes : List ℕ) → reply_from nodes n bytes ≡ answered_to (target_of nodes n) bytes
@@ -31,7 +25,7 @@ module _ (d : Declaration) (f : ℕ) (e : FlowEntry) (at : slice_get d.flows f �
   declared = slice_get_within d.flows f e at
 
   here : slice_get (all_flows d) f ≡ Some e
-  here = at_front d.flows (reply_flows d.flows) f declared ∙ at
+  here = slice_get-append_left d.flows (reply_flows d.flows) f declared ∙ at
 
   -- the reply flow's address
   replied : (r : ReplyEntry) → e.reply ≡ Some r → (flow_at d (reply_number d f)).address ≡ reply_address r

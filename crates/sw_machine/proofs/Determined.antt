@@ -4,15 +4,13 @@ use Rattle.std.specs.Prelude.{if◌then◌else◌}
 use Rattle.sw_char.specs.declared.nchar.NChar.{NChar}
 use Rattle.sw_char.specs.declared.nchar.NChar.TheVariants.{Data, Eep, Eop}
 use Rattle.sw_machine.proofs.Cuts.{cuts_are_equal}
-use Rattle.sw_machine.specs.Network.{AtSwitch, Network}
+use Rattle.sw_machine.specs.Network.{Network}
 use Rattle.sw_machine.specs.State.{State, after_accept, after_arrive, after_drop_marker, after_emit, after_fct_in, after_forward, after_grant, after_reply, after_spill}
 use Rattle.sw_machine.specs.Steps.{Accept, Arrive, Begin, Drop, Drops, Emit, Fct, FctIn, Forward, Grant, Leads, Reply, Spill, Step}
 use Rattle.sw_machine.specs.declared.input.InputState.TheVariants.{Held}
+use Rattle.sw_machine.proofs.Steps.{switch_is}
 
 module _ (net : Network) (s : State) where
-  same_place : (a b : ℕ) → AtSwitch a ≡ AtSwitch b → a ≡ b
-  same_place a b e = cc
-
   drops : (c w v : ℕ) (x y : NChar) (l k : List NChar) (t u : State) → w ≡ v → x ≡ y → l ≡ k → Drops net s c w x l t → Drops net s c v y k u → t ≡ u
   drops c w v (Data a) (Data b) l k t u ew ex el h i = h.1 ∙ sym i.1
   drops c w v (Data a) Eop l k t u ew ex el h i = absurd (cc)
@@ -36,7 +34,7 @@ module _ (net : Network) (s : State) where
       let l : h.rest ≡ i.rest = cc in
       h.after ∙ ap (λ x. after_arrive s c x h.rest) x ∙ ap (after_arrive s c i.first) l ∙ sym i.after
   determined (Grant d c) t u h i =
-      let w = same_place h.switch i.switch (sym h.at ∙ i.at) in
+      let w = switch_is h.switch i.switch (sym h.at ∙ i.at) in
       let e : Data h.h ∷ h.rest ≡ Data i.h ∷ i.rest = sym h.front ∙ i.front in
       let b : h.h ≡ i.h = cc in
       let l : h.rest ≡ i.rest = cc in
@@ -46,7 +44,7 @@ module _ (net : Network) (s : State) where
       ∙ ap (λ l. after_grant s d c (if net.deletes i.switch i.h then l else Data i.h ∷ l)) l
       ∙ sym i.after
   determined (Drop c) t u h i =
-      let w = same_place h.switch i.switch (sym h.at ∙ i.at) in
+      let w = switch_is h.switch i.switch (sym h.at ∙ i.at) in
       let e : h.first ∷ h.rest ≡ i.first ∷ i.rest = sym h.front ∙ i.front in
       let x : h.first ≡ i.first = cc in
       let l : h.rest ≡ i.rest = cc in

@@ -22,15 +22,15 @@ use Rattle.sw_machine.specs.Runs.{total}
 use Rattle.sw_machine.specs.State.{State, empty}
 use Rattle.sw_machine.specs.Steps.{Accept, Arrive, Begin, Drop, Emit, Fct, FctIn, Forward, Grant, Leads, Reply, Spill, Step, is_begin}
 
-sum_le : {X : Type 0} (f g : X → ℕ) (xs : List X) → ((x : X) → f x ≤ g x) → sum_by f xs ≤ sum_by g xs
+pub sum_le : {X : Type 0} (f g : X → ℕ) (xs : List X) → ((x : X) → f x ≤ g x) → sum_by f xs ≤ sum_by g xs
 sum_le f g [] h = omega arith
 sum_le f g (x ∷ xs) h = let r = sum_le f g xs h in let e = h x in let a = sum_by-cons f x xs in let b = sum_by-cons g x xs in omega arith
 
-sum_same : {X : Type 0} (f g : X → ℕ) (xs : List X) → ((x : X) → f x ≡ g x) → sum_by f xs ≡ sum_by g xs
+pub sum_same : {X : Type 0} (f g : X → ℕ) (xs : List X) → ((x : X) → f x ≡ g x) → sum_by f xs ≡ sum_by g xs
 sum_same f g [] h = refl
 sum_same f g (x ∷ xs) h = let r = sum_same f g xs h in let e = h x in let a = sum_by-cons f x xs in let b = sum_by-cons g x xs in omega arith
 
-sum_add : {X : Type 0} (f g : X → ℕ) (xs : List X) → sum_by (λ x. f x + g x) xs ≡ sum_by f xs + sum_by g xs
+pub sum_add : {X : Type 0} (f g : X → ℕ) (xs : List X) → sum_by (λ x. f x + g x) xs ≡ sum_by f xs + sum_by g xs
 sum_add f g [] = refl
 sum_add f g (x ∷ xs) = let r = sum_add f g xs in let a = sum_by-cons f x xs in let b = sum_by-cons g x xs in let c = sum_by-cons (λ x. f x + g x) x xs in omega arith
 
@@ -83,7 +83,7 @@ all_map : {X : Type 0} (P Q : X → Type 0) (xs : List X) → ((x : X) → P x �
 all_map P Q [] f h = tt
 all_map P Q (x ∷ xs) f h = (f x h.0, all_map P Q xs f h.1)
 
-all_append : {X : Type 0} (P : X → Type 0) (xs ys : List X) → AllByRecursion P xs → AllByRecursion P ys → AllByRecursion P (xs ++ ys)
+pub all_append : {X : Type 0} (P : X → Type 0) (xs ys : List X) → AllByRecursion P xs → AllByRecursion P ys → AllByRecursion P (xs ++ ys)
 all_append P [] ys a b = b
 all_append P (x ∷ xs) ys a b = (a.0, all_append P xs ys a.1 b)
 
@@ -193,7 +193,7 @@ module _ (net : Network) where
       omega arith
 
   -- how many packets are begun
-  beginnings_are : (steps : List Step) → length (beginnings steps) ≡ count_by is_begin steps
+  pub beginnings_are : (steps : List Step) → length (beginnings steps) ≡ count_by is_begin steps
   beginnings_are [] = refl
   beginnings_are (step ∷ steps) = let r = beginnings_are steps in let c = count_cons is_begin step steps in let a = length-append (beginning step) (beginnings steps) in let o = one step in omega arith
     where

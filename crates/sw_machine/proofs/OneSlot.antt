@@ -14,6 +14,7 @@ use Rattle.sw_machine.specs.Owed.{last_beginning}
 use Rattle.sw_machine.specs.Runs.{IsReached}
 use Rattle.sw_machine.specs.State.{State, after_accept, after_drop_byte, after_drop_marker, after_emit, after_reply, memory_at, owed_after, owed_with, pending_with, put, reply_at, reply_packet}
 use Rattle.sw_machine.specs.Steps.{Accept, Arrive, Begin, Drop, Drops, Emit, Fct, FctIn, Forward, Grant, Leads, Reply, Spill, Step}
+use Rattle.std.proofs.lemmas.List.{nil_from_length}
 
 none_first : (l : List PendingReply) → first_of_list l ≡ None → l ≡ []
 none_first [] e = refl
@@ -23,10 +24,6 @@ one_first : (l : List PendingReply) (r : PendingReply) → length l ≤ 1 → fi
 one_first [] r few e = absurd (cc)
 one_first (x ∷ []) r few e = let is : x ≡ r = cc in ap (λ x. x ∷ []) is
 one_first (x ∷ y ∷ l) r few e = absurd (omega arith)
-
-no_length : {A : Type 0} (l : List A) → length l ≡ 0 → l ≡ []
-no_length [] e = refl
-no_length (x ∷ l) e = absurd (omega arith)
 
 -- what is put in and then seen is what is seen and then put in
 put_seen : {A B : Type 0} (f : ℕ → A) (n : ℕ) (x : A) (see : A → B) (y : B) → see x ≡ y → (λ m. see (put f n x m)) ≡ put (λ m. see (f m)) n y
@@ -73,7 +70,7 @@ module _ (net : Network) (one : (n : ℕ) → n < net.nodes → net.slots n ≡ 
       let o = owes n ln in
       let r = reply_at net n (s.memory n) bytes first in
       let u = one_reply (after_accept net s n bytes first rest) in
-      let p = put_seen s.pending n (pending_with (s.pending n) r) first_of_list r (now_first (s.pending n) r (no_length (s.pending n) (let le = o.0 in omega arith))) in
+      let p = put_seen s.pending n (pending_with (s.pending n) r) first_of_list r (now_first (s.pending n) r (nil_from_length (s.pending n) (let le = o.0 in omega arith))) in
       let a = put_seen s.owed n (owed_with (s.owed n) r) (nat_lt 0) (is_some r) (now_owes (s.owed n) r none) in
       ap (λ f. record u { pending = f }) p ∙ ap (λ f. record u { pending = put (one_reply s).pending n r; answering = f }) a
 

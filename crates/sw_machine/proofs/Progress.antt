@@ -45,7 +45,7 @@ unfolding greatest
 below_greatest zero f k lt = absurd (omega arith)
 below_greatest (suc n) f k lt = ⊎_elim (λ e. let same = ap f e in omega arith) (λ ne. let r = below_greatest n f k (omega arith) in omega arith) (cases_eq k n)
 
-head_contained : (l : List ℕ) → l ≢ [] → (d : ℕ) × Contains l d
+pub head_contained : (l : List ℕ) → l ≢ [] → (d : ℕ) × Contains l d
 head_contained [] ne = absurd (ne refl)
 head_contained (d ∷ l) ne = (d, (0, omega arith, refl))
 

@@ -10,6 +10,8 @@ use Rattle.sw_machine.specs.Certificate.{IsAccepted, IsListed, number}
 use Rattle.sw_machine.specs.Network.{AtNode, AtSwitch, IsNetwork, IsReplyFlow, PendingReply, Place, left_bytes, reverse_of}
 use Rattle.sw_machine.specs.Places.{Follows, NoFault, deleted_after, header}
 use Rattle.sw_machine.specs.Sample.{Row, answer, cell_at, certificate, ends, flow, look_in, misrouted, of_capacity, place, reply_to, sample, starts, table}
+use Rattle.sw_flow.proofs.Lists.{none_in}
+use Rattle.sw_machine.proofs.Steps.{switch_is}
 
 each_of : (P : ℕ → Type 0) → P 0 → P 1 → P 2 → P 3 → P 4 → P 5 → P 6 → P 7 → (c : ℕ) → c < 8 → P c
 each_of P a b d e f g h i zero lt = a
@@ -33,20 +35,13 @@ no_node s n e = cc
 node_is : (m n : ℕ) → AtNode m ≡ AtNode n → m ≡ n
 node_is m n e = cc
 
-switch_is : (r s : ℕ) → AtSwitch r ≡ AtSwitch s → r ≡ s
-switch_is r s e = cc
-
--- what a table names
-in_nothing : {A : Type 0} (y : A) → Contains [] y → ⊥
-in_nothing y h = let lt = h.1 in omega arith
-
 each_in : {A : Type 0} (P : A → Type 0) (l : List A) (x : A) → AllByRecursion P l → Contains l x → P x
-each_in P [] x all h = absurd (in_nothing x h)
+each_in P [] x all h = absurd (none_in x h)
 each_in P (y ∷ l) x all (zero, lt, e) = subst P e all.0
 each_in P (y ∷ l) x all (suc k, lt, e) = each_in P l x all.1 (k, omega arith, e)
 
 named : (P : ℕ → Type 0) (rows : List Row) (h d : ℕ) → AllByRecursion (λ r. AllByRecursion P r.outs) rows → Contains (look_in rows h) d → P d
-named P [] h d all c = absurd (in_nothing d c)
+named P [] h d all c = absurd (none_in d c)
 named P (r ∷ rows) h d all c = ⊎_elim
     (λ same. each_in P r.outs d all.0 (subst (λ t. Contains (if t then r.outs else look_in rows h) d) (eq-eqb r.byte h same) c))
     (λ ne. named P rows h d all.1 (subst (λ t. Contains (if t then r.outs else look_in rows h) d) (ne_eqb r.byte h ne) c))
@@ -58,7 +53,7 @@ Out s d = (d < 8) × (cell_at starts d ≡ AtSwitch s)
 looks : (s h d : ℕ) → Contains (look_in (table s) h) d → Out s d
 looks zero h d c = named (Out 0) (table 0) h d (((omega arith, refl), tt), (((omega arith, refl), tt), (((omega arith, refl), tt), (((omega arith, refl), ((omega arith, refl), tt)), tt)))) c
 looks (suc zero) h d c = named (Out 1) (table 1) h d (((omega arith, refl), tt), (((omega arith, refl), tt), (((omega arith, refl), tt), (((omega arith, refl), tt), tt)))) c
-looks (suc (suc s)) h d c = absurd (in_nothing d c)
+looks (suc (suc s)) h d c = absurd (none_in d c)
 
 starts_at : (c : ℕ) → c < 8 → (n : ℕ) → cell_at starts c ≡ AtNode n → (n < 2) × (sample.out n ≡ c)
 starts_at = each_of (λ c. (n : ℕ) → cell_at starts c ≡ AtNode n → (n < 2) × (sample.out n ≡ c))

@@ -1,5 +1,5 @@
 -- The steps, places and faults of a flow, in the machine and by its entry.
-use Rattle.std.proofs.Common.{◌≡◌, ◌≢◌, ℕ, ◌-◌, ◌<◌, ◌≤◌, List, [], ◌∷◌, length, Option, Some, None, refl, sym, ap, ◌∙◌, subst, arith, Contains}
+use Rattle.std.proofs.Common.{◌≡◌, ◌≢◌, ℕ, ◌-◌, ◌<◌, ◌≤◌, List, [], length, Option, Some, None, refl, sym, ap, ◌∙◌, subst, arith, Contains}
 use Rattle.std.specs.Prelude.{slice_index}
 use Rattle.sw_flow.specs.PlaceEnd.{PlaceEnd}
 use Rattle.sw_flow.specs.PlaceEnd.TheVariants.{Node, Switch}
@@ -18,7 +18,6 @@ use Rattle.sw_flow.specs.Places.IsPlace.{start, next}
 use Rattle.sw_flow.specs.Faults.{fault_of}
 use Rattle.sw_flow.specs.Numbers.{outputs}
 use Rattle.sw_flow.proofs.Outputs.{outputs_are}
-use Rattle.sw_flow.proofs.Listed.{Contains-head}
 use Rattle.sw_flow.proofs.Faulty.{faults_are}
 use Rattle.sw_flow.proofs.Stepping.{places_are_in}
 use Rattle.sw_machine.specs.Network.{AtNode, AtSwitch}
@@ -28,9 +27,10 @@ use Rattle.sw_machine.specs.Model.{cell_of, network_of}
 use Rattle.sw_machine.specs.ModelLaws.{IsFlowAt, FlowAgrees, LooksAgree, StepsOfFlowsAgree}
 use Rattle.sw_machine.proofs.Flows.{flow_at, some_at}
 use Rattle.sw_machine.proofs.Topology.{cell_node, partner_within}
+use Rattle.sw_flow.proofs.Lists.{none_listed}
 
 -- an end at a switch is one of its ports
-switch_of : (o : Option PlaceEnd) (s : ℕ) → cell_of o ≡ AtSwitch s → (p : ℕ) × (o ≡ Some (Switch s p))
+pub switch_of : (o : Option PlaceEnd) (s : ℕ) → cell_of o ≡ AtSwitch s → (p : ℕ) × (o ≡ Some (Switch s p))
 switch_of None s h = absurd cc
 switch_of (Some (Node n)) s h = absurd cc
 switch_of (Some (Switch t p)) s h = let same : t ≡ s = cc in (p, ap (λ (x : ℕ). Some (Switch x p)) same)
@@ -38,10 +38,6 @@ switch_of (Some (Switch t p)) s h = let same : t ≡ s = cc in (p, ap (λ (x : �
 pub looks_agree : LooksAgree
 unfolding network_of
 looks_agree d s byte = record { named = outputs_are (ends_of d) s (look_at d.switches s byte); deleted = refl }
-
-nothing_in : (xs : List ℕ) → ((x : ℕ) → Contains xs x → ⊥) → xs ≡ []
-nothing_in [] none = refl
-nothing_in (x ∷ xs) none = absurd (none x (Contains-head x xs))
 
 nothing_of : (xs : List ℕ) (x : ℕ) → xs ≡ [] → Contains xs x → ⊥
 nothing_of xs x none h = let bad : Contains [] x = rw none at h in omega (arith, bad.1)
@@ -151,7 +147,7 @@ module _ (d : Declaration) (i : ℕ) (f : FlowEntry) (here : IsFlowAt d i f) whe
             absurd (sound.address (record { switch = w.0; at = ap cell_of w.2; ends = to_machine (λ (a : List ℕ). k ≡ length a) ends }))
         by (Some NoRoute) is =
             let w = (faults_are d f c k).no_route.0 is in
-            let unnamed : outputs (ends_of d) w.0 (look_after d f w.0 k) ≡ [] = nothing_in _ (λ e h. w.4 e ((outputs_are (ends_of d) w.0 (look_after d f w.0 k) e).0 h)) in
+            let unnamed : outputs (ends_of d) w.0 (look_after d f w.0 k) ≡ [] = none_listed _ (λ e h. w.4 e ((outputs_are (ends_of d) w.0 (look_after d f w.0 k) e).0 h)) in
             absurd (sound.route (record {
               switch = w.0;
               at = ap cell_of w.2;
@@ -178,3 +174,14 @@ module _ (d : Declaration) (i : ℕ) (f : FlowEntry) (here : IsFlowAt d i f) whe
 
 pub steps_agree : StepsOfFlowsAgree
 steps_agree d valid i f here = agrees d i f here valid
+
+-- ---- the place of a switch has its number
+
+pub switch_is : (r s : ℕ) → AtSwitch r ≡ AtSwitch s → r ≡ s
+switch_is r s e = cc
+
+-- ---- a declared network has the nodes that are declared
+
+pub same_nodes : (d : Declaration) → length d.nodes ≡ (network_of d).nodes
+unfolding network_of
+same_nodes d = refl

@@ -1,6 +1,6 @@
 -- A step of the machine, tried: where this answers a state, the step leads there.
 use Rattle.std.proofs.Common.{Bool, Contains, List, None, Option, Some, [], ap, append-nil, append_assoc, arith, eq-eqb, false, length, lt-ltb, ltb-true, map, nat_eq, nat_le, nat_lt, ne_eqb, refl, suc, sym, true, zero, ℕ, ⊎_elim, ◌++◌, ◌+◌, ◌<◌, ◌∙◌, ◌∷◌, ◌≡◌, ◌≢◌}
-use Rattle.std.proofs.lemmas.Bool.{cases_eq, le-leb, leb-true}
+use Rattle.std.proofs.lemmas.Bool.{cases_eq, le-leb, leb-true, and_parts}
 use Rattle.std.proofs.lemmas.Slice.Eq.{bytes_eq-Decides}
 use Rattle.std.specs.List.{list_any}
 use Rattle.std.specs.Prelude.{if◌then◌else◌, not, option_and_then, ◌&&◌, ◌||◌}
@@ -21,10 +21,6 @@ use Rattle.sw_machine.specs.declared.input.InputState.TheVariants.{Held, Idle, S
 pub fits : (b : Bool) (x t : State) → (if b then Some x else None) ≡ Some t → (b ≡ true) × (t ≡ x)
 fits true x t e = (refl, cc)
 fits false x t e = absurd (cc)
-
-both : (a b : Bool) → (a && b) ≡ true → (a ≡ true) × (b ≡ true)
-both true b e = (refl, e)
-both false b e = absurd (cc)
 
 none_holds : (n d : ℕ) (input : ℕ → InputState) → not (is_held n d input) ≡ true → (b : ℕ) → b < n → input b ≢ Held d
 none_holds zero d input e b lt held = omega arith
@@ -94,8 +90,8 @@ module _ (net : Network) (s : State) where
   grant : (d c : ℕ) (at : Cell) (i : InputState) (l : List NChar) (t : State) → net.end_of c ≡ at → s.input c ≡ i → s.buffer c ≡ l → try_grant net s d c at i l ≡ Some t → Leads net s (Grant d c) t
   grant d c (AtSwitch w) Idle (Data h ∷ l) t at is front e =
       let f = fits (nat_lt c net.channels && (list_any (nat_eq d) (net.look w h) && not (is_held net.channels d s.input))) (after_grant s d c (if net.deletes w h then l else Data h ∷ l)) t e in
-      let a = both (nat_lt c net.channels) (list_any (nat_eq d) (net.look w h) && not (is_held net.channels d s.input)) f.0 in
-      let b = both (list_any (nat_eq d) (net.look w h)) (not (is_held net.channels d s.input)) a.1 in
+      let a = and_parts (nat_lt c net.channels) (list_any (nat_eq d) (net.look w h) && not (is_held net.channels d s.input)) f.0 in
+      let b = and_parts (list_any (nat_eq d) (net.look w h)) (not (is_held net.channels d s.input)) a.1 in
       record { in_net = in_net c a.0; switch = w; at = at; idle = is; h = h; rest = l; front = front; named = named_in (net.look w h) d b.0; not_held = none_holds net.channels d s.input b.1; after = f.1 }
   grant d c at i l t a is front e = absurd (cc)
 
@@ -131,9 +127,9 @@ module _ (net : Network) (s : State) where
       let x = nat_lt f net.declared_flows && (nat_lt 0 (length cargo) && nat_le (length cargo) 33554432) in
       let y = is_answered_by net s f (net.flow f).reply (net.reply_to (net.flow f).to (left_bytes net f cargo)) in
       let g = fits (x && y) (after_begin s (net.flow f).from (form net f 0 cargo end)) t e in
-      let a = both x y g.0 in
-      let b = both (nat_lt f net.declared_flows) (nat_lt 0 (length cargo) && nat_le (length cargo) 33554432) a.0 in
-      let c = both (nat_lt 0 (length cargo)) (nat_le (length cargo) 33554432) b.1 in
+      let a = and_parts x y g.0 in
+      let b = and_parts (nat_lt f net.declared_flows) (nat_lt 0 (length cargo) && nat_le (length cargo) 33554432) a.0 in
+      let c = and_parts (nat_lt 0 (length cargo)) (nat_le (length cargo) 33554432) b.1 in
       record {
         declared = record {
           declared = ltb-true f net.declared_flows b.0;
@@ -155,7 +151,7 @@ module _ (net : Network) (s : State) where
   accepted n [] ps bytes t front cut e = absurd (cc)
   accepted n (x ∷ l) ps bytes t front cut e =
       let f = fits (nat_lt n net.nodes && nat_lt (s.owed n) (net.slots n)) (after_accept net s n bytes x l) t e in
-      let a = both (nat_lt n net.nodes) (nat_lt (s.owed n) (net.slots n)) f.0 in
+      let a = and_parts (nat_lt n net.nodes) (nat_lt (s.owed n) (net.slots n)) f.0 in
       record { in_net = in_nodes n a.0; owes_less = ltb-true (s.owed n) (net.slots n) a.1; first = x; rest = l; front = front; packets = ps; bytes = bytes; cut = cut; after = f.1 }
 
   replied : (n : ℕ) (p : List PendingReply) (l : List NChar) (t : State) → s.pending n ≡ p → s.to_send n ≡ l → try_reply net s n p l ≡ Some t → Leads net s (Reply n) t
@@ -167,8 +163,8 @@ module _ (net : Network) (s : State) where
       let x = nat_le (s.outstanding c + length (s.buffer c) + 8) (net.capacity c) in
       let y = nat_le (s.outstanding c) 48 in
       let f = fits (nat_lt c net.channels && (x && y)) (after_fct s c) t e in
-      let a = both (nat_lt c net.channels) (x && y) f.0 in
-      let b = both x y a.1 in
+      let a = and_parts (nat_lt c net.channels) (x && y) f.0 in
+      let b = and_parts x y a.1 in
       record { in_net = in_net c a.0; room = leb-true (s.outstanding c + length (s.buffer c) + 8) (net.capacity c) b.0; few = leb-true (s.outstanding c) 48 b.1; after = f.1 }
   tried (FctIn c) t e = fct_in c (s.fcts c) t refl e
   tried (Arrive c) t e = arrive c (s.wire c) t refl e
@@ -184,7 +180,7 @@ module _ (net : Network) (s : State) where
   answers : (i : ℕ) (j : Option ℕ) (address : Option (List ℕ)) → (net.flow i).reply ≡ j → AnsweredBy net i address → is_answered_by net s i j address ≡ true
   answers i j None is a = refl
   answers i (Some j) (Some address) is a =
-      let both : Some j ≡ Some a.0 = sym is ∙ a.1 in
+      let and_parts : Some j ≡ Some a.0 = sym is ∙ a.1 in
       let same : j ≡ a.0 = cc in
       (bytes_eq-Decides (net.flow j).address address).1 (ap (λ k. (net.flow k).address) same ∙ a.2)
   answers i None (Some address) is a = let none : None ≡ Some a.0 = sym is ∙ a.1 in absurd (cc)

@@ -17,6 +17,7 @@ use Rattle.sw_machine.specs.Network.{AtNode, AtSwitch, Cell, IsNetwork, Network,
 use Rattle.sw_machine.specs.Packets.{Packet, chars, chars_of}
 use Rattle.sw_machine.specs.Runs.{length_pending, total, undelivered}
 use Rattle.sw_machine.specs.State.{State}
+use Rattle.std.proofs.lemmas.List.{nil_from_length}
 
 -- a part is at most the sum
 pub part_below : (n : ℕ) (f : ℕ → ℕ) (k : ℕ) → k < n → f k ≤ total n f
@@ -81,10 +82,6 @@ only_part (suc n) f k lt h = ⊎_elim
 pub zero_part : (n : ℕ) (f : ℕ → ℕ) (k : ℕ) → k < n → total n f ≡ 0 → f k ≡ 0
 zero_part n f k lt z = let p = part_below n f k lt in omega arith
 
-no_length : {A : Type 0} (l : List A) → length l ≡ 0 → l ≡ []
-no_length [] e = refl
-no_length (x ∷ l) e = absurd (omega arith)
-
 no_front : (a b : List NChar) → a ++ b ≡ [] → a ≡ []
 no_front [] b e = refl
 no_front (x ∷ a) b e = absurd (no_cons x (a ++ b) e)
@@ -145,12 +142,12 @@ module _ (net : Network) (cert : Certificate) (ok : IsNetwork net) (acc : IsAcce
     empty_channel : (c : ℕ) → c < net.channels → (s.buffer c ≡ []) × (s.wire c ≡ [])
     empty_channel c lt =
         let z = zero_part net.channels (λ c. length (s.buffer c) + length (s.wire c)) c lt (omega arith) in
-        (no_length (s.buffer c) (omega arith), no_length (s.wire c) (omega arith))
+        (nil_from_length (s.buffer c) (omega arith), nil_from_length (s.wire c) (omega arith))
 
     nothing_to_send : (n : ℕ) → n < net.nodes → s.to_send n ≡ []
     nothing_to_send n lt =
         let z = zero_part net.nodes (λ n. length (s.to_send n) + length_pending (s.pending n)) n lt (omega arith) in
-        no_length (s.to_send n) (omega arith)
+        nil_from_length (s.to_send n) (omega arith)
 
     -- nothing comes to any channel
     nothing_comes : (n c : ℕ) → c < net.channels → number cert c < n → g.coming c ≡ []

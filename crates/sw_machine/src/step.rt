@@ -4,7 +4,7 @@ use sw_char::End;
 use sw_flow::Chan;
 
 /// A step that a network may make: what a node, a switch or a link does at once.
-#[derive(Clone, Drop)]
+#[derive(Drop)]
 pub enum Step {
     /// The end where the channel arrives sends an FCT, which asks for eight characters.
     Fct(Chan),

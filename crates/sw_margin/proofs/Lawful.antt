@@ -1,8 +1,7 @@
 -- The laws of what is told.
-use Rattle.std.proofs.Common.{◌≡◌, ℕ, suc, ◌<◌, ◌↔◌, Bool, true, false, List, [], ◌∷◌, length, map, refl, sym, ◌∙◌, inl, arith}
-use Rattle.std.specs.Prelude.{Vec, IsTrue}
+use Rattle.std.proofs.Common.{◌≡◌, ℕ, suc, ◌<◌, List, [], ◌∷◌, length, map, refl, sym, ◌∙◌, inl, arith}
+use Rattle.std.specs.Prelude.{Vec}
 use Rattle.std.specs.declared.alloc.Global.{Global}
-use Rattle.std.proofs.lemmas.Bool.{false≢true}
 use Rattle.std.proofs.lemmas.List.Kept.{AllPairs-from_increasing}
 use Rattle.sw_config.specs.Entries.{Declaration}
 use Rattle.sw_graph.specs.Reached.{IsListing}
@@ -15,14 +14,8 @@ use Rattle.sw_margin.specs.Bends.{IsAnswer, IsBend, IsStall, answering_at, quiet
 use Rattle.sw_margin.specs.Laws.{AnswersAreDetermined, FreeBefore, LossesAreDetermined, StallsAreDetermined}
 use Rattle.sw_margin.specs.Losses.{IsLost}
 use Rattle.sw_margin.specs.Waits.{WaitsWith}
-use Rattle.sw_margin.proofs.Waiting.{cycle_map}
-
--- two tests of one proposition agree
-same_answer : (P : Type 0) (a b : Bool) → (IsTrue a ↔ P) → (IsTrue b ↔ P) → a ≡ b
-same_answer P true true h k = refl
-same_answer P false false h k = refl
-same_answer P true false h k = absurd (false≢true (k.1 (h.0 refl)))
-same_answer P false true h k = absurd (false≢true (h.1 (k.0 refl)))
+use Rattle.sw_topo.proofs.Lists.{same_answer}
+use Rattle.sw_graph.proofs.Transfers.{cycle_map}
 
 same_bend : (d : Declaration) (more : List (ℕ × ℕ)) (n : ℕ) (a b : Bend) → IsBend d more n a → IsBend d more n b → a ≡ b
 same_bend d more n a b h k =
@@ -37,7 +30,7 @@ pub answers_are_determined : AnswersAreDetermined
 answers_are_determined d told other h k = zip_determined (IsAnswer d) (λ i a b. same_bend d (answering_at d i) i a b) (unanswered d) told other h k
 
 -- a set has one listing
-same_listing : (P : ℕ → Type 0) (xs ys : List ℕ) → IsListing P xs → IsListing P ys → xs ≡ ys
+pub same_listing : (P : ℕ → Type 0) (xs ys : List ℕ) → IsListing P xs → IsListing P ys → xs ≡ ys
 same_listing P xs ys h k =
     same_sorted (λ x y. x < y) (λ x y a b. omega arith) xs ys (AllPairs-from_increasing xs h.rising) (AllPairs-from_increasing ys k.rising)
     (λ p m. (k.member p).1 ((h.member p).0 m)) (λ p m. (h.member p).1 ((k.member p).0 m))

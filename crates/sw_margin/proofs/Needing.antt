@@ -1,9 +1,9 @@
 -- The links that a flow needs.
-use Rattle.std.proofs.Common.{◌≡◌, ◌≢◌, ℕ, ◌/◌, ◌<◌, ◌≤◌, Bool, true, false, eqb, List, [], ◌∷◌, ◌++◌, length, set, replicate, Contains, Option, Some, None, refl, sym, ap, ◌∙◌, subst, inl, inr, arith, get_or-set_same, get_or-set_other, length-set}
+use Rattle.std.proofs.Common.{◌≡◌, ◌≢◌, ℕ, ◌/◌, ◌<◌, Bool, true, false, eqb, List, [], ◌∷◌, ◌++◌, length, set, replicate, Contains, Option, Some, None, refl, sym, ap, ◌∙◌, subst, inl, inr, arith, get_or-set_same, get_or-set_other, length-set}
 use Rattle.std.specs.Prelude.{IfSome}
 use Rattle.std.specs.List.{AllByRecursion, list_all}
-use Rattle.std.proofs.lemmas.Bool.{cases_Bool, cases_eq, cases_lt, eq-eqb, eqb-true, false≢true}
-use Rattle.std.proofs.lemmas.List.{get_or-replicate, get_or_past, length-replicate}
+use Rattle.std.proofs.lemmas.Bool.{cases_Bool, cases_eq, eq-eqb, eqb-true, false≢true}
+use Rattle.std.proofs.lemmas.List.{length-replicate}
 use Rattle.std.proofs.lemmas.List.Elements.{All-from_recursion, recursion_from_All, Contains-append_cases, Contains-append_left, Contains-append_right}
 use Rattle.std.proofs.lemmas.Option.{same_Some, cond_some, none-some}
 use Rattle.sw_topo.specs.Wiring.{out}
@@ -17,9 +17,8 @@ use Rattle.sw_margin.specs.Losses.NeedsLink.{AtStart, OnTheWay}
 use Rattle.sw_search.specs.Answering.{is_marked}
 use Rattle.sw_margin.specs.Needs.{AreMarked, AreNeeded, link_after, only_link}
 use Rattle.sw_margin.proofs.Ways.{channels_paired, follower_within}
-
-none_in : {X : Type 0} (x : X) → Contains [] x → ⊥
-none_in x h = let lt = h.1 in omega arith
+use Rattle.sw_topo.proofs.Lists.{none_in}
+use Rattle.sw_search.proofs.Replying.{unmarked}
 
 -- ---- the only link
 
@@ -142,13 +141,6 @@ module _ (d : Declaration) (f : FlowEntry) where
 
   -- ---- all that are needed
 
-  none_set : (n l : ℕ) → is_marked (replicate n false) l ≡ false
-  none_set n l =
-      elim (cases_lt l n) [
-        | inl lt ↦ get_or-replicate n l false false lt
-        | inr le ↦ let past : length (replicate n false) ≤ l = omega (arith, length-replicate {A = Bool} n false) in get_or_past (replicate n false) l false past
-      ]
-
   pub all_needed : (places : List Place) (n start at : ℕ) (marks : List Bool) → n ≡ length d.links → out (ends_of d) f.from ≡ Some start → start < length (ends_of d) → at ≡ start / 2 → IsPlaceList d f places
       → AreMarked d f places (set (replicate n false) at true) marks → AreNeeded d f marks
   all_needed places n start at marks long starts inside here list m =
@@ -162,7 +154,7 @@ module _ (d : Declaration) (f : FlowEntry) where
           λ h. elim ((m.each l).0 h) [
             | inl first ↦ elim (cases_eq l at) [
               | inl same ↦ AtStart start starts (sym here ∙ sym same)
-              | inr other ↦ absurd (false≢true (sym (none_set n l) ∙ sym (get_or-set_other none at l true false other) ∙ first))
+              | inr other ↦ absurd (false≢true (sym (unmarked n l) ∙ sym (get_or-set_other none at l true false other) ∙ first))
             ]
             | inr new ↦
                 let p = new.place in

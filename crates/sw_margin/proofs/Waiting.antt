@@ -8,11 +8,9 @@ use Rattle.sw_config.specs.Entries.{Declaration}
 use Rattle.sw_graph.specs.Levels.{HasCycle}
 use Rattle.sw_graph.specs.Rows.{IsGraph, Leads, row}
 use Rattle.sw_graph.proofs.Listed.{lead_inside, row_read}
-use Rattle.sw_graph.proofs.Transfers.{chain_map}
+use Rattle.sw_graph.proofs.Transfers.{cycle_map}
 use Rattle.sw_margin.specs.Waits.{AreDependencies, AreWith, IsWithin, StaysFree, WaitsWith}
-
-none_in : {X : Type 0} (x : X) → Contains [] x → ⊥
-none_in x h = let lt = h.1 in omega arith
+use Rattle.sw_topo.proofs.Lists.{none_in}
 
 row_items : (g : List (Vec ℕ Global)) (c : ℕ) → row g c ≡ get_or (map (λ (v : Vec ℕ Global). v.items) g) c []
 row_items [] c = refl
@@ -61,9 +59,6 @@ with_graph g h more ok within w k v lt =
       | inr new ↦ let low = (All-contains (IsWithin (length g)) more (k, e) within new).to in omega arith
     ] in
     subst P at (λ i d li. inside (get_or (row h k) i d) ((w.each k (get_or (row h k) i d)).0 (All-contains_itself (row h k) i d li)))
-
-pub cycle_map : (P Q : ℕ → ℕ → Type 0) → ((c d : ℕ) → P c d → Q c d) → HasCycle P → HasCycle Q
-cycle_map P Q f h = (h.0, h.1, chain_map P Q f (suc h.0) h.1 h.1 h.2)
 
 -- the rows have no cycle exactly where the network stays free
 pub free_with : (d : Declaration) (g h : List (Vec ℕ Global)) (more : List (ℕ × ℕ)) → AreDependencies d g → AreWith g more h → ((HasCycle (Leads h) → ⊥) ↔ StaysFree d more)

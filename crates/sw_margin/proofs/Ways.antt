@@ -15,14 +15,12 @@ use Rattle.sw_flow.specs.Places.{ends_of}
 use Rattle.sw_flow.proofs.Walked.{followers_are_listed}
 use Rattle.sw_margin.specs.Bends.{answering, first_way, start_on, waits_back, way_of}
 use Rattle.sw_margin.specs.Waits.{IsWithin}
+use Rattle.sw_flow.proofs.Partners.{partner_within}
 
 -- ---- channels of the network
 
 pub channels_paired : (d : Declaration) → length (ends_of d) ≡ 2 * length d.links
 channels_paired d = length-link_ends d.links
-
-pub partner_within : (d : Declaration) (c : ℕ) → c < length (ends_of d) → partner c < length (ends_of d)
-partner_within d c lt = let even = channels_paired d in grind arith
 
 pub out_within : (d : Declaration) (n c : ℕ) → out (ends_of d) n ≡ Some c → c < length (ends_of d)
 out_within d n c e = slice_get_within (ends_of d) c _ (node_starts (wiring_of d) n c e)

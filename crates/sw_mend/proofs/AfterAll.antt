@@ -149,7 +149,7 @@ one_alone d change = λ t. record d {
   flows = by_number (λ n f. same_list (flow_after change n f) t) 0 d.flows;
 }
 
-same_by_number : {A : Type 0} (n : ℕ) (xs : List A) → by_number (λ k (x : A). x ∷ []) n xs ≡ xs
+pub same_by_number : {A : Type 0} (n : ℕ) (xs : List A) → by_number (λ k (x : A). x ∷ []) n xs ≡ xs
 same_by_number n [] = refl
 same_by_number n (x ∷ xs) = ap (λ l. x ∷ l) (same_by_number (n + 1) xs)
 

@@ -1,9 +1,9 @@
 -- Names of a network that is built anew are new.
-use Rattle.std.proofs.Common.{◌≡◌, ◌≢◌, ℕ, zero, suc, ◌+◌, ◌<◌, ◌≤◌, ◌||◌, Bool, true, false, List, [], ◌∷◌, ◌++◌, length, map, take, get_or, Some, AllPairs, inl, inr, refl, sym, ap, ◌∙◌, arith}
+use Rattle.std.proofs.Common.{◌≡◌, ◌≢◌, ℕ, zero, suc, ◌+◌, ◌<◌, ◌≤◌, ◌||◌, false, List, [], ◌∷◌, ◌++◌, length, map, take, get_or, Some, AllPairs, inl, inr, refl, sym, ap, ◌∙◌, arith}
 use Rattle.std.specs.Prelude.{slice_get}
 use Rattle.std.specs.List.{list_any}
 use Rattle.std.specs.Str.{bytes_eq}
-use Rattle.std.proofs.lemmas.Bool.{cases_Bool}
+use Rattle.std.proofs.lemmas.Bool.{cases_Bool, or_parts}
 use Rattle.std.proofs.lemmas.List.{get_or-take, length-take-le, take-map}
 use Rattle.std.proofs.lemmas.List.Folds.{list_any_none}
 use Rattle.std.proofs.lemmas.Option.{get_or_from_slice_get, slice_get_within}
@@ -31,16 +31,12 @@ named_at f [] i x here = absurd cc
 named_at f (y ∷ xs) zero x here = let same : y ≡ x = cc in ap (λ z. Some (f z)) same
 named_at f (y ∷ xs) (suc i) x here = named_at f xs i x here
 
-pub neither : (a b : Bool) → (a || b) ≡ false → (a ≡ false) × (b ≡ false)
-neither false b h = (refl, h)
-neither true b h = absurd cc
-
 -- a name that no flow has is no name of what is left of the flows
 left_without : (changes : List Change) (n : ℕ) (name : List ℕ) (flows : List FlowEntry) → list_any (bytes_eq name) (flow_names flows) ≡ false
     → list_any (bytes_eq name) (flow_names (by_number (flow_after_all changes) n flows)) ≡ false
 left_without changes n name [] none = refl
 left_without changes n name (f ∷ flows) none =
-    let parts = neither (bytes_eq name f.name) (list_any (bytes_eq name) (flow_names flows)) none in
+    let parts = or_parts (bytes_eq name f.name) (list_any (bytes_eq name) (flow_names flows)) none in
     let rest : List FlowEntry = by_number (flow_after_all changes) (n + 1) flows in
     elim (flow_cases changes n f) [
       | inl gone ↦ ap (λ (l : List FlowEntry). list_any (bytes_eq name) (flow_names (l ++ rest))) gone ∙ left_without changes (n + 1) name flows parts.1

@@ -1,5 +1,5 @@
 pub mod Numbered
-mod AfterAll
+pub mod AfterAll
 mod Fresh
 mod PortSets
 mod Linked

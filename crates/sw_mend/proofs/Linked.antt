@@ -1,18 +1,11 @@
 -- A link by its two ends and the capacities of its channels.
-use Rattle.std.proofs.Common.{◌≡◌, ℕ, zero, suc, ◌+◌, ◌*◌, ◌<◌, ◌≤◌, List, [], ◌∷◌, ◌++◌, length, take, get_or, Some, inl, inr, refl, sym, ap, ◌∙◌, arith}
+use Rattle.std.proofs.Common.{◌≡◌, ℕ, zero, suc, ◌+◌, ◌*◌, ◌<◌, List, [], ◌∷◌, ◌++◌, length, take, get_or, Some, inl, inr, refl, sym, ap, ◌∙◌, arith}
 use Rattle.std.specs.Prelude.{slice_get}
 use Rattle.std.proofs.lemmas.List.{take_more}
 use Rattle.std.proofs.lemmas.Option.{get_or_from_slice_get, same_Some, slice_get_cases}
-use Rattle.sw_topo.specs.Checked.{IsIn}
 use Rattle.sw_topo.specs.declared.place.PlaceEnd.{PlaceEnd}
-use Rattle.sw_topo.specs.declared.place.PlaceEnd.TheVariants.{Node, Switch}
 use Rattle.sw_config.specs.Entries.{Declaration, LinkEntry, capacities, link_ends}
 use Rattle.sw_config.proofs.Flows.{capacity_even, capacity_odd}
-
--- an end in a network is in one with more nodes
-pub stays_in : (nodes switches more as_many : ℕ) → nodes ≤ more → switches ≤ as_many → (e : PlaceEnd) → IsIn nodes switches e → IsIn more as_many e
-stays_in nodes switches more as_many le same (Node n) lt = omega arith
-stays_in nodes switches more as_many le same (Switch s p) inside = (omega arith, inside.1)
 
 end_even : (links : List LinkEntry) (i c : ℕ) (l : LinkEntry) → c ≡ 2 * i → slice_get links i ≡ Some l → slice_get (link_ends links) c ≡ Some l.a
 end_even [] i c l even at = absurd cc

@@ -1,10 +1,10 @@
 -- The flows of a network in which a node is split, and what they keep.
-use Rattle.std.proofs.Common.{◌≡◌, ◌≢◌, ℕ, ◌+◌, ◌<◌, ◌≤◌, ◌&&◌, Bool, true, false, List, [], ◌∷◌, ◌++◌, AllPairs, Option, Some, None, IfSome, IsSome, length, map, take, set, ap, arith, inl, inr, refl, subst, sym, ◌∙◌, eqb, get_or}
+use Rattle.std.proofs.Common.{◌≡◌, ◌≢◌, ℕ, ◌+◌, ◌<◌, ◌≤◌, Bool, true, false, List, [], ◌∷◌, ◌++◌, AllPairs, Option, Some, None, IfSome, IsSome, length, map, take, set, ap, arith, inl, inr, refl, subst, sym, ◌∙◌, eqb, get_or}
 use Rattle.std.specs.Prelude.{is_some, option_and_then, slice_get, if◌then◌else◌}
 use Rattle.std.specs.List.{list_any}
 use Rattle.std.specs.Option.{option_map_or}
 use Rattle.std.specs.Str.{bytes_eq}
-use Rattle.std.proofs.lemmas.Bool.{eqb-true}
+use Rattle.std.proofs.lemmas.Bool.{eqb-true, and_parts}
 use Rattle.std.proofs.lemmas.List.{length-map, length-set, length-take-le, map-append, take-map, take_more}
 use Rattle.std.proofs.lemmas.Option.{get_or_from_slice_get, slice_get_cases, slice_get_within}
 use Rattle.sw_config.specs.Entries.{NodeEntry, ReplyEntry, FlowEntry, Declaration, flow_names, target_of}
@@ -14,7 +14,8 @@ use Rattle.sw_mend.specs.Splits.{flow_moved, flow_split, is_asking, last_deleted
 use Rattle.sw_mend.specs.declared.change.TargetLink.{TargetLink}
 use Rattle.sw_mend.proofs.Fresh.{fresh, named_at}
 use Rattle.sw_mend.proofs.Named.{one_node_more}
-use Rattle.sw_mend.proofs.OneMore.{at_back, at_front}
+use Rattle.sw_mend.proofs.OneMore.{at_back}
+use Rattle.sw_topo.proofs.Lists.{at_front}
 
 -- ---- its name
 
@@ -94,10 +95,6 @@ own_target nodes n lt target =
       | inr past ↦ absurd (omega (arith, past.0, lt))
     ]
 
-both_true : (a b : Bool) → (a && b) ≡ true → (a ≡ true) × (b ≡ true)
-both_true true b is = (refl, is)
-both_true false b is = absurd cc
-
 module _ (nodes : List NodeEntry) (link : TargetLink) (f : FlowEntry) (lt : link.node < length nodes) (is : IsFlow nodes f) where
   after : List NodeEntry
   after = nodes ++ made_at target_part nodes link.node
@@ -125,7 +122,7 @@ module _ (nodes : List NodeEntry) (link : TargetLink) (f : FlowEntry) (lt : link
   unfolding after
   moves asks =
       let size : length after ≡ length nodes + 1 = one_node_more nodes link.node lt in
-      let same : f.to ≡ link.node = eqb-true f.to link.node (both_true (eqb f.to link.node) (is_some f.reply) asks).0 in
+      let same : f.to ≡ link.node = eqb-true f.to link.node (and_parts (eqb f.to link.node) (is_some f.reply) asks).0 in
       let long : length (flow_moved (length nodes) link f).address ≡ length f.address = renamed_length link.beside link.port f.address (last_deleted f) in
       record {
         from = omega (arith, size, is.from);

@@ -13,9 +13,10 @@ use Rattle.sw_config.specs.Entries.{NodeEntry, SwitchEntry, Declaration, part_na
 use Rattle.sw_config.proofs.Steps.{apart}
 use Rattle.sw_mend.specs.Changes.{made_at}
 use Rattle.sw_mend.specs.Splits.{target_part}
-use Rattle.sw_mend.proofs.Fresh.{differ, neither}
+use Rattle.sw_mend.proofs.Fresh.{differ}
 use Rattle.sw_mend.proofs.Kept.{firsts, rests}
 use Rattle.sw_rmap.specs.declared.config.TargetConfig.{TargetConfig}
+use Rattle.std.proofs.lemmas.Bool.{or_parts}
 
 -- ---- a name among others
 
@@ -42,7 +43,7 @@ apart_absent names n all = list_any_none (bytes_eq n) names (λ k d lt. differ n
 between : (xs ys : List (List ℕ)) (n : List ℕ) → AllPairs Differ (xs ++ ys) → list_any (bytes_eq n) (xs ++ ys) ≡ false → AllPairs Differ ((xs ++ n ∷ []) ++ ys)
 between [] ys n pairs absent = AllPairs-cons Differ n ys (absent_apart ys n absent) pairs
 between (x ∷ xs) ys n pairs absent =
-    let parts = neither (bytes_eq n x) (list_any (bytes_eq n) (xs ++ ys)) absent in
+    let parts = or_parts (bytes_eq n x) (list_any (bytes_eq n) (xs ++ ys)) absent in
     let other : Differ x n = λ same. All-head (Differ n) x (xs ++ ys) (absent_apart (x ∷ xs ++ ys) n absent) (sym same) in
     AllPairs-cons Differ x ((xs ++ n ∷ []) ++ ys) (all_between (Differ x) xs ys n (firsts Differ x (xs ++ ys) pairs) other)
     (between xs ys n (rests Differ x (xs ++ ys) pairs) parts.1)

@@ -16,17 +16,7 @@ use Rattle.sw_mend.specs.declared.change.Change.{Change}
 use Rattle.sw_mend.proofs.AfterAll.{flow_added, flow_gone, flow_lost, reply_lost}
 use Rattle.sw_mend.proofs.Numbered.{one_more}
 use Rattle.sw_mend.proofs.Fresh.{fresh, same_names}
-
--- an element of the first of two lists
-pub in_front : {A : Type 0} (xs ys : List A) (i : ℕ) (x : A) → i < length xs → slice_get (xs ++ ys) i ≡ Some x → slice_get xs i ≡ Some x
-in_front [] ys i x lt here = absurd (omega (arith, lt))
-in_front (z ∷ xs) ys zero x lt here = here
-in_front (z ∷ xs) ys (suc i) x lt here = in_front xs ys i x (omega arith) here
-
-pub at_front : {A : Type 0} (xs ys : List A) (i : ℕ) (x : A) → slice_get xs i ≡ Some x → slice_get (xs ++ ys) i ≡ Some x
-at_front [] ys i x here = absurd cc
-at_front (z ∷ xs) ys zero x here = here
-at_front (z ∷ xs) ys (suc i) x here = at_front xs ys i x here
+use Rattle.sw_topo.proofs.Lists.{at_front}
 
 pub at_back : {A : Type 0} (xs ys : List A) (i k : ℕ) (x : A) → k ≡ length xs + i → slice_get ys i ≡ Some x → slice_get (xs ++ ys) k ≡ Some x
 at_back [] ys i k x is here = let same : k ≡ i = omega arith in rw same here

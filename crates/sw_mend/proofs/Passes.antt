@@ -1,11 +1,11 @@
 -- Whether one of a list passes a test: one does, or none up to one element more.
-use Rattle.std.proofs.Common.{◌≡◌, ◌∙◌, ℕ, ◌+◌, ◌<◌, ◌≤◌, ◌||◌, Bool, true, false, List, [], ◌∷◌, ◌++◌, Option, Some, None, ap, cond, arith, get_or, inl, inr, is_some, length, nat_lt, not, position, refl, suc, sym, take}
+use Rattle.std.proofs.Common.{◌≡◌, ◌∙◌, ℕ, ◌+◌, ◌<◌, ◌≤◌, ◌||◌, Bool, true, false, List, ◌++◌, Option, Some, ap, get_or, is_some, length, position, sym, take}
 use Rattle.std.specs.Prelude.{slice_get}
-use Rattle.std.specs.List.{list_any, position_or_len}
-use Rattle.std.proofs.lemmas.Bool.{cases_lt, le-ltb, lt-ltb}
+use Rattle.std.specs.List.{list_any}
 use Rattle.std.proofs.lemmas.List.{take_all}
 use Rattle.std.proofs.lemmas.List.Folds.{list_any-append, list_any_at, list_any_more}
 use Rattle.std.proofs.lemmas.Option.{get_or_from_slice_get, slice_get_within}
+use Rattle.sw_config.proofs.Positions.{position-any}
 
 module _ {A : Type 0} (test : A → Bool) where
   -- where the element is read
@@ -33,37 +33,14 @@ module _ {A : Type 0} (test : A → Bool) where
       → list_any test (take (i + 1) xs) ≡ false
   none_more xs i x b here = none_read xs i x b (slice_get_within xs i x here) (sym (get_or_from_slice_get xs i x x here))
 
-  -- one is found exactly where one passes
-  found_if_any : (xs : List A) → is_some (position test xs) ≡ list_any test xs
-  found_if_any [] = refl
-  found_if_any (x ∷ xs) = first (test x) (found_if_any xs)
-    where
-      k : ℕ
-      k = position_or_len test xs
-
-      less : nat_lt (1 + k) (suc (length xs)) ≡ nat_lt k (length xs)
-      less = elim (cases_lt k (length xs)) [
-        | inl lt ↦ lt-ltb (1 + k) (suc (length xs)) (omega (arith, lt)) ∙ sym (lt-ltb k (length xs) lt)
-        | inr past ↦ le-ltb (1 + k) (suc (length xs)) (omega (arith, past)) ∙ sym (le-ltb k (length xs) past)
-      ]
-
-      later : (b : Bool) → is_some (cond b (Some (1 + k)) None) ≡ is_some (cond b (Some k) None)
-      later true = refl
-      later false = refl
-
-      first : (b : Bool) → is_some (position test xs) ≡ list_any test xs
-          → is_some (cond (nat_lt (cond (not b) (1 + k) 0) (suc (length xs))) (Some (cond (not b) (1 + k) 0)) None) ≡ (b || list_any test xs)
-      first true rest = ap (λ t. is_some {T = ℕ} (cond t (Some 0) None)) (lt-ltb 0 (suc (length xs)) (omega arith))
-      first false rest = ap (λ t. is_some {T = ℕ} (cond t (Some (1 + k)) None)) less ∙ later (nat_lt k (length xs)) ∙ rest
-
   -- of two lists one is found in the first, or is looked for in the second
   pub in_first : (xs ys : List A) (found : Option ℕ) (b : Bool) → found ≡ position test xs → b ≡ is_some found → b ≡ true → b ≡ list_any test (xs ++ ys)
   in_first xs ys found b place is passes =
-      let first : list_any test xs ≡ true = sym (found_if_any xs) ∙ sym (ap is_some place) ∙ sym is ∙ passes in
+      let first : list_any test xs ≡ true = sym (position-any test xs) ∙ sym (ap is_some place) ∙ sym is ∙ passes in
       passes ∙ sym (list_any-append test xs ys ∙ ap (λ t. t || list_any test ys) first)
 
   pub in_second : (xs ys : List A) (found : Option ℕ) (b last : Bool) → found ≡ position test xs → b ≡ is_some found → b ≡ false → last ≡ list_any test ys
       → last ≡ list_any test (xs ++ ys)
   in_second xs ys found b last place is fails rest =
-      let first : list_any test xs ≡ false = sym (found_if_any xs) ∙ sym (ap is_some place) ∙ sym is ∙ fails in
+      let first : list_any test xs ≡ false = sym (position-any test xs) ∙ sym (ap is_some place) ∙ sym is ∙ fails in
       rest ∙ sym (list_any-append test xs ys ∙ ap (λ t. t || list_any test ys) first)

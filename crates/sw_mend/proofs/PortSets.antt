@@ -1,14 +1,15 @@
 -- A set of ports without one of them.
-use Rattle.std.proofs.Common.{◌≡◌, ◌≢◌, ℕ, ◌^◌, ◌<◌, ◌↔◌, Bool, true, false, List, [], ◌∷◌, inl, inr, refl, sym, ◌∙◌, arith, filter}
+use Rattle.std.proofs.Common.{◌≡◌, ◌≢◌, ℕ, ◌^◌, ◌<◌, ◌↔◌, Bool, true, false, List, inl, inr, refl, sym, ◌∙◌, filter}
 use Rattle.std.specs.Prelude.{IsBitSet, Contains, not, ◌==◌}
 use Rattle.std.specs.Int.{bit_at}
-use Rattle.std.proofs.lemmas.Bool.{cases_Bool, cases_eq, ne_eqb, eq-eqb, false≢true}
+use Rattle.std.proofs.lemmas.Bool.{cases_eq, ne_eqb, eq-eqb, false≢true}
 use Rattle.std.proofs.lemmas.Nat.Bits.{same_from_bits}
-use Rattle.std.proofs.lemmas.List.Elements.{All-contains, All-filter, All-contains_itself, Contains-append_left, Contains-append_right, Contains-append_cases, Contains-push, Contains-push_cases, filter_passes}
+use Rattle.std.proofs.lemmas.List.Elements.{All-contains, All-filter, All-contains_itself, filter_passes}
 use Rattle.sw_topo.specs.Ports.{port_set, ports_of}
 use Rattle.sw_topo.proofs.PortBits.{clear_zero, one_set, port_set_members, set_below, set_one}
 use Rattle.sw_topo.proofs.PortWalk.{ports_listed}
 use Rattle.sw_mend.specs.Changes.{ports_but}
+use Rattle.sw_topo.proofs.Lists.{kept}
 
 -- sets with the same ports are the same
 same_ports : (s t : ℕ) → ((p : ℕ) → IsBitSet s p ↔ IsBitSet t p) → s ≡ t
@@ -17,20 +18,6 @@ same_ports s t same =
       | inl one ↦ one ∙ sym (set_one t p ((same p).0 (one_set s p one)))
       | inr none ↦ clear_zero s p (λ set. none (set_one s p set)) ∙ sym (clear_zero t p (λ set. none (set_one s p ((same p).1 set))))
     ])
-
-kept : (p : ℕ → Bool) (xs : List ℕ) (x : ℕ) → Contains xs x → p x ≡ true → Contains (filter p xs) x
-kept p [] x here is = absurd (omega (arith, here.1))
-kept p (y ∷ ys) x here is =
-    elim (Contains-append_cases (y ∷ []) ys x here) [
-      | inl first ↦ elim (Contains-push_cases [] y x first) [
-        | inl none ↦ absurd (omega (arith, none.1))
-        | inr same ↦ rw (same, is) (Contains-append_left (x ∷ []) (filter p ys) x (Contains-push [] x))
-      ]
-      | inr later ↦ elim (cases_Bool (p y)) [
-        | inl passes ↦ rw passes (Contains-append_right (y ∷ []) (filter p ys) x (kept p ys x later is))
-        | inr fails ↦ rw fails (kept p ys x later is)
-      ]
-    ]
 
 other_than : ℕ → ℕ → Bool
 other_than port p = not (p == port)

@@ -2,7 +2,7 @@
 use Rattle.std.proofs.Common.{◌≡◌, ℕ, ◌<◌, ◌≤◌, Bool, true, List, [], ◌∷◌, ◌++◌, length, ap, arith, sym, ◌∙◌, ◌+◌, Option, append-nil, false, map}
 use Rattle.std.specs.List.{list_any}
 use Rattle.std.specs.Str.{bytes_eq}
-use Rattle.std.proofs.lemmas.Bool.{false≢true}
+use Rattle.std.proofs.lemmas.Bool.{false≢true, or_parts}
 use Rattle.std.proofs.lemmas.List.Folds.{list_any-append}
 use Rattle.sw_rmap.specs.declared.config.TargetConfig.{TargetConfig}
 use Rattle.sw_topo.proofs.Converse.{no_fault}
@@ -12,7 +12,6 @@ use Rattle.sw_mend.specs.Changes.{by_number, made_at, switch_after_all}
 use Rattle.sw_mend.specs.Splits.{own_link, split, target_part}
 use Rattle.sw_mend.specs.declared.change.TargetLink.{TargetLink}
 use Rattle.sw_mend.proofs.AfterAll.{same_tables}
-use Rattle.sw_mend.proofs.Fresh.{neither}
 use Rattle.sw_mend.proofs.Named.{IsOwnName, one_node_more, own_name_absent, own_node}
 
 -- its name is taken
@@ -44,7 +43,7 @@ pub no_node_named : (d now : Declaration) (name : List ℕ) → now ≡ record e
 no_node_named d now name is absent =
     let nodes : List (List ℕ) = map (λ (n : NodeEntry). n.name) d.nodes in
     let switches : List (List ℕ) = map (λ (s : SwitchEntry). s.name) d.switches in
-    let first = neither (list_any (bytes_eq name) nodes) (list_any (bytes_eq name) switches) (sym (list_any-append (bytes_eq name) nodes switches) ∙ absent) in
+    let first = or_parts (list_any (bytes_eq name) nodes) (list_any (bytes_eq name) switches) (sym (list_any-append (bytes_eq name) nodes switches) ∙ absent) in
     ap (λ (e : Declaration). list_any (bytes_eq name) (part_names e)) is ∙ ap (list_any (bytes_eq name)) (append-nil nodes) ∙ first.0
 
 pub count_with_own : (d with_nodes : Declaration) (nodes : List NodeEntry) (node : ℕ) → node < length d.nodes

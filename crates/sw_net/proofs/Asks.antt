@@ -2,7 +2,6 @@
 use Rattle.std.proofs.Common.{Bool, Some, ap, arith, false, refl, sym, true, ℕ, ◌∙◌, ◌≡◌, ◌↔◌, IsTrue}
 use Rattle.std.proofs.lemmas.Bool.{false≢true}
 use Rattle.std.specs.Prelude.{IsBitSet, slice_get}
-use Rattle.sw_cell.proofs.Dropping.{some_of}
 use Rattle.sw_cell.proofs.Picking as picking
 use Rattle.sw_cell.proofs.Telling.{port_grant}
 use Rattle.sw_flow.specs.Places.{end_of, ends_of}
@@ -19,6 +18,7 @@ use Rattle.sw_topo.proofs.Ends.{partner_back, port_starts}
 use Rattle.sw_topo.proofs.PortBits.{zero_none}
 use Rattle.sw_topo.specs.Wiring.{out_of, partner}
 use Rattle.sw_topo.specs.declared.place.PlaceEnd.TheVariants.{Switch}
+use Rattle.sw_cell.proofs.Passing.{some_of}
 
 -- one place is not two
 same_switch : (w v p q : ℕ) → Some (Switch w p) ≡ Some (Switch v q) → w ≡ v

@@ -2,7 +2,6 @@
 use Rattle.std.proofs.Common.{None, Option, Some, ap, arith, length, refl, subst, sym, ℕ, ◌+◌, ◌-◌, ◌<◌, ◌≤◌, ◌∙◌, ◌≡◌}
 use Rattle.std.proofs.lemmas.Option.{same_Some}
 use Rattle.std.specs.Prelude.{IfNone, IfSome, List, slice_get, unwrap_or}
-use Rattle.sw_cell.proofs.Dropping.{some_of}
 use Rattle.sw_cell.specs.SwitchParts.{IsSwitchFor, input_of}
 use Rattle.sw_char.specs.declared.nchar.End.{End}
 use Rattle.sw_char.specs.declared.nchar.NChar.{NChar}
@@ -28,6 +27,7 @@ use Rattle.sw_switch.specs.declared.input.Input.TheVariants as ports
 use Rattle.sw_topo.proofs.Ends.{partner_back}
 use Rattle.sw_topo.specs.Wiring.{out_of, partner}
 use Rattle.sw_topo.specs.declared.place.PlaceEnd.TheVariants.{Node, Switch}
+use Rattle.sw_cell.proofs.Passing.{some_of}
 
 -- another link end than that which receives on channel c receives on another channel
 apart : (e c m : ℕ) → m ≡ partner c → (Some m ≡ Some e → ⊥) → reverse_of e ≡ c → ⊥

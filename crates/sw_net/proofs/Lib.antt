@@ -13,4 +13,5 @@ pub mod Asks
 pub mod Parts
 pub mod Making
 mod ChangedNumbers
+pub mod Undeclared
 pub use Rattle.sw_cell.proofs.Network as CellNetwork

@@ -17,7 +17,7 @@ use Rattle.sw_cell.specs.declared.node.NodeStep.{NodeStep}
 use Rattle.sw_cell.specs.declared.node.NodeStep.TheVariants as at_node
 use Rattle.sw_cell.specs.declared.switch.PortStep.{PortStep}
 use Rattle.sw_cell.specs.declared.switch.PortStep.TheVariants as at_port
-use Rattle.sw_machine.specs.Network.{AtSwitch, IsNetwork, Network, reverse_of}
+use Rattle.sw_machine.specs.Network.{AtSwitch, IsNetwork, Network}
 use Rattle.sw_machine.specs.Parts.{link_end_of}
 use Rattle.sw_machine.specs.Steps.{Accept, Arrive, Begin, Drop, Emit, Fct, FctIn, Forward, Grant, Reply, Spill, Step, is_begin}
 use Rattle.sw_machine.proofs.DeclaredNetworks.{are_networks}
@@ -40,6 +40,7 @@ use Rattle.sw_topo.proofs.Ends.{partner_back}
 use Rattle.sw_topo.specs.declared.place.PlaceEnd.{PlaceEnd}
 use Rattle.sw_topo.specs.declared.place.PlaceEnd.TheVariants as place
 use Rattle.sw_link.specs.Between.{Between}
+use Rattle.sw_cell.proofs.Enabling.{into_back}
 
 -- one switch changes, and keeps its arbiters
 pub same_arbiters : {R A : Type 0} (switches : List (Cell R A)) (w : ℕ) (cell after : Cell R A) → slice_get switches w ≡ Some cell → after.arbiters ≡ cell.arbiters → arbiters_of (set switches w after) ≡ arbiters_of switches
@@ -119,12 +120,6 @@ node_step_is_plain net n at_node.Arrive = tt
 node_step_is_plain net n at_node.Emit = tt
 node_step_is_plain net n at_node.Accept = tt
 node_step_is_plain net n at_node.Reply = tt
-
-into_back : (net : Network) → IsNetwork net → (n : ℕ) → n < net.nodes → reverse_of (net.into n) ≡ net.out n
-into_back net ok n in_net =
-    let at = ok.into_ends n in_net in
-    let back = ok.reversed (net.into n) at.0 in
-    sym (ok.starts_at_node (reverse_of (net.into n)) n back.0 (back.1 ∙ at.1)).1
 
 pub node_step_belongs : (net : Network) → IsNetwork net → (n : ℕ) → n < net.nodes → (step : NodeStep) → link_end_of net (step_at_node net n step) ≡ net.out n
 node_step_belongs net ok n in_net at_node.Fct = into_back net ok n in_net

@@ -8,7 +8,6 @@ use Rattle.std.specs.Global.{Vec}
 use Rattle.std.specs.Int.{bit_at}
 use Rattle.std.specs.Option.{option_map_or}
 use Rattle.std.specs.Prelude.{Err, IfOk, Ok, Result, slice_get, slice_index}
-use Rattle.sw_cell.proofs.Dropping.{some_of}
 use Rattle.sw_cell.proofs.Switches.{port_small}
 use Rattle.sw_cell.specs.Parts.{IsBetweenPart}
 use Rattle.sw_cell.specs.SwitchParts.{input_of}
@@ -32,6 +31,8 @@ use Rattle.sw_topo.proofs.PortBits.{clear_zero, one_set, set_one}
 use Rattle.sw_topo.specs.Wiring.{out_of, partner}
 use Rattle.sw_topo.specs.declared.place.PlaceEnd.TheVariants.{Node as AtNode, Switch}
 use Rattle.sw_link.specs.Between.{Between, empty_between}
+use Rattle.sw_topo.proofs.Lists.{drop_at}
+use Rattle.sw_cell.proofs.Passing.{some_of}
 
 -- ---- lists
 
@@ -48,11 +49,6 @@ module _ {X : Type 0} where
       (λ h. others m y h)
       (λ h. subst (λ k. P k y) (sym h.0) (subst (P (length l)) h.1 here))
       (push_get l x m y (subst (λ k. slice_get k m ≡ Some y) is e))
-
-  pub drop_at : (l : List X) (c : ℕ) (x : X) → slice_get l c ≡ Some x → drop c l ≡ x ∷ drop (suc c) l
-  drop_at [] c x e = absurd (cc)
-  drop_at (y ∷ l) zero x e = ap (λ z. z ∷ l) (same_Some y x e)
-  drop_at (y ∷ l) (suc c) x e = drop_at l c x e
 
   pub drop_next : (l : List X) (c : ℕ) (x : X) → slice_get l c ≡ Some x → drop c l ≡ x ∷ drop (c + 1) l
   drop_next l c x e = let same : suc c ≡ c + 1 = omega arith in drop_at l c x e ∙ ap (λ k. x ∷ drop k l) same

@@ -1,10 +1,8 @@
 -- A step at one cell keeps the parts of all others.
-use Rattle.std.proofs.Common.{ℕ, Some, refl, ◌<◌, ◌≡◌, ◌∙◌}
-use Rattle.std.specs.Prelude.{slice_get}
+use Rattle.std.proofs.Common.{ℕ, refl, ◌<◌, ◌∙◌}
 use Rattle.sw_cell.proofs.Switches.{ends_at, starts_within, within}
 use Rattle.sw_cell.specs.Parts.{IsNodePart}
 use Rattle.sw_cell.specs.SwitchParts.{IsSwitchPart}
-use Rattle.sw_flow.specs.Places.{ends_of}
 use Rattle.sw_machine.specs.Network.{AtNode, AtSwitch, IsNetwork, Network}
 use Rattle.sw_machine.specs.Parts.{SamePart}
 use Rattle.sw_machine.specs.State.{State}
@@ -13,11 +11,7 @@ use Rattle.sw_config.specs.Entries.{Declaration}
 use Rattle.sw_config.specs.Valid.{IsValid}
 use Rattle.sw_node.specs.Node.{Node}
 use Rattle.sw_switch.specs.Cell.{Cell}
-use Rattle.sw_topo.specs.declared.place.PlaceEnd.TheVariants.{Switch}
-
-starts_at : (d : Declaration) (c w p : ℕ) → slice_get (ends_of d) c ≡ Some (Switch w p) → (network_of d).start_of c ≡ AtSwitch w
-unfolding network_of
-starts_at d c w p e = rw e refl
+use Rattle.sw_cell.proofs.Granting.{starts_at}
 
 pub node_stays : (net : Network) → IsNetwork net → (n : ℕ) → n < net.nodes → (node : Node) (s t : State) → SamePart net (AtNode n) s t → IsNodePart net n node s → IsNodePart net n node t
 node_stays net ok n lt node s t same p =

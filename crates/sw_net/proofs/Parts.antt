@@ -4,7 +4,6 @@ use Rattle.std.proofs.lemmas.Bool.{cases_eq, eq-eqb, ne_eqb}
 use Rattle.std.proofs.lemmas.List.Elements.{All-map, filter_agree, filter_passes}
 use Rattle.std.specs.List.{range_with_len}
 use Rattle.std.specs.Prelude.{IsBitSet, IsSome, bit_and, is_some, slice_get, unwrap_or}
-use Rattle.sw_cell.proofs.Dropping.{some_of}
 use Rattle.sw_cell.specs.SwitchParts.{IsSwitchFor, input_of}
 use Rattle.sw_cell.specs.declared.cell.CellId.TheVariants as cells
 use Rattle.sw_flow.specs.Places.{end_of, ends_of}
@@ -28,6 +27,7 @@ use Rattle.sw_topo.specs.Ports.{has_port, ports_of}
 use Rattle.sw_topo.specs.Wiring.{out_of, partner}
 use Rattle.sw_topo.specs.declared.place.PlaceEnd.{PlaceEnd}
 use Rattle.sw_topo.specs.declared.place.PlaceEnd.TheVariants.{Switch}
+use Rattle.sw_cell.proofs.Passing.{some_of}
 
 -- ---- inputs
 

@@ -61,10 +61,6 @@ module _ {X : Type 0} where
 
 -- ---- answers
 
-pub on_err_then : {T E P Q : Type 0} (r : Result T E) → (P → Q) → OnErr r P → OnErr r Q
-on_err_then (Ok x) then h = tt
-on_err_then (Err e) then h = then h
-
 pub is_declared : (d : Declaration) (step : Step) → HasNamed (network_of d) step → IsUndeclared (network_of d) step → ⊥
 is_declared d (Fct c) named not = not
 is_declared d (FctIn c) named not = not

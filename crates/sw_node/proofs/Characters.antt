@@ -1,12 +1,13 @@
 -- The characters of packets.
-use Rattle.std.proofs.Common.{◌≡◌, ◌∙◌, false, inl, inr, ℕ, zero, suc, ◌+◌, ◌<◌, ◌≤◌, ap, get_or, List, [], ◌∷◌, ◌++◌, append_assoc, map, drop, take, length, Some, None, refl, sym, arith}
-use Rattle.std.proofs.lemmas.List.{append-nil, drop-append-le, drop-map, length-map, take_more}
+use Rattle.std.proofs.Common.{◌≡◌, ◌∙◌, false, inl, inr, ℕ, zero, suc, ◌+◌, ◌<◌, ◌≤◌, ap, get_or, List, [], ◌∷◌, ◌++◌, map, drop, take, length, Some, None, refl, sym, arith}
+use Rattle.std.proofs.lemmas.List.{drop-append-le, drop-map, length-map, take_more}
 use Rattle.std.proofs.lemmas.Bool.{cases_lt, true≢false}
 use Rattle.std.specs.Prelude.{◌==◌, slice_get}
 use Rattle.sw_char.specs.PacketView.{PacketView}
 use Rattle.sw_char.specs.Packets.{chars, chars_of}
 use Rattle.sw_char.specs.declared.nchar.NChar.{NChar}
 use Rattle.sw_char.specs.declared.nchar.NChar.TheVariants.{Data}
+use Rattle.sw_char.proofs.Cuts.{chars-push}
 
 pub next_byte : (bytes : List ℕ) (n b : ℕ) (end : NChar) → n < length bytes → b ≡ get_or bytes n b → slice_get (drop n (map Data bytes ++ end ∷ [])) 0 ≡ Some (Data b)
 next_byte [] n b end lt e = absurd (omega arith)
@@ -46,9 +47,5 @@ some_left bytes n end left is some = elim (cases_lt (length bytes) n) [
   | inr within ↦ rest_left bytes n end within ∙ sym is
 ]
 
-chars_push : (ps : List PacketView) (p : PacketView) → chars (ps ++ p ∷ []) ≡ chars ps ++ chars_of p
-chars_push [] p = append-nil (chars_of p)
-chars_push (q ∷ ps) p = ap (λ (x : List NChar). chars_of q ++ x) (chars_push ps p) ∙ sym (append_assoc (chars_of q) (chars ps) (chars_of p))
-
 pub chars_more : (ps : List PacketView) (i : ℕ) (p : PacketView) → i < length ps → p ≡ get_or ps i p → chars (take (i + 1) ps) ≡ chars (take i ps) ++ chars_of p
-chars_more ps i p lt is = ap chars (take_more ps i p lt ∙ ap (λ q. take i ps ++ q ∷ []) (sym is)) ∙ chars_push (take i ps) p
+chars_more ps i p lt is = ap chars (take_more ps i p lt ∙ ap (λ q. take i ps ++ q ∷ []) (sym is)) ∙ chars-push (take i ps) p

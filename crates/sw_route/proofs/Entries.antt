@@ -77,7 +77,7 @@ pub any_passes : (test : Route → Bool) (routes : List Route) (i : ℕ) (r : Ro
     → list_any test routes ≡ true
 any_passes test routes i r lt is passes = list_any_at test routes i r lt (ap test (sym is) ∙ passes)
 
-overlaps_turned : (r q : Route) → overlaps r q ≡ false → overlaps q r ≡ false
+pub overlaps_turned : (r q : Route) → overlaps r q ≡ false → overlaps q r ≡ false
 overlaps_turned r q apart = grind (arith, nat_tests)
 
 none_of : (test : Route → Bool) (routes : List Route) → list_any test routes ≡ false → All (λ r. test r ≡ false) routes

@@ -1,5 +1,5 @@
 -- What a run delivers where nothing is undelivered.
-use Rattle.std.proofs.Common.{All, Bool, List, None, [], ap, arith, cond, count_by, eq-eqb, false, filter, length, nat_eq, nat_le, ne_eqb, refl, subst, sym, true, ℕ, ⊎_elim, ◌++◌, ◌+◌, ◌<◌, ◌∙◌, ◌∷◌, ◌≡◌, ◌≤◌}
+use Rattle.std.proofs.Common.{All, Bool, List, None, [], ap, arith, cond, count_by, eq-eqb, false, filter, nat_eq, nat_le, ne_eqb, refl, subst, sym, true, ℕ, ⊎_elim, ◌++◌, ◌+◌, ◌<◌, ◌∙◌, ◌∷◌, ◌≡◌, ◌≤◌}
 use Rattle.std.proofs.lemmas.Bool.{cases_eq}
 use Rattle.std.proofs.lemmas.Bool.Decides.{nat_tests}
 use Rattle.std.proofs.lemmas.List.Elements.{All-append, All-cons, All-head, All-nil, All-tail, filter-append}
@@ -18,8 +18,6 @@ use Rattle.sw_machine.specs.Packets.{Packet}
 use Rattle.sw_machine.specs.Runs.{Run, undelivered}
 use Rattle.sw_machine.specs.State.{State, empty}
 use Rattle.sw_machine.specs.Steps.{Accept, Arrive, Begin, Drop, Emit, Fct, FctIn, Forward, Grant, Leads, Reply, Spill, Step}
-use Rattle.sw_machine.specs.Model.{network_of}
-use Rattle.sw_config.specs.Entries.{Declaration}
 use Rattle.sw_run.proofs.Counts.{count_filter, same_counts}
 use Rattle.sw_run.specs.Laws.{IsDelivered, IsOfReplies}
 use Rattle.sw_run.specs.Outcomes.{AreOut}
@@ -195,8 +193,3 @@ module _ (net : Network) where
               let f = same (is_answered_at net n test) in
               omega arith;
         }
-
--- so many nodes has the machine's network
-pub same_nodes : (d : Declaration) → length d.nodes ≡ (network_of d).nodes
-unfolding network_of
-same_nodes d = refl

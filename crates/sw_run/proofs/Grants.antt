@@ -35,6 +35,7 @@ use Rattle.sw_topo.specs.Wiring.{Wiring, out_of, partner}
 use Rattle.sw_topo.specs.declared.place.Chan.{Chan}
 use Rattle.sw_topo.specs.declared.place.PlaceEnd.{PlaceEnd}
 use Rattle.sw_topo.specs.declared.place.PlaceEnd.TheVariants.{Node, Switch}
+use Rattle.sw_flow.proofs.Walked.{no_port}
 
 same_switch : (w v p q : ℕ) → Some (Switch w p) ≡ Some (Switch v q) → v ≡ w
 same_switch w v p q e = cc
@@ -94,9 +95,6 @@ granted j k id arbiters picked after e c Over takes can is same room = (takes, �
 no_bit : (port : ℕ) → IsBitSet 0 port → ⊥
 no_bit port set = set refl
 
-no_node : (n w out : ℕ) → Some (Node n) ≡ Some (Switch w out) → ⊥
-no_node n w out e = absurd cc
-
 module _ (j : JournalView) (id : CellId) (arbiters : List Policy) (e : ℕ) where
   no_askers : ((w out : ℕ) → slice_get (ends_of j.declared) e ≡ Some (Switch w out) → machine_cell id ≡ AtSwitch w → ⊥) → IsOutputOf j.declared id e → AreAskers j e 0
   no_askers elsewhere output = record {
@@ -106,7 +104,7 @@ module _ (j : JournalView) (id : CellId) (arbiters : List Policy) (e : ℕ) wher
 
   -- the link end stands at a node
   pub grants_at_node : (n : ℕ) → slice_get (ends_of j.declared) e ≡ Some (Node n) → Grants j id arbiters e Idle j arbiters
-  grants_at_node n starts = (no_askers (λ w out is at. absurd (no_node n w out (sym starts ∙ is))), refl, refl)
+  grants_at_node n starts = (no_askers (λ w out is at. absurd (no_port n w out (sym starts ∙ is))), refl, refl)
 
   -- the link end stands at another switch
   pub grants_elsewhere : (v p : ℕ) → slice_get (ends_of j.declared) e ≡ Some (Switch v p) → (machine_cell id ≡ AtSwitch v → ⊥) → Grants j id arbiters e Idle j arbiters

@@ -22,6 +22,7 @@ use Rattle.sw_journal.specs.NewNet.{IsLinkedSet}
 use Rattle.sw_journal.specs.Policies.{IsNewFor}
 use Rattle.sw_run.specs.Arbiters.{HasArbiters, HasNewArbiters, IsArbiterFor, PicksAt, kind_of}
 use Rattle.sw_topo.specs.Wiring.{Wiring, out_of}
+use Rattle.sw_machine.proofs.Steps.{switch_is}
 
 -- a new policy is of the kind that it was made for
 kind_is : (kind : Arbitration) (ports : ℕ) (a : Policy) → IsNewPolicy kind ports a → kind ≡ kind_of a
@@ -46,9 +47,6 @@ keeps_kind (RoundRobin a) (Fixed b) asking pick p = absurd p
 keeps_kind (RoundRobin a) (LeastRecent b) asking pick p = absurd p
 keeps_kind (LeastRecent a) (Fixed b) asking pick p = absurd p
 keeps_kind (LeastRecent a) (RoundRobin b) asking pick p = absurd p
-
-same_switch : (v w : ℕ) → AtSwitch v ≡ AtSwitch w → v ≡ w
-same_switch v w e = cc
 
 no_switch : (n w : ℕ) → AtNode n ≡ AtSwitch w → ⊥
 no_switch n w e = absurd cc
@@ -76,7 +74,7 @@ module _ (d : Declaration) where
   none_at_node n arbiters = λ w e. absurd (no_switch n w e)
 
   pub at_switch : (w : ℕ) (arbiters : List Policy) → length arbiters ≡ 32 → All (IsNewFor d w) arbiters → HasNewArbiters d (Switch w) arbiters
-  at_switch w arbiters whole new = λ v e. (whole, subst (λ k. All (IsNewFor d k) arbiters) (same_switch w v e) new)
+  at_switch w arbiters whole new = λ v e. (whole, subst (λ k. All (IsNewFor d k) arbiters) (switch_is w v e) new)
 
   -- one more
   pub one_more : (w n : ℕ) (arbiters more : List Policy) (a : Policy) → more ≡ arbiters ++ a ∷ [] → (length arbiters ≡ n) × All (IsNewFor d w) arbiters → IsNewFor d w a

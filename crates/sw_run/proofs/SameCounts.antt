@@ -1,6 +1,6 @@
 -- As many replies go to each node, whatever the run.
 use Rattle.std.proofs.Common.{Bool, List, Some, [], ap, arith, cond, count_by, eq-eqb, eqb-true, false, nat_eq, nat_lt, ne_eqb, refl, suc, sym, true, zero, ℕ, ◌+◌, ◌<◌, ◌∙◌, ◌∷◌, ◌≡◌, ◌≤◌, ◌⊎◌, inl, inr}
-use Rattle.std.proofs.lemmas.Bool.{cases_eq, cases_lt, le-leb}
+use Rattle.std.proofs.lemmas.Bool.{cases_eq, cases_lt, le-leb, and_parts}
 use Rattle.std.proofs.lemmas.Bool.Decides.{nat_tests}
 use Rattle.std.proofs.lemmas.Slice.Eq.{bytes_eq-Decides}
 use Rattle.std.specs.Prelude.{bytes_eq, slice_get, ◌&&◌, ◌||◌}
@@ -101,10 +101,6 @@ or_true : (a b : Bool) → b ≡ true → (a || b) ≡ true
 or_true true b e = refl
 or_true false b e = e
 
-and_true : (a b : Bool) → (a && b) ≡ true → (a ≡ true) × (b ≡ true)
-and_true true b e = (refl, e)
-and_true false b e = absurd cc
-
 never_true : (a : Bool) → (a ≡ true → ⊥) → a ≡ false
 never_true true never = absurd (never refl)
 never_true false never = refl
@@ -140,8 +136,8 @@ module _ (net : Network) (n m : ℕ) where
 
   no_hit : (x b : Begun) → from_of x ≡ n → (to_of x ≡ m → ⊥) → Agrees x b → hits (address_of x) b ≡ false
   no_hit x b from other agrees = never_true (hits (address_of x) b) (λ hit.
-      let one = and_true (nat_eq (from_of b) n) (bytes_eq (address_of b) (address_of x) && nat_eq (to_of b) m) hit in
-      let two = and_true (bytes_eq (address_of b) (address_of x)) (nat_eq (to_of b) m) one.1 in
+      let one = and_parts (nat_eq (from_of b) n) (bytes_eq (address_of b) (address_of x) && nat_eq (to_of b) m) hit in
+      let two = and_parts (bytes_eq (address_of b) (address_of x)) (nat_eq (to_of b) m) one.1 in
       let starts : from_of b ≡ n = eqb-true (from_of b) n one.0 in
       let address : address_of b ≡ address_of x = (bytes_eq-Decides (address_of b) (address_of x)).0 two.0 in
       let ends : to_of b ≡ m = eqb-true (to_of b) m two.1 in

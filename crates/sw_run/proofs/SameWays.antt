@@ -1,10 +1,11 @@
 -- Flows that start at one node and have one address end at one node.
-use Rattle.std.proofs.Common.{Contains, List, [], ap, arith, get_or, refl, subst, suc, sym, zero, ℕ, ◌+◌, ◌<◌, ◌∙◌, ◌∷◌, ◌≡◌, ◌≢◌, ◌≤◌}
+use Rattle.std.proofs.Common.{Contains, List, [], ap, arith, get_or, refl, subst, suc, sym, zero, ℕ, ◌+◌, ◌<◌, ◌∙◌, ◌∷◌, ◌≡◌, ◌≤◌}
 use Rattle.std.specs.Prelude.{if◌then◌else◌, slice_index}
 use Rattle.sw_machine.proofs.Faults.{at_node, at_switch}
 use Rattle.sw_machine.specs.Certificate.{Certificate, IsAccepted, IsListed, number}
 use Rattle.sw_machine.specs.Network.{AtNode, AtSwitch, Cell, Network}
 use Rattle.sw_machine.specs.Places.{Follows, deleted_after, header}
+use Rattle.sw_machine.proofs.Progress.{head_contained}
 
 -- the sum of a list, which none of its numbers exceeds
 abbrev most : List ℕ → ℕ
@@ -15,10 +16,6 @@ no_more : (xs : List ℕ) (c : ℕ) → get_or xs c 0 ≤ most xs
 no_more [] c = omega arith
 no_more (x ∷ xs) zero = omega arith
 no_more (x ∷ xs) (suc c) = let rest = no_more xs c in omega arith
-
-some_first : (xs : List ℕ) → xs ≢ [] → (d : ℕ) × Contains xs d
-some_first [] none = absurd (none refl)
-some_first (x ∷ xs) none = (x, (zero, omega arith, refl))
 
 module _ (net : Network) (cert : Certificate) (acc : IsAccepted net cert) (i j : ℕ) (li : i < net.flows) (lj : j < net.flows) (same : (net.flow i).address ≡ (net.flow j).address) where
   -- from a place of both there is one end
@@ -32,7 +29,7 @@ module _ (net : Network) (cert : Certificate) (acc : IsAccepted net cert) (i j :
   by_cell fuel later c k p q enough (AtNode n) at = sym (at_node net cert acc i c k n li p at).0 ∙ (at_node net cert acc j c k n lj q at).0
   by_cell fuel later c k p q enough (AtSwitch w) at =
       let here = at_switch net cert acc i c k w li p at in
-      let d = some_first (net.look w (header net i k)) here.1 in
+      let d = head_contained (net.look w (header net i k)) here.1 in
       let m = deleted_after net i w k in
       let f : Follows net i c k d.0 m = record { switch = w; at = at; within = here.0; named = d.1; deleted = refl } in
       let named : Contains (net.look w (header net j k)) d.0 = subst (λ (h : ℕ). Contains (net.look w h) d.0) (same_header k) d.1 in

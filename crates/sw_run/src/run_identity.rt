@@ -22,7 +22,7 @@ pub(crate) trait RunIdentity {
 impl RunIdentity for Brand {
     ghost use Rattle.std.specs.Prelude.{[]};
     ghost use Rattle.sw_config.specs.Entries.{empty};
-    ghost use Rattle.sw_run.specs.Picked.{no_table};
+    ghost use Rattle.sw_journal.specs.Views.{no_table};
 
     ghost declared = { empty };
 

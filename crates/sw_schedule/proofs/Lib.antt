@@ -1,5 +1,5 @@
 mod Named
-mod Utf8
+pub mod Utf8
 mod Reading
 mod LineSteps
 mod Parts

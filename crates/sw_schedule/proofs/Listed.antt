@@ -7,7 +7,7 @@ use Rattle.toml.specs.Data.{Members}
 use Rattle.sw_config.specs.Entries.{Declaration}
 use Rattle.sw_load.specs.Cargo.{ArePairs, CargoIsRead, IsPairs, IsRepeated, cargo_of, hex_pair, hex_value, without_spaces}
 use Rattle.sw_load.specs.Laws.{IsListedBy, ReadsEachEntry}
-use Rattle.sw_load.proofs.Listed.{goes_on, one_is_read}
+use Rattle.sw_load.proofs.Listed.{one_is_read}
 use Rattle.sw_load.specs.Load.{LoadEntry, cargo_at, load_of, packet_of}
 use Rattle.sw_schedule.specs.TextLaws.{IsShort, ListedAreShort}
 use Rattle.sw_text.specs.Document.{document_of}
@@ -18,14 +18,13 @@ use Rattle.sw_text.specs.declared.fault.TextFault.{TextFault}
 use Rattle.sw_text.specs.declared.fault.TextFault.TheVariants as fault
 use Rattle.sw_text.specs.declared.keys.Key.TheVariants.{Cargo}
 use Rattle.sw_text.specs.declared.keys.Section.TheVariants as section
+use Rattle.sw_topo.proofs.Lists.{none_some}
+use Rattle.sw_text.proofs.Results.{bind_ok}
 
 -- ---- a byte that is read is a byte
 
 some_is : (x y : ℕ) → Some x ≡ Some y → x ≡ y
 some_is x y e = cc
-
-none_is : (y : ℕ) → ◌≡◌ {A = Option ℕ} None (Some y) → ⊥
-none_is y e = cc
 
 digit_small : (c v : ℕ) → hex_value c ≡ Some v → v < 16
 digit_small c v h = elim (cases_Bool (nat_le 48 c && nat_le c 57)) [
@@ -46,7 +45,7 @@ digit_small c v h = elim (cases_Bool (nat_le 48 c && nat_le c 57)) [
           let is : Some (c - 87) ≡ Some v = rw (f, g, t) at h in
           let same = some_is (c - 87) v is in
           let low = leb-true 97 c parts.0 in let high = leb-true c 102 parts.1 in omega (arith, same, low, high)
-      | inr k ↦ let is : ◌≡◌ {A = Option ℕ} None (Some v) = rw (f, g, k) at h in absurd (none_is v is)
+      | inr k ↦ let is : ◌≡◌ {A = Option ℕ} None (Some v) = rw (f, g, k) at h in absurd (none_some v is)
     ]
   ]
 ]
@@ -55,8 +54,8 @@ pair_small : (h l b : ℕ) → hex_pair h l ≡ Some b → b < 256
 pair_small h l b e = by_digits (hex_value h) (hex_value l) refl refl e
   where
     by_digits : (x y : Option ℕ) → hex_value h ≡ x → hex_value l ≡ y → option_and_then (λ h. option_map (λ l. 16 * h + l) y) x ≡ Some b → b < 256
-    by_digits None y high low e = absurd (none_is b e)
-    by_digits (Some x) None high low e = absurd (none_is b e)
+    by_digits None y high low e = absurd (none_some b e)
+    by_digits (Some x) None high low e = absurd (none_some b e)
     by_digits (Some x) (Some y) high low e =
         let same = some_is (16 * x + y) b e in
         let small = digit_small h x high in let less = digit_small l y low in omega (arith, same, small, less)
@@ -91,7 +90,7 @@ module _ (is_read : CargoIsRead) (d : Declaration) where
   cargo_short : (i : ℕ) (ms : Members) (cargo : List ℕ) → cargo_at i ms ≡ Ok cargo → IsShort cargo
   unfolding cargo_at
   cargo_short i ms cargo h =
-      let text = goes_on (text_at (section.Packet i) Cargo ms) (λ text. ok_or (cargo_of text) (fault.Key OutOfRange (section.Packet i) Cargo)) cargo h in
+      let text = bind_ok (text_at (section.Packet i) Cargo ms) (λ text. ok_or (cargo_of text) (fault.Key OutOfRange (section.Packet i) Cargo)) cargo h in
       let read = is_there (cargo_of text.0) (fault.Key OutOfRange (section.Packet i) Cargo) cargo text.2 in
       spelled_short (without_spaces text.0) cargo ((is_read text.0 cargo).0 read)
 
@@ -119,5 +118,5 @@ all_from_each (p ∷ load) h = All-cons (λ (p : LoadEntry). IsShort p.cargo) p 
 
 pub listed_are_short : CargoIsRead → ReadsEachEntry → ListedAreShort
 listed_are_short is_read each d bytes load h =
-    let ms = goes_on (document_of bytes) (λ ms. load_of d ms) load h in
+    let ms = bind_ok (document_of bytes) (λ ms. load_of d ms) load h in
     all_from_each load (each_is_short is_read d ms.0 load (each d ms.0 load ms.2))

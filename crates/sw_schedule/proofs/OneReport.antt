@@ -1,5 +1,5 @@
 -- One thing is true of a state.
-use Rattle.std.proofs.Common.{Bool, IsTrue, List, [], ap, arith, false, get_or, length, refl, subst, sym, true, suc, ℕ, ◌<◌, ◌∙◌, ◌∷◌, ◌≡◌, ◌↔◌}
+use Rattle.std.proofs.Common.{List, [], ap, arith, get_or, length, refl, subst, sym, suc, ℕ, ◌<◌, ◌∙◌, ◌∷◌, ◌≡◌}
 use Rattle.sw_machine.proofs.Cuts.{cuts}
 use Rattle.sw_machine.specs.Network.{Network}
 use Rattle.sw_machine.specs.Packets.{Packet}
@@ -9,12 +9,7 @@ use Rattle.sw_machine.specs.Model.{network_of}
 use Rattle.sw_schedule.specs.Reports.{IsTrueOf, Report}
 use Rattle.sw_schedule.specs.Replays.{ReplaysAreDetermined}
 use Rattle.sw_schedule.proofs.Stops.{one_end}
-
-one_answer : (P : Type 0) (a b : Bool) → (IsTrue a ↔ P) → (IsTrue b ↔ P) → a ≡ b
-one_answer P true true x y = refl
-one_answer P true false x y = sym (y.1 (x.0 refl))
-one_answer P false true x y = x.1 (y.0 refl)
-one_answer P false false x y = refl
+use Rattle.sw_topo.proofs.Lists.{same_answer}
 
 one_cut : (s : State) (n : ℕ) (ps qs : List Packet) → CameOut s n ps → CameOut s n qs → ps ≡ qs
 one_cut s n ps qs (a, x) (b, y) = (cuts ps qs a b (sym x ∙ y)).0
@@ -33,7 +28,7 @@ module _ (net : Network) (s : State) (r q : Report) (x : IsTrueOf net s r) (y : 
   same_remaining = x.counted ∙ sym y.counted
 
   same_stuck : r.stuck ≡ q.stuck
-  same_stuck = one_answer (IsLockedUp net s) r.stuck q.stuck x.locked_up y.locked_up
+  same_stuck = same_answer (IsLockedUp net s) r.stuck q.stuck x.locked_up y.locked_up
 
   same_packets : r.came_out ≡ q.came_out
   same_packets =

@@ -1,5 +1,5 @@
 -- The packets of one node more.
-use Rattle.std.proofs.Common.{List, [], ap, arith, get_or, length, length-append, refl, subst, sym, ℕ, ⊎_elim, ◌++◌, ◌+◌, ◌<◌, ◌∙◌, ◌∷◌, ◌≡◌, map}
+use Rattle.std.proofs.Common.{List, [], ap, arith, get_or, length, length-append, subst, sym, ℕ, ⊎_elim, ◌++◌, ◌+◌, ◌<◌, ◌∙◌, ◌∷◌, ◌≡◌, map}
 use Rattle.std.proofs.lemmas.Bool.{cases_lt}
 use Rattle.std.proofs.lemmas.List.{map-append}
 use Rattle.std.proofs.Math.ListN.{get_or-append}
@@ -10,8 +10,8 @@ use Rattle.sw_machine.specs.Runs.{CameOut}
 use Rattle.sw_machine.specs.State.{State}
 use Rattle.sw_machine.specs.Model.{network_of}
 use Rattle.sw_net.specs.Net.{IsNetState, NetView}
-use Rattle.sw_config.specs.Entries.{Declaration}
 use Rattle.sw_schedule.specs.Reports.{AreOutputs}
+use Rattle.sw_machine.proofs.Steps.{same_nodes}
 
 -- the lists by node
 abbrev pub rows : List (Vec Packet) → List (List Packet)
@@ -42,13 +42,9 @@ module _ {R A : Type 0} (v : NetView R A) (all : List (Vec Packet)) (n : ℕ) (q
         packets = λ s at. subst (λ (l : List (List Packet)). (k : ℕ) → k < n + 1 → CameOut s k (get_or l k [])) (sym same) (more_outputs (rows all) n q.items first.count s (first.packets s at) (here s at));
       }
 
-nodes_are : (d : Declaration) → length d.nodes ≡ (network_of d).nodes
-unfolding network_of
-nodes_are d = refl
-
 pub all_outputs : {R A : Type 0} (v : NetView R A) (n : ℕ) (all : List (Vec Packet)) → n ≡ length v.declared.nodes → AreFirst v n all → (s : State) → IsNetState v s → AreOutputs (network_of v.declared) s (rows all)
 all_outputs v n all is first s at =
-    let count : n ≡ (network_of v.declared).nodes = is ∙ nodes_are v.declared in
+    let count : n ≡ (network_of v.declared).nodes = is ∙ same_nodes v.declared in
     record {
       each_node = first.count ∙ count;
       packets = subst (λ (m : ℕ). (k : ℕ) → k < m → CameOut s k (get_or (rows all) k [])) count (first.packets s at);

@@ -6,7 +6,7 @@ use Rattle.std.specs.Prelude.{position}
 use Rattle.std.specs.Str.{IsUtf8, bytes_eq, is_utf8}
 use Rattle.sw_schedule.specs.Lines.{named}
 
-no_text : (bs : List ℕ) → (IsUtf8 bs → ⊥) → is_utf8 bs ≡ false
+pub no_text : (bs : List ℕ) → (IsUtf8 bs → ⊥) → is_utf8 bs ≡ false
 no_text bs h = elim (cases_Bool (is_utf8 bs)) [
   | inl t ↦ absurd (h (IsUtf8-from_is_utf8 bs t))
   | inr f ↦ f

@@ -13,9 +13,10 @@ use Rattle.sw_output.specs.Lines.{spaced}
 use Rattle.sw_text.proofs.Numbers.{spelled_read}
 use Rattle.sw_schedule.specs.Lines.{at_channel, at_node, channel_of, count_of, end_of, is_skipped, repeated_of, step_of, steps_of_line, words_of}
 use Rattle.sw_schedule.specs.Schedule.{steps_of_text, with_line, with_lines}
-use Rattle.sw_schedule.specs.Spelling.{AllWritten, IsAtChannel, IsAtNode, IsBegin, IsGrant, IsWord, Writes, end_text}
+use Rattle.sw_schedule.specs.Spelling.{AllWritten, IsAtChannel, IsAtNode, IsBegin, IsGrant, IsWord, Writes}
 use Rattle.sw_schedule.proofs.Reading.{right_line, skipped_line}
 use Rattle.sw_schedule.proofs.Words.{ArePlain, Free, decimal_plain, literal_plain, spaced_free, words_read}
+use Rattle.sw_output.specs.PacketTexts.{end_text}
 
 -- a line that is read as this step
 pub record Reads (d : Declaration) (step : Step) (line : List ℕ) : Type 0 where

@@ -14,7 +14,7 @@ use Rattle.sw_output.specs.ChannelTexts.{node_name}
 use Rattle.sw_output.specs.FlowTexts.{flow_name}
 use Rattle.sw_output.specs.PacketTexts as told
 use Rattle.sw_schedule.specs.Lines.{Repeated, count_of, steps_of_line}
-use Rattle.sw_schedule.specs.Spelling.{IsAtChannel, IsAtNode, IsBegin, IsGrant, Writes, end_text}
+use Rattle.sw_schedule.specs.Spelling.{IsAtChannel, IsAtNode, IsBegin, IsGrant, Writes}
 use Rattle.sw_schedule.specs.TextLaws.{HasNames, IsShort}
 use Rattle.sw_schedule.specs.WrittenLines.{cargo_text, step_line}
 use Rattle.sw_schedule.proofs.Written.{Reads, read_once, writes_read}
@@ -22,6 +22,7 @@ use Rattle.sw_schedule.proofs.WrittenCargo.{cargo_spelled}
 use Rattle.sw_schedule.proofs.WrittenNames.{flow_found, flow_plain, node_found, node_plain}
 use Rattle.sw_schedule.proofs.Words.{Free, both_free, decimal_plain, number_shown, word_and}
 use Rattle.sw_text.proofs.Numbers.{spelled_read}
+use Rattle.sw_output.specs.PacketTexts.{end_text}
 
 -- the step is of channels, nodes and flows of the network, and its cargo is short
 abbrev pub IsWritable : Declaration → Step → Type 0

@@ -4,7 +4,7 @@ use Rattle.std.specs.Prelude.{◌==◌, nat_le, position, slice_get}
 use Rattle.std.specs.List.{list_all}
 use Rattle.std.specs.Option.{option_map_or}
 use Rattle.std.specs.Str.{IsAscii, bytes_eq, is_utf8}
-use Rattle.std.proofs.lemmas.Bool.{and_parts, cases_Bool, cases_lt, false≢true, lt-leb}
+use Rattle.std.proofs.lemmas.Bool.{and_parts, cases_Bool, false≢true, lt-leb}
 use Rattle.std.proofs.lemmas.List.{length-map}
 use Rattle.std.proofs.lemmas.List.Elements.{All-nil, All-cons, All-get_or}
 use Rattle.std.proofs.lemmas.List.Sums.{position_or_len_is}
@@ -20,6 +20,8 @@ use Rattle.sw_schedule.specs.Spelling.{IsWord}
 use Rattle.sw_schedule.specs.TextLaws.{HasNames}
 use Rattle.sw_schedule.proofs.Words.{Free}
 use Rattle.sw_text.specs.Names.{is_name, is_name_byte}
+use Rattle.sw_topo.proofs.Lists.{third}
+use Rattle.sw_text.proofs.NameBytes.{name_byte_is_small}
 
 -- ---- the bytes of a name
 
@@ -38,12 +40,6 @@ no_byte_above b ge =
     no_pair false false true = refl
     no_pair false false false = refl
 
-byte_below : (b : ℕ) → is_name_byte b ≡ true → b < 128
-byte_below b h = elim (cases_lt b 128) [
-  | inl lt ↦ lt
-  | inr ge ↦ absurd (false≢true (sym (no_byte_above b ge) ∙ h))
-]
-
 byte_is_not : (b c : ℕ) → is_name_byte c ≡ false → is_name_byte b ≡ true → (b == c) ≡ false
 byte_is_not b c other h = ne_eqb b c (λ e. false≢true (sym other ∙ ap is_name_byte (sym e) ∙ h))
 
@@ -55,13 +51,8 @@ bytes_free c other (b ∷ name) h =
 
 bytes_ascii : (name : List ℕ) → list_all is_name_byte name ≡ true → IsAscii name
 bytes_ascii [] h i = omega arith
-bytes_ascii (b ∷ name) h zero = byte_below b (and_parts (is_name_byte b) (list_all is_name_byte name) h).0
+bytes_ascii (b ∷ name) h zero = name_byte_is_small b (and_parts (is_name_byte b) (list_all is_name_byte name) h).0
 bytes_ascii (b ∷ name) h (suc i) = bytes_ascii name (and_parts (is_name_byte b) (list_all is_name_byte name) h).1 i
-
-third : (a b c : Bool) → (a && b && c) ≡ true → c ≡ true
-third false b c h = absurd (false≢true h)
-third true false c h = absurd (false≢true h)
-third true true c h = h
 
 bytes_of_name : (name : List ℕ) → is_name name ≡ true → list_all is_name_byte name ≡ true
 bytes_of_name name h = third (nat_le 1 (length name)) (nat_le (length name) 32) (list_all is_name_byte name) h

@@ -3,12 +3,12 @@ use Rattle.std.specs.Prelude.{◌≡◌, ℕ, ◌<◌, ◌≤◌, ◌*◌, ◌==
 use Rattle.std.specs.Fmt.{decimal}
 use Rattle.std.specs.List.{flat_map}
 use Rattle.sw_char.specs.declared.nchar.End.{End}
-use Rattle.sw_char.specs.declared.nchar.End.TheVariants.{Eop, Eep}
 use Rattle.sw_machine.specs.Steps.{Step, Fct, FctIn, Arrive, Grant, Drop, Forward, Spill, Begin, Emit, Accept, Reply}
 use Rattle.sw_config.specs.Entries.{Declaration}
 use Rattle.sw_load.specs.Cargo.{bytes_of}
 use Rattle.sw_schedule.specs.Lines.{flow_of, node_of}
 use Rattle.sw_schedule.specs.Schedule.{steps_of_text}
+use Rattle.sw_output.specs.PacketTexts.{end_text}
 
 -- neither a space nor LF stands in it
 pub record IsWord (word : List ℕ) : Type 0 where
@@ -33,10 +33,6 @@ pub record IsGrant (d : Declaration) (output input : ℕ) (line : List ℕ) : Ty
   pub input_in_net : input < 2 * length d.links
   pub few : (output ≤ 65535) × (input ≤ 65535)
   pub written : line ≡ codes "grant " ++ (decimal output ++ (32 ∷ decimal input))
-
-abbrev pub end_text : End → List ℕ
-end_text Eop = codes "EOP"
-end_text Eep = codes "EEP"
 
 -- the name of the flow, how the packet ends, and a text of its cargo
 pub record IsBegin (d : Declaration) (flow : ℕ) (cargo : List ℕ) (end : End) (line : List ℕ) : Type 0 where

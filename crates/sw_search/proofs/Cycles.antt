@@ -180,7 +180,7 @@ module _ (between : List ℕ) (once : (c : ℕ) → times between c ≤ 1) where
 
 -- ---- all together
 
-same_least : (P : ℕ → Type 0) (p q : ℕ) → IsLeast P p → IsLeast P q → p ≡ q
+pub same_least : (P : ℕ → Type 0) (p q : ℕ) → IsLeast P p → IsLeast P q → p ≡ q
 same_least P p q h k =
     let down = h.least q k.member in
     let up = k.least p h.member in

@@ -26,7 +26,7 @@ faulty d i p fault h well =
     let bad : ◌≡◌ {A = Option (Place × RouteFault)} (Some (p, fault)) None = sym h.first ∙ none in
     cc
 
-not_routed : (d : Declaration) (i : ℕ) (p : Place) (fault : RouteFault) → IsMisrouted d i p fault → AllWellRouted d → ⊥
+pub not_routed : (d : Declaration) (i : ℕ) (p : Place) (fault : RouteFault) → IsMisrouted d i p fault → AllWellRouted d → ⊥
 not_routed d i p fault h all = faulty d i p fault h (All-contains (IsWellRouted d) (all_flows d) h.flow all (Contains-at (all_flows d) i h.flow h.numbered))
 
 -- what the first flow that is not well routed is

@@ -44,7 +44,7 @@ rising_is_where_no_cycle_is d valid = (
 
 -- ---- the three verdicts
 
-some_not_all : (d : Declaration) → SomeMisrouted d → AllWellRouted d → ⊥
+pub some_not_all : (d : Declaration) → SomeMisrouted d → AllWellRouted d → ⊥
 some_not_all d h all = h.2 (All-contains (IsWellRouted d) (all_flows d) h.0 all h.1)
 
 one_of_three : (d : Declaration) → SomeMisrouted d ⊎ AllWellRouted d → HasCycle (depends d) ⊎ (HasCycle (depends d) → ⊥) → SomeMisrouted d ⊎ (RoutedAndCyclic d ⊎ RoutedAndFree d)

@@ -3,7 +3,6 @@ use Rattle.std.proofs.Common.{Some, ap, arith, length, ℕ, ◌*◌, ◌-◌, �
 use Rattle.std.specs.Prelude.{slice_get}
 use Rattle.sw_config.specs.Entries.{capacities}
 use Rattle.sw_config.specs.Valid.{IsValid}
-use Rattle.sw_summary.specs.NotedFills.{Holds}
 use Rattle.sw_machine.proofs.Credit.{reached_numbers}
 use Rattle.sw_machine.proofs.DeclaredNetworks.{are_networks}
 use Rattle.sw_machine.specs.Model.{network_of}
@@ -14,10 +13,11 @@ use Rattle.sw_net.specs.Numbers.{AreNumbers}
 use Rattle.sw_net.specs.declared.numbers.Numbers.{Numbers}
 use Rattle.sw_topo.proofs.Ends.{partner_back}
 use Rattle.sw_topo.specs.Wiring.{partner}
+use Rattle.sw_net.specs.Delivery.{IsBuffered}
 
 -- what is neither free nor outstanding is held
 pub held_is : {R A : Type 0} (v : NetView R A) (channel e capacity held : ℕ) (numbers : Numbers) → IsValid v.declared → channel < 2 * length v.declared.links → e ≡ partner channel
-    → slice_get (capacities v.declared.links) channel ≡ Some capacity → AreNumbers v e numbers → held ≡ capacity - numbers.room - numbers.outstanding → Holds v channel held
+    → slice_get (capacities v.declared.links) channel ≡ Some capacity → AreNumbers v e numbers → held ≡ capacity - numbers.room - numbers.outstanding → IsBuffered v channel held
 held_is v channel e capacity held numbers valid within is at told count = λ s of.
     let net = network_of v.declared in
     let back : partner e ≡ channel = ap partner is ∙ partner_back channel in

@@ -1,12 +1,12 @@
 -- Lists that loops make.
-use Rattle.std.proofs.Common.{Bool, List, [], ap, append-nil, append_assoc, arith, get_or, length, map, refl, suc, sym, take, zero, ℕ, ◌++◌, ◌+◌, ◌-◌, ◌<◌, ◌≤◌, ◌∙◌, ◌∷◌, ◌≡◌}
+use Rattle.std.proofs.Common.{Bool, List, [], ap, append-nil, append_assoc, arith, get_or, length, map, refl, sym, take, ℕ, ◌++◌, ◌+◌, ◌-◌, ◌<◌, ◌≤◌, ◌∙◌, ◌∷◌, ◌≡◌}
 use Rattle.std.proofs.lemmas.Bool.{eq-eqb, ne_eqb}
 use Rattle.std.proofs.lemmas.Grind.{get_or_default_zero}
 use Rattle.std.proofs.lemmas.List.{flat_map_more, get_or-map, length-map, map-append, take_more}
 use Rattle.std.proofs.lemmas.List.Elements.{filter-append}
 use Rattle.std.proofs.lemmas.List.Folds.{flat_map-map}
 use Rattle.std.specs.Global.{Vec}
-use Rattle.std.specs.Prelude.{None, Option, Some, false, if◌then◌else◌, nat_eq, slice_get, true}
+use Rattle.std.specs.Prelude.{None, Option, Some, false, if◌then◌else◌, nat_eq, true}
 use Rattle.std.specs.List.{flat_map, range_with_len}
 use Rattle.sw_char.specs.PacketView.{PacketView}
 use Rattle.sw_char.specs.declared.nchar.End.TheVariants.{Eop}
@@ -29,12 +29,6 @@ items_in v = v.items
 
 pub statuses_are : (out : List (Vec PacketView)) → flat_map (λ v. statuses_of v.items) out ≡ statuses (map (λ v. v.items) out)
 statuses_are out = sym (flat_map-map statuses_of items_in out)
-
--- what is read of the first of two lists
-pub declared_first : {A : Type 0} (xs ys : List A) (i : ℕ) (x : A) → i < length xs → slice_get (xs ++ ys) i ≡ Some x → slice_get xs i ≡ Some x
-declared_first [] ys i x within is = absurd (omega (arith, within))
-declared_first (y ∷ xs) ys zero x within is = is
-declared_first (y ∷ xs) ys (suc i) x within is = declared_first xs ys i x (omega (arith, within)) is
 
 -- one number more
 next_more_from : {A : Type 0} (f : ℕ → List A) (a n m k : ℕ) → m ≡ n + 1 → a + n ≡ k → flat_map f (range_with_len a n) ++ f k ≡ flat_map f (range_with_len a m)
@@ -186,12 +180,6 @@ keys_done replies out n all ended inside so_far =
     let last : n ≡ length out = omega (arith, ended, inside) in
     so_far ∙ ap (λ m. flat_map (λ k. keys_at replies k (get_or (map items_in out) k [])) (range_with_len 0 m)) (last ∙ sym (length-map out items_in))
     ∙ all_keys_are replies (map items_in out)
-
--- what is told of one element more, behind what stands there
-pub told_at : {A : Type 0} (f : A → List ℕ) (xs : List A) (i : ℕ) (none : A) (start before after : List ℕ) → i < length xs → before ≡ start ++ flat_map f (take i xs)
-    → after ≡ before ++ f (get_or xs i none) → after ≡ start ++ flat_map f (take (i + 1) xs)
-told_at f xs i none start before after within so_far is =
-    is ∙ ap (λ l. l ++ f (get_or xs i none)) so_far ∙ flat_map_more f start (take i xs) (get_or xs i none) ∙ ap (λ l. start ++ flat_map f l) (sym (take_more xs i none within))
 
 -- the packets of a flow, with one more that was begun of another
 pub form_kept : (f : FlowEntry) (n : ℕ) (begun : List Begun) (i : ℕ) (b : Begun) (before : List PacketView) → i < length begun → b ≡ get_or begun i b → (b.flow ≡ n → ⊥)

@@ -5,10 +5,6 @@ use Rattle.sw_machine.specs.Steps.{Arrive, IsPossible, Leads, Step}
 use Rattle.sw_machine.specs.Model.{network_of}
 use Rattle.sw_net.specs.Net.{IsNetState, NetView}
 
--- the buffer of channel c holds so many characters
-abbrev pub Holds : {R A : Type 0} → NetView R A → ℕ → ℕ → Type 0
-Holds v c count = (s : State) → IsNetState v s → count ≡ length (s.buffer c)
-
 -- the fill of channel k, after this step to state t
 abbrev pub noted : Step → State → ℕ → ℕ → ℕ
 noted (Arrive c) t k fill = if nat_eq k c then max fill (length (t.buffer k)) else fill

@@ -5,7 +5,7 @@ ghost use Rattle.sw_config.specs.Valid.{IsFlow};
 use sw_config::{Flow, Network};
 
 /// The declared flow of that number.
-#[tactic(auto, using(crate::proofs::Lists::declared_first))]
+#[tactic(auto, using(sw_topo::proofs::Lists::in_front))]
 pub(crate) fn declared_flow(network: &Network, number: u16) -> &Flow
     requires { number < length network.now.flows }
     ensures flow { slice_get network.now.flows number ≡ Some result.now }

@@ -1,7 +1,8 @@
 //! How full the receive buffers of a network get.
 ghost use Rattle.std.specs.Prelude.{◌≡◌, ◌<◌, ◌*◌, IfOk, length, map, option_map};
 ghost use Rattle.sw_summary.specs.Fills.{AreFillsOrNone};
-ghost use Rattle.sw_summary.specs.NotedFills.{Holds, MakesOrNot};
+ghost use Rattle.sw_net.specs.Delivery.{IsBuffered};
+ghost use Rattle.sw_summary.specs.NotedFills.{MakesOrNot};
 ghost use Rattle.sw_machine.specs.Model.{network_of};
 ghost use Rattle.sw_machine.specs.StepValues.{machine_step};
 ghost use Rattle.sw_net.specs.New.{IsNewNet};
@@ -16,7 +17,7 @@ use sw_topo::{Chan, LinkEnd};
 // How many characters the buffer of the channel holds.
 fn held(net: &Net<'_, SwitchRoutes<'_>, Policy>, channel: Chan) -> u16
     requires { channel < 2 * length net.now.declared.links }
-    ensures { Holds net.now channel result }
+    ensures { IsBuffered net.now channel result }
 {
     let network = net.network();
     let capacity = network.capacity(channel);

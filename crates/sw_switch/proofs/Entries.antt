@@ -12,18 +12,7 @@ use Rattle.sw_switch.specs.Cell.{Cell, HasArbiter, HasWaiting, IsCell, end_at, f
 use Rattle.sw_switch.specs.Changes.{with_end, with_input}
 use Rattle.sw_switch.specs.declared.input.Input.{Input}
 use Rattle.sw_switch.specs.declared.input.Input.TheVariants.{Idle}
-
-pub slice_get-set_other : {X : Type 0} (xs : List X) (i j : ℕ) (y : X) → j ≢ i → slice_get (slice_set xs i y) j ≡ slice_get xs j
-slice_get-set_other [] i j y other = refl
-slice_get-set_other (x ∷ xs) zero zero y other = absurd (other refl)
-slice_get-set_other (x ∷ xs) zero (suc j) y other = refl
-slice_get-set_other (x ∷ xs) (suc i) zero y other = refl
-slice_get-set_other (x ∷ xs) (suc i) (suc j) y other = slice_get-set_other xs i j y (λ e. other (ap suc e))
-
-pub slice_get-set_same : {X : Type 0} (xs : List X) (i : ℕ) (x y : X) → slice_get xs i ≡ Some x → slice_get (slice_set xs i y) i ≡ Some y
-slice_get-set_same [] i x y e = cc
-slice_get-set_same (z ∷ xs) zero x y e = refl
-slice_get-set_same (z ∷ xs) (suc i) x y e = slice_get-set_same xs i x y e
+use Rattle.sw_topo.proofs.Lists.{slice_get-set_other, slice_get-set_same}
 
 -- an entry that was read at the number of a port with a link: an arbiter that was made with the linked ports
 pub record IsEntry {R A : Type 0} (ports : A → ℕ) (cell : Cell R A) (number : ℕ) (entry : Option A) : Type 0 where

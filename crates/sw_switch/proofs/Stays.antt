@@ -1,5 +1,5 @@
 -- An input that waits goes on waiting until it is granted.
-use Rattle.std.specs.Prelude.{slice_get, slice_set, Option, Some, None, IsBitSet, bit_and, All}
+use Rattle.std.specs.Prelude.{slice_get, slice_set, Option, Some, None, IsBitSet, bit_and}
 use Rattle.std.specs.List.{slice_index_or}
 use Rattle.std.proofs.Common.{◌≡◌, ◌≢◌, ℕ, zero, suc, List, [], ◌∷◌, ◌++◌, length, refl, sym, ap, subst, ◌∙◌, arith, inl, inr, get_or-set_other, ne_eqb}
 use Rattle.std.proofs.lemmas.Bool.{cases_eq, cond_both}
@@ -15,7 +15,8 @@ use Rattle.sw_switch.specs.Changes.{granted_to, passed, dropped, is_marker, is_d
 use Rattle.sw_switch.specs.Waiting.{Waits, Moves, forwards, drops, spills, issues, arrives, fct_received, Meanwhile, start, picked, picked_elsewhere, given, moved}
 use Rattle.sw_switch.specs.declared.input.Input.{Input}
 use Rattle.sw_switch.specs.declared.input.Input.TheVariants.{Idle, Held, Spilling}
-use Rattle.sw_switch.proofs.Entries.{slice_get-set_other, slice_get-set_same}
+use Rattle.sw_topo.proofs.Lists.{slice_get-set_other, slice_get-set_same}
+use Rattle.std.proofs.lemmas.List.Elements.{All-cons}
 
 -- a new entry changes no front if it has that of the old one
 front-set : (ends : List Received) (i j : ℕ) (r d : Received) → slice_get r.buffer 0 ≡ slice_get (slice_index_or ends i d).buffer 0 →
@@ -30,10 +31,6 @@ front-set (x ∷ ends) (suc i) (suc j) r d e = front-set ends i j r d e
 front-append : (buffer : List NChar) (x y : NChar) → slice_get buffer 0 ≡ Some y → slice_get (buffer ++ x ∷ []) 0 ≡ slice_get buffer 0
 front-append [] x y e = cc
 front-append (z ∷ buffer) x y e = refl
-
-all_cons : {X : Type 0} (P : X → Type 0) (x : X) (xs : List X) → P x → All P xs → All P (x ∷ xs)
-all_cons P x xs here rest zero d lt = here
-all_cons P x xs here rest (suc k) d lt = rest k d (omega arith)
 
 -- the waiting input's front is there
 has_front : {R : Type 0} (answer : R → ℕ → Look) (routes : R) (front : Option NChar) (out : ℕ) → Names answer routes front out → (x : NChar) × (front ≡ Some x)
@@ -155,7 +152,7 @@ picks_others {R = R} {A = A} answer ports policy keeps out input _ _ _ a waits a
     record {
       b = later_on.b;
       makes = next a grant.after later_on.b (record { asking = grant.asking; picked = other }) picks (λ p set. subst (Has p) (sym same) ((grant.are_asking p).0 set).asks.linked) policy_a later_on.makes;
-      asks = all_cons (λ (pick : Pick). IsBitSet (pick.asking) input) _ picks ((grant.are_asking input).1 (record { linked = waits.linked; free = grant.possible.free; asks = waits.asks })) later_on.asks;
+      asks = All-cons (λ (pick : Pick). IsBitSet (pick.asking) input) _ picks ((grant.are_asking input).1 (record { linked = waits.linked; free = grant.possible.free; asks = waits.asks })) later_on.asks;
       over = rw (ne_eqb other input apart) (omega (arith, later_on.over));
     }
 picks_others {R = R} {A = A} answer ports policy keeps out input _ _ picks a waits at same (picked_elsewhere old new later elsewhere other _ not_here grant apart rest) =

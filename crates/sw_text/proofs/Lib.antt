@@ -8,3 +8,5 @@ pub mod Walks
 pub mod Unknown
 pub mod Tests
 pub mod Endings
+pub mod Results
+pub mod NameBytes

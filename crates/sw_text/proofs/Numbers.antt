@@ -1,13 +1,11 @@
 -- The one spelling of a number.
-use Rattle.std.proofs.Common.{◌≡◌, ◌≢◌, ℕ, ◌+◌, ◌-◌, ◌*◌, ◌/◌, ◌%◌, ◌^◌, ◌<◌, ◌≤◌, Bool, true, false, ◌&&◌, not, List, [], ◌∷◌, ◌++◌, length, get_or, refl, sym, ap, ◌∙◌, inl, inr, arith, eq-eqb, ne_eqb, Option, Some, None, append_assoc, append-nil}
+use Rattle.std.proofs.Common.{◌≡◌, ◌≢◌, ℕ, ◌+◌, ◌-◌, ◌*◌, ◌/◌, ◌%◌, ◌^◌, ◌<◌, ◌≤◌, Bool, true, false, ◌&&◌, not, List, [], ◌∷◌, ◌++◌, length, get_or, refl, sym, ap, ◌∙◌, inl, inr, arith, eq-eqb, ne_eqb, Some, None, append_assoc, append-nil}
 use Rattle.std.specs.Prelude.{nat_le, nat_lt, ◌==◌}
 use Rattle.std.specs.Fmt.{decimal}
 use Rattle.std.proofs.lemmas.Bool.{cases_eq, cases_Bool, false≢true, and_parts, and_from, leb-true, le-leb, ltb-true, lt-ltb}
 use Rattle.std.proofs.lemmas.Fmt.{decimal_digit, decimal_step, decimal_by_steps}
 use Rattle.sw_text.specs.Number.{goes_on, number_of, ill_begun, is_empty}
-
-none_some : (n : ℕ) → ◌≡◌ {A = Option ℕ} None (Some n) → ⊥
-none_some n e = cc
+use Rattle.sw_topo.proofs.Lists.{none_some}
 
 abbrev passes : ℕ → ℕ → ℕ → Bool
 passes limit n c = nat_le 48 c && (nat_lt c 58 && nat_le (10 * n + (c - 48)) limit)

@@ -1,6 +1,6 @@
 -- What several reads took of a reader, and several writes of a text's rest wrote.
-use Rattle.std.proofs.Common.{◌≡◌, ℕ, ◌<◌, ◌≤◌, ◌+◌, ◌-◌, min, List, [], ◌++◌, Result, Ok, Err, IfErr, IsErr, refl, sym, ap, ◌∙◌, subst, length, take, drop, arith, length-drop, length-append, length-take}
-use Rattle.std.proofs.Math.Seq.{take-add, take-length}
+use Rattle.std.proofs.Common.{◌≡◌, ℕ, ◌<◌, ◌≤◌, ◌+◌, ◌-◌, min, List, [], ◌++◌, Result, Ok, Err, IfErr, IsErr, refl, sym, ap, subst, length, take, drop, arith, length-drop, length-append, length-take}
+use Rattle.std.proofs.Math.Seq.{take-add}
 use Rattle.std.specs.Prelude.{Option}
 use Rattle.std.proofs.lemmas.Bool.{false≢true}
 use Rattle.std.specs.Io.KnownBytes.{Appends, Consumes, Keeps, ReadConsumes}
@@ -8,22 +8,19 @@ use Rattle.sw_text.specs.declared.read_stream.ReadError.{ReadError}
 use Rattle.sw_text.specs.declared.read_stream.ReadError.TheVariants.{Failed}
 use Rattle.sw_text.specs.Reading.{Takes}
 use Rattle.std.proofs.KnownBytes.{Appends-trans, Consumes-kept, Consumes-nil, Consumes-trans}
-
--- the rest of a text, as a range to its end
-rest_is : (text : List ℕ) (i : ℕ) → take (length text - i) (drop i text) ≡ drop i text
-rest_is text i = (λ j. take (sym (length-drop i text) j) (drop i text)) ∙ take-length (drop i text)
+use Rattle.std.proofs.lemmas.List.{take_rest}
 
 -- a beginning of the rest after a beginning is a longer beginning
 pub appends_more : (a b c : Option (List ℕ)) (text : List ℕ) (i n : ℕ) → Appends a b (take i text)
     → Appends b c (take n (take (length text - i) (drop i text))) → Appends a c (take (i + n) text)
 appends_more a b c text i n p q =
     let P : List ℕ → Type 0 = λ bytes. Appends a c bytes in
-    let rest : Appends b c (take n (drop i text)) = subst (λ (bytes : List ℕ). Appends b c (take n bytes)) (rest_is text i) q in
+    let rest : Appends b c (take n (drop i text)) = subst (λ (bytes : List ℕ). Appends b c (take n bytes)) (take_rest text i) q in
     subst P (sym (take-add i n text)) (Appends-trans a b c (take i text) (take n (drop i text)) p rest)
 
 -- what was taken of the rest fits
 pub fits_more : (text : List ℕ) (i n : ℕ) → i ≤ length text → n ≤ length (take (length text - i) (drop i text)) → i + n ≤ length text
-fits_more text i n h p = omega (arith, ap (length {A = ℕ}) (rest_is text i), length-drop i text)
+fits_more text i n h p = omega (arith, ap (length {A = ℕ}) (take_rest text i), length-drop i text)
 
 -- bytes that were read, and up to so many more
 pub takes_more : (a b c : Option (List ℕ)) (bytes : List ℕ) (most limit : ℕ) → Consumes a b bytes → length bytes + most ≤ limit

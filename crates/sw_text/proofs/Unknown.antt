@@ -42,7 +42,7 @@ stands_in_rest name k d ms stands = either_way (slice_cmp nat_cmp name k) (get_m
 known_and_unknown : (b : Bool) → b ≡ true → b ≡ false → ⊥
 known_and_unknown b t f = true≢false (sym t ∙ f)
 
-less_is : (o : Ordering) → is_lt o ≡ true → o ≡ Less
+pub less_is : (o : Ordering) → is_lt o ≡ true → o ≡ Less
 less_is Less yes_less = refl
 less_is Equal yes_less = absurd (true≢false (sym yes_less))
 less_is Greater yes_less = absurd (true≢false (sym yes_less))

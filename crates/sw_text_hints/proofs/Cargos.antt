@@ -4,10 +4,7 @@ use Rattle.std.specs.Prelude.{is_some, nat_le, option_and_then, option_map, repl
 use Rattle.std.proofs.lemmas.Bool.{and_from, eq-eqb, le-leb, lt-leb, ne_eqb}
 use Rattle.std.proofs.lemmas.List.{take_rest}
 use Rattle.sw_load.specs.Cargo.{bytes_of, count_of, hex_pair, is_repetition, pairs_of, repeated_of}
-
-is_some_of_map : {A B : Type 0} (f : A → B) (o : Option A) → is_some o ≡ is_some (option_map f o)
-is_some_of_map f None = refl
-is_some_of_map f (Some x) = refl
+use Rattle.sw_text_hints.proofs.Notes.{is_some_of_map}
 
 and_none : (b : Bool) → (b && false) ≡ false
 and_none true = refl

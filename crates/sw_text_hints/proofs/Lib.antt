@@ -2,7 +2,7 @@ mod Cargos
 mod Heads
 mod LoadHelps
 mod NearNames
-mod Notes
+pub mod Notes
 pub mod PlaceNumbers
 mod Verbs
 pub mod Words

@@ -1,5 +1,5 @@
 -- What there is to note of a fault of a load.
-use Rattle.std.proofs.Common.{◌≡◌, ◌∙◌, ◌<◌, ◌++◌, ℕ, zero, suc, Bool, List, [], ◌∷◌, Option, None, Some, ap, arith, length, refl, sym}
+use Rattle.std.proofs.Common.{◌≡◌, ◌∙◌, ◌<◌, ℕ, Bool, List, [], Option, None, Some, ap, arith, length, refl, sym}
 use Rattle.std.proofs.lemmas.List.{length-append}
 use Rattle.std.specs.Option.{option_map_or}
 use Rattle.std.specs.Prelude.{is_some, option_and_then, option_map, position, slice_get}
@@ -12,17 +12,13 @@ use Rattle.sw_text.specs.declared.fault.TextFault.{TextFault}
 use Rattle.sw_text.specs.declared.fault.TextFault.TheVariants.{NotInFlow}
 use Rattle.sw_notes.specs.Entries.{text_of}
 use Rattle.sw_text_hints.specs.LoadHints.{has_reply, load_note, way_words}
+use Rattle.sw_config.proofs.Lists.{in_front}
 
 -- a declared flow is one of all
 pub within_all : (d : Declaration) (flow : ℕ) → flow < length d.flows → flow < length (all_flows d)
 within_all d flow less = omega (arith, less, length-append d.flows (reply_flows d.flows))
 
-at_front : {A : Type 0} (xs ys : List A) (i : ℕ) (x : A) → i < length xs → slice_get (xs ++ ys) i ≡ Some x → slice_get xs i ≡ Some x
-at_front [] ys i x less is = absurd (omega (arith, less))
-at_front (a ∷ xs) ys zero x less is = is
-at_front (a ∷ xs) ys (suc i) x less is = at_front xs ys i x (omega (arith, less)) is
-
-is_some_of_map : {A B : Type 0} (f : A → B) (o : Option A) → is_some o ≡ is_some (option_map f o)
+pub is_some_of_map : {A B : Type 0} (f : A → B) (o : Option A) → is_some o ≡ is_some (option_map f o)
 is_some_of_map f None = refl
 is_some_of_map f (Some x) = refl
 
@@ -50,6 +46,6 @@ pub flow_note : {A : Type 0} (fault : TextFault) (d : Declaration) (load : Membe
     → option_map view reply ≡ entry.reply → has ≡ is_some reply → has ≡ b → way_words b ≡ load_note fault d load
 flow_note fault d load packet name flow entry b has reply view is named numbered less there reply_is has_is b_is =
     ap way_words (sym b_is ∙ has_is ∙ is_some_of_map view reply ∙ ap is_some reply_is)
-    ∙ ap (λ o. option_map_or way_words (option_map (λ flow. is_some flow.reply) o) []) (sym (at_front d.flows (reply_flows d.flows) flow entry less there))
+    ∙ ap (λ o. option_map_or way_words (option_map (λ flow. is_some flow.reply) o) []) (sym (in_front d.flows (reply_flows d.flows) flow entry less there))
     ∙ ap (λ o. option_map_or way_words (option_map (λ flow. is_some flow.reply) (option_and_then (slice_get d.flows) o)) []) numbered
     ∙ ap (λ o. option_map_or way_words (option_and_then (has_reply d) o) []) named ∙ sym (ap (λ f. load_note f d load) is)

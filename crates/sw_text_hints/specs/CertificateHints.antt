@@ -1,8 +1,8 @@
 -- What is told of a certificate that can't be read (this project's choice).
-use Rattle.std.specs.Prelude.{ℕ, ◌+◌, ◌-◌, ◌==◌, ◌&&◌, ◌||◌, Bool, true, false, List, [], ◌∷◌, ◌++◌, Option, Some, None, Result, Ok, Err, codes, drop, if◌then◌else◌, nat_eq, nat_le, nat_lt, option_and_then, option_map, position, take}
+use Rattle.std.specs.Prelude.{ℕ, ◌+◌, ◌-◌, ◌==◌, ◌&&◌, ◌||◌, Bool, List, [], ◌∷◌, ◌++◌, Option, Some, None, Result, Ok, Err, codes, drop, if◌then◌else◌, nat_eq, nat_le, nat_lt, option_and_then, option_map, position, take}
 use Rattle.std.specs.Fmt.{decimal}
 use Rattle.std.specs.List.{starts_with}
-use Rattle.sw_text.specs.Number.{number_of}
+use Rattle.sw_text.specs.Number.{number_of, is_empty}
 use Rattle.sw_cert.specs.Grammar.{after_word}
 use Rattle.sw_cert.specs.Reading.{State}
 use Rattle.sw_cert.specs.Text.{read_text}
@@ -13,10 +13,6 @@ use Rattle.sw_text_hints.specs.WrongWords.{nth_line}
 
 abbrev pub begins : List ℕ → List ℕ → Bool
 begins word line = starts_with nat_eq line word
-
-abbrev pub is_empty : List ℕ → Bool
-is_empty [] = true
-is_empty (b ∷ bytes) = false
 
 -- what may stand behind this line, which is empty before the first
 abbrev pub expected_after : List ℕ → List ℕ

@@ -10,13 +10,14 @@ use Rattle.std.proofs.lemmas.List.Sums.{sum_by-cons, length-filter, count_by-le-
 use Rattle.sw_topo.proofs.PortBits.{one_set, set_one}
 use Rattle.std.specs.List.{range_with_len}
 use Rattle.std.specs.List.Sorted.{IsStrictlyIncreasing}
-use Rattle.std.proofs.lemmas.List.Elements.{Contains-append_left, Contains-append_right, Contains-append_cases, Contains-push, Contains-push_cases, Contains-get_or, All-contains, All-filter, filter_passes, filter_agree}
+use Rattle.std.proofs.lemmas.List.Elements.{Contains-get_or, All-contains, All-filter, filter_passes, filter_agree}
 use Rattle.std.proofs.lemmas.List.FromFn.{length-range_with_len, get_or-range_with_len}
 use Rattle.std.proofs.lemmas.List.Kept.{IsStrictlyIncreasing-filter}
-use Rattle.std.proofs.lemmas.Bool.{cases_Bool, cases_eq, cases_lt, ne_eqb, eq-eqb, false≢true}
+use Rattle.std.proofs.lemmas.Bool.{cases_eq, cases_lt, ne_eqb, eq-eqb, false≢true}
 use Rattle.sw_topo.specs.Ports.{has_port, ports_of, NoneFrom, IsLeastFrom, IsListed, PortsAreListed}
+use Rattle.sw_topo.proofs.Lists.{kept}
 
-has_set : (set p : ℕ) → IsBitSet set p → has_port set p ≡ true
+pub has_set : (set p : ℕ) → IsBitSet set p → has_port set p ≡ true
 has_set set p here = rw (ne_eqb (bit_and set (2 ^ p)) 0 here) refl
 
 has_not : (set p : ℕ) → ¬ IsBitSet set p → has_port set p ≡ false
@@ -74,20 +75,6 @@ range_rises : (a n : ℕ) → IsStrictlyIncreasing (range_with_len a n)
 range_rises a n k lt =
     let short : k + 1 < n = omega (arith, length-range_with_len a n) in
     rw (get_or-range_with_len a n k 0 (omega arith), get_or-range_with_len a n (k + 1) 0 short) (omega arith)
-
-kept : (p : ℕ → Bool) (xs : List ℕ) (x : ℕ) → Contains xs x → p x ≡ true → Contains (filter p xs) x
-kept p [] x here is = absurd (omega (arith, here.1))
-kept p (y ∷ ys) x here is =
-    elim (Contains-append_cases (y ∷ []) ys x here) [
-      | inl first ↦ elim (Contains-push_cases [] y x first) [
-        | inl none ↦ absurd (omega (arith, none.1))
-        | inr same ↦ rw (same, is) (Contains-append_left (x ∷ []) (filter p ys) x (Contains-push [] x))
-      ]
-      | inr later ↦ elim (cases_Bool (p y)) [
-        | inl passes ↦ rw passes (Contains-append_right (y ∷ []) (filter p ys) x (kept p ys x later is))
-        | inr fails ↦ rw fails (kept p ys x later is)
-      ]
-    ]
 
 in_range : (n x : ℕ) → x < n → Contains (range_with_len 0 n) x
 in_range n x lt =

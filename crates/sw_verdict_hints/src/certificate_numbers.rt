@@ -90,7 +90,7 @@ fn goes_on_at(
 }
 
 // The first flow that goes on from the one channel to the other.
-#[tactic(auto, using(crate::proofs::Firsts::first_found))]
+#[tactic(auto, using(sw_topo::proofs::Least::least_found))]
 fn goer(network: &Network, certificate: &Certificate, from: Chan, to: Chan) -> Option<u16>
     ensures { result ≡ goer network.now certificate.now.places from to }
 {

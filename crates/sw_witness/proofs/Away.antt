@@ -6,12 +6,13 @@ use Rattle.std.proofs.lemmas.List.{map_more, nil_from_length}
 use Rattle.sw_route.specs.declared.look.Route.{Route}
 use Rattle.sw_config.specs.Entries.{Declaration, FlowEntry, SwitchEntry}
 use Rattle.sw_mend.proofs.Numbered.{at_number, grown_at}
-use Rattle.sw_mend.proofs.OneMore.{in_front}
 use Rattle.sw_mend.specs.Changes.{by_number, changed, changed_by_all, flow_after_all, flow_kept, made_at, route_after_all, switch_after, switch_after_all}
 use Rattle.sw_mend.specs.declared.change.Change.{Change}
 use Rattle.sw_mend.specs.declared.change.Change.TheVariants.{WithoutReply}
 use Rattle.sw_search.specs.Laws.{RoutedAndFree}
 use Rattle.sw_witness.specs.Unanswered.{IsFreeWithout, can_not_be_answered, never_answered, number_if, without_replies}
+use Rattle.sw_topo.proofs.Lists.{in_front}
+use Rattle.sw_mend.proofs.AfterAll.{same_by_number}
 
 -- what is made by a change that keeps each element, and then by others, is made at once
 at_once : {A : Type 0} (kept : ℕ → A → A) (make : ℕ → A → List A) (n : ℕ) (xs : List A)
@@ -30,11 +31,6 @@ first_made d flow changes = λ t. record d {
   switches = tables_at_once flow changes 0 d.switches t;
   flows = at_once (flow_kept (WithoutReply flow)) (flow_after_all changes) 0 d.flows t;
 }
-
--- where no change is made, all stays
-same_by_number : {A : Type 0} (n : ℕ) (xs : List A) → by_number (λ k (x : A). x ∷ []) n xs ≡ xs
-same_by_number n [] = refl
-same_by_number n (x ∷ xs) = ap (λ l. x ∷ l) (same_by_number (n + 1) xs)
 
 same_tables : (n : ℕ) (switches : List SwitchEntry) → by_number (switch_after_all []) n switches ≡ switches
 same_tables n [] = refl

@@ -1,8 +1,8 @@
 -- Packets of flows that can't be answered.
 use Rattle.std.proofs.Common.{◌≡◌, ℕ, ◌+◌, ◌<◌, ◌≤◌, Bool, true, false, List, [], ◌∷◌, ◌++◌, ◌⊎◌, length, take, drop, Option, Some, None, inl, inr, refl, sym, ap, ◌∙◌, subst, arith}
-use Rattle.std.specs.Prelude.{not, ◌==◌, ◌&&◌, ◌||◌, nat_lt, is_some, slice_get, slice_index, option_and_then, if◌then◌else◌}
+use Rattle.std.specs.Prelude.{not, ◌==◌, ◌||◌, nat_lt, is_some, slice_get, slice_index, option_and_then, if◌then◌else◌}
 use Rattle.std.specs.Option.{option_map_or}
-use Rattle.std.proofs.lemmas.Bool.{cases_Bool, ltb-true}
+use Rattle.std.proofs.lemmas.Bool.{cases_Bool, ltb-true, and_parts, and_from}
 use Rattle.std.proofs.lemmas.List.{get_or_append_left, length-append, length-take}
 use Rattle.std.proofs.lemmas.Option.{get_or_from_slice_get, slice_get_within}
 use Rattle.sw_rmap.specs.declared.config.TargetConfig.{TargetConfig}
@@ -25,14 +25,6 @@ record IsAsking (bytes way : List ℕ) : Type 0 where
   instruction : is_of_answered (slice_index bytes 2) ≡ true
   path : length way ≤ reply_address_len (slice_index bytes 2) + 1
 
-both_true : (a b : Bool) → (a && b) ≡ true → (a ≡ true) × (b ≡ true)
-both_true true true h = (refl, refl)
-both_true true false h = absurd cc
-both_true false b h = absurd cc
-
-and_true : (a b : Bool) → a ≡ true → b ≡ true → (a && b) ≡ true
-and_true a b h k = rw (h, k) refl
-
 answered_view : (c : CommandView) (way : List ℕ) → way_back c ≡ Some way → (is_answered c ≡ true) × (way ≡ path_of c ++ c.initiator ∷ [])
 answered_view c way is = elim (cases_Bool (is_answered c)) [
   | inl sure ↦
@@ -47,17 +39,17 @@ asking_fields : (bytes way : List ℕ) → is_command bytes ≡ true → way_bac
 unfolding fields_of
 asking_fields bytes way sure is =
     let a = answered_view (fields_of bytes) way is in
-    let wants = (both_true _ _ a.0).0 in
+    let wants = (and_parts _ _ a.0).0 in
     let i : ℕ = slice_index bytes 2 in
     let shorter = length-path-le (take (reply_address_len i) (drop 4 bytes)) in
     let field = length-take (reply_address_len i) (drop 4 bytes) in
     let long = length-append (path_of (fields_of bytes)) ((fields_of bytes).initiator ∷ []) in
-    let parts = both_true _ _ sure in
-    let front = both_true _ _ parts.0 in
-    let begun = both_true _ _ front.0 in
+    let parts = and_parts _ _ sure in
+    let front = and_parts _ _ parts.0 in
+    let begun = and_parts _ _ front.0 in
     record {
       protocol = begun.1;
-      instruction = and_true _ _ parts.1 wants;
+      instruction = and_from _ _ parts.1 wants;
       path = rw a.1 (omega (arith, shorter, field, long));
     }
 

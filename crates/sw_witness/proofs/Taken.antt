@@ -25,6 +25,7 @@ use Rattle.sw_witness.specs.Unanswered.{can_not_be_answered, never_answered, num
 use Rattle.sw_witness.proofs.Listings.{certificate_exists}
 use Rattle.sw_witness.proofs.NoReply.{none_is_answered}
 use Rattle.sw_witness.proofs.SameRuns.{freedom}
+use Rattle.sw_topo.proofs.Lists.{at_front}
 
 -- ---- what stays when a reply is taken away
 
@@ -77,11 +78,6 @@ kept_from : (gone n i : ℕ) (flows : List FlowEntry) (g : FlowEntry) → slice_
 kept_from gone n i [] g here = absurd cc
 kept_from gone n zero (f ∷ flows) g here = (f, refl, n, same_Some (flow_kept (WithoutReply gone) n f) g here)
 kept_from gone n (suc i) (f ∷ flows) g here = kept_from gone (n + 1) i flows g here
-
-at_front : {X : Type 0} (xs ys : List X) (i : ℕ) (x : X) → slice_get xs i ≡ Some x → slice_get (xs ++ ys) i ≡ Some x
-at_front [] ys i x here = absurd cc
-at_front (z ∷ xs) ys zero x here = here
-at_front (z ∷ xs) ys (suc i) x here = at_front xs ys i x here
 
 -- ---- one reply taken away
 

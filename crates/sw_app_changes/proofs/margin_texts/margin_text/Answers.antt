@@ -1,8 +1,9 @@
 use Rattle.std.proofs.Common.{◌∙◌, ◌≡◌, ◌++◌, ℕ, List, ap, codes, string_bytes}
 use Rattle.sw_output.proofs.EachLine.{all_added}
-use Rattle.sw_app_changes.proofs.LossLines.{all_losses, line_at, loss_lines_more, three_lists, words_told}
+use Rattle.sw_app_changes.proofs.LossLines.{all_losses, loss_lines_more, three_lists, words_told}
 use Rattle.sw_app_changes.proofs.margin_texts.margin_text.Goals as goal
 use Rattle.sw_app_changes.specs.MarginTexts.{answer_line, loss_line, stall_line}
+use Rattle.sw_topo.proofs.Lists.{line_at}
 
 pub loop-stall-preserved : goal.loop-stall-preserved
 loop-stall-preserved c =

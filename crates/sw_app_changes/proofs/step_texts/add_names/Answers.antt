@@ -3,8 +3,8 @@ use Rattle.sw_output.specs.FlowTexts.{flow_name}
 use Rattle.sw_output.proofs.EachLine.{all_added}
 use Rattle.sw_app_changes.specs.ExplainTexts.{joined_names}
 use Rattle.sw_app_changes.proofs.ExplainedTexts.{first_added}
-use Rattle.sw_app_changes.proofs.LossLines.{line_at}
 use Rattle.sw_app_changes.proofs.step_texts.add_names.Goals as goal
+use Rattle.sw_topo.proofs.Lists.{line_at}
 
 pub loop-flow-preserved : goal.loop-flow-preserved
 loop-flow-preserved c =

@@ -4,9 +4,10 @@ use Rattle.std.proofs.lemmas.Result.{on_ok_weaker}
 use Rattle.sw_cycle.specs.Cycles.{CycleEntry, cause_of}
 use Rattle.sw_output.specs.ChannelTexts.{channel_text}
 use Rattle.sw_app_changes.specs.ExplainTexts.{step_text}
-use Rattle.sw_app_changes.proofs.ExplainedSteps.{row_read, step_read}
+use Rattle.sw_app_changes.proofs.ExplainedSteps.{step_read}
 use Rattle.sw_app_changes.proofs.ExplainedTexts.{parts_told, step_ended}
 use Rattle.sw_app_changes.proofs.tangle_texts.add_step_line.Goals as goal
+use Rattle.sw_graph.proofs.Listed.{row_read}
 
 pub returns : goal.returns
 returns c =

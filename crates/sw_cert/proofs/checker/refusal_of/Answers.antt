@@ -4,11 +4,12 @@ use Rattle.sw_flow.specs.Places.{ends_of}
 use Rattle.sw_cert.specs.Text.{Contents}
 use Rattle.sw_cert.specs.Refusals.{are_in_range, is_of_the_network, not_rising_at_targets}
 use Rattle.sw_cert.proofs.Reasons.{other_network, by_flows, by_numbers, by_targets}
-use Rattle.sw_cert.proofs.Ranged.{true_both, as_many}
+use Rattle.sw_cert.proofs.Ranged.{as_many}
 use Rattle.sw_cert.proofs.checker.refusal_of.Goals as goal
+use Rattle.std.proofs.lemmas.Bool.{and_parts}
 
 of_as_many : (d : Declaration) (c : Contents) → is_of_the_network d c ≡ true → length c.places ≡ length (all_flows d)
-of_as_many d c is = as_many d (all_flows d) c.places (true_both (length c.numbers == length (ends_of d)) (are_in_range d (all_flows d) c.places) is).1
+of_as_many d c is = as_many d (all_flows d) c.places (and_parts (length c.numbers == length (ends_of d)) (are_in_range d (all_flows d) c.places) is).1
 
 pub returns-then-not-is_of_the_network : goal.returns-then-not-is_of_the_network
 returns-then-not-is_of_the_network g c = other_network c.args.network.now c.args.certificate.now (sym c.is_of_the_network.ensures ∙ c.if-not-is_of_the_network.true)

@@ -3,9 +3,10 @@ use Rattle.std.specs.Prelude.{option_map, slice_get}
 use Rattle.sw_topo.specs.Wiring.{Wiring, partner}
 use Rattle.sw_cycle.specs.Cycles.{IsTargetCause}
 use Rattle.sw_cycle.proofs.Found.{chosen_flow, first_of, missing, step_of}
-use Rattle.sw_cycle.proofs.Between.{between, no_switch, same_node}
+use Rattle.sw_cycle.proofs.Between.{between, same_node}
 use Rattle.sw_cycle.proofs.Extended.{flow_inside, shown_by_way, way_found}
 use Rattle.sw_cycle.proofs.choose.cause_for.Goals as goal
+use Rattle.sw_flow.proofs.Walked.{no_port}
 
 pub way_to-requires : goal.way_to-requires
 way_to-requires c =
@@ -33,7 +34,7 @@ unreachable-requires c =
     let none = missing d c.args.from c.args.to c.args.first c.in_default.is c.requires.first in
     let b = between d c.topology.ensures.valid c.args.from c.args.to c.requires.dependency none in
     let there = ap (λ (w : Wiring). slice_get w.ends (partner c.args.from)) (sym c.topology.ensures.wiring) ∙ c.end_of.ensures.place ∙ ap Some c.in-Switch.is in
-    no_switch b.node c.in-Switch.field-0 c.in-Switch.field-1 (sym b.ends ∙ there)
+    no_port b.node c.in-Switch.field-0 c.in-Switch.field-1 (sym b.ends ∙ there)
 
 pub returns : goal.returns
 returns c =

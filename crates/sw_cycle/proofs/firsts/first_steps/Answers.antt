@@ -3,8 +3,8 @@ use Rattle.sw_cycle.specs.Positions.{ArePositions}
 use Rattle.sw_cycle.specs.declared.steps.Step.{Step}
 use Rattle.sw_cycle.specs.Firsts.{AreFirst, NoneYet}
 use Rattle.sw_cycle.proofs.Found.{all_looked_at, flow_begun, flow_more, none_first}
-use Rattle.sw_cycle.proofs.Naming.{whole}
 use Rattle.sw_cycle.proofs.firsts.first_steps.Goals as goal
+use Rattle.sw_topo.proofs.Lists.{whole}
 
 pub loop-number-init : goal.loop-number-init
 loop-number-init c =

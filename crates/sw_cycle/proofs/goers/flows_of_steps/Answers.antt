@@ -1,7 +1,7 @@
 use Rattle.std.proofs.Common.{◌≡◌, ◌<◌, ◌∙◌, ℕ, length, ap, subst, arith}
-use Rattle.sw_cycle.proofs.Naming.{whole}
 use Rattle.sw_cycle.proofs.Taken.{begun, ended}
 use Rattle.sw_cycle.proofs.goers.flows_of_steps.Goals as goal
+use Rattle.sw_topo.proofs.Lists.{whole}
 
 pub loop-number-init : goal.loop-number-init
 loop-number-init c = begun c.args.network.now c.args.channels.now c.in_ok-flows.flows.items c.in_ok-flows.ensures.size c.in_ok-flows.ensures.empty

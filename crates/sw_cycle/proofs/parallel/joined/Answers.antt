@@ -7,10 +7,11 @@ use Rattle.sw_flow.specs.Places.{ends_of}
 use Rattle.sw_cycle.specs.Chunks.{IsNamedChunk, chunk_start}
 use Rattle.sw_cycle.specs.Named.{AreNamed, AreRouted}
 use Rattle.sw_cycle.proofs.Chunking.{joined_named, part_at, starts_first, starts_last, starts_rise}
-use Rattle.sw_cycle.proofs.Naming.{named_none, whole}
+use Rattle.sw_cycle.proofs.Naming.{named_none}
 use Rattle.sw_cycle.proofs.Sound.{both_exact, routed_split}
 use Rattle.sw_cycle.proofs.parallel.joined.Goals as goal
 use Rattle.sw_cycle.specs.declared.named.Named.{Named}
+use Rattle.sw_topo.proofs.Lists.{whole}
 
 -- all parts are joined
 all_parts : (d : Declaration) (parts : List Named) (i : ℕ) → AllZip (λ chunk w. IsNamedChunk d chunk w) (range_with_len 0 64) parts → length parts ≤ i → i ≤ length parts → chunk_start (length (all_flows d)) i ≡ length (all_flows d)

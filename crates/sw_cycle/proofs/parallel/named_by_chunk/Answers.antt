@@ -4,9 +4,10 @@ use Rattle.sw_config.specs.Entries.{all_flows}
 use Rattle.sw_cycle.specs.Chunks.{chunk_start}
 use Rattle.sw_cycle.specs.Named.{AreNamed, AreRouted}
 use Rattle.sw_cycle.proofs.Chunking.{starts_rise}
-use Rattle.sw_cycle.proofs.Naming.{all_inside, named_more, named_none, whole}
+use Rattle.sw_cycle.proofs.Naming.{all_inside, named_more, named_none}
 use Rattle.sw_cycle.proofs.Sound.{both_exact, list_by_routed, routed_by_list, routed_one, routed_split}
 use Rattle.sw_cycle.proofs.parallel.named_by_chunk.Goals as goal
+use Rattle.sw_topo.proofs.Lists.{whole}
 
 pub loop-number-init : goal.loop-number-init
 loop-number-init c =

@@ -1,8 +1,8 @@
 use Rattle.std.proofs.Common.{◌≡◌, ◌<◌, ◌∙◌, [], ℕ, All, List, Vec, Global, length, ap, sym, subst, arith}
 use Rattle.sw_graph.specs.Rows.{row}
 use Rattle.sw_graph.proofs.RelationSteps.{empty_rows_more}
-use Rattle.sw_cycle.proofs.Naming.{whole}
 use Rattle.sw_cycle.proofs.positions.positions_of.Goals as goal
+use Rattle.sw_topo.proofs.Lists.{whole}
 
 pub add_positions-requires-clause-inside : goal.add_positions-requires-clause-inside
 add_positions-requires-clause-inside c =

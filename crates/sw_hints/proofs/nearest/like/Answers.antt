@@ -1,9 +1,10 @@
 use Rattle.std.proofs.Common.{◌≡◌, ◌∙◌, [], ap, false, get_or, map, option_map, rules, sym, true}
 use Rattle.std.proofs.lemmas.Result.{IfOk-weaker}
 use Rattle.std.specs.Str.{str_eq_ignore_ascii_case}
-use Rattle.sw_hints.specs.Nearest.{nearest, or_else}
+use Rattle.sw_hints.specs.Nearest.{nearest}
 use Rattle.sw_hints.proofs.Firsts.{first_here, near_first, near_second, none_still, none_there}
 use Rattle.sw_hints.proofs.nearest.like.Goals as goal
+use Rattle.sw_notes.specs.Notes.{or_else}
 
 pub returns-then-eq_ignore_ascii_case : goal.returns-then-eq_ignore_ascii_case
 returns-then-eq_ignore_ascii_case c =

@@ -1,8 +1,9 @@
 use Rattle.std.proofs.Common.{◌<◌, length, not, sym, ap, ◌∙◌, arith}
 use Rattle.sw_config.specs.Entries.{reply_flows}
 use Rattle.sw_margin.specs.Bends.{is_answered_at}
-use Rattle.sw_margin.proofs.Picked.{in_front, none_more, one_found}
+use Rattle.sw_margin.proofs.Picked.{none_more, one_found}
 use Rattle.sw_margin.proofs.chosen.is_quiet.Goals as goal
+use Rattle.sw_topo.proofs.Lists.{in_front}
 
 pub returns-then-is_answered_at : goal.returns-then-is_answered_at
 returns-then-is_answered_at c =

@@ -2,8 +2,8 @@ use Rattle.std.proofs.Common.{◌≡◌, List, [], ℕ, IfOk, ap, sym, ◌∙◌
 use Rattle.std.specs.Option.{option_map_or}
 use Rattle.sw_config.specs.Entries.{reply_flows}
 use Rattle.sw_margin.specs.Bends.{IsBend, answering, answering_at}
-use Rattle.sw_margin.proofs.Picked.{in_front}
 use Rattle.sw_margin.proofs.flows.told_of.Goals as goal
+use Rattle.sw_topo.proofs.Lists.{in_front}
 
 pub returns : goal.returns
 returns g c =

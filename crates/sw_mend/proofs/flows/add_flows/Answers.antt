@@ -1,8 +1,9 @@
 use Rattle.std.proofs.Common.{◌<◌, ap, arith, length}
 use Rattle.sw_config.specs.Entries.{Declaration, reply_flows}
 use Rattle.sw_mend.proofs.Fresh.{few_flows, fresh_flow}
-use Rattle.sw_mend.proofs.OneMore.{flow_built, flow_passed, in_front}
+use Rattle.sw_mend.proofs.OneMore.{flow_built, flow_passed}
 use Rattle.sw_mend.proofs.flows.add_flows.Goals as goal
+use Rattle.sw_topo.proofs.Lists.{in_front}
 
 pub add_flow-requires-clause-few : goal.add_flow-requires-clause-few
 add_flow-requires-clause-few c =

@@ -2,8 +2,8 @@ use Rattle.std.proofs.Common.{◌+◌, ◌<◌, ◌∙◌, ap, arith, length, ma
 use Rattle.sw_config.specs.Entries.{Declaration, reply_flows}
 use Rattle.sw_mend.specs.Splits.{flow_split}
 use Rattle.sw_mend.proofs.MovedFlows.{few_moved, fresh_moved, moved_more, valid_moved}
-use Rattle.sw_mend.proofs.OneMore.{in_front}
 use Rattle.sw_mend.proofs.moved.add_split_flows.Goals as goal
+use Rattle.sw_topo.proofs.Lists.{in_front}
 
 pub add_flow-requires-clause-few : goal.add_flow-requires-clause-few
 add_flow-requires-clause-few c =

@@ -1,8 +1,8 @@
 use Rattle.std.proofs.Common.{◌+◌, ◌<◌, ◌∙◌, length, take, ap, arith}
 use Rattle.sw_topo.specs.Wiring.{Wiring}
 use Rattle.sw_config.specs.Entries.{Declaration}
-use Rattle.sw_config.proofs.Steps.{length-link_ends}
-use Rattle.sw_mend.proofs.Linked.{link_built, stays_in}
+use Rattle.sw_config.proofs.Steps.{length-link_ends, stays_in}
+use Rattle.sw_mend.proofs.Linked.{link_built}
 use Rattle.sw_mend.proofs.parts.add_links.Goals as goal
 
 pub start_of-a-requires : goal.start_of-a-requires

@@ -7,7 +7,6 @@ use Rattle.std.specs.Option.{option_to_list}
 use Rattle.std.specs.Prelude.{option_map, slice_get}
 use Rattle.std.specs.Vec.{with_item}
 use Rattle.std.specs.Vec.Iter.{into_iter_items}
-use Rattle.sw_cell.proofs.Dropping.{some_of}
 use Rattle.sw_cell.proofs.Switches.{port_small}
 use Rattle.sw_config.specs.Entries.{Declaration}
 use Rattle.sw_config.specs.Valid.{IsValid}
@@ -19,6 +18,7 @@ use Rattle.sw_net.specs.New.{AreArbiters, ArePlaced, IsRow, rows_of}
 use Rattle.sw_topo.specs.Wiring.{Wiring}
 use Rattle.sw_topo.specs.declared.place.PlaceEnd.TheVariants.{Node, Switch}
 use Rattle.sw_net.proofs.make.placed.Goals as goal
+use Rattle.sw_cell.proofs.Passing.{some_of}
 
 -- the next arbiter is that of the output where channel c starts, and goes to its row
 module _ {A : Type 0} (ports : A → ℕ) (d : Declaration) (c w port : ℕ) (starts : slice_get (ends_of d) c ≡ Some (Switch w port)) (before after : List A) (next : Option A) (items : before ≡ option_to_list next ++ after)

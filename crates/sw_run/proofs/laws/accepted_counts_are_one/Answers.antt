@@ -1,10 +1,10 @@
 use Rattle.std.proofs.Common.{◌∙◌}
 use Rattle.sw_load.specs.History.{packets_of}
 use Rattle.sw_machine.specs.Model.{network_of}
-use Rattle.sw_run.proofs.Delivered.{same_nodes}
 use Rattle.sw_run.proofs.OneCount.{one_count}
 use Rattle.sw_run.proofs.laws.accepted_counts_are_one.Goals as goal
 use Rattle.sw_run.specs.Outcomes.{came_out_of}
+use Rattle.sw_machine.proofs.Steps.{same_nodes}
 
 pub returns : goal.returns
 returns c = λ d cert valid acc load limit o is drained other_limit other also ends.

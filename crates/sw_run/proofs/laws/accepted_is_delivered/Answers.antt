@@ -1,7 +1,8 @@
 use Rattle.std.proofs.Common.{subst, sym, ◌∙◌}
-use Rattle.sw_run.proofs.Delivered.{delivered, same_nodes}
+use Rattle.sw_run.proofs.Delivered.{delivered}
 use Rattle.sw_run.specs.Outcomes.{AreOut, came_out_of}
 use Rattle.sw_run.proofs.laws.accepted_is_delivered.Goals as goal
+use Rattle.sw_machine.proofs.Steps.{same_nodes}
 
 pub returns : goal.returns
 returns c = λ d cert valid acc load limit o is drained.

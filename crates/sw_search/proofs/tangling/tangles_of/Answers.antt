@@ -4,8 +4,8 @@ use Rattle.sw_graph.specs.declared.part.Part.{Part}
 use Rattle.sw_graph.specs.Parts.{IsPart}
 use Rattle.sw_search.specs.Verdicts.{depends}
 use Rattle.sw_search.specs.Tangles.{IsTangle}
-use Rattle.sw_search.proofs.Told.{zip_push}
 use Rattle.sw_search.proofs.tangling.tangles_of.Goals as goal
+use Rattle.sw_topo.proofs.Lists.{zip_push}
 
 pub tangle-requires-clause-part : goal.tangle-requires-clause-part
 tangle-requires-clause-part c =

@@ -1,8 +1,9 @@
 use Rattle.std.proofs.Common.{◌-◌}
 use Rattle.sw_config.specs.Entries.{reply_flows}
 use Rattle.sw_config.specs.Valid.{IsFlow}
-use Rattle.sw_config.proofs.Flows.{All-at, in_first, in_second, past_first, reply_flows_are_flows}
+use Rattle.sw_config.proofs.Flows.{All-at, in_second, past_first, reply_flows_are_flows}
 use Rattle.sw_config.proofs.network.Network.flow.Goals as goal
+use Rattle.sw_config.proofs.Lists.{at_front}
 
 pub get-requires-else-number-declared : goal.get-requires-else-number-declared
 get-requires-else-number-declared c =
@@ -13,7 +14,7 @@ get-requires-else-number-declared c =
 pub returns-then-number-declared-clause-flow : goal.returns-then-number-declared-clause-flow
 returns-then-number-declared-clause-flow c =
     let inside = c.self.inside in
-    rw (← c.self.view_is) (in_first inside.flows (reply_flows inside.flows) c.args.number c.get.result.now c.get.ensures)
+    rw (← c.self.view_is) (at_front inside.flows (reply_flows inside.flows) c.args.number c.get.result.now c.get.ensures)
 
 pub returns-then-number-declared-clause-valid : goal.returns-then-number-declared-clause-valid
 returns-then-number-declared-clause-valid c =

@@ -3,8 +3,9 @@ use Rattle.std.specs.Prelude.{fold}
 use Rattle.std.proofs.lemmas.List.{take_all}
 use Rattle.sw_config.specs.Entries.{reply_flows}
 use Rattle.sw_lint.specs.Marks.{with_flow}
-use Rattle.sw_lint.proofs.Ranges.{fold_more, in_front}
+use Rattle.sw_lint.proofs.Ranges.{fold_more}
 use Rattle.sw_lint.proofs.node_marks.NodeMarks.note_all.Goals as goal
+use Rattle.sw_topo.proofs.Lists.{in_front}
 
 pub loop-number-preserved : goal.loop-number-preserved
 loop-number-preserved c =

@@ -1,10 +1,11 @@
 use Rattle.std.proofs.Common.{ap, length, refl, subst, sym, ◌∙◌, ◌≡◌, ◌≤◌, ℕ}
 use Rattle.std.specs.Prelude.{slice_get}
 use Rattle.std.proofs.lemmas.List.{take_all}
-use Rattle.sw_load.proofs.Sends.{flow_from, found_all, found_more, found_none, more_empty, read_at, whole}
+use Rattle.sw_load.proofs.Sends.{flow_from, found_all, found_more, found_none, more_empty, read_at}
 use Rattle.sw_load.proofs.Weights.{ends_at, flow_inside, row_inside}
 use Rattle.sw_load.proofs.senders.Senders.new.Goals as goal
 use Rattle.sw_config.specs.Entries.{all_flows}
+use Rattle.sw_config.proofs.Lists.{whole}
 
 pub loop-place-preserved : goal.loop-place-preserved
 loop-place-preserved c =

@@ -13,15 +13,11 @@ use Rattle.sw_node.proofs.cell.NodeCell.complete.Goals as goal
 use Rattle.sw_node.specs.Changes.{completed, with_memory}
 use Rattle.sw_node.specs.Node.{IsNode, Node, config_of, memory_of, node_of, slots}
 use Rattle.sw_rmap.specs.Answers.{TargetView}
+use Rattle.sw_node.proofs.Replies.{slots_same}
 
 -- what is so after a call that went well
 was_ok : {T E P : Type 0} (r : Result T E) (x : T) → r ≡ Ok x → OnOk r P → P
 was_ok {T} {E} {P} r x is h = subst (λ (k : Result T E). OnOk k P) is h
-
--- a target has the same slots whatever its memory holds
-same_slots : (t : Option TargetView) (memory : List ℕ) → slots_of (config_of (with_memory t memory)) ≡ slots_of (config_of t)
-same_slots None memory = refl
-same_slots (Some t) memory = refl
 
 -- where less is owed than there are slots, there is room for one reply more
 room : (n : Node) → IsNode n → n.owed < slots n → (capacity : ℕ) → capacity ≡ slots n → length n.pending < capacity
@@ -70,14 +66,14 @@ pub invariant_of-self-in_default : goal.invariant_of-self-in_default
 invariant_of-self-in_default c =
     let p = c.self.inside in
     let is = c.self.invariant.0 in
-    let same = ap (λ o. slots_of (config_of o)) c.in_ok-reply.ensures.target ∙ same_slots p.target _ in
+    let same = ap (λ o. slots_of (config_of o)) c.in_ok-reply.ensures.target ∙ slots_same p.target _ in
     (record { waiting = is.waiting; within = subst (λ k. p.owed ≤ k) (sym same) is.within; few = subst (λ k. k ≤ 8) (sym same) is.few }, c.self.invariant.1 ∙ sym same)
 
 pub invariant_of-self-in-Some : goal.invariant_of-self-in-Some
 invariant_of-self-in-Some c =
     let p = c.self.inside in
     let is = c.self.invariant.0 in
-    let same = ap (λ o. slots_of (config_of o)) c.in_ok-reply.ensures.target ∙ same_slots p.target _ in
+    let same = ap (λ o. slots_of (config_of o)) c.in_ok-reply.ensures.target ∙ slots_same p.target _ in
     let pushed = (was_ok c.try_push_back.result c.unwrap.result c.unwrap.ensures c.try_push_back.ensures.ok) in
     let less = subst (λ (n : Node). n.owed < slots n) (sym c.self.view_is) c.requires in
     let more : p.owed + 1 ≤ slots_of (config_of p.target) = omega (arith, less) in (
