@@ -1,7 +1,8 @@
 -- What is read goes well or not: what follows from its going well, and of one answer.
 use Rattle.std.proofs.Common.{◌≡◌, ◌∙◌, ℕ, Bool, true, false, List, Result, Ok, Err, refl, sym}
-use Rattle.std.specs.Prelude.{◌>>=◌, if◌then◌else◌}
+use Rattle.std.specs.Prelude.{if◌then◌else◌}
 use Rattle.sw_text.specs.Ends.{Says}
+use Rattle.sw_text.specs.Gives.{◌>>=◌}
 use Rattle.sw_text.specs.declared.fault.TextFault.{TextFault}
 
 -- a whole that went well went well in its first part
