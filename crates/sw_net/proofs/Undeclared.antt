@@ -1,5 +1,5 @@
 -- A packet that no flow declares is never begun.
-use Rattle.sw_net.specs.Places.{IsUndeclared}
+use Rattle.sw_cell.specs.Places.{IsUndeclared}
 use Rattle.sw_machine.specs.Network.{Network}
 use Rattle.sw_machine.specs.State.{State}
 use Rattle.sw_machine.specs.Steps.{Accept, Arrive, Begin, Drop, Emit, Fct, FctIn, Forward, Grant, IsPossible, Reply, Spill, Step}
