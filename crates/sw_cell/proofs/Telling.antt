@@ -107,7 +107,7 @@ module _ {R A : Type 0} (answer : R → ℕ → Look) (arbiter_ports : A → ℕ
   port_forward true at can =
       let yes = can.0 refl in
       let held = held_of cell (input_at cell p) yes.has_credit in
-      let goes = dropping.some_of (out_of (ends_of d) w held.0) (for.held p held.0 held.1).1 in
+      let goes = passing.some_of (out_of (ends_of d) w held.0) (for.held p held.0 held.1).1 in
       let front = some_first (end_at cell p).buffer yes.not_empty in
       switch_made d w cell _ b _ (Forward c) (passing.forward_made answer arbiter_ports d w cell for b c p goes.0 held.0 front.0 at held.1 goes.1 yes front.1)
   port_forward false at can = (passing.forward_not answer arbiter_ports d w cell for b c p at (λ h. false≢true (can.1 h))).0
@@ -124,7 +124,7 @@ module _ {R A : Type 0} (answer : R → ℕ → Look) (arbiter_ports : A → ℕ
   -- an output that is asked for can be granted
   pub some_grant : (o out : ℕ) → slice_get (ends_of d) o ≡ Some (Switch w out) → (p : ℕ) → ports.CanGrant answer cell out p → (b : Between) (s : State) → IsSwitchState d w cell b s → (c : ℕ) × IsPossible (network_of d) s (Grant o c)
   some_grant o out at_o p can b s is =
-      let back = dropping.some_of (out_of (ends_of d) w p) ((for.linked p).0 can.asks.linked) in
+      let back = passing.some_of (out_of (ends_of d) w p) ((for.linked p).0 can.asks.linked) in
       let at : end_of d (partner back.0) ≡ Some (Switch w p) = ap (slice_get (ends_of d)) (partner_back back.0) ∙ port_starts (wiring_of d) w p back.0 back.1 in
       let t = granting.grant_made answer arbiter_ports d w cell for b (partner back.0) p o out at at_o can s is in
       (partner back.0, (t.0, t.1))

@@ -19,6 +19,7 @@ use Rattle.sw_machine.proofs.DeclaredNetworks.{are_networks}
 use Rattle.sw_machine.specs.Model.{network_of}
 use Rattle.sw_machine.specs.StepValues.{machine_step}
 use Rattle.sw_cell.proofs.node_steps.step_node.Goals as goal
+use Rattle.sw_topo.proofs.Lists.{on_err_then}
 
 -- a step at a node that is none of seven is never possible
 never : (d : Declaration) → IsValid d → (n : ℕ) (node : Node) (b : Between) (step : CodeStep) → cell_of (network_of d) (machine_step step) ≡ AtNode n
@@ -59,7 +60,7 @@ returns-in-Accept-clause-possible c =
     let node = c.args.cell.now in
     let is = ap machine_step c.in-Accept.is in
     let same : n ≡ c.in-Accept.field-0 = nodes.node_of n c.in-Accept.field-0 (subst (λ k. cell_of (network_of d) k ≡ AtNode n) is c.requires.at) in
-    nodes.on_err c.accept.result
+    on_err_then c.accept.result
     (λ can s state. let made = accept_made (network_of d) n (in_network d n node c.requires.cell) node c.args.wires.now (answers_as d n node c.requires.cell) can s state in
     subst (IsPossible (network_of d) s) (ap Accept same ∙ sym is) (made.0, made.1))
     c.accept.ensures.possible
@@ -87,7 +88,7 @@ returns-in-Begin-clause-possible c =
     let packet = subst (IsDeclared net c.in-Begin.flow) (sym c.deref.ensures.value) (subst (HasNamed net) is c.requires.named) in
     let at = subst (λ k. cell_of net k ≡ AtNode n) is c.requires.at in
     let from = sym (nodes.node_of n (net.flow c.in-Begin.flow).from at) in
-    nodes.on_err c.begin.result
+    on_err_then c.begin.result
     (λ can s state. let made = begin_made net n (in_network d n node c.requires.cell) node c.args.wires.now c.in-Begin.flow cargo c.in-Begin.end packet from can s state in
     subst (IsPossible net s) (ap (λ k. Begin c.in-Begin.flow k c.in-Begin.end) c.deref.ensures.value ∙ sym is) (made.0, made.1))
     c.begin.ensures.possible

@@ -8,6 +8,7 @@ use Rattle.sw_net.proofs.Making.{same_arbiters}
 use Rattle.sw_net.proofs.Steps as steps
 use Rattle.sw_net.proofs.net.Net.step.Goals as goal
 use Rattle.sw_net.specs.Net.{NetAnswers, NetView, arbiters_of, net_of}
+use Rattle.sw_topo.proofs.Lists.{on_err_then}
 
 pub returns-in-Err-clause-answers : goal.returns-in-Err-clause-answers
 returns-in-Err-clause-answers g c =
@@ -53,7 +54,7 @@ returns-in-Ok-Node-clause-arbiters g c = ap (λ (k : NetView g.row.R.Denot g.row
 pub returns-in-Ok-Node-clause-refused : goal.returns-in-Ok-Node-clause-refused
 returns-in-Ok-Node-clause-refused g c =
     let at = steps.node_found g.R.Routing.answer g.A.Arbiter.ports (net_of c.self.inside.network.now c.self.inside.nodes.items c.self.inside.switches.items c.self.inside.wires) c.args.self.now c.self.view_is c.self.invariant (machine_step c.args.step.now) c.in-Ok-Node.n c.index_mut-cell.result.now (subst (λ (k : NetView g.row.R.Denot g.row.A.Denot). IsAt k.declared (machine_step c.args.step.now) (place.Node c.in-Ok-Node.n)) c.self.view_is (subst (IsAt c.self.inside.network.now (machine_step c.args.step.now)) c.in-Ok-Node.field-0-is c.in-Ok-Node.ensures)) c.index_mut-cell.ensures.value in
-    steps.on_err_then c.make_at_node.result (λ same. same ∙ c.self.view_is)
+    on_err_then c.make_at_node.result (λ same. same ∙ c.self.view_is)
     (steps.node_refused g.R.Routing.answer g.A.Arbiter.ports c.self.inside.network.now c.self.inside.nodes.items c.self.inside.switches.items c.self.inside.wires c.self.invariant (machine_step c.args.step.now) c.in-Ok-Node.n c.index_mut-cell.result.now at c.make_at_node.result c.make_at_node.new.cell c.make_at_node.new.wires c.make_at_node.ensures.refused_cell c.make_at_node.ensures.refused_wires)
 
 pub step_switch-requires-clause-cell : goal.step_switch-requires-clause-cell
@@ -96,4 +97,4 @@ returns-in-Ok-Switch-clause-refused g c =
     let at = steps.switch_found g.R.Routing.answer g.A.Arbiter.ports (net_of c.self.inside.network.now c.self.inside.nodes.items c.self.inside.switches.items c.self.inside.wires) c.args.self.now c.self.view_is c.self.invariant (machine_step c.args.step.now) c.in-Ok-Switch.w c.index_mut-cell-in-Ok-Switch.result.now (subst (λ (k : NetView g.row.R.Denot g.row.A.Denot). IsAt k.declared (machine_step c.args.step.now) (place.Switch c.in-Ok-Switch.w)) c.self.view_is (subst (IsAt c.self.inside.network.now (machine_step c.args.step.now)) c.in-Ok-Switch.field-0-is c.in-Ok-Switch.ensures)) c.index_mut-cell-in-Ok-Switch.ensures.value in
     let after = net_of c.self.inside.network.now c.self.inside.nodes.items (set c.self.inside.switches.items c.in-Ok-Switch.w c.step_switch.new.cell) c.step_switch.new.wires in
     subst (λ r. OnErr r (after ≡ c.args.self.now)) (sym c.made_or_not.ensures)
-    (steps.on_err_then (done c.step_switch.result) (λ same. same ∙ c.self.view_is) (steps.switch_refused g.R.Routing.answer g.A.Arbiter.ports c.self.inside.network.now c.self.inside.nodes.items c.self.inside.switches.items c.self.inside.wires c.self.invariant (machine_step c.args.step.now) c.in-Ok-Switch.w c.index_mut-cell-in-Ok-Switch.result.now at c.step_switch.result c.step_switch.new.cell c.step_switch.new.wires c.step_switch.ensures.made))
+    (on_err_then (done c.step_switch.result) (λ same. same ∙ c.self.view_is) (steps.switch_refused g.R.Routing.answer g.A.Arbiter.ports c.self.inside.network.now c.self.inside.nodes.items c.self.inside.switches.items c.self.inside.wires c.self.invariant (machine_step c.args.step.now) c.in-Ok-Switch.w c.index_mut-cell-in-Ok-Switch.result.now at c.step_switch.result c.step_switch.new.cell c.step_switch.new.wires c.step_switch.ensures.made))
