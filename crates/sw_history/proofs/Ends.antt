@@ -1,9 +1,12 @@
 -- Where nothing more can happen, the load is sent.
-use Rattle.std.proofs.Common.{List, Some, [], ap, append-nil, arith, length, refl, subst, suc, sym, true, zero, ⊎_elim, ℕ, ◌*◌, ◌+◌, ◌++◌, ◌<◌, ◌∙◌, ◌∷◌, ◌≡◌, ◌≤◌}
+use Rattle.std.proofs.Common.{List, Some, [], ap, append-nil, arith, count_by, length, length-append, map, refl, subst, suc, sym, true, zero, ⊎_elim, ℕ, ◌*◌, ◌+◌, ◌++◌, ◌<◌, ◌∙◌, ◌∷◌, ◌≡◌, ◌≤◌}
 use Rattle.std.proofs.Math.Nat.{mul-le-mul_left}
 use Rattle.std.proofs.lemmas.Bool.{cases_lt}
+use Rattle.std.proofs.lemmas.List.{nil_from_length}
+use Rattle.std.proofs.lemmas.List.Sums.{sum_by-cons}
 use Rattle.std.specs.Prelude.{slice_get, sum_by}
 use Rattle.sw_net.proofs.CellNetwork.{nodes_are}
+use Rattle.sw_char.specs.declared.nchar.NChar.TheVariants.{Data, Eop}
 use Rattle.sw_history.proofs.Begun.{declared_at}
 use Rattle.sw_history.specs.Drained.{IsDrained, most_moves, most_moves_of}
 use Rattle.sw_history.specs.Way.{IsOnTheWay, NoneIsReady}
@@ -14,23 +17,21 @@ use Rattle.sw_load.specs.Limit.{enough_limit}
 use Rattle.sw_load.specs.Laws.{AreDeclared}
 use Rattle.sw_machine.proofs.Declares.{declared_are_declared}
 use Rattle.sw_load.specs.Load.{LoadEntry}
+use Rattle.sw_machine.proofs.Balance.{count_cons}
 use Rattle.sw_machine.proofs.RunLists.{all_moves}
 use Rattle.sw_machine.specs.Begun.{Begun, RunOf, beginnings, length_with_reply, moves}
 use Rattle.sw_machine.specs.Certificate.{Certificate}
 use Rattle.sw_machine.specs.DeadlockFreedom.{IsDeadlockFree}
-use Rattle.sw_machine.specs.Network.{form}
+use Rattle.sw_machine.specs.Network.{PendingReply, form}
 use Rattle.sw_machine.specs.Runs.{length_pending, total, undelivered}
-use Rattle.sw_machine.specs.State.{State, after_begin, empty}
-use Rattle.sw_machine.specs.Steps.{Begin, IsPossible}
+use Rattle.sw_machine.specs.State.{State, after_begin, empty, reply_packet}
+use Rattle.sw_machine.specs.Steps.{Accept, Arrive, Begin, Drop, Emit, Fct, FctIn, Forward, Grant, IsPossible, Reply, Spill, Step, is_begin}
 use Rattle.sw_machine.proofs.Flows.{some_at}
 use Rattle.sw_machine.proofs.DeclaredNetworks.{are_networks}
 use Rattle.sw_machine.specs.Model.{network_of}
 use Rattle.sw_net.specs.Asked.{IsQuietNet}
 use Rattle.sw_net.specs.Net.{IsNetState, NetView}
 use Rattle.sw_config.specs.Valid.{IsValid}
-use Rattle.std.proofs.lemmas.List.{nil_from_length}
-use Rattle.sw_machine.proofs.Load.{beginnings_are}
-use Rattle.sw_machine.proofs.Answered.{no_pending}
 
 total_zero : (f : ℕ → ℕ) (n c : ℕ) → total n f ≡ 0 → c < n → f c ≡ 0
 total_zero f zero c e lt = absurd (omega arith)
@@ -38,6 +39,26 @@ total_zero f (suc n) c e lt = ⊎_elim
     (λ small. total_zero f n c (omega arith) small)
     (λ ge. let is : c ≡ n = omega arith in ap f is ∙ omega arith)
     (cases_lt c n)
+
+none_pending : (ps : List PendingReply) → length_pending ps ≡ 0 → ps ≡ []
+none_pending [] e = refl
+none_pending (r ∷ ps) e =
+    absurd (let s = sum_by-cons (λ (q : PendingReply). length (reply_packet q)) r ps in let a = length-append (map Data (r.address ++ r.cargo)) (Eop ∷ []) in omega arith)
+
+-- each step but the beginnings begins nothing
+beginnings_are : (steps : List Step) → length (beginnings steps) ≡ count_by is_begin steps
+beginnings_are [] = refl
+beginnings_are (Begin f cargo end ∷ steps) = let r = beginnings_are steps in let c = count_cons is_begin (Begin f cargo end) steps in omega arith
+beginnings_are (Fct c ∷ steps) = let r = beginnings_are steps in let k = count_cons is_begin (Fct c) steps in omega arith
+beginnings_are (FctIn c ∷ steps) = let r = beginnings_are steps in let k = count_cons is_begin (FctIn c) steps in omega arith
+beginnings_are (Arrive c ∷ steps) = let r = beginnings_are steps in let k = count_cons is_begin (Arrive c) steps in omega arith
+beginnings_are (Grant d c ∷ steps) = let r = beginnings_are steps in let k = count_cons is_begin (Grant d c) steps in omega arith
+beginnings_are (Drop c ∷ steps) = let r = beginnings_are steps in let k = count_cons is_begin (Drop c) steps in omega arith
+beginnings_are (Forward c ∷ steps) = let r = beginnings_are steps in let k = count_cons is_begin (Forward c) steps in omega arith
+beginnings_are (Spill c ∷ steps) = let r = beginnings_are steps in let k = count_cons is_begin (Spill c) steps in omega arith
+beginnings_are (Emit n ∷ steps) = let r = beginnings_are steps in let k = count_cons is_begin (Emit n) steps in omega arith
+beginnings_are (Accept n ∷ steps) = let r = beginnings_are steps in let k = count_cons is_begin (Accept n) steps in omega arith
+beginnings_are (Reply n ∷ steps) = let r = beginnings_are steps in let k = count_cons is_begin (Reply n) steps in omega arith
 
 module _ {R A : Type 0} (load : List LoadEntry) (v : NetView R A) (valid : IsValid v.declared) (declared : AreDeclared v.declared load) (cert : Certificate) (free : IsDeadlockFree (network_of v.declared) cert) (begun : List ℕ) (long count : ℕ) (way : IsOnTheWay load v begun long count) where
   -- the loop does not run for ever
@@ -88,7 +109,7 @@ module _ {R A : Type 0} (load : List LoadEntry) (v : NetView R A) (valid : IsVal
           record {
             declared = packet;
             sends_nothing = nil_from_length (s.to_send m) (omega arith);
-            no_pending = no_pending (s.pending m) (omega arith);
+            none_pending = none_pending (s.pending m) (omega arith);
             after = refl;
           },
         ) in
