@@ -3,7 +3,7 @@ use Rattle.std.proofs.Common.{◌≡◌, ◌∙◌, ℕ, List, arith, refl, sym}
 use Rattle.std.specs.Prelude.{Err, IfOk, IsSomeAnd, None, Ok, Option, Result, Some, string_bytes}
 use Rattle.std.specs.declared.alloc.AllocError.{AllocError}
 use Rattle.serde_json.specs.Data.{Data}
-use Rattle.sw_app.proofs.ShownFree.{memory_not_zero}
+use Rattle.sw_app.proofs.ShownFree.{told_zero}
 use Rattle.sw_app.proofs.Told.{shown_of_two}
 use Rattle.sw_app.specs.CheckAnswers.{AreShownDeadlockFree, ChecksDeadlockFree, IsShownDeadlockFree}
 use Rattle.sw_cert.specs.Reading.{State}
@@ -25,7 +25,7 @@ use Rattle.sw_file.specs.Network.{network_text}
 use Rattle.sw_file.proofs.Valid.{read_networks_are_valid}
 use Rattle.sw_json.specs.declared.files.Release.{Release}
 use Rattle.sw_text.specs.declared.fault.TextFault.{TextFault}
-use Rattle.sw_json.specs.Answering.{IsAnswerTold, IsUnreadTold, OfFile, OfNetwork}
+use Rattle.sw_json.specs.Answering.{IsAnswerTold, IsMemoryTold, IsUnreadTold, OfFile, OfNetwork, memory_text}
 use Rattle.sw_json_verdicts.specs.CheckResults.{IsCertificateResult, IsCheckJson, IsCheckResult, IsJudgement}
 
 -- ---- a result with status 0
@@ -72,6 +72,9 @@ of_result path other (Some bytes) second value status is zero = of_network path 
 of_result path other None second value status is zero = absurd (omega (arith, is.1, zero))
 
 -- ---- an end with status 0
+
+memory_not_zero : (old new : Option (List ℕ)) (ended : Ended) → IsMemoryTold old new ended → ended ≡ Status 0 → ⊥
+memory_not_zero old new ended is zero = let bad : 5 ≡ 0 = (told_zero old new memory_text 5 ended is zero).0 in omega (arith, bad)
 
 pub unread_not_zero : (error : InputError) (old new : Option (List ℕ)) (ended : Ended) → IsUnreadTold error old new ended → ended ≡ Status 0 → ⊥
 unread_not_zero input.Memory old new ended is zero = memory_not_zero old new ended is zero
