@@ -17,3 +17,5 @@ mod tree;
 pub use document::{declared_network, declared_version, read_network};
 pub use fault::MigrateFault;
 pub use migration::migrate;
+pub use sw_config::Network;
+pub use sw_text::FileFault;

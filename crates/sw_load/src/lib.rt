@@ -15,3 +15,4 @@ pub use limit::enough_limit;
 pub use load::{Load, LoadPacket, MAX_PACKETS};
 pub use reading::read_load;
 pub use senders::Senders;
+pub use sw_machine::in_flow;

@@ -23,5 +23,6 @@ pub use progress::with_progress;
 pub use running::run;
 pub use sw_cell::CellId;
 pub use sw_config::Network;
-pub use sw_load::Load;
+pub use sw_journal::{Cell, Journal, JournalFault, Numbers, Part, PortPart};
 pub use sw_load::laws::listed_are_declared;
+pub use sw_load::{Load, enough_limit};
