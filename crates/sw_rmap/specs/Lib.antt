@@ -5,4 +5,5 @@ pub mod CommandView
 pub mod Commands
 pub mod Replies
 pub mod Answers
+pub mod Targets
 pub mod Laws
