@@ -23,7 +23,7 @@ use Rattle.sw_machine.specs.Begun.{Begun, RunOf, beginnings, length_with_reply, 
 use Rattle.sw_machine.specs.Certificate.{Certificate}
 use Rattle.sw_machine.specs.DeadlockFreedom.{IsDeadlockFree}
 use Rattle.sw_machine.specs.Network.{form}
-use Rattle.sw_machine.specs.Targets.{length_pending, PendingReply, reply_packet}
+use Rattle.sw_machine.specs.Owing.{length_pending, PendingReply, reply_packet}
 use Rattle.sw_machine.specs.Runs.{total, undelivered}
 use Rattle.sw_machine.specs.State.{State, after_begin, empty}
 use Rattle.sw_machine.specs.Steps.{Accept, Arrive, Begin, Drop, Emit, Fct, FctIn, Forward, Grant, IsPossible, Reply, Spill, Step, is_begin}

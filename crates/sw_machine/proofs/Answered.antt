@@ -16,7 +16,7 @@ use Rattle.sw_machine.proofs.Lists.{put_here, put_there}
 use Rattle.sw_machine.proofs.Whole.{count_sent, zero_part}
 use Rattle.sw_machine.specs.Begun.{AsOften, Begins, Begun, IsReply, NoOftener, RunOf, is_answered_at, is_reply_at, sent_to}
 use Rattle.sw_machine.specs.Network.{IsNetwork, Network}
-use Rattle.sw_rmap.specs.Targets.{length_pending, pending_with, PendingReply, reply_packet}
+use Rattle.sw_rmap.specs.Owing.{length_pending, pending_with, PendingReply, reply_packet}
 use Rattle.sw_machine.specs.Packets.{IsCut, Packet, marker_of}
 use Rattle.sw_machine.specs.Runs.{CameOut, undelivered}
 use Rattle.sw_machine.specs.State.{State, empty, put, reply_at}

@@ -11,10 +11,11 @@ use Rattle.sw_machine.proofs.Ghost.{Entry, Ghost, grant_ghost, open_ghost, send_
 use Rattle.sw_machine.proofs.Lists.{put_here, put_there}
 use Rattle.sw_machine.specs.Begun.{Begun}
 use Rattle.sw_machine.specs.Network.{Network, form}
-use Rattle.sw_rmap.specs.Targets.{PendingReply, reply_packet}
+use Rattle.sw_rmap.specs.Owing.{PendingReply, reply_packet}
 use Rattle.sw_machine.specs.Packets.{marker_of}
 use Rattle.sw_machine.specs.Runs.{total}
 use Rattle.sw_machine.specs.State.{put}
+
 pub total_same : (n : ℕ) (f g : ℕ → ℕ) → ((k : ℕ) → k < n → f k ≡ g k) → total n f ≡ total n g
 total_same zero f g h = refl
 total_same (suc n) f g h = let r = total_same n f g (λ k lt. h k (omega arith)) in let e = h n (omega arith) in omega arith

@@ -8,7 +8,8 @@ use Rattle.sw_flow.specs.Entries.{NodeEntry, Declaration, target_of, wiring_of, 
 use Rattle.sw_flow.specs.Valid.{IsNode}
 use Rattle.sw_flow.proofs.Flows.{All-at}
 use Rattle.sw_machine.specs.Network.{IsReplyFlow, left_bytes}
-use Rattle.sw_rmap.specs.Targets.{answer_of, PendingReply, slots_of}
+use Rattle.sw_rmap.specs.Owing.{PendingReply}
+use Rattle.sw_rmap.specs.Targets.{answer_of, slots_of}
 use Rattle.sw_machine.specs.Model.{network_of, answered_to}
 use Rattle.sw_machine.specs.ModelLaws.{DeclaredNetworksAreNetworks}
 use Rattle.sw_machine.proofs.Answering as replies

@@ -17,7 +17,7 @@ use Rattle.sw_machine.proofs.Whole.{part_below}
 use Rattle.sw_machine.specs.Begun.{Begins, Begun, IsBoundedByLoad, RunOf, beginning, beginnings, characters, is_answered_at, is_reply_at, length_begun, length_with_reply}
 use Rattle.sw_machine.specs.Certificate.{Certificate, IsAccepted}
 use Rattle.sw_machine.specs.Network.{IsNetwork, Network, left_bytes}
-use Rattle.sw_rmap.specs.Targets.{PendingReply}
+use Rattle.sw_rmap.specs.Owing.{PendingReply}
 use Rattle.sw_machine.specs.Packets.{marker_of}
 use Rattle.sw_machine.specs.Runs.{total}
 use Rattle.sw_machine.specs.State.{State, empty}

@@ -9,7 +9,7 @@ use Rattle.sw_machine.proofs.Cuts.{cons_tail}
 use Rattle.sw_machine.proofs.Lists.{put_here, put_there}
 use Rattle.sw_machine.proofs.Owed.{AsMany, OneMore, Owing, reached_holds}
 use Rattle.sw_machine.specs.Network.{Network}
-use Rattle.sw_rmap.specs.Targets.{owed_after, owed_with, pending_with, PendingReply, reply_packet}
+use Rattle.sw_rmap.specs.Owing.{owed_after, owed_with, pending_with, PendingReply, reply_packet}
 use Rattle.sw_machine.specs.OneSlot.{DropsOne, IsOneReply, LeadsOne, OneReplyState, answering_after, first_of_list, one_reply}
 use Rattle.sw_machine.specs.Owed.{last_beginning}
 use Rattle.sw_machine.specs.Runs.{IsReached}

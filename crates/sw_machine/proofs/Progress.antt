@@ -11,7 +11,7 @@ use Rattle.sw_machine.proofs.Lists.{whole_cons}
 use Rattle.sw_machine.specs.Certificate.{Certificate, IsAccepted, number}
 use Rattle.sw_machine.specs.Credit.{HasCredit}
 use Rattle.sw_machine.specs.Network.{AtNode, AtSwitch, Cell, IsNetwork, Network}
-use Rattle.sw_rmap.specs.Targets.{length_pending, PendingReply}
+use Rattle.sw_rmap.specs.Owing.{length_pending, PendingReply}
 use Rattle.sw_machine.specs.Packets.{marker_of}
 use Rattle.sw_machine.specs.Runs.{GoesOn, total, undelivered}
 use Rattle.sw_machine.specs.State.{State}

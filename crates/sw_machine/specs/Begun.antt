@@ -4,7 +4,7 @@ use Rattle.std.specs.Prelude.{Bool, List, Some, [], count_by, false, filter, fla
 use Rattle.sw_char.specs.declared.nchar.End.{End}
 use Rattle.sw_char.specs.declared.nchar.End.TheVariants.{Eop as ByEop}
 use Rattle.sw_machine.specs.Network.{Network, form, left_bytes}
-use Rattle.sw_rmap.specs.Targets.{PendingReply}
+use Rattle.sw_rmap.specs.Owing.{PendingReply}
 use Rattle.sw_machine.specs.Packets.{Packet}
 use Rattle.sw_machine.specs.Runs.{CameOut, Run, undelivered}
 use Rattle.sw_machine.specs.State.{State, empty}

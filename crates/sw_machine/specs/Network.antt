@@ -5,7 +5,7 @@ use Rattle.sw_char.specs.declared.nchar.End.{End}
 use Rattle.sw_char.specs.declared.nchar.NChar.{NChar}
 use Rattle.sw_char.specs.declared.nchar.NChar.TheVariants.{Data}
 use Rattle.sw_machine.specs.Packets.{marker_of}
-use Rattle.sw_rmap.specs.Targets.{PendingReply}
+use Rattle.sw_rmap.specs.Owing.{PendingReply}
 
 -- where a channel starts or ends: a node, or a routing switch
 pub data Cell : Type 0 where

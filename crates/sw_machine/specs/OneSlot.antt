@@ -3,7 +3,7 @@ use Rattle.std.specs.Prelude.{Bool, Contains, List, None, Option, Some, [], fals
 use Rattle.sw_char.specs.declared.nchar.NChar.{NChar}
 use Rattle.sw_char.specs.declared.nchar.NChar.TheVariants.{Data, Eep, Eop}
 use Rattle.sw_machine.specs.Network.{AtSwitch, IsDeclared, IsNetwork, Network, form}
-use Rattle.sw_rmap.specs.Targets.{PendingReply, reply_packet}
+use Rattle.sw_rmap.specs.Owing.{PendingReply, reply_packet}
 use Rattle.sw_machine.specs.Packets.{IsCut, Packet}
 use Rattle.sw_machine.specs.Runs.{IsReached}
 use Rattle.sw_machine.specs.State.{State, empty, input_after, memory_at, put, reply_at}

@@ -1,7 +1,7 @@
 -- Runs of the machine, and when a state is locked up.
 use Rattle.std.specs.Prelude.{List, [], false, length, suc, zero, ℕ, ◌+◌, ◌<◌, ◌∷◌, ◌≡◌}
 use Rattle.sw_machine.specs.Network.{Network}
-use Rattle.sw_rmap.specs.Targets.{length_pending}
+use Rattle.sw_rmap.specs.Owing.{length_pending}
 use Rattle.sw_machine.specs.Packets.{IsCut, Packet}
 use Rattle.sw_machine.specs.State.{State, empty}
 use Rattle.sw_machine.specs.Steps.{IsPossible, Leads, Step, is_begin}

@@ -4,7 +4,7 @@ use Rattle.sw_char.specs.declared.nchar.End.TheVariants.{Eep as ByEep, Eop as By
 use Rattle.sw_char.specs.declared.nchar.NChar.{NChar}
 use Rattle.sw_char.specs.declared.nchar.NChar.TheVariants.{Data, Eep, Eop}
 use Rattle.sw_machine.specs.Network.{Network}
-use Rattle.sw_rmap.specs.Targets.{PendingReply, owed_after, owed_with, pending_with, reply_packet}
+use Rattle.sw_rmap.specs.Owing.{PendingReply, owed_after, owed_with, pending_with, reply_packet}
 use Rattle.sw_machine.specs.Packets.{is_marker}
 use Rattle.sw_machine.specs.declared.input.InputState.{InputState}
 use Rattle.sw_machine.specs.declared.input.InputState.TheVariants.{Held, Idle, Spilling}

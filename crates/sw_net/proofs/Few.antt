@@ -10,7 +10,8 @@ use Rattle.sw_char.specs.declared.nchar.NChar.TheVariants.{Data, Eop}
 use Rattle.sw_machine.proofs.Credit.{reached_numbers}
 use Rattle.sw_machine.proofs.Owed.{owes}
 use Rattle.sw_machine.specs.Network.{IsDeclared, form}
-use Rattle.sw_machine.specs.Targets.{answer_of, length_pending, longest_reply, PendingReply, reply_packet, slots_of}
+use Rattle.sw_machine.specs.Owing.{length_pending, PendingReply, reply_packet}
+use Rattle.sw_machine.specs.Targets.{answer_of, longest_reply, slots_of}
 use Rattle.sw_machine.specs.Packets.{marker_of}
 use Rattle.sw_machine.specs.Runs.{IsReached, undelivered}
 use Rattle.sw_machine.specs.State.{State}

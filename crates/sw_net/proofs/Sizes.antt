@@ -7,7 +7,7 @@ use Rattle.sw_char.specs.declared.nchar.End.{End}
 use Rattle.sw_char.specs.declared.nchar.NChar.{NChar}
 use Rattle.sw_char.specs.declared.nchar.NChar.TheVariants.{Data, Eep, Eop}
 use Rattle.sw_machine.specs.Network.{IsDeclared, Network, form}
-use Rattle.sw_machine.specs.Targets.{length_pending, pending_with, PendingReply, reply_packet}
+use Rattle.sw_machine.specs.Owing.{length_pending, pending_with, PendingReply, reply_packet}
 use Rattle.sw_machine.specs.Owed.{Owes}
 use Rattle.sw_machine.specs.Runs.{Run, total}
 use Rattle.sw_machine.specs.State.{State, empty, put, reply_at}

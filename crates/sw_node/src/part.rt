@@ -19,7 +19,7 @@ pub struct PendingReply {
 }
 
 impl Model for PendingReply {
-    ghost use Rattle.sw_rmap.specs.Targets.{PendingReply as Pending};
+    ghost use Rattle.sw_rmap.specs.Owing.{PendingReply as Pending};
 
     ghost Value = { Pending };
 

@@ -1,6 +1,7 @@
 //! What a node has still to send.
 ghost use Rattle.std.specs.Prelude.{◌≡◌, ◌+◌, ◌<◌, ◌^◌, length};
-ghost use Rattle.sw_rmap.specs.Targets.{length_pending};
+ghost use Rattle.sw_rmap.specs.Owing.{length_pending};
+
 use crate::cell::NodeCell;
 use crate::reply::Reply;
 
