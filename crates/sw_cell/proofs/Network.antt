@@ -5,7 +5,8 @@ use Rattle.sw_cell.proofs.Nodes.{AnswersAs}
 use Rattle.sw_cell.specs.Parts.{IsNodeFor}
 use Rattle.sw_char.specs.declared.nchar.End.{End}
 use Rattle.sw_flow.specs.Places.{ends_of}
-use Rattle.sw_machine.specs.Model.{answer_of, flow_of, memory_after, network_of, reply_number, slots_of}
+use Rattle.sw_machine.specs.Model.{flow_of, network_of, reply_number}
+use Rattle.sw_machine.specs.Targets.{answer_of, memory_after, slots_of}
 use Rattle.sw_config.specs.Entries.{Declaration, FlowEntry, all_flows}
 use Rattle.sw_node.specs.Node.{Node, config_of, slots}
 use Rattle.sw_topo.specs.Wiring.{out, partner}

@@ -17,9 +17,10 @@ use Rattle.sw_machine.proofs.Credit.{reached_numbers}
 use Rattle.sw_machine.proofs.Cuts.{cut_byte, cut_marker}
 use Rattle.sw_machine.proofs.Lists.{put_here}
 use Rattle.sw_machine.specs.Network.{IsDeclared, IsNetwork, Network, form}
-use Rattle.sw_machine.specs.State.{State, after_accept, after_arrive, after_begin, after_emit, after_fct, after_fct_in, after_reply, owed_after, owed_with, pending_with, put, reply_packet}
+use Rattle.sw_machine.specs.State.{State, after_accept, after_arrive, after_begin, after_emit, after_fct, after_fct_in, after_reply, put}
+use Rattle.sw_machine.specs.Owing.{owed_after, owed_with, pending_with, reply_packet}
+use Rattle.sw_machine.specs.Targets.{answer_of, memory_after}
 use Rattle.sw_machine.specs.Steps.{Accept, Arrive, Begin, Emit, Fct, FctIn, Leads, Reply, Step}
-use Rattle.sw_machine.specs.Model.{answer_of, memory_after}
 use Rattle.sw_node.specs.Changes.{accepted, begun, emitted, first_reply, replied, took, with_credit, with_memory, with_received, without_front}
 use Rattle.sw_node.specs.Conditions.{CanAccept, CanBegin, CanEmit, CanIssue, CanReply}
 use Rattle.sw_node.specs.Node.{Node, config_of, memory_of, slots}

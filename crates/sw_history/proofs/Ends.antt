@@ -22,9 +22,10 @@ use Rattle.sw_machine.proofs.RunLists.{all_moves}
 use Rattle.sw_machine.specs.Begun.{Begun, RunOf, beginnings, length_with_reply, moves}
 use Rattle.sw_machine.specs.Certificate.{Certificate}
 use Rattle.sw_machine.specs.DeadlockFreedom.{IsDeadlockFree}
-use Rattle.sw_machine.specs.Network.{PendingReply, form}
-use Rattle.sw_machine.specs.Runs.{length_pending, total, undelivered}
-use Rattle.sw_machine.specs.State.{State, after_begin, empty, reply_packet}
+use Rattle.sw_machine.specs.Network.{form}
+use Rattle.sw_machine.specs.Owing.{length_pending, PendingReply, reply_packet}
+use Rattle.sw_machine.specs.Runs.{total, undelivered}
+use Rattle.sw_machine.specs.State.{State, after_begin, empty}
 use Rattle.sw_machine.specs.Steps.{Accept, Arrive, Begin, Drop, Emit, Fct, FctIn, Forward, Grant, IsPossible, Reply, Spill, Step, is_begin}
 use Rattle.sw_machine.proofs.Flows.{some_at}
 use Rattle.sw_machine.proofs.DeclaredNetworks.{are_networks}

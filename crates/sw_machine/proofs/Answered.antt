@@ -15,10 +15,11 @@ use Rattle.sw_machine.proofs.Cuts.{cut_byte, cut_marker, cuts_are_equal}
 use Rattle.sw_machine.proofs.Lists.{put_here, put_there}
 use Rattle.sw_machine.proofs.Whole.{count_sent, zero_part}
 use Rattle.sw_machine.specs.Begun.{AsOften, Begins, Begun, IsReply, NoOftener, RunOf, is_answered_at, is_reply_at, sent_to}
-use Rattle.sw_machine.specs.Network.{IsNetwork, Network, PendingReply}
+use Rattle.sw_machine.specs.Network.{IsNetwork, Network}
+use Rattle.sw_rmap.specs.Owing.{length_pending, pending_with, PendingReply, reply_packet}
 use Rattle.sw_machine.specs.Packets.{IsCut, Packet, marker_of}
-use Rattle.sw_machine.specs.Runs.{CameOut, length_pending, undelivered}
-use Rattle.sw_machine.specs.State.{State, empty, pending_with, put, reply_at, reply_packet}
+use Rattle.sw_machine.specs.Runs.{CameOut, undelivered}
+use Rattle.sw_machine.specs.State.{State, empty, put, reply_at}
 use Rattle.sw_machine.specs.Steps.{Accept, Arrive, Begin, Drop, Drops, Emit, Fct, FctIn, Forward, Grant, Leads, Reply, Spill, Step}
 
 module _ (net : Network) (ok : IsNetwork net) (n : ℕ) (ln : n < net.nodes) (test : List ℕ → Bool) where

@@ -13,8 +13,9 @@ use Rattle.sw_rmap.specs.Commands.{read, body_of}
 use Rattle.sw_rmap.specs.Replies.{is_answered, path_of, way_back, reply_to, reply_head, left_form, reply_of}
 use Rattle.sw_rmap.specs.Answers.{status_of, is_success, is_refused, found_by, answer_to, answer_where, answer}
 use Rattle.sw_rmap.proofs.Answering.{answers_by_the_way_back, replies_get_no_reply}
-use Rattle.sw_machine.specs.Network.{PendingReply}
-use Rattle.sw_machine.specs.Model.{answered_to, parted, answer_of, longest_reply}
+use Rattle.sw_rmap.specs.Owing.{PendingReply}
+use Rattle.sw_rmap.specs.Targets.{answer_of, longest_reply, parted}
+use Rattle.sw_machine.specs.Model.{answered_to}
 
 -- ---- where replies go
 

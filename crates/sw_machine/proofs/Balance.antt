@@ -10,10 +10,11 @@ use Rattle.sw_char.specs.declared.nchar.NChar.TheVariants.{Data, Eop}
 use Rattle.sw_machine.proofs.Ghost.{Entry, Ghost, grant_ghost, open_ghost, send_ghost}
 use Rattle.sw_machine.proofs.Lists.{put_here, put_there}
 use Rattle.sw_machine.specs.Begun.{Begun}
-use Rattle.sw_machine.specs.Network.{Network, PendingReply, form}
+use Rattle.sw_machine.specs.Network.{Network, form}
+use Rattle.sw_rmap.specs.Owing.{PendingReply, reply_packet}
 use Rattle.sw_machine.specs.Packets.{marker_of}
 use Rattle.sw_machine.specs.Runs.{total}
-use Rattle.sw_machine.specs.State.{put, reply_packet}
+use Rattle.sw_machine.specs.State.{put}
 
 pub total_same : (n : ℕ) (f g : ℕ → ℕ) → ((k : ℕ) → k < n → f k ≡ g k) → total n f ≡ total n g
 total_same zero f g h = refl

@@ -16,9 +16,10 @@ use Rattle.sw_machine.proofs.Runs.{empty_inv, never_drops, none, step_keeps}
 use Rattle.sw_machine.specs.Begun.{Begins, Begun, IsBounded, RunOf, characters, length_begun, moves}
 use Rattle.sw_machine.specs.Certificate.{Certificate, IsAccepted, number}
 use Rattle.sw_machine.specs.Credit.{HasCredit}
-use Rattle.sw_machine.specs.Network.{IsNetwork, Network, PendingReply, form}
+use Rattle.sw_machine.specs.Network.{IsNetwork, Network, form}
+use Rattle.sw_rmap.specs.Owing.{PendingReply, reply_packet}
 use Rattle.sw_machine.specs.Runs.{total}
-use Rattle.sw_machine.specs.State.{State, after_accept, after_arrive, after_begin, after_emit, after_fct, after_fct_in, after_forward, after_grant, after_reply, empty, input_after, put, reply_packet}
+use Rattle.sw_machine.specs.State.{State, after_accept, after_arrive, after_begin, after_emit, after_fct, after_fct_in, after_forward, after_grant, after_reply, empty, input_after, put}
 use Rattle.sw_machine.specs.Steps.{Accept, Arrive, Begin, Drop, Emit, Fct, FctIn, Forward, Grant, Leads, Reply, Spill, Step}
 use Rattle.sw_machine.specs.declared.input.InputState.{InputState}
 use Rattle.sw_machine.specs.declared.input.InputState.TheVariants.{Held, Idle, Spilling}

@@ -7,8 +7,10 @@ use Rattle.sw_rmap.specs.Config.{IsTargetConfig}
 use Rattle.sw_flow.specs.Entries.{NodeEntry, Declaration, target_of, wiring_of, look_at, reply_flows, all_flows}
 use Rattle.sw_flow.specs.Valid.{IsNode}
 use Rattle.sw_flow.proofs.Flows.{All-at}
-use Rattle.sw_machine.specs.Network.{IsReplyFlow, PendingReply, left_bytes}
-use Rattle.sw_machine.specs.Model.{slots_of, network_of, answer_of, answered_to}
+use Rattle.sw_machine.specs.Network.{IsReplyFlow, left_bytes}
+use Rattle.sw_rmap.specs.Owing.{PendingReply}
+use Rattle.sw_rmap.specs.Targets.{answer_of, slots_of}
+use Rattle.sw_machine.specs.Model.{network_of, answered_to}
 use Rattle.sw_machine.specs.ModelLaws.{DeclaredNetworksAreNetworks}
 use Rattle.sw_machine.proofs.Answering as replies
 use Rattle.sw_machine.proofs.Flows as flows

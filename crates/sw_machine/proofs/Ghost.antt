@@ -6,7 +6,8 @@ use Rattle.sw_char.specs.declared.nchar.End.{End}
 use Rattle.sw_char.specs.declared.nchar.NChar.{NChar}
 use Rattle.sw_char.specs.declared.nchar.NChar.TheVariants.{Data, Eep, Eop}
 use Rattle.sw_machine.specs.Certificate.{Certificate, IsListed, number}
-use Rattle.sw_machine.specs.Network.{AnsweredBy, AtNode, AtSwitch, Cell, Network, PendingReply, form, left_bytes}
+use Rattle.sw_machine.specs.Network.{AnsweredBy, AtNode, AtSwitch, Cell, Network, form, left_bytes}
+use Rattle.sw_rmap.specs.Owing.{PendingReply}
 use Rattle.sw_machine.specs.Owed.{IsAsked}
 use Rattle.sw_machine.specs.Places.{deleted_after}
 use Rattle.sw_machine.specs.State.{State, put}

@@ -16,7 +16,8 @@ use Rattle.sw_machine.proofs.Runs.{empty_inv, none, run_begins, step_keeps, wait
 use Rattle.sw_machine.proofs.Whole.{part_below}
 use Rattle.sw_machine.specs.Begun.{Begins, Begun, IsBoundedByLoad, RunOf, beginning, beginnings, characters, is_answered_at, is_reply_at, length_begun, length_with_reply}
 use Rattle.sw_machine.specs.Certificate.{Certificate, IsAccepted}
-use Rattle.sw_machine.specs.Network.{IsNetwork, Network, PendingReply, left_bytes}
+use Rattle.sw_machine.specs.Network.{IsNetwork, Network, left_bytes}
+use Rattle.sw_rmap.specs.Owing.{PendingReply}
 use Rattle.sw_machine.specs.Packets.{marker_of}
 use Rattle.sw_machine.specs.Runs.{total}
 use Rattle.sw_machine.specs.State.{State, empty}

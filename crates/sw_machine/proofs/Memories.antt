@@ -13,7 +13,8 @@ use Rattle.sw_machine.specs.Runs.{IsReached, Run}
 use Rattle.sw_machine.specs.State.{State, empty, memory_at, put}
 use Rattle.sw_machine.specs.Steps.{Accept, Arrive, Begin, Drop, Drops, Emit, Fct, FctIn, Forward, Grant, Leads, Reply, Spill, Step}
 use Rattle.sw_machine.proofs.Lists.{put_here, put_there}
-use Rattle.sw_machine.specs.Model.{memory_after, memory_at_first, network_of}
+use Rattle.sw_machine.specs.Model.{network_of}
+use Rattle.sw_rmap.specs.Targets.{memory_after, memory_at_first}
 use Rattle.sw_machine.specs.ModelLaws.{MemoriesKeepTheirLength}
 
 module _ (net : Network) (n : ℕ) (P : List ℕ → Type 0) (keeps : (memory bytes : List ℕ) (end : End) → P memory → P (net.memory_after n memory bytes end)) where

@@ -13,10 +13,11 @@ use Rattle.sw_machine.proofs.Ghost.{Entry, Fed, FedAt, Ghost, Heads, Holds, Inpu
 use Rattle.sw_machine.proofs.Lists.{all_push, bytes_of, completed, drop_byte, each_at, flat_push, more_comes, put_here, put_there, rest_after, rest_of_whole, whole_cons, whole_form}
 use Rattle.sw_machine.proofs.Networks.{reply_goes}
 use Rattle.sw_machine.specs.Certificate.{Certificate, IsAccepted, number}
-use Rattle.sw_machine.specs.Network.{AnsweredBy, AtNode, AtSwitch, Cell, IsNetwork, Network, PendingReply, left_bytes}
+use Rattle.sw_machine.specs.Network.{AnsweredBy, AtNode, AtSwitch, Cell, IsNetwork, Network, left_bytes}
+use Rattle.sw_rmap.specs.Owing.{owed_after, owed_with, pending_with, PendingReply, reply_packet}
 use Rattle.sw_machine.specs.Owed.{IsAsked}
 use Rattle.sw_machine.specs.Packets.{IsCut, Packet, marker_of}
-use Rattle.sw_machine.specs.State.{State, after_accept, after_arrive, after_begin, after_emit, after_fct, after_fct_in, after_forward, after_grant, after_reply, input_after, owed_after, owed_with, pending_with, put, reply_at, reply_packet}
+use Rattle.sw_machine.specs.State.{State, after_accept, after_arrive, after_begin, after_emit, after_fct, after_fct_in, after_forward, after_grant, after_reply, input_after, put, reply_at}
 use Rattle.sw_machine.specs.declared.input.InputState.{InputState}
 use Rattle.sw_machine.specs.declared.input.InputState.TheVariants.{Held, Idle, Spilling}
 

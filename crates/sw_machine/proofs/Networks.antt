@@ -2,7 +2,8 @@
 use Rattle.std.proofs.Common.{List, Some, ap, sym, ℕ, ◌<◌, ◌∙◌, ◌≡◌}
 use Rattle.std.specs.Option.{option_map}
 use Rattle.sw_char.specs.declared.nchar.End.{End}
-use Rattle.sw_machine.specs.Network.{IsNetwork, Network, PendingReply}
+use Rattle.sw_machine.specs.Network.{IsNetwork, Network}
+use Rattle.sw_rmap.specs.Owing.{PendingReply}
 
 -- a reply goes where `reply_to` says
 pub reply_goes : (net : Network) (ok : IsNetwork net) (n : ℕ) (memory bytes : List ℕ) (r : PendingReply) (end : End) → n < net.nodes → net.answer n memory bytes end ≡ Some r → net.reply_to n bytes ≡ Some r.address

@@ -8,11 +8,12 @@ use Rattle.sw_char.specs.declared.nchar.NChar.TheVariants.{Data, Eep, Eop}
 use Rattle.sw_machine.proofs.Cuts.{cons_tail}
 use Rattle.sw_machine.proofs.Lists.{put_here, put_there}
 use Rattle.sw_machine.proofs.Owed.{AsMany, OneMore, Owing, reached_holds}
-use Rattle.sw_machine.specs.Network.{Network, PendingReply}
+use Rattle.sw_machine.specs.Network.{Network}
+use Rattle.sw_rmap.specs.Owing.{owed_after, owed_with, pending_with, PendingReply, reply_packet}
 use Rattle.sw_machine.specs.OneSlot.{DropsOne, IsOneReply, LeadsOne, OneReplyState, answering_after, first_of_list, one_reply}
 use Rattle.sw_machine.specs.Owed.{last_beginning}
 use Rattle.sw_machine.specs.Runs.{IsReached}
-use Rattle.sw_machine.specs.State.{State, after_accept, after_drop_byte, after_drop_marker, after_emit, after_reply, memory_at, owed_after, owed_with, pending_with, put, reply_at, reply_packet}
+use Rattle.sw_machine.specs.State.{State, after_accept, after_drop_byte, after_drop_marker, after_emit, after_reply, memory_at, put, reply_at}
 use Rattle.sw_machine.specs.Steps.{Accept, Arrive, Begin, Drop, Drops, Emit, Fct, FctIn, Forward, Grant, Leads, Reply, Spill, Step}
 use Rattle.std.proofs.lemmas.List.{nil_from_length}
 

@@ -8,10 +8,11 @@ use Rattle.sw_char.specs.declared.nchar.NChar.{NChar}
 use Rattle.sw_char.specs.declared.nchar.NChar.TheVariants.{Data, Eep, Eop}
 use Rattle.sw_machine.proofs.Cuts.{no_cons}
 use Rattle.sw_machine.proofs.Lists.{put_here}
-use Rattle.sw_machine.specs.Network.{Network, PendingReply, form}
+use Rattle.sw_machine.specs.Network.{Network, form}
+use Rattle.sw_rmap.specs.Owing.{owed_after, owed_with, pending_with, PendingReply, reply_packet}
 use Rattle.sw_machine.specs.Owed.{IsSendingReply, Owes, Settles, begins_at, last_beginning}
 use Rattle.sw_machine.specs.Runs.{Run}
-use Rattle.sw_machine.specs.State.{State, after_begin, empty, owed_after, owed_with, pending_with, reply_at, reply_packet}
+use Rattle.sw_machine.specs.State.{State, after_begin, empty, reply_at}
 use Rattle.sw_machine.specs.Steps.{Accept, Arrive, Begin, Drop, Drops, Emit, Fct, FctIn, Forward, Grant, Leads, Reply, Spill, Step}
 
 module _ (net : Network) (n : ℕ) where

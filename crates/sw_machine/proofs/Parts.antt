@@ -6,7 +6,8 @@ use Rattle.sw_char.specs.declared.nchar.NChar.TheVariants.{Data, Eep, Eop}
 use Rattle.sw_machine.proofs.Lists.{put_there}
 use Rattle.sw_machine.specs.Network.{AtNode, Cell, IsNetwork, Network, form, reverse_of}
 use Rattle.sw_machine.specs.Parts.{IsWormhole, SameBetween, SameEnd, SameNode, SamePart, cell_of, link_end_of}
-use Rattle.sw_machine.specs.State.{State, after_arrive, after_drop_byte, after_drop_marker, after_fct, after_grant, after_spill, input_after, memory_at, owed_after, owed_with, pending_with, reply_at, reply_packet}
+use Rattle.sw_machine.specs.State.{State, after_arrive, after_drop_byte, after_drop_marker, after_fct, after_grant, after_spill, input_after, memory_at, reply_at}
+use Rattle.sw_rmap.specs.Owing.{owed_after, owed_with, pending_with, reply_packet}
 use Rattle.sw_machine.specs.Steps.{Accept, Arrive, Begin, Drop, Drops, Emit, Fct, FctIn, Forward, Grant, IsPossible, Leads, Reply, Spill, Step}
 use Rattle.sw_machine.specs.declared.input.InputState.TheVariants.{Held, Spilling}
 

@@ -10,9 +10,10 @@ use Rattle.sw_machine.proofs.Ghost.{Entry, Fed, Ghost, Holds, InputIs, Inv, IsEn
 use Rattle.sw_machine.proofs.Lists.{whole_cons}
 use Rattle.sw_machine.specs.Certificate.{Certificate, IsAccepted, number}
 use Rattle.sw_machine.specs.Credit.{HasCredit}
-use Rattle.sw_machine.specs.Network.{AtNode, AtSwitch, Cell, IsNetwork, Network, PendingReply}
+use Rattle.sw_machine.specs.Network.{AtNode, AtSwitch, Cell, IsNetwork, Network}
+use Rattle.sw_rmap.specs.Owing.{length_pending, PendingReply}
 use Rattle.sw_machine.specs.Packets.{marker_of}
-use Rattle.sw_machine.specs.Runs.{GoesOn, length_pending, total, undelivered}
+use Rattle.sw_machine.specs.Runs.{GoesOn, total, undelivered}
 use Rattle.sw_machine.specs.State.{State}
 use Rattle.sw_machine.specs.Steps.{Accept, Arrive, Emit, Fct, FctIn, Forward, Grant, Reply}
 use Rattle.sw_machine.specs.declared.input.InputState.{InputState}

@@ -16,10 +16,11 @@ use Rattle.sw_machine.proofs.Progress.{goes_on}
 use Rattle.sw_machine.specs.Begun.{Begins, Begun, RunOf}
 use Rattle.sw_machine.specs.Certificate.{Certificate, IsAccepted, IsListed}
 use Rattle.sw_machine.specs.DeadlockFreedom.{AlwaysGoesOn}
-use Rattle.sw_machine.specs.Network.{AnsweredBy, AtNode, AtSwitch, Cell, IsNetwork, Network, PendingReply, left_bytes}
+use Rattle.sw_machine.specs.Network.{AnsweredBy, AtNode, AtSwitch, Cell, IsNetwork, Network, left_bytes}
+use Rattle.sw_rmap.specs.Owing.{PendingReply, reply_packet}
 use Rattle.sw_machine.specs.Packets.{IsCut, Packet, is_marker, marker_of}
 use Rattle.sw_machine.specs.Runs.{IsReached, Run}
-use Rattle.sw_machine.specs.State.{State, after_accept, after_arrive, after_begin, after_emit, after_fct, after_fct_in, after_forward, after_grant, after_reply, empty, reply_packet}
+use Rattle.sw_machine.specs.State.{State, after_accept, after_arrive, after_begin, after_emit, after_fct, after_fct_in, after_forward, after_grant, after_reply, empty}
 use Rattle.sw_machine.specs.Steps.{Accept, Arrive, Begin, Drop, Drops, Emit, Fct, FctIn, Forward, Grant, Leads, Reply, Spill, Step}
 use Rattle.sw_machine.specs.declared.input.InputState.TheVariants.{Idle}
 

@@ -7,7 +7,8 @@ use Rattle.std.specs.Prelude.{if◌then◌else◌, slice_get, unwrap_or}
 use Rattle.sw_char.specs.declared.nchar.End.{End}
 use Rattle.sw_machine.proofs.Cuts.{no_cons}
 use Rattle.sw_machine.specs.Certificate.{IsAccepted, IsListed, number}
-use Rattle.sw_machine.specs.Network.{AtNode, AtSwitch, IsNetwork, IsReplyFlow, PendingReply, Place, left_bytes, reverse_of}
+use Rattle.sw_machine.specs.Network.{AtNode, AtSwitch, IsNetwork, IsReplyFlow, Place, left_bytes, reverse_of}
+use Rattle.sw_rmap.specs.Owing.{PendingReply}
 use Rattle.sw_machine.specs.Places.{Follows, NoFault, deleted_after, header}
 use Rattle.sw_machine.specs.Sample.{Row, answer, cell_at, certificate, ends, flow, look_in, misrouted, of_capacity, place, reply_to, sample, starts, table}
 use Rattle.sw_flow.proofs.Lists.{none_in}

@@ -9,7 +9,8 @@ use Rattle.sw_char.specs.declared.nchar.End.TheVariants.{Eep as ByEep, Eop as By
 use Rattle.sw_char.specs.declared.nchar.NChar.{NChar}
 use Rattle.sw_char.specs.declared.nchar.NChar.TheVariants.{Data, Eep, Eop}
 use Rattle.sw_machine.proofs.Cuts.{cut_of, front_of}
-use Rattle.sw_machine.specs.Network.{AnsweredBy, AtSwitch, Cell, Network, PendingReply, form, left_bytes}
+use Rattle.sw_machine.specs.Network.{AnsweredBy, AtSwitch, Cell, Network, form, left_bytes}
+use Rattle.sw_rmap.specs.Owing.{PendingReply}
 use Rattle.sw_machine.specs.Packets.{IsCut, Packet, chars, marker_of}
 use Rattle.sw_machine.specs.Runs.{Run}
 use Rattle.sw_machine.specs.State.{State, after_accept, after_arrive, after_begin, after_drop_byte, after_drop_marker, after_emit, after_fct, after_fct_in, after_forward, after_grant, after_reply, after_spill}

@@ -15,7 +15,8 @@ use Rattle.sw_machine.specs.Begun.{AllComesOut, Begun, ComesOutWhole, left_form,
 use Rattle.sw_machine.specs.Certificate.{Certificate, IsAccepted, number}
 use Rattle.sw_machine.specs.Network.{AtNode, AtSwitch, Cell, IsNetwork, Network, left_bytes}
 use Rattle.sw_machine.specs.Packets.{Packet, chars, chars_of}
-use Rattle.sw_machine.specs.Runs.{length_pending, total, undelivered}
+use Rattle.sw_machine.specs.Runs.{total, undelivered}
+use Rattle.sw_rmap.specs.Owing.{length_pending}
 use Rattle.sw_machine.specs.State.{State}
 use Rattle.std.proofs.lemmas.List.{nil_from_length}
 

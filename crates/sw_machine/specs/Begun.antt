@@ -3,7 +3,8 @@ use Rattle.std.specs.Option.{option_map_or}
 use Rattle.std.specs.Prelude.{Bool, List, Some, [], count_by, false, filter, flat_map, length, map, nat_eq, nat_le, not, sum_by, ℕ, ◌&&◌, ◌*◌, ◌++◌, ◌+◌, ◌<◌, ◌∷◌, ◌≡◌, ◌≤◌}
 use Rattle.sw_char.specs.declared.nchar.End.{End}
 use Rattle.sw_char.specs.declared.nchar.End.TheVariants.{Eop as ByEop}
-use Rattle.sw_machine.specs.Network.{Network, PendingReply, form, left_bytes}
+use Rattle.sw_machine.specs.Network.{Network, form, left_bytes}
+use Rattle.sw_rmap.specs.Owing.{PendingReply}
 use Rattle.sw_machine.specs.Packets.{Packet}
 use Rattle.sw_machine.specs.Runs.{CameOut, Run, undelivered}
 use Rattle.sw_machine.specs.State.{State, empty}

@@ -5,6 +5,7 @@ use Rattle.sw_char.specs.declared.nchar.End.{End}
 use Rattle.sw_char.specs.declared.nchar.NChar.{NChar}
 use Rattle.sw_char.specs.declared.nchar.NChar.TheVariants.{Data}
 use Rattle.sw_machine.specs.Packets.{marker_of}
+use Rattle.sw_rmap.specs.Owing.{PendingReply}
 
 -- where a channel starts or ends: a node, or a routing switch
 pub data Cell : Type 0 where
@@ -24,11 +25,6 @@ pub record Flow : Type 0 where
 pub record Place : Type 0 where
   pub channel : ℕ
   pub deleted : ℕ
-
--- a reply that a target is to send: the address that it goes to, and what follows
-pub record PendingReply : Type 0 where
-  pub address : List ℕ
-  pub cargo : List ℕ
 
 pub record Network : Type 0 where
   pub channels : ℕ

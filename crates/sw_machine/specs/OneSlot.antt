@@ -2,10 +2,11 @@
 use Rattle.std.specs.Prelude.{Bool, Contains, List, None, Option, Some, [], false, if◌then◌else◌, is_some, length, nat_lt, suc, ℕ, ◌++◌, ◌+◌, ◌-◌, ◌<◌, ◌∷◌, ◌≡◌, ◌≢◌, ◌≤◌}
 use Rattle.sw_char.specs.declared.nchar.NChar.{NChar}
 use Rattle.sw_char.specs.declared.nchar.NChar.TheVariants.{Data, Eep, Eop}
-use Rattle.sw_machine.specs.Network.{AtSwitch, IsDeclared, IsNetwork, Network, PendingReply, form}
+use Rattle.sw_machine.specs.Network.{AtSwitch, IsDeclared, IsNetwork, Network, form}
+use Rattle.sw_rmap.specs.Owing.{PendingReply, reply_packet}
 use Rattle.sw_machine.specs.Packets.{IsCut, Packet}
 use Rattle.sw_machine.specs.Runs.{IsReached}
-use Rattle.sw_machine.specs.State.{State, empty, input_after, memory_at, put, reply_at, reply_packet}
+use Rattle.sw_machine.specs.State.{State, empty, input_after, memory_at, put, reply_at}
 use Rattle.sw_machine.specs.Steps.{Accept, Arrive, Begin, Drop, Emit, Fct, FctIn, Forward, Grant, Leads, Reply, Spill, Step}
 use Rattle.sw_machine.specs.declared.input.InputState.{InputState}
 use Rattle.sw_machine.specs.declared.input.InputState.TheVariants.{Held, Idle, Spilling}

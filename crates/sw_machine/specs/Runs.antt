@@ -1,8 +1,9 @@
 -- Runs of the machine, and when a state is locked up.
-use Rattle.std.specs.Prelude.{List, [], false, length, suc, sum_by, zero, ℕ, ◌+◌, ◌<◌, ◌∷◌, ◌≡◌}
-use Rattle.sw_machine.specs.Network.{Network, PendingReply}
+use Rattle.std.specs.Prelude.{List, [], false, length, suc, zero, ℕ, ◌+◌, ◌<◌, ◌∷◌, ◌≡◌}
+use Rattle.sw_machine.specs.Network.{Network}
+use Rattle.sw_rmap.specs.Owing.{length_pending}
 use Rattle.sw_machine.specs.Packets.{IsCut, Packet}
-use Rattle.sw_machine.specs.State.{State, empty, reply_packet}
+use Rattle.sw_machine.specs.State.{State, empty}
 use Rattle.sw_machine.specs.Steps.{IsPossible, Leads, Step, is_begin}
 
 -- the steps lead from s to t, one after another
@@ -17,9 +18,6 @@ IsReached net s = (steps : List Step) × Run net (empty net) steps s
 abbrev pub total : ℕ → (ℕ → ℕ) → ℕ
 total zero f = 0
 total (suc n) f = total n f + f n
-
-abbrev pub length_pending : List PendingReply → ℕ
-length_pending pending = sum_by (λ r. length (reply_packet r)) pending
 
 -- how many characters are in a buffer, on a wire, still to send, or of a pending reply with its marker
 abbrev pub undelivered : Network → State → ℕ

@@ -3,7 +3,8 @@
 use Rattle.std.specs.Prelude.{List, None, Option, Some, [], if◌then◌else◌, nat_eq, nat_lt, slice_get, suc, unwrap_or, zero, ℕ, ◌∷◌}
 use Rattle.sw_char.specs.declared.nchar.End.{End}
 use Rattle.sw_machine.specs.Certificate.{Certificate}
-use Rattle.sw_machine.specs.Network.{AtNode, AtSwitch, Cell, Flow, Network, PendingReply, Place}
+use Rattle.sw_machine.specs.Network.{AtNode, AtSwitch, Cell, Flow, Network, Place}
+use Rattle.sw_rmap.specs.Owing.{PendingReply}
 
 -- link 0 joins node 0 and switch 0, links 1 and 2 the switches, and link 3 switch 1 and target 1
 abbrev pub starts : List Cell

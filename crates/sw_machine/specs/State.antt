@@ -1,9 +1,10 @@
 -- The machine's state, and what each step changes of it.
-use Rattle.std.specs.Prelude.{List, None, Option, Some, [], if◌then◌else◌, length, map, nat_eq, ℕ, ◌++◌, ◌+◌, ◌-◌, ◌∷◌}
+use Rattle.std.specs.Prelude.{List, None, Option, [], if◌then◌else◌, nat_eq, ℕ, ◌++◌, ◌+◌, ◌-◌, ◌∷◌}
 use Rattle.sw_char.specs.declared.nchar.End.TheVariants.{Eep as ByEep, Eop as ByEop}
 use Rattle.sw_char.specs.declared.nchar.NChar.{NChar}
 use Rattle.sw_char.specs.declared.nchar.NChar.TheVariants.{Data, Eep, Eop}
-use Rattle.sw_machine.specs.Network.{Network, PendingReply}
+use Rattle.sw_machine.specs.Network.{Network}
+use Rattle.sw_rmap.specs.Owing.{PendingReply, owed_after, owed_with, pending_with, reply_packet}
 use Rattle.sw_machine.specs.Packets.{is_marker}
 use Rattle.sw_machine.specs.declared.input.InputState.{InputState}
 use Rattle.sw_machine.specs.declared.input.InputState.TheVariants.{Held, Idle, Spilling}
@@ -45,22 +46,6 @@ abbrev pub memory_at : Network → ℕ → List ℕ → List ℕ → NChar → L
 memory_at net n memory bytes (Data byte) = memory
 memory_at net n memory bytes Eop = net.memory_after n memory bytes ByEop
 memory_at net n memory bytes Eep = net.memory_after n memory bytes ByEep
-
-abbrev pub pending_with : List PendingReply → Option PendingReply → List PendingReply
-pending_with pending None = pending
-pending_with pending (Some r) = pending ++ r ∷ []
-
-abbrev pub owed_with : ℕ → Option PendingReply → ℕ
-owed_with owed None = owed
-owed_with owed (Some r) = owed + 1
-
--- how many replies a node owes after it sent a character and these remain: at a packet's end those that are pending
-abbrev pub owed_after : List NChar → List PendingReply → ℕ → ℕ
-owed_after (x ∷ remaining) pending owed = owed
-owed_after [] pending owed = length pending
-
-abbrev pub reply_packet : PendingReply → List NChar
-reply_packet r = map Data (r.address ++ r.cargo) ++ Eop ∷ []
 
 abbrev pub after_fct : State → ℕ → State
 after_fct s c = record s { outstanding = put s.outstanding c (s.outstanding c + 8); fcts = put s.fcts c (s.fcts c + 1) }

@@ -3,7 +3,8 @@ use Rattle.std.specs.Prelude.{Bool, Contains, List, [], false, if◌then◌else�
 use Rattle.sw_char.specs.declared.nchar.End.{End}
 use Rattle.sw_char.specs.declared.nchar.NChar.{NChar}
 use Rattle.sw_char.specs.declared.nchar.NChar.TheVariants.{Data, Eep, Eop}
-use Rattle.sw_machine.specs.Network.{AtSwitch, IsDeclared, Network, PendingReply, form}
+use Rattle.sw_machine.specs.Network.{AtSwitch, IsDeclared, Network, form}
+use Rattle.sw_rmap.specs.Owing.{PendingReply}
 use Rattle.sw_machine.specs.Packets.{IsCut, Packet}
 use Rattle.sw_machine.specs.State.{State, after_accept, after_arrive, after_begin, after_drop_byte, after_drop_marker, after_emit, after_fct, after_fct_in, after_forward, after_grant, after_reply, after_spill}
 use Rattle.sw_machine.specs.declared.input.InputState.TheVariants.{Held, Idle, Spilling}

@@ -7,7 +7,8 @@ use Rattle.std.specs.Prelude.{slice_get}
 use Rattle.sw_cell.proofs.Network.{channels_are, nodes_are}
 use Rattle.sw_flow.specs.Places.{end_of}
 use Rattle.sw_machine.specs.Network.{AtNode}
-use Rattle.sw_machine.specs.Runs.{length_pending, total, undelivered}
+use Rattle.sw_machine.specs.Runs.{total, undelivered}
+use Rattle.sw_machine.specs.Owing.{length_pending}
 use Rattle.sw_machine.specs.State.{State}
 use Rattle.sw_machine.proofs.DeclaredNetworks.{are_networks}
 use Rattle.sw_machine.specs.Model.{network_of}

@@ -9,15 +9,17 @@ use Rattle.sw_char.specs.declared.nchar.End.{End}
 use Rattle.sw_char.specs.declared.nchar.NChar.TheVariants.{Data, Eop}
 use Rattle.sw_machine.proofs.Credit.{reached_numbers}
 use Rattle.sw_machine.proofs.Owed.{owes}
-use Rattle.sw_machine.specs.Network.{IsDeclared, PendingReply, form}
+use Rattle.sw_machine.specs.Network.{IsDeclared, form}
+use Rattle.sw_machine.specs.Owing.{length_pending, PendingReply, reply_packet}
+use Rattle.sw_machine.specs.Targets.{answer_of, longest_reply, slots_of}
 use Rattle.sw_machine.specs.Packets.{marker_of}
-use Rattle.sw_machine.specs.Runs.{IsReached, length_pending, undelivered}
-use Rattle.sw_machine.specs.State.{State, reply_packet}
+use Rattle.sw_machine.specs.Runs.{IsReached, undelivered}
+use Rattle.sw_machine.specs.State.{State}
 use Rattle.sw_machine.proofs.Answering.{reply_length}
 use Rattle.sw_machine.proofs.Flows.{some_at}
 use Rattle.sw_machine.proofs.Headers.{length-path-le}
 use Rattle.sw_machine.proofs.DeclaredNetworks.{are_networks}
-use Rattle.sw_machine.specs.Model.{answer_of, answered_to, longest_reply, network_of, slots_of}
+use Rattle.sw_machine.specs.Model.{answered_to, network_of}
 use Rattle.sw_config.proofs.FlowLaws.{valid_flows}
 use Rattle.sw_config.proofs.Flows.{All-at}
 use Rattle.sw_config.specs.Entries.{Declaration, LinkEntry, NodeEntry, all_flows, capacities, link_ends, target_of}

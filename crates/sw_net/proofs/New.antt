@@ -14,7 +14,8 @@ use Rattle.sw_cell.specs.SwitchParts.{input_of}
 use Rattle.sw_char.specs.declared.nchar.NChar.{NChar}
 use Rattle.sw_flow.specs.Places.{ends_of}
 use Rattle.sw_machine.specs.State.{empty}
-use Rattle.sw_machine.specs.Model.{memory_at_first, network_of}
+use Rattle.sw_machine.specs.Model.{network_of}
+use Rattle.sw_machine.specs.Targets.{memory_at_first}
 use Rattle.sw_net.proofs.Steps.{get_set_other, get_set_same}
 use Rattle.sw_net.specs.Net.{IsNet, IsNetState, net_of}
 use Rattle.sw_net.specs.New.{AreArbiters, AreLeft, AreRoutes, IsLinkedSet, IsNewNode, IsNewSwitch, IsOneMore, IsPlaced, IsRow, port_capacity}

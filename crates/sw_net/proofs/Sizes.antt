@@ -6,10 +6,11 @@ use Rattle.std.specs.Prelude.{if◌then◌else◌, nat_eq}
 use Rattle.sw_char.specs.declared.nchar.End.{End}
 use Rattle.sw_char.specs.declared.nchar.NChar.{NChar}
 use Rattle.sw_char.specs.declared.nchar.NChar.TheVariants.{Data, Eep, Eop}
-use Rattle.sw_machine.specs.Network.{IsDeclared, Network, PendingReply, form}
+use Rattle.sw_machine.specs.Network.{IsDeclared, Network, form}
+use Rattle.sw_machine.specs.Owing.{length_pending, pending_with, PendingReply, reply_packet}
 use Rattle.sw_machine.specs.Owed.{Owes}
-use Rattle.sw_machine.specs.Runs.{Run, length_pending, total}
-use Rattle.sw_machine.specs.State.{State, empty, pending_with, put, reply_at, reply_packet}
+use Rattle.sw_machine.specs.Runs.{Run, total}
+use Rattle.sw_machine.specs.State.{State, empty, put, reply_at}
 use Rattle.sw_machine.specs.Steps.{Accept, Arrive, Begin, Drop, Drops, Emit, Fct, FctIn, Forward, Grant, Leads, Reply, Spill, Step}
 
 -- what holds of each value of a function holds where one is changed

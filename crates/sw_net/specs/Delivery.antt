@@ -1,6 +1,7 @@
 -- Counts of characters that are undelivered, in each state that a network's cells are the parts of.
 use Rattle.std.specs.Prelude.{length, ℕ, ◌+◌, ◌≡◌}
-use Rattle.sw_machine.specs.Runs.{length_pending, total, undelivered}
+use Rattle.sw_machine.specs.Runs.{total, undelivered}
+use Rattle.sw_machine.specs.Owing.{length_pending}
 use Rattle.sw_machine.specs.State.{State}
 use Rattle.sw_machine.specs.Model.{network_of}
 use Rattle.sw_net.specs.Net.{IsNetState, NetView}

@@ -1,7 +1,7 @@
 -- What a cell keeps, as a part tells it.
 use Rattle.std.specs.Prelude.{List, ℕ}
 use Rattle.sw_char.specs.declared.nchar.NChar.{NChar}
-use Rattle.sw_machine.specs.Network.{PendingReply}
+use Rattle.sw_machine.specs.Owing.{PendingReply}
 use Rattle.sw_node.specs.Node.{Node, memory_of, taken}
 use Rattle.sw_switch.specs.Cell.{Cell, credit_at, end_at, input_at}
 use Rattle.sw_switch.specs.declared.input.Input.{Input}

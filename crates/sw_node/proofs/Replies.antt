@@ -4,7 +4,7 @@ use Rattle.std.proofs.lemmas.Bool.{true≢false}
 use Rattle.std.proofs.lemmas.List.{take_at}
 use Rattle.std.specs.Prelude.{is_some}
 use Rattle.sw_char.specs.declared.nchar.End.{End}
-use Rattle.sw_machine.specs.Model.{parted, slots_of}
+use Rattle.sw_rmap.specs.Targets.{parted, slots_of}
 use Rattle.sw_node.specs.Changes.{with_memory}
 use Rattle.sw_node.specs.Node.{config_of}
 use Rattle.sw_rmap.specs.Answers.{TargetView, answer}

@@ -5,9 +5,8 @@ use Rattle.sw_char.specs.declared.nchar.End.TheVariants.{Eep as ByEep, Eop as By
 use Rattle.sw_char.specs.declared.nchar.NChar.{NChar}
 use Rattle.sw_char.specs.declared.nchar.NChar.TheVariants.{Data, Eep, Eop}
 use Rattle.sw_link.specs.Ends.{Received, spent}
-use Rattle.sw_machine.specs.Network.{PendingReply}
-use Rattle.sw_machine.specs.State.{owed_after, owed_with, pending_with, reply_packet}
-use Rattle.sw_machine.specs.Model.{answer_of, memory_after}
+use Rattle.sw_rmap.specs.Owing.{owed_after, owed_with, pending_with, PendingReply, reply_packet}
+use Rattle.sw_rmap.specs.Targets.{answer_of, memory_after}
 use Rattle.sw_node.specs.Node.{Node, config_of, memory_of, packet_chars}
 use Rattle.sw_rmap.specs.Answers.{TargetView}
 

@@ -6,8 +6,8 @@ use Rattle.sw_char.specs.declared.nchar.End.{End}
 use Rattle.sw_char.specs.declared.nchar.NChar.{NChar}
 use Rattle.sw_char.specs.declared.nchar.NChar.TheVariants.{Data}
 use Rattle.sw_link.specs.Ends.{Received}
-use Rattle.sw_machine.specs.Network.{PendingReply}
-use Rattle.sw_machine.specs.Model.{memory_at_first, slots_of}
+use Rattle.sw_rmap.specs.Owing.{PendingReply}
+use Rattle.sw_rmap.specs.Targets.{memory_at_first, slots_of}
 use Rattle.sw_rmap.specs.Answers.{TargetView}
 use Rattle.sw_rmap.specs.declared.config.TargetConfig.{TargetConfig}
 

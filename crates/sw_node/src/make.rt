@@ -2,7 +2,7 @@
 ghost use Rattle.std.specs.Prelude.{◌≡◌, IfOk, IfSome};
 ghost use Rattle.sw_link.specs.Ends.{IsCapacity};
 ghost use Rattle.sw_node.specs.Node.{new_node};
-ghost use Rattle.sw_machine.specs.Model.{slots_of};
+ghost use Rattle.sw_rmap.specs.Targets.{slots_of};
 ghost use Rattle.sw_rmap.specs.Config.{IsTargetConfig};
 
 use crate::cell::NodeCell;

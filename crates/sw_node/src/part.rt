@@ -19,7 +19,7 @@ pub struct PendingReply {
 }
 
 impl Model for PendingReply {
-    ghost use Rattle.sw_machine.specs.Network.{PendingReply as Pending};
+    ghost use Rattle.sw_rmap.specs.Owing.{PendingReply as Pending};
 
     ghost Value = { Pending };
 

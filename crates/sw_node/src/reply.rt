@@ -1,7 +1,7 @@
 //! A reply that waits to be sent.
 ghost use Rattle.std.specs.Prelude.{◌≡◌, ◌++◌, IfOk, OnErr, OnOk, length};
-ghost use Rattle.sw_machine.specs.State.{reply_packet};
-ghost use Rattle.sw_machine.specs.Model.{answer_of, memory_after};
+ghost use Rattle.sw_rmap.specs.Owing.{reply_packet};
+ghost use Rattle.sw_rmap.specs.Targets.{answer_of, memory_after};
 ghost use Rattle.sw_node.specs.Changes.{with_memory};
 ghost use Rattle.sw_node.specs.Node.{config_of, memory_of};
 
@@ -23,7 +23,7 @@ pub(crate) struct Reply {
 
 impl Model for Reply {
     ghost use Rattle.std.specs.Prelude.{◌≤◌, drop, length, take};
-    ghost use Rattle.sw_machine.specs.Network.{PendingReply};
+    ghost use Rattle.sw_rmap.specs.Owing.{PendingReply};
 
     ghost Value = { PendingReply };
 

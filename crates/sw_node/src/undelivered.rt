@@ -1,6 +1,6 @@
 //! What a node has still to send.
 ghost use Rattle.std.specs.Prelude.{◌≡◌, ◌+◌, ◌<◌, ◌^◌, length};
-ghost use Rattle.sw_machine.specs.Runs.{length_pending};
+ghost use Rattle.sw_rmap.specs.Owing.{length_pending};
 
 use crate::cell::NodeCell;
 use crate::reply::Reply;

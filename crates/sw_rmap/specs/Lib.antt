@@ -5,4 +5,6 @@ pub mod CommandView
 pub mod Commands
 pub mod Replies
 pub mod Answers
+pub mod Owing
+pub mod Targets
 pub mod Laws

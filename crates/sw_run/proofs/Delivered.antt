@@ -13,7 +13,8 @@ use Rattle.sw_machine.proofs.Runs.{empty_inv, none, run_begins, step_keeps, wait
 use Rattle.sw_machine.proofs.Whole.{count_sent, goes_to}
 use Rattle.sw_machine.specs.Begun.{Begins, Begun, RunOf, beginning, beginnings, is_answered_at}
 use Rattle.sw_machine.specs.Certificate.{Certificate, IsAccepted}
-use Rattle.sw_machine.specs.Network.{IsNetwork, Network, PendingReply, left_bytes}
+use Rattle.sw_machine.specs.Network.{IsNetwork, Network, left_bytes}
+use Rattle.sw_machine.specs.Owing.{PendingReply}
 use Rattle.sw_machine.specs.Packets.{Packet}
 use Rattle.sw_machine.specs.Runs.{Run, undelivered}
 use Rattle.sw_machine.specs.State.{State, empty}

@@ -1,6 +1,6 @@
 use Rattle.std.proofs.Common.{◌≡◌, ◌≤◌, List, ℕ, ap, ◌∙◌, refl, subst, sym, rules, length, Vec, Global, Option}
 use Rattle.std.specs.Prelude.{option_map}
-use Rattle.sw_machine.specs.Model.{parted}
+use Rattle.sw_rmap.specs.Targets.{parted}
 use Rattle.sw_node.proofs.Replies.{nothing_parted, parted_there, way_len, within_reply}
 use Rattle.sw_node.proofs.reply.answer.Goals as goal
 use Rattle.sw_node.proofs.reply.answer.Goals.{in-Some-2, in-None}

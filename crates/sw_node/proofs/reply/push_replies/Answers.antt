@@ -1,6 +1,6 @@
 use Rattle.std.proofs.Common.{◌≡◌, List, ℕ, ◌∙◌, ◌+◌, ◌++◌, ◌∷◌, [], ap, append_assoc, drop, sym, take}
 use Rattle.std.proofs.lemmas.List.{take_all, take_more}
-use Rattle.sw_machine.specs.Network.{PendingReply}
+use Rattle.sw_rmap.specs.Owing.{PendingReply}
 use Rattle.sw_node.proofs.reply.push_replies.Goals as goal
 
 pub loop-reply-preserved : goal.loop-reply-preserved

@@ -1,5 +1,5 @@
 use Rattle.std.proofs.Common.{◌≡◌, take}
-use Rattle.sw_machine.specs.Runs.{length_pending}
+use Rattle.sw_rmap.specs.Owing.{length_pending}
 use Rattle.sw_node.proofs.undelivered.replies_len.Given as goal
 
 abbrev pub invariant-loop-reply : goal.invariant-loop-reply

@@ -6,9 +6,8 @@ use Rattle.sw_char.specs.PacketView.{PacketView}
 use Rattle.sw_char.specs.declared.nchar.End.{End}
 use Rattle.sw_char.specs.declared.nchar.NChar.{NChar}
 use Rattle.sw_link.specs.Ends.{Received}
-use Rattle.sw_machine.specs.Network.{PendingReply}
-use Rattle.sw_machine.specs.State.{owed_with, pending_with}
-use Rattle.sw_machine.specs.Model.{answer_of, memory_after, slots_of}
+use Rattle.sw_rmap.specs.Owing.{owed_with, pending_with, PendingReply}
+use Rattle.sw_rmap.specs.Targets.{answer_of, memory_after, slots_of}
 use Rattle.sw_node.proofs.cell.NodeCell.complete.Goals as goal
 use Rattle.sw_node.specs.Changes.{completed, with_memory}
 use Rattle.sw_node.specs.Node.{IsNode, Node, config_of, memory_of, node_of, slots}
