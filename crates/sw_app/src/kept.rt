@@ -9,7 +9,7 @@ use sw_text::Ended;
 pub struct EndedWith {
     /// How the engine ended.
     pub ended: Ended,
-    /// The network that the text declares; none where that was not to be kept.
+    /// The network that the text declares, if it declares one that was to be kept.
     pub network: Option<Network>,
 }
 

@@ -29,9 +29,9 @@ pub enum Expected {
 pub enum Said {
     /// The title.
     Begun,
-    /// The count of channels, as many as numbers follow.
+    /// The count of channels: as many numbers follow.
     ChannelCount(u32),
-    /// The number of the next channel, which rises along each dependency.
+    /// The certificate's number for the next channel, 0 to 65535.
     Number(u16),
     /// The count of flows, reply flows too.
     FlowCount(u32),

@@ -12,7 +12,7 @@ use std::alloc::{AllocError, Global};
 pub enum Member<'a> {
     /// A JSON string.
     Text(&'a str),
-    /// A JSON number.
+    /// A number of JSON, from 0 on.
     Number(u64),
     /// `true` or `false`.
     Truth(bool),
