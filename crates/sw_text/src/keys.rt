@@ -60,7 +60,7 @@ pub enum Key {
     To,
     /// `left`: how many of a flow's address bytes are still there when a packet arrives.
     Left,
-    /// `reply`: the table of a flow whose commands are answered.
+    /// `reply`: the table of a flow whose packets may be commands that are answered.
     Reply,
     /// `path`: the list of the path address of the replies.
     Path,
