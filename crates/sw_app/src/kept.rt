@@ -7,7 +7,9 @@ use sw_text::Ended;
 /// How an engine ended, with the network that its text declares, if that was to be kept.
 #[derive(Drop)]
 pub struct EndedWith {
+    /// How the engine ended.
     pub ended: Ended,
+    /// The network that the text declares, if it declares one that was to be kept.
     pub network: Option<Network>,
 }
 

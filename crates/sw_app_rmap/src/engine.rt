@@ -8,8 +8,8 @@ use std::alloc::Global;
 use std::io::{Read, Write};
 use sw_text::{Ended, MAX_TEXT, read_whole, tell_answer, tell_unread};
 
-/// Writes the entry of a load whose packet brings the target of a flow the command that is asked for (ECSS-E-ST-50-52C): 0 where there is
-/// such a packet, and 3 with the first fault where there is none.
+/// Writes the entry of a load whose packet brings the target of a flow the command that is asked for (ECSS-E-ST-50-52C, the fields of
+/// write and read commands): 0 where there is such a packet, and 3 with the first fault where there is none.
 pub fn rmap<R: Read, W: Write>(
     alloc: Global,
     reader: &mut R,

@@ -14,6 +14,7 @@ pub enum Access<'a> {
 pub struct Request<'a> {
     /// The name of a declared flow.
     pub flow: &'a str,
+    /// What the command does there.
     pub access: Access<'a>,
     /// The first address: 0 to 1099511627775.
     pub address: &'a str,

@@ -107,8 +107,11 @@ pub enum Call<'a> {
 /// What the words ask for: a call, the network files that it names, and what was given at `--hints`.
 #[derive(Drop)]
 pub struct Asked<'a> {
+    /// What is to be done.
     pub call: Call<'a>,
+    /// The network files, in the order of the words: one, but several of `audit`, and none of `init`.
     pub files: Vec<&'a str>,
+    /// The word behind `--hints`; none where it is left out.
     pub hints: Option<&'a str>,
 }
 

@@ -7,6 +7,7 @@ ghost use Rattle.sw_calls.specs.Hints.{hints_of};
 pub enum Hints {
     /// Where there is something to tell.
     Auto,
+    /// Nowhere.
     Never,
 }
 

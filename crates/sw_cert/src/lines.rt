@@ -10,7 +10,9 @@ use sw_topo::limits::{MAX_ADDRESS, MAX_CHANNELS, MAX_PLACES, MAX_WAYS};
 /// What the next line has to be.
 #[derive(Clone, Copy)]
 pub enum Expected {
+    /// The first line.
     Title,
+    /// The count of channels.
     Channels,
     /// This many numbers, then the count of flows.
     Numbers(u32),
@@ -18,18 +20,26 @@ pub enum Expected {
     Flows(u32),
     /// A place, this many after it, and then this many flows.
     Places(u32, u32),
+    /// No line: the text has ended.
     Nothing,
 }
 
 /// What a line says.
 #[derive(Clone, Copy)]
 pub enum Said {
+    /// The title.
     Begun,
+    /// The count of channels: as many numbers follow.
     ChannelCount(u32),
+    /// The certificate's number for the next channel, 0 to 65535.
     Number(u16),
+    /// The count of flows, reply flows too.
     FlowCount(u32),
+    /// The count of the places of the next flow, which follow.
     PlaceCount(u32),
+    /// The next place of the flow.
     Listed(Place),
+    /// The last line.
     Ended,
 }
 

@@ -1,6 +1,6 @@
 //! N-Chars and end markers.
 
-/// A normal character (N-Char): the characters that carry packets (ECSS-E-ST-50-12C, data link layer).
+/// A normal character (N-Char): the characters that carry packets (ECSS-E-ST-50-12C, data link layer: normal characters).
 #[derive(Clone, Copy, Debug, PartialEq, Eq)]
 pub enum NChar {
     /// A data character of 8 bits.
@@ -11,7 +11,7 @@ pub enum NChar {
     Eep,
 }
 
-/// How a packet ends: the end markers (ECSS-E-ST-50-12C, data link layer).
+/// How a packet ends: the end markers (ECSS-E-ST-50-12C, data link layer: normal characters).
 #[derive(Clone, Copy, PartialEq, Eq)]
 pub enum End {
     /// The normal end of a packet.

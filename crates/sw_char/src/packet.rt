@@ -8,7 +8,7 @@ use std::alloc::{AllocError, Global};
 use std::marker::Model;
 use std::mem;
 
-/// A packet (ECSS-E-ST-50-12C, network layer): its bytes, and how it ends.
+/// A packet (ECSS-E-ST-50-12C, network layer: packets): its bytes, and how it ends.
 #[derive(Drop)]
 pub struct Packet {
     /// The address bytes, and then the cargo.

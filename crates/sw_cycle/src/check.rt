@@ -102,8 +102,8 @@ fn is_shown(network: &Network, channels: &[Chan], causes: &[Cause]) -> bool
     true
 }
 
-/// Does the cycle have channels, and one cause for each that is true of it and the next? Whatever its numbers say: not where the
-/// network has no such channel, node or flow.
+/// Does the cycle have channels, and one cause for each that is true of it and the next (Dally and Seitz: channel dependency; targets
+/// are this project's choice)? Whatever its numbers say: not where the network has no such channel, node or flow.
 pub fn check_cycle(network: &Network, cycle: &Cycle) -> bool
     ensures { IsTrue result ↔ IsShown network.now cycle.now }
 {

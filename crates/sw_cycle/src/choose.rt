@@ -41,9 +41,9 @@ fn cause_for(
     }
 }
 
-/// The causes of a cycle of dependencies: for each of the channels and the next one, for the last and the first, the first flow that
-/// goes on from the one to the other, and where no flow does, the target between them. `places` has the places of each flow, by the
-/// flows' numbers, as `all_places` gives them.
+/// The causes of a cycle of dependencies (Dally and Seitz: channel dependency; targets are this project's choice): for each of the
+/// channels and the next one, for the last and the first, the first flow that goes on from the one to the other, and where no flow
+/// does, the target between them. `places` has the places of each flow, by the flows' numbers, as `all_places` gives them.
 ///
 /// The places of the flows are gone through once, and for each channel of the cycle one way of a
 /// flow is looked for.

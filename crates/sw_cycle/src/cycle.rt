@@ -16,7 +16,9 @@ pub enum Cause {
 /// Channels, and a cause for the dependency of each on the next, the last one's for that on the first.
 #[derive(Drop)]
 pub struct Cycle {
+    /// The channels, each of which depends on the next, the last on the first.
     pub channels: Vec<Chan>,
+    /// As many causes, in the order of the channels.
     pub causes: Vec<Cause>,
 }
 

@@ -46,7 +46,8 @@ fn rows_from(
     Ok(rows)
 }
 
-/// What `dependencies` gives, and whether each flow is well routed.
+/// What `dependencies` gives (Dally and Seitz: channel dependency; targets are this project's choice), and whether each flow is well
+/// routed.
 ///
 /// # Errors
 ///
@@ -76,7 +77,8 @@ pub fn routed_dependencies<W: PortWorkers>(
 }
 
 /// For each channel those on which a packet that is on it may wait, by their numbers: where a flow
-/// goes on to, and at a target that answers, where its replies leave. A row has each of them once.
+/// goes on to (Dally and Seitz: channel dependency), and at a target that answers, where its replies
+/// leave (this project's choice). A row has each of them once.
 ///
 /// `places` has the places of each flow, reply flows too, as `sw_flow::all_places` gives them.
 ///

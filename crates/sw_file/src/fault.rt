@@ -16,6 +16,7 @@ pub enum MigrateFault {
     /// The text is of version 2 already.
     #[error("the file is not of version 1")]
     NotOld,
+    /// There is no memory for it: this tells nothing of the text.
     #[error("out of memory")]
     Memory,
 }

@@ -59,7 +59,7 @@ impl PlaceWorkers for OneByOne {
     }
 }
 
-/// The places of each flow, reply flows too, by the flows' numbers.
+/// The places of each flow, reply flows too, by the flows' numbers (ECSS-E-ST-50-12C, network layer: packet addressing).
 ///
 /// # Errors
 ///

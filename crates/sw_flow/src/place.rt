@@ -6,6 +6,7 @@ use sw_config::Chan;
 /// (ECSS-E-ST-50-12C, network layer: packet addressing).
 #[derive(Clone, Copy, Debug, PartialEq, Eq)]
 pub struct Place {
+    /// The channel that the packets go over.
     pub channel: Chan,
     /// 0 to the length of the flow's address.
     pub deleted: u8,

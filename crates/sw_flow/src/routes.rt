@@ -27,7 +27,8 @@ pub(crate) fn places_of(
     Ok(places)
 }
 
-/// The places of the flow of that number, each once, in order: by channel, then by the count of deleted address bytes.
+/// The places of the flow of that number (ECSS-E-ST-50-12C, network layer: packet addressing), each once, in order: by channel, then
+/// by the count of deleted address bytes.
 ///
 /// # Errors
 ///

@@ -10,8 +10,8 @@ use std::alloc::{AllocError, Global};
 use sw_config::Network;
 use sw_graph::way;
 
-/// Places from the start of the flow of that number to this place, by one step to each next one, with both; none where the place is
-/// not one of the flow's.
+/// Places from the start of the flow of that number to this place, by one step to each next one (ECSS-E-ST-50-12C, network layer: packet
+/// addressing), with both; none where the place is not one of the flow's.
 ///
 /// The time is linear in the number of channels times the length of the flow's address.
 ///

@@ -10,16 +10,23 @@ use sw_topo::LinkEnd;
 /// What is known of a cell: which it is, and its link ends, each with its numbers. No value of it is
 /// made.
 pub struct Known {
+    /// Which node or switch it is.
     pub id: CellId,
+    /// Its link ends, each with its numbers of flow control.
     pub ends: LinkedList<(LinkEnd, Numbers)>,
 }
 
 /// What a seat knows. No value of it is made.
 pub struct View {
+    /// Whether the seat is the journal's.
     pub keeps: bool,
+    /// What the journal's seat knows of each cell; empty at other seats.
     pub all: LinkedList<Known>,
+    /// Whether the seat stands for a cell.
     pub claims: bool,
+    /// The number of that cell in the journal's list; else 0.
     pub cell: u64,
+    /// What the seat knows of it.
     pub known: Known,
 }
 
@@ -27,8 +34,11 @@ pub struct View {
 /// stand for the link end at a place of its list from now on.
 #[derive(Drop)]
 pub enum Change {
+    /// A new cell.
     Cell(CellId),
+    /// A link end of the new cell, behind those that it has.
     End(LinkEnd, Numbers),
+    /// The numbers of the link end at that place of the list, counted from 0.
     Numbers(usize, Numbers),
 }
 

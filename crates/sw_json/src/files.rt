@@ -15,7 +15,9 @@ use std::alloc::{AllocError, Global};
 /// What a program is: its version, and the toolchain that made it.
 #[derive(Clone, Copy)]
 pub struct Release<'a> {
+    /// As `--version` tells it.
     pub version: &'a str,
+    /// The toolchain's name, and the logic by which it proves.
     pub toolchain: &'a str,
 }
 

@@ -10,9 +10,13 @@ use std::alloc::{AllocError, Global};
 /// What stands at a name of an object: a text, a number, a truth value, or a value that was made before.
 #[derive(Drop)]
 pub enum Member<'a> {
+    /// A JSON string.
     Text(&'a str),
+    /// A number of JSON, from 0 on.
     Number(u64),
+    /// `true` or `false`.
     Truth(bool),
+    /// A value as it is.
     Value(Value),
 }
 

@@ -10,5 +10,6 @@ pub struct AuditOptions<'a> {
     pub quiet: bool,
     /// The certificate of each free network is kept.
     pub certificates: bool,
+    /// What the program is, for the JSON object.
     pub release: Release<'a>,
 }

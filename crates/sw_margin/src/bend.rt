@@ -5,6 +5,7 @@
 pub struct Bend {
     /// Of which node, or of which flow.
     pub number: u16,
+    /// Whether it has no cycle of dependencies with these further waits.
     pub stays_free: bool,
 }
 

@@ -30,7 +30,9 @@ pub enum Change {
 /// Two changes of one network, both made: the first and then the second.
 #[derive(Clone, Copy, PartialEq, Eq)]
 pub struct Pair {
+    /// What is changed first.
     pub first: Change,
+    /// What is changed then, in the network as the first left it.
     pub second: Change,
 }
 

@@ -5,7 +5,9 @@ ghost use Rattle.sw_notes.specs.LineColumn.{column_of, line_of};
 /// Where a byte stands in a text, for a person to find: both from 1. Lines end with LF, and a column counts bytes.
 #[derive(Clone, Copy)]
 pub struct Position {
+    /// From 1.
     pub line: usize,
+    /// In bytes, from 1.
     pub column: usize,
 }
 

@@ -10,7 +10,9 @@ use sw_char::{End, Packet};
 /// A packet, and how often it came out.
 #[derive(Drop)]
 pub struct Tally<'a> {
+    /// A packet that came out; others that are equal to it are counted with it.
     pub packet: &'a Packet,
+    /// At least 1.
     pub count: u64,
 }
 

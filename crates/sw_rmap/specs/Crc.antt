@@ -1,4 +1,4 @@
--- The cyclic redundancy code of RMAP (ECSS-E-ST-50-52C, annex A).
+-- The cyclic redundancy code of RMAP (ECSS-E-ST-50-52C, RMAP CRC).
 use Rattle.std.specs.Prelude.{ℕ, ◌/◌, ◌%◌, List, [], ◌∷◌, ◌++◌, fold, bit_xor, ◌==◌, if◌then◌else◌}
 
 -- one shift to the right; where the bit shifted out was 1, the polynomial is added

@@ -1,4 +1,4 @@
-//! The cyclic redundancy code of headers and data (ECSS-E-ST-50-52C, annex A).
+//! The cyclic redundancy code of headers and data (ECSS-E-ST-50-52C, RMAP CRC).
 ghost use Rattle.std.specs.Prelude.{◌≡◌};
 ghost use Rattle.sw_rmap.specs.Crc.{crc_of};
 
@@ -22,7 +22,7 @@ const EIGHT_SHIFTS: [u8; 256] = [
     0xB4, 0x25, 0x57, 0xC6, 0xB3, 0x22, 0x50, 0xC1, 0xBA, 0x2B, 0x59, 0xC8, 0xBD, 0x2C, 0x5E, 0xCF,
 ];
 
-/// The code of these bytes: 0 of none (ECSS-E-ST-50-52C, annex A).
+/// The code of these bytes: 0 of none (ECSS-E-ST-50-52C, RMAP CRC).
 pub fn crc(bytes: &[u8]) -> u8
     ensures { result ≡ crc_of bytes.now }
 {

@@ -10,7 +10,7 @@ use crate::instruction::Instruction;
 use arrayvec::ArrayVec;
 use std::marker::Model;
 
-/// The protocol identifier of RMAP (ECSS-E-ST-50-51C).
+/// The protocol identifier of RMAP (ECSS-E-ST-50-52C, the fields of a command).
 pub const PROTOCOL: u8 = 1;
 
 /// A command's header, which is no reply's and whose fields are in their ranges
@@ -38,9 +38,9 @@ impl Model for Command {
 }
 
 impl Command {
-    /// The command of these fields. None where the type of the instruction is a reply's, the
-    /// reply address has not as many bytes as the instruction says, or the address or the data
-    /// length is beyond 40 or 24 bits.
+    /// The command of these fields (ECSS-E-ST-50-52C, the fields of a command). None where the type
+    /// of the instruction is a reply's, the reply address has not as many bytes as the instruction
+    /// says, or the address or the data length is beyond 40 or 24 bits.
     pub fn new(
         logical: u8,
         instruction: u8,

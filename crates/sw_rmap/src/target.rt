@@ -13,7 +13,7 @@ use std::alloc::{AllocError, Global};
 use std::marker::Model;
 use sw_char::End;
 
-/// An RMAP target (ECSS-E-ST-50-52C): its configuration, and what its window holds.
+/// An RMAP target (ECSS-E-ST-50-52C, write and read commands): its configuration, and what its window holds.
 #[derive(Drop)]
 pub struct Target {
     config: TargetConfig,

@@ -15,6 +15,7 @@ use sw_topo::Port;
 pub struct Interval {
     /// 32 to 254 in the intervals of a table.
     pub last: u8,
+    /// What each of them names.
     pub look: Look,
 }
 

@@ -7,7 +7,9 @@ use sw_topo::{Port, PortSet};
 /// there.
 #[derive(Clone, Copy, PartialEq, Eq)]
 pub struct Look {
+    /// The ports that the byte names, also those that have no link; several are a group.
     pub ports: PortSet,
+    /// Is the byte deleted at the switch?
     pub delete: bool,
 }
 
@@ -43,6 +45,7 @@ pub struct Route {
     pub first: u8,
     /// `first` to 254.
     pub last: u8,
+    /// The ports of the entry; several are a group.
     pub ports: PortSet,
     /// Is the address deleted there (regional addressing)?
     pub delete: bool,

@@ -6,7 +6,8 @@ ghost use Rattle.sw_route.specs.Looks.{NamesOutput};
 use crate::look::Look;
 use sw_topo::{PortSet, Topology};
 
-/// The ports of the switch, among those that the look names, at which a channel starts.
+/// The ports of the switch, among those that the look names, at which a channel starts (ECSS-E-ST-50-12C, network layer: group adaptive
+/// routing).
 pub fn outputs(topology: &Topology, switch: u16, look: Look) -> PortSet
     requires { switch < topology.now.switches }
     ensures ports { (p : ℕ) → (IsBitSet result p ↔ (IsBitSet look.ports p × IsSome (out_of topology.now.ends switch p))) }

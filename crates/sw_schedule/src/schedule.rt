@@ -20,6 +20,7 @@ pub enum ScheduleFault {
     /// This line, counted from 1, is the first that is not as it has to be.
     #[error("line {0} is wrong")]
     BadLine(u64),
+    /// There is no memory for it: this tells nothing of the text.
     #[error("out of memory")]
     Memory,
 }

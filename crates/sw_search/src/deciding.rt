@@ -60,7 +60,8 @@ fn verdict_by<W: VerdictWorkers>(
     }
 }
 
-/// The verdict on a network, and how many places and dependencies it has. The workers share the work.
+/// The verdict on a network, and how many places and dependencies it has (Dally and Seitz: channel dependency; targets are this
+/// project's choice). The workers share the work.
 ///
 /// # Errors
 ///
@@ -84,8 +85,9 @@ pub fn survey<W: VerdictWorkers>(
     })
 }
 
-/// The verdict on a network: the first flow that is not well routed, and else a cycle of dependencies, and else a certificate that
-/// the network never locks up. The workers share the work.
+/// The verdict on a network: the first flow that is not well routed, and else a cycle of dependencies (Dally and Seitz: channel
+/// dependency; targets are this project's choice), and else a certificate that the network never locks up. The workers share the
+/// work.
 ///
 /// # Errors
 ///

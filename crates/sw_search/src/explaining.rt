@@ -11,8 +11,9 @@ use sw_config::Network;
 use sw_flow::all_places;
 
 /// Why a network can lock up, or that it can't: the first flow that is not well routed, with a way to
-/// where its packets go wrong; else the tangles of its channels, each with a shortest cycle; else
-/// that it is free. It is of the kind of the verdict, and tells of the same flow and fault
+/// where its packets go wrong; else the tangles of its channels, each with a shortest cycle (Dally and
+/// Seitz: channel dependency; targets are this project's choice); else that it is free. It is of the
+/// kind of the verdict, and tells of the same flow and fault
 /// (`explanation_laws::explanations_are_of_the_verdict`).
 ///
 /// The workers share the work of finding the places and the dependencies.

@@ -54,8 +54,9 @@ fn tangles_of(
 }
 
 /// The tangles of the network's channels, in the order of the least channels in them, each with its
-/// shortest cycle; none where no channels can wait for one another in a circle. Whether the flows
-/// are well routed does not matter.
+/// shortest cycle of dependencies (Dally and Seitz: channel dependency; targets are this project's
+/// choice); none where no channels can wait for one another in a circle. Whether the flows are well
+/// routed does not matter.
 ///
 /// `places` has the places of each flow, reply flows too, as `sw_flow::all_places` gives them.
 /// The workers share the work of finding the dependencies.

@@ -18,6 +18,7 @@ pub enum Verdict {
 /// The verdict on a network, and two counts.
 #[derive(Drop)]
 pub struct Findings {
+    /// Misrouted, cyclic or free.
     pub verdict: Verdict,
     /// How many places the flows have, reply flows too.
     pub places: u64,

@@ -12,14 +12,18 @@ use std::alloc::{AllocError, Global};
 /// What an engine writes, and the status that says what it is.
 #[derive(Drop)]
 pub struct Answer {
+    /// What is written to standard output.
     pub text: String,
+    /// As in `statuses`.
     pub status: u8,
 }
 
 /// The same, where the text is at hand as bytes.
 #[derive(Drop)]
 pub struct ByteAnswer {
+    /// What is written to standard output, whatever bytes it has.
     pub text: Vec<u8>,
+    /// As in `statuses`.
     pub status: u8,
 }
 

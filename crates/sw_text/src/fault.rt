@@ -11,8 +11,11 @@ use thiserror::Error;
 /// What is wrong at a key that the table may have.
 #[derive(Clone, Copy, Debug)]
 pub enum KeyFault {
+    /// A key that the table has to have is not there.
     MissingKey,
+    /// The value is of another TOML type.
     WrongType,
+    /// The value, or the length of a list or a text, is not one of those allowed.
     OutOfRange,
     /// The name is another entry's already.
     DuplicateName,
@@ -42,8 +45,10 @@ pub enum TextFault {
 /// The first fault of a text, or want of memory.
 #[derive(Debug, Drop, Error)]
 pub enum FileFault {
+    /// The first fault of the text.
     #[error("the text has a fault")]
     Text(TextFault),
+    /// There is no memory for it: this tells nothing of the text.
     #[error("out of memory")]
     Memory,
 }

@@ -54,7 +54,9 @@ fn is_known(known: &[Key], name: &str) -> bool
 /// the value is out of range.
 #[derive(Clone, Copy)]
 pub struct TableEntry<'a> {
+    /// Where faults say that it stands.
     pub section: Section,
+    /// The keys and values.
     pub table: &'a Table,
 }
 

@@ -11,7 +11,7 @@ use Rattle.sw_mend.specs.declared.change.Change.TheVariants.{WithoutReply}
 -- The bytes that are left where a flow ends begin its packets at the target: 0 the target logical address, 1 the protocol identifier,
 -- 2 the instruction (ECSS-E-ST-50-52C, the fields of write and read commands). What is not left there the cargo may choose.
 
--- the protocol identifier is left, and is not RMAP's, which is 1 (ECSS-E-ST-50-51C)
+-- the protocol identifier is left, and is not RMAP's, which is 1 (ECSS-E-ST-50-52C, the fields of a command)
 abbrev pub has_other_protocol : List ℕ → Bool
 has_other_protocol left = option_map_or (λ byte. not (byte == 1)) (slice_get left 1) false
 

@@ -52,7 +52,8 @@ fn can_not_be_answered(flow: &Flow) -> bool
 }
 
 /// The numbers of the flows whose replies can't happen, in their order: no packet that such a flow declares can begin a command that its
-/// target answers by the flow's path (ECSS-E-ST-50-52C). A flow that is not among them may still never be answered.
+/// target answers by the flow's path (ECSS-E-ST-50-52C, the fields of write and read commands). A flow that is not among them may still
+/// never be answered.
 ///
 /// # Errors
 ///

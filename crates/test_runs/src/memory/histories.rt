@@ -43,6 +43,10 @@ fn add_history(
 }
 
 /// Adds all that the network comes to by a history of one step, which begins the packet of a load, which has no fault.
+///
+/// # Errors
+///
+/// There is no memory for it, or the load has a fault.
 pub fn add_load(alloc: Global, network: &Network, text: &mut String) -> Result<(), AllocError> {
     // Names what holds of a load that was read.
     listed_are_declared();

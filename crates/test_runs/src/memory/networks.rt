@@ -38,6 +38,10 @@ pub enum Work {
 }
 
 /// Adds what comes of the work on the network of a file, which has no fault.
+///
+/// # Errors
+///
+/// There is no memory for it, or the file has a fault.
 pub fn add_of_file(
     alloc: Global,
     file: &[u8],

@@ -40,6 +40,10 @@ fn add_part(
 }
 
 /// Adds how many characters are undelivered, and all that each cell has.
+///
+/// # Errors
+///
+/// There is no memory for a part or for the text.
 pub fn add_parts(alloc: Global, net: &Core<'_>, text: &mut String) -> Result<(), AllocError> {
     let mut added = write!(text, "undelivered {}\n", net.undelivered());
     for node in 0..net.network().nodes() {
@@ -52,6 +56,10 @@ pub fn add_parts(alloc: Global, net: &Core<'_>, text: &mut String) -> Result<(),
 }
 
 /// The same as a text of its own.
+///
+/// # Errors
+///
+/// There is no memory for a part or for the text.
 pub fn text_of(alloc: Global, net: &Core<'_>) -> Result<String, AllocError> {
     let mut text = String::new(alloc);
     match add_parts(alloc, net, &mut text) {
@@ -77,6 +85,10 @@ fn make_again(
 }
 
 /// Adds all that the network comes to by the steps of two commands.
+///
+/// # Errors
+///
+/// There is no memory for the core, for what a step stores or for the text.
 pub fn add_commands(alloc: Global, network: &Network, text: &mut String) -> Result<(), AllocError> {
     let mut net = declared_net(alloc, network)?;
     let mut added = Ok(());

@@ -29,6 +29,10 @@ fn is_added(table: &mut TableRoutes, first: u8, last: u8) -> bool
 }
 
 /// How many entries a table has, if each was added and its intervals answer so; else 0.
+///
+/// # Errors
+///
+/// There is no memory for the intervals.
 pub fn entries(alloc: Global) -> Result<usize, AllocError> {
     let mut table = TableRoutes::new(alloc);
     let mut all = true;
@@ -62,6 +66,10 @@ fn link(builder: &mut Builder, node: u16, switch: u16, port: u8) -> Result<(), A
 }
 
 /// How many channels a star has. 0 where a link was not added, or twice: then a node has other than one.
+///
+/// # Errors
+///
+/// There is no memory for the topology.
 pub fn channels(alloc: Global) -> Result<u16, AllocError> {
     let mut builder = Builder::new(alloc);
     let nodes = [builder.node(), builder.node(), builder.node()];

@@ -6,6 +6,10 @@ use sw_char::{End, NChar, packets};
 use sw_rmap::{Target, TargetConfig};
 
 /// How many of these characters belong to whole packets, of which there are three; else 0.
+///
+/// # Errors
+///
+/// There is no memory for the packets.
 pub fn cut(alloc: Global) -> Result<usize, AllocError> {
     let chars = [
         NChar::Data(1),
@@ -61,6 +65,10 @@ fn add_reply(
 }
 
 /// Adds what a target answers to a write and to a read, and its memory then.
+///
+/// # Errors
+///
+/// There is no memory for the target, or for the text.
 pub fn add_answers(alloc: Global, text: &mut String) -> Result<(), AllocError> {
     let mut target = Target::new(alloc, CONFIG)?;
     add_reply(alloc, &mut target, WRITE, text)
