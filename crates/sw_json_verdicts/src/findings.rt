@@ -15,7 +15,7 @@ use crate::audit_options::AuditOptions;
 use crate::judged::{Judged, Named, kind_entry, memory_judged};
 use crate::names::certificate_name;
 use crate::statuses::{kept_status, verdict_word};
-use crate::stores::{Input, Storage};
+use crate::stores::{AuditInput, Storage};
 use std::alloc::{AllocError, Global};
 use sw_config::Network;
 use sw_file::read_network;
@@ -235,15 +235,15 @@ fn input_judged<T: VerdictWorkers, S: Storage>(
     storage: &S,
     options: &AuditOptions<'_>,
     named: Named<'_>,
-    input: &Input,
+    input: &AuditInput,
 ) -> Result<Judged, AllocError>
     ensures { IfOk result (λ j. IsGivenFinding options.now (S.keeps storage.now) named.entry.number named.entry.path.now (given_of input.now) (finding_of named.entry.path.now j)) }
 {
     match input {
-        Input::Whole(text) => text_judged(workers, alloc, storage, options, named, text),
-        Input::TooLong => long_judged(alloc, options, named.path),
-        Input::Unread => unread_judged(alloc, options, named.path),
-        Input::NoMemory => Ok(memory_judged()),
+        AuditInput::Whole(text) => text_judged(workers, alloc, storage, options, named, text),
+        AuditInput::TooLong => long_judged(alloc, options, named.path),
+        AuditInput::Unread => unread_judged(alloc, options, named.path),
+        AuditInput::NoMemory => Ok(memory_judged()),
     }
 }
 
