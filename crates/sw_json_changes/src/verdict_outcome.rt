@@ -8,7 +8,7 @@ ghost use Rattle.sw_json.specs.Answering.{IsOutcome};
 use std::alloc::{AllocError, Global};
 use sw_config::Network;
 use sw_json::laws::verdicts_are_plain;
-use sw_json::{Outcome, verdict_value};
+use sw_json::{CommandOutcome, verdict_value};
 use sw_search::Verdict;
 
 /// A verdict that has no certificate, with this status.
@@ -17,12 +17,12 @@ pub(crate) fn verdict_outcome(
     network: &Network,
     verdict: &Verdict,
     status: u8,
-) -> Result<Outcome, AllocError>
+) -> Result<CommandOutcome, AllocError>
     requires found { IsVerdict network.now verdict.now }
     requires bare { certificate_bytes verdict.now ≡ [] }
     ensures { IfOk result (λ o. IsOutcome (verdict_value network.now verdict.now) status (view o.result) o.status) }
 {
     verdicts_are_plain();
     let result = verdict_value(alloc, network, verdict, &[])?;
-    Ok(Outcome { result, status })
+    Ok(CommandOutcome { result, status })
 }

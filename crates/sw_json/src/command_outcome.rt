@@ -8,7 +8,7 @@ use serde_json::Value;
 
 /// The result of a command, with the status that says what it is.
 #[derive(Drop)]
-pub struct Outcome {
+pub struct CommandOutcome {
     pub result: Value,
     pub status: u8,
     // So the answer round it has a text that reads back: values nest at most 127 deep there.
