@@ -4,7 +4,7 @@ ghost use Rattle.serde_json.specs.View.{view};
 ghost use Rattle.sw_json.specs.AnswerValues.{file_fault_value};
 ghost use Rattle.sw_json.specs.Plain.{IsPlain};
 ghost use Rattle.sw_text.specs.Inputs.{given};
-ghost use Rattle.sw_json.specs.Answering.{IsAnswer, IsAnswerTold, IsLongFile, IsMemoryTold, IsOutcome, IsUnreadNetwork, IsUnreadTold, read_value};
+ghost use Rattle.sw_json.specs.Answering.{IsAnswer, IsAnswerTold, IsCommandOutcome, IsLongFile, IsMemoryTold, IsUnreadNetwork, IsUnreadTold, read_value};
 
 use crate::answers::{answer_value, file_fault_value};
 use crate::command_outcome::CommandOutcome;
@@ -31,7 +31,7 @@ pub fn file_fault(
     fault: Result<Value, AllocError>,
 ) -> Result<CommandOutcome, AllocError>
     requires { IfOk fault (λ v. IsPlain 1 (view v)) }
-    ensures { IfOk result (λ o. IsOkAnd fault (λ v. IsOutcome (file_fault_value path.now (view v)) 3 (view o.result) o.status)) }
+    ensures { IfOk result (λ o. IsOkAnd fault (λ v. IsCommandOutcome (file_fault_value path.now (view v)) 3 (view o.result) o.status)) }
 {
     file_faults_are_plain();
     let result = file_fault_value(alloc, path, fault?)?;
@@ -106,7 +106,7 @@ fn answer_to_files(
     files: &[(&str, &InputText)],
     found: Result<CommandOutcome, AllocError>,
 ) -> Result<Answer, AllocError>
-    ensures { IfOk result (λ a. IsOkAnd found (λ o. IsAnswer command.now (map (λ f. read_value f.0.now (given f.1.now)) files.now) release.entry (IsOutcome (view o.result) o.status) (string_bytes a.text) a.status)) }
+    ensures { IfOk result (λ a. IsOkAnd found (λ o. IsAnswer command.now (map (λ f. read_value f.0.now (given f.1.now)) files.now) release.entry (IsCommandOutcome (view o.result) o.status) (string_bytes a.text) a.status)) }
 {
     inputs_are_plain();
     answers_are_plain();
@@ -133,7 +133,7 @@ pub fn answer_to_one(
     text: &InputText,
     found: Result<CommandOutcome, AllocError>,
 ) -> Result<Answer, AllocError>
-    ensures { IfOk result (λ a. IsOkAnd found (λ o. IsAnswer command.now (read_value path.now (given text.now) ∷ []) release.entry (IsOutcome (view o.result) o.status) (string_bytes a.text) a.status)) }
+    ensures { IfOk result (λ a. IsOkAnd found (λ o. IsAnswer command.now (read_value path.now (given text.now) ∷ []) release.entry (IsCommandOutcome (view o.result) o.status) (string_bytes a.text) a.status)) }
 {
     answer_to_files(alloc, command, release, &[(path, text)], found)
 }
@@ -152,7 +152,7 @@ pub fn answer_to_two(
     second: &InputText,
     found: Result<CommandOutcome, AllocError>,
 ) -> Result<Answer, AllocError>
-    ensures { IfOk result (λ a. IsOkAnd found (λ o. IsAnswer command.now (read_value paths.entry.0.now (given first.now) ∷ read_value paths.entry.1.now (given second.now) ∷ []) release.entry (IsOutcome (view o.result) o.status) (string_bytes a.text) a.status)) }
+    ensures { IfOk result (λ a. IsOkAnd found (λ o. IsAnswer command.now (read_value paths.entry.0.now (given first.now) ∷ read_value paths.entry.1.now (given second.now) ∷ []) release.entry (IsCommandOutcome (view o.result) o.status) (string_bytes a.text) a.status)) }
 {
     let files = [(paths.0, first), (paths.1, second)];
     answer_to_files(alloc, command, release, &files, found)

@@ -3,7 +3,7 @@ ghost use Rattle.std.specs.Prelude.{◌≡◌, ◌<◌, IfOk, IsOkAnd, length, s
 ghost use Rattle.serde_json.specs.View.{view};
 ghost use Rattle.sw_text.specs.Inputs.{given};
 ghost use Rattle.sw_load.specs.Laws.{AreDeclared};
-ghost use Rattle.sw_json.specs.Answering.{IsLongFile, IsOutcome};
+ghost use Rattle.sw_json.specs.Answering.{IsCommandOutcome, IsLongFile};
 ghost use Rattle.sw_json_runs.specs.RunAnswers.{IsResultOf};
 ghost use Rattle.sw_json_runs.specs.RunCalls.{IsCallRecord, answers_of};
 ghost use Rattle.sw_json_runs.specs.RunRecords.{IsFault, IsLoadFileRecord, IsOutcomeRecord, IsRecordOf, IsUnreadRecord};
@@ -56,7 +56,7 @@ fn answered(
     call: &RunCall<'_>,
     found: Result<CommandOutcome, AllocError>,
 ) -> Result<Answer, AllocError>
-    ensures { IfOk result (λ a. IsOkAnd found (λ o. answers_of call.now (IsOutcome (view o.result) o.status) (string_bytes a.text) a.status)) }
+    ensures { IfOk result (λ a. IsOkAnd found (λ o. answers_of call.now (IsCommandOutcome (view o.result) o.status) (string_bytes a.text) a.status)) }
 {
     let paths = (call.path, call.other);
     answer_to_two(
@@ -90,7 +90,7 @@ fn fault_record(
     call: &RunCall<'_>,
     found: Result<CommandOutcome, AllocError>,
 ) -> Result<Recorded, AllocError>
-    ensures { IfOk result (λ r. IsOkAnd found (λ o. IsFault (answers_of call.now (IsOutcome (view o.result) o.status)) r)) }
+    ensures { IfOk result (λ r. IsOkAnd found (λ o. IsFault (answers_of call.now (IsCommandOutcome (view o.result) o.status)) r)) }
 {
     Ok(Recorded::Fault(answered(alloc, call, found)?))
 }

@@ -9,7 +9,7 @@ ghost use Rattle.sw_text.specs.Ends.{AreReadInOrder};
 ghost use Rattle.sw_text.specs.Inputs.{given};
 ghost use Rattle.sw_json.specs.Objects.{member_value};
 ghost use Rattle.sw_json.specs.Simple.{text_or_null};
-ghost use Rattle.sw_json.specs.Answering.{EndsByTwoFiles, IsOutcome, OfFile};
+ghost use Rattle.sw_json.specs.Answering.{EndsByTwoFiles, IsCommandOutcome, OfFile};
 ghost use Rattle.sw_json_verdicts.specs.CheckResults.{IsCertificateResult, IsCheckJson, IsCheckResult, IsJudgement, grammar_reason, reason_of, refused_value};
 ghost use Rattle.sw_json_verdicts.specs.Reasons.{parts_view};
 
@@ -60,7 +60,7 @@ fn refused_value<'a>(alloc: Global, parts: Parts<'a>, text: &'a str) -> Result<V
 
 // The result for a certificate that is refused.
 fn refused(alloc: Global, parts: Parts<'_>, text: &str) -> Result<CommandOutcome, AllocError>
-    ensures { IfOk result (λ o. IsOutcome (refused_value (parts_view parts.entry) text.now) 1 (view o.result) o.status) }
+    ensures { IfOk result (λ o. IsCommandOutcome (refused_value (parts_view parts.entry) text.now) 1 (view o.result) o.status) }
 {
     refusals_are_plain();
     let result = refused_value(alloc, parts, text)?;
@@ -76,7 +76,7 @@ fn refused_by(
     network: &Network,
     refusal: Refusal,
 ) -> Result<CommandOutcome, AllocError>
-    ensures { IfOk result (λ o. IsOutcome (refused_value (reason_of network.now refusal) (refusal_words network.now refusal)) 1 (view o.result) o.status) }
+    ensures { IfOk result (λ o. IsCommandOutcome (refused_value (reason_of network.now refusal) (refusal_words network.now refusal)) 1 (view o.result) o.status) }
 {
     let parts = parts_of(network, &refusal);
     let text = refusal_words(alloc, network, refusal)?;
@@ -85,7 +85,7 @@ fn refused_by(
 
 // The result for a text that is no certificate, by its first wrong line.
 fn refused_by_line(alloc: Global, number: usize) -> Result<CommandOutcome, AllocError>
-    ensures { IfOk result (λ o. IsOutcome (refused_value (grammar_reason number) (grammar_words number)) 1 (view o.result) o.status) }
+    ensures { IfOk result (λ o. IsCommandOutcome (refused_value (grammar_reason number) (grammar_words number)) 1 (view o.result) o.status) }
 {
     let text = grammar_words(alloc, number)?;
     refused(alloc, grammar_parts(number), text.as_str())

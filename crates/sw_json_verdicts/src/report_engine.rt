@@ -4,7 +4,7 @@ ghost use Rattle.serde_json.specs.View.{view};
 ghost use Rattle.sw_text.specs.Inputs.{given};
 ghost use Rattle.sw_json.specs.VerdictValues.{certificate_bytes};
 ghost use Rattle.sw_search.specs.Verdicts.{IsVerdict};
-ghost use Rattle.sw_json.specs.Answering.{EndsByOneFile, IsOutcome, OfNetworkFile};
+ghost use Rattle.sw_json.specs.Answering.{EndsByOneFile, IsCommandOutcome, OfNetworkFile};
 ghost use Rattle.sw_json_verdicts.specs.ReportResults.{IsFindingsResult, IsReportJson, KeepingOne, found_value, kept_of, report_value};
 
 use crate::laws::reports_are_plain;
@@ -64,7 +64,7 @@ fn findings_outcome(
     findings: &Findings,
 ) -> Result<CommandOutcome, AllocError>
     requires { IsVerdict network.now findings.now.verdict }
-    ensures { IfOk result (λ o. IsOutcome (found_value network.now findings.now) 0 (view o.result) o.status) }
+    ensures { IfOk result (λ o. IsCommandOutcome (found_value network.now findings.now) 0 (view o.result) o.status) }
 {
     reports_are_plain();
     let text = certificate_text(alloc, &findings.verdict)?;
