@@ -7,8 +7,8 @@ ghost use Rattle.sw_run.specs.Wanted.{cell_place};
 use crate::gate::Gate;
 use crate::locked_cell::{LockedCell, first_wanted};
 use crate::locked_journal::LockedJournal;
-use crate::naps::Naps;
 use crate::run_identity::RunIdentity;
+use crate::sleepers::Sleepers;
 use crate::turn::Turn;
 use std::alloc::{AllocError, Global};
 use std::sync::Mutex;
@@ -89,7 +89,7 @@ pub(crate) struct RunState<'j, 'a, W: RunIdentity> {
     /// How many workers have a turn.
     pub(crate) turns: AtomicU64,
     /// Where workers sleep and are woken.
-    pub(crate) naps: Naps,
+    pub(crate) sleepers: Sleepers,
 }
 
 /// The place of the cell at which the link end stands: the nodes come first.
@@ -244,7 +244,7 @@ impl<'j, 'a, W: RunIdentity> RunState<'j, 'a, W> {
         };
         let cell = locked.cell.id();
         self.turns.fetch_add(1, Ordering::SeqCst);
-        self.naps.call();
+        self.sleepers.call();
         let made = self.decide(alloc, gate, slot, &mut locked);
         drop(locked);
         self.turns.fetch_sub(1, Ordering::SeqCst);

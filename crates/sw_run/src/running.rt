@@ -6,11 +6,11 @@ ghost use Rattle.sw_run.specs.Outcomes.{IsOutcome};
 
 use crate::gate::Gate;
 use crate::locked_journal::LockedJournal;
-use crate::naps::Naps;
 use crate::notes::Notes;
 use crate::outcome::Outcome;
 use crate::run_identity::RunIdentity;
 use crate::run_state::{RunState, Slot, locked};
+use crate::sleepers::Sleepers;
 use crate::workers::{RunCrew, start_all};
 use std::alloc::{AllocError, Global};
 use std::marker::Brand;
@@ -38,7 +38,7 @@ fn work_all<'a, W: RunIdentity + Send + Sync, G: Gate + Sync, R: Threads + Wait 
         slots,
         journal: Mutex::new(journal),
         turns: AtomicU64::new(0),
-        naps: Naps::new(),
+        sleepers: Sleepers::new(),
     };
     let crew = RunCrew {
         rt,

@@ -2,9 +2,9 @@
 ghost use Rattle.std.specs.Prelude.{◌<◌};
 
 use crate::gate::Gate;
-use crate::naps::SHORTEST;
 use crate::run_identity::RunIdentity;
 use crate::run_state::{Found, RunState};
+use crate::sleepers::SHORTEST;
 use std::alloc::Global;
 use std::sync::Wait;
 use std::thread;
@@ -65,26 +65,26 @@ impl<'s, 'j, 'a, W: RunIdentity, G: Gate, R: Wait> Crew for RunCrew<'s, 'j, 'a, 
         if worker >= shared.slots.len() || shared.network.channels() == 0 {
             return;
         }
-        let naps = &shared.naps;
+        let sleepers = &shared.sleepers;
         let mut millis = SHORTEST;
         for _ in self.rt.forever() {
-            let Some(calls) = naps.calls() else {
+            let Some(calls) = sleepers.calls() else {
                 return;
             };
             match round(self.alloc, shared, self.gate, worker) {
                 Found::Work => {
                     if millis != SHORTEST {
                         millis = SHORTEST;
-                        naps.tell_of_use();
+                        sleepers.tell_of_use();
                     }
                 }
                 Found::Nothing => {
                     if !shared.raise_all() {
-                        millis = naps.sleep(self.rt, calls, millis);
+                        millis = sleepers.sleep(self.rt, calls, millis);
                     }
                 }
-                Found::Held => millis = naps.sleep(self.rt, calls, millis),
-                Found::Over => naps.end(),
+                Found::Held => millis = sleepers.sleep(self.rt, calls, millis),
+                Found::Over => sleepers.end(),
             }
         }
     }
@@ -92,7 +92,7 @@ impl<'s, 'j, 'a, W: RunIdentity, G: Gate, R: Wait> Crew for RunCrew<'s, 'j, 'a, 
     /// Ends the run.
     fn refuse(&self) {
         self.shared.journal.lock(self.rt).refuse();
-        self.shared.naps.end();
+        self.shared.sleepers.end();
     }
 }
 
