@@ -11,7 +11,7 @@ use crate::outcome::Outcome;
 use crate::run_identity::RunIdentity;
 use crate::run_state::{RunState, Slot, locked};
 use crate::sleepers::Sleepers;
-use crate::workers::{RunCrew, start_all};
+use crate::workers::{RunTask, start_all};
 use std::alloc::{AllocError, Global};
 use std::marker::Brand;
 use std::sync::atomic::AtomicU64;
@@ -40,13 +40,13 @@ fn work_all<'a, W: RunIdentity + Send + Sync, G: Gate + Sync, R: Threads + Wait 
         turns: AtomicU64::new(0),
         sleepers: Sleepers::new(),
     };
-    let crew = RunCrew {
+    let task = RunTask {
         rt,
         alloc,
         shared: &shared,
         gate,
     };
-    start_all(rt, &crew, workers);
+    start_all(rt, &task, workers);
 }
 
 /// Runs the workers on the cells and the journal of one run.

@@ -41,7 +41,7 @@ fn round<W: RunIdentity, G: Gate>(
 }
 
 /// What threads are started for.
-pub(crate) trait Crew {
+pub(crate) trait ThreadTask {
     /// What the worker of that number does.
     fn work(&self, worker: usize);
 
@@ -49,16 +49,16 @@ pub(crate) trait Crew {
     fn refuse(&self);
 }
 
-/// The crew of a run.
+/// The task of the threads of a run.
 #[derive(Drop)]
-pub(crate) struct RunCrew<'s, 'j, 'a, W: RunIdentity, G: Gate, R: Wait> {
+pub(crate) struct RunTask<'s, 'j, 'a, W: RunIdentity, G: Gate, R: Wait> {
     pub(crate) rt: &'s R,
     pub(crate) alloc: Global,
     pub(crate) shared: &'s RunState<'j, 'a, W>,
     pub(crate) gate: &'s G,
 }
 
-impl<'s, 'j, 'a, W: RunIdentity, G: Gate, R: Wait> Crew for RunCrew<'s, 'j, 'a, W, G, R> {
+impl<'s, 'j, 'a, W: RunIdentity, G: Gate, R: Wait> ThreadTask for RunTask<'s, 'j, 'a, W, G, R> {
     /// Goes on until the run is over. A worker with no cell has nothing to do.
     fn work(&self, worker: usize) {
         let shared = self.shared;
@@ -97,13 +97,13 @@ impl<'s, 'j, 'a, W: RunIdentity, G: Gate, R: Wait> Crew for RunCrew<'s, 'j, 'a, 
 }
 
 /// Starts the workers, and waits for them.
-pub(crate) fn start_all<C: Crew + Sync, R: Threads + Wait>(rt: &R, crew: &C, workers: usize)
+pub(crate) fn start_all<C: ThreadTask + Sync, R: Threads + Wait>(rt: &R, task: &C, workers: usize)
     requires { 0 < workers }
 {
     thread::scope(thread::scope_env(), rt, |scope| {
         for worker in 0..workers {
-            if scope.spawn(move || crew.work(worker)).is_err() {
-                crew.refuse();
+            if scope.spawn(move || task.work(worker)).is_err() {
+                task.refuse();
             }
         }
     });
