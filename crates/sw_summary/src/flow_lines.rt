@@ -5,7 +5,7 @@ ghost use Rattle.sw_summary.specs.Tallies.{IsRising, found, taken_all};
 ghost use Rattle.sw_summary.specs.Texts.{flow_text_where, flow_texts};
 
 use crate::begun::{Begun, forms, loaded};
-use crate::came_out::Key;
+use crate::came_out::PacketKey;
 use crate::declared::declared_flow;
 use crate::handling::{Handling, handled_as};
 use crate::tallies::{Tally, found_packets, found_times, tallies};
@@ -25,7 +25,7 @@ fn found_replies(replies: &mut [Tally<'_>], flow: &Flow, packets: &[Packet]) -> 
         return 0;
     };
     let bytes = [reply.initiator()];
-    let key = Key {
+    let key = PacketKey {
         node: flow.from(),
         bytes: &bytes,
         end: End::Eop,
