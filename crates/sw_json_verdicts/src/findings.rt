@@ -12,7 +12,7 @@ ghost use Rattle.sw_json_verdicts.specs.Names.{certificate_name};
 ghost use Rattle.sw_json_verdicts.specs.Stores.{given_of};
 
 use crate::audit_options::AuditOptions;
-use crate::judged::{Judged, Named, kind_entry, memory_judged};
+use crate::judged::{Judged, NumberedFile, kind_entry, memory_judged};
 use crate::names::certificate_name;
 use crate::statuses::{kept_status, verdict_word};
 use crate::stores::{AuditInput, Storage};
@@ -50,7 +50,7 @@ fn status_of<S: Storage>(
     alloc: Global,
     storage: &S,
     keeping: bool,
-    named: Named<'_>,
+    named: NumberedFile<'_>,
     verdict: &Verdict,
     certificate: &[u8],
 ) -> Result<u8, AllocError>
@@ -94,7 +94,7 @@ fn verdict_judged<S: Storage>(
     alloc: Global,
     storage: &S,
     options: &AuditOptions<'_>,
-    named: Named<'_>,
+    named: NumberedFile<'_>,
     text: &[u8],
     network: &Network,
     verdict: &Verdict,
@@ -128,7 +128,7 @@ fn network_judged<T: VerdictWorkers, S: Storage>(
     alloc: Global,
     storage: &S,
     options: &AuditOptions<'_>,
-    named: Named<'_>,
+    named: NumberedFile<'_>,
     text: &[u8],
     network: &Network,
 ) -> Result<Judged, AllocError>
@@ -170,7 +170,7 @@ fn text_judged<T: VerdictWorkers, S: Storage>(
     alloc: Global,
     storage: &S,
     options: &AuditOptions<'_>,
-    named: Named<'_>,
+    named: NumberedFile<'_>,
     text: &[u8],
 ) -> Result<Judged, AllocError>
     ensures { IfOk result (λ j. IsTextFinding options.now (S.keeps storage.now) named.entry.number named.entry.path.now text.now (network_text text.now) (finding_of named.entry.path.now j)) }
@@ -234,7 +234,7 @@ fn input_judged<T: VerdictWorkers, S: Storage>(
     alloc: Global,
     storage: &S,
     options: &AuditOptions<'_>,
-    named: Named<'_>,
+    named: NumberedFile<'_>,
     input: &AuditInput,
 ) -> Result<Judged, AllocError>
     ensures { IfOk result (λ j. IsGivenFinding options.now (S.keeps storage.now) named.entry.number named.entry.path.now (given_of input.now) (finding_of named.entry.path.now j)) }
@@ -253,7 +253,7 @@ pub(crate) fn judged<T: VerdictWorkers, S: Storage>(
     alloc: Global,
     storage: &S,
     options: &AuditOptions<'_>,
-    named: Named<'_>,
+    named: NumberedFile<'_>,
 ) -> Judged
     ensures { IsFinding options.now (S.gives storage.now) (S.keeps storage.now) named.entry.number named.entry.path.now (finding_of named.entry.path.now result) }
 {
