@@ -16,7 +16,7 @@ use Rattle.sw_rmap.proofs.Answering.{answer-read}
 use Rattle.sw_rmap.proofs.Parts.{written_is_read}
 use Rattle.sw_app_rmap.specs.FlowCommands.{bytes_to, command_to, path_back}
 use Rattle.sw_app_rmap.specs.Laws.{carried_out}
-use Rattle.sw_app_rmap.specs.Orders.{Action, IsSmall, Order, data_of, length_of, reads, writes}
+use Rattle.sw_app_rmap.specs.Orders.{Action, IsSmall, RmapOrder, data_of, length_of, reads, writes}
 use Rattle.sw_app_rmap.specs.Packets.{is_in_window}
 use Rattle.sw_app_rmap.proofs.Built.{IsPath, answered_where_wanted, bits, is_command}
 
@@ -33,7 +33,7 @@ abbrev body_for : Action → List ℕ
 body_for (reads count) = []
 body_for (writes bytes acknowledged) = with_crc bytes
 
-module _ (t : TargetConfig) (reply : Option ReplyEntry) (o : Order) (path : IsPath (path_back reply)) (window : is_in_window t o ≡ true) where
+module _ (t : TargetConfig) (reply : Option ReplyEntry) (o : RmapOrder) (path : IsPath (path_back reply)) (window : is_in_window t o ≡ true) where
   abbrev c : CommandView
   c = command_to t reply o
 
@@ -64,16 +64,16 @@ module _ (t : TargetConfig) (c : CommandView) (memory body : List ℕ) (done : s
   unfolding answer_to
   answered_write write = rw (done, write) refl
 
-abbrev order : ℕ → ℕ → Action → Order
+abbrev order : ℕ → ℕ → Action → RmapOrder
 order address transaction action = record { address = address; action = action; transaction = transaction }
 
-abbrev Carried : TargetConfig → Option ReplyEntry → Order → List ℕ → Type 0
+abbrev Carried : TargetConfig → Option ReplyEntry → RmapOrder → List ℕ → Type 0
 Carried t reply o memory = answer_to t memory (command_to t reply o) (body_for o.action) Eop ≡ carried_out t reply o memory
 
 by_action : (t : TargetConfig) (reply : Option ReplyEntry) (address transaction : ℕ) (action : Action) (memory : List ℕ) → IsPath (path_back reply)
     → is_in_window t (order address transaction action) ≡ true → Carried t reply (order address transaction action) memory
 by_action t reply address transaction (reads count) memory path window =
-    let o : Order = order address transaction (reads count) in
+    let o : RmapOrder = order address transaction (reads count) in
     let c : CommandView = command_to t reply o in
     let b = bits t reply o path in
     let whole : 0 ≡ body_len c = rw b.writes refl in
@@ -81,7 +81,7 @@ by_action t reply address transaction (reads count) memory path window =
     let done = succeeds t reply o path window [] whole right in
     answered_read t c memory [] done b.writes ∙ rw (answered_where_wanted t reply o path) refl
 by_action t reply address transaction (writes bytes acknowledged) memory path window =
-    let o : Order = order address transaction (writes bytes acknowledged) in
+    let o : RmapOrder = order address transaction (writes bytes acknowledged) in
     let c : CommandView = command_to t reply o in
     let b = bits t reply o path in
     let body : List ℕ = with_crc bytes in
@@ -99,7 +99,7 @@ body_is t reply address transaction (reads count) path = let b = bits t reply (o
 body_is t reply address transaction (writes bytes acknowledged) path = let b = bits t reply (order address transaction (writes bytes acknowledged)) path in rw b.writes refl
 
 -- the target carries the command out, whatever its window holds
-pub carries_out : (t : TargetConfig) (reply : Option ReplyEntry) (o : Order) (memory : List ℕ) → IsPath (path_back reply) → IsSmall o → is_in_window t o ≡ true
+pub carries_out : (t : TargetConfig) (reply : Option ReplyEntry) (o : RmapOrder) (memory : List ℕ) → IsPath (path_back reply) → IsSmall o → is_in_window t o ≡ true
     → answer t memory (bytes_to t reply o) Eop ≡ carried_out t reply o memory
 carries_out t reply o memory path small window =
     let c : CommandView = command_to t reply o in

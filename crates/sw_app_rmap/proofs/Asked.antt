@@ -17,7 +17,7 @@ use Rattle.sw_rmap.proofs.Parts.{written_is_read}
 use Rattle.sw_app_rmap.specs.declared.request.Request.{Request}
 use Rattle.sw_app_rmap.specs.FlowCommands.{bytes_to, command_to, initiator_of, path_back}
 use Rattle.sw_app_rmap.specs.Laws.{PacketsAreAsked}
-use Rattle.sw_app_rmap.specs.Orders.{IsSmall, Order, data_of, wants_reply}
+use Rattle.sw_app_rmap.specs.Orders.{IsSmall, RmapOrder, data_of, wants_reply}
 use Rattle.sw_app_rmap.specs.Packets.{FlowPacket, packet_of}
 use Rattle.sw_app_rmap.proofs.Bounds.{is_small}
 use Rattle.sw_app_rmap.proofs.Built.{IsPath, answered_where_wanted, is_command, is_path, path_of_command}
@@ -25,7 +25,7 @@ use Rattle.sw_app_rmap.proofs.Answered.{carries_out}
 use Rattle.sw_app_rmap.proofs.Parts.{IsCarried, has_target, is_made}
 
 -- the address bytes that are left and the cargo are the command
-pub whole_command : (t : TargetConfig) (f : FlowEntry) (o : Order) (cargo : List ℕ) → IsCarried t f o cargo → left_bytes f ++ cargo ≡ bytes_to t f.reply o
+pub whole_command : (t : TargetConfig) (f : FlowEntry) (o : RmapOrder) (cargo : List ℕ) → IsCarried t f o cargo → left_bytes f ++ cargo ≡ bytes_to t f.reply o
 whole_command t f o cargo is =
     let left = left_bytes f in
     let bytes = bytes_to t f.reply o in
@@ -34,7 +34,7 @@ whole_command t f o cargo is =
     ap (λ (x : List ℕ). left ++ x) is.is ∙ ap (λ (x : List ℕ). x ++ drop (length left) bytes) (sym front) ∙ take-append-drop (length left) bytes
 
 -- 1 to 4,096 bytes
-sized : (t : TargetConfig) (f : FlowEntry) (o : Order) (cargo : List ℕ) → IsCarried t f o cargo → (1 ≤ length cargo) × (length cargo ≤ 4096)
+sized : (t : TargetConfig) (f : FlowEntry) (o : RmapOrder) (cargo : List ℕ) → IsCarried t f o cargo → (1 ≤ length cargo) × (length cargo ≤ 4096)
 sized t f o cargo is =
     let left = left_bytes f in
     let bytes = bytes_to t f.reply o in
@@ -51,7 +51,7 @@ right_way false path initiator reply h p i = inl refl
 right_way true path initiator None h p i = absurd cc
 right_way true path initiator (Some r) h p i = inr (rw (p, i) refl)
 
-answered_rightly : (t : TargetConfig) (nodes : List NodeEntry) (f : FlowEntry) (o : Order) (cargo : List ℕ) → target_of nodes f.to ≡ Some t → IsPath (path_back f.reply) → IsSmall o → IsCarried t f o cargo
+answered_rightly : (t : TargetConfig) (nodes : List NodeEntry) (f : FlowEntry) (o : RmapOrder) (cargo : List ℕ) → target_of nodes f.to ≡ Some t → IsPath (path_back f.reply) → IsSmall o → IsCarried t f o cargo
     → IsAnsweredRightly nodes f cargo
 unfolding reply_to
 answered_rightly t nodes f o cargo at path small is =

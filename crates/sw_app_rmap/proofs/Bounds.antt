@@ -8,7 +8,7 @@ use Rattle.sw_app_rmap.specs.declared.fault.RmapFault.TheVariants.{BadData, BadL
 use Rattle.sw_app_rmap.specs.declared.request.Access.{Access}
 use Rattle.sw_app_rmap.specs.declared.request.Access.TheVariants as access
 use Rattle.sw_app_rmap.specs.declared.request.Request.{Request}
-use Rattle.sw_app_rmap.specs.Orders.{Action, IsSmall, Order, action_of, length_of, order_of, reads, transaction_of, writes}
+use Rattle.sw_app_rmap.specs.Orders.{Action, IsSmall, RmapOrder, action_of, length_of, order_of, reads, transaction_of, writes}
 use Rattle.sw_app_rmap.specs.Told.{ok_or}
 use Rattle.sw_app_rmap.specs.Words.{digits_of, goes_on, is_hexadecimal, number_of}
 use Rattle.sw_app_rmap.proofs.Parts.{goes_on as parts_of, is_read, is_there}
@@ -66,7 +66,7 @@ action_within (access.Write pairs acknowledged) action h =
     rw (← same) within
 
 -- the numbers of an order that was read fit
-pub is_small : (r : Request) (o : Order) → order_of r ≡ Ok o → IsSmall o
+pub is_small : (r : Request) (o : RmapOrder) → order_of r ≡ Ok o → IsSmall o
 is_small r o h =
     let is = is_read r o h in
     record {

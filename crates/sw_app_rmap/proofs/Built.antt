@@ -11,7 +11,7 @@ use Rattle.sw_rmap.specs.Commands.{written}
 use Rattle.sw_rmap.specs.Instruction.{increments, is_known, is_read_modify_write, is_write as is_write_bit, packet_type, reply_address_len, wants_reply as wants_reply_bit}
 use Rattle.sw_rmap.specs.Replies.{is_answered, leads_nowhere, path_of, without_leading_zeros}
 use Rattle.sw_app_rmap.specs.FlowCommands.{bytes_to, command_to, initiator_of, instruction, padded, path_back, units}
-use Rattle.sw_app_rmap.specs.Orders.{Action, IsSmall, Order, data_of, is_write, length_of, reads, wants_reply, writes}
+use Rattle.sw_app_rmap.specs.Orders.{Action, IsSmall, RmapOrder, data_of, is_write, length_of, reads, wants_reply, writes}
 
 and_true : (b : Bool) → (b && true) ≡ b
 and_true true = refl
@@ -100,7 +100,7 @@ is_sensible : (a : Action) → (is_write a || wants_reply a) ≡ true
 is_sensible (reads count) = refl
 is_sensible (writes bytes acknowledged) = refl
 
-module _ (t : TargetConfig) (reply : Option ReplyEntry) (o : Order) (path : IsPath (path_back reply)) where
+module _ (t : TargetConfig) (reply : Option ReplyEntry) (o : RmapOrder) (path : IsPath (path_back reply)) where
   pub bits : AreBits (is_write o.action) (wants_reply o.action) (units (path_back reply))
   bits = are_bits (is_write o.action) (wants_reply o.action) (units (path_back reply)) (is_sensible o.action) (few_units (path_back reply) path.few)
 
@@ -120,7 +120,7 @@ module _ (t : TargetConfig) (reply : Option ReplyEntry) (o : Order) (path : IsPa
   path_of_command = path-padded (path_back reply) path.leading
 
 -- what is built of the parts is the command's text in bytes
-pub bytes_are : (t : TargetConfig) (reply : Option ReplyEntry) (o : Order) (write wants : Bool) (count n initiator size : ℕ) (path address body : List ℕ) (made : CommandView) → path ≡ path_back reply → address ≡ padded path
+pub bytes_are : (t : TargetConfig) (reply : Option ReplyEntry) (o : RmapOrder) (write wants : Bool) (count n initiator size : ℕ) (path address body : List ℕ) (made : CommandView) → path ≡ path_back reply → address ≡ padded path
     → write ≡ is_write o.action → wants ≡ wants_reply o.action → count ≡ units path → n ≡ instruction write wants count → initiator ≡ initiator_of reply → size ≡ length_of o.action
     → made ≡ command t.logical n t.key address initiator o.transaction o.address size → body ≡ data_of o.action → written made body ≡ bytes_to t reply o
 bytes_are t reply o write wants count n initiator size path address body made path_is address_is write_is wants_is count_is n_is initiator_is size_is made_is body_is =

@@ -11,7 +11,7 @@ use Rattle.sw_app_rmap.specs.declared.fault.RmapFault.{RmapFault}
 use Rattle.sw_app_rmap.specs.declared.fault.RmapFault.TheVariants.{UnknownFlow, BadAddress, BadTransaction, NoTarget, NoReply, OutsideWindow, WrongLeft, TooLong}
 use Rattle.sw_app_rmap.specs.declared.request.Request.{Request}
 use Rattle.sw_app_rmap.specs.FlowCommands.{bytes_to}
-use Rattle.sw_app_rmap.specs.Orders.{Action, Order, action_of, order_of, transaction_of, wants_reply}
+use Rattle.sw_app_rmap.specs.Orders.{Action, RmapOrder, action_of, order_of, transaction_of, wants_reply}
 use Rattle.sw_app_rmap.specs.Packets.{FlowPacket, begins_with, behind_left, cargo_of, cargo_to, is_in_window, packet_of}
 use Rattle.sw_app_rmap.specs.Told.{◌>>=◌, Fails, Gives, ok_or}
 use Rattle.sw_app_rmap.specs.Words.{number_of}
@@ -31,22 +31,22 @@ not_refused true fault r a h = absurd cc
 not_refused false fault r a h = (refl, h)
 
 -- what is known of the words of an order
-pub record IsRead (r : Request) (o : Order) : Type 0 where
+pub record IsRead (r : Request) (o : RmapOrder) : Type 0 where
   pub address : number_of 1099511627775 r.address.now ≡ Some o.address
   pub action : action_of r.access ≡ Ok o.action
   pub transaction : transaction_of (option_map (λ w. w.now) r.transaction) ≡ Some o.transaction
 
 module _ (r : Request) where
-  abbrev whole : ℕ → Action → ℕ → Order
+  abbrev whole : ℕ → Action → ℕ → RmapOrder
   whole address action transaction = record { address = address; action = action; transaction = transaction }
 
-  abbrev from_action : ℕ → Action → Result Order RmapFault
+  abbrev from_action : ℕ → Action → Result RmapOrder RmapFault
   from_action address action = ok_or (transaction_of (option_map (λ w. w.now) r.transaction)) BadTransaction >>= λ transaction. Ok (whole address action transaction)
 
-  abbrev from_address : ℕ → Result Order RmapFault
+  abbrev from_address : ℕ → Result RmapOrder RmapFault
   from_address address = action_of r.access >>= λ action. from_action address action
 
-  pub is_read : (o : Order) → order_of r ≡ Ok o → IsRead r o
+  pub is_read : (o : RmapOrder) → order_of r ≡ Ok o → IsRead r o
   unfolding order_of
   is_read o h =
       let address = goes_on (ok_or (number_of 1099511627775 r.address.now) BadAddress) (λ a. from_address a) o h in
@@ -60,7 +60,7 @@ module _ (r : Request) where
       })
 
 -- what is known of the cargo to a target
-pub record IsCarried (t : TargetConfig) (f : FlowEntry) (o : Order) (cargo : List ℕ) : Type 0 where
+pub record IsCarried (t : TargetConfig) (f : FlowEntry) (o : RmapOrder) (cargo : List ℕ) : Type 0 where
   pub answerable : (wants_reply o.action && not (is_some f.reply)) ≡ false
   pub within : is_in_window t o ≡ true
   pub begins : begins_with (left_bytes f) (bytes_to t f.reply o) ≡ true
@@ -71,7 +71,7 @@ not_false : (b : Bool) → not b ≡ false → b ≡ true
 not_false true e = refl
 not_false false e = absurd cc
 
-pub is_carried : (t : TargetConfig) (f : FlowEntry) (o : Order) (cargo : List ℕ) → cargo_to t f o ≡ Ok cargo → IsCarried t f o cargo
+pub is_carried : (t : TargetConfig) (f : FlowEntry) (o : RmapOrder) (cargo : List ℕ) → cargo_to t f o ≡ Ok cargo → IsCarried t f o cargo
 is_carried t f o cargo h =
     let left = left_bytes f in
     let bytes = bytes_to t f.reply o in
@@ -88,7 +88,7 @@ is_carried t f o cargo h =
       is = sym same;
     }
 
-pub has_target : (nodes : List NodeEntry) (f : FlowEntry) (o : Order) (cargo : List ℕ) → cargo_of nodes f o ≡ Ok cargo → (t : TargetConfig) × (target_of nodes f.to ≡ Some t) × IsCarried t f o cargo
+pub has_target : (nodes : List NodeEntry) (f : FlowEntry) (o : RmapOrder) (cargo : List ℕ) → cargo_of nodes f o ≡ Ok cargo → (t : TargetConfig) × (target_of nodes f.to ≡ Some t) × IsCarried t f o cargo
 unfolding cargo_of
 has_target nodes f o cargo h =
     let target = goes_on (ok_or (target_of nodes f.to) NoTarget) (λ t. cargo_to t f o) cargo h in
@@ -99,7 +99,7 @@ pub record IsMade (d : Declaration) (r : Request) (p : FlowPacket) : Type 0 wher
   pub named : position (bytes_eq r.flow.now) (flow_names d.flows) ≡ Some p.flow
   pub flow : FlowEntry
   pub numbered : slice_get d.flows p.flow ≡ Some flow
-  pub order : Order
+  pub order : RmapOrder
   pub asked : order_of r ≡ Ok order
   pub carried : cargo_of d.nodes flow order ≡ Ok p.cargo
 
@@ -107,7 +107,7 @@ module _ (d : Declaration) (r : Request) where
   abbrev packet : ℕ → List ℕ → FlowPacket
   packet number cargo = record { flow = number; cargo = cargo }
 
-  abbrev from_order : ℕ → FlowEntry → Order → Result FlowPacket RmapFault
+  abbrev from_order : ℕ → FlowEntry → RmapOrder → Result FlowPacket RmapFault
   from_order number flow order = cargo_of d.nodes flow order >>= λ cargo. Ok (packet number cargo)
 
   abbrev from_flow : ℕ → FlowEntry → Result FlowPacket RmapFault
@@ -149,11 +149,11 @@ module _ (d : Declaration) (r : Request) (number : ℕ) (flow : FlowEntry) (name
   order_refused Memory failed = tt
   order_refused (Fault fault) failed = rw (sym named, declared, failed) refl
 
-  pub cargo_refused : (e : RmapError) (order : Order) → order_of r ≡ Ok order → Fails e (cargo_of d.nodes flow order) → Fails e (packet_of d r)
+  pub cargo_refused : (e : RmapError) (order : RmapOrder) → order_of r ≡ Ok order → Fails e (cargo_of d.nodes flow order) → Fails e (packet_of d r)
   unfolding packet_of
   cargo_refused Memory order asked failed = tt
   cargo_refused (Fault fault) order asked failed = rw (sym named, declared, asked, failed) refl
 
-  pub is_packet : (order : Order) (cargo : List ℕ) → order_of r ≡ Ok order → cargo_of d.nodes flow order ≡ Ok cargo → packet_of d r ≡ Ok (packet d r number cargo)
+  pub is_packet : (order : RmapOrder) (cargo : List ℕ) → order_of r ≡ Ok order → cargo_of d.nodes flow order ≡ Ok cargo → packet_of d r ≡ Ok (packet d r number cargo)
   unfolding packet_of
   is_packet order cargo asked carried = rw (sym named, declared, asked, carried) refl

@@ -4,7 +4,7 @@ use Rattle.sw_config.specs.Entries.{ReplyEntry}
 use Rattle.sw_rmap.specs.declared.config.TargetConfig.{TargetConfig}
 use Rattle.sw_rmap.specs.CommandView.{CommandView, command}
 use Rattle.sw_rmap.specs.Commands.{written}
-use Rattle.sw_app_rmap.specs.Orders.{Order, data_of, is_write, length_of, wants_reply}
+use Rattle.sw_app_rmap.specs.Orders.{RmapOrder, data_of, is_write, length_of, wants_reply}
 
 -- the path back of a flow's replies; none where it has no replies
 abbrev pub path_back : Option ReplyEntry → List ℕ
@@ -29,11 +29,11 @@ abbrev pub instruction : Bool → Bool → ℕ → ℕ
 instruction write reply count = 64 + (if write then 32 else 0) + (if reply then 8 else 0) + 4 + count
 
 -- the command to the target of what is asked for, with the target's logical address and key
-abbrev pub command_to : TargetConfig → Option ReplyEntry → Order → CommandView
+abbrev pub command_to : TargetConfig → Option ReplyEntry → RmapOrder → CommandView
 command_to t reply o =
     command t.logical (instruction (is_write o.action) (wants_reply o.action) (units (path_back reply))) t.key (padded (path_back reply))
     (initiator_of reply) o.transaction o.address (length_of o.action)
 
 -- its bytes: the header with its CRC and, of a write, the data with theirs
-abbrev pub bytes_to : TargetConfig → Option ReplyEntry → Order → List ℕ
+abbrev pub bytes_to : TargetConfig → Option ReplyEntry → RmapOrder → List ℕ
 bytes_to t reply o = written (command_to t reply o) (data_of o.action)

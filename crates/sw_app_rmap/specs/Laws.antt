@@ -9,7 +9,7 @@ use Rattle.sw_rmap.specs.Answers.{answer, first_of, stored}
 use Rattle.sw_rmap.specs.Replies.{reply_of}
 use Rattle.sw_app_rmap.specs.declared.request.Request.{Request}
 use Rattle.sw_app_rmap.specs.FlowCommands.{command_to}
-use Rattle.sw_app_rmap.specs.Orders.{Action, Order, order_of, reads, wants_reply, writes}
+use Rattle.sw_app_rmap.specs.Orders.{Action, RmapOrder, order_of, reads, wants_reply, writes}
 use Rattle.sw_app_rmap.specs.Packets.{FlowPacket, packet_of}
 
 -- what the reply brings: the bytes at the addresses that are read, and none to a write
@@ -24,7 +24,7 @@ held t address (writes bytes acknowledged) memory = stored memory (address - t.s
 
 -- the target carries the command out: it replies with the status of none of the cases, success, where a reply is wanted, and reads or
 -- writes what was asked for
-abbrev pub carried_out : TargetConfig → Option ReplyEntry → Order → List ℕ → Option (List ℕ) × List ℕ
+abbrev pub carried_out : TargetConfig → Option ReplyEntry → RmapOrder → List ℕ → Option (List ℕ) × List ℕ
 carried_out t reply o memory =
     ((if wants_reply o.action then Some (reply_of (command_to t reply o) (first_of []) (found t o.address o.action memory)) else None), held t o.address o.action memory)
 
@@ -35,7 +35,7 @@ pub record IsAsked (d : Declaration) (r : Request) (p : FlowPacket) : Type 0 whe
   pub numbered : slice_get d.flows p.flow ≡ Some flow
   pub named : flow.name ≡ r.flow.now
   pub declared : IsDeclaredPacket d p.flow p.cargo
-  pub order : Order
+  pub order : RmapOrder
   pub asked : order_of r ≡ Ok order
   pub target : TargetConfig
   pub at_end : target_of d.nodes flow.to ≡ Some target

@@ -5,7 +5,7 @@ use Rattle.sw_app_rmap.specs.declared.fault.RmapFault.{RmapFault}
 use Rattle.sw_app_rmap.specs.declared.fault.RmapFault.TheVariants.{BadAddress, BadLength, BadData, BadTransaction}
 use Rattle.sw_app_rmap.specs.declared.order.Action as code
 use Rattle.sw_app_rmap.specs.declared.order.Action.TheVariants as code_action
-use Rattle.sw_app_rmap.specs.declared.order.Order as code_order
+use Rattle.sw_app_rmap.specs.declared.order.RmapOrder as code_order
 use Rattle.sw_app_rmap.specs.declared.request.Access.{Access}
 use Rattle.sw_app_rmap.specs.declared.request.Access.TheVariants as access
 use Rattle.sw_app_rmap.specs.declared.request.Request.{Request}
@@ -18,7 +18,7 @@ pub data Action : Type 0 where
   writes : (bytes : List ℕ) (acknowledged : Bool) → Action
 
 -- a command that is asked for
-pub record Order : Type 0 where
+pub record RmapOrder : Type 0 where
   pub address : ℕ
   pub action : Action
   pub transaction : ℕ
@@ -57,7 +57,7 @@ transaction_of None = Some 0
 transaction_of (Some word) = number_of 65535 word
 
 -- an address has 40 bits (ECSS-E-ST-50-52C, the fields of a command)
-unfoldable pub order_of : Request → Result Order RmapFault
+unfoldable pub order_of : Request → Result RmapOrder RmapFault
 order_of r = do
   address ← ok_or (number_of 1099511627775 r.address.now) BadAddress
   action ← action_of r.access
@@ -65,7 +65,7 @@ order_of r = do
   Ok (record { address = address; action = action; transaction = transaction })
 
 -- its numbers fit the fields of a command: the address has 40 bits, the transaction identifier 16, and the length 24
-pub record IsSmall (o : Order) : Type 0 where
+pub record IsSmall (o : RmapOrder) : Type 0 where
   pub address : o.address ≤ 1099511627775
   pub transaction : o.transaction ≤ 65535
   pub count : length_of o.action ≤ 16777215
@@ -75,5 +75,5 @@ abbrev pub action_view : code.Action → Action
 action_view (code_action.Read count) = reads count
 action_view (code_action.Write bytes acknowledged) = writes bytes.items acknowledged
 
-abbrev pub order_view : code_order.Order → Order
+abbrev pub order_view : code_order.RmapOrder → RmapOrder
 order_view o = record { address = o.address; action = action_view o.action; transaction = o.transaction }

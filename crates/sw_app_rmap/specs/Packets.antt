@@ -8,7 +8,7 @@ use Rattle.sw_app_rmap.specs.declared.fault.RmapFault.{RmapFault}
 use Rattle.sw_app_rmap.specs.declared.fault.RmapFault.TheVariants.{UnknownFlow, NoTarget, NoReply, OutsideWindow, WrongLeft, TooLong}
 use Rattle.sw_app_rmap.specs.declared.request.Request.{Request}
 use Rattle.sw_app_rmap.specs.FlowCommands.{bytes_to}
-use Rattle.sw_app_rmap.specs.Orders.{Order, length_of, order_of, wants_reply}
+use Rattle.sw_app_rmap.specs.Orders.{RmapOrder, length_of, order_of, wants_reply}
 use Rattle.sw_app_rmap.specs.Told.{◌>>=◌, ok_or}
 
 -- a packet: the number of its flow, and its bytes behind the flow's address
@@ -17,7 +17,7 @@ pub record FlowPacket : Type 0 where
   pub cargo : List ℕ
 
 -- all that is read or written lies in the target's window
-abbrev pub is_in_window : TargetConfig → Order → Bool
+abbrev pub is_in_window : TargetConfig → RmapOrder → Bool
 is_in_window t o = nat_le t.start o.address && nat_le (o.address + length_of o.action) (t.start + t.size)
 
 -- the command begins with the address bytes that are left, and has more
@@ -32,14 +32,14 @@ behind_left left bytes =
     else Ok (drop (length left) bytes)
 
 -- the cargo of the command that is asked for, or the first reason why the flow can't carry it to this target
-abbrev pub cargo_to : TargetConfig → FlowEntry → Order → Result (List ℕ) RmapFault
+abbrev pub cargo_to : TargetConfig → FlowEntry → RmapOrder → Result (List ℕ) RmapFault
 cargo_to t f o =
     if wants_reply o.action && not (is_some f.reply) then Err NoReply
     else if not (is_in_window t o) then Err OutsideWindow
     else behind_left (left_bytes f) (bytes_to t f.reply o)
 
 -- the same to the node where the flow ends, which has to be a target
-unfoldable pub cargo_of : List NodeEntry → FlowEntry → Order → Result (List ℕ) RmapFault
+unfoldable pub cargo_of : List NodeEntry → FlowEntry → RmapOrder → Result (List ℕ) RmapFault
 cargo_of nodes f o = do
   target ← ok_or (target_of nodes f.to) NoTarget
   cargo_to target f o

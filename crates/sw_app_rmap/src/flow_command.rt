@@ -3,7 +3,7 @@ ghost use Rattle.std.specs.Prelude.{◌≡◌, ◌≤◌, IfOk, length, option_m
 ghost use Rattle.sw_app_rmap.specs.FlowCommands.{bytes_to, initiator_of, instruction, padded, path_back, units};
 ghost use Rattle.sw_app_rmap.specs.Orders.{IsSmall, order_view};
 
-use crate::order::Order;
+use crate::order::RmapOrder;
 use std::alloc::{AllocError, Global};
 use sw_config::Reply;
 use sw_rmap::{Command, TargetConfig, write_command};
@@ -67,7 +67,7 @@ pub(crate) fn bytes_to(
     alloc: Global,
     target: TargetConfig,
     reply: Option<&Reply>,
-    order: &Order,
+    order: &RmapOrder,
 ) -> Result<Vec<u8>, AllocError>
     requires path { length (path_back (option_map (λ r. r.now) reply)) ≤ 12 }
     requires small { IsSmall (order_view order.now) }

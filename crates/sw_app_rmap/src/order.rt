@@ -29,7 +29,7 @@ pub(crate) enum Action {
 
 /// A command that is asked for.
 #[derive(Drop)]
-pub(crate) struct Order {
+pub(crate) struct RmapOrder {
     pub(crate) address: u64,
     pub(crate) action: Action,
     pub(crate) transaction: u16,
@@ -108,7 +108,7 @@ fn transaction_of(word: Option<&str>) -> Option<u16>
 ///
 /// `Fault`: the first word that is none such. `Memory`: there is no memory for the data.
 #[tactic(auto, unfolding(crate::specs::Orders::order_of))]
-pub(crate) fn order_of(alloc: Global, request: &Request<'_>) -> Result<Order, RmapError>
+pub(crate) fn order_of(alloc: Global, request: &Request<'_>) -> Result<RmapOrder, RmapError>
     ensures { Gives order_view result (order_of request.now) }
 {
     let Some(address) = number_of(request.address, MAX_ADDRESS) else {
@@ -118,7 +118,7 @@ pub(crate) fn order_of(alloc: Global, request: &Request<'_>) -> Result<Order, Rm
     let Some(transaction) = transaction_of(request.transaction) else {
         return Err(RmapError::Fault(RmapFault::BadTransaction));
     };
-    Ok(Order {
+    Ok(RmapOrder {
         address,
         action,
         transaction,

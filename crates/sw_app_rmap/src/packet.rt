@@ -9,7 +9,7 @@ ghost use Rattle.sw_app_rmap.specs.Packets.{begins_with, behind_left, cargo_of, 
 
 use crate::fault::{RmapError, RmapFault};
 use crate::flow_command::bytes_to;
-use crate::order::{Order, order_of};
+use crate::order::{RmapOrder, order_of};
 use crate::request::Request;
 use std::alloc::Global;
 use std::marker::Model;
@@ -33,7 +33,7 @@ impl Model for FlowPacket {
     ghost view = { λ p. record { flow = p.flow; cargo = p.cargo.items } };
 }
 
-fn is_in_window(target: TargetConfig, order: &Order) -> bool
+fn is_in_window(target: TargetConfig, order: &RmapOrder) -> bool
     requires target { IsTargetConfig target }
     requires small { IsSmall (order_view order.now) }
     ensures { result ≡ is_in_window target (order_view order.now) }
@@ -66,7 +66,7 @@ fn cargo_to(
     alloc: Global,
     target: TargetConfig,
     flow: &Flow,
-    order: &Order,
+    order: &RmapOrder,
 ) -> Result<Vec<u8>, RmapError>
     requires target { IsTargetConfig target }
     requires path { length (path_back flow.now.reply) ≤ 12 }
@@ -88,7 +88,7 @@ fn cargo_of(
     alloc: Global,
     network: &Network,
     flow: &Flow,
-    order: &Order,
+    order: &RmapOrder,
 ) -> Result<Vec<u8>, RmapError>
     requires flow { IsFlow network.now.nodes flow.now }
     requires small { IsSmall (order_view order.now) }

@@ -16,7 +16,7 @@ use Rattle.sw_args.specs.declared.call.Asked.{Asked}
 use Rattle.sw_args.specs.declared.call.WordsFault.{WordsFault}
 use Rattle.sw_args.specs.declared.parts.Subcommand.{Subcommand}
 use Rattle.sw_args.specs.declared.call.WordsFault.TheVariants.{Help, Refused, Memory}
-use Rattle.sw_args.specs.Parts.{HasFound, Part, part_rule, subcommand_app, subcommand_apps, with_parts, with_subcommands}
+use Rattle.sw_args.specs.Parts.{CommandPart, HasFound, part_rule, subcommand_app, subcommand_apps, with_parts, with_subcommands}
 use Rattle.sw_args.specs.CommandLine.{swcheck_app, top_app, Gives, HasCall, IsCallOf, IsMade, IsMatched, IsOf, IsToldAs, MeetsCall, Refuses}
 
 swcheck_simple : is_simple swcheck_app ≡ true
@@ -111,7 +111,7 @@ pub with_added : (old sub new : Command) (a b : App) → app_of old ≡ a → Is
 with_added old sub new a b first second adds = adds.shape second.1 ∙ (λ i. with_subcommand (first i) (second.0 i).top)
 
 -- a command with one more part of its table
-pub with_one_part : (app : App) (parts : List Part) (i : ℕ) (d : Part) (old new : Command) (arg : Arg) → i < length parts → IsMade (with_parts app (take i parts)) old
+pub with_one_part : (app : App) (parts : List CommandPart) (i : ℕ) (d : CommandPart) (old new : Command) (arg : Arg) → i < length parts → IsMade (with_parts app (take i parts)) old
     → (rule_of arg ≡ part_rule (get_or parts i d)) × (arg.global ≡ false) → AddsArg old arg new → IsMade (with_parts app (take (i + 1) parts)) new
 with_one_part app parts i d old new arg within made is adds =
     subst (λ (a : App). IsMade a new) (sym (fold_more (λ a part. with_rule a (part_rule part)) app parts i d within))

@@ -18,14 +18,14 @@ taking name Flag = flag_rule name
 taking name Text = option_rule name
 
 -- a part of a table: the name of an argument, what it takes, and what it is for
-abbrev pub Part : Type 0
-Part = Bor (List ℕ) × Takes × Bor (List ℕ)
+abbrev pub CommandPart : Type 0
+CommandPart = Bor (List ℕ) × Takes × Bor (List ℕ)
 
-abbrev pub part_rule : Part → Rule
+abbrev pub part_rule : CommandPart → Rule
 part_rule part = taking part.0.now part.1
 
 -- the command with each of the parts besides, in their order
-abbrev pub with_parts : App → List Part → App
+abbrev pub with_parts : App → List CommandPart → App
 with_parts app parts = fold (λ a part. with_rule a (part_rule part)) app parts
 
 -- the command that a row of the table is, with the option `--hints`

@@ -5,7 +5,7 @@ ghost use Rattle.sw_args.specs.CommandLine.{IsToldAs, swcheck_app};
 ghost use Rattle.sw_args.specs.Parts.{HasFound, subcommand_app, subcommand_apps};
 
 use crate::call::WordsFault;
-use crate::parts::{Part, Subcommand, Takes, subcommand_of};
+use crate::parts::{CommandPart, Subcommand, Takes, subcommand_of};
 use crate::release::RELEASE;
 use clap::error::ErrorKind;
 use clap::{ArgMatches, Command};
@@ -24,10 +24,10 @@ const MOST_TRIES: u32 = 1_000_000;
 const MOST_SEED: u32 = 4_294_967_295;
 
 // A network file, which must be given.
-const FILE: Part = ("FILE", Takes::Value, "A network file");
+const FILE: CommandPart = ("FILE", Takes::Value, "A network file");
 
 // The answer as an object of JSON.
-const JSON: Part = ("json", Takes::Flag, "Print the answer as one JSON object");
+const JSON: CommandPart = ("json", Takes::Flag, "Print the answer as one JSON object");
 
 // The subcommands, each by itself: what a table costs to prove grows faster than the square of its rows.
 const ROUTE: &Subcommand = &Subcommand {

@@ -27,18 +27,18 @@ pub(crate) enum Takes {
 }
 
 /// A word or an option of a command: its name, what it takes, and what it is for.
-pub(crate) type Part = (&'static str, Takes, &'static str);
+pub(crate) type CommandPart = (&'static str, Takes, &'static str);
 
 /// A subcommand: its name, what it does, an example of its use, and its words and options.
 pub(crate) struct Subcommand {
     pub name: &'static str,
     pub about: &'static str,
     pub example: &'static str,
-    pub parts: &'static [Part],
+    pub parts: &'static [CommandPart],
 }
 
 // Whether to tell how a network file is mended.
-const HINTS: Part = (
+const HINTS: CommandPart = (
     "hints",
     Takes::Text,
     "auto: tell on standard error how to mend a network file; never: do not",
@@ -52,7 +52,7 @@ fn count_parser<'a>(most: u32) -> ValueParser<'a>
 }
 
 // The argument that the part is.
-fn arg_of<'a>(alloc: Global, part: Part) -> Arg<'a>
+fn arg_of<'a>(alloc: Global, part: CommandPart) -> Arg<'a>
     ensures { (rule_of result ≡ part_rule part.entry) × (result.global ≡ false) }
 {
     let (name, takes, help) = part;

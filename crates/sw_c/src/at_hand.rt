@@ -4,7 +4,7 @@ ghost use Rattle.sw_json_verdicts.specs.Stores.{given_of};
 ghost use Rattle.sw_c.specs.AtHand.{AreGiven};
 
 use std::alloc::{AllocError, Global};
-use sw_json_verdicts::{Input, Storage};
+use sw_json_verdicts::{AuditInput, Storage};
 use sw_text::MAX_TEXT;
 
 /// The bytes of a file. Each path gives them, and no certificate is kept.
@@ -21,15 +21,15 @@ fn copied(alloc: Global, bytes: &[u8]) -> Result<Vec<u8>, AllocError>
     Ok(all)
 }
 
-fn input_of(alloc: Global, bytes: &[u8]) -> Input
+fn input_of(alloc: Global, bytes: &[u8]) -> AuditInput
     ensures { AreGiven bytes.now (given_of result) }
 {
     if bytes.len() > MAX_TEXT {
-        return Input::TooLong;
+        return AuditInput::TooLong;
     }
     match copied(alloc, bytes) {
-        Ok(text) => Input::Whole(text),
-        Err(_) => Input::NoMemory,
+        Ok(text) => AuditInput::Whole(text),
+        Err(_) => AuditInput::NoMemory,
     }
 }
 
@@ -38,7 +38,7 @@ impl Storage for AtHand<'_> {
 
     ghost keeps = { λ self name certificate kept. kept ≡ false };
 
-    fn read(&self, alloc: Global, _path: &str) -> Input {
+    fn read(&self, alloc: Global, _path: &str) -> AuditInput {
         input_of(alloc, self.bytes)
     }
 

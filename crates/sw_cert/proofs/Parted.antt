@@ -15,7 +15,7 @@ use Rattle.sw_cert.specs.declared.lines.Expected.{Expected}
 use Rattle.sw_cert.specs.declared.lines.Expected.TheVariants.{Flows}
 use Rattle.sw_cert.specs.Grammar.{IsBlock, block, flow_lines, head_lines, with_lf}
 use Rattle.sw_cert.specs.Parts.{AreAdded, AreLists, IsRead, IsReadPart, IsWhole, Runs, part_of, read_rest}
-use Rattle.sw_cert.specs.declared.parts.Part.{Part}
+use Rattle.sw_cert.specs.declared.parts.TextPart.{TextPart}
 use Rattle.sw_cert.specs.declared.parts.Lists.{Lists}
 use Rattle.sw_cert.specs.Reading.{State, items_of}
 use Rattle.sw_cert.specs.Sound.{IsSound, Kept}
@@ -119,7 +119,7 @@ few_lines text flows count l =
 
 -- ---- as code finds them
 
-part_read : (flows : ℕ) (text rest : List ℕ) (p : Part) (d : State) (count : ℕ) (o : Option Lists) → SoFar flows (part_of text p) rest d count → IfSome o (IsWhole d rest p count) → IfSome o (IsReadPart text)
+part_read : (flows : ℕ) (text rest : List ℕ) (p : TextPart) (d : State) (count : ℕ) (o : Option Lists) → SoFar flows (part_of text p) rest d count → IfSome o (IsWhole d rest p count) → IfSome o (IsReadPart text)
 part_read flows text rest p d count None s w = tt
 part_read flows text rest p d count (Some l) s w =
     let whole = whole_lists flows (part_of text p) d count w.left (subst (λ r. SoFar flows (part_of text p) r d count) w.ended s) w.whole in
@@ -127,7 +127,7 @@ part_read flows text rest p d count (Some l) s w =
     (subst (λ fs. AreLists (part_of text p) fs l.lines) (sym w.flows) (subst (λ n. AreLists (part_of text p) d.flows n) (sym w.lines) whole))
 
 -- a part that was read to its end
-pub part_found : (flows : ℕ) (text bytes rest : List ℕ) (p : Part) (d : State) (count : ℕ) (o : Option Lists) → flows ≤ 8192 → p.begin ≤ p.end → p.end ≤ length text
+pub part_found : (flows : ℕ) (text bytes rest : List ℕ) (p : TextPart) (d : State) (count : ℕ) (o : Option Lists) → flows ≤ 8192 → p.begin ≤ p.end → p.end ≤ length text
     → bytes ≡ take (p.end - p.begin) (drop p.begin text) → IsRead 0 (before_lists flows) bytes count d rest → IfSome o (IsWhole d rest p count) → IfSome o (IsReadPart text)
 part_found flows text bytes rest p d count o few le within is read whole =
     let part : part_of text p ≡ take (p.end - p.begin) (drop p.begin text) = rw (le-leb p.begin p.end le, le-leb p.end (length text) within) refl in
@@ -139,7 +139,7 @@ drop_more at k text le =
     ap₂ (λ n (l : List ℕ). drop (n + k) l) (sym long) (sym (take-append-drop at text)) ∙ drop-append-add (take at text) (drop at text) k
 
 -- the text from the beginning of a part on is the part and what stands after it
-part_before : (text : List ℕ) (p : Part) (at : ℕ) → p.begin ≡ at → at ≤ p.end → p.end ≤ length text → (part_of text p ++ drop p.end text ≡ drop at text) × (length (part_of text p) ≡ p.end - at)
+part_before : (text : List ℕ) (p : TextPart) (at : ℕ) → p.begin ≡ at → at ≤ p.end → p.end ≤ length text → (part_of text p ++ drop p.end text ≡ drop at text) × (length (part_of text p) ≡ p.end - at)
 part_before text p at is le within =
     let rest : List ℕ = drop at text in
     let long : length rest ≡ length text - at = length-drop at text in

@@ -3,14 +3,14 @@ use Rattle.std.specs.Prelude.{◌≡◌, ℕ, ◌+◌, ◌-◌, ◌≤◌, ◌==
 use Rattle.std.specs.List.{AllByRecursion, flat_map, slice_split}
 use Rattle.sw_flow.specs.declared.place.Place.{Place}
 use Rattle.sw_cert.specs.declared.lines.Expected.TheVariants.{Flows}
-use Rattle.sw_cert.specs.declared.parts.Part.{Part}
+use Rattle.sw_cert.specs.declared.parts.TextPart.{TextPart}
 use Rattle.sw_cert.specs.declared.parts.Lists.{Lists}
 use Rattle.sw_cert.specs.Grammar.{IsBlock, block, with_lf}
 use Rattle.sw_cert.specs.Reading.{State, items_of, next}
 use Rattle.sw_cert.specs.Text.{read_lines}
 
 -- from one byte of a text up to another, where the text has both
-abbrev pub part_of : List ℕ → Part → List ℕ
+abbrev pub part_of : List ℕ → TextPart → List ℕ
 part_of text p = if nat_le p.begin p.end && nat_le p.end (length text) then take (p.end - p.begin) (drop p.begin text) else []
 
 -- the text is the lists of these flows, one after another, in so many lines
@@ -24,7 +24,7 @@ abbrev pub IsReadPart : List ℕ → Lists → Type 0
 IsReadPart text l = AreLists (part_of text l.part) (map items_of l.flows.items) l.lines
 
 -- what a draft has of a part, whose last list is whole
-pub record IsWhole (d : State) (rest : List ℕ) (p : Part) (count : ℕ) (l : Lists) : Type 0 where
+pub record IsWhole (d : State) (rest : List ℕ) (p : TextPart) (count : ℕ) (l : Lists) : Type 0 where
   pub left : ℕ
   pub whole : d.expected ≡ Flows left
   pub ended : rest ≡ []

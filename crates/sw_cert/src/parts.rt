@@ -23,7 +23,7 @@ const LAST_LINE: usize = 4;
 
 /// From this byte of a text up to that one.
 #[derive(Clone, Copy)]
-pub struct Part {
+pub struct TextPart {
     pub(crate) begin: usize,
     pub(crate) end: usize,
 }
@@ -31,17 +31,17 @@ pub struct Part {
 /// The lists of flows that a part of a text is, and how many lines they have.
 #[derive(Drop)]
 pub struct Lists {
-    pub(crate) part: Part,
+    pub(crate) part: TextPart,
     pub(crate) flows: Vec<Vec<Place>>,
     pub(crate) lines: usize,
 }
 
 /// Cuts the lists of a text, behind which its last line stands, into parts of about the same length: the parts, and how many there are.
 /// Where they are cut decides only how many of them can be read by themselves.
-pub(crate) fn parts_of(text: &[u8]) -> ([Part; PARTS], usize)
+pub(crate) fn parts_of(text: &[u8]) -> ([TextPart; PARTS], usize)
     ensures { result.1 ≤ 64 }
 {
-    let mut parts = [Part { begin: 0, end: 0 }; PARTS];
+    let mut parts = [TextPart { begin: 0, end: 0 }; PARTS];
     if text.len() < LEAST_TEXT {
         return (parts, 0);
     }
@@ -53,14 +53,14 @@ pub(crate) fn parts_of(text: &[u8]) -> ([Part; PARTS], usize)
         while end < lists.len() && lists[end] != b'f' {
             end += 1;
         }
-        parts[number] = Part { begin, end };
+        parts[number] = TextPart { begin, end };
         begin = end;
     }
     (parts, PARTS)
 }
 
 /// The lists that a draft has of a part, if the last one is whole and no rest stands after the last line.
-fn whole_lists(draft: Draft, part: Part, rest: &[u8], lines: usize) -> Option<Lists>
+fn whole_lists(draft: Draft, part: TextPart, rest: &[u8], lines: usize) -> Option<Lists>
     ensures { IfSome result (λ l. IsWhole (state_of draft) rest.now part lines l) }
 {
     if !rest.is_empty() {
@@ -77,7 +77,7 @@ fn whole_lists(draft: Draft, part: Part, rest: &[u8], lines: usize) -> Option<Li
 }
 
 /// The lists of flows that a part of a text is, if it is nothing else.
-fn lists_of(alloc: Global, text: &[u8], part: Part) -> Result<Option<Lists>, AllocError>
+fn lists_of(alloc: Global, text: &[u8], part: TextPart) -> Result<Option<Lists>, AllocError>
     ensures { IfOk result (λ lists. IfSome lists (IsReadPart text.now)) }
 {
     if part.begin > part.end || part.end > text.len() {
@@ -103,7 +103,7 @@ pub trait ReadWorkers: Workers {
         &self,
         alloc: Global,
         text: &[u8],
-        parts: &[Part],
+        parts: &[TextPart],
     ) -> Result<Vec<Option<Lists>>, AllocError>
         requires shared { IsSync Self.Shared.row }
         ensures { IfOk result (λ v. All (λ lists. IfSome lists (IsReadPart text.now)) v.items) };
@@ -114,7 +114,7 @@ impl<R: Threads + Sync> ReadWorkers for SideBySide<'_, R> {
         &self,
         alloc: Global,
         text: &[u8],
-        parts: &[Part],
+        parts: &[TextPart],
     ) -> Result<Vec<Option<Lists>>, AllocError> {
         side_by_side::map_all(
             self.handle(),
@@ -135,7 +135,7 @@ impl ReadWorkers for OneByOne {
         &self,
         alloc: Global,
         _text: &[u8],
-        _parts: &[Part],
+        _parts: &[TextPart],
     ) -> Result<Vec<Option<Lists>>, AllocError> {
         Ok(Vec::new(alloc))
     }

@@ -11,7 +11,7 @@ ghost use Rattle.sw_cycle.specs.Firsts.{IsFirstStep};
 
 use crate::cycle::Cause;
 use crate::firsts::first_steps;
-use crate::steps::Step;
+use crate::steps::PlaceStep;
 use std::alloc::{AllocError, Global};
 use sw_config::Network;
 use sw_flow::{Place, way_to};
@@ -22,7 +22,7 @@ use sw_topo::{Chan, PlaceEnd};
 fn cause_for(
     alloc: Global,
     network: &Network,
-    first: Option<Step>,
+    first: Option<PlaceStep>,
     from: Chan,
     to: Chan,
 ) -> Result<Cause, AllocError>

@@ -9,7 +9,7 @@ ghost use Rattle.sw_cycle.specs.Positions.{ArePositions};
 
 use crate::flow_places::flow_and_places;
 use crate::positions::positions_of;
-use crate::steps::{Step, follower_between};
+use crate::steps::{PlaceStep, follower_between};
 use std::alloc::{AllocError, Global};
 use sw_config::{Flow, Network};
 use sw_flow::Place;
@@ -23,7 +23,7 @@ fn note_at(
     place: &Place,
     channels: &[Chan],
     position: usize,
-    steps: &mut [Option<Step>],
+    steps: &mut [Option<PlaceStep>],
 )
     requires short { length flow.now.address ≤ 32 }
     requires inside { position < length channels.now }
@@ -38,7 +38,7 @@ fn note_at(
     let Some(next) = follower_between(network, flow, *place, from, to) else {
         return;
     };
-    steps[position] = Some(Step {
+    steps[position] = Some(PlaceStep {
         flow: number,
         last: *place,
         next,
@@ -54,7 +54,7 @@ fn note_place(
     place: &Place,
     channels: &[Chan],
     positions: &[usize],
-    steps: &mut [Option<Step>],
+    steps: &mut [Option<PlaceStep>],
 )
     requires short { length flow.now.address ≤ 32 }
     requires numbered { slice_get (all_flows network.now) number ≡ Some flow.now }
@@ -76,7 +76,7 @@ fn note_places(
     places: &[Place],
     channels: &[Chan],
     positions: &[Vec<usize>],
-    steps: &mut [Option<Step>],
+    steps: &mut [Option<PlaceStep>],
 )
     requires short { length flow.now.address ≤ 32 }
     requires numbered { slice_get (all_flows network.now) number ≡ Some flow.now }
@@ -101,7 +101,7 @@ pub(crate) fn first_steps(
     network: &Network,
     places: &[Vec<Place>],
     channels: &[Chan],
-) -> Result<Vec<Option<Step>>, AllocError>
+) -> Result<Vec<Option<PlaceStep>>, AllocError>
     requires lists { AllZip (λ f ps. IsPlaceList network.now f ps.items) (all_flows network.now) places.now }
     requires inside { All (λ c. c < length (ends_of network.now)) channels.now }
     ensures { IfOk result (λ v. AreFirst network.now (NoneGoesOn network.now) channels.now v.items) }

@@ -9,7 +9,7 @@ use sw_topo::Chan;
 
 /// A step of a flow.
 #[derive(Clone, Copy)]
-pub(crate) struct Step {
+pub(crate) struct PlaceStep {
     pub(crate) flow: u16,
     pub(crate) last: Place,
     pub(crate) next: Place,

@@ -34,7 +34,7 @@ use Rattle.sw_config.specs.Entries.{Declaration}
 use Rattle.sw_net.specs.Numbers.{numbers_at}
 use Rattle.sw_net.specs.declared.numbers.Numbers.{Numbers}
 use Rattle.sw_journal.specs.Views.{holder, kept_of, knower, shown, with_known}
-use Rattle.sw_journal.specs.declared.cell_table.Change.{Change}
+use Rattle.sw_journal.specs.declared.cell_table.SeatChange.{SeatChange}
 use Rattle.sw_journal.specs.declared.cell_table.Known.{Known}
 use Rattle.sw_journal.specs.declared.cell_table.View.{View}
 use Rattle.sw_net.proofs.Undeclared.{never_begun}
@@ -47,16 +47,16 @@ pub record IsMet (j : JournalView) (s : State) (number : ℕ) (id : CellId) (end
   pub at : slice_get (cells_of j.declared) number ≡ Some id
   pub ends_are : ends ≡ numbered (network_of j.declared) s id
 
-pub met : (j : JournalView) (me theirs : Me Change View) (number : ℕ) (id : CellId) (ends : List (ℕ × Numbers)) → (k : IsKept j me) → theirs ≡ (holder number (known id ends), [])
+pub met : (j : JournalView) (me theirs : Me SeatChange View) (number : ℕ) (id : CellId) (ends : List (ℕ × Numbers)) → (k : IsKept j me) → theirs ≡ (holder number (known id ends), [])
     → (theirs.0.claims ≡ true → slice_get me.0.all theirs.0.cell ≡ Some theirs.0.known) → IsMet j k.true_view.state number id ends
 met j me theirs number id ends k is same =
     let s = k.true_view.state in
-    let claims : theirs.0.claims ≡ true = ap (λ (m : Me Change View). m.0.claims) is in
+    let claims : theirs.0.claims ≡ true = ap (λ (m : Me SeatChange View). m.0.claims) is in
     let read : slice_get (all_known j.declared s) number ≡ Some (known id ends) =
-    ap (λ (m : Me Change View). slice_get m.0.all number) (sym k.seat)
-    ∙ ap (λ (m : Me Change View). slice_get me.0.all m.0.cell) (sym is)
+    ap (λ (m : Me SeatChange View). slice_get m.0.all number) (sym k.seat)
+    ∙ ap (λ (m : Me SeatChange View). slice_get me.0.all m.0.cell) (sym is)
     ∙ same claims
-    ∙ ap (λ (m : Me Change View). Some m.0.known) is in
+    ∙ ap (λ (m : Me SeatChange View). Some m.0.known) is in
     let own = known_at j.declared s number (known id ends) read in
     let which : id ≡ own.0 = ap (λ (x : Known). x.id) own.2 in
     record {
@@ -97,9 +97,9 @@ names_once net s id ends is =
 -- ---- the journal's seat
 
 -- after a refusal
-pub kept_same : (j k : JournalView) (before met parted theirs : Me Change View) → k ≡ j → IsKept j before → met ≡ (shown before.0 theirs.0, before.1) → parted ≡ (kept_of met.0, met.1) → IsKept k parted
+pub kept_same : (j k : JournalView) (before met parted theirs : Me SeatChange View) → k ≡ j → IsKept j before → met ≡ (shown before.0 theirs.0, before.1) → parted ≡ (kept_of met.0, met.1) → IsKept k parted
 kept_same j k before met parted theirs same is meets parts =
-    let split : Me Change View → Me Change View = λ m. (kept_of m.0, m.1) in
+    let split : Me SeatChange View → Me SeatChange View = λ m. (kept_of m.0, m.1) in
     let seat : parted ≡ (knower (all_known j.declared is.true_view.state), []) =
     parts ∙ ap split meets ∙ (λ i. (kept_of (is.seat i).0, (is.seat i).1)) in
     subst (λ (a : JournalView). IsKept a parted) (sym same) (record { true_view = is.true_view; channels = is.channels; seat = seat })
@@ -131,7 +131,7 @@ module _ (net : Network) (s t : State) (these : Option ℕ × Option ℕ) (only 
   map_renewed [] = refl
   map_renewed (e ∷ es) = λ i. then_by e (is_one_of these e) refl i ∷ map_renewed es i
 
-module _ (j : JournalView) (before : Me Change View) (is : IsKept j before) (number : ℕ) (id : CellId) (ends : List (ℕ × Numbers)) (cell_is : IsMet j is.true_view.state number id ends)
+module _ (j : JournalView) (before : Me SeatChange View) (is : IsKept j before) (number : ℕ) (id : CellId) (ends : List (ℕ × Numbers)) (cell_is : IsMet j is.true_view.state number id ends)
     (step : Step) (here : cell_of (network_of j.declared) step ≡ machine_cell id) (next : MayFollow (network_of j.declared) (packets_of j.load) j.history step)
     (these : Option ℕ × Option ℕ)
     (only : (s t : State) → LeadsTo j s → Leads (network_of j.declared) s step t → (e : ℕ) → (these.0 ≡ Some e → ⊥) → (these.1 ≡ Some e → ⊥) → numbers_at (network_of j.declared) t e ≡ numbers_at (network_of j.declared) s e) where
@@ -167,18 +167,18 @@ module _ (j : JournalView) (before : Me Change View) (is : IsKept j before) (num
   }
 
   -- what the journal keeps after the step
-  pub kept_after : (k : JournalView) (theirs shown_seat renewed_seat parted : Me Change View) (more : List (ℕ × Numbers)) → k ≡ with_step j step → length j.history < j.limit
+  pub kept_after : (k : JournalView) (theirs shown_seat renewed_seat parted : Me SeatChange View) (more : List (ℕ × Numbers)) → k ≡ with_step j step → length j.history < j.limit
       → more ≡ map (renewed these net t) ends → theirs ≡ (holder number (known id ends), []) → shown_seat ≡ (shown before.0 theirs.0, before.1)
       → renewed_seat ≡ (with_known shown_seat.0 (known shown_seat.0.known.id more), shown_seat.1) → parted ≡ (kept_of renewed_seat.0, renewed_seat.1) → IsKept k parted
   unfolding account_after
   kept_after k theirs shown_seat renewed_seat parted more same room renew cell meets renews parts =
       let all = all_known j.declared is.true_view.state in
-      let split : Me Change View → Me Change View = λ m. (kept_of m.0, m.1) in
-      let change : Me Change View → Me Change View = λ m. (with_known m.0 (known m.0.known.id more), m.1) in
+      let split : Me SeatChange View → Me SeatChange View = λ m. (kept_of m.0, m.1) in
+      let change : Me SeatChange View → Me SeatChange View = λ m. (with_known m.0 (known m.0.known.id more), m.1) in
       let met_is : shown_seat ≡ (shown (knower all) (holder number (known id ends)), []) = meets ∙ (λ i. (shown (is.seat i).0 (cell i).0, (is.seat i).1)) in
       let seat : parted ≡ (knower (all_known j.declared t), []) =
       parts ∙ ap split (renews ∙ ap change met_is)
-      ∙ ap (λ (l : List Known). let m : Me Change View = (knower l, []) in m) (known_then more renew) in
+      ∙ ap (λ (l : List Known). let m : Me SeatChange View = (knower l, []) in m) (known_then more renew) in
       subst (λ (a : JournalView). IsKept a parted) (sym same) (record { true_view = account_after room; channels = is.channels; seat = seat })
 
   -- and the cell

@@ -16,7 +16,7 @@ use Rattle.sw_machine.specs.Begun.{Begun}
 use Rattle.sw_machine.specs.Network.{IsNetwork, Network}
 use Rattle.sw_machine.specs.Steps.{Accept, Arrive, Begin, Drop, Emit, Fct, FctIn, Forward, Grant, Reply, Spill, Step, is_begin}
 use Rattle.sw_machine.specs.Model.{network_of}
-use Rattle.sw_journal.specs.declared.cell_table.Change.{Change}
+use Rattle.sw_journal.specs.declared.cell_table.SeatChange.{SeatChange}
 use Rattle.sw_journal.specs.declared.cell_table.View.{View}
 use mathlib.Core.Logic.{dite}
 use native.Mathlib.Decide.{ℕ_discrete}
@@ -55,7 +55,7 @@ get_other (z ∷ zs) (suc i) (suc j) y n = get_other zs i j y (λ e. n (ap suc e
 whole_mark : (net : Network) (packets : List Begun) (steps : List Step) (e : ℕ) → IsIdle net packets steps e → IsTrueMark net packets steps e (length steps)
 whole_mark net packets steps e idle = record { within = omega arith; idle = subst (λ l. IsIdle net packets l e) (sym (take_all (length steps) steps (omega arith))) idle }
 
-pub kept_mark : (j : JournalView) (me : Me Change View) (e place count : ℕ) → IsKept j me → IsIdle (network_of j.declared) (packets_of j.load) j.history e → place ≡ e → count ≡ length j.history
+pub kept_mark : (j : JournalView) (me : Me SeatChange View) (e place count : ℕ) → IsKept j me → IsIdle (network_of j.declared) (packets_of j.load) j.history e → place ≡ e → count ≡ length j.history
     → IsKept (with_marks j (slice_set j.marks place (Some count))) me
 kept_mark j me e place count is idle there now =
     let net = network_of j.declared in

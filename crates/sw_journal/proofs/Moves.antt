@@ -10,8 +10,8 @@ use Rattle.sw_net.specs.declared.numbers.Numbers.{Numbers}
 use Rattle.sw_journal.specs.declared.cell_table.Known.{Known}
 use Rattle.sw_journal.specs.declared.cell_table.View.{View}
 use Rattle.sw_cell.specs.declared.cell.CellId.{CellId}
-use Rattle.sw_journal.specs.declared.cell_table.Change.TheVariants as told
-use Rattle.sw_journal.specs.declared.cell_table.Change.{Change}
+use Rattle.sw_journal.specs.declared.cell_table.SeatChange.TheVariants as told
+use Rattle.sw_journal.specs.declared.cell_table.SeatChange.{SeatChange}
 use Rattle.sw_journal.specs.Views.{knower, nobody, shown, kept_of, held_of, with_known, Fits, Kept, Checked, changed, Changed, pushed, Pushed, grown, opened, Opened}
 use Rattle.sw_topo.proofs.Lists.{slice_get-set_other, slice_get-set_same, slice_get-push_last}
 
@@ -55,7 +55,7 @@ begins = (0, [], λ _. 0, one)
     one zero v e = subst (Fits 0 [] (λ _. 0) 0) (some-injective _ _ e) ((λ _. (refl, refl)), (λ c. off c))
     one (suc by) v e = absurd (some-ne-none v (sym e))
 
-checks : (slots id : ℕ) (me : Me Change View) (st : Step Change) → me.0.keeps ≡ true → Allows (λ s. Kept s.views) slots id me 0 (λ n. n) (Checked st me)
+checks : (slots id : ℕ) (me : Me SeatChange View) (st : Step SeatChange) → me.0.keeps ≡ true → Allows (λ s. Kept s.views) slots id me 0 (λ n. n) (Checked st me)
 checks slots id me st is s h _ at _ =
     let mine = h.3 id me.0 at in
     let known = mine.0 is in (
@@ -67,8 +67,8 @@ checks slots id me st is s h _ at _ =
     )
 
 -- the cell that the seat stands for may have any numbers from now on
-sets : (slots id : ℕ) (me : Me Change View) (known : Known) (f : ℕ → ℕ) → me.0.keeps ≡ true → me.0.claims ≡ true
-    → Allows (λ s. Kept s.views) slots id me 0 f (λ (n : ℕ) (w : Me Change View). w ≡ (with_known me.0 known, me.1))
+sets : (slots id : ℕ) (me : Me SeatChange View) (known : Known) (f : ℕ → ℕ) → me.0.keeps ≡ true → me.0.claims ≡ true
+    → Allows (λ s. Kept s.views) slots id me 0 f (λ (n : ℕ) (w : Me SeatChange View). w ≡ (with_known me.0 known, me.1))
 sets slots id me new f is claims s h _ at _ =
     let v = me.0 in
     let mine = h.3 id v at in
@@ -90,8 +90,8 @@ sets slots id me new f is claims s h _ at _ =
     ) in
     (w, keeps, tt, (h.0, now, h.2, fits_set h.0 now h.2 s.views id w others after), refl)
 
-opens : (slots id : ℕ) (me : Me Change View) (cell : CellId) (f : ℕ → ℕ) → me.0.keeps ≡ true
-    → Allows (λ s. Kept s.views) slots id me 0 f (λ (n : ℕ) (w : Me Change View). w ≡ (opened me.0 cell, me.1))
+opens : (slots id : ℕ) (me : Me SeatChange View) (cell : CellId) (f : ℕ → ℕ) → me.0.keeps ≡ true
+    → Allows (λ s. Kept s.views) slots id me 0 f (λ (n : ℕ) (w : Me SeatChange View). w ≡ (opened me.0 cell, me.1))
 opens slots id me cell f is s h _ at _ =
     let v = me.0 in
     let new : Known = record { id = cell; ends = [] } in
@@ -116,7 +116,7 @@ opens slots id me cell f is s h _ at _ =
     (w, keeps, tt, (h.0, now, owner, fits_set h.0 now owner s.views id w others after), refl)
 
 -- what a seat stands for goes to a new seat
-hands_at : (id : ℕ) (v : View) (b : Bool) → v.claims ≡ b → Splits {S = Change} (λ s. Kept s.views) id v (kept_of v) (held_of v)
+hands_at : (id : ℕ) (v : View) (b : Bool) → v.claims ≡ b → Splits {S = SeatChange} (λ s. Kept s.views) id v (kept_of v) (held_of v)
 hands_at id v false is s h at =
     let mine = h.3 id v at in
     let left : Fits h.0 h.1 h.2 id (kept_of v) = (mine.0, λ c. off c) in (
@@ -151,11 +151,11 @@ hands_at id v true is s h at =
           (at_snoc (set s.views id (kept_of v)) (held_of v) u j e),
     )
 
-pub hands : (id : ℕ) (v : View) → Splits {S = Change} (λ s. Kept s.views) id v (kept_of v) (held_of v)
+pub hands : (id : ℕ) (v : View) → Splits {S = SeatChange} (λ s. Kept s.views) id v (kept_of v) (held_of v)
 hands id v = hands_at id v v.claims refl
 
 -- a seat that stands for nothing takes in what another stands for
-takes_at : (id : ℕ) (v : View) (other : ℕ) (w : View) (b : Bool) → w.claims ≡ b → Joins {S = Change} (λ s. Kept s.views) id v other w (shown v w) nobody
+takes_at : (id : ℕ) (v : View) (other : ℕ) (w : View) (b : Bool) → w.claims ≡ b → Joins {S = SeatChange} (λ s. Kept s.views) id v other w (shown v w) nobody
 takes_at id v other w false is s h at apart there =
     let mine = h.3 id v at in
     let both : Fits h.0 h.1 h.2 id (shown v w) = (mine.0, λ c. off (sym is ∙ c)) in (
@@ -194,24 +194,24 @@ takes_at id v other w true is s h at apart there =
           ((λ k. off k), (λ c. off c)),
     )
 
-pub takes : (id : ℕ) (v : View) (other : ℕ) (w : View) → Joins {S = Change} (λ s. Kept s.views) id v other w (shown v w) nobody
+pub takes : (id : ℕ) (v : View) (other : ℕ) (w : View) → Joins {S = SeatChange} (λ s. Kept s.views) id v other w (shown v w) nobody
 takes id v other w = takes_at id v other w w.claims refl
 
 -- ---- the same, as the code makes the step
 
-pub opens_by : (slots id : ℕ) (me : Me Change View) (cell : CellId) → me.0.keeps ≡ true
+pub opens_by : (slots id : ℕ) (me : Me SeatChange View) (cell : CellId) → me.0.keeps ≡ true
     → Allows (λ s. Kept s.views) slots id me 0 (λ k. either (k == 0) 0 k) (Opened (step slots 0 0 0 (some (told.Cell cell))) me)
 opens_by slots id me cell is = opens slots id me cell (λ k. either (k == 0) 0 k) is
 
-pub changes_by : (slots id : ℕ) (me : Me Change View) (at : ℕ) (numbers : Numbers) → me.0.keeps ≡ true → me.0.claims ≡ true
+pub changes_by : (slots id : ℕ) (me : Me SeatChange View) (at : ℕ) (numbers : Numbers) → me.0.keeps ≡ true → me.0.claims ≡ true
     → Allows (λ s. Kept s.views) slots id me 0 (λ k. either (k == 0) 0 k) (Changed (step slots 0 0 0 (some (told.Numbers at numbers))) me)
 changes_by slots id me at numbers is claims = sets slots id me (changed me.0 at numbers).known (λ k. either (k == 0) 0 k) is claims
 
-pub pushes_by : (slots id : ℕ) (me : Me Change View) (end : ℕ) (numbers : Numbers) → me.0.keeps ≡ true → me.0.claims ≡ true
+pub pushes_by : (slots id : ℕ) (me : Me SeatChange View) (end : ℕ) (numbers : Numbers) → me.0.keeps ≡ true → me.0.claims ≡ true
     → Allows (λ s. Kept s.views) slots id me 0 (λ k. either (k == 0) 0 k) (Pushed (step slots 0 0 0 (some (told.End end numbers))) me)
 pushes_by slots id me end numbers is claims = sets slots id me (pushed me.0 end numbers).known (λ k. either (k == 0) 0 k) is claims
 
-pub checks_by : (slots id : ℕ) (me : Me Change View) → me.0.keeps ≡ true → Allows (λ s. Kept s.views) slots id me 0 (λ n. n) (Checked (step slots 0 0 0 none) me)
+pub checks_by : (slots id : ℕ) (me : Me SeatChange View) → me.0.keeps ≡ true → Allows (λ s. Kept s.views) slots id me 0 (λ n. n) (Checked (step slots 0 0 0 none) me)
 checks_by slots id me is = checks slots id me (step slots 0 0 0 none) is
 
 -- ---- a cell with link ends
@@ -221,15 +221,15 @@ set_last [] x y = refl
 set_last (z ∷ zs) x y = ap (λ l. z ∷ l) (set_last zs x y)
 
 -- one link end more
-pub grown_more : (before me after : Me Change View) (id : CellId) (ends more : List (ℕ × Numbers)) (end : ℕ) (numbers : Numbers)
+pub grown_more : (before me after : Me SeatChange View) (id : CellId) (ends more : List (ℕ × Numbers)) (end : ℕ) (numbers : Numbers)
     → me ≡ (grown before.0 (record { id = id; ends = ends }), before.1) → after ≡ (pushed me.0 end numbers, me.1) → more ≡ ends ++ (end, numbers) ∷ []
     → after ≡ (grown before.0 (record { id = id; ends = more }), before.1)
 grown_more before me after id ends more end numbers is pushes longer =
     let v = before.0 in
     let known : List (ℕ × Numbers) → Known = λ l. record { id = id; ends = l } in
-    let push : Me Change View → Me Change View = λ m. (pushed m.0 end numbers, m.1) in
+    let push : Me SeatChange View → Me SeatChange View = λ m. (pushed m.0 end numbers, m.1) in
     let all = set_last v.all (known ends) (known (ends ++ (end, numbers) ∷ [])) in
-    let set : Me Change View → Me Change View = λ m. m in
+    let set : Me SeatChange View → Me SeatChange View = λ m. m in
     pushes ∙ ap push is
     ∙ (λ i. (record { keeps = v.keeps; all = all i; claims = true; cell = length v.all; known = known (ends ++ (end, numbers) ∷ []) }, before.1))
-    ∙ ap (λ (l : List (ℕ × Numbers)). let m : Me Change View = (grown v (known l), before.1) in m) (sym longer)
+    ∙ ap (λ (l : List (ℕ × Numbers)). let m : Me SeatChange View = (grown v (known l), before.1) in m) (sym longer)

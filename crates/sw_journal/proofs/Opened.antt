@@ -31,7 +31,7 @@ use Rattle.sw_net.specs.declared.numbers.Numbers.{Numbers}
 use Rattle.sw_config.specs.Entries.{Declaration, wiring_of}
 use Rattle.sw_config.specs.Valid.{IsValid}
 use Rattle.sw_journal.specs.Views.{knower}
-use Rattle.sw_journal.specs.declared.cell_table.Change.{Change}
+use Rattle.sw_journal.specs.declared.cell_table.SeatChange.{SeatChange}
 use Rattle.sw_journal.specs.declared.cell_table.View.{View}
 use Rattle.sw_topo.specs.Wiring.{Wiring}
 use Rattle.sw_topo.specs.declared.place.PlaceEnd.{PlaceEnd}
@@ -106,7 +106,7 @@ account_first name d h load limit n marks count declared packets steps none =
     let all : marks ≡ replicate (network_of d).channels None = none ∙ ap (λ k. replicate k None) channels in
     λ i. record { name = name; declared = declared i; load = packets i; limit = limit; history = steps i; marks = all i }
 
-pub kept_first : (name : TableId) (d : Declaration) (h : HistoryView) (limit n : ℕ) (marks : List (Option ℕ)) (me : Me Change View) → IsValid d → n ≡ 2 * length d.links → h.declared ≡ d → h.steps ≡ []
+pub kept_first : (name : TableId) (d : Declaration) (h : HistoryView) (limit n : ℕ) (marks : List (Option ℕ)) (me : Me SeatChange View) → IsValid d → n ≡ 2 * length d.links → h.declared ≡ d → h.steps ≡ []
     → marks ≡ replicate n None → me ≡ (knower (all_known d (empty (network_of d))), []) → IsKept (view_of name h limit marks) me
 kept_first name d h limit n marks me valid count declared steps none seat =
     let net = network_of d in

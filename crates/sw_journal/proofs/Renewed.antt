@@ -11,7 +11,7 @@ use Rattle.sw_machine.specs.State.{State}
 use Rattle.sw_net.specs.Numbers.{numbers_at}
 use Rattle.sw_net.specs.declared.numbers.Numbers.{Numbers}
 use Rattle.sw_journal.specs.Views.{changed, ends_with, with_known}
-use Rattle.sw_journal.specs.declared.cell_table.Change.{Change}
+use Rattle.sw_journal.specs.declared.cell_table.SeatChange.{SeatChange}
 use Rattle.sw_journal.specs.declared.cell_table.Known.{Known}
 use Rattle.sw_journal.specs.declared.cell_table.View.{View}
 use Rattle.sw_topo.proofs.Lists.{slice_get-set_same}
@@ -156,24 +156,24 @@ set_twice [] (suc k) x y = refl
 set_twice (z ∷ xs) zero x y = refl
 set_twice (z ∷ xs) (suc k) x y = ap (λ l. z ∷ l) (set_twice xs k x y)
 
-abbrev pub with_ends : Me Change View → List (ℕ × Numbers) → Me Change View
+abbrev pub with_ends : Me SeatChange View → List (ℕ × Numbers) → Me SeatChange View
 with_ends m ends = (with_known m.0 (record { id = m.0.known.id; ends = ends }), m.1)
 
 -- as it is
-pub seat_first : (before : Me Change View) (ends : List (ℕ × Numbers)) → slice_get before.0.all before.0.cell ≡ Some before.0.known → before.0.known.ends ≡ ends → before ≡ with_ends before ends
+pub seat_first : (before : Me SeatChange View) (ends : List (ℕ × Numbers)) → slice_get before.0.all before.0.cell ≡ Some before.0.known → before.0.known.ends ≡ ends → before ≡ with_ends before ends
 seat_first before ends at is =
     let v = before.0 in
     let all = set_back v.all v.cell v.known at in
     (λ i. (record { keeps = v.keeps; all = sym all i; claims = v.claims; cell = v.cell; known = v.known }, before.1)) ∙ ap (with_ends before) is
 
 -- still as it is
-pub seat_same : (first before : Me Change View) (ends : List (ℕ × Numbers)) → slice_get first.0.all first.0.cell ≡ Some first.0.known → before ≡ with_ends first ends → slice_get before.0.all before.0.cell ≡ Some before.0.known
+pub seat_same : (first before : Me SeatChange View) (ends : List (ℕ × Numbers)) → slice_get first.0.all first.0.cell ≡ Some first.0.known → before ≡ with_ends first ends → slice_get before.0.all before.0.cell ≡ Some before.0.known
 seat_same first before ends at is =
     let known : Known = record { id = first.0.known.id; ends = ends } in
-    subst (λ (m : Me Change View). slice_get m.0.all m.0.cell ≡ Some m.0.known) (sym is) (slice_get-set_same first.0.all first.0.cell first.0.known known at)
+    subst (λ (m : Me SeatChange View). slice_get m.0.all m.0.cell ≡ Some m.0.known) (sym is) (slice_get-set_same first.0.all first.0.cell first.0.known known at)
 
 -- it is told of one
-pub seat_told : (before after : Me Change View) (ends : List (ℕ × Numbers)) (k : ℕ) (p : ℕ × Numbers) (numbers : Numbers) → before.0.known.ends ≡ ends → slice_get ends k ≡ Some p
+pub seat_told : (before after : Me SeatChange View) (ends : List (ℕ × Numbers)) (k : ℕ) (p : ℕ × Numbers) (numbers : Numbers) → before.0.known.ends ≡ ends → slice_get ends k ≡ Some p
     → after ≡ (changed before.0 k numbers, before.1) → after ≡ with_ends before (slice_set ends k (p.0, numbers))
 seat_told before after ends k p numbers is at told =
     let own : ends_with before.0.known.ends k numbers (slice_get before.0.known.ends k) ≡ slice_set ends k (p.0, numbers) =
@@ -181,11 +181,11 @@ seat_told before after ends k p numbers is at told =
     told ∙ ap (with_ends before) own
 
 -- one more
-pub seat_more : (first before after : Me Change View) (ends more : List (ℕ × Numbers)) → before ≡ with_ends first ends → after ≡ with_ends before more → after ≡ with_ends first more
+pub seat_more : (first before after : Me SeatChange View) (ends more : List (ℕ × Numbers)) → before ≡ with_ends first ends → after ≡ with_ends before more → after ≡ with_ends first more
 seat_more first before after ends more is next =
     let v = first.0 in
     let all = set_twice v.all v.cell (record { id = v.known.id; ends = ends }) (record { id = v.known.id; ends = more }) in
-    next ∙ ap (λ (m : Me Change View). with_ends m more) is
+    next ∙ ap (λ (m : Me SeatChange View). with_ends m more) is
     ∙ (λ i. (record { keeps = v.keeps; all = all i; claims = v.claims; cell = v.cell; known = record { id = v.known.id; ends = more } }, first.1))
 
 -- the same link ends are in range

@@ -15,7 +15,7 @@ use Rattle.sw_net.specs.Numbers.{numbers_at}
 use Rattle.sw_net.specs.declared.numbers.Numbers.{Numbers}
 use Rattle.sw_config.specs.Entries.{Declaration}
 use Rattle.sw_journal.specs.Views.{knower}
-use Rattle.sw_journal.specs.declared.cell_table.Change.{Change}
+use Rattle.sw_journal.specs.declared.cell_table.SeatChange.{SeatChange}
 use Rattle.sw_journal.specs.declared.cell_table.View.{View}
 
 -- those of these link ends that stand at the cell, each with its numbers in a state
@@ -27,6 +27,6 @@ abbrev pub node_ids : ℕ → List CellId
 node_ids n = map (λ k. Node k) (range_with_len 0 n)
 
 -- there is a cell for each of these in the empty state, and the journal's seat knows what they know
-pub record AreOpened (d : Declaration) (name : TableId) (ids : List CellId) (cells : List CellView) (me : Me Change View) : Type 0 where
+pub record AreOpened (d : Declaration) (name : TableId) (ids : List CellId) (cells : List CellView) (me : Me SeatChange View) : Type 0 where
   pub cells_are : cells ≡ map (new_cell d name) ids
   pub seat : me ≡ (knower (map (known_of (network_of d) (empty (network_of d))) ids), [])

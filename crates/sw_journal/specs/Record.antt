@@ -19,7 +19,7 @@ use Rattle.sw_machine.specs.Model.{network_of}
 use Rattle.sw_net.specs.declared.numbers.Numbers.{Numbers}
 use Rattle.sw_config.specs.Entries.{Declaration}
 use Rattle.sw_journal.specs.Views.{knower}
-use Rattle.sw_journal.specs.declared.cell_table.Change.{Change}
+use Rattle.sw_journal.specs.declared.cell_table.SeatChange.{SeatChange}
 use Rattle.sw_journal.specs.declared.cell_table.View.{View}
 
 -- what callers see of a journal
@@ -100,7 +100,7 @@ pub record IsTrueView (j : JournalView) : Type 0 where
   pub true_marks : (e k : ℕ) → slice_get j.marks e ≡ Some (Some k) → IsTrueMark (network_of j.declared) (packets_of j.load) j.history e k
 
 -- and the journal's seat knows what all cells know
-pub record IsKept (j : JournalView) (me : Me Change View) : Type 0 where
+pub record IsKept (j : JournalView) (me : Me SeatChange View) : Type 0 where
   pub true_view : IsTrueView j
   pub channels : (network_of j.declared).channels ≡ 2 * length j.declared.links
   pub seat : me ≡ (knower (all_known j.declared true_view.state), [])

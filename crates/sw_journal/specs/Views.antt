@@ -7,8 +7,8 @@ use Rattle.atomic_table.specs.Table.{Me, Step}
 use Rattle.sw_cell.specs.declared.cell.CellId.{CellId}
 use Rattle.sw_cell.specs.declared.cell.CellId.TheVariants as place
 use Rattle.sw_net.specs.declared.numbers.Numbers.{Numbers}
-use Rattle.sw_journal.specs.declared.cell_table.Change.{Change}
-use Rattle.sw_journal.specs.declared.cell_table.Change.TheVariants as told
+use Rattle.sw_journal.specs.declared.cell_table.SeatChange.{SeatChange}
+use Rattle.sw_journal.specs.declared.cell_table.SeatChange.TheVariants as told
 use Rattle.sw_journal.specs.declared.cell_table.Known.{Known}
 use Rattle.sw_journal.specs.declared.cell_table.View.{View}
 
@@ -57,7 +57,7 @@ Kept views =
     × ((by : ℕ) (v : View) → get_elem? views by ≡ some v → Fits seat all owner by v)
 
 -- a load shows the journal's seat that what it knows of the cell is what the journal's knows
-abbrev pub Checked : Step Change → Me Change View → ℕ → Me Change View → Type 0
+abbrev pub Checked : Step SeatChange → Me SeatChange View → ℕ → Me SeatChange View → Type 0
 Checked s v n w = (w ≡ v) × (v.0.claims ≡ true → slice_get v.0.all v.0.cell ≡ Some v.0.known)
 
 -- this is known from now on of the cell that the seat stands for
@@ -73,24 +73,24 @@ ends_with ends at numbers (Some end) = slice_set ends at (end.0, numbers)
 abbrev pub changed : View → ℕ → Numbers → View
 changed v at numbers = with_known v (record { id = v.known.id; ends = ends_with v.known.ends at numbers (slice_get v.known.ends at) })
 
-abbrev pub changed_by : View → Option Change → View
+abbrev pub changed_by : View → Option SeatChange → View
 changed_by v none = v
 changed_by v (some (told.Numbers at numbers)) = changed v at numbers
 changed_by v (some change) = v
 
-abbrev pub Changed : Step Change → Me Change View → ℕ → Me Change View → Type 0
+abbrev pub Changed : Step SeatChange → Me SeatChange View → ℕ → Me SeatChange View → Type 0
 Changed s v n w = w ≡ (changed_by v.0 s.said, v.1)
 
 -- the cell has one more link end, with these numbers
 abbrev pub pushed : View → ℕ → Numbers → View
 pushed v end numbers = with_known v (record { id = v.known.id; ends = v.known.ends ++ (end, numbers) ∷ [] })
 
-abbrev pub pushed_by : View → Option Change → View
+abbrev pub pushed_by : View → Option SeatChange → View
 pushed_by v none = v
 pushed_by v (some (told.End end numbers)) = pushed v end numbers
 pushed_by v (some change) = v
 
-abbrev pub Pushed : Step Change → Me Change View → ℕ → Me Change View → Type 0
+abbrev pub Pushed : Step SeatChange → Me SeatChange View → ℕ → Me SeatChange View → Type 0
 Pushed s v n w = w ≡ (pushed_by v.0 s.said, v.1)
 
 -- a new cell, of which this is known
@@ -101,10 +101,10 @@ grown v known = record { keeps = v.keeps; all = v.all ++ known ∷ []; claims = 
 abbrev pub opened : View → CellId → View
 opened v id = grown v (record { id = id; ends = [] })
 
-abbrev pub opened_by : View → Option Change → View
+abbrev pub opened_by : View → Option SeatChange → View
 opened_by v none = v
 opened_by v (some (told.Cell id)) = opened v id
 opened_by v (some change) = v
 
-abbrev pub Opened : Step Change → Me Change View → ℕ → Me Change View → Type 0
+abbrev pub Opened : Step SeatChange → Me SeatChange View → ℕ → Me SeatChange View → Type 0
 Opened s v n w = w ≡ (opened_by v.0 s.said, v.1)

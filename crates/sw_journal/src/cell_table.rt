@@ -33,7 +33,7 @@ pub struct View {
 /// What a step tells: which cell is new; a link end that it has, with its numbers; or the numbers that
 /// stand for the link end at a place of its list from now on.
 #[derive(Drop)]
-pub enum Change {
+pub enum SeatChange {
     /// A new cell.
     Cell(CellId),
     /// A link end of the new cell, behind those that it has.
@@ -46,7 +46,7 @@ pub enum Change {
 /// what it knows is what the journal's knows of that cell.
 pub struct CellRule;
 
-impl TableRule<Change, View, ()> for CellRule {
+impl TableRule<SeatChange, View, ()> for CellRule {
     ghost use Rattle.std.specs.Prelude.{[]};
     ghost use Rattle.sw_journal.specs.Views.{knower, Kept};
 
@@ -58,7 +58,7 @@ impl TableRule<Change, View, ()> for CellRule {
 /// A load: the journal's seat learns that what it knows of the cell is what the journal knows.
 pub struct Compare;
 
-impl Play<Change, View> for Compare {
+impl Play<SeatChange, View> for Compare {
     ghost use Rattle.sw_journal.specs.Views.{Checked};
 
     ghost then = { Checked };
@@ -67,7 +67,7 @@ impl Play<Change, View> for Compare {
 /// A step: a link end of the cell has other numbers from now on.
 pub struct SetNumbers;
 
-impl Play<Change, View> for SetNumbers {
+impl Play<SeatChange, View> for SetNumbers {
     ghost use Rattle.sw_journal.specs.Views.{Changed};
 
     ghost then = { Changed };
@@ -76,7 +76,7 @@ impl Play<Change, View> for SetNumbers {
 /// A step: the cell has one more link end.
 pub struct AddLinkEnd;
 
-impl Play<Change, View> for AddLinkEnd {
+impl Play<SeatChange, View> for AddLinkEnd {
     ghost use Rattle.sw_journal.specs.Views.{Pushed};
 
     ghost then = { Pushed };
@@ -85,7 +85,7 @@ impl Play<Change, View> for AddLinkEnd {
 /// A step: there is a new cell.
 pub struct OpenCell;
 
-impl Play<Change, View> for OpenCell {
+impl Play<SeatChange, View> for OpenCell {
     ghost use Rattle.sw_journal.specs.Views.{Opened};
 
     ghost then = { Opened };
@@ -111,7 +111,7 @@ impl Join<View> for HandOver {
 }
 
 /// The table of a journal and its cells.
-pub type CellTable = Table<Change, View, (), CellRule, Global>;
+pub type CellTable = Table<SeatChange, View, (), CellRule, Global>;
 
 /// A seat of the journal or of a cell.
-pub type CellSeat = Seat<Change, View>;
+pub type CellSeat = Seat<SeatChange, View>;

@@ -3,7 +3,7 @@ ghost use Rattle.std.specs.Prelude.{◌≡◌, ◌<◌, [], IfOk, Some, slice_ge
 ghost use Rattle.sw_journal.specs.Views.{changed, grown, held_of, kept_of, knower, shown};
 
 use crate::cell_table::{
-    AddLinkEnd, CellSeat, CellTable, Change, Compare, HandOver, OpenCell, SetNumbers,
+    AddLinkEnd, CellSeat, CellTable, Compare, HandOver, OpenCell, SeatChange, SetNumbers,
 };
 use std::alloc::{AllocError, Global};
 use sw_cell::CellId;
@@ -30,9 +30,9 @@ pub fn grow(table: &CellTable, seat: &mut CellSeat, id: CellId, ends: &[(LinkEnd
     ensures { (seat.new.table_id ≡ seat.old.table_id) × (seat.new.me ≡ (grown seat.old.me.0 (record { id = id; ends = ends.now }), seat.old.me.1)) }
 {
     let shared = &table.shared;
-    shared.compare_exchange_with::<OpenCell>(seat, 0, 0, 0, &Change::Cell(id));
+    shared.compare_exchange_with::<OpenCell>(seat, 0, 0, 0, &SeatChange::Cell(id));
     for (end, numbers) in ends {
-        let change = Change::End(*end, *numbers);
+        let change = SeatChange::End(*end, *numbers);
         shared.compare_exchange_with::<AddLinkEnd>(seat, 0, 0, 0, &change);
     }
 }
@@ -62,7 +62,7 @@ pub fn tell(table: &CellTable, seat: &mut CellSeat, at: usize, numbers: Numbers)
 {
     table
         .shared
-        .compare_exchange_with::<SetNumbers>(seat, 0, 0, 0, &Change::Numbers(at, numbers));
+        .compare_exchange_with::<SetNumbers>(seat, 0, 0, 0, &SeatChange::Numbers(at, numbers));
 }
 
 /// A seat for what the journal's seat stands for.

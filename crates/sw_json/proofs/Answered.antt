@@ -12,20 +12,20 @@ use Rattle.sw_text.specs.declared.write_answer.Ended.TheVariants.{Status, ReadFa
 use Rattle.sw_text.specs.Ends.{AnswersByTwo, AnswersToTwo, GivesText, IsTold, Says}
 use Rattle.sw_json.specs.Texts.{ReadsBack, text_of}
 use Rattle.sw_json.specs.declared.files.Release.{Release}
-use Rattle.sw_json.specs.Answering.{AnswersByOne, AnswersToOne, EndsByOneFile, EndsByTwoFiles, IsAnswer, IsAnswerTold, IsOutcome, IsUnreadTold, Results, Spells, memory_text}
-use Rattle.sw_json.specs.declared.outcome.Outcome.{Outcome}
+use Rattle.sw_json.specs.Answering.{AnswersByOne, AnswersToOne, EndsByOneFile, EndsByTwoFiles, IsAnswer, IsAnswerTold, IsCommandOutcome, IsUnreadTold, Results, Spells, memory_text}
+use Rattle.sw_json.specs.declared.command_outcome.CommandOutcome.{CommandOutcome}
 
 -- ---- the answer round a result
 
 -- what holds of this value and status
-at_outcome : (R : Results) (value result : Data) (number status : ℕ) → IsOutcome value number result status → R value number → R result status
+at_outcome : (R : Results) (value result : Data) (number status : ℕ) → IsCommandOutcome value number result status → R value number → R result status
 at_outcome R value result number status is h =
     subst (λ (v : Data). R v status) (sym is.0) (subst (λ (n : ℕ). R value n) (sym is.1) h)
 
 -- the answer round what was found is one of the results that this may be
-pub with_result : (R : Results) (command : List ℕ) (files : List Data) (release : Release) (found : Result Outcome AllocError) (r : Result Answer AllocError)
+pub with_result : (R : Results) (command : List ℕ) (files : List Data) (release : Release) (found : Result CommandOutcome AllocError) (r : Result Answer AllocError)
     → IfOk found (λ o. R (view o.result) o.status)
-    → IfOk r (λ a. IsOkAnd found (λ o. IsAnswer command files release (IsOutcome (view o.result) o.status) (string_bytes a.text) a.status))
+    → IfOk r (λ a. IsOkAnd found (λ o. IsAnswer command files release (IsCommandOutcome (view o.result) o.status) (string_bytes a.text) a.status))
     → IfOk r (λ a. IsAnswer command files release R (string_bytes a.text) a.status)
 with_result R command files release (Ok o) (Ok a) h (result, is, spelled) = (result, at_outcome R (view o.result) result o.status a.status is h, spelled)
 with_result R command files release (Err e) (Ok a) h answered = absurd answered

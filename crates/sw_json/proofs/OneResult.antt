@@ -8,14 +8,14 @@ use Rattle.sw_json.specs.AnswerValues.{answer_value}
 use Rattle.sw_json.specs.Texts.{text_of}
 use Rattle.sw_json.specs.declared.files.Release.{Release}
 use Rattle.sw_text.specs.declared.fault.TextFault.{TextFault}
-use Rattle.sw_json.specs.Answering.{IsAnswer, IsFaultyFile, IsOutcome, OfFile, OfNetwork, OfNetworkFile, Results}
+use Rattle.sw_json.specs.Answering.{IsAnswer, IsCommandOutcome, IsFaultyFile, OfFile, OfNetwork, OfNetworkFile, Results}
 use Rattle.sw_json.specs.Laws.{AreOneButForFaults}
 
 -- any two of the results have one status, and one value unless that is 3
 abbrev pub AreOne : Results → Type 0
 AreOne R = (value other : Data) (status number : ℕ) → R value status → R other number → (status ≡ number) × (status ≢ 3 → value ≡ other)
 
-pub one_outcome : (said : Data) (n : ℕ) → AreOne (IsOutcome said n)
+pub one_outcome : (said : Data) (n : ℕ) → AreOne (IsCommandOutcome said n)
 one_outcome said n value other status number p q = (p.1 ∙ sym q.1, λ good. p.0 ∙ sym q.0)
 
 one_fault : (path text : List ℕ) (fault : TextFault) → AreOne (IsFaultyFile path text fault)

@@ -28,17 +28,17 @@ abbrev pub Results : Type 1
 Results = Data → ℕ → Type 0
 
 -- this value with this status, and no other
-abbrev pub IsOutcome : Data → ℕ → Results
-IsOutcome result number value status = (value ≡ result) × (status ≡ number)
+abbrev pub IsCommandOutcome : Data → ℕ → Results
+IsCommandOutcome result number value status = (value ≡ result) × (status ≡ number)
 
 -- of a file whose text is too long
 abbrev pub IsLongFile : List ℕ → Results
-IsLongFile path value status = IsOutcome (file_fault_value path long_value) 3 value status
+IsLongFile path value status = IsCommandOutcome (file_fault_value path long_value) 3 value status
 
 -- of a file whose text has a fault, which is told of any place that it has
 abbrev pub IsFaultyFile : List ℕ → List ℕ → TextFault → Results
 IsFaultyFile path text fault value status =
-    (told : Data) × IsFaultValue text fault told × IsOutcome (file_fault_value path told) 3 value status
+    (told : Data) × IsFaultValue text fault told × IsCommandOutcome (file_fault_value path told) 3 value status
 
 -- of a file by its text, None where that is too long
 abbrev pub OfFile : List ℕ → (List ℕ → Results) → Option (List ℕ) → Results

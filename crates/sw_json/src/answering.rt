@@ -4,15 +4,15 @@ ghost use Rattle.serde_json.specs.View.{view};
 ghost use Rattle.sw_json.specs.AnswerValues.{file_fault_value};
 ghost use Rattle.sw_json.specs.Plain.{IsPlain};
 ghost use Rattle.sw_text.specs.Inputs.{given};
-ghost use Rattle.sw_json.specs.Answering.{IsAnswer, IsAnswerTold, IsLongFile, IsMemoryTold, IsOutcome, IsUnreadNetwork, IsUnreadTold, read_value};
+ghost use Rattle.sw_json.specs.Answering.{IsAnswer, IsAnswerTold, IsCommandOutcome, IsLongFile, IsMemoryTold, IsUnreadNetwork, IsUnreadTold, read_value};
 
 use crate::answers::{answer_value, file_fault_value};
+use crate::command_outcome::CommandOutcome;
 use crate::faults::{fault_value, long_value};
 use crate::files::Release;
 use crate::inputs::{input_value, long_input};
 use crate::laws::{answers_are_plain, faults_are_plain, file_faults_are_plain, inputs_are_plain};
 use crate::lists::add_value;
-use crate::outcome::Outcome;
 use crate::texts::text_of;
 use serde_json::Value;
 use std::alloc::{AllocError, Global};
@@ -29,13 +29,13 @@ pub fn file_fault(
     alloc: Global,
     path: &str,
     fault: Result<Value, AllocError>,
-) -> Result<Outcome, AllocError>
+) -> Result<CommandOutcome, AllocError>
     requires { IfOk fault (λ v. IsPlain 1 (view v)) }
-    ensures { IfOk result (λ o. IsOkAnd fault (λ v. IsOutcome (file_fault_value path.now (view v)) 3 (view o.result) o.status)) }
+    ensures { IfOk result (λ o. IsOkAnd fault (λ v. IsCommandOutcome (file_fault_value path.now (view v)) 3 (view o.result) o.status)) }
 {
     file_faults_are_plain();
     let result = file_fault_value(alloc, path, fault?)?;
-    Ok(Outcome {
+    Ok(CommandOutcome {
         result,
         status: FAULTY,
     })
@@ -46,7 +46,7 @@ pub fn file_fault(
 /// # Errors
 ///
 /// There is no memory for it.
-pub fn long_file(alloc: Global, path: &str) -> Result<Outcome, AllocError>
+pub fn long_file(alloc: Global, path: &str) -> Result<CommandOutcome, AllocError>
     ensures { IfOk result (λ o. IsLongFile path.now (view o.result) o.status) }
 {
     faults_are_plain();
@@ -64,7 +64,7 @@ pub fn unread_network(
     path: &str,
     text: &[u8],
     fault: FileFault,
-) -> Result<Outcome, AllocError>
+) -> Result<CommandOutcome, AllocError>
     ensures { IfOk result (λ o. IsUnreadNetwork path.now text.now fault (view o.result) o.status) }
 {
     faults_are_plain();
@@ -104,9 +104,9 @@ fn answer_to_files(
     command: &str,
     release: Release<'_>,
     files: &[(&str, &InputText)],
-    found: Result<Outcome, AllocError>,
+    found: Result<CommandOutcome, AllocError>,
 ) -> Result<Answer, AllocError>
-    ensures { IfOk result (λ a. IsOkAnd found (λ o. IsAnswer command.now (map (λ f. read_value f.0.now (given f.1.now)) files.now) release.entry (IsOutcome (view o.result) o.status) (string_bytes a.text) a.status)) }
+    ensures { IfOk result (λ a. IsOkAnd found (λ o. IsAnswer command.now (map (λ f. read_value f.0.now (given f.1.now)) files.now) release.entry (IsCommandOutcome (view o.result) o.status) (string_bytes a.text) a.status)) }
 {
     inputs_are_plain();
     answers_are_plain();
@@ -131,9 +131,9 @@ pub fn answer_to_one(
     release: Release<'_>,
     path: &str,
     text: &InputText,
-    found: Result<Outcome, AllocError>,
+    found: Result<CommandOutcome, AllocError>,
 ) -> Result<Answer, AllocError>
-    ensures { IfOk result (λ a. IsOkAnd found (λ o. IsAnswer command.now (read_value path.now (given text.now) ∷ []) release.entry (IsOutcome (view o.result) o.status) (string_bytes a.text) a.status)) }
+    ensures { IfOk result (λ a. IsOkAnd found (λ o. IsAnswer command.now (read_value path.now (given text.now) ∷ []) release.entry (IsCommandOutcome (view o.result) o.status) (string_bytes a.text) a.status)) }
 {
     answer_to_files(alloc, command, release, &[(path, text)], found)
 }
@@ -150,9 +150,9 @@ pub fn answer_to_two(
     paths: (&str, &str),
     first: &InputText,
     second: &InputText,
-    found: Result<Outcome, AllocError>,
+    found: Result<CommandOutcome, AllocError>,
 ) -> Result<Answer, AllocError>
-    ensures { IfOk result (λ a. IsOkAnd found (λ o. IsAnswer command.now (read_value paths.entry.0.now (given first.now) ∷ read_value paths.entry.1.now (given second.now) ∷ []) release.entry (IsOutcome (view o.result) o.status) (string_bytes a.text) a.status)) }
+    ensures { IfOk result (λ a. IsOkAnd found (λ o. IsAnswer command.now (read_value paths.entry.0.now (given first.now) ∷ read_value paths.entry.1.now (given second.now) ∷ []) release.entry (IsCommandOutcome (view o.result) o.status) (string_bytes a.text) a.status)) }
 {
     let files = [(paths.0, first), (paths.1, second)];
     answer_to_files(alloc, command, release, &files, found)

@@ -4,6 +4,7 @@
 mod answering;
 mod answers;
 mod codes;
+mod command_outcome;
 mod cycles;
 mod digests;
 mod faults;
@@ -12,7 +13,6 @@ mod inputs;
 pub mod laws;
 mod lists;
 mod objects;
-mod outcome;
 mod places;
 mod simple;
 mod texts;
@@ -24,6 +24,7 @@ pub use answering::{
 };
 pub use answers::{answer_value, file_fault_value};
 pub use codes::route_fault_code;
+pub use command_outcome::CommandOutcome;
 pub use digests::digest_text;
 pub use faults::{fault_value, long_value, schedule_fault_value, unknown_flow_value};
 pub use files::{Release, audit_value, bare_entry, kind_value, read_entry};
@@ -33,7 +34,6 @@ pub use objects::{
     Member, object_of, object_of_five, object_of_four, object_of_six, object_of_three,
     object_of_two,
 };
-pub use outcome::Outcome;
 pub use places::{finish_text, misrouted_fault_value, place_value, place_values, start_text};
 pub use serde_json::Value;
 pub use simple::{count_or_null, text_or_null};

@@ -6,10 +6,10 @@ use Rattle.serde_json.specs.View.{view}
 use Rattle.sw_config.specs.Entries.{Declaration}
 use Rattle.sw_search.specs.Verdicts.{IsVerdict}
 use Rattle.sw_search.specs.declared.verdict.Verdict.{Verdict}
-use Rattle.sw_json.specs.declared.outcome.Outcome.{Outcome}
+use Rattle.sw_json.specs.declared.command_outcome.CommandOutcome.{CommandOutcome}
 use Rattle.sw_json_changes.specs.MarginJson.{IsByVerdict, IsMarginFound}
 
-pub margin_found : (d : Declaration) (v : Verdict) (r : Result Outcome AllocError) → IsVerdict d v
+pub margin_found : (d : Declaration) (v : Verdict) (r : Result CommandOutcome AllocError) → IsVerdict d v
     → IfOk r (λ o. IsByVerdict d v (view o.result) o.status) → IfOk r (λ o. IsMarginFound d (view o.result) o.status)
 margin_found d v (Ok o) is h = (v, is, h)
 margin_found d v (Err x) is h = h

@@ -1,6 +1,6 @@
 -- What `margin --json` answers (this project's choice).
 use Rattle.std.specs.Prelude.{ℕ, List, codes}
-use Rattle.sw_json.specs.Answering.{AnswersToOne, IsAnswerToOne, IsOutcome, OfNetworkFile, Results}
+use Rattle.sw_json.specs.Answering.{AnswersToOne, IsAnswerToOne, IsCommandOutcome, OfNetworkFile, Results}
 use Rattle.sw_json_changes.specs.MarginValues.{margins_value}
 use Rattle.sw_config.specs.Entries.{Declaration}
 use Rattle.sw_json.specs.VerdictValues.{verdict_value}
@@ -15,12 +15,12 @@ use Rattle.sw_search.specs.declared.verdict.Verdict.TheVariants.{Misrouted, Cycl
 -- what the free network stands
 abbrev pub IsBent : Declaration → Results
 IsBent d value status =
-    (told : Margins) × AreStalls d told.stalls.items × AreAnswers d told.answers.items × AreLosses d told.losses.items × IsOutcome (margins_value d told) 0 value status
+    (told : Margins) × AreStalls d told.stalls.items × AreAnswers d told.answers.items × AreLosses d told.losses.items × IsCommandOutcome (margins_value d told) 0 value status
 
 -- the verdict, where the network is not free; else what it stands
 abbrev pub IsByVerdict : Declaration → Verdict → Results
-IsByVerdict d (Misrouted flow place fault) value status = IsOutcome (verdict_value d (Misrouted flow place fault)) 0 value status
-IsByVerdict d (Cyclic cycle) value status = IsOutcome (verdict_value d (Cyclic cycle)) 0 value status
+IsByVerdict d (Misrouted flow place fault) value status = IsCommandOutcome (verdict_value d (Misrouted flow place fault)) 0 value status
+IsByVerdict d (Cyclic cycle) value status = IsCommandOutcome (verdict_value d (Cyclic cycle)) 0 value status
 IsByVerdict d (Free contents) value status = IsBent d value status
 
 -- of a network

@@ -11,7 +11,7 @@ use std::alloc::{AllocError, Global};
 use sw_app_changes::explain_status;
 use sw_config::Network;
 use sw_file::read_network;
-use sw_json::{Outcome, long_file, unread_network};
+use sw_json::{CommandOutcome, long_file, unread_network};
 use sw_search::{VerdictWorkers, explain};
 use sw_text::InputText;
 
@@ -20,14 +20,14 @@ fn of_network<W: VerdictWorkers>(
     workers: &W,
     alloc: Global,
     network: &Network,
-) -> Result<Outcome, AllocError>
+) -> Result<CommandOutcome, AllocError>
     ensures { IfOk result (λ o. IsExplained network.now (view o.result) o.status) }
 {
     explanations_are_plain();
     let explanation = explain(workers, alloc, network)?;
     let result = explain_value(alloc, network, &explanation)?;
     let status = explain_status(&explanation);
-    Ok(Outcome { result, status })
+    Ok(CommandOutcome { result, status })
 }
 
 /// What is found of a file.
@@ -36,7 +36,7 @@ pub(crate) fn explain_outcome<W: VerdictWorkers>(
     alloc: Global,
     path: &str,
     text: &InputText,
-) -> Result<Outcome, AllocError>
+) -> Result<CommandOutcome, AllocError>
     ensures { IfOk result (λ o. OfNetworkFile path.now IsExplained (given text.now) (view o.result) o.status) }
 {
     match text {

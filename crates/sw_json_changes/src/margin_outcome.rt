@@ -12,7 +12,7 @@ use crate::verdict_outcome::verdict_outcome;
 use std::alloc::{AllocError, Global};
 use sw_config::Network;
 use sw_file::read_network;
-use sw_json::{Outcome, long_file, unread_network};
+use sw_json::{CommandOutcome, long_file, unread_network};
 use sw_margin::margins;
 use sw_search::{Verdict, VerdictWorkers, decide};
 use sw_text::InputText;
@@ -23,13 +23,13 @@ fn bent<W: VerdictWorkers>(
     workers: &W,
     alloc: Global,
     network: &Network,
-) -> Result<Outcome, AllocError>
+) -> Result<CommandOutcome, AllocError>
     ensures { IfOk result (λ o. IsBent network.now (view o.result) o.status) }
 {
     margins_are_plain();
     let found = margins(workers, alloc, network)?;
     let result = margins_value(alloc, network, &found)?;
-    Ok(Outcome {
+    Ok(CommandOutcome {
         result,
         status: GOOD,
     })
@@ -41,7 +41,7 @@ fn by_verdict<W: VerdictWorkers>(
     alloc: Global,
     network: &Network,
     verdict: &Verdict,
-) -> Result<Outcome, AllocError>
+) -> Result<CommandOutcome, AllocError>
     requires { IsVerdict network.now verdict.now }
     ensures { IfOk result (λ o. IsByVerdict network.now verdict.now (view o.result) o.status) }
 {
@@ -57,7 +57,7 @@ fn of_network<W: VerdictWorkers>(
     workers: &W,
     alloc: Global,
     network: &Network,
-) -> Result<Outcome, AllocError>
+) -> Result<CommandOutcome, AllocError>
     ensures { IfOk result (λ o. IsMarginFound network.now (view o.result) o.status) }
 {
     let verdict = decide(workers, alloc, network)?;
@@ -70,7 +70,7 @@ pub(crate) fn margin_outcome<W: VerdictWorkers>(
     alloc: Global,
     path: &str,
     text: &InputText,
-) -> Result<Outcome, AllocError>
+) -> Result<CommandOutcome, AllocError>
     ensures { IfOk result (λ o. OfNetworkFile path.now IsMarginFound (given text.now) (view o.result) o.status) }
 {
     match text {

@@ -10,7 +10,7 @@ use std::alloc::{AllocError, Global};
 use sw_app_changes::{find_mending, mending_status};
 use sw_config::Network;
 use sw_file::read_network;
-use sw_json::{Outcome, long_file, unread_network};
+use sw_json::{CommandOutcome, long_file, unread_network};
 use sw_search::VerdictWorkers;
 use sw_text::InputText;
 
@@ -20,13 +20,13 @@ fn of_network<W: VerdictWorkers>(
     alloc: Global,
     pairs: bool,
     network: &Network,
-) -> Result<Outcome, AllocError>
+) -> Result<CommandOutcome, AllocError>
     ensures { IfOk result (λ o. IsMendFound pairs network.now (view o.result) o.status) }
 {
     let found = find_mending(workers, alloc, pairs, network)?;
     let status = mending_status(&found);
     let result = mending_value(alloc, network, &found)?;
-    Ok(Outcome { result, status })
+    Ok(CommandOutcome { result, status })
 }
 
 /// What is found of a file, with pairs asked for or not.
@@ -36,7 +36,7 @@ pub(crate) fn mend_outcome<W: VerdictWorkers>(
     pairs: bool,
     path: &str,
     text: &InputText,
-) -> Result<Outcome, AllocError>
+) -> Result<CommandOutcome, AllocError>
     ensures { IfOk result (λ o. OfNetworkFile path.now (IsMendFound pairs) (given text.now) (view o.result) o.status) }
 {
     match text {

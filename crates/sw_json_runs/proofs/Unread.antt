@@ -12,9 +12,9 @@ use Rattle.sw_text.specs.declared.read_texts.InputError.{InputError}
 use Rattle.sw_text.specs.declared.read_texts.InputError.TheVariants as input
 use Rattle.sw_text.specs.declared.write_answer.Ended.{Ended}
 use Rattle.sw_text.specs.declared.write_answer.Ended.TheVariants.{Status, ReadFailed, WriteFailed}
-use Rattle.sw_json.specs.Answering.{IsAnswer, IsMemoryTold, IsOutcome, IsUnreadNetwork, IsUnreadTold}
+use Rattle.sw_json.specs.Answering.{IsAnswer, IsCommandOutcome, IsMemoryTold, IsUnreadNetwork, IsUnreadTold}
 use Rattle.sw_json.specs.declared.files.Release.{Release}
-use Rattle.sw_json.specs.declared.outcome.Outcome.{Outcome}
+use Rattle.sw_json.specs.declared.command_outcome.CommandOutcome.{CommandOutcome}
 use Rattle.sw_text.specs.declared.fault.FileFault.{FileFault}
 use Rattle.sw_text.specs.declared.fault.FileFault.TheVariants.{Text, Memory}
 use Rattle.sw_json_runs.specs.RunRecords.{Answering, IsFault, IsUnreadRecord, IsUnrecorded}
@@ -24,16 +24,16 @@ module _ (command : List ℕ) (files : List Data) (release : Release) (path text
   says R = IsAnswer command files release R
 
   of_outcome : (fault : FileFault) (value : Data) (status : ℕ) (recorded : Recorded) → IsUnreadNetwork path text fault value status
-      → IsFault (says (IsOutcome value status)) recorded → IsUnreadRecord says path text fault recorded
+      → IsFault (says (IsCommandOutcome value status)) recorded → IsUnreadRecord says path text fault recorded
   of_outcome Memory value status recorded is h = absurd is
   of_outcome (Text fault) value status (Fault answer) (told, is, tells) (found, same, spells) =
       (found, (told, is, (same.0 ∙ tells.0, same.1 ∙ tells.1)), spells)
   of_outcome (Text fault) value status (Run answer schedule summary) is h = absurd h
   of_outcome (Text fault) value status TooLong is h = absurd h
 
-  pub unread : (fault : FileFault) (found : Result Outcome AllocError) (made : Result Recorded AllocError)
+  pub unread : (fault : FileFault) (found : Result CommandOutcome AllocError) (made : Result Recorded AllocError)
       → IfOk found (λ o. IsUnreadNetwork path text fault (view o.result) o.status)
-      → IfOk made (λ r. IsOkAnd found (λ o. IsFault (says (IsOutcome (view o.result) o.status)) r)) → IfOk made (IsUnreadRecord says path text fault)
+      → IfOk made (λ r. IsOkAnd found (λ o. IsFault (says (IsCommandOutcome (view o.result) o.status)) r)) → IfOk made (IsUnreadRecord says path text fault)
   unread fault (Ok o) (Ok recorded) is h = of_outcome fault (view o.result) o.status recorded is h
   unread fault (Err error) (Ok recorded) is h = absurd h
   unread fault (Ok o) (Err error) is h = h

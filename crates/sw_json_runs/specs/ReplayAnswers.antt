@@ -10,18 +10,18 @@ use Rattle.sw_machine.specs.Steps.{Step}
 use Rattle.sw_schedule.specs.Replays.{IsReplayed}
 use Rattle.sw_schedule.specs.Reports.{Report}
 use Rattle.sw_schedule.specs.Schedule.{steps_of_text}
-use Rattle.sw_json.specs.Answering.{IsAnswerToTwo, IsOutcome, OfFile, OfNetworkFile, Results}
+use Rattle.sw_json.specs.Answering.{IsAnswerToTwo, IsCommandOutcome, OfFile, OfNetworkFile, Results}
 use Rattle.sw_json_runs.specs.ReplayValues.{replay_value}
 
 -- of these steps: what is so of the state that they lead to
 abbrev pub IsStepsResult : Declaration → List Step → Results
 IsStepsResult d steps value status =
-    (r : Report) × IsReplayed d steps r × IsOutcome (replay_value d r) (replay_status r.outcome r.stuck) value status
+    (r : Report) × IsReplayed d steps r × IsCommandOutcome (replay_value d r) (replay_status r.outcome r.stuck) value status
 
 -- of the steps that a schedule's text lists, or of its first wrong line
 abbrev pub IsScheduleResult : List ℕ → Declaration → Result (List Step) ℕ → Results
 IsScheduleResult path d (Ok steps) value status = IsStepsResult d steps value status
-IsScheduleResult path d (Err number) value status = IsOutcome (file_fault_value path (schedule_fault_value number)) 3 value status
+IsScheduleResult path d (Err number) value status = IsCommandOutcome (file_fault_value path (schedule_fault_value number)) 3 value status
 
 -- of a schedule file, by its path and its text, None where that is too long
 abbrev pub IsScheduleFileResult : List ℕ → Declaration → Option (List ℕ) → Results

@@ -5,19 +5,19 @@ use Rattle.sw_text.specs.Ends.{AnswersToTwo}
 use Rattle.sw_config.specs.Entries.{Declaration}
 use Rattle.sw_json.specs.declared.files.Release.{Release}
 use Rattle.sw_load.specs.Load.{LoadEntry, load_text}
-use Rattle.sw_app_run.specs.Outcomes.{IsOutcome as IsRunOutcome}
+use Rattle.sw_app_run.specs.Outcomes.{IsOutcome}
 use Rattle.sw_app_run.specs.Outcome.{Outcome}
 use Rattle.sw_text.specs.declared.fault.TextFault.{TextFault}
-use Rattle.sw_json.specs.Answering.{IsAnswerToTwo, IsFaultyFile, IsOutcome, OfFile, OfNetworkFile, Results}
+use Rattle.sw_json.specs.Answering.{IsAnswerToTwo, IsCommandOutcome, IsFaultyFile, OfFile, OfNetworkFile, Results}
 use Rattle.sw_json_runs.specs.RunValues.{run_value}
 
 -- what stands for this outcome, with its status
 abbrev pub IsResultOf : Declaration → Outcome → Results
-IsResultOf d o = IsOutcome (run_value d o) (stop_status o.stop)
+IsResultOf d o = IsCommandOutcome (run_value d o) (stop_status o.stop)
 
 -- of a load: of an outcome that is true of a run of it; runs of one load may have different outcomes
 abbrev pub IsOutcomeResult : ℕ → Declaration → List LoadEntry → Results
-IsOutcomeResult limit d load value status = (o : Outcome) × IsRunOutcome d load limit o × IsResultOf d o value status
+IsOutcomeResult limit d load value status = (o : Outcome) × IsOutcome d load limit o × IsResultOf d o value status
 
 -- of the load that a text lists, or of its first fault
 abbrev pub IsLoadResult : ℕ → List ℕ → List ℕ → Declaration → Result (List LoadEntry) TextFault → Results

@@ -15,7 +15,7 @@ use Rattle.sw_config.specs.Entries.{Declaration}
 use Rattle.sw_file.specs.Network.{network_text}
 use Rattle.sw_json.specs.declared.files.Release.{Release}
 use Rattle.sw_load.specs.Load.{LoadEntry, load_text}
-use Rattle.sw_app_run.specs.Outcomes.{IsOutcome as IsRunOutcome}
+use Rattle.sw_app_run.specs.Outcomes.{IsOutcome}
 use Rattle.sw_app_run.specs.Outcome.{Outcome}
 use Rattle.sw_text.specs.declared.fault.FileFault.{FileFault}
 use Rattle.sw_text.specs.declared.fault.FileFault.TheVariants.{Text, Memory}
@@ -46,7 +46,7 @@ IsRecordOf says wants d load o recorded =
 
 -- of a load: of an outcome that is true of a run of it
 abbrev pub IsOutcomeRecord : Answering → Wants → ℕ → Declaration → List LoadEntry → Recorded → Type 0
-IsOutcomeRecord says wants limit d load recorded = (o : Outcome) × IsRunOutcome d load limit o × IsRecordOf says wants d load o recorded
+IsOutcomeRecord says wants limit d load recorded = (o : Outcome) × IsOutcome d load limit o × IsRecordOf says wants d load o recorded
 
 -- of a file by its text, None where that is too long, and else as P says of it
 abbrev pub IfGiven : Answering → List ℕ → (List ℕ → Recorded → Type 0) → Option (List ℕ) → Recorded → Type 0

@@ -10,7 +10,7 @@ use sw_app_run::replay_status;
 use sw_config::Network;
 use sw_file::read_network;
 use sw_json::laws::faults_are_plain;
-use sw_json::{Outcome, file_fault, long_file, schedule_fault_value, unread_network};
+use sw_json::{CommandOutcome, file_fault, long_file, schedule_fault_value, unread_network};
 use sw_schedule::{Schedule, ScheduleFault, read_steps, replay};
 use sw_text::InputText;
 
@@ -19,13 +19,13 @@ fn steps_outcome(
     alloc: Global,
     network: &Network,
     schedule: &Schedule,
-) -> Result<Outcome, AllocError>
+) -> Result<CommandOutcome, AllocError>
     ensures { IfOk result (λ o. IsStepsResult network.now schedule.now (view o.result) o.status) }
 {
     let replayed = replay(alloc, network, schedule)?;
     let status = replay_status(&replayed);
     let result = replay_value(alloc, network, &replayed)?;
-    Ok(Outcome { result, status })
+    Ok(CommandOutcome { result, status })
 }
 
 // What comes of a schedule file.
@@ -34,7 +34,7 @@ fn schedule_file_outcome(
     path: &str,
     network: &Network,
     text: &InputText,
-) -> Result<Outcome, AllocError>
+) -> Result<CommandOutcome, AllocError>
     ensures { IfOk result (λ o. IsScheduleFileResult path.now network.now (given text.now) (view o.result) o.status) }
 {
     match text {
@@ -60,7 +60,7 @@ pub(crate) fn replay_outcome(
     paths: (&str, &str),
     first: &InputText,
     second: &InputText,
-) -> Result<Outcome, AllocError>
+) -> Result<CommandOutcome, AllocError>
     ensures { IfOk result (λ o. IsReplayResult paths.entry.0.now paths.entry.1.now (given first.now) (given second.now) (view o.result) o.status) }
 {
     match first {

@@ -3,7 +3,7 @@ ghost use Rattle.std.specs.Prelude.{◌≡◌, ◌<◌, IfOk, IsOkAnd, length, s
 ghost use Rattle.serde_json.specs.View.{view};
 ghost use Rattle.sw_text.specs.Inputs.{given};
 ghost use Rattle.sw_load.specs.Laws.{AreDeclared};
-ghost use Rattle.sw_json.specs.Answering.{IsLongFile, IsOutcome};
+ghost use Rattle.sw_json.specs.Answering.{IsCommandOutcome, IsLongFile};
 ghost use Rattle.sw_json_runs.specs.RunAnswers.{IsResultOf};
 ghost use Rattle.sw_json_runs.specs.RunCalls.{IsCallRecord, answers_of};
 ghost use Rattle.sw_json_runs.specs.RunRecords.{IsFault, IsLoadFileRecord, IsOutcomeRecord, IsRecordOf, IsUnreadRecord};
@@ -13,13 +13,13 @@ use std::alloc::{AllocError, Global};
 use std::sync::Wait;
 use std::thread::Threads;
 use sw_app_run::{
-    Gate, Options, Outcome as RunOutcome, Recorded, Wants, run_load as run, stop_status,
-    wanted_summary, with_schedule,
+    Gate, Options, Outcome, Recorded, Wants, run_load as run, stop_status, wanted_summary,
+    with_schedule,
 };
 use sw_config::Network;
 use sw_file::read_network;
 use sw_graph::OneByOne;
-use sw_json::{Outcome, Release, answer_to_two, long_file, unread_network};
+use sw_json::{CommandOutcome, Release, answer_to_two, long_file, unread_network};
 use sw_load::laws::listed_are_declared;
 use sw_load::{Load, read_load};
 use sw_text::{Answer, FileFault, InputText};
@@ -40,23 +40,23 @@ pub(crate) struct RunCall<'a> {
 fn outcome_result(
     alloc: Global,
     network: &Network,
-    outcome: &RunOutcome<'_>,
-) -> Result<Outcome, AllocError>
+    outcome: &Outcome<'_>,
+) -> Result<CommandOutcome, AllocError>
     requires { length outcome.now.came_out.items ≡ length network.now.nodes }
     ensures { IfOk result (λ o. IsResultOf network.now outcome.now (view o.result) o.status) }
 {
     let status = stop_status(outcome.stop);
     let result = run_value(alloc, network, outcome)?;
-    Ok(Outcome { result, status })
+    Ok(CommandOutcome { result, status })
 }
 
 // The answer with this result.
 fn answered(
     alloc: Global,
     call: &RunCall<'_>,
-    found: Result<Outcome, AllocError>,
+    found: Result<CommandOutcome, AllocError>,
 ) -> Result<Answer, AllocError>
-    ensures { IfOk result (λ a. IsOkAnd found (λ o. answers_of call.now (IsOutcome (view o.result) o.status) (string_bytes a.text) a.status)) }
+    ensures { IfOk result (λ a. IsOkAnd found (λ o. answers_of call.now (IsCommandOutcome (view o.result) o.status) (string_bytes a.text) a.status)) }
 {
     let paths = (call.path, call.other);
     answer_to_two(
@@ -75,7 +75,7 @@ fn outcome_answer(
     alloc: Global,
     call: &RunCall<'_>,
     network: &Network,
-    outcome: &RunOutcome<'_>,
+    outcome: &Outcome<'_>,
 ) -> Result<Answer, AllocError>
     requires { length outcome.now.came_out.items ≡ length network.now.nodes }
     ensures { IfOk result (λ a. answers_of call.now (IsResultOf network.now outcome.now) (string_bytes a.text) a.status) }
@@ -88,9 +88,9 @@ fn outcome_answer(
 fn fault_record(
     alloc: Global,
     call: &RunCall<'_>,
-    found: Result<Outcome, AllocError>,
+    found: Result<CommandOutcome, AllocError>,
 ) -> Result<Recorded, AllocError>
-    ensures { IfOk result (λ r. IsOkAnd found (λ o. IsFault (answers_of call.now (IsOutcome (view o.result) o.status)) r)) }
+    ensures { IfOk result (λ r. IsOkAnd found (λ o. IsFault (answers_of call.now (IsCommandOutcome (view o.result) o.status)) r)) }
 {
     Ok(Recorded::Fault(answered(alloc, call, found)?))
 }
@@ -123,7 +123,7 @@ fn recorded_outcome(
     call: &RunCall<'_>,
     network: &Network,
     load: &Load,
-    outcome: &RunOutcome<'_>,
+    outcome: &Outcome<'_>,
     wants: Wants,
 ) -> Result<Recorded, AllocError>
     requires { length outcome.now.came_out.items ≡ length network.now.nodes }

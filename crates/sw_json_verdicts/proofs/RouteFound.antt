@@ -17,8 +17,8 @@ use Rattle.sw_flow.specs.Faults.{first_fault_of}
 use Rattle.sw_flow.specs.Places.{IsPlaceList, IsPlacesOf}
 use Rattle.sw_json.specs.AnswerValues.{file_fault_value}
 use Rattle.sw_json.specs.FaultValues.{unknown_flow_value}
-use Rattle.sw_json.specs.Answering.{IsOutcome}
-use Rattle.sw_json.specs.declared.outcome.Outcome.{Outcome}
+use Rattle.sw_json.specs.Answering.{IsCommandOutcome}
+use Rattle.sw_json.specs.declared.command_outcome.CommandOutcome.{CommandOutcome}
 use Rattle.sw_json_verdicts.specs.RouteResults.{IsFlowResult, IsFoundResult, IsNamedResult, told_route}
 
 -- the result of the i-th flow's list of places, with its first fault
@@ -47,9 +47,9 @@ found_result path name d i value status at within result =
     ]
 
 -- the result where no flow has the name
-pub missing_result : (path name : List ℕ) (d : Declaration) (fault : Result Value AllocError) (r : Result Outcome AllocError)
+pub missing_result : (path name : List ℕ) (d : Declaration) (fault : Result Value AllocError) (r : Result CommandOutcome AllocError)
     → position (bytes_eq name) (flow_names (all_flows d)) ≡ None → IfOk fault (λ v. view v ≡ unknown_flow_value)
-    → IfOk r (λ o. IsOkAnd fault (λ v. IsOutcome (file_fault_value path (view v)) 3 (view o.result) o.status))
+    → IfOk r (λ o. IsOkAnd fault (λ v. IsCommandOutcome (file_fault_value path (view v)) 3 (view o.result) o.status))
     → IfOk r (λ o. IsNamedResult path name d (view o.result) o.status)
 missing_result path name d (Ok v) (Ok o) none is told =
     let missing = find_by-none (λ (f : FlowEntry). f.name) (bytes_eq name) (all_flows d) none in

@@ -15,7 +15,7 @@ use Rattle.sw_json.specs.PlaceValues.{route_fault_code}
 use Rattle.sw_json.specs.Simple.{count_or_null, text_or_null}
 use Rattle.sw_json.specs.declared.files.Release.{Release}
 use Rattle.sw_output.specs.FlowTexts.{flow_name}
-use Rattle.sw_json.specs.Answering.{IsAnswerToTwo, IsOutcome, OfFile, OfNetworkFile, Results}
+use Rattle.sw_json.specs.Answering.{IsAnswerToTwo, IsCommandOutcome, OfFile, OfNetworkFile, Results}
 
 -- A reason to refuse a certificate, in its parts: its code, the wrong line, the flow, a channel of it and how many address bytes are
 -- deleted there, the channel that depends on that one, and the code of the place's fault. A part that a reason lacks is None.
@@ -67,13 +67,13 @@ refused_value r text =
 
 -- by the first reason to refuse a certificate for the network, if there is one
 abbrev pub IsJudgement : Declaration → Option Refusal → Results
-IsJudgement d None value status = IsOutcome (kind_value (codes "accepted")) 0 value status
-IsJudgement d (Some refusal) value status = IsOutcome (refused_value (reason_of d refusal) (refusal_words d refusal)) 1 value status
+IsJudgement d None value status = IsCommandOutcome (kind_value (codes "accepted")) 0 value status
+IsJudgement d (Some refusal) value status = IsCommandOutcome (refused_value (reason_of d refusal) (refusal_words d refusal)) 1 value status
 
 -- of what a certificate's text says, or of its first wrong line
 abbrev pub IsCertificateResult : Declaration → Result State ℕ → Results
 IsCertificateResult d (Ok said) value status = IsJudgement d (refusal_of d (contents_of said)) value status
-IsCertificateResult d (Err number) value status = IsOutcome (refused_value (grammar_reason number) (grammar_words number)) 1 value status
+IsCertificateResult d (Err number) value status = IsCommandOutcome (refused_value (grammar_reason number) (grammar_words number)) 1 value status
 
 -- of a network file and a certificate file: all that is wrong with the first comes before what is with the second
 abbrev pub IsCheckResult : List ℕ → List ℕ → Option (List ℕ) → Option (List ℕ) → Results

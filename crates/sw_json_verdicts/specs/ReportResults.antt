@@ -8,7 +8,7 @@ use Rattle.sw_json.specs.VerdictValues.{verdict_value}
 use Rattle.sw_json.specs.declared.files.Release.{Release}
 use Rattle.sw_search.specs.Findings.{AreFindings}
 use Rattle.sw_search.specs.declared.verdict.Findings.{Findings}
-use Rattle.sw_json.specs.Answering.{AnswersToOne, IsAnswerToOne, IsOutcome, OfNetworkFile, Results}
+use Rattle.sw_json.specs.Answering.{AnswersToOne, IsAnswerToOne, IsCommandOutcome, OfNetworkFile, Results}
 
 -- How many parts of each kind the network has, how many places and dependencies, and the verdict; `flows` are the declared ones,
 -- `replies` those of replies.
@@ -30,7 +30,7 @@ found_value d f = report_value d f.places f.dependencies (verdict_value d f.verd
 
 -- of a network: what was found of it, with status 0 whatever the verdict
 abbrev pub IsFindingsResult : Declaration → Results
-IsFindingsResult d value status = (f : Findings) × AreFindings d f × IsOutcome (found_value d f) 0 value status
+IsFindingsResult d value status = (f : Findings) × AreFindings d f × IsCommandOutcome (found_value d f) 0 value status
 
 -- of the file of that path
 abbrev pub IsReportJson : List ℕ → Release → AnswersToOne

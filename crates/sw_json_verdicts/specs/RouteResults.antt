@@ -13,7 +13,7 @@ use Rattle.sw_json.specs.AnswerValues.{file_fault_value}
 use Rattle.sw_json.specs.FaultValues.{unknown_flow_value}
 use Rattle.sw_json.specs.PlaceValues.{misrouted_fault_value, place_value}
 use Rattle.sw_json.specs.declared.files.Release.{Release}
-use Rattle.sw_json.specs.Answering.{AnswersToOne, IsAnswerToOne, IsOutcome, OfNetworkFile, Results}
+use Rattle.sw_json.specs.Answering.{AnswersToOne, IsAnswerToOne, IsCommandOutcome, OfNetworkFile, Results}
 
 -- a place with its fault, or null where no place has one
 abbrev pub fault_or_null : Option (Place × RouteFault) → Data
@@ -39,11 +39,11 @@ route_value d f places = told_route d f places (first_fault_of d f places)
 -- of a flow: its list of places, with the status of the text answer
 abbrev pub IsFlowResult : Declaration → FlowEntry → Results
 IsFlowResult d f value status =
-    (places : List Place) × IsPlaceList d f places × IsOutcome (route_value d f places) (outcome_status (first_fault_of d f places)) value status
+    (places : List Place) × IsPlaceList d f places × IsCommandOutcome (route_value d f places) (outcome_status (first_fault_of d f places)) value status
 
 -- of the flow that a word names, if there is one
 abbrev pub IsFoundResult : List ℕ → Declaration → Option FlowEntry → Results
-IsFoundResult path d None value status = IsOutcome (file_fault_value path unknown_flow_value) 3 value status
+IsFoundResult path d None value status = IsCommandOutcome (file_fault_value path unknown_flow_value) 3 value status
 IsFoundResult path d (Some f) value status = IsFlowResult d f value status
 
 -- of the flow of that name; a reply flow has a name too

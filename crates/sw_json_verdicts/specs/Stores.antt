@@ -1,7 +1,7 @@
 -- Where an audit takes its texts from, and where it puts certificates (this project's choice).
 use Rattle.std.specs.Prelude.{ℕ, Bool, List}
-use Rattle.sw_json_verdicts.specs.declared.stores.Input.{Input}
-use Rattle.sw_json_verdicts.specs.declared.stores.Input.TheVariants.{Whole, TooLong, Unread, NoMemory}
+use Rattle.sw_json_verdicts.specs.declared.stores.AuditInput.{AuditInput}
+use Rattle.sw_json_verdicts.specs.declared.stores.AuditInput.TheVariants.{Whole, TooLong, Unread, NoMemory}
 
 -- what a path gives: a text, one that is too long, none since it can't be read, or none since there is no memory for it
 pub data Given : Type 0 where
@@ -11,7 +11,7 @@ pub data Given : Type 0 where
   no_memory : Given
 
 -- what a read gave
-abbrev pub given_of : Input → Given
+abbrev pub given_of : AuditInput → Given
 given_of (Whole text) = whole text.items
 given_of TooLong = too_long
 given_of Unread = unread

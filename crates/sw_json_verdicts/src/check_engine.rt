@@ -9,7 +9,7 @@ ghost use Rattle.sw_text.specs.Ends.{AreReadInOrder};
 ghost use Rattle.sw_text.specs.Inputs.{given};
 ghost use Rattle.sw_json.specs.Objects.{member_value};
 ghost use Rattle.sw_json.specs.Simple.{text_or_null};
-ghost use Rattle.sw_json.specs.Answering.{EndsByTwoFiles, IsOutcome, OfFile};
+ghost use Rattle.sw_json.specs.Answering.{EndsByTwoFiles, IsCommandOutcome, OfFile};
 ghost use Rattle.sw_json_verdicts.specs.CheckResults.{IsCertificateResult, IsCheckJson, IsCheckResult, IsJudgement, grammar_reason, reason_of, refused_value};
 ghost use Rattle.sw_json_verdicts.specs.Reasons.{parts_view};
 
@@ -23,7 +23,7 @@ use sw_config::Network;
 use sw_file::read_network;
 use sw_json::laws::kinds_are_plain;
 use sw_json::{
-    Member, Outcome, Release, Value, answer_to_two, count_or_null, kind_value, long_file,
+    CommandOutcome, Member, Release, Value, answer_to_two, count_or_null, kind_value, long_file,
     object_of, tell_answer, tell_unread, unread_network,
 };
 use sw_search::VerdictWorkers;
@@ -59,20 +59,24 @@ fn refused_value<'a>(alloc: Global, parts: Parts<'a>, text: &'a str) -> Result<V
 }
 
 // The result for a certificate that is refused.
-fn refused(alloc: Global, parts: Parts<'_>, text: &str) -> Result<Outcome, AllocError>
-    ensures { IfOk result (λ o. IsOutcome (refused_value (parts_view parts.entry) text.now) 1 (view o.result) o.status) }
+fn refused(alloc: Global, parts: Parts<'_>, text: &str) -> Result<CommandOutcome, AllocError>
+    ensures { IfOk result (λ o. IsCommandOutcome (refused_value (parts_view parts.entry) text.now) 1 (view o.result) o.status) }
 {
     refusals_are_plain();
     let result = refused_value(alloc, parts, text)?;
-    Ok(Outcome {
+    Ok(CommandOutcome {
         result,
         status: BAD,
     })
 }
 
 // The result for a certificate that is refused for the network.
-fn refused_by(alloc: Global, network: &Network, refusal: Refusal) -> Result<Outcome, AllocError>
-    ensures { IfOk result (λ o. IsOutcome (refused_value (reason_of network.now refusal) (refusal_words network.now refusal)) 1 (view o.result) o.status) }
+fn refused_by(
+    alloc: Global,
+    network: &Network,
+    refusal: Refusal,
+) -> Result<CommandOutcome, AllocError>
+    ensures { IfOk result (λ o. IsCommandOutcome (refused_value (reason_of network.now refusal) (refusal_words network.now refusal)) 1 (view o.result) o.status) }
 {
     let parts = parts_of(network, &refusal);
     let text = refusal_words(alloc, network, refusal)?;
@@ -80,8 +84,8 @@ fn refused_by(alloc: Global, network: &Network, refusal: Refusal) -> Result<Outc
 }
 
 // The result for a text that is no certificate, by its first wrong line.
-fn refused_by_line(alloc: Global, number: usize) -> Result<Outcome, AllocError>
-    ensures { IfOk result (λ o. IsOutcome (refused_value (grammar_reason number) (grammar_words number)) 1 (view o.result) o.status) }
+fn refused_by_line(alloc: Global, number: usize) -> Result<CommandOutcome, AllocError>
+    ensures { IfOk result (λ o. IsCommandOutcome (refused_value (grammar_reason number) (grammar_words number)) 1 (view o.result) o.status) }
 {
     let text = grammar_words(alloc, number)?;
     refused(alloc, grammar_parts(number), text.as_str())
@@ -93,14 +97,14 @@ fn judgement<T: VerdictWorkers>(
     alloc: Global,
     network: &Network,
     certificate: &Certificate,
-) -> Result<Outcome, AllocError>
+) -> Result<CommandOutcome, AllocError>
     ensures { IfOk result (λ o. IsJudgement network.now (refusal_of network.now certificate.now) (view o.result) o.status) }
 {
     match check_certificate(workers, network, certificate) {
         Ok(_) => {
             kinds_are_plain();
             let result = kind_value(alloc, "accepted")?;
-            Ok(Outcome {
+            Ok(CommandOutcome {
                 result,
                 status: GOOD,
             })
@@ -116,7 +120,7 @@ fn second_outcome<T: VerdictWorkers>(
     network: &Network,
     path: &str,
     second: &InputText,
-) -> Result<Outcome, AllocError>
+) -> Result<CommandOutcome, AllocError>
     ensures { IfOk result (λ o. OfFile path.now (λ text. IsCertificateResult network.now (read_text text)) (given second.now) (view o.result) o.status) }
 {
     match second {
@@ -136,7 +140,7 @@ fn check_outcome<T: VerdictWorkers>(
     paths: (&str, &str),
     first: &InputText,
     second: &InputText,
-) -> Result<Outcome, AllocError>
+) -> Result<CommandOutcome, AllocError>
     ensures { IfOk result (λ o. IsCheckResult paths.entry.0.now paths.entry.1.now (given first.now) (given second.now) (view o.result) o.status) }
 {
     match first {

@@ -12,10 +12,10 @@ ghost use Rattle.sw_json_verdicts.specs.Names.{certificate_name};
 ghost use Rattle.sw_json_verdicts.specs.Stores.{given_of};
 
 use crate::audit_options::AuditOptions;
-use crate::judged::{Judged, Named, kind_entry, memory_judged};
+use crate::judged::{Judged, NumberedFile, kind_entry, memory_judged};
 use crate::names::certificate_name;
 use crate::statuses::{kept_status, verdict_word};
-use crate::stores::{Input, Storage};
+use crate::stores::{AuditInput, Storage};
 use std::alloc::{AllocError, Global};
 use sw_config::Network;
 use sw_file::read_network;
@@ -50,7 +50,7 @@ fn status_of<S: Storage>(
     alloc: Global,
     storage: &S,
     keeping: bool,
-    named: Named<'_>,
+    named: NumberedFile<'_>,
     verdict: &Verdict,
     certificate: &[u8],
 ) -> Result<u8, AllocError>
@@ -94,7 +94,7 @@ fn verdict_judged<S: Storage>(
     alloc: Global,
     storage: &S,
     options: &AuditOptions<'_>,
-    named: Named<'_>,
+    named: NumberedFile<'_>,
     text: &[u8],
     network: &Network,
     verdict: &Verdict,
@@ -128,7 +128,7 @@ fn network_judged<T: VerdictWorkers, S: Storage>(
     alloc: Global,
     storage: &S,
     options: &AuditOptions<'_>,
-    named: Named<'_>,
+    named: NumberedFile<'_>,
     text: &[u8],
     network: &Network,
 ) -> Result<Judged, AllocError>
@@ -170,7 +170,7 @@ fn text_judged<T: VerdictWorkers, S: Storage>(
     alloc: Global,
     storage: &S,
     options: &AuditOptions<'_>,
-    named: Named<'_>,
+    named: NumberedFile<'_>,
     text: &[u8],
 ) -> Result<Judged, AllocError>
     ensures { IfOk result (λ j. IsTextFinding options.now (S.keeps storage.now) named.entry.number named.entry.path.now text.now (network_text text.now) (finding_of named.entry.path.now j)) }
@@ -234,16 +234,16 @@ fn input_judged<T: VerdictWorkers, S: Storage>(
     alloc: Global,
     storage: &S,
     options: &AuditOptions<'_>,
-    named: Named<'_>,
-    input: &Input,
+    named: NumberedFile<'_>,
+    input: &AuditInput,
 ) -> Result<Judged, AllocError>
     ensures { IfOk result (λ j. IsGivenFinding options.now (S.keeps storage.now) named.entry.number named.entry.path.now (given_of input.now) (finding_of named.entry.path.now j)) }
 {
     match input {
-        Input::Whole(text) => text_judged(workers, alloc, storage, options, named, text),
-        Input::TooLong => long_judged(alloc, options, named.path),
-        Input::Unread => unread_judged(alloc, options, named.path),
-        Input::NoMemory => Ok(memory_judged()),
+        AuditInput::Whole(text) => text_judged(workers, alloc, storage, options, named, text),
+        AuditInput::TooLong => long_judged(alloc, options, named.path),
+        AuditInput::Unread => unread_judged(alloc, options, named.path),
+        AuditInput::NoMemory => Ok(memory_judged()),
     }
 }
 
@@ -253,7 +253,7 @@ pub(crate) fn judged<T: VerdictWorkers, S: Storage>(
     alloc: Global,
     storage: &S,
     options: &AuditOptions<'_>,
-    named: Named<'_>,
+    named: NumberedFile<'_>,
 ) -> Judged
     ensures { IsFinding options.now (S.gives storage.now) (S.keeps storage.now) named.entry.number named.entry.path.now (finding_of named.entry.path.now result) }
 {

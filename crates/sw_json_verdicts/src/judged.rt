@@ -9,7 +9,7 @@ use sw_text::statuses::NO_ROOM;
 
 /// A file of a call: its number, from 1, and its path.
 #[derive(Clone, Copy)]
-pub(crate) struct Named<'a> {
+pub(crate) struct NumberedFile<'a> {
     pub(crate) number: usize,
     pub(crate) path: &'a str,
 }

@@ -25,5 +25,5 @@ pub use audit_options::AuditOptions;
 pub use check_engine::check;
 pub use report_engine::{report, report_keeping};
 pub use route_engine::route;
-pub use stores::{Input, Storage};
+pub use stores::{AuditInput, Storage};
 pub use sw_json::Release;

@@ -4,7 +4,7 @@ ghost use Rattle.sw_json_verdicts.specs.Judgements.{AreJudged, IsJudgedAt};
 
 use crate::audit_options::AuditOptions;
 use crate::findings::judged;
-use crate::judged::{Judged, Named};
+use crate::judged::{Judged, NumberedFile};
 use crate::stores::Storage;
 use rayon::prelude::*;
 use std::alloc::{AllocError, Global};
@@ -25,7 +25,13 @@ fn judged_at<S: Storage>(
 {
     let number = place + 1;
     let path = paths[place];
-    judged(&OneByOne, alloc, storage, options, Named { number, path })
+    judged(
+        &OneByOne,
+        alloc,
+        storage,
+        options,
+        NumberedFile { number, path },
+    )
 }
 
 /// What is found of each file, in the order of the paths, from as many threads as there are processors, each file in one of them.
@@ -69,7 +75,13 @@ pub(crate) fn one_judged<C: VerdictWorkers, S: Storage>(
     ensures { IfOk result (λ v. AreJudged options.now (S.gives storage.now) (S.keeps storage.now) (path.now ∷ []) v.items) }
 {
     let number = 1;
-    let found = judged(workers, alloc, storage, options, Named { number, path });
+    let found = judged(
+        workers,
+        alloc,
+        storage,
+        options,
+        NumberedFile { number, path },
+    );
     let mut all = Vec::new(alloc);
     all.push(found)?;
     Ok(all)

@@ -4,7 +4,7 @@ ghost use Rattle.serde_json.specs.View.{view};
 ghost use Rattle.sw_text.specs.Inputs.{given};
 ghost use Rattle.sw_json.specs.VerdictValues.{certificate_bytes};
 ghost use Rattle.sw_search.specs.Verdicts.{IsVerdict};
-ghost use Rattle.sw_json.specs.Answering.{EndsByOneFile, IsOutcome, OfNetworkFile};
+ghost use Rattle.sw_json.specs.Answering.{EndsByOneFile, IsCommandOutcome, OfNetworkFile};
 ghost use Rattle.sw_json_verdicts.specs.ReportResults.{IsFindingsResult, IsReportJson, KeepingOne, found_value, kept_of, report_value};
 
 use crate::laws::reports_are_plain;
@@ -14,8 +14,8 @@ use sw_app::{EndedWith, kept_network};
 use sw_config::Network;
 use sw_file::read_network;
 use sw_json::{
-    Member, Outcome, Release, Value, answer_to_one, long_file, object_of, tell_answer, tell_unread,
-    unread_network, verdict_value,
+    CommandOutcome, Member, Release, Value, answer_to_one, long_file, object_of, tell_answer,
+    tell_unread, unread_network, verdict_value,
 };
 use sw_search::{Findings, Verdict, VerdictWorkers, survey};
 use sw_text::statuses::GOOD;
@@ -62,15 +62,15 @@ fn findings_outcome(
     alloc: Global,
     network: &Network,
     findings: &Findings,
-) -> Result<Outcome, AllocError>
+) -> Result<CommandOutcome, AllocError>
     requires { IsVerdict network.now findings.now.verdict }
-    ensures { IfOk result (λ o. IsOutcome (found_value network.now findings.now) 0 (view o.result) o.status) }
+    ensures { IfOk result (λ o. IsCommandOutcome (found_value network.now findings.now) 0 (view o.result) o.status) }
 {
     reports_are_plain();
     let text = certificate_text(alloc, &findings.verdict)?;
     let verdict = verdict_value(alloc, network, &findings.verdict, &text)?;
     let result = told_report(alloc, network, findings, verdict)?;
-    Ok(Outcome {
+    Ok(CommandOutcome {
         result,
         status: GOOD,
     })
@@ -81,7 +81,7 @@ fn network_outcome<T: VerdictWorkers>(
     workers: &T,
     alloc: Global,
     network: &Network,
-) -> Result<Outcome, AllocError>
+) -> Result<CommandOutcome, AllocError>
     ensures { IfOk result (λ o. IsFindingsResult network.now (view o.result) o.status) }
 {
     let findings = survey(workers, alloc, network)?;
@@ -95,7 +95,7 @@ fn report_outcome<T: VerdictWorkers>(
     path: &str,
     text: &InputText,
     most: usize,
-) -> (Result<Outcome, AllocError>, Option<Network>)
+) -> (Result<CommandOutcome, AllocError>, Option<Network>)
     ensures found { IfOk result.0 (λ o. OfNetworkFile path.now IsFindingsResult (given text.now) (view o.result) o.status) }
     ensures network { IfOk result.0 (λ _. result.1 ≡ kept_of most (given text.now)) }
 {

@@ -15,8 +15,9 @@ use sw_file::read_network;
 use sw_flow::{Place, RouteFault, first_fault, places};
 use sw_json::laws::faults_are_plain;
 use sw_json::{
-    Member, Outcome, Release, Value, answer_to_one, file_fault, long_file, misrouted_fault_value,
-    object_of_four, place_values, tell_answer, tell_unread, unknown_flow_value, unread_network,
+    CommandOutcome, Member, Release, Value, answer_to_one, file_fault, long_file,
+    misrouted_fault_value, object_of_four, place_values, tell_answer, tell_unread,
+    unknown_flow_value, unread_network,
 };
 use sw_text::statuses::{BAD, GOOD};
 use sw_text::{Ended, InputText, read_one};
@@ -74,7 +75,7 @@ fn told_route(
 }
 
 // The result for a flow.
-fn flow_outcome(alloc: Global, network: &Network, number: u16) -> Result<Outcome, AllocError>
+fn flow_outcome(alloc: Global, network: &Network, number: u16) -> Result<CommandOutcome, AllocError>
     requires { number < length (all_flows network.now) }
     ensures { IfOk result (λ o. IfSome (slice_get (all_flows network.now) number) (λ f. IsFlowResult network.now f (view o.result) o.status)) }
 {
@@ -85,7 +86,7 @@ fn flow_outcome(alloc: Global, network: &Network, number: u16) -> Result<Outcome
     let fault = first_fault(network, number, places);
     let status = status_of(&fault);
     let result = told_route(alloc, network, flow, places, fault)?;
-    Ok(Outcome { result, status })
+    Ok(CommandOutcome { result, status })
 }
 
 // The result for the flow of that name.
@@ -94,7 +95,7 @@ fn named_outcome(
     path: &str,
     network: &Network,
     name: &str,
-) -> Result<Outcome, AllocError>
+) -> Result<CommandOutcome, AllocError>
     ensures { IfOk result (λ o. IsNamedResult path.now name.now network.now (view o.result) o.status) }
 {
     faults_are_plain();
@@ -113,7 +114,7 @@ fn route_outcome(
     path: &str,
     text: &InputText,
     name: &str,
-) -> Result<Outcome, AllocError>
+) -> Result<CommandOutcome, AllocError>
     ensures { IfOk result (λ o. OfNetworkFile path.now (IsNamedResult path.now name.now) (given text.now) (view o.result) o.status) }
 {
     match text {

@@ -6,7 +6,7 @@ use std::alloc::Global;
 
 /// What a path gives.
 #[derive(Drop)]
-pub enum Input {
+pub enum AuditInput {
     /// All bytes of a text.
     Whole(Vec<u8>),
     /// A text that has more bytes than a text may have.
@@ -24,7 +24,7 @@ pub trait Storage {
     ghost keeps: { Self → List ℕ → List ℕ → Bool → Type 0 };
 
     /// What the path gives.
-    fn read(&self, alloc: Global, path: &str) -> Input
+    fn read(&self, alloc: Global, path: &str) -> AuditInput
         ensures { gives self.now path.now (given_of result) };
 
     /// Puts a certificate under a name, and answers whether all of it stands there.

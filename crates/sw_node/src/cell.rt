@@ -3,7 +3,7 @@ ghost use Rattle.std.specs.Prelude.{◌≡◌, ◌<◌, ◌≤◌, ◌+◌, ℕ,
 ghost use Rattle.sw_link.specs.Ends.{arrived, asked, granted};
 ghost use Rattle.sw_node.specs.Changes.{with_credit, with_received};
 
-use crate::reply::Reply;
+use crate::reply::ReplyBytes;
 use crate::sending::Sending;
 use circular_buffer::HeapCircularBuffer;
 use std::marker::Model;
@@ -19,7 +19,7 @@ pub struct NodeCell {
     pub(crate) credit: TxEnd,
     pub(crate) received: RxEnd,
     pub(crate) sending: Sending,
-    pub(crate) pending: HeapCircularBuffer<Reply>,
+    pub(crate) pending: HeapCircularBuffer<ReplyBytes>,
     pub(crate) owed: usize,
     pub(crate) packets: Vec<Packet>,
     pub(crate) bytes: Vec<u8>,

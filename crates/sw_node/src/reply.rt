@@ -16,12 +16,12 @@ use sw_rmap::{Target, reply_to};
 /// A reply (ECSS-E-ST-50-52C, reply fields), and how many of its bytes are the address that it
 /// goes to.
 #[derive(Drop)]
-pub(crate) struct Reply {
+pub(crate) struct ReplyBytes {
     bytes: Vec<u8>,
     address: usize,
 }
 
-impl Model for Reply {
+impl Model for ReplyBytes {
     ghost use Rattle.std.specs.Prelude.{◌≤◌, drop, length, take};
     ghost use Rattle.sw_rmap.specs.Owing.{PendingReply};
 
@@ -32,7 +32,7 @@ impl Model for Reply {
     ghost invariant = { λ r. r.address ≤ length r.bytes.items };
 }
 
-impl Reply {
+impl ReplyBytes {
     /// How many characters it has, with its marker.
     pub(crate) fn len(&self) -> u64
         ensures { result ≡ length (reply_packet self.now) }
@@ -52,7 +52,7 @@ impl Reply {
 pub(crate) fn push_replies(
     replies: &mut Vec<PendingReply>,
     alloc: Global,
-    waiting: &[Reply],
+    waiting: &[ReplyBytes],
 ) -> Result<(), AllocError>
     ensures { OnOk result (replies.new.items ≡ replies.old.items ++ waiting.now) }
 {
@@ -72,7 +72,7 @@ pub(crate) fn answer(
     alloc: Global,
     bytes: &[u8],
     end: End,
-) -> Result<Option<Reply>, AllocError>
+) -> Result<Option<ReplyBytes>, AllocError>
     ensures reply { IfOk result (λ reply. reply ≡ answer_of (config_of target.old) (memory_of target.old) bytes.now end) }
     ensures target { OnOk result (target.new ≡ with_memory target.old (memory_after (config_of target.old) (memory_of target.old) bytes.now end)) }
     ensures err { OnErr result (target.new ≡ target.old) }
@@ -86,7 +86,7 @@ pub(crate) fn answer(
         None => 0,
     };
     match target.answer(alloc, bytes, end)? {
-        Some(bytes) => Ok(Some(Reply { bytes, address })),
+        Some(bytes) => Ok(Some(ReplyBytes { bytes, address })),
         None => Ok(None),
     }
 }

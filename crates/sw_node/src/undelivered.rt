@@ -3,10 +3,10 @@ ghost use Rattle.std.specs.Prelude.{◌≡◌, ◌+◌, ◌<◌, ◌^◌, length
 ghost use Rattle.sw_rmap.specs.Owing.{length_pending};
 
 use crate::cell::NodeCell;
-use crate::reply::Reply;
+use crate::reply::ReplyBytes;
 
 /// How many characters the replies have.
-fn replies_len(replies: &[Reply]) -> u64
+fn replies_len(replies: &[ReplyBytes]) -> u64
     requires { length_pending replies.now < 2 ^ 64 }
     ensures { result ≡ length_pending replies.now }
 {

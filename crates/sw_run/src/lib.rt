@@ -7,13 +7,13 @@ mod gate;
 pub mod laws;
 mod locked_cell;
 mod locked_journal;
-mod naps;
 mod notes;
 mod outcome;
 mod progress;
 mod run_identity;
 mod run_state;
 mod running;
+mod sleepers;
 mod turn;
 mod workers;
 

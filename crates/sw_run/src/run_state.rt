@@ -7,8 +7,8 @@ ghost use Rattle.sw_run.specs.Wanted.{cell_place};
 use crate::gate::Gate;
 use crate::locked_cell::{LockedCell, first_wanted};
 use crate::locked_journal::LockedJournal;
-use crate::naps::Naps;
 use crate::run_identity::RunIdentity;
+use crate::sleepers::Sleepers;
 use crate::turn::Turn;
 use std::alloc::{AllocError, Global};
 use std::sync::Mutex;
@@ -60,12 +60,12 @@ pub(crate) enum Found {
 #[derive(Clone, Copy)]
 struct Made {
     steps: usize,
-    end: End,
+    end: AfterTurn,
 }
 
 /// How a turn ended.
 #[derive(Clone, Copy)]
-enum End {
+enum AfterTurn {
     /// No step is left.
     Idle,
     /// Steps may be left.
@@ -89,7 +89,7 @@ pub(crate) struct RunState<'j, 'a, W: RunIdentity> {
     /// How many workers have a turn.
     pub(crate) turns: AtomicU64,
     /// Where workers sleep and are woken.
-    pub(crate) naps: Naps,
+    pub(crate) sleepers: Sleepers,
 }
 
 /// The place of the cell at which the link end stands: the nodes come first.
@@ -155,7 +155,7 @@ impl<'j, 'a, W: RunIdentity> RunState<'j, 'a, W> {
             }
             Turn::Idle => return false,
             Turn::Over => {
-                made.end = End::Over;
+                made.end = AfterTurn::Over;
                 return false;
             }
         }
@@ -178,12 +178,12 @@ impl<'j, 'a, W: RunIdentity> RunState<'j, 'a, W> {
                     break;
                 }
             }
-            if matches!(made.end, End::Over) {
+            if matches!(made.end, AfterTurn::Over) {
                 return;
             }
         }
         if made.steps == before {
-            made.end = End::Idle;
+            made.end = AfterTurn::Idle;
         }
     }
 
@@ -197,11 +197,11 @@ impl<'j, 'a, W: RunIdentity> RunState<'j, 'a, W> {
     ) -> Made {
         let mut made = Made {
             steps: 0,
-            end: End::More,
+            end: AfterTurn::More,
         };
         let _stepped = self.note(journal.begin(alloc, locked, first), &mut made);
         for _ in 0..MOST_STEPS {
-            if !matches!(made.end, End::More) || made.steps >= MOST_STEPS {
+            if !matches!(made.end, AfterTurn::More) || made.steps >= MOST_STEPS {
                 break;
             }
             self.serve_ends(alloc, journal, locked, &mut made);
@@ -225,7 +225,7 @@ impl<'j, 'a, W: RunIdentity> RunState<'j, 'a, W> {
         };
         slot.ready.store(false, Ordering::SeqCst);
         let made = self.serve(alloc, &mut journal, locked, first);
-        if matches!(made.end, End::More) {
+        if matches!(made.end, AfterTurn::More) {
             slot.raise();
         }
         Some(made)
@@ -244,7 +244,7 @@ impl<'j, 'a, W: RunIdentity> RunState<'j, 'a, W> {
         };
         let cell = locked.cell.id();
         self.turns.fetch_add(1, Ordering::SeqCst);
-        self.naps.call();
+        self.sleepers.call();
         let made = self.decide(alloc, gate, slot, &mut locked);
         drop(locked);
         self.turns.fetch_sub(1, Ordering::SeqCst);
@@ -255,7 +255,7 @@ impl<'j, 'a, W: RunIdentity> RunState<'j, 'a, W> {
             gate.committed(cell);
         }
         match made.end {
-            End::Over => Found::Over,
+            AfterTurn::Over => Found::Over,
             _ => Found::Work,
         }
     }

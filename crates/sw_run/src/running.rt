@@ -6,12 +6,12 @@ ghost use Rattle.sw_run.specs.Outcomes.{IsOutcome};
 
 use crate::gate::Gate;
 use crate::locked_journal::LockedJournal;
-use crate::naps::Naps;
 use crate::notes::Notes;
 use crate::outcome::Outcome;
 use crate::run_identity::RunIdentity;
 use crate::run_state::{RunState, Slot, locked};
-use crate::workers::{RunCrew, start_all};
+use crate::sleepers::Sleepers;
+use crate::workers::{RunTask, start_all};
 use std::alloc::{AllocError, Global};
 use std::marker::Brand;
 use std::sync::atomic::AtomicU64;
@@ -38,15 +38,15 @@ fn work_all<'a, W: RunIdentity + Send + Sync, G: Gate + Sync, R: Threads + Wait 
         slots,
         journal: Mutex::new(journal),
         turns: AtomicU64::new(0),
-        naps: Naps::new(),
+        sleepers: Sleepers::new(),
     };
-    let crew = RunCrew {
+    let task = RunTask {
         rt,
         alloc,
         shared: &shared,
         gate,
     };
-    start_all(rt, &crew, workers);
+    start_all(rt, &task, workers);
 }
 
 /// Runs the workers on the cells and the journal of one run.

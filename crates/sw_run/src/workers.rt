@@ -2,9 +2,9 @@
 ghost use Rattle.std.specs.Prelude.{◌<◌};
 
 use crate::gate::Gate;
-use crate::naps::SHORTEST;
 use crate::run_identity::RunIdentity;
 use crate::run_state::{Found, RunState};
+use crate::sleepers::SHORTEST;
 use std::alloc::Global;
 use std::sync::Wait;
 use std::thread;
@@ -41,7 +41,7 @@ fn round<W: RunIdentity, G: Gate>(
 }
 
 /// What threads are started for.
-pub(crate) trait Crew {
+pub(crate) trait ThreadTask {
     /// What the worker of that number does.
     fn work(&self, worker: usize);
 
@@ -49,42 +49,42 @@ pub(crate) trait Crew {
     fn refuse(&self);
 }
 
-/// The crew of a run.
+/// The task of the threads of a run.
 #[derive(Drop)]
-pub(crate) struct RunCrew<'s, 'j, 'a, W: RunIdentity, G: Gate, R: Wait> {
+pub(crate) struct RunTask<'s, 'j, 'a, W: RunIdentity, G: Gate, R: Wait> {
     pub(crate) rt: &'s R,
     pub(crate) alloc: Global,
     pub(crate) shared: &'s RunState<'j, 'a, W>,
     pub(crate) gate: &'s G,
 }
 
-impl<'s, 'j, 'a, W: RunIdentity, G: Gate, R: Wait> Crew for RunCrew<'s, 'j, 'a, W, G, R> {
+impl<'s, 'j, 'a, W: RunIdentity, G: Gate, R: Wait> ThreadTask for RunTask<'s, 'j, 'a, W, G, R> {
     /// Goes on until the run is over. A worker with no cell has nothing to do.
     fn work(&self, worker: usize) {
         let shared = self.shared;
         if worker >= shared.slots.len() || shared.network.channels() == 0 {
             return;
         }
-        let naps = &shared.naps;
+        let sleepers = &shared.sleepers;
         let mut millis = SHORTEST;
         for _ in self.rt.forever() {
-            let Some(calls) = naps.calls() else {
+            let Some(calls) = sleepers.calls() else {
                 return;
             };
             match round(self.alloc, shared, self.gate, worker) {
                 Found::Work => {
                     if millis != SHORTEST {
                         millis = SHORTEST;
-                        naps.tell_of_use();
+                        sleepers.tell_of_use();
                     }
                 }
                 Found::Nothing => {
                     if !shared.raise_all() {
-                        millis = naps.sleep(self.rt, calls, millis);
+                        millis = sleepers.sleep(self.rt, calls, millis);
                     }
                 }
-                Found::Held => millis = naps.sleep(self.rt, calls, millis),
-                Found::Over => naps.end(),
+                Found::Held => millis = sleepers.sleep(self.rt, calls, millis),
+                Found::Over => sleepers.end(),
             }
         }
     }
@@ -92,18 +92,18 @@ impl<'s, 'j, 'a, W: RunIdentity, G: Gate, R: Wait> Crew for RunCrew<'s, 'j, 'a, 
     /// Ends the run.
     fn refuse(&self) {
         self.shared.journal.lock(self.rt).refuse();
-        self.shared.naps.end();
+        self.shared.sleepers.end();
     }
 }
 
 /// Starts the workers, and waits for them.
-pub(crate) fn start_all<C: Crew + Sync, R: Threads + Wait>(rt: &R, crew: &C, workers: usize)
+pub(crate) fn start_all<C: ThreadTask + Sync, R: Threads + Wait>(rt: &R, task: &C, workers: usize)
     requires { 0 < workers }
 {
     thread::scope(thread::scope_env(), rt, |scope| {
         for worker in 0..workers {
-            if scope.spawn(move || crew.work(worker)).is_err() {
-                crew.refuse();
+            if scope.spawn(move || task.work(worker)).is_err() {
+                task.refuse();
             }
         }
     });

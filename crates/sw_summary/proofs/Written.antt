@@ -8,8 +8,8 @@ use Rattle.sw_output.specs.ChannelTexts.{channel_text}
 use Rattle.sw_output.specs.Lines.{spaced}
 use Rattle.sw_summary.specs.BufferLines.{fill_line}
 use Rattle.sw_char.specs.PacketView.{PacketView}
-use Rattle.sw_summary.specs.Counts.{fated}
-use Rattle.sw_summary.specs.declared.fate.Fate.{Fate}
+use Rattle.sw_summary.specs.Counts.{handled_as}
+use Rattle.sw_summary.specs.declared.handling.Handling.{Handling}
 use Rattle.sw_summary.specs.Texts.{answered_words, flow_line, status_line, steps_line, unanswered_line}
 
 line_is : (name b o d r w : List ℕ) → r ≡ w
@@ -34,8 +34,8 @@ told_if n told before after some added = added ∙ ap (λ b. before ++ (if b the
 untold_if : (n : ℕ) (told before : List ℕ) → n ≡ 0 → before ≡ before ++ (if nat_lt 0 n then told else [])
 untold_if n told before none = sym (append-nil before) ∙ ap (λ (k : ℕ). before ++ (if nat_lt 0 k then told else [])) (sym none)
 
-pub untold_line : (before name : List ℕ) (packets : List PacketView) (fate : Fate) (n : ℕ) → n ≡ 0 → n ≡ fated fate packets → before ≡ before ++ unanswered_line name packets fate
-untold_line before name packets fate n none same = untold_if (fated fate packets) _ before (sym same ∙ none)
+pub untold_line : (before name : List ℕ) (packets : List PacketView) (handling : Handling) (n : ℕ) → n ≡ 0 → n ≡ handled_as handling packets → before ≡ before ++ unanswered_line name packets handling
+untold_line before name packets handling n none same = untold_if (handled_as handling packets) _ before (sym same ∙ none)
 
 pub untold_status : (before : List ℕ) (status n : ℕ) → n ≡ 0 → before ≡ before ++ status_line status n
 untold_status before status n none = untold_if n _ before none

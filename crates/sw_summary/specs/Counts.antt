@@ -8,11 +8,11 @@ use Rattle.sw_config.specs.Entries.{Declaration, FlowEntry, ReplyEntry}
 use Rattle.sw_load.specs.Load.{LoadEntry}
 use Rattle.sw_machine.specs.Begun.{Begun}
 use Rattle.sw_machine.specs.DeclaredPackets.{left_bytes}
-use Rattle.sw_summary.specs.Fates.{fate_index, fate_of}
+use Rattle.sw_summary.specs.Handlings.{handling_index, handling_of}
 use Rattle.sw_summary.specs.Replies.{is_reply, status_of}
 use Rattle.sw_summary.specs.Tallies.{Item, TallyView, found, taken_all}
-use Rattle.sw_summary.specs.declared.fate.Fate.{Fate}
-use Rattle.sw_summary.specs.declared.fate.Fate.TheVariants.{Answered}
+use Rattle.sw_summary.specs.declared.handling.Handling.{Handling}
+use Rattle.sw_summary.specs.declared.handling.Handling.TheVariants.{Answered}
 
 -- the packets of flow i
 abbrev pub of_flow : ℕ → List Begun → List Begun
@@ -55,9 +55,9 @@ all_items out = flat_map (λ n. items_at n (slice_index_or out n [])) (range_wit
 abbrev pub delivered : Declaration → List Begun → List TallyView → ℕ → ℕ
 delivered d begun packets i = found (taken_all packets (items_before d begun i)) (items_of d begun i)
 
--- how many packets of these have this fate at a target
-abbrev pub fated : Fate → List PacketView → ℕ
-fated fate packets = count_by (λ p. fate_index (fate_of p.bytes) == fate_index fate) packets
+-- how many packets of these have this handling at a target
+abbrev pub handled_as : Handling → List PacketView → ℕ
+handled_as handling packets = count_by (λ p. handling_index (handling_of p.bytes) == handling_index handling) packets
 
 -- a reply by the initiator's logical address alone
 abbrev pub by_initiator : ℕ → PacketView
@@ -66,7 +66,7 @@ by_initiator initiator = record { bytes = initiator ∷ []; end = Eop }
 -- the replies that these packets of a flow ask for
 abbrev pub asked_by : FlowEntry → List PacketView → Option ReplyEntry → List Item
 asked_by f packets None = []
-asked_by f packets (Some r) = replicate (fated Answered packets) (record { node = f.from; packet = by_initiator r.initiator })
+asked_by f packets (Some r) = replicate (handled_as Answered packets) (record { node = f.from; packet = by_initiator r.initiator })
 
 abbrev pub asked_of : Declaration → List Begun → ℕ → List Item
 asked_of d begun i = option_map_or (λ f. asked_by f (forms f i begun) f.reply) (slice_get d.flows i) []

@@ -1,5 +1,5 @@
 pub mod Tallies
-pub mod Fates
+pub mod Handlings
 pub mod Replies
 pub mod Counts
 pub mod Texts

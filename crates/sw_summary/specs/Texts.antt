@@ -9,12 +9,12 @@ use Rattle.sw_load.specs.Load.{LoadEntry}
 use Rattle.sw_machine.specs.Begun.{Begun, beginnings}
 use Rattle.sw_machine.specs.Steps.{Step}
 use Rattle.sw_output.specs.Lines.{line, spaced}
-use Rattle.sw_summary.specs.Counts.{all_items, all_replies, with_status, answered, delivered, fated, forms, loaded, of_flow}
-use Rattle.sw_summary.specs.Fates.{reason_text}
+use Rattle.sw_summary.specs.Counts.{all_items, all_replies, with_status, answered, delivered, handled_as, forms, loaded, of_flow}
+use Rattle.sw_summary.specs.Handlings.{reason_text}
 use Rattle.sw_summary.specs.Replies.{status_name}
 use Rattle.sw_summary.specs.Tallies.{TallyView, tallies}
-use Rattle.sw_summary.specs.declared.fate.Fate.{Fate}
-use Rattle.sw_summary.specs.declared.fate.Fate.TheVariants.{TooShort, OtherProtocol, WrongCrc, IsReply, NotAsked, NoWay}
+use Rattle.sw_summary.specs.declared.handling.Handling.{Handling}
+use Rattle.sw_summary.specs.declared.handling.Handling.TheVariants.{TooShort, OtherProtocol, WrongCrc, IsReply, NotAsked, NoWay}
 
 -- how many steps there are
 abbrev pub steps_line : ℕ → List ℕ
@@ -70,13 +70,13 @@ abbrev pub status_lines : List (List PacketView) → List ℕ
 status_lines out = first_status_lines out 255
 
 -- how many packets of a flow to a target nobody answers, for this reason, if any
-abbrev pub unanswered_line : List ℕ → List PacketView → Fate → List ℕ
-unanswered_line name packets fate =
-    if nat_lt 0 (fated fate packets)
-    then codes "commands of " ++ (name ++ (codes " that nobody answers: " ++ (decimal (fated fate packets) ++ (codes " (" ++ (reason_text fate ++ codes ")\n")))))
+abbrev pub unanswered_line : List ℕ → List PacketView → Handling → List ℕ
+unanswered_line name packets handling =
+    if nat_lt 0 (handled_as handling packets)
+    then codes "commands of " ++ (name ++ (codes " that nobody answers: " ++ (decimal (handled_as handling packets) ++ (codes " (" ++ (reason_text handling ++ codes ")\n")))))
     else []
 
-abbrev pub reasons : List Fate
+abbrev pub reasons : List Handling
 reasons = TooShort ∷ OtherProtocol ∷ WrongCrc ∷ IsReply ∷ NotAsked ∷ NoWay ∷ []
 
 unfoldable pub unanswered_text : List ℕ → List PacketView → List ℕ

@@ -9,13 +9,13 @@ use sw_char::{End, Packet};
 
 /// A packet at a node, or the part of it that matters.
 #[derive(Drop)]
-pub(crate) struct Key<'a> {
+pub(crate) struct PacketKey<'a> {
     pub(crate) node: u16,
     pub(crate) bytes: &'a [u8],
     pub(crate) end: End,
 }
 
-impl<'a> Model for Key<'a> {
+impl<'a> Model for PacketKey<'a> {
     ghost use Rattle.sw_summary.specs.Tallies.{Item};
 
     ghost Value = { Item };
@@ -24,12 +24,12 @@ impl<'a> Model for Key<'a> {
 }
 
 // What is counted of the packet at the node: itself, or, of replies, the reply by its first byte.
-fn counted(node: u16, packet: &Packet, replies: bool) -> Option<Key<'_>>
+fn counted(node: u16, packet: &Packet, replies: bool) -> Option<PacketKey<'_>>
     ensures { result ≡ key_of replies node packet.now }
 {
     let bytes = packet.bytes.as_slice();
     if !replies {
-        return Some(Key {
+        return Some(PacketKey {
             node,
             bytes,
             end: packet.end,
@@ -38,7 +38,7 @@ fn counted(node: u16, packet: &Packet, replies: bool) -> Option<Key<'_>>
     if !is_reply(bytes) {
         return None;
     }
-    Some(Key {
+    Some(PacketKey {
         node,
         bytes: &bytes[..1],
         end: End::Eop,
@@ -50,7 +50,7 @@ pub(crate) fn keys<'a>(
     alloc: Global,
     out: &'a [Vec<Packet>],
     replies: bool,
-) -> Result<Vec<Key<'a>>, AllocError>
+) -> Result<Vec<PacketKey<'a>>, AllocError>
     requires { length out.now ≤ 1024 }
     ensures { IfOk result (λ all. all.items ≡ all_keys replies (map (λ packets. packets.items) out.now)) }
 {

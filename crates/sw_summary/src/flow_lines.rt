@@ -5,9 +5,9 @@ ghost use Rattle.sw_summary.specs.Tallies.{IsRising, found, taken_all};
 ghost use Rattle.sw_summary.specs.Texts.{flow_text_where, flow_texts};
 
 use crate::begun::{Begun, forms, loaded};
-use crate::came_out::Key;
+use crate::came_out::PacketKey;
 use crate::declared::declared_flow;
-use crate::fate::{Fate, fated};
+use crate::handling::{Handling, handled_as};
 use crate::tallies::{Tally, found_packets, found_times, tallies};
 use std::alloc::{AllocError, Global};
 use std::fmt::Write;
@@ -25,12 +25,12 @@ fn found_replies(replies: &mut [Tally<'_>], flow: &Flow, packets: &[Packet]) -> 
         return 0;
     };
     let bytes = [reply.initiator()];
-    let key = Key {
+    let key = PacketKey {
         node: flow.from(),
         bytes: &bytes,
         end: End::Eop,
     };
-    found_times(replies, &key, fated(Fate::Answered, packets))
+    found_times(replies, &key, handled_as(Handling::Answered, packets))
 }
 
 // Adds the line of the flow, if the load has a packet of it, of which so many came out and so many were answered.

@@ -4,7 +4,7 @@ ghost use Rattle.std.specs.List.Sorted.{IsBinarySearchResult, IsSearchInRange};
 ghost use Rattle.sw_summary.specs.Counts.{all_keys, items_at};
 ghost use Rattle.sw_summary.specs.Tallies.{IsRising, found, item_order, left, taken, taken_all, tallies};
 
-use crate::came_out::{Key, keys};
+use crate::came_out::{PacketKey, keys};
 use std::alloc::{AllocError, Global};
 use std::cmp::Ordering;
 use std::marker::Model;
@@ -14,7 +14,7 @@ use sw_output::end_rank;
 /// A key, and how often it is there.
 #[derive(Drop)]
 pub(crate) struct Tally<'a> {
-    key: Key<'a>,
+    key: PacketKey<'a>,
     count: u64,
 }
 
@@ -27,7 +27,7 @@ impl<'a> Model for Tally<'a> {
 }
 
 // Where the key stands, or where it has to be put.
-fn place(tallies: &[Tally<'_>], key: &Key<'_>) -> Result<usize, usize>
+fn place(tallies: &[Tally<'_>], key: &PacketKey<'_>) -> Result<usize, usize>
     ensures bound { IsSearchInRange result (length tallies.now) }
     ensures position { IsBinarySearchResult (λ t. item_order t.item key.now) tallies.now result }
 {
@@ -43,7 +43,7 @@ fn place(tallies: &[Tally<'_>], key: &Key<'_>) -> Result<usize, usize>
 }
 
 // One fewer of the key, where there is one: how many fewer.
-fn take(tallies: &mut [Tally<'_>], key: &Key<'_>) -> usize
+fn take(tallies: &mut [Tally<'_>], key: &PacketKey<'_>) -> usize
     requires { IsRising tallies.old }
     ensures lowered { result ≡ (if nat_lt 0 (left key.now tallies.old) then 1 else 0) }
     ensures fewer { tallies.new ≡ taken key.now tallies.old }
@@ -76,7 +76,7 @@ pub(crate) fn tallies<'a>(
         match place(&all, key) {
             Ok(i) => all[i].count += 1,
             Err(i) => {
-                let key = Key {
+                let key = PacketKey {
                     node: key.node,
                     bytes: key.bytes,
                     end: key.end,
@@ -96,7 +96,7 @@ pub(crate) fn found_packets(tallies: &mut [Tally<'_>], node: u16, packets: &[Pac
 {
     let mut count = 0;
     for packet in packets {
-        let key = Key {
+        let key = PacketKey {
             node,
             bytes: packet.bytes.as_slice(),
             end: packet.end,
@@ -107,7 +107,7 @@ pub(crate) fn found_packets(tallies: &mut [Tally<'_>], node: u16, packets: &[Pac
 }
 
 /// The same of so many times one key.
-pub(crate) fn found_times(tallies: &mut [Tally<'_>], key: &Key<'_>, times: usize) -> usize
+pub(crate) fn found_times(tallies: &mut [Tally<'_>], key: &PacketKey<'_>, times: usize) -> usize
     requires { IsRising tallies.old }
     ensures count { result ≡ found tallies.old (replicate times key.now) }
     ensures rest { tallies.new ≡ taken_all tallies.old (replicate times key.now) }

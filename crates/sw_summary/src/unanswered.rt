@@ -4,20 +4,20 @@ ghost use Rattle.sw_summary.specs.Texts.{unanswered_text, unanswered_texts};
 
 use crate::begun::{Begun, forms};
 use crate::declared::declared_flow;
-use crate::fate::{Fate, fated};
+use crate::handling::{Handling, handled_as};
 use std::alloc::{AllocError, Global};
 use std::fmt::Write;
 use sw_char::Packet;
 use sw_config::Network;
 
 /// Why nobody answers a command, in the order of the lines.
-const REASONS: &[Fate] = &[
-    Fate::TooShort,
-    Fate::OtherProtocol,
-    Fate::WrongCrc,
-    Fate::IsReply,
-    Fate::NotAsked,
-    Fate::NoWay,
+const REASONS: &[Handling] = &[
+    Handling::TooShort,
+    Handling::OtherProtocol,
+    Handling::WrongCrc,
+    Handling::IsReply,
+    Handling::NotAsked,
+    Handling::NoWay,
 ];
 
 // Adds a line for each reason for which nobody answers packets of the flow.
@@ -26,7 +26,7 @@ fn add_reasons(text: &mut String, name: &str, packets: &[Packet]) -> Result<(), 
     ensures { IfOk result (λ _. string_bytes text.new ≡ string_bytes text.old ++ unanswered_text name.now packets.now) }
 {
     for reason in REASONS {
-        let count = fated(*reason, packets);
+        let count = handled_as(*reason, packets);
         if count == 0 {
             continue;
         }

@@ -22,7 +22,7 @@ const MOST_SWEEPS: u32 = 20_000;
 const MOST_ROUNDS: u32 = 20_000;
 
 /// A network in some state, and the schedule of the steps that led there. It is not let go but by `one_try`.
-struct Trial<'n> {
+struct ScheduledNet<'n> {
     net: Net<'n, SwitchRoutes<'n>, Policy>,
     text: String,
     steps: u32,
@@ -32,7 +32,7 @@ struct Trial<'n> {
     failed: bool,
 }
 
-impl Trial<'_> {
+impl ScheduledNet<'_> {
     /// Makes the step as often as it is possible and the schedule may have one more, at most so many times.
     fn repeat(&mut self, alloc: Global, step: Step, most: u32) {
         for _ in 0..most {
@@ -181,7 +181,7 @@ pub(crate) fn one_try(
     tangles: &[Tangle],
     random: &mut Random,
 ) -> Result<Option<String>, AllocError> {
-    let mut trial = Trial {
+    let mut trial = ScheduledNet {
         net: declared_net(alloc, network)?,
         text: String::new(alloc),
         steps: 0,
@@ -193,7 +193,7 @@ pub(crate) fn one_try(
         trial.place_cycle(alloc, network, random, tangle);
     }
     trial.run(alloc, random);
-    let Trial {
+    let ScheduledNet {
         net,
         text,
         steps: _,

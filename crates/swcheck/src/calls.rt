@@ -5,7 +5,7 @@ ghost use Rattle.swcheck.specs.Works.{HasJob};
 use crate::disk::{Disk, RELEASE};
 use crate::engines::{run_engine, run_second};
 use crate::hints::{MOST_EXPLAINED, hinted};
-use crate::noted::Noted;
+use crate::noting_writer::NotingWriter;
 use crate::recorded::run_load;
 use crate::work::{Work, work_of};
 use std::fs;
@@ -64,7 +64,7 @@ fn run_asked<R: Files + Print + Eprint + AllocGlobal + Threads + Wait + Sync, C:
     let call = &asked.call;
     match hints_of(asked.hints) {
         Some(hints) => {
-            let mut writer = Noted::new("standard output", io::writer(rt));
+            let mut writer = NotingWriter::new("standard output", io::writer(rt));
             let end = run_work(rt, workers, host, work_of(call), &asked.files, &mut writer);
             told_end(rt, end.ended);
             let ended = hinted(rt, workers, call, hints, &end, writer.unwritten);
@@ -88,7 +88,7 @@ fn run_work<
     host: &HostRuntime,
     work: Work<'a>,
     files: &[&str],
-    writer: &mut Noted<'a, W>,
+    writer: &mut NotingWriter<'a, W>,
 ) -> EndedWith
     requires { HasJob work }
 {

@@ -2,7 +2,7 @@
 use std::alloc::Global;
 use std::fs;
 use sw_args::{TOOLCHAIN, VERSION};
-use sw_json_verdicts::{Input, Release, Storage};
+use sw_json_verdicts::{AuditInput, Release, Storage};
 use sw_text::{MAX_TEXT, ReadError, read_whole, write_whole};
 
 /// This release of the program, and the toolchain that it is made with.
@@ -23,15 +23,15 @@ impl Storage for Disk<'_> {
 
     ghost keeps = { λ _ _ _ _. Unit {0} };
 
-    fn read(&self, alloc: Global, path: &str) -> Input {
+    fn read(&self, alloc: Global, path: &str) -> AuditInput {
         let Ok(mut reader) = fs::open(self.host, path) else {
-            return Input::Unread;
+            return AuditInput::Unread;
         };
         match read_whole(alloc, &mut reader, MAX_TEXT) {
-            Ok(text) => Input::Whole(text),
-            Err(ReadError::TooLong) => Input::TooLong,
-            Err(ReadError::Failed) => Input::Unread,
-            Err(ReadError::Memory) => Input::NoMemory,
+            Ok(text) => AuditInput::Whole(text),
+            Err(ReadError::TooLong) => AuditInput::TooLong,
+            Err(ReadError::Failed) => AuditInput::Unread,
+            Err(ReadError::Memory) => AuditInput::NoMemory,
         }
     }
 

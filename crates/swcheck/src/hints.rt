@@ -4,8 +4,8 @@ ghost use Rattle.std.specs.Prelude.{◌≡◌};
 ghost use Rattle.swcheck.specs.Asked.{due_after, due_of};
 
 use crate::asked::{file_of, flow_of, second_of};
-use crate::noted::Failed;
 use crate::notes::{is_noted, notes_on};
+use crate::noting_writer::Failed;
 use crate::told::tell_text;
 use crate::unread::{tell_failed, unread};
 use std::alloc::AllocError;

@@ -4,7 +4,7 @@ ghost use Rattle.std.specs.declared.alloc.Global.{Global};
 
 use crate::disk::RELEASE;
 use crate::engines::opened;
-use crate::noted::{Failed, Noted};
+use crate::noting_writer::{Failed, NotingWriter};
 use crate::told::{tell_long, tell_text};
 use std::fs;
 use std::io::{self, Read, Write};
@@ -109,7 +109,7 @@ fn run_opened<
     N: Read,
     L: Read,
     W: Write,
->(rt: &R, job: &Job<'a>, network: &mut N, load: &mut L, writer: &mut Noted<'a, W>) -> Ended
+>(rt: &R, job: &Job<'a>, network: &mut N, load: &mut L, writer: &mut NotingWriter<'a, W>) -> Ended
     requires { 0 < job.now.workers }
 {
     let Some(path) = job.schedule else {
@@ -117,7 +117,7 @@ fn run_opened<
     };
     match fs::create(rt, path) {
         Ok(file) => {
-            let mut schedule = Noted::new(path, file);
+            let mut schedule = NotingWriter::new(path, file);
             let ended = run_job(rt, job, network, load, writer, &mut schedule);
             writer.unwritten = schedule.unwritten.or(writer.unwritten);
             ended
@@ -142,7 +142,7 @@ fn is_read<R: Files>(rt: &R, job: &Job<'_>) -> bool {
 pub(crate) fn run_load<'a, R: Files + Eprint + AllocGlobal + Threads + Wait + Sync, W: Write>(
     rt: &R,
     job: &Job<'a>,
-    writer: &mut Noted<'a, W>,
+    writer: &mut NotingWriter<'a, W>,
 ) -> Ended
     requires { 0 < job.now.workers }
 {

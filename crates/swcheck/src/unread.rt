@@ -2,7 +2,7 @@
 ghost use Rattle.std.specs.Prelude.{◌≡◌, IfOk, string_bytes};
 ghost use Rattle.swcheck.specs.Unread.{reason_of, unread_text};
 
-use crate::noted::Failed;
+use crate::noting_writer::Failed;
 use crate::told::tell_text;
 use std::alloc::{AllocError, Global};
 use std::fs;

@@ -6,7 +6,7 @@ pub(crate) mod tried;
 mod two_threads;
 
 use crate::journals::pair::Pair;
-use crate::journals::tried::{Trial, show_tried};
+use crate::journals::tried::{JournalTrial, show_tried};
 use std::io;
 use std::sync::{Mutex, Wait};
 use std::thread::Threads;
@@ -20,7 +20,7 @@ pub(crate) fn show_journal<R: Threads + Wait + Sync>(
     network: &Network,
     load: &Load,
     limit: usize,
-    trials: &[Trial],
+    trials: &[JournalTrial],
 ) -> io::Result<()>
     requires { AreDeclared network.now load.now }
 {

@@ -23,7 +23,7 @@ use sw_graph::{OneByOne, RoundWorkers};
 
 /// What is tried.
 #[derive(Clone, Copy)]
-enum Part {
+enum PartCase {
     InTurn,
     LongestAgo,
     Certificates,
@@ -48,66 +48,75 @@ enum Part {
 }
 
 /// What is printed before, and what is tried.
-const PARTS: &[(&str, Part)] = &[
+const PARTS: &[(&str, PartCase)] = &[
     (
         "fixed_picks_the_lowest_and_round_robin_in_turn",
-        Part::InTurn,
+        PartCase::InTurn,
     ),
-    ("least_recent_picks_the_longest_ago", Part::LongestAgo),
+    ("least_recent_picks_the_longest_ago", PartCase::LongestAgo),
     (
         "a_certificate_is_written_and_lists_no_place_twice",
-        Part::Certificates,
+        PartCase::Certificates,
     ),
-    ("one_packet_and_a_rest", Part::Characters),
-    ("an_end_asks_where_it_has_room", Part::Ends),
-    ("codes", Part::Codes),
-    ("targets_write", Part::Written),
-    ("targets_refuse", Part::Refused),
-    ("commands_as_bytes", Part::Commands),
-    ("ways_back", Part::WaysBack),
-    ("nodes_send_and_take_packets", Part::Nodes),
-    ("relations_have_levels_or_a_cycle", Part::Relations),
-    ("many_members_are_shared", Part::SharedMembers),
-    ("many_members_are_taken_one_by_one", Part::MembersOneByOne),
-    ("tables_and_intervals_answer_alike", Part::Intervals),
+    ("one_packet_and_a_rest", PartCase::Characters),
+    ("an_end_asks_where_it_has_room", PartCase::Ends),
+    ("codes", PartCase::Codes),
+    ("targets_write", PartCase::Written),
+    ("targets_refuse", PartCase::Refused),
+    ("commands_as_bytes", PartCase::Commands),
+    ("ways_back", PartCase::WaysBack),
+    ("nodes_send_and_take_packets", PartCase::Nodes),
+    ("relations_have_levels_or_a_cycle", PartCase::Relations),
+    ("many_members_are_shared", PartCase::SharedMembers),
+    (
+        "many_members_are_taken_one_by_one",
+        PartCase::MembersOneByOne,
+    ),
+    ("tables_and_intervals_answer_alike", PartCase::Intervals),
     (
         "addresses_have_one_entry_and_outputs_a_link",
-        Part::Addresses,
+        PartCase::Addresses,
     ),
-    ("a_text_up_to_its_limit_is_read", Part::Reads),
-    ("a_read_that_fails_is_not_tried_again", Part::FailedReads),
-    ("a_write_that_fails_leaves_a_beginning", Part::FailedWrites),
+    ("a_text_up_to_its_limit_is_read", PartCase::Reads),
+    (
+        "a_read_that_fails_is_not_tried_again",
+        PartCase::FailedReads,
+    ),
+    (
+        "a_write_that_fails_leaves_a_beginning",
+        PartCase::FailedWrites,
+    ),
     (
         "the_output_stays_with_a_packet_until_its_end",
-        Part::Outputs,
+        PartCase::Outputs,
     ),
-    ("characters_arrive_in_order", Part::Wires),
+    ("characters_arrive_in_order", PartCase::Wires),
 ];
 
 // Whether all came as it is wanted.
-fn is_as_wanted<W: RoundWorkers>(workers: &W, alloc: Global, part: Part) -> bool {
+fn is_as_wanted<W: RoundWorkers>(workers: &W, alloc: Global, part: PartCase) -> bool {
     match part {
-        Part::InTurn => arbiters::pick(FIXED_AND_ROUND_ROBIN),
-        Part::LongestAgo => arbiters::pick(LEAST_RECENT),
-        Part::Certificates => certificates::are_written(alloc),
-        Part::Characters => characters::are_cut(alloc),
-        Part::Ends => ends::ask(alloc),
-        Part::Codes => memories::have_codes(),
-        Part::Written => memories::answer(alloc, ANSWERED),
-        Part::Refused => memories::answer(alloc, REFUSED),
-        Part::Commands => memories::are_bytes(alloc),
-        Part::WaysBack => memories::go_back(alloc),
-        Part::Nodes => nodes::carry_packets(alloc),
-        Part::Relations => orders::are_found(alloc),
-        Part::SharedMembers => orders::are_many(workers, alloc),
-        Part::MembersOneByOne => orders::are_many(&OneByOne, alloc),
-        Part::Intervals => routes::agree(alloc),
-        Part::Addresses => routes::lead(alloc),
-        Part::Reads => streams::are_read(alloc),
-        Part::FailedReads => streams::fail_once(alloc),
-        Part::FailedWrites => streams::are_begun(alloc),
-        Part::Outputs => switches::stay(alloc),
-        Part::Wires => wiring::keeps_order(alloc),
+        PartCase::InTurn => arbiters::pick(FIXED_AND_ROUND_ROBIN),
+        PartCase::LongestAgo => arbiters::pick(LEAST_RECENT),
+        PartCase::Certificates => certificates::are_written(alloc),
+        PartCase::Characters => characters::are_cut(alloc),
+        PartCase::Ends => ends::ask(alloc),
+        PartCase::Codes => memories::have_codes(),
+        PartCase::Written => memories::answer(alloc, ANSWERED),
+        PartCase::Refused => memories::answer(alloc, REFUSED),
+        PartCase::Commands => memories::are_bytes(alloc),
+        PartCase::WaysBack => memories::go_back(alloc),
+        PartCase::Nodes => nodes::carry_packets(alloc),
+        PartCase::Relations => orders::are_found(alloc),
+        PartCase::SharedMembers => orders::are_many(workers, alloc),
+        PartCase::MembersOneByOne => orders::are_many(&OneByOne, alloc),
+        PartCase::Intervals => routes::agree(alloc),
+        PartCase::Addresses => routes::lead(alloc),
+        PartCase::Reads => streams::are_read(alloc),
+        PartCase::FailedReads => streams::fail_once(alloc),
+        PartCase::FailedWrites => streams::are_begun(alloc),
+        PartCase::Outputs => switches::stay(alloc),
+        PartCase::Wires => wiring::keeps_order(alloc),
     }
 }
 

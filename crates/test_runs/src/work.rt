@@ -3,7 +3,7 @@ ghost use Rattle.sw_load.specs.Laws.{AreDeclared};
 
 use crate::engine::show_engine;
 use crate::journals::show_journal;
-use crate::journals::tried::Trial;
+use crate::journals::tried::JournalTrial;
 use crate::nets::{CoreWork, show_core};
 use crate::parts::cycles::{Shown, are_told};
 use crate::runs::show_run;
@@ -27,7 +27,7 @@ pub(crate) enum Work {
     /// The network's core makes steps from its empty state on.
     Core(CoreWork),
     /// Steps of a journal of the load are tried, which has so many steps at most.
-    Journal(usize, &'static [Trial]),
+    Journal(usize, &'static [JournalTrial]),
     /// The network's cycles are told from what is none.
     Cycles(&'static [Shown]),
     /// The load is run by a worker and so many others.

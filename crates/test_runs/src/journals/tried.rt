@@ -11,7 +11,7 @@ use sw_char::End;
 
 /// What is done at one of two nodes, which is told by its number, or at both.
 #[derive(Clone, Copy)]
-pub(crate) enum Trial {
+pub(crate) enum JournalTrial {
     /// Its link end's numbers are told.
     Numbers(u16),
     /// Whether that is idle, and its mark.
@@ -25,53 +25,53 @@ pub(crate) enum Trial {
 }
 
 /// The second node sends FCTs until it can send none, the first takes one, and begins its packet.
-pub(crate) const BOTH: &[Trial] = &[
-    Trial::Numbers(0),
-    Trial::Idle(0),
-    Trial::Numbers(1),
-    Trial::Idle(1),
-    Trial::Make(1, Move::Fct(0)),
-    Trial::Make(1, Move::Fct(0)),
-    Trial::Make(1, Move::Fct(0)),
-    Trial::Make(1, Move::Fct(0)),
-    Trial::Make(1, Move::Fct(0)),
-    Trial::Make(1, Move::Fct(0)),
-    Trial::Make(1, Move::Fct(0)),
-    Trial::Make(1, Move::Fct(0)),
-    Trial::Numbers(1),
-    Trial::Idle(1),
-    Trial::Tell(1),
-    Trial::Make(0, Move::FctIn(0)),
-    Trial::Numbers(0),
-    Trial::Idle(0),
-    Trial::Make(0, Move::Begin(0, &[0xAA], End::Eop)),
-    Trial::Make(0, Move::Begin(0, &[0xAA], End::Eop)),
-    Trial::Tell(0),
+pub(crate) const BOTH: &[JournalTrial] = &[
+    JournalTrial::Numbers(0),
+    JournalTrial::Idle(0),
+    JournalTrial::Numbers(1),
+    JournalTrial::Idle(1),
+    JournalTrial::Make(1, Move::Fct(0)),
+    JournalTrial::Make(1, Move::Fct(0)),
+    JournalTrial::Make(1, Move::Fct(0)),
+    JournalTrial::Make(1, Move::Fct(0)),
+    JournalTrial::Make(1, Move::Fct(0)),
+    JournalTrial::Make(1, Move::Fct(0)),
+    JournalTrial::Make(1, Move::Fct(0)),
+    JournalTrial::Make(1, Move::Fct(0)),
+    JournalTrial::Numbers(1),
+    JournalTrial::Idle(1),
+    JournalTrial::Tell(1),
+    JournalTrial::Make(0, Move::FctIn(0)),
+    JournalTrial::Numbers(0),
+    JournalTrial::Idle(0),
+    JournalTrial::Make(0, Move::Begin(0, &[0xAA], End::Eop)),
+    JournalTrial::Make(0, Move::Begin(0, &[0xAA], End::Eop)),
+    JournalTrial::Tell(0),
 ];
 
 /// Three steps of the second node.
-pub(crate) const THREE: &[Trial] = &[
-    Trial::Make(1, Move::Fct(0)),
-    Trial::Make(1, Move::Fct(0)),
-    Trial::Make(1, Move::Accept(1)),
+pub(crate) const THREE: &[JournalTrial] = &[
+    JournalTrial::Make(1, Move::Fct(0)),
+    JournalTrial::Make(1, Move::Fct(0)),
+    JournalTrial::Make(1, Move::Accept(1)),
 ];
 
 /// Two threads make steps. The numbers of both are told before and after.
-pub(crate) const TAKEN: &[Trial] = &[
-    Trial::Numbers(0),
-    Trial::Numbers(1),
-    Trial::ByTwo(&SEND_AND_TAKE),
-    Trial::Numbers(0),
-    Trial::Numbers(1),
+pub(crate) const TAKEN: &[JournalTrial] = &[
+    JournalTrial::Numbers(0),
+    JournalTrial::Numbers(1),
+    JournalTrial::ByTwo(&SEND_AND_TAKE),
+    JournalTrial::Numbers(0),
+    JournalTrial::Numbers(1),
 ];
 
 /// The same, where one reads its numbers before the other sends.
-pub(crate) const BETWEEN: &[Trial] = &[
-    Trial::Numbers(0),
-    Trial::Numbers(1),
-    Trial::ByTwo(&READ_AND_SEND),
-    Trial::Numbers(0),
-    Trial::Numbers(1),
+pub(crate) const BETWEEN: &[JournalTrial] = &[
+    JournalTrial::Numbers(0),
+    JournalTrial::Numbers(1),
+    JournalTrial::ByTwo(&READ_AND_SEND),
+    JournalTrial::Numbers(0),
+    JournalTrial::Numbers(1),
 ];
 
 // Prints the numbers of the node's link end.
@@ -84,18 +84,18 @@ pub(crate) fn show_tried<R: Threads + Wait + Sync>(
     rt: &HostRuntime,
     threads: &R,
     pair: &mut Mutex<Pair<'_>>,
-    trials: &[Trial],
+    trials: &[JournalTrial],
 ) -> io::Result<()> {
     let mut shown = Ok(());
     for &trial in trials {
         shown = shown.and(match trial {
-            Trial::Numbers(node) => show_end(rt, pair.get_mut(), node),
-            Trial::Idle(node) => pair.get_mut().tell_idle(rt, node),
-            Trial::Tell(node) => pair.get_mut().tell(rt, node),
-            Trial::Make(node, tried) => {
+            JournalTrial::Numbers(node) => show_end(rt, pair.get_mut(), node),
+            JournalTrial::Idle(node) => pair.get_mut().tell_idle(rt, node),
+            JournalTrial::Tell(node) => pair.get_mut().tell(rt, node),
+            JournalTrial::Make(node, tried) => {
                 show_made(rt, "", pair.get_mut().make(rt.alloc(), node, tried))
             }
-            Trial::ByTwo(work) => show_two_threads(rt, threads, pair, work),
+            JournalTrial::ByTwo(work) => show_two_threads(rt, threads, pair, work),
         });
     }
     shown

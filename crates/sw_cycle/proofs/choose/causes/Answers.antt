@@ -3,7 +3,7 @@ use Rattle.std.specs.Prelude.{MatchOption}
 use Rattle.std.proofs.lemmas.List.{get_or_default}
 use Rattle.sw_machine.specs.Places.{IsDependency}
 use Rattle.sw_machine.specs.Model.{network_of}
-use Rattle.sw_cycle.specs.declared.steps.Step.{Step}
+use Rattle.sw_cycle.specs.declared.steps.PlaceStep.{PlaceStep}
 use Rattle.sw_cycle.specs.Causes.{NoneGoesOn}
 use Rattle.sw_cycle.specs.Cycles.{cause_of}
 use Rattle.sw_cycle.specs.Firsts.{IsFirstStep}
@@ -28,7 +28,7 @@ cause_for-requires-clause-first c =
     read_for d c.args.channels.now i from.result to.result lt from.is to.is (λ x y. MatchOption (get_or steps i None) (NoneGoesOn d x y) (IsFirstStep d x y)) (first.each i lt)
     in
     let was : get_or steps i None ≡ c.index.result.now = get_or_default steps i None c.index.result.now within ∙ sym c.index.ensures in
-    subst (λ (o : Option Step). MatchOption o (NoneGoesOn d from.result to.result) (IsFirstStep d from.result to.result)) was read
+    subst (λ (o : Option PlaceStep). MatchOption o (NoneGoesOn d from.result to.result) (IsFirstStep d from.result to.result)) was read
 
 pub cause_for-requires-clause-dependency : goal.cause_for-requires-clause-dependency
 cause_for-requires-clause-dependency c =

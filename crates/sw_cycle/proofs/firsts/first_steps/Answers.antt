@@ -1,6 +1,6 @@
 use Rattle.std.proofs.Common.{◌≡◌, ◌<◌, ◌∙◌, [], List, None, Option, Vec, Global, ℕ, length, replicate, ap, sym, subst, arith, rules}
 use Rattle.sw_cycle.specs.Positions.{ArePositions}
-use Rattle.sw_cycle.specs.declared.steps.Step.{Step}
+use Rattle.sw_cycle.specs.declared.steps.PlaceStep.{PlaceStep}
 use Rattle.sw_cycle.specs.Firsts.{AreFirst, NoneYet}
 use Rattle.sw_cycle.proofs.Found.{all_looked_at, flow_begun, flow_more, none_first}
 use Rattle.sw_cycle.proofs.firsts.first_steps.Goals as goal
@@ -21,7 +21,7 @@ note_places-requires-clause-first c =
     let n = c.loop-number.number in
     let f = c.flow_and_places.result.0.now in
     let channels = c.args.channels.now in
-    subst (λ (l : List (Option Step)). AreFirst d (NoneYet d n f []) channels l) (sym c.deref_mut.ensures.value) (flow_begun d n f channels c.loop-number.steps.items c.loop-number.invariant)
+    subst (λ (l : List (Option PlaceStep)). AreFirst d (NoneYet d n f []) channels l) (sym c.deref_mut.ensures.value) (flow_begun d n f channels c.loop-number.steps.items c.loop-number.invariant)
 
 pub note_places-requires-clause-positions : goal.note_places-requires-clause-positions
 note_places-requires-clause-positions c =

@@ -1,7 +1,7 @@
 use Rattle.std.proofs.Common.{◌≡◌, ◌<◌, ◌∙◌, ℕ, None, ap, get_or, is_some, length, refl, sym, arith}
 use Rattle.std.proofs.lemmas.List.{get_or_default}
 use Rattle.sw_flow.specs.Places.{Follows}
-use Rattle.sw_cycle.specs.declared.steps.Step.{Step}
+use Rattle.sw_cycle.specs.declared.steps.PlaceStep.{PlaceStep}
 use Rattle.sw_cycle.specs.Firsts.{IsTaken}
 use Rattle.sw_cycle.proofs.Chosen.{as_round}
 use Rattle.sw_cycle.proofs.Found.{found_at, known_at, nothing_at}
@@ -46,6 +46,6 @@ returns c =
     let old = c.index-steps-position.result in
     let within : i < length steps = omega (arith, c.requires.inside, c.requires.size) in
     let was : get_or steps i None ≡ get_or steps i old = get_or_default steps i None old within in
-    let s : Step = record { flow = n; last = p; next = c.in-Some.next } in
+    let s : PlaceStep = record { flow = n; last = p; next = c.in-Some.next } in
     let taken : IsTaken d n f p from.result to.result s = record { flow = refl; last = refl; from = c.in-Some.ensures.from; to = c.in-Some.ensures.to; goes = c.in-Some.ensures.goes } in
     found_at d n f p channels i steps s (ap is_some was ∙ sym c.is_some.ensures ∙ c.if-is_some.false) (as_round d channels i from.result to.result c.requires.inside from.is to.is (λ x y. IsTaken d n f p x y s) taken)

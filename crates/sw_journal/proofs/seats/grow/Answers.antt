@@ -4,7 +4,7 @@ use Rattle.atomic_table.specs.Table.{Me}
 use Rattle.sw_net.specs.declared.numbers.Numbers.{Numbers}
 use Rattle.sw_journal.proofs.Moves.{grown_more, opens_by, pushes_by}
 use Rattle.sw_journal.proofs.seats.grow.Goals as goal
-use Rattle.sw_journal.specs.declared.cell_table.Change.{Change}
+use Rattle.sw_journal.specs.declared.cell_table.SeatChange.{SeatChange}
 use Rattle.sw_journal.specs.declared.cell_table.View.{View}
 
 pub compare_exchange_with-requires : goal.compare_exchange_with-requires
@@ -17,7 +17,7 @@ pub compare_exchange_with-requires-in-loop-end : goal.compare_exchange_with-requ
 compare_exchange_with-requires-in-loop-end c =
     let i = c.loop-end.invariant in
     let item = c.loop-end-item.result in
-    (i.name ∙ c.requires.seat.0, c.requires.table, pushes_by _ _ _ item.0 item.1 (ap (λ (m : Me Change View). m.0.keeps) i.seat ∙ c.requires.seat.1) (ap (λ (m : Me Change View). m.0.claims) i.seat))
+    (i.name ∙ c.requires.seat.0, c.requires.table, pushes_by _ _ _ item.0 item.1 (ap (λ (m : Me SeatChange View). m.0.keeps) i.seat ∙ c.requires.seat.1) (ap (λ (m : Me SeatChange View). m.0.claims) i.seat))
 
 pub loop-end-preserved : goal.loop-end-preserved
 loop-end-preserved c =

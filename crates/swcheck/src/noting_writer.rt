@@ -12,18 +12,18 @@ pub(crate) struct Failed<'a> {
 
 /// A writer to what goes by this name. It writes as the one in it does.
 #[derive(Drop)]
-pub(crate) struct Noted<'a, W> {
+pub(crate) struct NotingWriter<'a, W> {
     writer: W,
     path: &'a str,
     /// What could not be written last.
     pub(crate) unwritten: Option<Failed<'a>>,
 }
 
-impl<'a, W: Write> Noted<'a, W> {
-    pub(crate) fn new(path: &'a str, writer: W) -> Noted<'a, W>
+impl<'a, W: Write> NotingWriter<'a, W> {
+    pub(crate) fn new(path: &'a str, writer: W) -> NotingWriter<'a, W>
         ensures { W.contents result.writer ≡ W.contents writer }
     {
-        Noted {
+        NotingWriter {
             writer,
             path,
             unwritten: None,
@@ -31,7 +31,7 @@ impl<'a, W: Write> Noted<'a, W> {
     }
 }
 
-impl<W: Write> Write for Noted<'_, W> {
+impl<W: Write> Write for NotingWriter<'_, W> {
     ghost contents = { λ s. W.contents s.writer };
 
     fn write(&mut self, buf: &[u8]) -> io::Result<usize> {

@@ -23,16 +23,16 @@ const LONGEST: u64 = 64;
 /// while `calls` has the value that it read; and `over` is written before `calls`. So a worker that
 /// has not seen `over` has read `calls` before it changed, and does not sleep on.
 #[derive(Drop)]
-pub(crate) struct Naps {
+pub(crate) struct Sleepers {
     calls: AtomicU64,
     asleep: AtomicU64,
     pays: AtomicBool,
     over: AtomicBool,
 }
 
-impl Naps {
-    pub(crate) fn new() -> Naps {
-        Naps {
+impl Sleepers {
+    pub(crate) fn new() -> Sleepers {
+        Sleepers {
             calls: AtomicU64::new(0),
             asleep: AtomicU64::new(0),
             pays: AtomicBool::new(true),

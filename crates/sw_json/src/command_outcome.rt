@@ -8,7 +8,7 @@ use serde_json::Value;
 
 /// The result of a command, with the status that says what it is.
 #[derive(Drop)]
-pub struct Outcome {
+pub struct CommandOutcome {
     /// What the answer has at `result`.
     pub result: Value,
     /// The status with which the program ends.

@@ -4,40 +4,40 @@ use Rattle.sw_rmap.specs.CommandView.{CommandView}
 use Rattle.sw_rmap.specs.Commands.{has_right_crc, instruction_of, read}
 use Rattle.sw_rmap.specs.Instruction.{reply_address_len, wants_reply}
 use Rattle.sw_rmap.specs.Replies.{is_answered}
-use Rattle.sw_summary.specs.declared.fate.Fate.{Fate}
-use Rattle.sw_summary.specs.declared.fate.Fate.TheVariants.{Answered, TooShort, OtherProtocol, WrongCrc, IsReply, NotAsked, NoWay}
+use Rattle.sw_summary.specs.declared.handling.Handling.{Handling}
+use Rattle.sw_summary.specs.declared.handling.Handling.TheVariants.{Answered, TooShort, OtherProtocol, WrongCrc, IsReply, NotAsked, NoWay}
 
 -- why a packet's bytes are no command
-abbrev pub unread_fate : List ℕ → Fate
-unread_fate bytes =
+abbrev pub unread_handling : List ℕ → Handling
+unread_handling bytes =
     if nat_lt (length bytes) 16 || nat_lt (length bytes) (16 + reply_address_len (instruction_of bytes)) then TooShort
     else if not (slice_index bytes 1 == 1) then OtherProtocol
     else if not (has_right_crc bytes) then WrongCrc
     else IsReply
 
 -- whether a command is answered
-abbrev pub read_fate : CommandView → Fate
-read_fate c = if is_answered c then Answered else if wants_reply c.instruction then NoWay else NotAsked
+abbrev pub read_handling : CommandView → Handling
+read_handling c = if is_answered c then Answered else if wants_reply c.instruction then NoWay else NotAsked
 
-abbrev pub fate_where : List ℕ → Option CommandView → Fate
-fate_where bytes None = unread_fate bytes
-fate_where bytes (Some c) = read_fate c
+abbrev pub handling_where : List ℕ → Option CommandView → Handling
+handling_where bytes None = unread_handling bytes
+handling_where bytes (Some c) = read_handling c
 
 -- what becomes of a packet at a target; keys and windows that are wrong are answered, with a status
-unfoldable pub fate_of : List ℕ → Fate
-fate_of bytes = fate_where bytes (read bytes)
+unfoldable pub handling_of : List ℕ → Handling
+handling_of bytes = handling_where bytes (read bytes)
 
--- the order in which fates are told
-abbrev pub fate_index : Fate → ℕ
-fate_index Answered = 0
-fate_index TooShort = 1
-fate_index OtherProtocol = 2
-fate_index WrongCrc = 3
-fate_index IsReply = 4
-fate_index NotAsked = 5
-fate_index NoWay = 6
+-- the order in which handlings are told
+abbrev pub handling_index : Handling → ℕ
+handling_index Answered = 0
+handling_index TooShort = 1
+handling_index OtherProtocol = 2
+handling_index WrongCrc = 3
+handling_index IsReply = 4
+handling_index NotAsked = 5
+handling_index NoWay = 6
 
-abbrev pub reason_text : Fate → List ℕ
+abbrev pub reason_text : Handling → List ℕ
 reason_text Answered = codes "answered"
 reason_text TooShort = codes "too short"
 reason_text OtherProtocol = codes "another protocol"
