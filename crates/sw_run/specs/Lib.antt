@@ -1,4 +1,3 @@
-pub mod Picked
 pub mod Cells
 pub mod Arbiters
 pub mod Grants

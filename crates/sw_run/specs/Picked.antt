@@ -1,1 +1,0 @@
--- What a type says of no run.
