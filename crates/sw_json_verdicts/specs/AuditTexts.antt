@@ -7,7 +7,7 @@ use Rattle.sw_json_verdicts.specs.Findings.{Finding}
 use Rattle.sw_hints.specs.Shown.{shown}
 use Rattle.sw_json.specs.FileValues.{audit_value}
 use Rattle.sw_json.specs.Texts.{text_of}
-use Rattle.sw_lint.specs.Lines.{line}
+use Rattle.sw_linter.specs.Lines.{line}
 
 -- is the file told? With `--quiet` only where its status is not 0
 abbrev pub is_told : Bool → ℕ → Bool

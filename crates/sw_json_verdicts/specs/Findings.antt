@@ -10,7 +10,7 @@ use Rattle.sw_file.specs.Network.{network_text}
 use Rattle.sw_json.specs.FaultValues.{IsFaultValue, long_value}
 use Rattle.sw_json.specs.FileValues.{bare_entry, kind_value, read_entry}
 use Rattle.sw_json.specs.VerdictValues.{certificate_bytes, verdict_value}
-use Rattle.sw_lint.specs.LintTexts.{AreLintTexts}
+use Rattle.sw_linter.specs.LintTexts.{AreLintTexts}
 use Rattle.sw_search.specs.Verdicts.{IsVerdict}
 use Rattle.sw_search.specs.declared.verdict.Verdict.{Verdict}
 use Rattle.sw_search.specs.declared.verdict.Verdict.TheVariants.{Misrouted, Cyclic, Free}

@@ -20,7 +20,7 @@ use std::alloc::{AllocError, Global};
 use sw_config::Network;
 use sw_file::read_network;
 use sw_json::{Value, bare_entry, fault_value, long_value, read_entry, verdict_value};
-use sw_lint::lint_texts;
+use sw_linter::lint_texts;
 use sw_search::{Verdict, VerdictWorkers, decide};
 use sw_text::statuses::{BAD, FAULTY, GOOD, UNREAD_OR_UNWRITTEN};
 use sw_text::{FileFault, TextFault};

@@ -6,7 +6,7 @@ use std::alloc::{AllocError, Global};
 use std::fmt::Write;
 use sw_calls::Hints;
 use sw_config::Network;
-use sw_lint::lint_texts;
+use sw_linter::lint_texts;
 use sw_text::Ended;
 use sw_text::statuses::{BAD, GOOD};
 

@@ -1,7 +1,0 @@
-use Rattle.std.proofs.Common.{◌≡◌, ◌++◌, take}
-use Rattle.sw_lint.specs.Lints.{made_of}
-use Rattle.sw_lint.specs.Marks.{entry_lint_by}
-use Rattle.sw_lint.proofs.entries.add_entries_of.Given as goal
-
-abbrev pub invariant-loop-entry : goal.invariant-loop-entry
-invariant-loop-entry l = l.lints.items ≡ l.initial.lints.items ++ made_of (entry_lint_by l.network l.marks l.slip l.switch) (take l.entry l.routes)

@@ -1,7 +1,0 @@
-use Rattle.std.proofs.Common.{◌≡◌, flat_map, take}
-use Rattle.sw_lint.specs.Marks.{nodes_of, slip_lints}
-use Rattle.sw_lint.proofs.KindsOfSlips.{kinds}
-use Rattle.sw_lint.proofs.finding.found_by.Given as goal
-
-abbrev pub invariant-loop-slip : goal.invariant-loop-slip
-invariant-loop-slip l = l.lints.items ≡ flat_map (slip_lints l.network (nodes_of l.network) l.marks) (take l.slip-index kinds)

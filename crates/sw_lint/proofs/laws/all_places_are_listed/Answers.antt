@@ -1,5 +1,0 @@
-use Rattle.sw_lint.proofs.Members.{all_listed}
-use Rattle.sw_lint.proofs.laws.all_places_are_listed.Goals as goal
-
-pub returns : goal.returns
-returns c = all_listed

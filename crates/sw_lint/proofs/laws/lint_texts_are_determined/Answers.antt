@@ -1,5 +1,0 @@
-use Rattle.sw_lint.proofs.Lawful.{texts_determined}
-use Rattle.sw_lint.proofs.laws.lint_texts_are_determined.Goals as goal
-
-pub returns : goal.returns
-returns c = texts_determined

@@ -1,6 +1,0 @@
-use Rattle.std.proofs.Common.{◌≡◌, map, string_bytes, take}
-use Rattle.sw_lint.specs.LintTexts.{lint_text}
-use Rattle.sw_lint.proofs.texts.lint_texts.Given as goal
-
-abbrev pub invariant-loop-lint : goal.invariant-loop-lint
-invariant-loop-lint l = map string_bytes l.texts.items ≡ map (lint_text l.network) (take l.lint-index l.lint-items)

@@ -1,0 +1,28 @@
+//! Laws of what is told. These functions do nothing: each is the proof of what its clause says.
+ghost use Rattle.sw_linter.specs.InWords.{AllPlacesAreListed, ToldInWords};
+ghost use Rattle.sw_linter.specs.Laws.{LintTextsAreDetermined, LintsAreDetermined, NoFlowsIsToldAlone};
+
+/// What is told of a network is determined.
+pub fn lints_are_determined()
+    ensures { LintsAreDetermined }
+{}
+
+/// The texts of what is told of a network are determined.
+pub fn lint_texts_are_determined()
+    ensures { LintTextsAreDetermined }
+{}
+
+/// That a network has no flows is told exactly where it has none, and then alone.
+pub fn no_flows_is_told_alone()
+    ensures { NoFlowsIsToldAlone }
+{}
+
+/// The list of all places has the places of all flows, and no others.
+pub fn all_places_are_listed()
+    ensures { AllPlacesAreListed }
+{}
+
+/// In words of packets: when a switch and an entry are used, when a group leads back, and when a link is between two targets.
+pub fn told_in_words()
+    ensures { ToldInWords }
+{}
