@@ -23,6 +23,7 @@ pub use sw_arb::Policy;
 pub use sw_cell::{CellId, NetFault};
 pub use sw_char::Packet;
 pub use sw_config::Network;
+pub use sw_link::flow_control::ASKED_BY_FCT;
 pub use sw_machine::Step;
 pub use sw_node::PendingReply;
 pub use sw_switch::Input;
