@@ -5,7 +5,7 @@ ghost use Rattle.sw_cert.specs.Grammar.{after_word, field, is_line, moved, place
 use sw_flow::Place;
 use sw_text::{cut, number};
 use sw_topo::Chan;
-use sw_topo::limits::{MAX_ADDRESS, MAX_CHANNELS, MAX_PLACES, MAX_WAYS};
+use sw_topo::limits::{MAX_ADDRESS, MAX_CHANNELS, MAX_NUMBER, MAX_PLACES, MAX_WAYS};
 
 /// What the next line has to be.
 #[derive(Clone, Copy)]
@@ -100,7 +100,7 @@ fn place_of(bytes: &[u8]) -> Option<Place>
     let Some((channel, deleted)) = cut(bytes, b' ') else {
         return None;
     };
-    let Some(channel) = number(channel, 65535) else {
+    let Some(channel) = number(channel, MAX_NUMBER) else {
         return None;
     };
     let Some(deleted) = number(deleted, MAX_ADDRESS as u32) else {
@@ -126,7 +126,7 @@ pub(crate) fn said_by(expected: Expected, last: Option<Place>, line: &[u8]) -> O
             Some(count) => Some(Said::FlowCount(count)),
             None => None,
         },
-        Expected::Numbers(_) => match field(b"number ", 65535, line) {
+        Expected::Numbers(_) => match field(b"number ", MAX_NUMBER, line) {
             Some(number) => Some(Said::Number(number as u16)),
             None => None,
         },

@@ -15,7 +15,7 @@ use std::alloc::Global;
 use std::marker::Model;
 use sw_config::{Flow, Network, Reply};
 use sw_text::{FileFault, Key, KeyFault, Section, TableEntry, TextFault};
-use sw_topo::limits::{MAX_ADDRESS, MAX_FLOWS};
+use sw_topo::limits::{FIRST_LOGICAL, LAST_LOGICAL, MAX_ADDRESS, MAX_FLOWS, MAX_REPLY_PATH};
 use toml::Table;
 
 #[tactic(auto, unfolding(crate::specs::Names::place_at))]
@@ -50,10 +50,10 @@ fn can_reply(network: &Network, to: u16, reply: &Reply) -> bool
     requires { to < length network.now.nodes }
     ensures { result ≡ can_reply network.now.nodes to (Some reply.now) }
 {
-    reply.path().len() <= 12
+    reply.path().len() <= MAX_REPLY_PATH
         && !matches!(reply.path(), [0, ..])
-        && 32 <= reply.initiator()
-        && reply.initiator() <= 254
+        && FIRST_LOGICAL as u8 <= reply.initiator()
+        && reply.initiator() <= LAST_LOGICAL as u8
         && network.is_target(to)
 }
 

@@ -11,6 +11,7 @@ use std::alloc::Global;
 use std::marker::Model;
 use sw_config::NetworkBuilder;
 use sw_text::{FileFault, Key, KeyFault, Section, TableEntry, Version};
+use sw_topo::limits::{MAX_BUFFER, MAX_PORT, MIN_BUFFER};
 use sw_topo::{PlaceEnd, Port};
 use toml::Table;
 
@@ -35,7 +36,7 @@ fn link_end(
         return Ok(PlaceEnd::Node(part as u16));
     }
     prove!(part < nodes + builder.switch_count() as usize);
-    let number = link.number(port_key, 0, 31)?;
+    let number = link.number(port_key, 0, MAX_PORT)?;
     let port = Port::new(number as u8).unwrap();
     Ok(PlaceEnd::Switch((part - nodes) as u16, port))
 }
@@ -58,9 +59,9 @@ pub(crate) fn add_link(
     link.only_known(alloc, link_keys(version))?;
     let a = link_end(alloc, &link, Key::A, Key::APort, builder)?;
     let b = link_end(alloc, &link, Key::B, Key::BPort, builder)?;
-    let buffer = link.number_or(Key::Buffer, 8, 4096, 64)?;
-    let buffer_a = link.number_or(Key::BufferA, 8, 4096, buffer)?;
-    let buffer_b = link.number_or(Key::BufferB, 8, 4096, buffer)?;
+    let buffer = link.number_or(Key::Buffer, MIN_BUFFER, MAX_BUFFER, 64)?;
+    let buffer_a = link.number_or(Key::BufferA, MIN_BUFFER, MAX_BUFFER, buffer)?;
+    let buffer_b = link.number_or(Key::BufferB, MIN_BUFFER, MAX_BUFFER, buffer)?;
     builder.add_link(a, b, buffer_a as u16, buffer_b as u16)?;
     Ok(())
 }

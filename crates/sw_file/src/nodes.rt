@@ -15,11 +15,8 @@ use std::marker::Model;
 use sw_config::NetworkBuilder;
 use sw_rmap::TargetConfig;
 use sw_text::{FileFault, Key, KeyFault, Section, TableEntry, Version};
-use sw_topo::limits::MAX_NODES;
+use sw_topo::limits::{FIRST_LOGICAL, LAST_LOGICAL, MAX_NODES, MEMORY_END};
 use toml::Table;
-
-/// One more than the greatest address of a target's memory.
-const MEMORY_END: u64 = 1_099_511_627_776;
 
 /// How the node answers as a target, if it is one.
 #[tactic(auto, unfolding(crate::specs::Nodes::target_or_none, crate::specs::Nodes::config_of, crate::specs::Nodes::size_at))]
@@ -41,7 +38,7 @@ fn target_or_none(
         table,
     };
     target.only_known(alloc, target_keys(version))?;
-    let logical = target.number(Key::Logical, 32, 254)? as u8;
+    let logical = target.number(Key::Logical, FIRST_LOGICAL, LAST_LOGICAL)? as u8;
     let key = target.number_or(Key::TargetKey, 0, 255, 0)? as u8;
     let start = target.number_or(Key::Start, 0, MEMORY_END - 1, 0)?;
     let size = target.number(Key::Size, 1, 65536)?;

@@ -8,6 +8,7 @@ ghost use Rattle.sw_file.specs.Seen.{entry_view, row_view};
 
 use std::alloc::{AllocError, Global};
 use sw_text::{FileFault, Key, Section, TableEntry};
+use sw_topo::limits::{FIRST_LOGICAL, LAST_LOGICAL, MAX_PORT};
 use toml::Table;
 
 /// An entry of a routing table as it is written.
@@ -34,8 +35,8 @@ pub(crate) fn entry_of<'a>(alloc: Global, table: &'a Table) -> Result<RouteEntry
         section: Section::Document,
         table,
     };
-    let address = route.number(Key::Address, 32, 254)?;
-    let ports = route.numbers(alloc, Key::Ports, 31)?;
+    let address = route.number(Key::Address, FIRST_LOGICAL, LAST_LOGICAL)?;
+    let ports = route.numbers(alloc, Key::Ports, MAX_PORT as u8)?;
     let delete = route.flag_or_false(Key::Delete)?;
     Ok(RouteEntry {
         table,

@@ -13,7 +13,7 @@ use sw_arb::Arbitration;
 use sw_config::NetworkBuilder;
 use sw_route::{Route, RouteError, TableRoutes};
 use sw_text::{FileFault, Key, KeyFault, Section, TableEntry, TextFault, Version};
-use sw_topo::limits::MAX_SWITCHES;
+use sw_topo::limits::{FIRST_LOGICAL, LAST_LOGICAL, MAX_PORT, MAX_SWITCHES, PORTS};
 use sw_topo::{Port, PortSet};
 use toml::Table;
 
@@ -47,8 +47,8 @@ fn arbitration_at(index: usize, switch: &TableEntry) -> Result<Arbitration, File
 fn ports_at(alloc: Global, route: &TableEntry) -> Result<PortSet, FileFault>
     ensures { Gives (λ s. s) result (ports_at route.now.section (table_view route.now.table.now)) }
 {
-    let numbers = route.numbers(alloc, Key::Ports, 31)?;
-    if numbers.is_empty() || numbers.len() > 32 {
+    let numbers = route.numbers(alloc, Key::Ports, MAX_PORT as u8)?;
+    if numbers.is_empty() || numbers.len() > PORTS as usize {
         return Err(route.fault(KeyFault::OutOfRange, Key::Ports));
     }
     let mut ports = PortSet::EMPTY;
@@ -65,8 +65,8 @@ fn route_of(alloc: Global, version: Version, route: &TableEntry) -> Result<Route
     ensures valid { IfOk result IsRoute }
 {
     route.only_known(alloc, route_keys(version))?;
-    let first = route.number(Key::Address, 32, 254)?;
-    let last = route.number_or(Key::Last, first, 254, first)?;
+    let first = route.number(Key::Address, FIRST_LOGICAL, LAST_LOGICAL)?;
+    let last = route.number_or(Key::Last, first, LAST_LOGICAL, first)?;
     let ports = ports_at(alloc, route)?;
     let delete = route.flag_or_false(Key::Delete)?;
     Ok(Route {

@@ -50,7 +50,7 @@ pub fn count_of(text: &[u8]) -> Option<u16>
             return None;
         }
         value = 10 * value + u16::from(*c - b'0');
-        if value > 4096 {
+        if value > MAX_CARGO as u16 {
             return None;
         }
     }

@@ -10,6 +10,7 @@ ghost use Rattle.sw_mend.specs.Splits.{IsTargetLink, free_port_below, is_asking,
 use crate::change::TargetLink;
 use std::marker::Model;
 use sw_config::{Flow, Network};
+use sw_topo::limits::PORTS;
 use sw_topo::{Chan, PlaceEnd, Port, Topology};
 
 // Has the port no link, and is it none of the switch's own?
@@ -47,7 +48,7 @@ fn link_beside(network: &Network, node: u16, channel: Chan, end: PlaceEnd) -> Op
     match end {
         PlaceEnd::Node(_) => None,
         PlaceEnd::Switch(switch, beside) => {
-            let port = free_port(network.topology(), switch, 32)?;
+            let port = free_port(network.topology(), switch, PORTS)?;
             Some(TargetLink {
                 node,
                 switch,

@@ -24,6 +24,7 @@ pub use sw_cell::{CellId, CellState, NetFault, step_cell};
 pub use sw_char::Packet;
 pub use sw_config::Network;
 pub use sw_link::Wires;
+pub use sw_link::flow_control::ASKED_BY_FCT;
 pub use sw_machine::Step;
 pub use sw_node::PendingReply;
 pub use sw_switch::Input;

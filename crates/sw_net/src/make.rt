@@ -17,10 +17,8 @@ use sw_link::Wires;
 use sw_node::NodeCell;
 use sw_route::Routing;
 use sw_switch::SwitchCell;
+use sw_topo::limits::PORTS;
 use sw_topo::{Chan, PlaceEnd, Port};
-
-/// How many ports a switch has.
-const PORTS: u8 = 32;
 
 /// A port of a switch with no link has this capacity, which is not used.
 const NO_LINK: usize = 8;

@@ -10,6 +10,7 @@ use crate::lookup::{member_of, value_of};
 use crate::unread::text_fault;
 use std::alloc::{AllocError, Global};
 use sw_text::{Key, Section, TableEntry};
+use sw_topo::limits::{FIRST_LOGICAL, LAST_LOGICAL};
 use toml::{Table, Value};
 
 /// The text at a key of a table of the document.
@@ -84,13 +85,13 @@ pub(crate) fn number_in(table: &Table, key: Key, low: u64, high: u64) -> Option<
 pub(crate) fn range_in(route: &Table) -> Option<(u64, u64)>
     ensures { result ≡ range_in (table_view route.now) }
 {
-    let Some(first) = number_in(route, Key::Address, 32, 254) else {
+    let Some(first) = number_in(route, Key::Address, FIRST_LOGICAL, LAST_LOGICAL) else {
         return None;
     };
     let Some(value) = member_of(Some(route), Key::Last.text()) else {
         return Some((first, first));
     };
-    match number_of(value, first, 254) {
+    match number_of(value, first, LAST_LOGICAL) {
         Some(last) => Some((first, last)),
         None => None,
     }

@@ -13,6 +13,7 @@ use crate::reply_notes::add_reply;
 use std::alloc::{AllocError, Global};
 use sw_text::{Key, KeyFault, Section, TextFault};
 use sw_topo::TopoFault;
+use sw_topo::limits::MAX_PORT;
 use toml::Table;
 
 /// The most links of a node that are noted.
@@ -91,7 +92,7 @@ fn first_at(
     let Some(name) = text_in(table, key) else {
         return Ok(None);
     };
-    match number_in(table, port_key, 0, 31) {
+    match number_in(table, port_key, 0, MAX_PORT) {
         Some(port) => first_place(alloc, document, Key::Link, &Test::HasPort(name, port)),
         None => Ok(None),
     }

@@ -5,6 +5,7 @@ ghost use Rattle.sw_notes.specs.Passing.{has_number, has_text, passes};
 
 use crate::entries::{number_in, range_in, text_in};
 use sw_text::Key;
+use sw_topo::limits::MAX_PORT;
 use toml::Table;
 
 /// What is asked of an entry.
@@ -34,7 +35,7 @@ fn has_text(table: &Table, key: Key, text: &str) -> bool
 fn has_number(table: &Table, key: Key, port: u64) -> bool
     ensures { result ≡ has_number key port (table_view table.now) }
 {
-    match number_in(table, key, 0, 31) {
+    match number_in(table, key, 0, MAX_PORT) {
         Some(found) => found == port,
         None => false,
     }

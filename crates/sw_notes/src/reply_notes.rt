@@ -13,10 +13,8 @@ use crate::passing::Test;
 use crate::unread::text_fault;
 use std::alloc::{AllocError, Global};
 use sw_text::{Key, Section, TableEntry};
+use sw_topo::limits::{FIRST_LOGICAL, LAST_LOGICAL, MAX_REPLY_PATH};
 use toml::Table;
-
-/// The most numbers that a path of replies has.
-const MOST_STEPS: usize = 12;
 
 // Adds what is wrong with the path in the table of the replies.
 fn add_path(alloc: Global, reply: &Table, notes: &mut Vec<Note>) -> Result<(), AllocError>
@@ -30,7 +28,7 @@ fn add_path(alloc: Global, reply: &Table, notes: &mut Vec<Note>) -> Result<(), A
         Ok(path) => path,
         Err(fault) => return text_fault(fault),
     };
-    if path.len() > MOST_STEPS {
+    if path.len() > MAX_REPLY_PATH {
         add_note(Note::LongPath(path.len()), notes)?;
     }
     match path.as_slice() {
@@ -48,7 +46,7 @@ fn add_shape(alloc: Global, reply: Option<&Table>, notes: &mut Vec<Note>) -> Res
     };
     add_path(alloc, reply, notes)?;
     match number_in(reply, Key::Initiator, 0, 255) {
-        Some(initiator) if initiator < 32 || initiator > 254 => {
+        Some(initiator) if initiator < FIRST_LOGICAL || initiator > LAST_LOGICAL => {
             add_note(Note::NoInitiator(initiator), notes)
         }
         _ => Ok(()),

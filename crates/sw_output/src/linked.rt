@@ -5,6 +5,7 @@ ghost use Rattle.sw_output.specs.LinkedPorts.{linked_ports};
 use std::alloc::{AllocError, Global};
 use sw_config::Network;
 use sw_topo::Port;
+use sw_topo::limits::PORTS;
 
 // Those of the first so many ports that have a link.
 #[tactic(auto, unfolding(crate::specs::LinkedPorts::linked_ports))]
@@ -38,5 +39,5 @@ pub fn linked_ports(alloc: Global, network: &Network, switch: u16) -> Result<Vec
     requires { switch < length network.now.switches }
     ensures { IfOk result (λ v. v.items ≡ linked_ports network.now switch 32) }
 {
-    linked_among(alloc, network, switch, 32)
+    linked_among(alloc, network, switch, PORTS)
 }

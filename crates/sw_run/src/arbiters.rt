@@ -7,6 +7,7 @@ use std::alloc::{AllocError, Global};
 use sw_arb::Policy;
 use sw_cell::CellId;
 use sw_config::Network;
+use sw_topo::limits::PORTS;
 
 /// The arbiters of the cell, which has some if it is a switch: by port, one for each output.
 pub(crate) fn new_arbiters(
@@ -21,8 +22,8 @@ pub(crate) fn new_arbiters(
         return Ok(Vec::new(alloc));
     };
     let linked = network.topology().linked(w);
-    let mut all = Vec::with_capacity(alloc, 32)?;
-    for _number in 0..32usize {
+    let mut all = Vec::with_capacity(alloc, PORTS as usize)?;
+    for _number in 0..PORTS as usize {
         all.push(Policy::new(network.arbitration(w), linked))?;
     }
     Ok(all)

@@ -28,6 +28,7 @@ pub use schedule_entry::ScheduleEntry;
 pub use sw_load::MAX_CARGO;
 pub use sw_machine::Step;
 pub use sw_net::{
-    CellId, Input, Net, NetFault, NodePart, Part, PortPart, SwitchRoutes, declared_net,
+    ASKED_BY_FCT, CellId, Input, Net, NetFault, NodePart, Part, PortPart, SwitchRoutes,
+    declared_net,
 };
 pub use writing::{add_entry, write_steps};

@@ -7,6 +7,7 @@ use std::str;
 use sw_config::Network;
 use sw_text::number;
 use sw_topo::Chan;
+use sw_topo::limits::MAX_NUMBER;
 
 /// How often a line of a schedule may have its step.
 pub const MAX_COUNT: u32 = 100_000;
@@ -22,7 +23,7 @@ pub(crate) fn is_word(word: &[u8], other: &[u8]) -> bool
 pub(crate) fn channel_of(network: &Network, word: &[u8]) -> Option<Chan>
     ensures { result ≡ channel_of network.now word.now }
 {
-    let Some(number) = number(word, 65535) else {
+    let Some(number) = number(word, MAX_NUMBER) else {
         return None;
     };
     let number = number as u16;

@@ -11,9 +11,7 @@ use sw_arb::Arbiter;
 use sw_link::{RxEnd, TxEnd};
 use sw_route::Routing;
 use sw_topo::PortSet;
-
-/// How many ports a switch has.
-const PORTS: usize = 32;
+use sw_topo::limits::PORTS;
 
 fn no_credits(alloc: Global, ports: usize) -> Result<Vec<TxEnd>, AllocError>
     ensures { IfOk result (λ ends. ends.items ≡ replicate ports 0) }
@@ -46,8 +44,8 @@ fn new_ports(
         × (ports.1.items ≡ replicate 32 Input.Idle)
         × (ports.2.items ≡ map new_end capacities.now)) }
 {
-    let credits = no_credits(alloc, PORTS)?;
-    let inputs = vec![in alloc; Input::Idle; PORTS]?;
+    let credits = no_credits(alloc, PORTS as usize)?;
+    let inputs = vec![in alloc; Input::Idle; PORTS as usize]?;
     Ok((credits, inputs, empty_ends(alloc, capacities)?))
 }
 

@@ -10,10 +10,8 @@ use sw_flow::Place;
 use sw_machine::Step;
 use sw_schedule::{MAX_STEPS, Net, NetFault, SwitchRoutes, add_entry, declared_net};
 use sw_search::Tangle;
+use sw_topo::limits::MAX_CHANNELS;
 use sw_topo::{Chan, LinkEnd};
-
-/// A network has at most so many channels.
-const MOST_CHANNELS: u16 = 2048;
 
 /// How often all link ends may make a step after all packets were placed, at most.
 const MOST_SWEEPS: u32 = 20_000;
@@ -154,7 +152,7 @@ impl ScheduledNet<'_> {
         let channels = self.net.network().channels();
         for _ in 0..MOST_SWEEPS {
             self.moved = false;
-            let mut number = random.number(MOST_CHANNELS);
+            let mut number = random.number(MAX_CHANNELS as u16);
             for _ in 0..channels {
                 if number >= channels {
                     number = 0;

@@ -6,9 +6,7 @@ use std::alloc::{AllocError, Global};
 use sw_config::{Flow, Network};
 use sw_flow::{Place, follows, way_to};
 use sw_topo::Chan;
-
-/// A flow has at most so many address bytes.
-const MOST_DELETED: u8 = 32;
+use sw_topo::limits::MAX_ADDRESS;
 
 /// Does the flow go on from the one channel to the other, where so many address bytes are deleted on the one?
 fn goes_on(network: &Network, flow: &Flow, from: Chan, deleted: u8, to: Chan) -> bool {
@@ -39,7 +37,7 @@ pub(crate) fn way_onto(
 ) -> Result<bool, AllocError>
     requires { flow < length (all_flows network.now) }
 {
-    for deleted in 0..MOST_DELETED + 1 {
+    for deleted in 0..MAX_ADDRESS + 1 {
         if let Some(to) = next {
             if !goes_on(network, network.flow(flow), channel, deleted, to) {
                 continue;

@@ -2,20 +2,20 @@
 
 use sw_config::Network;
 use sw_flow::Place;
-use sw_schedule::MAX_CARGO;
+use sw_schedule::{ASKED_BY_FCT, MAX_CARGO};
 
 /// How many characters the channel of the place holds, in whole tokens of flow control (ECSS-E-ST-50-12C, data link layer: flow
 /// control).
 fn room(network: &Network, place: Place) -> usize {
     if place.channel.number() >= network.channels() {
-        return 8;
+        return ASKED_BY_FCT as usize;
     }
-    usize::from(network.capacity(place.channel) / 8) * 8
+    usize::from(network.capacity(place.channel) / ASKED_BY_FCT as u16) * ASKED_BY_FCT as usize
 }
 
 /// How much cargo fills all the way and more, as far as one packet can.
 pub(crate) fn long_cargo(network: &Network, way: &[Place]) -> usize {
-    let mut all: usize = 8;
+    let mut all = ASKED_BY_FCT as usize;
     for place in way {
         all = all.saturating_add(room(network, *place));
     }

@@ -11,4 +11,4 @@ loop-number-preserved c =
 pub returns : goal.returns
 returns c =
     ports_are c.args.route.now.section (table_view c.args.route.now.table.now) c.in_ok-numbers.numbers.items c.deref-number-items.result.now c.loop-number.number-index c.in_ok-numbers.numbers.len c.len.result c.loop-number.ports c.is_empty.result
-    c.in_ok-numbers.ensures.gives c.in_ok-numbers.numbers.ok.0 c.is_empty.ensures c.if-is_empty.false (c.len.ensures ∙ c.in_ok-numbers.numbers.ok.0) c.if-len-gt32.false c.deref-number-items.ensures.value c.loop-number-test.false c.loop-number.invariant
+    c.in_ok-numbers.ensures.gives c.in_ok-numbers.numbers.ok.0 c.is_empty.ensures c.if-is_empty.false (c.len.ensures ∙ c.in_ok-numbers.numbers.ok.0) c.if-len.false c.deref-number-items.ensures.value c.loop-number-test.false c.loop-number.invariant
