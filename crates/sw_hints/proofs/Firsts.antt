@@ -2,8 +2,8 @@
 use Rattle.std.proofs.Common.{◌≡◌, ◌∙◌, ◌<◌, ◌≤◌, ◌+◌, ◌++◌, ℕ, zero, suc, Bool, true, false, List, [], ◌∷◌, Option, Some, None, ap, arith, cond, find, get_or, length, map, sym, take}
 use Rattle.std.proofs.lemmas.List.{take_all, take_more}
 use Rattle.std.specs.Str.{str_eq_ignore_ascii_case}
+use Rattle.sw_topo.specs.Checked.{first_of}
 use Rattle.sw_hints.specs.Nearest.{is_near, like, nearest}
-use Rattle.sw_notes.specs.Notes.{or_else}
 
 step : {A : Type 0} (b : Bool) (x before all found : Option A) → cond b x before ≡ None → (x ≡ None → ⊥) → (before ≡ None → all ≡ found) → cond b x all ≡ found
 step true x before all found none some more = absurd (some none)
@@ -39,9 +39,9 @@ none_there p f ts i past none = ap (λ l. find p (map f l)) (sym (take_all i ts 
 pub near_first : (name : List ℕ) (texts : List (List ℕ)) (x : List ℕ) → find (λ t. str_eq_ignore_ascii_case t name) texts ≡ None
     → Some x ≡ find (is_near name 1) texts → Some x ≡ like name texts
 near_first name texts x none one =
-    sym (ap (λ o. or_else o (nearest name texts)) none ∙ ap (λ o. or_else o (find (is_near name 2) texts)) (sym one))
+    sym (ap (λ o. first_of o (nearest name texts)) none ∙ ap (λ o. first_of o (find (is_near name 2) texts)) (sym one))
 
 pub near_second : (name : List ℕ) (texts : List (List ℕ)) (found : Option (List ℕ)) → find (λ t. str_eq_ignore_ascii_case t name) texts ≡ None
     → None ≡ find (is_near name 1) texts → found ≡ find (is_near name 2) texts → found ≡ like name texts
 near_second name texts found none one two =
-    two ∙ sym (ap (λ o. or_else o (nearest name texts)) none ∙ ap (λ o. or_else o (find (is_near name 2) texts)) (sym one))
+    two ∙ sym (ap (λ o. first_of o (nearest name texts)) none ∙ ap (λ o. first_of o (find (is_near name 2) texts)) (sym one))

@@ -1,6 +1,7 @@
 -- What there is to note of a fault (this project's choice).
 use Rattle.std.specs.Prelude.{ℕ, List, [], ◌∷◌, Option, Some, None, if◌then◌else◌, map, nat_lt, option_and_then, option_map, option_to_list, take}
 use Rattle.toml.specs.Data.{Members}
+use Rattle.sw_topo.specs.Checked.{first_of}
 use Rattle.sw_topo.specs.declared.fault.TopoFault.{TopoFault}
 use Rattle.sw_topo.specs.declared.fault.TopoFault.TheVariants.{TooMany, PortTaken, NodeLinks, PortUnlinked}
 use Rattle.sw_text.specs.declared.keys.Key.{Key as TableKey}
@@ -18,11 +19,6 @@ use Rattle.sw_notes.specs.Finding.{first_place, places_of}
 use Rattle.sw_notes.specs.Passing.{has_end, is_at, overlaps}
 use Rattle.sw_notes.specs.ReplyNotes.{named, reply_notes}
 
--- the first, or where there is none the second
-abbrev pub or_else : {A : Type 0} → Option A → Option A → Option A
-or_else (Some x) other = Some x
-or_else None other = other
-
 -- an entry of the nodes, the switches or the flows, by its number
 abbrev pub entry_in : TableKey → ℕ → Section
 entry_in key.Switch = section.Switch
@@ -32,7 +28,7 @@ entry_in _ = section.Node
 -- the first entry of the name, of all those that share one set of names with this one: nodes and switches share one, flows have their own
 abbrev pub holder : Section → List ℕ → Members → Option Section
 holder (section.Node i) name document = option_map section.Node (named key.Node name document)
-holder (section.Switch i) name document = or_else (option_map section.Node (named key.Node name document)) (option_map section.Switch (named key.Switch name document))
+holder (section.Switch i) name document = first_of (option_map section.Node (named key.Node name document)) (option_map section.Switch (named key.Switch name document))
 holder (section.Flow i) name document = option_map section.Flow (named key.Flow name document)
 holder _ name document = None
 
@@ -60,7 +56,7 @@ earlier before (Some place) = if nat_lt place before then Some place else None
 -- this link, by its end `a`.
 abbrev pub port_note : ℕ → Members → Option Note
 port_note link document =
-    or_else (option_map (λ other. HasPort other key.A) (earlier link (first_at key.A key.APort link document)))
+    first_of (option_map (λ other. HasPort other key.A) (earlier link (first_at key.A key.APort link document)))
     (option_map (λ other. HasPort other key.B) (first_at key.B key.BPort link document))
 
 -- the first and the last address of an entry of a routing table
