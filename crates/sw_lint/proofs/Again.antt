@@ -17,7 +17,8 @@ use Rattle.sw_flow.proofs.Listed.{Contains-cases, Contains-from_map, Contains-he
 use Rattle.sw_lint.specs.Alike.{IsLikeLast}
 use Rattle.sw_lint.specs.FlowPlaces.{FlowPlace, AreFlowPlaces, places_of_flow}
 use Rattle.sw_lint.specs.Lints.{asks_on, goes_elsewhere}
-use Rattle.sw_lint.specs.Marks.{AreNoted, MarkLists, arrival_key, asking_key, end_key, in_row, is_marked, is_other, led_key, marked, no_places, note_at, noted, other_key, start_key, switch_at, with_place}
+use Rattle.sw_lint.specs.Marks.{AreNoted, MarkLists, arrival_key, asking_key, end_key, in_row, is_other, led_key, marked, no_places, note_at, noted, other_key, start_key, switch_at, with_place}
+use Rattle.sw_graph.specs.Rounds.{is_marked}
 use Rattle.sw_lint.specs.declared.asking.Asking.{Asking}
 use Rattle.sw_lint.proofs.Ranges.{take_one_more}
 use Rattle.sw_lint.proofs.Tests.{any_passes}

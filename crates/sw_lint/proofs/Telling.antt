@@ -20,7 +20,8 @@ use Rattle.sw_lint.specs.declared.lint.Lint.{Lint}
 use Rattle.sw_lint.specs.declared.lint.Lint.TheVariants.{LeadsBack, NoFlows, UnusedEntry, UnusedNode, UnusedSwitch, UnusedTarget}
 use Rattle.sw_lint.specs.FlowPlaces.{FlowPlace, AreFlowPlaces}
 use Rattle.sw_lint.specs.Lints.{AreLints, addresses, asks_on, back_by, by_entries, comes_by, comes_to, doubtful, first_by, first_pair, is_group, is_matched, is_used_entry, is_used_switch, leads_back, linked, one_linked_port, opposed, starts_at, told_of, unused, unused_entries, unused_entry, unused_node, unused_switch, unused_target}
-use Rattle.sw_lint.specs.Marks.{AreFound, MarkLists, arrival_key, back_at, doubtful_by, end_key, first_led, led_key, no_places, start_key, with_place, is_marked, is_met_by, is_used_by, leads_back_by, nodes_of, note_at, opposed_by, pair_by, pair_of, unused_by, unused_entry_by, unused_node_by, unused_switch_by, unused_target_by}
+use Rattle.sw_lint.specs.Marks.{AreFound, MarkLists, arrival_key, back_at, doubtful_by, end_key, first_led, led_key, no_places, start_key, with_place, is_met_by, is_used_by, leads_back_by, nodes_of, note_at, opposed_by, pair_by, pair_of, unused_by, unused_entry_by, unused_node_by, unused_switch_by, unused_target_by}
+use Rattle.sw_graph.specs.Rounds.{is_marked}
 use Rattle.sw_lint.proofs.Keys.{arrives_key, comes_key, comes_not, ends_key, leads, matched, starts_key}
 use Rattle.sw_lint.proofs.Noting.{AreMarks, asker, marks_of, no_flow_places, nodes_noted, number_of}
 use Rattle.sw_lint.proofs.Pairs.{pair_told}

@@ -1,6 +1,6 @@
 use Rattle.std.proofs.Common.{sym, ◌∙◌, ap, arith}
 use Rattle.std.specs.List.{list_any, range_with_len}
-use Rattle.sw_lint.specs.Marks.{is_marked}
+use Rattle.sw_graph.specs.Rounds.{is_marked}
 use Rattle.sw_lint.proofs.Ranges.{any_here, none_here}
 use Rattle.sw_lint.proofs.tables.is_any_marked.Goals as goal
 

@@ -1,6 +1,6 @@
 use Rattle.std.proofs.Common.{◌≡◌, false}
 use Rattle.std.specs.List.{list_any, range_with_len}
-use Rattle.sw_lint.specs.Marks.{is_marked}
+use Rattle.sw_graph.specs.Rounds.{is_marked}
 use Rattle.sw_lint.proofs.tables.is_any_marked.Given as goal
 
 abbrev pub invariant-loop-step : goal.invariant-loop-step
