@@ -31,7 +31,8 @@ use Rattle.sw_machine.proofs.Topology.{into_ends, out_starts}
 use Rattle.sw_graph.specs.Rows.{IsGraph, Leads, row}
 use Rattle.sw_graph.proofs.Listed.{row_member, row_read}
 use Rattle.sw_cycle.specs.Named.{AreNamed, IsNamed}
-use Rattle.sw_cycle.specs.Answering.{AreMarked, IsAnswered, is_marked}
+use Rattle.sw_cycle.specs.Answering.{AreMarked, IsAnswered}
+use Rattle.sw_graph.specs.Rounds.{is_marked}
 use Rattle.sw_cycle.specs.Rows.{AreRows, row_at_end, row_of}
 use Rattle.sw_topo.proofs.Lists.{none_in}
 use Rattle.sw_cycle.proofs.Between.{has_reply}

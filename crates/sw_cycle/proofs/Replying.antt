@@ -1,12 +1,14 @@
 -- The marks of nodes that answer, one flow more at a time.
-use Rattle.std.proofs.Common.{◌≡◌, ℕ, ◌+◌, ◌<◌, ◌≤◌, Bool, true, false, List, length, replicate, set, Option, Some, None, refl, sym, ap, ◌∙◌, subst, inl, inr, arith, get_or-set_same, get_or-set_other, length-set}
+use Rattle.std.proofs.Common.{◌≡◌, ℕ, ◌+◌, ◌<◌, Bool, true, false, List, length, replicate, set, Option, Some, None, refl, sym, ap, ◌∙◌, subst, inl, inr, arith, get_or-set_same, get_or-set_other, length-set}
 use Rattle.std.specs.Prelude.{IsSome, option_map, slice_get}
 use Rattle.std.specs.Option.{is_some}
-use Rattle.std.proofs.lemmas.Bool.{cases_eq, cases_lt, false≢true}
-use Rattle.std.proofs.lemmas.List.{get_or-replicate, length-replicate, get_or_past}
+use Rattle.std.proofs.lemmas.Bool.{cases_eq, false≢true}
+use Rattle.std.proofs.lemmas.List.{length-replicate}
 use Rattle.std.proofs.lemmas.Option.{same_Some}
 use Rattle.sw_config.specs.Entries.{FlowEntry, ReplyEntry, Declaration, all_flows}
-use Rattle.sw_cycle.specs.Answering.{AreMarked, IsAnswered, is_marked}
+use Rattle.sw_cycle.specs.Answering.{AreMarked, IsAnswered}
+use Rattle.sw_graph.specs.Rounds.{is_marked}
+use Rattle.sw_graph.proofs.Backs.{none_marked}
 
 -- whether a flow has a reply, as it is asked
 pub replied_where : {X : Type 0} (view : X → ReplyEntry) (o : Option X) (reply : Option ReplyEntry) (told : Bool) → option_map view o ≡ reply → told ≡ is_some o → told ≡ true → IsSome reply
@@ -17,17 +19,11 @@ pub unreplied_where : {X : Type 0} (view : X → ReplyEntry) (o : Option X) (rep
 unreplied_where view None reply told is asked no_told = λ some. false≢true (subst (λ (r : Option ReplyEntry). IsSome r) (sym is) some)
 unreplied_where view (Some x) reply told is asked no_told = λ some. false≢true (sym no_told ∙ asked)
 
-pub unmarked : (n t : ℕ) → is_marked (replicate n false) t ≡ false
-unmarked n t = elim (cases_lt t n) [
-  | inl lt ↦ get_or-replicate n t false false lt
-  | inr le ↦ let past : length (replicate n false) ≤ t = omega (arith, le, length-replicate n false) in get_or_past (replicate n false) t false past
-]
-
 pub none_answered : (d : Declaration) (n : ℕ) (marks : List Bool) → marks ≡ replicate n false → n ≡ length d.nodes → AreMarked d 0 marks
 none_answered d n marks blank long = record {
   size = ap length blank ∙ length-replicate n false ∙ long;
   nodes = λ t. (
-    λ is. absurd (false≢true (sym (ap (λ (l : List Bool). is_marked l t) blank ∙ unmarked n t) ∙ is)),
+    λ is. absurd (false≢true (sym (ap (λ (l : List Bool). is_marked l t) blank ∙ none_marked n t) ∙ is)),
     λ h. let lt = h.below in absurd (omega arith),
   );
 }

@@ -19,7 +19,7 @@ use Rattle.sw_flow.specs.Places.{ends_of, end_of}
 use Rattle.sw_flow.proofs.Listed.{Contains-from_filter_map}
 use Rattle.sw_graph.specs.Rows.{row}
 use Rattle.sw_graph.proofs.Listed.{row_read}
-use Rattle.sw_cycle.specs.Answering.{is_marked}
+use Rattle.sw_graph.specs.Rounds.{is_marked}
 use Rattle.sw_cycle.specs.Rows.{AreOnce, AreRows, row_at_end, row_of}
 
 -- ---- one more row

@@ -1,5 +1,6 @@
 -- The nodes that answer.
-use Rattle.std.specs.Prelude.{◌≡◌, ℕ, ◌<◌, ◌↔◌, Bool, true, false, List, length, slice_get, slice_index_or, IsSome, Some}
+use Rattle.std.specs.Prelude.{◌≡◌, ℕ, ◌<◌, ◌↔◌, Bool, true, false, List, length, slice_get, IsSome, Some}
+use Rattle.sw_graph.specs.Rounds.{is_marked}
 use Rattle.sw_config.specs.Entries.{FlowEntry, Declaration, all_flows}
 
 -- at node t one of the first `count` flows ends, and its packets are answered
@@ -10,9 +11,6 @@ pub record IsAnswered (d : Declaration) (count t : ℕ) : Type 0 where
   pub numbered : slice_get (all_flows d) number ≡ Some flow
   pub replied : IsSome flow.reply
   pub ends_there : flow.to ≡ t
-
-abbrev pub is_marked : List Bool → ℕ → Bool
-is_marked marks t = slice_index_or marks t false
 
 -- a mark for each node: set exactly where packets are answered
 pub record AreMarked (d : Declaration) (count : ℕ) (marks : List Bool) : Type 0 where

@@ -9,7 +9,7 @@ use Rattle.sw_config.specs.Entries.{Declaration}
 use Rattle.sw_flow.specs.Places.{ends_of, end_of}
 use Rattle.sw_flow.specs.Followers.{outputs_of}
 use Rattle.sw_graph.specs.Rows.{row}
-use Rattle.sw_cycle.specs.Answering.{is_marked}
+use Rattle.sw_graph.specs.Rounds.{is_marked}
 
 -- From a channel that ends at a switch: to the channels that start at the ports of its set. From one that ends at a node: to the one
 -- that starts there, if the node is marked.

@@ -7,10 +7,10 @@ use Rattle.std.proofs.lemmas.Bool.{cases_eq, cases_Bool, eq-eqb, eqb-true, false
 use Rattle.std.proofs.lemmas.List.{length-replicate}
 use Rattle.std.proofs.lemmas.List.FromFn.{get_or-range_with_len, length-range_with_len}
 use Rattle.std.proofs.lemmas.List.Elements.{All-contains, All-contains_itself, All-push, Contains-append_left, Contains-append_right, Contains-get_or, Contains-push, Contains-push_cases}
-use Rattle.sw_graph.specs.Rounds.{AllDone, AreFree, AreRounds, AreTaken, IsPeeled, is_done}
+use Rattle.sw_graph.specs.Rounds.{AllDone, AreFree, AreRounds, AreTaken, IsPeeled, is_marked}
 use Rattle.sw_graph.specs.Rows.{row, IsGraph, Precedes}
 use Rattle.sw_graph.specs.Walking.{IsLeastLeft, IsLeastOf, lesser}
-use Rattle.sw_graph.proofs.Backs.{none_done}
+use Rattle.sw_graph.proofs.Backs.{none_marked}
 
 pub not_listed : (d : ℕ) → Contains [] d → ⊥
 not_listed d h = let lt = h.1 in omega arith
@@ -37,9 +37,9 @@ is_listed (x ∷ xs) d = elim (cases_eq x d) [
 ]
 
 -- all are done, or one is not
-pub all_or_one : (done : List Bool) (xs : List ℕ) → AllDone done xs ⊎ ((c : ℕ) × Contains xs c × (is_done done c ≡ false))
+pub all_or_one : (done : List Bool) (xs : List ℕ) → AllDone done xs ⊎ ((c : ℕ) × Contains xs c × (is_marked done c ≡ false))
 all_or_one done [] = inl (λ k d lt. absurd (omega arith))
-all_or_one done (x ∷ xs) = elim (cases_Bool (is_done done x)) [
+all_or_one done (x ∷ xs) = elim (cases_Bool (is_marked done x)) [
   | inl t ↦ elim (all_or_one done xs) [
     | inl all ↦ inl (both t all)
     | inr r ↦ inr (r.0, later_listed x xs r.0 r.1, r.2)
@@ -47,24 +47,24 @@ all_or_one done (x ∷ xs) = elim (cases_Bool (is_done done x)) [
   | inr f ↦ inr (x, first_listed x xs, f)
 ]
   where
-    both : is_done done x ≡ true → AllDone done xs → AllDone done (x ∷ xs)
+    both : is_marked done x ≡ true → AllDone done xs → AllDone done (x ∷ xs)
     both t all zero d lt = t
     both t all (suc k) d lt = all k d (omega arith)
 
 -- the least so far
-pub least_kept : (xs : List ℕ) (done : List Bool) (e : ℕ) (least : Option ℕ) → IsLeastOf xs done least → is_done done e ≡ true → IsLeastOf (xs ++ e ∷ []) done least
-least_kept xs done e None h t = All-push (λ c. is_done done c ≡ true) xs e h t
+pub least_kept : (xs : List ℕ) (done : List Bool) (e : ℕ) (least : Option ℕ) → IsLeastOf xs done least → is_marked done e ≡ true → IsLeastOf (xs ++ e ∷ []) done least
+least_kept xs done e None h t = All-push (λ c. is_marked done c ≡ true) xs e h t
 least_kept xs done e (Some c) h t = record {
   listed = Contains-append_left xs (e ∷ []) c h.listed;
   left = h.left;
-  least = λ d k f. elim (Contains-push_cases xs e d k) [ inl old ↦ h.least d old f | inr same ↦ absurd (false≢true (sym f ∙ ap (is_done done) (sym same) ∙ t)) ];
+  least = λ d k f. elim (Contains-push_cases xs e d k) [ inl old ↦ h.least d old f | inr same ↦ absurd (false≢true (sym f ∙ ap (is_marked done) (sym same) ∙ t)) ];
 }
 
-pub least_more : (xs : List ℕ) (done : List Bool) (e : ℕ) (least : Option ℕ) → IsLeastOf xs done least → is_done done e ≡ false → IsLeastOf (xs ++ e ∷ []) done (Some (lesser least e))
+pub least_more : (xs : List ℕ) (done : List Bool) (e : ℕ) (least : Option ℕ) → IsLeastOf xs done least → is_marked done e ≡ false → IsLeastOf (xs ++ e ∷ []) done (Some (lesser least e))
 least_more xs done e None h f = record {
   listed = Contains-push xs e;
   left = f;
-  least = λ d k g. elim (Contains-push_cases xs e d k) [ inl old ↦ absurd (false≢true (sym g ∙ All-contains (λ c. is_done done c ≡ true) xs d h old)) | inr same ↦ omega arith ];
+  least = λ d k g. elim (Contains-push_cases xs e d k) [ inl old ↦ absurd (false≢true (sym g ∙ All-contains (λ c. is_marked done c ≡ true) xs d h old)) | inr same ↦ omega arith ];
 }
 least_more xs done e (Some c) h f = elim (cases_lt e c) [
   | inl less ↦
@@ -86,8 +86,8 @@ least_more xs done e (Some c) h f = elim (cases_lt e c) [
 ]
 
 -- where one is left, there is a least one
-pub left_some : (xs : List ℕ) (done : List Bool) (least : Option ℕ) (d : ℕ) → IsLeastOf xs done least → Contains xs d → is_done done d ≡ false → IsSome least
-left_some xs done None d h k f = absurd (false≢true (sym f ∙ All-contains (λ c. is_done done c ≡ true) xs d h k))
+pub left_some : (xs : List ℕ) (done : List Bool) (least : Option ℕ) (d : ℕ) → IsLeastOf xs done least → Contains xs d → is_marked done d ≡ false → IsSome least
+left_some xs done None d h k f = absurd (false≢true (sym f ∙ All-contains (λ c. is_marked done c ≡ true) xs d h k))
 left_some xs done (Some c) d h k f = refl
 
 -- what a filter keeps
@@ -146,10 +146,10 @@ rounds_none g =
       marked = length-replicate n false;
       low = omega arith;
       listed = λ d lt e. (d, omega arith, get_or-range_with_len 0 n d d lt ∙ omega arith);
-      undone = λ d h. let lt = h.1 in let at = get_or-range_with_len 0 n h.0 d (omega arith) in let here = h.2 in (omega arith, none_done n d);
-      rising = λ c d e h. absurd (false≢true (sym (none_done n d) ∙ e));
-      reached = λ d v e h. absurd (false≢true (sym (none_done n d) ∙ e));
-      below = λ d e. absurd (false≢true (sym (none_done n d) ∙ e));
+      undone = λ d h. let lt = h.1 in let at = get_or-range_with_len 0 n h.0 d (omega arith) in let here = h.2 in (omega arith, none_marked n d);
+      rising = λ c d e h. absurd (false≢true (sym (none_marked n d) ∙ e));
+      reached = λ d v e h. absurd (false≢true (sym (none_marked n d) ∙ e));
+      below = λ d e. absurd (false≢true (sym (none_marked n d) ∙ e));
       late = λ d v h e. absurd (omega arith);
     }
 
@@ -171,27 +171,27 @@ round_fits g round levels done left free r f some few =
     omega arith
 
 module _ (g : List (Vec ℕ Global)) (ok : IsGraph g) (round : ℕ) (levels : List ℕ) (done : List Bool) (left free : List ℕ) (r : AreRounds g round levels done left) (f : AreFree g done left free) where
-  free_left : (c : ℕ) → Contains free c → is_done done c ≡ false
+  free_left : (c : ℕ) → Contains free c → is_marked done c ≡ false
   free_left c h = (r.undone c ((f c).0 h).0).1
 
-  done_not_free : (c : ℕ) → is_done done c ≡ true → Contains free c → ⊥
+  done_not_free : (c : ℕ) → is_marked done c ≡ true → Contains free c → ⊥
   done_not_free c t h = false≢true (sym (free_left c h) ∙ t)
 
   -- of a member that is left and not free a predecessor is left
-  held_back : (d : ℕ) → Contains left d → (Contains free d → ⊥) → (c : ℕ) × Precedes g c d × (is_done done c ≡ false)
+  held_back : (d : ℕ) → Contains left d → (Contains free d → ⊥) → (c : ℕ) × Precedes g c d × (is_marked done c ≡ false)
   held_back d h never = elim (all_or_one done (row g d)) [ inl all ↦ absurd (never ((f d).1 (h, all))) | inr k ↦ k ]
 
   module _ (levels2 : List ℕ) (done2 : List Bool) (t : AreTaken round free levels levels2 done done2) where
-    same : (c : ℕ) → is_done done c ≡ true → (slice_index levels2 c ≡ slice_index levels c) × (is_done done2 c ≡ true)
+    same : (c : ℕ) → is_marked done c ≡ true → (slice_index levels2 c ≡ slice_index levels c) × (is_marked done2 c ≡ true)
     same c e = let k = t.others c (done_not_free c e) in (k.0, k.1 ∙ e)
 
-    done_cases : (d : ℕ) → is_done done2 d ≡ true → Contains free d ⊎ (is_done done d ≡ true)
+    done_cases : (d : ℕ) → is_marked done2 d ≡ true → Contains free d ⊎ (is_marked done d ≡ true)
     done_cases d e = elim (is_listed free d) [ inl h ↦ inl h | inr never ↦ inr (sym (t.others d never).1 ∙ e) ]
 
-    free_preceded : (c d : ℕ) → Contains free d → Precedes g c d → is_done done c ≡ true
-    free_preceded c d h k = All-contains (λ c. is_done done c ≡ true) (row g d) c ((f d).0 h).1 k
+    free_preceded : (c d : ℕ) → Contains free d → Precedes g c d → is_marked done c ≡ true
+    free_preceded c d h k = All-contains (λ c. is_marked done c ≡ true) (row g d) c ((f d).0 h).1 k
 
-    rising_more : (c d : ℕ) → is_done done2 d ≡ true → Precedes g c d → (is_done done2 c ≡ true) × (slice_index levels2 c < slice_index levels2 d)
+    rising_more : (c d : ℕ) → is_marked done2 d ≡ true → Precedes g c d → (is_marked done2 c ≡ true) × (slice_index levels2 c < slice_index levels2 d)
     rising_more c d e k = elim (done_cases d e) [
       | inl h ↦
           let before = free_preceded c d h k in
@@ -206,7 +206,7 @@ module _ (g : List (Vec ℕ Global)) (ok : IsGraph g) (round : ℕ) (levels : Li
           (s.1, (let x = s.0 in let y = u.0 in let z = a.1 in omega arith))
     ]
 
-    reached_more : (d v : ℕ) → is_done done2 d ≡ true → slice_index levels2 d ≡ suc v → (c : ℕ) × (is_done done2 c ≡ true) × Precedes g c d × (slice_index levels2 c ≡ v)
+    reached_more : (d v : ℕ) → is_marked done2 d ≡ true → slice_index levels2 d ≡ suc v → (c : ℕ) × (is_marked done2 c ≡ true) × Precedes g c d × (slice_index levels2 c ≡ v)
     reached_more d v e lv = elim (done_cases d e) [
       | inl h ↦
           let here : round ≡ suc v = sym (t.taken d h).0 ∙ lv in
@@ -222,24 +222,24 @@ module _ (g : List (Vec ℕ Global)) (ok : IsGraph g) (round : ℕ) (levels : Li
           (k.0, s.1, k.2, s.0 ∙ k.3)
     ]
 
-    below_more : (d : ℕ) → is_done done2 d ≡ true → slice_index levels2 d < round + 1
+    below_more : (d : ℕ) → is_marked done2 d ≡ true → slice_index levels2 d < round + 1
     below_more d e = elim (done_cases d e) [
       | inl h ↦ let here = (t.taken d h).0 in omega arith
       | inr old ↦ let low = r.below d old in let s = (same d old).0 in omega arith
     ]
 
     abbrev stays : ℕ → Bool
-    stays c = not (is_done done2 c)
+    stays c = not (is_marked done2 c)
 
-    undone_before : (d : ℕ) → is_done done2 d ≡ false → (Contains free d → ⊥) × (is_done done d ≡ false)
+    undone_before : (d : ℕ) → is_marked done2 d ≡ false → (Contains free d → ⊥) × (is_marked done d ≡ false)
     undone_before d e =
         let never : Contains free d → ⊥ = λ h. false≢true (sym e ∙ (t.taken d h).1) in
         (never, sym (t.others d never).1 ∙ e)
 
-    left_more : (d : ℕ) → Contains (filter stays left) d → Contains left d × (is_done done2 d ≡ false)
-    left_more d h = let k = kept_from stays left d h in (k.0, undone_kept (is_done done2 d) k.1)
+    left_more : (d : ℕ) → Contains (filter stays left) d → Contains left d × (is_marked done2 d ≡ false)
+    left_more d h = let k = kept_from stays left d h in (k.0, undone_kept (is_marked done2 d) k.1)
 
-    late_more : (d v : ℕ) → Contains (filter stays left) d → round + 1 ≡ suc v → (c : ℕ) × Precedes g c d × ((is_done done2 c ≡ false) ⊎ ((is_done done2 c ≡ true) × (slice_index levels2 c ≡ v)))
+    late_more : (d v : ℕ) → Contains (filter stays left) d → round + 1 ≡ suc v → (c : ℕ) × Precedes g c d × ((is_marked done2 c ≡ false) ⊎ ((is_marked done2 c ≡ true) × (slice_index levels2 c ≡ v)))
     late_more d v h e =
         let now = left_more d h in
         let k = held_back d now.0 (undone_before d now.1).0 in

@@ -8,7 +8,7 @@ use Rattle.std.proofs.lemmas.List.Elements.{Contains-append_left, Contains-appen
 use Rattle.std.proofs.Math.Seq.{take-append_seam}
 use Rattle.sw_graph.specs.Found.{AreKept}
 use Rattle.sw_graph.specs.Reversing.{AreAdded, AreBegun}
-use Rattle.sw_graph.specs.Rounds.{AllDone, AreFree, AreRounds, AreTaken, is_done}
+use Rattle.sw_graph.specs.Rounds.{AllDone, AreFree, AreRounds, AreTaken, is_marked}
 use Rattle.sw_graph.specs.Rows.{row, IsGraph, IsReversed, Leads}
 use Rattle.sw_graph.proofs.Listed.{row_at, row_member}
 use Rattle.sw_graph.proofs.Peels.{left_falls, rounds_more, later_listed, listed_cases, not_listed}
@@ -16,7 +16,7 @@ use Rattle.sw_graph.proofs.Peels.{left_falls, rounds_more, later_listed, listed_
 pub taken_more : (round e : ℕ) (xs levels levels2 : List ℕ) (done done2 : List Bool) → AreTaken round xs levels levels2 done done2 → e < length levels2 → e < length done2 → AreTaken round (xs ++ e ∷ []) levels (set levels2 e round) done (set done2 e true)
 taken_more round e xs levels levels2 done done2 t inside marked = record {
   taken = λ c h. elim (cases_eq c e) [
-    | inl same ↦ (ap (slice_index (set levels2 e round)) same ∙ get_or-set_same levels2 e round 0 inside, ap (is_done (set done2 e true)) same ∙ get_or-set_same done2 e true false marked)
+    | inl same ↦ (ap (slice_index (set levels2 e round)) same ∙ get_or-set_same levels2 e round 0 inside, ap (is_marked (set done2 e true)) same ∙ get_or-set_same done2 e true false marked)
     | inr ne ↦ elim (Contains-push_cases xs e c h) [
       | inl old ↦ let k = t.taken c old in (get_or-set_other levels2 e c round 0 ne ∙ k.0, get_or-set_other done2 e c true false ne ∙ k.1)
       | inr same ↦ absurd (ne (sym same))
@@ -181,7 +181,7 @@ whole len new old a b = let e : len ≡ length new = omega arith in ap (λ k. ta
 
 -- a round as the code makes it
 pub round_step : (g : List (Vec ℕ Global)) → IsGraph g → (round : ℕ) (levels : List ℕ) (done : List Bool) (left free : List ℕ) → AreRounds g round levels done left → AreFree g done left free → 0 < length free
-    → (levels1 : List ℕ) (done1 : List Bool) (left1 : List ℕ) → length levels1 ≡ length levels → length done1 ≡ length done → AreTaken round free levels levels1 done done1 → left1 ≡ filter (λ c. not (is_done done1 c)) left
+    → (levels1 : List ℕ) (done1 : List Bool) (left1 : List ℕ) → length levels1 ≡ length levels → length done1 ≡ length done → AreTaken round free levels levels1 done done1 → left1 ≡ filter (λ c. not (is_marked done1 c)) left
     → AreRounds g (round + 1) levels1 done1 left1 × (length left1 < length left)
 round_step g ok round levels done left free r f some levels1 done1 left1 size marks t is =
     let P : List ℕ → Type 0 = λ x. AreRounds g (round + 1) levels1 done1 x × (length x < length left) in

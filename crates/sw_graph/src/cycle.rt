@@ -2,7 +2,7 @@
 ghost use Rattle.std.specs.Prelude.{◌≡◌, ℕ, ◌<◌, ◌≤◌, IfOk, List, MatchOption, [], false, length, true};
 ghost use Rattle.sw_graph.specs.Cycles.{IsShownCycle};
 ghost use Rattle.sw_graph.specs.Levels.{HasCycle};
-ghost use Rattle.sw_graph.specs.Rounds.{IsPeeled, is_done};
+ghost use Rattle.sw_graph.specs.Rounds.{IsPeeled, is_marked};
 ghost use Rattle.sw_graph.specs.Rows.{IsGraph, Precedes, row};
 ghost use Rattle.sw_graph.specs.Walking.{GoesOn, IsFirstLeft, IsLeastLeft, IsSince, IsWalk, lesser, times};
 
@@ -14,7 +14,7 @@ use std::alloc::{AllocError, Global};
 /// The first member that is not done.
 pub fn first_left(done: &[bool]) -> Option<u16>
     requires { length done.now ≤ 65535 }
-    ensures { MatchOption result ((d : ℕ) → d < length done.now → is_done done.now d ≡ true) (IsFirstLeft done.now) }
+    ensures { MatchOption result ((d : ℕ) → d < length done.now → is_marked done.now d ≡ true) (IsFirstLeft done.now) }
 {
     for (c, peeled) in done.iter().enumerate() {
         if !*peeled {
@@ -37,7 +37,7 @@ pub(crate) fn lesser_of(least: Option<u16>, c: u16) -> u16
 /// The least predecessor that is not done, of a member that is not done.
 fn least_before(predecessors: &[Vec<u16>], done: &[bool], c: u16) -> u16
     requires inside { c < length predecessors.now }
-    requires left { is_done done.now c ≡ false }
+    requires left { is_marked done.now c ≡ false }
     requires goes_on { GoesOn predecessors.now done.now }
     ensures { IsLeastLeft (row predecessors.now c) done.now result }
 {
@@ -60,7 +60,7 @@ fn walk_back(
 ) -> Result<u16, AllocError>
     requires graph { IsGraph predecessors.now }
     requires inside { start < length predecessors.now }
-    requires left { is_done done.now start ≡ false }
+    requires left { is_marked done.now start ≡ false }
     requires goes_on { GoesOn predecessors.now done.now }
     requires path { path.old.items ≡ [] }
     ensures { IfOk result (λ again. IsWalk predecessors.now done.now start path.new.items again) }

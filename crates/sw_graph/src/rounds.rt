@@ -1,6 +1,6 @@
 //! The levels of the members that are not behind a cycle, found in rounds.
 ghost use Rattle.std.specs.Prelude.{◌≡◌, ◌<◌, ◌≤◌, All, OnOk, false, filter, length, not, replicate};
-ghost use Rattle.sw_graph.specs.Rounds.{AreTaken, IsPeeled, is_done};
+ghost use Rattle.sw_graph.specs.Rounds.{AreTaken, IsPeeled, is_marked};
 ghost use Rattle.sw_graph.specs.Rows.{IsGraph};
 
 use crate::marks::is_marked;
@@ -21,7 +21,7 @@ fn take_all(members: &[u16], round: u16, levels: &mut [u16], done: &mut [bool])
 
 /// Leaves out the members that are done.
 fn drop_done(left: &mut Vec<u16>, done: &[bool])
-    ensures { left.new.items ≡ filter (λ c. not (is_done done.now c)) left.old.items }
+    ensures { left.new.items ≡ filter (λ c. not (is_marked done.now c)) left.old.items }
 {
     let mut kept = 0;
     for at in 0..left.len() {

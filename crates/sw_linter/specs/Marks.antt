@@ -2,6 +2,7 @@
 use Rattle.std.specs.Prelude.{◌≡◌, ℕ, ◌+◌, ◌*◌, ◌-◌, ◌==◌, ◌&&◌, ◌||◌, Bool, false, true, nat_lt, not, is_some, List, [], ◌∷◌, ◌++◌, flat_map, fold, length, Option, Some, None, option_and_then, option_map, replicate, slice_get, slice_index_or, slice_set, if◌then◌else◌}
 use Rattle.std.specs.List.{list_any, range_with_len}
 use Rattle.std.specs.Option.{option_to_list}
+use Rattle.sw_graph.specs.Rounds.{is_marked}
 use Rattle.sw_topo.specs.Checked.{first_of}
 use Rattle.sw_topo.specs.Ports.{ports_of}
 use Rattle.sw_topo.specs.Wiring.{out_of, partner}
@@ -22,10 +23,6 @@ use Rattle.sw_linter.specs.declared.slips.Slip.TheVariants as slip
 use Rattle.sw_linter.specs.declared.lint.Lint.TheVariants.{UnusedNode, UnusedSwitch, UnusedTarget, UnusedEntry, LeadsBack, Opposed}
 
 -- ---- tables
-
--- is the mark of that number set?
-abbrev pub is_marked : List Bool → ℕ → Bool
-is_marked marks k = slice_index_or marks k false
 
 -- the mark of that number is set, if there is one
 abbrev pub marked : Option ℕ → List Bool → List Bool

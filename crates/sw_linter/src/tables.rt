@@ -2,7 +2,8 @@
 ghost use Rattle.std.specs.Prelude.{◌≡◌, ◌<◌, ◌+◌, ◌^◌, ℕ, false, None, Option, option_map};
 ghost use Rattle.std.specs.List.{list_any, range_with_len};
 ghost use Rattle.sw_linter.specs.Lints.{first_made};
-ghost use Rattle.sw_linter.specs.Marks.{is_marked, marked, note_at, noted};
+ghost use Rattle.sw_linter.specs.Marks.{marked, note_at, noted};
+ghost use Rattle.sw_graph.specs.Rounds.{is_marked};
 
 use crate::asking::Asking;
 use std::alloc::{AllocError, Global};

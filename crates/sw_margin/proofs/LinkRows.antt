@@ -9,7 +9,7 @@ use Rattle.sw_graph.specs.Reversing.{IsRowSet}
 use Rattle.sw_graph.specs.Rows.{row}
 use Rattle.sw_search.proofs.AllGoing.{First, first_all, first_kept, first_more, first_none}
 use Rattle.sw_margin.specs.Losses.{AreLosses, IsLost, NeedsLink}
-use Rattle.sw_search.specs.Answering.{is_marked}
+use Rattle.sw_graph.specs.Rounds.{is_marked}
 use Rattle.sw_margin.specs.Needs.{AreAdded, AreLossesOf, AreNeeded, row_after}
 
 -- ---- one flow

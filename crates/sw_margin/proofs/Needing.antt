@@ -14,11 +14,11 @@ use Rattle.sw_flow.specs.Places.{ends_of, IsPlaceList}
 use Rattle.sw_flow.proofs.Listed.{Contains-cases, Contains-head}
 use Rattle.sw_margin.specs.Losses.{AreOnLink, NeedsLink}
 use Rattle.sw_margin.specs.Losses.NeedsLink.{AtStart, OnTheWay}
-use Rattle.sw_search.specs.Answering.{is_marked}
+use Rattle.sw_graph.specs.Rounds.{is_marked}
 use Rattle.sw_margin.specs.Needs.{AreMarked, AreNeeded, link_after, only_link}
 use Rattle.sw_margin.proofs.Ways.{channels_paired, follower_within}
 use Rattle.sw_topo.proofs.Lists.{none_in}
-use Rattle.sw_search.proofs.Replying.{unmarked}
+use Rattle.sw_graph.proofs.Backs.{none_marked}
 
 -- ---- the only link
 
@@ -154,7 +154,7 @@ module _ (d : Declaration) (f : FlowEntry) where
           λ h. elim ((m.each l).0 h) [
             | inl first ↦ elim (cases_eq l at) [
               | inl same ↦ AtStart start starts (sym here ∙ sym same)
-              | inr other ↦ absurd (false≢true (sym (unmarked n l) ∙ sym (get_or-set_other none at l true false other) ∙ first))
+              | inr other ↦ absurd (false≢true (sym (none_marked n l) ∙ sym (get_or-set_other none at l true false other) ∙ first))
             ]
             | inr new ↦
                 let p = new.place in

@@ -3,7 +3,7 @@ use Rattle.std.specs.Prelude.{◌≡◌, ◌↔◌, ◌⊎◌, ℕ, ◌/◌, ◌
 use Rattle.std.specs.List.{list_all}
 use Rattle.std.specs.declared.alloc.Global.{Global}
 use Rattle.sw_config.specs.Entries.{FlowEntry, Declaration}
-use Rattle.sw_search.specs.Answering.{is_marked}
+use Rattle.sw_graph.specs.Rounds.{is_marked}
 use Rattle.sw_flow.specs.declared.place.Place.{Place}
 use Rattle.sw_flow.specs.Followers.{followers_of}
 use Rattle.sw_graph.specs.Reached.{IsListing}

@@ -7,9 +7,10 @@ use Rattle.std.proofs.lemmas.Slice.Eq.{bytes_eq-Decides}
 use Rattle.sw_char.specs.declared.nchar.End.{End}
 use Rattle.sw_char.specs.declared.nchar.End.TheVariants.{Eop, Eep}
 use Rattle.sw_machine.specs.Steps.{Step, Fct, FctIn, Arrive, Grant, Drop, Forward, Spill, Begin, Emit, Accept, Reply}
+use Rattle.sw_output.specs.Tallies.{end_rank}
 use Rattle.sw_schedule.specs.Lines.{Repeated}
 use Rattle.sw_schedule.specs.Schedule.{steps_of}
-use Rattle.sw_schedule.specs.Runs.{Parts, end_number, entries_from, entries_of, have_same_parts, is_same, parts_of}
+use Rattle.sw_schedule.specs.Runs.{Parts, entries_from, entries_of, have_same_parts, is_same, parts_of}
 
 -- ---- steps with the same parts are the same
 
@@ -30,7 +31,7 @@ step_from p =
     else if p.kind == 9 then Accept p.first
     else Reply p.first
 
-end_back : (e : End) → end_from (end_number e) ≡ e
+end_back : (e : End) → end_from (end_rank e) ≡ e
 end_back Eop = refl
 end_back Eep = refl
 

@@ -2,11 +2,10 @@
 use Rattle.std.specs.Prelude.{ℕ, ◌+◌, ◌==◌, ◌&&◌, nat_le, nat_lt, Bool, List, [], ◌∷◌, Option, Some, None, flat_map, length, if◌then◌else◌}
 use Rattle.std.specs.Fmt.{decimal}
 use Rattle.std.specs.Str.{bytes_eq}
-use Rattle.sw_char.specs.declared.nchar.End.{End}
-use Rattle.sw_char.specs.declared.nchar.End.TheVariants.{Eop, Eep}
 use Rattle.sw_config.specs.Entries.{Declaration}
 use Rattle.sw_machine.specs.Steps.{Step, Fct, FctIn, Arrive, Grant, Drop, Forward, Spill, Begin, Emit, Accept, Reply}
 use Rattle.sw_output.specs.Lines.{line}
+use Rattle.sw_output.specs.Tallies.{end_rank}
 use Rattle.sw_schedule.specs.Lines.{Repeated}
 use Rattle.sw_schedule.specs.WrittenLines.{step_line}
 
@@ -16,10 +15,6 @@ pub record Parts : Type 0 where
   pub first : ℕ
   pub second : ℕ
   pub cargo : List ℕ
-
-abbrev pub end_number : End → ℕ
-end_number Eop = 0
-end_number Eep = 1
 
 abbrev pub plain : ℕ → ℕ → Parts
 plain kind number = record { kind = kind; first = number; second = 0; cargo = [] }
@@ -32,7 +27,7 @@ parts_of (Grant o i) = record { kind = 3; first = o; second = i; cargo = [] }
 parts_of (Drop c) = plain 4 c
 parts_of (Forward c) = plain 5 c
 parts_of (Spill c) = plain 6 c
-parts_of (Begin flow cargo end) = record { kind = 7; first = flow; second = end_number end; cargo = cargo }
+parts_of (Begin flow cargo end) = record { kind = 7; first = flow; second = end_rank end; cargo = cargo }
 parts_of (Emit n) = plain 8 n
 parts_of (Accept n) = plain 9 n
 parts_of (Reply n) = plain 10 n

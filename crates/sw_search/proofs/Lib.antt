@@ -24,4 +24,3 @@ pub mod Went
 pub mod Routed
 pub use Rattle.sw_cycle.proofs.AllGoing
 pub use Rattle.sw_cycle.proofs.Naming
-pub use Rattle.sw_cycle.proofs.Replying

@@ -8,4 +8,3 @@ pub mod ExplanationLaws
 pub use Rattle.sw_cert.specs.Contents
 pub use Rattle.sw_cycle.specs.Cycles
 pub use Rattle.sw_cycle.specs.declared.cycle.Cause
-pub use Rattle.sw_cycle.specs.Answering

@@ -1,13 +1,13 @@
 use Rattle.std.proofs.Common.{◌<◌, ℕ, Bool, not, length, sym, ap, ◌∙◌, arith}
 use Rattle.std.proofs.lemmas.List.{get_or_default}
-use Rattle.sw_graph.specs.Rounds.{is_done}
+use Rattle.sw_graph.specs.Rounds.{is_marked}
 use Rattle.sw_graph.proofs.Loops.{moved, passed}
 use Rattle.sw_graph.proofs.rounds.drop_done.Goals.{then-not-is_marked, else-not-is_marked}
 use Rattle.sw_graph.proofs.rounds.drop_done.Goals as goal
 
 pub loop-at-preserved : goal.loop-at-preserved
 loop-at-preserved c =
-    let test : ℕ → Bool = λ k. not (is_done c.args.done.now k) in
+    let test : ℕ → Bool = λ k. not (is_marked c.args.done.now k) in
     let xs = c.args.left.now.items in
     let now = c.loop-at.left.items in
     let at = c.loop-at.at in
