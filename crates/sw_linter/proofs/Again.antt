@@ -14,18 +14,6 @@ use Rattle.sw_flow.specs.declared.place.Place.{Place}
 use Rattle.sw_flow.specs.Places.{end_of, ends_of, Follows, IsPlace, IsPlaceList}
 use Rattle.sw_flow.specs.Places.IsPlace.{start, next}
 use Rattle.sw_flow.proofs.Listed.{Contains-cases, Contains-from_map, Contains-head, Contains-later}
-<<<<<<< HEAD:crates/sw_linter/proofs/Again.antt
-use Rattle.sw_linter.specs.Alike.{IsLikeLast}
-use Rattle.sw_linter.specs.FlowPlaces.{FlowPlace, AreFlowPlaces, places_of_flow}
-use Rattle.sw_linter.specs.Lints.{asks_on, goes_elsewhere}
-use Rattle.sw_linter.specs.Marks.{AreNoted, MarkLists, arrival_key, asking_key, end_key, in_row, is_marked, is_other, led_key, marked, no_places, note_at, noted, other_key, start_key, switch_at, with_place}
-use Rattle.sw_linter.specs.declared.asking.Asking.{Asking}
-use Rattle.sw_linter.proofs.Ranges.{take_one_more}
-use Rattle.sw_linter.proofs.Tests.{any_passes}
-use Rattle.sw_linter.proofs.TableSteps.{Marked, Noted, is_key}
-use Rattle.sw_linter.proofs.Noting.{AreMarks, asker, asks_key, key_given, marks_of, number_of, other_of, places_more}
-use Rattle.sw_linter.proofs.Members.{joined_has}
-=======
 use Rattle.sw_linter.specs.Alike.{IsLikeLast}
 use Rattle.sw_linter.specs.FlowPlaces.{FlowPlace, AreFlowPlaces, places_of_flow}
 use Rattle.sw_linter.specs.Lints.{asks_on, goes_elsewhere}
@@ -37,7 +25,6 @@ use Rattle.sw_linter.proofs.Tests.{any_passes}
 use Rattle.sw_linter.proofs.TableSteps.{Marked, Noted, is_key}
 use Rattle.sw_linter.proofs.Noting.{AreMarks, asker, asks_key, key_given, marks_of, number_of, other_of, places_more}
 use Rattle.sw_linter.proofs.Members.{joined_has}
->>>>>>> twice-in:crates/sw_linter/proofs/Again.antt
 use Rattle.sw_topo.proofs.Lists.{is_some-map}
 
 -- ---- tables

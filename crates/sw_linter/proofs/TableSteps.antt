@@ -6,14 +6,9 @@ use Rattle.std.specs.Option.{option_map_or}
 use Rattle.std.proofs.lemmas.Bool.{cases_eq, ne_eqb}
 use Rattle.std.proofs.lemmas.List.{get_or-replicate, get_or-set_same, get_or-set_other, length-replicate}
 use Rattle.sw_topo.specs.Checked.{first_of}
-<<<<<<< HEAD:crates/sw_linter/proofs/TableSteps.antt
-use Rattle.sw_linter.specs.Marks.{is_marked, marked, note_at, noted}
-use Rattle.sw_linter.proofs.Tests.{find_push, list_any_push}
-=======
 use Rattle.sw_linter.specs.Marks.{marked, note_at, noted}
 use Rattle.sw_graph.specs.Rounds.{is_marked}
 use Rattle.sw_linter.proofs.Tests.{find_push, list_any_push}
->>>>>>> twice-in:crates/sw_linter/proofs/TableSteps.antt
 use Rattle.sw_topo.proofs.TableSteps.{first_alone}
 
 -- it is that number

@@ -15,20 +15,6 @@ use Rattle.sw_config.specs.Entries.{FlowEntry, Declaration, SwitchEntry, reply_f
 use Rattle.sw_config.specs.Valid.{IsSwitch, IsValid}
 use Rattle.sw_config.proofs.Steps.{length-link_ends}
 use Rattle.sw_flow.specs.Places.{ends_of}
-<<<<<<< HEAD:crates/sw_linter/proofs/Telling.antt
-use Rattle.sw_linter.specs.declared.asking.Asking.{Asking}
-use Rattle.sw_linter.specs.declared.lint.Lint.{Lint}
-use Rattle.sw_linter.specs.declared.lint.Lint.TheVariants.{LeadsBack, NoFlows, UnusedEntry, UnusedNode, UnusedSwitch, UnusedTarget}
-use Rattle.sw_linter.specs.FlowPlaces.{FlowPlace, AreFlowPlaces}
-use Rattle.sw_linter.specs.Lints.{AreLints, addresses, asks_on, back_by, by_entries, comes_by, comes_to, doubtful, first_by, first_pair, is_group, is_matched, is_used_entry, is_used_switch, leads_back, linked, one_linked_port, opposed, starts_at, told_of, unused, unused_entries, unused_entry, unused_node, unused_switch, unused_target}
-use Rattle.sw_linter.specs.Marks.{AreFound, MarkLists, arrival_key, back_at, doubtful_by, end_key, first_led, led_key, no_places, start_key, with_place, is_marked, is_met_by, is_used_by, leads_back_by, nodes_of, note_at, opposed_by, pair_by, pair_of, unused_by, unused_entry_by, unused_node_by, unused_switch_by, unused_target_by}
-use Rattle.sw_linter.proofs.Keys.{arrives_key, comes_key, comes_not, ends_key, leads, matched, starts_key}
-use Rattle.sw_linter.proofs.Noting.{AreMarks, asker, marks_of, no_flow_places, nodes_noted, number_of}
-use Rattle.sw_linter.proofs.Pairs.{pair_told}
-use Rattle.sw_linter.proofs.Ranges.{first_made_none, first_made_same, first_made_shifted, flat_map_same, list_any_shifted, made_if, made_same}
-use Rattle.sw_linter.proofs.TableSteps.{is_key}
-use Rattle.sw_linter.proofs.Tests.{any_passes, find_none, find_same, list_any_same, passing}
-=======
 use Rattle.sw_linter.specs.declared.asking.Asking.{Asking}
 use Rattle.sw_linter.specs.declared.lint.Lint.{Lint}
 use Rattle.sw_linter.specs.declared.lint.Lint.TheVariants.{LeadsBack, NoFlows, UnusedEntry, UnusedNode, UnusedSwitch, UnusedTarget}
@@ -42,7 +28,6 @@ use Rattle.sw_linter.proofs.Pairs.{pair_told}
 use Rattle.sw_linter.proofs.Ranges.{first_made_none, first_made_same, first_made_shifted, flat_map_same, list_any_shifted, made_if, made_same}
 use Rattle.sw_linter.proofs.TableSteps.{is_key}
 use Rattle.sw_linter.proofs.Tests.{any_passes, find_none, find_same, list_any_same, passing}
->>>>>>> twice-in:crates/sw_linter/proofs/Telling.antt
 use Rattle.sw_topo.proofs.Lists.{same_bool}
 use Rattle.sw_flow.proofs.Partners.{partner_within}
 

@@ -1,14 +1,8 @@
 use Rattle.std.proofs.Common.{sym, ◌∙◌, ap, arith}
 use Rattle.std.specs.List.{list_any, range_with_len}
-<<<<<<< HEAD:crates/sw_linter/proofs/tables/is_any_marked/Answers.antt
-use Rattle.sw_linter.specs.Marks.{is_marked}
-use Rattle.sw_linter.proofs.Ranges.{any_here, none_here}
-use Rattle.sw_linter.proofs.tables.is_any_marked.Goals as goal
-=======
 use Rattle.sw_graph.specs.Rounds.{is_marked}
 use Rattle.sw_linter.proofs.Ranges.{any_here, none_here}
 use Rattle.sw_linter.proofs.tables.is_any_marked.Goals as goal
->>>>>>> twice-in:crates/sw_linter/proofs/tables/is_any_marked/Answers.antt
 
 pub returns-then-is_marked : goal.returns-then-is_marked
 returns-then-is_marked c = sym (any_here (is_marked c.args.marks.now) c.args.from c.args.count c.loop-step.step c.loop-step-test.true (sym c.is_marked.ensures ∙ c.if-is_marked.true))

@@ -1,12 +1,7 @@
 use Rattle.std.proofs.Common.{◌≡◌, false}
 use Rattle.std.specs.List.{list_any, range_with_len}
-<<<<<<< HEAD:crates/sw_linter/proofs/tables/is_any_marked/Invariants.antt
-use Rattle.sw_linter.specs.Marks.{is_marked}
-use Rattle.sw_linter.proofs.tables.is_any_marked.Given as goal
-=======
 use Rattle.sw_graph.specs.Rounds.{is_marked}
 use Rattle.sw_linter.proofs.tables.is_any_marked.Given as goal
->>>>>>> twice-in:crates/sw_linter/proofs/tables/is_any_marked/Invariants.antt
 
 abbrev pub invariant-loop-step : goal.invariant-loop-step
 invariant-loop-step l = list_any (is_marked l.marks) (range_with_len l.from l.step) ≡ false
