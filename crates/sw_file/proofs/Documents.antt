@@ -31,6 +31,7 @@ use Rattle.sw_file.specs.Network.{version_of, entries, with_nodes, with_switches
 use Rattle.sw_file.specs.Values.{IsNumber, Has, HasTables}
 use Rattle.sw_file.specs.Tables.{IsNodeTable, IsSwitchTable, IsLinkTable, IsFlowTable, version_number, IsNetworkTable, IsNetworkText}
 use Rattle.sw_file.specs.Laws.{NetworksAreReadExactly}
+use Rattle.sw_file.proofs.Entries.{after_links}
 use Rattle.sw_file.proofs.Known.{well, passed}
 use Rattle.sw_file.proofs.Values.{has_number, has_number_it, has_tables, tables_is, joined, parted}
 use Rattle.sw_file.proofs.Walked.{as_long, walked, walks}
@@ -228,9 +229,6 @@ module _ (ns : List NodeEntry) (ss : List SwitchEntry) (ls : List LinkEntry) whe
 has_joined : (d n : Declaration) (o : Option TopoFault) → fault_of (wiring_of d) ≡ o → wired d ≡ Ok n → (n ≡ d) × (fault_of (wiring_of d) ≡ None)
 has_joined d n None is h = let e : Ok d ≡ Ok n = rw is at h in (cc, is)
 has_joined d n (Some f) is h = let e : Err (fault.Topology f) ≡ Ok n = rw is at h in absurd cc
-
-abbrev after_links : Members → Declaration → Result Declaration TextFault
-after_links ms d = wired d >>= λ n. with_flows n ms
 
 abbrev after_nodes : Version → Members → Declaration → Result Declaration TextFault
 after_nodes version ms d = with_switches version d ms >>= λ switches. with_links version switches ms

@@ -176,7 +176,7 @@ wired_same d n None is well = let e : Ok d ≡ Ok n = rw is at well in cc
 wired_same d n (Some f) is well = let e : Err (fault.Topology f) ≡ Ok n = rw is at well in absurd cc
 
 -- what is read after the links, after the switches and after the nodes
-abbrev after_links : Members → Declaration → Result Declaration TextFault
+abbrev pub after_links : Members → Declaration → Result Declaration TextFault
 after_links ms d = wired d >>= λ n. with_flows n ms
 
 abbrev after_switches : Version → Members → Declaration → Result Declaration TextFault
