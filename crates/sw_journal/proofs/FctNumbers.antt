@@ -6,11 +6,11 @@ use Rattle.std.proofs.lemmas.Bool.{eq-eqb, eqb-true}
 use Rattle.sw_cell.specs.Places.{machine_cell}
 use Rattle.sw_cell.specs.declared.cell.CellId.{CellId}
 use Rattle.sw_history.proofs.Follows.{follows_where_possible}
-use Rattle.sw_journal.proofs.Told.{at_its_cell, received_ends, reverse_back}
+use Rattle.sw_journal.proofs.Told.{at_its_cell, received_ends, reverse_back, same_itself}
 use Rattle.sw_journal.specs.Cells.{end_numbers, ends_at, same_cell}
 use Rattle.sw_journal.specs.Laws.{HasNumbers, IsByNumbers, OfNowCells}
 use Rattle.sw_load.specs.History.{packets_of}
-use Rattle.sw_machine.specs.Network.{AtNode, AtSwitch, Cell, Network, reverse_of}
+use Rattle.sw_machine.specs.Network.{Cell, Network, reverse_of}
 use Rattle.sw_machine.specs.State.{State, after_fct}
 use Rattle.sw_machine.specs.Steps.{Fct}
 use Rattle.sw_machine.specs.Model.{network_of}
@@ -58,10 +58,6 @@ module _ (f : ℕ → Numbers) (e : ℕ) where
 
 -- ---- link ends of a cell
 
-same_cell_refl : (a : Cell) → same_cell a a ≡ true
-same_cell_refl (AtNode n) = eq-eqb n n refl
-same_cell_refl (AtSwitch w) = eq-eqb w w refl
-
 module _ (p : ℕ → Bool) where
   kept_after : (a : ℕ) (rest : List ℕ) (b : Bool) (x : ℕ) → (k : ℕ) × (slice_get rest k ≡ Some x) → (k : ℕ) × (slice_get (cond b (a ∷ rest) rest) k ≡ Some x)
   kept_after a rest true x at = (suc at.0, at.1)
@@ -84,7 +80,7 @@ at_cell : (net : Network) (id : CellId) (e : ℕ) → e < net.channels → net.s
 at_cell net id e lt at =
     let p : ℕ → Bool = λ c. same_cell (net.start_of c) (machine_cell id) in
     let zeroed : 0 + e ≡ e = omega arith in
-    let passes : p (0 + e) ≡ true = ap p zeroed ∙ ap (λ (c : Cell). same_cell c (machine_cell id)) at ∙ same_cell_refl (machine_cell id) in
+    let passes : p (0 + e) ≡ true = ap p zeroed ∙ ap (λ (c : Cell). same_cell c (machine_cell id)) at ∙ same_itself (machine_cell id) in
     let it = kept p 0 net.channels e passes lt in
     (it.0, it.1 ∙ ap Some zeroed)
 

@@ -2,7 +2,6 @@
 use Rattle.std.proofs.Common.{Bool, IsTrue, cond, List, None, Option, Some, [], ap, append-nil, arith, false, filter, length, map, refl, replicate, subst, sym, true, zero, suc, ℕ, ◌*◌, ◌++◌, ◌+◌, ◌∙◌, ◌∷◌, ◌≡◌, ◌≤◌, ◌↔◌}
 use Rattle.atomic_table.specs.Seated.{TableId}
 use Rattle.atomic_table.specs.Table.{Me}
-use Rattle.std.proofs.lemmas.Bool.{eq-eqb}
 use Rattle.std.proofs.lemmas.List.{length-replicate, map-append}
 use Rattle.std.proofs.lemmas.List.FromFn.{map-range_with_len_more}
 use Rattle.std.proofs.lemmas.List.Elements.{filter-append}
@@ -12,14 +11,14 @@ use Rattle.sw_cell.specs.Places.{machine_cell}
 use Rattle.sw_cell.specs.declared.cell.CellId.{CellId}
 use Rattle.sw_history.specs.History.{HistoryView, LeadsTo}
 use Rattle.sw_journal.proofs.Commit.{view_of}
-use Rattle.sw_journal.proofs.Told.{is_same_cell}
+use Rattle.sw_journal.proofs.Told.{is_same_cell, same_itself}
 use Rattle.sw_journal.specs.Cells.{all_known, same_cell}
 use Rattle.sw_journal.specs.Opening.{numbered_of}
 use Rattle.sw_journal.specs.Record.{JournalView, IsKept}
 use Rattle.sw_graph.proofs.Ranges.{range_more}
 use Rattle.sw_load.specs.History.{IsHistory, packets_at, packets_of}
 use Rattle.sw_load.specs.Load.{LoadEntry}
-use Rattle.sw_machine.specs.Network.{AtNode, AtSwitch, Cell, Network}
+use Rattle.sw_machine.specs.Network.{Cell, Network}
 use Rattle.sw_machine.specs.State.{State, empty}
 use Rattle.sw_machine.specs.Steps.{Step}
 use Rattle.sw_machine.proofs.DeclaredNetworks.{are_networks}
@@ -37,10 +36,6 @@ use Rattle.sw_topo.specs.Wiring.{Wiring}
 use Rattle.sw_topo.specs.declared.place.PlaceEnd.{PlaceEnd}
 
 -- ---- where a link end stands
-
-same_itself : (a : Cell) → same_cell a a ≡ true
-same_itself (AtNode n) = eq-eqb n n refl
-same_itself (AtSwitch w) = eq-eqb w w refl
 
 are_same : (a b : Cell) → a ≡ b → same_cell a b ≡ true
 are_same a b e = ap (same_cell a) (sym e) ∙ same_itself a

@@ -2,7 +2,7 @@
 use Rattle.std.proofs.Common.{◌≡◌, ◌≢◌, ◌⊎◌, ℕ, zero, suc, ◌+◌, ◌-◌, ◌<◌, ◌≤◌, Some, None, List, [], ◌∷◌, ◌++◌, length, map, filter, Bool, true, false, refl, sym, ap, ◌∙◌, subst, ⊎_elim, inl, inr, arith, cond}
 use Rattle.std.specs.List.{range_with_len}
 use Rattle.std.specs.Prelude.{Option, option_map, slice_get, slice_set}
-use Rattle.std.proofs.lemmas.Bool.{eqb-true}
+use Rattle.std.proofs.lemmas.Bool.{eq-eqb, eqb-true}
 use Rattle.std.proofs.lemmas.List.FromFn.{length-map-range_with_len}
 use Rattle.std.proofs.lemmas.Option.{same_Some, slice_get-map}
 use Rattle.sw_cell.specs.Places.{IsIn, machine_cell}
@@ -103,6 +103,10 @@ is_same_cell (AtNode n) (AtNode m) e = ap AtNode (eqb-true n m e)
 is_same_cell (AtNode n) (AtSwitch w) e = absurd cc
 is_same_cell (AtSwitch w) (AtNode n) e = absurd cc
 is_same_cell (AtSwitch w) (AtSwitch v) e = ap AtSwitch (eqb-true w v e)
+
+pub same_itself : (a : Cell) → same_cell a a ≡ true
+same_itself (AtNode n) = eq-eqb n n refl
+same_itself (AtSwitch w) = eq-eqb w w refl
 
 -- the place of a cell in the list of all
 abbrev pub place_of : Declaration → Cell → ℕ
