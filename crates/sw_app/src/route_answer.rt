@@ -11,7 +11,8 @@ use sw_flow::{Place, RouteFault, first_fault, places};
 use sw_text::statuses::{BAD, FAULTY, GOOD};
 use sw_text::{Answer, fault_answer};
 
-fn status_of(fault: &Option<(Place, RouteFault)>) -> u8
+/// The status of an answer of `route`: 1 where a place has a fault, else 0.
+pub fn outcome_status(fault: &Option<(Place, RouteFault)>) -> u8
     ensures { result ≡ outcome_status fault.now }
 {
     match fault {
@@ -35,7 +36,7 @@ fn named_answer(alloc: Global, network: &Network, name: &str) -> Result<Answer, 
     let listed = places(alloc, network, number)?;
     let places = listed.as_slice();
     let fault = first_fault(network, number, places);
-    let status = status_of(&fault);
+    let status = outcome_status(&fault);
     let text = route_text(alloc, network, flow, places, fault)?;
     Ok(Answer { text, status })
 }

@@ -3,13 +3,13 @@ ghost use Rattle.std.specs.Prelude.{◌≡◌, ◌<◌, All, IfOk, IfSome, lengt
 ghost use Rattle.serde_json.specs.View.{view};
 ghost use Rattle.sw_text.specs.Inputs.{given};
 ghost use Rattle.sw_config.specs.Entries.{all_flows, wiring_of};
-ghost use Rattle.sw_app.specs.RouteTexts.{outcome_status};
 ghost use Rattle.sw_json.specs.Answering.{EndsByOneFile, OfNetworkFile};
 ghost use Rattle.sw_json_verdicts.specs.RouteResults.{IsFlowResult, IsNamedResult, IsRouteJson, fault_or_null, route_kind, told_route};
 
 use crate::laws::routes_are_plain;
 use std::alloc::{AllocError, Global};
 use std::io::{Read, Write};
+use sw_app::outcome_status;
 use sw_config::{Flow, Network};
 use sw_file::read_network;
 use sw_flow::{Place, RouteFault, first_fault, places};
@@ -19,7 +19,6 @@ use sw_json::{
     misrouted_fault_value, object_of_four, place_values, tell_answer, tell_unread,
     unknown_flow_value, unread_network,
 };
-use sw_text::statuses::{BAD, GOOD};
 use sw_text::{Ended, InputText, read_one};
 
 // A place with its fault, or null where there is none.
@@ -38,15 +37,6 @@ fn kind_of(fault: &Option<(Place, RouteFault)>) -> &'static str
     match fault {
         None => "routed",
         Some(_) => "misrouted",
-    }
-}
-
-fn status_of(fault: &Option<(Place, RouteFault)>) -> u8
-    ensures { result ≡ outcome_status fault.now }
-{
-    match fault {
-        None => GOOD,
-        Some(_) => BAD,
     }
 }
 
@@ -84,7 +74,7 @@ fn flow_outcome(alloc: Global, network: &Network, number: u16) -> Result<Command
     let listed = places(alloc, network, number)?;
     let places = listed.as_slice();
     let fault = first_fault(network, number, places);
-    let status = status_of(&fault);
+    let status = outcome_status(&fault);
     let result = told_route(alloc, network, flow, places, fault)?;
     Ok(CommandOutcome { result, status })
 }

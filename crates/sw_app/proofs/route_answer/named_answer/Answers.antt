@@ -11,6 +11,6 @@ route_text-requires c = listed_within c.args.network.now c.in-Some.number _ _ c.
 
 pub returns : goal.returns
 returns c =
-    found_answer c.args.name.now c.args.network.now c.in-Some.number _ c.status_of-status.result (sym c.in-Some.ensures.number) c.in-Some.ensures.within
+    found_answer c.args.name.now c.args.network.now c.in-Some.number _ c.outcome_status-status.result (sym c.in-Some.ensures.number) c.in-Some.ensures.within
     (numbered_answer c.args.network.now c.in-Some.number _ _ c.first_fault-fault.result _ _ c.in_ok-listed.ensures c.as_slice-places.ensures.value
-    c.first_fault-fault.ensures (at_flow _ c.flow-flow.result.now _ c.flow-flow.ensures.flow c.in_ok-text-2.ensures) c.status_of-status.ensures)
+    c.first_fault-fault.ensures (at_flow _ c.flow-flow.result.now _ c.flow-flow.ensures.flow c.in_ok-text-2.ensures) c.outcome_status-status.ensures)

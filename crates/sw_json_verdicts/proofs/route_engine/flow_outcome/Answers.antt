@@ -19,4 +19,4 @@ invariant_of-result c = record {
 pub returns : goal.returns
 returns c =
     numbered_result c.args.network.now c.args.number c.flow-flow.result.now _ _ c.first_fault-fault.result _ _ c.in_ok-listed.ensures c.as_slice-places.ensures.value
-    c.flow-flow.ensures.flow c.first_fault-fault.ensures c.in_ok-result.ensures c.status_of-status.ensures
+    c.flow-flow.ensures.flow c.first_fault-fault.ensures c.in_ok-result.ensures c.outcome_status-status.ensures
