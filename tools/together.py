@@ -282,7 +282,7 @@ def witness_of(batch, crate):
     """What is checked beside the batch and has to be proved, since the check tells nothing else: a copy of a function as it is, of one that calls others, so that
     it shows that their contracts are enough, and calls none that is edited in its place. Of these it is one that the batch edits, where there is one, then one that
     calls the fewest others by its text, then one that does not take `self` by value, and so lets it go, and of these the shortest. Where none may have a copy it is
-    another function of the crate."""
+    another function of the crate. None where each of the crate's functions is edited, or calls one that is."""
     changed, edited = {it.function.name for it in batch if not it.copy}, {it.function.name for it in batch}
     last = {it.split("::")[-1] for it in changed}
     calls = {it: names for it, names in calls_by_text(crate).items() if it.name not in changed and not names & last}
@@ -291,8 +291,8 @@ def witness_of(batch, crate):
         text = text_in(it, {}, crate)[0][it.head:it.after]
         return not it.has_copies, not calls[it], it.name not in edited, len(calls[it]), "(self" in text or "(mut self" in text, len(text), it.name
 
-    function = min(calls, key=cost)
-    return Variant(function, AS_IT_IS if function.has_copies else "", None)
+    function = min(calls, key=cost, default=None)
+    return function and Variant(function, AS_IT_IS if function.has_copies else "", None)
 
 
 def refused(batch, crate, flags, kept):
@@ -307,6 +307,8 @@ def refused(batch, crate, flags, kept):
 def refused_at_once(batch, crate, flags, kept):
     """Those that one check refuses, in which its witness is proved."""
     witness = witness_of(batch, crate)
+    if not witness:
+        return set()
     status, lines, tells = checked([*batch, witness], crate, flags, kept)
     if status != 1 or not tells or not is_proved(name_of(witness), lines):
         return set()
