@@ -2,7 +2,6 @@
 use Rattle.std.specs.Prelude.{Bool, List, None, Option, Some, false, true, ℕ, ◌≡◌}
 use Rattle.sw_cell.specs.Makes.{IsDeclaredAt}
 use Rattle.sw_cell.specs.Parts.{IsNodeState}
-use Rattle.sw_cell.specs.Picks.{CannotGrant}
 use Rattle.sw_cell.specs.SwitchParts.{IsSwitchState}
 use Rattle.sw_cell.specs.declared.node.NodeStep.{NodeStep}
 use Rattle.sw_cell.specs.declared.node.NodeStep.TheVariants as at_node
@@ -12,7 +11,7 @@ use Rattle.sw_char.specs.declared.nchar.End.{End}
 use Rattle.sw_machine.specs.Network.{Network}
 use Rattle.sw_machine.specs.Parts.{link_end_of}
 use Rattle.sw_machine.specs.State.{State}
-use Rattle.sw_machine.specs.Steps.{Accept, Arrive, Begin, Drop, Emit, Fct, FctIn, Forward, Grant, IsPossible, Reply, Spill, Step, is_begin}
+use Rattle.sw_machine.specs.Steps.{Accept, Arrive, Begin, Drop, Emit, Fct, FctIn, Forward, IsPossible, Reply, Spill, Step, is_begin}
 use Rattle.sw_machine.specs.Model.{network_of}
 use Rattle.sw_config.specs.Entries.{Declaration}
 use Rattle.sw_node.specs.Node.{Node}
@@ -51,11 +50,6 @@ BeginTells d n node told = (flow : ℕ) (cargo : List ℕ) (end : End) (b : Betw
 abbrev pub SwitchTells : {R A : Type 0} → Declaration → ℕ → Cell R A → Between → Step → Bool → Type 0
 SwitchTells d w cell b step true = (s : State) → IsSwitchState d w cell b s → IsPossible (network_of d) s step
 SwitchTells d w cell b step false = (s : State) → IsSwitchState d w cell b s → IsPossible (network_of d) s step → ⊥
-
--- true: in each reached state with this part output d can be granted to some input; false: in none to any
-abbrev pub GrantTells : {R A : Type 0} → Declaration → ℕ → Cell R A → ℕ → Bool → Type 0
-GrantTells net w cell d true = (b : Between) (s : State) → IsSwitchState net w cell b s → (c : ℕ) × IsPossible (network_of net) s (Grant d c)
-GrantTells net w cell d false = CannotGrant net w cell d
 
 -- some step that belongs to the link end where channel e starts is possible, other than a beginning
 pub record CanStepAt (net : Network) (s : State) (e : ℕ) : Type 0 where

@@ -2,7 +2,7 @@
 //! changed.
 ghost use Rattle.std.specs.Prelude.{◌≡◌, IfNone, IfSome, Some, slice_get};
 ghost use Rattle.sw_cell.specs.Picks.{CannotGrant, GrantsPick};
-ghost use Rattle.sw_cell.specs.Possible.{GrantTells, PortEnabled, PortHas, SwitchTells, step_at_port};
+ghost use Rattle.sw_cell.specs.Possible.{PortEnabled, PortHas, SwitchTells, step_at_port};
 ghost use Rattle.sw_cell.specs.SwitchParts.{HasSwitchState, IsSwitchFor, SwitchMakes, port_at};
 ghost use Rattle.sw_flow.specs.Places.{end_of, ends_of};
 ghost use Rattle.sw_machine.specs.Network.{AtSwitch};
@@ -311,24 +311,6 @@ pub fn can_grant<R: Routing, A: Arbiter>(
     let port = input(network, w, channel);
     match output_port(network, w, output) {
         Some(out) => cell.asks(out).contains(port),
-        None => false,
-    }
-}
-
-/// Whether `arbitrate` would grant the output where the channel starts.
-pub fn can_arbitrate<R: Routing, A: Arbiter>(
-    network: &Network,
-    w: u16,
-    channel: Chan,
-    cell: &SwitchCell<R, A>,
-) -> bool
-    requires cell { IsSwitchFor R.answer A.ports network.now w cell.now }
-    requires at { (network_of network.now).start_of channel ≡ AtSwitch w }
-    ensures { GrantTells network.now w cell.now channel result }
-{
-    let out = output(network, w, channel);
-    match cell.asks(out).first() {
-        Some(_) => true,
         None => false,
     }
 }

@@ -8,7 +8,7 @@ use Rattle.std.proofs.lemmas.Option.{slice_get_within}
 use Rattle.sw_config.specs.Entries.{FlowEntry, ReplyEntry, Declaration, all_flows}
 use Rattle.sw_config.specs.Valid.{IsValid}
 use Rattle.sw_flow.specs.declared.place.Place.{Place}
-use Rattle.sw_flow.specs.Places.{ends_of}
+use Rattle.sw_flow.specs.Places.{ends_of, flow_start, out_at}
 use Rattle.sw_flow.specs.Faults.{fault_of}
 use Rattle.sw_flow.specs.Followers.{followers_of}
 use Rattle.sw_flow.proofs.Listed.{Contains-map, Contains-from_map}
@@ -23,7 +23,7 @@ use Rattle.sw_machine.proofs.Steps.{steps_agree}
 use Rattle.sw_cert.specs.declared.refusal.Refusal.TheVariants.{NoStart, Faulty, NotClosed, NotRising}
 use Rattle.sw_cert.specs.Contents.{place_of, certificate_of}
 use Rattle.sw_cert.specs.Least.{least}
-use Rattle.sw_cert.specs.Refusals.{first_refusal, is_in_range, are_in_range, is_listed, out_at, into_at, start_of, is_closed_at, refusal_of_place, refusal_of_flow, is_not_above, not_rising_from, not_rising_along, answering_nodes, is_falling_at}
+use Rattle.sw_cert.specs.Refusals.{first_refusal, is_in_range, are_in_range, is_listed, into_at, is_closed_at, refusal_of_place, refusal_of_flow, is_not_above, not_rising_from, not_rising_along, answering_nodes, is_falling_at}
 use Rattle.sw_cert.specs.AcceptanceLaws.{NotRefusedIsAccepted}
 use Rattle.sw_cert.proofs.ListedPlaces.{to_machine, from_machine}
 use Rattle.sw_cert.proofs.Lists.{first_none, both_none, unless_none, none_unless, none_mapped, none_refused, refused_none, all_each, each_all, Contains-at, at_Contains, none_by_flow, by_flow_none, listed_place, place_listed}
@@ -74,14 +74,14 @@ module _ (d : Declaration) (c : Contents) (valid : IsValid d) (r : NoReason d c)
     agrees : FlowAgrees d i a.flow
     agrees = steps_agree d valid i a.flow a.here
 
-    flow_none : (is_listed a.listed (start_of d a.flow) ≡ true) × (first_refusal (refusal_of_place d (0 + i) a.flow a.listed) a.listed ≡ None)
+    flow_none : (is_listed a.listed (flow_start d a.flow) ≡ true) × (first_refusal (refusal_of_place d (0 + i) a.flow a.listed) a.listed ≡ None)
     flow_none =
         let none = none_by_flow (refusal_of_flow d) 0 (all_flows d) c.places r.flows i a.flow a.listed a.here a.there in
-        let both = first_none (if is_listed a.listed (start_of d a.flow) then None else Some (NoStart (0 + i))) (first_refusal (refusal_of_place d (0 + i) a.flow a.listed) a.listed) none in
-        (unless_none (is_listed a.listed (start_of d a.flow)) (NoStart (0 + i)) both.0, both.1)
+        let both = first_none (if is_listed a.listed (flow_start d a.flow) then None else Some (NoStart (0 + i))) (first_refusal (refusal_of_place d (0 + i) a.flow a.listed) a.listed) none in
+        (unless_none (is_listed a.listed (flow_start d a.flow)) (NoStart (0 + i)) both.0, both.1)
 
     start_is : IsListed (certificate_of c) i (out_at d a.flow.from) 0
-    start_is = to_machine c i a.listed a.there (start_of d a.flow) (listed_place a.listed (start_of d a.flow) flow_none.0)
+    start_is = to_machine c i a.listed a.there (flow_start d a.flow) (listed_place a.listed (flow_start d a.flow) flow_none.0)
 
     module _ (p : Place) (m : Contains a.listed p) where
       in_range : (p.channel < length (ends_of d)) × (p.deleted ≤ length a.flow.address)
@@ -160,9 +160,9 @@ module _ (d : Declaration) (c : Contents) (valid : IsValid d) (acc : IsAccepted 
     agree : FlowAgrees d i f
     agree = steps_agree d valid i f here
 
-    start_listed : is_listed ps (start_of d f) ≡ true
+    start_listed : is_listed ps (flow_start d f) ≡ true
     unfolding network_of
-    start_listed = place_listed ps (start_of d f) (from_machine c i ps there (out_at d f.from) 0 (subst (λ (n : ℕ). IsListed (certificate_of c) i (out_at d n) 0) (from_is d i f here) (acc.starts i within)))
+    start_listed = place_listed ps (flow_start d f) (from_machine c i ps there (out_at d f.from) 0 (subst (λ (n : ℕ). IsListed (certificate_of c) i (out_at d n) 0) (from_is d i f here) (acc.starts i within)))
 
     module _ (p : Place) (m : Contains ps p) where
       listed_p : IsListed (certificate_of c) i p.channel p.deleted
@@ -203,7 +203,7 @@ module _ (d : Declaration) (c : Contents) (valid : IsValid d) (acc : IsAccepted 
 
     flow_passes : (n : ℕ) → refusal_of_flow d n f ps ≡ None
     flow_passes n =
-        both_none (if is_listed ps (start_of d f) then None else Some (NoStart n)) (first_refusal (refusal_of_place d n f ps) ps) (none_unless (is_listed ps (start_of d f)) (NoStart n) start_listed)
+        both_none (if is_listed ps (flow_start d f) then None else Some (NoStart n)) (first_refusal (refusal_of_place d n f ps) ps) (none_unless (is_listed ps (flow_start d f)) (NoStart n) start_listed)
         (refused_none (refusal_of_place d n f ps) ps (λ p m. place_passes p m n))
 
     along_passes : (n : ℕ) → not_rising_along d c.numbers n f ps ≡ None

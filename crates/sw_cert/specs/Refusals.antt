@@ -5,7 +5,7 @@ use Rattle.sw_topo.specs.Wiring.{out, partner}
 use Rattle.sw_topo.specs.Checked.{first_of}
 use Rattle.sw_config.specs.Entries.{FlowEntry, Declaration, all_flows}
 use Rattle.sw_flow.specs.declared.place.Place.{Place}
-use Rattle.sw_flow.specs.Places.{ends_of}
+use Rattle.sw_flow.specs.Places.{ends_of, flow_start, out_at}
 use Rattle.sw_flow.specs.Faults.{fault_of}
 use Rattle.sw_flow.specs.Followers.{followers_of}
 use Rattle.sw_cert.specs.Text.{Contents}
@@ -49,16 +49,9 @@ is_same p q = (p.channel == q.channel) && (p.deleted == q.deleted)
 abbrev pub is_listed : List Place → Place → Bool
 is_listed listed p = list_any (is_same p) listed
 
--- the channel that starts at node n, and the one that ends there
-abbrev pub out_at : Declaration → ℕ → ℕ
-out_at d n = unwrap_or (out (ends_of d) n) 0
-
+-- the channel that ends at node n
 abbrev pub into_at : Declaration → ℕ → ℕ
 into_at d n = unwrap_or (option_map partner (out (ends_of d) n)) 0
-
--- where the flow starts, with no byte deleted
-abbrev pub start_of : Declaration → FlowEntry → Place
-start_of d f = record { channel = out_at d f.from; deleted = 0 }
 
 -- each place that follows p is listed
 abbrev pub is_closed_at : Declaration → FlowEntry → List Place → Place → Bool
@@ -71,7 +64,7 @@ refusal_of_place d i f listed p =
 
 abbrev pub refusal_of_flow : Declaration → ℕ → FlowEntry → List Place → Option Refusal
 refusal_of_flow d i f listed =
-    first_of (if is_listed listed (start_of d f) then None else Some (NoStart i)) (first_refusal (refusal_of_place d i f listed) listed)
+    first_of (if is_listed listed (flow_start d f) then None else Some (NoStart i)) (first_refusal (refusal_of_place d i f listed) listed)
 
 -- ---- numbers that don't rise
 

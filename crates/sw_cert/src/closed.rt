@@ -4,24 +4,14 @@ ghost use Rattle.std.specs.List.{list_all};
 ghost use Rattle.sw_config.specs.Entries.{all_flows};
 ghost use Rattle.sw_config.specs.Valid.{IsFlow};
 ghost use Rattle.sw_cert.specs.Grammar.{IsBlock};
-ghost use Rattle.sw_cert.specs.Refusals.{is_listed, refusal_of_flow, refusal_of_place, start_of};
+ghost use Rattle.sw_cert.specs.Refusals.{is_listed, refusal_of_flow, refusal_of_place};
 ghost use Rattle.sw_cert.specs.Numbered.{refusal_at};
 
 use crate::Certificate;
 use crate::listed::is_listed;
 use crate::refusal::Refusal;
 use sw_config::{Flow, Network};
-use sw_flow::{Followers, Place, fault_in, followers_in};
-
-fn start_of(network: &Network, flow: &Flow) -> Place
-    requires { IsFlow network.now.nodes flow.now }
-    ensures { result ≡ start_of network.now flow.now }
-{
-    Place {
-        channel: network.topology().out(flow.from()),
-        deleted: 0,
-    }
-}
+use sw_flow::{Followers, Place, fault_in, flow_start, followers_in};
 
 /// Are the first of the places that follow, and the rest of them, listed?
 fn is_closed(listed: &[Place], next: &mut usize, first: &Place, rest: Followers<'_>) -> bool
@@ -79,7 +69,7 @@ pub(crate) fn closed_refusal(
 {
     let flow = network.flow(number);
     let listed = certificate.places(number);
-    if !is_listed(listed, &mut 0, &start_of(network, flow)) {
+    if !is_listed(listed, &mut 0, &flow_start(network, flow)) {
         return Some(Refusal::NoStart(number));
     }
     let mut next = 0;

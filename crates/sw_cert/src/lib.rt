@@ -28,5 +28,6 @@ pub use parallel::CheckWorkers;
 pub use parts::ReadWorkers;
 pub use passed::Passed;
 pub use refusal::Refusal;
+pub use rising::number_of;
 pub use sw_flow::Place;
 pub use sw_text::laws::one_spelling;

@@ -23,7 +23,8 @@ pub(crate) fn lesser(a: Option<u16>, b: Option<u16>) -> Option<u16>
     }
 }
 
-fn number_of(numbers: &[u16], channel: Chan) -> u16
+/// The number that a certificate with these numbers gives the channel; 0 where it gives none.
+pub fn number_of(numbers: &[u16], channel: Chan) -> u16
     ensures { result ≡ slice_index numbers.now channel }
 {
     match numbers.get(channel.number() as usize) {

@@ -1,5 +1,5 @@
 -- The places of a flow: where its packets can be, and with how many of their address bytes deleted.
-use Rattle.std.specs.Prelude.{◌≡◌, ℕ, ◌+◌, ◌<◌, List, length, slice_get, slice_index, Option, Some, Contains, AllPairs, ◌⊎◌, ◌↔◌, if◌then◌else◌}
+use Rattle.std.specs.Prelude.{◌≡◌, ℕ, ◌+◌, ◌<◌, List, length, slice_get, slice_index, Option, Some, Contains, AllPairs, ◌⊎◌, ◌↔◌, unwrap_or, if◌then◌else◌}
 use Rattle.sw_config.specs.PlaceEnd.{PlaceEnd}
 use Rattle.sw_config.specs.PlaceEnd.TheVariants.{Switch}
 use Rattle.sw_config.specs.Wiring.{out, partner}
@@ -15,6 +15,14 @@ ends_of d = (wiring_of d).ends
 -- where channel c ends: where the other channel of its link starts
 abbrev pub end_of : Declaration → ℕ → Option PlaceEnd
 end_of d c = slice_get (ends_of d) (partner c)
+
+-- the channel that starts at node n
+abbrev pub out_at : Declaration → ℕ → ℕ
+out_at d n = unwrap_or (out (ends_of d) n) 0
+
+-- where the flow starts, with no byte deleted
+abbrev pub flow_start : Declaration → FlowEntry → Place
+flow_start d f = record { channel = out_at d f.from; deleted = 0 }
 
 -- what the leading byte names at switch s, where k address bytes are deleted (ECSS-E-ST-50-12C, network layer: packet addressing)
 abbrev pub look_after : Declaration → FlowEntry → ℕ → ℕ → Look

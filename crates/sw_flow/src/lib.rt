@@ -19,5 +19,5 @@ pub use parallel::{PlaceWorkers, all_places, flows_a_thread};
 pub use place::Place;
 pub use routes::places;
 pub use sw_config::{Chan, Flow, Network, Reply};
-pub use walk::{Followers, followers_in};
+pub use walk::{Followers, flow_start, followers_in};
 pub use ways::way_to;

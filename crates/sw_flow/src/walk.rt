@@ -1,7 +1,9 @@
 //! The places that follow a place.
-ghost use Rattle.std.specs.Prelude.{◌≡◌, ◌<◌, ◌≤◌, ◌∷◌, [], length, MatchOption};
+ghost use Rattle.std.specs.Prelude.{◌≡◌, ◌<◌, ◌≤◌, ◌∷◌, [], MatchOption, Some, length};
 ghost use Rattle.sw_config.specs.Ports.{ports_of};
+ghost use Rattle.sw_config.specs.Wiring.{out};
 ghost use Rattle.sw_flow.specs.Followers.{outputs_of, followers_of};
+ghost use Rattle.sw_flow.specs.Places.{ends_of, flow_start};
 
 use crate::place::Place;
 use std::marker::Model;
@@ -20,6 +22,7 @@ pub struct Followers<'a> {
 impl<'a> Model for Followers<'a> {
     ghost use Rattle.std.specs.Prelude.{◌<◌, List, length};
     ghost use Rattle.sw_config.specs.Ports.{ports_of};
+    ghost use Rattle.sw_config.specs.Wiring.{out};
     ghost use Rattle.sw_flow.specs.declared.place.Place.{Place};
     ghost use Rattle.sw_flow.specs.Followers.{outputs_of, places_on};
 
@@ -73,6 +76,18 @@ fn no_followers(topology: &Topology) -> Followers<'_>
         topology,
         switch: 0,
         ports: PortSet::EMPTY.ports(),
+        deleted: 0,
+    }
+}
+
+/// Where the flow's packets start: on the channel of the node that they come from, with no byte deleted.
+pub fn flow_start(network: &Network, flow: &Flow) -> Place
+    requires { flow.now.from < length network.now.nodes }
+    ensures start { out (ends_of network.now) flow.now.from ≡ Some result.channel }
+    ensures place { result ≡ flow_start network.now flow.now }
+{
+    Place {
+        channel: network.topology().out(flow.from()),
         deleted: 0,
     }
 }

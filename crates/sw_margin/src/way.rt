@@ -1,6 +1,6 @@
 //! Ways of flows, and what waits where they are answered.
-ghost use Rattle.std.specs.Prelude.{◌≡◌, ◌<◌, ◌++◌, ◌∷◌, [], All, IfOk, Some, length, slice_get};
-ghost use Rattle.sw_topo.specs.Wiring.{out, partner};
+ghost use Rattle.std.specs.Prelude.{◌≡◌, ◌<◌, ◌++◌, ◌∷◌, [], All, IfOk, length, slice_get};
+ghost use Rattle.sw_topo.specs.Wiring.{partner};
 ghost use Rattle.sw_config.specs.Valid.{IsFlow};
 ghost use Rattle.sw_flow.specs.Followers.{followers_of};
 ghost use Rattle.sw_flow.specs.Places.{ends_of};
@@ -9,19 +9,7 @@ ghost use Rattle.sw_margin.specs.Waits.{IsWithin};
 
 use std::alloc::{AllocError, Global};
 use sw_config::{Flow, Network};
-use sw_flow::{Place, followers_in};
-
-// The place of the flow's start.
-fn start(network: &Network, flow: &Flow) -> Place
-    requires { IsFlow network.now.nodes flow.now }
-    ensures start { out (ends_of network.now) flow.now.from ≡ Some result.channel }
-    ensures whole { result.deleted ≡ 0 }
-{
-    Place {
-        channel: network.topology().out(flow.from()),
-        deleted: 0,
-    }
-}
+use sw_flow::{Place, flow_start, followers_in};
 
 // The first of the places that follow.
 fn first_follower(network: &Network, flow: &Flow, place: &Place) -> Option<Place>
@@ -40,7 +28,7 @@ fn add_waits_back(
     requires { IsFlow network.now.nodes flow.now }
     ensures { IfOk result (λ last. waits.new.items ++ (last.channel, partner last.channel) ∷ [] ≡ waits.old.items ++ answering network.now flow.now) }
 {
-    let mut place = start(network, flow);
+    let mut place = flow_start(network, flow);
     for _ in 0..network.channels() {
         let Some(next) = first_follower(network, flow, &place) else {
             return Ok(place);

@@ -4,7 +4,7 @@ use Rattle.std.proofs.lemmas.Option.{slice_get_past}
 use Rattle.std.specs.Option.{option_map_or}
 use Rattle.std.specs.Prelude.{String, slice_get}
 use Rattle.std.specs.declared.alloc.Global.{Global}
-use Rattle.sw_cert.specs.Refusals.{start_of}
+use Rattle.sw_flow.specs.Places.{flow_start}
 use Rattle.sw_config.specs.Entries.{Declaration, FlowEntry, all_flows}
 use Rattle.sw_flow.specs.declared.fault.RouteFault.{RouteFault}
 use Rattle.sw_flow.specs.declared.place.Place.{Place}
@@ -22,22 +22,22 @@ none_past : (d : Declaration) (i : ℕ) (said : FlowEntry → List ℕ) → leng
 none_past d i said past = ap (λ o. option_map_or said o []) (sym (slice_get_past (all_flows d) i past))
 
 pub past_start : (d : Declaration) (i : ℕ) → length (all_flows d) ≤ i → [] ≡ no_start_lines d i
-past_start d i past = none_past d i (λ f. told (codes "expected") (place_words (start_of d f) f.name ++ codes ", where it starts")) past
+past_start d i past = none_past d i (λ f. told (codes "expected") (place_words (flow_start d f) f.name ++ codes ", where it starts")) past
 
 pub past_closed : (d : Declaration) (lists : List (List Place)) (i : ℕ) (p : Place) → length (all_flows d) ≤ i → [] ≡ not_closed_lines d lists i p
 past_closed d lists i p past = none_past d i (λ f. option_map_or (missing_lines f.name p) (missing d f (listed_for lists i) p) []) past
 
 -- where a flow starts
 pub start_told : {E : Type 0} (r place behind words : Result (String Global) E) (d : Declaration) (i : ℕ) (f : FlowEntry) (start : Place) (name : List ℕ)
-    → slice_get (all_flows d) i ≡ Some f → start ≡ start_of d f → name ≡ f.name → Gives place (place_words start name) → Gives behind (codes ", where it starts")
+    → slice_get (all_flows d) i ≡ Some f → start ≡ flow_start d f → name ≡ f.name → Gives place (place_words start name) → Gives behind (codes ", where it starts")
     → IfOk words (λ s. AreJoined place behind (string_bytes s)) → IfOk r (λ s. IsTold (codes "expected") words (string_bytes s)) → Gives r (no_start_lines d i)
 start_told r place behind words d i f start name numbered is_start is_name is_place is_behind is_words made =
-    let said : FlowEntry → List ℕ = λ g. told (codes "expected") (place_words (start_of d g) g.name ++ codes ", where it starts") in
+    let said : FlowEntry → List ℕ = λ g. told (codes "expected") (place_words (flow_start d g) g.name ++ codes ", where it starts") in
     let a : List ℕ = place_words start name ++ codes ", where it starts" in
     let both = joined_if words place behind (place_words start name) (codes ", where it starts") is_words is_place is_behind in
     same_text r (told (codes "expected") a) (no_start_lines d i)
     (ap (λ p. told (codes "expected") (place_words p name ++ codes ", where it starts")) is_start
-    ∙ ap (λ n. told (codes "expected") (place_words (start_of d f) n ++ codes ", where it starts")) is_name ∙ ap (λ o. option_map_or said o []) (sym numbered))
+    ∙ ap (λ n. told (codes "expected") (place_words (flow_start d f) n ++ codes ", where it starts")) is_name ∙ ap (λ o. option_map_or said o []) (sym numbered))
     (told_if r words (codes "expected") a made both)
 
 module _ (d : Declaration) (lists : List (List Place)) (i : ℕ) (p : Place) (f : FlowEntry) (numbered : slice_get (all_flows d) i ≡ Some f) where

@@ -9,14 +9,14 @@ use Rattle.sw_config.specs.Entries.{Declaration, FlowEntry, all_flows}
 use Rattle.sw_flow.specs.declared.fault.RouteFault.{RouteFault}
 use Rattle.sw_flow.specs.declared.place.Place.{Place}
 use Rattle.sw_flow.specs.Followers.{followers_of}
-use Rattle.sw_flow.specs.Places.{ends_of}
+use Rattle.sw_flow.specs.Places.{ends_of, flow_start}
 use Rattle.sw_output.specs.ChannelTexts.{channel_text}
 use Rattle.sw_output.specs.FlowTexts.{flow_name}
 use Rattle.sw_cert.specs.Reading.{State}
 use Rattle.sw_cert.specs.Text.{Contents, contents_of, read_text}
 use Rattle.sw_cert.specs.declared.refusal.Refusal.{Refusal}
 use Rattle.sw_cert.specs.declared.refusal.Refusal.TheVariants.{WrongCount, NoStart, Faulty, NotClosed, NotRising}
-use Rattle.sw_cert.specs.Refusals.{is_in_range, is_listed, refusal_of, start_of}
+use Rattle.sw_cert.specs.Refusals.{is_in_range, is_listed, refusal_of}
 use Rattle.sw_file.specs.Network.{network_text}
 use Rattle.sw_hints.specs.HintLines.{head_line, told}
 use Rattle.sw_text.specs.declared.fault.TextFault.{TextFault}
@@ -106,7 +106,7 @@ wrong_count_lines d c = if is_of_size d c then range_lines d c.places else count
 
 -- where the flow starts
 abbrev pub no_start_lines : Declaration → ℕ → List ℕ
-no_start_lines d i = option_map_or (λ f. told (codes "expected") (place_words (start_of d f) f.name ++ codes ", where it starts")) (slice_get (all_flows d) i) []
+no_start_lines d i = option_map_or (λ f. told (codes "expected") (place_words (flow_start d f) f.name ++ codes ", where it starts")) (slice_get (all_flows d) i) []
 
 -- the first place that follows and is not listed
 abbrev pub missing : Declaration → FlowEntry → List Place → Place → Option Place

@@ -1,5 +1,5 @@
 //! Which numbers of a certificate do not rise, in words.
-ghost use Rattle.std.specs.Prelude.{◌≡◌, ◌<◌, ◌≤◌, ◌==◌, ◌++◌, ◌&&◌, IfOk, codes, length, slice_index, string_bytes};
+ghost use Rattle.std.specs.Prelude.{◌≡◌, ◌<◌, ◌≤◌, ◌==◌, ◌++◌, ◌&&◌, IfOk, codes, length, string_bytes};
 ghost use Rattle.std.specs.List.{list_any};
 ghost use Rattle.sw_config.specs.Entries.{all_flows};
 ghost use Rattle.sw_flow.specs.Followers.{followers_of};
@@ -8,22 +8,12 @@ ghost use Rattle.sw_verdict_hints.specs.CertificateHints.{cause_words, ends_word
 use crate::certificate_places::listed_for;
 use crate::made_texts::two_lines;
 use std::alloc::{AllocError, Global};
-use sw_cert::Certificate;
+use sw_cert::{Certificate, number_of};
 use sw_config::{Flow, Network};
 use sw_flow::{Place, followers_in};
 use sw_hints::joined;
 use sw_output::{channel_text, flow_name};
 use sw_topo::Chan;
-
-// The number of a channel in the certificate.
-fn number_of(numbers: &[u16], channel: Chan) -> u16
-    ensures { result ≡ slice_index numbers.now channel }
-{
-    match numbers.get(channel.number() as usize) {
-        Some(number) => *number,
-        None => 0,
-    }
-}
 
 // The ends of the channel, behind a space, if the network has it.
 fn ends_words(alloc: Global, network: &Network, channel: Chan) -> Result<String, AllocError>

@@ -1,7 +1,7 @@
 //! What of the places that a certificate lists is wrong, in words.
 ghost use Rattle.std.specs.Prelude.{◌≡◌, ◌<◌, ◌≤◌, IfOk, length, string_bytes};
 ghost use Rattle.sw_config.specs.Entries.{all_flows};
-ghost use Rattle.sw_cert.specs.Refusals.{is_in_range, is_listed, start_of};
+ghost use Rattle.sw_cert.specs.Refusals.{is_in_range, is_listed};
 ghost use Rattle.sw_verdict_hints.specs.CertificateHints.{count_words, faulty_lines, is_of_size, listed_for, missing, no_start_lines, not_closed_lines, outside_at, outside_lines, place_words, range_lines, wrong_count_lines};
 
 use crate::made_texts::two_lines;
@@ -9,7 +9,7 @@ use crate::route_hints::found_words;
 use std::alloc::{AllocError, Global};
 use sw_cert::Certificate;
 use sw_config::{Flow, Network};
-use sw_flow::{Place, RouteFault, followers_in};
+use sw_flow::{Place, RouteFault, flow_start, followers_in};
 use sw_hints::{joined, told_of};
 use sw_output::flow_name;
 
@@ -128,16 +128,6 @@ pub(crate) fn wrong_count_lines(
 
 // ---- places
 
-fn start_of(network: &Network, flow: &Flow) -> Place
-    requires { flow.now.from < length network.now.nodes }
-    ensures { result ≡ start_of network.now flow.now }
-{
-    Place {
-        channel: network.topology().out(flow.from()),
-        deleted: 0,
-    }
-}
-
 /// Of a flow whose start is not listed.
 ///
 /// # Errors
@@ -154,7 +144,7 @@ pub(crate) fn no_start_lines(
         return Ok(String::new(alloc));
     }
     let flow = network.flow(number);
-    let start = start_of(network, flow);
+    let start = flow_start(network, flow);
     let place = place_words(alloc, &start, flow.name());
     let behind = String::from_str(alloc, ", where it starts");
     told_of(alloc, "expected", joined(alloc, place, behind))

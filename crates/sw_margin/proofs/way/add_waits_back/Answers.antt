@@ -1,4 +1,5 @@
 use Rattle.std.proofs.Common.{ℕ, ◌≡◌, ◌<◌, ◌-◌, ◌++◌, ◌∷◌, [], List, length, sym, ap, ap₂, ◌∙◌, arith}
+use Rattle.sw_flow.specs.declared.place.Place.{Place}
 use Rattle.sw_flow.specs.Places.{ends_of}
 use Rattle.sw_margin.proofs.Ways.{waits_begun, waits_from, waits_more}
 use Rattle.sw_margin.proofs.way.add_waits_back.Goals as goal
@@ -7,9 +8,9 @@ pub loop-init : goal.loop-init
 loop-init c =
     let d = c.args.network.now in
     let whole : length (ends_of d) - 0 ≡ length (ends_of d) = omega arith in
-    ap (λ (n : ℕ). c.args.waits.now.items ++ waits_from d c.args.flow.now n c.start-place.result) whole
+    ap (λ (n : ℕ). c.args.waits.now.items ++ waits_from d c.args.flow.now n c.flow_start-place.result) whole
     ∙ ap (λ (l : List (ℕ × ℕ)). c.args.waits.now.items ++ l)
-    (sym (waits_begun d c.args.flow.now c.start-place.result c.start-place.ensures.start c.start-place.ensures.whole))
+    (sym (waits_begun d c.args.flow.now c.flow_start-place.result c.flow_start-place.ensures.start (ap (λ (p : Place). p.deleted) c.flow_start-place.ensures.place)))
 
 pub loop-preserved : goal.loop-preserved
 loop-preserved c =
