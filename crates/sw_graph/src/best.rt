@@ -1,4 +1,4 @@
-//! The least member of a part through which a shortest cycle goes.
+//! The least member of a component through which a shortest cycle goes.
 ghost use Rattle.std.specs.Prelude.{◌≡◌, ◌<◌, All, IfOk, length, slice_index};
 ghost use Rattle.std.specs.List.Sorted.{IsStrictlyIncreasing};
 ghost use Rattle.sw_graph.specs.Rows.{IsGraph, Leads};

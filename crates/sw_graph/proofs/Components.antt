@@ -1,4 +1,4 @@
--- Parts, as they are found.
+-- Components, as they are found.
 use Rattle.std.proofs.Common.{◌≡◌, ℕ, zero, suc, ◌+◌, ◌-◌, ◌<◌, ◌≤◌, List, [], ◌∷◌, ◌++◌, length, get_or, take, refl, sym, ap, ◌∙◌, subst, inl, inr, arith, All, Bool, true, false}
 use Rattle.std.specs.Prelude.{Contains, AllPairs, ◌≢◌, Vec, slice_index}
 use Rattle.std.specs.declared.alloc.Global.{Global}
@@ -19,9 +19,9 @@ use Rattle.sw_graph.proofs.Listed.{lead_inside, row_member}
 use Rattle.sw_graph.proofs.Numbers.{Contains-from_holds}
 use Rattle.sw_graph.proofs.Pigeons.{chain_join}
 use Rattle.sw_graph.specs.declared.best.Round.{Round}
-use Rattle.sw_graph.specs.declared.part.Part.{Part}
+use Rattle.sw_graph.specs.declared.component.Component.{Component}
 use Rattle.sw_graph.specs.Bests.{IsBest}
-use Rattle.sw_graph.specs.Parts.{AreParts, ArePartsBelow, AreTogether, IsPart, LeadsTo}
+use Rattle.sw_graph.specs.Components.{AreComponents, AreComponentsBelow, AreTogether, IsComponent, LeadsTo}
 use Rattle.sw_graph.specs.Searches.{NoRound}
 use Rattle.sw_graph.specs.Shortest.{IsFewest, IsNext, IsShortestFrom}
 use Rattle.sw_graph.proofs.Adding.{at_contains}
@@ -82,46 +82,46 @@ module _ (dep : ℕ → ℕ → Type 0) where
       at : (i j x : ℕ) → i < j → j < length (c ∷ cs) → get_or (c ∷ cs) i x ≡ get_or (c ∷ cs) j x → slice_index (c ∷ cs) i ≡ slice_index (c ∷ cs) j
       at i j x less lt same = get_or_default (c ∷ cs) i 0 x (omega arith) ∙ same ∙ get_or_default (c ∷ cs) j x 0 lt
 
-  -- ---- a part
+  -- ---- a component
 
-  pub is_part : (c : ℕ) (part : Part) (best : Round) → LeadsTo dep c c → IsListing (AreTogether dep c) part.members.items → IsBest dep part.members.items best → IsShortestFrom dep best.start best.length part.cycle.items → IsPart dep part
-  is_part c part best on l b s =
-      let x : ℕ = slice_index part.cycle.items 0 in
+  pub is_component : (c : ℕ) (component : Component) (best : Round) → LeadsTo dep c c → IsListing (AreTogether dep c) component.members.items → IsBest dep component.members.items best → IsShortestFrom dep best.start best.length component.cycle.items → IsComponent dep component
+  is_component c component best on l b s =
+      let x : ℕ = slice_index component.cycle.items 0 in
       let here : x ≡ best.start = s.begins in
-      let size : length part.cycle.items ≡ best.length = s.size in
+      let size : length component.cycle.items ≡ best.length = s.size in
       let some = b.fewest.some in
       let P : ℕ → Type 0 = λ y. AreTogether dep c y in
       let first : AreTogether dep c x = subst P (sym here) ((l.member best.start).0 b.member) in
-      let fewest : IsFewest dep x x (length part.cycle.items) =
-      let Q : ℕ → Type 0 = λ y. IsFewest dep y y (length part.cycle.items) in
+      let fewest : IsFewest dep x x (length component.cycle.items) =
+      let Q : ℕ → Type 0 = λ y. IsFewest dep y y (length component.cycle.items) in
       let R : ℕ → Type 0 = λ n. IsFewest dep best.start best.start n in
       subst Q (sym here) (subst R (sym size) b.fewest) in
-      let goes : Walks (IsNext dep x) part.cycle.items x = let Q : ℕ → Type 0 = λ y. Walks (IsNext dep y) part.cycle.items y in subst Q (sym here) s.goes in
-      let member : (d : ℕ) → AreTogether dep x d → Contains part.members.items d = λ d t. (l.member d).1 (together_on c x d first t) in
+      let goes : Walks (IsNext dep x) component.cycle.items x = let Q : ℕ → Type 0 = λ y. Walks (IsNext dep y) component.cycle.items y in subst Q (sym here) s.goes in
+      let member : (d : ℕ) → AreTogether dep x d → Contains component.members.items d = λ d t. (l.member d).1 (together_on c x d first t) in
       record {
         members = record {
           rising = l.rising;
           member = λ d. (λ m. together_on x c d (together_back c x first) ((l.member d).0 m), member d);
         };
         shortest = record {
-          closed = is_cycle x part.cycle.items (omega arith) refl goes;
-          once = comes_once x part.cycle.items refl goes fewest;
+          closed = is_cycle x component.cycle.items (omega arith) refl goes;
+          once = comes_once x component.cycle.items refl goes fewest;
           shortest = λ d n t k. let le = b.shortest d n (member d t) k in omega arith;
           first = λ d t k. let R : ℕ → Type 0 = λ n. Chain dep n d d in let le = b.least d (member d t) (subst R size k) in omega arith;
           goes = goes;
         };
       }
 
-  -- ---- the parts of the first c numbers
+  -- ---- the components of the first c numbers
 
-  abbrev has_member : ℕ → Part → Bool
-  has_member c part = holds part.members.items c
+  abbrev has_member : ℕ → Component → Bool
+  has_member c component = holds component.members.items c
 
-  abbrev pub Parting : ℕ → List Part → Type 0
-  Parting = ArePartsBelow dep
+  abbrev pub Below : ℕ → List Component → Type 0
+  Below = AreComponentsBelow dep
 
-  pub parting_none : Parting 0 []
-  parting_none = record {
+  pub components_none : Below 0 []
+  components_none = record {
     each = λ k d lt. absurd (omega arith);
     every = λ d lt h. absurd (omega arith);
     apart = λ i j d less lt. absurd (omega arith);
@@ -129,68 +129,68 @@ module _ (dep : ℕ → ℕ → Type 0) where
     low = λ k d lt. absurd (omega arith);
   }
 
-  shared : (p : Part) (c d : ℕ) → IsPart dep p → Contains p.members.items d → AreTogether dep c d → Contains p.members.items c
+  shared : (p : Component) (c d : ℕ) → IsComponent dep p → Contains p.members.items d → AreTogether dep c d → Contains p.members.items c
   shared p c d h m t = let x : ℕ = slice_index p.cycle.items 0 in (h.members.member c).1 (together_on x d c ((h.members.member d).0 m) (together_back c d t))
 
-  module _ (c : ℕ) (parts : List Part) (s : Parting c parts) where
+  module _ (c : ℕ) (components : List Component) (s : Below c components) where
     one_more : (Q : ℕ → Type 0) → ((d : ℕ) → d < c → Q d) → Q c → (d : ℕ) → d < c + 1 → Q d
     one_more Q old here d lt = elim (cases_lt d c) [ inl less ↦ old d less | inr past ↦ (let e : c ≡ d = omega arith in subst Q e here) ]
 
-    low_more : All (λ p. slice_index p.members.items 0 < c + 1) parts
+    low_more : All (λ p. slice_index p.members.items 0 < c + 1) components
     low_more = λ k d lt. let a = s.low k d lt in omega arith
 
-    pub parting_taken : list_any (has_member c) parts ≡ true → Parting (c + 1) parts
-    parting_taken e =
-        let a = Any-from_list_any (has_member c) parts e in
+    pub components_taken : list_any (has_member c) components ≡ true → Below (c + 1) components
+    components_taken e =
+        let a = Any-from_list_any (has_member c) components e in
         record {
           each = s.each;
-          every = one_more (λ d. LeadsTo dep d d → (part : Part) × Contains parts part × Contains part.members.items d) s.every (λ h. (a.1, (a.0, a.2, a.3), Contains-from_holds a.1.members.items c a.4));
+          every = one_more (λ d. LeadsTo dep d d → (component : Component) × Contains components component × Contains component.members.items d) s.every (λ h. (a.1, (a.0, a.2, a.3), Contains-from_holds a.1.members.items c a.4));
           apart = s.apart;
           rising = s.rising;
           low = low_more;
         }
 
-    pub parting_free : (LeadsTo dep c c → ⊥) → Parting (c + 1) parts
-    parting_free none = record {
+    pub components_free : (LeadsTo dep c c → ⊥) → Below (c + 1) components
+    components_free none = record {
       each = s.each;
-      every = one_more (λ d. LeadsTo dep d d → (part : Part) × Contains parts part × Contains part.members.items d) s.every (λ h. absurd (none h));
+      every = one_more (λ d. LeadsTo dep d d → (component : Component) × Contains components component × Contains component.members.items d) s.every (λ h. absurd (none h));
       apart = s.apart;
       rising = s.rising;
       low = low_more;
     }
 
-    not_in : list_any (has_member c) parts ≡ false → (k : ℕ) (d : Part) → k < length parts → Contains (get_or parts k d).members.items c → ⊥
-    not_in e k d lt m = false≢true (sym e ∙ list_any_at (has_member c) parts k d lt (holds-from_Contains (get_or parts k d).members.items c m))
+    not_in : list_any (has_member c) components ≡ false → (k : ℕ) (d : Component) → k < length components → Contains (get_or components k d).members.items c → ⊥
+    not_in e k d lt m = false≢true (sym e ∙ list_any_at (has_member c) components k d lt (holds-from_Contains (get_or components k d).members.items c m))
 
-    -- no lesser number is in the part of c
-    pub least_of : list_any (has_member c) parts ≡ false → LeadsTo dep c c → IsLeast (AreTogether dep c) c
+    -- no lesser number is in the component of c
+    pub least_of : list_any (has_member c) components ≡ false → LeadsTo dep c c → IsLeast (AreTogether dep c) c
     least_of e on = record {
       member = (on, on);
       least = λ d t. elim (cases_lt d c) [
         | inl less ↦
             let r = s.every d less (leads_on d c d t.1 t.0) in
             let k : ℕ = r.1.0 in
-            let lt : k < length parts = r.1.1 in
-            let P : Part → Type 0 = λ p. Contains p.members.items c in
-            absurd (not_in e k r.0 lt (subst P (sym r.1.2) (shared r.0 c d (All-contains (IsPart dep) parts r.0 s.each r.1) r.2 t)))
+            let lt : k < length components = r.1.1 in
+            let P : Component → Type 0 = λ p. Contains p.members.items c in
+            absurd (not_in e k r.0 lt (subst P (sym r.1.2) (shared r.0 c d (All-contains (IsComponent dep) components r.0 s.each r.1) r.2 t)))
         | inr past ↦ past
       ];
     }
 
-    pub parting_more : (part : Part) → list_any (has_member c) parts ≡ false → IsPart dep part → Contains part.members.items c → slice_index part.members.items 0 ≡ c → Parting (c + 1) (parts ++ part ∷ [])
-    parting_more part e h m begins = record {
-      each = All-push (IsPart dep) parts part s.each h;
-      every = one_more (λ d. LeadsTo dep d d → (p : Part) × Contains (parts ++ part ∷ []) p × Contains p.members.items d) (λ d less on. let r = s.every d less on in (r.0, Contains-append_left parts (part ∷ []) r.0 r.1, r.2)) (λ on. (part, Contains-push parts part, m));
-      apart = all_pairs_push (λ p q. (x : ℕ) → Contains p.members.items x → Contains q.members.items x → ⊥) parts part s.apart (λ k d lt x old new.
-          let y : ℕ = slice_index part.cycle.items 0 in
+    pub components_more : (component : Component) → list_any (has_member c) components ≡ false → IsComponent dep component → Contains component.members.items c → slice_index component.members.items 0 ≡ c → Below (c + 1) (components ++ component ∷ [])
+    components_more component e h m begins = record {
+      each = All-push (IsComponent dep) components component s.each h;
+      every = one_more (λ d. LeadsTo dep d d → (p : Component) × Contains (components ++ component ∷ []) p × Contains p.members.items d) (λ d less on. let r = s.every d less on in (r.0, Contains-append_left components (component ∷ []) r.0 r.1, r.2)) (λ on. (component, Contains-push components component, m));
+      apart = all_pairs_push (λ p q. (x : ℕ) → Contains p.members.items x → Contains q.members.items x → ⊥) components component s.apart (λ k d lt x old new.
+          let y : ℕ = slice_index component.cycle.items 0 in
           let t = together_on c y x (together_back y c ((h.members.member c).0 m)) ((h.members.member x).0 new) in
-          not_in e k d lt (shared (get_or parts k d) c x (s.each k d lt) old t));
-      rising = all_pairs_push (λ p q. slice_index p.members.items 0 < slice_index q.members.items 0) parts part s.rising (λ k d lt. let a = s.low k d lt in omega arith);
-      low = All-push (λ p. slice_index p.members.items 0 < c + 1) parts part low_more (omega arith);
+          not_in e k d lt (shared (get_or components k d) c x (s.each k d lt) old t));
+      rising = all_pairs_push (λ p q. slice_index p.members.items 0 < slice_index q.members.items 0) components component s.rising (λ k d lt. let a = s.low k d lt in omega arith);
+      low = All-push (λ p. slice_index p.members.items 0 < c + 1) components component low_more (omega arith);
     }
 
-    pub are_parts : ((d : ℕ) → LeadsTo dep d d → d < c) → AreParts dep parts
-    are_parts inside = record { each = s.each; every = λ d on. s.every d (inside d on) on; apart = s.apart; rising = s.rising }
+    pub are_components : ((d : ℕ) → LeadsTo dep d d → d < c) → AreComponents dep components
+    are_components inside = record { each = s.each; every = λ d on. s.every d (inside d on) on; apart = s.apart; rising = s.rising }
 
   pub no_round : (count c : ℕ) → IsAmong dep count → NoRound dep c count → LeadsTo dep c c → ⊥
   no_round count c among none h = let r = shortened dep count among h.0 h.0 c (omega arith) h.1 in none r.0 r.1 r.2
@@ -235,7 +235,7 @@ pub leads_of : (dep : ℕ → ℕ → Type 0) (c d n : ℕ) → IsFewest dep c d
 leads_of dep c d zero f = let some = f.some in absurd (omega arith)
 leads_of dep c d (suc n) f = (n, f.leads)
 
--- members of a part are numbers of the relation
+-- members of a component are numbers of the relation
 pub listed_inside : (rows : List (Vec ℕ Global)) (c : ℕ) (members : List ℕ) → IsListing (AreTogether (Leads rows) c) members → All (λ d. d < length rows) members
 listed_inside rows c members l = λ k d lt.
     let x : ℕ = get_or members k d in
@@ -249,6 +249,6 @@ among_rows rows ok c d h = lead_inside rows ok c d h
 pub on_inside : (rows : List (Vec ℕ Global)) (c : ℕ) → LeadsTo (Leads rows) c c → c < length rows
 on_inside rows c h = let r = chain_first (Leads rows) h.0 c c h.1 in row_member rows c r.0 r.1
 
--- no part holds-from_Contains the number, after all were looked at
-pub untaken : (c : ℕ) (parts items : List Part) (i : ℕ) → items ≡ parts → length items ≤ i → list_any (λ p. holds p.members.items c) (take i items) ≡ false → list_any (λ p. holds p.members.items c) parts ≡ false
-untaken c parts items i same past none = ap (list_any (λ p. holds p.members.items c)) (sym same ∙ sym (take_all i items past)) ∙ none
+-- no component holds-from_Contains the number, after all were looked at
+pub untaken : (c : ℕ) (components items : List Component) (i : ℕ) → items ≡ components → length items ≤ i → list_any (λ p. holds p.members.items c) (take i items) ≡ false → list_any (λ p. holds p.members.items c) components ≡ false
+untaken c components items i same past none = ap (list_any (λ p. holds p.members.items c)) (sym same ∙ sym (take_all i items past)) ∙ none

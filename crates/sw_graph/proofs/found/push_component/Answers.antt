@@ -2,10 +2,10 @@ use Rattle.std.proofs.Common.{◌<◌, length}
 use Rattle.std.proofs.lemmas.List.Elements.{All-contains}
 use Rattle.sw_graph.specs.Rows.{Leads}
 use Rattle.sw_graph.proofs.Listed.{reversed_graph}
-use Rattle.sw_graph.specs.Parts.{AreTogether}
-use Rattle.sw_graph.specs.declared.part.Part.{Part}
-use Rattle.sw_graph.proofs.Parting.{is_part, leads_of, listed_inside, parting_more, stands_first, together_listing}
-use Rattle.sw_graph.proofs.found.push_part.Goals as goal
+use Rattle.sw_graph.specs.Components.{AreTogether}
+use Rattle.sw_graph.specs.declared.component.Component.{Component}
+use Rattle.sw_graph.proofs.Components.{components_more, is_component, leads_of, listed_inside, stands_first, together_listing}
+use Rattle.sw_graph.proofs.found.push_component.Goals as goal
 
 pub together-requires-clause-graph2 : goal.together-requires-clause-graph2
 together-requires-clause-graph2 c = reversed_graph c.args.successors.now c.args.predecessors.now c.requires.graph c.requires.reversed
@@ -40,5 +40,5 @@ returns c =
     let on = leads_of dep c.args.c c.args.c c.args.count c.requires.fewest in
     let l = together_listing g c.args.predecessors.now c.requires.reversed c.args.c xs on c.in_ok-members.ensures in
     let b = rw c.deref.ensures.value at c.in_ok-best.ensures in
-    let part : Part = record { members = c.in_ok-members.members; cycle = c.in_ok-cycle.cycle } in
-    rw c.in_ok-push.ensures.items (parting_more dep c.args.c c.args.parts.now.items c.requires.below part c.requires.untaken (is_part dep c.args.c part c.in_ok-best.best on l b c.in_ok-cycle.ensures) ((l.member c.args.c).1 (on, on)) (stands_first (AreTogether dep c.args.c) xs c.args.c l c.requires.least).1)
+    let component : Component = record { members = c.in_ok-members.members; cycle = c.in_ok-cycle.cycle } in
+    rw c.in_ok-push.ensures.items (components_more dep c.args.c c.args.components.now.items c.requires.below component c.requires.untaken (is_component dep c.args.c component c.in_ok-best.best on l b c.in_ok-cycle.ensures) ((l.member c.args.c).1 (on, on)) (stands_first (AreTogether dep c.args.c) xs c.args.c l c.requires.least).1)
