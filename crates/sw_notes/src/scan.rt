@@ -1,4 +1,4 @@
-//! A walk over a text that proposes a place. What it proposes is checked by `place`: no claim rests on it.
+//! A scan of a text that proposes a place. What it proposes is checked by `place`: no claim rests on it.
 use crate::frame::Frame;
 use crate::header::{Headers, NO_HEADERS};
 use crate::proposal::Proposal;
@@ -10,24 +10,24 @@ use toml_parser::{ErrorKind, Key, ParseError, dotted_key, quoted, starts_string,
 
 /// The piece that was begun: where, and how many brackets are open before it and at its end.
 #[derive(Clone, Copy)]
-struct Begun {
+struct Piece {
     from: usize,
     before: usize,
     behind: usize,
 }
 
-/// What a walk knows beside the brackets that are open.
+/// What a scan knows beside the brackets that are open.
 #[derive(Clone, Copy)]
-struct Walk {
+struct TextScan {
     /// How long the whole text is.
     length: usize,
     headers: Headers,
     /// The table of the last header.
     section: Option<Section>,
-    begun: Option<Begun>,
+    begun: Option<Piece>,
 }
 
-impl Walk {
+impl TextScan {
     // Where the rest of the text begins.
     fn offset(&self, rest: &str) -> usize {
         self.length.saturating_sub(rest.len())
@@ -36,33 +36,33 @@ impl Walk {
 
 // Begins a piece at a table, or at a key of it, if that is sought and none was begun.
 fn begin(
-    walk: &mut Walk,
+    scan: &mut TextScan,
     sought: &Sought<'_>,
     section: Option<Section>,
     key: Option<&str>,
-    piece: Begun,
+    piece: Piece,
 ) {
-    if walk.begun.is_none() && sought.key == key && section == Some(sought.section) {
-        walk.begun = Some(piece);
+    if scan.begun.is_none() && sought.key == key && section == Some(sought.section) {
+        scan.begun = Some(piece);
     }
 }
 
 // The table that a key leads to, from a table on. Begins a piece at its last part, if that is sought. `opens`: it opens an entry.
 fn reached(
-    walk: &mut Walk,
+    scan: &mut TextScan,
     sought: &Sought<'_>,
     section: Option<Section>,
     key: &Key,
-    piece: Begun,
+    piece: Piece,
     opens: bool,
 ) -> Option<Section> {
     let mut parent = section;
     for part in &key.path {
-        parent = walk.headers.entered(parent, part.as_str(), false);
+        parent = scan.headers.entered(parent, part.as_str(), false);
     }
     let last = key.last.as_str();
-    begin(walk, sought, parent, Some(last), piece);
-    walk.headers.entered(parent, last, opens)
+    begin(scan, sought, parent, Some(last), piece);
+    scan.headers.entered(parent, last, opens)
 }
 
 // Notes a bracket as open, and hands on what stands behind it.
@@ -78,7 +78,7 @@ fn opened<'t>(
 // Reads the beginning of a value, or all of it.
 fn value<'t>(
     alloc: Global,
-    walk: &mut Walk,
+    scan: &mut TextScan,
     sought: &Sought<'_>,
     frames: &mut Vec<Frame>,
     section: Option<Section>,
@@ -90,12 +90,12 @@ fn value<'t>(
     }
     if byte == b'{' {
         let open = frames.len();
-        let piece = Begun {
-            from: walk.offset(rest),
+        let piece = Piece {
+            from: scan.offset(rest),
             before: open,
             behind: open.saturating_add(1),
         };
-        begin(walk, sought, section, None, piece);
+        begin(scan, sought, section, None, piece);
         return opened(frames, Frame::Table(section), skip(rest, 1));
     }
     if starts_string(rest) {
@@ -113,7 +113,7 @@ fn value<'t>(
 // Reads a key, `=`, and the beginning of the value or all of it.
 fn member<'t>(
     alloc: Global,
-    walk: &mut Walk,
+    scan: &mut TextScan,
     sought: &Sought<'_>,
     frames: &mut Vec<Frame>,
     section: Option<Section>,
@@ -121,26 +121,26 @@ fn member<'t>(
 ) -> Result<&'t str, ParseError> {
     let (key, after) = dotted_key(alloc, rest)?;
     let open = frames.len();
-    let piece = Begun {
-        from: walk.offset(rest),
+    let piece = Piece {
+        from: scan.offset(rest),
         before: open,
         behind: open,
     };
-    let inner = reached(walk, sought, section, &key, piece, false);
+    let inner = reached(scan, sought, section, &key, piece, false);
     if let Some(part) = key.path.first() {
-        begin(walk, sought, section, Some(part.as_str()), piece);
+        begin(scan, sought, section, Some(part.as_str()), piece);
     }
     drop(key);
     if first(after) != b'=' {
         return Err(ParseError::at(ErrorKind::MissingEquals, after));
     }
-    value(alloc, walk, sought, frames, inner, skip_ws(skip(after, 1)))
+    value(alloc, scan, sought, frames, inner, skip_ws(skip(after, 1)))
 }
 
 // Reads a header, behind its first bracket.
 fn header<'t>(
     alloc: Global,
-    walk: &mut Walk,
+    scan: &mut TextScan,
     sought: &Sought<'_>,
     rest: &'t str,
 ) -> Result<&'t str, ParseError> {
@@ -151,17 +151,17 @@ fn header<'t>(
         (rest, "]")
     };
     let (key, after) = dotted_key(alloc, skip_ws(inner))?;
-    let piece = Begun {
-        from: walk.offset(rest).saturating_sub(1),
+    let piece = Piece {
+        from: scan.offset(rest).saturating_sub(1),
         before: 0,
         behind: 0,
     };
     let document = Some(Section::Document);
-    let section = reached(walk, sought, document, &key, piece, opens);
+    let section = reached(scan, sought, document, &key, piece, opens);
     drop(key);
-    walk.section = section;
+    scan.section = section;
     if opens {
-        begin(walk, sought, section, None, piece);
+        begin(scan, sought, section, None, piece);
     }
     match after.strip_prefix(closing) {
         Some(behind) => Ok(behind),
@@ -172,7 +172,7 @@ fn header<'t>(
 // Reads the next part of the text.
 fn turn<'t>(
     alloc: Global,
-    walk: &mut Walk,
+    scan: &mut TextScan,
     sought: &Sought<'_>,
     frames: &mut Vec<Frame>,
     rest: &'t str,
@@ -180,10 +180,10 @@ fn turn<'t>(
     let byte = first(rest);
     let Some(frame) = frames.last().copied() else {
         if byte == b'[' {
-            return header(alloc, walk, sought, skip(rest, 1));
+            return header(alloc, scan, sought, skip(rest, 1));
         }
-        let section = walk.section;
-        return member(alloc, walk, sought, frames, section, rest);
+        let section = scan.section;
+        return member(alloc, scan, sought, frames, section, rest);
     };
     if byte == frame.closing() {
         let _ = frames.pop();
@@ -194,19 +194,19 @@ fn turn<'t>(
         return opened(frames, frame.next(), skip(rest, 1));
     }
     match frame {
-        Frame::Table(section) => member(alloc, walk, sought, frames, section, rest),
-        Frame::List(section) => value(alloc, walk, sought, frames, section, rest),
+        Frame::Table(section) => member(alloc, scan, sought, frames, section, rest),
+        Frame::List(section) => value(alloc, scan, sought, frames, section, rest),
     }
 }
 
-/// The place that a walk over the text meets first for what is sought. `frames`, which are empty, become the brackets that are open behind it.
+/// The place that a scan of the text meets first for what is sought. `frames`, which are empty, become the brackets that are open behind it.
 pub(crate) fn proposed(
     alloc: Global,
     text: &str,
     sought: &Sought<'_>,
     frames: &mut Vec<Frame>,
 ) -> Result<Option<Proposal>, ParseError> {
-    let mut walk = Walk {
+    let mut scan = TextScan {
         length: text.len(),
         headers: NO_HEADERS,
         section: Some(Section::Document),
@@ -215,12 +215,12 @@ pub(crate) fn proposed(
     let mut rest = text;
     for _ in 0..text.len() {
         rest = skip_blank(rest, true);
-        rest = turn(alloc, &mut walk, sought, frames, rest)?;
-        match walk.begun {
+        rest = turn(alloc, &mut scan, sought, frames, rest)?;
+        match scan.begun {
             Some(begun) if begun.behind == frames.len() => {
                 return Ok(Some(Proposal {
                     from: begun.from,
-                    to: walk.offset(rest),
+                    to: scan.offset(rest),
                     open: begun.before,
                 }));
             }
