@@ -18,7 +18,7 @@ use Rattle.sw_graph.specs.Walks.{holds}
 use Rattle.sw_graph.proofs.Listed.{lead_inside, row_member}
 use Rattle.sw_graph.proofs.Numbers.{Contains-from_holds}
 use Rattle.sw_graph.proofs.Pigeons.{chain_join}
-use Rattle.sw_graph.specs.declared.best.Round.{Round}
+use Rattle.sw_graph.specs.declared.best.KnownCycle.{KnownCycle}
 use Rattle.sw_graph.specs.declared.component.Component.{Component}
 use Rattle.sw_graph.specs.Bests.{IsBest}
 use Rattle.sw_graph.specs.Components.{AreComponents, AreComponentsBelow, AreTogether, IsComponent, LeadsTo}
@@ -84,7 +84,7 @@ module _ (dep : ℕ → ℕ → Type 0) where
 
   -- ---- a component
 
-  pub is_component : (c : ℕ) (component : Component) (best : Round) → LeadsTo dep c c → IsListing (AreTogether dep c) component.members.items → IsBest dep component.members.items best → IsShortestFrom dep best.start best.length component.cycle.items → IsComponent dep component
+  pub is_component : (c : ℕ) (component : Component) (best : KnownCycle) → LeadsTo dep c c → IsListing (AreTogether dep c) component.members.items → IsBest dep component.members.items best → IsShortestFrom dep best.start best.length component.cycle.items → IsComponent dep component
   is_component c component best on l b s =
       let x : ℕ = slice_index component.cycle.items 0 in
       let here : x ≡ best.start = s.begins in

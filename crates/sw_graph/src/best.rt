@@ -8,9 +8,9 @@ ghost use Rattle.sw_graph.specs.Shortest.{IsFewest};
 use crate::search::fewest_round;
 use std::alloc::{AllocError, Global};
 
-/// Where a cycle begins, and how many members it has.
+/// A cycle that is known: where it begins, and how many members it has.
 #[derive(Clone, Copy)]
-pub(crate) struct Round {
+pub(crate) struct KnownCycle {
     pub(crate) start: u16,
     pub(crate) length: u16,
 }
@@ -20,8 +20,8 @@ pub(crate) fn best(
     alloc: Global,
     rows: &[Vec<u16>],
     members: &[u16],
-    first: Round,
-) -> Result<Round, AllocError>
+    first: KnownCycle,
+) -> Result<KnownCycle, AllocError>
     requires graph { IsGraph rows.now }
     requires inside { All (λ c. c < length rows.now) members.now }
     requires rising { IsStrictlyIncreasing members.now }
@@ -35,7 +35,7 @@ pub(crate) fn best(
         let Some(length) = fewest_round(alloc, rows, *c, best.length - 1)? else {
             continue;
         };
-        best = Round { start: *c, length };
+        best = KnownCycle { start: *c, length };
     }
     Ok(best)
 }

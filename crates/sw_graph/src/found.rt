@@ -8,7 +8,7 @@ ghost use Rattle.sw_graph.specs.Components.{AreComponents, AreComponentsBelow, A
 ghost use Rattle.sw_graph.specs.Shortest.{IsFewest};
 
 use crate::back::cycle_through;
-use crate::best::{Round, best};
+use crate::best::{KnownCycle, best};
 use crate::component::Component;
 use crate::predecessors::predecessors_of;
 use crate::search::fewest_round;
@@ -36,7 +36,7 @@ fn push_component(
     ensures { OnOk result (AreComponentsBelow (Leads successors.now) (c + 1) components.new.items) }
 {
     let members = together(alloc, successors, predecessors, c)?;
-    let first = Round {
+    let first = KnownCycle {
         start: c,
         length: count,
     };
