@@ -1,5 +1,5 @@
 //! Laws of components, each over any relation. The functions do nothing: a call brings the law of its contract.
-ghost use Rattle.sw_graph.specs.ComponentLaws.{CycleMembersAreInOneComponent, ComponentsAreWhereCyclesAre, ComponentsCarryOver};
+ghost use Rattle.sw_graph.specs.ComponentLaws.{ComponentsAreWhereCyclesAre, ComponentsCarryOver, CycleMembersAreInOneComponent};
 
 use crate::laws::Relation;
 

@@ -1,10 +1,10 @@
 use Rattle.std.proofs.Common.{List, ap, arith, length, take, ℕ, ◌+◌, ◌<◌, ◌∙◌, ◌≡◌}
 use Rattle.sw_char.specs.PacketView.{PacketView}
 use Rattle.sw_summary.specs.Counts.{items_at}
-use Rattle.sw_summary.specs.Tallies.{Item}
+use Rattle.sw_summary.specs.KeyCounts.{Item}
 use Rattle.sw_summary.proofs.Lists.{packet_more}
 use Rattle.sw_summary.proofs.Taken.{one_taken}
-use Rattle.sw_summary.proofs.tallies.found_packets.Goals as goal
+use Rattle.sw_summary.proofs.key_counts.found_packets.Goals as goal
 
 pub loop-packet-preserved : goal.loop-packet-preserved
 loop-packet-preserved c =
@@ -17,7 +17,7 @@ loop-packet-preserved c =
     ap (λ (l : List ℕ). record { node = n; packet = record { bytes = l; end = c.packet.inside.end } }) c.as_slice.ensures.value ∙ ap (λ (p : PacketView). record { node = n; packet = p }) c.packet.view_is
     in
     let next = packet_more n packets i c.packet-item.result key within c.packet-item.is is in
-    let both = one_taken c.args.tallies.now c.loop-packet.tallies c.take-count.new.tallies (items_at n (take i packets)) (items_at n (take (i + 1) packets)) key
+    let both = one_taken c.args.key_counts.now c.loop-packet.key_counts c.take-count.new.key_counts (items_at n (take i packets)) (items_at n (take (i + 1) packets)) key
     c.loop-packet.count c.take-count.result next c.loop-packet.invariant.count c.loop-packet.invariant.rest c.take-count.ensures.lowered c.take-count.ensures.fewer in
     let few = c.take-count.ensures.few in
     let were = c.loop-packet.invariant.few in
