@@ -14,8 +14,8 @@ use Rattle.sw_flow.specs.Ways.{GoesFromStart, GoesOver}
 use Rattle.sw_flow.specs.declared.fault.RouteFault.{RouteFault}
 use Rattle.sw_flow.specs.declared.place.Place.{Place}
 use Rattle.sw_graph.specs.Laws.{IsChain, IsCycle}
-use Rattle.sw_graph.specs.Parts.{IsPart}
-use Rattle.sw_graph.specs.declared.part.Part.{Part}
+use Rattle.sw_graph.specs.Components.{IsComponent}
+use Rattle.sw_graph.specs.declared.component.Component.{Component}
 use Rattle.sw_search.specs.Verdicts.{depends}
 use Rattle.sw_search.proofs.Waits.{waits_within}
 use Rattle.sw_app_changes.specs.ExplainTexts.{AreOnChannels, IsOfChannels}
@@ -51,20 +51,20 @@ module _ (d : Declaration) where
     cycle_within [] h = absurd h
     cycle_within (c ∷ cs) h = chain_within c cs c h
 
-    of_channels : (part : Part) (t : Tangle) → IsPart (depends d) part → IsTangle d part t → IsOfChannels d t
-    of_channels part t p is = record {
-      within = subst (All Inside) (sym is.cycle) (cycle_within part.cycle.items p.shortest.closed);
+    of_channels : (component : Component) (t : Tangle) → IsComponent (depends d) component → IsTangle d component t → IsOfChannels d t
+    of_channels component t p is = record {
+      within = subst (All Inside) (sym is.cycle) (cycle_within component.cycle.items p.shortest.closed);
       caused = is.chosen.one_each;
       made = is.flows.size;
     }
 
-    each_of_channels : (parts : List Part) (ts : List Tangle) → AllZip (IsTangle d) parts ts → All (IsPart (depends d)) parts → All (IsOfChannels d) ts
+    each_of_channels : (components : List Component) (ts : List Tangle) → AllZip (IsTangle d) components ts → All (IsComponent (depends d)) components → All (IsOfChannels d) ts
     each_of_channels [] [] h all = All-nil (IsOfChannels d)
     each_of_channels [] (t ∷ ts) h all = absurd h
     each_of_channels (p ∷ ps) [] h all = absurd h
     each_of_channels (p ∷ ps) (t ∷ ts) h all =
-        All-cons (IsOfChannels d) t ts (of_channels p t (All-head (IsPart (depends d)) p ps all) h.0)
-        (each_of_channels ps ts h.1 (All-tail (IsPart (depends d)) p ps all))
+        All-cons (IsOfChannels d) t ts (of_channels p t (All-head (IsComponent (depends d)) p ps all) h.0)
+        (each_of_channels ps ts h.1 (All-tail (IsComponent (depends d)) p ps all))
 
     pub tangled_within : (ts : List Tangle) → IsTangled d ts → All (IsOfChannels d) ts
-    tangled_within ts h = each_of_channels h.are.parts ts h.are.told h.are.are.each
+    tangled_within ts h = each_of_channels h.are.components ts h.are.told h.are.are.each

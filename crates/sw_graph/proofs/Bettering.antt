@@ -5,13 +5,13 @@ use Rattle.std.specs.List.Sorted.{IsStrictlyIncreasing}
 use Rattle.std.proofs.lemmas.Bool.{cases_eq, cases_lt}
 use Rattle.std.proofs.lemmas.List.Kept.{AllPairs-from_increasing}
 use Rattle.sw_graph.specs.Levels.{Chain}
-use Rattle.sw_graph.specs.declared.best.Round.{Round}
+use Rattle.sw_graph.specs.declared.best.KnownCycle.{KnownCycle}
 use Rattle.sw_graph.specs.Bests.{IsBest, IsBetter}
 use Rattle.sw_graph.specs.Shortest.{IsFewest}
 use Rattle.sw_graph.proofs.Adding.{at_contains, contains_at}
 
 -- the best of the first members
-pub record Bettering (dep : ℕ → ℕ → Type 0) (members : List ℕ) (done : ℕ) (best : Round) : Type 0 where
+pub record Bettering (dep : ℕ → ℕ → Type 0) (members : List ℕ) (done : ℕ) (best : KnownCycle) : Type 0 where
   pub member : Contains members best.start
   pub fewest : IsFewest dep best.start best.start best.length
   pub shortest : (k i : ℕ) → k < done → Chain dep (suc i) (slice_index members k) (slice_index members k) → best.length ≤ suc i
@@ -22,7 +22,7 @@ module _ (dep : ℕ → ℕ → Type 0) (members : List ℕ) (rising : IsStrictl
   rises : (i k : ℕ) → i ≤ k → k < length members → slice_index members i ≤ slice_index members k
   rises i k le lt = elim (cases_eq i k) [ inl e ↦ (let s : slice_index members i ≡ slice_index members k = ap (slice_index members) e in omega arith) | inr ne ↦ (let s : slice_index members i < slice_index members k = AllPairs-from_increasing members rising i k 0 (omega arith) lt in omega arith) ]
 
-  pub bettering_first : (best : Round) → 0 < length members → slice_index members 0 ≡ best.start → IsFewest dep best.start best.start best.length → Bettering dep members 0 best
+  pub bettering_first : (best : KnownCycle) → 0 < length members → slice_index members 0 ≡ best.start → IsFewest dep best.start best.start best.length → Bettering dep members 0 best
   bettering_first best some begins f = record {
     member = contains_at members 0 best.start some begins;
     fewest = f;
@@ -31,11 +31,11 @@ module _ (dep : ℕ → ℕ → Type 0) (members : List ℕ) (rising : IsStrictl
     rest = λ k le lt. let s = rises 0 k (omega arith) lt in omega arith;
   }
 
-  pub bettering_more : (done : ℕ) (known best : Round) → done < length members → Bettering dep members done known → IsBetter dep (slice_index members done) known best → Bettering dep members (done + 1) best
+  pub bettering_more : (done : ℕ) (known best : KnownCycle) → done < length members → Bettering dep members done known → IsBetter dep (slice_index members done) known best → Bettering dep members (done + 1) best
   bettering_more done known best lt b h = elim h.either [
     | inl same ↦
-        let l : best.length ≡ known.length = ap (λ (r : Round). r.length) same in
-        let s : best.start ≡ known.start = ap (λ (r : Round). r.start) same in
+        let l : best.length ≡ known.length = ap (λ (r : KnownCycle). r.length) same in
+        let s : best.start ≡ known.start = ap (λ (r : KnownCycle). r.start) same in
         record {
           member = let P : ℕ → Type 0 = λ x. Contains members x in subst P (sym s) b.member;
           fewest = h.fewest;
@@ -65,7 +65,7 @@ module _ (dep : ℕ → ℕ → Type 0) (members : List ℕ) (rising : IsStrictl
       too_short zero some k old c shorter = omega arith
       too_short (suc i) some k old c shorter = let le = b.shortest k i old c in omega arith
 
-  pub is_best : (best : Round) (done : ℕ) → length members ≤ done → Bettering dep members done best → IsBest dep members best
+  pub is_best : (best : KnownCycle) (done : ℕ) → length members ≤ done → Bettering dep members done best → IsBest dep members best
   is_best best done all b = record {
     member = b.member;
     fewest = b.fewest;
@@ -74,14 +74,14 @@ module _ (dep : ℕ → ℕ → Type 0) (members : List ℕ) (rising : IsStrictl
   }
 
 -- what is known, or what was found through c
-pub kept : (dep : ℕ → ℕ → Type 0) (c : ℕ) (known : Round) → IsFewest dep known.start known.start known.length → ((i : ℕ) → i < known.length - 1 → Chain dep (suc i) c c → ⊥) → IsBetter dep c known known
+pub kept : (dep : ℕ → ℕ → Type 0) (c : ℕ) (known : KnownCycle) → IsFewest dep known.start known.start known.length → ((i : ℕ) → i < known.length - 1 → Chain dep (suc i) c c → ⊥) → IsBetter dep c known known
 kept dep c known f none = record {
   fewest = f;
   shorter = λ i h. let some = f.some in elim (cases_lt i (known.length - 1)) [ inl lt ↦ absurd (none i lt h) | inr past ↦ omega arith ];
   either = inl refl;
 }
 
-pub bettered : (dep : ℕ → ℕ → Type 0) (c n : ℕ) (known : Round) → IsFewest dep known.start known.start known.length → n ≤ known.length - 1 → IsFewest dep c c n → IsBetter dep c known (record { start = c; length = n })
+pub bettered : (dep : ℕ → ℕ → Type 0) (c n : ℕ) (known : KnownCycle) → IsFewest dep known.start known.start known.length → n ≤ known.length - 1 → IsFewest dep c c n → IsBetter dep c known (record { start = c; length = n })
 bettered dep c n known g le f = record {
   fewest = f;
   shorter = f.fewest;

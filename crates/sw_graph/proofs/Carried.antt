@@ -1,12 +1,12 @@
--- Parts of relations with the same steps.
+-- Components of relations with the same steps.
 use Rattle.std.proofs.Common.{ℕ, suc, List, [], ◌∷◌, length}
 use Rattle.std.specs.Prelude.{slice_index}
 use Rattle.sw_graph.specs.Laws.{IsChain, IsCycle}
 use Rattle.sw_graph.proofs.Backs.{walks_map}
 use Rattle.sw_graph.proofs.Transfers.{chain_map}
-use Rattle.sw_graph.specs.declared.part.Part.{Part}
-use Rattle.sw_graph.specs.PartLaws.{PartsCarryOver}
-use Rattle.sw_graph.specs.Parts.{AreTogether, IsPart, IsShortest, LeadsTo}
+use Rattle.sw_graph.specs.declared.component.Component.{Component}
+use Rattle.sw_graph.specs.ComponentLaws.{ComponentsCarryOver}
+use Rattle.sw_graph.specs.Components.{AreTogether, IsComponent, IsShortest, LeadsTo}
 use Rattle.sw_graph.specs.Shortest.{IsFewest, IsNext}
 
 leads_map : (P Q : ℕ → ℕ → Type 0) → ((c d : ℕ) → P c d → Q c d) → (c d : ℕ) → LeadsTo P c d → LeadsTo Q c d
@@ -47,23 +47,23 @@ shortest_map P Q f g cycle h =
       goes = walks_map (IsNext P x) (IsNext Q x) (λ c d. next_map P Q f g x c d) cycle x h.goes;
     }
 
-part_map : (P Q : ℕ → ℕ → Type 0) → ((c d : ℕ) → P c d → Q c d) → ((c d : ℕ) → Q c d → P c d) → (part : Part) → IsPart P part → IsPart Q part
-part_map P Q f g part h =
-    let x : ℕ = slice_index part.cycle.items 0 in
+component_map : (P Q : ℕ → ℕ → Type 0) → ((c d : ℕ) → P c d → Q c d) → ((c d : ℕ) → Q c d → P c d) → (component : Component) → IsComponent P component → IsComponent Q component
+component_map P Q f g component h =
+    let x : ℕ = slice_index component.cycle.items 0 in
     record {
       members = record {
         rising = h.members.rising;
         member = λ c. (λ m. together_map P Q f x c ((h.members.member c).0 m), λ t. (h.members.member c).1 (together_map Q P g x c t));
       };
-      shortest = shortest_map P Q f g part.cycle.items h.shortest;
+      shortest = shortest_map P Q f g component.cycle.items h.shortest;
     }
 
-pub parts_carry_over : (dep same : ℕ → ℕ → Type 0) → PartsCarryOver dep same
-parts_carry_over dep same iff parts h =
+pub components_carry_over : (dep same : ℕ → ℕ → Type 0) → ComponentsCarryOver dep same
+components_carry_over dep same iff components h =
     let f : (c d : ℕ) → dep c d → same c d = λ c d. (iff c d).0 in
     let g : (c d : ℕ) → same c d → dep c d = λ c d. (iff c d).1 in
     record {
-      each = λ k d lt. part_map dep same f g _ (h.each k d lt);
+      each = λ k d lt. component_map dep same f g _ (h.each k d lt);
       every = λ c on. h.every c (leads_map same dep g c c on);
       apart = h.apart;
       rising = h.rising;

@@ -10,9 +10,9 @@ pub mod Laws
 pub mod Reversing
 pub mod Rounds
 pub mod Walking
-pub mod Parts
+pub mod Components
 pub mod Shortest
 pub mod Searches
 pub mod Bests
-pub mod PartLaws
+pub mod ComponentLaws
 pub mod Found

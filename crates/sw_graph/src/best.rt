@@ -1,4 +1,4 @@
-//! The least member of a part through which a shortest cycle goes.
+//! The least member of a component through which a shortest cycle goes.
 ghost use Rattle.std.specs.Prelude.{◌≡◌, ◌<◌, All, IfOk, length, slice_index};
 ghost use Rattle.std.specs.List.Sorted.{IsStrictlyIncreasing};
 ghost use Rattle.sw_graph.specs.Rows.{IsGraph, Leads};
@@ -8,9 +8,9 @@ ghost use Rattle.sw_graph.specs.Shortest.{IsFewest};
 use crate::search::fewest_round;
 use std::alloc::{AllocError, Global};
 
-/// Where a cycle begins, and how many members it has.
+/// A cycle that is known: where it begins, and how many members it has.
 #[derive(Clone, Copy)]
-pub(crate) struct Round {
+pub(crate) struct KnownCycle {
     pub(crate) start: u16,
     pub(crate) length: u16,
 }
@@ -20,8 +20,8 @@ pub(crate) fn best(
     alloc: Global,
     rows: &[Vec<u16>],
     members: &[u16],
-    first: Round,
-) -> Result<Round, AllocError>
+    first: KnownCycle,
+) -> Result<KnownCycle, AllocError>
     requires graph { IsGraph rows.now }
     requires inside { All (λ c. c < length rows.now) members.now }
     requires rising { IsStrictlyIncreasing members.now }
@@ -35,7 +35,7 @@ pub(crate) fn best(
         let Some(length) = fewest_round(alloc, rows, *c, best.length - 1)? else {
             continue;
         };
-        best = Round { start: *c, length };
+        best = KnownCycle { start: *c, length };
     }
     Ok(best)
 }

@@ -1,5 +1,5 @@
 //! Finite relations: the least set of numbers that holds a start and is closed under steps, a way to
-//! one of them, and the order of a relation, the level of each member or a cycle; the parts in which each
+//! one of them, and the order of a relation, the level of each member or a cycle; the components in which each
 //! number leads to each other, and a shortest cycle of each.
 //!
 //! The same call at many numbers, in as many threads as there are processors, and who makes such calls: threads, or the caller's own thread alone.
@@ -8,14 +8,14 @@
 mod answer;
 mod back;
 mod best;
+mod component;
+pub mod component_laws;
 mod cycle;
 mod found;
 pub mod laws;
 mod least;
 mod marks;
 mod ordering;
-mod part;
-pub mod part_laws;
 mod predecessors;
 mod round_workers;
 mod rounds;
@@ -30,10 +30,10 @@ mod ways;
 mod workers;
 
 pub use answer::Order;
-pub use found::parts;
+pub use component::Component;
+pub use found::components;
 pub use least::reached;
 pub use ordering::order;
-pub use part::Part;
 pub use predecessors::predecessors_of;
 pub use round_workers::RoundWorkers;
 pub use rows::{add_to_row, empty_rows};

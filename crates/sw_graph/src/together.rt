@@ -1,4 +1,4 @@
-//! The members of a part.
+//! The members of a component.
 ghost use Rattle.std.specs.Prelude.{◌≡◌, ◌<◌, ◌≤◌, All, IfOk, filter, length};
 ghost use Rattle.std.specs.List.Sorted.{IsStrictlyIncreasing};
 ghost use Rattle.sw_graph.specs.Reached.{IsListing, Reached};

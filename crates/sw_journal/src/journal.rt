@@ -6,7 +6,7 @@ ghost use Rattle.sw_machine.specs.StepValues.{machine_step};
 use crate::cell::Cell;
 use crate::cell_table::{CellSeat, CellTable};
 use crate::fault::JournalFault;
-use crate::opening::{Beginning, opened};
+use crate::opening::{Opening, opened};
 use crate::renewal::{changing, renew_after};
 use crate::seats::{meet, part};
 use std::alloc::{AllocError, Global};
@@ -84,7 +84,7 @@ impl<'n> Journal<'n> {
         let history = History::new(alloc, declared_net(alloc, network)?, load)?;
         match opened(alloc, history.net()) {
             Ok(
-                Beginning {
+                Opening {
                     marks,
                     places,
                     table,

@@ -119,7 +119,7 @@ fn set_places(places: &mut [u16], cells: &[Cell]) {
 }
 
 // What a new journal begins with beside its history, and its cells.
-pub(crate) struct Beginning {
+pub(crate) struct Opening {
     pub(crate) marks: Vec<Option<u64>>,
     pub(crate) places: Vec<u16>,
     pub(crate) table: CellTable,
@@ -131,7 +131,7 @@ pub(crate) struct Beginning {
 pub(crate) fn opened(
     alloc: Global,
     net: &Net<'_, SwitchRoutes<'_>, Policy>,
-) -> Result<Beginning, AllocError>
+) -> Result<Opening, AllocError>
     requires { IsNetState net.now (empty (network_of net.now.declared)) }
     ensures valid { IfOk result (λ _. IsValid net.now.declared) }
     ensures marks { IfOk result (λ o. o.marks.items ≡ replicate (2 * length net.now.declared.links) None) }
@@ -147,7 +147,7 @@ pub(crate) fn opened(
     let mut cells = Vec::new(alloc);
     open_all(alloc, net, &table, &mut seat, &mut cells)?;
     set_places(&mut places, &cells);
-    Ok(Beginning {
+    Ok(Opening {
         marks,
         places,
         table,

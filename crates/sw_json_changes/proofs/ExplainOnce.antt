@@ -20,7 +20,7 @@ use Rattle.sw_search.specs.declared.tangle.Tangle.{Tangle}
 use Rattle.sw_file.specs.Network.{network_text}
 use Rattle.sw_graph.specs.Reached.{IsListing}
 use Rattle.sw_graph.specs.Rows.{row}
-use Rattle.sw_graph.specs.declared.part.Part.{Part}
+use Rattle.sw_graph.specs.declared.component.Component.{Component}
 use Rattle.sw_search.specs.Verdicts.{AllWellRouted}
 use Rattle.sw_search.specs.declared.verdict.Verdict.TheVariants as verdict
 use Rattle.sw_text.specs.declared.fault.TextFault.{TextFault}
@@ -102,18 +102,18 @@ explain_has_one_answer of_verdict where_cycles path release bytes d is all =
 
 -- ---- steps that targets make
 
-no_flows : (d : Declaration) (part : Part) (t : Tangle) → IsTangle d part t → HasNoFlowsAtTargets t
-no_flows d part t is i node at =
+no_flows : (d : Declaration) (component : Component) (t : Tangle) → IsTangle d component t → HasNoFlowsAtTargets t
+no_flows d component t is i node at =
     let chosen : IsChosenCause d (ByTarget node) (round t.cycle.channels i) (round t.cycle.channels (i + 1)) = is.chosen.chosen i (ByTarget node) at in
     let within : i < length t.cycle.channels = omega (arith, slice_get_within t.cycle.causes i (ByTarget node) at, is.chosen.one_each) in
     let listing : IsListing (λ n. GoesOn d n (round t.cycle.channels i) (round t.cycle.channels (i + 1))) (row t.flows.items i) = is.flows.each i within in
     none_listed (row t.flows.items i) (λ n there. chosen.first n ((listing.member n).0 there))
 
-each_without : (d : Declaration) (parts : List Part) (tangles : List Tangle) → AllZip (IsTangle d) parts tangles → All HasNoFlowsAtTargets tangles
+each_without : (d : Declaration) (components : List Component) (tangles : List Tangle) → AllZip (IsTangle d) components tangles → All HasNoFlowsAtTargets tangles
 each_without d [] [] h = All-nil HasNoFlowsAtTargets
 each_without d [] (t ∷ ts) h = absurd h
 each_without d (p ∷ ps) [] h = absurd h
 each_without d (p ∷ ps) (t ∷ ts) h = All-cons HasNoFlowsAtTargets t ts (no_flows d p t h.0) (each_without d ps ts h.1)
 
 pub targets_have_no_flows : TargetsHaveNoFlows
-targets_have_no_flows d tangles are = each_without d are.parts tangles are.told
+targets_have_no_flows d tangles are = each_without d are.components tangles are.told

@@ -19,11 +19,11 @@ use Rattle.sw_graph.specs.Levels.{Chain}
 use Rattle.sw_graph.specs.Reached.{IsListing}
 use Rattle.sw_graph.specs.Rows.{row}
 use Rattle.sw_json.specs.Simple.{count_value}
-use Rattle.sw_graph.specs.Parts.{AreParts, AreTogether, IsPart, IsShortest, LeadsTo}
+use Rattle.sw_graph.specs.Components.{AreComponents, AreTogether, IsComponent, IsShortest, LeadsTo}
 use Rattle.sw_graph.specs.Shortest.{IsNext}
-use Rattle.sw_graph.specs.declared.part.Part.{Part}
+use Rattle.sw_graph.specs.declared.component.Component.{Component}
 use Rattle.sw_graph.proofs.Chains.{chain_cons}
-use Rattle.sw_graph.proofs.Parting.{together_back, together_on}
+use Rattle.sw_graph.proofs.Components.{together_back, together_on}
 use Rattle.sw_search.proofs.SameCauses.{same_causes}
 use Rattle.sw_flow.proofs.Sorted.{same_sorted}
 use Rattle.sw_search.specs.Laws.{without_places}
@@ -32,11 +32,11 @@ use Rattle.sw_json_changes.specs.ExplainValues.{step_value, step_values, tangle_
 use Rattle.sw_search.proofs.Cycles.{same_least}
 use Rattle.sw_margin.proofs.Lawful.{same_listing}
 
--- ---- the parts of a relation
+-- ---- the components of a relation
 
--- the members of a part, and its shortest cycle
-abbrev seen : Part → List ℕ × List ℕ
-seen part = (part.members.items, part.cycle.items)
+-- the members of a component, and its shortest cycle
+abbrev seen : Component → List ℕ × List ℕ
+seen component = (component.members.items, component.cycle.items)
 
 module _ (dep : ℕ → ℕ → Type 0) where
   chain_of : (c : ℕ) (cs : List ℕ) (d : ℕ) → IsChain dep c cs d → Chain dep (suc (length cs)) c d
@@ -70,9 +70,9 @@ module _ (dep : ℕ → ℕ → Type 0) where
       let rest : xs ≡ ys = one_walk x x xs ys size h.goes moved in
       λ i. same i ∷ rest i
 
-  -- parts that have a member in common are one part
-  one_part : (p q : Part) (c : ℕ) → IsPart dep p → IsPart dep q → Contains p.members.items c → Contains q.members.items c → seen p ≡ seen q
-  one_part p q c h k in_p in_q =
+  -- components that have a member in common are one component
+  one_component : (p q : Component) (c : ℕ) → IsComponent dep p → IsComponent dep q → Contains p.members.items c → Contains q.members.items c → seen p ≡ seen q
+  one_component p q c h k in_p in_q =
       let x : ℕ = slice_index p.cycle.items 0 in
       let y : ℕ = slice_index q.cycle.items 0 in
       let to_c : AreTogether dep x c = (h.members.member c).0 in_p in
@@ -91,32 +91,32 @@ module _ (dep : ℕ → ℕ → Type 0) where
   around (c ∷ cs) h = (length cs, chain_of c cs c h)
 
   -- what is in the one list is in the other
-  part_in : (ps qs : List Part) → AreParts dep ps → AreParts dep qs → (w : List ℕ × List ℕ) → Contains (map seen ps) w → Contains (map seen qs) w
-  part_in ps qs h k w there =
+  component_in : (ps qs : List Component) → AreComponents dep ps → AreComponents dep qs → (w : List ℕ × List ℕ) → Contains (map seen ps) w → Contains (map seen qs) w
+  component_in ps qs h k w there =
       let from = Contains-from_map seen ps w there in
-      let p : Part = from.0 in
-      let is : IsPart dep p = All-contains (IsPart dep) ps p h.each from.1 in
+      let p : Component = from.0 in
+      let is : IsComponent dep p = All-contains (IsComponent dep) ps p h.each from.1 in
       let x : ℕ = slice_index p.cycle.items 0 in
       let on : LeadsTo dep x x = around p.cycle.items is.shortest.closed in
       let found = k.every x on in
-      let also : IsPart dep found.0 = All-contains (IsPart dep) qs found.0 k.each found.1 in
-      let same : seen found.0 ≡ seen p = one_part found.0 p x also is found.2 ((is.members.member x).1 (on, on)) in
+      let also : IsComponent dep found.0 = All-contains (IsComponent dep) qs found.0 k.each found.1 in
+      let same : seen found.0 ≡ seen p = one_component found.0 p x also is found.2 ((is.members.member x).1 (on, on)) in
       subst (λ (v : List ℕ × List ℕ). Contains (map seen qs) v) (same ∙ from.2) (Contains-map seen qs found.0 found.1)
 
   -- the one comes before the other
   abbrev IsEarlier : List ℕ × List ℕ → List ℕ × List ℕ → Type 0
   IsEarlier v w = slice_index v.0 0 < slice_index w.0 0
 
-  in_order : (ps : List Part) → AllPairs (λ (p q : Part). IsEarlier (seen p) (seen q)) ps → AllPairs IsEarlier (map seen ps)
+  in_order : (ps : List Component) → AllPairs (λ (p q : Component). IsEarlier (seen p) (seen q)) ps → AllPairs IsEarlier (map seen ps)
   in_order [] h = λ i j w before within. absurd (omega (arith, within))
   in_order (p ∷ ps) h =
       AllPairs-cons IsEarlier (seen p) (map seen ps)
       (All-map (IsEarlier (seen p)) seen ps (λ k d lt. h 0 (suc k) d (omega arith) (omega arith)))
       (in_order ps (λ i j d lt low. h (suc i) (suc j) d (omega arith) (omega arith)))
 
-  pub one_list_of_parts : (ps qs : List Part) → AreParts dep ps → AreParts dep qs → map seen ps ≡ map seen qs
-  one_list_of_parts ps qs h k =
-      same_sorted IsEarlier (λ v w a b. omega arith) (map seen ps) (map seen qs) (in_order ps h.rising) (in_order qs k.rising) (part_in ps qs h k) (part_in qs ps k h)
+  pub one_list_of_components : (ps qs : List Component) → AreComponents dep ps → AreComponents dep qs → map seen ps ≡ map seen qs
+  one_list_of_components ps qs h k =
+      same_sorted IsEarlier (λ v w a b. omega arith) (map seen ps) (map seen qs) (in_order ps h.rising) (in_order qs k.rising) (component_in ps qs h k) (component_in qs ps k h)
 
 -- ---- tangles
 
@@ -164,7 +164,7 @@ module _ (d : Declaration) where
   abbrev of_steps : ℕ → List Data → Data
   of_steps count steps = object (member (codes "channels") (count_value count) (member (codes "cycle") (array (items_of steps)) no_members))
 
-  one_tangle : (p q : Part) (t u : Tangle) → seen p ≡ seen q → IsTangle d p t → IsTangle d q u → tangle_value d t ≡ tangle_value d u
+  one_tangle : (p q : Component) (t u : Tangle) → seen p ≡ seen q → IsTangle d p t → IsTangle d q u → tangle_value d t ≡ tangle_value d u
   one_tangle p q t u same h k =
       let members : p.members.items ≡ q.members.items = λ i. (same i).0 in
       let count : t.channels ≡ u.channels = h.count ∙ (ap length members ∙ sym k.count) in
@@ -174,7 +174,7 @@ module _ (d : Declaration) where
       let steps = one_list_of_steps u.cycle.channels t.cycle.causes u.cycle.causes t.flows.items u.flows.items chosen k.chosen goes k.flows in
       (λ i. of_steps (count i) (step_values d (channels i) t.cycle.causes (map items t.flows.items))) ∙ ap (of_steps u.channels) steps
 
-  one_list : (ps qs : List Part) (ts us : List Tangle) → map seen ps ≡ map seen qs → AllZip (IsTangle d) ps ts → AllZip (IsTangle d) qs us
+  one_list : (ps qs : List Component) (ts us : List Tangle) → map seen ps ≡ map seen qs → AllZip (IsTangle d) ps ts → AllZip (IsTangle d) qs us
       → map (tangle_value d) ts ≡ map (tangle_value d) us
   one_list [] [] [] [] same h k = refl
   one_list [] [] (t ∷ ts) us same h k = absurd h
@@ -190,6 +190,6 @@ module _ (d : Declaration) where
 
   pub one_tangles_value : (ts us : List Tangle) → AreTangles d ts → AreTangles d us → tangles_value d ts ≡ tangles_value d us
   one_tangles_value ts us h k =
-      let parts = one_list_of_parts (depends d) h.parts k.parts h.are k.are in
+      let components = one_list_of_components (depends d) h.components k.components h.are k.are in
       ap (λ values. object (member (codes "kind") (string (codes "cyclic")) (member (codes "tangles") (array (items_of values)) no_members)))
-      (one_list h.parts k.parts ts us parts h.told k.told)
+      (one_list h.components k.components ts us components h.told k.told)

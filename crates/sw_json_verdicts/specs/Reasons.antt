@@ -1,10 +1,10 @@
 -- For private clauses: the parts of a reason, as they stand in a program.
 use Rattle.std.specs.Prelude.{option_map}
 use Rattle.sw_json_verdicts.specs.CheckResults.{Reason}
-use Rattle.sw_json_verdicts.specs.declared.reasons.Parts.{Parts}
+use Rattle.sw_json_verdicts.specs.declared.reasons.ReasonParts.{ReasonParts}
 
-abbrev pub parts_view : Parts → Reason
-parts_view p = record {
+abbrev pub reason_parts_view : ReasonParts → Reason
+reason_parts_view p = record {
   channel = p.channel;
   code = p.code.now;
   deleted = p.deleted;

@@ -11,10 +11,10 @@ ghost use Rattle.sw_json.specs.Objects.{member_value};
 ghost use Rattle.sw_json.specs.Simple.{text_or_null};
 ghost use Rattle.sw_json.specs.Answering.{EndsByTwoFiles, IsCommandOutcome, OfFile};
 ghost use Rattle.sw_json_verdicts.specs.CheckResults.{IsCertificateResult, IsCheckJson, IsCheckResult, IsJudgement, grammar_reason, reason_of, refused_value};
-ghost use Rattle.sw_json_verdicts.specs.Reasons.{parts_view};
+ghost use Rattle.sw_json_verdicts.specs.Reasons.{reason_parts_view};
 
 use crate::laws::refusals_are_plain;
-use crate::reasons::{Parts, grammar_parts, parts_of};
+use crate::reasons::{ReasonParts, grammar_parts, parts_of};
 use std::alloc::{AllocError, Global};
 use std::io::{Read, Write};
 use sw_app::{grammar_words, refusal_words};
@@ -41,8 +41,12 @@ fn text_or_null(text: Option<&str>) -> Member<'_>
 }
 
 // A certificate that is refused: the reason's parts, and the line of the text answer.
-fn refused_value<'a>(alloc: Global, parts: Parts<'a>, text: &'a str) -> Result<Value, AllocError>
-    ensures { IfOk result (λ v. view v ≡ refused_value (parts_view parts.entry) text.now) }
+fn refused_value<'a>(
+    alloc: Global,
+    parts: ReasonParts<'a>,
+    text: &'a str,
+) -> Result<Value, AllocError>
+    ensures { IfOk result (λ v. view v ≡ refused_value (reason_parts_view parts.entry) text.now) }
 {
     let members = vec![in alloc;
         ("channel", Member::Value(count_or_null(parts.channel))),
@@ -59,8 +63,8 @@ fn refused_value<'a>(alloc: Global, parts: Parts<'a>, text: &'a str) -> Result<V
 }
 
 // The result for a certificate that is refused.
-fn refused(alloc: Global, parts: Parts<'_>, text: &str) -> Result<CommandOutcome, AllocError>
-    ensures { IfOk result (λ o. IsCommandOutcome (refused_value (parts_view parts.entry) text.now) 1 (view o.result) o.status) }
+fn refused(alloc: Global, parts: ReasonParts<'_>, text: &str) -> Result<CommandOutcome, AllocError>
+    ensures { IfOk result (λ o. IsCommandOutcome (refused_value (reason_parts_view parts.entry) text.now) 1 (view o.result) o.status) }
 {
     refusals_are_plain();
     let result = refused_value(alloc, parts, text)?;

@@ -1,7 +1,7 @@
 //! Reasons to refuse a certificate, in their parts.
 ghost use Rattle.std.specs.Prelude.{◌≡◌, option_map};
 ghost use Rattle.sw_json_verdicts.specs.CheckResults.{bare_reason, grammar_reason, placed_reason, reason_of};
-ghost use Rattle.sw_json_verdicts.specs.Reasons.{parts_view};
+ghost use Rattle.sw_json_verdicts.specs.Reasons.{reason_parts_view};
 
 use sw_cert::Refusal;
 use sw_config::Network;
@@ -12,7 +12,7 @@ use sw_output::flow_name;
 /// A reason: its code, the wrong line, the flow, a channel of it and how many address bytes are deleted there, the channel that
 /// depends on that one, and the code of the place's fault.
 #[derive(Clone, Copy)]
-pub(crate) struct Parts<'a> {
+pub(crate) struct ReasonParts<'a> {
     pub(crate) channel: Option<u64>,
     pub(crate) code: &'static str,
     pub(crate) deleted: Option<u64>,
@@ -23,10 +23,10 @@ pub(crate) struct Parts<'a> {
 }
 
 // A reason with its code alone.
-fn bare<'a>(code: &'static str) -> Parts<'a>
-    ensures { parts_view result ≡ bare_reason code.now }
+fn bare<'a>(code: &'static str) -> ReasonParts<'a>
+    ensures { reason_parts_view result ≡ bare_reason code.now }
 {
-    Parts {
+    ReasonParts {
         channel: None,
         code,
         deleted: None,
@@ -38,10 +38,10 @@ fn bare<'a>(code: &'static str) -> Parts<'a>
 }
 
 /// The reason against a text that is no certificate, by its first wrong line.
-pub(crate) fn grammar_parts<'a>(number: usize) -> Parts<'a>
-    ensures { parts_view result ≡ grammar_reason number }
+pub(crate) fn grammar_parts<'a>(number: usize) -> ReasonParts<'a>
+    ensures { reason_parts_view result ≡ grammar_reason number }
 {
-    Parts {
+    ReasonParts {
         line: Some(number as u64),
         ..bare("C1")
     }
@@ -54,10 +54,10 @@ fn placed<'a>(
     flow: u16,
     place: Place,
     fault: Option<&'static str>,
-) -> Parts<'a>
-    ensures { parts_view result ≡ placed_reason network.entry.now code.now flow place (option_map (λ s. s.now) fault.entry) }
+) -> ReasonParts<'a>
+    ensures { reason_parts_view result ≡ placed_reason network.entry.now code.now flow place (option_map (λ s. s.now) fault.entry) }
 {
-    Parts {
+    ReasonParts {
         channel: Some(u64::from(place.channel.number())),
         deleted: Some(u64::from(place.deleted)),
         fault,
@@ -67,17 +67,17 @@ fn placed<'a>(
 }
 
 /// The parts of a reason to refuse a certificate for the network.
-pub(crate) fn parts_of<'a>(network: &'a Network, refusal: &Refusal) -> Parts<'a>
-    ensures { parts_view result ≡ reason_of network.entry.now refusal.now }
+pub(crate) fn parts_of<'a>(network: &'a Network, refusal: &Refusal) -> ReasonParts<'a>
+    ensures { reason_parts_view result ≡ reason_of network.entry.now refusal.now }
 {
     match refusal {
         Refusal::WrongCount => bare("C2"),
-        Refusal::NoStart(flow) => Parts {
+        Refusal::NoStart(flow) => ReasonParts {
             flow: Some(flow_name(network, *flow)),
             ..bare("C3")
         },
         Refusal::NotClosed(flow, place) => placed(network, "C4", *flow, *place, None),
-        Refusal::NotRising(channel, next) => Parts {
+        Refusal::NotRising(channel, next) => ReasonParts {
             channel: Some(u64::from(channel.number())),
             next: Some(u64::from(next.number())),
             ..bare("C5")

@@ -14,9 +14,9 @@ mod passing;
 mod place;
 mod proposal;
 mod reply_notes;
+mod scan;
 mod sought;
 mod unread;
-mod walk;
 
 pub use entries::{tables_of, text_in, text_of};
 pub use line_column::{Position, position_at};

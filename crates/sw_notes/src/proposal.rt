@@ -1,4 +1,4 @@
-//! A place that a walk proposes.
+//! A place that a scan proposes.
 
 /// A piece of a text.
 #[derive(Clone, Copy)]

@@ -10,14 +10,14 @@ use Rattle.sw_machine.specs.Steps.{Step, Fct, FctIn, Arrive, Grant, Drop, Forwar
 use Rattle.sw_output.specs.Tallies.{end_rank}
 use Rattle.sw_schedule.specs.Lines.{Repeated}
 use Rattle.sw_schedule.specs.Schedule.{steps_of}
-use Rattle.sw_schedule.specs.Runs.{Parts, entries_from, entries_of, have_same_parts, is_same, parts_of}
+use Rattle.sw_schedule.specs.Runs.{StepParts, entries_from, entries_of, have_same_parts, is_same, parts_of}
 
 -- ---- steps with the same parts are the same
 
 abbrev end_from : ℕ → End
 end_from number = if number == 0 then Eop else Eep
 
-abbrev step_from : Parts → Step
+abbrev step_from : StepParts → Step
 step_from p =
     if p.kind == 0 then Fct p.first
     else if p.kind == 1 then FctIn p.first
@@ -49,10 +49,10 @@ back (Accept n) = refl
 back (Reply n) = refl
 
 made : (k l f g s t : ℕ) (c e : List ℕ) → k ≡ l → f ≡ g → s ≡ t → c ≡ e
-    → ◌≡◌ {A = Parts} (record { kind = k; first = f; second = s; cargo = c }) (record { kind = l; first = g; second = t; cargo = e })
+    → ◌≡◌ {A = StepParts} (record { kind = k; first = f; second = s; cargo = c }) (record { kind = l; first = g; second = t; cargo = e })
 made k l f g s t c e a b d h = rw (a, b, d, h) refl
 
-parts_same : (p q : Parts) → have_same_parts p q ≡ true → p ≡ q
+parts_same : (p q : StepParts) → have_same_parts p q ≡ true → p ≡ q
 parts_same p q h =
     let a = and_parts ((p.kind == q.kind) && (p.first == q.first) && (p.second == q.second)) (bytes_eq p.cargo q.cargo) h in
     let b = and_parts ((p.kind == q.kind) && (p.first == q.first)) (p.second == q.second) a.0 in

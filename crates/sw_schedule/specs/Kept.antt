@@ -3,7 +3,7 @@ use Rattle.std.specs.Prelude.{ℕ, List, replicate}
 use Rattle.sw_machine.specs.Steps as machine
 use Rattle.sw_schedule.specs.declared.cargo.Cargo.{Cargo}
 use Rattle.sw_schedule.specs.declared.cargo.Cargo.TheVariants as cargo
-use Rattle.sw_schedule.specs.declared.schedule_entry.Beginning.{Beginning}
+use Rattle.sw_schedule.specs.declared.schedule_entry.BeginStep.{BeginStep}
 use Rattle.sw_schedule.specs.declared.schedule_entry.Plain.{Plain}
 use Rattle.sw_schedule.specs.declared.schedule_entry.Plain.TheVariants as plain
 use Rattle.sw_schedule.specs.declared.schedule_entry.Packed.{Packed}
@@ -14,7 +14,7 @@ cargo_bytes (cargo.Bytes bytes) = bytes.items
 cargo_bytes (cargo.Repeated byte times) = replicate times byte
 
 -- the step that begins a packet
-abbrev pub begin_step : Beginning → machine.Step
+abbrev pub begin_step : BeginStep → machine.Step
 begin_step b = machine.Begin b.flow (cargo_bytes b.cargo) b.end
 
 -- the step without cargo

@@ -10,16 +10,16 @@ use Rattle.sw_schedule.specs.Lines.{Repeated}
 use Rattle.sw_schedule.specs.WrittenLines.{step_line}
 
 -- what tells steps apart: of which kind a step is, its numbers and its cargo
-pub record Parts : Type 0 where
+pub record StepParts : Type 0 where
   pub kind : ℕ
   pub first : ℕ
   pub second : ℕ
   pub cargo : List ℕ
 
-abbrev pub plain : ℕ → ℕ → Parts
+abbrev pub plain : ℕ → ℕ → StepParts
 plain kind number = record { kind = kind; first = number; second = 0; cargo = [] }
 
-abbrev pub parts_of : Step → Parts
+abbrev pub parts_of : Step → StepParts
 parts_of (Fct c) = plain 0 c
 parts_of (FctIn c) = plain 1 c
 parts_of (Arrive c) = plain 2 c
@@ -32,7 +32,7 @@ parts_of (Emit n) = plain 8 n
 parts_of (Accept n) = plain 9 n
 parts_of (Reply n) = plain 10 n
 
-abbrev pub have_same_parts : Parts → Parts → Bool
+abbrev pub have_same_parts : StepParts → StepParts → Bool
 have_same_parts p q = (p.kind == q.kind) && (p.first == q.first) && (p.second == q.second) && bytes_eq p.cargo q.cargo
 
 abbrev pub is_same : Step → Step → Bool

@@ -6,7 +6,7 @@ ghost use Rattle.sw_schedule.specs.Lines.{at_channel, begin_of, channel_of, gran
 
 use crate::cargo::cargo_of;
 use crate::names::{MAX_COUNT, channel_of, flow_of, is_word, node_of};
-use crate::schedule_entry::{Beginning, Packed, Plain, ScheduleEntry};
+use crate::schedule_entry::{BeginStep, Packed, Plain, ScheduleEntry};
 use std::alloc::{AllocError, Global};
 use sw_char::End;
 use sw_config::Network;
@@ -101,7 +101,7 @@ fn begin_entry(
     let Some(cargo) = cargo_of(alloc, cargo)? else {
         return Ok(None);
     };
-    let step = Box::new(alloc, Beginning { flow, cargo, end })?;
+    let step = Box::new(alloc, BeginStep { flow, cargo, end })?;
     Ok(Some(ScheduleEntry {
         packed: Packed::WithCargo(count, step),
     }))

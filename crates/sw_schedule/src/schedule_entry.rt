@@ -45,7 +45,7 @@ fn step_of(plain: Plain) -> Step
 
 /// A step that begins a packet, in no more memory than a few times its text.
 #[derive(Drop)]
-pub(crate) struct Beginning {
+pub(crate) struct BeginStep {
     pub(crate) flow: u16,
     pub(crate) cargo: Cargo,
     pub(crate) end: End,
@@ -55,7 +55,7 @@ pub(crate) struct Beginning {
 #[derive(Drop)]
 pub(crate) enum Packed {
     Plain(u32, Plain),
-    WithCargo(u32, Box<Beginning>),
+    WithCargo(u32, Box<BeginStep>),
 }
 
 /// A step, and how many times it is made, one after another.

@@ -5,9 +5,9 @@ use Rattle.std.proofs.lemmas.List.Elements.{All-cons, All-head, All-nil, All-tai
 use Rattle.sw_config.specs.Entries.{Declaration}
 use Rattle.sw_cycle.specs.Cycles.{IsShown}
 use Rattle.sw_cycle.proofs.Chosen.{chosen_show}
-use Rattle.sw_graph.specs.declared.part.Part.{Part}
-use Rattle.sw_graph.specs.Parts.{IsPart}
-use Rattle.sw_graph.proofs.Lawful.{parts_are_where_cycles_are}
+use Rattle.sw_graph.specs.declared.component.Component.{Component}
+use Rattle.sw_graph.specs.Components.{IsComponent}
+use Rattle.sw_graph.proofs.Lawful.{components_are_where_cycles_are}
 use Rattle.sw_search.specs.Verdicts.{AllWellRouted, depends}
 use Rattle.sw_search.proofs.Rounds.{some_of}
 use Rattle.sw_search.specs.declared.tangle.Tangle.{Tangle}
@@ -22,12 +22,12 @@ zip_all R P Q f (x ∷ xs) [] h all = absurd h
 zip_all R P Q f (x ∷ xs) (y ∷ ys) h all = All-cons Q y ys (f x y (All-head P x xs all) h.0) (zip_all R P Q f xs ys h.1 (All-tail P x xs all))
 
 pub tangles_are_shown : TanglesAreShown
-tangles_are_shown d tangles h = zip_all (IsTangle d) (IsPart (depends d)) (λ t. IsShown d t.cycle) shown h.parts tangles h.told h.are.each
+tangles_are_shown d tangles h = zip_all (IsTangle d) (IsComponent (depends d)) (λ t. IsShown d t.cycle) shown h.components tangles h.told h.are.each
   where
-    shown : (part : Part) (t : Tangle) → IsPart (depends d) part → IsTangle d part t → IsShown d t.cycle
-    shown part t p is =
+    shown : (component : Component) (t : Tangle) → IsComponent (depends d) component → IsTangle d component t → IsShown d t.cycle
+    shown component t p is =
         let P : List ℕ → Type 0 = λ l. 0 < length l in
-        chosen_show d t.cycle.channels t.cycle.causes (subst P (sym is.cycle) (some_of (depends d) part.cycle.items p.shortest.closed)) is.chosen
+        chosen_show d t.cycle.channels t.cycle.causes (subst P (sym is.cycle) (some_of (depends d) component.cycle.items p.shortest.closed)) is.chosen
 
 none_zip : {A B : Type 0} (R : A → B → Type 0) (xs : List A) (ys : List B) → AllZip R xs ys → ys ≡ [] → xs ≡ []
 none_zip R [] ys h e = refl
@@ -41,9 +41,9 @@ zip_none R (x ∷ xs) (y ∷ ys) h e = let z : length (x ∷ xs) ≡ 0 = ap leng
 
 pub tangles_are_where_cycles_are : TanglesAreWhereCyclesAre
 tangles_are_where_cycles_are d tangles h =
-    let law = parts_are_where_cycles_are (depends d) h.parts h.are in (
-      λ none. law.0 (none_zip (IsTangle d) h.parts tangles h.told none),
-      λ free. zip_none (IsTangle d) h.parts tangles h.told (law.1 free),
+    let law = components_are_where_cycles_are (depends d) h.components h.are in (
+      λ none. law.0 (none_zip (IsTangle d) h.components tangles h.told none),
+      λ free. zip_none (IsTangle d) h.components tangles h.told (law.1 free),
     )
 
 -- ---- what is told where each flow is well routed

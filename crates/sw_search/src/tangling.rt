@@ -1,6 +1,6 @@
 //! The tangles of a network.
 ghost use Rattle.std.specs.Prelude.{IfOk};
-ghost use Rattle.sw_graph.specs.Parts.{AreParts, IsPart};
+ghost use Rattle.sw_graph.specs.Components.{AreComponents, IsComponent};
 ghost use Rattle.sw_search.specs.Lists.{AreListed};
 ghost use Rattle.sw_search.specs.Verdicts.{depends};
 ghost use Rattle.sw_search.specs.Tangles.{AreTangles, IsTangle};
@@ -12,43 +12,43 @@ use std::alloc::{AllocError, Global};
 use sw_config::Network;
 use sw_cycle::{Cycle, causes, dependencies, flows_of_steps};
 use sw_flow::Place;
-use sw_graph::{Part, parts};
+use sw_graph::{Component, components};
 
-/// The tangle of a part of the dependencies.
+/// The tangle of a component of the dependencies.
 fn tangle(
     alloc: Global,
     network: &Network,
     places: &[Vec<Place>],
-    part: &Part,
+    component: &Component,
 ) -> Result<Tangle, AllocError>
     requires lists { AreListed network.now places.now }
-    requires part { IsPart (depends network.now) part.now }
-    ensures { IfOk result (IsTangle network.now part.now) }
+    requires component { IsComponent (depends network.now) component.now }
+    ensures { IfOk result (IsTangle network.now component.now) }
 {
-    let channels = channels_of(alloc, &part.cycle)?;
+    let channels = channels_of(alloc, &component.cycle)?;
     let causes = causes(alloc, network, places, &channels)?;
     let flows = flows_of_steps(alloc, network, places, &channels)?;
     Ok(Tangle {
-        channels: part.members.len(),
+        channels: component.members.len(),
         cycle: Cycle { channels, causes },
         flows,
     })
 }
 
-/// The tangles of the parts of the dependencies.
+/// The tangles of the components of the dependencies.
 fn tangles_of(
     alloc: Global,
     network: &Network,
     places: &[Vec<Place>],
-    parts: &[Part],
+    components: &[Component],
 ) -> Result<Vec<Tangle>, AllocError>
     requires lists { AreListed network.now places.now }
-    requires parts { AreParts (depends network.now) parts.now }
+    requires components { AreComponents (depends network.now) components.now }
     ensures { IfOk result (λ v. AreTangles network.now v.items) }
 {
     let mut tangles = Vec::new(alloc);
-    for part in parts {
-        tangles.push(tangle(alloc, network, places, part)?)?;
+    for component in components {
+        tangles.push(tangle(alloc, network, places, component)?)?;
     }
     Ok(tangles)
 }
@@ -76,6 +76,6 @@ pub fn tangles<W: VerdictWorkers>(
     // There are at most 2,048.
     let _channels = network.channels();
     let rows = dependencies(workers, alloc, network, places)?;
-    let found = parts(alloc, &rows)?;
+    let found = components(alloc, &rows)?;
     tangles_of(alloc, network, places, &found)
 }

@@ -21,8 +21,8 @@ use Rattle.sw_switch.specs.declared.input.Input.{Input}
 use Rattle.sw_switch.specs.declared.input.Input.TheVariants.{Held, Idle, Spilling}
 use Rattle.sw_topo.specs.Ports.{ports_of}
 use Rattle.sw_topo.specs.Wiring.{out, out_of, partner}
-use Rattle.sw_step_hints.specs.declared.lock_up.Told.{Told}
-use Rattle.sw_step_hints.specs.declared.lock_up.Told.TheVariants as told
+use Rattle.sw_step_hints.specs.declared.lock_up.CellHint.{CellHint}
+use Rattle.sw_step_hints.specs.declared.lock_up.CellHint.TheVariants as told
 
 -- ---- names of channels
 
@@ -135,7 +135,7 @@ stopped_lines d (place.Node n) (Node part) = option_to_list (sending_line d n pa
 stopped_lines d cell part = []
 
 -- the one or the other
-abbrev pub cell_lines : Declaration → Told → CellId → Part → List (List ℕ)
+abbrev pub cell_lines : Declaration → CellHint → CellId → Part → List (List ℕ)
 cell_lines d told.Held = holding_lines d
 cell_lines d told.Stopped = stopped_lines d
 

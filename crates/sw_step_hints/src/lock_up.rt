@@ -16,7 +16,7 @@ const MOST_LINES: usize = 40;
 
 /// What is told of cells.
 #[derive(Clone, Copy)]
-pub(crate) enum Told {
+pub(crate) enum CellHint {
     /// What is held and waited for there.
     Held,
     /// That it can't send on.
@@ -28,7 +28,7 @@ pub(crate) enum Told {
 fn add_lines(
     alloc: Global,
     network: &Network,
-    told: Told,
+    told: CellHint,
     cell: CellId,
     part: &Part,
     lines: &mut Vec<String>,
@@ -37,13 +37,13 @@ fn add_lines(
     ensures { IfOk result (λ _. map string_bytes lines.new.items ≡ map string_bytes lines.old.items ++ cell_lines network.now told cell part.now) }
 {
     match (told, cell, part) {
-        (Told::Held, CellId::Node(node), Part::Node(part)) => {
+        (CellHint::Held, CellId::Node(node), Part::Node(part)) => {
             add_line(lines, owing_line(alloc, network, node, part)?)
         }
-        (Told::Held, CellId::Switch(switch), Part::Switch(parts)) => {
+        (CellHint::Held, CellId::Switch(switch), Part::Switch(parts)) => {
             add_switch_lines(alloc, network, switch, parts, lines)
         }
-        (Told::Stopped, CellId::Node(node), Part::Node(part)) => {
+        (CellHint::Stopped, CellId::Node(node), Part::Node(part)) => {
             add_line(lines, sending_line(alloc, network, node, part)?)
         }
         _ => Ok(()),
@@ -54,7 +54,7 @@ fn add_lines(
 fn add_cells(
     alloc: Global,
     network: &Network,
-    told: Told,
+    told: CellHint,
     cells: &[CellId],
     parts: &[Part],
     lines: &mut Vec<String>,
@@ -79,8 +79,8 @@ fn add_lock_lines(
     requires { All (IsIn network.now) cells.now }
     ensures { IfOk result (λ _. map string_bytes lines.new.items ≡ (map string_bytes lines.old.items ++ flat_map (λ p. holding_lines network.now p.0 p.1) (zip cells.now parts.now)) ++ flat_map (λ p. stopped_lines network.now p.0 p.1) (zip cells.now parts.now)) }
 {
-    add_cells(alloc, network, Told::Held, cells, parts, lines)?;
-    add_cells(alloc, network, Told::Stopped, cells, parts, lines)
+    add_cells(alloc, network, CellHint::Held, cells, parts, lines)?;
+    add_cells(alloc, network, CellHint::Stopped, cells, parts, lines)
 }
 
 // All lines that are told of the network.

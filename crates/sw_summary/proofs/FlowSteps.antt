@@ -11,26 +11,26 @@ use Rattle.sw_machine.specs.Begun.{Begun}
 use Rattle.sw_output.proofs.Counts.{tallies_rise}
 use Rattle.sw_output.proofs.EachLine.{number_added}
 use Rattle.sw_summary.specs.Counts.{answered, asked_before, asked_by, asked_of, delivered, form_of, forms, items_at, items_before, items_of, of_flow}
-use Rattle.sw_summary.specs.Tallies.{IsRising, Item, TallyView, found, taken_all, tallies}
+use Rattle.sw_summary.specs.KeyCounts.{IsRising, Item, KeyCountView, found, key_counts, taken_all}
 use Rattle.sw_summary.specs.Texts.{flow_text, flow_text_of, flow_text_where}
 use Rattle.sw_summary.proofs.Lists.{flow_more}
 use Rattle.sw_summary.proofs.Order.{item_order_total}
 use Rattle.sw_summary.proofs.Taken.{taken_all_long, taken_all_rises}
 
--- what the loop has made and left before flow i, of the text and the tallies that it began with
-pub record IsSoFar (d : Declaration) (load : List LoadEntry) (begun : List Begun) (packets replies : List TallyView) (i : ℕ) (start text : List ℕ) (ps rs : List TallyView) : Type 0 where
+-- what the loop has made and left before flow i, of the text and the counts that it began with
+pub record IsSoFar (d : Declaration) (load : List LoadEntry) (begun : List Begun) (packets replies : List KeyCountView) (i : ℕ) (start text : List ℕ) (ps rs : List KeyCountView) : Type 0 where
   pub told : text ≡ start ++ flat_map (λ k. flow_text d load begun (delivered d begun packets k) (answered d begun replies k) k) (range_with_len 0 i)
   pub packets_left : ps ≡ taken_all packets (items_before d begun i)
   pub replies_left : rs ≡ taken_all replies (asked_before d begun i)
 
-flow_done : (d : Declaration) (load : List LoadEntry) (begun : List Begun) (packets replies : List TallyView) (i : ℕ) (start before here after : List ℕ) (ps rs qs ss : List TallyView)
+flow_done : (d : Declaration) (load : List LoadEntry) (begun : List Begun) (packets replies : List KeyCountView) (i : ℕ) (start before here after : List ℕ) (ps rs qs ss : List KeyCountView)
     → IsSoFar d load begun packets replies i start before ps rs → here ≡ flow_text d load begun (found ps (items_of d begun i)) (found rs (asked_of d begun i)) i
     → after ≡ before ++ here → qs ≡ taken_all ps (items_of d begun i) → ss ≡ taken_all rs (asked_of d begun i) → IsSoFar d load begun packets replies (i + 1) start after qs ss
 flow_done d load begun packets replies i start before here after ps rs qs ss h line all left others =
     let f : ℕ → List ℕ = λ (k : ℕ). flow_text d load begun (delivered d begun packets k) (answered d begun replies k) k in
     let line_is : here ≡ f i =
-    line ∙ ap (λ (ts : List TallyView). flow_text d load begun (found ts (items_of d begun i)) (found rs (asked_of d begun i)) i) h.packets_left
-    ∙ ap (λ (ts : List TallyView). flow_text d load begun (delivered d begun packets i) (found ts (asked_of d begun i)) i) h.replies_left in
+    line ∙ ap (λ (ts : List KeyCountView). flow_text d load begun (found ts (items_of d begun i)) (found rs (asked_of d begun i)) i) h.packets_left
+    ∙ ap (λ (ts : List KeyCountView). flow_text d load begun (delivered d begun packets i) (found ts (asked_of d begun i)) i) h.replies_left in
     record {
       told = number_added f i start before after h.told (all ∙ ap (λ l. before ++ l) line_is);
       packets_left = flow_more (items_of d begun) i packets ps qs h.packets_left left;
@@ -38,17 +38,17 @@ flow_done d load begun packets replies i start before here after ps rs qs ss h l
     }
 
 -- what is lent of the rest
-pub rest_rises : (items before : List Item) (ts lent : List TallyView) → ts ≡ taken_all (tallies items) before → lent ≡ ts → IsRising lent
-rest_rises items before ts lent is lends = subst IsRising (sym (lends ∙ is)) (taken_all_rises before (tallies items) (tallies_rise item_order_total items))
+pub rest_rises : (items before : List Item) (ts lent : List KeyCountView) → ts ≡ taken_all (key_counts items) before → lent ≡ ts → IsRising lent
+rest_rises items before ts lent is lends = subst IsRising (sym (lends ∙ is)) (taken_all_rises before (key_counts items) (tallies_rise item_order_total items))
 
-pub written_back : (ts lent new : List TallyView) (n : ℕ) (all : List Item) → lent ≡ ts → new ≡ taken_all lent all → n ≡ length ts → take n (new ++ drop (length new) ts) ≡ taken_all ts all
+pub written_back : (ts lent new : List KeyCountView) (n : ℕ) (all : List Item) → lent ≡ ts → new ≡ taken_all lent all → n ≡ length ts → take n (new ++ drop (length new) ts) ≡ taken_all ts all
 written_back ts lent new n all lends is size =
-    let made : new ≡ taken_all ts all = is ∙ ap (λ (l : List TallyView). taken_all l all) lends in
+    let made : new ≡ taken_all ts all = is ∙ ap (λ (l : List KeyCountView). taken_all l all) lends in
     take_at new (drop (length new) ts) n (ap length made ∙ taken_all_long all ts ∙ sym size) ∙ made
 
 -- what is told and taken of one flow, where all are its packets
-pub flow_counted : (d : Declaration) (load : List LoadEntry) (begun : List Begun) (packets replies : List TallyView) (i : ℕ) (start before after : List ℕ) (f : FlowEntry) (all : List PacketView)
-    (ps rs qs ss : List TallyView) (to many came_out told : ℕ) → IsSoFar d load begun packets replies i start before ps rs → slice_get d.flows i ≡ Some f → all ≡ forms f i begun → to ≡ f.to
+pub flow_counted : (d : Declaration) (load : List LoadEntry) (begun : List Begun) (packets replies : List KeyCountView) (i : ℕ) (start before after : List ℕ) (f : FlowEntry) (all : List PacketView)
+    (ps rs qs ss : List KeyCountView) (to many came_out told : ℕ) → IsSoFar d load begun packets replies i start before ps rs → slice_get d.flows i ≡ Some f → all ≡ forms f i begun → to ≡ f.to
     → many ≡ length all → came_out ≡ found ps (items_at to all) → qs ≡ taken_all ps (items_at to all) → told ≡ found rs (asked_by f all f.reply) → ss ≡ taken_all rs (asked_by f all f.reply)
     → after ≡ before ++ flow_text_where load many i came_out told f → IsSoFar d load begun packets replies (i + 1) start after qs ss
 flow_counted d load begun packets replies i start before after f all ps rs qs ss to many came_out told h at all_is to_is size came left answers rest more =

@@ -9,7 +9,7 @@ pub mod SoFar
 pub mod FillLists
 pub mod Held
 pub mod Refused
-pub mod Tallied
+pub mod KeysCounted
 pub mod Counted
 pub mod UntoldCommands
 pub use Rattle.sw_net.proofs.Delivered

@@ -18,7 +18,7 @@ use Rattle.sw_machine.specs.StepValues.{machine_step}
 use Rattle.sw_machine.specs.declared.step.Step.{Step}
 use Rattle.sw_summary.specs.Counts.{all_keys, form_of, forms, items_at, key_of, of_flow, replies_at, replies_of, statuses, statuses_of, with_status}
 use Rattle.sw_summary.specs.Replies.{is_reply, status_of}
-use Rattle.sw_summary.specs.Tallies.{Item, TallyView, taken, taken_all}
+use Rattle.sw_summary.specs.KeyCounts.{Item, KeyCountView, taken, taken_all}
 use Rattle.sw_summary.specs.Texts.{first_status_lines, status_line}
 
 pub beginnings_are : (steps : List Step) → flat_map (λ step. beginning (machine_step step)) steps ≡ beginnings (map machine_step steps)
@@ -69,15 +69,15 @@ node_more text all n before here after q so_far line lt at is =
     ∙ ap (λ (l : List Item). flat_map (λ k. text k (get_or (map items_in all) k [])) (range_with_len 0 n) ++ l) same
     ∙ next_more (λ k. text k (get_or (map items_in all) k [])) n
 
-pub taken_append : (xs ys : List Item) (ts : List TallyView) → taken_all ts (xs ++ ys) ≡ taken_all (taken_all ts xs) ys
+pub taken_append : (xs ys : List Item) (ts : List KeyCountView) → taken_all ts (xs ++ ys) ≡ taken_all (taken_all ts xs) ys
 taken_append [] ys ts = refl
 taken_append (x ∷ xs) ys ts = taken_append xs ys (taken x ts)
 
 -- the items of one flow more
-pub flow_more : (f : ℕ → List Item) (n : ℕ) (start before after : List TallyView) → before ≡ taken_all start (flat_map f (range_with_len 0 n)) → after ≡ taken_all before (f n)
+pub flow_more : (f : ℕ → List Item) (n : ℕ) (start before after : List KeyCountView) → before ≡ taken_all start (flat_map f (range_with_len 0 n)) → after ≡ taken_all before (f n)
     → after ≡ taken_all start (flat_map f (range_with_len 0 (n + 1)))
 flow_more f n start before after so_far is =
-    is ∙ ap (λ (ts : List TallyView). taken_all ts (f n)) so_far
+    is ∙ ap (λ (ts : List KeyCountView). taken_all ts (f n)) so_far
     ∙ sym (taken_append (flat_map f (range_with_len 0 n)) (f n) start) ∙ ap (taken_all start) (next_more f n)
 
 abbrev at_node : ℕ → PacketView → Item

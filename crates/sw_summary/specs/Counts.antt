@@ -10,7 +10,7 @@ use Rattle.sw_machine.specs.Begun.{Begun}
 use Rattle.sw_machine.specs.DeclaredPackets.{left_bytes}
 use Rattle.sw_summary.specs.Handlings.{handling_index, handling_of}
 use Rattle.sw_summary.specs.Replies.{is_reply, status_of}
-use Rattle.sw_summary.specs.Tallies.{Item, TallyView, found, taken_all}
+use Rattle.sw_summary.specs.KeyCounts.{Item, KeyCountView, found, taken_all}
 use Rattle.sw_summary.specs.declared.handling.Handling.{Handling}
 use Rattle.sw_summary.specs.declared.handling.Handling.TheVariants.{Answered}
 
@@ -52,7 +52,7 @@ all_items out = flat_map (λ n. items_at n (slice_index_or out n [])) (range_wit
 
 -- Of what came out, how many packets of flow i did where it ends: each packet that came out counts for one that was begun, first for those of
 -- the first flow.
-abbrev pub delivered : Declaration → List Begun → List TallyView → ℕ → ℕ
+abbrev pub delivered : Declaration → List Begun → List KeyCountView → ℕ → ℕ
 delivered d begun packets i = found (taken_all packets (items_before d begun i)) (items_of d begun i)
 
 -- how many packets of these have this handling at a target
@@ -95,7 +95,7 @@ abbrev pub all_keys : Bool → List (List PacketView) → List Item
 all_keys replies out = if replies then all_replies out else all_items out
 
 -- of the replies that came out, how many answer commands of flow i: each counts for one that asked for it, first for those of the first flow
-abbrev pub answered : Declaration → List Begun → List TallyView → ℕ → ℕ
+abbrev pub answered : Declaration → List Begun → List KeyCountView → ℕ → ℕ
 answered d begun replies i = found (taken_all replies (asked_before d begun i)) (asked_of d begun i)
 
 -- the statuses of the replies among packets

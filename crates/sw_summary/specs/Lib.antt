@@ -1,4 +1,4 @@
-pub mod Tallies
+pub mod KeyCounts
 pub mod Handlings
 pub mod Replies
 pub mod Counts

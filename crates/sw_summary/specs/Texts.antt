@@ -12,7 +12,7 @@ use Rattle.sw_output.specs.Lines.{line, spaced}
 use Rattle.sw_summary.specs.Counts.{all_items, all_replies, with_status, answered, delivered, handled_as, forms, loaded, of_flow}
 use Rattle.sw_summary.specs.Handlings.{reason_text}
 use Rattle.sw_summary.specs.Replies.{status_name}
-use Rattle.sw_summary.specs.Tallies.{TallyView, tallies}
+use Rattle.sw_summary.specs.KeyCounts.{KeyCountView, key_counts}
 use Rattle.sw_summary.specs.declared.handling.Handling.{Handling}
 use Rattle.sw_summary.specs.declared.handling.Handling.TheVariants.{TooShort, OtherProtocol, WrongCrc, IsReply, NotAsked, NoWay}
 
@@ -47,12 +47,12 @@ abbrev pub flow_text : Declaration → List LoadEntry → List Begun → ℕ →
 flow_text d load begun came_out replies i = option_map_or (flow_text_of load begun i came_out replies) (slice_get d.flows i) []
 
 -- of all flows, where this came out and these replies did
-abbrev pub flow_texts_from : Declaration → List LoadEntry → List Begun → List TallyView → List TallyView → List ℕ
+abbrev pub flow_texts_from : Declaration → List LoadEntry → List Begun → List KeyCountView → List KeyCountView → List ℕ
 flow_texts_from d load begun packets replies =
     flat_map (λ i. flow_text d load begun (delivered d begun packets i) (answered d begun replies i) i) (range_with_len 0 (length d.flows))
 
 abbrev pub flow_texts : Declaration → List LoadEntry → List Begun → List (List PacketView) → List ℕ
-flow_texts d load begun out = flow_texts_from d load begun (tallies (all_items out)) (tallies (all_replies out))
+flow_texts d load begun out = flow_texts_from d load begun (key_counts (all_items out)) (key_counts (all_replies out))
 
 -- how many replies with a status came out, if any
 abbrev pub status_line : ℕ → ℕ → List ℕ

@@ -16,7 +16,7 @@ pub(crate) struct PacketKey<'a> {
 }
 
 impl<'a> Model for PacketKey<'a> {
-    ghost use Rattle.sw_summary.specs.Tallies.{Item};
+    ghost use Rattle.sw_summary.specs.KeyCounts.{Item};
 
     ghost Value = { Item };
 

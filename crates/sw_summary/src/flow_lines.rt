@@ -1,14 +1,14 @@
 //! What became of the packets of each flow.
 ghost use Rattle.std.specs.Prelude.{◌≡◌, ◌≤◌, ◌++◌, IfOk, length, map, string_bytes};
 ghost use Rattle.sw_summary.specs.Counts.{asked_by};
-ghost use Rattle.sw_summary.specs.Tallies.{IsRising, found, taken_all};
+ghost use Rattle.sw_summary.specs.KeyCounts.{IsRising, found, taken_all};
 ghost use Rattle.sw_summary.specs.Texts.{flow_text_where, flow_texts};
 
 use crate::begun::{Begun, forms, loaded};
 use crate::came_out::PacketKey;
 use crate::declared::declared_flow;
 use crate::handling::{Handling, handled_as};
-use crate::tallies::{Tally, found_packets, found_times, tallies};
+use crate::key_counts::{KeyCount, found_packets, found_times, key_counts};
 use std::alloc::{AllocError, Global};
 use std::fmt::Write;
 use sw_char::{End, Packet};
@@ -16,7 +16,7 @@ use sw_config::{Flow, Network};
 use sw_load::Load;
 
 // How many of the replies that these packets of the flow ask for came out.
-fn found_replies(replies: &mut [Tally<'_>], flow: &Flow, packets: &[Packet]) -> usize
+fn found_replies(replies: &mut [KeyCount<'_>], flow: &Flow, packets: &[Packet]) -> usize
     requires { IsRising replies.old }
     ensures count { result ≡ found replies.old (asked_by flow.now packets.now flow.now.reply) }
     ensures rest { replies.new ≡ taken_all replies.old (asked_by flow.now packets.now flow.now.reply) }
@@ -74,8 +74,8 @@ pub(crate) fn add_flows(
     requires { length out.now ≤ 1024 }
     ensures { IfOk result (λ _. string_bytes text.new ≡ string_bytes text.old ++ flow_texts network.now load.now begun.now (map (λ packets. packets.items) out.now)) }
 {
-    let mut packets = tallies(alloc, out, false)?;
-    let mut replies = tallies(alloc, out, true)?;
+    let mut packets = key_counts(alloc, out, false)?;
+    let mut replies = key_counts(alloc, out, true)?;
     for i in 0..network.declared_flows() {
         let flow = declared_flow(network, i);
         let all = forms(alloc, flow, i, begun)?;

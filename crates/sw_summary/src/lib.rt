@@ -9,10 +9,10 @@ mod declared;
 mod fills;
 mod flow_lines;
 mod handling;
+mod key_counts;
 mod replies;
 mod status_lines;
 mod summary;
-mod tallies;
 mod unanswered;
 
 pub use buffer_lines::fill_lines;

@@ -88,9 +88,9 @@ pub(crate) const READ_AND_SEND: TwoThreads = TwoThreads {
     tells: true,
 };
 
-/// What a thread tells: the numbers that it read, and how often it made its step.
+/// What a thread reports: the numbers that it read, and how often it made its step.
 #[derive(Clone, Copy)]
-struct Told {
+struct ThreadReport {
     numbers: Option<Numbers>,
     made: usize,
 }
@@ -140,7 +140,7 @@ fn waits_for(turns: &AtomicU64, count: u64) -> bool {
 }
 
 // Does it, and counts how often the step is made. So many turns are over then as it ends, if no more are.
-fn done_of<C: Cells>(cells: &C, turns: &AtomicU64, deed: &Deed) -> Told {
+fn done_of<C: Cells>(cells: &C, turns: &AtomicU64, deed: &Deed) -> ThreadReport {
     let tried = if deed.takes {
         Move::FctIn(deed.channel)
     } else {
@@ -161,7 +161,7 @@ fn done_of<C: Cells>(cells: &C, turns: &AtomicU64, deed: &Deed) -> Told {
         }
     }
     turns.fetch_max(deed.then_ends, Ordering::SeqCst);
-    Told { numbers, made }
+    ThreadReport { numbers, made }
 }
 
 // Prints what the two threads tell.
