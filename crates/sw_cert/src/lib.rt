@@ -30,3 +30,4 @@ pub use passed::Passed;
 pub use refusal::Refusal;
 pub use sw_flow::Place;
 pub use sw_text::laws::one_spelling;
+pub use sw_topo::limits::{MAX_ADDRESS, MAX_NUMBER};
