@@ -7,10 +7,8 @@ use crate::fault::{RmapError, RmapFault};
 use crate::request::{Access, Request};
 use crate::words::number_of;
 use std::alloc::Global;
+use sw_file::MEMORY_END;
 use sw_load::pairs_of;
-
-/// The greatest address: 40 bits (ECSS-E-ST-50-52C, the fields of a command).
-const MAX_ADDRESS: u64 = 1_099_511_627_775;
 
 /// The greatest data length: 24 bits.
 const MAX_LENGTH: u64 = 16_777_215;
@@ -111,7 +109,7 @@ fn transaction_of(word: Option<&str>) -> Option<u16>
 pub(crate) fn order_of(alloc: Global, request: &Request<'_>) -> Result<RmapOrder, RmapError>
     ensures { Gives order_view result (order_of request.now) }
 {
-    let Some(address) = number_of(request.address, MAX_ADDRESS) else {
+    let Some(address) = number_of(request.address, MEMORY_END - 1) else {
         return Err(RmapError::Fault(RmapFault::BadAddress));
     };
     let action = action_of(alloc, &request.access)?;

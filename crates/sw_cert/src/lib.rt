@@ -31,3 +31,4 @@ pub use refusal::Refusal;
 pub use rising::number_of;
 pub use sw_flow::Place;
 pub use sw_text::laws::one_spelling;
+pub use sw_topo::limits::{MAX_ADDRESS, MAX_NUMBER};

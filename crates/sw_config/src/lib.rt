@@ -13,4 +13,4 @@ pub use builder::NetworkBuilder;
 pub use flow::{Flow, Reply};
 pub use network::Network;
 pub use sw_route::laws::outputs_are_the_named_channels;
-pub use sw_route::{Chan, Look, PlaceEnd, PortSet, Ports, Topology};
+pub use sw_route::{Chan, Look, MAX_ADDRESS, PlaceEnd, PortSet, Ports, Topology};

@@ -19,3 +19,4 @@ pub use fault::MigrateFault;
 pub use migration::migrate;
 pub use sw_config::Network;
 pub use sw_text::FileFault;
+pub use sw_topo::limits::MEMORY_END;

@@ -18,6 +18,6 @@ pub use following::follows;
 pub use parallel::{PlaceWorkers, all_places, flows_a_thread};
 pub use place::Place;
 pub use routes::places;
-pub use sw_config::{Chan, Flow, Network, Reply};
+pub use sw_config::{Chan, Flow, MAX_ADDRESS, Network, Reply};
 pub use walk::{Followers, flow_start, followers_in};
 pub use ways::way_to;

@@ -10,14 +10,11 @@ ghost use Rattle.sw_rmap.specs.Replies.{path_of, reply_to};
 
 use arrayvec::ArrayVec;
 use std::marker::Model;
-use sw_flow::{Flow, Network, Reply};
+use sw_flow::{Flow, MAX_ADDRESS, Network, Reply};
 use sw_rmap::Command;
 
 /// A header has at most this many bytes (ECSS-E-ST-50-52C, the fields of a command).
 const MAX_HEADER: usize = 28;
-
-/// A flow has at most this many address bytes.
-const MAX_ADDRESS: usize = 32;
 
 /// What a reply has behind its address but for its data, at most, with its end marker.
 const REPLY_FRAME: u32 = 13;

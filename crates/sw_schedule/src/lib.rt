@@ -31,4 +31,5 @@ pub use sw_net::{
     ASKED_BY_FCT, CellId, Input, Net, NetFault, NodePart, Part, PortPart, SwitchRoutes,
     declared_net,
 };
+pub use sw_topo::limits::MAX_NUMBER;
 pub use writing::{add_entry, write_steps};

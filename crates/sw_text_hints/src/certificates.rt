@@ -6,7 +6,7 @@ ghost use Rattle.sw_text_hints.specs.CertificateHints.{certificate_hint, expecte
 use crate::line_hints::place_lines;
 use crate::wrong_word::nth_line;
 use std::alloc::{AllocError, Global};
-use sw_cert::{Certificate, CertificateFault};
+use sw_cert::{Certificate, CertificateFault, MAX_ADDRESS, MAX_NUMBER};
 use sw_hints::{joined, told, told_of};
 use sw_text::{cut, number};
 
@@ -39,10 +39,10 @@ fn place_numbers(line: &[u8]) -> Option<(u32, u32)>
     let Some((channel, deleted)) = cut(words, b' ') else {
         return None;
     };
-    let Some(channel) = number(channel, 65535) else {
+    let Some(channel) = number(channel, MAX_NUMBER) else {
         return None;
     };
-    let Some(deleted) = number(deleted, 32) else {
+    let Some(deleted) = number(deleted, MAX_ADDRESS as u32) else {
         return None;
     };
     Some((channel, deleted))

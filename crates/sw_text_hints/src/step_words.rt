@@ -9,7 +9,7 @@ use std::alloc::{AllocError, Global};
 use std::str;
 use sw_config::Network;
 use sw_load::{count_of, hex_pair, pairs_of};
-use sw_schedule::MAX_COUNT;
+use sw_schedule::{MAX_COUNT, MAX_NUMBER};
 use sw_text::number;
 
 /// What a word of a line has to be.
@@ -56,7 +56,7 @@ pub(crate) fn is_right(
     ensures { IfOk result (λ b. b ≡ is_right network.now wanted word.now) }
 {
     match wanted {
-        Wanted::Channel => match number(word, 65535) {
+        Wanted::Channel => match number(word, MAX_NUMBER) {
             Some(number) => Ok(number < network.channels() as u32),
             None => Ok(false),
         },
