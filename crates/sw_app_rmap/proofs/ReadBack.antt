@@ -1,15 +1,14 @@
 -- The table of a packet's entry is read back as a load of that packet.
-use Rattle.std.proofs.Common.{◌≡◌, ℕ, ◌+◌, ◌*◌, ◌/◌, ◌%◌, ◌<◌, ◌≤◌, Bool, true, false, not, ◌&&◌, List, [], ◌∷◌, length, Option, Some, None, refl, ap, inl, arith, suc}
-use Rattle.std.specs.Prelude.{Ok, ◌==◌, slice_index, unwrap_or, position}
+use Rattle.std.proofs.Common.{◌≡◌, ℕ, ◌/◌, ◌%◌, ◌<◌, ◌≤◌, true, List, [], ◌∷◌, length, Some, refl, inl, arith, suc}
+use Rattle.std.specs.Prelude.{Ok, slice_index, position}
 use Rattle.std.specs.Str.{bytes_eq}
-use Rattle.std.proofs.lemmas.Bool.{agree_below_at, and_parts, eqb-true, not-true}
-use Rattle.hex.specs.Hex.{encode_upper, encode_with, upper_digits}
+use Rattle.hex.specs.Hex.{encode_upper, encode_with}
 use Rattle.sw_char.specs.declared.nchar.End.TheVariants.{Eop}
 use Rattle.sw_config.specs.Entries.{Declaration, flow_names}
 use Rattle.sw_text.specs.Document.{document_of}
 use Rattle.sw_machine.specs.DeclaredPackets.{IsDeclaredPacket, is_declared_packet}
 use Rattle.sw_machine.proofs.Declared.{declared_packets_pass}
-use Rattle.sw_load.specs.Cargo.{ArePairs, CargoIsRead, cargo_of, hex_pair, hex_value, without_spaces}
+use Rattle.sw_load.specs.Cargo.{CargoIsRead, cargo_of, without_spaces}
 use Rattle.sw_load.proofs.Digits.{IsBytes, are_pairs, digit_right}
 use Rattle.sw_load.specs.Load.{LoadEntry, cargo_at, count_at, flow_at, load_of, load_text, marker_at, next_packet, packet_of}
 use Rattle.sw_app_rmap.specs.EntryTexts.{entry_table, load_table}

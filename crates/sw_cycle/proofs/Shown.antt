@@ -19,7 +19,7 @@ use Rattle.sw_machine.specs.Model.{network_of, reply_number}
 use Rattle.sw_machine.proofs.Flows.{flow_at, some_at}
 use Rattle.sw_machine.proofs.Steps.{steps_agree}
 use Rattle.sw_cycle.specs.Cycles as cycles
-use Rattle.sw_cycle.specs.Cycles.{CauseEntry, CycleEntry, IsCause, IsFlowCause, IsShown, IsTargetCause, round}
+use Rattle.sw_cycle.specs.Cycles.{CauseEntry, IsCause, IsFlowCause, IsTargetCause, round}
 use Rattle.sw_cycle.specs.Laws.{CausesShowDependencies, ShownCyclesAreCycles}
 
 replied : (n : ℕ) (o : Option ReplyEntry) → IsSome o → option_map (λ r. n) o ≡ Some n

@@ -1,5 +1,5 @@
 -- The nodes that answer.
-use Rattle.std.specs.Prelude.{◌≡◌, ℕ, ◌<◌, ◌↔◌, Bool, true, false, List, length, slice_get, IsSome, Some}
+use Rattle.std.specs.Prelude.{◌≡◌, ℕ, ◌<◌, ◌↔◌, Bool, true, List, length, slice_get, IsSome, Some}
 use Rattle.sw_graph.specs.Rounds.{is_marked}
 use Rattle.sw_config.specs.Entries.{FlowEntry, Declaration, all_flows}
 

@@ -1,5 +1,5 @@
 -- Steps as they are kept.
-use Rattle.std.proofs.Common.{All, List, None, Option, Some, [], ap, length, map, refl, subst, sym, ℕ, ◌++◌, ◌<◌, ◌∙◌, ◌∷◌, ◌≡◌}
+use Rattle.std.proofs.Common.{All, List, Option, Some, [], ap, length, map, refl, subst, sym, ℕ, ◌++◌, ◌<◌, ◌∙◌, ◌∷◌, ◌≡◌}
 use Rattle.std.proofs.lemmas.List.Elements.{All-push}
 use Rattle.std.proofs.lemmas.Option.{same_Some, slice_get-get_or, slice_get_within}
 use Rattle.std.specs.Prelude.{IfSome, IsSome, slice_get, slice_index}
@@ -12,7 +12,6 @@ use Rattle.sw_history.specs.declared.record.Noted.{Noted}
 use Rattle.sw_history.specs.declared.record.Noted.TheVariants as note
 use Rattle.sw_load.specs.History.{BeginsNext, next_packet, packets_at, packets_of}
 use Rattle.sw_load.specs.Senders.{SendersView}
-use Rattle.sw_load.specs.Load.{LoadEntry}
 use Rattle.sw_machine.specs.Begun.{Begun, beginnings}
 use Rattle.sw_machine.specs.Steps.{Accept, Arrive, Begin, Drop, Emit, Fct, FctIn, Forward, Grant, Reply, Spill, Step}
 use Rattle.sw_machine.specs.Model.{network_of}

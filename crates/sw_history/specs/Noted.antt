@@ -1,5 +1,5 @@
 -- The steps of a history, as they are kept.
-use Rattle.std.specs.Prelude.{IsSome, None, Option, Some, [], length, slice_get, ℕ, ◌*◌, ◌<◌}
+use Rattle.std.specs.Prelude.{IsSome, None, Option, Some, [], length, slice_get, ℕ, ◌<◌}
 use Rattle.sw_char.specs.declared.nchar.End.TheVariants.{Eop}
 use Rattle.sw_history.specs.History.{HistoryView}
 use Rattle.sw_history.specs.Next.{begin_of}

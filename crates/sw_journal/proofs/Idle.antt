@@ -10,11 +10,11 @@ use Rattle.sw_journal.proofs.Commit.{possible_of}
 use Rattle.sw_journal.specs.Asked.{IsStill, IsStuck, IsUndelivered}
 use Rattle.sw_journal.specs.Marks.{IsTrueMark}
 use Rattle.sw_journal.specs.Record.{JournalView, IsTrueView, IsKept, with_marks}
-use Rattle.sw_load.specs.History.{BeginsNext, packets_of}
+use Rattle.sw_load.specs.History.{packets_of}
 use Rattle.sw_machine.proofs.Parts.{link_ends}
 use Rattle.sw_machine.specs.Begun.{Begun}
 use Rattle.sw_machine.specs.Network.{IsNetwork, Network}
-use Rattle.sw_machine.specs.Steps.{Accept, Arrive, Begin, Drop, Emit, Fct, FctIn, Forward, Grant, Reply, Spill, Step, is_begin}
+use Rattle.sw_machine.specs.Steps.{Step}
 use Rattle.sw_machine.specs.Model.{network_of}
 use Rattle.sw_journal.specs.declared.cell_table.SeatChange.{SeatChange}
 use Rattle.sw_journal.specs.declared.cell_table.View.{View}

@@ -1,5 +1,5 @@
 -- A new journal.
-use Rattle.std.proofs.Common.{Bool, IsTrue, cond, List, None, Option, Some, [], ap, append-nil, arith, false, filter, length, map, refl, replicate, subst, sym, true, zero, suc, ℕ, ◌*◌, ◌++◌, ◌+◌, ◌∙◌, ◌∷◌, ◌≡◌, ◌≤◌, ◌↔◌}
+use Rattle.std.proofs.Common.{Bool, IsTrue, cond, List, None, Option, Some, [], ap, append-nil, arith, false, filter, length, map, refl, replicate, subst, sym, true, zero, suc, ℕ, ◌*◌, ◌++◌, ◌+◌, ◌∙◌, ◌∷◌, ◌≡◌, ◌↔◌}
 use Rattle.atomic_table.specs.Seated.{TableId}
 use Rattle.atomic_table.specs.Table.{Me}
 use Rattle.std.proofs.lemmas.List.{length-replicate, map-append}

@@ -1,7 +1,7 @@
 -- `explain` has one status, that of the text answer; and where a target makes a step no flow does.
 use Rattle.std.proofs.Common.{◌≡◌, ◌∙◌, ℕ, ◌+◌, ◌<◌, Bool, List, [], ◌∷◌, All, arith, codes, length, refl, subst, sym}
 use Rattle.std.specs.List.{AllZip}
-use Rattle.std.specs.Prelude.{Err, None, Ok, Option, Result, Some, slice_get}
+use Rattle.std.specs.Prelude.{Err, None, Ok, Option, Result, Some}
 use Rattle.std.proofs.lemmas.List.Elements.{All-cons, All-nil}
 use Rattle.std.proofs.lemmas.Option.{slice_get_within}
 use Rattle.serde_json.specs.Data.{Data}
@@ -13,7 +13,7 @@ use Rattle.sw_cycle.specs.Causes.{GoesOn, IsChosenCause}
 use Rattle.sw_cycle.specs.Cycles.{ByTarget, round}
 use Rattle.sw_search.specs.Explanations.{IsExplanation}
 use Rattle.sw_search.specs.ExplanationLaws.{ExplanationsAreOfTheVerdict, TanglesAreWhereCyclesAre}
-use Rattle.sw_search.specs.Tangles.{AreTangles, IsTangle}
+use Rattle.sw_search.specs.Tangles.{IsTangle}
 use Rattle.sw_search.specs.declared.explanation.Explanation.{Explanation}
 use Rattle.sw_search.specs.declared.explanation.Explanation.TheVariants.{Misrouted, Cyclic, Free}
 use Rattle.sw_search.specs.declared.tangle.Tangle.{Tangle}

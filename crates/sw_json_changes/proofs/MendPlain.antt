@@ -1,5 +1,5 @@
 -- The values of what frees a network have no floats and are not deep.
-use Rattle.std.proofs.Common.{[], ◌∷◌, All, arith}
+use Rattle.std.proofs.Common.{[], ◌∷◌, arith}
 use Rattle.std.proofs.lemmas.List.Elements.{All-cons, All-nil}
 use Rattle.sw_app_changes.specs.declared.mending.Mending.{Mending}
 use Rattle.sw_app_changes.specs.declared.mending.Mending.TheVariants.{Misrouted, Free, Single, Pairs}

@@ -1,5 +1,5 @@
 -- The tangles of a network have one value.
-use Rattle.std.proofs.Common.{◌≡◌, ◌∙◌, ℕ, suc, ◌+◌, ◌<◌, ◌≤◌, List, Vec, Global, [], ◌∷◌, All, ap, arith, length, map, refl, subst, sym}
+use Rattle.std.proofs.Common.{◌≡◌, ◌∙◌, ℕ, suc, ◌+◌, ◌<◌, List, Vec, Global, [], ◌∷◌, ap, arith, length, map, refl, subst, sym}
 use Rattle.std.specs.List.{AllZip, Contains}
 use Rattle.std.specs.Prelude.{AllPairs, codes, slice_index}
 use Rattle.std.proofs.lemmas.List.Elements.{All-contains, All-map}
@@ -28,7 +28,7 @@ use Rattle.sw_search.proofs.SameCauses.{same_causes}
 use Rattle.sw_flow.proofs.Sorted.{same_sorted}
 use Rattle.sw_search.specs.Laws.{without_places}
 use Rattle.sw_search.specs.Verdicts.{depends}
-use Rattle.sw_json_changes.specs.ExplainValues.{step_value, step_values, tangle_value, tangles_value, target_value}
+use Rattle.sw_json_changes.specs.ExplainValues.{step_value, step_values, tangle_value, tangles_value}
 use Rattle.sw_search.proofs.Cycles.{same_least}
 use Rattle.sw_margin.proofs.Lawful.{same_listing}
 

@@ -1,5 +1,5 @@
 -- The objects that stand for what frees a network (this project's choice).
-use Rattle.std.specs.Prelude.{ℕ, List, [], ◌∷◌, codes, map, slice_get, Option}
+use Rattle.std.specs.Prelude.{ℕ, List, [], ◌∷◌, codes, map, slice_get}
 use Rattle.std.specs.Option.{option_map}
 use Rattle.serde_json.specs.Data.{Data, array, object, string, member, no_members}
 use Rattle.serde_json.specs.View.{items_of}

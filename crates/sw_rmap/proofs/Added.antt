@@ -1,5 +1,5 @@
 -- Bytes that are added to others part by part, and a header as such parts.
-use Rattle.std.proofs.Common.{◌≡◌, ℕ, List, Bool, true, false, [], ◌∷◌, ◌++◌, ◌==◌, ◌&&◌, None, Option, Some, ap, append-nil, cond, length, get_or, rules, Result, Ok, Err, refl, sym, ◌∙◌, append_assoc}
+use Rattle.std.proofs.Common.{◌≡◌, ℕ, List, Bool, true, false, [], ◌∷◌, ◌++◌, ◌==◌, ◌&&◌, None, Some, ap, append-nil, cond, length, get_or, rules, Result, Ok, Err, refl, sym, ◌∙◌, append_assoc}
 use Rattle.std.proofs.lemmas.Bool.{cond-false, cond-true}
 use Rattle.std.specs.List.{list_all}
 use Rattle.sw_rmap.specs.Replies.{code_of, is_answered, leads_nowhere, left_form, path_of, reply_head, reply_to, way_back, without_leading_zeros}

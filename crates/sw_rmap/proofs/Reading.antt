@@ -1,5 +1,5 @@
 -- What is known of a packet that is read.
-use Rattle.std.proofs.Common.{◌≡◌, ◌∙◌, ℕ, ◌+◌, ◌<◌, ◌≤◌, ◌^◌, ◌==◌, Bool, false, not, true, List, length, length-drop, length-take, get_or, None, Some, take, drop, refl, ap, sym, arith}
+use Rattle.std.proofs.Common.{◌≡◌, ◌∙◌, ℕ, ◌+◌, ◌<◌, ◌≤◌, ◌^◌, ◌==◌, false, not, true, List, length, length-drop, length-take, get_or, None, Some, take, drop, refl, ap, sym, arith}
 use Rattle.std.proofs.Math.Nat.{pow-le-pow_right}
 use Rattle.std.proofs.lemmas.Bool.{and_from, and_left, and_parts, and_right, both_ways, cond-false, eq-eqb, le-ltb, lt-ltb, ltb-false, not-true}
 use Rattle.std.proofs.lemmas.Option.{cond_some}

@@ -3,7 +3,7 @@ use Rattle.std.proofs.Common.{◌≡◌, ◌∙◌, ℕ, ◌+◌, ◌<◌, ◌�
 use Rattle.std.proofs.lemmas.Bool.{le-leb, lt-leb}
 use Rattle.std.proofs.lemmas.List.{flat_map_more, length-replicate}
 use Rattle.std.specs.Option.{option_map_or}
-use Rattle.std.specs.Prelude.{Err, Ok, nat_le, option_map}
+use Rattle.std.specs.Prelude.{Err, Ok, option_map}
 use Rattle.sw_config.specs.Entries.{Declaration}
 use Rattle.sw_machine.specs.Steps.{Step}
 use Rattle.sw_schedule.specs.Lines.{Repeated, is_skipped, repeated_of, steps_of_line, words_of}

@@ -1,6 +1,6 @@
 -- What an engine that told a text has done.
 use Rattle.std.proofs.Common.{◌≡◌, ℕ, ◌≤◌, List, [], ◌∷◌, true, false, arith, codes, inl, inr, length, refl, subst, sym}
-use Rattle.std.specs.Prelude.{Option, Some, nat_le, Result, Ok, Err, IfOk, string_bytes}
+use Rattle.std.specs.Prelude.{Option, nat_le, Result, Ok, Err, IfOk, string_bytes}
 use Rattle.std.specs.declared.alloc.AllocError.{AllocError}
 use Rattle.std.specs.Io.KnownBytes.{Consumes, IsAtEnd}
 use Rattle.std.proofs.lemmas.Bool.Decides.{nat_tests}

@@ -1,5 +1,5 @@
 -- How an engine ends (this project's choice).
-use Rattle.std.specs.Prelude.{◌≡◌, ◌⊎◌, ℕ, ◌+◌, ◌<◌, List, [], ◌∷◌, Option, Some, None, IfSome, MatchBool, codes, if◌then◌else◌, length, nat_le, take}
+use Rattle.std.specs.Prelude.{◌≡◌, ◌⊎◌, ℕ, ◌+◌, ◌<◌, List, [], ◌∷◌, Option, Some, None, MatchBool, codes, if◌then◌else◌, length, nat_le, take}
 use Rattle.std.specs.Io.KnownBytes.{Appends, Consumes, IsAtEnd, Keeps}
 use Rattle.sw_text.specs.Reading.{Takes}
 use Rattle.sw_text.specs.declared.read_stream.ReadError.{ReadError}

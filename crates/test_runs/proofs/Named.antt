@@ -1,6 +1,6 @@
 -- The cells of a new journal have its name.
 use Rattle.atomic_table.specs.Seated.{TableId}
-use Rattle.std.proofs.Common.{All, List, ap, arith, get_or, length, map, subst, sym, ℕ, ◌<◌, ◌∙◌, ◌≡◌}
+use Rattle.std.proofs.Common.{All, List, ap, arith, length, map, subst, sym, ◌<◌, ◌≡◌}
 use Rattle.std.proofs.lemmas.List.{get_or-map, length-map}
 use Rattle.sw_cell.specs.declared.cell.CellId.{CellId}
 use Rattle.sw_cell.specs.declared.cell.CellId.TheVariants.{Node}

@@ -1,4 +1,4 @@
-use Rattle.std.proofs.Common.{◌∙◌, List, Option, ap, length, map, option_map, subst, ℕ, Vec, Global}
+use Rattle.std.proofs.Common.{◌∙◌, Option, ap, length, map, option_map, subst, ℕ, Vec, Global}
 use Rattle.sw_summary.specs.Fills.{AreFills, AreFillsOrNone}
 use Rattle.sw_machine.specs.Model.{network_of}
 use Rattle.sw_machine.specs.StepValues.{machine_step}

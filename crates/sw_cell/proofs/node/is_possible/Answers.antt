@@ -1,4 +1,4 @@
-use Rattle.std.proofs.Common.{◌<◌, ap, arith, length, subst, sym, ◌∙◌}
+use Rattle.std.proofs.Common.{ap, arith, length, subst, sym, ◌∙◌}
 use Rattle.std.specs.Prelude.{nat_lt, option_map}
 use Rattle.sw_cell.proofs.Network.{answers_as, channels_are, in_network, into_is, out_is}
 use Rattle.sw_cell.proofs.Nodes as nodes

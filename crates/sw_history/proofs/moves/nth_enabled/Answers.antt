@@ -1,4 +1,4 @@
-use Rattle.std.proofs.Common.{ap, arith, false, length, subst, sym, true, ◌*◌, ◌+◌, ◌∙◌, ◌≡◌}
+use Rattle.std.proofs.Common.{ap, arith, false, length, subst, sym, true, ◌*◌, ◌+◌, ◌∙◌}
 use Rattle.sw_history.proofs.Enabled.{none_below, one_more}
 use Rattle.sw_history.proofs.Ready.{add_none, all_counted}
 use Rattle.sw_history.proofs.moves.nth_enabled.Goals as goal

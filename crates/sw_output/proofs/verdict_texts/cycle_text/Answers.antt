@@ -1,4 +1,4 @@
-use Rattle.std.proofs.Common.{◌≡◌, ℕ, length, map, ◌++◌, rules, string_bytes, sym, [], ◌∷◌}
+use Rattle.std.proofs.Common.{◌≡◌, ℕ, length, map, rules, string_bytes, [], ◌∷◌}
 use Rattle.std.proofs.lemmas.List.{length_push}
 use Rattle.std.proofs.lemmas.Slice.Zip.{zip_end, zip_turn}
 use Rattle.sw_cycle.specs.Cycles.{CauseEntry, cause_of}

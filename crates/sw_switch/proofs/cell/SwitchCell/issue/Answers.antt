@@ -1,5 +1,5 @@
 use Rattle.std.specs.Prelude.{IsTrue}
-use Rattle.std.proofs.Common.{◌<◌, ◌≡◌, length, sym, ap, subst, ◌∙◌}
+use Rattle.std.proofs.Common.{◌<◌, length, sym, ap, subst, ◌∙◌}
 use Rattle.sw_link.specs.Ends.{Received, asked, may_issue}
 use Rattle.sw_switch.specs.Cell.{end_at}
 use Rattle.sw_switch.proofs.Entries.{end_read, keeps_with_end, with_end_is}

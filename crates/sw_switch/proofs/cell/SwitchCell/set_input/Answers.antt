@@ -1,4 +1,4 @@
-use Rattle.std.proofs.Common.{◌∙◌, sym}
+use Rattle.std.proofs.Common.{◌∙◌}
 use Rattle.std.proofs.lemmas.Bool.{both_ways}
 use Rattle.sw_switch.proofs.Entries.{keeps_with_input, with_input_is}
 use Rattle.sw_switch.proofs.cell.SwitchCell.set_input.Goals as goal

@@ -1,5 +1,5 @@
 use Rattle.std.specs.Prelude.{drop}
-use Rattle.std.proofs.Common.{◌<◌, ◌≡◌, length, sym, ap, subst, ◌∙◌}
+use Rattle.std.proofs.Common.{◌<◌, length, sym, ap, subst, ◌∙◌}
 use Rattle.sw_link.specs.Ends.{Received}
 use Rattle.sw_switch.specs.Cell.{end_at}
 use Rattle.sw_switch.proofs.Entries.{end_read, keeps_with_end, taken_after, taken_front, with_end_is}

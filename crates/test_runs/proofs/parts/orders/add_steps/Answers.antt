@@ -1,4 +1,4 @@
-use Rattle.std.proofs.Common.{arith, sym, ◌∙◌, ◌≡◌}
+use Rattle.std.proofs.Common.{arith, sym, ◌∙◌}
 use Rattle.test_runs.proofs.Rows.{graph_made}
 use Rattle.test_runs.proofs.parts.orders.add_steps.Goals as goal
 

@@ -1,4 +1,4 @@
-use Rattle.std.proofs.Common.{ap, ◌≡◌}
+use Rattle.std.proofs.Common.{ap}
 use Rattle.sw_journal.specs.Record.{JournalView}
 use Rattle.test_runs.proofs.Named.{new_named}
 use Rattle.test_runs.proofs.journals.pair.Pair.open.Goals as goal
