@@ -12,7 +12,8 @@ use Rattle.clap.specs.Walk.{Row, Text, answers_to, finished, first_of, nothing_h
 use Rattle.sw_args.specs.CommandLine.{HasCall, MeetsCall, IsSet, swcheck_app}
 use Rattle.sw_args.specs.declared.call.Call.TheVariants.{Route, Decide, Check, Report, Replay, Run, Migrate, Explain, Draw, Rmap, Mend, Margin, Witness, Audit, Init}
 use Rattle.sw_args.proofs.Kept.{Each, first_none, found_in, then_none}
-use Rattle.sw_args.proofs.Given.{answer_given, answer_rules, audit_rules, draw_given, draw_rules, file_given, file_rules, flag_given, flag_rules, init_rules, leaf, pair_given, pair_rules, rmap_given, rmap_rules, run_given, run_rules, witness_given, witness_rules}
+use Rattle.sw_args.proofs.Given.{leaf}
+use Rattle.sw_args.proofs.GivenForms.{answer_given, answer_rules, audit_rules, draw_given, draw_rules, file_given, file_rules, flag_given, flag_rules, init_rules, pair_given, pair_rules, rmap_given, rmap_rules, run_given, run_rules, witness_given, witness_rules}
 use Rattle.sw_args.proofs.Flags.{some_flag}
 use Rattle.sw_args.proofs.Named.{NotAtHelp, not_at_help}
 

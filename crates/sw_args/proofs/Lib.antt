@@ -2,6 +2,7 @@ mod Called
 mod CommandLines
 mod Flags
 mod Given
+mod GivenForms
 mod Kept
 mod Named
 mod Numbers
