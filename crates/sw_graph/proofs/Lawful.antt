@@ -10,7 +10,7 @@ use Rattle.sw_graph.specs.ComponentLaws.{ComponentsAreWhereCyclesAre, CycleMembe
 use Rattle.sw_graph.specs.Components.{AreComponents, IsComponent, LeadsTo}
 use Rattle.sw_graph.proofs.Adding.{nothing_in}
 use Rattle.sw_graph.proofs.Chains.{chain_cons}
-use Rattle.sw_graph.proofs.Components.{together_back, together_on}
+use Rattle.sw_graph.proofs.Grouped.{together_back, together_on}
 
 module _ (dep : ℕ → ℕ → Type 0) where
   -- a member of a component leads to itself

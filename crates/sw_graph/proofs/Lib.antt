@@ -20,7 +20,7 @@ pub mod Searching
 pub mod Leasts
 pub mod Going
 pub mod Bettering
-pub mod Components
+pub mod Grouped
 pub mod Sought
 pub mod Lawful
 pub mod Carried

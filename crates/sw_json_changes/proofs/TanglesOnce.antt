@@ -23,7 +23,7 @@ use Rattle.sw_graph.specs.Components.{AreComponents, AreTogether, IsComponent, I
 use Rattle.sw_graph.specs.Shortest.{IsNext}
 use Rattle.sw_graph.specs.declared.component.Component.{Component}
 use Rattle.sw_graph.proofs.Chains.{chain_cons}
-use Rattle.sw_graph.proofs.Components.{together_back, together_on}
+use Rattle.sw_graph.proofs.Grouped.{together_back, together_on}
 use Rattle.sw_search.proofs.SameCauses.{same_causes}
 use Rattle.sw_flow.proofs.Sorted.{same_sorted}
 use Rattle.sw_search.specs.Laws.{without_places}

@@ -5,7 +5,7 @@ use Rattle.sw_graph.specs.Rows.{Leads}
 use Rattle.sw_graph.specs.Walks.{holds}
 use Rattle.sw_graph.proofs.Loops.{none_read}
 use Rattle.sw_graph.proofs.Places.{held_in}
-use Rattle.sw_graph.proofs.Components.{among_rows, components_free, components_taken, least_of, leads_of, no_round, untaken}
+use Rattle.sw_graph.proofs.Grouped.{among_rows, components_free, components_taken, least_of, leads_of, no_round, untaken}
 use Rattle.sw_graph.proofs.found.add_component.Goals as goal
 
 pub loop-component-init : goal.loop-component-init

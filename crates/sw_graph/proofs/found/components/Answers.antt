@@ -1,6 +1,6 @@
 use Rattle.std.proofs.Common.{arith}
 use Rattle.sw_graph.specs.Rows.{Leads}
-use Rattle.sw_graph.proofs.Components.{are_components, components_none, on_inside}
+use Rattle.sw_graph.proofs.Grouped.{are_components, components_none, on_inside}
 use Rattle.sw_graph.proofs.found.components.Goals as goal
 
 pub loop-c-init : goal.loop-c-init

@@ -4,7 +4,7 @@ use Rattle.sw_graph.specs.Rows.{Leads}
 use Rattle.sw_graph.proofs.Listed.{reversed_graph}
 use Rattle.sw_graph.specs.Components.{AreTogether}
 use Rattle.sw_graph.specs.declared.component.Component.{Component}
-use Rattle.sw_graph.proofs.Components.{components_more, is_component, leads_of, listed_inside, stands_first, together_listing}
+use Rattle.sw_graph.proofs.Grouped.{components_more, is_component, leads_of, listed_inside, stands_first, together_listing}
 use Rattle.sw_graph.proofs.found.push_component.Goals as goal
 
 pub together-requires-clause-graph2 : goal.together-requires-clause-graph2
