@@ -4,19 +4,17 @@ ghost use Rattle.sw_file.specs.Keys.{target_keys, route_keys, link_keys};
 
 use sw_text::{Key, Version};
 
-pub(crate) const DOCUMENT_KEYS: &[Key] = &[
-    Key::Version,
-    Key::Node,
-    Key::Switch,
-    Key::Link,
-    Key::Flow,
-];
+/// Those of the document, in either version.
+pub const DOCUMENT_KEYS: &[Key] = &[Key::Version, Key::Node, Key::Switch, Key::Link, Key::Flow];
 
-pub(crate) const NODE_KEYS: &[Key] = &[Key::Name, Key::Target];
+/// Those of a node, in either version.
+pub const NODE_KEYS: &[Key] = &[Key::Name, Key::Target];
 
-pub(crate) const SWITCH_KEYS: &[Key] = &[Key::Name, Key::Arbiter, Key::Route];
+/// Those of a switch, in either version.
+pub const SWITCH_KEYS: &[Key] = &[Key::Name, Key::Arbiter, Key::Route];
 
-pub(crate) const FLOW_KEYS: &[Key] = &[
+/// Those of a flow, in either version.
+pub const FLOW_KEYS: &[Key] = &[
     Key::Name,
     Key::From,
     Key::To,
@@ -25,9 +23,11 @@ pub(crate) const FLOW_KEYS: &[Key] = &[
     Key::Reply,
 ];
 
-pub(crate) const REPLY_KEYS: &[Key] = &[Key::Path, Key::Initiator];
+/// Those of a flow's reply, in either version.
+pub const REPLY_KEYS: &[Key] = &[Key::Path, Key::Initiator];
 
-pub(crate) fn target_keys(version: Version) -> &'static [Key]
+/// Those of a node's target: `slots` is of version 2.
+pub fn target_keys(version: Version) -> &'static [Key]
     ensures { result.now ≡ target_keys version }
 {
     match version {
@@ -42,7 +42,8 @@ pub(crate) fn target_keys(version: Version) -> &'static [Key]
     }
 }
 
-pub(crate) fn route_keys(version: Version) -> &'static [Key]
+/// Those of a table entry of a switch: `last` is of version 2.
+pub fn route_keys(version: Version) -> &'static [Key]
     ensures { result.now ≡ route_keys version }
 {
     match version {
@@ -51,7 +52,8 @@ pub(crate) fn route_keys(version: Version) -> &'static [Key]
     }
 }
 
-pub(crate) fn link_keys(version: Version) -> &'static [Key]
+/// Those of a link: `buffer_a` and `buffer_b` are of version 2.
+pub fn link_keys(version: Version) -> &'static [Key]
     ensures { result.now ≡ link_keys version }
 {
     match version {

@@ -4,17 +4,19 @@ use Rattle.sw_text.specs.declared.keys.Key.{Key}
 use Rattle.sw_text.specs.declared.keys.Key.TheVariants as key
 use Rattle.sw_text.specs.declared.keys.Section.{Section}
 use Rattle.sw_text.specs.declared.keys.Section.TheVariants as section
+use Rattle.sw_text.specs.declared.keys.Version.TheVariants.{Two}
+use Rattle.sw_file.specs.Keys.{document_keys, flow_keys, link_keys, node_keys, reply_keys, route_keys, switch_keys, target_keys}
 
 -- the keys of a table, those of version 2 too
 abbrev pub keys_of : Section → List Key
-keys_of section.Document = key.Version ∷ key.Node ∷ key.Switch ∷ key.Link ∷ key.Flow ∷ []
-keys_of (section.Node i) = key.Name ∷ key.Target ∷ []
-keys_of (section.Target i) = key.Logical ∷ key.TargetKey ∷ key.Start ∷ key.Size ∷ key.Slots ∷ []
-keys_of (section.Switch i) = key.Name ∷ key.Arbiter ∷ key.Route ∷ []
-keys_of (section.Route i j) = key.Address ∷ key.Last ∷ key.Ports ∷ key.Delete ∷ []
-keys_of (section.Link i) = key.A ∷ key.APort ∷ key.B ∷ key.BPort ∷ key.Buffer ∷ key.BufferA ∷ key.BufferB ∷ []
-keys_of (section.Flow i) = key.Name ∷ key.From ∷ key.To ∷ key.Address ∷ key.Left ∷ key.Reply ∷ []
-keys_of (section.Reply i) = key.Path ∷ key.Initiator ∷ []
+keys_of section.Document = document_keys
+keys_of (section.Node i) = node_keys
+keys_of (section.Target i) = target_keys Two
+keys_of (section.Switch i) = switch_keys
+keys_of (section.Route i j) = route_keys Two
+keys_of (section.Link i) = link_keys Two
+keys_of (section.Flow i) = flow_keys
+keys_of (section.Reply i) = reply_keys
 keys_of (section.Packet i) = key.Flow ∷ key.Cargo ∷ key.End ∷ key.Count ∷ []
 
 -- those of version 2 alone
@@ -33,7 +35,7 @@ port_keys _ = []
 abbrev pub outer_keys : Section → List Key
 outer_keys section.Document = []
 outer_keys (section.Packet i) = key.Packet ∷ []
-outer_keys _ = key.Version ∷ key.Node ∷ key.Switch ∷ key.Link ∷ key.Flow ∷ []
+outer_keys _ = document_keys
 
 -- what may stand at a key of a table
 abbrev pub value_words : Section → Key → List ℕ

@@ -2,42 +2,25 @@
 ghost use Rattle.std.specs.Prelude.{◌≡◌};
 ghost use Rattle.sw_hints.specs.KeyWords.{keys_of, new_keys_of, outer_keys, port_keys, value_words};
 
-use sw_text::{Key, Section};
+use sw_file::keys::{
+    DOCUMENT_KEYS, FLOW_KEYS, NODE_KEYS, REPLY_KEYS, SWITCH_KEYS, link_keys, route_keys,
+    target_keys,
+};
+use sw_text::{Key, Section, Version};
 
 /// The keys of a table, those of version 2 too.
 pub(crate) fn keys_of(section: Section) -> &'static [Key]
     ensures { result.now ≡ keys_of section }
 {
     match section {
-        Section::Document => &[Key::Version, Key::Node, Key::Switch, Key::Link, Key::Flow],
-        Section::Node(_) => &[Key::Name, Key::Target],
-        Section::Target(_) => &[
-            Key::Logical,
-            Key::TargetKey,
-            Key::Start,
-            Key::Size,
-            Key::Slots,
-        ],
-        Section::Switch(_) => &[Key::Name, Key::Arbiter, Key::Route],
-        Section::Route(_, _) => &[Key::Address, Key::Last, Key::Ports, Key::Delete],
-        Section::Link(_) => &[
-            Key::A,
-            Key::APort,
-            Key::B,
-            Key::BPort,
-            Key::Buffer,
-            Key::BufferA,
-            Key::BufferB,
-        ],
-        Section::Flow(_) => &[
-            Key::Name,
-            Key::From,
-            Key::To,
-            Key::Address,
-            Key::Left,
-            Key::Reply,
-        ],
-        Section::Reply(_) => &[Key::Path, Key::Initiator],
+        Section::Document => DOCUMENT_KEYS,
+        Section::Node(_) => NODE_KEYS,
+        Section::Target(_) => target_keys(Version::Two),
+        Section::Switch(_) => SWITCH_KEYS,
+        Section::Route(_, _) => route_keys(Version::Two),
+        Section::Link(_) => link_keys(Version::Two),
+        Section::Flow(_) => FLOW_KEYS,
+        Section::Reply(_) => REPLY_KEYS,
         Section::Packet(_) => &[Key::Flow, Key::Cargo, Key::End, Key::Count],
     }
 }
@@ -71,7 +54,7 @@ pub(crate) fn outer_keys(section: Section) -> &'static [Key]
     match section {
         Section::Document => &[],
         Section::Packet(_) => &[Key::Packet],
-        _ => &[Key::Version, Key::Node, Key::Switch, Key::Link, Key::Flow],
+        _ => DOCUMENT_KEYS,
     }
 }
 
