@@ -52,22 +52,22 @@ _swcheck() {
         kind=none
         options=''
         case $command$last in
-            route--hints) kind='file' ;;
-            decide--hints) kind='file' ;;
-            check--hints) kind='file' ;;
-            report--hints) kind='file' ;;
-            replay--hints) kind='file' ;;
+            route--hints) kind='texts auto never' ;;
+            decide--hints) kind='texts auto never' ;;
+            check--hints) kind='texts auto never' ;;
+            report--hints) kind='texts auto never' ;;
+            replay--hints) kind='texts auto never' ;;
             run--schedule) kind='file .schedule' ;;
-            run--hints) kind='file' ;;
-            migrate--hints) kind='file' ;;
-            explain--hints) kind='file' ;;
-            draw--hints) kind='file' ;;
-            rmap--hints) kind='file' ;;
-            mend--hints) kind='file' ;;
-            margin--hints) kind='file' ;;
-            witness--hints) kind='file' ;;
-            audit--hints) kind='file' ;;
-            init--hints) kind='file' ;;
+            run--hints) kind='texts auto never' ;;
+            migrate--hints) kind='texts auto never' ;;
+            explain--hints) kind='texts auto never' ;;
+            draw--hints) kind='texts auto never' ;;
+            rmap--hints) kind='texts auto never' ;;
+            mend--hints) kind='texts auto never' ;;
+            margin--hints) kind='texts auto never' ;;
+            witness--hints) kind='texts auto never' ;;
+            audit--hints) kind='texts auto never' ;;
+            init--hints) kind='texts auto never' ;;
             *) ;;
         esac
     else

@@ -3,11 +3,13 @@
 
 mod call;
 mod command_line;
+mod laws;
 mod matched;
 mod parts;
 mod release;
 mod values;
 
 pub use call::{Asked, Call, REFUSED, WordsFault};
+pub use laws::logic_is_told;
 pub use matched::words;
 pub use release::{TOOLCHAIN, VERSION};

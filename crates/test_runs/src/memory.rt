@@ -2,8 +2,8 @@
 //! before. So this prints the same whichever allocation of such a call is refused. Where memory is refused to what such a call needs, or to a call
 //! that changes nothing, it ends with the error that there was no memory.
 //!
-//! `bench/refusals` runs it with the first allocation refused, then with the second, and so on. Of the calls that change nothing it has those that
-//! `swcheck` makes with none of the words that `bench/refusals` gives it: the others are tried there.
+//! `tests/refusals` runs it with the first allocation refused, then with the second, and so on. Of the calls that change nothing it has those that
+//! `swcheck` makes with none of the words that `tests/refusals` gives it: the others are tried there.
 
 mod histories;
 mod networks;
