@@ -6,6 +6,7 @@ pub mod Flows
 pub mod FlowLaws
 pub mod Passes
 mod Answering
+pub mod AnsweringNodes
 pub use Rattle.sw_route.proofs.PortBits
 pub use Rattle.sw_route.proofs.PortWalk
 pub use Rattle.sw_route.proofs.Ends
