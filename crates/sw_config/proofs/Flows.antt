@@ -1,5 +1,5 @@
 -- Reply flows: how many there are, what they keep, their names; and the network with one flow more.
-use Rattle.std.proofs.Common.{◌≡◌, ℕ, zero, suc, ◌+◌, ◌-◌, ◌*◌, ◌<◌, ◌≤◌, Bool, true, false, take, List, [], ◌∷◌, ◌++◌, length, Option, Some, None, Result, Ok, Err, option_map, codes, refl, sym, subst, ap, ◌∙◌, inl, inr, arith, length-append, append_assoc, zero-add, All}
+use Rattle.std.proofs.Common.{◌≡◌, ℕ, zero, suc, ◌+◌, ◌-◌, ◌*◌, ◌<◌, ◌≤◌, Bool, false, take, List, [], ◌∷◌, ◌++◌, length, Option, Some, None, Result, Ok, Err, option_map, codes, refl, sym, subst, ap, ◌∙◌, inl, inr, arith, length-append, append_assoc, zero-add, All}
 use Rattle.std.specs.Prelude.{slice_get, position, OnOk, OnErr}
 use Rattle.std.specs.List.{list_any}
 use Rattle.std.specs.Str.{bytes_eq}

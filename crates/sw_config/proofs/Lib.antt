@@ -4,6 +4,9 @@ pub mod Steps
 pub mod Wired
 pub mod Flows
 pub mod FlowLaws
+pub mod Passes
+mod Answering
+pub mod AnsweringNodes
 pub use Rattle.sw_route.proofs.PortBits
 pub use Rattle.sw_route.proofs.PortWalk
 pub use Rattle.sw_route.proofs.Ends

@@ -1,5 +1,6 @@
 -- A network as its file declares it: the entries of its nodes, switches, links and flows, each list in file order.
-use Rattle.std.specs.Prelude.{ℕ, List, [], ◌∷◌, ◌++◌, map, length, Option, Some, None, codes, slice_get, option_and_then}
+use Rattle.std.specs.Prelude.{ℕ, ◌==◌, ◌&&◌, Bool, List, [], ◌∷◌, ◌++◌, map, length, Option, Some, None, codes, is_some, slice_get, option_and_then}
+use Rattle.std.specs.List.{list_any, range_with_len}
 use Rattle.std.specs.Option.{option_map_or}
 use Rattle.sw_route.specs.PlaceEnd.{PlaceEnd}
 use Rattle.sw_route.specs.Wiring.{Wiring}
@@ -98,6 +99,18 @@ replies_of f (Some r) = reply_flow f r ∷ []
 abbrev pub reply_flows : List FlowEntry → List FlowEntry
 reply_flows [] = []
 reply_flows (f ∷ fs) = replies_of f f.reply ++ reply_flows fs
+
+-- the packets of the flow are commands to node n, which answers them (ECSS-E-ST-50-52C, the reply bit of a command)
+abbrev pub is_answered_at : ℕ → FlowEntry → Bool
+is_answered_at n f = is_some f.reply && f.to == n
+
+-- node n answers commands: a flow of such packets goes there
+abbrev pub is_answering : Declaration → ℕ → Bool
+is_answering d n = list_any (is_answered_at n) d.flows
+
+-- the same of each node, in order
+abbrev pub answering_marks : Declaration → List Bool
+answering_marks d = map (is_answering d) (range_with_len 0 (length d.nodes))
 
 -- all flows by number: the declared flows, and then the reply flows
 abbrev pub all_flows : Declaration → List FlowEntry

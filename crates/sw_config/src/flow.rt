@@ -65,6 +65,7 @@ impl Model for Flow {
 
 impl Flow {
     ghost use Rattle.std.specs.Prelude.{string_bytes};
+    ghost use Rattle.sw_config.specs.Entries.{is_answered_at};
 
     /// A flow of this name: `left` of the address bytes are left where its packets end, and replies go as `reply` says.
     pub fn new(
@@ -120,6 +121,13 @@ impl Flow {
         ensures { result ≡ self.now.left }
     {
         self.left
+    }
+
+    /// Are its packets commands to that node, which answers them (ECSS-E-ST-50-52C, the reply bit of a command)?
+    pub fn is_answered_at(&self, node: u16) -> bool
+        ensures { result ≡ is_answered_at node self.now }
+    {
+        self.reply.is_some() && self.to == node
     }
 
     /// Where its replies go, if it has any.

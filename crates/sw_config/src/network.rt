@@ -1,5 +1,5 @@
 //! A network, valid by its type.
-ghost use Rattle.std.specs.Prelude.{◌≡◌, ◌+◌, ◌*◌, ◌<◌, ◌≤◌, ◌++◌, ◌∷◌, [], Some, false, length, map, position, slice_get, option_map, is_some, IfSome, OnOk, OnErr};
+ghost use Rattle.std.specs.Prelude.{◌≡◌, ◌+◌, ◌*◌, ◌<◌, ◌≤◌, ◌++◌, ◌∷◌, [], Some, false, length, map, position, slice_get, option_map, is_some, IfOk, IfSome, OnOk, OnErr};
 ghost use Rattle.std.specs.List.{list_any};
 ghost use Rattle.std.specs.Str.{bytes_eq};
 ghost use Rattle.sw_rmap.specs.Config.{IsTargetConfig};
@@ -46,7 +46,7 @@ impl Model for Network {
 
 impl Network {
     ghost use Rattle.sw_route.specs.Looks.{IsTable};
-    ghost use Rattle.sw_config.specs.Entries.{target_of, routes_of, look_at, wiring_of, capacities, all_flows, flow_names};
+    ghost use Rattle.sw_config.specs.Entries.{target_of, routes_of, look_at, wiring_of, capacities, all_flows, flow_names, is_answering, answering_marks};
     ghost use Rattle.sw_config.specs.Valid.{IsValid, IsFlow};
     ghost use Rattle.sw_config.specs.Routings.{AnswersAs};
     /// Adds a declared flow of a new name, and its reply flow if it has replies.
@@ -265,6 +265,36 @@ impl Network {
         } else {
             self.replies.get(number - declared)
         }
+    }
+
+    /// Does the node answer commands: does a flow with replies go there?
+    pub fn is_answering(&self, node: u16) -> bool
+        ensures { result ≡ is_answering self.now node }
+    {
+        for number in 0..self.declared_flows() {
+            if self.flow(number).is_answered_at(node) {
+                return true;
+            }
+        }
+        false
+    }
+
+    /// For each node, in order, whether it answers commands.
+    ///
+    /// # Errors
+    ///
+    /// There is no memory for the marks.
+    pub fn answering_nodes(&self, alloc: Global) -> Result<Vec<bool>, AllocError>
+        ensures { IfOk result (λ v. v.items ≡ answering_marks self.now) }
+    {
+        let mut marks = vec![in alloc; false; usize::from(self.nodes())]?;
+        for number in 0..self.declared_flows() {
+            let flow = self.flow(number);
+            if flow.reply().is_some() {
+                marks[usize::from(flow.to())] = true;
+            }
+        }
+        Ok(marks)
     }
 
     /// The number of the declared flow of that name.

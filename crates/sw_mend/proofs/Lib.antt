@@ -11,7 +11,6 @@ mod Kept
 mod Apart
 mod Named
 mod MovedFlows
-mod Passes
 mod OwnLinks
 mod Rewired
 mod OfKinds

@@ -2,7 +2,7 @@ use Rattle.std.proofs.Common.{◌≤◌, ◌∙◌, Bool, None, Some, ap, arith,
 use Rattle.std.specs.Prelude.{if◌then◌else◌}
 use Rattle.std.specs.List.{list_any}
 use Rattle.sw_mend.specs.Changes.{loses_flow, loses_reply}
-use Rattle.sw_mend.proofs.Passes.{all_passed, any_read, none_read, one_read}
+use Rattle.sw_config.proofs.Passes.{all_passed, any_read, none_read, one_read}
 use Rattle.sw_mend.proofs.flows.loses_reply_alone.Goals as goal
 
 pub returns-then-loses_flow : goal.returns-then-loses_flow

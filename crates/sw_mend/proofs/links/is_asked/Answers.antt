@@ -1,6 +1,6 @@
 use Rattle.sw_config.specs.Entries.{reply_flows}
 use Rattle.sw_mend.specs.Splits.{is_asking}
-use Rattle.sw_mend.proofs.Passes.{none_more, one_passes}
+use Rattle.sw_config.proofs.Passes.{none_more, one_passes}
 use Rattle.std.proofs.Common.{◌<◌, length, arith}
 use Rattle.sw_mend.proofs.links.is_asked.Goals as goal
 use Rattle.sw_topo.proofs.Lists.{in_front}

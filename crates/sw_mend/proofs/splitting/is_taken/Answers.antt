@@ -4,7 +4,7 @@ use Rattle.std.specs.Str.{bytes_eq}
 use Rattle.std.proofs.lemmas.List.{length-map, take_all}
 use Rattle.std.proofs.lemmas.Option.{slice_get-map}
 use Rattle.sw_config.specs.Entries.{NodeEntry, SwitchEntry}
-use Rattle.sw_mend.proofs.Passes.{in_first, in_second, none_more, one_passes}
+use Rattle.sw_config.proofs.Passes.{in_first, in_second, none_more, one_passes}
 use Rattle.sw_mend.proofs.splitting.is_taken.Goals as goal
 
 pub returns-then-is_some : goal.returns-then-is_some

@@ -3,7 +3,7 @@ use Rattle.std.specs.Prelude.{fold}
 use Rattle.std.proofs.lemmas.List.{take_all}
 use Rattle.sw_mend.specs.Changes.{loses_entry, ports_after}
 use Rattle.sw_mend.proofs.AfterAll.{entry_told_gone, route_added, route_gone}
-use Rattle.sw_mend.proofs.Passes.{all_passed, one_read}
+use Rattle.sw_config.proofs.Passes.{all_passed, one_read}
 use Rattle.sw_mend.proofs.tables.add_route.Goals as goal
 
 pub returns-in_default : goal.returns-in_default
