@@ -1,5 +1,5 @@
 -- The bits of an instruction (ECSS-E-ST-50-52C, the instruction field of a command), bit 7 the highest.
-use Rattle.std.specs.Prelude.{ℕ, ◌/◌, ◌%◌, ◌*◌, Bool, ◌==◌, ◌||◌, ◌&&◌}
+use Rattle.std.specs.Prelude.{ℕ, ◌+◌, ◌/◌, ◌%◌, ◌*◌, Bool, ◌==◌, ◌||◌, ◌&&◌, if◌then◌else◌}
 
 -- bits 7 and 6: 1 a command, 0 a reply; 2 and 3 are reserved
 abbrev pub packet_type : ℕ → ℕ
@@ -35,3 +35,7 @@ is_known i = (packet_type i == 1) && (is_write i || (command_code i == 2) || (co
 -- the same bits, with the type of a reply
 abbrev pub of_reply : ℕ → ℕ
 of_reply i = i % 64
+
+-- a command that writes or reads at rising addresses, with a reply or without, whose reply address has so many units of four bytes
+abbrev pub incrementing : Bool → Bool → ℕ → ℕ
+incrementing write reply units = 64 + (if write then 32 else 0) + (if reply then 8 else 0) + 4 + units

@@ -3,6 +3,7 @@ pub mod Crc
 pub mod Instruction
 pub mod CommandView
 pub mod Commands
+pub mod Unread
 pub mod Replies
 pub mod Answers
 pub mod Owing

@@ -3,10 +3,12 @@ ghost use Rattle.std.specs.Prelude.{◌≡◌, ◌≤◌, ◌^◌, ◌<◌, leng
 ghost use Rattle.std.specs.Option.{SomeIff};
 ghost use Rattle.sw_rmap.specs.CommandView.{IsCommand, command};
 ghost use Rattle.sw_rmap.specs.Commands.{read as read_of, number_of};
+ghost use Rattle.sw_rmap.specs.Unread.{try_read};
 ghost use Rattle.sw_rmap.specs.Replies.{is_answered, path_of, without_leading_zeros};
 
 use crate::checksum::crc;
 use crate::instruction::Instruction;
+use crate::no_command::NoCommand;
 use arrayvec::ArrayVec;
 use std::marker::Model;
 
@@ -32,9 +34,9 @@ impl Model for Command {
 
     ghost Value = { CommandView };
 
-    ghost view = { λ c. command c.logical c.instruction.0 c.key c.reply_address.items c.initiator c.transaction c.address c.data_length };
+    ghost view = { λ c. command c.logical c.instruction c.key c.reply_address.items c.initiator c.transaction c.address c.data_length };
 
-    ghost invariant = { λ c. IsCommand (command c.logical c.instruction.0 c.key c.reply_address.items c.initiator c.transaction c.address c.data_length) };
+    ghost invariant = { λ c. IsCommand (command c.logical c.instruction c.key c.reply_address.items c.initiator c.transaction c.address c.data_length) };
 }
 
 impl Command {
@@ -53,7 +55,7 @@ impl Command {
     ) -> Option<Command>
         ensures { let c = command logical instruction key reply_address.now initiator transaction address data_length in SomeIff result (IsCommand c) c }
     {
-        let instruction = Instruction(instruction);
+        let instruction = Instruction::from_byte(instruction);
         if !instruction.is_command()
             || reply_address.len() != instruction.reply_address_len()
             || address >> 40 != 0
@@ -76,29 +78,42 @@ impl Command {
     /// The command that the bytes of a packet begin with (ECSS-E-ST-50-52C, the fields of a
     /// command). None where they are too few, the protocol is another, the header's CRC is wrong,
     /// or they are a reply.
-    #[tactic(auto, unfolding(crate::specs::Commands::read, crate::specs::Commands::fields_of))]
+    #[tactic(auto, using(crate::proofs::Reading::read_is_told))]
     pub fn read(bytes: &[u8]) -> Option<Command>
         ensures { result ≡ read_of bytes.now }
     {
+        Command::try_read(bytes).ok()
+    }
+
+    /// The same, or why the bytes are no command (ECSS-E-ST-50-52C, the fields of a command).
+    ///
+    /// # Errors
+    ///
+    /// The bytes are too few, the protocol is another, the header's CRC is wrong, or they are a
+    /// reply; the first of these that is so is told.
+    #[tactic(auto, unfolding(crate::specs::Unread::try_read, crate::specs::Commands::fields_of))]
+    pub fn try_read(bytes: &[u8]) -> Result<Command, NoCommand>
+        ensures { result ≡ try_read bytes.now }
+    {
         if bytes.len() < 16 {
-            return None;
+            return Err(NoCommand::TooShort);
         }
-        let instruction = Instruction(bytes[2]);
+        let instruction = Instruction::from_byte(bytes[2]);
         let path = instruction.reply_address_len();
         if bytes.len() < 16 + path {
-            return None;
+            return Err(NoCommand::TooShort);
         }
         if bytes[1] != PROTOCOL {
-            return None;
+            return Err(NoCommand::OtherProtocol);
         }
         let back = &bytes[4 + path..];
         if crc(&bytes[..15 + path]) != back[11] {
-            return None;
+            return Err(NoCommand::WrongCrc);
         }
         if !instruction.is_command() {
-            return None;
+            return Err(NoCommand::IsReply);
         }
-        Some(Command {
+        Ok(Command {
             logical: bytes[0],
             instruction,
             key: bytes[3],
@@ -122,7 +137,7 @@ impl Command {
         ensures value { result ≡ self.now.instruction }
         ensures command { IsCommand self.now }
     {
-        self.instruction.0
+        self.instruction.byte()
     }
 
     /// The key.
@@ -170,8 +185,9 @@ impl Command {
         self.data_length
     }
 
-    pub(crate) fn bits(&self) -> Instruction
-        ensures value { result.0 ≡ self.now.instruction }
+    /// The instruction with its bits (ECSS-E-ST-50-52C, the instruction field of a command).
+    pub fn bits(&self) -> Instruction
+        ensures value { result ≡ self.now.instruction }
     {
         self.instruction
     }
