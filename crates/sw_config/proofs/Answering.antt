@@ -59,7 +59,7 @@ all_marked d n marks all a =
     let long = length-map-range_with_len (is_answering d) 0 (length d.nodes) in
     ext_get_or false marks (answering_marks d) (a.size ∙ sym long)
     (λ t lt.
-      let within : t < length d.nodes = omega (arith, lt, a.size) in
-      a.nodes t within
-      ∙ ap (list_any (is_answered_at t)) (take_all n d.flows (omega (arith, all)))
-      ∙ sym (get_or-map-range_with_len (is_answering d) 0 (length d.nodes) t t false within (zero-add t)))
+    let within : t < length d.nodes = omega (arith, lt, a.size) in
+    a.nodes t within
+    ∙ ap (list_any (is_answered_at t)) (take_all n d.flows (omega (arith, all)))
+    ∙ sym (get_or-map-range_with_len (is_answering d) 0 (length d.nodes) t t false within (zero-add t)))
