@@ -1,8 +1,7 @@
-use Rattle.std.proofs.Common.{◌≡◌, ◌<◌, ◌∙◌, ℕ, ap, false, get_or, length, replicate, subst, sym, arith}
+use Rattle.std.proofs.Common.{◌≡◌, ◌<◌, ◌∙◌, ℕ, ap, get_or, length, subst, sym, arith}
 use Rattle.std.specs.Prelude.{slice_index}
 use Rattle.std.proofs.lemmas.Grind.{get_or_default_zero}
 use Rattle.sw_topo.specs.Wiring.{Wiring}
-use Rattle.sw_config.specs.Entries.{all_flows}
 use Rattle.sw_flow.specs.Places.{ends_of}
 use Rattle.sw_cycle.specs.Rows.{AreRows}
 use Rattle.sw_cycle.proofs.Bridge as bridge
