@@ -1,12 +1,13 @@
 -- A certificate is not refused exactly where it is accepted.
-use Rattle.std.proofs.Common.{◌≡◌, ℕ, ◌+◌, ◌<◌, ◌≤◌, ◌==◌, true, false, List, length, map, Some, None, option_map, is_some, Contains, refl, sym, ◌∙◌, subst, arith}
+use Rattle.std.proofs.Common.{◌≡◌, ℕ, ◌+◌, ◌<◌, ◌≤◌, ◌==◌, true, false, List, filter, length, map, Some, None, option_map, is_some, Contains, refl, sym, ◌∙◌, subst, arith}
 use Rattle.std.specs.Prelude.{slice_get, slice_index, if◌then◌else◌}
-use Rattle.std.specs.List.{list_all}
+use Rattle.std.specs.List.{list_all, range_with_len}
 use Rattle.std.proofs.lemmas.Bool.{eqb-true, eq-eqb, leb-false, lt-leb, and_parts, and_from}
 use Rattle.std.proofs.lemmas.List.{length-map}
 use Rattle.std.proofs.lemmas.Option.{slice_get_within}
-use Rattle.sw_config.specs.Entries.{FlowEntry, ReplyEntry, Declaration, all_flows}
+use Rattle.sw_config.specs.Entries.{FlowEntry, ReplyEntry, Declaration, all_flows, is_answering}
 use Rattle.sw_config.specs.Valid.{IsValid}
+use Rattle.sw_config.proofs.AnsweringNodes.{answered_flow, answers}
 use Rattle.sw_flow.specs.declared.place.Place.{Place}
 use Rattle.sw_flow.specs.Places.{ends_of, flow_start, out_at}
 use Rattle.sw_flow.specs.Faults.{fault_of}
@@ -23,13 +24,13 @@ use Rattle.sw_machine.proofs.Steps.{steps_agree}
 use Rattle.sw_cert.specs.declared.refusal.Refusal.TheVariants.{NoStart, Faulty, NotClosed, NotRising}
 use Rattle.sw_cert.specs.Contents.{place_of, certificate_of}
 use Rattle.sw_cert.specs.Least.{least}
-use Rattle.sw_cert.specs.Refusals.{first_refusal, is_in_range, are_in_range, is_listed, into_at, is_closed_at, refusal_of_place, refusal_of_flow, is_not_above, not_rising_from, not_rising_along, answering_nodes, is_falling_at}
+use Rattle.sw_cert.specs.Refusals.{first_refusal, is_in_range, are_in_range, is_listed, into_at, is_closed_at, refusal_of_place, refusal_of_flow, is_not_above, least_falling, not_rising_from, not_rising_along, is_falling_at}
 use Rattle.sw_cert.specs.AcceptanceLaws.{NotRefusedIsAccepted}
 use Rattle.sw_cert.proofs.ListedPlaces.{to_machine, from_machine}
-use Rattle.sw_cert.proofs.Lists.{first_none, both_none, unless_none, none_unless, none_mapped, none_refused, refused_none, all_each, each_all, Contains-at, at_Contains, none_by_flow, by_flow_none, listed_place, place_listed}
+use Rattle.sw_cert.proofs.Lists.{first_none, both_none, unless_none, none_unless, none_mapped, none_refused, refused_none, all_each, each_all, none_by_flow, by_flow_none, listed_place, place_listed}
 use Rattle.sw_cert.proofs.Ranged.{as_many, in_range_each, each_in_range, range_of, of_range}
 use Rattle.sw_cert.proofs.Leasts.{none_passes, passes_none}
-use Rattle.sw_cert.proofs.Answering.{replies_end, end_of_replies, some_reply, its_number}
+use Rattle.sw_cert.proofs.Answering.{answers_where_listed, its_number, listed_where_answers, some_reply}
 use Rattle.sw_cert.proofs.Reasons.{NoReason, no_reason, none_of}
 use Rattle.sw_topo.proofs.Faultless.{no_map}
 
@@ -113,9 +114,10 @@ module _ (d : Declaration) (c : Contents) (valid : IsValid d) (r : NoReason d c)
     target_at : (j : ℕ) → (flow_at d i).reply ≡ Some j → slice_index c.numbers (into_at d a.flow.to) < slice_index c.numbers (out_at d a.flow.to)
     target_at j has =
         let some : is_some a.flow.reply ≡ true = some_reply (reply_number d i) j a.flow.reply (sym (reply_is d i a.flow a.here) ∙ has) in
-        let node : Contains (answering_nodes (all_flows d)) a.flow.to = replies_end (all_flows d) a.flow (Contains-at (all_flows d) i a.flow a.here) some in
-        let none : least (is_falling_at d c.numbers) (answering_nodes (all_flows d)) ≡ None = no_map (λ n. NotRising (into_at d n) (out_at d n)) (least (is_falling_at d c.numbers) (answering_nodes (all_flows d))) r.targets in
-        leb-false (slice_index c.numbers (out_at d a.flow.to)) (slice_index c.numbers (into_at d a.flow.to)) (none_passes (is_falling_at d c.numbers) (answering_nodes (all_flows d)) none a.flow.to node)
+        let nodes = filter (is_answering d) (range_with_len 0 (length d.nodes)) in
+        let node : Contains nodes a.flow.to = listed_where_answers d valid a.flow.to (answers d a.flow.to i a.flow a.here some refl) in
+        let none : least_falling d c.numbers ≡ None = no_map (λ n. NotRising (into_at d n) (out_at d n)) (least_falling d c.numbers) r.targets in
+        leb-false (slice_index c.numbers (out_at d a.flow.to)) (slice_index c.numbers (into_at d a.flow.to)) (none_passes (is_falling_at d c.numbers) nodes none a.flow.to node)
 
   member : (i : ℕ) (a : IsHere d c i) (e k : ℕ) → IsListed (certificate_of c) i e k → Contains a.listed (record { channel = e; deleted = k })
   member i a e k h = from_machine c i a.listed a.there e k h
@@ -212,14 +214,15 @@ module _ (d : Declaration) (c : Contents) (valid : IsValid d) (acc : IsAccepted 
     in_it : list_all (is_in_range d f) ps ≡ true
     in_it = each_all (is_in_range d f) ps (λ p m. of_range d f p (place_in p m).0 (place_in p m).1)
 
-  target_rises : (n : ℕ) → Contains (answering_nodes (all_flows d)) n → is_falling_at d c.numbers n ≡ false
+  target_rises : (n : ℕ) → is_answering d n ≡ true → is_falling_at d c.numbers n ≡ false
   unfolding network_of
-  target_rises n m =
-      let e = end_of_replies (all_flows d) n m in
-      let at = at_Contains (all_flows d) e.flow e.listed in
-      let has : (flow_at d at.0).reply ≡ Some (reply_number d at.0) = reply_is d at.0 e.flow at.2 ∙ its_number (reply_number d at.0) e.flow.reply e.replies in
-      let node : (flow_at d at.0).to ≡ n = to_is d at.0 e.flow at.2 ∙ e.end in
-      let rises : slice_index c.numbers (into_at d n) < slice_index c.numbers (out_at d n) = subst (λ (x : ℕ). slice_index c.numbers (into_at d x) < slice_index c.numbers (out_at d x)) node (acc.targets at.0 (reply_number d at.0) at.1 has) in
+  target_rises n is =
+      let a = answered_flow d n is in
+      let i : ℕ = a.number in
+      let within = slice_get_within (all_flows d) i a.flow a.numbered in
+      let has : (flow_at d i).reply ≡ Some (reply_number d i) = reply_is d i a.flow a.numbered ∙ its_number (reply_number d i) a.flow.reply a.replied in
+      let node : (flow_at d i).to ≡ n = to_is d i a.flow a.numbered ∙ a.ends_there in
+      let rises : slice_index c.numbers (into_at d n) < slice_index c.numbers (out_at d n) = subst (λ (x : ℕ). slice_index c.numbers (into_at d x) < slice_index c.numbers (out_at d x)) node (acc.targets i (reply_number d i) within has) in
       lt-leb (slice_index c.numbers (out_at d n)) (slice_index c.numbers (into_at d n)) rises
 
   no_reason_at : NoReason d c
@@ -227,7 +230,7 @@ module _ (d : Declaration) (c : Contents) (valid : IsValid d) (acc : IsAccepted 
     network = and_from (length c.numbers == length (ends_of d)) (are_in_range d (all_flows d) c.places) (eq-eqb (length c.numbers) (length (ends_of d)) channels) (each_in_range d (all_flows d) c.places flows in_it);
     flows = by_flow_none (refusal_of_flow d) 0 (all_flows d) c.places (λ i f ps here there. flow_passes i f ps here there (0 + i));
     numbers = by_flow_none (not_rising_along d c.numbers) 0 (all_flows d) c.places (λ i f ps here there. along_passes i f ps here there (0 + i));
-    targets = none_mapped (λ n. NotRising (into_at d n) (out_at d n)) (least (is_falling_at d c.numbers) (answering_nodes (all_flows d))) (passes_none (is_falling_at d c.numbers) (answering_nodes (all_flows d)) target_rises);
+    targets = none_mapped (λ n. NotRising (into_at d n) (out_at d n)) (least_falling d c.numbers) (passes_none (is_falling_at d c.numbers) (filter (is_answering d) (range_with_len 0 (length d.nodes))) (λ n m. target_rises n (answers_where_listed d n m)));
   }
 
 pub not_refused_is_accepted : NotRefusedIsAccepted

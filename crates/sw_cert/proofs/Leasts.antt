@@ -2,11 +2,13 @@
 use Rattle.std.proofs.Common.{◌≡◌, ℕ, suc, ◌+◌, ◌≤◌, min, Bool, true, false, cond, List, [], ◌∷◌, length, drop, Option, Some, None, is_some, Contains, refl, sym, ap, ◌∙◌, subst, ◌⊎◌, inl, inr, arith}
 use Rattle.std.specs.Prelude.{slice_get, IfSome}
 use Rattle.std.proofs.lemmas.Bool.{cases_Bool, cases_lt}
-use Rattle.sw_config.specs.Entries.{FlowEntry, Declaration}
+use Rattle.sw_config.specs.Entries.{FlowEntry, Declaration, all_flows}
+use Rattle.sw_config.specs.Valid.{IsValid}
 use Rattle.sw_flow.proofs.Listed.{Contains-head, Contains-later, Contains-cases}
 use Rattle.sw_cert.specs.Least.{lesser, least, IsLeast, LeastIsLeast}
-use Rattle.sw_cert.specs.Refusals.{answering_nodes, is_falling_at}
+use Rattle.sw_cert.specs.Refusals.{is_falling_at, least_falling}
 use Rattle.sw_cert.specs.Ends.{falling_end}
+use Rattle.sw_cert.proofs.Answering.{answers_where_replied, ends_of_replied, replied_where_answers}
 use Rattle.sw_cert.proofs.Lists.{drop_past}
 use Rattle.sw_topo.proofs.Lists.{drop_at}
 
@@ -105,14 +107,22 @@ module _ (test : ℕ → Bool) where
       by None none = absurd (let bad : true ≡ false = sym is.passes ∙ none x is.listed in cc)
       by (Some z) other = ap Some (only_least xs z x other is)
 
+-- lists of the same numbers have one least
+pub least_same : (test : ℕ → Bool) (xs ys : List ℕ) → ((x : ℕ) → Contains xs x → Contains ys x) → ((x : ℕ) → Contains ys x → Contains xs x) → least test xs ≡ least test ys
+least_same test xs ys to back = by (least test xs) (answers test xs)
+  where
+    by : (o : Option ℕ) → Answers test xs o → o ≡ least test ys
+    by None none = sym (passes_none test ys (λ x m. none x (back x m)))
+    by (Some z) is = sym (is_the_least test ys z (record { listed = to z is.listed; passes = is.passes; least = λ y m ok. is.least y (back y m) ok }))
+
 pub least_is_least : LeastIsLeast
 least_is_least test xs x = (least_is test xs x, is_the_least test xs x)
 
 -- ---- nodes that answer
 
 module _ (d : Declaration) (numbers : List ℕ) where
-  abbrev falling : List FlowEntry → Option ℕ
-  falling fs = least (is_falling_at d numbers) (answering_nodes fs)
+  abbrev pub falling : List FlowEntry → Option ℕ
+  falling fs = least (is_falling_at d numbers) (ends_of_replied fs)
 
   falling_first : (f : FlowEntry) (fs : List FlowEntry) → falling (f ∷ fs) ≡ lesser (falling_end d numbers f) (falling fs)
   falling_first f fs = by (cases_Bool (is_some f.reply))
@@ -130,8 +140,14 @@ module _ (d : Declaration) (numbers : List ℕ) where
       ∙ lesser_turned a (falling_end d numbers f) (falling (drop (suc i) fs))
       ∙ ap (lesser a) (sym (ap falling (drop_at fs i f here) ∙ falling_first f (drop (suc i) fs)))
 
-  pub falling_done : (fs : List FlowEntry) (i : ℕ) (a : Option ℕ) → length fs ≤ i → lesser a (falling (drop i fs)) ≡ a
+  falling_done : (fs : List FlowEntry) (i : ℕ) (a : Option ℕ) → length fs ≤ i → lesser a (falling (drop i fs)) ≡ a
   falling_done fs i a le = rw (drop_past fs i le) (lesser_none a)
+
+  -- with all flows
+  pub falling_all : (i : ℕ) (a : Option ℕ) → IsValid d → length (all_flows d) ≤ i → lesser a (falling (drop i (all_flows d))) ≡ falling (all_flows d) → a ≡ least_falling d numbers
+  falling_all i a valid past so_far =
+      sym (falling_done (all_flows d) i a past) ∙ so_far
+      ∙ least_same (is_falling_at d numbers) (ends_of_replied (all_flows d)) _ (answers_where_replied d valid) (replied_where_answers d)
 
 -- a lesser number keeps what both keep
 pub IfSome-lesser : (P : ℕ → Type 0) (a b : Option ℕ) → IfSome a P → IfSome b P → IfSome (lesser a b) P

@@ -1,9 +1,9 @@
 -- Why a certificate is refused for a network: the first reason, in the order of this file (the order is this project's choice).
-use Rattle.std.specs.Prelude.{ℕ, suc, ◌==◌, ◌&&◌, nat_le, nat_lt, Bool, true, false, List, [], ◌∷◌, map, filter, length, slice_index, Option, Some, None, option_map, is_some, unwrap_or, if◌then◌else◌}
-use Rattle.std.specs.List.{list_all, list_any}
+use Rattle.std.specs.Prelude.{ℕ, suc, ◌==◌, ◌&&◌, nat_le, nat_lt, Bool, true, false, List, [], ◌∷◌, map, filter, length, slice_index, Option, Some, None, option_map, unwrap_or, if◌then◌else◌}
+use Rattle.std.specs.List.{list_all, list_any, range_with_len}
 use Rattle.sw_topo.specs.Wiring.{out, partner}
 use Rattle.sw_topo.specs.Checked.{first_of}
-use Rattle.sw_config.specs.Entries.{FlowEntry, Declaration, all_flows}
+use Rattle.sw_config.specs.Entries.{FlowEntry, Declaration, all_flows, is_answering}
 use Rattle.sw_flow.specs.declared.place.Place.{Place}
 use Rattle.sw_flow.specs.Places.{ends_of, flow_start, out_at}
 use Rattle.sw_flow.specs.Faults.{fault_of}
@@ -80,17 +80,17 @@ not_rising_from d numbers f p =
 abbrev pub not_rising_along : Declaration → List ℕ → ℕ → FlowEntry → List Place → Option Refusal
 not_rising_along d numbers i f listed = first_refusal (not_rising_from d numbers f) listed
 
--- the nodes that answer: those where flows with replies end
-abbrev pub answering_nodes : List FlowEntry → List ℕ
-answering_nodes flows = map (λ f. f.to) (filter (λ f. is_some f.reply) flows)
-
 -- the number of the channel out of node n is not above that of the channel into it
 abbrev pub is_falling_at : Declaration → List ℕ → ℕ → Bool
 is_falling_at d numbers n = is_not_above numbers (into_at d n) (out_at d n)
 
+-- the least node that answers commands and where the numbers do not rise
+abbrev pub least_falling : Declaration → List ℕ → Option ℕ
+least_falling d numbers = least (is_falling_at d numbers) (filter (is_answering d) (range_with_len 0 (length d.nodes)))
+
 -- at a node that answers, from the channel into it to the one out of it: told by the least such node
 abbrev pub not_rising_at_targets : Declaration → List ℕ → Option Refusal
-not_rising_at_targets d numbers = option_map (λ n. NotRising (into_at d n) (out_at d n)) (least (is_falling_at d numbers) (answering_nodes (all_flows d)))
+not_rising_at_targets d numbers = option_map (λ n. NotRising (into_at d n) (out_at d n)) (least_falling d numbers)
 
 -- ---- the first reason
 

@@ -1,8 +1,6 @@
 //! Whether the numbers of a certificate rise at the nodes that answer.
 ghost use Rattle.std.specs.Prelude.{◌≡◌, ◌<◌, length, IfSome};
-ghost use Rattle.sw_config.specs.Entries.{all_flows};
-ghost use Rattle.sw_cert.specs.Least.{least};
-ghost use Rattle.sw_cert.specs.Refusals.{answering_nodes, is_falling_at, not_rising_at_targets};
+ghost use Rattle.sw_cert.specs.Refusals.{least_falling, not_rising_at_targets};
 ghost use Rattle.sw_cert.specs.Ends.{falling_end};
 
 use crate::refusal::Refusal;
@@ -28,7 +26,7 @@ fn falling_end(network: &Network, numbers: &[u16], flow: &Flow) -> Option<u16>
 }
 
 fn least_falling(network: &Network, numbers: &[u16]) -> Option<u16>
-    ensures least { result ≡ least (is_falling_at network.now numbers.now) (answering_nodes (all_flows network.now)) }
+    ensures least { result ≡ least_falling network.now numbers.now }
     ensures within { IfSome result (λ n. n < length network.now.nodes) }
 {
     let mut found = None;

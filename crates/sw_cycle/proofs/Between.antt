@@ -7,6 +7,7 @@ use Rattle.sw_topo.specs.Wiring.{out, partner}
 use Rattle.sw_topo.proofs.Ends.{node_only, partner_back}
 use Rattle.sw_config.specs.Entries.{FlowEntry, ReplyEntry, Declaration, wiring_of, all_flows}
 use Rattle.sw_config.specs.Valid.{IsFlow, IsValid}
+use Rattle.sw_config.proofs.AnsweringNodes.{answers}
 use Rattle.sw_config.proofs.Flows.{All-at}
 use Rattle.sw_config.proofs.FlowLaws.{valid_flows}
 use Rattle.sw_flow.specs.Places.{ends_of, end_of}
@@ -73,7 +74,7 @@ module _ (d : Declaration) (valid : IsValid d) where
       let low : partner x < length (ends_of d) = partner_within (wiring_of d) valid.sound x (slice_get_within (ends_of d) x (Node f.to) starts) in
       record {
         node = f.to;
-        cause = record { answered = record { number = i; flow = f; numbered = here.1; replied = replied; ends_there = refl }; leaves = first ∙ ap Some goes; enters = sym enters ∙ ap partner goes };
+        cause = record { answered = answers d f.to i f here.1 replied refl; leaves = first ∙ ap Some goes; enters = sym enters ∙ ap partner goes };
         ends = subst (λ (y : ℕ). slice_get (ends_of d) (partner y) ≡ Some (Node f.to)) enters before;
         within = subst (λ (y : ℕ). y < length (ends_of d)) enters low;
       }

@@ -13,8 +13,9 @@ use Rattle.sw_topo.specs.Wiring.{out, out_of, partner}
 use Rattle.sw_topo.specs.Ports.{ports_of}
 use Rattle.sw_topo.proofs.Ends.{node_only, partner_back}
 use Rattle.sw_topo.proofs.PortWalk.{ports_listed}
-use Rattle.sw_config.specs.Entries.{ReplyEntry, Declaration, all_flows, wiring_of}
+use Rattle.sw_config.specs.Entries.{ReplyEntry, Declaration, all_flows, answering_marks, is_answering, wiring_of}
 use Rattle.sw_config.specs.Valid.{IsFlow, IsValid}
+use Rattle.sw_config.proofs.AnsweringNodes.{answered_flow, answering_within, answers, answers_marked, marked_answers}
 use Rattle.sw_config.proofs.Flows.{All-at}
 use Rattle.sw_config.proofs.FlowLaws.{valid_flows}
 use Rattle.sw_flow.specs.Places.{ends_of, end_of, look_after, deleted_behind}
@@ -31,7 +32,6 @@ use Rattle.sw_machine.proofs.Topology.{into_ends, out_starts}
 use Rattle.sw_graph.specs.Rows.{IsGraph, Leads, row}
 use Rattle.sw_graph.proofs.Listed.{row_member, row_read}
 use Rattle.sw_cycle.specs.Named.{AreNamed, IsNamed}
-use Rattle.sw_cycle.specs.Answering.{AreMarked, IsAnswered}
 use Rattle.sw_graph.specs.Rounds.{is_marked}
 use Rattle.sw_cycle.specs.Rows.{AreRows, row_at_end, row_of}
 use Rattle.sw_topo.proofs.Lists.{none_in}
@@ -55,7 +55,7 @@ module _ (d : Declaration) (valid : IsValid d) where
       let to = (flow_ends d valid i lt).1 in
       ((into_ends (wiring_of d) valid.sound (flow_at d i).to to).0, (out_starts (wiring_of d) valid.sound (flow_at d i).to to).0)
 
-  module _ (sets : List ℕ) (marks : List Bool) (named : AreNamed d 0 (length (all_flows d)) sets) (marked : AreMarked d (length (all_flows d)) marks) where
+  module _ (sets : List ℕ) (marks : List Bool) (named : AreNamed d 0 (length (all_flows d)) sets) (marked : marks ≡ answering_marks d) where
     -- ---- what the rows list are dependencies
 
     at_switch : (c s q e : ℕ) → end_of d c ≡ Some (Switch s q) → Contains (filter_map (out_of (ends_of d) s) (ports_of (slice_index sets c))) e → IsDependency (network_of d) c e
@@ -79,9 +79,10 @@ module _ (d : Declaration) (valid : IsValid d) where
         let m : ℕ = deleted_behind (look_after d n.flow n.named.switch n.deleted) n.deleted in
         ByFlow n.number c n.deleted e m (slice_get_within (all_flows d) n.number n.flow n.numbered) ((same.place c n.deleted).1 n.place) ((same.step c n.deleted e m).1 step)
 
-    target_shows : (t c x : ℕ) → IsAnswered d (length (all_flows d)) t → out (ends_of d) t ≡ Some x → c ≡ partner x → IsDependency (network_of d) c x
+    target_shows : (t c x : ℕ) → is_answering d t ≡ true → out (ends_of d) t ≡ Some x → c ≡ partner x → IsDependency (network_of d) c x
     unfolding network_of
-    target_shows t c x h leaves enters =
+    target_shows t c x is leaves enters =
+        let h = answered_flow d t is in
         let i : ℕ = h.number in
         let here : slice_get (all_flows d) i ≡ Some h.flow = h.numbered in
         let below : i < length (all_flows d) = slice_get_within (all_flows d) i h.flow here in
@@ -92,18 +93,13 @@ module _ (d : Declaration) (valid : IsValid d) where
         let shown : IsDependency (network_of d) ((network_of d).into (flow_at d i).to) ((network_of d).out (flow_at d i).to) = ByTarget i (reply_number d i) below reply in
         subst (λ (y : ℕ). IsDependency (network_of d) y x) is_into (subst (λ (y : ℕ). IsDependency (network_of d) ((network_of d).into (flow_at d i).to) y) is_out shown)
 
-    answering_in : (t : ℕ) → IsAnswered d (length (all_flows d)) t → t < length d.nodes
-    answering_in t h =
-        let is = All-at (IsFlow d.nodes) (all_flows d) h.number h.flow h.numbered (valid_flows d valid).0 in
-        subst (λ (n : ℕ). n < length d.nodes) h.ends_there is.to
-
     at_node : (c t e : ℕ) → end_of d c ≡ Some (Node t) → Contains (if is_marked marks t then option_to_list (out (ends_of d) t) else []) e → IsDependency (network_of d) c e
     at_node c t e at h =
         elim (cases_Bool (is_marked marks t)) [
           | inr unset ↦ absurd (none_in e (rw unset at h))
           | inl set ↦
-              let answered = (marked.nodes t).0 set in
-              let only = node_only (wiring_of d) valid.sound t (answering_in t answered) in
+              let answered = marked_answers d t (subst (λ (l : List Bool). is_marked l t ≡ true) marked set) in
+              let only = node_only (wiring_of d) valid.sound t (answering_within d valid t answered) in
               let one : Contains (only.0 ∷ []) e = rw (set, only.1.first) at h in
               elim (Contains-cases only.0 e [] one) [
                 | inr none ↦ absurd (none_in e none)
@@ -118,10 +114,10 @@ module _ (d : Declaration) (valid : IsValid d) where
 
     -- ---- the rows list all dependencies
 
-    target_listed : (t x : ℕ) → IsAnswered d (length (all_flows d)) t → out (ends_of d) t ≡ Some x → slice_get (ends_of d) x ≡ Some (Node t) → Contains (row_at_end (ends_of d) (slice_index sets (partner x)) marks (end_of d (partner x))) x
+    target_listed : (t x : ℕ) → is_answering d t ≡ true → out (ends_of d) t ≡ Some x → slice_get (ends_of d) x ≡ Some (Node t) → Contains (row_at_end (ends_of d) (slice_index sets (partner x)) marks (end_of d (partner x))) x
     target_listed t x h leaves starts =
         let at : end_of d (partner x) ≡ Some (Node t) = ap (slice_get (ends_of d)) (partner_back x) ∙ starts in
-        let set : is_marked marks t ≡ true = (marked.nodes t).1 h in
+        let set : is_marked marks t ≡ true = subst (λ (l : List Bool). is_marked l t ≡ true) (sym marked) (answers_marked d valid t h) in
         rw (at, set, leaves) (Contains-head x [])
 
     depends_listed : (c e : ℕ) → IsDependency (network_of d) c e → Contains (row_at_end (ends_of d) (slice_index sets c) marks (end_of d c)) e
@@ -149,8 +145,7 @@ module _ (d : Declaration) (valid : IsValid d) where
         let to : (flow_at d i).to ≡ f.0.to = rw f.1 refl in
         let is = All-at (IsFlow d.nodes) (all_flows d) i f.0 f.1 (valid_flows d valid).0 in
         let only = node_only (wiring_of d) valid.sound f.0.to is.to in
-        let answered : IsAnswered d (length (all_flows d)) f.0.to =
-        record { number = i; flow = f.0; below = lt; numbered = f.1; replied = has_reply (reply_number d i) j f.0.reply (rw f.1 at reply); ends_there = refl } in
+        let answered : is_answering d f.0.to ≡ true = answers d f.0.to i f.0 f.1 (has_reply (reply_number d i) j f.0.reply (rw f.1 at reply)) refl in
         rw (to, only.1.first) (target_listed f.0.to only.0 answered only.1.first only.1.starts.here)
 
     row_exact : (c e : ℕ) → Contains (row_of d sets marks c) e ↔ IsDependency (network_of d) c e

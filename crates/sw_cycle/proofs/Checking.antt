@@ -7,18 +7,9 @@ use Rattle.std.proofs.lemmas.Bool.{cases_eq}
 use Rattle.std.proofs.lemmas.Bool.Decides.{nat_tests}
 use Rattle.std.proofs.lemmas.List.{get_or_default, length-map}
 use Rattle.std.proofs.lemmas.Option.{same_Some, slice_get-map, slice_get_read, slice_get_within}
-use Rattle.sw_config.specs.Entries.{Declaration, all_flows}
-use Rattle.sw_config.specs.Valid.{IsFlow, IsValid}
-use Rattle.sw_config.proofs.Flows.{All-at}
-use Rattle.sw_config.proofs.FlowLaws.{valid_flows}
+use Rattle.sw_config.specs.Entries.{Declaration}
 use Rattle.sw_cycle.specs.declared.cycle.Cause.{Cause}
-use Rattle.sw_cycle.specs.Cycles.{cause_of, CauseEntry, IsAnswered, IsCause, IsCausedAt, IsShown, round}
-
--- flows end at nodes
-pub answered_inside : (d : Declaration) → IsValid d → (t : ℕ) → IsAnswered d t → t < length d.nodes
-answered_inside d valid t a =
-    let is = All-at (IsFlow d.nodes) (all_flows d) a.number a.flow a.numbered (valid_flows d valid).0 in
-    subst (λ (n : ℕ). n < length d.nodes) a.ends_there is.to
+use Rattle.sw_cycle.specs.Cycles.{cause_of, CauseEntry, IsCause, IsCausedAt, IsShown, round}
 
 -- what is read at i: a cause, and the channel there and the next
 pub record IsReadAt (channels : List ℕ) (causes : List Cause) (i : ℕ) (cause : Cause) (c e : ℕ) : Type 0 where

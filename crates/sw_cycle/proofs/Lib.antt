@@ -14,7 +14,6 @@ pub mod Rowing
 pub mod Bridge
 pub mod Chunking
 pub mod Sound
-pub mod Replying
 pub use Rattle.sw_machine.proofs.Flows
 pub use Rattle.sw_machine.proofs.DeclaredNetworks
 pub use Rattle.sw_machine.proofs.Steps

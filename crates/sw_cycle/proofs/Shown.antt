@@ -8,6 +8,7 @@ use Rattle.std.proofs.lemmas.List.{get_or_append_left, get_or_push}
 use Rattle.std.proofs.lemmas.Option.{slice_get_within}
 use Rattle.sw_config.specs.Entries.{FlowEntry, ReplyEntry, Declaration, all_flows}
 use Rattle.sw_config.specs.Valid.{IsValid}
+use Rattle.sw_config.proofs.AnsweringNodes.{answered_flow}
 use Rattle.sw_flow.specs.declared.place.Place.{Place}
 use Rattle.sw_flow.specs.Places.{IsPlace}
 use Rattle.sw_flow.specs.Places.IsPlace.{start, next}
@@ -43,11 +44,12 @@ module _ (d : Declaration) where
     target_shows : (t c e : ℕ) → IsTargetCause d t c e → IsDependency (network_of d) c e
     unfolding network_of
     target_shows t c e h =
-        let i : ℕ = h.answered.number in
-        let here : slice_get (all_flows d) i ≡ Some h.answered.flow = h.answered.numbered in
-        let below : i < length (all_flows d) = slice_get_within (all_flows d) i h.answered.flow here in
-        let to : (flow_at d i).to ≡ t = rw here h.answered.ends_there in
-        let reply : (flow_at d i).reply ≡ Some (reply_number d i) = rw here (replied (reply_number d i) h.answered.flow.reply h.answered.replied) in
+        let a = answered_flow d t h.answered in
+        let i : ℕ = a.number in
+        let here : slice_get (all_flows d) i ≡ Some a.flow = a.numbered in
+        let below : i < length (all_flows d) = slice_get_within (all_flows d) i a.flow here in
+        let to : (flow_at d i).to ≡ t = rw here a.ends_there in
+        let reply : (flow_at d i).reply ≡ Some (reply_number d i) = rw here (replied (reply_number d i) a.flow.reply a.replied) in
         let leaves : (network_of d).out (flow_at d i).to ≡ e = rw (to, h.leaves) refl in
         let enters : (network_of d).into (flow_at d i).to ≡ c = rw (to, h.leaves) (sym h.enters) in
         let shown : IsDependency (network_of d) ((network_of d).into (flow_at d i).to) ((network_of d).out (flow_at d i).to) = ByTarget i (reply_number d i) below reply in

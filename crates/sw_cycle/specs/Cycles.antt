@@ -1,7 +1,7 @@
 -- Cycles of dependencies between channels, each dependency shown by its cause.
-use Rattle.std.specs.Prelude.{◌≡◌, ℕ, ◌+◌, ◌%◌, ◌<◌, List, [], ◌∷◌, ◌++◌, length, slice_get, slice_index, Some, IsSome}
+use Rattle.std.specs.Prelude.{◌≡◌, ℕ, ◌+◌, ◌%◌, ◌<◌, List, [], ◌∷◌, ◌++◌, length, slice_get, slice_index, Some, true}
 use Rattle.sw_topo.specs.Wiring.{out, partner}
-use Rattle.sw_config.specs.Entries.{FlowEntry, Declaration, all_flows}
+use Rattle.sw_config.specs.Entries.{FlowEntry, Declaration, all_flows, is_answering}
 use Rattle.sw_flow.specs.declared.place.Place.{Place}
 use Rattle.sw_flow.specs.Places.{ends_of}
 use Rattle.sw_flow.specs.Ways.{GoesFromStart}
@@ -23,18 +23,10 @@ abbrev pub cause_of : Cause → CauseEntry
 cause_of (Target node) = ByTarget node
 cause_of (Flow flow places) = ByFlow flow places.items
 
--- at node t a flow with a reply ends
-pub record IsAnswered (d : Declaration) (t : ℕ) : Type 0 where
-  pub number : ℕ
-  pub flow : FlowEntry
-  pub numbered : slice_get (all_flows d) number ≡ Some flow
-  pub replied : IsSome flow.reply
-  pub ends_there : flow.to ≡ t
-
--- At node t a flow with a reply ends, channel c ends there, and channel e starts there: while the target sends a reply on e it
--- takes nothing from c (this project's choice).
+-- Node t answers commands, channel c ends there, and channel e starts there: while the target sends a reply on e it takes nothing
+-- from c (this project's choice).
 pub record IsTargetCause (d : Declaration) (t c e : ℕ) : Type 0 where
-  pub answered : IsAnswered d t
+  pub answered : is_answering d t ≡ true
   pub leaves : out (ends_of d) t ≡ Some e
   pub enters : c ≡ partner e
 

@@ -5,7 +5,6 @@ pub mod Firsts
 pub mod Positions
 pub mod Goers
 pub mod Named
-pub mod Answering
 pub mod Rows
 pub mod Chunks
 pub use Rattle.sw_machine.specs.Model

@@ -1,25 +1,12 @@
 //! The check of a shown cycle.
 ghost use Rattle.std.specs.Prelude.{◌<◌, ◌↔◌, IsTrue, length, map};
 ghost use Rattle.sw_flow.specs.Ways.{GoesFromStart, GoesOver};
-ghost use Rattle.sw_cycle.specs.Cycles.{cause_of, EndsOn, IsAnswered, IsCause, IsFlowCause, IsShown, IsTargetCause};
+ghost use Rattle.sw_cycle.specs.Cycles.{cause_of, EndsOn, IsCause, IsFlowCause, IsShown, IsTargetCause};
 
 use crate::cycle::{Cause, Cycle};
 use sw_config::{Flow, Network};
 use sw_flow::{Place, follows};
 use sw_topo::Chan;
-
-/// Does a flow with a reply end at the node?
-fn is_answered(network: &Network, node: u16) -> bool
-    ensures { IsTrue result ↔ IsAnswered network.now node }
-{
-    for number in 0..network.flows() {
-        let flow = network.flow(number);
-        if flow.to() == node && flow.reply().is_some() {
-            return true;
-        }
-    }
-    false
-}
 
 fn is_target_cause(network: &Network, node: u16, from: Chan, to: Chan) -> bool
     ensures { IsTrue result ↔ IsTargetCause network.now node from to }
@@ -28,7 +15,7 @@ fn is_target_cause(network: &Network, node: u16, from: Chan, to: Chan) -> bool
     if node >= topology.nodes() {
         return false;
     }
-    topology.out(node) == to && to.partner() == from && is_answered(network, node)
+    topology.out(node) == to && to.partner() == from && network.is_answering(node)
 }
 
 /// Does the flow go from the place over these places, by one step to each?

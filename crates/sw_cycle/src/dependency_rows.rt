@@ -30,14 +30,7 @@ fn rows_from(
 {
     // Names the network, which is valid by its type.
     let _topology = network.topology();
-    // A mark for each node: set where a flow ends whose packets are answered.
-    let mut marks = vec![in alloc; false; usize::from(network.nodes())]?;
-    for number in 0..network.flows() {
-        let flow = network.flow(number);
-        if flow.reply().is_some() {
-            marks[usize::from(flow.to())] = true;
-        }
-    }
+    let marks = network.answering_nodes(alloc)?;
     let mut rows = Vec::new(alloc);
     for channel in 0..network.channels() {
         let ports = sets[usize::from(channel)];

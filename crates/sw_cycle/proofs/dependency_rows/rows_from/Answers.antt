@@ -1,48 +1,12 @@
-use Rattle.std.proofs.Common.{◌≡◌, ◌<◌, ◌∙◌, ℕ, ap, false, get_or, length, replicate, subst, sym, arith}
-use Rattle.std.specs.Prelude.{IsSome, slice_index}
+use Rattle.std.proofs.Common.{◌≡◌, ◌<◌, ◌∙◌, ℕ, ap, get_or, length, subst, sym, arith}
+use Rattle.std.specs.Prelude.{slice_index}
 use Rattle.std.proofs.lemmas.Grind.{get_or_default_zero}
 use Rattle.sw_topo.specs.Wiring.{Wiring}
-use Rattle.sw_config.specs.Entries.{all_flows}
 use Rattle.sw_flow.specs.Places.{ends_of}
-use Rattle.sw_cycle.specs.Answering.{AreMarked}
 use Rattle.sw_cycle.specs.Rows.{AreRows}
 use Rattle.sw_cycle.proofs.Bridge as bridge
-use Rattle.sw_cycle.proofs.Replying.{answered, none_answered, replied_where, unanswered, unreplied_where}
 use Rattle.sw_cycle.proofs.Rowing.{row_is, rows_more, rows_none, rows_once}
-use Rattle.sw_cycle.proofs.dependency_rows.rows_from.Goals.{then-is_some, else-is_some}
 use Rattle.sw_cycle.proofs.dependency_rows.rows_from.Goals as goal
-
-pub loop-number-init : goal.loop-number-init
-loop-number-init c =
-    let marks = c.in_ok-marks.marks.items in
-    let blank : marks ≡ replicate c.from.result false = c.in_ok-marks.ensures.items_if_clones_equal (λ y e. e) in
-    none_answered c.args.network.now c.from.result marks blank (c.from.ensures ∙ c.nodes.ensures.count)
-
-pub loop-number-preserved : goal.loop-number-preserved
-loop-number-preserved c =
-    let d = c.args.network.now in
-    let n = c.loop-number.number in
-    let flow = c.flow-flow in
-    let marks = c.loop-number.marks.items in
-    let marked = c.loop-number.invariant in
-    elim c.if-is_some.branch [
-      | then-is_some w ↦
-          let at = w.from-then-is_some.ensures ∙ w.to.ensures in
-          let some : IsSome flow.result.now.reply = replied_where _ c.reply.result flow.result.now.reply c.is_some.result c.reply.ensures c.is_some.ensures w.if-is_some.true in
-          rw w.marks-is (answered d n flow.result.now flow.ensures.flow marks w.from-then-is_some.result at (omega (arith, at, flow.ensures.valid.to, marked.size)) some marked)
-      | else-is_some w ↦
-          let none : IsSome flow.result.now.reply → ⊥ = unreplied_where _ c.reply.result flow.result.now.reply c.is_some.result c.reply.ensures c.is_some.ensures w.if-is_some.false in
-          rw w.marks-is (unanswered d n flow.result.now flow.ensures.flow marks none marked)
-    ]
-
-pub index_mut-requires : goal.index_mut-requires
-index_mut-requires c =
-    let flow = c.flow-flow in
-    let marks = c.loop-number.marks.items in
-    let at = c.from-then-is_some.ensures ∙ c.to.ensures in
-    let inside = subst (λ (n : ℕ). flow.result.now.to < n) (sym c.loop-number.invariant.size) flow.ensures.valid.to in
-    let within = subst (λ (n : ℕ). n < length marks) (sym at) inside in
-    subst (λ (n : ℕ). c.from-then-is_some.result < n) (sym c.loop-number.marks.ok.0) within
 
 pub row_of-requires : goal.row_of-requires
 row_of-requires c =
@@ -55,19 +19,19 @@ bounds-sets-from c =
     let sets = c.args.sets.now in
     let within : c.loop-channel.channel < length (ends_of c.args.network.now) = subst (λ (n : ℕ). c.loop-channel.channel < n) c.channels-channel-end.ensures.ends c.loop-channel-test.true in
     let inside = subst (λ (n : ℕ). c.loop-channel.channel < n) (sym c.requires.size) within in
-    subst (λ (n : ℕ). n < length sets) (sym c.from-in-loop-channel.ensures) inside
+    subst (λ (n : ℕ). n < length sets) (sym c.from.ensures) inside
 
 pub loop-channel-init : goal.loop-channel-init
-loop-channel-init c = rw c.new-rows.ensures.items (rows_none c.args.network.now c.args.sets.now c.loop-number.marks.items)
+loop-channel-init c = rw c.new-rows.ensures.items (rows_none c.args.network.now c.args.sets.now c.in_ok-marks.marks.items)
 
 pub loop-channel-preserved : goal.loop-channel-preserved
 loop-channel-preserved c =
     let d = c.args.network.now in
     let sets = c.args.sets.now in
-    let marks = c.loop-number.marks.items in
+    let marks = c.in_ok-marks.marks.items in
     let n = c.loop-channel.channel in
     let set = c.index-sets-from.result in
-    let at : set ≡ slice_index sets n = c.index-sets-from.is ∙ ap (λ i. get_or sets i set) c.from-in-loop-channel.ensures ∙ get_or_default_zero sets n set (omega arith) in
+    let at : set ≡ slice_index sets n = c.index-sets-from.is ∙ ap (λ i. get_or sets i set) c.from.ensures ∙ get_or_default_zero sets n set (omega arith) in
     let made = rw c.deref.ensures.value at c.in_ok-row_of.ensures in
     let row = row_is d sets marks n set c.new.result c.topology.result.now c.in_ok-row_of.field-0.items c.topology.ensures.wiring c.new.ensures at made in
     rw c.in_ok-push.ensures.items (rows_more d sets marks n c.loop-channel.rows.items c.in_ok-row_of.field-0 c.loop-channel.invariant row)
@@ -78,22 +42,18 @@ returns-clause-size c = c.loop-channel.invariant.size ∙ omega (arith, c.loop-c
 pub returns-clause-exact : goal.returns-clause-exact
 returns-clause-exact c =
     let d = c.args.network.now in
-    let marks = c.loop-number.marks.items in
-    let seen : c.loop-number.number ≡ length (all_flows d) = omega (arith, c.loop-number-test.false, c.loop-number.auto.number-end, c.flows-number-end.ensures.count) in
-    let marked = subst (λ (n : ℕ). AreMarked d n marks) seen c.loop-number.invariant in
+    let marks = c.in_ok-marks.marks.items in
     let all : c.loop-channel.channel ≡ length (ends_of d) = omega (arith, c.loop-channel-test.false, c.loop-channel.auto.channel-end, c.channels-channel-end.ensures.ends) in
     let rows = subst (λ (n : ℕ). AreRows d c.args.sets.now marks n c.loop-channel.rows.items) all c.loop-channel.invariant in
-    bridge.exact d c.topology-topology.ensures.valid c.args.sets.now marks c.requires marked c.loop-channel.rows.items rows
+    bridge.exact d c.topology-topology.ensures.valid c.args.sets.now marks c.requires c.in_ok-marks.ensures c.loop-channel.rows.items rows
 
 pub returns-clause-graph : goal.returns-clause-graph
 returns-clause-graph c =
     let d = c.args.network.now in
-    let marks = c.loop-number.marks.items in
-    let seen : c.loop-number.number ≡ length (all_flows d) = omega (arith, c.loop-number-test.false, c.loop-number.auto.number-end, c.flows-number-end.ensures.count) in
-    let marked = subst (λ (n : ℕ). AreMarked d n marks) seen c.loop-number.invariant in
+    let marks = c.in_ok-marks.marks.items in
     let all : c.loop-channel.channel ≡ length (ends_of d) = omega (arith, c.loop-channel-test.false, c.loop-channel.auto.channel-end, c.channels-channel-end.ensures.ends) in
     let rows = subst (λ (n : ℕ). AreRows d c.args.sets.now marks n c.loop-channel.rows.items) all c.loop-channel.invariant in
-    bridge.graph d c.topology-topology.ensures.valid c.args.sets.now marks c.requires marked c.loop-channel.rows.items rows
+    bridge.graph d c.topology-topology.ensures.valid c.args.sets.now marks c.requires c.in_ok-marks.ensures c.loop-channel.rows.items rows
 
 pub returns-clause-once : goal.returns-clause-once
-returns-clause-once c = rows_once c.args.network.now c.args.sets.now c.loop-number.marks.items c.loop-channel.channel c.loop-channel.rows.items c.loop-channel.invariant
+returns-clause-once c = rows_once c.args.network.now c.args.sets.now c.in_ok-marks.marks.items c.loop-channel.channel c.loop-channel.rows.items c.loop-channel.invariant
