@@ -1,9 +1,9 @@
 -- Nodes that take nothing while they want to send, and flows that are answered: what then waits, and whether the network stays free.
-use Rattle.std.specs.Prelude.{◌≡◌, ◌↔◌, ℕ, zero, suc, ◌==◌, ◌&&◌, Bool, false, not, IsTrue, is_some, List, [], ◌∷◌, filter, map, length, slice_get}
-use Rattle.std.specs.List.{AllZip, list_any, range_with_len}
+use Rattle.std.specs.Prelude.{◌≡◌, ◌↔◌, ℕ, zero, suc, Bool, false, not, IsTrue, is_some, List, [], ◌∷◌, filter, map, length, slice_get}
+use Rattle.std.specs.List.{AllZip, range_with_len}
 use Rattle.std.specs.Option.{option_map_or}
 use Rattle.sw_topo.specs.Wiring.{out, partner}
-use Rattle.sw_config.specs.Entries.{FlowEntry, Declaration}
+use Rattle.sw_config.specs.Entries.{FlowEntry, Declaration, is_answering}
 use Rattle.sw_flow.specs.declared.place.Place.{Place}
 use Rattle.sw_flow.specs.Places.{ends_of}
 use Rattle.sw_flow.specs.Followers.{followers_of}
@@ -12,13 +12,9 @@ use Rattle.sw_margin.specs.Waits.{StaysFree}
 
 -- ---- nodes
 
--- the flow has a reply, and ends at that node
-abbrev pub is_answered_at : ℕ → FlowEntry → Bool
-is_answered_at n f = is_some f.reply && f.to == n
-
--- the nodes at which no flow with a reply ends, in order
+-- the nodes that answer no commands, in order
 abbrev pub quiet_nodes : Declaration → List ℕ
-quiet_nodes d = filter (λ n. not (list_any (is_answered_at n) d.flows)) (range_with_len 0 (length d.nodes))
+quiet_nodes d = filter (λ n. not (is_answering d n)) (range_with_len 0 (length d.nodes))
 
 -- the node takes nothing while it wants to send: what comes to it waits for what goes from it
 abbrev pub stall : Declaration → ℕ → List (ℕ × ℕ)
@@ -73,7 +69,7 @@ IsStall d n b = IsBend d (stall d n) n b
 abbrev pub IsAnswer : Declaration → ℕ → Bend → Type 0
 IsAnswer d i b = IsBend d (answering_at d i) i b
 
--- of each node at which no flow with a reply ends: whether the network stays free if it takes nothing while it wants to send
+-- of each node that answers no commands: whether the network stays free if it takes nothing while it wants to send
 abbrev pub AreStalls : Declaration → List Bend → Type 0
 AreStalls d told = AllZip (IsStall d) (quiet_nodes d) told
 

@@ -5,7 +5,6 @@ ghost use Rattle.sw_margin.specs.Bends.{AreStalls, IsStall, stall};
 ghost use Rattle.sw_margin.specs.Waits.{AreDependencies, IsWithin};
 
 use crate::bend::Bend;
-use crate::chosen::is_quiet;
 use crate::trial::bend;
 use std::alloc::{AllocError, Global};
 use sw_config::Network;
@@ -55,7 +54,7 @@ pub fn stalls<W: VerdictWorkers>(
 {
     let mut told = Vec::new(alloc);
     for node in 0..network.nodes() {
-        if !is_quiet(network, node) {
+        if network.is_answering(node) {
             continue;
         }
         told.push(told_of(workers, alloc, network, rows, node)?)?;

@@ -7,10 +7,10 @@ use Rattle.std.specs.Str.{bytes_eq}
 use Rattle.std.proofs.lemmas.Bool.{eqb-true, and_parts}
 use Rattle.std.proofs.lemmas.List.{length-map, length-set, length-take-le, map-append, take-map, take_more}
 use Rattle.std.proofs.lemmas.Option.{get_or_from_slice_get, slice_get_cases, slice_get_within}
-use Rattle.sw_config.specs.Entries.{NodeEntry, ReplyEntry, FlowEntry, Declaration, flow_names, target_of}
+use Rattle.sw_config.specs.Entries.{NodeEntry, ReplyEntry, FlowEntry, Declaration, flow_names, is_answered_at, target_of}
 use Rattle.sw_config.specs.Valid.{IsFlow, IsReply, IsTarget}
 use Rattle.sw_mend.specs.Changes.{made_at}
-use Rattle.sw_mend.specs.Splits.{flow_moved, flow_split, is_asking, last_deleted, renamed, target_part}
+use Rattle.sw_mend.specs.Splits.{flow_moved, flow_split, last_deleted, renamed, target_part}
 use Rattle.sw_mend.specs.declared.change.TargetLink.{TargetLink}
 use Rattle.sw_mend.proofs.Fresh.{fresh, named_at}
 use Rattle.sw_mend.proofs.Named.{one_node_more}
@@ -28,14 +28,14 @@ same_name node link f false = refl
 
 same_names : (node : ℕ) (link : TargetLink) (flows : List FlowEntry) → flow_names (map (flow_split node link) flows) ≡ flow_names flows
 same_names node link [] = refl
-same_names node link (f ∷ flows) = λ t. same_name node link f (is_asking link.node f) t ∷ same_names node link flows t
+same_names node link (f ∷ flows) = λ t. same_name node link f (is_answered_at link.node f) t ∷ same_names node link flows t
 
 pub fresh_moved : (node : ℕ) (link : TargetLink) (flows : List FlowEntry) (i : ℕ) (f : FlowEntry) (now : List FlowEntry) → AllPairs (λ x y. x ≢ y) (flow_names flows)
     → slice_get flows i ≡ Some f → now ≡ map (flow_split node link) (take i flows) → list_any (bytes_eq (flow_split node link f).name) (flow_names now) ≡ false
 fresh_moved node link flows i f now apart here is =
     let names : flow_names now ≡ take i (flow_names flows) =
     ap flow_names is ∙ same_names node link (take i flows) ∙ sym (take-map (λ (g : FlowEntry). g.name) i flows) in
-    (λ t. list_any (bytes_eq (same_name node link f (is_asking link.node f) t)) (names t))
+    (λ t. list_any (bytes_eq (same_name node link f (is_answered_at link.node f) t)) (names t))
     ∙ fresh (flow_names flows) i f.name apart (named_at (λ (g : FlowEntry). g.name) flows i f here)
 
 -- ---- as many
@@ -118,11 +118,11 @@ module _ (nodes : List NodeEntry) (link : TargetLink) (f : FlowEntry) (lt : link
             }) is.reply;
       }
 
-  moves : is_asking link.node f ≡ true → IsFlow after (flow_moved (length nodes) link f)
+  moves : is_answered_at link.node f ≡ true → IsFlow after (flow_moved (length nodes) link f)
   unfolding after
-  moves asks =
+  moves answered =
       let size : length after ≡ length nodes + 1 = one_node_more nodes link.node lt in
-      let same : f.to ≡ link.node = eqb-true f.to link.node (and_parts (eqb f.to link.node) (is_some f.reply) asks).0 in
+      let same : f.to ≡ link.node = eqb-true f.to link.node (and_parts (is_some f.reply) (eqb f.to link.node) answered).1 in
       let long : length (flow_moved (length nodes) link f).address ≡ length f.address = renamed_length link.beside link.port f.address (last_deleted f) in
       record {
         from = omega (arith, size, is.from);
@@ -139,10 +139,10 @@ module _ (nodes : List NodeEntry) (link : TargetLink) (f : FlowEntry) (lt : link
             }) is.reply;
       }
 
-  either : (b : Bool) → is_asking link.node f ≡ b → IsFlow after (if b then flow_moved (length nodes) link f else f)
-  either true asks = moves asks
-  either false asks = stays
+  either : (b : Bool) → is_answered_at link.node f ≡ b → IsFlow after (if b then flow_moved (length nodes) link f else f)
+  either true answered = moves answered
+  either false unanswered = stays
 
   pub valid_moved : (now : List NodeEntry) (moved : FlowEntry) → now ≡ nodes ++ made_at target_part nodes link.node → moved ≡ flow_split (length nodes) link f → IsFlow now moved
   unfolding after
-  valid_moved now moved there same = rw (there, same) (either (is_asking link.node f) refl)
+  valid_moved now moved there same = rw (there, same) (either (is_answered_at link.node f) refl)

@@ -1,12 +1,11 @@
 -- A node split into two: its target gets a node and a link of its own.
 use Rattle.std.specs.Prelude.{◌≡◌, ℕ, ◌-◌, ◌<◌, ◌≤◌, ◌==◌, Bool, not, ◌&&◌, is_some, nat_lt, List, [], ◌∷◌, ◌++◌, codes, map, length, slice_get, slice_index_or, slice_set, Option, Some, None, option_and_then, option_map, if◌then◌else◌}
-use Rattle.std.specs.List.{list_any}
 use Rattle.std.specs.Option.{option_map_or, option_to_list}
 use Rattle.sw_topo.specs.Checked.{first_below}
 use Rattle.sw_topo.specs.Wiring.{out, out_of, partner}
 use Rattle.sw_topo.specs.declared.place.PlaceEnd.{PlaceEnd}
 use Rattle.sw_topo.specs.declared.place.PlaceEnd.TheVariants.{Node, Switch}
-use Rattle.sw_config.specs.Entries.{NodeEntry, LinkEntry, FlowEntry, Declaration, capacities, link_ends, wiring_of}
+use Rattle.sw_config.specs.Entries.{NodeEntry, LinkEntry, FlowEntry, Declaration, capacities, is_answered_at, is_answering, link_ends, wiring_of}
 use Rattle.sw_config.specs.Valid.{IsValid}
 use Rattle.sw_topo.specs.Checked.{IsSound}
 use Rattle.sw_mend.specs.declared.change.TargetLink.{TargetLink}
@@ -35,13 +34,9 @@ abbrev pub flow_moved : ℕ → TargetLink → FlowEntry → FlowEntry
 flow_moved node link f =
     record f { to = node; address = option_map_or (renamed link.beside link.port f.address) (last_deleted f) f.address }
 
--- the flow goes to the node, and is answered
-abbrev pub is_asking : ℕ → FlowEntry → Bool
-is_asking node f = f.to == node && is_some f.reply
-
--- such a flow goes to the own node, and each other flow as before
+-- a flow whose packets are commands that the node answers goes to the own node, and each other flow as before
 abbrev pub flow_split : ℕ → TargetLink → FlowEntry → FlowEntry
-flow_split node link f = if is_asking link.node f then flow_moved node link f else f
+flow_split node link f = if is_answered_at link.node f then flow_moved node link f else f
 
 -- The own node comes behind the other nodes, and its link behind the other links. All else stays, the node that it was split from too: flows
 -- without replies still go there, and replies come by the same path, since both are at one switch.
@@ -85,10 +80,10 @@ target_link d node =
     option_and_then (λ channel. option_and_then (link_beside d node channel) (slice_get (link_ends d.links) (partner channel)))
     (out (link_ends d.links) node)
 
--- of a target to which an answered flow goes
+-- of a target that answers commands
 abbrev pub own_links : Declaration → ℕ → NodeEntry → List TargetLink
 own_links d number n =
-    if is_some n.target && list_any (is_asking number) d.flows then option_to_list (target_link d number) else []
+    if is_some n.target && is_answering d number then option_to_list (target_link d number) else []
 
 -- in the order of the nodes
 abbrev pub splits : Declaration → List TargetLink

@@ -1,15 +1,14 @@
 //! The links that targets of their own can have.
 ghost use Rattle.std.specs.Prelude.{◌≡◌, ◌*◌, ◌<◌, ◌≤◌, IfSome, length};
-ghost use Rattle.std.specs.List.{list_any};
 ghost use Rattle.std.specs.Option.{option_to_list};
 ghost use Rattle.sw_topo.specs.Checked.{IsIn};
 ghost use Rattle.sw_config.specs.Entries.{link_ends};
 ghost use Rattle.sw_mend.specs.Changes.{made_at};
-ghost use Rattle.sw_mend.specs.Splits.{IsTargetLink, free_port_below, is_asking, is_free_port, link_beside, own_links};
+ghost use Rattle.sw_mend.specs.Splits.{IsTargetLink, free_port_below, is_free_port, link_beside, own_links};
 
 use crate::change::TargetLink;
 use std::marker::Model;
-use sw_config::{Flow, Network};
+use sw_config::Network;
 use sw_topo::limits::PORTS;
 use sw_topo::{Chan, PlaceEnd, Port, Topology};
 
@@ -61,26 +60,7 @@ fn link_beside(network: &Network, node: u16, channel: Chan, end: PlaceEnd) -> Op
     }
 }
 
-// Does the flow go to the node, and is it answered?
-pub(crate) fn is_asking(node: u16, flow: &Flow) -> bool
-    ensures { result ≡ is_asking node flow.now }
-{
-    flow.to() == node && flow.reply().is_some()
-}
-
-// Does an answered flow go to the node?
-fn is_asked(network: &Network, node: u16) -> bool
-    ensures { result ≡ list_any (is_asking node) network.now.flows }
-{
-    for number in 0..network.declared_flows() {
-        if is_asking(node, network.flow(number)) {
-            return true;
-        }
-    }
-    false
-}
-
-/// The link that the target of the node can have of its own, if an answered flow goes there.
+/// The link that the target of the node can have of its own, if it answers commands.
 pub(crate) fn own_link_of(network: &Network, node: u16) -> Option<TargetLink>
     requires { node < length network.now.nodes }
     ensures link { option_to_list result ≡ made_at (own_links network.now) network.now.nodes node }
@@ -89,7 +69,7 @@ pub(crate) fn own_link_of(network: &Network, node: u16) -> Option<TargetLink>
     if !network.is_target(node) {
         return None;
     }
-    if !is_asked(network, node) {
+    if !network.is_answering(node) {
         return None;
     }
     let topology = network.topology();

@@ -6,7 +6,6 @@ ghost use Rattle.sw_mend.specs.Splits.{flow_split, last_deleted, renamed, target
 
 use crate::change::TargetLink;
 use crate::flows::{copied_by, copied_flow};
-use crate::links::is_asking;
 use std::alloc::{AllocError, Global};
 use std::marker::Model;
 use sw_config::{Flow, Network};
@@ -31,7 +30,7 @@ fn moved_address(alloc: Global, link: &TargetLink, flow: &Flow) -> Result<Vec<u8
 fn split_flow(alloc: Global, node: u16, link: &TargetLink, flow: &Flow) -> Result<Flow, AllocError>
     ensures { IfOk result (λ f. f ≡ flow_split node link.now flow.now) }
 {
-    if is_asking(link.node, flow) {
+    if flow.is_answered_at(link.node) {
         let address = moved_address(alloc, link, flow)?;
         copied_by(alloc, flow, node, address, false)
     } else {

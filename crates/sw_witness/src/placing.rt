@@ -170,8 +170,7 @@ fn plan_target(
         if number >= flows {
             number = 0;
         }
-        let flow = network.flow(number);
-        if flow.to() == node && flow.reply().is_some() {
+        if network.flow(number).is_answered_at(node) {
             return plan_commands(alloc, network, number, from, placing);
         }
         number = number.saturating_add(1);

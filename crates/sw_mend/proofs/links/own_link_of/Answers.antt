@@ -13,5 +13,5 @@ returns-clause-link c =
     let same =
     target_link_is c.args.network.now c.topology-topology.result.now c.args.node c.out-channel.result c.end_of.result c.link_beside.result c.topology-topology.ensures.wiring
     c.out-channel.ensures.channel c.end_of.ensures.place c.link_beside.ensures.link in
-    own_link_at c.args.network.now c.args.node c.is_target.result c.is_asked.result c.link_beside.result c.requires c.is_target.ensures c.if-not-is_target.false
-    c.is_asked.ensures c.if-not-is_asked.false same
+    own_link_at c.args.network.now c.args.node c.is_target.result c.is_answering.result c.link_beside.result c.requires c.is_target.ensures c.if-not-is_target.false
+    c.is_answering.ensures c.if-not-is_answering.false same
