@@ -8,9 +8,9 @@ use Rattle.sw_config.specs.Valid.{IsReply, has_no_leading_zero}
 use Rattle.sw_rmap.specs.declared.config.TargetConfig.{TargetConfig}
 use Rattle.sw_rmap.specs.CommandView.{CommandView, IsCommand, command}
 use Rattle.sw_rmap.specs.Commands.{written}
-use Rattle.sw_rmap.specs.Instruction.{increments, is_known, is_read_modify_write, is_write as is_write_bit, packet_type, reply_address_len, wants_reply as wants_reply_bit}
+use Rattle.sw_rmap.specs.Instruction.{incrementing, increments, is_known, is_read_modify_write, is_write as is_write_bit, packet_type, reply_address_len, wants_reply as wants_reply_bit}
 use Rattle.sw_rmap.specs.Replies.{is_answered, leads_nowhere, path_of, without_leading_zeros}
-use Rattle.sw_app_rmap.specs.FlowCommands.{bytes_to, command_to, initiator_of, instruction, padded, path_back, units}
+use Rattle.sw_app_rmap.specs.FlowCommands.{bytes_to, command_to, initiator_of, padded, path_back, units}
 use Rattle.sw_app_rmap.specs.Orders.{Action, IsSmall, RmapOrder, data_of, is_write, length_of, reads, wants_reply, writes}
 
 and_true : (b : Bool) → (b && true) ≡ b
@@ -21,13 +21,13 @@ and_true false = refl
 
 -- the bits of an instruction that is built
 pub record AreBits (write reply : Bool) (n : ℕ) : Type 0 where
-  pub type : packet_type (instruction write reply n) ≡ 1
-  pub writes : is_write_bit (instruction write reply n) ≡ write
-  pub replies : wants_reply_bit (instruction write reply n) ≡ reply
-  pub rising : increments (instruction write reply n) ≡ true
-  pub address : reply_address_len (instruction write reply n) ≡ 4 * n
-  pub no_modify : is_read_modify_write (instruction write reply n) ≡ false
-  pub known : is_known (instruction write reply n) ≡ true
+  pub type : packet_type (incrementing write reply n) ≡ 1
+  pub writes : is_write_bit (incrementing write reply n) ≡ write
+  pub replies : wants_reply_bit (incrementing write reply n) ≡ reply
+  pub rising : increments (incrementing write reply n) ≡ true
+  pub address : reply_address_len (incrementing write reply n) ≡ 4 * n
+  pub no_modify : is_read_modify_write (incrementing write reply n) ≡ false
+  pub known : is_known (incrementing write reply n) ≡ true
 
 -- a command writes or wants a reply: there are twelve instructions
 pub are_bits : (write reply : Bool) (n : ℕ) → (write || reply) ≡ true → n ≤ 3 → AreBits write reply n
@@ -121,7 +121,7 @@ module _ (t : TargetConfig) (reply : Option ReplyEntry) (o : RmapOrder) (path : 
 
 -- what is built of the parts is the command's text in bytes
 pub bytes_are : (t : TargetConfig) (reply : Option ReplyEntry) (o : RmapOrder) (write wants : Bool) (count n initiator size : ℕ) (path address body : List ℕ) (made : CommandView) → path ≡ path_back reply → address ≡ padded path
-    → write ≡ is_write o.action → wants ≡ wants_reply o.action → count ≡ units path → n ≡ instruction write wants count → initiator ≡ initiator_of reply → size ≡ length_of o.action
+    → write ≡ is_write o.action → wants ≡ wants_reply o.action → count ≡ units path → n ≡ incrementing write wants count → initiator ≡ initiator_of reply → size ≡ length_of o.action
     → made ≡ command t.logical n t.key address initiator o.transaction o.address size → body ≡ data_of o.action → written made body ≡ bytes_to t reply o
 bytes_are t reply o write wants count n initiator size path address body made path_is address_is write_is wants_is count_is n_is initiator_is size_is made_is body_is =
     rw (made_is, n_is, address_is, write_is, wants_is, count_is, path_is, initiator_is, size_is, body_is) refl

@@ -1,9 +1,10 @@
 -- The RMAP command of a flow to its target (ECSS-E-ST-50-52C, the fields of write and read commands).
-use Rattle.std.specs.Prelude.{ℕ, ◌+◌, ◌-◌, ◌*◌, ◌/◌, Bool, List, [], ◌++◌, length, replicate, Option, Some, None, if◌then◌else◌}
+use Rattle.std.specs.Prelude.{ℕ, ◌+◌, ◌-◌, ◌*◌, ◌/◌, Bool, List, [], ◌++◌, length, replicate, Option, Some, None}
 use Rattle.sw_config.specs.Entries.{ReplyEntry}
 use Rattle.sw_rmap.specs.declared.config.TargetConfig.{TargetConfig}
 use Rattle.sw_rmap.specs.CommandView.{CommandView, command}
 use Rattle.sw_rmap.specs.Commands.{written}
+use Rattle.sw_rmap.specs.Instruction.{incrementing}
 use Rattle.sw_app_rmap.specs.Orders.{RmapOrder, data_of, is_write, length_of, wants_reply}
 
 -- the path back of a flow's replies; none where it has no replies
@@ -24,14 +25,10 @@ units path = (length path + 3) / 4
 abbrev pub padded : List ℕ → List ℕ
 padded path = replicate (4 * units path - length path) 0 ++ path
 
--- bits 7 and 6 say a command and bit 5 a write; bit 3 asks for a reply, bit 2 for rising addresses; bits 1 and 0 count the reply address
-abbrev pub instruction : Bool → Bool → ℕ → ℕ
-instruction write reply count = 64 + (if write then 32 else 0) + (if reply then 8 else 0) + 4 + count
-
 -- the command to the target of what is asked for, with the target's logical address and key
 abbrev pub command_to : TargetConfig → Option ReplyEntry → RmapOrder → CommandView
 command_to t reply o =
-    command t.logical (instruction (is_write o.action) (wants_reply o.action) (units (path_back reply))) t.key (padded (path_back reply))
+    command t.logical (incrementing (is_write o.action) (wants_reply o.action) (units (path_back reply))) t.key (padded (path_back reply))
     (initiator_of reply) o.transaction o.address (length_of o.action)
 
 -- its bytes: the header with its CRC and, of a write, the data with theirs

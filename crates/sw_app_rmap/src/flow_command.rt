@@ -1,12 +1,12 @@
 //! The command of a flow to its target.
 ghost use Rattle.std.specs.Prelude.{◌≡◌, ◌≤◌, IfOk, length, option_map};
-ghost use Rattle.sw_app_rmap.specs.FlowCommands.{bytes_to, initiator_of, instruction, padded, path_back, units};
+ghost use Rattle.sw_app_rmap.specs.FlowCommands.{bytes_to, initiator_of, padded, path_back, units};
 ghost use Rattle.sw_app_rmap.specs.Orders.{IsSmall, order_view};
 
 use crate::order::RmapOrder;
 use std::alloc::{AllocError, Global};
 use sw_config::Reply;
-use sw_rmap::{Command, TargetConfig, write_command};
+use sw_rmap::{Command, Instruction, TargetConfig, write_command};
 
 /// The initiator logical address that stands for none.
 const NO_INITIATOR: u8 = 254;
@@ -49,15 +49,6 @@ fn padded(alloc: Global, path: &[u8]) -> Result<Vec<u8>, AllocError>
     Ok(bytes)
 }
 
-fn instruction(write: bool, reply: bool, units: usize) -> u8
-    requires { units ≤ 3 }
-    ensures { result ≡ instruction write reply units }
-{
-    let write = if write { 0x20 } else { 0 };
-    let reply = if reply { 0x08 } else { 0 };
-    0x40 + write + reply + 0x04 + units as u8
-}
-
 /// The bytes of the command that is asked for.
 ///
 /// # Errors
@@ -76,10 +67,14 @@ pub(crate) fn bytes_to(
     let path = path_back(reply);
     let reply_address = padded(alloc, path)?;
     let action = &order.action;
-    let instruction = instruction(action.is_write(), action.wants_reply(), units(path));
+    let instruction = Instruction::incrementing(
+        action.is_write(),
+        action.wants_reply(),
+        units(path),
+    );
     let command = Command::new(
         target.logical,
-        instruction,
+        instruction.byte(),
         target.key,
         &reply_address,
         initiator_of(reply),

@@ -4,7 +4,7 @@ ghost use Rattle.sw_summary.specs.Counts.{handled_as};
 ghost use Rattle.sw_summary.specs.Handlings.{handling_index, handling_of, read_handling, reason_text, unread_handling};
 
 use sw_char::Packet;
-use sw_rmap::{Command, crc};
+use sw_rmap::{Command, NoCommand};
 
 /// What becomes of a packet at a target: it is answered, or why it is not.
 #[derive(Clone, Copy)]
@@ -56,24 +56,15 @@ impl Handling {
     }
 }
 
-// Why the bytes are no command.
-fn unread_handling(bytes: &[u8]) -> Handling
-    ensures { result ≡ unread_handling bytes.now }
+// The same of bytes that are no command.
+fn unread_handling(why: NoCommand) -> Handling
+    ensures { result ≡ unread_handling why }
 {
-    if bytes.len() < 16 {
-        return Handling::TooShort;
-    }
-    let path = 4 * usize::from(bytes[2] & 3);
-    if bytes.len() < 16 + path {
-        return Handling::TooShort;
-    }
-    let back = &bytes[4 + path..];
-    if bytes[1] != 1 {
-        Handling::OtherProtocol
-    } else if crc(&bytes[..15 + path]) != back[11] {
-        Handling::WrongCrc
-    } else {
-        Handling::IsReply
+    match why {
+        NoCommand::TooShort => Handling::TooShort,
+        NoCommand::OtherProtocol => Handling::OtherProtocol,
+        NoCommand::WrongCrc => Handling::WrongCrc,
+        NoCommand::IsReply => Handling::IsReply,
     }
 }
 
@@ -83,7 +74,7 @@ fn read_handling(command: &Command) -> Handling
 {
     if command.is_answered() {
         Handling::Answered
-    } else if command.instruction() >> 3 & 1 == 1 {
+    } else if command.bits().wants_reply() {
         Handling::NoWay
     } else {
         Handling::NotAsked
@@ -95,9 +86,9 @@ fn read_handling(command: &Command) -> Handling
 pub(crate) fn handling_of(bytes: &[u8]) -> Handling
     ensures { result ≡ handling_of bytes.now }
 {
-    match Command::read(bytes) {
-        Some(command) => read_handling(&command),
-        None => unread_handling(bytes),
+    match Command::try_read(bytes) {
+        Ok(command) => read_handling(&command),
+        Err(why) => unread_handling(why),
     }
 }
 

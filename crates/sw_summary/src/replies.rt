@@ -2,13 +2,13 @@
 ghost use Rattle.std.specs.Prelude.{◌≡◌, ◌≤◌, true, length};
 ghost use Rattle.sw_summary.specs.Replies.{head_len, is_reply, status_name};
 
-use sw_rmap::crc;
+use sw_rmap::{Instruction, PROTOCOL, crc};
 
 // How many bytes the header of a reply has before its CRC.
-fn head_len(instruction: u8) -> usize
+fn head_len(instruction: Instruction) -> usize
     ensures { result ≡ head_len instruction }
 {
-    if instruction >> 5 & 1 == 1 { 7 } else { 11 }
+    if instruction.is_write() { 7 } else { 11 }
 }
 
 /// Whether the bytes are a reply from the initiator's logical address on.
@@ -19,8 +19,9 @@ pub(crate) fn is_reply(bytes: &[u8]) -> bool
     if bytes.len() < 8 {
         return false;
     }
-    let head = head_len(bytes[2]);
-    if bytes[1] != 1 || bytes[2] >> 6 & 3 != 0 || bytes.len() <= head {
+    let instruction = Instruction::from_byte(bytes[2]);
+    let head = head_len(instruction);
+    if bytes[1] != PROTOCOL || instruction.is_command() || bytes.len() <= head {
         return false;
     }
     crc(&bytes[..head]) == bytes[head]

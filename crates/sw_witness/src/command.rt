@@ -2,11 +2,7 @@
 
 use std::alloc::{AllocError, Global};
 use sw_config::Reply;
-use sw_rmap::{PROTOCOL, TargetConfig};
-
-/// The instruction of a read with increment that wants a reply, but for the length of the reply address
-/// (ECSS-E-ST-50-52C, the fields of a command).
-const READ: u8 = 0x4C;
+use sw_rmap::{Instruction, PROTOCOL, TargetConfig};
 
 /// What stands before a reply address that is no multiple of four bytes.
 const ZEROS: &[u8] = &[0, 0, 0];
@@ -18,9 +14,10 @@ pub(crate) fn header(
     reply: &Reply,
 ) -> Result<Vec<u8>, AllocError> {
     let path = reply.path();
-    // The reply address has 0 to 3 words of four bytes.
-    let words = (path.len().saturating_add(3) / 4).min(3) as u8;
-    let front = [target.logical, PROTOCOL, READ | words, target.key];
+    // The reply address has 0 to 3 units of four bytes.
+    let units = (path.len().saturating_add(3) / 4).min(3);
+    let read = Instruction::incrementing(false, true, units);
+    let front = [target.logical, PROTOCOL, read.byte(), target.key];
     let zeros = &ZEROS[..(4 - path.len() % 4) % 4];
     let initiator = [reply.initiator(), 0, 0];
     let start = target.start.to_be_bytes();

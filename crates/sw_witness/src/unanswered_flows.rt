@@ -6,7 +6,7 @@ use std::alloc::{AllocError, Global};
 use std::marker::Model;
 use sw_config::{Flow, Network};
 use sw_machine::left_bytes;
-use sw_rmap::PROTOCOL;
+use sw_rmap::{Instruction, PROTOCOL};
 
 // Is the protocol identifier left, and another than RMAP's?
 fn has_other_protocol(left: &[u8]) -> bool
@@ -19,20 +19,20 @@ fn has_other_protocol(left: &[u8]) -> bool
 }
 
 // Is the instruction one of a command that wants a reply?
-fn is_of_answered(instruction: u8) -> bool
+fn is_of_answered(instruction: Instruction) -> bool
     ensures { result ≡ is_of_answered instruction }
 {
-    instruction / 64 % 4 != 0 && instruction / 8 % 2 == 1
+    instruction.is_command() && instruction.wants_reply()
 }
 
-// Is the instruction left, and none of a command that is answered by this path? The lowest two bits are a quarter of the length of the
-// reply address field.
+// Is the instruction left, and none of a command that is answered by this path?
 fn has_other_instruction(left: &[u8], path: &[u8]) -> bool
     ensures { result ≡ has_other_instruction left.now path.now }
 {
     match left.get(2) {
-        Some(instruction) => {
-            !is_of_answered(*instruction) || 4 * usize::from(*instruction % 4) < path.len()
+        Some(byte) => {
+            let instruction = Instruction::from_byte(*byte);
+            !is_of_answered(instruction) || instruction.reply_address_len() < path.len()
         }
         None => false,
     }

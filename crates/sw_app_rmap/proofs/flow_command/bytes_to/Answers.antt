@@ -12,7 +12,7 @@ returns c =
     IfOk-weaker c.write_command.result _ (λ v. v.items ≡ bytes_to c.args.target reply (order_view c.args.order.now))
     (λ v is.
     is
-    ∙ bytes_are c.args.target reply (order_view c.args.order.now) c.is_write.result c.wants_reply.result c.units.result c.instruction-instruction.result c.initiator_of.result c.length.result c.path_back-path.result.now c.deref.result.now
-    c.data.result.now c.unwrap-command.result c.path_back-path.ensures (c.deref.ensures.value ∙ c.in_ok-reply_address.ensures) c.is_write.ensures c.wants_reply.ensures c.units.ensures.value c.instruction-instruction.ensures
+    ∙ bytes_are c.args.target reply (order_view c.args.order.now) c.is_write.result c.wants_reply.result c.units.result c.byte.result c.initiator_of.result c.length.result c.path_back-path.result.now c.deref.result.now
+    c.data.result.now c.unwrap-command.result c.path_back-path.ensures (c.deref.ensures.value ∙ c.in_ok-reply_address.ensures) c.is_write.ensures c.wants_reply.ensures c.units.ensures.value (c.byte.ensures ∙ c.incrementing-instruction.ensures)
     c.initiator_of.ensures c.length.ensures made.1 c.data.ensures)
     c.write_command.ensures
