@@ -60,6 +60,7 @@ are_networks d valid =
       flow_ends = flows.flow_ends d valid;
       reply_flow = λ i j lt. reply_flow d i j;
       no_flow = flows.no_flow d;
+      limited_flow = λ i is. absurd cc;
       slot = λ n. slot d.nodes n valid.nodes;
       reply_goes = λ n memory bytes end lt. replies.reply_goes (target_of d.nodes n) memory bytes end;
       reply_length = λ n memory bytes r end lt. replies.reply_length (target_of d.nodes n) memory bytes r end;

@@ -69,6 +69,7 @@ module _ (d : Declaration) (f : ℕ) (e : FlowEntry) (at : slice_get d.flows f �
         some_cargo = p.some;
         within = p.few;
         answered = subst (AnsweredBy (network_of d) f) (sym (same_reply cargo)) (answers (reply_from d.nodes e.to (file.left_bytes e ++ cargo)) e.reply refl (rw is at p.answered));
+        command = λ limited. absurd cc;
       }
 
   pub is_packet : (cargo : List ℕ) → IsDeclared (network_of d) f cargo → IsDeclaredPacket d f cargo

@@ -4,7 +4,7 @@ use Rattle.std.proofs.lemmas.Bool.{cases_eq, cases_lt}
 use Rattle.sw_machine.specs.Certificate.{Certificate, IsAccepted, IsListed, number}
 use Rattle.sw_machine.specs.Network.{AtNode, AtSwitch, Network}
 use Rattle.sw_machine.specs.Owed.{IsAsked}
-use Rattle.sw_machine.specs.Places.{Follows, deleted_after, header}
+use Rattle.sw_machine.specs.Places.{AlwaysTakes, Follows, deleted_after, header}
 
 module _ (net : Network) (cert : Certificate) (acc : IsAccepted net cert) where
   pub at_switch : (i c k switch : ℕ) → i < net.flows → IsListed cert i c k → net.end_of c ≡ AtSwitch switch → (k < length (net.flow i).address) × (net.look switch (header net i k) ≢ [])
@@ -25,6 +25,6 @@ module _ (net : Network) (cert : Certificate) (acc : IsAccepted net cert) where
   pub follows : (i c k switch d : ℕ) → i < net.flows → IsListed cert i c k → net.end_of c ≡ AtSwitch switch → Contains (net.look switch (header net i k)) d → Follows net i c k d (deleted_after net i switch k)
   follows i c k switch d li listed at named = record { switch = switch; at = at; within = (at_switch i c k switch li listed at).0; named = named; deleted = refl }
 
-  -- a target that owes a reply is followed by its other channel
-  pub asked_rises : (n : ℕ) → IsAsked net n → number cert (net.into n) < number cert (net.out n)
-  asked_rises n a = subst (λ k. number cert (net.into k) < number cert (net.out k)) a.to (acc.targets a.asked a.reply a.in_flows a.by)
+  -- a target that owes a reply, and doesn't always take, is followed by its other channel
+  pub asked_rises : (n : ℕ) → IsAsked net n → (AlwaysTakes net n → ⊥) → number cert (net.into n) < number cert (net.out n)
+  asked_rises n a waits = subst (λ k. (AlwaysTakes net k → ⊥) → number cert (net.into k) < number cert (net.out k)) a.to (acc.targets a.asked a.reply a.in_flows a.by) waits

@@ -1,6 +1,6 @@
 -- What stands behind the characters: for each channel what its end has yet to pass on of the packet that it
 -- passes, what its start has yet to get of the packet that it gets, and the packets between.
-use Rattle.std.proofs.Common.{List, Some, [], length, slice_index, ℕ, ◌++◌, ◌+◌, ◌<◌, ◌∷◌, ◌≡◌, ◌≢◌, ◌⊎◌}
+use Rattle.std.proofs.Common.{List, Some, [], is_some, length, slice_index, true, ℕ, ◌++◌, ◌+◌, ◌<◌, ◌∷◌, ◌≡◌, ◌≢◌, ◌⊎◌}
 use Rattle.std.specs.List.{AllByRecursion}
 use Rattle.sw_char.specs.declared.nchar.End.{End}
 use Rattle.sw_char.specs.declared.nchar.NChar.{NChar}
@@ -28,10 +28,11 @@ abbrev pub flat : Network → List Entry → List NChar
 flat net [] = []
 flat net (e ∷ es) = form_of net e ++ flat net es
 
--- a packet of this flow may have this cargo
+-- a packet of this flow may have this cargo, and of a limited flow it is a command
 pub record IsCarried (net : Network) (i : ℕ) (cargo : List ℕ) : Type 0 where
   pub in_flows : i < net.flows
   pub answered : AnsweredBy net i (net.reply_to (net.flow i).to (left_bytes net i cargo))
+  pub command : net.limited i ≡ true → is_some (net.reply_to (net.flow i).to (left_bytes net i cargo)) ≡ true
 
 -- the packet may stand on channel c
 pub record IsEntry (net : Network) (cert : Certificate) (c : ℕ) (e : Entry) : Type 0 where

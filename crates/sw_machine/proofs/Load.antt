@@ -76,11 +76,11 @@ one_there (suc n) t x = ⊎_elim
     (λ ne. let r = one_there n t x in rw (ne_eqb t n ne) (omega arith))
     (cases_eq t n)
 
-sum_le_all : {X : Type 0} (f g : X → ℕ) (xs : List X) → AllByRecursion (λ x. f x ≤ g x) xs → sum_by f xs ≤ sum_by g xs
+pub sum_le_all : {X : Type 0} (f g : X → ℕ) (xs : List X) → AllByRecursion (λ x. f x ≤ g x) xs → sum_by f xs ≤ sum_by g xs
 sum_le_all f g [] h = omega arith
 sum_le_all f g (x ∷ xs) h = let r = sum_le_all f g xs h.1 in let e = h.0 in let a = sum_by-cons f x xs in let b = sum_by-cons g x xs in omega arith
 
-all_map : {X : Type 0} (P Q : X → Type 0) (xs : List X) → ((x : X) → P x → Q x) → AllByRecursion P xs → AllByRecursion Q xs
+pub all_map : {X : Type 0} (P Q : X → Type 0) (xs : List X) → ((x : X) → P x → Q x) → AllByRecursion P xs → AllByRecursion Q xs
 all_map P Q [] f h = tt
 all_map P Q (x ∷ xs) f h = (f x h.0, all_map P Q xs f h.1)
 
@@ -89,10 +89,10 @@ all_append P [] ys a b = b
 all_append P (x ∷ xs) ys a b = (a.0, all_append P xs ys a.1 b)
 
 -- a reply is as short as its node says, and is not answered
-record IsShort (net : Network) (b : Begun) : Type 0 where
-  from : (net.flow b.flow).from < net.nodes
-  cargo : length b.cargo ≤ net.longest (net.flow b.flow).from
-  unanswered : net.reply_to (net.flow b.flow).to (left_bytes net b.flow b.cargo) ≡ None
+pub record IsShort (net : Network) (b : Begun) : Type 0 where
+  pub from : (net.flow b.flow).from < net.nodes
+  pub cargo : length b.cargo ≤ net.longest (net.flow b.flow).from
+  pub unanswered : net.reply_to (net.flow b.flow).to (left_bytes net b.flow b.cargo) ≡ None
 
 module _ (net : Network) where
   -- how many characters a reply of node n to this address has, at most
@@ -144,7 +144,7 @@ module _ (net : Network) where
       let e = sum_le (λ b. total w (λ k. if is_answered_at net n (is_longer n k) b then 1 else 0)) (of_answer n) begun (λ b. answer_layer w n (nat_eq (net.flow b.flow).to n) (net.reply_to n (left_bytes net b.flow b.cargo))) in
       omega arith
 
-  abbrev of_beginning : (Begun → ℕ) → Begun → ℕ
+  abbrev pub of_beginning : (Begun → ℕ) → Begun → ℕ
   of_beginning g b = if nat_lt b.flow net.declared_flows then g b else 0
 
   length_is : (b : Begun) → length_begun net b ≡ length (net.flow b.flow).address + (length b.cargo + 1)
@@ -229,7 +229,7 @@ module _ (net : Network) where
     first_sum g s (Emit n) t begun h b = ap (sum_by (of_beginning g)) b
     first_sum g s (Accept n) t begun h b = ap (sum_by (of_beginning g)) b
 
-    run_sum : (g : Begun → ℕ) (steps : List Step) (s t : State) (begun : List Begun) → RunOf net s steps begun t → sum_by (of_beginning g) begun ≡ sum_by g (beginnings steps)
+    pub run_sum : (g : Begun → ℕ) (steps : List Step) (s t : State) (begun : List Begun) → RunOf net s steps begun t → sum_by (of_beginning g) begun ≡ sum_by g (beginnings steps)
     run_sum g [] s t begun r = ap (sum_by (of_beginning g)) r.0
     run_sum g (step ∷ steps) s t begun r =
         let a = first_sum g s step r.0 r.1 r.3 r.4 in
@@ -240,7 +240,7 @@ module _ (net : Network) where
         omega arith
 
 module _ (net : Network) (cert : Certificate) (ok : IsNetwork net) (acc : IsAccepted net cert) where
-  abbrev Short : Begun → Type 0
+  abbrev pub Short : Begun → Type 0
   Short b = net.declared_flows ≤ b.flow → IsShort net b
 
   none_short : (begun : List Begun) → begun ≡ [] → AllByRecursion Short begun
@@ -276,7 +276,7 @@ module _ (net : Network) (cert : Certificate) (ok : IsNetwork net) (acc : IsAcce
   first_short s g (Emit n) t begun h b inv = none_short begun b
   first_short s g (Accept n) t begun h b inv = none_short begun b
 
-  run_short : (steps : List Step) (s : State) (g : Ghost) (t : State) (begun : List Begun) → RunOf net s steps begun t → Inv net cert s g → AllByRecursion Short begun
+  pub run_short : (steps : List Step) (s : State) (g : Ghost) (t : State) (begun : List Begun) → RunOf net s steps begun t → Inv net cert s g → AllByRecursion Short begun
   run_short [] s g t begun r inv = none_short begun r.0
   run_short (step ∷ steps) s g t begun r inv =
       let k = step_keeps net cert ok acc s g step r.0 r.1 r.3 r.4 inv in

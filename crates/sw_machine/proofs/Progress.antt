@@ -1,5 +1,5 @@
 -- A state in which something is undelivered goes on.
-use Rattle.std.proofs.Common.{Contains, List, [], ap, arith, drop, inl, inr, length, map, refl, slice_index, subst, suc, sym, zero, ℕ, ⊎_elim, ◌++◌, ◌+◌, ◌<◌, ◌∙◌, ◌∷◌, ◌≡◌, ◌≢◌, ◌≤◌, ◌⊎◌}
+use Rattle.std.proofs.Common.{Bool, Contains, List, None, Option, Some, [], ap, arith, drop, false, inl, inr, length, map, refl, slice_index, subst, suc, sym, true, zero, ℕ, ⊎_elim, ◌++◌, ◌+◌, ◌<◌, ◌∙◌, ◌∷◌, ◌≡◌, ◌≢◌, ◌≤◌, ◌⊎◌}
 use Rattle.std.proofs.lemmas.Bool.{cases_eq, cases_lt}
 use Rattle.std.specs.List.{AllByRecursion}
 use Rattle.sw_char.specs.declared.nchar.NChar.{NChar}
@@ -13,6 +13,7 @@ use Rattle.sw_machine.specs.Credit.{HasCredit}
 use Rattle.sw_machine.specs.Network.{AtNode, AtSwitch, Cell, IsNetwork, Network}
 use Rattle.sw_rmap.specs.Owing.{length_pending, PendingReply}
 use Rattle.sw_machine.specs.Packets.{marker_of}
+use Rattle.sw_machine.specs.Places.{AlwaysTakes}
 use Rattle.sw_machine.specs.Runs.{GoesOn, total, undelivered}
 use Rattle.sw_machine.specs.State.{State}
 use Rattle.sw_machine.specs.Steps.{Accept, Arrive, Emit, Fct, FctIn, Forward, Grant, Reply}
@@ -55,7 +56,48 @@ drop_at [] k lt = absurd (omega arith)
 drop_at (x ∷ l) zero lt = (l, refl)
 drop_at (x ∷ l) (suc k) lt = drop_at l k (omega arith)
 
-module _ (net : Network) (cert : Certificate) (s : State) (g : Ghost) (ok : IsNetwork net) (acc : IsAccepted net cert) (num : HasCredit net s) (inv : Inv net cert s g) where
+-- whether a node always takes what comes
+pub always_takes_or : (net : Network) (n : ℕ) → AlwaysTakes net n ⊎ (AlwaysTakes net n → ⊥)
+always_takes_or net n = by (net.limit n) refl
+  where
+    same : (l m : ℕ) → net.limit n ≡ Some l → net.limit n ≡ Some m → l ≡ m
+    same l m here there = let both : Some l ≡ Some m = sym here ∙ there in cc
+
+    each : (k : ℕ) → ((i : ℕ) → i < k → (net.flow i).to ≡ n → net.limited i ≡ true) ⊎ ((i : ℕ) × (i < k) × ((net.flow i).to ≡ n) × (net.limited i ≡ false))
+    each zero = inl (λ i lt to. absurd (omega arith))
+    each (suc k) = ⊎_elim (λ all. last all (net.limited k) refl) (λ other. inr (other.0, omega (arith, other.1), other.2, other.3)) (each k)
+      where
+        last : ((i : ℕ) → i < k → (net.flow i).to ≡ n → net.limited i ≡ true) → (t : Bool) → net.limited k ≡ t → ((i : ℕ) → i < suc k → (net.flow i).to ≡ n → net.limited i ≡ true) ⊎ ((i : ℕ) × (i < suc k) × ((net.flow i).to ≡ n) × (net.limited i ≡ false))
+        last all true is = inl (λ i lt to. ⊎_elim (λ e. ap net.limited e ∙ is) (λ ne. all i (omega arith) to) (cases_eq i k))
+        last all false is = ⊎_elim
+            (λ to. inr (k, omega arith, to, is))
+            (λ away. inl (λ i lt to. ⊎_elim (λ e. absurd (away (ap (λ j. (net.flow j).to) (sym e) ∙ to))) (λ ne. all i (omega arith) to) (cases_eq i k)))
+            (cases_eq (net.flow k).to n)
+
+    by : (o : Option ℕ) → net.limit n ≡ o → AlwaysTakes net n ⊎ (AlwaysTakes net n → ⊥)
+    by None is = inr (λ a. let none : None ≡ Some a.limit = sym is ∙ a.is in cc)
+    by (Some l) is = ⊎_elim
+        (λ less. inl (record { limit = l; is = is; few = inl less }))
+        (λ more. ⊎_elim
+        (λ equal. ⊎_elim
+        (λ all. inl (record { limit = l; is = is; few = inr (equal, all) }))
+        (λ other. inr (λ a. ⊎_elim
+        (λ less. let e = same l a.limit is a.is in omega arith)
+        (λ equal. let limited : net.limited other.0 ≡ true = equal.1 other.0 other.1 other.2 in let not : net.limited other.0 ≡ false = other.3 in cc)
+        a.few))
+        (each net.flows))
+        (λ differ. inr (λ a. ⊎_elim
+        (λ less. let e = same l a.limit is a.is in omega arith)
+        (λ equal. let e = same l a.limit is a.is in differ (e ∙ equal.0))
+        a.few))
+        (cases_eq l (net.slots n)))
+        (cases_lt l (net.slots n))
+
+-- each node that always takes has a slot left for what stands in its buffer
+abbrev pub HaveSlots : Network → State → Type 0
+HaveSlots net s = (n : ℕ) → n < net.nodes → AlwaysTakes net n → (x : NChar) (r : List NChar) → s.buffer (net.into n) ≡ x ∷ r → s.owed n < net.slots n
+
+module _ (net : Network) (cert : Certificate) (s : State) (g : Ghost) (ok : IsNetwork net) (acc : IsAccepted net cert) (num : HasCredit net s) (inv : Inv net cert s g) (have : HaveSlots net s) where
   arrive_or : (c : ℕ) → c < net.channels → (w : List NChar) → s.wire c ≡ w → GoesOn net s ⊎ (s.wire c ≡ [])
   arrive_or c lt [] e = inr e
   arrive_or c lt (x ∷ r) e = inl (record { step = Arrive c; no_begin = refl; possible = (_, record { in_net = lt; first = x; rest = r; on_wire = e; after = refl }) })
@@ -198,20 +240,26 @@ module _ (net : Network) (cert : Certificate) (s : State) (g : Ghost) (ok : IsNe
       by_input switch at x r e (Held d) ei on = let h = holds c d lt ei in let up = h.rising in on d h.in_net (omega arith) (IsHeld c lt ei)
       by_input switch at x r e Spilling ei on = absurd (subst (InputIs net cert g.rest g.coming c) ei (inv.inputs c lt))
 
-      answers : (n : ℕ) → n < net.nodes → net.into n ≡ c → 0 < s.owed n → (p : List PendingReply) → s.pending n ≡ p → (l : List NChar) → s.to_send n ≡ l → ((d : ℕ) → d < net.channels → top < number cert d + m → Busy d → GoesOn net s) → GoesOn net s
-      answers n ln into busied (r0 ∷ others) ep l el on =
-          let up = asked_rises net cert acc n ((inv.nodes n ln).asked busied) in
+      answers : (n : ℕ) → n < net.nodes → net.into n ≡ c → 0 < s.owed n → (AlwaysTakes net n → ⊥) → (p : List PendingReply) → s.pending n ≡ p → (l : List NChar) → s.to_send n ≡ l → ((d : ℕ) → d < net.channels → top < number cert d + m → Busy d → GoesOn net s) → GoesOn net s
+      answers n ln into busied waits (r0 ∷ others) ep l el on =
+          let up = asked_rises net cert acc n ((inv.nodes n ln).asked busied) waits in
           let same = ap (number cert) into in
           on (net.out n) (ok.out_starts n ln).0 (omega arith) (Replies n ln refl r0 others ep)
-      answers n ln into busied [] ep [] el on = absurd ((inv.nodes n ln).busy busied ep el)
-      answers n ln into busied [] ep (x ∷ r) el on =
-          let up = asked_rises net cert acc n ((inv.nodes n ln).asked busied) in
+      answers n ln into busied waits [] ep [] el on = absurd ((inv.nodes n ln).busy busied ep el)
+      answers n ln into busied waits [] ep (x ∷ r) el on =
+          let up = asked_rises net cert acc n ((inv.nodes n ln).asked busied) waits in
           let same = ap (number cert) into in
           on (net.out n) (ok.out_starts n ln).0 (omega arith) (Sends n ln refl x r el)
 
+      accepts : (n : ℕ) → n < net.nodes → net.into n ≡ c → (x : NChar) (r : List NChar) → s.buffer c ≡ x ∷ r → s.owed n < net.slots n → GoesOn net s
+      accepts n ln into x r e less = let k = cut_of (s.taken n) in record { step = Accept n; no_begin = refl; possible = (_, record { in_net = ln; owes_less = less; first = x; rest = r; front = ap s.buffer into ∙ e; packets = k.0; bytes = k.1; cut = k.2; after = refl }) }
+
       takes : (n : ℕ) → n < net.nodes → net.into n ≡ c → (x : NChar) (r : List NChar) → s.buffer c ≡ x ∷ r → (0 < s.owed n) ⊎ (s.owed n ≡ 0) → ((d : ℕ) → d < net.channels → top < number cert d + m → Busy d → GoesOn net s) → GoesOn net s
-      takes n ln into x r e (inr ea) on = let slot = ok.slot n ln in let k = cut_of (s.taken n) in record { step = Accept n; no_begin = refl; possible = (_, record { in_net = ln; owes_less = omega arith; first = x; rest = r; front = ap s.buffer into ∙ e; packets = k.0; bytes = k.1; cut = k.2; after = refl }) }
-      takes n ln into x r e (inl ea) on = answers n ln into ea (s.pending n) refl (s.to_send n) refl on
+      takes n ln into x r e (inr ea) on = let slot = ok.slot n ln in accepts n ln into x r e (omega arith)
+      takes n ln into x r e (inl ea) on = ⊎_elim
+          (λ always. accepts n ln into x r e (have n ln always x r (ap s.buffer into ∙ e)))
+          (λ waits. answers n ln into ea waits (s.pending n) refl (s.to_send n) refl on)
+          (always_takes_or net n)
 
       by_end : (p : Cell) → net.end_of c ≡ p → (x : NChar) (r : List NChar) → s.buffer c ≡ x ∷ r → ((d : ℕ) → d < net.channels → top < number cert d + m → Busy d → GoesOn net s) → GoesOn net s
       by_end (AtNode n) at x r e on = let ends = ok.ends_at_node c n lt at in takes n ends.0 ends.1 x r e (owes_or n) on

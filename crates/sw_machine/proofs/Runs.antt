@@ -12,14 +12,13 @@ use Rattle.sw_machine.proofs.Faults.{at_switch}
 use Rattle.sw_machine.proofs.Ghost.{Entry, Fed, Ghost, Holds, InputIs, Inv, IsEntry, Waits, accept_ghost, emit_ghost, flat, form_of, forward_ghost, grant_ghost, open_ghost, passed_on, send_ghost}
 use Rattle.sw_machine.proofs.Lists.{drop_byte, next_of, put_here, whole_cons, whole_form}
 use Rattle.sw_machine.proofs.Moves.{accept_keeps, arrive_keeps, begin_keeps, emit_keeps, fct_in_keeps, fct_keeps, forward_keeps, grant_keeps, grants_on, heads, idle_rest, open_keeps, reply_keeps}
-use Rattle.sw_machine.proofs.Progress.{goes_on}
+use Rattle.sw_machine.proofs.Progress.{HaveSlots, goes_on}
 use Rattle.sw_machine.specs.Begun.{Begins, Begun, RunOf}
 use Rattle.sw_machine.specs.Certificate.{Certificate, IsAccepted, IsListed}
-use Rattle.sw_machine.specs.DeadlockFreedom.{AlwaysGoesOn}
 use Rattle.sw_machine.specs.Network.{AnsweredBy, AtNode, AtSwitch, Cell, IsNetwork, Network, left_bytes}
 use Rattle.sw_rmap.specs.Owing.{PendingReply, reply_packet}
 use Rattle.sw_machine.specs.Packets.{IsCut, Packet, is_marker, marker_of}
-use Rattle.sw_machine.specs.Runs.{IsReached, Run}
+use Rattle.sw_machine.specs.Runs.{GoesOn, IsReached, Run, undelivered}
 use Rattle.sw_machine.specs.State.{State, after_accept, after_arrive, after_begin, after_emit, after_fct, after_fct_in, after_forward, after_grant, after_reply, empty}
 use Rattle.sw_machine.specs.Steps.{Accept, Arrive, Begin, Drop, Drops, Emit, Fct, FctIn, Forward, Grant, Leads, Reply, Spill, Step}
 use Rattle.sw_machine.specs.declared.input.InputState.TheVariants.{Idle}
@@ -120,7 +119,7 @@ module _ (net : Network) (cert : Certificate) (ok : IsNetwork net) (acc : IsAcce
       let lf : f < net.flows = (let a = h.declared.declared in let b = ok.flows_declared in omega arith) in
       let ln = (ok.flow_ends f lf).0 in
       keep g begun t (after_begin s n (form_of net e)) (send_ghost net g n e) h.after
-      (begin_keeps net cert ok acc s g n e ln h.sends_nothing (record { carried = record { in_flows = lf; answered = h.declared.answered }; listed = acc.starts f lf }) inv)
+      (begin_keeps net cert ok acc s g n e ln h.sends_nothing (record { carried = record { in_flows = lf; answered = h.declared.answered; command = h.declared.command }; listed = acc.starts f lf }) inv)
       (send_balance net g n e begun (ok.out_starts n ln).0 b)
   step_keeps s g (Emit n) t begun h b inv = keep g begun t (after_emit net s n h.first h.rest h.remaining) (emit_ghost net g n h.rest) h.after (emit_keeps net cert ok acc s g n h.first h.rest h.remaining h.in_net h.sending inv) (record { adds = (same_balance net g begun b).adds })
   step_keeps s g (Accept n) t begun h b inv = accept s g n t begun b h.in_net h.packets h.bytes h.first h.rest h.cut h.front h.after inv (g.rest (net.into n)) refl (g.queue (net.into n)) refl
@@ -140,7 +139,7 @@ module _ (net : Network) (cert : Certificate) (ok : IsNetwork net) (acc : IsAcce
       let is : reply_packet h.reply ≡ form_of net e = reply_is net h.reply p.flow p.cargo p.end goes cargo r.end in
       keep g begun t (after_reply s n h.reply h.others) (send_ghost net g n e) h.after
       (reply_keeps net cert ok acc s g n e h.reply h.others h.waits is h.in_net h.sends_nothing
-      (record { carried = record { in_flows = flow.in_flows; answered = subst (AnsweredBy net j) (sym end2) tt }; listed = subst (λ k. IsListed cert j (net.out k) 0) (flow.from ∙ r.at) (acc.starts j flow.in_flows) }) inv)
+      (record { carried = record { in_flows = flow.in_flows; answered = subst (AnsweredBy net j) (sym end2) tt; command = λ limited. let low = ok.limited_flow j limited in let high = flow.after_declared in absurd (omega arith) }; listed = subst (λ k. IsListed cert j (net.out k) 0) (flow.from ∙ r.at) (acc.starts j flow.in_flows) }) inv)
       (send_balance net g n e begun (ok.out_starts n h.in_net).0 b.2)
 
   run_keeps : (steps : List Step) (s : State) (g : Ghost) (t : State) → Run net s steps t → Inv net cert s g → (g2 : Ghost) × Inv net cert t g2
@@ -195,8 +194,9 @@ module _ (net : Network) (cert : Certificate) (ok : IsNetwork net) (acc : IsAcce
   pub reached_inv : (s : State) → IsReached net s → (g : Ghost) × Inv net cert s g
   reached_inv s r = run_keeps r.0 (empty net) none s r.1 empty_inv
 
-  pub always_goes_on : AlwaysGoesOn net
-  always_goes_on s r some = let k = reached_inv s r in goes_on net cert s k.0 ok acc (reached_numbers net ok s r) k.1 some
+  -- it goes on where each node that always takes has a slot for what comes
+  pub goes_on_where : (s : State) → IsReached net s → HaveSlots net s → 0 < undelivered net s → GoesOn net s
+  goes_on_where s r have some = let k = reached_inv s r in goes_on net cert s k.0 ok acc (reached_numbers net ok s r) k.1 have some
 
   pub reached_of : (steps : List Step) (s : State) (begun : List Begun) → RunOf net (empty net) steps begun s → (g : Ghost) × Inv net cert s g × ((test : Begun → Bool) → all_of net test g ≡ count_by test begun)
   reached_of steps s begun r =

@@ -135,6 +135,7 @@ of_capacity_is_network capacity enough = record {
   flow_ends = both_of (λ i. ((flow i).from < 2) × ((flow i).to < 2)) (omega arith, omega arith) (omega arith, omega arith);
   reply_flow = reply_flows capacity;
   no_flow = no_flows;
+  limited_flow = λ i is. absurd cc;
   slot = slot;
   reply_goes = replies_go;
   reply_length = reply_lengths;
@@ -154,6 +155,7 @@ misrouted_is_network = record {
   flow_ends = λ i lt. (omega arith, omega arith);
   reply_flow = λ i j lt e. absurd (cc);
   no_flow = λ i le. refl;
+  limited_flow = λ i is. absurd cc;
   slot = slot;
   reply_goes = replies_go;
   reply_length = reply_lengths;
@@ -223,5 +225,5 @@ sample_is_accepted = record {
       (faultless_switch 1 7 0 1 refl (omega arith) (no_cons 5 []), (faultless_switch 1 5 1 0 refl (omega arith) (no_cons 1 []), (faultless_node 1 1 2 0 refl refl refl, tt)));
   closed = λ i c k d m lt listed f. (all_go i c k lt listed d m f).0;
   rising = λ i c k d m lt listed f. (all_go i c k lt listed d m f).1;
-  targets = target_rises;
+  targets = λ i j lt reply waits. target_rises i j lt reply;
 }

@@ -3,7 +3,7 @@ use Rattle.std.proofs.Common.{Bool, Contains, List, None, Option, Some, [], ap, 
 use Rattle.std.proofs.lemmas.Bool.{cases_eq, le-leb, leb-true, and_parts}
 use Rattle.std.proofs.lemmas.Slice.Eq.{bytes_eq-Decides}
 use Rattle.std.specs.List.{list_any}
-use Rattle.std.specs.Prelude.{if◌then◌else◌, not, option_and_then, ◌&&◌, ◌||◌}
+use Rattle.std.specs.Prelude.{if◌then◌else◌, is_some, not, option_and_then, ◌&&◌, ◌||◌}
 use Rattle.sw_char.specs.declared.nchar.End.{End}
 use Rattle.sw_char.specs.declared.nchar.End.TheVariants.{Eep as ByEep, Eop as ByEop}
 use Rattle.sw_char.specs.declared.nchar.NChar.{NChar}
@@ -15,7 +15,7 @@ use Rattle.sw_machine.specs.Packets.{IsCut, Packet, chars, marker_of}
 use Rattle.sw_machine.specs.Runs.{Run}
 use Rattle.sw_machine.specs.State.{State, after_accept, after_arrive, after_begin, after_drop_byte, after_drop_marker, after_emit, after_fct, after_fct_in, after_forward, after_grant, after_reply, after_spill}
 use Rattle.sw_machine.specs.Steps.{Accept, Arrive, Begin, Drop, Drops, Emit, Fct, FctIn, Forward, Grant, Leads, Reply, Spill, Step}
-use Rattle.sw_machine.specs.Tried.{holds, is_answered_by, is_held, try_accept, try_arrive, try_begin, try_credit, try_drop, try_drop_byte, try_emit, try_fct_in, try_forward, try_grant, try_reply, try_spill, try_step, try_steps, under_way}
+use Rattle.sw_machine.specs.Tried.{holds, is_answered_by, is_command_if_limited, is_held, try_accept, try_arrive, try_begin, try_credit, try_drop, try_drop_byte, try_emit, try_fct_in, try_forward, try_grant, try_reply, try_spill, try_step, try_steps, under_way}
 use Rattle.sw_machine.specs.declared.input.InputState.{InputState}
 use Rattle.sw_machine.specs.declared.input.InputState.TheVariants.{Held, Idle, Spilling}
 
@@ -123,12 +123,25 @@ module _ (net : Network) (s : State) where
   answered_by i (Some j) (Some address) is e = (j, is, (bytes_eq-Decides (net.flow j).address address).0 e)
   answered_by i None (Some address) is e = absurd (cc)
 
+  limited_is : (i : ℕ) (address : Option (List ℕ)) → is_command_if_limited net s i address ≡ true → net.limited i ≡ true → is_some address ≡ true
+  limited_is i (Some address) e is = refl
+  limited_is i None e is = let no : false ≡ true = sym (ap (λ t. not t || false) is) ∙ e in absurd (cc)
+
+  is_limited_so : (i : ℕ) (address : Option (List ℕ)) → (net.limited i ≡ true → is_some address ≡ true) → is_command_if_limited net s i address ≡ true
+  is_limited_so i address so = by (net.limited i) refl
+    where
+      by : (t : Bool) → net.limited i ≡ t → not t || is_some address ≡ true
+      by false is = refl
+      by true is = so is
+
   begun : (f : ℕ) (cargo : List ℕ) (end : End) (l : List NChar) (p : List PendingReply) (t : State) → s.to_send (net.flow f).from ≡ l → s.pending (net.flow f).from ≡ p → try_begin net s f cargo end l p ≡ Some t → Leads net s (Begin f cargo end) t
   begun f cargo end [] [] t nothing none e =
       let x = nat_lt f net.declared_flows && (nat_lt 0 (length cargo) && nat_le (length cargo) 33554432) in
       let y = is_answered_by net s f (net.flow f).reply (net.reply_to (net.flow f).to (left_bytes net f cargo)) in
-      let g = fits (x && y) (after_begin s (net.flow f).from (form net f 0 cargo end)) t e in
-      let a = and_parts x y g.0 in
+      let z = is_command_if_limited net s f (net.reply_to (net.flow f).to (left_bytes net f cargo)) in
+      let g = fits (x && (y && z)) (after_begin s (net.flow f).from (form net f 0 cargo end)) t e in
+      let a = and_parts x (y && z) g.0 in
+      let yz = and_parts y z a.1 in
       let b = and_parts (nat_lt f net.declared_flows) (nat_lt 0 (length cargo) && nat_le (length cargo) 33554432) a.0 in
       let c = and_parts (nat_lt 0 (length cargo)) (nat_le (length cargo) 33554432) b.1 in
       record {
@@ -136,7 +149,8 @@ module _ (net : Network) (s : State) where
           declared = ltb-true f net.declared_flows b.0;
           some_cargo = ltb-true 0 (length cargo) c.0;
           within = leb-true (length cargo) 33554432 c.1;
-          answered = answered_by f (net.flow f).reply (net.reply_to (net.flow f).to (left_bytes net f cargo)) refl a.1;
+          answered = answered_by f (net.flow f).reply (net.reply_to (net.flow f).to (left_bytes net f cargo)) refl yz.0;
+          command = limited_is f (net.reply_to (net.flow f).to (left_bytes net f cargo)) yz.1;
         };
         sends_nothing = nothing;
         none_pending = none;
@@ -209,7 +223,7 @@ module _ (net : Network) (s : State) where
   tries (Begin f cargo end) t h =
       let d = h.declared in
       ap (λ l. try_begin net s f cargo end l (s.pending (net.flow f).from)) h.sends_nothing ∙ ap (try_begin net s f cargo end []) h.none_pending
-      ∙ rw (lt-ltb f net.declared_flows d.declared, lt-ltb 0 (length cargo) d.some_cargo, le-leb (length cargo) 33554432 d.within, answers f (net.flow f).reply (net.reply_to (net.flow f).to (left_bytes net f cargo)) refl d.answered) (ap Some (sym h.after))
+      ∙ rw (lt-ltb f net.declared_flows d.declared, lt-ltb 0 (length cargo) d.some_cargo, le-leb (length cargo) 33554432 d.within, answers f (net.flow f).reply (net.reply_to (net.flow f).to (left_bytes net f cargo)) refl d.answered, is_limited_so f (net.reply_to (net.flow f).to (left_bytes net f cargo)) d.command) (ap Some (sym h.after))
   tries (Emit n) t h = ap (λ l. try_emit net s n l (s.credit (net.out n))) h.sending ∙ ap (try_emit net s n (h.first ∷ h.rest)) h.credit ∙ rw (lt-ltb n net.nodes h.in_net) (ap Some (sym h.after))
   tries (Accept n) t h =
       ap (λ l. try_accept net s n l (under_way [] (s.taken n))) h.front ∙ ap (try_accept net s n (h.first ∷ h.rest)) (under_way_is (s.taken n) h.packets h.bytes h.cut)

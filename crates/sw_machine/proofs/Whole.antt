@@ -93,7 +93,7 @@ no_flat net (x ∷ es) e = absurd (no_packet_in (packet_of net x) (flat net es) 
 
 module _ (net : Network) (cert : Certificate) (ok : IsNetwork net) (acc : IsAccepted net cert) where
   -- what came to n went to n, with its left form
-  is_left : (n : ℕ) (e : Entry) → n < net.nodes → IsEntry net cert (net.into n) e → ((net.flow e.flow).to ≡ n) × (packet_of net e ≡ left_form net (begun_of e))
+  pub is_left : (n : ℕ) (e : Entry) → n < net.nodes → IsEntry net cert (net.into n) e → ((net.flow e.flow).to ≡ n) × (packet_of net e ≡ left_form net (begun_of e))
   is_left n e ln valid =
       let i = e.flow in
       let place = at_node net cert acc i (net.into n) e.deleted n valid.carried.in_flows valid.listed (ok.into_ends n ln).1 in

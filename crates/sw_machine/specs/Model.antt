@@ -1,5 +1,5 @@
 -- The machine's network of a network that a file declares.
-use Rattle.std.specs.Prelude.{ℕ, ◌+◌, List, [], length, slice_get, slice_index, Option, Some, None, option_and_then, option_map, unwrap_or}
+use Rattle.std.specs.Prelude.{ℕ, ◌+◌, List, [], false, length, slice_get, slice_index, Option, Some, None, option_and_then, option_map, unwrap_or}
 use Rattle.sw_flow.specs.PlaceEnd.{PlaceEnd}
 use Rattle.sw_flow.specs.PlaceEnd.TheVariants.{Node, Switch}
 use Rattle.sw_flow.specs.Wiring.{out, partner}
@@ -49,6 +49,8 @@ network_of d = record {
   reply_to = λ n bytes. answered_to (target_of d.nodes n) bytes;
   answer = λ n memory bytes end. answer_of (target_of d.nodes n) memory bytes end;
   slots = λ n. slots_of (target_of d.nodes n);
+  limited = λ i. false;
+  limit = λ n. None;
   memory_after = λ n memory bytes end. memory_after (target_of d.nodes n) memory bytes end;
   longest = λ n. longest_reply (target_of d.nodes n);
   memory_at_first = λ n. memory_at_first (target_of d.nodes n);

@@ -1,6 +1,6 @@
 -- A network as its machine sees it: channels, switches, nodes and flows, by their numbers.
 use Rattle.std.specs.Option.{option_map}
-use Rattle.std.specs.Prelude.{Bool, Contains, List, None, Option, Some, [], drop, if◌then◌else◌, length, map, nat_eq, ℕ, ◌%◌, ◌++◌, ◌+◌, ◌-◌, ◌<◌, ◌∷◌, ◌≡◌, ◌≤◌}
+use Rattle.std.specs.Prelude.{Bool, Contains, List, None, Option, Some, [], drop, if◌then◌else◌, is_some, length, map, nat_eq, true, ℕ, ◌%◌, ◌++◌, ◌+◌, ◌-◌, ◌<◌, ◌∷◌, ◌≡◌, ◌≤◌}
 use Rattle.sw_char.specs.declared.nchar.End.{End}
 use Rattle.sw_char.specs.declared.nchar.NChar.{NChar}
 use Rattle.sw_char.specs.declared.nchar.NChar.TheVariants.{Data}
@@ -43,6 +43,8 @@ pub record Network : Type 0 where
   pub answer : ℕ → List ℕ → List ℕ → End → Option PendingReply  -- at a node with this memory, the reply to a packet
   pub longest : ℕ → ℕ  -- how many bytes a reply of a node has behind its address, at most
   pub slots : ℕ → ℕ  -- how many replies a node may owe
+  pub limited : ℕ → Bool  -- whether each packet of a flow is a command that is answered, and how many of them may be unanswered is limited
+  pub limit : ℕ → Option ℕ  -- how many commands may be unanswered at a node, if each flow of them is limited
   pub memory_after : ℕ → List ℕ → List ℕ → End → List ℕ  -- at a node with this memory, the memory after a packet
   pub memory_at_first : ℕ → List ℕ
 
@@ -69,6 +71,7 @@ pub record IsDeclared (net : Network) (i : ℕ) (cargo : List ℕ) : Type 0 wher
   pub some_cargo : 0 < length cargo
   pub within : length cargo ≤ 33554432
   pub answered : AnsweredBy net i (net.reply_to (net.flow i).to (left_bytes net i cargo))
+  pub command : net.limited i ≡ true → is_some (net.reply_to (net.flow i).to (left_bytes net i cargo)) ≡ true
 
 -- flow j is that of the replies to flow i: it goes back, with the initiator logical address left, and is not answered
 pub record IsReplyFlow (net : Network) (i j : ℕ) : Type 0 where
@@ -92,6 +95,8 @@ pub record IsNetwork (net : Network) : Type 0 where
   pub flow_ends : (i : ℕ) → i < net.flows → ((net.flow i).from < net.nodes) × ((net.flow i).to < net.nodes)
   pub reply_flow : (i j : ℕ) → i < net.flows → (net.flow i).reply ≡ Some j → IsReplyFlow net i j
   pub no_flow : (i : ℕ) → net.flows ≤ i → (net.flow i).reply ≡ None
+  -- a flow of replies is never limited
+  pub limited_flow : (i : ℕ) → net.limited i ≡ true → i < net.declared_flows
   pub slot : (n : ℕ) → n < net.nodes → 0 < net.slots n
   -- whether a reply comes, and where it goes, hangs on neither memory nor end marker (ECSS-E-ST-50-52C: reply address field)
   pub reply_goes : (n : ℕ) (memory bytes : List ℕ) (end : End) → n < net.nodes → option_map (λ (r : PendingReply). r.address) (net.answer n memory bytes end) ≡ net.reply_to n bytes

@@ -1,6 +1,6 @@
 -- The places of a flow, their faults, the dependencies between channels, and numbers that rise along them
--- (Dally and Seitz 1987; groups and targets that answer are this project's choice).
-use Rattle.std.specs.Prelude.{Contains, List, Some, [], if◌then◌else◌, length, slice_index, ℕ, ◌+◌, ◌-◌, ◌<◌, ◌∷◌, ◌≡◌, ◌≢◌}
+-- (Dally and Seitz 1987; groups, targets that answer and limits on unanswered commands are this project's choice).
+use Rattle.std.specs.Prelude.{Contains, List, Some, [], if◌then◌else◌, length, slice_index, true, ℕ, ◌+◌, ◌-◌, ◌<◌, ◌∷◌, ◌≡◌, ◌≢◌, ◌⊎◌}
 use Rattle.sw_machine.specs.Network.{AtNode, AtSwitch, Network}
 
 -- the leading byte of a packet of flow i with k address bytes deleted
@@ -59,10 +59,21 @@ pub record NoFault (net : Network) (i c k : ℕ) : Type 0 where
 abbrev pub IsWellRouted : Network → ℕ → Type 0
 IsWellRouted net i = (c k : ℕ) → IsPlace net i c k → NoFault net i c k
 
--- a packet that is on c may wait for d: a flow goes on from c to d, or c leads to a target that answers on d
+-- each flow that ends at node n is limited
+abbrev pub AllAreLimited : Network → ℕ → Type 0
+AllAreLimited net n = (i : ℕ) → i < net.flows → (net.flow i).to ≡ n → net.limited i ≡ true
+
+-- Node n takes what comes, whatever it owes: fewer commands may be unanswered there than it may owe replies, or as many, where nothing else
+-- ends there (a command that waits is unanswered itself, and its reply not yet owed).
+pub record AlwaysTakes (net : Network) (n : ℕ) : Type 0 where
+  pub limit : ℕ
+  pub is : net.limit n ≡ Some limit
+  pub few : (limit < net.slots n) ⊎ ((limit ≡ net.slots n) × AllAreLimited net n)
+
+-- a packet that is on c may wait for d: a flow goes on from c to d, or c leads to a target that answers on d and doesn't always take
 pub data IsDependency (net : Network) : ℕ → ℕ → Type 0 where
   ByFlow : (i c k d m : ℕ) → i < net.flows → IsPlace net i c k → Follows net i c k d m → IsDependency net c d
-  ByTarget : (i j : ℕ) → i < net.flows → (net.flow i).reply ≡ Some j → IsDependency net (net.into (net.flow i).to) (net.out (net.flow i).to)
+  ByTarget : (i j : ℕ) → i < net.flows → (net.flow i).reply ≡ Some j → (AlwaysTakes net (net.flow i).to → ⊥) → IsDependency net (net.into (net.flow i).to) (net.out (net.flow i).to)
 
 abbrev pub IsRising : Network → (ℕ → ℕ) → Type 0
 IsRising net number = (c d : ℕ) → IsDependency net c d → number c < number d

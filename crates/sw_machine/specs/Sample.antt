@@ -1,6 +1,6 @@
 -- A small network: node 0 and target 1, each at a switch of its own, and two links between the switches. Logical address 40 leads from node 0
 -- to target 1, over either of the two links, and is kept; the replies go back by path addresses. The target answers each command by its byte.
-use Rattle.std.specs.Prelude.{List, None, Option, Some, [], if◌then◌else◌, nat_eq, nat_lt, slice_get, suc, unwrap_or, zero, ℕ, ◌∷◌}
+use Rattle.std.specs.Prelude.{List, None, Option, Some, [], false, if◌then◌else◌, nat_eq, nat_lt, slice_get, suc, unwrap_or, zero, ℕ, ◌∷◌}
 use Rattle.sw_char.specs.declared.nchar.End.{End}
 use Rattle.sw_machine.specs.Certificate.{Certificate}
 use Rattle.sw_machine.specs.Network.{AtNode, AtSwitch, Cell, Flow, Network, Place}
@@ -71,6 +71,8 @@ of_capacity capacity = record {
   answer = answer;
   longest = λ n. 1;
   slots = λ n. if nat_eq n 0 then 1 else 2;
+  limited = λ i. false;
+  limit = λ n. None;
   memory_after = memory_after;
   memory_at_first = λ n. 0 ∷ [];
 }

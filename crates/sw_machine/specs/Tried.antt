@@ -1,7 +1,7 @@
 -- The machine as a function: the state after a step, if the step is possible.
 use Rattle.std.specs.List.{list_any}
 use Rattle.std.specs.Option.{option_and_then}
-use Rattle.std.specs.Prelude.{Bool, List, None, Option, Some, [], false, if◌then◌else◌, length, nat_eq, nat_le, nat_lt, not, suc, true, zero, ℕ, ◌&&◌, ◌++◌, ◌+◌, ◌||◌, ◌↔◌, ◌∷◌, ◌≡◌}
+use Rattle.std.specs.Prelude.{Bool, List, None, Option, Some, [], false, if◌then◌else◌, is_some, length, nat_eq, nat_le, nat_lt, not, suc, true, zero, ℕ, ◌&&◌, ◌++◌, ◌+◌, ◌||◌, ◌↔◌, ◌∷◌, ◌≡◌}
 use Rattle.std.specs.Str.{bytes_eq}
 use Rattle.sw_char.specs.declared.nchar.End.{End}
 use Rattle.sw_char.specs.declared.nchar.NChar.{NChar}
@@ -70,8 +70,12 @@ module _ (net : Network) (s : State) where
   is_answered_by i (Some j) (Some address) = bytes_eq (net.flow j).address address
   is_answered_by i None (Some address) = false
 
+  -- a packet of a limited flow is a command that is answered
+  abbrev pub is_command_if_limited : ℕ → Option (List ℕ) → Bool
+  is_command_if_limited i address = not (net.limited i) || is_some address
+
   abbrev pub try_begin : ℕ → List ℕ → End → List NChar → List PendingReply → Option State
-  try_begin f cargo end [] [] = if (nat_lt f net.declared_flows && (nat_lt 0 (length cargo) && nat_le (length cargo) 33554432)) && is_answered_by f (net.flow f).reply (net.reply_to (net.flow f).to (left_bytes net f cargo)) then Some (after_begin s (net.flow f).from (form net f 0 cargo end)) else None
+  try_begin f cargo end [] [] = if (nat_lt f net.declared_flows && (nat_lt 0 (length cargo) && nat_le (length cargo) 33554432)) && (is_answered_by f (net.flow f).reply (net.reply_to (net.flow f).to (left_bytes net f cargo)) && is_command_if_limited f (net.reply_to (net.flow f).to (left_bytes net f cargo))) then Some (after_begin s (net.flow f).from (form net f 0 cargo end)) else None
   try_begin f cargo end l p = None
 
   abbrev pub try_emit : ℕ → List NChar → ℕ → Option State

@@ -7,13 +7,15 @@ ghost use Rattle.sw_machine.specs.Memory.{MemoryIsOfPackets};
 ghost use Rattle.sw_machine.specs.Network.{IsNetwork};
 ghost use Rattle.sw_machine.specs.Sample.{certificate, misrouted, of_capacity, sample};
 ghost use Rattle.sw_machine.specs.Witnesses.{IsAnswered, IsDiscarded, IsDropped, SendsFcts};
-ghost use Rattle.std.specs.Prelude.{◌≤◌, ℕ};
+ghost use Rattle.std.specs.Prelude.{◌<◌, ◌≤◌, ◌∷◌, [], None, Option, Some, ℕ};
 ghost use Rattle.sw_machine.specs.Begun.{AllComesOut, AllIsAnswered, ComesOutWhole, EachRunIsCounted, IsBounded, IsBoundedByLoad, RepliesAreAsked};
-ghost use Rattle.sw_machine.specs.DeadlockFreedom.{AcceptedIsDeadlockFree, AlwaysGoesOn, EndsEmpty, IsNeverLockedUp, NothingIsDropped, OfAccepted, QuietIsEmpty};
+ghost use Rattle.sw_machine.specs.DeadlockFreedom.{AcceptedIsDeadlockFree, AcceptedIsDeadlockFreeWithinLimits, AlwaysGoesOn, AlwaysGoesOnWithinLimits, EndsEmpty, EndsEmptyWithinLimits, IsNeverLockedUp, IsNeverLockedUpWithinLimits, NothingIsDropped, OfAccepted, OfAcceptedWithoutLimits, QuietIsEmpty, QuietIsEmptyWithinLimits};
+ghost use Rattle.sw_machine.specs.LimitSamples.{LocksUp, detour, detour_certificate, detour_steps, duel, duel_certificate, duel_steps};
+ghost use Rattle.sw_machine.specs.Limits.{OnlyBeginningsRaise, WithoutLimitsAllAreKept};
 ghost use Rattle.sw_machine.specs.OneSlot.{OneSlotIsOneReply};
 ghost use Rattle.sw_machine.specs.Owed.{EmitSettles, NodesOweReplies, OnlyAskedOwe};
 ghost use Rattle.sw_machine.specs.Parts.{LinkEndsAreAtCells, OutputsAreHeldOnce, StepsAreLocal, StepsChangeOneCell};
-ghost use Rattle.sw_machine.specs.Places.{RisingHasNoCycle};
+ghost use Rattle.sw_machine.specs.Places.{IsCycle, RisingHasNoCycle};
 ghost use Rattle.sw_machine.specs.Steps.{StepsAreDetermined};
 ghost use Rattle.sw_machine.specs.Tried.{StepsAreTried};
 
@@ -67,12 +69,23 @@ pub fn rising_has_no_cycle()
     ensures { RisingHasNoCycle }
 {}
 
-/// No reached state of an accepted network is locked up: one that holds an undelivered character has
-/// a possible step other than a beginning, and in a quiet one nothing is undelivered.
+/// No state that an accepted network reaches by a run that keeps the limits on unanswered commands is locked
+/// up: one that holds an undelivered character has a possible step other than a beginning, and in a quiet one
+/// nothing is undelivered. Where no node has a limit that is so of each reached state.
 pub fn accepted_is_never_locked_up()
-    ensures goes_on { OfAccepted AlwaysGoesOn }
-    ensures never { OfAccepted IsNeverLockedUp }
-    ensures quiet { OfAccepted QuietIsEmpty }
+    ensures goes_on_within_limits { OfAccepted AlwaysGoesOnWithinLimits }
+    ensures never_within_limits { OfAccepted IsNeverLockedUpWithinLimits }
+    ensures quiet_within_limits { OfAccepted QuietIsEmptyWithinLimits }
+    ensures goes_on { OfAcceptedWithoutLimits AlwaysGoesOn }
+    ensures never { OfAcceptedWithoutLimits IsNeverLockedUp }
+    ensures quiet { OfAcceptedWithoutLimits QuietIsEmpty }
+{}
+
+/// Where no node has a limit on unanswered commands each run keeps the limits. In an accepted network only the
+/// beginning of a packet raises what is unanswered at a node.
+pub fn limits_are_kept()
+    ensures without_limits { WithoutLimitsAllAreKept }
+    ensures raised { OfAccepted OnlyBeginningsRaise }
 {}
 
 /// Over each run of an accepted network the packets that come out at a node are packets begun to it,
@@ -96,17 +109,20 @@ pub fn accepted_answers_once()
 /// A run of an accepted network makes at most C x (14 + 5N) steps other than beginnings, where C is
 /// the number of channels and N how many characters the packets that it begins have; and at most
 /// B + C x (14 + 5M) steps, where B is how many packets its beginnings begin and M how many
-/// characters these have with their longest replies. Steps other than beginnings that can't go on
-/// end with nothing undelivered.
+/// characters these have with their longest replies. Behind a run that keeps the limits, steps other than
+/// beginnings that can't go on end with nothing undelivered.
 pub fn accepted_is_bounded()
     ensures bounded { OfAccepted IsBounded }
     ensures by_load { OfAccepted IsBoundedByLoad }
-    ensures ends { OfAccepted EndsEmpty }
+    ensures ends { OfAccepted EndsEmptyWithinLimits }
+    ensures without_limits { OfAcceptedWithoutLimits EndsEmpty }
 {}
 
-/// All that an accepted certificate shows of its network, over every run.
+/// All that an accepted certificate shows of its network: over the runs that keep the limits on unanswered
+/// commands, and over every run where no node has a limit.
 pub fn accepted_is_deadlock_free()
-    ensures { AcceptedIsDeadlockFree }
+    ensures within_limits { AcceptedIsDeadlockFreeWithinLimits }
+    ensures without_limits { AcceptedIsDeadlockFree }
 {}
 
 /// There are networks, whatever the size of their buffers, and accepted ones, with a group and a
@@ -115,6 +131,20 @@ pub fn some_are_accepted()
     ensures network { (capacity : ℕ) → 8 ≤ capacity → IsNetwork (of_capacity capacity) }
     ensures misrouted { IsNetwork misrouted }
     ensures accepted { IsAccepted sample certificate }
+{}
+
+/// A network whose dependencies are a cycle without limits is accepted where fewer commands may be unanswered at
+/// each target than it may owe replies, and locks up where as many may be and replies end there too; one where only
+/// commands end at the target is accepted where as many may be, and locks up with one more.
+pub fn limits_are_sharp()
+    ensures duels { (slots : ℕ) (limit : Option ℕ) → 0 < slots → IsNetwork (duel slots limit) }
+    ensures duel_cyclic { (slots : ℕ) → IsCycle (duel slots None) (0 ∷ 1 ∷ []) }
+    ensures duel_accepted { (slots limit : ℕ) → limit < slots → IsAccepted (duel slots (Some limit)) duel_certificate }
+    ensures duel_sharp { LocksUp (duel 2 (Some 2)) duel_steps }
+    ensures detours { (limit : Option ℕ) → IsNetwork (detour limit) }
+    ensures detour_cyclic { IsCycle (detour None) (4 ∷ 3 ∷ 2 ∷ []) }
+    ensures detour_accepted { IsAccepted (detour (Some 1)) detour_certificate }
+    ensures detour_sharp { LocksUp (detour (Some 2)) detour_steps }
 {}
 
 /// On an empty channel as many FCTs are sent as there is room for, and seven at most; a packet that

@@ -1,9 +1,9 @@
 use Rattle.sw_machine.proofs.laws.accepted_answers_once.Goals as goal
-use Rattle.sw_machine.proofs.Free.{is_deadlock_free}
+use Rattle.sw_machine.proofs.Free.{is_deadlock_free_within_limits}
 
 pub returns : goal.returns
 returns c = record {
-  asked = λ net cert ok acc. (is_deadlock_free net cert ok acc).replies_are_asked;
-  all = λ net cert ok acc. (is_deadlock_free net cert ok acc).all_is_answered;
-  owed = λ net cert ok acc. (is_deadlock_free net cert ok acc).only_asked_owe;
+  asked = λ net cert ok acc. (is_deadlock_free_within_limits net cert ok acc).replies_are_asked;
+  all = λ net cert ok acc. (is_deadlock_free_within_limits net cert ok acc).all_is_answered;
+  owed = λ net cert ok acc. (is_deadlock_free_within_limits net cert ok acc).only_asked_owe;
 }

@@ -1,0 +1,329 @@
+-- Runs that keep the limits on unanswered commands.
+use Rattle.std.proofs.Common.{Bool, List, None, Option, Some, [], ap, append-nil, append_assoc, arith, count_by, eq-eqb, false, inl, inr, is_some, le-ltb, length, lt-ltb, map, nat_eq, ne_eqb, refl, subst, suc, sym, true, ℕ, ⊎_elim, ◌++◌, ◌+◌, ◌-◌, ◌<◌, ◌∙◌, ◌∷◌, ◌≡◌, ◌≢◌, ◌≤◌, ◌⊎◌}
+use Rattle.std.proofs.lemmas.Bool.{cases_eq, cases_lt}
+use Rattle.std.proofs.lemmas.Grind.{flat_map-append}
+use Rattle.std.proofs.lemmas.List.{length-map}
+use Rattle.std.proofs.lemmas.List.Sums.{sum_by-cons, sum_by_push}
+use Rattle.std.specs.List.{AllByRecursion, sum_by}
+use Rattle.std.specs.Option.{option_map}
+use Rattle.std.specs.Prelude.{if◌then◌else◌, ◌&&◌}
+use Rattle.sw_char.specs.declared.nchar.End.{End}
+use Rattle.sw_char.specs.declared.nchar.End.TheVariants.{Eep as ByEep, Eop as ByEop}
+use Rattle.sw_char.specs.declared.nchar.NChar.{NChar}
+use Rattle.sw_char.specs.declared.nchar.NChar.TheVariants.{Data, Eep, Eop}
+use Rattle.sw_machine.proofs.Balance.{among, begun_of, count_append, count_cons}
+use Rattle.sw_machine.proofs.Cuts.{cons_tail, cut_byte, cut_marker, cut_of, cuts_are_equal, front_of, no_cons, no_packet_in, same_front}
+use Rattle.sw_machine.proofs.Ghost.{Entry, IsEntry, flat, form_of}
+use Rattle.sw_machine.proofs.Lists.{flat_chars, packet_of, put_here, put_there}
+use Rattle.sw_machine.proofs.Load.{Short, all_append, all_map, of_beginning, run_short, run_sum, sum_le_all}
+use Rattle.sw_machine.proofs.Owed.{AsMany, OneMore, Owing, reached_holds}
+use Rattle.sw_machine.proofs.Progress.{HaveSlots}
+use Rattle.sw_machine.proofs.RunLists.{run_append}
+use Rattle.sw_machine.proofs.Runs.{empty_inv, none, reached_of, run_begins}
+use Rattle.sw_machine.proofs.Whole.{comes_out_whole, count_sent, is_left, part_below}
+use Rattle.sw_machine.specs.Begun.{Begun, RunOf, beginning, beginnings}
+use Rattle.sw_machine.specs.Certificate.{Certificate, IsAccepted}
+use Rattle.sw_machine.specs.Limits.{KeepsLimits, OnlyBeginningsRaise, WithoutLimitsAllAreKept, is_command_at, is_command_to, unanswered}
+use Rattle.sw_machine.specs.Network.{IsNetwork, Network, left_bytes}
+use Rattle.sw_machine.specs.Owed.{last_beginning}
+use Rattle.sw_machine.specs.Packets.{IsCut, Packet, chars, chars_of, marker_of}
+use Rattle.sw_machine.specs.Places.{AllAreLimited}
+use Rattle.sw_machine.specs.Runs.{CameOut, Run}
+use Rattle.sw_machine.specs.State.{State, empty, put, reply_at}
+use Rattle.sw_machine.specs.Steps.{Accept, Arrive, Begin, Drop, Drops, Emit, Fct, FctIn, Forward, Grant, Leads, Reply, Spill, Step, is_begin}
+use Rattle.sw_rmap.specs.Owing.{PendingReply, owed_after, owed_with}
+
+-- ---- lists
+
+one_at_most : (t : Bool) → (if t then 1 else 0) ≤ 1
+one_at_most true = omega arith
+one_at_most false = omega arith
+
+one_where : (t : Bool) → t ≡ true → 1 ≤ (if t then 1 else 0)
+one_where true e = omega arith
+one_where false e = absurd (cc)
+
+count_few : {A : Type 0} (test : A → Bool) (xs : List A) → count_by test xs ≤ length xs
+count_few test [] = omega arith
+count_few test (x ∷ xs) = let r = count_few test xs in let c = sum_by-cons (λ x. if test x then 1 else 0) x xs in let o = one_at_most (test x) in omega arith
+
+count_all : {A : Type 0} (test : A → Bool) (xs : List A) → AllByRecursion (λ x. test x ≡ true) xs → count_by test xs ≡ length xs
+count_all test [] all = refl
+count_all test (x ∷ xs) all =
+    let r = count_all test xs all.1 in
+    let c = sum_by-cons (λ x. if test x then 1 else 0) x xs in
+    let o = one_where (test x) all.0 in
+    let few = one_at_most (test x) in
+    omega arith
+
+flat_append : (net : Network) (es fs : List Entry) → flat net (es ++ fs) ≡ flat net es ++ flat net fs
+flat_append net [] fs = refl
+flat_append net (e ∷ es) fs = ap (λ l. form_of net e ++ l) (flat_append net es fs) ∙ sym (append_assoc (form_of net e) (flat net es) (flat net fs))
+
+-- where packets are a front of others, and something is left, there are fewer of them
+fewer : (ps qs : List Packet) (l : List NChar) → chars ps ++ l ≡ chars qs → l ≢ [] → length ps < length qs
+fewer [] [] l e some = absurd (some e)
+fewer [] (q ∷ qs) l e some = omega arith
+fewer (p ∷ ps) [] l e some = absurd (no_packet_in p (chars ps ++ l) (sym (append_assoc (chars_of p) (chars ps) l) ∙ e))
+fewer (p ∷ ps) (q ∷ qs) l e some =
+    let f = same_front p.bytes q.bytes p.end q.end (chars ps ++ l) (chars qs ++ []) (sym (front_of p ps l) ∙ e ∙ sym (append-nil (chars (q ∷ qs))) ∙ front_of q qs []) in
+    let r = fewer ps qs l (f.2 ∙ append-nil (chars qs)) some in
+    omega arith
+
+some_more : (l : List NChar) (x : NChar) (m : List NChar) → l ++ x ∷ m ≢ []
+some_more [] x m e = no_cons x m e
+some_more (y ∷ l) x m e = no_cons y (l ++ x ∷ m) e
+
+-- a front of a list with one more is the whole of it, or a front of the list
+front_or_all : {A : Type 0} (before after l : List A) (x : A) → before ++ after ≡ l ++ x ∷ [] → (before ≡ l ++ x ∷ []) ⊎ ((rest : List A) × (before ++ rest ≡ l))
+front_or_all {A = A} [] after l x e = inr (l, refl)
+front_or_all {A = A} (b ∷ before) after [] x e = inl (all before after (cons_tail b x (before ++ after) [] e) (head e))
+  where
+    head : b ∷ (before ++ after) ≡ x ∷ [] → b ≡ x
+    head e = cc
+
+    all : (before after : List A) → before ++ after ≡ [] → b ≡ x → b ∷ before ≡ x ∷ []
+    all [] after e is = ap (λ y. y ∷ []) is
+    all (y ∷ before) after e is = absurd (no_cons y (before ++ after) e)
+front_or_all {A = A} (b ∷ before) after (y ∷ l) x e = ⊎_elim
+    (λ whole. inl (ap (λ z. z ∷ before) is ∙ ap (λ k. y ∷ k) whole))
+    (λ part. inr (part.0, ap (λ z. z ∷ (before ++ part.0)) is ∙ ap (λ k. y ∷ k) part.1))
+    (front_or_all before after l x (cons_tail b y (before ++ after) (l ++ x ∷ []) e))
+  where
+    is : b ≡ y
+    is = cc
+
+run_split : (net : Network) (a b : List Step) (s t : State) → Run net s (a ++ b) t → (m : State) × Run net s a m × Run net m b t
+run_split net [] b s t r = (s, refl, r)
+run_split net (step ∷ a) b s t r = let k = run_split net a b r.0 t r.2 in (k.0, (r.0, r.1, k.1), k.2)
+
+-- ---- without limits
+
+pub all_are_kept : WithoutLimitsAllAreKept
+all_are_kept net free steps before after s e r n limit came ln is out = let no : None ≡ Some limit = sym (free n ln) ∙ is in absurd (cc)
+
+-- ---- what a step changes of what a node took, and of what it owes
+
+-- the owed replies are no fewer than those that wait
+waits_owed : (net : Network) (n : ℕ) (steps : List Step) (s : State) → Run net (empty net) steps s → length (s.pending n) ≤ s.owed n
+waits_owed net n steps s r = enough (reached_holds net n steps s r).owing
+  where
+    enough : Owing net n (last_beginning net n steps) (s.to_send n) (s.pending n) (s.owed n) → length (s.pending n) ≤ s.owed n
+    enough (OneMore l some e) = omega arith
+    enough (AsMany l e) = omega arith
+
+module _ (net : Network) (n : ℕ) where
+  -- nothing was taken, a byte was, or the end of a packet was, whose reply, if it has one, is owed
+  data Taking (taken : List NChar) (owed : ℕ) (taken2 : List NChar) (owed2 : ℕ) : Type 0 where
+    Nothing : taken2 ≡ taken → owed2 ≤ owed → Taking taken owed taken2 owed2
+    Byte : (b : ℕ) → taken2 ≡ taken ++ Data b ∷ [] → owed2 ≡ owed → Taking taken owed taken2 owed2
+    Ends : (ps : List Packet) (memory bytes : List ℕ) (end : End) → IsCut taken ps bytes → taken2 ≡ taken ++ marker_of end ∷ [] → owed2 ≡ owed_with owed (net.answer n memory bytes end) → Taking taken owed taken2 owed2
+
+  abbrev TakingAt : State → State → Type 0
+  TakingAt s t = Taking (s.taken n) (s.owed n) (t.taken n) (t.owed n)
+
+  same : (s : State) → TakingAt s s
+  same s = Nothing refl (omega arith)
+
+  dropped : (s : State) (c switch : ℕ) (first : NChar) (rest : List NChar) (t : State) → Drops net s c switch first rest t → TakingAt s t
+  dropped s c switch (Data b) rest t d = subst (TakingAt s) (sym d.1) (same s)
+  dropped s c switch Eop rest t d = subst (TakingAt s) (sym d) (same s)
+  dropped s c switch Eep rest t d = subst (TakingAt s) (sym d) (same s)
+
+  emitted : (rest : List NChar) (pending : List PendingReply) (owed : ℕ) → length pending ≤ owed → owed_after rest pending owed ≤ owed
+  emitted [] pending owed le = le
+  emitted (x ∷ rest) pending owed le = omega arith
+
+  accepted : (s : State) (ps : List Packet) (bytes : List ℕ) (first : NChar) → IsCut (s.taken n) ps bytes → Taking (s.taken n) (s.owed n) (s.taken n ++ first ∷ []) (owed_with (s.owed n) (reply_at net n (s.memory n) bytes first))
+  accepted s ps bytes (Data b) cut = Byte b refl refl
+  accepted s ps bytes Eop cut = Ends ps (s.memory n) bytes ByEop cut refl refl
+  accepted s ps bytes Eep cut = Ends ps (s.memory n) bytes ByEep cut refl refl
+
+  taking : (s : State) (step : Step) (t : State) → length (s.pending n) ≤ s.owed n → Leads net s step t → TakingAt s t
+  taking s (Fct c) t le h = subst (TakingAt s) (sym h.after) (same s)
+  taking s (FctIn c) t le h = subst (TakingAt s) (sym h.after) (same s)
+  taking s (Arrive c) t le h = subst (TakingAt s) (sym h.after) (same s)
+  taking s (Grant d c) t le h = subst (TakingAt s) (sym h.after) (same s)
+  taking s (Drop c) t le h = dropped s c h.switch h.first h.rest t h.after
+  taking s (Forward c) t le h = subst (TakingAt s) (sym h.after) (same s)
+  taking s (Spill c) t le h = subst (TakingAt s) (sym h.after) (same s)
+  taking s (Begin f cargo end) t le h = subst (TakingAt s) (sym h.after) (same s)
+  taking s (Emit m) t le h = subst (TakingAt s) (sym h.after) (⊎_elim
+      (λ here. Nothing refl (
+          let is : put s.owed m (owed_after h.rest (s.pending m) (s.owed m)) n ≡ owed_after h.rest (s.pending n) (s.owed n) = rw (eq-eqb n m here) (ap (λ k. owed_after h.rest (s.pending k) (s.owed k)) (sym here)) in
+          let fewer = emitted h.rest (s.pending n) (s.owed n) le in
+          omega arith))
+      (λ ne. Nothing refl (let is = put_there s.owed m (owed_after h.rest (s.pending m) (s.owed m)) n ne in omega arith))
+      (cases_eq n m))
+  taking s (Accept m) t le h = subst (TakingAt s) (sym h.after) (⊎_elim
+      (λ here. rw (eq-eqb n m here) (subst (λ k. Taking (s.taken n) (s.owed n) (s.taken k ++ h.first ∷ []) (owed_with (s.owed k) (reply_at net k (s.memory k) h.bytes h.first))) here
+          (accepted s h.packets h.bytes h.first (subst (λ k. IsCut (s.taken k) h.packets h.bytes) (sym here) h.cut))))
+      (λ ne. rw (ne_eqb n m ne) (same s))
+      (cases_eq n m))
+  taking s (Reply m) t le h = subst (TakingAt s) (sym h.after) (same s)
+
+-- ---- what is unanswered
+
+no_beginning : (step : Step) → is_begin step ≡ false → beginning step ≡ []
+no_beginning (Begin f cargo end) e = absurd (cc)
+no_beginning (Fct c) e = refl
+no_beginning (FctIn c) e = refl
+no_beginning (Arrive c) e = refl
+no_beginning (Grant d c) e = refl
+no_beginning (Drop c) e = refl
+no_beginning (Forward c) e = refl
+no_beginning (Spill c) e = refl
+no_beginning (Emit n) e = refl
+no_beginning (Accept n) e = refl
+no_beginning (Reply n) e = refl
+
+pub beginnings_push : (steps : List Step) (step : Step) → beginnings (steps ++ step ∷ []) ≡ beginnings steps ++ beginning step
+beginnings_push steps step = flat_map-append beginning steps (step ∷ []) ∙ ap (λ l. beginnings steps ++ l) (append-nil (beginning step))
+
+beginnings_stay : (steps : List Step) (step : Step) → is_begin step ≡ false → beginnings (steps ++ step ∷ []) ≡ beginnings steps
+beginnings_stay steps step e = beginnings_push steps step ∙ ap (λ l. beginnings steps ++ l) (no_beginning step e) ∙ append-nil (beginnings steps)
+
+module _ (net : Network) (cert : Certificate) (ok : IsNetwork net) (acc : IsAccepted net cert) where
+  -- a packet that is a reply is no command, so each command was begun by a beginning
+  not_a_reply : (n : ℕ) (b : Begun) → Short net cert ok acc b → (if is_command_to net n b then 1 else 0) ≤ of_beginning net (λ b. if is_command_to net n b then 1 else 0) b
+  not_a_reply n b short = ⊎_elim
+      (λ lt. rw (lt-ltb b.flow net.declared_flows lt) (omega arith))
+      (λ ge. rw (le-ltb b.flow net.declared_flows ge) (⊎_elim
+      (λ to.
+      let none : net.reply_to n (left_bytes net b.flow b.cargo) ≡ None = subst (λ k. net.reply_to k (left_bytes net b.flow b.cargo) ≡ None) to (short ge).unanswered in
+      rw (eq-eqb (net.flow b.flow).to n to, none) (omega arith))
+      (λ away. rw (ne_eqb (net.flow b.flow).to n away) (omega arith))
+      (cases_eq (net.flow b.flow).to n)))
+      (cases_lt b.flow net.declared_flows)
+
+  pub commands_are_begun : (n : ℕ) (steps : List Step) (begun : List Begun) (s : State) → RunOf net (empty net) steps begun s → count_by (is_command_to net n) begun ≤ count_by (is_command_to net n) (beginnings steps)
+  commands_are_begun n steps begun s r =
+      let one : Begun → ℕ = λ b. if is_command_to net n b then 1 else 0 in
+      let short = run_short net cert ok acc steps (empty net) (none net cert ok acc) s begun r (empty_inv net cert ok acc) in
+      let few = sum_le_all one (of_beginning net one) begun (all_map (Short net cert ok acc) (λ b. one b ≤ of_beginning net one b) begun (not_a_reply n) short) in
+      let sum = run_sum net ok one steps (empty net) s begun r in
+      omega arith
+
+  -- no more commands came out than were begun
+  came_few : (n : ℕ) → n < net.nodes → (steps : List Step) (s : State) → Run net (empty net) steps s → (came : List Packet) → CameOut s n came → count_by (is_command_at net n) came ≤ count_by (is_command_to net n) (beginnings steps)
+  came_few n ln steps s r came out =
+      let b = run_begins net cert ok acc steps (empty net) (none net cert ok acc) s r (empty_inv net cert ok acc) in
+      let whole = comes_out_whole net cert ok acc steps b.0 s b.1 n ln came out (is_command_at net n) in
+      let sent = count_sent net n (is_command_at net n) b.0 in
+      let begun = commands_are_begun n steps b.0 s b.1 in
+      omega arith
+
+  same_count : (n : ℕ) (s t : State) (came now : List Packet) → CameOut s n came → CameOut t n now → t.taken n ≡ s.taken n → now ≡ came
+  same_count n s t came now out out2 e = (cuts_are_equal (s.taken n) now came out2.0 out.0 (sym e ∙ out2.1) out.1).0
+
+  owes_more : (n : ℕ) (p : Packet) (owed : ℕ) (o : Option PendingReply) → option_map (λ (r : PendingReply). r.address) o ≡ net.reply_to n p.bytes → owed_with owed o ≡ owed + (if is_command_at net n p then 1 else 0)
+  owes_more n p owed None e = let c = ap (λ o. owed + (if is_some o then 1 else 0)) e in omega arith
+  owes_more n p owed (Some r) e = ap (λ o. owed + (if is_some o then 1 else 0)) e
+
+  raised : (n : ℕ) → n < net.nodes → (begun few : ℕ) (s t : State) (came now : List Packet) → CameOut s n came → CameOut t n now → few ≡ begun → count_by (is_command_at net n) now ≤ begun → Taking net n (s.taken n) (s.owed n) (t.taken n) (t.owed n) → (few - count_by (is_command_at net n) now) + t.owed n ≤ (begun - count_by (is_command_at net n) came) + s.owed n
+  raised n ln begun few s t came now out out2 is most (Nothing taken owed) = let c = ap (count_by (is_command_at net n)) (same_count n s t came now out out2 taken) in omega arith
+  raised n ln begun few s t came now out out2 is most (Byte b taken owed) =
+      let cut = cut_byte (s.taken n) came out.0 b out.1 in
+      let equal = (cuts_are_equal (s.taken n ++ Data b ∷ []) now came out2.0 (out.0 ++ b ∷ []) (sym taken ∙ out2.1) cut).0 in
+      let c = ap (count_by (is_command_at net n)) equal in
+      omega arith
+  raised n ln begun few s t came now out out2 is most (Ends ps memory bytes end cut taken owed) =
+      let p : Packet = record { bytes = bytes; end = end } in
+      let more = cut_marker (s.taken n) ps bytes end cut in
+      let equal = (cuts_are_equal (s.taken n ++ marker_of end ∷ []) now (ps ++ p ∷ []) out2.0 [] (sym taken ∙ out2.1) more).0 in
+      let before = (cuts_are_equal (s.taken n) came ps out.0 bytes out.1 cut).0 in
+      let a = ap (count_by (is_command_at net n)) equal in
+      let b = ap (count_by (is_command_at net n)) before in
+      let push = sum_by_push (λ p. if is_command_at net n p then 1 else 0) ps p in
+      let o = owes_more n p (s.owed n) (net.answer n memory bytes end) (ok.reply_goes n memory bytes end ln) in
+      omega arith
+
+  pub only_beginnings_raise : OnlyBeginningsRaise net
+  only_beginnings_raise steps s r step t none leads n ln came now out out2 =
+      let stay = ap (count_by (is_command_to net n)) (beginnings_stay steps step none) in
+      let longer = run_append net steps (step ∷ []) (empty net) s t r (t, leads, refl) in
+      let most = came_few n ln (steps ++ step ∷ []) t longer now out2 in
+      raised n ln (count_by (is_command_to net n) (beginnings steps)) (count_by (is_command_to net n) (beginnings (steps ++ step ∷ []))) s t came now out out2 stay (omega arith) (taking net n s step t (waits_owed net n steps s r) leads)
+
+  keeps_push : (steps : List Step) (step : Step) → is_begin step ≡ false → KeepsLimits net steps → KeepsLimits net (steps ++ step ∷ [])
+  keeps_push steps step none keeps before after u e r n limit now ln is out = ⊎_elim
+      (λ whole.
+      let k = run_split net steps (step ∷ []) (empty net) u (subst (λ l. Run net (empty net) l u) whole r) in
+      let s = k.0 in
+      let last = k.2 in
+      let leads : Leads net s step u = subst (Leads net s step) (sym last.2) last.1 in
+      let cut = cut_of (s.taken n) in
+      let came : CameOut s n cut.0 = (cut.1, cut.2) in
+      let within = keeps steps [] s (append-nil steps) k.1 n limit cut.0 ln is came in
+      let raise = only_beginnings_raise steps s k.1 step u none leads n ln cut.0 now came out in
+      let same = ap (λ l. unanswered net n l now u) whole in
+      omega arith)
+      (λ part. keeps before part.0 u part.1 r n limit now ln is out)
+      (front_or_all before after steps step e)
+
+  pub keeps_more : (steps more : List Step) → count_by is_begin more ≡ 0 → KeepsLimits net steps → KeepsLimits net (steps ++ more)
+  keeps_more steps [] none keeps = subst (KeepsLimits net) (sym (append-nil steps)) keeps
+  keeps_more steps (step ∷ more) none keeps =
+      let c = count_cons is_begin step more in
+      let first = no_begin (is_begin step) refl in
+      subst (KeepsLimits net) (append_assoc steps (step ∷ []) more) (keeps_more (steps ++ step ∷ []) more (omega arith) (keeps_push steps step first keeps))
+    where
+      no_begin : (t : Bool) → is_begin step ≡ t → is_begin step ≡ false
+      no_begin false is = is
+      no_begin true is =
+          let c = count_cons is_begin step more in
+          let one : count_by is_begin (step ∷ []) ≡ 1 = rw is refl in
+          absurd (omega arith)
+
+  -- ---- a slot is left for what stands in the buffer of a node that always takes
+
+  -- where all that ends at n is limited, each packet on its channel or taken there is a command that is answered
+  all_commands : (n : ℕ) (es : List Entry) → n < net.nodes → AllAreLimited net n → AllByRecursion (IsEntry net cert (net.into n)) es → AllByRecursion (λ e. is_command_to net n (begun_of e) ≡ true) es
+  all_commands n [] ln limited all = tt
+  all_commands n (e ∷ es) ln limited all =
+      let valid = all.0 in
+      let to = (is_left net cert ok acc n e ln valid).0 in
+      let asked = valid.carried.command (limited e.flow valid.carried.in_flows to) in
+      let here : is_some (net.reply_to n (left_bytes net e.flow e.cargo)) ≡ true = subst (λ k. is_some (net.reply_to k (left_bytes net e.flow e.cargo)) ≡ true) to asked in
+      (rw (eq-eqb (net.flow e.flow).to n to, here) refl, all_commands n es ln limited all.1)
+
+  -- there, more commands are begun than came out, while one stands in the buffer
+  one_more : (steps : List Step) (s : State) → Run net (empty net) steps s → (n : ℕ) → n < net.nodes → AllAreLimited net n → (x : NChar) (rest : List NChar) → s.buffer (net.into n) ≡ x ∷ rest → (came : List Packet) → CameOut s n came → count_by (is_command_at net n) came < count_by (is_command_to net n) (beginnings steps)
+  one_more steps s r n ln limited x rest front came out =
+      let b = run_begins net cert ok acc steps (empty net) (none net cert ok acc) s r (empty_inv net cert ok acc) in
+      let k = reached_of net cert ok acc steps s b.0 b.1 in
+      let g = k.0 in
+      let c = net.into n in
+      let lc = (ok.into_ends n ln).0 in
+      let node = k.1.nodes n ln in
+      let stream = k.1.streams c lc in
+      let es = g.came n ++ g.queue c in
+      let behind = s.buffer c ++ (s.wire c ++ g.coming c) in
+      let all : s.taken n ++ behind ≡ flat net es =
+          ap (λ l. s.taken n ++ l) stream.content ∙ sym (append_assoc (s.taken n) (g.rest c) (flat net (g.queue c)))
+          ∙ ap (λ l. l ++ flat net (g.queue c)) node.content ∙ sym (flat_append net (g.came n) (g.queue c)) in
+      let cut : chars came ++ (map Data out.0 ++ behind) ≡ chars (map (packet_of net) es) =
+          sym (append_assoc (chars came) (map Data out.0) behind) ∙ ap (λ l. l ++ behind) (sym out.1) ∙ all ∙ flat_chars net es in
+      let left : map Data out.0 ++ behind ≢ [] = λ e. some_more (map Data out.0) x (rest ++ (s.wire c ++ g.coming c)) (ap (λ l. map Data out.0 ++ (l ++ (s.wire c ++ g.coming c))) (sym front) ∙ e) in
+      let less = fewer came (map (packet_of net) es) (map Data out.0 ++ behind) cut left in
+      let size = length-map es (packet_of net) in
+      let few = count_few (is_command_at net n) came in
+      let taken = all_commands n (g.came n) ln limited node.all_came in
+      let queued = all_commands n (g.queue c) ln limited stream.queued in
+      let each = count_all (λ e. is_command_to net n (begun_of e)) es (all_append (λ e. is_command_to net n (begun_of e) ≡ true) (g.came n) (g.queue c) taken queued) in
+      let both = count_append (λ e. is_command_to net n (begun_of e)) (g.came n) (g.queue c) in
+      let at_node = part_below net.nodes (λ m. among (is_command_to net n) (g.came m)) n ln in
+      let on_channel = part_below net.channels (λ m. among (is_command_to net n) (g.queue m)) c lc in
+      let sum = k.2 (is_command_to net n) in
+      let begun = commands_are_begun n steps b.0 s b.1 in
+      omega arith
+
+  pub have_slots : (steps : List Step) (s : State) → Run net (empty net) steps s → KeepsLimits net steps → HaveSlots net s
+  have_slots steps s r keeps n ln always x rest front =
+      let cut = cut_of (s.taken n) in
+      let came : CameOut s n cut.0 = (cut.1, cut.2) in
+      let within = keeps steps [] s (append-nil steps) r n always.limit cut.0 ln always.is came in
+      ⊎_elim
+      (λ fewer. omega arith)
+      (λ equal. let same = equal.0 in let more = one_more steps s r n ln equal.1 x rest front cut.0 came in omega arith)
+      always.few

@@ -1,0 +1,44 @@
+-- Limits on unanswered commands, and the runs that keep them (this project's choice).
+use Rattle.std.specs.Prelude.{Bool, List, None, Some, [], count_by, false, is_some, nat_eq, ℕ, ◌&&◌, ◌++◌, ◌+◌, ◌-◌, ◌<◌, ◌∷◌, ◌≡◌, ◌≤◌}
+use Rattle.sw_machine.specs.Begun.{Begun, beginnings}
+use Rattle.sw_machine.specs.Network.{Network, left_bytes}
+use Rattle.sw_machine.specs.Packets.{Packet}
+use Rattle.sw_machine.specs.Runs.{CameOut, Run}
+use Rattle.sw_machine.specs.State.{State, empty}
+use Rattle.sw_machine.specs.Steps.{Leads, Step, is_begin}
+
+-- a command to node n that is answered there
+abbrev pub is_command_to : Network → ℕ → Begun → Bool
+is_command_to net n b = nat_eq (net.flow b.flow).to n && is_some (net.reply_to n (left_bytes net b.flow b.cargo))
+
+-- the same of a packet that came out there
+abbrev pub is_command_at : Network → ℕ → Packet → Bool
+is_command_at net n p = is_some (net.reply_to n p.bytes)
+
+-- what is unanswered at node n: of the commands that these beginnings began for it, those that are not among the packets that came out
+-- there, and the replies that it owes
+abbrev pub unanswered : Network → ℕ → List Step → List Packet → State → ℕ
+unanswered net n steps came s = (count_by (is_command_to net n) (beginnings steps) - count_by (is_command_at net n) came) + s.owed n
+
+-- what is unanswered at each node is within its limit
+abbrev pub IsWithinLimits : Network → List Step → State → Type 0
+IsWithinLimits net steps s = (n limit : ℕ) (came : List Packet) → n < net.nodes → net.limit n ≡ Some limit → CameOut s n came → unanswered net n steps came s ≤ limit
+
+-- it is so after each of the steps
+abbrev pub KeepsLimits : Network → List Step → Type 0
+KeepsLimits net steps = (before after : List Step) (s : State) → before ++ after ≡ steps → Run net (empty net) before s → IsWithinLimits net before s
+
+-- a run that keeps the limits leads there
+abbrev pub IsReachedWithinLimits : Network → State → Type 0
+IsReachedWithinLimits net s = (steps : List Step) × Run net (empty net) steps s × KeepsLimits net steps
+
+abbrev pub HasNoLimits : Network → Type 0
+HasNoLimits net = (n : ℕ) → n < net.nodes → net.limit n ≡ None
+
+-- without limits each run keeps them
+abbrev pub WithoutLimitsAllAreKept : Type 0
+WithoutLimitsAllAreKept = (net : Network) → HasNoLimits net → (steps : List Step) → KeepsLimits net steps
+
+-- no step but a beginning raises what is unanswered
+abbrev pub OnlyBeginningsRaise : Network → Type 0
+OnlyBeginningsRaise net = (steps : List Step) (s : State) → Run net (empty net) steps s → (step : Step) (t : State) → is_begin step ≡ false → Leads net s step t → (n : ℕ) → n < net.nodes → (came now : List Packet) → CameOut s n came → CameOut t n now → unanswered net n (steps ++ step ∷ []) now t ≤ unanswered net n steps came s
