@@ -19,6 +19,7 @@ use Rattle.sw_machine.specs.Places as machine
 use Rattle.sw_machine.specs.Certificate.{IsListed, IsAccepted}
 use Rattle.sw_machine.specs.Model.{reply_number, network_of}
 use Rattle.sw_machine.specs.ModelLaws.{FlowAgrees}
+use Rattle.sw_machine.proofs.DeclaredNetworks.{none_always_takes}
 use Rattle.sw_machine.proofs.Flows.{flow_at, some_at}
 use Rattle.sw_machine.proofs.Steps.{steps_agree}
 use Rattle.sw_cert.specs.declared.refusal.Refusal.TheVariants.{NoStart, Faulty, NotClosed, NotRising}
@@ -139,7 +140,7 @@ module _ (d : Declaration) (c : Contents) (valid : IsValid d) (r : NoReason d c)
         ((agrees i a).fault e k (in_range i a p m).0 (in_range i a p m).1).1 (place_none i a p m).0;
     closed = λ i e k b m lt h step. let a = here_at i lt in closed_at i a (record { channel = e; deleted = k }) (member i a e k h) b m step;
     rising = λ i e k b m lt h step. let a = here_at i lt in rising_at i a (record { channel = e; deleted = k }) (member i a e k h) b m step;
-    targets = λ i j lt has.
+    targets = λ i j lt has waits.
         let a = here_at i lt in
         subst (λ (n : ℕ). slice_index c.numbers (into_at d n) < slice_index c.numbers (out_at d n)) (sym (to_is d i a.flow a.here)) (target_at i a j has);
   }
@@ -222,7 +223,7 @@ module _ (d : Declaration) (c : Contents) (valid : IsValid d) (acc : IsAccepted 
       let within = slice_get_within (all_flows d) i a.flow a.numbered in
       let has : (flow_at d i).reply ≡ Some (reply_number d i) = reply_is d i a.flow a.numbered ∙ its_number (reply_number d i) a.flow.reply a.replied in
       let node : (flow_at d i).to ≡ n = to_is d i a.flow a.numbered ∙ a.ends_there in
-      let rises : slice_index c.numbers (into_at d n) < slice_index c.numbers (out_at d n) = subst (λ (x : ℕ). slice_index c.numbers (into_at d x) < slice_index c.numbers (out_at d x)) node (acc.targets i (reply_number d i) within has) in
+      let rises : slice_index c.numbers (into_at d n) < slice_index c.numbers (out_at d n) = subst (λ (x : ℕ). slice_index c.numbers (into_at d x) < slice_index c.numbers (out_at d x)) node (acc.targets i (reply_number d i) within has (none_always_takes d (flow_at d i).to)) in
       lt-leb (slice_index c.numbers (out_at d n)) (slice_index c.numbers (into_at d n)) rises
 
   no_reason_at : NoReason d c

@@ -32,7 +32,7 @@ pub data IsBy (net : Network) (c e : ℕ) : Type 0 where
 
 apart : (net : Network) (c e : ℕ) → IsDependency net c e → IsBy net c e
 apart net c e (ByFlow i b k x m lt p f) = flow i k m lt p f
-apart net c e (ByTarget i j lt reply) = target i j lt reply refl refl
+apart net c e (ByTarget i j lt reply waits) = target i j lt reply refl refl
 
 pub has_reply : (n j : ℕ) (o : Option ReplyEntry) → option_map (λ r. n) o ≡ Some j → IsSome o
 has_reply n j None h = absurd cc

@@ -26,6 +26,7 @@ use Rattle.sw_flow.proofs.Stepping.{places_are_in}
 use Rattle.sw_machine.specs.Places.{IsDependency}
 use Rattle.sw_machine.specs.Places.IsDependency.{ByFlow, ByTarget}
 use Rattle.sw_machine.specs.Model.{network_of, reply_number}
+use Rattle.sw_machine.proofs.DeclaredNetworks.{none_always_takes}
 use Rattle.sw_machine.proofs.Flows.{flow_at, flow_ends, some_at}
 use Rattle.sw_machine.proofs.Steps.{steps_agree}
 use Rattle.sw_machine.proofs.Topology.{into_ends, out_starts}
@@ -51,7 +52,7 @@ module _ (d : Declaration) (valid : IsValid d) where
       let p = (same.place c k).0 place in
       let s = (same.step c k e m).0 follows in
       ((places_are_in d f.0 c k p).0, (places_are_in d f.0 e m (next p s)).0)
-  within x y (ByTarget i j lt reply) =
+  within x y (ByTarget i j lt reply waits) =
       let to = (flow_ends d valid i lt).1 in
       ((into_ends (wiring_of d) valid.sound (flow_at d i).to to).0, (out_starts (wiring_of d) valid.sound (flow_at d i).to to).0)
 
@@ -90,7 +91,7 @@ module _ (d : Declaration) (valid : IsValid d) where
         let reply : (flow_at d i).reply ≡ Some (reply_number d i) = rw here (replied_with (reply_number d i) h.flow.reply h.replied) in
         let is_out : (network_of d).out (flow_at d i).to ≡ x = rw (to, leaves) refl in
         let is_into : (network_of d).into (flow_at d i).to ≡ c = rw (to, leaves) (sym enters) in
-        let shown : IsDependency (network_of d) ((network_of d).into (flow_at d i).to) ((network_of d).out (flow_at d i).to) = ByTarget i (reply_number d i) below reply in
+        let shown : IsDependency (network_of d) ((network_of d).into (flow_at d i).to) ((network_of d).out (flow_at d i).to) = ByTarget i (reply_number d i) below reply (none_always_takes d (flow_at d i).to) in
         subst (λ (y : ℕ). IsDependency (network_of d) y x) is_into (subst (λ (y : ℕ). IsDependency (network_of d) ((network_of d).into (flow_at d i).to) y) is_out shown)
 
     at_node : (c t e : ℕ) → end_of d c ≡ Some (Node t) → Contains (if is_marked marks t then option_to_list (out (ends_of d) t) else []) e → IsDependency (network_of d) c e
@@ -140,7 +141,7 @@ module _ (d : Declaration) (valid : IsValid d) where
         } in
         let listed = ((ports_listed (slice_index sets c)).members s.named.port).1 (s.named.is_port, (named.ports c s.named.port).1 n) in
         rw s.ends (Contains-filter_map (out_of (ends_of d) s.switch) (ports_of (slice_index sets c)) s.named.port e listed s.named.linked)
-    depends_listed x y (ByTarget i j lt reply) =
+    depends_listed x y (ByTarget i j lt reply waits) =
         let f = some_at (all_flows d) i lt in
         let to : (flow_at d i).to ≡ f.0.to = rw f.1 refl in
         let is = All-at (IsFlow d.nodes) (all_flows d) i f.0 f.1 (valid_flows d valid).0 in

@@ -17,6 +17,7 @@ use Rattle.sw_machine.specs.Network.{Network}
 use Rattle.sw_machine.specs.Places.{IsChain, IsCycle, IsDependency}
 use Rattle.sw_machine.specs.Places.IsDependency.{ByFlow, ByTarget}
 use Rattle.sw_machine.specs.Model.{network_of, reply_number}
+use Rattle.sw_machine.proofs.DeclaredNetworks.{none_always_takes}
 use Rattle.sw_machine.proofs.Flows.{flow_at, some_at}
 use Rattle.sw_machine.proofs.Steps.{steps_agree}
 use Rattle.sw_cycle.specs.Cycles as cycles
@@ -52,7 +53,7 @@ module _ (d : Declaration) where
         let reply : (flow_at d i).reply ≡ Some (reply_number d i) = rw here (replied (reply_number d i) a.flow.reply a.replied) in
         let leaves : (network_of d).out (flow_at d i).to ≡ e = rw (to, h.leaves) refl in
         let enters : (network_of d).into (flow_at d i).to ≡ c = rw (to, h.leaves) (sym h.enters) in
-        let shown : IsDependency (network_of d) ((network_of d).into (flow_at d i).to) ((network_of d).out (flow_at d i).to) = ByTarget i (reply_number d i) below reply in
+        let shown : IsDependency (network_of d) ((network_of d).into (flow_at d i).to) ((network_of d).out (flow_at d i).to) = ByTarget i (reply_number d i) below reply (none_always_takes d (flow_at d i).to) in
         subst (λ (x : ℕ). IsDependency (network_of d) x e) enters (subst (λ (y : ℕ). IsDependency (network_of d) ((network_of d).into (flow_at d i).to) y) leaves shown)
 
     flow_shows : (i : ℕ) (places : List Place) (c e : ℕ) → IsFlowCause d i places c e → IsDependency (network_of d) c e

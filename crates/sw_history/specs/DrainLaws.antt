@@ -1,7 +1,7 @@
 -- Where nothing more can happen in a network that can't lock up.
 use Rattle.std.specs.Prelude.{ℕ, ◌<◌, ◌≡◌}
 use Rattle.sw_net.specs.CellPossible.{CanStepAt}
-use Rattle.sw_machine.specs.DeadlockFreedom.{OfAccepted}
+use Rattle.sw_machine.specs.DeadlockFreedom.{OfAcceptedWithoutLimits}
 use Rattle.sw_machine.specs.Network.{Network}
 use Rattle.sw_machine.specs.Runs.{IsReached, undelivered}
 use Rattle.sw_machine.specs.State.{State}
@@ -14,6 +14,6 @@ NoneCanStep net s = (e : ℕ) → e < net.channels → CanStepAt net s e → ⊥
 abbrev pub IdleIsEmpty : Network → Type 0
 IdleIsEmpty net = (s : State) → IsReached net s → NoneCanStep net s → undelivered net s ≡ 0
 
--- so it is wherever a certificate is accepted
+-- so it is wherever a certificate is accepted, if no node has a limit on unanswered commands
 abbrev pub AcceptedIdleIsEmpty : Type 0
-AcceptedIdleIsEmpty = OfAccepted IdleIsEmpty
+AcceptedIdleIsEmpty = OfAcceptedWithoutLimits IdleIsEmpty

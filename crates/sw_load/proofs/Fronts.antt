@@ -8,7 +8,7 @@ use Rattle.sw_load.specs.History.{IsFront}
 use Rattle.sw_load.specs.Limit.{AcceptedHistoriesEnd, HistoriesEnd}
 use Rattle.sw_machine.specs.Begun.{Begun, IsBoundedByLoad, beginnings, length_with_reply}
 use Rattle.sw_machine.specs.Network.{Network}
-use Rattle.sw_machine.proofs.Free.{is_deadlock_free}
+use Rattle.sw_machine.proofs.Free.{is_deadlock_free_within_limits}
 use Rattle.sw_machine.proofs.Load.{sum_le, sum_same, sum_add}
 
 sum-filter : {X : Type 0} (f : X → ℕ) (p : X → Bool) (xs : List X) → sum_by f (filter p xs) ≡ sum_by (λ x. cond (p x) (f x) 0) xs
@@ -104,4 +104,4 @@ histories_end net bound packets steps s h =
     omega arith
 
 pub accepted_histories_end : AcceptedHistoriesEnd
-accepted_histories_end net cert ok acc = histories_end net (is_deadlock_free net cert ok acc).bounded_by_load
+accepted_histories_end net cert ok acc = histories_end net (is_deadlock_free_within_limits net cert ok acc).bounded_by_load

@@ -7,11 +7,13 @@ use Rattle.sw_rmap.specs.Config.{IsTargetConfig}
 use Rattle.sw_flow.specs.Entries.{NodeEntry, Declaration, target_of, wiring_of, look_at, reply_flows, all_flows}
 use Rattle.sw_flow.specs.Valid.{IsNode}
 use Rattle.sw_flow.proofs.Flows.{All-at}
+use Rattle.sw_machine.specs.Limits.{HasNoLimits}
 use Rattle.sw_machine.specs.Network.{IsReplyFlow, left_bytes}
 use Rattle.sw_rmap.specs.Owing.{PendingReply}
 use Rattle.sw_rmap.specs.Targets.{answer_of, slots_of}
 use Rattle.sw_machine.specs.Model.{network_of, answered_to}
 use Rattle.sw_machine.specs.ModelLaws.{DeclaredNetworksAreNetworks}
+use Rattle.sw_machine.specs.Places.{AlwaysTakes}
 use Rattle.sw_machine.proofs.Answering as replies
 use Rattle.sw_machine.proofs.Flows as flows
 use Rattle.sw_machine.proofs.Topology as topology
@@ -43,6 +45,15 @@ replies_end d i j n memory bytes r end has e to =
 
 more_flows : (d : Declaration) → length d.flows ≤ length (all_flows d)
 more_flows d = omega (arith, length-append d.flows (reply_flows d.flows))
+
+-- a declared network has no limits on unanswered commands
+pub no_limits : (d : Declaration) → HasNoLimits (network_of d)
+unfolding network_of
+no_limits d n lt = refl
+
+pub none_always_takes : (d : Declaration) (n : ℕ) → AlwaysTakes (network_of d) n → ⊥
+unfolding network_of
+none_always_takes d n always = let no : None ≡ Some always.limit = always.is in absurd cc
 
 pub are_networks : DeclaredNetworksAreNetworks
 unfolding network_of

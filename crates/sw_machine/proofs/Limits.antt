@@ -150,14 +150,14 @@ module _ (net : Network) (n : ℕ) where
   taking s (Begin f cargo end) t le h = subst (TakingAt s) (sym h.after) (same s)
   taking s (Emit m) t le h = subst (TakingAt s) (sym h.after) (⊎_elim
       (λ here. Nothing refl (
-          let is : put s.owed m (owed_after h.rest (s.pending m) (s.owed m)) n ≡ owed_after h.rest (s.pending n) (s.owed n) = rw (eq-eqb n m here) (ap (λ k. owed_after h.rest (s.pending k) (s.owed k)) (sym here)) in
-          let fewer = emitted h.rest (s.pending n) (s.owed n) le in
-          omega arith))
+      let is : put s.owed m (owed_after h.rest (s.pending m) (s.owed m)) n ≡ owed_after h.rest (s.pending n) (s.owed n) = rw (eq-eqb n m here) (ap (λ k. owed_after h.rest (s.pending k) (s.owed k)) (sym here)) in
+      let fewer = emitted h.rest (s.pending n) (s.owed n) le in
+      omega arith))
       (λ ne. Nothing refl (let is = put_there s.owed m (owed_after h.rest (s.pending m) (s.owed m)) n ne in omega arith))
       (cases_eq n m))
   taking s (Accept m) t le h = subst (TakingAt s) (sym h.after) (⊎_elim
       (λ here. rw (eq-eqb n m here) (subst (λ k. Taking (s.taken n) (s.owed n) (s.taken k ++ h.first ∷ []) (owed_with (s.owed k) (reply_at net k (s.memory k) h.bytes h.first))) here
-          (accepted s h.packets h.bytes h.first (subst (λ k. IsCut (s.taken k) h.packets h.bytes) (sym here) h.cut))))
+      (accepted s h.packets h.bytes h.first (subst (λ k. IsCut (s.taken k) h.packets h.bytes) (sym here) h.cut))))
       (λ ne. rw (ne_eqb n m ne) (same s))
       (cases_eq n m))
   taking s (Reply m) t le h = subst (TakingAt s) (sym h.after) (same s)
@@ -300,10 +300,10 @@ module _ (net : Network) (cert : Certificate) (ok : IsNetwork net) (acc : IsAcce
       let es = g.came n ++ g.queue c in
       let behind = s.buffer c ++ (s.wire c ++ g.coming c) in
       let all : s.taken n ++ behind ≡ flat net es =
-          ap (λ l. s.taken n ++ l) stream.content ∙ sym (append_assoc (s.taken n) (g.rest c) (flat net (g.queue c)))
-          ∙ ap (λ l. l ++ flat net (g.queue c)) node.content ∙ sym (flat_append net (g.came n) (g.queue c)) in
+      ap (λ l. s.taken n ++ l) stream.content ∙ sym (append_assoc (s.taken n) (g.rest c) (flat net (g.queue c)))
+      ∙ ap (λ l. l ++ flat net (g.queue c)) node.content ∙ sym (flat_append net (g.came n) (g.queue c)) in
       let cut : chars came ++ (map Data out.0 ++ behind) ≡ chars (map (packet_of net) es) =
-          sym (append_assoc (chars came) (map Data out.0) behind) ∙ ap (λ l. l ++ behind) (sym out.1) ∙ all ∙ flat_chars net es in
+      sym (append_assoc (chars came) (map Data out.0) behind) ∙ ap (λ l. l ++ behind) (sym out.1) ∙ all ∙ flat_chars net es in
       let left : map Data out.0 ++ behind ≢ [] = λ e. some_more (map Data out.0) x (rest ++ (s.wire c ++ g.coming c)) (ap (λ l. map Data out.0 ++ (l ++ (s.wire c ++ g.coming c))) (sym front) ∙ e) in
       let less = fewer came (map (packet_of net) es) (map Data out.0 ++ behind) cut left in
       let size = length-map es (packet_of net) in

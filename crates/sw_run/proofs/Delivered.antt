@@ -7,7 +7,7 @@ use Rattle.std.specs.Option.{option_map_or}
 use Rattle.std.specs.Prelude.{◌&&◌}
 use Rattle.sw_load.specs.History.{packets_at}
 use Rattle.sw_machine.proofs.Balance.{count_append}
-use Rattle.sw_machine.proofs.Free.{is_deadlock_free}
+use Rattle.sw_machine.proofs.Free.{is_deadlock_free_within_limits}
 use Rattle.sw_machine.proofs.Ghost.{Ghost, Inv}
 use Rattle.sw_machine.proofs.Runs.{empty_inv, none, run_begins, step_keeps, waits_at}
 use Rattle.sw_machine.proofs.Whole.{count_sent, goes_to}
@@ -171,7 +171,7 @@ module _ (net : Network) where
     pub delivered : (packets : List Begun) (steps : List Step) (s : State) (lists : List (List Packet)) → Run net (empty net) steps s
         → ((n : ℕ) → packets_at net n (beginnings steps) ≡ packets_at net n packets) → undelivered net s ≡ 0 → AreOut net.nodes s lists → IsDelivered net packets lists
     delivered packets steps s lists run whole all out =
-        let free = is_deadlock_free net cert ok acc in
+        let free = is_deadlock_free_within_limits net cert ok acc in
         let b = run_begins net cert ok acc steps (empty net) (none net cert ok acc) s run (empty_inv net cert ok acc) in
         let begun = b.0 in
         let same : (t : Begun → Bool) → count_by t (beginnings steps) ≡ count_by t packets = λ t. same_counts (λ b. (net.flow b.flow).from) t (beginnings steps) packets whole in

@@ -22,6 +22,7 @@ use Rattle.sw_flow.proofs.Walked.{followers_are_listed}
 use Rattle.sw_machine.specs.Places as machine
 use Rattle.sw_machine.specs.Places.IsDependency.{ByFlow, ByTarget}
 use Rattle.sw_cycle.specs.Model.{network_of}
+use Rattle.sw_cycle.proofs.DeclaredNetworks.{none_always_takes}
 use Rattle.sw_cycle.proofs.Flows.{flow_at, flow_ends, some_at}
 use Rattle.sw_cycle.proofs.Steps.{steps_agree}
 use Rattle.sw_cycle.proofs.Topology.{into_ends, out_starts}
@@ -164,7 +165,7 @@ module _ (d : Declaration) (valid : IsValid d) where
       let p = (same.place c k).0 place in
       let s = (same.step c k e m).0 follows in
       ((places_are_in d f.0 c k p).0, (places_are_in d f.0 e m (next p s)).0)
-  among x y (ByTarget i j lt reply) =
+  among x y (ByTarget i j lt reply waits) =
       let to = (flow_ends d valid i lt).1 in
       ((into_ends (wiring_of d) valid.sound (flow_at d i).to to).0, (out_starts (wiring_of d) valid.sound (flow_at d i).to to).0)
 
@@ -178,12 +179,12 @@ module _ (d : Declaration) (valid : IsValid d) where
 
   depends_by : (x y : ℕ) → depends d x y → (i : ℕ) × (i < (network_of d).flows) × (GoesOn x y i ⊎ Answers x y i)
   depends_by x y (ByFlow i c k e m lt place follows) = (i, lt, inl (k, m, place, follows))
-  depends_by x y (ByTarget i j lt reply) = (i, lt, inr (j, reply, refl, refl))
+  depends_by x y (ByTarget i j lt reply waits) = (i, lt, inr (j, reply, refl, refl))
 
   by_answer : (c e i : ℕ) → i < (network_of d).flows → Answers c e i → depends d c e
   by_answer c e i lt h =
       let t : ℕ = ((network_of d).flow i).to in
-      let shown : depends d ((network_of d).into t) ((network_of d).out t) = ByTarget i h.0 lt h.1 in
+      let shown : depends d ((network_of d).into t) ((network_of d).out t) = ByTarget i h.0 lt h.1 (none_always_takes d t) in
       subst (λ (x : ℕ). depends d x e) h.2 (subst (λ (y : ℕ). depends d ((network_of d).into t) y) h.3 shown)
 
   by_either : (c e i : ℕ) → i < (network_of d).flows → GoesOn c e i ⊎ Answers c e i → depends d c e

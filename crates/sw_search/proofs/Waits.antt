@@ -17,4 +17,4 @@ waits_within d valid x y (ByFlow i c k e m lt place follows) =
     let f = some_at (all_flows d) i lt in
     let p = ((steps_agree d valid i f.0 f.1).place c k).0 place in
     (places_are_in d f.0 c k p).0
-waits_within d valid x y (ByTarget i j lt reply) = (into_ends (wiring_of d) valid.sound (flow_at d i).to (flow_ends d valid i lt).1).0
+waits_within d valid x y (ByTarget i j lt reply waits) = (into_ends (wiring_of d) valid.sound (flow_at d i).to (flow_ends d valid i lt).1).0

@@ -177,6 +177,6 @@ free_without_never_locks_up keep d valid free =
     let e : Declaration = without_replies d (never_answered d) in
     let sound : IsValid e = valid_away keep (never_answered d) d valid in
     let made = certificate_exists e sound free.free in
-    let all = is_deadlock_free (network_of e) (certificate_of made.0) (are_networks e sound) (accepted e made.0 sound made.1) in
+    let all = is_deadlock_free (network_of e) (certificate_of made.0) (are_networks e sound) (accepted e made.0 sound made.1) (no_limits e) in
     all_away (never_answered d) d (all_never d 0 d.flows (λ i f here. let same : i ≡ 0 + i = omega arith in subst (λ (k : ℕ). slice_get d.flows k ≡ Some f) same here))
     (record { always_goes_on = all.always_goes_on; never_locked_up = all.never_locked_up; quiet_is_empty = all.quiet_is_empty; nothing_is_dropped = all.nothing_is_dropped })
