@@ -1,5 +1,6 @@
 pub mod Entries
 pub mod Valid
+pub mod Limits
 pub mod Routings
 pub mod Building
 pub mod Laws
