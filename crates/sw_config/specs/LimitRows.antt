@@ -78,6 +78,7 @@ ends_unanswered n f = f.to == n && not (is_some f.reply)
 
 -- the rows are those of the declaration
 pub record AreLimits (d : Declaration) (t : LimitRows) : Type 0 where
+  pub few_nodes : length d.nodes ≤ 1024
   pub answering_size : length t.answering ≡ length d.nodes
   pub others_size : length t.others ≡ length d.nodes
   pub totals_size : length t.totals ≡ length d.nodes

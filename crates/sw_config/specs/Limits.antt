@@ -1,5 +1,6 @@
 -- How many commands may be unanswered at a node, and which nodes always take what comes (this project's choice).
-use Rattle.std.specs.Prelude.{ℕ, ◌+◌, ◌==◌, ◌&&◌, ◌||◌, Bool, false, not, List, [], ◌∷◌, filter, map, length, min, nat_lt, Option, Some, None, is_some, option_map, slice_get, option_and_then, if◌then◌else◌}
+use Rattle.std.specs.Prelude.{◌≡◌, ℕ, ◌+◌, ◌==◌, ◌&&◌, ◌||◌, Bool, false, not, List, [], ◌∷◌, All, filter, map, length, min, nat_lt, Option, Some, None}
+use Rattle.std.specs.Prelude.{is_some, option_map, slice_get, option_and_then, if◌then◌else◌}
 use Rattle.std.specs.List.{list_all, range_with_len}
 use Rattle.std.specs.Option.{option_map_or}
 use Rattle.sw_rmap.specs.Targets.{slots_of}
@@ -57,3 +58,8 @@ may_make_wait d n = is_answering d n && not (always_takes d n)
 -- the same of each node, in order
 abbrev pub waiting_marks : Declaration → List Bool
 waiting_marks d = map (may_make_wait d) (range_with_len 0 (length d.nodes))
+
+-- no node and no flow has a limit
+pub record HasNoLimits (d : Declaration) : Type 0 where
+  pub nodes : All (λ e. e.outstanding ≡ None) d.nodes
+  pub flows : All (λ f. flow_outstanding f ≡ None) d.flows
