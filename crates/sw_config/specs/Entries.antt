@@ -10,10 +10,11 @@ use Rattle.sw_route.specs.Looks.{look_of}
 use Rattle.sw_arb.specs.declared.arbitration.Arbitration.{Arbitration}
 use Rattle.sw_rmap.specs.declared.config.TargetConfig.{TargetConfig}
 
--- a node: its name, and what it answers by, if it is an RMAP target
+-- a node: its name, what it answers by, if it is an RMAP target, and how many of its commands may be unanswered at once, if that is limited
 pub record NodeEntry : Type 0 where
   pub name : List ℕ
   pub target : Option TargetConfig
+  pub outstanding : Option ℕ
 
 -- a routing switch: its name, how it arbitrates, and its routing table
 pub record SwitchEntry : Type 0 where
@@ -28,10 +29,12 @@ pub record LinkEntry : Type 0 where
   pub buffer_a : ℕ
   pub buffer_b : ℕ
 
--- what the replies of a flow begin with: the path back, and the initiator logical address
+-- what the replies of a flow begin with: the path back, and the initiator logical address; and how many of the flow's commands may be
+-- unanswered at once, if that is limited
 pub record ReplyEntry : Type 0 where
   pub path : List ℕ
   pub initiator : ℕ
+  pub outstanding : Option ℕ
 
 -- a flow of packets from one node to another: the address bytes that its packets begin with, how many of them are left at the end,
 -- and, where its packets are commands that are answered, where the replies go

@@ -5,8 +5,14 @@ use Rattle.sw_route.specs.Looks.{IsTable}
 use Rattle.sw_rmap.specs.Config.{IsTargetConfig}
 use Rattle.sw_config.specs.Entries.{NodeEntry, SwitchEntry, LinkEntry, ReplyEntry, FlowEntry, Declaration, part_names, flow_names, target_of, wiring_of}
 
-abbrev pub IsNode : NodeEntry → Type 0
-IsNode n = IfSome n.target IsTargetConfig
+-- a limit on unanswered commands is 1 to 65535
+pub record IsOutstanding (limit : ℕ) : Type 0 where
+  pub low : 1 ≤ limit
+  pub high : limit ≤ 65535
+
+pub record IsNode (n : NodeEntry) : Type 0 where
+  pub target : IfSome n.target IsTargetConfig
+  pub outstanding : IfSome n.outstanding IsOutstanding
 
 -- each entry of the routing table is for logical addresses, and no two are for one in common
 abbrev pub IsSwitch : SwitchEntry → Type 0
@@ -35,6 +41,7 @@ pub record IsReply (nodes : List NodeEntry) (to : ℕ) (r : ReplyEntry) : Type 0
   pub leading : has_no_leading_zero r.path ≡ true
   pub low_initiator : 32 ≤ r.initiator
   pub high_initiator : r.initiator ≤ 254
+  pub outstanding : IfSome r.outstanding IsOutstanding
   pub target : IsTarget nodes to
 
 -- a flow goes from a node to a node by at most 32 address bytes, no more of which are left at its end than there are

@@ -42,6 +42,7 @@ impl Model for NetworkBuilder {
 impl NetworkBuilder {
     ghost use Rattle.sw_config.specs.Entries.{empty, part_names};
     ghost use Rattle.sw_config.specs.Building.{Wires};
+    ghost use Rattle.sw_config.specs.Valid.{IsOutstanding};
 
     /// Nothing.
     pub fn new(alloc: Global) -> NetworkBuilder
@@ -92,7 +93,8 @@ impl NetworkBuilder {
         self.names.place_of(name)
     }
 
-    /// Adds a node of a new name, which is an RMAP target if `target` says how it answers.
+    /// Adds a node of a new name, which is an RMAP target if `target` says how it answers. At most `outstanding` of its commands may be
+    /// unanswered at once, or any number.
     ///
     /// # Errors
     ///
@@ -102,17 +104,20 @@ impl NetworkBuilder {
         alloc: Global,
         name: &str,
         target: Option<TargetConfig>,
+        outstanding: Option<u16>,
     ) -> Result<(), AllocError>
         requires few { length self.old.nodes < MAX_NODES }
         requires nodes_first { self.old.switches ≡ [] }
         requires new_name { list_any (bytes_eq name.now) (part_names self.old) ≡ false }
         requires target { IfSome target IsTargetConfig }
-        ensures ok { OnOk result (self.new ≡ record self.old { nodes = self.old.nodes ++ record { name = name.now; target = target } ∷ [] }) }
+        requires outstanding { IfSome outstanding IsOutstanding }
+        ensures ok { OnOk result (self.new ≡ record self.old { nodes = self.old.nodes ++ record { name = name.now; target = target; outstanding = outstanding } ∷ [] }) }
         ensures err { OnErr result (self.new ≡ self.old) }
     {
         let node = Node {
             name: String::from_str(alloc, name)?,
             target,
+            outstanding,
         };
         let key = String::from_str(alloc, name);
         self.names.add(key, node, &mut self.nodes)?;

@@ -13,6 +13,7 @@ use sw_route::{IntervalRoutes, PlaceEnd, Route, TableRoutes};
 pub(crate) struct Node {
     pub(crate) name: String,
     pub(crate) target: Option<TargetConfig>,
+    pub(crate) outstanding: Option<u16>,
 }
 
 impl Model for Node {
@@ -21,7 +22,7 @@ impl Model for Node {
 
     ghost Value = { NodeEntry };
 
-    ghost view = { λ n. record { name = string_bytes n.name; target = n.target } };
+    ghost view = { λ n. record { name = string_bytes n.name; target = n.target; outstanding = n.outstanding } };
 }
 
 /// A link.

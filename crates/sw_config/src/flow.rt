@@ -8,6 +8,7 @@ use std::marker::Model;
 pub struct Reply {
     path: Vec<u8>,
     initiator: u8,
+    outstanding: Option<u16>,
 }
 
 impl Model for Reply {
@@ -15,17 +16,22 @@ impl Model for Reply {
 
     ghost Value = { ReplyEntry };
 
-    ghost view = { λ r. record { path = r.path.items; initiator = r.initiator } };
+    ghost view = { λ r. record { path = r.path.items; initiator = r.initiator; outstanding = r.outstanding } };
 }
 
 impl Reply {
     /// Replies that begin with these address bytes, as a rule path addresses, and then the initiator logical address
     /// (ECSS-E-ST-50-52C, the reply address field of a command). In a valid network there are at most 12, each 0 to 255
-    /// and the first not 0, and the initiator is 32 to 254.
-    pub fn new(path: Vec<u8>, initiator: u8) -> Reply
-        ensures { result ≡ record { path = path.items; initiator = initiator } }
+    /// and the first not 0, and the initiator is 32 to 254. At most `outstanding` of the flow's commands may be unanswered at once, 1 to
+    /// 65,535, or any number.
+    pub fn new(path: Vec<u8>, initiator: u8, outstanding: Option<u16>) -> Reply
+        ensures { result ≡ record { path = path.items; initiator = initiator; outstanding = outstanding } }
     {
-        Reply { path, initiator }
+        Reply {
+            path,
+            initiator,
+            outstanding,
+        }
     }
 
     /// The address bytes that a reply begins with.
@@ -40,6 +46,13 @@ impl Reply {
         ensures { result ≡ self.now.initiator }
     {
         self.initiator
+    }
+
+    /// How many of the flow's commands may be unanswered at once, if that is limited: 1 to 65,535.
+    pub fn outstanding(&self) -> Option<u16>
+        ensures { result ≡ self.now.outstanding }
+    {
+        self.outstanding
     }
 }
 

@@ -6,6 +6,7 @@ mod entries;
 mod flow;
 mod flow_table;
 pub mod laws;
+mod limit_table;
 mod names;
 mod network;
 

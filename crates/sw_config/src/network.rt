@@ -47,7 +47,8 @@ impl Model for Network {
 impl Network {
     ghost use Rattle.sw_route.specs.Looks.{IsTable};
     ghost use Rattle.sw_config.specs.Entries.{target_of, routes_of, look_at, wiring_of, capacities, all_flows, flow_names, is_answering, answering_marks};
-    ghost use Rattle.sw_config.specs.Valid.{IsValid, IsFlow};
+    ghost use Rattle.sw_config.specs.Limits.{outstanding_of};
+    ghost use Rattle.sw_config.specs.Valid.{IsValid, IsFlow, IsOutstanding};
     ghost use Rattle.sw_config.specs.Routings.{AnswersAs};
     /// Adds a declared flow of a new name, and its reply flow if it has replies.
     ///
@@ -181,6 +182,16 @@ impl Network {
     {
         let node = &self.nodes[node as usize];
         node.target
+    }
+
+    /// How many of the node's commands may be unanswered at once, if that is limited.
+    pub fn outstanding(&self, node: u16) -> Option<u16>
+        requires { node < length self.now.nodes }
+        ensures outstanding { result ≡ outstanding_of self.now.nodes node }
+        ensures valid { IfSome result IsOutstanding }
+    {
+        let node = &self.nodes[node as usize];
+        node.outstanding
     }
 
     /// Is the node an RMAP target?
