@@ -1,5 +1,5 @@
 -- How many commands may be unanswered at a node, and which nodes always take what comes (this project's choice).
-use Rattle.std.specs.Prelude.{ℕ, ◌+◌, ◌==◌, ◌&&◌, ◌||◌, Bool, not, List, [], ◌∷◌, filter, map, length, min, nat_lt, Option, Some, None, is_some, option_map, slice_get, option_and_then, if◌then◌else◌}
+use Rattle.std.specs.Prelude.{ℕ, ◌+◌, ◌==◌, ◌&&◌, ◌||◌, Bool, false, not, List, [], ◌∷◌, filter, map, length, min, nat_lt, Option, Some, None, is_some, option_map, slice_get, option_and_then, if◌then◌else◌}
 use Rattle.std.specs.List.{list_all, range_with_len}
 use Rattle.std.specs.Option.{option_map_or}
 use Rattle.sw_rmap.specs.Targets.{slots_of}

@@ -6,11 +6,12 @@ use Rattle.sw_config.proofs.builder.NetworkBuilder.add_node.Goals as goal
 
 pub invariant_of-self-2 : goal.invariant_of-self-2
 invariant_of-self-2 c =
-    let n : NodeEntry = record { name = c.args.name.now; target = c.args.target } in
+    let n : NodeEntry = record { name = c.args.name.now; target = c.args.target; outstanding = c.args.outstanding } in
     let d : Declaration = record { nodes = c.self.inside.nodes.items; switches = c.self.inside.switches.items; links = c.self.inside.links.items; flows = [] } in
     node_added c.self.inside.wiring c.self.inside.names d c.self.invariant c.node.new.self c.add.new.self c.add.new.all.items n _
     c.node.ensures.added (c.in_ok-add.ensures.names c.args.name.now c.from_str-key.ensures.ok) c.in_ok-add.ensures.all c.in_ok-from_str.ensures.ok
-    (rw (← c.self.view_is) at c.requires.nodes_first) (rw (← c.self.view_is) at c.requires.few) c.requires.target (rw (← c.self.view_is) at c.requires.new_name)
+    (rw (← c.self.view_is) at c.requires.nodes_first) (rw (← c.self.view_is) at c.requires.few) (record { target = c.requires.target; outstanding = c.requires.outstanding })
+    (rw (← c.self.view_is) at c.requires.new_name)
 
 pub add-requires : goal.add-requires
 add-requires c =
@@ -36,4 +37,4 @@ returns-clause-ok c =
     let d : Declaration = record { nodes = inside.nodes.items; switches = inside.switches.items; links = inside.links.items; flows = [] } in
     rw (← c.self.view_is)
     (ap (λ (nodes : List NodeEntry). record d { nodes = nodes })
-    (◌∙◌ {A = List NodeEntry} c.in_ok-add.ensures.all (ap (λ (name : List ℕ). inside.nodes.items ++ record { name = name; target = c.args.target } ∷ []) c.in_ok-from_str.ensures.ok)))
+    (◌∙◌ {A = List NodeEntry} c.in_ok-add.ensures.all (ap (λ (name : List ℕ). inside.nodes.items ++ record { name = name; target = c.args.target; outstanding = c.args.outstanding } ∷ []) c.in_ok-from_str.ensures.ok)))
